@@ -1,7 +1,7 @@
 // Building volumes.
 
 ghost use Rattle.std.specs.Prelude.{◌≡◌, length};
-ghost use Rattle.adf_memory.specs.Building.{ExplainsBuild, ExplainsNeed, HasVolume, IsFewest, IsSound, Refuses, built_in, tree_of};
+ghost use Rattle.adf_memory.specs.Building.{ExplainsBuild, ExplainsNeed, HasVolume, IsFewest, IsSoundVolume, Refuses, built_in, tree_of};
 
 use adf_memory::{Built, NewVolume, TableAddition, build_volume, need_volume};
 use std::alloc::Global;
@@ -19,7 +19,7 @@ pub extern "C" fn adf_build(
     built: &mut Built,
 ) -> u8
     // At 0 no addition has a fault, and the room begins with the image that is laid for their tree; the rest is unchanged.
-    ensures sound { result ≡ 0 → IsSound volume.now contents.now additions.now }
+    ensures sound { result ≡ 0 → IsSoundVolume volume.now contents.now additions.now }
     ensures volume { result ≡ 0 → HasVolume (tree_of volume.now contents.now additions.now)
         volume.now.blocks room.old room.new }
     ensures built { result ≡ 0 → built.new ≡ built_in volume.now.blocks }
@@ -43,7 +43,7 @@ pub extern "C" fn adf_need(
     built: &mut Built,
 ) -> u8
     // At 0 no addition has a fault, and their tree has room in so many blocks, and in no fewer.
-    ensures sound { result ≡ 0 → IsSound volume.now contents.now additions.now }
+    ensures sound { result ≡ 0 → IsSoundVolume volume.now contents.now additions.now }
     ensures fewest { result ≡ 0 → IsFewest (tree_of volume.now contents.now additions.now) built.new.blocks }
     ensures built { result ≡ 0 → built.new ≡ built_in built.new.blocks }
 

@@ -4,7 +4,7 @@ ghost use Rattle.std.specs.Prelude.{◌≡◌, ◌⊎◌, List, None, Some, leng
 ghost use Rattle.adf_memory.specs.DiskTables.{partition_table, table_disk};
 ghost use Rattle.adf_memory.specs.Rooms.{filled};
 ghost use Rattle.adf_memory.specs.Verdicts.{WantsMemory};
-ghost use Rattle.adf_partitions.specs.Disks.{FirstFault, IsDisk};
+ghost use Rattle.adf_partitions.specs.Disks.{FirstDiskFault, IsDisk};
 ghost use Rattle.adf_partitions.specs.Searches.{AreReadable, HasReadable};
 ghost use Rattle.adf_partitions.specs.declared.fault.DiskFault.{DiskFault};
 ghost use Rattle.adf_partitions.specs.declared.partition.Partition.{Partition};
@@ -32,7 +32,7 @@ pub extern "C" fn adf_disk_index(
     ensures whole { result ≡ 0 → (t : Tables) (ps : List Partition) → IsDisk bytes.now blocks t ps
         → disk.new ≡ table_disk (length ps) None }
     ensures fault { result ≡ 0 → (ps : List Partition) (f : DiskFault) → AreReadable bytes.now blocks ps
-        → FirstFault bytes.now blocks f → disk.new ≡ table_disk (length ps) (Some f) }
+        → FirstDiskFault bytes.now blocks f → disk.new ≡ table_disk (length ps) (Some f) }
 
     // If memory ran out, the table is unchanged, and there is a partition that can be read.
     ensures unchanged { WantsMemory result

@@ -19,8 +19,8 @@ use Rattle.adf_volume.proofs.Pointers.{ext_asks, ext_ends}
 use Rattle.adf_volume.proofs.PositionSteps.{end_exts, enter_file, no_exts}
 use Rattle.adf_volume.proofs.Walks.{file_is}
 use Rattle.adf_volume.specs.Fault.{fault}
-use Rattle.adf_check.specs.Reading.{HasTable, IsInDatas, IsInExts, IsInNode}
-use Rattle.adf_check.specs.Datas.{first_ext}
+use Rattle.adf_check.specs.Reading.{HasExtTable, IsInDatas, IsInExts, IsInNode}
+use Rattle.adf_check.specs.Datas.{ext_link}
 use Rattle.adf_check.specs.declared.claims.Link.{Link}
 use Rattle.adf_check.specs.declared.file.File.{File}
 use Rattle.adf_walk.specs.KeptOwner.{kept_at, no_owner}
@@ -31,7 +31,7 @@ use Rattle.adf_check.specs.Own.{IsOwnFault}
 -- a file's table begins with its header
 pub enter_exts : (image : List ℕ) (store : StoreValue) (file : File) (st : IsInNode image store file.node) → FileAt image st.walk file.node file.head
     → file.size ≡ word_in image file.head SIZE → file.ext ≡ word_in image file.head EXTENSION
-    → IsInExts image store file (file.head ∷ []) (first_ext file)
+    → IsInExts image store file (file.head ∷ []) (ext_link file)
 enter_exts image store file st is_file size ext =
     record {
       walk = st.walk;
@@ -94,7 +94,7 @@ module _ {image : List ℕ} {store : StoreValue} {file : File} {table : List ℕ
           walk = (r, link.block) ∷ st.walk;
           extra = suc st.extra;
           read = read_one ext_named tt range free (form_at AllHold form) tt (subst (λ k. IsStored image store new (Ext file.node k) link.block) number stored);
-          holds = subst (HasTable image ((r, link.block) ∷ st.walk) file) (sym longer_is) (record {
+          holds = subst (HasExtTable image ((r, link.block) ∷ st.walk) file) (sym longer_is) (record {
             head = typed_up (r, link.block) st.holds.head;
             size = st.holds.size;
             members = (λ m c x. elim (at_snoc table link.block m c x) [

@@ -17,7 +17,7 @@ use Rattle.adf_volume.specs.Positions.{before_node}
 use Rattle.adf_volume.proofs.Walks.{numbered}
 use Rattle.adf_walk.specs.declared.kept_header.KeptHeader.{KeptHeader}
 use Rattle.adf_check.specs.Reading.{IsAtNode, IsAtSlot, IsInExts, IsInNode, IsRead}
-use Rattle.adf_check.specs.Datas.{first_ext}
+use Rattle.adf_check.specs.Datas.{ext_link}
 use Rattle.adf_check.specs.declared.file.File.{File}
 use Rattle.adf_check.specs.Store.{StoreValue, StoreMatches, entered}
 use Rattle.adf_check.proofs.NumberBounds.{many_blocks}
@@ -107,7 +107,7 @@ module _ {image : List ℕ} {store : StoreValue} {m n : ℕ} {header : KeptHeade
   pub file_begins : word_in image header.head SECONDARY_TYPE ≢ ST_DIR → (size ext : ℕ) → size ≡ word_in image header.head SIZE
       → ext ≡ word_in image header.head EXTENSION
       → let file : File = record { node = n; head = header.head; size = size; ext = ext } in
-      IsInExts image store file (header.head ∷ []) (first_ext file)
+      IsInExts image store file (header.head ∷ []) (ext_link file)
   file_begins e size ext size_is ext_is =
       enter_exts image store (record { node = n; head = header.head; size = size; ext = ext }) st
       (subst (λ n. FileAt image st.walk n header.head) node

@@ -15,13 +15,13 @@ use Rattle.adf_volume.proofs.Lists.{at_new, at_old, at_below, snoc_length}
 use Rattle.adf_walk.specs.declared.kept_header.KeptHeader.{KeptHeader}
 use Rattle.adf_walk.specs.declared.kept_owner.KeptOwner.{KeptOwner}
 use Rattle.adf_walk.specs.KeptOwner.{is_claimed, kept_at, no_owner}
-use Rattle.adf_check.specs.Store.{StoreValue, IsKept, Owns, KeepsHeaders, StoreMatches, file_blocks, next_kept}
+use Rattle.adf_check.specs.Store.{StoreValue, IsKeptOwner, Owns, KeepsHeaders, StoreMatches, file_blocks, next_kept}
 use Rattle.adf_check.specs.Store.{push_header, push_block, ext_file, data_file, is_dir_at, blocks_before, stored}
 use Rattle.adf_volume.specs.Made.{picked}
 use Rattle.adf_check.proofs.FileBlocks.{TellsFile, data_tells, ext_tells, not_below}
 
 -- no block of a role is kept as free
-kept_not_free : (w : Walk) (r : Role) (b : ℕ) (o : KeptOwner) → IsKept w r b o → o ≢ no_owner
+kept_not_free : (w : Walk) (r : Role) (b : ℕ) (o : KeptOwner) → IsKeptOwner w r b o → o ≢ no_owner
 kept_not_free w (Ext n m) b o k e = let claimed : true ≡ false = ap is_claimed (sym k.2 ∙ e) in cc
 kept_not_free w (Data n m) b o k e = let claimed : true ≡ false = ap is_claimed (sym k.2 ∙ e) in cc
 kept_not_free w _ b o k e = let claimed : true ≡ false = ap is_claimed (sym k ∙ e) in cc
@@ -30,14 +30,14 @@ kept_not_free w _ b o k e = let claimed : true ≡ false = ap is_claimed (sym k 
 at_more : (f : Role → Bool) (w : Walk) (x : Role × ℕ) (i b : ℕ) → At (picked f w) i b → At (picked f (x ∷ w)) i b
 at_more f w x i b h = grind (arith, common_steps, at_old)
 
-kept_more : (w : Walk) (x : Role × ℕ) (r : Role) (b : ℕ) (o : KeptOwner) → IsKept w r b o → IsKept (x ∷ w) r b o
+kept_more : (w : Walk) (x : Role × ℕ) (r : Role) (b : ℕ) (o : KeptOwner) → IsKeptOwner w r b o → IsKeptOwner (x ∷ w) r b o
 kept_more w x (Ext n m) b o k = (k.0, at_more (λ r. is_some (ext_file r)) w x k.0 b k.1, k.2)
 kept_more w x (Data n m) b o k = (k.0, at_more (λ r. is_some (data_file r)) w x k.0 b k.1, k.2)
 kept_more w x _ b o k = k
 
 -- what is kept of the next block
 kept_next : (store : StoreValue) (w : Walk) → store.exts ≡ file_blocks ext_file w → store.datas ≡ file_blocks data_file w
-    → (r : Role) (b : ℕ) → IsKept ((r, b) ∷ w) r b (next_kept store r)
+    → (r : Role) (b : ℕ) → IsKeptOwner ((r, b) ∷ w) r b (next_kept store r)
 kept_next store w exts datas (Ext n m) b = (length store.exts, at_new (file_blocks ext_file w) b (length store.exts) (ap length exts), refl)
 kept_next store w exts datas (Data n m) b = (length store.datas, at_new (file_blocks data_file w) b (length store.datas) (ap length datas), refl)
 kept_next store w exts datas _ b = refl
@@ -58,7 +58,7 @@ module _ (image : List ℕ) (owners : List KeptOwner) (w : Walk) (t : Owns image
   other o x b ne = let ne' : x ≢ b = ne in rw get_or-set_other refl
 
   -- a free block gets an owner
-  owns_more : (r : Role) (b : ℕ) (o : KeptOwner) → IsKept ((r, b) ∷ w) r b o → 2 ≤ b → b < blocks image → kept_at owners b ≡ no_owner
+  owns_more : (r : Role) (b : ℕ) (o : KeptOwner) → IsKeptOwner ((r, b) ∷ w) r b o → 2 ≤ b → b < blocks image → kept_at owners b ≡ no_owner
       → Owns image (set owners b o) ((r, b) ∷ w)
   owns_more r b o is lo hi h =
       let size : length owners ≡ blocks image = t.size in
@@ -69,10 +69,10 @@ module _ (image : List ℕ) (owners : List KeptOwner) (w : Walk) (t : Owns image
         assigned = (λ q x k. elim k [
           | inl y ↦
               let at : kept_at (set owners b o) x ≡ o = ap (kept_at (set owners b o)) (sym y.1) ∙ here in
-              subst (IsKept ((r, b) ∷ w) q x) (sym at) (subst (λ x. IsKept ((r, b) ∷ w) q x o) y.1 (subst (λ q. IsKept ((r, b) ∷ w) q b o) y.0 is))
+              subst (IsKeptOwner ((r, b) ∷ w) q x) (sym at) (subst (λ x. IsKeptOwner ((r, b) ∷ w) q x o) y.1 (subst (λ q. IsKeptOwner ((r, b) ∷ w) q b o) y.0 is))
           | inr y ↦
               let at = other o x b (λ e. free_absent b h q (subst (Has w q) e y)) in
-              subst (IsKept ((r, b) ∷ w) q x) (sym at) (kept_more w (r, b) q x (kept_at owners x) (t.assigned q x y))
+              subst (IsKeptOwner ((r, b) ∷ w) q x) (sym at) (kept_more w (r, b) q x (kept_at owners x) (t.assigned q x y))
         ]);
         owned = (λ x l m f. elim (ℕ_discrete x b) [
           | yes e ↦ (r, inl (refl, sym e))

@@ -9,8 +9,8 @@ use Rattle.adf_check.specs.declared.datas.Datas.{Datas}
 use Rattle.adf_check.specs.declared.file.File.{File}
 
 -- the word of a file's header that points to its first extension block
-abbrev pub first_ext : File → Link
-first_ext file = record { holder = file.head; block = file.ext }
+abbrev pub ext_link : File → Link
+ext_link file = record { holder = file.head; block = file.ext }
 
 -- the number of data blocks is that of the file's header, and the table has as many pointers
 pub record AreDatas (image : List ℕ) (datas : Datas) : Type 0 where

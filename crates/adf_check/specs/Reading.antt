@@ -99,7 +99,7 @@ pub record IsListed (image : List ℕ) (list : List ℕ) (k : ℕ) : Type 0 wher
   pub pages : (i b : ℕ) → At list i b → block_of_page image i ≡ b
 
 -- the table has the header of the file, then the extension blocks in the walk
-pub record HasTable (image : List ℕ) (w : Walk) (file : File) (table : List ℕ) : Type 0 where
+pub record HasExtTable (image : List ℕ) (w : Walk) (file : File) (table : List ℕ) : Type 0 where
   pub head : FileAt image w file.node file.head
   pub size : file.size ≡ word_in image file.head SIZE
   pub members : (m c : ℕ) → At table m c → MemberAt image w file.node m c
@@ -110,7 +110,7 @@ pub record IsInExts (image : List ℕ) (store : StoreValue) (file : File) (table
   pub walk : Walk
   pub extra : ℕ
   pub read : HasRead image store walk (suc file.node) (position_of (Ext file.node (suc extra)))
-  pub holds : HasTable image walk file table
+  pub holds : HasExtTable image walk file table
   pub counted : ext_count walk file.node ≡ extra
   pub member : MemberAt image walk file.node extra link.holder
   pub named : word_in image link.holder EXTENSION ≡ link.block
@@ -119,7 +119,7 @@ pub record IsInExts (image : List ℕ) (store : StoreValue) (file : File) (table
 pub record IsInDatas (image : List ℕ) (store : StoreValue) (file : File) (table : List ℕ) (k : ℕ) : Type 0 where
   pub walk : Walk
   pub read : HasRead image store walk (suc file.node) (position_of (Data file.node (suc k)))
-  pub holds : HasTable image walk file table
+  pub holds : HasExtTable image walk file table
 
 -- the walk has all that it asks for, and the store matches the walk
 pub record HasReadAll (image : List ℕ) (store : StoreValue) (w : Walk) : Type 0 where

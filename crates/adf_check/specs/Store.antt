@@ -98,16 +98,16 @@ abbrev pub entered : StoreValue → StoreValue
 entered store = record store { starts = store.starts ++ record { exts = length store.exts; datas = length store.datas } ∷ [] }
 
 -- the kept owner is that of block b in role r: it has the place of an extension block or a data block among those of all files
-abbrev pub IsKept : Walk → Role → ℕ → KeptOwner → Type 0
-IsKept w (Ext n k) b o = (i : ℕ) × At (file_blocks ext_file w) i b × (o ≡ record { class = class.Ext; place = i })
-IsKept w (Data n k) b o = (i : ℕ) × At (file_blocks data_file w) i b × (o ≡ record { class = class.Data; place = i })
-IsKept w r b o = o ≡ kept_by (λ n k. 0) (λ n k. 0) (owner_of r)
+abbrev pub IsKeptOwner : Walk → Role → ℕ → KeptOwner → Type 0
+IsKeptOwner w (Ext n k) b o = (i : ℕ) × At (file_blocks ext_file w) i b × (o ≡ record { class = class.Ext; place = i })
+IsKeptOwner w (Data n k) b o = (i : ℕ) × At (file_blocks data_file w) i b × (o ≡ record { class = class.Data; place = i })
+IsKeptOwner w r b o = o ≡ kept_by (λ n k. 0) (λ n k. 0) (owner_of r)
 
 -- the table has the owner of each block of the walk, and no others
 pub record Owns (image : List ℕ) (owners : List KeptOwner) (w : Walk) : Type 0 where
   pub size : length owners ≡ blocks image
   pub boot : (b : ℕ) → b < 2 → b < blocks image → kept_at owners b ≡ boot_owner
-  pub assigned : (q : Role) (b : ℕ) → Has w q b → IsKept w q b (kept_at owners b)
+  pub assigned : (q : Role) (b : ℕ) → Has w q b → IsKeptOwner w q b (kept_at owners b)
   pub owned : (b : ℕ) → 2 ≤ b → b < blocks image → kept_at owners b ≢ no_owner → (q : Role) × Has w q b
 
 -- header i is that of node i + 1

@@ -4,7 +4,7 @@ ghost use Rattle.adf_check.specs.Own.{IsOwnFault};
 ghost use Rattle.std.specs.Prelude.{◌≢◌, ◌<◌, OnOk, IfOk, IfErr};
 ghost use Rattle.adf_check.specs.Reading.{IsInDatas, IsInExts};
 ghost use Rattle.adf_check.specs.Progress.{left};
-ghost use Rattle.adf_check.specs.Datas.{first_ext};
+ghost use Rattle.adf_check.specs.Datas.{ext_link};
 ghost use Rattle.adf_check.specs.Store.{store_value};
 
 use crate::claims::{Link, claim_named};
@@ -56,7 +56,7 @@ pub fn read_exts(
     file: &File,
 ) -> Result<(), Fault>
     requires state { IsInExts image.now
-        (store_value store.old) file.now table.old.items (first_ext file.now) }
+        (store_value store.old) file.now table.old.items (ext_link file.now) }
     ensures state { OnOk result
         (IsInDatas image.now (store_value store.new) file.now table.new.items 0) }
     ensures fault { IfErr result (IsOwnFault image.now) }

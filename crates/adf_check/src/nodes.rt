@@ -5,7 +5,7 @@ ghost use Rattle.adf_check.specs.Reading.{IsAtNode, IsInExts, IsInNode, IsRead};
 ghost use Rattle.adf_check.specs.Store.{entered, store_value};
 ghost use Rattle.adf_check.specs.Own.{IsOwnFault};
 ghost use Rattle.adf_volume.specs.Fault.{fault};
-ghost use Rattle.adf_check.specs.Datas.{first_ext};
+ghost use Rattle.adf_check.specs.Datas.{ext_link};
 
 use crate::chains::read_directory;
 use crate::datas::read_datas;
@@ -41,7 +41,7 @@ fn read_file(
     file: &File,
 ) -> Result<(), Fault>
     requires state { IsInExts image.now
-        (store_value store.old) file.now (file.now.head ∷ []) (first_ext file.now) }
+        (store_value store.old) file.now (file.now.head ∷ []) (ext_link file.now) }
     ensures state { OnOk result (IsAtNode image.now (store_value store.new) (file.now.node + 1)) }
     ensures fault { IfErr result (IsOwnFault image.now) }
 {

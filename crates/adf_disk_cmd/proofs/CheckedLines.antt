@@ -34,13 +34,6 @@ told bytes line p q sound e why h =
     subst (λ place. TellsPlace bytes p place sound line) (sym e)
     (subst (λ o. TellsVolume (volume_at bytes q) o sound line) (sym why) h)
 
--- and why it is not, of one that is not
-pub told_why : (bytes line : List ℕ) (p : Partition) (q : Place) (why : Unchecked) → p.place ≡ Ok q → why_unchecked p q ≡ Some why
-    → line ≡ unchecked_text why ++ codes "\n" → TellsPartition bytes p false line
-told_why bytes line p q why e f h =
-    subst (λ place. TellsPlace bytes p place false line) (sym e)
-    (subst (λ o. TellsVolume (volume_at bytes q) o false line) (sym f) (refl, h))
-
 -- the lines of what is left, behind a text, are those of all
 abbrev pub Continues : List ℕ → List Partition → List Partition → Bool → List ℕ → Type 0
 Continues bytes ps left sound text =

@@ -7,7 +7,7 @@ use Rattle.adf_disk_cmd.specs.Lines.{volume_at}
 use Rattle.adf_disk_cmd.specs.Work.{IsWorkOf}
 use Rattle.adf_disk_cmd.specs.declared.work.TheConstants.{MOST_DISK_BYTES}
 use Rattle.adf_disk_cmd.specs.declared.work.Work.{Work, TheVariants.Check, TheVariants.Survey}
-use Rattle.adf_partitions.specs.Disks.{FirstFault, IsDisk}
+use Rattle.adf_partitions.specs.Disks.{FirstDiskFault, IsDisk}
 use Rattle.adf_partitions.specs.declared.fault.DiskFault.{DiskFault}
 use Rattle.adf_partitions.specs.declared.partition.Partition.{Partition}
 use Rattle.adf_partitions.specs.declared.place.Place.{Place}
@@ -43,7 +43,7 @@ told_ends r bytes t ps w o o' disk h = ends_weaker (OfPartitions r bytes ps) (Of
 
 -- so does its first fault
 pub refused_ends : (r : DiskRequestValue) (bytes : List ℕ) (f : DiskFault) (w : Outcome) (o o' : Option (List ℕ))
-    → FirstFault bytes (length bytes / 512) f → EndsBy (OfFault r bytes f) w o o' → EndsBy (OfDisk r bytes) w o o'
+    → FirstDiskFault bytes (length bytes / 512) f → EndsBy (OfFault r bytes f) w o o' → EndsBy (OfDisk r bytes) w o o'
 refused_ends r bytes f w o o' first h = ends_weaker (OfFault r bytes f) (OfDisk r bytes) w o o' (λ reply tells. inr (f, first, tells)) h
 
 -- an answer of a disk answers the request

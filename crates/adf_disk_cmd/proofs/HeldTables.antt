@@ -10,7 +10,7 @@ use Rattle.adf_disk_cmd.specs.declared.list_input.TheConstants.{TABLES_LEN}
 use Rattle.adf_disk_cmd.specs.declared.work.TheConstants.{MOST_DISK_BYTES}
 use Rattle.adf_disk_cmd.proofs.Endings.{disk_ends, refused_ends, told_ends}
 use Rattle.adf_partitions.proofs.FirstBlocks.{first_disk, first_fault, first_readable}
-use Rattle.adf_partitions.specs.Disks.{FirstFault, IsDisk}
+use Rattle.adf_partitions.specs.Disks.{FirstDiskFault, IsDisk}
 use Rattle.adf_partitions.specs.Searches.{AreReadable}
 use Rattle.adf_partitions.specs.declared.fault.DiskFault.{DiskFault}
 use Rattle.adf_partitions.specs.declared.partition.Partition.{Partition}
@@ -44,10 +44,10 @@ module _ (all bytes : List ℕ) (len n : ℕ) (held : IsPart 0 TABLES_LEN (MOST_
       (first_disk (disk_of all) (length (disk_of all) / 512) t ps).0
       (subst (λ (l : List ℕ). IsDisk l (length (disk_of all) / 512) t ps) first_held (subst (λ (k : ℕ). IsDisk bytes k t ps) blocks_held d))
 
-  pub fault_held : {f : DiskFault} → FirstFault bytes n f → FirstFault (disk_of all) (length (disk_of all) / 512) f
+  pub fault_held : {f : DiskFault} → FirstDiskFault bytes n f → FirstDiskFault (disk_of all) (length (disk_of all) / 512) f
   fault_held {f} v =
       (first_fault (disk_of all) (length (disk_of all) / 512) f).0
-      (subst (λ (l : List ℕ). FirstFault l (length (disk_of all) / 512) f) first_held (subst (λ (k : ℕ). FirstFault bytes k f) blocks_held v))
+      (subst (λ (l : List ℕ). FirstDiskFault l (length (disk_of all) / 512) f) first_held (subst (λ (k : ℕ). FirstDiskFault bytes k f) blocks_held v))
 
   readable_held : {ps : List Partition} → AreReadable bytes n ps → AreReadable (disk_of all) (length (disk_of all) / 512) ps
   readable_held {ps} v =
@@ -70,7 +70,7 @@ module _ (all bytes : List ℕ) (len n : ℕ) (held : IsPart 0 TABLES_LEN (MOST_
   told true f reply (text, (ps, readable, e), same) = (text, (ps, readable_held readable, e), same)
   told false f reply e = e
 
-  pub fault_ends : (s : Bool) (f : DiskFault) (w : Outcome) (o o' : Option (List ℕ)) → FirstFault bytes n f
+  pub fault_ends : (s : Bool) (f : DiskFault) (w : Outcome) (o o' : Option (List ℕ)) → FirstDiskFault bytes n f
       → EndsBy (TellsFault s bytes n f) w o o' → EndsBy (DiskAnswer (listing_request s) all) w o o'
   fault_ends s f w o o' first h =
       disk_ends (listing_request s) all (disk_of all) w o o' refl (refused_ends (listing_request s) (disk_of all) f w o o' (fault_held first)

@@ -13,7 +13,7 @@ use Rattle.adf_base.specs.Words.{block}
 use Rattle.adf_names.specs.Escapes.{escaped}
 use Rattle.adf_names.specs.Texts.{uppers}
 use Rattle.adf_partitions.proofs.AnyLength.{is_disk_too, named_is, numbered_is}
-use Rattle.adf_partitions.specs.Disks.{FirstFault, IsDisk}
+use Rattle.adf_partitions.specs.Disks.{FirstDiskFault, IsDisk}
 use Rattle.adf_partitions.specs.Places.{StatesPlace, end_of, partition_place}
 use Rattle.adf_partitions.specs.Volumes.{FoundAlike, IsStated}
 use Rattle.adf_partitions.specs.declared.fault.DiskFault.{DiskFault}
@@ -176,7 +176,7 @@ module _ (all tables behind : List ℕ) (q : Place) (len : ℕ) (within : end_of
         (ends_weaker (λ reply. reply ≡ held_reply (volume_at tables q ++ behind) w found) (OfPartitions (volume w) (disk_of all) ps) end o o'
         (λ reply e. e ∙ answer) h))
 
-    pub no_copy_ends : (f : DiskFault) (end : Outcome) (o o' : Option (List ℕ)) → FirstFault tables n f
+    pub no_copy_ends : (f : DiskFault) (end : Outcome) (o o' : Option (List ℕ)) → FirstDiskFault tables n f
         → EndsBy (TellsFault false tables n f) end o o' → EndsBy (DiskAnswer (volume w) all) end o o'
     no_copy_ends f end o o' first h =
         disk_ends (volume w) all (disk_of all) end o o' refl

@@ -15,7 +15,7 @@ use Rattle.adf_partitions.specs.declared.place.Place.{Place}
 use Rattle.adf_runs.proofs.KnownBytes.{consumes_more, two_at_most}
 use Rattle.adf_runs.specs.Streams.{PassesOver, TakesAtMost, TakesCount, TakesFirst}
 use Rattle.adf_disk_cmd.proofs.HeldVolume.{whole_place}
-use Rattle.adf_disk_cmd.specs.HeldChecks.{IsAnswered, IsFrom, IsStretch, IsWithin, first_of_place, checked_places}
+use Rattle.adf_disk_cmd.specs.HeldChecks.{IsAnswered, BeginsFrom, IsStretch, IsWithin, first_of_place, checked_places}
 use Rattle.adf_disk_cmd.specs.Lines.{volume_at}
 use Rattle.adf_disk_cmd.specs.declared.checking.CheckedVolume.{CheckedVolume}
 use Rattle.adf_disk_cmd.specs.declared.work.TheConstants.{MOST_DISK_BYTES}
@@ -29,10 +29,6 @@ pub more_at_most : (start a b : Option (List ℕ)) (k m n : ℕ) (bytes : List �
     → TakesAtMost n start b
 more_at_most start a b k m n bytes s more few =
     two_at_most (k + length bytes) m n start a b few (stretch_at_most start a k (k + length bytes) bytes s (omega arith)) more
-
-pub more_taken : (start a b : Option (List ℕ)) (m n : ℕ) (bytes : List ℕ) → Consumes start a bytes → TakesAtMost m a b → length bytes + m ≤ n
-    → TakesAtMost n start b
-more_taken start a b m n bytes taken more few = two_at_most (length bytes) m n start a b few (bytes, omega arith, taken) more
 
 -- what is held is let go, and more is passed over
 pub stretch_passed : (start a b : Option (List ℕ)) (k j count limit : ℕ) (bytes none : List ℕ) → j ≡ (k + length bytes) + count → none ≡ []
@@ -76,7 +72,7 @@ volume_held all (Some rest) k f n bytes s before end =
 
 -- so an answer to them is that to the volume at the place
 pub one_answered : (all image bytes : List ℕ) (left : Option (List ℕ)) (k : ℕ) (q : Place) (v : CheckedVolume) → IsStretch (Some all) left k bytes
-    → IsFrom k q → IsWithin q → (k + length bytes < end_of q * 512 → IsAtEnd left)
+    → BeginsFrom k q → IsWithin q → (k + length bytes < end_of q * 512 → IsAtEnd left)
     → image ≡ take (q.blocks * 512) (drop (q.first * 512 - k) bytes) → v.place ≡ q → IsVolumeAnswer image v.answer
     → IsAnswered (take MOST_DISK_BYTES all) v
 unfolding volume_at
@@ -91,17 +87,17 @@ one_answered all image bytes left k q v s from within end e f answer =
     subst (λ (l : List ℕ). IsVolumeAnswer l v.answer) same answer
 
 -- the place that comes next, and those behind it
-pub next_from : (k i : ℕ) (places : List Place) (d : Place) → i < length places → All (IsFrom k) (drop i places) → IsFrom k (get_or places i d)
+pub next_from : (k i : ℕ) (places : List Place) (d : Place) → i < length places → All (BeginsFrom k) (drop i places) → BeginsFrom k (get_or places i d)
 next_from k i places d within h =
-    let first = All-get_or (IsFrom k) (drop i places) 0 d (omega (arith, within, length-drop i places)) h in
+    let first = All-get_or (BeginsFrom k) (drop i places) 0 d (omega (arith, within, length-drop i places)) h in
     let same : i + 0 ≡ i = omega arith in
-    subst (IsFrom k) (get_or-drop i places 0 d ∙ ap (λ (j : ℕ). get_or places j d) same) first
+    subst (BeginsFrom k) (get_or-drop i places 0 d ∙ ap (λ (j : ℕ). get_or places j d) same) first
 
-pub later_from : (k i : ℕ) (places : List Place) (d : Place) → IsNonDecreasingBy first_of_place places → IsFrom k (get_or places i d)
-    → All (IsFrom k) (drop (i + 1) places)
-later_from k i places d order from = All-from_get_or (IsFrom k) (drop (i + 1) places) d one
+pub later_from : (k i : ℕ) (places : List Place) (d : Place) → IsNonDecreasingBy first_of_place places → BeginsFrom k (get_or places i d)
+    → All (BeginsFrom k) (drop (i + 1) places)
+later_from k i places d order from = All-from_get_or (BeginsFrom k) (drop (i + 1) places) d one
   where
-    one : (j : ℕ) → j < length (drop (i + 1) places) → IsFrom k (get_or (drop (i + 1) places) j d)
+    one : (j : ℕ) → j < length (drop (i + 1) places) → BeginsFrom k (get_or (drop (i + 1) places) j d)
     one j lt = grind (arith, common_steps, length-drop, get_or-drop)
 
 -- the tables from a byte on are the first stretch
@@ -124,7 +120,7 @@ AddsCheck image q few more = (v : CheckedVolume) × (v.place ≡ q) × IsVolumeA
 
 pub answer_added : (all image bytes : List ℕ) (left : Option (List ℕ)) (k : ℕ) (q : Place) (few more : List CheckedVolume)
     → AddsCheck image q few more
-    → All (IsAnswered (take MOST_DISK_BYTES all)) few → IsStretch (Some all) left k bytes → IsFrom k q → IsWithin q
+    → All (IsAnswered (take MOST_DISK_BYTES all)) few → IsStretch (Some all) left k bytes → BeginsFrom k q → IsWithin q
     → (k + length bytes < end_of q * 512 → IsAtEnd left) → image ≡ take (q.blocks * 512) (drop (q.first * 512 - k) bytes)
     → All (IsAnswered (take MOST_DISK_BYTES all)) more
 answer_added all image bytes left k q few more (v, place, answer, e) h s from within end same =

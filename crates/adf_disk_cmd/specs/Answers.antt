@@ -4,7 +4,7 @@ use Rattle.std.specs.Fmt.{decimal}
 use Rattle.adf_names.specs.Escapes.{escaped}
 use Rattle.adf_names.specs.Texts.{uppers}
 use Rattle.adf_texts.specs.Names.{names_text}
-use Rattle.adf_partitions.specs.Disks.{FirstFault, IsDisk}
+use Rattle.adf_partitions.specs.Disks.{FirstDiskFault, IsDisk}
 use Rattle.adf_partitions.specs.FaultTexts.{disk_fault_text, place_fault_text}
 use Rattle.adf_partitions.specs.Partitions.{partition_numbered}
 use Rattle.adf_partitions.specs.Searches.{AreReadable}
@@ -83,7 +83,7 @@ OfFault build bytes f reply = ⊥
 abbrev pub OfDisk : DiskRequestValue → List ℕ → Reply → Type 0
 OfDisk r bytes reply =
     ((t : Tables) × (ps : List Partition) × IsDisk bytes (length bytes / 512) t ps × OfPartitions r bytes ps reply)
-    ⊎ ((f : DiskFault) × FirstFault bytes (length bytes / 512) f × OfFault r bytes f reply)
+    ⊎ ((f : DiskFault) × FirstDiskFault bytes (length bytes / 512) f × OfFault r bytes f reply)
 
 -- the answer to a request and the bytes of an input: those of a plan, or of a disk
 abbrev pub OfBytes : DiskRequestValue → List ℕ → Reply → Type 0

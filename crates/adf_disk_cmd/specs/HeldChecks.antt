@@ -49,8 +49,8 @@ abbrev pub IsWithin : Place → Type 0
 IsWithin q = end_of q ≤ MOST_DISK_BLOCKS
 
 -- a place begins at a byte or behind it
-abbrev pub IsFrom : ℕ → Place → Type 0
-IsFrom begin q = begin ≤ q.first * 512
+abbrev pub BeginsFrom : ℕ → Place → Type 0
+BeginsFrom begin q = begin ≤ q.first * 512
 
 -- the first block of a place
 abbrev pub first_of_place : Place → ℕ

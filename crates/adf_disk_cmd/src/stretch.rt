@@ -4,7 +4,7 @@ ghost use Rattle.std.specs.Prelude.{◌≡◌, ◌<◌, ◌≤◌, ◌+◌, ◌*
 ghost use Rattle.std.specs.Prelude.{All, IfOk, List, OnOk, Option, Some, drop, is_err, length, take, vec_len};
 ghost use Rattle.std.specs.List.Sorted.{IsNonDecreasingBy};
 ghost use Rattle.std.specs.Io.KnownBytes.{Consumes, IsAtEnd};
-ghost use Rattle.adf_disk_cmd.specs.HeldChecks.{IsFrom, IsStretch, IsWithin, first_of_place};
+ghost use Rattle.adf_disk_cmd.specs.HeldChecks.{BeginsFrom, IsStretch, IsWithin, first_of_place};
 ghost use Rattle.adf_partitions.specs.Places.{end_of};
 ghost use Rattle.adf_runs.specs.Streams.{TakesAtMost, is_device};
 
@@ -32,7 +32,7 @@ pub fn first_stretch(alloc: Global, tables: &[u8], places: &[Place]) -> Result<S
     requires within { All IsWithin places.now }
     ensures bytes { IfOk result (λ s. s.bytes.items ≡ drop s.begin tables.now) }
     ensures inside { IfOk result (λ s. s.begin ≤ length tables.now) }
-    ensures begun { IfOk result (λ s. All (IsFrom s.begin) places.now) }
+    ensures begun { IfOk result (λ s. All (BeginsFrom s.begin) places.now) }
 {
     let begin = match places.first() {
         Some(place) => (place.first as usize * 512).min(tables.len()),
@@ -157,13 +157,13 @@ impl Stretch {
     ) -> Result<(), StreamFault>
         requires room { 0 < length piece.old }
         requires works { R.has_failed input.old ≡ false }
-        requires begun { IsFrom self.old.begin place }
+        requires begun { BeginsFrom self.old.begin place }
         requires few { self.old.begin + vec_len self.old.bytes ≤ MOST_DISK_BYTES }
         requires within { IsWithin place }
         ensures stretch { OnOk result ((start : Option (List ℕ))
             → IsStretch start (R.left input.old) self.old.begin self.old.bytes.items
             → IsStretch start (R.left input.new) self.new.begin self.new.bytes.items) }
-        ensures begun { OnOk result (IsFrom self.new.begin place) }
+        ensures begun { OnOk result (BeginsFrom self.new.begin place) }
         ensures few { OnOk result (self.new.begin + vec_len self.new.bytes ≤ MOST_DISK_BYTES) }
         ensures end { OnOk result (self.new.begin + vec_len self.new.bytes < end_of place * 512
             → IsAtEnd (R.left input.new)) }
@@ -181,7 +181,7 @@ impl Stretch {
 
     /// The bytes of a place.
     pub fn volume(&self, place: Place) -> &[u8]
-        requires begun { IsFrom self.now.begin place }
+        requires begun { BeginsFrom self.now.begin place }
         requires within { IsWithin place }
         ensures { result.now
             ≡ take (place.blocks * 512) (drop (place.first * 512 - self.now.begin) self.now.bytes.items) }

@@ -16,7 +16,7 @@ use Rattle.adf_names.specs.declared.meta.Stamps.{Stamps}
 use Rattle.adf_tree.specs.declared.tree.RoomFault.{RoomFault, TheVariants.Exists}
 use Rattle.adf_names.specs.Texts.{uppers_by}
 use Rattle.adf_drafts.specs.ChildMap.{number_in, Numbers}
-use Rattle.adf_drafts.specs.Draft.{draft_value, in_tree, new_number, addition_node, walk, walk_more, IsDirectoryOf, IsDraft, IsRoomFor}
+use Rattle.adf_drafts.specs.Draft.{draft_value, in_tree, new_number, addition_node, built, built_more, IsDirectoryOf, IsDraft, IsRoomFor}
 use Rattle.adf_tree.specs.Tree.{added_by, child_by, directory_from_by, free_in, is_dir, moved, parents_of, place_by, rank_by}
 use Rattle.adf_tree.specs.Tree.{room_at_by, room_for_by, IsTreeBy, MayAddBy}
 use Rattle.adf_tree.proofs.AddRoom.{next_dir_by, room_may_add_by, room_says_by, IsNewBy}
@@ -95,70 +95,70 @@ room_more l es names x = grind (arith, common_steps, length_push, ne_eqb, get_or
 module _ {l : Letters} {drafts : List Entry} {numbers : Numbers} {kind : Kind} {label : List ℕ} {stamps : Stamps} (h : IsDraft l drafts numbers) where
   -- a directory has room for a name that none of its entries has, and for no other
   room_in_directory : (path : List (List ℕ)) (m : ℕ) (name : List ℕ) (o : Option ℕ)
-      → IsDirectoryOf (draft_value kind l label stamps (walk l drafts)) path m → number_in numbers m (uppers_by l name) ≡ o
-      → room_for_by l (walk l drafts).entries (path ++ name ∷ [])
-      ≡ free_in (addition_node (walk l drafts).nodes m) (option_map (addition_node (walk l drafts).nodes) o)
+      → IsDirectoryOf (draft_value kind l label stamps (built l drafts)) path m → number_in numbers m (uppers_by l name) ≡ o
+      → room_for_by l (built l drafts).entries (path ++ name ∷ [])
+      ≡ free_in (addition_node (built l drafts).nodes m) (option_map (addition_node (built l drafts).nodes) o)
   room_in_directory path m name o is at = grind (arith, common_steps, room_more)
 
-  pub has_room_in : {path : List (List ℕ)} {m : ℕ} (name : List ℕ) → IsDirectoryOf (draft_value kind l label stamps (walk l drafts)) path m
+  pub has_room_in : {path : List (List ℕ)} {m : ℕ} (name : List ℕ) → IsDirectoryOf (draft_value kind l label stamps (built l drafts)) path m
       → number_in numbers m (uppers_by l name) ≡ None
-      → IsRoomFor (draft_value kind l label stamps (walk l drafts)) (path ++ name ∷ []) (record { parent = m; name = name })
+      → IsRoomFor (draft_value kind l label stamps (built l drafts)) (path ++ name ∷ []) (record { parent = m; name = name })
   has_room_in name is at = grind (arith, common_steps, length_push, get_or_push, room_in_directory)
 
-  pub has_none_in : {path : List (List ℕ)} {m k : ℕ} (name : List ℕ) → IsDirectoryOf (draft_value kind l label stamps (walk l drafts)) path m
+  pub has_none_in : {path : List (List ℕ)} {m k : ℕ} (name : List ℕ) → IsDirectoryOf (draft_value kind l label stamps (built l drafts)) path m
       → number_in numbers m (uppers_by l name) ≡ Some k
-      → (let r : Result ℕ RoomFault = Err Exists in room_for_by l (walk l drafts).entries (path ++ name ∷ []) ≡ r)
+      → (let r : Result ℕ RoomFault = Err Exists in room_for_by l (built l drafts).entries (path ++ name ∷ []) ≡ r)
   has_none_in {path} {m} {k} name is at = room_in_directory path m name (Some k) is at
 
   -- an entry is put in a room
-  module _ {path : List (List ℕ)} {room : Room} (is : IsRoomFor (draft_value kind l label stamps (walk l drafts)) path room)
+  module _ {path : List (List ℕ)} {room : Room} (is : IsRoomFor (draft_value kind l label stamps (built l drafts)) path room)
       (meta : Meta) (body : Body) where
-    may_put : MayAddBy l (walk l drafts).entries (in_tree (walk l drafts).nodes (put_in room meta body))
+    may_put : MayAddBy l (built l drafts).entries (in_tree (built l drafts).nodes (put_in room meta body))
     may_put = room_may h is meta body
 
-    one_more_node : length (walk l (drafts ++ put_in room meta body ∷ [])).nodes ≡ length (walk l drafts).nodes + 1
+    one_more_node : length (built l (drafts ++ put_in room meta body ∷ [])).nodes ≡ length (built l drafts).nodes + 1
     one_more_node = grind (arith, common_steps, put_in, walked_more, length_push, length-map)
 
-    stays : (other : List (List ℕ)) (m : ℕ) → IsDirectoryOf (draft_value kind l label stamps (walk l drafts)) other m
-        → IsDirectoryOf (draft_value kind l label stamps (walk l (drafts ++ put_in room meta body ∷ []))) other m
+    stays : (other : List (List ℕ)) (m : ℕ) → IsDirectoryOf (draft_value kind l label stamps (built l drafts)) other m
+        → IsDirectoryOf (draft_value kind l label stamps (built l (drafts ++ put_in room meta body ∷ []))) other m
     stays other m at =
-        let n : ℕ = new_number l (walk l drafts) (put_in room meta body) in
+        let n : ℕ = new_number l (built l drafts) (put_in room meta body) in
         let more = one_more_node in
         record {
           within = omega (arith, at.within);
-          leads = rw (walked_more l drafts (put_in room meta body), node_old (walk l drafts).nodes n m (omega arith) at.within)
-              (from_root (walk l drafts).entries (in_tree (walk l drafts).nodes (put_in room meta body)) other
-              (addition_node (walk l drafts).nodes m) h.gives.tree may_put at.leads);
+          leads = rw (walked_more l drafts (put_in room meta body), node_old (built l drafts).nodes n m (omega arith) at.within)
+              (from_root (built l drafts).entries (in_tree (built l drafts).nodes (put_in room meta body)) other
+              (addition_node (built l drafts).nodes m) h.gives.tree may_put at.leads);
         }
 
     is_new : body ≡ Dir
-        → IsDirectoryOf (draft_value kind l label stamps (walk l (drafts ++ put_in room meta body ∷ []))) path
-        (length (walk l drafts).nodes + 1)
+        → IsDirectoryOf (draft_value kind l label stamps (built l (drafts ++ put_in room meta body ∷ []))) path
+        (length (built l drafts).nodes + 1)
     is_new dir =
-        let n : ℕ = new_number l (walk l drafts) (put_in room meta body) in
+        let n : ℕ = new_number l (built l drafts) (put_in room meta body) in
         let more = one_more_node in
-        let fresh : IsNewBy l (walk l drafts).entries path meta body (in_tree (walk l drafts).nodes (put_in room meta body)) =
+        let fresh : IsNewBy l (built l drafts).entries path meta body (in_tree (built l drafts).nodes (put_in room meta body)) =
         room_new h is meta body in
         record {
           within = omega arith;
           leads = rw (
             walked_more l drafts (put_in room meta body),
-            node_new (walk l drafts).nodes n (length (walk l drafts).nodes + 1) refl,
+            node_new (built l drafts).nodes n (length (built l drafts).nodes + 1) refl,
           )
-              (ap (directory_from_by l (walk_more l (walk l drafts) (put_in room meta body)).entries 0) fresh.is
-              ∙ new_directory (walk l drafts).entries (in_tree (walk l drafts).nodes (put_in room meta body))
+              (ap (directory_from_by l (built_more l (built l drafts) (put_in room meta body)).entries 0) fresh.is
+              ∙ new_directory (built l drafts).entries (in_tree (built l drafts).nodes (put_in room meta body))
               (parents_of path) h.gives.tree fresh.room dir);
         }
 
     module _ {E : Type 0} (new : List Entry) (r : Result (Unit {0}) E)
         (left : new ≡ (if is_ok r then drafts ++ put_in room meta body ∷ [] else drafts)) where
-      pub put_count : OnOk r (length (walk l new).nodes ≡ length (walk l drafts).nodes + 1)
+      pub put_count : OnOk r (length (built l new).nodes ≡ length (built l drafts).nodes + 1)
       put_count = grind (arith, common_steps, one_more_node)
 
-      pub put_directories : (other : List (List ℕ)) (m : ℕ) → IsDirectoryOf (draft_value kind l label stamps (walk l drafts)) other m
-          → IsDirectoryOf (draft_value kind l label stamps (walk l new)) other m
+      pub put_directories : (other : List (List ℕ)) (m : ℕ) → IsDirectoryOf (draft_value kind l label stamps (built l drafts)) other m
+          → IsDirectoryOf (draft_value kind l label stamps (built l new)) other m
       put_directories other m at = grind (arith, common_steps, stays)
 
       pub put_directory : body ≡ Dir
-          → OnOk r (IsDirectoryOf (draft_value kind l label stamps (walk l new)) path (length (walk l drafts).nodes + 1))
+          → OnOk r (IsDirectoryOf (draft_value kind l label stamps (built l new)) path (length (built l drafts).nodes + 1))
       put_directory dir = grind (arith, common_steps, is_new)

@@ -10,7 +10,7 @@ use Rattle.adf_tree.specs.declared.tree.RoomFault.{RoomFault, TheVariants.NoPare
 use Rattle.adf_names.specs.Texts.{uppers_by}
 use Rattle.adf_tree.specs.Tree.{directory_from_by, is_dir, is_dir_body}
 use Rattle.adf_drafts.specs.ChildMap.{number_in, Numbers}
-use Rattle.adf_drafts.specs.Draft.{addition_node, walk, IsDraft, IsNumberedTree, NumberedTree}
+use Rattle.adf_drafts.specs.Draft.{addition_node, built, IsDraft, IsNumberedTree, NumberedTree}
 use Rattle.adf_drafts.proofs.DraftInvariant.{some_node}
 use Rattle.adf_tree.proofs.Lists.{some_in}
 use Rattle.adf_tree.proofs.PathContents.{entry_at}
@@ -39,21 +39,21 @@ past_by l es names o = elim o [ None ↦ Err NoParent | Some n ↦ if is_dir es 
 module _ {l : Letters} {drafts : List Entry} {numbers : Numbers} (path : List (List ℕ)) (i : ℕ) {m : ℕ} {name : List ℕ} (h : IsDraft l drafts numbers)
     (le : m ≤ length drafts) (lt : i < length path) (is : name ≡ get_or path i name) where
   step_is : {o : Option ℕ} → number_in numbers m (uppers_by l name) ≡ o
-      → directory_from_by l (walk l drafts).entries (addition_node (walk l drafts).nodes m) (drop i path)
-      ≡ past_by l (walk l drafts).entries (drop (i + 1) path) (option_map (addition_node (walk l drafts).nodes) o)
-  step_is at = rw (drop_more path i name lt, ← is) (ap (past_by l (walk l drafts).entries (drop (i + 1) path)) (rw at at (h.found.found m name le)))
+      → directory_from_by l (built l drafts).entries (addition_node (built l drafts).nodes m) (drop i path)
+      ≡ past_by l (built l drafts).entries (drop (i + 1) path) (option_map (addition_node (built l drafts).nodes) o)
+  step_is at = rw (drop_more path i name lt, ← is) (ap (past_by l (built l drafts).entries (drop (i + 1) path)) (rw at at (h.found.found m name le)))
 
   pub step_none : number_in numbers m (uppers_by l name) ≡ None
-      → directory_from_by l (walk l drafts).entries (addition_node (walk l drafts).nodes m) (drop i path) ≡ Err NoParent
+      → directory_from_by l (built l drafts).entries (addition_node (built l drafts).nodes m) (drop i path) ≡ Err NoParent
   step_none at = step_is at
 
   pub step_within : {n : ℕ} → number_in numbers m (uppers_by l name) ≡ Some n → n ≤ length drafts
   step_within {n} at = (h.found.within m n (uppers_by l name) at).1
 
   pub step_to : {n : ℕ} {b : Bool} → number_in numbers m (uppers_by l name) ≡ Some n → is_dir drafts n ≡ b
-      → directory_from_by l (walk l drafts).entries (addition_node (walk l drafts).nodes m) (drop i path)
-      ≡ (if b then directory_from_by l (walk l drafts).entries (addition_node (walk l drafts).nodes n) (drop (i + 1) path) else Err ParentIsFile)
-  step_to {n} at is_one = rw (step_is at, dir_same drafts (walk l drafts) n h.gives (step_within at), is_one)
+      → directory_from_by l (built l drafts).entries (addition_node (built l drafts).nodes m) (drop i path)
+      ≡ (if b then directory_from_by l (built l drafts).entries (addition_node (built l drafts).nodes n) (drop (i + 1) path) else Err ParentIsFile)
+  step_to {n} at is_one = rw (step_is at, dir_same drafts (built l drafts) n h.gives (step_within at), is_one)
 
 -- by ASCII letters
 abbrev pub past : List Entry → List (List ℕ) → Option ℕ → Result ℕ RoomFault

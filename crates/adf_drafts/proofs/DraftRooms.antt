@@ -10,7 +10,7 @@ use Rattle.adf_names.specs.declared.kind.Kind.{Kind}
 use Rattle.adf_names.specs.declared.meta.Meta.{Meta}
 use Rattle.adf_names.specs.declared.meta.Stamps.{Stamps}
 use Rattle.adf_drafts.specs.ChildMap.{Numbers}
-use Rattle.adf_drafts.specs.Draft.{draft_value, in_tree, walk, IsDraft, IsRoomFor}
+use Rattle.adf_drafts.specs.Draft.{draft_value, in_tree, built, IsDraft, IsRoomFor}
 use Rattle.adf_tree.specs.Paths.{AddsOneBy}
 use Rattle.adf_tree.specs.Tree.{added_by, new_entry_by, parents_of, with_entry_by, MayAddBy, Tree}
 use Rattle.adf_tree.proofs.AddRoom.{new_in_room_by, room_may_add_by, IsNewBy}
@@ -30,26 +30,26 @@ tree_left t entries e false path meta body h same = rw h
 
 -- a draft, and a room of it
 module _ {l : Letters} {drafts : List Entry} {numbers : Numbers} {kind : Kind} {label : List ℕ} {stamps : Stamps} {path : List (List ℕ)} {room : Room}
-    (h : IsDraft l drafts numbers) (is : IsRoomFor (draft_value kind l label stamps (walk l drafts)) path room) where
+    (h : IsDraft l drafts numbers) (is : IsRoomFor (draft_value kind l label stamps (built l drafts)) path room) where
   pub room_within : room.parent ≤ length drafts
   room_within = omega (arith, is.within, h.gives.nodes)
 
   pub room_new : (meta : Meta) (body : Body)
-      → IsNewBy l (walk l drafts).entries path meta body (in_tree (walk l drafts).nodes (put_in room meta body))
-  room_new meta body = new_in_room_by l (walk l drafts).entries path meta body room.name _ is.name is.leads
+      → IsNewBy l (built l drafts).entries path meta body (in_tree (built l drafts).nodes (put_in room meta body))
+  room_new meta body = new_in_room_by l (built l drafts).entries path meta body room.name _ is.name is.leads
 
-  pub room_may : (meta : Meta) (body : Body) → MayAddBy l (walk l drafts).entries (in_tree (walk l drafts).nodes (put_in room meta body))
+  pub room_may : (meta : Meta) (body : Body) → MayAddBy l (built l drafts).entries (in_tree (built l drafts).nodes (put_in room meta body))
   room_may meta body =
-      room_may_add_by l (walk l drafts).entries (in_tree (walk l drafts).nodes (put_in room meta body)) (parents_of path) (room_new meta body).room
+      room_may_add_by l (built l drafts).entries (in_tree (built l drafts).nodes (put_in room meta body)) (parents_of path) (room_new meta body).room
 
   module _ {E : Type 0} (new : List Entry) (r : Result (Unit {0}) E) (meta : Meta) (body : Body)
       (left : new ≡ (if is_ok r then drafts ++ put_in room meta body ∷ [] else drafts)) where
-    pub put_paths : OnOk r (AddsOneBy l (walk l drafts).entries (walk l new).entries (new_entry_by l (walk l drafts).entries path meta body) path)
+    pub put_paths : OnOk r (AddsOneBy l (built l drafts).entries (built l new).entries (new_entry_by l (built l drafts).entries path meta body) path)
     put_paths =
-        added_paths r (walk l drafts).entries (walk l new).entries _ path meta body h.gives.tree (room_new meta body)
+        added_paths r (built l drafts).entries (built l new).entries _ path meta body h.gives.tree (room_new meta body)
         (entries_left l drafts new (put_in room meta body) (is_ok r) left)
 
-    pub put_tree : (draft_value kind l label stamps (walk l new)).tree
-        ≡ (if is_ok r then with_entry_by l (draft_value kind l label stamps (walk l drafts)).tree path meta body else
-        (draft_value kind l label stamps (walk l drafts)).tree)
+    pub put_tree : (draft_value kind l label stamps (built l new)).tree
+        ≡ (if is_ok r then with_entry_by l (draft_value kind l label stamps (built l drafts)).tree path meta body else
+        (draft_value kind l label stamps (built l drafts)).tree)
     put_tree = grind (arith, common_steps, tree_left, entries_left, put_in, room_new)

@@ -30,15 +30,15 @@ abbrev pub new_number : Letters → NumberedTree → Entry → ℕ
 new_number letters w d = place_by letters w.entries (rank_by letters (in_tree w.nodes d)) + 1
 
 -- the tree with one more addition
-abbrev pub walk_more : Letters → NumberedTree → Entry → NumberedTree
-walk_more letters w d = record {
+abbrev pub built_more : Letters → NumberedTree → Entry → NumberedTree
+built_more letters w d = record {
   entries = added_by letters w.entries (in_tree w.nodes d);
   nodes = map (moved (new_number letters w d)) w.nodes ++ new_number letters w d ∷ [];
 }
 
 -- the tree of entries added one after another, and their numbers in it
-abbrev pub walk : Letters → List Entry → NumberedTree
-walk letters drafts = fold (walk_more letters) (record { entries = []; nodes = [] }) drafts
+abbrev pub built : Letters → List Entry → NumberedTree
+built letters drafts = fold (built_more letters) (record { entries = []; nodes = [] }) drafts
 
 -- the parent of each addition is the root or an earlier one
 abbrev pub HasEarlyParents : List Entry → Type 0
@@ -65,8 +65,8 @@ pub record AreNumbered (letters : Letters) (drafts : List Entry) (w : NumberedTr
 
 -- the invariant of a draft
 pub record IsDraft (letters : Letters) (drafts : List Entry) (numbers : Numbers) : Type 0 where
-  pub gives : IsNumberedTree letters drafts (walk letters drafts)
-  pub found : AreNumbered letters drafts (walk letters drafts) numbers
+  pub gives : IsNumberedTree letters drafts (built letters drafts)
+  pub found : AreNumbered letters drafts (built letters drafts) numbers
 
 -- the value of a draft: the tree so far, and the number in it of each addition
 pub record DraftValue : Type 0 where

@@ -6,7 +6,7 @@ ghost use Rattle.adf_tree.specs.Tree.{directory_from_by, new_entry_by, room_at_b
 ghost use Rattle.adf_tree.specs.Paths.{AddsOneBy};
 ghost use Rattle.adf_names.specs.Texts.{uppers_by};
 ghost use Rattle.adf_drafts.specs.ChildMap.{number_in, AddsNumber};
-ghost use Rattle.adf_drafts.specs.Draft.{room_in_tree, walk, IsDirectoryOf, IsDraft, IsRoomFor};
+ghost use Rattle.adf_drafts.specs.Draft.{room_in_tree, built, IsDirectoryOf, IsDraft, IsRoomFor};
 
 use crate::child_map::ChildMap;
 use crate::groups::walked;
@@ -28,11 +28,11 @@ pub struct Draft {
 }
 
 impl Model for Draft {
-    ghost use Rattle.adf_drafts.specs.Draft.{draft_value, walk, DraftValue, IsDraft};
+    ghost use Rattle.adf_drafts.specs.Draft.{draft_value, built, DraftValue, IsDraft};
 
     ghost Value = { DraftValue };
 
-    ghost view = { λ d. draft_value d.kind d.letters d.label d.stamps (walk d.letters d.entries.items) };
+    ghost view = { λ d. draft_value d.kind d.letters d.label d.stamps (built d.letters d.entries.items) };
 
     ghost invariant = { λ d. IsDraft d.letters d.entries.items d.children.buckets.items };
 }
@@ -53,8 +53,8 @@ fn directory(
     path: &[Name],
 ) -> Result<Node, RoomFault>
     requires { IsDraft letters entries.now children.now.buckets.items }
-    ensures room { directory_from_by letters (walk letters entries.now).entries 0 path.now
-        ≡ room_in_tree (walk letters entries.now).nodes result }
+    ensures room { directory_from_by letters (built letters entries.now).entries 0 path.now
+        ≡ room_in_tree (built letters entries.now).nodes result }
     ensures within { IfOk result (λ m. m ≤ length entries.now) }
 {
     let mut node = Node(0);
@@ -81,9 +81,9 @@ fn free_directory(
     name: &Name,
 ) -> Result<Node, RoomFault>
     requires { IsDraft letters entries.now children.now.buckets.items }
-    ensures room { room_at_by letters (walk letters entries.now).entries name.now
-        (directory_from_by letters (walk letters entries.now).entries 0 path.now)
-        ≡ room_in_tree (walk letters entries.now).nodes result }
+    ensures room { room_at_by letters (built letters entries.now).entries name.now
+        (directory_from_by letters (built letters entries.now).entries 0 path.now)
+        ≡ room_in_tree (built letters entries.now).nodes result }
     ensures within { IfOk result (λ m. m ≤ length entries.now) }
 {
     let parent = directory(letters, entries, children, path)?;

@@ -55,11 +55,11 @@ root_next image f root many is new node left = grind (arith, common_steps, new_o
 
 -- nothing is found but the root
 pub stands_begun : (image : List ℕ) (f g h : Found) → 4 ≤ blocks image → IsEmpty f.pages
-    → f.owners.owners ≡ Boot ∷ Boot ∷ replicate (blocks image - 2) Free → f.owners.node ≡ 0 → f.avoided.items ≡ []
+    → f.owners.owners ≡ Boot ∷ Boot ∷ replicate (blocks image - 2) Free → f.owners.node ≡ 0 → f.skipped.items ≡ []
     → f.left ≡ blocks image → f.nodes.items ≡ [] → f.parents.items ≡ 0 ∷ [] → f.places.items ≡ []
     → IsOwned RootPart (root_of image) f g → AreSame f g → h ≡ record g { nodes = h.nodes }
     → h.nodes.items ≡ g.nodes.items ++ root_of image ∷ [] → root_of image < blocks image → Stands image h (begun image [])
-stands_begun image f g h many none_yet new node avoided left nodes parents places o e same pushed lt =
+stands_begun image f g h many none_yet new node skipped left nodes parents places o e same pushed lt =
     let n : ℕ = blocks image in
     let root : ℕ = root_of image in
     let lo : 2 ≤ n = omega (arith, many) in
@@ -69,11 +69,11 @@ stands_begun image f g h many none_yet new node avoided left nodes parents place
     let free = new_free n lo f.owners new root (omega (arith, many)) in
     let count = count_more f.owners.owners root TheRoot (omega (arith, lt, owned.size)) refl free in
     let more = ap owned_count o.owners in
-    let marks : g.avoided.items ≡ [] = ap (λ v. v.items) o.avoided ∙ avoided in
+    let marks : g.skipped.items ≡ [] = ap (λ v. v.items) o.skipped ∙ skipped in
     subst (λ h. Stands image h (begun image [])) (sym same) (record {
       pages = (λ i. ap (λ m. get nat_cmp m i) o.pages ∙ empty_get f.pages (is_at (nat_cmp i)) none_yet);
       owners = owned_more n f.owners g.owners [] Root root lt o.owners o.node owned;
-      avoided = record { size = inl marks; marked = (λ b l. ap (λ xs. slice_index_or xs b false) marks) };
+      skipped = record { size = inl marks; marked = (λ b l. ap (λ xs. slice_index_or xs b false) marks) };
       left = omega (arith, none, count, more, o.left, left);
       node = (λ m. ap (λ xs. slice_index xs m) items ∙ one_node root m);
       count = ap length items;
@@ -94,4 +94,4 @@ module _ (image : List ℕ) (fs : List FindingValue) where
 
   pub on_begun : (f : Progress) → fs ≡ noted f → IsCourse image (begun image fs) → Stands image f.found (begun image []) → blocks image ≤ 1048576
       → HasReachedPage image f 0 (root_of image)
-  on_begun f told course st small = begun_at f told course (stands_but image f.found f.found (begun image []) [] fs refl st st.avoided) small
+  on_begun f told course st small = begun_at f told course (stands_but image f.found f.found (begun image []) [] fs refl st st.skipped) small

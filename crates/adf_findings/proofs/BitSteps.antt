@@ -21,7 +21,8 @@ use Rattle.adf_findings.specs.declared.finding.Finding.{Finding}
 use Rattle.adf_findings.specs.Parts.{finding_value}
 use Rattle.adf_findings.specs.Forms.{Tells}
 use Rattle.adf_findings.specs.Bits.{IsBitCompared, IsPageCompared}
-use Rattle.adf_findings.specs.Found.{BitTells, IsCompleted, IsFinished, HasReportedOn, TellsOn, Stands, at_role, bit_cause, is_owned, owns}
+use Rattle.adf_findings.specs.Found.{BitTells, IsCompleted, IsFinished, HasReportedOn, TellsOn, Stands, bit_cause, is_owned}
+use Rattle.adf_findings.specs.Members.{at_role, owns}
 use Rattle.adf_findings.proofs.WalkOwners.{owned_is}
 use Rattle.adf_findings.proofs.RoleBlocks.{at_has, lacks_at}
 use Rattle.adf_findings.proofs.Known.{tells_absent}
@@ -75,8 +76,8 @@ module _ (image : List ℕ) (f : Found) (s : Course) (v : IsCourse image s) (st 
 
   -- so it does by what is kept of the block
   pub bit_tells : (t : Bool) → b < blocks image → IsBitCompared image f.pages b t
-      → BitTells image s b (bit_cause (is_owned f b) (slice_index_or f.avoided.items b false || is_cache image b) t)
-  bit_tells t lt x = page_tells _ _ _ t x.0 (owned_is st.owners b) (st.avoided.marked b lt) refl x.1 x.2
+      → BitTells image s b (bit_cause (is_owned f b) (slice_index_or f.skipped.items b false || is_cache image b) t)
+  bit_tells t lt x = page_tells _ _ _ t x.0 (owned_is st.owners b) (st.skipped.marked b lt) refl x.1 x.2
 
   quiet : (o x t : Bool) → t ≡ not o → bit_cause o x t ≡ None
   quiet o x t h = grind (arith, common_steps)
@@ -85,7 +86,7 @@ module _ (image : List ℕ) (f : Found) (s : Course) (v : IsCourse image s) (st 
   pub agreed_tells : (t : Bool) → b < blocks image → IsBitCompared image f.pages b t → t ≡ not (is_owned f b)
       → BitTells image s b None
   agreed_tells t lt x e =
-      subst (BitTells image s b) (quiet (is_owned f b) (slice_index_or f.avoided.items b false || is_cache image b) t e)
+      subst (BitTells image s b) (quiet (is_owned f b) (slice_index_or f.skipped.items b false || is_cache image b) t e)
       (bit_tells t lt x)
 
 -- a bit of the same page is compared as this one

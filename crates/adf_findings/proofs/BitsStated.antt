@@ -10,7 +10,8 @@ use Rattle.adf_volume.specs.Walk.{Has, IsFreeIn, Walk}
 use Rattle.adf_volume.specs.Walk.Role.{Page}
 use Rattle.adf_volume.proofs.Gathered.{one_block}
 use Rattle.adf_volume.proofs.Roles.{same_refl}
-use Rattle.adf_findings.specs.Found.{IsBitOf, at_role}
+use Rattle.adf_findings.specs.Found.{IsBitOf}
+use Rattle.adf_findings.specs.Members.{at_role}
 use Rattle.adf_findings.specs.Survey.{FindingValue, IsSurvey, IsValidated}
 use Rattle.adf_findings.specs.Survey.IsSurvey.{read, unread}
 use Rattle.adf_findings.specs.SurveyResult.{IsBitStated}

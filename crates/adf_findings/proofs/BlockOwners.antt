@@ -14,8 +14,8 @@ use Rattle.adf_volume.proofs.Gathered.{IsGathered, asked_file, number_of}
 use Rattle.adf_volume.proofs.Gathered.IsGathered.{start, step}
 use Rattle.adf_volume.proofs.Roles.{asks_number}
 use Rattle.adf_findings.specs.declared.finding.Finding.{Finding}
-use Rattle.adf_findings.specs.Concerned.{owner_of, is_taken}
-use Rattle.adf_findings.specs.Found.{data_number, entry_in, number_at, owner}
+use Rattle.adf_findings.specs.Concerned.{taker_of, is_taken}
+use Rattle.adf_findings.specs.Members.{data_number, role_entry, number_at, owning_entry}
 use Rattle.adf_findings.specs.Parts.{finding_value}
 use Rattle.adf_findings.specs.SurveyResult.{entry_at, owner_for}
 
@@ -25,7 +25,7 @@ from_number o h = grind (arith, common_steps, eqb_tells)
 
 module _ (image : List ℕ) where
   -- a part that is asked for is that of an entry with a number from 1
-  asked_number : {w : Walk} → IsGathered image w → (r : Role) (a i n : ℕ) → Asks image w r a i → entry_in r ≡ Some n → 1 ≤ n
+  asked_number : {w : Walk} → IsGathered image w → (r : Role) (a i n : ℕ) → Asks image w r a i → role_entry r ≡ Some n → 1 ≤ n
   asked_number {w = w} v (Head m p s j) a i n d e = grind (arith, common_steps, asks_number)
   asked_number v (Ext m k) a i n d e =
       let l = number_of image v (asked_file image v m k a i d).1.header in
@@ -37,39 +37,39 @@ module _ (image : List ℕ) where
   asked_number v _ a i n d e = cc
 
   -- an entry that holds a block has a number from 1
-  owner_number : {w : Walk} → IsGathered image w → (b n : ℕ) → owner w b ≡ Some n → 1 ≤ n
+  owner_number : {w : Walk} → IsGathered image w → (b n : ℕ) → owning_entry w b ≡ Some n → 1 ≤ n
   owner_number (start) b n e = grind (arith, common_steps, start, cases_Bool)
   owner_number (step {w = w} {r = r} a i c v d l) b n e = elim (cases_Bool (c == b)) [
-    | inl y ↦ asked_number v r a i n d (ap (λ t. cond t (entry_in r) (owner w b)) (sym y) ∙ e)
-    | inr y ↦ owner_number v b n (ap (λ t. cond t (entry_in r) (owner w b)) (sym y) ∙ e)
+    | inl y ↦ asked_number v r a i n d (ap (λ t. cond t (role_entry r) (owning_entry w b)) (sym y) ∙ e)
+    | inr y ↦ owner_number v b n (ap (λ t. cond t (role_entry r) (owning_entry w b)) (sym y) ∙ e)
   ]
 
   -- the entry kept for a block is the one that holds it
-  pub owner_is : {w : Walk} → IsGathered image w → (owners : List Owner) → ((b : ℕ) → entry_of (owner_at owners b) ≡ unwrap_or (owner w b) 0)
-      → (b : ℕ) → entry_at owners b ≡ owner w b
-  owner_is {w = w} v owners h b = ap (λ n. cond (n == 0) None (Some n)) (h b) ∙ from_number (owner w b) (owner_number v b)
+  pub owner_is : {w : Walk} → IsGathered image w → (owners : List Owner) → ((b : ℕ) → entry_of (owner_at owners b) ≡ unwrap_or (owning_entry w b) 0)
+      → (b : ℕ) → entry_at owners b ≡ owning_entry w b
+  owner_is {w = w} v owners h b = ap (λ n. cond (n == 0) None (Some n)) (h b) ∙ from_number (owning_entry w b) (owner_number v b)
 
 -- of each finding that its block is taken the entry is the one that holds the block
-pub owner_nth_is : (w : Walk) (owners : List Owner) → ((b : ℕ) → entry_at owners b ≡ owner w b) → (xs : List Finding) (k : ℕ)
-    → option_and_then (owner_for owners) (slice_get xs k) ≡ option_and_then (owner_of w) (slice_get (map finding_value xs) k)
+pub owner_nth_is : (w : Walk) (owners : List Owner) → ((b : ℕ) → entry_at owners b ≡ owning_entry w b) → (xs : List Finding) (k : ℕ)
+    → option_and_then (owner_for owners) (slice_get xs k) ≡ option_and_then (taker_of w) (slice_get (map finding_value xs) k)
 owner_nth_is w owners h [] k = refl
 owner_nth_is w owners h (x ∷ xs) zero = ap (λ o. cond (is_taken x.cause) o None) (h x.block)
 owner_nth_is w owners h (x ∷ xs) (suc k) = owner_nth_is w owners h xs k
 
 -- a block that one role has tells its entry and its number
 pub first_with : (w : Walk) (r : Role) (b : ℕ) → Has w r b → ((q : Role) → Has w q b → q ≡ r)
-    → (owner w b ≡ entry_in r) × (number_at w b ≡ data_number r)
+    → (owning_entry w b ≡ role_entry r) × (number_at w b ≡ data_number r)
 first_with [] r b h one = absurd h
 first_with (x ∷ w) r b h one = elim (eqb_tells x.1 b) [
   | inl y ↦
       let e : x.0 ≡ r = one x.0 (inl (refl, y.1)) in (
-        ap (λ t. cond t (entry_in x.0) (owner w b)) y.0 ∙ ap entry_in e,
+        ap (λ t. cond t (role_entry x.0) (owning_entry w b)) y.0 ∙ ap role_entry e,
         ap (λ t. cond t (data_number x.0) (number_at w b)) y.0 ∙ ap data_number e,
       )
   | inr y ↦
       let g : Has w r b = elim h [ inl e ↦ absurd (y.1 e.1) | inr g ↦ g ] in
       let z = first_with w r b g (λ q k. one q (inr k)) in (
-        ap (λ t. cond t (entry_in x.0) (owner w b)) y.0 ∙ z.0,
+        ap (λ t. cond t (role_entry x.0) (owning_entry w b)) y.0 ∙ z.0,
         ap (λ t. cond t (data_number x.0) (number_at w b)) y.0 ∙ z.1,
       )
 ]
@@ -80,13 +80,13 @@ of_number (Data n j) k e = (n, ap (Data n) e)
 of_number _ k e = absurd (omega (arith, e))
 
 -- so is what has a block with such a number
-pub held_data : (w : Walk) (b k : ℕ) → number_at w b ≡ suc k → (n : ℕ) × Has w (Data n (suc k)) b × (owner w b ≡ Some n)
+pub held_data : (w : Walk) (b k : ℕ) → number_at w b ≡ suc k → (n : ℕ) × Has w (Data n (suc k)) b × (owning_entry w b ≡ Some n)
 held_data [] b k e = absurd (omega (arith, e))
 held_data (x ∷ w) b k e = elim (eqb_tells x.1 b) [
   | inl y ↦
       let r = of_number x.0 k (ap (λ t. cond t (data_number x.0) (number_at w b)) (sym y.0) ∙ e) in
-      (r.0, inl (r.1, y.1), ap (λ t. cond t (entry_in x.0) (owner w b)) y.0 ∙ ap entry_in r.1)
+      (r.0, inl (r.1, y.1), ap (λ t. cond t (role_entry x.0) (owning_entry w b)) y.0 ∙ ap role_entry r.1)
   | inr y ↦
       let z = held_data w b k (ap (λ t. cond t (data_number x.0) (number_at w b)) (sym y.0) ∙ e) in
-      (z.0, inr z.1, ap (λ t. cond t (entry_in x.0) (owner w b)) y.0 ∙ z.2)
+      (z.0, inr z.1, ap (λ t. cond t (role_entry x.0) (owning_entry w b)) y.0 ∙ z.2)
 ]

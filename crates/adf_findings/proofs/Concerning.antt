@@ -10,7 +10,8 @@ use Rattle.adf_findings.specs.declared.found.Found.{Found}
 use Rattle.adf_findings.specs.declared.concern.Concern.{Concern}
 use Rattle.adf_findings.specs.declared.finding.Finding.{Finding}
 use Rattle.adf_findings.specs.Concerned.{concern_of_nth, concern_with}
-use Rattle.adf_findings.specs.Found.{Stands, at_role}
+use Rattle.adf_findings.specs.Found.{Stands}
+use Rattle.adf_findings.specs.Members.{at_role}
 use Rattle.adf_findings.specs.Marks.{blamed, is_header}
 use Rattle.adf_findings.specs.Parts.{part_role, finding_value}
 use Rattle.adf_findings.specs.Survey.{BitsTell, Course, FindingValue, IsCourse}

@@ -12,7 +12,7 @@ use Rattle.adf_volume.specs.Walk.Role.{Data}
 use Rattle.adf_volume.proofs.Gathered.{head_block}
 use Rattle.adf_volume.proofs.Roles.{has_role, same_refl}
 use Rattle.adf_findings.specs.Files.{named_from}
-use Rattle.adf_findings.specs.Found.{at_role, number_at, owner}
+use Rattle.adf_findings.specs.Members.{at_role, number_at, owning_entry}
 use Rattle.adf_findings.specs.Remains.{below, blocks_stated, bytes_left, data_below, data_found, data_named, gaps_left, named_below, size_stated}
 use Rattle.adf_findings.specs.Survey.{FindingValue, IsSurvey}
 use Rattle.adf_findings.specs.Survey.IsSurvey.{read, unread}
@@ -39,7 +39,7 @@ found_named image w fs (unread f) n h file k b has = absurd has
 found_named image w fs (read v d t) n h file k b has = ((data_is image n v h file k b has).0, data_inside image v n (suc k) b has)
 
 -- a block with the entry and the number of a data block is one
-pub held_has : (w : Walk) (b n k : ℕ) → owner w b ≡ Some n → number_at w b ≡ suc k → Has w (Data n (suc k)) b
+pub held_has : (w : Walk) (b n k : ℕ) → owning_entry w b ≡ Some n → number_at w b ≡ suc k → Has w (Data n (suc k)) b
 held_has w b n k e f = grind (arith, common_steps, held_data w b k f)
 
 pub all_true : {A : Type 0} (p q r : Bool) (x y : A) → p ≡ true → q ≡ true → r ≡ true → cond (p && (q && r)) x y ≡ x
@@ -69,7 +69,7 @@ module _ {v : SurveyValue} {w : Walk} {fs : List FindingValue} (t : TellsOf v w 
           not_all (nat_lt b (blocks v.image)) (entry_of (owner_at v.owners b) == n) (data_number_of (owner_at v.owners b) == k + 1) (Some b) None
           (λ inside own number.
           let lo = (file_between v.image w fs t.survey n h file).0 in
-          let whose : owner w b ≡ Some n = sym (t.owner b) ∙ some_kept (entry_of (owner_at v.owners b)) n lo (eqb-true _ _ own) in
+          let whose : owning_entry w b ≡ Some n = sym (t.owner b) ∙ some_kept (entry_of (owner_at v.owners b)) n lo (eqb-true _ _ own) in
           let which : number_at w b ≡ suc k = sym (t.number b) ∙ (eqb-true _ _ number ∙ add-one k) in
           lacks_at w (Data n (suc k)) e (Data n (suc k)) b (held_has w b n k whose which) (same_refl (Data n (suc k))))
       go (Some c) e =

@@ -3,7 +3,7 @@ use Rattle.std.proofs.Common.{◌≡◌, ℕ, List, [], ◌∷◌, ◌++◌, ◌
 use Rattle.adf_volume.specs.Image.{name_of}
 use Rattle.adf_volume.specs.Walk.{HeadAt, NodeAt, node_block, Walk}
 use Rattle.adf_volume.proofs.Gathered.{head_block, number_of, node_there, parent_below}
-use Rattle.adf_findings.specs.Found.{parent_node}
+use Rattle.adf_findings.specs.Members.{parent_node}
 use Rattle.adf_findings.specs.Lookup.{path_to}
 use Rattle.adf_findings.specs.Survey.{FindingValue, IsSurvey}
 use Rattle.adf_findings.specs.Survey.IsSurvey.{read, unread}

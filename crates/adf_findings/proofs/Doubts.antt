@@ -23,7 +23,7 @@ pub unowned_sure : (image : List ℕ) (f : Found) (b : ℕ) → is_owned f b ≡
 unowned_sure image f b e = grind (arith, common_steps, no_number)
 
 -- while no block is skipped, one of another type leaves none in doubt
-pub untyped_sure : (image : List ℕ) (f : Found) (b n : ℕ) → f.avoided.items ≡ [] → n ≡ word (block image b) TYPE → (n ≡ T_DATA → ⊥)
+pub untyped_sure : (image : List ℕ) (f : Found) (b n : ℕ) → f.skipped.items ≡ [] → n ≡ word (block image b) TYPE → (n ≡ T_DATA → ⊥)
     → doubted image f b ≡ None
 untyped_sure image f b n none is other = grind (arith, common_steps, nat_tests, none_doubted)
 

@@ -8,7 +8,7 @@ use Rattle.adf_volume.specs.Walk.{Has, Role, Walk}
 use Rattle.adf_volume.specs.Walk.Role.{Page}
 use Rattle.adf_volume.proofs.Gathered.{IsGathered}
 use Rattle.adf_volume.proofs.Gathered.IsGathered.{start, step}
-use Rattle.adf_findings.specs.Found.{at_role}
+use Rattle.adf_findings.specs.Members.{at_role}
 use Rattle.adf_findings.specs.Survey.{FindingValue, IsSurvey}
 use Rattle.adf_findings.specs.Survey.IsSurvey.{read, unread}
 use Rattle.adf_findings.proofs.RoleBlocks.{taken_at}

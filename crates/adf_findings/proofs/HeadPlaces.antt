@@ -13,7 +13,8 @@ use Rattle.adf_volume.proofs.Roles.{asks_number, head_at}
 use Rattle.adf_findings.specs.declared.found.ChainPlace.{ChainPlace}
 use Rattle.adf_findings.specs.declared.found.Found.{Found}
 use Rattle.adf_findings.specs.Survey.{Course}
-use Rattle.adf_findings.specs.Found.{Stands, parent_by, parent_node, places_of, with_place}
+use Rattle.adf_findings.specs.Found.{Stands, places_of, with_place}
+use Rattle.adf_findings.specs.Members.{parent_by, parent_node}
 use Rattle.adf_findings.specs.Marks.{is_header, is_place}
 use Rattle.adf_tree.proofs.Lists.{get_last}
 

@@ -13,11 +13,13 @@ use Rattle.adf_volume.specs.declared.owner.Owner.{Owner}
 use Rattle.adf_volume.specs.declared.owner.Owner.TheVariants.{Boot}
 use Rattle.adf_findings.proofs.Begun.{new_owned}
 use Rattle.adf_findings.proofs.WalkOwners.{entry_is, number_is, owned_is}
-use Rattle.adf_findings.specs.Found.{AreOwned, IsCompleted, parent_node}
+use Rattle.adf_findings.specs.Found.{AreOwned, IsCompleted}
+use Rattle.adf_findings.specs.Members.{parent_node}
 use Rattle.adf_findings.specs.declared.found.Found.{Found}
 use Rattle.adf_findings.specs.declared.finding.Finding.{Finding}
 use Rattle.adf_findings.specs.Files.{counting, grave, is_light}
-use Rattle.adf_findings.specs.Marks.{blamed, has_mark, is_blamed, is_clear, is_undoubted}
+use Rattle.adf_findings.specs.Marks.{blamed, is_blamed, is_clear, is_undoubted}
+use Rattle.adf_findings.specs.Members.{has_mark}
 use Rattle.adf_findings.specs.declared.concern.Concern.{Concern}
 use Rattle.adf_findings.specs.Parts.{finding_value}
 use Rattle.adf_findings.specs.Survey.{FindingValue, IsSurvey, UnreadTells}

@@ -22,7 +22,8 @@ use Rattle.adf_findings.specs.Forms.{IsContext, Knows, Tells}
 use Rattle.adf_findings.proofs.WalkOwners.{owned_is}
 use Rattle.adf_findings.specs.Found.{is_owned, AreNamed, HasValidName, IsChain, KeepsName, Stands}
 use Rattle.adf_findings.proofs.WalkOwners.{owned_is}
-use Rattle.adf_findings.specs.Found.{is_owned, has_name, is_named, known_at, new_in, owns}
+use Rattle.adf_findings.specs.Found.{is_owned, has_name, is_named, known_at, new_in}
+use Rattle.adf_findings.specs.Members.{owns}
 use Rattle.adf_volume.specs.Parts.{role_of}
 use Rattle.adf_findings.proofs.Names.{other_name}
 

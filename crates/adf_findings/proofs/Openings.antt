@@ -9,7 +9,7 @@ use Rattle.adf_volume.proofs.Gathered.{IsGathered}
 use Rattle.adf_volume.proofs.Gathered.IsGathered.{start, step}
 use Rattle.adf_findings.specs.Files.{counting, grave}
 use Rattle.adf_findings.specs.SoundMarks.{AreMarks, mark_in, whole_in}
-use Rattle.adf_findings.specs.Marks.{has_mark}
+use Rattle.adf_findings.specs.Members.{has_mark}
 use Rattle.adf_findings.specs.Sound.{IsSound}
 use Rattle.adf_findings.specs.Survey.{BootTells, FindingValue, IsSurvey, OnSurvey, RootTells, UnreadTells}
 use Rattle.adf_findings.specs.Survey.IsSurvey.{read, unread}

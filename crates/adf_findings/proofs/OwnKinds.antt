@@ -13,7 +13,7 @@ use Rattle.adf_volume.specs.Walk.{Has, heads, node_block, Walk}
 use Rattle.adf_volume.specs.Walk.Role.{Data}
 use Rattle.adf_volume.proofs.Gathered.{number_of}
 use Rattle.adf_findings.specs.declared.own_kind.Tally.{Tally}
-use Rattle.adf_findings.specs.Found.{number_at, owner}
+use Rattle.adf_findings.specs.Members.{number_at, owning_entry}
 use Rattle.adf_findings.specs.OwnKind.{is_mistyped, is_other_kind, said_at, said_in, tallied, tally}
 use Rattle.adf_findings.specs.Sound.{IsSound, says_data_of}
 use Rattle.adf_findings.specs.Survey.{FindingValue, IsSurvey}
@@ -36,8 +36,8 @@ pub kept_said : {v : SurveyValue} {w : Walk} {fs : List FindingValue} → TellsO
     → said_in image v b ≡ said_at image w b
 kept_said {v = v} {w = w} t image b =
     let number : data_number_of (owner_at v.owners b) ≡ number_at w b = t.number b in
-    let own : unwrap_or (owner w b) 0 ≡ entry_of (owner_at v.owners b) = kept_owner (entry_of (owner_at v.owners b)) (owner w b) (t.owner b) in
-    let head : slice_index v.nodes (entry_of (owner_at v.owners b)) ≡ node_block w (unwrap_or (owner w b) 0) =
+    let own : unwrap_or (owning_entry w b) 0 ≡ entry_of (owner_at v.owners b) = kept_owner (entry_of (owner_at v.owners b)) (owning_entry w b) (t.owner b) in
+    let head : slice_index v.nodes (entry_of (owner_at v.owners b)) ≡ node_block w (unwrap_or (owning_entry w b) 0) =
     t.node (entry_of (owner_at v.owners b)) ∙ ap (node_block w) (sym own) in
     λ i. cond (number i == 0) None (Some (says_data_of image (head i) (number i) b))
 
@@ -73,16 +73,16 @@ module _ (image : List ℕ) (w : Walk) (fs gs : List FindingValue) (v : IsSurvey
   none_said b e = go (number_at w b) refl e
     where
       go : (k : ℕ) → number_at w b ≡ k
-          → cond (k == 0) None (Some (says_data_of image (node_block w (unwrap_or (owner w b) 0)) k b)) ≡ Some true → ⊥
+          → cond (k == 0) None (Some (says_data_of image (node_block w (unwrap_or (owning_entry w b) 0)) k b)) ≡ Some true → ⊥
       go zero is e = cc
       go (suc k) is e =
           let some : (suc k == 0) ≡ false = grind (arith, nat_tests) in
           let (n, has, own) = held_data w b k is in
           let (lo, hi) = data_entry image w fs v n k b has in
-          let here : unwrap_or (owner w b) 0 ≡ n = ap (λ o. unwrap_or o 0) own in
+          let here : unwrap_or (owning_entry w b) 0 ≡ n = ap (λ o. unwrap_or o 0) own in
           let not_said = ap (λ m. says_data_of image (node_block w m) (suc k) b) here ∙ (sound n lo hi).own ffs (suc k) b has in
-          let said : Some (says_data_of image (node_block w (unwrap_or (owner w b) 0)) (suc k) b) ≡ Some true =
-          ap (λ t. cond t None (Some (says_data_of image (node_block w (unwrap_or (owner w b) 0)) (suc k) b))) (sym some) ∙ e in
+          let said : Some (says_data_of image (node_block w (unwrap_or (owning_entry w b) 0)) (suc k) b) ≡ Some true =
+          ap (λ t. cond t None (Some (says_data_of image (node_block w (unwrap_or (owning_entry w b) 0)) (suc k) b))) (sym some) ∙ e in
           let clash : Some false ≡ Some true = ap Some (sym not_said) ∙ said in cc
 
   says_same : (t : Tally) (o : Option Bool) → (o ≡ Some true → ⊥) → (tallied t o).says ≡ t.says

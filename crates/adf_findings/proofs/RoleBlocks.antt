@@ -9,7 +9,7 @@ use Rattle.adf_volume.specs.Walk.{Role, Has, Lacks, Same, Walk}
 use Rattle.adf_volume.specs.Walk.Role.{Page}
 use Rattle.adf_volume.proofs.Gathered.{IsGathered, one_block}
 use Rattle.adf_volume.proofs.Roles.{same_of, same_refl, same_role}
-use Rattle.adf_findings.specs.Found.{at_role, is_same}
+use Rattle.adf_findings.specs.Members.{at_role, is_same}
 
 same_is : (r q : Role) → is_same r q ≡ true → Same r q
 same_is r q h = grind (arith, common_steps, and_parts, eqb-true)

@@ -9,7 +9,7 @@ use Rattle.adf_volume.specs.Image.{name_of}
 use Rattle.adf_volume.specs.Walk.{FileAt, heads, node_block, Walk}
 use Rattle.adf_volume.proofs.DecidedAsks.{dec_file}
 use Rattle.adf_findings.specs.Demands.{uppers_in}
-use Rattle.adf_findings.specs.Found.{parent_node}
+use Rattle.adf_findings.specs.Members.{parent_node}
 use Rattle.adf_findings.specs.Lookup.{IsFirstChild, IsNamedChild, LeadsTo}
 use Rattle.adf_findings.specs.Survey.{FindingValue, IsSurvey}
 use Rattle.adf_findings.specs.Survey.IsSurvey.{read, unread}

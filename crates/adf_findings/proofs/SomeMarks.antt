@@ -14,7 +14,7 @@ use Rattle.adf_volume.specs.Walk.{Asks, Has, HeadAt, Role, Same, first, heads, n
 use Rattle.adf_volume.specs.Walk.Role.{Data, Ext, Head}
 use Rattle.adf_volume.proofs.Gathered.{number_of, one_head}
 use Rattle.adf_volume.proofs.Roles.{head_role}
-use Rattle.adf_findings.specs.Found.{owns}
+use Rattle.adf_findings.specs.Members.{owns}
 use Rattle.adf_findings.specs.Sound.{IsSound, IsUnreported, says_data_of}
 use Rattle.adf_findings.specs.SoundMarks.{AreMarks}
 use Rattle.adf_findings.specs.Survey.{Course, FindingValue, IsCourse, IsDone, IsSurvey}

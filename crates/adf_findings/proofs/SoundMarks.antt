@@ -22,7 +22,8 @@ use Rattle.adf_findings.specs.declared.finding.Finding.{Finding}
 use Rattle.adf_findings.specs.declared.found.Found.{Found}
 use Rattle.adf_findings.specs.declared.concern.Concern.TheVariants.{Entry, Within}
 use Rattle.adf_findings.specs.Concerned.{node_of}
-use Rattle.adf_findings.specs.Found.{Stands, owns}
+use Rattle.adf_findings.specs.Found.{Stands}
+use Rattle.adf_findings.specs.Members.{owns}
 use Rattle.adf_findings.proofs.WalkOwners.{both, entry_is, number_is as data_number_is}
 use Rattle.adf_findings.specs.Marks.{blamed, doubted, entry_in_block, is_blamed, is_clear, is_doubted, is_doubtful, is_node, is_header, is_said}
 use Rattle.adf_findings.specs.Marks.{number_in_block}
@@ -262,35 +263,35 @@ not_doubted image f (suc k) m b e lt s =
 
 -- what a data block tells
 abbrev told_of : List ℕ → Found → ℕ → Option ℕ
-told_of image f b = cond (slice_index_or f.avoided.items b false || is_said image f b) (Some (entry_in_block f b)) None
+told_of image f b = cond (slice_index_or f.skipped.items b false || is_said image f b) (Some (entry_in_block f b)) None
 
 -- no block is doubted that was not skipped and has another type
-pub none_doubted : (image : List ℕ) (f : Found) (b : ℕ) → (slice_index_or f.avoided.items b false || (word_in image b TYPE == T_DATA)) ≡ false
+pub none_doubted : (image : List ℕ) (f : Found) (b : ℕ) → (slice_index_or f.skipped.items b false || (word_in image b TYPE == T_DATA)) ≡ false
     → doubted image f b ≡ None
 none_doubted image f b e = grind (arith, common_steps, or_parts, both)
 
 -- what is doubted is a data block that was also skipped, or says that it is an OFS one
 doubted_is : (image : List ℕ) (f : Found) (b m : ℕ) → doubted image f b ≡ Some m
     → (number_in_block f b ≡ suc (number_in_block f b - 1)) × (entry_in_block f b ≡ m)
-    × ((slice_index_or f.avoided.items b false ≡ true) ⊎ (is_said image f b ≡ true))
+    × ((slice_index_or f.skipped.items b false ≡ true) ⊎ (is_said image f b ≡ true))
 doubted_is image f b m e = elim (eqb_tells (number_in_block f b) 0) [
   | inl y ↦ let none : None ≡ Some m = ap (λ t. cond t None (told_of image f b)) (sym y.0) ∙ e in cc
   | inr y ↦
       let z =
-      go (slice_index_or f.avoided.items b false) (is_said image f b) refl refl (ap (λ t. cond t None (told_of image f b)) (sym y.0) ∙ e) in
+      go (slice_index_or f.skipped.items b false) (is_said image f b) refl refl (ap (λ t. cond t None (told_of image f b)) (sym y.0) ∙ e) in
       (omega (arith, y.1), z.0, z.1)
 ]
   where
-    go : (p q : Bool) → slice_index_or f.avoided.items b false ≡ p → is_said image f b ≡ q
+    go : (p q : Bool) → slice_index_or f.skipped.items b false ≡ p → is_said image f b ≡ q
         → cond (p || q) (Some (entry_in_block f b)) None ≡ Some m
-        → (entry_in_block f b ≡ m) × ((slice_index_or f.avoided.items b false ≡ true) ⊎ (is_said image f b ≡ true))
+        → (entry_in_block f b ≡ m) × ((slice_index_or f.skipped.items b false ≡ true) ⊎ (is_said image f b ≡ true))
     go true q a b e = (cc, inl a)
     go false true a b e = (cc, inr b)
     go false false a b e = cc
 
 -- and such a one is
 doubted_yes : (image : List ℕ) (f : Found) (b : ℕ) → (number_in_block f b ≡ 0 → ⊥)
-    → (slice_index_or f.avoided.items b false ≡ true) ⊎ (is_said image f b ≡ true) → doubted image f b ≡ Some (entry_in_block f b)
+    → (slice_index_or f.skipped.items b false ≡ true) ⊎ (is_said image f b ≡ true) → doubted image f b ≡ Some (entry_in_block f b)
 doubted_yes image f b some doubt = grind (arith, common_steps, eqb_tells)
 
 pub in_values : (xs : List Finding) (x : Finding) → In xs x → In (map finding_value xs) (finding_value x)
@@ -377,7 +378,7 @@ module _ (image : List ℕ) (f : Found) {s : Course} (v : IsCourse image s) (don
         let has : Has s.walk (Data m (suc k)) b = subst (λ n. Has s.walk (Data n (suc k)) b) same held in
         elim doubt [
           | inl over ↦
-              absurd (not_alone image v done m (suc k) b has (sym (st.avoided.marked b (data_inside image v m (suc k) b has)) ∙ over)
+              absurd (not_alone image v done m (suc k) b has (sym (st.skipped.marked b (data_inside image v m (suc k) b has)) ∙ over)
               (sound.alone ffs (suc k) b has))
           | inr said ↦
               let head : slice_index f.nodes.items (entry_in_block f b) ≡ h =
@@ -415,13 +416,13 @@ module _ (image : List ℕ) (f : Found) {s : Course} (v : IsCourse image s) (don
 
   -- nothing speaks against a data block of an entry that is not doubtful
   data_clear : (m : ℕ) → is_doubtful (kind_of image) image f m ≡ false → kind_of image ≡ Ffs → (k c : ℕ) → Has s.walk (Data m k) c
-      → (slice_index_or f.avoided.items c false ≡ true) ⊎ (says_data_of image (slice_index f.nodes.items m) k c ≡ true) → ⊥
+      → (slice_index_or f.skipped.items c false ≡ true) ⊎ (says_data_of image (slice_index f.nodes.items m) k c ≡ true) → ⊥
   data_clear m e ffs k c has doubt =
       let none : is_doubted image f (blocks image) m ≡ false = subst (λ k. is_doubtful k image f m ≡ false) ffs e in
       let (whose, which) = first_with s.walk (Data m k) c has (λ q g. one_role image v q (Data m k) c g has) in
       let number : number_in_block f c ≡ k = data_number_is st.owners c ∙ which in
       let own : entry_in_block f c ≡ m = entry_is st.owners c ∙ ap (λ o. unwrap_or o 0) whose in
-      let said : (slice_index_or f.avoided.items c false ≡ true) ⊎ (is_said image f c ≡ true) = elim doubt [
+      let said : (slice_index_or f.skipped.items c false ≡ true) ⊎ (is_said image f c ≡ true) = elim doubt [
         | inl t ↦ inl t
         | inr t ↦ inr ((λ i. says_data_of image (slice_index f.nodes.items (own i)) (number i) c) ∙ t)
       ] in
@@ -432,7 +433,7 @@ module _ (image : List ℕ) (f : Found) {s : Course} (v : IsCourse image s) (don
       → (q : Role) (a i : ℕ) → Asks image s.walk q a i → word_in image a i ≡ c → Same q (Data m k)
   alone_clear m e ffs k c has =
       let free : owns s.skipped c ≡ false = elim (cases_Bool (owns s.skipped c)) [
-        | inl t ↦ absurd (data_clear m e ffs k c has (inl (st.avoided.marked c (data_inside image v m k c has) ∙ t)))
+        | inl t ↦ absurd (data_clear m e ffs k c has (inl (st.skipped.marked c (data_inside image v m k c has) ∙ t)))
         | inr t ↦ t
       ] in
       is_alone image v done m k c has free

@@ -21,9 +21,10 @@ use Rattle.adf_findings.specs.declared.found.ChainPlace.{ChainPlace}
 use Rattle.adf_findings.specs.declared.found.Found.{Found}
 use Rattle.adf_findings.specs.Survey.{Course, FindingValue}
 use Rattle.adf_volume.specs.Parts.{role_of}
-use Rattle.adf_findings.specs.Found.{AreAvoided, AreMarked, AreSame, IsKept, IsOwned, IsBlockSkipped, IsPut}
+use Rattle.adf_findings.specs.Found.{AreSkipped, AreMarked, AreSame, IsKept, IsOwned, IsBlockSkipped, IsPut}
 use Rattle.adf_findings.specs.Found.{IsTaken, KeepsParts, Stands}
-use Rattle.adf_findings.specs.Found.{at_role, owns, parent_by, parent_node, places_of, with_mark, with_place}
+use Rattle.adf_findings.specs.Found.{places_of, with_mark, with_place}
+use Rattle.adf_findings.specs.Members.{at_role, owns, parent_by, parent_node}
 use Rattle.adf_findings.proofs.RoleBlocks.{other_place, page_place}
 use Rattle.std.proofs.lemmas.Bool.{cases_lt, cond-false}
 
@@ -47,7 +48,7 @@ pub none_default : {A : Type 0} (n : ℕ) (x : A) (b : ℕ) → slice_index_or (
 none_default n x b = grind (arith, common_steps)
 
 -- a block is skipped
-pub avoided_more : (n : ℕ) (xs : List Bool) (w : Walk) (r : Role) (b : ℕ) → AreAvoided n xs w → AreAvoided n (with_mark n b xs) ((r, b) ∷ w)
+pub avoided_more : (n : ℕ) (xs : List Bool) (w : Walk) (r : Role) (b : ℕ) → AreSkipped n xs w → AreSkipped n (with_mark n b xs) ((r, b) ∷ w)
 avoided_more n [] w r b h = grind (arith, common_steps, marked_more, length-replicate, none_default)
 avoided_more n (x ∷ xs) w r b h = grind (arith, common_steps, marked_more)
 
@@ -62,10 +63,10 @@ IsNumbered w _ = Unit {0}
 
 -- what is taken stays so, whatever is skipped and reported and whatever names are kept
 pub stands_but : (image : List ℕ) (f g : Found) (s : Course) (over : Walk) (fs : List FindingValue)
-    → g ≡ record f { avoided = g.avoided; names = g.names } → Stands image f s
-    → AreAvoided (blocks image) g.avoided.items over
+    → g ≡ record f { skipped = g.skipped; names = g.names } → Stands image f s
+    → AreSkipped (blocks image) g.skipped.items over
     → Stands image g (record { walk = s.walk; skipped = over; findings = fs })
-stands_but image f g s over fs rest st avoided = grind (arith, common_steps)
+stands_but image f g s over fs rest st skipped = grind (arith, common_steps)
 
 module _ (image : List ℕ) (f g : Found) (s : Course) (b : ℕ) (st : Stands image f s) where
   -- what of the walk is kept for later
@@ -97,7 +98,7 @@ module _ (image : List ℕ) (f g : Found) (s : Course) (b : ℕ) (st : Stands im
       record {
         pages = pages_more f.pages g.pages s.walk part b t.owned.pages st.pages;
         owners = owned_more (blocks image) f.owners g.owners s.walk (role_of part) b lt t.owned.owners t.owned.node st.owners;
-        avoided = subst (λ (v : Vec Bool). AreAvoided (blocks image) v.items s.skipped) (sym t.owned.avoided) st.avoided;
+        skipped = subst (λ (v : Vec Bool). AreSkipped (blocks image) v.items s.skipped) (sym t.owned.skipped) st.skipped;
         left = omega (arith, many, count, t.owned.left, st.left);
         node = l.node;
         count = l.count;
@@ -108,10 +109,10 @@ module _ (image : List ℕ) (f g : Found) (s : Course) (b : ℕ) (st : Stands im
       }
 
   -- what is taken stays so, whatever is skipped and reported
-  stands_else : (over : Walk) (fs : List FindingValue) → g ≡ record f { avoided = g.avoided }
-      → AreAvoided (blocks image) g.avoided.items over
+  stands_else : (over : Walk) (fs : List FindingValue) → g ≡ record f { skipped = g.skipped }
+      → AreSkipped (blocks image) g.skipped.items over
       → Stands image g (record { walk = s.walk; skipped = over; findings = fs })
-  stands_else over fs rest avoided = grind (arith, common_steps, stands_but)
+  stands_else over fs rest skipped = grind (arith, common_steps, stands_but)
 
   -- a part is skipped
   pub stands_skipped : (r : Role) → IsBlockSkipped b f g

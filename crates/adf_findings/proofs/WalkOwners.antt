@@ -1,5 +1,5 @@
 -- The owners that are kept of blocks, and what they tell of a walk.
--- Letters: w a walk; r a role; o an owner; b a block; n a number of blocks.
+-- Letters: w a walk; r a role; o an owning_entry; b a block; n a number of blocks.
 use Rattle.std.specs.Prelude.{◌||◌, nat_lt}
 use Rattle.std.specs.Option.{unwrap_or}
 use Rattle.std.proofs.Common.{◌≡◌, ◌==◌, ℕ, Bool, true, false, cond, List, [], ◌∷◌, ◌<◌, ◌≤◌, ◌+◌, length, set, refl, sym, ap, ◌∙◌, arith}
@@ -14,7 +14,8 @@ use Rattle.adf_volume.specs.Walk.{Role, Walk}
 use Rattle.adf_walk.specs.Owners.{is_part, owned_count, owner_at}
 use Rattle.adf_findings.specs.WalkOwners.{OwnersValue, data_number_of, node_after}
 use Rattle.adf_volume.specs.Parts.{entry_of}
-use Rattle.adf_findings.specs.Found.{AreOwned, data_number, entry_in, number_at, owner, owner_by, owns}
+use Rattle.adf_findings.specs.Found.{AreOwned, owner_by}
+use Rattle.adf_findings.specs.Members.{data_number, role_entry, number_at, owning_entry, owns}
 
 through : {X Y : Type 0} (f : X → Y) (t : Bool) (x y : X) → f (cond t x y) ≡ cond t (f x) (f y)
 through f true x y = refl
@@ -24,8 +25,8 @@ pub both : {X : Type 0} (t : Bool) (x : X) → cond t x x ≡ x
 both true x = refl
 both false x = refl
 
--- a role tells the same of its block as its owner
-entry_same : (r : Role) → entry_of (owner_of r) ≡ unwrap_or (entry_in r) 0
+-- a role tells the same of its block as its owning_entry
+entry_same : (r : Role) → entry_of (owner_of r) ≡ unwrap_or (role_entry r) 0
 entry_same r = grind (arith, common_steps)
 
 number_same : (r : Role) → data_number_of (owner_of r) ≡ data_number r
@@ -34,13 +35,13 @@ number_same r = grind (arith, common_steps)
 pub part_owns : (r : Role) → is_part (owner_of r) ≡ true
 part_owns r = grind (arith, common_steps)
 
--- the owner of a block by the walk tells its entry, its number, and whether a part has it
-entry_by : (w : Walk) (b : ℕ) → entry_of (owner_by w b) ≡ unwrap_or (owner w b) 0
+-- the owning_entry of a block by the walk tells its entry, its number, and whether a part has it
+entry_by : (w : Walk) (b : ℕ) → entry_of (owner_by w b) ≡ unwrap_or (owning_entry w b) 0
 entry_by [] b = through entry_of (nat_lt b 2) Boot Free ∙ both (nat_lt b 2) 0
 entry_by (x ∷ w) b =
     through entry_of (x.1 == b) (owner_of x.0) (owner_by w b)
     ∙ (λ i. cond (x.1 == b) (entry_same x.0 i) (entry_by w b i))
-    ∙ sym (through (λ o. unwrap_or o 0) (x.1 == b) (entry_in x.0) (owner w b))
+    ∙ sym (through (λ o. unwrap_or o 0) (x.1 == b) (role_entry x.0) (owning_entry w b))
 
 number_by : (w : Walk) (b : ℕ) → data_number_of (owner_by w b) ≡ number_at w b
 number_by [] b = through data_number_of (nat_lt b 2) Boot Free ∙ both (nat_lt b 2) 0
@@ -60,7 +61,7 @@ part_by (x ∷ w) b =
     either false t = refl
 
 module _ {n : ℕ} {owners : OwnersValue} {w : Walk} (kept : AreOwned n owners w) (b : ℕ) where
-  pub entry_is : entry_of (owner_at owners.owners b) ≡ unwrap_or (owner w b) 0
+  pub entry_is : entry_of (owner_at owners.owners b) ≡ unwrap_or (owning_entry w b) 0
   entry_is = ap entry_of (kept.owner b) ∙ entry_by w b
 
   pub number_is : data_number_of (owner_at owners.owners b) ≡ number_at w b

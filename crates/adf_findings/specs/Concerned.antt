@@ -9,7 +9,7 @@ use Rattle.adf_volume.specs.Walk.{Role, Walk}
 use Rattle.adf_volume.specs.Walk.Role.{Head, Ext, Data}
 use Rattle.adf_findings.specs.declared.concern.Concern.{Concern}
 use Rattle.adf_findings.specs.declared.concern.Concern.TheVariants.{Entry, Within}
-use Rattle.adf_findings.specs.Found.{at_role, owner}
+use Rattle.adf_findings.specs.Members.{at_role, owning_entry}
 use Rattle.adf_findings.specs.Survey.{FindingValue}
 
 -- the entry or the directory that is concerned
@@ -38,9 +38,9 @@ is_taken Taken = true
 is_taken _ = false
 
 -- the entry that holds the block of a finding that it is taken
-abbrev pub owner_of : Walk → FindingValue → Option ℕ
-owner_of w f = cond (is_taken f.cause) (owner w f.block) None
+abbrev pub taker_of : Walk → FindingValue → Option ℕ
+taker_of w f = cond (is_taken f.cause) (owning_entry w f.block) None
 
 -- the entry that holds the block of the finding at an index, nothing past the last
-abbrev pub owner_of_nth : Walk → List FindingValue → ℕ → Option ℕ
-owner_of_nth w fs k = option_and_then (owner_of w) (slice_get fs k)
+abbrev pub taker_of_nth : Walk → List FindingValue → ℕ → Option ℕ
+taker_of_nth w fs k = option_and_then (taker_of w) (slice_get fs k)

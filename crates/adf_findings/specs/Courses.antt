@@ -24,7 +24,8 @@ use Rattle.adf_findings.specs.Demands.{demands_in}
 use Rattle.adf_findings.specs.Forms.{IsContext, Tells, judgement_value}
 use Rattle.adf_findings.specs.Survey.{Course, FindingValue, IsCourse, IsNext, Judged}
 use Rattle.adf_findings.specs.Parts.{finding_value}
-use Rattle.adf_findings.specs.Found.{AreNamed, KeepsName, Stands, owns}
+use Rattle.adf_findings.specs.Found.{AreNamed, KeepsName, Stands}
+use Rattle.adf_findings.specs.Members.{owns}
 
 -- the findings noted
 abbrev pub noted : Progress → List FindingValue

@@ -28,32 +28,7 @@ use Rattle.adf_findings.specs.declared.found.ChainPlace.{ChainPlace}
 use Rattle.adf_findings.specs.declared.found.Found.{Found}
 use Rattle.adf_findings.specs.Survey.{BitsTell, Course, FindingValue, IsCompared, IsCourse, IsDone}
 use Rattle.adf_volume.specs.Parts.{role_of}
-
--- whether two roles have the same place in the order of roles
-abbrev pub is_same : Role → Role → Bool
-is_same r q = (first r == first q) && ((second r == second q) && (third r == third q))
-
--- the block of the member of the walk at the place of role q
-abbrev pub at_role : Walk → Role → Option ℕ
-at_role [] q = None
-at_role (x ∷ w) q = cond (is_same x.0 q) (Some x.1) (at_role w q)
-
--- whether a member of the walk has this block
-abbrev pub owns : Walk → ℕ → Bool
-owns [] b = false
-owns (x ∷ w) b = (x.1 == b) || owns w b
-
--- the entry that a role is a part of; none of the root and the bitmap
-abbrev pub entry_in : Role → Option ℕ
-entry_in (Head n p s j) = Some n
-entry_in (Ext n k) = Some n
-entry_in (Data n k) = Some n
-entry_in _ = None
-
--- the entry that has the block
-abbrev pub owner : Walk → ℕ → Option ℕ
-owner [] b = None
-owner (x ∷ w) b = cond (x.1 == b) (entry_in x.0) (owner w b)
+use Rattle.adf_findings.specs.Members.{at_role, owns, owning_entry, parent_node}
 
 -- whether the role at block c is a header of the chain with this name
 abbrev pub is_named : List ℕ → Role → ℕ → ℕ → ℕ → List ℕ → Bool
@@ -87,16 +62,6 @@ abbrev pub HasValidName : List ℕ → Part → ℕ → Type 0
 HasValidName image (HeadPart n p s j) b = is_name (name_of image b) ≡ true
 HasValidName image _ b = Unit {0}
 
--- p if the role is the header of node n in directory p, otherwise c
-abbrev pub parent_by : ℕ → Role → ℕ → ℕ
-parent_by n (Head m p s j) c = cond (n == m) p c
-parent_by n _ c = c
-
--- the parent of node n; 0 if the walk has no such header
-abbrev pub parent_node : Walk → ℕ → ℕ
-parent_node [] n = 0
-parent_node (x ∷ w) n = parent_by n x.0 (parent_node w n)
-
 -- the marks of n blocks are true for the blocks of members
 abbrev pub AreMarked : ℕ → List Bool → Walk → Type 0
 AreMarked n marks w = (length marks ≡ n) × ((b : ℕ) → b < n → slice_index_or marks b false ≡ owns w b)
@@ -111,11 +76,11 @@ abbrev pub with_mark : ℕ → ℕ → List Bool → List Bool
 with_mark n b marks = set (begun_marks n marks) b true
 
 -- the marks of n blocks are true for the blocks of members; while none is, there may be no marks
-pub record AreAvoided (n : ℕ) (marks : List Bool) (w : Walk) : Type 0 where
+pub record AreSkipped (n : ℕ) (marks : List Bool) (w : Walk) : Type 0 where
   pub size : (marks ≡ []) ⊎ (length marks ≡ n)
   pub marked : (b : ℕ) → b < n → slice_index_or marks b false ≡ owns w b
 
--- the owner of a block by the walk
+-- the owning_entry of a block by the walk
 abbrev pub owner_by : Walk → ℕ → Owner
 owner_by [] b = cond (nat_lt b 2) Boot Free
 owner_by (x ∷ w) b = cond (x.1 == b) (owner_of x.0) (owner_by w b)
@@ -128,22 +93,12 @@ last_node (x ∷ w) = node_after (owner_of x.0) (last_node w)
 -- the owners that are kept of n blocks are those by the walk
 pub record AreOwned (n : ℕ) (owners : OwnersValue) (w : Walk) : Type 0 where
   pub size : length owners.owners ≡ n
-  pub owner : (b : ℕ) → owner_at owners.owners b ≡ owner_by w b
+  pub owning_entry : (b : ℕ) → owner_at owners.owners b ≡ owner_by w b
   pub node : owners.node ≡ last_node w
 
 -- whether a part owns block b
 abbrev pub is_owned : Found → ℕ → Bool
 is_owned f b = is_part (owner_at f.owners.owners b)
-
--- the number of the data block that a role is, from 1; 0 of other roles
-abbrev pub data_number : Role → ℕ
-data_number (Data n k) = k
-data_number _ = 0
-
--- the number of the data block that a block is, from 1; 0 if it is none
-abbrev pub number_at : Walk → ℕ → ℕ
-number_at [] b = 0
-number_at (x ∷ w) b = cond (x.1 == b) (data_number x.0) (number_at w b)
 
 -- the positions of headers, with one more if the role is a header
 abbrev pub with_place : Role → List ChainPlace → List ChainPlace
@@ -175,7 +130,7 @@ pub record IsOwned (part : Part) (b : ℕ) (f g : Found) : Type 0 where
   pub owners : g.owners.owners ≡ set f.owners.owners b (owner_of (role_of part))
   pub node : g.owners.node ≡ node_after (owner_of (role_of part)) f.owners.node
   pub left : g.left + 1 ≡ f.left
-  pub avoided : g.avoided ≡ f.avoided
+  pub skipped : g.skipped ≡ f.skipped
 
 -- nodes, names, parents and positions are unchanged
 pub record AreSame (f g : Found) : Type 0 where
@@ -220,14 +175,14 @@ pub record IsTaken (part : Part) (b : ℕ) (f g : Found) : Type 0 where
 
 -- the block is skipped
 pub record IsBlockSkipped (b : ℕ) (f g : Found) : Type 0 where
-  pub avoided : g.avoided.items ≡ with_mark (length f.owners.owners) b f.avoided.items
-  pub rest : g ≡ record f { avoided = g.avoided }
+  pub skipped : g.skipped.items ≡ with_mark (length f.owners.owners) b f.skipped.items
+  pub rest : g ≡ record f { skipped = g.skipped }
 
 -- the state is that of a course
 pub record Stands (image : List ℕ) (f : Found) (s : Course) : Type 0 where
   pub pages : (i : ℕ) → get nat_cmp f.pages i ≡ at_role s.walk (Page i)
   pub owners : AreOwned (blocks image) f.owners s.walk
-  pub avoided : AreAvoided (blocks image) f.avoided.items s.skipped
+  pub skipped : AreSkipped (blocks image) f.skipped.items s.skipped
   pub left : f.left + owned_count f.owners.owners ≡ blocks image
   pub node : (n : ℕ) → slice_index f.nodes.items n ≡ node_block s.walk n
   pub count : length f.nodes.items ≡ suc (heads s.walk)
@@ -246,13 +201,13 @@ abbrev pub IsBitOf : List ℕ → BTreeMap ℕ ℕ → ℕ → ℕ → Option Bo
 IsBitOf image pages page bit None = get nat_cmp pages page ≡ None
 IsBitOf image pages page bit (Some t) = (at : ℕ) × (get nat_cmp pages page ≡ Some at) × (IsTrue t ↔ IsFreeAt image at bit)
 
--- the cause of a bit: a block in use without an owner and without an excuse, or one owned and free
+-- the cause of a bit: a block in use without an owning_entry and without an excuse, or one owned and free
 abbrev pub bit_cause : Bool → Bool → Bool → Option Cause
 bit_cause false false false = Some LostBlock
 bit_cause false true false = None
-bit_cause false avoided true = None
-bit_cause true avoided true = Some OwnedFree
-bit_cause true avoided false = None
+bit_cause false skipped true = None
+bit_cause true skipped true = Some OwnedFree
+bit_cause true skipped false = None
 
 -- a course is done, with these findings
 abbrev pub IsFinished : List ℕ → Found → List FindingValue → Type 0

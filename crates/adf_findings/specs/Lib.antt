@@ -1,6 +1,7 @@
 -- The promise: what a survey is, which entries are sound, and what a result tells.
 pub mod Demands
 pub mod Survey
+pub mod Members
 pub mod Sound
 pub mod Parts
 pub mod Files
@@ -13,7 +14,7 @@ pub mod SoundMarks
 pub mod OwnKind
 pub mod Verdict
 pub mod Types
--- The states of the surveyor. A promise names `owner` and `parent_node` of Found with what these name, and `has_mark` of Marks.
+-- The states of the surveyor.
 pub mod Start
 pub mod Forms
 pub mod Found

@@ -7,7 +7,7 @@ use Rattle.adf_volume.specs.Image.{name_of}
 use Rattle.adf_volume.specs.Walk.{Has, heads, node_block, Walk}
 use Rattle.adf_volume.specs.Walk.Role.{Head}
 use Rattle.adf_findings.specs.Demands.{uppers_in}
-use Rattle.adf_findings.specs.Found.{parent_node}
+use Rattle.adf_findings.specs.Members.{parent_node}
 
 -- entry n is found in directory p, and its header has this name, ignoring case
 abbrev pub IsNamedChild : List ℕ → Walk → ℕ → List ℕ → ℕ → Type 0

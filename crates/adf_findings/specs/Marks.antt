@@ -63,7 +63,7 @@ is_said image f b = says_data_of image (slice_index f.nodes.items (entry_in_bloc
 abbrev pub doubted : List ℕ → Found → ℕ → Option ℕ
 doubted image f b =
     cond (number_in_block f b == 0) None
-    (cond (slice_index_or f.avoided.items b false || is_said image f b) (Some (entry_in_block f b)) None)
+    (cond (slice_index_or f.skipped.items b false || is_said image f b) (Some (entry_in_block f b)) None)
 
 -- whether that is so of a data block of the file among the first k blocks
 abbrev pub is_doubted : List ℕ → Found → ℕ → ℕ → Bool
@@ -74,10 +74,6 @@ is_doubted image f (suc k) m = is_doubted image f k m || is_node (doubted image 
 abbrev pub is_doubtful : Kind → List ℕ → Found → ℕ → Bool
 is_doubtful Ofs image f m = false
 is_doubtful Ffs image f m = is_doubted image f (blocks image) m
-
--- whether the node has a mark
-abbrev pub has_mark : List Bool → ℕ → Bool
-has_mark marks m = slice_index_or marks m false
 
 -- whether the node exists and is not made unsound so
 abbrev pub is_undoubted : List ℕ → Found → ℕ → Bool

@@ -12,14 +12,14 @@ use Rattle.adf_walk.specs.Owners.{owner_at}
 use Rattle.adf_findings.specs.WalkOwners.{data_number_of}
 use Rattle.adf_volume.specs.Parts.{entry_of}
 use Rattle.adf_findings.specs.declared.own_kind.Tally.{Tally}
-use Rattle.adf_findings.specs.Found.{number_at, owner}
+use Rattle.adf_findings.specs.Members.{number_at, owning_entry}
 use Rattle.adf_findings.specs.Sound.{says_data_of}
 use Rattle.adf_findings.specs.SurveyResult.{SurveyValue}
 
 -- whether the data block of the walk at block b says that it is an OFS one of its file; nothing of other blocks
 abbrev pub said_at : List ℕ → Walk → ℕ → Option Bool
 said_at image w b =
-    cond (number_at w b == 0) None (Some (says_data_of image (node_block w (unwrap_or (owner w b) 0)) (number_at w b) b))
+    cond (number_at w b == 0) None (Some (says_data_of image (node_block w (unwrap_or (owning_entry w b) 0)) (number_at w b) b))
 
 -- the same by what is kept of blocks and nodes
 abbrev pub said_in : List ℕ → SurveyValue → ℕ → Option Bool

@@ -13,7 +13,7 @@ use Rattle.adf_walk.specs.Owners.{owner_at}
 use Rattle.adf_findings.specs.WalkOwners.{data_number_of}
 use Rattle.adf_volume.specs.Parts.{entry_of}
 use Rattle.adf_findings.specs.declared.remains.Gap.{Gap}
-use Rattle.adf_findings.specs.Found.{at_role}
+use Rattle.adf_findings.specs.Members.{at_role}
 use Rattle.adf_findings.specs.Files.{named_from}
 use Rattle.adf_findings.specs.SurveyResult.{SurveyValue}
 
@@ -45,13 +45,13 @@ gap_at image size k =
     let first = chunk (kind_of image) * k in record { first = first; last = first + (held (kind_of image) size (k + 1) - 1) }
 
 -- a gap and another behind it: one, where that begins right behind the first
-abbrev pub joined : Gap → Gap → List Gap
-joined x g = cond (x.last + 1 == g.first) (record { first = x.first; last = g.last } ∷ []) (x ∷ g ∷ [])
+abbrev pub joined_gaps : Gap → Gap → List Gap
+joined_gaps x g = cond (x.last + 1 == g.first) (record { first = x.first; last = g.last } ∷ []) (x ∷ g ∷ [])
 
 -- gaps, with one more behind them, which goes on with the last or not
 abbrev pub with_gap : List Gap → Gap → List Gap
 with_gap [] g = g ∷ []
-with_gap (x ∷ []) g = joined x g
+with_gap (x ∷ []) g = joined_gaps x g
 with_gap (x ∷ y ∷ xs) g = x ∷ with_gap (y ∷ xs) g
 
 -- gaps, with that of data block k behind them where none is found

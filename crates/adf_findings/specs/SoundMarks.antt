@@ -2,7 +2,7 @@
 -- Letters: w the walk of a survey, fs its findings; n an entry's node; v a result.
 use Rattle.std.specs.Prelude.{◌≡◌, ◌↔◌, ◌&&◌, ℕ, Bool, true, List, nat_le}
 use Rattle.adf_volume.specs.Walk.{node_block, Walk}
-use Rattle.adf_findings.specs.Marks.{has_mark}
+use Rattle.adf_findings.specs.Members.{has_mark}
 use Rattle.adf_findings.specs.Sound.{IsSound}
 use Rattle.adf_findings.specs.Survey.{FindingValue}
 use Rattle.adf_findings.specs.SurveyResult.{SurveyValue}

@@ -16,13 +16,13 @@ use Rattle.adf_findings.specs.declared.concern.Concern.{Concern}
 use Rattle.adf_findings.specs.declared.finding.Finding.{Finding}
 use Rattle.adf_findings.specs.Concerned.{concern_of_nth, is_taken}
 use Rattle.adf_findings.specs.Files.{grave}
-use Rattle.adf_findings.specs.Found.{at_role, number_at, owner, owns, parent_node}
-use Rattle.adf_findings.specs.Marks.{has_mark}
+use Rattle.adf_findings.specs.Members.{at_role, number_at, owning_entry, owns, parent_node}
+use Rattle.adf_findings.specs.Members.{has_mark}
 use Rattle.adf_findings.specs.Parts.{finding_value}
 use Rattle.adf_findings.specs.Sound.{IsSound}
 use Rattle.adf_findings.specs.Survey.{FindingValue, IsSurvey, IsValidated}
 
--- the result: the findings and what they concern; the owner of each block; the blocks of pages, by number;
+-- the result: the findings and what they concern; the owning_entry of each block; the blocks of pages, by number;
 -- for each node its block, its parent, whether it is sound, and whether it is but for harmless findings of headers
 pub record SurveyValue : Type 0 where
   pub image : List ℕ
@@ -52,7 +52,7 @@ pub record TellsOf (v : SurveyValue) (w : Walk) (fs : List FindingValue) : Type 
   pub survey : IsSurvey v.image w fs
   pub findings : map finding_value v.findings ≡ fs
   pub concerned : (k : ℕ) → option_flatten (slice_get v.concerned k) ≡ concern_of_nth w fs k
-  pub owner : (b : ℕ) → entry_at v.owners b ≡ owner w b
+  pub owning_entry : (b : ℕ) → entry_at v.owners b ≡ owning_entry w b
   pub number : (b : ℕ) → data_number_of (owner_at v.owners b) ≡ number_at w b
   pub part : (b : ℕ) → is_part (owner_at v.owners b) ≡ owns w b
   pub page : (i : ℕ) → block_at v.pages i ≡ at_role w (Page i)

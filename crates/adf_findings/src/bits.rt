@@ -82,9 +82,9 @@ fn is_cache(image: &Image<'_>, b: u32) -> bool
 
 // Whether a block without an owner has an excuse: it was skipped, or is a directory cache.
 fn is_excused(image: &Image<'_>, found: &Found, b: u32) -> bool
-    ensures { result ≡ (slice_index_or found.now.avoided.items b false || is_cache image.now b) }
+    ensures { result ≡ (slice_index_or found.now.skipped.items b false || is_cache image.now b) }
 {
-    found.avoided.get(b as usize).copied().unwrap_or(false) || is_cache(image, b)
+    found.skipped.get(b as usize).copied().unwrap_or(false) || is_cache(image, b)
 }
 
 // The cause of the bit of block `b` if it disagrees: in use without an owner and without an excuse, or owned and free.
@@ -96,7 +96,7 @@ fn bit_cause(
     is_free: bool,
 ) -> Option<Cause>
     ensures { result ≡ bit_cause is_owned
-        (slice_index_or found.now.avoided.items b false || is_cache image.now b) is_free }
+        (slice_index_or found.now.skipped.items b false || is_cache image.now b) is_free }
 {
     match (is_owned, is_free) {
         (false, false) if !is_excused(image, found, b) => Some(Cause::LostBlock),

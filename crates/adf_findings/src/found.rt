@@ -36,7 +36,7 @@ pub struct ChainPlace {
 pub struct Found {
     pub pages: BTreeMap<u32, u32>,
     pub owners: WalkOwners,
-    pub avoided: Vec<bool>,
+    pub skipped: Vec<bool>,
     pub left: u32,
     pub nodes: Vec<u32>,
     pub names: NameSet,
@@ -78,7 +78,7 @@ impl Found {
         let mut found = Found {
             pages: BTreeMap::new(alloc),
             owners,
-            avoided: Vec::new(alloc),
+            skipped: Vec::new(alloc),
             left: blocks,
             nodes: Vec::new(alloc),
             names: NameSet::new(alloc),
@@ -213,9 +213,9 @@ impl Found {
     pub fn skip(&mut self, b: u32) -> Result<(), NoMemory>
         ensures { OnOk result (IsBlockSkipped b self.old self.new) }
     {
-        begin_marks(&mut self.avoided, self.owners.len() as usize)?;
-        if (b as usize) < self.avoided.len() {
-            self.avoided[b as usize] = true;
+        begin_marks(&mut self.skipped, self.owners.len() as usize)?;
+        if (b as usize) < self.skipped.len() {
+            self.skipped[b as usize] = true;
         }
         Ok(())
     }

@@ -8,7 +8,8 @@ ghost use Rattle.adf_blocks.specs.Sizes.{blocks};
 ghost use Rattle.adf_volume.specs.Image.{word_in};
 ghost use Rattle.adf_findings.specs.Files.{is_harmless, is_light};
 ghost use Rattle.adf_findings.specs.Parts.{finding_value};
-ghost use Rattle.adf_findings.specs.Marks.{blamed, doubted, has_mark, is_blamed, is_doubted, is_header, is_node, is_undoubted};
+ghost use Rattle.adf_findings.specs.Marks.{blamed, doubted, is_blamed, is_doubted, is_header, is_node, is_undoubted};
+ghost use Rattle.adf_findings.specs.Members.{has_mark};
 
 use crate::concern::Concern;
 use crate::finding::Finding;
@@ -73,9 +74,9 @@ fn blamed(found: &Found, part: Option<Part>) -> Option<Concern>
 
 // Whether a block was skipped, or has the type of an OFS data block.
 fn is_dubious(image: &Image<'_>, found: &Found, b: u32) -> bool
-    ensures { result ≡ (slice_index_or found.now.avoided.items b false || (word_in image.now b TYPE == T_DATA)) }
+    ensures { result ≡ (slice_index_or found.now.skipped.items b false || (word_in image.now b TYPE == T_DATA)) }
 {
-    found.avoided.get(b as usize).copied().unwrap_or(false) || image.word(b, TYPE) == T_DATA
+    found.skipped.get(b as usize).copied().unwrap_or(false) || image.word(b, TYPE) == T_DATA
 }
 
 // The file of the data block at block `b`, if the block was also skipped, or says that it is an OFS one; `None` if it is
@@ -93,8 +94,8 @@ fn doubted(image: &Image<'_>, found: &Found, b: u32) -> Option<usize>
         return None;
     }
     let node = entry_of(&owner);
-    let is_avoided = found.avoided.get(b as usize).copied().unwrap_or(false);
-    if is_avoided || image.says_data_of(number_at(&found.nodes, node), number, b) {
+    let was_skipped = found.skipped.get(b as usize).copied().unwrap_or(false);
+    if was_skipped || image.says_data_of(number_at(&found.nodes, node), number, b) {
         Some(node)
     } else {
         None
@@ -149,7 +150,7 @@ fn are_sure(image: &Image<'_>, found: &Found, first: u32, end: u32) -> bool
     if found.owners.are_parts(first, end, false) {
         return true;
     }
-    if !found.avoided.is_empty() {
+    if !found.skipped.is_empty() {
         return false;
     }
     for b in first..end {

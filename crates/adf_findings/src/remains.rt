@@ -6,7 +6,7 @@ ghost use Rattle.adf_blocks.specs.Sizes.{blocks, count};
 ghost use Rattle.adf_base.specs.Words.{block};
 ghost use Rattle.adf_volume.specs.Image.{kind_of, piece};
 ghost use Rattle.adf_volume.specs.Walk.{FileAt, node_block};
-ghost use Rattle.adf_findings.specs.Remains.{below, blocks_stated, bytes_in, bytes_left, data_at, gap_at, gaps_left, gaps_of, joined, left_of, named_below};
+ghost use Rattle.adf_findings.specs.Remains.{below, blocks_stated, bytes_in, bytes_left, data_at, gap_at, gaps_left, gaps_of, joined_gaps, left_of, named_below};
 ghost use Rattle.adf_findings.specs.Remains.{size_stated, with_gap, with_lost};
 ghost use Rattle.adf_findings.specs.Survey.{OnSurvey};
 
@@ -83,7 +83,7 @@ fn gap_at(image: &Image<'_>, size: u32, k: u32) -> Gap
 
 // Appends a gap and another behind it: one, where that begins right behind the first.
 fn push_joined(gaps: &mut Vec<Gap>, last: Gap, gap: Gap) -> Result<(), AllocError>
-    ensures { OnOk result (gaps.new.items ≡ gaps.old.items ++ joined last gap) }
+    ensures { OnOk result (gaps.new.items ≡ gaps.old.items ++ joined_gaps last gap) }
 {
     if u64::from(last.last) + 1 == u64::from(gap.first) {
         gaps.push(Gap {

@@ -9,11 +9,11 @@ ghost use Rattle.adf_base.specs.Words.{block};
 ghost use Rattle.adf_volume.specs.Image.{letters_of, name_of};
 ghost use Rattle.adf_volume.specs.Walk.{FileAt, Has, heads, node_block};
 ghost use Rattle.adf_volume.specs.Walk.Role.{Head};
-ghost use Rattle.adf_findings.specs.Concerned.{concern_of_nth, owner_of_nth};
+ghost use Rattle.adf_findings.specs.Concerned.{concern_of_nth, taker_of_nth};
 ghost use Rattle.adf_findings.specs.Files.{IsSoundFile, counting, file_in, grave};
-ghost use Rattle.adf_findings.specs.Found.{number_at as number_of, owner, owns, parent_node};
+ghost use Rattle.adf_findings.specs.Members.{number_at as number_of, owning_entry, owns, parent_node};
 ghost use Rattle.adf_findings.specs.SoundMarks.{AreMarks, mark_in, whole_in};
-ghost use Rattle.adf_findings.specs.Marks.{has_mark};
+ghost use Rattle.adf_findings.specs.Members.{has_mark};
 ghost use Rattle.adf_findings.specs.Opening.{opening_in};
 ghost use Rattle.adf_findings.specs.Parts.{finding_value};
 ghost use Rattle.adf_findings.specs.Sound.{IsSound};
@@ -137,7 +137,7 @@ impl Survey<'_> {
     /// last finding.
     #[tactic(auto, using(crate::proofs::Keeping::tells_each, crate::proofs::BlockOwners::owner_nth_is))]
     pub fn owner_of(&self, k: usize) -> Option<Node>
-        ensures { OnSurvey self.now.image (λ w fs. result ≡ owner_of_nth w fs k) }
+        ensures { OnSurvey self.now.image (λ w fs. result ≡ taker_of_nth w fs k) }
     {
         owner_nth(&self.owners, &self.findings, k)
     }
@@ -146,7 +146,7 @@ impl Survey<'_> {
     /// or the bitmap, for one that is not taken, and past the last block.
     #[tactic(auto, using(crate::proofs::Keeping::tells_each))]
     pub fn entry_at(&self, b: u32) -> Option<Node>
-        ensures { OnSurvey self.now.image (λ w _. result ≡ owner w b) }
+        ensures { OnSurvey self.now.image (λ w _. result ≡ owning_entry w b) }
     {
         entry_at(&self.owners, b)
     }

@@ -17,7 +17,7 @@ use Rattle.adf_manifest.specs.Lines.{EntryLine, IsLine, IsRun, RunValue, DataRun
 use Rattle.adf_manifest.specs.Items.{IsItem, Item, body_of_sort, bytes_of_runs, items_tree, run_bytes, with_item}
 use Rattle.adf_manifest.specs.Manifest.{Entries, IsPreamble, IsWell, Manifest, MayStand, preamble_lines, preamble_tree, items_of, manifest_lines}
 use Rattle.adf_manifest.specs.Manifest.{manifest_tree, ExplainsKind, lines, most_bytes}
-use Rattle.adf_manifest.specs.Reader.{GoesOn, IsLastEntry, IsReading, Stops, StopsIn, bare, ExplainsLines}
+use Rattle.adf_manifest.specs.Reader.{HasNextLine, IsLastEntry, IsReading, Stops, StopsIn, bare, ExplainsLines}
 use Rattle.adf_manifest.specs.declared.lines.Sort.{Sort, TheVariants.File}
 use Rattle.adf_manifest.specs.declared.reader.Preamble.{Preamble}
 use Rattle.adf_manifest.specs.declared.reader.LastEntry.{LastEntry}
@@ -49,7 +49,7 @@ bare_lines h = append-nil (preamble_lines h)
 
 -- a preamble goes on with a line of its own
 pub preamble_step : (h h' : Preamble) (text : List ℕ) → IsPreamble h' → preamble_lines h' ≡ preamble_lines h ++ text ∷ []
-    → GoesOn (state.Preamble h') (bare h) text
+    → HasNextLine (state.Preamble h') (bare h) text
 preamble_step h h' text g e = (bare h', bare_well h' g, refl, bare_lines h' ∙ e ∙ ap (λ l. l ++ text ∷ []) (sym (bare_lines h)))
 
 pub filled_list : (xs : List ℕ) → 0 < length (escaped xs) → 0 < length xs
@@ -78,7 +78,7 @@ pub entry_step : (m : Manifest) (blocks : ℕ) (draft : DraftValue) (last : Last
     (path : List (List ℕ)) → IsWell m → blocks ≡ m.preamble.blocks → draft.tree ≡ manifest_tree m → IsLine (EntryLine sort stamp protect text)
     → IsPathText text path → IsRoomFor draft path last.room → last.sort ≡ sort → last.stamp ≡ stamp → last.protect ≡ protect
     → last.note ≡ None → last.bytes.items ≡ []
-    → GoesOn (state.Entries (record { blocks = blocks; draft = draft; last = last })) m (entry_line sort stamp protect text)
+    → HasNextLine (state.Entries (record { blocks = blocks; draft = draft; last = last })) m (entry_line sort stamp protect text)
 entry_step m blocks draft last sort stamp protect text path w b t l p room e1 e2 e3 e4 e5 =
     let item = new_item sort stamp protect path in
     let is : IsItem item = record {
@@ -111,7 +111,7 @@ reading_with r last m e i g o at same = record { entries = refl; blocks = g.bloc
 pub note_step : (r : Reading) (last : LastEntry) (m : Manifest) (e : Entries) (text note : List ℕ) → IsWell m → IsReading r m e → r.last.note ≡ None
     → length r.last.bytes.items ≡ 0
     → 0 < length text → IsSpelling 79 text note → IsLastEntry last (noted e.last note) → last.room ≡ r.last.room
-    → GoesOn (state.Entries (record { blocks = r.blocks; draft = r.draft; last = last })) m (note_line text)
+    → HasNextLine (state.Entries (record { blocks = r.blocks; draft = r.draft; last = last })) m (note_line text)
 note_step r last m e text note w g n b filled spelling o at =
     let is = last_is m e w g.entries in
     let runs = no_runs e.last.runs is.runs (ap length (sym g.last.bytes) ∙ b) in
@@ -128,7 +128,7 @@ note_step r last m e text note w g n b filled spelling o at =
 -- behind a line of bytes
 pub run_step : (r : Reading) (last : LastEntry) (m : Manifest) (e : Entries) (run : RunValue) → IsWell m → IsReading r m e → r.last.sort ≡ File
     → IsRun run → IsLastEntry last (with_run e.last run) → last.room ≡ r.last.room
-    → GoesOn (state.Entries (record { blocks = r.blocks; draft = r.draft; last = last })) m (run_line run)
+    → HasNextLine (state.Entries (record { blocks = r.blocks; draft = r.draft; last = last })) m (run_line run)
 run_step r last m e run w g f h o at =
     let item = with_run e.last run in (
       with_last m e item,
@@ -171,11 +171,3 @@ pub stopped : {T : Type 0} (r : Result T ManifestKind) (m : Manifest) (line : Li
     → IfErr r (λ k. StopsIn tree line k) → IfErr r (λ k. Stops m line k)
 stopped (Ok x) m line tree e may f = tt
 stopped (Err k) m line tree e may f = stops m line k may (subst (λ t. StopsIn t line k) e f)
-
--- a fault is told in the manifest's words
-pub first_fault_explains : (kind : ManifestKind) (number : ℕ) (bytes : List ℕ) → length bytes ≤ most_bytes → ExplainsLines kind number (lines bytes)
-    → ExplainsKind kind number bytes
-first_fault_explains NoMemory number bytes h f = (f, h)
-first_fault_explains TooLong number bytes h (inl f) = absurd f.fault
-first_fault_explains TooLong number bytes h (inr f) = absurd f.fault
-first_fault_explains kind number bytes h f = (h, f)

@@ -40,8 +40,8 @@ StateMatches (state.Preamble h) m = m ≡ bare h
 StateMatches (state.Entries r) m = (e : Entries) × IsReading r m e
 
 -- the state is that of this manifest and one more line
-abbrev pub GoesOn : State → Manifest → List ℕ → Type 0
-GoesOn s m text = (n : Manifest) × IsWell n × StateMatches s n × (manifest_lines n ≡ manifest_lines m ++ text ∷ [])
+abbrev pub HasNextLine : State → Manifest → List ℕ → Type 0
+HasNextLine s m text = (n : Manifest) × IsWell n × StateMatches s n × (manifest_lines n ≡ manifest_lines m ++ text ∷ [])
 
 -- why a line with an allowed form is refused: its fault, or memory
 abbrev pub StopsIn : Tree → LineValue → ManifestKind → Type 0

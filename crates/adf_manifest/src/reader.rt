@@ -9,7 +9,7 @@ ghost use Rattle.adf_names.specs.Meta.{AreStamps};
 ghost use Rattle.adf_manifest.specs.Lines.{IsLine, IsRun, IsVolumeLine, LabelLine, NoteLine, RunLine, StampsLine, entry_value, label_line, line_text, line_value, run_value, stamps_line, volume_line};
 ghost use Rattle.adf_manifest.specs.Items.{Item, body_of_sort, run_bytes, with_item};
 ghost use Rattle.adf_manifest.specs.Manifest.{Entries, HasBadText, IsFirstFault, IsPreamble, IsLaterFault, IsWell, Manifest, preamble_lines, preamble_tree, manifest_lines, manifest_tree};
-ghost use Rattle.adf_manifest.specs.Reader.{GoesOn, IsLastEntry, IsReading, StopsIn, Stops, StopsAt, StateMatches, bare};
+ghost use Rattle.adf_manifest.specs.Reader.{HasNextLine, IsLastEntry, IsReading, StopsIn, Stops, StopsAt, StateMatches, bare};
 
 use crate::lines::{EntryText, Line, Run, Sort, line_of};
 use crate::manifest::ManifestKind;
@@ -227,7 +227,7 @@ fn close(alloc: Global, draft: &mut Draft, last: &mut LastEntry) -> Result<(), M
 fn first_entry(alloc: Global, preamble: Preamble, line: EntryText) -> Result<State, ManifestKind>
     requires form { IsLine (entry_value line) }
     ensures lines { IsWell (bare preamble)
-        → IfOk result (λ s. GoesOn s (bare preamble) (line_text (entry_value line.entry))) }
+        → IfOk result (λ s. HasNextLine s (bare preamble) (line_text (entry_value line.entry))) }
     ensures fault { IfErr result (λ kind. StopsIn (preamble_tree preamble) (entry_value line.entry) kind) }
 {
     let blocks = preamble.blocks;
@@ -246,7 +246,7 @@ fn next_entry(alloc: Global, reading: &mut Reading, line: EntryText) -> Result<(
     requires told { (m : Manifest) × (e : Entries) × IsReading reading.old m e }
     ensures lines { (m : Manifest) (e : Entries) → IsWell m → IsReading reading.old m e
         → IfOk result (λ _.
-        GoesOn (State.Entries reading.new) m (line_text (entry_value line.entry))) }
+        HasNextLine (State.Entries reading.new) m (line_text (entry_value line.entry))) }
     ensures fault { (m : Manifest) (e : Entries) → IsReading reading.old m e
         → IfErr result (λ kind. StopsIn (manifest_tree m) (entry_value line.entry) kind) }
 {
@@ -265,7 +265,7 @@ fn next_entry(alloc: Global, reading: &mut Reading, line: EntryText) -> Result<(
 fn take_note(reading: &mut Reading, text: &[u8]) -> Result<(), ManifestKind>
     requires form { 0 < length text.now }
     ensures lines { (m : Manifest) (e : Entries) → IsWell m → IsReading reading.old m e
-        → IfOk result (λ _. GoesOn (State.Entries reading.new) m (line_text (NoteLine text.now))) }
+        → IfOk result (λ _. HasNextLine (State.Entries reading.new) m (line_text (NoteLine text.now))) }
     ensures fault { (m : Manifest) (e : Entries) → IsWell m → IsReading reading.old m e
         → IfErr result (λ kind. Stops m (NoteLine text.now) kind) }
 {
@@ -298,7 +298,7 @@ fn take_run(reading: &mut Reading, run: Run) -> Result<(), ManifestKind>
     requires form { IsRun (run_value run) }
     ensures lines { (m : Manifest) (e : Entries) → IsWell m → IsReading reading.old m e
         → IfOk result (λ _.
-        GoesOn (State.Entries reading.new) m (line_text (RunLine (run_value run.entry)))) }
+        HasNextLine (State.Entries reading.new) m (line_text (RunLine (run_value run.entry)))) }
     ensures fault { (m : Manifest) (e : Entries) → IsReading reading.old m e
         → IfErr result (λ kind. Stops m (RunLine (run_value run.entry)) kind) }
 {
@@ -315,7 +315,7 @@ fn take_run(reading: &mut Reading, run: Run) -> Result<(), ManifestKind>
 fn line_in_preamble(alloc: Global, preamble: Preamble, line: Line) -> Result<State, ManifestKind>
     requires form { IsLine (line_value line) }
     ensures lines { IsWell (bare preamble)
-        → IfOk result (λ s. GoesOn s (bare preamble) (line_text (line_value line.entry))) }
+        → IfOk result (λ s. HasNextLine s (bare preamble) (line_text (line_value line.entry))) }
     ensures fault { IfErr result (λ kind. Stops (bare preamble) (line_value line.entry) kind) }
 {
     match line {
@@ -342,7 +342,7 @@ fn line_in_entries(alloc: Global, reading: &mut Reading, line: Line) -> Result<(
     requires told { (m : Manifest) × (e : Entries) × IsReading reading.old m e }
     ensures lines { (m : Manifest) (e : Entries) → IsWell m → IsReading reading.old m e
         → IfOk result (λ _.
-        GoesOn (State.Entries reading.new) m (line_text (line_value line.entry))) }
+        HasNextLine (State.Entries reading.new) m (line_text (line_value line.entry))) }
     ensures fault { (m : Manifest) (e : Entries) → IsWell m → IsReading reading.old m e
         → IfErr result (λ kind. Stops m (line_value line.entry) kind) }
 {
@@ -368,7 +368,7 @@ pub fn first_state(line: &[u8]) -> Result<State, ManifestKind>
 pub fn next_state(alloc: Global, state: &mut State, line: &[u8]) -> Result<(), ManifestKind>
     requires told { (m : Manifest) × StateMatches state.old m }
     ensures lines { (m : Manifest) → IsWell m → StateMatches state.old m
-        → IfOk result (λ _. GoesOn state.new m line.now) }
+        → IfOk result (λ _. HasNextLine state.new m line.now) }
     ensures fault { (m : Manifest) → IsWell m → StateMatches state.old m
         → IfErr result (λ kind. StopsAt m line.now kind) }
 {

@@ -13,7 +13,7 @@ use Rattle.adf_volume.specs.Walk.{Role, Has, FileAt, Walk}
 use Rattle.adf_volume.specs.Walk.Role.{Data}
 use Rattle.adf_volume.proofs.Roles.{same_refl}
 use Rattle.adf_findings.specs.Files.{named_from}
-use Rattle.adf_findings.specs.Found.{number_at, owner}
+use Rattle.adf_findings.specs.Members.{number_at, owning_entry}
 use Rattle.adf_findings.specs.Remains.{data_found}
 use Rattle.adf_findings.specs.Survey.{FindingValue, IsSurvey}
 use Rattle.adf_findings.proofs.BlockOwners.{first_with}
@@ -23,7 +23,7 @@ use Rattle.adf_findings.proofs.Lookups.{file_between}
 use Rattle.adf_findings.proofs.SoundEntries.{one_part}
 use Rattle.adf_memory.specs.declared.found_files.TheConstants.{NO_BLOCK}
 use Rattle.adf_memory.specs.FoundFiles.{block_if, file_block_count, found_blocks, is_data_row, named_block, named_blocks, part_at, found_part_table}
-use Rattle.adf_memory.specs.FoundTables.{owner_number}
+use Rattle.adf_memory.specs.FoundTables.{entry_number}
 
 -- a file of no bytes needs no blocks
 pub none_needed : (kind : Kind) (size : ℕ) → size ≡ 0 → 0 ≡ count kind size
@@ -45,14 +45,14 @@ guarded false p q x y h = refl
 guarded true p q x y h = ap (λ s. cond s x y) (h refl)
 
 -- the entry with a number from 1
-numbered : (o : Option ℕ) (n : ℕ) → 1 ≤ n → owner_number o ≡ n → o ≡ Some n
+numbered : (o : Option ℕ) (n : ℕ) → 1 ≤ n → entry_number o ≡ n → o ≡ Some n
 numbered None n lo e = absurd (omega arith)
 numbered (Some m) n lo e = ap Some e
 
 -- the test of a block, once its row is known
 by_row : (image : List ℕ) (x : Role × ℕ) (w : Walk) (n k b : ℕ)
     → block_if image (found_part_table image (x ∷ w)) n k b
-    ≡ cond (nat_lt b (blocks image) && ((owner_number (owner (x ∷ w) b) == n) && (number_at (x ∷ w) b == k + 1))) b NO_BLOCK
+    ≡ cond (nat_lt b (blocks image) && ((entry_number (owning_entry (x ∷ w) b) == n) && (number_at (x ∷ w) b == k + 1))) b NO_BLOCK
 by_row image x w n k b =
     guarded (nat_lt b (blocks image)) _ _ b NO_BLOCK
     (λ t. ap (is_data_row n k) (row_at image x w b (ltb-true b (blocks image) t)))
@@ -67,22 +67,22 @@ named_is image (x ∷ w) fs survey n h file k = by_row image x w n k b ∙ go (d
     b = named_from image h k
 
     go : (o : Option ℕ) → data_found (x ∷ w) n k ≡ o
-        → cond (nat_lt b (blocks image) && ((owner_number (owner (x ∷ w) b) == n) && (number_at (x ∷ w) b == k + 1))) b NO_BLOCK ≡ unwrap_or o NO_BLOCK
+        → cond (nat_lt b (blocks image) && ((entry_number (owning_entry (x ∷ w) b) == n) && (number_at (x ∷ w) b == k + 1))) b NO_BLOCK ≡ unwrap_or o NO_BLOCK
     go None e =
-        not_all (nat_lt b (blocks image)) (owner_number (owner (x ∷ w) b) == n) (number_at (x ∷ w) b == k + 1) b NO_BLOCK
+        not_all (nat_lt b (blocks image)) (entry_number (owning_entry (x ∷ w) b) == n) (number_at (x ∷ w) b == k + 1) b NO_BLOCK
         (λ inside own number.
         let lo = (file_between image (x ∷ w) fs survey n h file).0 in
-        let whose : owner (x ∷ w) b ≡ Some n = numbered (owner (x ∷ w) b) n lo (eqb-true _ _ own) in
+        let whose : owning_entry (x ∷ w) b ≡ Some n = numbered (owning_entry (x ∷ w) b) n lo (eqb-true _ _ own) in
         let which : number_at (x ∷ w) b ≡ suc k = eqb-true _ _ number ∙ add-one k in
         lacks_at (x ∷ w) (Data n (suc k)) e (Data n (suc k)) b (held_has (x ∷ w) b n k whose which) (same_refl (Data n (suc k))))
     go (Some c) e =
         let has : Has (x ∷ w) (Data n (suc k)) c = has_data (x ∷ w) n (suc k) c e in
         let named = found_named image (x ∷ w) fs survey n h file k c has in
         let at = first_with (x ∷ w) (Data n (suc k)) c has (λ q g. one_part image (x ∷ w) fs survey q (Data n (suc k)) c g has) in
-        let own : owner_number (owner (x ∷ w) b) ≡ n = ap (λ c. owner_number (owner (x ∷ w) c)) named.0 ∙ ap owner_number at.0 in
+        let own : entry_number (owning_entry (x ∷ w) b) ≡ n = ap (λ c. entry_number (owning_entry (x ∷ w) c)) named.0 ∙ ap entry_number at.0 in
         let number : number_at (x ∷ w) b ≡ k + 1 = ap (number_at (x ∷ w)) named.0 ∙ (at.1 ∙ sym (add-one k)) in
         let lt : b < blocks image = subst (λ c. c < blocks image) (sym named.0) named.1 in
-        all_true (nat_lt b (blocks image)) (owner_number (owner (x ∷ w) b) == n) (number_at (x ∷ w) b == k + 1) b NO_BLOCK
+        all_true (nat_lt b (blocks image)) (entry_number (owning_entry (x ∷ w) b) == n) (number_at (x ∷ w) b == k + 1) b NO_BLOCK
         (lt-ltb b (blocks image) lt) (eq-eqb _ _ own) (eq-eqb _ _ number)
         ∙ named.0
 

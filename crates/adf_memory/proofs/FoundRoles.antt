@@ -10,7 +10,7 @@ use Rattle.adf_volume.specs.Walk.{Role, Asks, Has, HeadAt, heads, node_block, Wa
 use Rattle.adf_volume.specs.Walk.Role.{Root, Page, MapExt, Head, Ext, Data}
 use Rattle.adf_volume.proofs.Gathered.{IsGathered, head_block, number_of, root_in, root_is}
 use Rattle.adf_volume.proofs.Gathered.IsGathered.{start, step}
-use Rattle.adf_findings.specs.Found.{data_number, entry_in, number_at, owner, owns}
+use Rattle.adf_findings.specs.Members.{data_number, role_entry, number_at, owning_entry, owns}
 use Rattle.adf_findings.specs.Survey.{FindingValue, IsSurvey}
 use Rattle.adf_findings.specs.Survey.IsSurvey.{read, unread}
 use Rattle.adf_findings.proofs.BlockOwners.{first_with}
@@ -61,7 +61,7 @@ root_middle image w fs (unread f) b h = absurd h
 root_middle image w fs (read v d t) b h = root_is image (gathered image v) b h
 
 module _ {image : List ℕ} {w : Walk} {fs : List FindingValue} (survey : IsSurvey image w fs) (b : ℕ) where
-  told : (r : Role) → Has w r b → (owner w b ≡ entry_in r) × (number_at w b ≡ data_number r)
+  told : (r : Role) → Has w r b → (owning_entry w b ≡ role_entry r) × (number_at w b ≡ data_number r)
   told r has = first_with w r b has (λ q g. one_part image w fs survey q r b g has)
 
   same : (r q : Role) → Has w r b → Has w q b → role_class q ≡ role_class r
@@ -79,7 +79,7 @@ module _ {image : List ℕ} {w : Walk} {fs : List FindingValue} (survey : IsSurv
       let h = header_at image w fs survey n lo hi in
       same r (Head n h.parent h.slot h.place) has (subst (Has w (Head n h.parent h.slot h.place)) e h.has)
 
-  pub ext_class : (r : Role) → Has w r b → (n : ℕ) → entry_in r ≡ Some n → number_at w b ≡ 0
+  pub ext_class : (r : Role) → Has w r b → (n : ℕ) → role_entry r ≡ Some n → number_at w b ≡ 0
       → ((1 ≤ n) × (n ≤ heads w) × (node_block w n ≡ b) → ⊥) → class.Ext ≡ role_class r
   ext_class (Head m p s j) has n own none other =
       let same : m ≡ n = cc in absurd (other (subst (λ n. (1 ≤ n) × (n ≤ heads w) × (node_block w n ≡ b)) same (entry_there image w fs survey m p s j b has)))
@@ -94,7 +94,7 @@ module _ {image : List ℕ} {w : Walk} {fs : List FindingValue} (survey : IsSurv
   pub root_class : (r : Role) → Has w r b → Has w Root b → class.Root ≡ role_class r
   root_class r has root = same r Root has root
 
-  pub map_ext_class : (r : Role) → Has w r b → entry_in r ≡ None → (((i : ℕ) × Has w (Page i) b) → ⊥) → (Has w Root b → ⊥)
+  pub map_ext_class : (r : Role) → Has w r b → role_entry r ≡ None → (((i : ℕ) × Has w (Page i) b) → ⊥) → (Has w Root b → ⊥)
       → class.MapExt ≡ role_class r
   map_ext_class Root has own page root = absurd (root has)
   map_ext_class (Page i) has own page root = absurd (page (i, has))
@@ -102,7 +102,7 @@ module _ {image : List ℕ} {w : Walk} {fs : List FindingValue} (survey : IsSurv
   map_ext_class _ has own page root = cc
 
   -- the class of a block that a part has
-  pub owned : (c : OwnerClass) → owns w b ≡ true → ((r : Role) → Has w r b → entry_in r ≡ owner w b → c ≡ role_class r) → IsFoundClass w b c
+  pub owned : (c : OwnerClass) → owns w b ≡ true → ((r : Role) → Has w r b → role_entry r ≡ owning_entry w b → c ≡ role_class r) → IsFoundClass w b c
   owned c some is = record {
     part = λ r has. is r has (sym (told r has).0);
     none = λ none. let o = owner_of image w b some in absurd (none o.0 o.1);

@@ -22,7 +22,7 @@ use Rattle.adf_rescue.specs.Rescue.{Basis, StandsNothing, rescued_tree}
 use Rattle.adf_survey_cmd.specs.Rescues.{second_image}
 use Rattle.adf_survey_cmd.proofs.KeptBoots.{laid_long}
 use Rattle.adf_memory.specs.Losses.{LossTableValue, loss_table, rescue_losses, table_of_losses}
-use Rattle.adf_memory.specs.Rescuing.{HasRescue, IsHopeless, IsPut, IsRefusal, LaysFor, Prepares, Rescue, RescueBoth, RescueBy, RescueIn}
+use Rattle.adf_memory.specs.Rescuing.{HasRescue, IsHopeless, IsPutOut, IsRefusal, LaysFor, Prepares, Rescue, RescueBoth, RescueBy, RescueIn}
 use Rattle.adf_memory.specs.Rescuing.{ExplainsRescue, IsRoomRefusal, Readies, RefusesFor, RescueOf, RescueValue, RescueValue.written, told_volume}
 use Rattle.adf_memory.specs.Rescuing.{unrescued_refusal}
 use Rattle.adf_survey_cmd.specs.Subject.{IsTyped, SubjectValue, sized}
@@ -83,7 +83,7 @@ none_prepared gives (Err u) is = rw is (λ boot. tt)
 -- a rescue that is put into the rooms is what it is prepared to give
 pub put_given : (gives : RescueValue → Type 0) (x : Ready) (old new : List ℕ) (old_rows new_rows : List TableLoss) (old_paths new_paths : List ℕ)
     (result : Result RescueTold RescueRefusal) → LaysFor gives x.prepared x.boot.items
-    → IfOk result (IsPut x old new old_rows new_rows old_paths new_paths)
+    → IfOk result (IsPutOut x old new old_rows new_rows old_paths new_paths)
     → IfOk result (HasRescue gives old new old_rows new_rows old_paths new_paths)
 put_given gives x old new old_rows new_rows old_paths new_paths (Ok told) (room, ls, same, lays) put =
     let (volume, laid, size, is, long) = put.laid in record {

@@ -9,7 +9,7 @@ use Rattle.adf_build.specs.Building.{IsBuildFault}
 use Rattle.adf_build.specs.declared.builder.BuildFault.{BuildFault}
 use Rattle.adf_build.specs.declared.builder.BuildFault.TheVariants as build
 use Rattle.adf_memory.specs.Rooms.{filled}
-use Rattle.adf_memory.specs.Building.{ExplainsBuild, ExplainsNeed, IsFullAtMost, IsSound, IsTableRefusal, bad_room, refusal_by, refusal_of, tree_of}
+use Rattle.adf_memory.specs.Building.{ExplainsBuild, ExplainsNeed, IsFullAtMost, IsSoundVolume, IsTableRefusal, bad_room, refusal_by, refusal_of, tree_of}
 use Rattle.adf_memory.specs.TableAdditions.{AreSoundBefore, IsNotAdded, fault_of}
 use Rattle.adf_memory.specs.declared.building.NewVolume.{NewVolume}
 use Rattle.adf_memory.specs.declared.building.Refusal.{Refusal}
@@ -32,12 +32,12 @@ table_refusal bytes xs i (Fault why) lt sound is =
 table_refusal bytes xs i NoMemory lt sound is = tt
 
 pub build_refusal : (v : NewVolume) (bytes : List ℕ) (xs : List TableAddition) (room : ℕ) (t : Tree) (f : BuildFault) → t ≡ tree_of v bytes xs
-    → IsSound v bytes xs → IsBuildFault t v.blocks f → ExplainsBuild v bytes xs room (refusal_by f)
+    → IsSoundVolume v bytes xs → IsBuildFault t v.blocks f → ExplainsBuild v bytes xs room (refusal_by f)
 build_refusal v bytes xs room t build.BadSize at sound is = ((sound.kind, sound.label), is)
 build_refusal v bytes xs room t (build.Full need have) at sound is = (sound, rw at at is.1, is.2, is.3)
 build_refusal v bytes xs room t build.NoMemory at sound is = (sound.kind, sound.label)
 
-pub need_refusal : (v : NewVolume) (bytes : List ℕ) (xs : List TableAddition) (t : Tree) (r : Refusal) → t ≡ tree_of v bytes xs → IsSound v bytes xs
+pub need_refusal : (v : NewVolume) (bytes : List ℕ) (xs : List TableAddition) (t : Tree) (r : Refusal) → t ≡ tree_of v bytes xs → IsSoundVolume v bytes xs
     → IsFullAtMost t r → ExplainsNeed v bytes xs r
 need_refusal v bytes xs t (refusal.Full need have) at sound is = (sound, rw at at is)
 need_refusal v bytes xs t refusal.BadKind at sound is = absurd is

@@ -13,7 +13,7 @@ use Rattle.adf_tree.specs.Tree.{Tree, room_for_by, with_entry, with_entry_by}
 use Rattle.adf_tree.specs.declared.tree.RoomFault.TheVariants as room
 use Rattle.adf_drafts.specs.declared.draft.Room.{Room}
 use Rattle.adf_drafts.specs.Draft.{DraftValue, IsDirectoryOf, IsRoomFor}
-use Rattle.adf_memory.specs.TableAdditions.{IsDraftOf, IsNext, additions_of, addition_body, directory_in, fault_in, fault_of, has_bytes}
+use Rattle.adf_memory.specs.TableAdditions.{IsDraftOf, IsNextAddition, additions_of, addition_body, directory_in, fault_in, fault_of, has_bytes}
 use Rattle.adf_memory.specs.TableAdditions.{has_entry_name, has_room, is_file_at, meta_in, path_numbered, addition_path, tree_with, with_next}
 use Rattle.adf_memory.specs.TableAdditions.{AreSoundBefore, IsNotAdded}
 use Rattle.adf_memory.specs.declared.table_additions.AdditionFault.{AdditionFault}
@@ -106,7 +106,7 @@ pub directory_is : (before : List TableAddition) (x : TableAddition) (p : ℕ) �
 directory_is before x p e = grind (arith, common_steps, nat_tests)
 
 module _ (t : Tree) (bytes : List ℕ) (before : List TableAddition) (x : TableAddition) (p : ℕ) (d : DraftValue)
-    (is : IsNext t bytes before x p d) where
+    (is : IsNextAddition t bytes before x p d) where
   at : fault_of bytes before x ≡ fault_in bytes before x (Ok p)
   at = directory_fault bytes before x (Ok p) is.directory
 
@@ -148,7 +148,7 @@ module _ (t : Tree) (bytes : List ℕ) (before : List TableAddition) (x : TableA
 
 pub next_is : (t : Tree) (bytes : List ℕ) (xs : List TableAddition) (i : ℕ) (x : TableAddition) (p : ℕ) (d : DraftValue)
     → ((y : TableAddition) → x ≡ get_or xs i y) → ((y : TableAddition) → Ok p ≡ directory_in (take i xs) (get_or xs i y))
-    → IsDraftOf t bytes (take i xs) d → IsNext t bytes (take i xs) x p d
+    → IsDraftOf t bytes (take i xs) d → IsNextAddition t bytes (take i xs) x p d
 next_is t bytes xs i x p d at dir is = record { draft = is; directory = ap (directory_in (take i xs)) (at x) ∙ sym (dir x) }
 
 pub next_more : (t : Tree) (bytes : List ℕ) (xs : List TableAddition) (i : ℕ) (x : TableAddition) (e : DraftValue) → i < length xs

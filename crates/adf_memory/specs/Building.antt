@@ -12,7 +12,7 @@ use Rattle.adf_build.specs.declared.builder.BuildFault.TheVariants as build
 use Rattle.adf_build.specs.Building.{IsBuildable, need_of}
 use Rattle.adf_build.specs.Laid.{IsLaid}
 use Rattle.adf_memory.specs.Rooms.{filled}
-use Rattle.adf_memory.specs.TableAdditions.{AreSound, IsFirstFault, addition_fault_number, stamp_of, tree_with}
+use Rattle.adf_memory.specs.TableAdditions.{AreSound, IsFirstAdditionFault, addition_fault_number, stamp_of, tree_with}
 use Rattle.adf_memory.specs.declared.building.Built.{Built}
 use Rattle.adf_memory.specs.declared.building.NewVolume.{NewVolume}
 use Rattle.adf_memory.specs.declared.building.Refusal.{Refusal}
@@ -40,7 +40,7 @@ abbrev pub tree_of : NewVolume → List ℕ → List TableAddition → Tree
 tree_of v bytes xs = tree_with (new_tree v) bytes xs
 
 -- the volume has a kind and a label, and no addition has a fault
-pub record IsSound (v : NewVolume) (bytes : List ℕ) (xs : List TableAddition) : Type 0 where
+pub record IsSoundVolume (v : NewVolume) (bytes : List ℕ) (xs : List TableAddition) : Type 0 where
   pub kind : v.kind ≤ 1
   pub label : v.label_length ≤ 30
   pub additions : AreSound bytes xs
@@ -53,7 +53,7 @@ IsBadVolume v _ = ⊥
 
 -- why the additions of a table are not built: the first fault, or memory is refused
 abbrev pub IsTableRefusal : List ℕ → List TableAddition → Refusal → Type 0
-IsTableRefusal bytes xs (refusal.Addition n fault) = IsFirstFault bytes xs n fault
+IsTableRefusal bytes xs (refusal.Addition n fault) = IsFirstAdditionFault bytes xs n fault
 IsTableRefusal bytes xs refusal.NoMemory = Unit {0}
 IsTableRefusal bytes xs _ = ⊥
 
@@ -70,7 +70,7 @@ HasKindAndLabel v = (v.kind ≤ 1) × (v.label_length ≤ 30)
 abbrev pub Explains : NewVolume → List ℕ → List TableAddition → Refusal → Type 0
 Explains v bytes xs refusal.BadKind = 1 < v.kind
 Explains v bytes xs refusal.BadLabel = (v.kind ≤ 1) × (30 < v.label_length)
-Explains v bytes xs (refusal.Addition n fault) = HasKindAndLabel v × IsFirstFault bytes xs n fault
+Explains v bytes xs (refusal.Addition n fault) = HasKindAndLabel v × IsFirstAdditionFault bytes xs n fault
 Explains v bytes xs refusal.NoMemory = HasKindAndLabel v
 Explains v bytes xs _ = ⊥
 
@@ -79,12 +79,12 @@ abbrev pub ExplainsBuild : NewVolume → List ℕ → List TableAddition → ℕ
 ExplainsBuild v bytes xs room refusal.BadSize = HasKindAndLabel v × (is_allowed v.blocks ≡ false)
 ExplainsBuild v bytes xs room refusal.SmallRoom = HasKindAndLabel v × (is_allowed v.blocks ≡ true) × (room < v.blocks * 512)
 ExplainsBuild v bytes xs room (refusal.Full need have) =
-    IsSound v bytes xs × (need ≡ need_of (tree_of v bytes xs) v.blocks) × (have ≡ v.blocks - 2) × (have < need)
+    IsSoundVolume v bytes xs × (need ≡ need_of (tree_of v bytes xs) v.blocks) × (have ≡ v.blocks - 2) × (have < need)
 ExplainsBuild v bytes xs room fault = Explains v bytes xs fault
 
 -- what a refusal means where the fewest blocks are asked for: not even the largest volume has room
 abbrev pub ExplainsNeed : NewVolume → List ℕ → List TableAddition → Refusal → Type 0
-ExplainsNeed v bytes xs (refusal.Full need have) = IsSound v bytes xs × IsFullAtMost (tree_of v bytes xs) (refusal.Full need have)
+ExplainsNeed v bytes xs (refusal.Full need have) = IsSoundVolume v bytes xs × IsFullAtMost (tree_of v bytes xs) (refusal.Full need have)
 ExplainsNeed v bytes xs fault = Explains v bytes xs fault
 
 -- the refusal of addition n

@@ -1,6 +1,6 @@
 -- The table of a hard disk's partitions. `bytes` are the first bytes of a disk of n blocks; ps are partitions of it.
 use Rattle.std.specs.Prelude.{ℕ, List, length, map, Option, Some, None, Result, Ok, Err}
-use Rattle.adf_partitions.specs.Disks.{FirstFault, IsDisk}
+use Rattle.adf_partitions.specs.Disks.{FirstDiskFault, IsDisk}
 use Rattle.adf_partitions.specs.FaultTexts.{disk_cause_number, field_fault_number, place_fault_number}
 use Rattle.adf_partitions.specs.Searches.{AreReadable}
 use Rattle.adf_partitions.specs.declared.fault.DiskFault.{DiskFault}
@@ -57,6 +57,6 @@ table_disk k None = record { partitions = k; block = 0; cause = 0 }
 table_disk k (Some f) = record { partitions = k; block = f.block; cause = disk_cause_number f.cause }
 
 -- the partitions that can be read, and the first fault of the tables, if they have one
-abbrev pub IsRead : List ℕ → ℕ → List Partition → Option DiskFault → Type 0
-IsRead bytes n ps None = (t : Tables) × IsDisk bytes n t ps
-IsRead bytes n ps (Some f) = AreReadable bytes n ps × FirstFault bytes n f
+abbrev pub IsDiskRead : List ℕ → ℕ → List Partition → Option DiskFault → Type 0
+IsDiskRead bytes n ps None = (t : Tables) × IsDisk bytes n t ps
+IsDiskRead bytes n ps (Some f) = AreReadable bytes n ps × FirstDiskFault bytes n f

@@ -10,16 +10,16 @@ use Rattle.adf_blocks.specs.Sizes.{blocks, chunk, count}
 use Rattle.adf_volume.specs.Image.{kind_of, word_in}
 use Rattle.adf_volume.specs.Walk.{Walk}
 use Rattle.adf_findings.specs.Files.{named_from}
-use Rattle.adf_findings.specs.Found.{number_at, owner}
+use Rattle.adf_findings.specs.Members.{number_at, owning_entry}
 use Rattle.adf_findings.specs.Remains.{data_found, size_stated}
 use Rattle.adf_memory.specs.declared.found_parts.FoundPart.{FoundPart}
 use Rattle.adf_memory.specs.declared.found_files.TheConstants.{NO_BLOCK}
 use Rattle.adf_memory.specs.Areas.{bytes_from}
-use Rattle.adf_memory.specs.FoundTables.{owner_number}
+use Rattle.adf_memory.specs.FoundTables.{entry_number}
 
 -- the row of block b: the entry that has it, and the number of the data block that it is, each 0 for none
 abbrev pub part_at : Walk → ℕ → FoundPart
-part_at w b = record { node = owner_number (owner w b); number = number_at w b }
+part_at w b = record { node = entry_number (owning_entry w b); number = number_at w b }
 
 -- a row for each block; no rows if nothing is taken
 abbrev pub found_part_table : List ℕ → Walk → List FoundPart

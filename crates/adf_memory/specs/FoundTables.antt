@@ -15,7 +15,7 @@ use Rattle.adf_volume.specs.Walk.{heads, node_block, Walk}
 use Rattle.adf_findings.specs.declared.concern.Concern.{Concern}
 use Rattle.adf_findings.specs.declared.concern.Concern.TheVariants.{Entry, Within}
 use Rattle.adf_findings.specs.declared.opening.Opening.{Opening}
-use Rattle.adf_findings.specs.Found.{parent_node}
+use Rattle.adf_findings.specs.Members.{parent_node}
 use Rattle.adf_findings.specs.Opening.{opening_in}
 use Rattle.adf_findings.specs.Survey.{FindingValue}
 use Rattle.adf_survey_cmd.specs.declared.runs.Run.{Run}
@@ -32,14 +32,14 @@ concern_node (Some (Entry n)) = n
 concern_node (Some (Within n)) = n
 
 -- 1 if a header was skipped in the directory that is concerned
-abbrev pub is_within : Option Concern → ℕ
-is_within (Some (Within n)) = 1
-is_within _ = 0
+abbrev pub within_number : Option Concern → ℕ
+within_number (Some (Within n)) = 1
+within_number _ = 0
 
 -- the number of an entry; 0 for none
-abbrev pub owner_number : Option ℕ → ℕ
-owner_number None = 0
-owner_number (Some n) = n
+abbrev pub entry_number : Option ℕ → ℕ
+entry_number None = 0
+entry_number (Some n) = n
 
 -- the row of a run of findings
 abbrev pub finding_row : Run → TableFinding
@@ -47,9 +47,9 @@ finding_row r = record {
   first = r.first;
   last = r.last;
   node = concern_node r.concern;
-  owner = owner_number r.owner;
+  owner = entry_number r.owner;
   cause = cause_number r.cause;
-  is_within = is_within r.concern;
+  within_number = within_number r.concern;
 }
 
 -- the table of findings

@@ -116,7 +116,7 @@ abbrev pub IsVolumeOf : Tree → ℕ → (boot : List ℕ) → List ℕ → Type
 IsVolumeOf t n boot image = (volume : List ℕ) × IsLaid volume t × (blocks volume ≡ n) × (image ≡ restored volume boot) × (blocks image ≡ n)
 
 -- the rooms begin with the volume of what is ready and the table of what is not in it, and are otherwise as they were; this is told
-pub record IsPut (x : Ready) (old new : List ℕ) (old_rows new_rows : List TableLoss) (old_paths new_paths : List ℕ) (told : RescueTold) : Type 0 where
+pub record IsPutOut (x : Ready) (old new : List ℕ) (old_rows new_rows : List TableLoss) (old_paths new_paths : List ℕ) (told : RescueTold) : Type 0 where
   pub volume : List ℕ
   pub laid : IsVolumeOf x.prepared.draft.tree x.prepared.blocks x.boot.items volume
   pub room : new ≡ filled volume old

@@ -103,7 +103,7 @@ abbrev pub AreSound : List ℕ → List TableAddition → Type 0
 AreSound bytes xs = AreSoundBefore bytes xs (length xs)
 
 -- addition n is the first with a fault, and this is its first
-pub record IsFirstFault (bytes : List ℕ) (xs : List TableAddition) (n : ℕ) (why : AdditionFault) : Type 0 where
+pub record IsFirstAdditionFault (bytes : List ℕ) (xs : List TableAddition) (n : ℕ) (why : AdditionFault) : Type 0 where
   pub first : 0 < n
   pub within : n ≤ length xs
   pub sound : AreSoundBefore bytes xs (n - 1)
@@ -117,7 +117,7 @@ pub record IsDraftOf (t : Tree) (bytes : List ℕ) (xs : List TableAddition) (d 
   pub directories : (m : ℕ) → m ≤ length xs → is_file_at xs m ≡ false → IsDirectoryOf d (path_numbered (additions_of bytes xs) m) m
 
 -- a draft is that of the additions before one whose directory is addition p of them
-pub record IsNext (t : Tree) (bytes : List ℕ) (before : List TableAddition) (x : TableAddition) (p : ℕ) (d : DraftValue) : Type 0 where
+pub record IsNextAddition (t : Tree) (bytes : List ℕ) (before : List TableAddition) (x : TableAddition) (p : ℕ) (d : DraftValue) : Type 0 where
   pub draft : IsDraftOf t bytes before d
   pub directory : directory_in before x ≡ Ok p
 

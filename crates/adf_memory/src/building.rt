@@ -2,7 +2,7 @@
 
 ghost use Rattle.std.specs.Prelude.{◌≡◌, ◌≤◌, ◌<◌, ◌*◌, ◌↔◌, [], List, ℕ, length, take, IsSome, IfSome, IfOk, IfErr, OnOk, OnErr, true};
 ghost use Rattle.adf_tree.specs.Tree.{Tree as ATree};
-ghost use Rattle.adf_memory.specs.Building.{Explains, ExplainsBuild, ExplainsNeed, HasVolume, IsBadVolume, IsFewest, IsFullAtMost, IsSound, IsTableRefusal, Refuses, bad_room, built_in, kind_by, new_tree, refusal_by, refusal_number, refusal_of, told, tree_of};
+ghost use Rattle.adf_memory.specs.Building.{Explains, ExplainsBuild, ExplainsNeed, HasVolume, IsBadVolume, IsFewest, IsFullAtMost, IsSoundVolume, IsTableRefusal, Refuses, bad_room, built_in, kind_by, new_tree, refusal_by, refusal_number, refusal_of, told, tree_of};
 ghost use Rattle.adf_memory.specs.TableAdditions.{AreSound, IsDraftOf, tree_with};
 
 use crate::table_additions::{AdditionFault, NotAdded, TableAddition, add_next, stamp_of, text_in};
@@ -223,7 +223,7 @@ fn build_in_room(
     contents: &[u8],
     room: &mut [u8],
 ) -> Result<(), Refusal>
-    ensures sound { OnOk result (IsSound volume.now contents.now additions.now) }
+    ensures sound { OnOk result (IsSoundVolume volume.now contents.now additions.now) }
     ensures volume { OnOk result (HasVolume (tree_of volume.now contents.now additions.now)
         volume.now.blocks room.old room.new) }
     ensures fault { IfErr result (ExplainsBuild volume.now contents.now additions.now (length room.old)) }
@@ -260,7 +260,7 @@ fn fewest_for(
     additions: &[TableAddition],
     contents: &[u8],
 ) -> Result<u32, Refusal>
-    ensures sound { OnOk result (IsSound volume.now contents.now additions.now) }
+    ensures sound { OnOk result (IsSoundVolume volume.now contents.now additions.now) }
     ensures fewest { IfOk result (IsFewest (tree_of volume.now contents.now additions.now)) }
     ensures fault { IfErr result (ExplainsNeed volume.now contents.now additions.now) }
 {
@@ -281,7 +281,7 @@ pub fn build_volume(
     built: &mut Built,
 ) -> u8
     // At 0 no addition has a fault, and the room begins with the image that is laid for their tree; the rest is unchanged.
-    ensures sound { result ≡ 0 → IsSound volume.now contents.now additions.now }
+    ensures sound { result ≡ 0 → IsSoundVolume volume.now contents.now additions.now }
     ensures volume { result ≡ 0 → HasVolume (tree_of volume.now contents.now additions.now)
         volume.now.blocks room.old room.new }
     ensures built { result ≡ 0 → built.new ≡ built_in volume.now.blocks }
@@ -313,7 +313,7 @@ pub fn need_volume(
     built: &mut Built,
 ) -> u8
     // At 0 no addition has a fault, and their tree has room in so many blocks, and in no fewer.
-    ensures sound { result ≡ 0 → IsSound volume.now contents.now additions.now }
+    ensures sound { result ≡ 0 → IsSoundVolume volume.now contents.now additions.now }
     ensures fewest { result ≡ 0 → IsFewest (tree_of volume.now contents.now additions.now) built.new.blocks }
     ensures built { result ≡ 0 → built.new ≡ built_in built.new.blocks }
 

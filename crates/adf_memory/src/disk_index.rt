@@ -1,10 +1,10 @@
 // The partitions of a hard disk in a table.
 
 ghost use Rattle.std.specs.Prelude.{◌≡◌, ◌⊎◌, List, None, Some, length, IfOk, OnErr};
-ghost use Rattle.adf_memory.specs.DiskTables.{IsRead, partition_table, table_disk};
+ghost use Rattle.adf_memory.specs.DiskTables.{IsDiskRead, partition_table, table_disk};
 ghost use Rattle.adf_memory.specs.Rooms.{filled};
 ghost use Rattle.adf_memory.specs.Verdicts.{WantsMemory};
-ghost use Rattle.adf_partitions.specs.Disks.{FirstFault, IsDisk};
+ghost use Rattle.adf_partitions.specs.Disks.{FirstDiskFault, IsDisk};
 ghost use Rattle.adf_partitions.specs.Searches.{AreReadable, HasReadable};
 ghost use Rattle.adf_partitions.specs.declared.fault.DiskFault.{DiskFault};
 ghost use Rattle.adf_partitions.specs.declared.partition.Partition.{Partition};
@@ -24,7 +24,7 @@ struct ReadDisk {
 
 // Reads the partitions of a disk of so many blocks, whether its tables have a fault or not.
 fn read_disk(alloc: Global, bytes: &[u8], blocks: u64) -> Result<ReadDisk, AllocError>
-    ensures read { IfOk result (λ d. IsRead bytes.now blocks d.partitions.items d.fault) }
+    ensures read { IfOk result (λ d. IsDiskRead bytes.now blocks d.partitions.items d.fault) }
     ensures begun { OnErr result (HasReadable bytes.now blocks) }
 {
     match Disk::open(alloc, bytes, blocks) {
@@ -60,7 +60,7 @@ pub fn put_disk(
     ensures whole { result ≡ 0 → (t : Tables) (ps : List Partition) → IsDisk bytes.now blocks t ps
         → disk.new ≡ table_disk (length ps) None }
     ensures fault { result ≡ 0 → (ps : List Partition) (f : DiskFault) → AreReadable bytes.now blocks ps
-        → FirstFault bytes.now blocks f → disk.new ≡ table_disk (length ps) (Some f) }
+        → FirstDiskFault bytes.now blocks f → disk.new ≡ table_disk (length ps) (Some f) }
 
     // If memory ran out, the table is unchanged, and there is a partition that can be read.
     ensures unchanged { WantsMemory result

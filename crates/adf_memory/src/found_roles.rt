@@ -5,7 +5,7 @@ ghost use Rattle.adf_blocks.specs.Sizes.{blocks};
 ghost use Rattle.adf_walk.specs.declared.owner_class.OwnerClass.TheVariants as class;
 ghost use Rattle.adf_volume.specs.Walk.{Has, Role, heads, node_block};
 ghost use Rattle.adf_volume.specs.Walk.Role.{Root};
-ghost use Rattle.adf_findings.specs.Found.{entry_in};
+ghost use Rattle.adf_findings.specs.Members.{role_entry};
 ghost use Rattle.adf_findings.specs.Survey.{OnSurvey};
 ghost use Rattle.adf_memory.specs.FoundRoles.{IsFoundClass, IsFoundRole, role_class};
 ghost use Rattle.adf_memory.specs.Verdicts.{WantsMemory};
@@ -42,7 +42,7 @@ fn is_header(survey: &Survey<'_>, n: Node, b: u32) -> bool
 // The class of a block of an entry.
 #[tactic(auto, using(crate::proofs::FoundRoles::data_class, crate::proofs::FoundRoles::head_class, crate::proofs::FoundRoles::ext_class))]
 fn entry_class(survey: &Survey<'_>, n: Node, b: u32) -> OwnerClass
-    ensures { OnSurvey survey.now.image (λ w _. (r : Role) → Has w r b → entry_in r ≡ Some n
+    ensures { OnSurvey survey.now.image (λ w _. (r : Role) → Has w r b → role_entry r ≡ Some n
         → result ≡ role_class r) }
 {
     if survey.data_number(b) != 0 {
@@ -68,7 +68,7 @@ fn is_root(survey: &Survey<'_>, b: u32) -> bool
 // The class of a block of the root or the bitmap.
 #[tactic(auto, using(crate::proofs::FoundRoles::page_class, crate::proofs::FoundRoles::root_class, crate::proofs::FoundRoles::map_ext_class))]
 fn map_class(survey: &Survey<'_>, b: u32) -> OwnerClass
-    ensures { OnSurvey survey.now.image (λ w _. (r : Role) → Has w r b → entry_in r ≡ None
+    ensures { OnSurvey survey.now.image (λ w _. (r : Role) → Has w r b → role_entry r ≡ None
         → result ≡ role_class r) }
 {
     if survey.is_page(b) {

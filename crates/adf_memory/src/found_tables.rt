@@ -5,8 +5,8 @@ ghost use Rattle.adf_findings.specs.SoundMarks.{AreMarks};
 ghost use Rattle.adf_findings.specs.Survey.{OnSurvey};
 ghost use Rattle.adf_volume.specs.Walk.{heads};
 ghost use Rattle.adf_survey_cmd.specs.Lines.{runs};
-ghost use Rattle.adf_memory.specs.FoundTables.{body_number, body_size, concern_node, entry_row, finding_row, finding_table, found_entry, found_table, is_within, mark_number};
-ghost use Rattle.adf_memory.specs.FoundTables.{owner_number, surveyed_of, unread};
+ghost use Rattle.adf_memory.specs.FoundTables.{body_number, body_size, concern_node, entry_row, finding_row, finding_table, found_entry, found_table, within_number, mark_number};
+ghost use Rattle.adf_memory.specs.FoundTables.{entry_number, surveyed_of, unread};
 ghost use Rattle.adf_memory.specs.Rooms.{filled};
 
 use crate::tables::{Date, date_of, field, put};
@@ -95,7 +95,7 @@ fn concern_node(concern: Option<Concern>) -> usize
 
 // 1 if a header was skipped in the directory that is concerned.
 fn is_within(concern: Option<Concern>) -> u8
-    ensures { result ≡ is_within concern }
+    ensures { result ≡ within_number concern }
 {
     match concern {
         Some(Concern::Within(_)) => 1,
@@ -105,7 +105,7 @@ fn is_within(concern: Option<Concern>) -> u8
 
 /// The number of an entry; 0 for none.
 pub fn owner_number(owner: Option<Node>) -> usize
-    ensures { result ≡ owner_number owner }
+    ensures { result ≡ entry_number owner }
 {
     match owner {
         Some(n) => n.0,

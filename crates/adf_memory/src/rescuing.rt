@@ -3,7 +3,7 @@
 ghost use Rattle.std.specs.Prelude.{◌≡◌, ◌≤◌, ◌*◌, ◌<◌, List, ℕ, IfErr, IfOk, OnErr, OnOk, length};
 ghost use Rattle.adf_boot_blocks.specs.declared.boot.TheConstants.{BOOT_LEN};
 ghost use Rattle.adf_survey_cmd.specs.Subject.{subject, subject_value};
-ghost use Rattle.adf_memory.specs.Rescuing.{ExplainsRescue, HasRescue, IsPut, IsRoomRefusal, IsVolumeOf, Readies, RescueOf, asked_blocks, rescue_number, rescue_told, unrescued_refusal};
+ghost use Rattle.adf_memory.specs.Rescuing.{ExplainsRescue, HasRescue, IsPutOut, IsRoomRefusal, IsVolumeOf, Readies, RescueOf, asked_blocks, rescue_number, rescue_told, unrescued_refusal};
 ghost use Rattle.adf_memory.specs.Rooms.{filled};
 ghost use Rattle.adf_memory.specs.declared.rescuing.RescueRefusal.{RescueRefusal as ARescueRefusal};
 
@@ -204,7 +204,7 @@ fn put_rescue(
     paths: &mut [u8],
 ) -> Result<RescueTold, RescueRefusal>
     requires { BOOT_LEN ≤ length ready.boot.items }
-    ensures volume { IfOk result (IsPut ready room.old room.new losses.old losses.new paths.old paths.new) }
+    ensures volume { IfOk result (IsPutOut ready room.old room.new losses.old losses.new paths.old paths.new) }
     ensures fault { IfErr result
         (IsRoomRefusal ready.prepared.draft.tree ready.prepared.blocks (length room.old)) }
     ensures unchanged { OnErr result

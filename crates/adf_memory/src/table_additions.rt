@@ -2,7 +2,7 @@
 
 ghost use Rattle.std.specs.Prelude.{◌≡◌, ◌≤◌, ◌<◌, ◌+◌, ◌↔◌, ◌⊎◌, ◌++◌, ◌∷◌, [], List, None, true, false, take, drop, length, slice_index_or, IsSome, IfSome, IfNone, IfOk, IfErr, OnOk};
 ghost use Rattle.adf_tree.specs.Tree.{Tree};
-ghost use Rattle.adf_memory.specs.TableAdditions.{IsDraftOf, IsNext, IsNotAdded, addition_body, addition_fault_number};
+ghost use Rattle.adf_memory.specs.TableAdditions.{IsDraftOf, IsNextAddition, IsNotAdded, addition_body, addition_fault_number};
 ghost use Rattle.adf_memory.specs.TableAdditions.{addition_name, directory_in, fault_of, has_bytes, has_entry_name, meta_in};
 ghost use Rattle.adf_memory.specs.TableAdditions.{stamp_of};
 
@@ -160,15 +160,15 @@ fn add_in(
     addition: &TableAddition,
     contents: &[u8],
 ) -> Result<(), NotAdded>
-    requires { (t : Tree) × (before : List TableAddition) × IsNext t contents.now before addition.now directory draft.old }
+    requires { (t : Tree) × (before : List TableAddition) × IsNextAddition t contents.now before addition.now directory draft.old }
     ensures added { OnOk result ((t : Tree) (before : List TableAddition)
-        → IsNext t contents.now before addition.now directory draft.old
+        → IsNextAddition t contents.now before addition.now directory draft.old
         → IsDraftOf t contents.now (before ++ addition.now ∷ []) draft.new) }
     ensures sound { OnOk result ((t : Tree) (before : List TableAddition)
-        → IsNext t contents.now before addition.now directory draft.old
+        → IsNextAddition t contents.now before addition.now directory draft.old
         → fault_of contents.now before addition.now ≡ None) }
     ensures fault { IfErr result (λ e. (t : Tree) (before : List TableAddition)
-        → IsNext t contents.now before addition.now directory draft.old
+        → IsNextAddition t contents.now before addition.now directory draft.old
         → IsNotAdded contents.now before addition.now e) }
 {
     let Some(name) = name_of(addition) else {

@@ -11,8 +11,8 @@ use Rattle.adf_partitions.specs.declared.fault.DiskFault.{DiskFault}
 use Rattle.adf_partitions.specs.declared.layout.TheConstants.{BLOCK_BYTES, MOST_PARTITIONS, MOST_TABLES, RDSK_BLOCKS}
 use Rattle.adf_partitions.specs.declared.partition.Partition.{Partition}
 use Rattle.adf_partitions.specs.declared.tables.Tables.{Tables}
-use Rattle.adf_partitions.specs.Disks.{FirstFault, IsDisk, is_block_of}
-use Rattle.adf_partitions.specs.Disks.FirstFault.{at_list, at_tables}
+use Rattle.adf_partitions.specs.Disks.{FirstDiskFault, IsDisk, is_block_of}
+use Rattle.adf_partitions.specs.Disks.FirstDiskFault.{at_list, at_tables}
 use Rattle.adf_partitions.specs.Partitions.{partition_of}
 use Rattle.adf_partitions.specs.Searches.{AreReadable, is_partition_block, no_tables, with_all_lost, with_lost_partition}
 use Rattle.adf_partitions.specs.Searches.AreReadable.{whole, cut, bare, other}
@@ -51,7 +51,7 @@ module _ {A B : List ℕ} (g : Agrees A B) (n : ℕ) where
   same_disk : {t : Tables} {ps : List Partition} → IsDisk A n t ps → IsDisk B n t ps
   same_disk {t} d = record { tables = same_tables g.start d.tables; whole = same_whole g.tables d.whole }
 
-  same_fault : {f : DiskFault} → FirstFault A n f → FirstFault B n f
+  same_fault : {f : DiskFault} → FirstDiskFault A n f → FirstDiskFault B n f
   same_fault (at_tables h) = at_tables (same_lack g.start h)
   same_fault (at_list {t} h v) = at_list (same_tables g.start h) (same_list_fault g.tables v)
 
@@ -86,7 +86,7 @@ module _ (bytes : List ℕ) (n : ℕ) where
   pub first_disk : (t : Tables) (ps : List Partition) → IsDisk (take (MOST_TABLES * 512) bytes) n t ps ↔ IsDisk bytes n t ps
   first_disk t ps = let g = first_agree bytes in (same_disk g n, same_disk (agrees_back g) n)
 
-  pub first_fault : (f : DiskFault) → FirstFault (take (MOST_TABLES * 512) bytes) n f ↔ FirstFault bytes n f
+  pub first_fault : (f : DiskFault) → FirstDiskFault (take (MOST_TABLES * 512) bytes) n f ↔ FirstDiskFault bytes n f
   first_fault f = let g = first_agree bytes in (same_fault g n, same_fault (agrees_back g) n)
 
   pub first_readable : (ps : List Partition) → AreReadable (take (MOST_TABLES * 512) bytes) n ps ↔ AreReadable bytes n ps

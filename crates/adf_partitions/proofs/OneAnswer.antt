@@ -10,8 +10,8 @@ use Rattle.adf_partitions.specs.declared.fault.DiskFault.{DiskFault}
 use Rattle.adf_partitions.specs.declared.layout.TheConstants.{BLOCK_BYTES, MOST_TABLES, NEXT_PART, NO_BLOCK}
 use Rattle.adf_partitions.specs.declared.partition.Partition.{Partition}
 use Rattle.adf_partitions.specs.declared.tables.Tables.{Tables}
-use Rattle.adf_partitions.specs.Disks.{FirstFault, IsCut, IsDisk, IsFound, IsListFault, IsWholeList, part_form, partition_at}
-use Rattle.adf_partitions.specs.Disks.FirstFault.{at_tables, at_list}
+use Rattle.adf_partitions.specs.Disks.{FirstDiskFault, IsCut, IsDisk, IsFound, IsListFault, IsWholeList, part_form, partition_at}
+use Rattle.adf_partitions.specs.Disks.FirstDiskFault.{at_tables, at_list}
 use Rattle.adf_partitions.specs.Disks.IsFound.{start, step}
 use Rattle.adf_partitions.specs.Faults.{disk_fault, first_failed}
 use Rattle.adf_partitions.specs.Searches.{AreReadable, with_all_lost}
@@ -106,11 +106,11 @@ one_disk bytes n t u ps qs d e =
     let same = one_tables d.tables e.tables in
     (same, one_list bytes n u (subst (λ t. IsWholeList bytes n t ps) same d.whole) e.whole)
 
-pub no_fault : (bytes : List ℕ) (n : ℕ) (t : Tables) (ps : List Partition) (f : DiskFault) → FirstFault bytes n f → IsDisk bytes n t ps → ⊥
+pub no_fault : (bytes : List ℕ) (n : ℕ) (t : Tables) (ps : List Partition) (f : DiskFault) → FirstDiskFault bytes n f → IsDisk bytes n t ps → ⊥
 no_fault bytes n t ps f (at_tables h) d = some_tables d.tables h
 no_fault bytes n t ps f (at_list h v) d = no_list_fault bytes n t d.whole (subst (λ t. IsListFault bytes n t f) (one_tables h d.tables) v)
 
-pub one_fault : (bytes : List ℕ) (n : ℕ) (f g : DiskFault) → FirstFault bytes n f → FirstFault bytes n g → f ≡ g
+pub one_fault : (bytes : List ℕ) (n : ℕ) (f g : DiskFault) → FirstDiskFault bytes n f → FirstDiskFault bytes n g → f ≡ g
 one_fault bytes n f g (at_tables h) (at_tables k) = one_tables_fault h k
 one_fault bytes n f g (at_tables h) (at_list k v) = absurd (some_tables k h)
 one_fault bytes n f g (at_list h v) (at_tables k) = absurd (some_tables h k)

@@ -10,7 +10,7 @@ use Rattle.adf_partitions.specs.declared.layout.TheConstants.{BLOCK_BYTES, MOST_
 use Rattle.adf_partitions.specs.declared.partition.Partition.{Partition}
 use Rattle.adf_partitions.specs.declared.tables.Tables.{Tables}
 use Rattle.adf_partitions.specs.Disks.{HasListOrFault, IsFollowed, IsFound, part_form, partition_at}
-use Rattle.adf_partitions.specs.Disks.FirstFault.{at_list, at_tables}
+use Rattle.adf_partitions.specs.Disks.FirstDiskFault.{at_list, at_tables}
 use Rattle.adf_partitions.specs.Disks.IsFound.{start, step}
 use Rattle.adf_partitions.specs.Faults.{disk_fault, first_failed}
 use Rattle.adf_partitions.specs.Searches.{AreReadable, bare_partitions, with_all_lost}

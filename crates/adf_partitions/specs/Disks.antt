@@ -69,10 +69,10 @@ abbrev pub IsListFault : List ℕ → ℕ → Tables → DiskFault → Type 0
 IsListFault bytes n t f = (ps : List Partition) × IsCut bytes n t ps f
 
 -- the first fault of a disk: it has no tables, or the list of its partition blocks has a fault
-pub data FirstFault (bytes : List ℕ) (n : ℕ) (f : DiskFault) : Type 0 where
-  at_tables : HasNoTables bytes f → FirstFault bytes n f
-  at_list : {t : Tables} → IsTables bytes t → IsListFault bytes n t f → FirstFault bytes n f
+pub data FirstDiskFault (bytes : List ℕ) (n : ℕ) (f : DiskFault) : Type 0 where
+  at_tables : HasNoTables bytes f → FirstDiskFault bytes n f
+  at_list : {t : Tables} → IsTables bytes t → IsListFault bytes n t f → FirstDiskFault bytes n f
 
 -- a disk has a list of partitions, or a first fault
 abbrev pub HasListOrFault : List ℕ → ℕ → Type 0
-HasListOrFault bytes n = ((t : Tables) × (ps : List Partition) × IsDisk bytes n t ps) ⊎ ((f : DiskFault) × FirstFault bytes n f)
+HasListOrFault bytes n = ((t : Tables) × (ps : List Partition) × IsDisk bytes n t ps) ⊎ ((f : DiskFault) × FirstDiskFault bytes n f)

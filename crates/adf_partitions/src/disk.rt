@@ -1,7 +1,7 @@
 // A whole hard disk.
 
 ghost use Rattle.std.specs.Prelude.{◌≡◌, ◌≢◌, List, IfErr, IfOk, find, option_copied};
-ghost use Rattle.adf_partitions.specs.Disks.{FirstFault, IsDisk, NamesPartition};
+ghost use Rattle.adf_partitions.specs.Disks.{FirstDiskFault, IsDisk, NamesPartition};
 ghost use Rattle.adf_partitions.specs.Partitions.{is_partition_named, partition_numbered};
 ghost use Rattle.adf_partitions.specs.Tables.{IsTables};
 ghost use Rattle.adf_partitions.specs.declared.fault.DiskCause.{DiskCause};
@@ -37,7 +37,7 @@ impl Disk {
         // A fault is the first one, and then the disk has no partitions to tell. There are no others, by `one_disk` and
         // `one_disk_fault`.
         ensures first { IfErr result (λ f. f.cause ≢ DiskCause.NoMemory
-            → FirstFault bytes.now blocks f) }
+            → FirstDiskFault bytes.now blocks f) }
         ensures none { IfErr result (λ f. f.cause ≢ DiskCause.NoMemory → (t : Tables) (ps : List Partition)
             → IsDisk bytes.now blocks t ps → ⊥) }
         ensures memory { IfErr result (λ f. f.cause ≡ DiskCause.NoMemory → f.block ≡ 0) }

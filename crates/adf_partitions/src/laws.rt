@@ -1,7 +1,7 @@
 // The laws of disks. Each law is the contract of a function that does nothing at run time.
 
 ghost use Rattle.std.specs.Prelude.{◌≡◌, ◌≤◌, ◌*◌, ◌++◌, ◌↔◌, ℕ, List, length, find, take, true, All, AllPairs};
-ghost use Rattle.adf_partitions.specs.Disks.{FirstFault, HasListOrFault, IsDisk};
+ghost use Rattle.adf_partitions.specs.Disks.{FirstDiskFault, HasListOrFault, IsDisk};
 ghost use Rattle.adf_partitions.specs.Partitions.{is_partition_named, partition_numbered};
 ghost use Rattle.adf_partitions.specs.Searches.{AreReadable, is_searched, no_tables};
 ghost use Rattle.adf_partitions.specs.Tables.{HasNoTables, IsTables};
@@ -23,12 +23,12 @@ pub fn no_fault_on_a_disk()
     ensures tables { (bytes : List ℕ) (t : Tables) (f : DiskFault) → HasNoTables bytes f → IsTables bytes t
         → ⊥ }
     ensures disk { (bytes : List ℕ) (n : ℕ) (t : Tables) (ps : List Partition) (f : DiskFault)
-        → FirstFault bytes n f → IsDisk bytes n t ps → ⊥ }
+        → FirstDiskFault bytes n f → IsDisk bytes n t ps → ⊥ }
 {}
 
 /// A disk has at most one first fault.
 pub fn one_disk_fault()
-    ensures { (bytes : List ℕ) (n : ℕ) (f g : DiskFault) → FirstFault bytes n f → FirstFault bytes n g → f ≡ g }
+    ensures { (bytes : List ℕ) (n : ℕ) (f g : DiskFault) → FirstDiskFault bytes n f → FirstDiskFault bytes n g → f ≡ g }
 {}
 
 /// Every disk has a list of partitions or a first fault.
@@ -80,7 +80,7 @@ pub fn first_blocks_are_enough()
     ensures disk { (bytes : List ℕ) (n : ℕ) (t : Tables) (ps : List Partition)
         → IsDisk (take (MOST_TABLES * 512) bytes) n t ps ↔ IsDisk bytes n t ps }
     ensures fault { (bytes : List ℕ) (n : ℕ) (f : DiskFault)
-        → FirstFault (take (MOST_TABLES * 512) bytes) n f ↔ FirstFault bytes n f }
+        → FirstDiskFault (take (MOST_TABLES * 512) bytes) n f ↔ FirstDiskFault bytes n f }
     ensures readable { (bytes : List ℕ) (n : ℕ) (ps : List Partition)
         → AreReadable (take (MOST_TABLES * 512) bytes) n ps ↔ AreReadable bytes n ps }
 {}

@@ -14,8 +14,8 @@ use Rattle.adf_blocks.specs.declared.layout.TheConstants.{NEXT_IN_CHAIN, PARENT}
 use Rattle.adf_blocks.specs.Sizes.{blocks, in_range}
 use Rattle.adf_volume.specs.Image.{word_in}
 use Rattle.adf_volume.specs.Walk.{heads, Walk}
-use Rattle.adf_findings.specs.Marks.{has_mark}
-use Rattle.adf_findings.specs.Found.{owns, parent_node}
+use Rattle.adf_findings.specs.Members.{has_mark}
+use Rattle.adf_findings.specs.Members.{owns, parent_node}
 use Rattle.adf_rescue.specs.Hung.{AreEnds, AreMade, directory_end, hung_at, hung_in, slot_word, last_open, open_end, hung_first, hung_loose, is_made}
 use Rattle.adf_rescue.specs.Hung.{has_lost_child, is_vacant, readied, ready_in}
 use Rattle.adf_rescue.specs.Lost.{directory_at, is_lost, lost_among}

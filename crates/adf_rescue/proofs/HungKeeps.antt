@@ -21,7 +21,7 @@ use Rattle.adf_blocks.proofs.HeadLaws.{length_head_block}
 use Rattle.adf_volume.specs.Image.{kind_of, root_of, word_in}
 use Rattle.adf_volume.specs.Start.{is_image_len}
 use Rattle.adf_volume.specs.Walk.{heads, node_block, Walk}
-use Rattle.adf_findings.specs.Found.{entry_in, owner, owns}
+use Rattle.adf_findings.specs.Members.{role_entry, owning_entry, owns}
 use Rattle.adf_rescue.specs.Hung.{directory_end, home, hung, hung_at, hung_behind, hung_first, hung_in, hung_loose, is_container, is_hung, is_made, is_vacant}
 use Rattle.adf_rescue.specs.Hung.{last_open, made_header, put_in, readied, ready_in, sealed_in, slot_word}
 use Rattle.adf_rescue.specs.Lost.{directory_at, is_lost, says_directory}
@@ -109,11 +109,11 @@ made_header_fits : (root p : ℕ) → root < 2 ^ 32 → p < 2 ^ 32 → FitsHead 
 made_header_fits root p r s = record { own = s; parent = r; name = name_is_valid p s; comment = omega arith; body = length-replicate {A = ℕ} SLOTS 0 }
 
 -- the block of an entry is that of a part
-owner_owns : (w : Walk) (b : ℕ) → is_some (owner w b) ≡ true → owns w b ≡ true
+owner_owns : (w : Walk) (b : ℕ) → is_some (owning_entry w b) ≡ true → owns w b ≡ true
 owner_owns [] b e = cc
 owner_owns (x ∷ w) b e = elim (cases_Bool (x.1 == b)) [
   | inl here ↦ or_left (x.1 == b) (owns w b) here
-  | inr other ↦ or_right (x.1 == b) (owns w b) (owner_owns w b (sym (ap is_some (cond-false (x.1 == b) (entry_in x.0) (owner w b) other)) ∙ e))
+  | inr other ↦ or_right (x.1 == b) (owns w b) (owner_owns w b (sym (ap is_some (cond-false (x.1 == b) (role_entry x.0) (owning_entry w b) other)) ∙ e))
 ]
 
 slot_small : (b : ℕ) → slot_word b < 128
@@ -318,7 +318,7 @@ module _ (given : List ℕ) (w : Walk) (s : ℕ → Bool) (len : is_image_len (l
   end_is_header n (suc k) = grind (arith, common_steps, end_is_header n k, cases_Bool, cond-true, cond-false)
 
   -- the blocks of entries that are no headers
-  pub entries_kept : (b : ℕ) → is_some (owner w b) ≡ true → directory_at given w b ≡ None → ((n : ℕ) → node_block w n ≢ b)
+  pub entries_kept : (b : ℕ) → is_some (owning_entry w b) ≡ true → directory_at given w b ≡ None → ((n : ℕ) → node_block w n ≢ b)
       → block (hung given w s) b ≡ block given b
   entries_kept b owned no_directory no_head =
       let lost = owned_not_lost b (owner_owns w b owned) in

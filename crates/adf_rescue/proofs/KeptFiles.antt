@@ -22,8 +22,8 @@ use Rattle.adf_volume.specs.Made.{datas_in}
 use Rattle.adf_volume.specs.Walk.{heads, node_block}
 use Rattle.adf_volume.proofs.Lists.{get_before}
 use Rattle.adf_findings.specs.Files.{IsSoundFile, file_content, file_in, grave}
-use Rattle.adf_findings.specs.Found.{owner, parent_node}
-use Rattle.adf_findings.specs.Marks.{has_mark}
+use Rattle.adf_findings.specs.Members.{owning_entry, parent_node}
+use Rattle.adf_findings.specs.Members.{has_mark}
 use Rattle.adf_findings.specs.SoundMarks.{AreMarks}
 use Rattle.adf_findings.specs.Survey.{FindingValue}
 use Rattle.adf_rescue.specs.declared.left_out.Why.{Why, TheVariants.Damaged, TheVariants.Link}
@@ -144,7 +144,7 @@ marked (v ∷ vs) (suc i) x at = marked vs i x at
 
 pub kept_apart : (letters : Letters) (held : ℕ) (a b : Basis) (i j k n : ℕ) (x y : Addition) (bytes : List ℕ)
     → slice_get (first_verdicts_by letters held a) i ≡ Some (adds x)
-    → slice_get (second_verdicts_by letters held a (Some b)) j ≡ Some (adds y) → y.body ≡ File bytes → owner a.walk n ≡ Some (suc i)
+    → slice_get (second_verdicts_by letters held a (Some b)) j ≡ Some (adds y) → y.body ≡ File bytes → owning_entry a.walk n ≡ Some (suc i)
     → At (datas_in b.walk (suc j)) k n → ⊥
 kept_apart letters held a b i j k n x y bytes first second file own at =
     let g : Ground = before_second_by letters held a in

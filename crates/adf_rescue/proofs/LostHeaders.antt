@@ -22,8 +22,8 @@ use Rattle.adf_volume.proofs.Roles.{same_refl}
 use Rattle.adf_findings.specs.declared.concern.Concern.{Concern}
 use Rattle.adf_findings.specs.declared.finding.Finding.{Finding}
 use Rattle.adf_findings.specs.Concerned.{concern_of_nth, node_of}
-use Rattle.adf_findings.specs.Found.{at_role, owner, parent_node}
-use Rattle.adf_findings.specs.Marks.{has_mark}
+use Rattle.adf_findings.specs.Members.{at_role, owning_entry, parent_node}
+use Rattle.adf_findings.specs.Members.{has_mark}
 use Rattle.adf_findings.specs.Parts.{finding_value, part_role}
 use Rattle.adf_findings.specs.Survey.{FindingValue, IsSurvey, IsValidated}
 use Rattle.adf_findings.proofs.BitSteps.{has_page}
@@ -117,14 +117,14 @@ module _ (image : List ℕ) (w : Walk) (p : ℕ) where
   unfolding directory_at
   root_at e = cond-true (p == root_of image) (Some 0) _ (eq-eqb p (root_of image) e)
 
-  owned_at : p ≢ root_of image → directory_at image w p ≡ option_and_then (directory_by image w p) (owner w p)
+  owned_at : p ≢ root_of image → directory_at image w p ≡ option_and_then (directory_by image w p) (owning_entry w p)
   unfolding directory_at
   owned_at ne = cond-false (p == root_of image) (Some 0) _ (ne_eqb p (root_of image) ne)
 
-  pub none_at : p ≢ root_of image → None ≡ owner w p → directory_at image w p ≡ None
+  pub none_at : p ≢ root_of image → None ≡ owning_entry w p → directory_at image w p ≡ None
   none_at ne e = owned_at ne ∙ ap (option_and_then (directory_by image w p)) (sym e)
 
-  pub entry_in_it : (n : ℕ) → p ≢ root_of image → Some n ≡ owner w p → directory_at image w p ≡ directory_by image w p n
+  pub entry_in_it : (n : ℕ) → p ≢ root_of image → Some n ≡ owning_entry w p → directory_at image w p ≡ directory_by image w p n
   entry_in_it n ne e = owned_at ne ∙ ap (option_and_then (directory_by image w p)) (sym e)
 
   known : (n : ℕ) (o : Option ℕ) → option_and_then (directory_by image w p) o ≡ Some n → n ≤ heads w

@@ -19,7 +19,7 @@ use Rattle.adf_volume.specs.declared.types.Types.TheVariants.{Plain, WithInterna
 use Rattle.adf_volume.proofs.Gathered.{head_block}
 use Rattle.adf_volume.proofs.Lists.{in_left}
 use Rattle.adf_findings.specs.Files.{grave}
-use Rattle.adf_findings.specs.Found.{owns}
+use Rattle.adf_findings.specs.Members.{owns}
 use Rattle.adf_findings.specs.Sound.{IsOfItsKind, IsSound, says_data_of}
 use Rattle.adf_findings.specs.Survey.{FindingValue, IsSurvey, finding}
 use Rattle.adf_findings.specs.Survey.IsSurvey.{read, unread}

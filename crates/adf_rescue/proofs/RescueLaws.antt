@@ -13,7 +13,7 @@ use Rattle.adf_volume.specs.Image.{name_of}
 use Rattle.adf_volume.specs.Made.{datas_in}
 use Rattle.adf_volume.specs.Walk.{node_block, Walk}
 use Rattle.adf_findings.specs.Files.{IsSoundFile, file_content, file_in, grave}
-use Rattle.adf_findings.specs.Found.{parent_node}
+use Rattle.adf_findings.specs.Members.{parent_node}
 use Rattle.adf_findings.specs.SoundMarks.{AreMarks}
 use Rattle.adf_findings.specs.Survey.{FindingValue, IsSurvey}
 use Rattle.adf_findings.proofs.OneSurvey.{one_survey}

@@ -17,7 +17,7 @@ use Rattle.adf_blocks.specs.Sizes.{blocks, in_range}
 use Rattle.adf_blocks.proofs.ByteBlocks.{head_bytes, root_bytes}
 use Rattle.adf_volume.specs.Image.{root_of, word_in}
 use Rattle.adf_volume.specs.Walk.{Walk}
-use Rattle.adf_findings.specs.Found.{owns}
+use Rattle.adf_findings.specs.Members.{owns}
 use Rattle.adf_findings.specs.Start.{has_root_type}
 use Rattle.adf_rescue.specs.Hung.{emptied, directory_end, home, hung, hung_at, hung_behind, hung_first, hung_in, hung_loose, is_hung, is_made}
 use Rattle.adf_rescue.specs.Hung.{made_header, put_in, readied, ready_in, sealed_in, slot_word}

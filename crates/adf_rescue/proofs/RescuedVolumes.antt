@@ -34,7 +34,7 @@ use Rattle.adf_volume.specs.Made.{datas_in}
 use Rattle.adf_volume.specs.Walk.{heads, node_block}
 use Rattle.adf_volume.proofs.Sizes.{size_low}
 use Rattle.adf_findings.specs.Files.{file_content, file_in}
-use Rattle.adf_findings.specs.Found.{parent_node}
+use Rattle.adf_findings.specs.Members.{parent_node}
 use Rattle.adf_build.specs.Laid.{IsLaid, volume}
 use Rattle.adf_build.specs.Plan.{blocks_needed}
 use Rattle.adf_build.proofs.AllocatedBlocks.{reserved_below}

@@ -28,7 +28,7 @@ use Rattle.adf_volume.proofs.MemberFacts.{kept}
 use Rattle.adf_volume.proofs.Roles.{head_role}
 use Rattle.adf_volume.proofs.WalkMembers.{entry_has}
 use Rattle.adf_findings.specs.Files.{file_in}
-use Rattle.adf_findings.specs.Found.{parent_node}
+use Rattle.adf_findings.specs.Members.{parent_node}
 use Rattle.adf_findings.specs.Sound.{IsOfItsKind, IsSound}
 use Rattle.adf_findings.specs.SoundMarks.{AreMarks}
 use Rattle.adf_findings.specs.Survey.{FindingValue, IsSurvey}

@@ -20,7 +20,7 @@ use Rattle.adf_build.specs.Building.{IsBuildable}
 use Rattle.adf_volume.specs.Image.{name_of}
 use Rattle.adf_volume.proofs.Lists.{get_before}
 use Rattle.adf_volume.specs.Walk.{heads, node_block}
-use Rattle.adf_findings.specs.Found.{parent_node}
+use Rattle.adf_findings.specs.Members.{parent_node}
 use Rattle.adf_build.specs.Plan.{blocks_needed, entries_blocks, reserved}
 use Rattle.adf_rescue.specs.declared.left_out.Why.{Why, TheVariants.NoRoom}
 use Rattle.adf_rescue.specs.declared.salvage.Salvage.{Salvage}
@@ -30,7 +30,7 @@ use Rattle.adf_rescue.specs.Rescue.{body_of, by_body, directory_path}
 use Rattle.adf_rescue.specs.Rescue.{entry_headed, fitting, is_added, left_out_by, left_out_from, path_by, path_for, new_path, second_verdicts_by, verdict_tree}
 use Rattle.adf_rescue.specs.Rescue.{unless_known, verdict, verdict_anew, verdicts}
 use Rattle.adf_rescue.specs.Rescue.Verdict.{adds, leaves}
-use Rattle.adf_rescue.specs.Salvage.{IsNext, IsPlace, IsRoomOf, IsSalvage, entry_cost, free_blocks}
+use Rattle.adf_rescue.specs.Salvage.{ComesNext, IsPlace, IsRoomOf, IsSalvage, entry_cost, free_blocks}
 use Rattle.adf_rescue.proofs.TreeBlocks.{added_blocks}
 use Rattle.adf_tree.proofs.Lists.{get_last}
 
@@ -224,7 +224,7 @@ verdicts_count g l (suc k) =
     let vs : List Verdict = verdicts g l k in
     omega (arith, length_push vs (verdict g l vs (suc k)), verdicts_count g l k)
 
-pub next_is : (g : Ground) (l : Basis) (k : ℕ) → k + 1 ≤ heads l.walk → IsNext l.walk (verdicts g l k) (k + 1)
+pub next_is : (g : Ground) (l : Basis) (k : ℕ) → k + 1 ≤ heads l.walk → ComesNext l.walk (verdicts g l k) (k + 1)
 next_is g l k le = record { number = omega (arith, verdicts_count g l k); within = le }
 
 -- whether anything stands

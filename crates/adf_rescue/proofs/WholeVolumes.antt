@@ -29,7 +29,7 @@ use Rattle.adf_volume.proofs.FitWalks.{one_fit}
 use Rattle.adf_volume.proofs.Lists.{at_index_or, get_before}
 use Rattle.adf_volume.proofs.WalkMembers.{entries_length}
 use Rattle.adf_findings.specs.Files.{grave}
-use Rattle.adf_findings.specs.Found.{parent_node}
+use Rattle.adf_findings.specs.Members.{parent_node}
 use Rattle.adf_findings.specs.Sound.{IsOfItsKind}
 use Rattle.adf_findings.specs.SoundMarks.{AreMarks}
 use Rattle.adf_findings.specs.Survey.{FindingValue, IsSurvey}

@@ -12,8 +12,8 @@ use Rattle.adf_blocks.specs.HeadBlock.BodyFields.{DirFields}
 use Rattle.adf_blocks.specs.Sizes.{blocks, in_range}
 use Rattle.adf_volume.specs.Image.{root_of, word_in}
 use Rattle.adf_volume.specs.Walk.{heads, node_block, Walk}
-use Rattle.adf_findings.specs.Found.{owns, parent_node}
-use Rattle.adf_findings.specs.Marks.{has_mark}
+use Rattle.adf_findings.specs.Members.{owns, parent_node}
+use Rattle.adf_findings.specs.Members.{has_mark}
 use Rattle.adf_rescue.specs.declared.hung.Loose.{Loose}
 use Rattle.adf_rescue.specs.Lost.{AreLost, directory_at, is_lost, says_directory}
 use Rattle.adf_rescue.specs.Rescue.{lost_name}

@@ -8,7 +8,7 @@ use Rattle.adf_volume.specs.Walk.{Walk}
 use Rattle.adf_findings.specs.declared.concern.Concern.{Concern}
 use Rattle.adf_findings.specs.declared.concern.Concern.TheVariants.{Within}
 use Rattle.adf_findings.specs.Concerned.{concern_of}
-use Rattle.adf_findings.specs.Found.{owner}
+use Rattle.adf_findings.specs.Members.{owning_entry}
 use Rattle.adf_findings.specs.Survey.{FindingValue}
 use Rattle.adf_rescue.specs.Rescue.{Basis, entry_headed}
 
@@ -30,7 +30,7 @@ is_second_header (Some b) h = is_some (entry_headed b.walk h)
 -- an entry of the second survey has the block
 abbrev pub is_second_block : Option Basis → ℕ → Bool
 is_second_block None h = false
-is_second_block (Some b) h = is_some (owner b.walk h)
+is_second_block (Some b) h = is_some (owning_entry b.walk h)
 
 -- an entry of one of the surveys has its header in the block
 abbrev pub is_surveyed_header : Walk → Option Basis → ℕ → Bool

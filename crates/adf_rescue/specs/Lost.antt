@@ -15,8 +15,8 @@ use Rattle.adf_volume.specs.Walk.{Role, data_count, heads, node_block, Walk}
 use Rattle.adf_volume.specs.Walk.Role.{Root, Page}
 use Rattle.adf_findings.specs.Concerned.{concern_of_nth, node_of}
 use Rattle.adf_findings.specs.declared.concern.Concern.{Concern}
-use Rattle.adf_findings.specs.Found.{at_role, owner, owns, parent_node}
-use Rattle.adf_findings.specs.Marks.{has_mark}
+use Rattle.adf_findings.specs.Members.{at_role, owning_entry, owns, parent_node}
+use Rattle.adf_findings.specs.Members.{has_mark}
 use Rattle.adf_findings.specs.Survey.{FindingValue}
 use Rattle.adf_rescue.specs.Opened.{says_file}
 
@@ -71,7 +71,7 @@ directory_by image w p n = cond (is_directory_header image w n p) (Some n) None
 
 -- the directory of the survey whose header is block p; 0 for the root
 unfoldable pub directory_at : List ℕ → Walk → ℕ → Option ℕ
-directory_at image w p = cond (p == root_of image) (Some 0) (option_and_then (directory_by image w p) (owner w p))
+directory_at image w p = cond (p == root_of image) (Some 0) (option_and_then (directory_by image w p) (owning_entry w p))
 
 -- one of the first k entries is in directory n
 unfoldable pub has_child : Walk → ℕ → ℕ → Bool

@@ -29,8 +29,8 @@ use Rattle.adf_volume.specs.declared.types.Types.{Types}
 use Rattle.adf_volume.specs.declared.types.Types.TheVariants.{Plain}
 use Rattle.adf_volume.specs.Walk.{heads, node_block, Walk}
 use Rattle.adf_findings.specs.Files.{file_content, file_in, grave}
-use Rattle.adf_findings.specs.Found.{owner, parent_node}
-use Rattle.adf_findings.specs.Marks.{has_mark}
+use Rattle.adf_findings.specs.Members.{owning_entry, parent_node}
+use Rattle.adf_findings.specs.Members.{has_mark}
 use Rattle.adf_findings.specs.SoundMarks.{AreMarks}
 use Rattle.adf_findings.specs.Opening.{opening_in}
 use Rattle.adf_findings.specs.Survey.{FindingValue, IsSurvey}
@@ -176,7 +176,7 @@ added_marks vs = false ∷ map is_added vs
 
 -- an entry that is kept from the survey before has block b
 abbrev pub is_of_kept_entry : Ground → ℕ → Bool
-is_of_kept_entry g b = has_mark (added_marks g.verdicts) (unwrap_or (owner g.walk b) 0)
+is_of_kept_entry g b = has_mark (added_marks g.verdicts) (unwrap_or (owning_entry g.walk b) 0)
 
 -- data block b of an image was given: it is held, and the same in the image that is rescued; and there neither an entry that is kept
 -- has it, nor does the bitmap tell that it is free
@@ -207,7 +207,7 @@ entry_by w b n = cond (is_header_at w b n) (Some n) None
 
 -- the entry that has its header in block b
 abbrev pub entry_headed : Walk → ℕ → Option ℕ
-entry_headed w b = option_and_then (entry_by w b) (owner w b)
+entry_headed w b = option_and_then (entry_by w b) (owning_entry w b)
 
 -- this verdict, if no entry of the survey before has its header there; else the place of the one that has
 abbrev pub unless_known : Ground → Option ℕ → Verdict → Verdict

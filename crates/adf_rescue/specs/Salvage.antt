@@ -55,7 +55,7 @@ pub record IsSalvage (g : Ground) (vs : List Verdict) (r : Salvage) : Type 0 whe
   pub left_out : r.left_out.items ≡ left_out_from 1 vs
 
 -- entry n is the next one of the survey, after the verdicts
-pub record IsNext (w : Walk) (vs : List Verdict) (n : ℕ) : Type 0 where
+pub record ComesNext (w : Walk) (vs : List Verdict) (n : ℕ) : Type 0 where
   pub number : n ≡ length vs + 1
   pub within : n ≤ heads w
 
@@ -67,4 +67,4 @@ pub record GoesOn (image : List ℕ) (n : ℕ) (r : Salvage) : Type 0 where
   pub verdicts : List Verdict
   pub survey : IsSurvey image walk findings
   pub state : IsSalvage ground verdicts r
-  pub next : IsNext walk verdicts n
+  pub next : ComesNext walk verdicts n

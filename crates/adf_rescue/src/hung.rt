@@ -9,8 +9,8 @@ ghost use Rattle.adf_blocks.specs.Sizes.{blocks};
 ghost use Rattle.adf_volume.specs.Image.{kind_of, word_in};
 ghost use Rattle.adf_volume.specs.Start.{is_image_len};
 ghost use Rattle.adf_volume.specs.Walk.{heads, node_block, Walk};
-ghost use Rattle.adf_findings.specs.Found.{owner, owns};
-ghost use Rattle.adf_findings.specs.Marks.{has_mark};
+ghost use Rattle.adf_findings.specs.Members.{owning_entry, owns};
+ghost use Rattle.adf_findings.specs.Members.{has_mark};
 ghost use Rattle.adf_findings.specs.Survey.{OnSurvey};
 ghost use Rattle.adf_rescue.specs.Lost.{AreLost, directory_at, has_findings, has_lost, is_lost, is_settled, lost_among};
 ghost use Rattle.adf_rescue.specs.Rescue.{lost_name};
@@ -424,7 +424,7 @@ pub fn hung_keeps()
         → ((d : ℕ) → is_hung given w s d ≡ true → directory_end given w (home given w s d) ≢ b)
         → block (hung given w s) b ≡ block given b }
     ensures entries { (given : List ℕ) (w : Walk) (s : ℕ → Bool)
-        → is_image_len (length given) ≡ true → (b : ℕ) → is_some (owner w b) ≡ true
+        → is_image_len (length given) ≡ true → (b : ℕ) → is_some (owning_entry w b) ≡ true
         → directory_at given w b ≡ None → ((n : ℕ) → node_block w n ≢ b)
         → block (hung given w s) b ≡ block given b }
     ensures words { (given : List ℕ) (w : Walk) (s : ℕ → Bool)

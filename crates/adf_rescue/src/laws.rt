@@ -11,7 +11,7 @@ ghost use Rattle.adf_blocks.specs.HeadBlock.{meta_stated};
 ghost use Rattle.adf_blocks.specs.Sizes.{blocks, is_allowed};
 ghost use Rattle.adf_volume.specs.Image.{name_of};
 ghost use Rattle.adf_findings.specs.Files.{HasItsBlocks, IsSoundFile, file_content, file_in, grave};
-ghost use Rattle.adf_findings.specs.Found.{owner, parent_node};
+ghost use Rattle.adf_findings.specs.Members.{owning_entry, parent_node};
 ghost use Rattle.adf_findings.specs.Sound.{FileHolds, IsOfItsKind, IsSound};
 ghost use Rattle.adf_findings.specs.SoundMarks.{AreMarks};
 ghost use Rattle.adf_findings.specs.Survey.{FindingValue, IsSurvey};
@@ -120,5 +120,5 @@ pub fn kept_files_lie_apart()
     ensures { (letters : Letters) (held : ℕ) (a b : Basis) (i j k n : ℕ) (x y : Addition) (bytes : List ℕ)
         → slice_get (first_verdicts_by letters held a) i ≡ Some (adds x)
         → slice_get (second_verdicts_by letters held a (Some b)) j ≡ Some (adds y)
-        → y.body ≡ File bytes → owner a.walk n ≡ Some (suc i) → At (datas_in b.walk (suc j)) k n → ⊥ }
+        → y.body ≡ File bytes → owning_entry a.walk n ≡ Some (suc i) → At (datas_in b.walk (suc j)) k n → ⊥ }
 {}

@@ -8,13 +8,13 @@ ghost use Rattle.adf_blocks.specs.Sizes.{blocks};
 ghost use Rattle.adf_tree.specs.Tree.{is_dir_body};
 ghost use Rattle.adf_volume.specs.Walk.{heads, node_block, Walk};
 ghost use Rattle.adf_volume.specs.Image.{name_of};
-ghost use Rattle.adf_findings.specs.Found.{parent_node};
+ghost use Rattle.adf_findings.specs.Members.{parent_node};
 ghost use Rattle.adf_findings.specs.Opening.{opening_in};
 ghost use Rattle.adf_findings.specs.Survey.{FindingValue, IsSurvey, OnSurvey};
 ghost use Rattle.adf_rescue.specs.Rescue.{Ground, Basis, OnBasis, Verdict, added_marks, as_given, before_first_by, body_of};
 ghost use Rattle.adf_rescue.specs.Rescue.{entry_headed, fitting, path_by, new_path, verdict_tree, verdict};
 ghost use Rattle.adf_rescue.specs.Rescue.Verdict.{leaves, knows};
-ghost use Rattle.adf_rescue.specs.Salvage.{GoesOn, IsNext, IsRoomOf, IsSalvage, entry_cost, free_blocks};
+ghost use Rattle.adf_rescue.specs.Salvage.{GoesOn, ComesNext, IsRoomOf, IsSalvage, entry_cost, free_blocks};
 
 use crate::left_out::{LeftOut, Why};
 use crate::rooms::room_of;
@@ -260,7 +260,7 @@ impl Salvage {
         requires { GoesOn survey.now.image n self.old }
         ensures { (g : Ground) (w : Walk) (fs : List FindingValue) (sound : ℕ → Bool)
             (vs : List Verdict)
-            → IsSurvey survey.now.image w fs → IsSalvage g vs self.old → IsNext w vs n
+            → IsSurvey survey.now.image w fs → IsSalvage g vs self.old → ComesNext w vs n
             → entry_headed g.walk (node_block w n) ≡ None
             → standing ≡ body_of (as_given g (record { image = survey.now.image; walk = w; sound = sound })) n
             → OnOk result (IsSalvage g
@@ -284,7 +284,7 @@ impl Salvage {
     pub fn take(&mut self, alloc: Global, survey: &Survey<'_>, n: Node) -> Result<(), NoMemory>
         requires { GoesOn survey.now.image n self.old }
         ensures { OnBasis survey.now.image (λ a _. (letters : Letters) (held : ℕ) (vs : List Verdict)
-            → IsSalvage (before_first_by letters held a.image) vs self.old → IsNext a.walk vs n
+            → IsSalvage (before_first_by letters held a.image) vs self.old → ComesNext a.walk vs n
             → OnOk result (IsSalvage (before_first_by letters held a.image)
             (vs ++ verdict (before_first_by letters held a.image) a vs n ∷ []) self.new)) }
     {
@@ -324,7 +324,7 @@ impl Salvage {
         requires { GoesOn survey.now.image n self.old }
         ensures { OnBasis survey.now.image (λ b _. (g : Ground) (fs : List FindingValue) (vs : List Verdict)
             → g.given ≡ before.now.image → IsSurvey g.given g.walk fs
-            → IsSalvage g vs self.old → IsNext b.walk vs n → OnOk result (IsSalvage g (vs ++ verdict g b vs n ∷ []) self.new)) }
+            → IsSalvage g vs self.old → ComesNext b.walk vs n → OnOk result (IsSalvage g (vs ++ verdict g b vs n ∷ []) self.new)) }
     {
         match known_as(before, survey, n) {
             Some(m) => self.keep_known(m),

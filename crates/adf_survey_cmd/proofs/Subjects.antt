@@ -10,11 +10,6 @@ use Rattle.adf_findings.specs.OwnKind.{is_mistyped, is_other_kind, retyped, tall
 use Rattle.adf_findings.specs.Survey.{FindingValue, IsSurvey}
 use Rattle.adf_survey_cmd.specs.Subject.{IsTyped, SubjectValue, changed, type_line}
 
--- another image and one more line
-pub changed_is : (s : SubjectValue) (image line new front : List ℕ) → new ≡ image → front ≡ s.front ++ line
-    → record { image = new; end = s.end; front = front } ≡ changed s image line
-changed_is s image line new front e f = λ i. record { image = e i; end = s.end; front = f i }
-
 -- what has the type that its files say is surveyed as it is
 pub typed_same : (s : SubjectValue) (w : Walk) (fs : List FindingValue) → IsSurvey s.image w fs → is_mistyped s.image w ≡ false
     → IsTyped s s

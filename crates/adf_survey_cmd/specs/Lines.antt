@@ -7,7 +7,7 @@ use Rattle.adf_blocks.specs.Causes.{cause_number, cause_text}
 use Rattle.adf_volume.specs.Walk.{Walk}
 use Rattle.adf_findings.specs.declared.concern.Concern.{Concern}
 use Rattle.adf_findings.specs.declared.concern.Concern.TheVariants.{Entry, Within}
-use Rattle.adf_findings.specs.Concerned.{concern_of, owner_of}
+use Rattle.adf_findings.specs.Concerned.{concern_of, taker_of}
 use Rattle.adf_findings.specs.Lookup.{path_to}
 use Rattle.adf_findings.specs.Survey.{FindingValue}
 use Rattle.adf_texts.specs.Names.{names_text}
@@ -15,7 +15,7 @@ use Rattle.adf_survey_cmd.specs.declared.runs.Run.{Run}
 
 -- a finding by itself
 abbrev pub run_of : Walk → FindingValue → Run
-run_of w f = record { first = f.block; last = f.block; cause = f.cause; concern = concern_of w f; owner = owner_of w f }
+run_of w f = record { first = f.block; last = f.block; cause = f.cause; concern = concern_of w f; owner = taker_of w f }
 
 -- the findings concern the same, or nothing
 abbrev pub are_one : Option Concern → Option Concern → Bool

@@ -4,7 +4,7 @@ ghost use Rattle.std.specs.Prelude.{◌≡◌, ◌++◌, ◌∷◌, ◌<◌, ◌
 ghost use Rattle.std.specs.Prelude.{codes, drop, false, length, option_map, slice_get};
 ghost use Rattle.std.specs.Io.KnownBytes.{Appends};
 ghost use Rattle.adf_volume.specs.Walk.{Walk};
-ghost use Rattle.adf_findings.specs.Concerned.{concern_of, owner_of};
+ghost use Rattle.adf_findings.specs.Concerned.{concern_of, taker_of};
 ghost use Rattle.adf_findings.specs.Lookup.{path_to};
 ghost use Rattle.adf_findings.specs.Parts.{finding_value};
 ghost use Rattle.adf_findings.specs.Survey.{OnSurvey};
@@ -57,7 +57,7 @@ impl Run {
     // A finding by itself, with what it concerns and the entry that holds its block.
     fn of(finding: &Finding, concern: Option<Concern>, owner: Option<Node>) -> Run
         ensures { (w : Walk) → concern ≡ concern_of w (finding_value finding.now)
-            → owner ≡ owner_of w (finding_value finding.now)
+            → owner ≡ taker_of w (finding_value finding.now)
             → result ≡ run_of w (finding_value finding.now) }
     {
         Run {

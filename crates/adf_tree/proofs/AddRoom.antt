@@ -107,13 +107,6 @@ pub is_new : (l : Letters) (es : List Entry) (path : List (List ℕ)) (meta : Me
     → IsNewBy l es path meta body (record { parent = p; name = name; meta = meta; body = body })
 is_new l es path meta body x name p some at same ok = grind (arith, common_steps, room_is, new_in_room_by)
 
--- the tree that it leaves
-pub tree_left : (t : Tree) (entries : List Entry) (e : Entry) (b : Bool) (path : List (List ℕ)) (meta : Meta) (body : Body)
-    → entries ≡ (if b then added t.entries e else t.entries) → e ≡ new_entry t.entries path meta body
-    → (let u : Tree = record t { entries = entries } in u ≡ (if b then with_entry t path meta body else t))
-tree_left t entries e true path meta body h same = rw (h, same)
-tree_left t entries e false path meta body h same = rw h
-
 -- and by any letters
 pub entries_left : (t : TreeEntries) (entries : List Entry) (e : Entry) (b : Bool) (path : List (List ℕ)) (meta : Meta) (body : Body)
     → entries ≡ (if b then added_by t.letters t.entries e else t.entries) → e ≡ new_entry_by t.letters t.entries path meta body
@@ -162,28 +155,12 @@ no_room_by l es path f some h = grind (arith, common_steps, room_says_why, direc
 
 -- by ASCII letters
 
-pub next_dir : (es : List Entry) (names : List (List ℕ)) (q : ℕ) (o : Option ℕ)
-    → (let r : Result ℕ RoomFault =
-    elim o [ None ↦ Err NoParent | Some n ↦ if is_dir es n then directory_from es n names else Err ParentIsFile ] in r ≡ Ok q)
-    → (n : ℕ) × (o ≡ Some n) × (is_dir es n ≡ true) × (directory_from es n names ≡ Ok q)
-next_dir = next_dir_by Ascii
-
 pub directory_is_dir : (es : List Entry) (p : ℕ) (names : List (List ℕ)) (q : ℕ) → directory_from es p names ≡ Ok q → IsDir es p → IsDir es q
 directory_is_dir = directory_is_dir_by Ascii
 
 pub room_says : (es : List Entry) (e : Entry) (r : Result ℕ RoomFault) → room_at es e.name r ≡ Ok e.parent
     → (r ≡ Ok e.parent) × (child es e.parent e.name ≡ None)
 room_says = room_says_by Ascii
-
-pub room_may_add : (es : List Entry) (e : Entry) (names : List (List ℕ)) → room_at es e.name (directory_from es 0 names) ≡ Ok e.parent → MayAdd es e
-room_may_add = room_may_add_by Ascii
-
-abbrev pub IsNew : List Entry → List (List ℕ) → Meta → Body → Entry → Type 0
-IsNew = IsNewBy Ascii
-
-pub new_in_room : (es : List Entry) (path : List (List ℕ)) (meta : Meta) (body : Body) (name : List ℕ) (p : ℕ) → name ≡ last_of path
-    → room_for es path ≡ Ok p → IsNew es path meta body (record { parent = p; name = name; meta = meta; body = body })
-new_in_room = new_in_room_by Ascii
 
 pub no_room : (es : List Entry) (path : List (List ℕ)) (f : RoomFault) → 0 < length path → room_for es path ≡ Err f → SaysNoRoom f
 no_room = no_room_by Ascii

@@ -9,7 +9,7 @@ use Rattle.adf_names.specs.PathTexts.{IsName}
 use Rattle.adf_names.specs.Texts.{is_name}
 use Rattle.adf_tree.specs.Additions.{Addition, entries_of_additions, entries_of_additions_by, with_addition_by}
 use Rattle.adf_tree.specs.Bounds.{IsBoundedEntry, IsData}
-use Rattle.adf_tree.specs.Tree.{added, added_by, last_of, new_entry_by, place_by, rank_by, renumbered}
+use Rattle.adf_tree.specs.Tree.{added, added_by, last_of, new_entry_by, place_by, rank_by, moved_entry}
 use Rattle.adf_tree.specs.declared.entry.Entry.{Entry}
 
 -- the fields of an addition are within their bounds
@@ -18,7 +18,7 @@ pub record IsBoundedAddition (x : Addition) : Type 0 where
   pub meta : IsBoundedMeta x.meta
   pub body : IsData x.body
 
-bounded_renumbered : (n : ℕ) (e : Entry) → IsBoundedEntry e → IsBoundedEntry (renumbered n e)
+bounded_renumbered : (n : ℕ) (e : Entry) → IsBoundedEntry e → IsBoundedEntry (moved_entry n e)
 bounded_renumbered n e is = record { name = is.name; meta = is.meta; body = is.body }
 
 -- and so are those with one more
@@ -26,10 +26,10 @@ pub bounded_added_by : (l : Letters) (es : List Entry) (e : Entry) → All IsBou
 bounded_added_by l es e are is =
     let i : ℕ = place_by l es (rank_by l e) in
     let rest : List Entry = drop i es in
-    All-append IsBoundedEntry (take i es) (e ∷ map (renumbered (i + 1)) rest) (All-take IsBoundedEntry i es are)
-    (All-cons IsBoundedEntry e (map (renumbered (i + 1)) rest) is
-    (All-map IsBoundedEntry (renumbered (i + 1)) rest
-    (All-weaker IsBoundedEntry (λ y. IsBoundedEntry (renumbered (i + 1) y)) (bounded_renumbered (i + 1)) rest
+    All-append IsBoundedEntry (take i es) (e ∷ map (moved_entry (i + 1)) rest) (All-take IsBoundedEntry i es are)
+    (All-cons IsBoundedEntry e (map (moved_entry (i + 1)) rest) is
+    (All-map IsBoundedEntry (moved_entry (i + 1)) rest
+    (All-weaker IsBoundedEntry (λ y. IsBoundedEntry (moved_entry (i + 1) y)) (bounded_renumbered (i + 1)) rest
     (All-drop IsBoundedEntry i es are))))
 
 bounded_new : (l : Letters) (es : List Entry) (x : Addition) → IsBoundedAddition x → IsBoundedEntry (new_entry_by l es x.path x.meta x.body)
@@ -51,6 +51,3 @@ last_is_name path some names = (names (length path - 1) [] (omega arith)).allowe
 
 pub bounded_added : (es : List Entry) (e : Entry) → All IsBoundedEntry es → IsBoundedEntry e → All IsBoundedEntry (added es e)
 bounded_added = bounded_added_by Ascii
-
-pub bounded_additions : (xs : List Addition) → All IsBoundedAddition xs → All IsBoundedEntry (entries_of_additions xs)
-bounded_additions = bounded_additions_by Ascii

@@ -14,7 +14,7 @@ use Rattle.adf_base.specs.declared.hash.Letters.{Letters, TheVariants.Ascii, The
 use Rattle.adf_tree.specs.declared.entry.Entry.{Entry}
 use Rattle.adf_base.specs.Hash.{slot_by, slot_of, upper_by}
 use Rattle.adf_names.specs.Texts.{uppers, uppers_by}
-use Rattle.adf_tree.specs.Tree.{rank, rank_by, rank_of, is_child, is_child_by, child, child_by, place, place_by, renumbered, moved, added_by}
+use Rattle.adf_tree.specs.Tree.{rank, rank_by, rank_of, is_child, is_child_by, child, child_by, place, place_by, moved_entry, moved, added_by}
 use Rattle.adf_tree.specs.Tree.{IsDir, IsTree, IsTreeBy, MayAddBy}
 use Rattle.adf_tree.proofs.TreeInvariant.{after, moved_same, moved_below, moved_above, moved_up, moved_near, added_tree, place_le_by, dir_before}
 use Rattle.adf_tree.proofs.TreeInvariant.{at_place, by_case, length_added, new_get}
@@ -113,7 +113,7 @@ module _ (l : Letters) (es : List Entry) (p : ℕ) (name : List ℕ) where
       → (0 < m) × (m ≤ length es) × (is_child_by l p name (get_or es (m - 1) d) ≡ true)
   found_is_by m d h = grind (arith, common_steps, one_before, position-Some)
 
-is_child_moved : (l : Letters) (n p : ℕ) (name : List ℕ) (x : Entry) → is_child_by l (moved n p) name (renumbered n x) ≡ is_child_by l p name x
+is_child_moved : (l : Letters) (n p : ℕ) (name : List ℕ) (x : Entry) → is_child_by l (moved n p) name (moved_entry n x) ≡ is_child_by l p name x
 is_child_moved l n p name x = ap (λ b. b && bytes_eq (uppers_by l x.name) (uppers_by l name)) (moved_test n x.parent p)
 
 -- nothing is a child of the new entry
@@ -169,32 +169,11 @@ child_other {l} es e p name t may other =
 
 -- by ASCII letters
 
-pub same_slot : (a b : List ℕ) → uppers a ≡ uppers b → slot_of a ≡ slot_of b
-same_slot = same_slot_by Ascii
-
 pub child_says : (p : ℕ) (name : List ℕ) (x : Entry) → is_child p name x ≡ true → (x.parent ≡ p) × (uppers x.name ≡ uppers name)
 child_says = child_says_by Ascii
 
 pub is_child_from : (p : ℕ) (name : List ℕ) (x : Entry) → x.parent ≡ p → uppers x.name ≡ uppers name → is_child p name x ≡ true
 is_child_from = is_child_from_by Ascii
-
-pub child_found : (es : List Entry) (p : ℕ) (name : List ℕ) (i : ℕ) (e : Entry) → i < length es → e ≡ get_or es i e → is_child p name e ≡ true
-    → ((k : ℕ) (d : Entry) → k < i → is_child p name (get_or es k d) ≡ false) → Some (i + 1) ≡ child es p name
-child_found = child_found_by Ascii
-
-pub no_children : (es : List Entry) (p : ℕ) (name : List ℕ) → ((k : ℕ) (d : Entry) → k < length es → is_child p name (get_or es k d) ≡ false)
-    → child es p name ≡ None
-no_children = no_children_by Ascii
-
-pub child_not_before : (es : List Entry) (p : ℕ) (name : List ℕ) (s from : ℕ) → s ≡ slot_of name
-    → IsPartitionPoint (λ e. nat_lt (rank e) (rank_of p s) ≡ true) (λ e. nat_lt (rank e) (rank_of p s) ≡ false) es from
-    → (k : ℕ) (d : Entry) → k < from → is_child p name (get_or es k d) ≡ false
-child_not_before = child_not_before_by Ascii
-
-pub child_not_past : (es : List Entry) (p : ℕ) (name : List ℕ) (s to i : ℕ) → s ≡ slot_of name → IsNonDecreasingBy rank es
-    → to ≡ place es (rank_of p s) → to ≤ i → ((k : ℕ) (d : Entry) → k < i → is_child p name (get_or es k d) ≡ false)
-    → (k : ℕ) (d : Entry) → k < length es → is_child p name (get_or es k d) ≡ false
-child_not_past = child_not_past_by Ascii
 
 pub child_is : (es : List Entry) (p : ℕ) (name : List ℕ) (k : ℕ) (d : Entry) → IsTree es → k < length es
     → is_child p name (get_or es k d) ≡ true → child es p name ≡ Some (k + 1)

@@ -12,7 +12,7 @@ use Rattle.std.proofs.lemmas.Bool.Decides.{nat_tests}
 use Rattle.adf_base.specs.declared.hash.Letters.{Letters, TheVariants.Ascii, TheVariants.International}
 use Rattle.adf_tree.specs.declared.entry.Entry.{Entry}
 use Rattle.adf_base.specs.Hash.{slot_by, slot_of}
-use Rattle.adf_tree.specs.Tree.{place, place_by, rank_by, renumbered, moved, added_by, IsTreeBy, IsDir, AreApartBy, MayAddBy}
+use Rattle.adf_tree.specs.Tree.{place, place_by, rank_by, moved_entry, moved, added_by, IsTreeBy, IsDir, AreApartBy, MayAddBy}
 use Rattle.std.proofs.lemmas.List.Folds.{map_fixed}
 use Rattle.std.proofs.lemmas.Grind.{common_steps}
 
@@ -41,25 +41,19 @@ pub slot_small_by : (l : Letters) (name : List ℕ) → slot_by l name < 72
 slot_small_by Ascii name = omega arith
 slot_small_by International name = omega arith
 
-pub slot_small : (name : List ℕ) → slot_of name < 72
-slot_small = slot_small_by Ascii
-
 rank_rises : (n p q s t : ℕ) → s < 72 → t < 72 → 72 * p + s ≤ 72 * q + t → 72 * moved n p + s ≤ 72 * moved n q + t
 rank_rises n p q s t hs ht h = grind (arith, nat_tests)
 
-rank_grows : (l : Letters) (n : ℕ) (e : Entry) → rank_by l e ≤ rank_by l (renumbered n e)
+rank_grows : (l : Letters) (n : ℕ) (e : Entry) → rank_by l e ≤ rank_by l (moved_entry n e)
 rank_grows l n e = omega (arith, moved_up n e.parent)
 
-renumbered_rises : (l : Letters) (n : ℕ) (e f : Entry) → rank_by l e ≤ rank_by l f → rank_by l (renumbered n e) ≤ rank_by l (renumbered n f)
+renumbered_rises : (l : Letters) (n : ℕ) (e f : Entry) → rank_by l e ≤ rank_by l f → rank_by l (moved_entry n e) ≤ rank_by l (moved_entry n f)
 renumbered_rises l n e f h = rank_rises n e.parent f.parent (slot_by l e.name) (slot_by l f.name) (slot_small_by l e.name) (slot_small_by l f.name) h
 
 -- where a new entry is put
 
 pub place_le_by : (l : Letters) (es : List Entry) (r : ℕ) → place_by l es r ≤ length es
 place_le_by l es r = prefix_len-le-length (λ e. not (nat_lt r (rank_by l e))) es
-
-pub place_le : (es : List Entry) (r : ℕ) → place es r ≤ length es
-place_le = place_le_by Ascii
 
 -- the entries before the place have a lesser or the same pair
 pub before : (l : Letters) (es : List Entry) (r k : ℕ) (d : Entry) → k < place_by l es r → rank_by l (get_or es k d) ≤ r
@@ -85,18 +79,18 @@ dir_before l es e t dir =
 
 -- the entries before the place keep their parents
 pub fixed : (l : Letters) (es : List Entry) (i k : ℕ) (d : Entry) → IsTreeBy l es → i ≤ length es → k < i
-    → renumbered (i + 1) (get_or es k d) ≡ get_or es k d
+    → moved_entry (i + 1) (get_or es k d) ≡ get_or es k d
 fixed l es i k d t le lt = rw (moved_below (i + 1) (get_or es k d).parent (omega (arith, t.parents k d (omega arith))))
 
-fixed_front : (l : Letters) (es : List Entry) (i : ℕ) → IsTreeBy l es → i ≤ length es → map (renumbered (i + 1)) (take i es) ≡ take i es
+fixed_front : (l : Letters) (es : List Entry) (i : ℕ) → IsTreeBy l es → i ≤ length es → map (moved_entry (i + 1)) (take i es) ≡ take i es
 fixed_front l es i t le = grind (arith, common_steps, length-take-le, map_fixed, get_or-take, fixed)
 
--- so all may be renumbered
+-- so all may be moved_entry
 pub added_is : (l : Letters) (es : List Entry) (e : Entry) → IsTreeBy l es
-    → added_by l es e ≡ insert (map (renumbered (place_by l es (rank_by l e) + 1)) es) (place_by l es (rank_by l e)) e
+    → added_by l es e ≡ insert (map (moved_entry (place_by l es (rank_by l e) + 1)) es) (place_by l es (rank_by l e)) e
 added_is l es e t =
     let i : ℕ = place_by l es (rank_by l e) in
-    rw (take-map (renumbered (i + 1)) i es, drop-map (renumbered (i + 1)) i es, fixed_front l es i t (place_le_by l es (rank_by l e)))
+    rw (take-map (moved_entry (i + 1)) i es, drop-map (moved_entry (i + 1)) i es, fixed_front l es i t (place_le_by l es (rank_by l e)))
 
 -- the new list
 
@@ -108,10 +102,10 @@ at_place {l} es e d t = grind (arith, common_steps, added_is, get_or-insert_at, 
 
 -- the old entries stand under their new numbers
 pub new_get : {l : Letters} (es : List Entry) (e : Entry) (m : ℕ) (d : Entry) → IsTreeBy l es → 0 < m → m ≤ length es
-    → get_or (added_by l es e) (moved (place_by l es (rank_by l e) + 1) m - 1) d ≡ renumbered (place_by l es (rank_by l e) + 1) (get_or es (m - 1) d)
+    → get_or (added_by l es e) (moved (place_by l es (rank_by l e) + 1) m - 1) d ≡ moved_entry (place_by l es (rank_by l e) + 1) (get_or es (m - 1) d)
 new_get {l} es e m d t some le =
     let i : ℕ = place_by l es (rank_by l e) in
-    let f : Entry → Entry = renumbered (i + 1) in
+    let f : Entry → Entry = moved_entry (i + 1) in
     let short : i ≤ length (map f es) = omega (arith, place_le_by l es (rank_by l e), length-map es f) in
     elim (cases_lt (m - 1) i) [
       | inl below ↦
@@ -125,7 +119,7 @@ new_get {l} es e m d t some le =
 -- what an entry of the new list is: the new one, or an old one under its new number
 pub by_case : (l : Letters) (es : List Entry) (e : Entry) (d : Entry) (P : ℕ → Entry → Type 0) → IsTreeBy l es → P (place_by l es (rank_by l e)) e
     → ((m : ℕ) → 0 < m → m ≤ length es → P (moved (place_by l es (rank_by l e) + 1) m - 1)
-    (renumbered (place_by l es (rank_by l e) + 1) (get_or es (m - 1) d)))
+    (moved_entry (place_by l es (rank_by l e) + 1) (get_or es (m - 1) d)))
     → (k : ℕ) → k < length (added_by l es e) → P k (get_or (added_by l es e) k d)
 by_case l es e d P t new old k lt =
     let i : ℕ = place_by l es (rank_by l e) in
@@ -159,7 +153,7 @@ kept_parent l es e k d t dir lt =
 kept_order : (l : Letters) (es : List Entry) (e : Entry) → IsTreeBy l es → IsNonDecreasingBy (rank_by l) (added_by l es e)
 kept_order l es e t =
     let i : ℕ = place_by l es (rank_by l e) in
-    let f : Entry → Entry = renumbered (i + 1) in
+    let f : Entry → Entry = moved_entry (i + 1) in
     let le = place_le_by l es (rank_by l e) in
     let m = length-map es f in
     rw (added_is l es e t) (IsNonDecreasingBy-insert (rank_by l) (map f es) i e
@@ -182,12 +176,12 @@ kept_names : (l : Letters) (es : List Entry) (e : Entry) → IsTreeBy l es → M
 kept_names l es e t may a b d lt short =
     let n : ℕ = place_by l es (rank_by l e) + 1 in
     let stays = moved_below n e.parent (omega (arith, dir_before l es e t may.parent)) in
-    let fresh : (m : ℕ) → 0 < m → m ≤ length es → AreApartBy l (renumbered n (get_or es (m - 1) d)) e =
+    let fresh : (m : ℕ) → 0 < m → m ≤ length es → AreApartBy l (moved_entry n (get_or es (m - 1) d)) e =
     λ m some le p u. may.fresh (m - 1) d (omega arith) (moved_same n (get_or es (m - 1) d).parent e.parent (p ∙ sym stays)) u in
     by_case l es e d (λ j x. j < b → AreApartBy l x (get_or (added_by l es e) b d)) t
     (λ less. by_case l es e d (λ k y. place_by l es (rank_by l e) < k → AreApartBy l e y) t (λ no. absurd (omega arith))
     (λ m some le _ p u. fresh m some le (sym p) (sym u)) b short less)
-    (λ m some le less. by_case l es e d (λ k y. moved n m - 1 < k → AreApartBy l (renumbered n (get_or es (m - 1) d)) y) t (λ _. fresh m some le)
+    (λ m some le less. by_case l es e d (λ k y. moved n m - 1 < k → AreApartBy l (moved_entry n (get_or es (m - 1) d)) y) t (λ _. fresh m some le)
     (λ k some_k le_k order p u.
     t.names (m - 1) (k - 1) d (earlier n m k some order) (omega arith)
     (moved_same n (get_or es (m - 1) d).parent (get_or es (k - 1) d).parent p) u)

@@ -18,10 +18,6 @@ place_is_by l [] r i le h = omega arith
 place_is_by l (e ∷ es) r i le h =
     grind (arith, common_steps, le-ltb, leb-true, lt-ltb, leb-false, position_or_len_is (λ e. nat_lt r (rank_by l e)) (e ∷ es) i e le, nat_lt r (rank_by l e))
 
-pub place_is : (es : List Entry) (r i : ℕ) → i ≤ length es → IsPartitionPoint (λ e. nat_le (rank e) r ≡ true) (λ e. nat_le (rank e) r ≡ false) es i
-    → i ≡ place es r
-place_is = place_is_by Ascii
-
 -- the entries past the new one are changed, and the others stay
 pub inserted_mapped : {X : Type 0} (f : X → X) (xs : List X) (i : ℕ) (y : X) → i ≤ length xs
     → take (i + 1) (insert xs i y) ++ map f (drop (i + 1) (insert xs i y)) ≡ take i xs ++ y ∷ map f (drop i xs)

@@ -58,9 +58,6 @@ AllHaveRoomBy letters additions = (i : ℕ) (d : Addition) → i < length additi
 abbrev pub same_path : List (List ℕ) → List (List ℕ) → Bool
 same_path = same_path_by Ascii
 
-abbrev pub comes_into : List (List ℕ) → ℕ → Addition → Bool
-comes_into = comes_into_by Ascii
-
 abbrev pub IsTreeOf : List Entry → List Addition → Type 0
 IsTreeOf = IsTreeOfBy Ascii
 

@@ -15,8 +15,5 @@ chain_by letters es p s = filter (in_chain_by letters p s) es
 
 -- by ASCII letters
 
-abbrev pub in_chain : ℕ → ℕ → Entry → Bool
-in_chain = in_chain_by Ascii
-
 abbrev pub chain : List Entry → ℕ → ℕ → List Entry
 chain = chain_by Ascii

@@ -24,7 +24,3 @@ pub record Puts (old new : LastChain) (bytes : List ℕ) : Type 0 where
   pub parent : new.parent ≡ old.parent
   pub slot : new.slot ≡ old.slot
   pub names : new.is_known ≡ true → HasMore old.names new.names bytes
-
--- by ASCII letters
-abbrev pub IsOf : LastChain → List Entry → Type 0
-IsOf = IsOfBy Ascii

@@ -73,12 +73,12 @@ abbrev pub moved : ℕ → ℕ → ℕ
 moved n p = if nat_le n p then p + 1 else p
 
 -- an entry after an insertion at number n
-abbrev pub renumbered : ℕ → Entry → Entry
-renumbered n e = record e { parent = moved n e.parent }
+abbrev pub moved_entry : ℕ → Entry → Entry
+moved_entry n e = record e { parent = moved n e.parent }
 
 -- the entries with e inserted after all entries of the same or a lower parent and slot
 abbrev pub added_by : Letters → List Entry → Entry → List Entry
-added_by letters es e = let i = place_by letters es (rank_by letters e) in take i es ++ e ∷ map (renumbered (i + 1)) (drop i es)
+added_by letters es e = let i = place_by letters es (rank_by letters e) in take i es ++ e ∷ map (moved_entry (i + 1)) (drop i es)
 
 -- an entry may be added: its parent is a directory with no entry of its name
 pub record MayAddBy (letters : Letters) (es : List Entry) (e : Entry) : Type 0 where
@@ -179,12 +179,6 @@ IsAnswer room r = MatchResult r (λ _. IsOk room) (λ f. MatchResult room (λ _.
 
 -- by ASCII letters
 
-abbrev pub rank : Entry → ℕ
-rank = rank_by Ascii
-
-abbrev pub AreApart : Entry → Entry → Type 0
-AreApart = AreApartBy Ascii
-
 abbrev pub IsTree : List Entry → Type 0
 IsTree = IsTreeBy Ascii
 
@@ -194,14 +188,8 @@ is_child = is_child_by Ascii
 abbrev pub child : List Entry → ℕ → List ℕ → Option ℕ
 child = child_by Ascii
 
-abbrev pub place : List Entry → ℕ → ℕ
-place = place_by Ascii
-
 abbrev pub added : List Entry → Entry → List Entry
 added = added_by Ascii
-
-abbrev pub MayAdd : List Entry → Entry → Type 0
-MayAdd = MayAddBy Ascii
 
 abbrev pub find_from : List Entry → ℕ → List (List ℕ) → Option ℕ
 find_from = find_from_by Ascii
@@ -220,9 +208,6 @@ room_for = room_for_by Ascii
 
 abbrev pub new_entry : List Entry → List (List ℕ) → Meta → Body → Entry
 new_entry = new_entry_by Ascii
-
-abbrev pub IsLast : List Entry → Entry → Type 0
-IsLast = IsLastBy Ascii
 
 abbrev pub with_entry : Tree → List (List ℕ) → Meta → Body → Tree
 with_entry = with_entry_by Ascii

@@ -2,7 +2,7 @@
 
 ghost use Rattle.std.specs.Prelude.{◌≡◌, ◌≤◌, ◌<◌, length, map, take, drop, nat_lt, nat_le, ℕ, ◌+◌, ◌^◌, slice_index_or, if◌then◌else◌, is_ok, IfErr, ◌++◌, true, false};
 ghost use Rattle.std.specs.List.Sorted.{IsNonDecreasingBy, IsPartitionPoint};
-ghost use Rattle.adf_tree.specs.Tree.{added_by, place_by, rank_by, rank_of, renumbered, IsTreeBy};
+ghost use Rattle.adf_tree.specs.Tree.{added_by, place_by, rank_by, rank_of, moved_entry, IsTreeBy};
 
 use crate::entry::{Entry, Node};
 use crate::tree::AddFault;
@@ -48,7 +48,7 @@ pub fn place_of(letters: Letters, entries: &[Entry], parent: Node, slot: u8) -> 
 // Adds 1 to the parent if it is at least `from`.
 fn renumber_entry(e: &mut Entry, from: Node)
     requires { e.old.parent + 1 < 2 ^ 64 }
-    ensures { e.new ≡ renumbered from e.old }
+    ensures { e.new ≡ moved_entry from e.old }
 {
     if from.0 <= e.parent.0 {
         e.parent = Node(e.parent.0 + 1);
@@ -59,7 +59,7 @@ fn renumber_entry(e: &mut Entry, from: Node)
 fn renumber_all(entries: &mut [Entry], from: Node)
     requires { (i : ℕ) (d : Entry) → i < length entries.old
         → (slice_index_or entries.old i d).parent + 1 < 2 ^ 64 }
-    ensures { entries.new ≡ map (renumbered from) entries.old }
+    ensures { entries.new ≡ map (moved_entry from) entries.old }
 {
     for e in entries.iter_mut() {
         renumber_entry(e, from);
@@ -72,7 +72,7 @@ fn renumber(entries: &mut [Entry], at: usize)
     requires parents { (i : ℕ) (d : Entry) → at < i → i < length entries.old
         → (slice_index_or entries.old i d).parent < i }
     ensures { entries.new
-        ≡ take (at + 1) entries.old ++ map (renumbered (at + 1)) (drop (at + 1) entries.old) }
+        ≡ take (at + 1) entries.old ++ map (moved_entry (at + 1)) (drop (at + 1) entries.old) }
 {
     let count = entries.len();
     renumber_all(&mut entries[at + 1..count], Node(at + 1));

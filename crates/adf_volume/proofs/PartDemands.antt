@@ -19,10 +19,3 @@ pub record PartHoldsBy (l : Letters) (image : List ℕ) (w : Walk) (r : Role) (b
 pub part_holds_by : (l : Letters) (image : List ℕ) (w : Walk) (r : Role) (a b : ℕ) → AllHold (demands_by l image w r a b)
     → PartHoldsBy l image w r b
 part_holds_by l image w r a b n = grind (arith, common_steps, all_split)
-
--- the same on volumes of types 0 and 1
-abbrev pub PartHolds : List ℕ → Walk → Role → ℕ → Type 0
-PartHolds = PartHoldsBy Ascii
-
-pub part_holds : (image : List ℕ) (w : Walk) (r : Role) (a b : ℕ) → NoCause image w r a b → PartHolds image w r b
-part_holds = part_holds_by Ascii

@@ -23,10 +23,6 @@ nodes_from_by letters n [] p s = []
 nodes_from_by letters n (e ∷ es) p s =
     cond (in_chain_by letters p s e) (n ∷ nodes_from_by letters (suc n) es p s) (nodes_from_by letters (suc n) es p s)
 
--- the same on volumes of types 0 and 1
-abbrev pub nodes_from : ℕ → List Entry → ℕ → ℕ → List ℕ
-nodes_from = nodes_from_by Ascii
-
 -- the chain of slot s of directory p, as the numbers of its entries; names have these letters
 abbrev pub chain_nodes_by : Letters → Tree → ℕ → ℕ → List ℕ
 chain_nodes_by letters t p s = nodes_from_by letters 1 t.entries p s

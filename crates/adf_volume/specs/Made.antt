@@ -57,10 +57,6 @@ push_ext n r b bs = cond (is_ext_of n r) (bs ++ b ∷ []) bs
 abbrev pub datas_in : Walk → ℕ → List ℕ
 datas_in w n = picked (is_data_of n) w
 
--- the list with the block appended if it is a data block of file n
-abbrev pub push_data : ℕ → Role → ℕ → List ℕ → List ℕ
-push_data n r b bs = cond (is_data_of n r) (bs ++ b ∷ []) bs
-
 -- the body of node n, with its header at block b
 abbrev pub body_in : List ℕ → Walk → ℕ → ℕ → Body
 body_in image w n b = cond (word_in image b SECONDARY_TYPE == ST_DIR) Dir (File (content image (kind_of image) b (datas_in w n)))

@@ -228,14 +228,6 @@ demands_by letters image w r a b =
 abbrev pub demands : List ℕ → Walk → Role → ℕ → ℕ → List Demand
 demands = demands_by Ascii
 
--- the forms on volumes of types 0 and 1
-abbrev pub form_demands : List ℕ → Walk → Role → ℕ → List Demand
-form_demands = form_demands_by Ascii
-
--- and their new names
-abbrev pub NewName : List ℕ → Walk → Role → ℕ → Type 0
-NewName = NewNameBy Ascii
-
 -- each demand of the role holds; names have these letters
 abbrev pub NoCauseBy : Letters → List ℕ → Walk → Role → ℕ → ℕ → Type 0
 NoCauseBy letters image w r a b = AllHold (demands_by letters image w r a b)

@@ -54,17 +54,17 @@ abbrev pub owner_kept : List NodeStart → KeptOwner → Owner
 owner_kept starts kept = owner_with starts kept.class kept.place
 
 -- the place of an owner in the list of its class, where those of extension blocks and data blocks are given
-abbrev pub place_by : (ℕ → ℕ → ℕ) → (ℕ → ℕ → ℕ) → Owner → ℕ
-place_by ext_at data_at (owner.Page k) = k
-place_by ext_at data_at (owner.MapExt k) = k
-place_by ext_at data_at (owner.Head n) = n
-place_by ext_at data_at (owner.Ext n k) = ext_at n k
-place_by ext_at data_at (owner.Data n k) = data_at n k
-place_by ext_at data_at _ = 0
+abbrev pub place_in_class : (ℕ → ℕ → ℕ) → (ℕ → ℕ → ℕ) → Owner → ℕ
+place_in_class ext_at data_at (owner.Page k) = k
+place_in_class ext_at data_at (owner.MapExt k) = k
+place_in_class ext_at data_at (owner.Head n) = n
+place_in_class ext_at data_at (owner.Ext n k) = ext_at n k
+place_in_class ext_at data_at (owner.Data n k) = data_at n k
+place_in_class ext_at data_at _ = 0
 
 -- what is kept of an owner, where the places of extension blocks and data blocks are given
 abbrev pub kept_by : (ℕ → ℕ → ℕ) → (ℕ → ℕ → ℕ) → Owner → KeptOwner
-kept_by ext_at data_at o = record { class = class_of o; place = place_by ext_at data_at o }
+kept_by ext_at data_at o = record { class = class_of o; place = place_in_class ext_at data_at o }
 
 -- what is kept of an owner: of an extension block or a data block, its place among those of all files
 abbrev pub kept_as : List NodeStart → Owner → KeptOwner

@@ -1,5 +1,6 @@
 use Rattle.std.specs.Prelude.{◌≡◌, ◌&&◌, ℕ, not, drop}
-use Rattle.adf_findings.specs.Marks.{has_mark, is_blamed}
+use Rattle.adf_findings.specs.Marks.{is_blamed}
+use Rattle.adf_findings.specs.Members.{has_mark}
 use Rattle.adf_findings.proofs.marks.strike_blamed.Given as goal
 
 abbrev pub invariant-loop-finding : goal.invariant-loop-finding

@@ -2,7 +2,8 @@ use Rattle.std.proofs.Common.{Bool, map, not, ◌≡◌, ◌&&◌, ◌++◌, ◌
 use Rattle.std.specs.List.{filter}
 use Rattle.adf_findings.specs.declared.finding.Finding.{Finding}
 use Rattle.adf_findings.specs.Files.{is_light}
-use Rattle.adf_findings.specs.Marks.{blamed, has_mark, is_blamed, is_undoubted}
+use Rattle.adf_findings.specs.Marks.{blamed, is_blamed, is_undoubted}
+use Rattle.adf_findings.specs.Members.{has_mark}
 use Rattle.adf_findings.specs.Parts.{finding_value}
 use Rattle.adf_findings.specs.Start.{boot_findings, root_findings}
 use Rattle.adf_findings.specs.Survey.IsCourse.{start}

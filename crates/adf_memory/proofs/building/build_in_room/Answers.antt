@@ -1,6 +1,6 @@
 use Rattle.std.proofs.Common.{◌≡◌, ◌≤◌, ◌*◌, arith, length}
 use Rattle.std.proofs.lemmas.Grind.{common_steps}
-use Rattle.adf_memory.specs.Building.{IsSound, new_tree}
+use Rattle.adf_memory.specs.Building.{IsSoundVolume, new_tree}
 use Rattle.adf_memory.proofs.Refusals.{build_refusal, in_front, wide_room}
 use Rattle.adf_memory.proofs.building.build_in_room.Goals as goal
 
@@ -22,7 +22,7 @@ returns-in-Ok-clause-volume c =
 
 pub returns-clause-fault : goal.returns-clause-fault
 returns-clause-fault c =
-    let sound : IsSound c.args.volume.now c.args.contents.now c.args.additions.now = record {
+    let sound : IsSoundVolume c.args.volume.now c.args.contents.now c.args.additions.now = record {
       kind = c.in_ok-draft.ensures.sound.0;
       label = c.in_ok-draft.ensures.sound.1;
       additions = c.in_ok-tree.ensures.sound;

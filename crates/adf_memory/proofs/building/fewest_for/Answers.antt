@@ -1,5 +1,5 @@
 use Rattle.std.proofs.lemmas.Result.{IfErr-weaker}
-use Rattle.adf_memory.specs.Building.{ExplainsNeed, IsFullAtMost, IsSound, new_tree}
+use Rattle.adf_memory.specs.Building.{ExplainsNeed, IsFullAtMost, IsSoundVolume, new_tree}
 use Rattle.adf_memory.specs.declared.building.Refusal.{Refusal}
 use Rattle.adf_memory.proofs.Refusals.{need_refusal}
 use Rattle.adf_memory.proofs.building.fewest_for.Goals as goal
@@ -13,7 +13,7 @@ returns-clause-fewest c = rw (c.in_ok-tree.ensures.tree (new_tree c.args.volume.
 
 pub returns-clause-fault : goal.returns-clause-fault
 returns-clause-fault c =
-    let sound : IsSound c.args.volume.now c.args.contents.now c.args.additions.now = record {
+    let sound : IsSoundVolume c.args.volume.now c.args.contents.now c.args.additions.now = record {
       kind = c.in_ok-draft.ensures.sound.0;
       label = c.in_ok-draft.ensures.sound.1;
       additions = c.in_ok-tree.ensures.sound;

@@ -1,7 +1,7 @@
 use Rattle.std.proofs.Common.{List, Err, take, sym, get_or}
 use Rattle.std.proofs.lemmas.Result.{IfErr-weaker, on_ok_weaker}
 use Rattle.adf_tree.specs.Tree.{Tree}
-use Rattle.adf_memory.specs.TableAdditions.{IsNext, IsNotAdded}
+use Rattle.adf_memory.specs.TableAdditions.{IsNextAddition, IsNotAdded}
 use Rattle.adf_memory.specs.declared.table_additions.NotAdded.{NotAdded}
 use Rattle.adf_memory.specs.declared.table_additions.TableAddition.{TableAddition}
 use Rattle.adf_memory.proofs.TableDrafts.{directory_fault, next_is, next_more}
@@ -25,7 +25,7 @@ returns-in-Ok-clause-sound c = on_ok_weaker c.add_in.result (λ none y.
 pub returns-in-Ok-clause-fault : goal.returns-in-Ok-clause-fault
 returns-in-Ok-clause-fault c = IfErr-weaker c.add_in.result
     (λ (e : NotAdded). (t : Tree) (before : List TableAddition)
-    → IsNext t c.args.contents.now before c.addition_at-addition.result.now c.in-Ok.directory c.args.draft.now
+    → IsNextAddition t c.args.contents.now before c.addition_at-addition.result.now c.in-Ok.directory c.args.draft.now
     → IsNotAdded c.args.contents.now before c.addition_at-addition.result.now e)
     (λ (e : NotAdded). (y : TableAddition) → IsNotAdded c.args.contents.now (take c.args.i c.args.additions.now)
     (get_or c.args.additions.now c.args.i y) e)

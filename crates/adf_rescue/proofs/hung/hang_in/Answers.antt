@@ -1,7 +1,7 @@
 use Rattle.std.proofs.Common.{◌≡◌, ◌∙◌, arith, false, true}
 use Rattle.std.proofs.lemmas.Grind.{common_steps}
 use Rattle.adf_volume.specs.Image.{word_in}
-use Rattle.adf_findings.specs.Found.{owns}
+use Rattle.adf_findings.specs.Members.{owns}
 use Rattle.adf_rescue.specs.Hung.{slot_word}
 use Rattle.adf_rescue.proofs.HungImages.{hung_at_end, not_hung}
 use Rattle.adf_rescue.proofs.hung.hang_in.Goals as goal
