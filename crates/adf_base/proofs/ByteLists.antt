@@ -3,8 +3,7 @@
 use Rattle.std.proofs.Common.{◌<◌, ◌^◌, ◌*◌, ◌+◌, ◌++◌, ℕ, zero, suc, List, [], ◌∷◌, inl, inr, length, take, drop, slice_index, slice_range, arith}
 use Rattle.std.specs.List.{All, flat_map}
 use Rattle.std.proofs.lemmas.Bool.{cases_lt}
-use Rattle.std.proofs.lemmas.List.{get_or_past}
-use Rattle.std.proofs.lemmas.List.Elements.{All-append, All-cons, All-drop, All-nil, All-take}
+use Rattle.std.proofs.lemmas.List.{get_or_past, Elements.All-append, Elements.All-cons, Elements.All-drop, Elements.All-nil, Elements.All-take}
 use Rattle.std.specs.Int.{byte_at, bytes_high_first}
 use Rattle.byteorder.specs.Endian.{big_bytes}
 use Rattle.adf_base.specs.Words.{block, checksum, sealed, with_block, with_bytes, with_word, word}

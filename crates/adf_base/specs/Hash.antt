@@ -1,7 +1,6 @@
 -- The hash of a name.
 use Rattle.std.specs.Prelude.{ℕ, ◌+◌, ◌-◌, ◌*◌, ◌%◌, ◌==◌, ◌&&◌, ◌||◌, not, nat_le, if◌then◌else◌, Bool, List, length, fold}
-use Rattle.adf_base.specs.declared.hash.Letters.{Letters}
-use Rattle.adf_base.specs.declared.hash.Letters.TheVariants.{Ascii, International}
+use Rattle.adf_base.specs.declared.hash.Letters.{Letters, TheVariants.Ascii, TheVariants.International}
 
 -- a to z (97 to 122) as A to Z
 abbrev pub upper_of : ℕ → ℕ

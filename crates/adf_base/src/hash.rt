@@ -1,8 +1,7 @@
 // The hash of a name.
 
 ghost use Rattle.std.specs.Prelude.{◌≡◌, ◌<◌, ◌≤◌, length};
-ghost use Rattle.adf_base.specs.Hash.{has_upper, slot_by, slot_international, slot_of};
-ghost use Rattle.adf_base.specs.Hash.{upper_by, upper_international, upper_of};
+ghost use Rattle.adf_base.specs.Hash.{has_upper, slot_by, slot_international, slot_of, upper_by, upper_international, upper_of};
 
 /// The letters of which case is ignored in the names of a volume.
 #[derive(Clone, Copy, Debug, PartialEq, Eq)]

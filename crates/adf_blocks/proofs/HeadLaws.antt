@@ -1,7 +1,6 @@
 -- The fields of a written header.
 use Rattle.std.proofs.Common.{◌≡◌, ◌≤◌, ◌<◌, ℕ, ◌+◌, ◌-◌, ◌*◌, ◌^◌, List, length, refl, ap, ◌∙◌, arith, rules, true, None, not, slice_index}
-use Rattle.std.proofs.lemmas.Bool.{eq-eqb, le-leb}
-use Rattle.std.proofs.lemmas.Bool.Decides.{nat_tests}
+use Rattle.std.proofs.lemmas.Bool.{eq-eqb, le-leb, Decides.nat_tests}
 use Rattle.std.proofs.lemmas.List.{length-reverse}
 use Rattle.std.proofs.Math.Bool.{or-true}
 use Rattle.std.proofs.lemmas.Grind.{common_steps}
@@ -17,13 +16,12 @@ use Rattle.adf_blocks.specs.declared.layout.TheConstants.{CHECKSUM, COMMENT, DAT
 use Rattle.adf_blocks.specs.declared.layout.TheConstants.{OWN_KEY, PARENT, POINTERS, PROTECTION, SECONDARY_TYPE, SIZE, SLOTS, ST_DIR, TYPE, T_SHORT}
 use Rattle.adf_blocks.specs.Fields.{Descends, long}
 use Rattle.adf_base.specs.Dates.{IsStamp}
-use Rattle.adf_blocks.specs.HeadBlock.{BodyFields, FitsBody, FitsBodyWords, FitsHead, HeadFields, head_block, head_form, head_table}
-use Rattle.adf_blocks.specs.HeadBlock.{body_at, body_stated, ext_of, first_of, has_first, has_type, is_link, is_name_at, meta_at, secondary_of, size_of}
-use Rattle.adf_blocks.specs.HeadBlock.{table_of}
+use Rattle.adf_blocks.specs.HeadBlock.{BodyFields, FitsBody, FitsBodyWords, FitsHead, HeadFields, head_block, head_form, head_table, body_at, body_stated}
+use Rattle.adf_blocks.specs.HeadBlock.{ext_of, first_of, has_first, has_type, is_link, is_name_at, meta_at, secondary_of, size_of, table_of}
 use Rattle.adf_blocks.specs.HeadBlock.BodyFields.{DirFields, FileFields}
 use Rattle.adf_blocks.proofs.ClauseLaws.{no_cause}
-use Rattle.adf_blocks.proofs.FieldLaws.{length_sealed_fields, long_number, number_of_field, numbers_of_field, pointer_number, stamp_of_field}
-use Rattle.adf_blocks.proofs.FieldLaws.{sum_of_fields, text_of_field, word_of_field}
+use Rattle.adf_blocks.proofs.FieldLaws.{length_sealed_fields, long_number, number_of_field, numbers_of_field, pointer_number, stamp_of_field, sum_of_fields}
+use Rattle.adf_blocks.proofs.FieldLaws.{text_of_field, word_of_field}
 
 -- a name has at most 30 bytes
 pub name_short : (bs : List ℕ) → is_name bs ≡ true → length bs ≤ 30

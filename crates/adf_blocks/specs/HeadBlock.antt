@@ -1,20 +1,16 @@
 -- The headers of directories and files.
-use Rattle.std.specs.Prelude.{◌≡◌, ◌≤◌, ◌<◌, ◌*◌, ◌^◌, ℕ, ◌==◌, if◌then◌else◌, ◌&&◌, ◌||◌, not, nat_le, Bool, true, false, List, [], ◌∷◌, length}
-use Rattle.std.specs.Prelude.{slice_index, take}
+use Rattle.std.specs.Prelude.{◌≡◌, ◌≤◌, ◌<◌, ◌*◌, ◌^◌, ℕ, ◌==◌, if◌then◌else◌, ◌&&◌, ◌||◌, not, nat_le, Bool, true, false, List, [], ◌∷◌, length, slice_index}
+use Rattle.std.specs.Prelude.{take}
 use Rattle.adf_base.specs.Words.{word, long_sum, sealed}
 use Rattle.adf_base.specs.Hash.{slot_by}
-use Rattle.adf_base.specs.declared.hash.Letters.{Letters}
-use Rattle.adf_base.specs.declared.hash.Letters.TheVariants.{Ascii}
+use Rattle.adf_base.specs.declared.hash.Letters.{Letters, TheVariants.Ascii}
 use Rattle.adf_names.specs.Texts.{is_name}
-use Rattle.adf_names.specs.declared.kind.Kind.{Kind}
-use Rattle.adf_names.specs.declared.kind.Kind.TheVariants.{Ofs, Ffs}
+use Rattle.adf_names.specs.declared.kind.Kind.{Kind, TheVariants.Ofs, TheVariants.Ffs}
 use Rattle.adf_blocks.specs.declared.cause.Cause.TheVariants.{BadSum, BadType, Link, BadOwnKey, BadParent, BadName, BadComment, WrongSlot, BadFirst}
 use Rattle.adf_names.specs.declared.meta.Meta.{Meta}
-use Rattle.adf_blocks.specs.declared.head.HeadBody.{HeadBody}
-use Rattle.adf_blocks.specs.declared.head.HeadBody.TheVariants.{Dir, File}
+use Rattle.adf_blocks.specs.declared.head.HeadBody.{HeadBody, TheVariants.Dir, TheVariants.File}
 use Rattle.adf_blocks.specs.declared.head_out.HeadOut.{HeadOut}
-use Rattle.adf_blocks.specs.declared.head_out.HeadOutBody.{HeadOutBody}
-use Rattle.adf_blocks.specs.declared.head_out.HeadOutBody.TheVariants.{Dir as DirOut, File as FileOut}
+use Rattle.adf_blocks.specs.declared.head_out.HeadOutBody.{HeadOutBody, TheVariants.Dir as DirOut, TheVariants.File as FileOut}
 use Rattle.adf_blocks.specs.declared.layout.TheConstants.{CHECKSUM, COMMENT, DATE, EXTENSION, FIRST_DATA, FIRST_POINTER, FIRST_SLOT, NAME, NEXT_IN_CHAIN}
 use Rattle.adf_blocks.specs.declared.layout.TheConstants.{OWN_KEY, PARENT, POINTERS, POINTER_COUNT, PROTECTION, SECONDARY_TYPE, SIZE, SLOTS, ST_DIR, ST_FILE}
 use Rattle.adf_blocks.specs.declared.layout.TheConstants.{ST_LINK_DIR, ST_LINK_FILE, ST_SOFT_LINK, TYPE, T_SHORT}

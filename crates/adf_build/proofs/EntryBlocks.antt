@@ -11,8 +11,7 @@ use Rattle.adf_tree.specs.declared.entry.Body.TheVariants.{Dir}
 use Rattle.adf_tree.specs.Tree.{Tree}
 use Rattle.adf_blocks.specs.declared.layout.TheConstants.{FIRST_SLOT, NEXT_IN_CHAIN, SLOTS}
 use Rattle.adf_blocks.specs.Sizes.{middle}
-use Rattle.adf_blocks.specs.HeadBlock.{FitsHead, head_block}
-use Rattle.adf_blocks.specs.HeadBlock.BodyFields.{DirFields}
+use Rattle.adf_blocks.specs.HeadBlock.{FitsHead, head_block, BodyFields.DirFields}
 use Rattle.adf_blocks.proofs.HeadLaws.{head_block-next, head_block-slot}
 use Rattle.adf_blocks.proofs.RootLaws.{root_block-slot}
 use Rattle.adf_volume.specs.Lists.{At, Spelled}

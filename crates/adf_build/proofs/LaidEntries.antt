@@ -13,8 +13,7 @@ use Rattle.adf_tree.specs.Tree.{Tree}
 use Rattle.adf_blocks.specs.Sizes.{chunk, count}
 use Rattle.adf_blocks.specs.declared.layout.TheConstants.{EXTENSION, FIRST_POINTER, NAME, POINTERS, SECONDARY_TYPE, SIZE}
 use Rattle.adf_blocks.specs.Forms.{text_at}
-use Rattle.adf_blocks.specs.HeadBlock.{HeadFields, meta_at, secondary_of, ext_of, head_form, head_form_by}
-use Rattle.adf_blocks.specs.HeadBlock.BodyFields.{FileFields}
+use Rattle.adf_blocks.specs.HeadBlock.{HeadFields, meta_at, secondary_of, ext_of, head_form, head_form_by, BodyFields.FileFields}
 use Rattle.adf_blocks.proofs.HeadLaws.{head_block-form, head_block-name, head_block-meta, head_block-secondary, head_block-size, head_block-ext}
 use Rattle.adf_blocks.proofs.HeadLaws.{head_block-pointer}
 use Rattle.adf_blocks.proofs.FieldLaws.{long_number}

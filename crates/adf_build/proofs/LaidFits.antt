@@ -1,8 +1,7 @@
 -- A built volume fits its tree.
-use Rattle.std.proofs.Common.{◌≡◌, ℕ, zero, suc, List, [], ◌∷◌, ◌+◌, ◌-◌, ◌*◌, ◌/◌, ◌%◌, ◌^◌, ◌<◌, ◌≤◌, length, map, refl, sym, ap, subst, ◌∙◌, arith}
-use Rattle.std.proofs.Common.{Bool, true, false, cond, slice_index, None, ◌↔◌, ◌==◌, IsBitSet}
+use Rattle.std.proofs.Common.{◌≡◌, ℕ, zero, suc, List, [], ◌∷◌, ◌+◌, ◌-◌, ◌*◌, ◌/◌, ◌%◌, ◌^◌, ◌<◌, ◌≤◌, length, map, refl, sym, ap, subst, ◌∙◌, arith, Bool}
+use Rattle.std.proofs.Common.{true, false, cond, slice_index, None, ◌↔◌, ◌==◌, IsBitSet}
 use Rattle.std.specs.List.{range_with_len}
-use Rattle.std.proofs.lemmas.Bool.Decides.{nat_tests}
 use Rattle.std.proofs.lemmas.Nat.{bit_set_by_shift, and_mask}
 use Rattle.adf_tree.specs.declared.entry.Body.TheVariants.{File}
 use Rattle.std.proofs.lemmas.List.FromFn.{get_or-map-range_with_len, get_or-range_with_len, length-map-range_with_len, length-range_with_len}
@@ -40,11 +39,11 @@ use Rattle.adf_build.proofs.AllocatedBlocks.{reserved_below}
 use Rattle.adf_build.proofs.Parts.{part_held}
 use Rattle.adf_build.proofs.Planned.{owned_blocks, planned_once, planned_range}
 use Rattle.adf_build.proofs.Bits.{bit_of, bits_small, owned_used, used_owned}
-use Rattle.adf_build.proofs.LaidWrites.{CanHold, can_hold, four, small, listed_few, reserved_parts, fits_root, volume_long, volume_blocks}
-use Rattle.adf_build.proofs.LaidWrites.{holds_map_exts, holds_pages, holds_root, holds_boot}
+use Rattle.adf_build.proofs.LaidWrites.{CanHold, can_hold, four, small, listed_few, reserved_parts, fits_root, volume_long, volume_blocks, holds_map_exts}
+use Rattle.adf_build.proofs.LaidWrites.{holds_pages, holds_root, holds_boot}
 use Rattle.adf_build.proofs.EntryBlocks.{standing, chain_laid, root_slot, dir_slot}
 use Rattle.adf_build.proofs.LaidEntries.{entry_laid, file_laid}
-use Rattle.std.proofs.lemmas.Bool.{false_from_ne_true, true≢false}
+use Rattle.std.proofs.lemmas.Bool.{false_from_ne_true, true≢false, Decides.nat_tests}
 use Rattle.std.proofs.lemmas.Grind.{common_steps}
 
 boot_holds : (letters : Letters) (kind : Kind) → first_cause (boot_form_by letters (block_of_fields ((0, boot_bytes_by letters kind) ∷ []))) ≡ None

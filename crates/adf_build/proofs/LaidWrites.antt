@@ -2,8 +2,7 @@
 use Rattle.std.proofs.Common.{◌≡◌, ℕ, zero, suc, List, [], ◌∷◌, ◌++◌, inl, inr, ◌+◌, ◌-◌, ◌*◌, ◌^◌, ◌<◌, ◌≤◌, length, refl, sym, subst, arith, true}
 use Rattle.std.proofs.Common.{append_assoc, slice_index, replicate}
 use Rattle.std.specs.List.{range_with_len}
-use Rattle.std.proofs.lemmas.List.{length-replicate}
-use Rattle.std.proofs.lemmas.List.FromFn.{length-map-range_with_len, length-range_with_len}
+use Rattle.std.proofs.lemmas.List.{length-replicate, FromFn.length-map-range_with_len, FromFn.length-range_with_len}
 use Rattle.std.proofs.lemmas.Grind.{common_steps}
 use Rattle.adf_base.specs.declared.hash.Letters.{Letters}
 use Rattle.adf_base.specs.Words.{block}
@@ -27,8 +26,8 @@ use Rattle.adf_volume.proofs.DistinctBlocks.{Distinct, distinct-append}
 use Rattle.adf_build.specs.Plan.{reserved, entry_blocks, entries_blocks, blocks_needed, allocated}
 use Rattle.adf_build.specs.Bits.{bits_from, is_free_bit, page_words}
 use Rattle.adf_build.specs.Writes.{AreBlocks, NoneTwice, HoldsBlocks, numbers_of}
-use Rattle.adf_build.specs.Laid.{IsLaid, IsWellFormed, boot_bytes_by, entries_writes, heads_from, listed_pages, map_ext_or_none}
-use Rattle.adf_build.specs.Laid.{map_ext_part, map_ext_writes, node_blocks, page_part, page_writes, planned_root, volume, writes}
+use Rattle.adf_build.specs.Laid.{IsLaid, IsWellFormed, boot_bytes_by, entries_writes, heads_from, listed_pages, map_ext_or_none, map_ext_part, map_ext_writes}
+use Rattle.adf_build.specs.Laid.{node_blocks, page_part, page_writes, planned_root, volume, writes}
 use Rattle.adf_build.proofs.AllocatedBlocks.{free_from, free_below, free_apart, reserved_below, in_allocated, in_range, distinct_allocated, distinct_range}
 use Rattle.adf_build.proofs.AllocatedBlocks.{range_with_len-append}
 use Rattle.adf_build.proofs.BlockWrites.{length-with_blocks}

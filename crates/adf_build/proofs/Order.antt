@@ -1,13 +1,10 @@
 -- The order of entries, and the chains that result.
-use Rattle.std.proofs.Common.{◌≡◌, ◌≤◌, ◌<◌, ◌≢◌, ◌+◌, ◌*◌, ℕ, zero, suc, List, [], ◌∷◌, refl, sym, ap, subst, ◌∙◌, arith, false, length, drop}
-use Rattle.std.proofs.Common.{inl, inr, get_or-set_other, get_or-set_same, ◌==◌, ◌&&◌, slice_index, slice_index_or, replicate}
-use Rattle.std.specs.List.{AllWithin}
-use Rattle.std.specs.List.Sorted.{IsNonDecreasingBy}
+use Rattle.std.proofs.Common.{◌≡◌, ◌≤◌, ◌<◌, ◌≢◌, ◌+◌, ◌*◌, ℕ, zero, suc, List, [], ◌∷◌, refl, sym, ap, subst, ◌∙◌, arith, false, length, drop, inl, inr}
+use Rattle.std.proofs.Common.{get_or-set_other, get_or-set_same, ◌==◌, ◌&&◌, slice_index, slice_index_or, replicate}
+use Rattle.std.specs.List.{AllWithin, Sorted.IsNonDecreasingBy}
 use Rattle.std.proofs.Math.ListN.{set}
-use Rattle.std.proofs.lemmas.Bool.{cases_eq, cases_lt}
-use Rattle.std.proofs.lemmas.Bool.Decides.{nat_tests}
-use Rattle.std.proofs.lemmas.List.{drop_all, get_or-replicate}
-use Rattle.std.proofs.lemmas.List.FromFn.{fill_by_all}
+use Rattle.std.proofs.lemmas.Bool.{cases_eq, cases_lt, Decides.nat_tests}
+use Rattle.std.proofs.lemmas.List.{drop_all, get_or-replicate, FromFn.fill_by_all}
 use Rattle.std.proofs.lemmas.Grind.{common_steps}
 use Rattle.adf_base.specs.Hash.{slot_by}
 use Rattle.adf_base.specs.declared.hash.Letters.{Letters}

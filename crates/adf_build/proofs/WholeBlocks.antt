@@ -1,6 +1,5 @@
 -- Each built part is a whole block in the volume.
-use Rattle.std.proofs.Common.{◌≡◌, ℕ, suc, List, [], ◌∷◌, ◌++◌, ◌+◌, ◌*◌, ◌^◌, ◌<◌, ◌≤◌, length, take, drop, refl, arith, true, length-take}
-use Rattle.std.proofs.Common.{slice_index}
+use Rattle.std.proofs.Common.{◌≡◌, ℕ, suc, List, [], ◌∷◌, ◌++◌, ◌+◌, ◌*◌, ◌^◌, ◌<◌, ◌≤◌, length, take, drop, refl, arith, true, length-take, slice_index}
 use Rattle.std.proofs.lemmas.Bool.Decides.{nat_tests}
 use Rattle.std.proofs.lemmas.List.FromFn.{length-map-range_with_len}
 use Rattle.std.proofs.lemmas.Grind.{common_steps}
@@ -21,8 +20,8 @@ use Rattle.adf_blocks.specs.Sizes.{chunk, count}
 use Rattle.adf_volume.specs.Lists.{At}
 use Rattle.adf_build.specs.Plan.{exts_needed, data_blocks, entry_blocks, entries_blocks, nth_free}
 use Rattle.adf_build.specs.Writes.{AreBlocks}
-use Rattle.adf_build.specs.Laid.{body_writes, data_bytes, data_part, data_writes, entries_writes, ext_part, ext_writes, node_blocks}
-use Rattle.adf_build.specs.Laid.{nth_free_or_none, planned_body, planned_data, planned_ext, planned_head, planned_spot, slots_by}
+use Rattle.adf_build.specs.Laid.{body_writes, data_bytes, data_part, data_writes, entries_writes, ext_part, ext_writes, node_blocks, nth_free_or_none}
+use Rattle.adf_build.specs.Laid.{planned_body, planned_data, planned_ext, planned_head, planned_spot, slots_by}
 use Rattle.adf_build.proofs.Parts.{are_parts}
 use Rattle.adf_build.proofs.AllocatedBlocks.{free_from, length_allocated}
 

@@ -15,14 +15,13 @@ use Rattle.adf_blocks.specs.declared.layout.TheConstants.{POINTERS, ROOT_PAGES}
 use Rattle.adf_blocks.specs.Sizes.{chunk, count, middle, pages_needed}
 use Rattle.adf_blocks.specs.ExtBlock.{ext_block}
 use Rattle.adf_blocks.specs.Fields.{block_of_fields}
-use Rattle.adf_blocks.specs.HeadBlock.{head_block}
-use Rattle.adf_blocks.specs.HeadBlock.BodyFields.{FileFields}
+use Rattle.adf_blocks.specs.HeadBlock.{head_block, BodyFields.FileFields}
 use Rattle.adf_blocks.specs.RootBlock.{root_block}
 use Rattle.adf_volume.specs.Layout.{nodes_from_by}
 use Rattle.adf_build.specs.Writes.{with_blocks}
-use Rattle.adf_build.specs.Laid.{boot_bytes_by, data_bytes, data_part, data_writes, entries_writes, entry_writes, ext_part, ext_writes, first_block, planned_head}
-use Rattle.adf_build.specs.Laid.{heads_from, map_ext_or_none, map_ext_writes, node_blocks, nth_free_or_none, page_writes, planned_root, planned_spot}
-use Rattle.adf_build.specs.Laid.{slots_by, writes}
+use Rattle.adf_build.specs.Laid.{boot_bytes_by, data_bytes, data_part, data_writes, entries_writes, entry_writes, ext_part, ext_writes, first_block}
+use Rattle.adf_build.specs.Laid.{planned_head, heads_from, map_ext_or_none, map_ext_writes, node_blocks, nth_free_or_none, page_writes, planned_root}
+use Rattle.adf_build.specs.Laid.{planned_spot, slots_by, writes}
 use Rattle.adf_build.specs.Plan.{allocated, data_blocks, entries_blocks, entry_blocks, exts_needed, nth_free}
 use Rattle.adf_build.specs.declared.heads.Spot.{Spot}
 use Rattle.adf_build.proofs.BlockWrites.{with_blocks-append}

@@ -4,8 +4,7 @@ use Rattle.std.specs.Fmt.{decimal}
 use Rattle.adf_tree.specs.Tree.{Tree}
 use Rattle.adf_blocks.specs.Sizes.{is_allowed}
 use Rattle.adf_build.specs.Plan.{blocks_needed}
-use Rattle.adf_build.specs.declared.builder.BuildFault.{BuildFault}
-use Rattle.adf_build.specs.declared.builder.BuildFault.TheVariants.{BadSize, Full, NoMemory}
+use Rattle.adf_build.specs.declared.builder.BuildFault.{BuildFault, TheVariants.BadSize, TheVariants.Full, TheVariants.NoMemory}
 
 -- the number of blocks that the tree needs in a volume of n blocks, at most 2^64 - 1
 abbrev pub need_of : Tree → ℕ → ℕ

@@ -7,10 +7,8 @@ use Rattle.std.proofs.Common.{suc}
 use Rattle.adf_base.specs.declared.hash.Letters.{Letters}
 use Rattle.adf_base.specs.Hash.{slot_by}
 use Rattle.adf_names.specs.VolumeTypes.{type_number}
-use Rattle.adf_names.specs.declared.kind.Kind.{Kind}
-use Rattle.adf_names.specs.declared.kind.Kind.TheVariants.{Ofs, Ffs}
-use Rattle.adf_tree.specs.declared.entry.Body.{Body}
-use Rattle.adf_tree.specs.declared.entry.Body.TheVariants.{Dir, File}
+use Rattle.adf_names.specs.declared.kind.Kind.{Kind, TheVariants.Ofs, TheVariants.Ffs}
+use Rattle.adf_tree.specs.declared.entry.Body.{Body, TheVariants.Dir, TheVariants.File}
 use Rattle.adf_tree.specs.declared.entry.Entry.{Entry}
 use Rattle.adf_tree.specs.Bounds.{IsBounded}
 use Rattle.adf_tree.specs.Tree.{Tree, IsTreeBy}
@@ -20,8 +18,7 @@ use Rattle.adf_blocks.specs.Fields.{block_of_fields}
 use Rattle.adf_blocks.specs.RootBlock.{RootFields, root_block}
 use Rattle.adf_blocks.specs.PageBlock.{page_block}
 use Rattle.adf_blocks.specs.MapExtBlock.{map_ext_block}
-use Rattle.adf_blocks.specs.HeadBlock.{BodyFields, HeadFields, head_block}
-use Rattle.adf_blocks.specs.HeadBlock.BodyFields.{DirFields, FileFields}
+use Rattle.adf_blocks.specs.HeadBlock.{BodyFields, HeadFields, head_block, BodyFields.DirFields, BodyFields.FileFields}
 use Rattle.adf_blocks.specs.ExtBlock.{ExtFields, ext_block}
 use Rattle.adf_blocks.specs.DataBlock.{DataFields, data_block}
 use Rattle.adf_volume.specs.Image.{map_exts_needed}

@@ -1,6 +1,6 @@
 -- The steps along the bitmap, and the facts known at its end.
-use Rattle.std.proofs.Common.{◌≡◌, ◌≢◌, inl, inr, ℕ, zero, suc, List, ◌++◌, ◌+◌, ◌-◌, ◌*◌, ◌/◌, ◌%◌, ◌<◌, ◌≤◌, refl, sym, ap, subst, ◌∙◌, arith, Bool}
-use Rattle.std.proofs.Common.{true, false, not, IfErr, Result, Ok, Err, slice_index, IsTrue, ◌↔◌, ◌==◌, ◌^◌, IsBitSet}
+use Rattle.std.proofs.Common.{◌≡◌, ◌≢◌, inl, inr, ℕ, zero, suc, List, ◌++◌, ◌+◌, ◌-◌, ◌*◌, ◌/◌, ◌%◌, ◌<◌, ◌≤◌, refl, sym, ap, subst, ◌∙◌, arith, Bool, true}
+use Rattle.std.proofs.Common.{false, not, IfErr, Result, Ok, Err, slice_index, IsTrue, ◌↔◌, ◌==◌, ◌^◌, IsBitSet}
 use Rattle.std.specs.Int.Bits.{bit_and}
 use Rattle.std.proofs.lemmas.Bool.Decides.{nat_tests}
 use Rattle.std.proofs.lemmas.Grind.{common_steps}
@@ -8,9 +8,7 @@ use Rattle.adf_blocks.specs.declared.cause.Cause.{Cause, TheVariants.LostBlock, 
 use Rattle.adf_blocks.specs.Sizes.{blocks, pages_needed}
 use Rattle.adf_volume.specs.Image.{root_of, word_in, IsFreeAt, letters_of}
 use Rattle.adf_volume.specs.Demands.{AllHold, FirstFails, root_demands, boot_demands_by}
-use Rattle.adf_volume.specs.Walk.{Has, IsAbsent, IsFreeIn, bitmap_demands, Walk, FirstFaultBy}
-use Rattle.adf_volume.specs.Walk.Role.{Page}
-use Rattle.adf_volume.specs.Walk.FirstFaultBy.{at_bitmap}
+use Rattle.adf_volume.specs.Walk.{Has, IsAbsent, IsFreeIn, bitmap_demands, Walk, FirstFaultBy, Role.Page, FirstFaultBy.at_bitmap}
 use Rattle.adf_volume.proofs.Gathered.{one_block}
 use Rattle.adf_volume.proofs.Images.{page_in}
 use Rattle.adf_volume.proofs.Lists.{all_append, all_split, fails_right}

@@ -1,7 +1,6 @@
 -- The steps along the headers of a chain.
 use Rattle.adf_check.specs.Claims.{InRange}
-use Rattle.std.proofs.Common.{◌≡◌, ◌≢◌, ◌⊎◌, inl, inr, ℕ, suc, List, ◌∷◌, ◌+◌, ◌<◌, length, true, false, refl, sym, ap, subst, ◌∙◌, arith, Some, None}
-use Rattle.std.proofs.Common.{◌↔◌}
+use Rattle.std.proofs.Common.{◌≡◌, ◌≢◌, ◌⊎◌, inl, inr, ℕ, suc, List, ◌∷◌, ◌+◌, ◌<◌, length, true, false, refl, sym, ap, subst, ◌∙◌, arith, Some, None, ◌↔◌}
 use Rattle.std.proofs.lemmas.Bool.Decides.{Decides-or}
 use Rattle.std.specs.Str.{bytes_eq}
 use Rattle.std.proofs.lemmas.Slice.Eq.{bytes_eq-Decides}
@@ -17,8 +16,7 @@ use Rattle.adf_blocks.specs.Forms.{Clause, first_cause, text_at}
 use Rattle.adf_blocks.specs.HeadBlock.{head_form_by}
 use Rattle.adf_volume.specs.Demands.{Demand, AllHold, FirstFails, head_demands_by}
 use Rattle.adf_volume.specs.Image.{kind_of, name_of, word_in, letters_of}
-use Rattle.adf_volume.specs.Walk.{Role, heads, Walk, form_demands_by}
-use Rattle.adf_volume.specs.Walk.Role.{Head}
+use Rattle.adf_volume.specs.Walk.{Role, heads, Walk, form_demands_by, Role.Head}
 use Rattle.adf_volume.proofs.Gathered.{node_is}
 use Rattle.adf_volume.proofs.FormDemands.{all_demanded, first_demanded}
 use Rattle.adf_volume.proofs.Pointers.{link_asks, link_ends}

@@ -7,10 +7,8 @@ use Rattle.adf_blocks.specs.declared.cause.Cause.{Cause, TheVariants.Taken, TheV
 use Rattle.adf_blocks.specs.Sizes.{blocks}
 use Rattle.adf_volume.specs.Demands.{Demand, demand, AllHold, FirstFails}
 use Rattle.adf_volume.specs.Image.{word_in, letters_of}
-use Rattle.adf_volume.specs.Walk.{Role, first, heads, Asks, IsDue, Enough, Walk, FirstFaultBy, demands_by, form_demands_by, NewNameBy}
-use Rattle.adf_volume.specs.Walk.Role.{Head}
+use Rattle.adf_volume.specs.Walk.{Role, first, heads, Asks, IsDue, Enough, Walk, FirstFaultBy, demands_by, form_demands_by, NewNameBy, Role.Head, IsWalkBy.step}
 use Rattle.adf_volume.specs.Walk.FirstFaultBy.{at_due}
-use Rattle.adf_volume.specs.Walk.IsWalkBy.{step}
 use Rattle.adf_volume.proofs.Lists.{fails_left, fails_right, all_append, snoc_length}
 use Rattle.adf_volume.proofs.Memory.{fault_of_image}
 use Rattle.adf_volume.proofs.Gathered.{IsGathered}

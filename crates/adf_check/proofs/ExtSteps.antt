@@ -10,8 +10,7 @@ use Rattle.adf_blocks.specs.ExtBlock.{ext_form}
 use Rattle.adf_volume.specs.Demands.{Demand, AllHold, FirstFails, ext_demands}
 use Rattle.adf_volume.specs.Image.{word_in, letters_of}
 use Rattle.adf_volume.specs.Lists.{At}
-use Rattle.adf_volume.specs.Walk.{Role, FileAt, MemberAt, ext_count, form_demands_by}
-use Rattle.adf_volume.specs.Walk.Role.{Ext}
+use Rattle.adf_volume.specs.Walk.{Role, FileAt, MemberAt, ext_count, form_demands_by, Role.Ext}
 use Rattle.adf_volume.proofs.FormDemands.{all_demanded, first_demanded}
 use Rattle.adf_volume.proofs.Lists.{at_snoc, snoc_length}
 use Rattle.adf_volume.proofs.Roles.{count_own, member_up, typed_up}

@@ -1,15 +1,12 @@
 -- The blocks of each file are adjacent in the flat lists of a walk.
-use Rattle.std.proofs.Common.{◌≡◌, ℕ, suc, List, [], ◌∷◌, ◌++◌, inl, inr, ◌+◌, ◌<◌, ◌≤◌, length, length-append, refl, sym, ap, ◌∙◌, arith, Bool, true}
-use Rattle.std.proofs.Common.{false, cond, take, drop, append_assoc, Option, Some, None, ◌==◌, ◌||◌, is_some, nat_lt, not}
-use Rattle.std.proofs.lemmas.Bool.{eqb-true, false_from_ne_true, le-ltb, lt-ltb, ltb-false, ltb-true, not-true}
-use Rattle.std.proofs.lemmas.Bool.Decides.{nat_tests}
+use Rattle.std.proofs.Common.{◌≡◌, ℕ, suc, List, [], ◌∷◌, ◌++◌, inl, inr, ◌+◌, ◌<◌, ◌≤◌, length, length-append, refl, sym, ap, ◌∙◌, arith, Bool, true, false}
+use Rattle.std.proofs.Common.{cond, take, drop, append_assoc, Option, Some, None, ◌==◌, ◌||◌, is_some, nat_lt, not}
+use Rattle.std.proofs.lemmas.Bool.{eqb-true, false_from_ne_true, le-ltb, lt-ltb, ltb-false, ltb-true, not-true, Decides.nat_tests}
 use Rattle.std.proofs.lemmas.List.{append-nil}
 use Rattle.std.proofs.Math.Seq.{drop-append_seam, take-append_seam}
 use Rattle.std.proofs.lemmas.Grind.{common_steps}
 use Rattle.adf_volume.specs.Image.{root_of}
-use Rattle.adf_volume.specs.Walk.{Role, first, Has, Walk}
-use Rattle.adf_volume.specs.Walk.Role.{Root, Ext, Data}
-use Rattle.adf_volume.specs.Walk.IsWalkBy.{start, step}
+use Rattle.adf_volume.specs.Walk.{Role, first, Has, Walk, Role.Root, Role.Ext, Role.Data, IsWalkBy.start, IsWalkBy.step}
 use Rattle.adf_volume.specs.Made.{picked, is_ext_of, exts_in, is_data_of, datas_in}
 use Rattle.adf_volume.proofs.Lists.{snoc_length}
 use Rattle.adf_volume.proofs.WalkOrder.{rises}

@@ -1,9 +1,8 @@
 -- Places in the flat lists of a walk, and the owners that are kept by them.
 -- Letters: f a test of roles; w a walk; b a block; i, j places; n, m nodes.
-use Rattle.std.proofs.Common.{◌≡◌, ℕ, zero, suc, List, [], ◌∷◌, ◌++◌, ◌+◌, ◌<◌, ◌≤◌, inl, inr, length, take, drop, get_or, cond, Bool, true, false}
-use Rattle.std.proofs.Common.{sym, ap, subst, ◌∙◌, arith}
-use Rattle.std.proofs.lemmas.List.{get_or-take, get_or-drop, length-take, length-drop}
-use Rattle.std.proofs.lemmas.List.Sorted.{IsNonDecreasingBy-from_default}
+use Rattle.std.proofs.Common.{◌≡◌, ℕ, zero, suc, List, [], ◌∷◌, ◌++◌, ◌+◌, ◌<◌, ◌≤◌, inl, inr, length, take, drop, get_or, cond, Bool, true, false, sym, ap}
+use Rattle.std.proofs.Common.{subst, ◌∙◌, arith}
+use Rattle.std.proofs.lemmas.List.{get_or-take, get_or-drop, length-take, length-drop, Sorted.IsNonDecreasingBy-from_default}
 use Rattle.std.proofs.lemmas.Grind.{common_steps}
 use native.Mathlib.Decide.{dec_lt}
 use Rattle.adf_tree.specs.Tree.{Tree}
@@ -12,8 +11,7 @@ use Rattle.adf_volume.specs.Layout.{Layout, exts_of, datas_of, owned}
 use Rattle.adf_volume.specs.LayoutRoles.{LayoutHasBy, owner_of}
 use Rattle.adf_volume.specs.Lists.{At, In, NoBlockTwice}
 use Rattle.adf_volume.specs.Made.{picked}
-use Rattle.adf_volume.specs.Walk.{Role, Walk}
-use Rattle.adf_volume.specs.Walk.Role.{Ext, Data}
+use Rattle.adf_volume.specs.Walk.{Role, Walk, Role.Ext, Role.Data}
 use Rattle.adf_volume.proofs.LayoutRoles.{owned_part}
 use Rattle.adf_volume.proofs.Lists.{at_below, at_index_or, at_snoc}
 use Rattle.adf_volume.proofs.Places.{datas_below, exts_below}

@@ -6,8 +6,7 @@ use Rattle.adf_tree.specs.declared.entry.Entry.{Entry}
 use Rattle.adf_tree.specs.Tree.{Tree}
 use Rattle.adf_volume.specs.Layout.{Layout, exts_of, datas_of}
 use Rattle.adf_volume.specs.Lists.{At}
-use Rattle.adf_volume.specs.Walk.{Role, Has}
-use Rattle.adf_volume.specs.Walk.Role.{Ext, Data}
+use Rattle.adf_volume.specs.Walk.{Role, Has, Role.Ext, Role.Data}
 use Rattle.adf_volume.specs.LayoutRoles.{LayoutHasBy, owner_of}
 use Rattle.adf_volume.specs.Made.{layout_in, exts_in, datas_in, tree_in_by}
 use Rattle.adf_volume.proofs.ImageStart.{own_letters}

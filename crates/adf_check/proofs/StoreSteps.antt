@@ -9,14 +9,13 @@ use Rattle.adf_blocks.specs.declared.layout.TheConstants.{SECONDARY_TYPE, ST_DIR
 use Rattle.adf_blocks.specs.Sizes.{blocks}
 use Rattle.adf_volume.specs.Image.{word_in}
 use Rattle.adf_volume.specs.Lists.{At}
-use Rattle.adf_volume.specs.Walk.{Role, first, second, Has, head_count, heads, IsAbsent, Walk}
-use Rattle.adf_volume.specs.Walk.Role.{Head, Ext, Data}
+use Rattle.adf_volume.specs.Walk.{Role, first, second, Has, head_count, heads, IsAbsent, Walk, Role.Head, Role.Ext, Role.Data}
 use Rattle.adf_volume.proofs.Lists.{at_new, at_old, at_below, snoc_length}
 use Rattle.adf_walk.specs.declared.kept_header.KeptHeader.{KeptHeader}
 use Rattle.adf_walk.specs.declared.kept_owner.KeptOwner.{KeptOwner}
 use Rattle.adf_walk.specs.KeptOwner.{is_claimed, kept_at, no_owner}
-use Rattle.adf_check.specs.Store.{StoreValue, IsKeptOwner, Owns, KeepsHeaders, StoreMatches, file_blocks, next_kept}
-use Rattle.adf_check.specs.Store.{push_header, push_block, ext_file, data_file, is_dir_at, blocks_before, stored}
+use Rattle.adf_check.specs.Store.{StoreValue, IsKeptOwner, Owns, KeepsHeaders, StoreMatches, file_blocks, next_kept, push_header, push_block, ext_file}
+use Rattle.adf_check.specs.Store.{data_file, is_dir_at, blocks_before, stored}
 use Rattle.adf_volume.specs.Made.{picked}
 use Rattle.adf_check.proofs.FileBlocks.{TellsFile, data_tells, ext_tells, not_below}
 

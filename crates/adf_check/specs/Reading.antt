@@ -9,8 +9,7 @@ use Rattle.adf_names.specs.Texts.{uppers_by}
 use Rattle.adf_volume.specs.Lists.{At}
 use Rattle.adf_volume.specs.Image.{letters_of, word_in, root_of, name_of}
 use Rattle.adf_volume.specs.Demands.{AllHold}
-use Rattle.adf_volume.specs.Walk.{Has, DirAt, FileAt, MemberAt, NamesPage, ext_count, IsWhole, bitmap_demands, Walk}
-use Rattle.adf_volume.specs.Walk.Role.{Page, Head, Ext, Data}
+use Rattle.adf_volume.specs.Walk.{Has, DirAt, FileAt, MemberAt, NamesPage, ext_count, IsWhole, bitmap_demands, Walk, Role.Page, Role.Head, Role.Ext, Role.Data}
 use Rattle.adf_volume.specs.Positions.{Position, IsLink, IsPageHolder, IsUpTo, before_node, before_page, position_of, word_of_page}
 use Rattle.adf_volume.specs.Fits.{FitsBy}
 use Rattle.adf_volume.specs.Start.{IsOwnBegun}

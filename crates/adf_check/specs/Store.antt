@@ -7,8 +7,7 @@ use Rattle.adf_blocks.specs.declared.layout.TheConstants.{SECONDARY_TYPE, ST_DIR
 use Rattle.adf_blocks.specs.Sizes.{blocks}
 use Rattle.adf_volume.specs.Image.{word_in}
 use Rattle.adf_volume.specs.Lists.{At}
-use Rattle.adf_volume.specs.Walk.{Role, Has, heads, Walk}
-use Rattle.adf_volume.specs.Walk.Role.{Head, Ext, Data}
+use Rattle.adf_volume.specs.Walk.{Role, Has, heads, Walk, Role.Head, Role.Ext, Role.Data}
 use Rattle.adf_volume.specs.LayoutRoles.{owner_of}
 use Rattle.adf_volume.specs.Made.{picked}
 use Rattle.adf_walk.specs.KeptOwner.{boot_owner, claimed_count, kept_at, no_owner}

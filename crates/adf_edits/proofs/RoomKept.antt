@@ -1,13 +1,10 @@
 -- What an edit makes of additions that all have room, has room.
 -- Letters: xs are additions, ys what the edit makes of them; x, y are additions, front those before them.
-use Rattle.std.proofs.Common.{◌≡◌, ◌≢◌, ℕ, List, [], ◌∷◌, ◌++◌, inl, inr, ◌==◌, length, refl, sym, ap, subst}
-use Rattle.std.proofs.Common.{◌∙◌, arith, true, false, Bool, Some, None, Ok}
-use Rattle.std.proofs.Common.{Option, Result, not}
-use Rattle.std.proofs.Common.{◌-◌, get_or, map, nat_lt, take}
+use Rattle.std.proofs.Common.{◌≡◌, ◌≢◌, ℕ, List, [], ◌∷◌, ◌++◌, inl, inr, ◌==◌, length, refl, sym, ap, subst, ◌∙◌, arith, true, false, Bool, Some, None, Ok}
+use Rattle.std.proofs.Common.{Option, Result, not, ◌-◌, get_or, map, nat_lt, take}
 use Rattle.std.specs.List.{All, list_any}
 use Rattle.std.proofs.lemmas.Bool.{and_from, and_parts, cases_Bool, eqb-false, false_from_ne_true, lt-ltb}
-use Rattle.std.proofs.lemmas.List.{length-map, length-take-le}
-use Rattle.std.proofs.lemmas.List.Folds.{list_any_at}
+use Rattle.std.proofs.lemmas.List.{length-map, length-take-le, Folds.list_any_at}
 use Rattle.adf_names.specs.Texts.{uppers}
 use Rattle.adf_tree.specs.Additions.{Addition, AllHaveRoom, entries_of_additions, same_path}
 use Rattle.adf_tree.specs.Tree.{is_dir_body, parents_of}

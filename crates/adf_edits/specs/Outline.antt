@@ -1,9 +1,8 @@
 -- Trees as lists of additions.
-use Rattle.std.specs.Prelude.{◌≡◌, ◌<◌, ◌==◌, ◌-◌, ℕ, List, [], ◌∷◌, ◌++◌, Err, fold, if◌then◌else◌, length, slice_get, take}
-use Rattle.std.specs.Prelude.{Option, Some, None, slice_index_or}
+use Rattle.std.specs.Prelude.{◌≡◌, ◌<◌, ◌==◌, ◌-◌, ℕ, List, [], ◌∷◌, ◌++◌, Err, fold, if◌then◌else◌, length, slice_get, take, Option, Some, None}
+use Rattle.std.specs.Prelude.{slice_index_or}
 use Rattle.std.specs.List.{slice_get}
-use Rattle.adf_base.specs.declared.hash.Letters.{Letters}
-use Rattle.adf_base.specs.declared.hash.Letters.TheVariants.{Ascii}
+use Rattle.adf_base.specs.declared.hash.Letters.{Letters, TheVariants.Ascii}
 use Rattle.adf_names.specs.declared.kind.Kind.{Kind}
 use Rattle.adf_names.specs.declared.meta.Stamps.{Stamps}
 use Rattle.adf_tree.specs.declared.entry.Entry.{Entry}

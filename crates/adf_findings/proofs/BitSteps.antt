@@ -1,6 +1,5 @@
 -- The findings of the bits.
-use Rattle.std.proofs.Common.{Bool, true, false, ◌||◌, not, Option, Some, None, IsTrue, ◌↔◌, ◌≡◌, ℕ, suc, List, [], ◌∷◌, ◌++◌}
-use Rattle.std.proofs.Common.{inl, inr, ◌+◌, ◌-◌, ◌/◌, ◌%◌}
+use Rattle.std.proofs.Common.{Bool, true, false, ◌||◌, not, Option, Some, None, IsTrue, ◌↔◌, ◌≡◌, ℕ, suc, List, [], ◌∷◌, ◌++◌, inl, inr, ◌+◌, ◌-◌, ◌/◌, ◌%◌}
 use Rattle.std.proofs.Common.{zero, slice_index_or, ◌*◌, ◌<◌, ◌≤◌, refl, sym, subst, ◌∙◌, arith, add-one, IsBitSet}
 use Rattle.std.specs.Ordering.{nat_cmp}
 use Rattle.std.specs.BTreeMap.{BTreeMap, get}
@@ -10,8 +9,7 @@ use Rattle.adf_blocks.specs.declared.cause.Cause.{Cause}
 use Rattle.adf_blocks.specs.declared.layout.TheConstants.{PAGE_BITS, PAGE_FIRST, PAGE_WORDS}
 use Rattle.adf_blocks.specs.Sizes.{blocks}
 use Rattle.adf_volume.specs.Image.{IsFreeAt, word_in}
-use Rattle.adf_volume.specs.Walk.{Has, IsAbsent, IsFreeIn, Walk}
-use Rattle.adf_volume.specs.Walk.Role.{Page}
+use Rattle.adf_volume.specs.Walk.{Has, IsAbsent, IsFreeIn, Walk, Role.Page}
 use Rattle.adf_volume.proofs.Gathered.{one_block}
 use Rattle.adf_volume.proofs.Roles.{has_role, same_refl}
 use Rattle.adf_findings.specs.declared.found.Found.{Found}

@@ -6,14 +6,12 @@ use Rattle.std.specs.Ordering.{nat_cmp}
 use Rattle.std.proofs.lemmas.Grind.{common_steps}
 use Rattle.adf_blocks.specs.declared.layout.TheConstants.{PAGE_BITS}
 use Rattle.adf_volume.specs.Image.{IsFreeAt}
-use Rattle.adf_volume.specs.Walk.{Has, IsFreeIn, Walk}
-use Rattle.adf_volume.specs.Walk.Role.{Page}
+use Rattle.adf_volume.specs.Walk.{Has, IsFreeIn, Walk, Role.Page}
 use Rattle.adf_volume.proofs.Gathered.{one_block}
 use Rattle.adf_volume.proofs.Roles.{same_refl}
 use Rattle.adf_findings.specs.Found.{IsBitOf}
 use Rattle.adf_findings.specs.Members.{at_role}
-use Rattle.adf_findings.specs.Survey.{FindingValue, IsSurvey, IsValidated}
-use Rattle.adf_findings.specs.Survey.IsSurvey.{read, unread}
+use Rattle.adf_findings.specs.Survey.{FindingValue, IsSurvey, IsValidated, IsSurvey.read, IsSurvey.unread}
 use Rattle.adf_findings.specs.SurveyResult.{IsBitStated}
 use Rattle.adf_findings.proofs.BitSteps.{has_page}
 use Rattle.adf_findings.proofs.RoleBlocks.{lacks_at}

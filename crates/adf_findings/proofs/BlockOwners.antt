@@ -2,16 +2,13 @@
 use Rattle.std.specs.Prelude.{cond, ◌==◌, Some, None, map, slice_get}
 use Rattle.std.specs.Option.{option_and_then, unwrap_or}
 use Rattle.std.proofs.Common.{◌≡◌, ℕ, zero, suc, List, [], ◌∷◌, Option, ◌≤◌, inl, inr, refl, sym, ap, ◌∙◌, arith}
-use Rattle.std.proofs.lemmas.Bool.{cases_Bool}
-use Rattle.std.proofs.lemmas.Bool.Decides.{eqb_tells}
+use Rattle.std.proofs.lemmas.Bool.{cases_Bool, Decides.eqb_tells}
 use Rattle.std.proofs.lemmas.Grind.{common_steps}
 use Rattle.adf_volume.specs.declared.owner.Owner.{Owner}
 use Rattle.adf_walk.specs.Owners.{owner_at}
 use Rattle.adf_volume.specs.Parts.{entry_of}
-use Rattle.adf_volume.specs.Walk.{Role, Asks, Has, Walk}
-use Rattle.adf_volume.specs.Walk.Role.{Head, Ext, Data}
-use Rattle.adf_volume.proofs.Gathered.{IsGathered, asked_file, number_of}
-use Rattle.adf_volume.proofs.Gathered.IsGathered.{start, step}
+use Rattle.adf_volume.specs.Walk.{Role, Asks, Has, Walk, Role.Head, Role.Ext, Role.Data}
+use Rattle.adf_volume.proofs.Gathered.{IsGathered, asked_file, number_of, IsGathered.start, IsGathered.step}
 use Rattle.adf_volume.proofs.Roles.{asks_number}
 use Rattle.adf_findings.specs.declared.finding.Finding.{Finding}
 use Rattle.adf_findings.specs.Concerned.{taker_of, is_taken}

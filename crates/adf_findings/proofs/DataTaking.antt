@@ -4,8 +4,7 @@
 use Rattle.std.specs.Prelude.{Bool, true, not, nat_le, nat_lt, ◌&&◌, ◌||◌}
 use Rattle.std.proofs.Common.{◌≡◌, ℕ, List, ◌+◌, ◌-◌, ◌*◌, ◌<◌, ◌≤◌, length, refl, sym, subst, ◌∙◌, arith}
 use Rattle.std.proofs.lemmas.Bool.{and_parts, le-leb, lt-ltb}
-use Rattle.adf_names.specs.declared.kind.Kind.{Kind}
-use Rattle.adf_names.specs.declared.kind.Kind.TheVariants.{Ofs, Ffs}
+use Rattle.adf_names.specs.declared.kind.Kind.{Kind, TheVariants.Ofs, TheVariants.Ffs}
 use Rattle.std.proofs.lemmas.Grind.{common_steps}
 use Rattle.adf_blocks.specs.Forms.{first_cause}
 use Rattle.adf_blocks.specs.Sizes.{blocks, in_range}
@@ -13,8 +12,7 @@ use Rattle.adf_volume.specs.declared.owner.Owner.TheVariants.{Free}
 use Rattle.adf_walk.specs.Owners.{owner_at}
 use Rattle.adf_blocks.specs.declared.layout.TheConstants.{FIRST_POINTER, POINTERS}
 use Rattle.adf_volume.specs.Image.{kind_of, word_in}
-use Rattle.adf_volume.specs.declared.part.Part.{Part}
-use Rattle.adf_volume.specs.declared.part.Part.TheVariants.{Data as DataPart}
+use Rattle.adf_volume.specs.declared.part.Part.{Part, TheVariants.Data as DataPart}
 use Rattle.adf_findings.specs.declared.course.FileTable.{FileTable}
 use Rattle.adf_findings.specs.declared.course.Reference.{Reference}
 use Rattle.adf_findings.specs.declared.found.Found.{Found}

@@ -5,8 +5,7 @@ use Rattle.adf_volume.specs.Walk.{HeadAt, NodeAt, node_block, Walk}
 use Rattle.adf_volume.proofs.Gathered.{head_block, number_of, node_there, parent_below}
 use Rattle.adf_findings.specs.Members.{parent_node}
 use Rattle.adf_findings.specs.Lookup.{path_to}
-use Rattle.adf_findings.specs.Survey.{FindingValue, IsSurvey}
-use Rattle.adf_findings.specs.Survey.IsSurvey.{read, unread}
+use Rattle.adf_findings.specs.Survey.{FindingValue, IsSurvey, IsSurvey.read, IsSurvey.unread}
 use Rattle.adf_findings.proofs.EntryPaths.{path_next}
 use Rattle.adf_findings.proofs.Keeping.{parent_is}
 use Rattle.adf_findings.proofs.OneSurvey.{gathered}

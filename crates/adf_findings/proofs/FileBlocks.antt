@@ -5,16 +5,13 @@ use Rattle.adf_blocks.specs.declared.layout.TheConstants.{POINTERS}
 use Rattle.adf_volume.specs.Image.{root_of, table_word, word_in}
 use Rattle.adf_volume.specs.Lists.{At}
 use Rattle.adf_volume.specs.Made.{datas_in, is_data_of}
-use Rattle.adf_volume.specs.Walk.{Role, Has, FileAt, Lacks, MemberAt, data_count, Walk}
-use Rattle.adf_volume.specs.Walk.Role.{Head, Ext, Data}
+use Rattle.adf_volume.specs.Walk.{Role, Has, FileAt, Lacks, MemberAt, data_count, Walk, Role.Head, Role.Ext, Role.Data}
 use Rattle.adf_volume.proofs.Gathered.{IsGathered, ext_below, ext_counted, file_one}
 use Rattle.adf_volume.proofs.Lists.{at_below, at_snoc, at_some, same_list, snoc_length}
 use Rattle.adf_volume.proofs.Roles.{has_role}
 use Rattle.adf_volume.proofs.WalkMembers.{Lists, data_only, none_listed, one_more}
 use Rattle.adf_findings.specs.Files.{member_from, named_from, names_from}
-use Rattle.adf_findings.specs.Survey.{Course, IsCourse, IsNext}
-use Rattle.adf_findings.specs.Survey.IsCourse.{start, step}
-use Rattle.adf_findings.specs.Survey.JudgementValue.{skipped}
+use Rattle.adf_findings.specs.Survey.{Course, IsCourse, IsNext, IsCourse.start, IsCourse.step, JudgementValue.skipped}
 use Rattle.adf_findings.proofs.OneSurvey.{gathered}
 use Rattle.adf_findings.proofs.SoundMarks.{taken_wanted}
 

@@ -1,9 +1,8 @@
 -- The first finding of a survey behind that of its type, and surveys with no other.
 -- Letters: past the findings of the type; over the parts skipped; rest the findings behind them.
-use Rattle.std.proofs.Common.{false, ◌≡◌, ℕ, suc, List, [], ◌∷◌, ◌⊎◌, ◌++◌, inl, inr, ◌+◌, ◌-◌, ◌/◌, ◌<◌, ◌≤◌, refl, sym, subst, ap, ◌∙◌}
-use Rattle.std.proofs.Common.{append-nil, append_assoc, None, arith}
-use Rattle.std.proofs.lemmas.Bool.Decides.{nat_tests}
-use Rattle.std.proofs.lemmas.Bool.{eqb-true}
+use Rattle.std.proofs.Common.{false, ◌≡◌, ℕ, suc, List, [], ◌∷◌, ◌⊎◌, ◌++◌, inl, inr, ◌+◌, ◌-◌, ◌/◌, ◌<◌, ◌≤◌, refl, sym, subst, ap, ◌∙◌, append-nil}
+use Rattle.std.proofs.Common.{append_assoc, None, arith}
+use Rattle.std.proofs.lemmas.Bool.{eqb-true, Decides.nat_tests}
 use Rattle.std.proofs.lemmas.List.{append_cancel_left}
 use Rattle.std.proofs.lemmas.Grind.{common_steps}
 use Rattle.adf_base.specs.declared.hash.Letters.{Letters}
@@ -12,8 +11,7 @@ use Rattle.adf_blocks.specs.declared.layout.TheConstants.{PAGE_BITS}
 use Rattle.adf_blocks.specs.Sizes.{blocks, pages_needed}
 use Rattle.adf_volume.specs.Image.{letters_of, word_in, root_of}
 use Rattle.adf_volume.specs.Demands.{AllHold, FirstFails, boot_demands, boot_demands_by, root_demands}
-use Rattle.adf_volume.specs.Walk.{Role, Lacks, IsDue, IsAbsent, IsWalkBy, IsWhole, FirstFaultBy, bitmap_demands, demands_by, Walk}
-use Rattle.adf_volume.specs.Walk.Role.{Page, Root}
+use Rattle.adf_volume.specs.Walk.{Role, Lacks, IsDue, IsAbsent, IsWalkBy, IsWhole, FirstFaultBy, bitmap_demands, demands_by, Walk, Role.Page, Role.Root}
 use Rattle.adf_volume.specs.Walk.IsWalkBy.{start as walk_start, step as walk_step}
 use Rattle.adf_volume.specs.Walk.FirstFaultBy.{at_boot, at_due, at_bitmap}
 use Rattle.adf_volume.proofs.Walks.{asked_block, page_word}
@@ -28,8 +26,8 @@ use Rattle.adf_volume.proofs.Lists.{all_append, all_split, fails_left, fails_rig
 use Rattle.adf_volume.proofs.NoneFits.{none_fits}
 use Rattle.adf_volume.proofs.WalkFits.{fits}
 use Rattle.adf_findings.specs.Demands.{demands_in}
-use Rattle.adf_findings.specs.Survey.{BootTells, FindingValue, JudgementValue, Judged, RootTells, finding, is_other_type}
-use Rattle.adf_findings.specs.Survey.{Course, after, IsNext, IsCourse, IsDone, IsValidated, IsCompared, BitsTell, IsSurvey, is_cache}
+use Rattle.adf_findings.specs.Survey.{BootTells, FindingValue, JudgementValue, Judged, RootTells, finding, is_other_type, Course, after, IsNext, IsCourse}
+use Rattle.adf_findings.specs.Survey.{IsDone, IsValidated, IsCompared, BitsTell, IsSurvey, is_cache}
 use Rattle.adf_findings.specs.Survey.JudgementValue.{clean, reported, skipped}
 use Rattle.adf_findings.specs.Survey.IsCourse.{start, step}
 use Rattle.adf_findings.specs.Survey.RootTells.{clean_root, reported_root}

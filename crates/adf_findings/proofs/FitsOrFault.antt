@@ -9,8 +9,7 @@ use Rattle.adf_findings.specs.Survey.{FindingValue, IsSurvey}
 use Rattle.adf_volume.specs.Types.{letters_for}
 use Rattle.adf_findings.specs.Types.{passed}
 use Rattle.adf_findings.specs.Verdict.{FitsOrHasFault, FitsOrHasFaultBy}
-use Rattle.adf_volume.specs.declared.types.Types.{Types}
-use Rattle.adf_volume.specs.declared.types.Types.TheVariants.{Plain}
+use Rattle.adf_volume.specs.declared.types.Types.{Types, TheVariants.Plain}
 
 pub fits_or_fault_by : (types : Types) (image : List ℕ) → FitsOrHasFaultBy types image
 fits_or_fault_by types image =

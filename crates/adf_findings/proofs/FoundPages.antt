@@ -4,13 +4,10 @@ use Rattle.std.specs.Prelude.{Some}
 use Rattle.std.proofs.Common.{◌≡◌, ℕ, List, ◌<◌, inl, inr, arith}
 use Rattle.std.proofs.lemmas.Grind.{common_steps}
 use Rattle.adf_blocks.specs.Sizes.{blocks, pages_needed}
-use Rattle.adf_volume.specs.Walk.{Has, Role, Walk}
-use Rattle.adf_volume.specs.Walk.Role.{Page}
-use Rattle.adf_volume.proofs.Gathered.{IsGathered}
-use Rattle.adf_volume.proofs.Gathered.IsGathered.{start, step}
+use Rattle.adf_volume.specs.Walk.{Has, Role, Walk, Role.Page}
+use Rattle.adf_volume.proofs.Gathered.{IsGathered, IsGathered.start, IsGathered.step}
 use Rattle.adf_findings.specs.Members.{at_role}
-use Rattle.adf_findings.specs.Survey.{FindingValue, IsSurvey}
-use Rattle.adf_findings.specs.Survey.IsSurvey.{read, unread}
+use Rattle.adf_findings.specs.Survey.{FindingValue, IsSurvey, IsSurvey.read, IsSurvey.unread}
 use Rattle.adf_findings.proofs.RoleBlocks.{taken_at}
 use Rattle.adf_findings.proofs.OneSurvey.{gathered}
 

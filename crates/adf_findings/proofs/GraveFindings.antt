@@ -4,8 +4,7 @@ use Rattle.std.proofs.Common.{◌&&◌, Bool, map, not, Some, ◌≡◌, ◌∙�
 use Rattle.std.specs.List.{filter}
 use Rattle.std.proofs.lemmas.Grind.{common_steps}
 use Rattle.adf_volume.specs.Lists.{In}
-use Rattle.adf_volume.specs.Walk.{Role, Walk}
-use Rattle.adf_volume.specs.Walk.Role.{Data, Ext, Head}
+use Rattle.adf_volume.specs.Walk.{Role, Walk, Role.Data, Role.Ext, Role.Head}
 use Rattle.adf_volume.proofs.Roles.{same_role}
 use Rattle.adf_findings.specs.declared.finding.Finding.{Finding}
 use Rattle.adf_findings.specs.Files.{IsSoundFile, counting, grave, is_harmless, is_head, is_light}

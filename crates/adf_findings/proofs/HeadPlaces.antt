@@ -1,13 +1,10 @@
 -- The positions of the headers of a walk, by number.
 use Rattle.std.specs.Prelude.{true, false, not, ◌==◌, ◌&&◌, Option, Some, None, slice_get, slice_index}
 use Rattle.std.proofs.Common.{◌≡◌, ℕ, zero, suc, List, [], ◌∷◌, ◌++◌, length, ◌⊎◌, inl, inr, ◌-◌, ◌<◌, ◌≤◌, refl, sym, ap, subst, ◌∙◌, arith}
-use Rattle.std.proofs.lemmas.Bool.{and_parts, eqb-true, eq-eqb}
-use Rattle.std.proofs.lemmas.Bool.Decides.{eqb_tells, nat_tests}
+use Rattle.std.proofs.lemmas.Bool.{and_parts, eqb-true, eq-eqb, Decides.eqb_tells, Decides.nat_tests}
 use Rattle.std.proofs.lemmas.Grind.{common_steps}
-use Rattle.adf_volume.specs.Walk.{Role, Has, Asks, heads, Walk}
-use Rattle.adf_volume.specs.Walk.Role.{Root, Head}
-use Rattle.adf_volume.proofs.Gathered.{IsGathered, number_of}
-use Rattle.adf_volume.proofs.Gathered.IsGathered.{start, step}
+use Rattle.adf_volume.specs.Walk.{Role, Has, Asks, heads, Walk, Role.Root, Role.Head}
+use Rattle.adf_volume.proofs.Gathered.{IsGathered, number_of, IsGathered.start, IsGathered.step}
 use Rattle.adf_volume.proofs.Lists.{get_before, snoc_length}
 use Rattle.adf_volume.proofs.Roles.{asks_number, head_at}
 use Rattle.adf_findings.specs.declared.found.ChainPlace.{ChainPlace}

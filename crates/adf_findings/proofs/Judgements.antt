@@ -10,8 +10,7 @@ use Rattle.adf_findings.specs.declared.course.Reference.{Reference}
 use Rattle.adf_findings.specs.declared.judge.Facts.{Facts}
 use Rattle.adf_findings.specs.declared.judge.Judgement.{Judgement}
 use Rattle.adf_findings.specs.declared.progress.Progress.{Progress}
-use Rattle.adf_findings.specs.Survey.{Course, Judged, JudgementValue}
-use Rattle.adf_findings.specs.Survey.JudgementValue.{clean, reported}
+use Rattle.adf_findings.specs.Survey.{Course, Judged, JudgementValue, JudgementValue.clean, JudgementValue.reported}
 use Rattle.adf_findings.specs.Forms.{first_failing, form_of, itself_by, judged_by, judgement_value, keeps}
 use Rattle.adf_findings.specs.Found.{AreNamed, HasValidName, IsChain, is_owned, new_in}
 use Rattle.adf_volume.specs.Parts.{role_of}

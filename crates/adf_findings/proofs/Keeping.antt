@@ -6,24 +6,20 @@ use Rattle.std.specs.Option.{option_flatten}
 use Rattle.std.proofs.lemmas.Grind.{common_steps}
 use Rattle.adf_blocks.specs.Sizes.{blocks}
 use Rattle.adf_volume.proofs.Gathered.{head_block, numbered as has_number, number_of}
-use Rattle.adf_volume.specs.Walk.{Has, heads, node_block, Walk}
-use Rattle.adf_volume.specs.Walk.Role.{Head}
+use Rattle.adf_volume.specs.Walk.{Has, heads, node_block, Walk, Role.Head}
 use Rattle.adf_volume.proofs.Roles.{head_role}
-use Rattle.adf_volume.specs.declared.owner.Owner.{Owner}
-use Rattle.adf_volume.specs.declared.owner.Owner.TheVariants.{Boot}
+use Rattle.adf_volume.specs.declared.owner.Owner.{Owner, TheVariants.Boot}
 use Rattle.adf_findings.proofs.Begun.{new_owned}
 use Rattle.adf_findings.proofs.WalkOwners.{entry_is, number_is, owned_is}
 use Rattle.adf_findings.specs.Found.{AreOwned, IsCompleted}
-use Rattle.adf_findings.specs.Members.{parent_node}
+use Rattle.adf_findings.specs.Members.{parent_node, has_mark}
 use Rattle.adf_findings.specs.declared.found.Found.{Found}
 use Rattle.adf_findings.specs.declared.finding.Finding.{Finding}
 use Rattle.adf_findings.specs.Files.{counting, grave, is_light}
 use Rattle.adf_findings.specs.Marks.{blamed, is_blamed, is_clear, is_undoubted}
-use Rattle.adf_findings.specs.Members.{has_mark}
 use Rattle.adf_findings.specs.declared.concern.Concern.{Concern}
 use Rattle.adf_findings.specs.Parts.{finding_value}
-use Rattle.adf_findings.specs.Survey.{FindingValue, IsSurvey, UnreadTells}
-use Rattle.adf_findings.specs.Survey.IsSurvey.{read, unread}
+use Rattle.adf_findings.specs.Survey.{FindingValue, IsSurvey, UnreadTells, IsSurvey.read, IsSurvey.unread}
 use Rattle.adf_findings.specs.Sound.{IsSound}
 use Rattle.adf_findings.specs.SurveyResult.{IsOfSurvey, SurveyValue, TellsOf, block_at}
 use Rattle.adf_findings.proofs.Concerning.{concerned_kept, no_concern_nth}

@@ -2,8 +2,7 @@
 use Rattle.std.specs.Prelude.{Bool, true, false, not, ◌==◌, ◌||◌}
 use Rattle.std.proofs.Common.{◌≡◌, ◌≢◌, ℕ, zero, suc, List, [], ◌∷◌, inl, inr, ◌<◌, refl, sym, subst, ap, ◌∙◌, arith}
 use Rattle.std.specs.Str.{bytes_eq}
-use Rattle.std.proofs.lemmas.Bool.{and_parts, cases_Bool, eqb-true, eq-eqb}
-use Rattle.std.proofs.lemmas.Bool.Decides.{nat_tests}
+use Rattle.std.proofs.lemmas.Bool.{and_parts, cases_Bool, eqb-true, eq-eqb, Decides.nat_tests}
 use Rattle.std.proofs.lemmas.Slice.Eq.{bytes_eq-Decides}
 use Rattle.std.proofs.lemmas.Grind.{common_steps}
 use Rattle.adf_tree.specs.NameSet.{HasMore, Names, has}
@@ -11,8 +10,7 @@ use Rattle.adf_names.specs.Texts.{is_name}
 use Rattle.adf_blocks.specs.Sizes.{blocks, in_range}
 use Rattle.adf_volume.specs.Image.{name_of}
 use Rattle.adf_volume.specs.Positions.{position_of}
-use Rattle.adf_volume.specs.Walk.{Role, Enough, Has, IsAbsent, Walk}
-use Rattle.adf_volume.specs.Walk.Role.{Head}
+use Rattle.adf_volume.specs.Walk.{Role, Enough, Has, IsAbsent, Walk, Role.Head}
 use Rattle.adf_findings.specs.Demands.{NewNameIn, uppers_in}
 use Rattle.adf_volume.specs.declared.part.Part.{Part, TheVariants.Head as HeadPart}
 use Rattle.adf_findings.specs.declared.judge.Facts.{Facts}
@@ -20,9 +18,7 @@ use Rattle.adf_findings.specs.declared.found.Found.{Found}
 use Rattle.adf_findings.specs.Survey.{Course}
 use Rattle.adf_findings.specs.Forms.{IsContext, Knows, Tells}
 use Rattle.adf_findings.proofs.WalkOwners.{owned_is}
-use Rattle.adf_findings.specs.Found.{is_owned, AreNamed, HasValidName, IsChain, KeepsName, Stands}
-use Rattle.adf_findings.proofs.WalkOwners.{owned_is}
-use Rattle.adf_findings.specs.Found.{is_owned, has_name, is_named, known_at, new_in}
+use Rattle.adf_findings.specs.Found.{is_owned, AreNamed, HasValidName, IsChain, KeepsName, Stands, has_name, is_named, known_at, new_in}
 use Rattle.adf_findings.specs.Members.{owns}
 use Rattle.adf_volume.specs.Parts.{role_of}
 use Rattle.adf_findings.proofs.Names.{other_name}

@@ -15,13 +15,11 @@ use Rattle.adf_blocks.specs.Sizes.{blocks, chunk, count}
 use Rattle.adf_volume.specs.Image.{kind_of, piece, pieces, word_in}
 use Rattle.adf_volume.specs.Lists.{At}
 use Rattle.adf_volume.specs.Made.{datas_in, is_data_of}
-use Rattle.adf_volume.specs.Walk.{Has, data_count, node_block, Walk}
-use Rattle.adf_volume.specs.Walk.Role.{Data}
+use Rattle.adf_volume.specs.Walk.{Has, data_count, node_block, Walk, Role.Data}
 use Rattle.adf_volume.proofs.Lists.{at_some}
 use Rattle.adf_findings.specs.Files.{IsSoundFile, counting, file_content, file_in}
 use Rattle.adf_findings.specs.Remains.{below, blocks_stated, bytes_in, bytes_left, data_below, data_found, gaps_left, gaps_of, left_of, size_stated, with_lost}
-use Rattle.adf_findings.specs.Survey.{Course, FindingValue, IsCourse, IsSurvey}
-use Rattle.adf_findings.specs.Survey.IsSurvey.{read, unread}
+use Rattle.adf_findings.specs.Survey.{Course, FindingValue, IsCourse, IsSurvey, IsSurvey.read, IsSurvey.unread}
 use Rattle.adf_findings.proofs.RoleBlocks.{taken_at}
 use Rattle.adf_findings.proofs.OneSurvey.{gathered}
 use Rattle.adf_findings.proofs.OwnedWalks.{few_parts}

@@ -7,14 +7,12 @@ use Rattle.std.proofs.lemmas.Slice.Eq.{bytes_eq-Decides}
 use Rattle.adf_volume.specs.Image.{name_of, word_in}
 use Rattle.adf_blocks.specs.declared.layout.TheConstants.{SECONDARY_TYPE, ST_FILE}
 use Rattle.std.proofs.lemmas.Grind.{common_steps}
-use Rattle.adf_volume.specs.Walk.{FileAt, Has, HeadAt, heads, node_block, Walk}
-use Rattle.adf_volume.specs.Walk.Role.{Head}
+use Rattle.adf_volume.specs.Walk.{FileAt, Has, HeadAt, heads, node_block, Walk, Role.Head}
 use Rattle.adf_volume.proofs.Gathered.{head_block, number_of, parent_below, node_there}
 use Rattle.adf_volume.proofs.Roles.{head_at}
 use Rattle.adf_findings.specs.Demands.{uppers_in}
 use Rattle.adf_findings.specs.Lookup.{IsNamedChild, IsFirstChild, LeadsTo}
-use Rattle.adf_findings.specs.Survey.{FindingValue, IsSurvey}
-use Rattle.adf_findings.specs.Survey.IsSurvey.{read, unread}
+use Rattle.adf_findings.specs.Survey.{FindingValue, IsSurvey, IsSurvey.read, IsSurvey.unread}
 use Rattle.adf_findings.proofs.OneSurvey.{gathered}
 
 -- the number of an entry is greater than its directory's, and at most the count

@@ -5,8 +5,7 @@ use Rattle.adf_blocks.specs.declared.layout.TheConstants.{MAP_EXT_PAGES, ROOT_PA
 use Rattle.adf_blocks.specs.Sizes.{blocks, pages_needed}
 use Rattle.adf_volume.specs.Image.{word_in}
 use Rattle.adf_volume.specs.Positions.{IsPageHolder, Position, before_page, position_of, word_of_map_ext, word_of_page}
-use Rattle.adf_volume.specs.Walk.{NamesPage}
-use Rattle.adf_volume.specs.Walk.Role.{Page, MapExt}
+use Rattle.adf_volume.specs.Walk.{NamesPage, Role.Page, Role.MapExt}
 use Rattle.adf_volume.proofs.MemberFacts.{names_up}
 use Rattle.adf_volume.proofs.Pointers.{behind_map_ext, behind_page, map_ext_asks, map_ext_next, names_first, next_holder}
 use Rattle.adf_volume.proofs.PositionSteps.{end_map, map_broken}

@@ -7,13 +7,10 @@ use Rattle.std.proofs.lemmas.Grind.{common_steps}
 use Rattle.adf_blocks.specs.declared.layout.TheConstants.{EXTENSION}
 use Rattle.adf_blocks.specs.Sizes.{blocks}
 use Rattle.adf_volume.specs.Image.{word_in}
-use Rattle.adf_volume.specs.Walk.{Asks, Has, MemberAt, Walk, ext_block_in, ext_count, member_block}
-use Rattle.adf_volume.specs.Walk.Role.{Root, Head, Ext}
+use Rattle.adf_volume.specs.Walk.{Asks, Has, MemberAt, Walk, ext_block_in, ext_count, member_block, Role.Root, Role.Head, Role.Ext}
 use Rattle.adf_volume.proofs.Gathered.{IsGathered, ext_below, member_is}
 use Rattle.adf_volume.proofs.Roles.{member_up}
-use Rattle.adf_findings.specs.Survey.{Course, IsCourse}
-use Rattle.adf_findings.specs.Survey.IsCourse.{start, step}
-use Rattle.adf_findings.specs.Survey.JudgementValue.{clean, reported, skipped}
+use Rattle.adf_findings.specs.Survey.{Course, IsCourse, IsCourse.start, IsCourse.step, JudgementValue.clean, JudgementValue.reported, JudgementValue.skipped}
 use Rattle.adf_findings.proofs.OneSurvey.{gathered}
 use Rattle.adf_findings.proofs.SoundMarks.{inside}
 

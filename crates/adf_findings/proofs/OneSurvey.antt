@@ -9,13 +9,11 @@ use Rattle.adf_volume.proofs.Lists.{fails_not_all}
 use Rattle.adf_volume.proofs.OneFault.{fails_one, neither_before, number_is}
 use Rattle.adf_volume.proofs.Roles.{same_role}
 use Rattle.adf_findings.specs.Demands.{demands_in}
-use Rattle.adf_findings.specs.Survey.{FindingValue, finding, JudgementValue, Judged, begun}
-use Rattle.adf_findings.specs.Survey.{Course, after, IsNext, IsCourse, IsDone, BitsTell, IsSurvey}
+use Rattle.adf_findings.specs.Survey.{FindingValue, finding, JudgementValue, Judged, begun, Course, after, IsNext, IsCourse, IsDone, BitsTell, IsSurvey}
 use Rattle.adf_findings.specs.Survey.JudgementValue.{clean, skipped}
 use Rattle.adf_findings.specs.Survey.IsCourse.{start, step}
 use Rattle.adf_findings.specs.Survey.BitsTell.{ends, agrees, differs}
-use Rattle.adf_volume.proofs.Gathered.{IsGathered, asks_one}
-use Rattle.adf_volume.proofs.Gathered.IsGathered.{start as gathered_start, step as gathered_step}
+use Rattle.adf_volume.proofs.Gathered.{IsGathered, asks_one, IsGathered.start as gathered_start, IsGathered.step as gathered_step}
 use Rattle.adf_findings.proofs.Starts.{boot_one, boot_told, not_unread, root_one, root_told, unread_one}
 
 -- a part is judged in one way

@@ -1,18 +1,14 @@
 -- Whether the parts of an image are surveyed, and the marks that are kept.
 -- Letters: w the walk of a survey, fs its findings; v a result; n a node.
 use Rattle.std.proofs.Common.{◌&&◌, ◌↔◌, Bool, nat_le, true, false, ◌≡◌, ◌≤◌, ℕ, List, [], inl, inr, refl, subst, arith}
-use Rattle.std.proofs.lemmas.Bool.{cases_lt}
-use Rattle.std.proofs.lemmas.Bool.Decides.{nat_tests}
-use Rattle.adf_volume.specs.Walk.{Has, HeadAt, node_block, Walk}
-use Rattle.adf_volume.specs.Walk.Role.{Page}
-use Rattle.adf_volume.proofs.Gathered.{IsGathered}
-use Rattle.adf_volume.proofs.Gathered.IsGathered.{start, step}
+use Rattle.std.proofs.lemmas.Bool.{cases_lt, Decides.nat_tests}
+use Rattle.adf_volume.specs.Walk.{Has, HeadAt, node_block, Walk, Role.Page}
+use Rattle.adf_volume.proofs.Gathered.{IsGathered, IsGathered.start, IsGathered.step}
 use Rattle.adf_findings.specs.Files.{counting, grave}
 use Rattle.adf_findings.specs.SoundMarks.{AreMarks, mark_in, whole_in}
 use Rattle.adf_findings.specs.Members.{has_mark}
 use Rattle.adf_findings.specs.Sound.{IsSound}
-use Rattle.adf_findings.specs.Survey.{BootTells, FindingValue, IsSurvey, OnSurvey, RootTells, UnreadTells}
-use Rattle.adf_findings.specs.Survey.IsSurvey.{read, unread}
+use Rattle.adf_findings.specs.Survey.{BootTells, FindingValue, IsSurvey, OnSurvey, RootTells, UnreadTells, IsSurvey.read, IsSurvey.unread}
 use Rattle.adf_findings.specs.SurveyResult.{IsOfSurvey, SurveyValue}
 use Rattle.adf_findings.proofs.Keeping.{root_no_entry, tells_each}
 use Rattle.adf_findings.proofs.OneSurvey.{gathered}

@@ -11,8 +11,7 @@ use Rattle.adf_findings.specs.declared.course.Reference.{Reference}
 use Rattle.adf_findings.specs.declared.judge.Judgement.{Judgement, TheVariants.Clean, TheVariants.Reported, TheVariants.Skipped}
 use Rattle.adf_findings.specs.declared.found.Found.{Found}
 use Rattle.adf_findings.specs.declared.progress.Progress.{Progress}
-use Rattle.adf_findings.specs.Survey.{Course, FindingValue, IsCourse, Judged, JudgementValue, after, finding}
-use Rattle.adf_findings.specs.Survey.JudgementValue.{reported, skipped}
+use Rattle.adf_findings.specs.Survey.{Course, FindingValue, IsCourse, Judged, JudgementValue, after, finding, JudgementValue.reported, JudgementValue.skipped}
 use Rattle.adf_findings.specs.Survey.IsCourse.{step}
 use Rattle.adf_findings.specs.Forms.{judgement_value}
 use Rattle.adf_findings.specs.Found.{IsBlockSkipped, Stands}

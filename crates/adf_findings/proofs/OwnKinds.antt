@@ -5,19 +5,16 @@ use Rattle.std.specs.Option.{unwrap_or}
 use Rattle.std.proofs.Common.{◌≡◌, ℕ, zero, suc, List, [], ◌==◌, ◌+◌, ◌≤◌, inl, inr, add-one, ap, refl, sym, ◌∙◌, arith}
 use Rattle.std.proofs.lemmas.Bool.Decides.{eqb_tells, nat_tests}
 use Rattle.std.proofs.lemmas.Grind.{common_steps}
-use Rattle.adf_names.specs.declared.kind.Kind.{Kind}
-use Rattle.adf_names.specs.declared.kind.Kind.TheVariants.{Ofs, Ffs}
+use Rattle.adf_names.specs.declared.kind.Kind.{Kind, TheVariants.Ofs, TheVariants.Ffs}
 use Rattle.adf_blocks.specs.Sizes.{blocks}
 use Rattle.adf_volume.specs.Image.{kind_of}
-use Rattle.adf_volume.specs.Walk.{Has, heads, node_block, Walk}
-use Rattle.adf_volume.specs.Walk.Role.{Data}
+use Rattle.adf_volume.specs.Walk.{Has, heads, node_block, Walk, Role.Data}
 use Rattle.adf_volume.proofs.Gathered.{number_of}
 use Rattle.adf_findings.specs.declared.own_kind.Tally.{Tally}
 use Rattle.adf_findings.specs.Members.{number_at, owning_entry}
 use Rattle.adf_findings.specs.OwnKind.{is_mistyped, is_other_kind, said_at, said_in, tallied, tally}
 use Rattle.adf_findings.specs.Sound.{IsSound, says_data_of}
-use Rattle.adf_findings.specs.Survey.{FindingValue, IsSurvey}
-use Rattle.adf_findings.specs.Survey.IsSurvey.{read, unread}
+use Rattle.adf_findings.specs.Survey.{FindingValue, IsSurvey, IsSurvey.read, IsSurvey.unread}
 use Rattle.adf_walk.specs.Owners.{owner_at}
 use Rattle.adf_findings.specs.WalkOwners.{data_number_of}
 use Rattle.adf_volume.specs.Parts.{entry_of}

@@ -7,16 +7,13 @@ use Rattle.adf_blocks.specs.Sizes.{blocks}
 use Rattle.adf_volume.specs.declared.owner.Owner.TheVariants.{Boot, Free}
 use Rattle.adf_volume.specs.Image.{root_of, word_in}
 use Rattle.adf_volume.specs.LayoutRoles.{owner_of}
-use Rattle.adf_volume.specs.Walk.{Has, Role, Walk}
-use Rattle.adf_volume.specs.Walk.Role.{Root}
+use Rattle.adf_volume.specs.Walk.{Has, Role, Walk, Role.Root}
 use Rattle.adf_volume.proofs.PartDemands.{part_holds_by}
 use Rattle.adf_volume.proofs.Sizes.{size_low}
 use Rattle.adf_walk.specs.Owners.{owned_count}
 use Rattle.adf_findings.specs.WalkOwners.{OwnersValue, node_after}
 use Rattle.adf_findings.specs.Found.{AreOwned}
-use Rattle.adf_findings.specs.Survey.{Course, IsCourse}
-use Rattle.adf_findings.specs.Survey.IsCourse.{start, step}
-use Rattle.adf_findings.specs.Survey.JudgementValue.{clean, reported, skipped}
+use Rattle.adf_findings.specs.Survey.{Course, IsCourse, IsCourse.start, IsCourse.step, JudgementValue.clean, JudgementValue.reported, JudgementValue.skipped}
 use Rattle.adf_findings.proofs.Begun.{new_count, new_owned}
 use Rattle.adf_findings.proofs.JudgementTests.{itself_holds}
 use Rattle.adf_findings.proofs.Known.{no_owner}

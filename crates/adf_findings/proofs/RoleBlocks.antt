@@ -5,8 +5,7 @@ use Rattle.std.specs.Ordering.{is_eq, nat_cmp}
 use Rattle.std.proofs.lemmas.Bool.{and_parts, cases_Bool, cond-false, cond-true, eqb-true, eq-eqb}
 use Rattle.std.proofs.lemmas.Grind.{common_steps}
 use Rattle.adf_tree.proofs.NameKeys.{same_number}
-use Rattle.adf_volume.specs.Walk.{Role, Has, Lacks, Same, Walk}
-use Rattle.adf_volume.specs.Walk.Role.{Page}
+use Rattle.adf_volume.specs.Walk.{Role, Has, Lacks, Same, Walk, Role.Page}
 use Rattle.adf_volume.proofs.Gathered.{IsGathered, one_block}
 use Rattle.adf_volume.proofs.Roles.{same_of, same_refl, same_role}
 use Rattle.adf_findings.specs.Members.{at_role, is_same}

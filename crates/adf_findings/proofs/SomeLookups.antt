@@ -11,8 +11,7 @@ use Rattle.adf_volume.proofs.DecidedAsks.{dec_file}
 use Rattle.adf_findings.specs.Demands.{uppers_in}
 use Rattle.adf_findings.specs.Members.{parent_node}
 use Rattle.adf_findings.specs.Lookup.{IsFirstChild, IsNamedChild, LeadsTo}
-use Rattle.adf_findings.specs.Survey.{FindingValue, IsSurvey}
-use Rattle.adf_findings.specs.Survey.IsSurvey.{read, unread}
+use Rattle.adf_findings.specs.Survey.{FindingValue, IsSurvey, IsSurvey.read, IsSurvey.unread}
 use Rattle.adf_findings.proofs.Keeping.{parent_is}
 use Rattle.adf_findings.proofs.Lookups.{child_between, child_told, leads_on}
 use Rattle.adf_findings.proofs.OneSurvey.{gathered}

@@ -10,15 +10,13 @@ use native.Mathlib.Decide.{dec_le, map_dec, ℕ_discrete}
 use Rattle.adf_names.specs.declared.kind.Kind.{Kind, TheVariants.Ofs, TheVariants.Ffs}
 use Rattle.adf_volume.specs.Image.{kind_of, word_in}
 use Rattle.adf_volume.specs.Lists.{In}
-use Rattle.adf_volume.specs.Walk.{Asks, Has, HeadAt, Role, Same, first, heads, node_block, second, third, Walk}
-use Rattle.adf_volume.specs.Walk.Role.{Data, Ext, Head}
+use Rattle.adf_volume.specs.Walk.{Asks, Has, HeadAt, Role, Same, first, heads, node_block, second, third, Walk, Role.Data, Role.Ext, Role.Head}
 use Rattle.adf_volume.proofs.Gathered.{number_of, one_head}
 use Rattle.adf_volume.proofs.Roles.{head_role}
 use Rattle.adf_findings.specs.Members.{owns}
 use Rattle.adf_findings.specs.Sound.{IsSound, IsUnreported, says_data_of}
 use Rattle.adf_findings.specs.SoundMarks.{AreMarks}
-use Rattle.adf_findings.specs.Survey.{Course, FindingValue, IsCourse, IsDone, IsSurvey}
-use Rattle.adf_findings.specs.Survey.IsSurvey.{read, unread}
+use Rattle.adf_findings.specs.Survey.{Course, FindingValue, IsCourse, IsDone, IsSurvey, IsSurvey.read, IsSurvey.unread}
 use Rattle.adf_findings.proofs.Decidability.{dec_both, dec_false}
 use Rattle.adf_findings.proofs.Lookups.{header_at}
 use Rattle.adf_findings.proofs.OneSurvey.{gathered}

@@ -8,16 +8,15 @@ use Rattle.adf_blocks.specs.declared.layout.TheConstants.{POINTERS, SIZE}
 use Rattle.adf_volume.specs.Image.{letters_of, held, kind_of, word_in, table_word}
 use Rattle.adf_volume.specs.Lists.{In}
 use Rattle.adf_volume.specs.Demands.{AllHold, data_demands, ext_demands}
-use Rattle.adf_volume.specs.Walk.{Before, Lacks, NodeAt, member_block, next_data, node_block, Walk}
-use Rattle.adf_volume.specs.Walk.{Role, second, Has, FileAt, MemberAt, data_count, Asks, IsAbsent, ext_count}
+use Rattle.adf_volume.specs.Walk.{Before, Lacks, NodeAt, member_block, next_data, node_block, Walk, Role, second, Has, FileAt, MemberAt, data_count, Asks}
+use Rattle.adf_volume.specs.Walk.{IsAbsent, ext_count}
 use Rattle.adf_volume.specs.Walk.Role.{Root, Head, Ext, Data}
 use Rattle.adf_volume.proofs.Lists.{in_left, in_right}
 use Rattle.adf_volume.proofs.Roles.{count_up, dec_has, dir_is_node, has_low, head_in, head_role, same_refl, typed_in}
 use Rattle.adf_findings.specs.Demands.{demands_in, form_demands_in, head_demands_in}
 use Rattle.adf_findings.specs.Files.{counting}
-use Rattle.adf_findings.specs.Survey.{FindingValue, finding, Course, IsNext, IsCourse, IsDone, IsSurvey}
+use Rattle.adf_findings.specs.Survey.{FindingValue, finding, Course, IsNext, IsCourse, IsDone, IsSurvey, IsCourse.start, IsCourse.step}
 use Rattle.adf_findings.specs.Survey.JudgementValue.{clean, reported, skipped}
-use Rattle.adf_findings.specs.Survey.IsCourse.{start, step}
 use Rattle.adf_findings.specs.Survey.IsSurvey.{unread, read}
 use Rattle.adf_findings.specs.Sound.{FileHolds, HeaderHolds, IsNextData, IsSound, IsUnreported}
 use Rattle.adf_volume.proofs.Gathered.{IsGathered, asked_dir, asked_file, asks_one, ext_counted, file_one, head_block, member_is, node_is, node_one, one_block}

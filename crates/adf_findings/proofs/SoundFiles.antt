@@ -4,8 +4,7 @@ use Rattle.adf_blocks.specs.declared.layout.TheConstants.{SECONDARY_TYPE, SIZE, 
 use Rattle.adf_volume.proofs.Images.{count_small}
 use Rattle.adf_volume.specs.Image.{kind_of, pieces, word_in}
 use Rattle.adf_volume.specs.Made.{datas_in}
-use Rattle.adf_volume.specs.Walk.{FileAt, data_count, node_block, Walk}
-use Rattle.adf_volume.specs.Walk.Role.{Data}
+use Rattle.adf_volume.specs.Walk.{FileAt, data_count, node_block, Walk, Role.Data}
 use Rattle.adf_volume.proofs.Lists.{at_index_or, at_some, in_left}
 use Rattle.adf_blocks.specs.Sizes.{blocks}
 use Rattle.adf_volume.specs.Pieces.{AreInside}
@@ -14,8 +13,7 @@ use Rattle.adf_volume.proofs.Roles.{same_refl}
 use Rattle.std.specs.List.{concat}
 use Rattle.adf_findings.specs.Files.{FileValue, HasItsBlocks, counting, file_content, file_from, file_in, names_from}
 use Rattle.adf_findings.specs.Sound.{IsSound}
-use Rattle.adf_findings.specs.Survey.{FindingValue, IsSurvey}
-use Rattle.adf_findings.specs.Survey.IsSurvey.{read, unread}
+use Rattle.adf_findings.specs.Survey.{FindingValue, IsSurvey, IsSurvey.read, IsSurvey.unread}
 use Rattle.adf_findings.specs.SurveyResult.{IsOfSurvey, SurveyValue}
 use Rattle.adf_findings.proofs.Keeping.{tells_each}
 use Rattle.adf_findings.proofs.FileBlocks.{DatasListed, datas_listed, listed_named, names_length}

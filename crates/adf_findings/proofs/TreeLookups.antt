@@ -13,8 +13,7 @@ use Rattle.adf_volume.specs.Image.{content, kind_of, letters_of, name_of, root_o
 use Rattle.adf_volume.specs.Layout.{Layout}
 use Rattle.adf_volume.specs.Lists.{At}
 use Rattle.adf_volume.specs.Made.{datas_in, entries_in, entry_in, layout_in, tree_in}
-use Rattle.adf_volume.specs.Walk.{Has, HeadAt, IsWalk, IsWhole, heads, node_block, Walk}
-use Rattle.adf_volume.specs.Walk.Role.{Head}
+use Rattle.adf_volume.specs.Walk.{Has, HeadAt, IsWalk, IsWhole, heads, node_block, Walk, Role.Head}
 use Rattle.adf_volume.proofs.Chains.{entry_is_at}
 use Rattle.adf_volume.proofs.FitWalks.{one_fit}
 use Rattle.adf_volume.specs.Demands.{boot_demands, root_demands}

@@ -1,14 +1,12 @@
 -- How an image begins for a check that accepts these types.
 -- Letters: at, c the block and the cause of a finding of the boot block; n a type.
-use Rattle.std.proofs.Common.{true, false, not, None, Some, Option, cond, ◌≡◌, ◌<◌, ◌&&◌, ◌==◌, ℕ, List, [], ◌∷◌, ◌⊎◌, ◌++◌, inl, inr, refl}
-use Rattle.std.proofs.Common.{sym, subst, ap, ◌∙◌, arith, slice_index}
-use Rattle.std.proofs.lemmas.Bool.{le-ltb}
-use Rattle.std.proofs.lemmas.Bool.Decides.{nat_tests}
+use Rattle.std.proofs.Common.{true, false, not, None, Some, Option, cond, ◌≡◌, ◌<◌, ◌&&◌, ◌==◌, ℕ, List, [], ◌∷◌, ◌⊎◌, ◌++◌, inl, inr, refl, sym, subst, ap}
+use Rattle.std.proofs.Common.{◌∙◌, arith, slice_index}
+use Rattle.std.proofs.lemmas.Bool.{le-ltb, Decides.nat_tests}
 use Rattle.std.proofs.lemmas.Grind.{common_steps}
 use Rattle.adf_base.specs.Words.{block}
 use Rattle.adf_base.specs.declared.hash.Letters.TheVariants.{Ascii, International as InternationalLetters}
-use Rattle.adf_blocks.specs.declared.cause.Cause.{Cause}
-use Rattle.adf_blocks.specs.declared.cause.Cause.TheVariants.{BadSize, DirCache, International, NotDos}
+use Rattle.adf_blocks.specs.declared.cause.Cause.{Cause, TheVariants.BadSize, TheVariants.DirCache, TheVariants.International, TheVariants.NotDos}
 use Rattle.adf_blocks.specs.Forms.{first_cause}
 use Rattle.adf_volume.specs.Demands.{AllHold, FirstFails, boot_demands, boot_demands_by, has_letters}
 use Rattle.adf_volume.specs.Image.{letters_of}
@@ -16,12 +14,10 @@ use Rattle.adf_volume.specs.Start.{start_form}
 use Rattle.adf_volume.proofs.ImageStart.{boot_fails, boot_holds, plain_letters}
 use Rattle.adf_volume.proofs.Lists.{fails_not_all}
 use Rattle.adf_volume.proofs.OneFault.{fails_one}
-use Rattle.adf_findings.specs.Survey.{BootTells, FindingValue, finding, is_other_type}
-use Rattle.adf_findings.specs.Survey.BootTells.{clean_boot, other_type}
+use Rattle.adf_findings.specs.Survey.{BootTells, FindingValue, finding, is_other_type, BootTells.clean_boot, BootTells.other_type}
 use Rattle.adf_volume.specs.Types.{letters_for}
 use Rattle.adf_findings.specs.Types.{passed, passed_of}
-use Rattle.adf_volume.specs.declared.types.Types.{Types}
-use Rattle.adf_volume.specs.declared.types.Types.TheVariants.{Plain, WithInternational}
+use Rattle.adf_volume.specs.declared.types.Types.{Types, TheVariants.Plain, TheVariants.WithInternational}
 use Rattle.adf_findings.proofs.FirstFindings.{BootReads, Reads}
 
 -- types 0 and 1 alone: each finding is a fault

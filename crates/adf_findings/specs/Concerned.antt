@@ -3,12 +3,9 @@
 -- s, j the slot and the position of a header in its chain.
 use Rattle.std.specs.Prelude.{ℕ, Bool, true, false, cond, List, Option, Some, None, is_some, slice_get}
 use Rattle.std.specs.Option.{option_and_then}
-use Rattle.adf_blocks.specs.declared.cause.Cause.{Cause}
-use Rattle.adf_blocks.specs.declared.cause.Cause.TheVariants.{Taken}
-use Rattle.adf_volume.specs.Walk.{Role, Walk}
-use Rattle.adf_volume.specs.Walk.Role.{Head, Ext, Data}
-use Rattle.adf_findings.specs.declared.concern.Concern.{Concern}
-use Rattle.adf_findings.specs.declared.concern.Concern.TheVariants.{Entry, Within}
+use Rattle.adf_blocks.specs.declared.cause.Cause.{Cause, TheVariants.Taken}
+use Rattle.adf_volume.specs.Walk.{Role, Walk, Role.Head, Role.Ext, Role.Data}
+use Rattle.adf_findings.specs.declared.concern.Concern.{Concern, TheVariants.Entry, TheVariants.Within}
 use Rattle.adf_findings.specs.Members.{at_role, owning_entry}
 use Rattle.adf_findings.specs.Survey.{FindingValue}
 

@@ -1,8 +1,7 @@
 -- The state of a survey along its course.
 -- Letters: s a course, w its walk; f, g the progress of a survey; k a position; a, i the block and the word that point to a part;
 -- b a block; n, p nodes; y a part that is due; x a reference, or the table of a file; m the number of a block in it; j a judgement.
-use Rattle.std.specs.Prelude.{◌≡◌, ◌≤◌, ◌<◌, ◌+◌, ◌*◌, ◌%◌, ◌==◌, ◌||◌, ℕ, true, false, cond, nat_le, nat_lt, min, map, List, ◌∷◌}
-use Rattle.std.specs.Prelude.{Option, Some, None, IfSome}
+use Rattle.std.specs.Prelude.{◌≡◌, ◌≤◌, ◌<◌, ◌+◌, ◌*◌, ◌%◌, ◌==◌, ◌||◌, ℕ, true, false, cond, nat_le, nat_lt, min, map, List, ◌∷◌, Option, Some, None, IfSome}
 use Rattle.std.proofs.Common.{suc}
 use Rattle.adf_blocks.specs.declared.layout.TheConstants.{EXTENSION, POINTERS}
 use Rattle.adf_blocks.specs.Sizes.{blocks}
@@ -11,14 +10,12 @@ use Rattle.adf_volume.specs.Positions.{Position, IsLink, IsPageHolder, IsUpTo, b
 use Rattle.adf_volume.specs.Walk.{Role, Asks, DirAt, Enough, FileAt, MemberAt, NamesPage, data_count, ext_count, heads, Walk}
 use Rattle.adf_volume.specs.Walk.Role.{Page, Head, Ext, Data}
 use Rattle.adf_volume.specs.Parts.{renumbered, role_of}
-use Rattle.adf_volume.specs.declared.part.Part.{Part}
-use Rattle.adf_volume.specs.declared.part.Part.TheVariants.{Data as DataPart}
+use Rattle.adf_volume.specs.declared.part.Part.{Part, TheVariants.Data as DataPart}
 use Rattle.adf_findings.specs.declared.course.Due.{Due}
 use Rattle.adf_findings.specs.declared.course.FileTable.{FileTable}
 use Rattle.adf_findings.specs.declared.course.Reference.{Reference}
 use Rattle.adf_findings.specs.declared.progress.Progress.{Progress}
-use Rattle.adf_findings.specs.declared.judge.Judgement.{Judgement}
-use Rattle.adf_findings.specs.declared.judge.Judgement.TheVariants.{Skipped}
+use Rattle.adf_findings.specs.declared.judge.Judgement.{Judgement, TheVariants.Skipped}
 use Rattle.adf_tree.specs.NameSet.{Names}
 use Rattle.adf_findings.specs.Demands.{demands_in}
 use Rattle.adf_findings.specs.Forms.{IsContext, Tells, judgement_value}

@@ -3,10 +3,8 @@
 -- r a role; w a walk.
 use Rattle.std.specs.Prelude.{◌≡◌, ℕ, Bool, true, false, ◌&&◌, ◌||◌, nat_le, nat_lt, cond, List, [], ◌∷◌, Option, Some, None}
 use Rattle.adf_base.specs.Words.{block}
-use Rattle.adf_names.specs.declared.kind.Kind.{Kind}
-use Rattle.adf_names.specs.declared.kind.Kind.TheVariants.{Ofs, Ffs}
-use Rattle.adf_blocks.specs.declared.cause.Cause.{Cause}
-use Rattle.adf_blocks.specs.declared.cause.Cause.TheVariants.{OutOfRange, SameName, ShortFile, Taken}
+use Rattle.adf_names.specs.declared.kind.Kind.{Kind, TheVariants.Ofs, TheVariants.Ffs}
+use Rattle.adf_blocks.specs.declared.cause.Cause.{Cause, TheVariants.OutOfRange, TheVariants.SameName, TheVariants.ShortFile, TheVariants.Taken}
 use Rattle.adf_blocks.specs.declared.layout.TheConstants.{SIZE}
 use Rattle.adf_blocks.specs.Sizes.{blocks, in_range}
 use Rattle.adf_blocks.specs.Forms.{Clause, first_cause}
@@ -14,18 +12,15 @@ use Rattle.adf_blocks.specs.DataBlock.{data_form}
 use Rattle.adf_blocks.specs.ExtBlock.{ext_form}
 use Rattle.adf_blocks.specs.PageBlock.{page_form}
 use Rattle.adf_volume.specs.Image.{held, kind_of, word_in}
-use Rattle.adf_volume.specs.Walk.{Role, Enough, IsAbsent, next_data, node_block, Walk}
-use Rattle.adf_volume.specs.Walk.Role.{Head, Ext, Data}
+use Rattle.adf_volume.specs.Walk.{Role, Enough, IsAbsent, next_data, node_block, Walk, Role.Head, Role.Ext, Role.Data}
 use Rattle.adf_findings.specs.Demands.{head_form_in}
 use Rattle.adf_volume.specs.declared.part.Part.{Part}
-use Rattle.adf_volume.specs.declared.part.Part.TheVariants.{Root as RootPart, Page as PagePart, MapExt as MapExtPart, Head as HeadPart}
-use Rattle.adf_volume.specs.declared.part.Part.TheVariants.{Ext as ExtPart, Data as DataPart}
+use Rattle.adf_volume.specs.declared.part.Part.TheVariants.{Root as RootPart, Page as PagePart, MapExt as MapExtPart, Head as HeadPart, Ext as ExtPart}
+use Rattle.adf_volume.specs.declared.part.Part.TheVariants.{Data as DataPart}
 use Rattle.adf_findings.specs.declared.forms.Context.{Context}
 use Rattle.adf_findings.specs.declared.judge.Facts.{Facts}
-use Rattle.adf_findings.specs.declared.judge.Judgement.{Judgement}
-use Rattle.adf_findings.specs.declared.judge.Judgement.TheVariants.{Clean, Reported, Skipped}
-use Rattle.adf_findings.specs.Survey.{JudgementValue, is_kept}
-use Rattle.adf_findings.specs.Survey.JudgementValue.{clean, reported, skipped}
+use Rattle.adf_findings.specs.declared.judge.Judgement.{Judgement, TheVariants.Clean, TheVariants.Reported, TheVariants.Skipped}
+use Rattle.adf_findings.specs.Survey.{JudgementValue, is_kept, JudgementValue.clean, JudgementValue.reported, JudgementValue.skipped}
 use Rattle.adf_volume.specs.Parts.{role_of}
 
 -- the form of a data block; none for FFS

@@ -1,29 +1,25 @@
 -- The state of a survey, as a course.
 -- Letters: w a walk, s a course; q, r roles; b, c blocks; i the number of a page; n, p nodes; f a state; fs, gs, bits findings.
-use Rattle.std.specs.Prelude.{◌≡◌, ◌≤◌, ◌<◌, ◌+◌, ◌-◌, ◌==◌, ◌&&◌, ◌||◌, ℕ, Bool, true, false, cond, not, List, []}
-use Rattle.std.specs.Prelude.{◌∷◌, ◌++◌, ◌⊎◌, length, nat_lt, replicate, set, slice_index, slice_index_or, Option, Some, None, IsTrue, ◌↔◌}
+use Rattle.std.specs.Prelude.{◌≡◌, ◌≤◌, ◌<◌, ◌+◌, ◌-◌, ◌==◌, ◌&&◌, ◌||◌, ℕ, Bool, true, false, cond, not, List, [], ◌∷◌, ◌++◌, ◌⊎◌, length, nat_lt, replicate}
+use Rattle.std.specs.Prelude.{set, slice_index, slice_index_or, Option, Some, None, IsTrue, ◌↔◌}
 use Rattle.std.proofs.Common.{zero, suc}
 use Rattle.std.specs.Ordering.{nat_cmp}
 use Rattle.std.specs.Str.{bytes_eq}
 use Rattle.std.specs.BTreeMap.{BTreeMap, Updates, get}
 use Rattle.adf_tree.specs.NameSet.{Names, has}
 use Rattle.adf_names.specs.Texts.{is_name}
-use Rattle.adf_blocks.specs.declared.cause.Cause.{Cause}
-use Rattle.adf_blocks.specs.declared.cause.Cause.TheVariants.{LostBlock, OwnedFree}
+use Rattle.adf_blocks.specs.declared.cause.Cause.{Cause, TheVariants.LostBlock, TheVariants.OwnedFree}
 use Rattle.adf_volume.specs.Demands.{AllHold, FirstFails}
 use Rattle.adf_blocks.specs.Sizes.{blocks}
 use Rattle.adf_volume.specs.Image.{IsFreeAt, name_of}
 use Rattle.adf_volume.specs.LayoutRoles.{owner_of}
-use Rattle.adf_volume.specs.declared.owner.Owner.{Owner}
-use Rattle.adf_volume.specs.declared.owner.Owner.TheVariants.{Free, Boot}
+use Rattle.adf_volume.specs.declared.owner.Owner.{Owner, TheVariants.Free, TheVariants.Boot}
 use Rattle.adf_volume.specs.Positions.{Position}
-use Rattle.adf_volume.specs.Walk.{Role, first, second, third, Has, bitmap_demands, heads, node_block, Walk}
-use Rattle.adf_volume.specs.Walk.Role.{Page, Head, Ext, Data}
+use Rattle.adf_volume.specs.Walk.{Role, first, second, third, Has, bitmap_demands, heads, node_block, Walk, Role.Page, Role.Head, Role.Ext, Role.Data}
 use Rattle.adf_walk.specs.Owners.{is_part, owned_count, owner_at}
 use Rattle.adf_findings.specs.WalkOwners.{HasNumber, OwnersValue, node_after}
 use Rattle.adf_findings.specs.Demands.{uppers_in}
-use Rattle.adf_volume.specs.declared.part.Part.{Part}
-use Rattle.adf_volume.specs.declared.part.Part.TheVariants.{Page as PagePart, Head as HeadPart}
+use Rattle.adf_volume.specs.declared.part.Part.{Part, TheVariants.Page as PagePart, TheVariants.Head as HeadPart}
 use Rattle.adf_findings.specs.declared.found.ChainPlace.{ChainPlace}
 use Rattle.adf_findings.specs.declared.found.Found.{Found}
 use Rattle.adf_findings.specs.Survey.{BitsTell, Course, FindingValue, IsCompared, IsCourse, IsDone}

@@ -7,8 +7,7 @@ use Rattle.adf_base.specs.Words.{block}
 use Rattle.adf_blocks.specs.declared.layout.TheConstants.{SIZE}
 use Rattle.adf_blocks.specs.Sizes.{blocks, chunk, count}
 use Rattle.adf_volume.specs.Image.{held, kind_of, piece, word_in}
-use Rattle.adf_volume.specs.Walk.{node_block, Walk}
-use Rattle.adf_volume.specs.Walk.Role.{Data}
+use Rattle.adf_volume.specs.Walk.{node_block, Walk, Role.Data}
 use Rattle.adf_walk.specs.Owners.{owner_at}
 use Rattle.adf_findings.specs.WalkOwners.{data_number_of}
 use Rattle.adf_volume.specs.Parts.{entry_of}

@@ -10,8 +10,7 @@ use Rattle.adf_names.specs.declared.kind.Kind.TheVariants.{Ffs}
 use Rattle.adf_volume.specs.Lists.{At, In}
 use Rattle.adf_volume.specs.Made.{datas_in}
 use Rattle.adf_volume.specs.Image.{held, kind_of, table_word, word_in}
-use Rattle.adf_volume.specs.Walk.{Role, Same, Has, HeadAt, NodeAt, MemberAt, data_count, Asks, node_block, Walk}
-use Rattle.adf_volume.specs.Walk.Role.{Head, Ext, Data}
+use Rattle.adf_volume.specs.Walk.{Role, Same, Has, HeadAt, NodeAt, MemberAt, data_count, Asks, node_block, Walk, Role.Head, Role.Ext, Role.Data}
 use Rattle.adf_findings.specs.Demands.{head_demands_in}
 use Rattle.adf_findings.specs.Survey.{FindingValue}
 

@@ -5,15 +5,14 @@
 use Rattle.std.specs.Prelude.{◌≡◌, ◌==◌, ◌&&◌, ℕ, Bool, true, false, nat_le, List, [], ◌∷◌, ◌++◌, ◌-◌, ◌/◌, Option, Some, None, slice_index}
 use Rattle.std.proofs.Common.{suc}
 use Rattle.adf_blocks.specs.declared.cause.Cause.{Cause}
-use Rattle.adf_blocks.specs.declared.cause.Cause.TheVariants.{BadSum, Link, BadName, BadComment, WrongSlot, BadFirst, SameName, ShortFile}
-use Rattle.adf_blocks.specs.declared.cause.Cause.TheVariants.{BadHashSize, DirCache, International, NotValidated}
+use Rattle.adf_blocks.specs.declared.cause.Cause.TheVariants.{BadSum, Link, BadName, BadComment, WrongSlot, BadFirst, SameName, ShortFile, BadHashSize}
+use Rattle.adf_blocks.specs.declared.cause.Cause.TheVariants.{DirCache, International, NotValidated}
 use Rattle.adf_base.specs.Words.{block}
 use Rattle.adf_blocks.specs.declared.layout.TheConstants.{BITMAP_FLAG, OWN_KEY, PAGE_BITS, T_DIR_CACHE, TYPE, VALID}
 use Rattle.adf_blocks.specs.Sizes.{blocks}
 use Rattle.adf_volume.specs.Image.{word_in, root_of}
 use Rattle.adf_volume.specs.Demands.{Demand, AllHold, FirstFails, boot_demands, root_demands}
-use Rattle.adf_volume.specs.Walk.{Role, Before, Has, Asks, Lacks, IsAbsent, bitmap_demands, Walk}
-use Rattle.adf_volume.specs.Walk.Role.{Root, Page}
+use Rattle.adf_volume.specs.Walk.{Role, Before, Has, Asks, Lacks, IsAbsent, bitmap_demands, Walk, Role.Root, Role.Page}
 use Rattle.adf_findings.specs.Demands.{demands_in}
 
 -- A finding: the part that it concerns, if any; the block reported; the cause.

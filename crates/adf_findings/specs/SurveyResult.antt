@@ -10,14 +10,12 @@ use Rattle.adf_volume.specs.declared.owner.Owner.{Owner}
 use Rattle.adf_walk.specs.Owners.{is_part, owner_at}
 use Rattle.adf_findings.specs.WalkOwners.{data_number_of}
 use Rattle.adf_volume.specs.Parts.{entry_of}
-use Rattle.adf_volume.specs.Walk.{Has, heads, node_block, Walk}
-use Rattle.adf_volume.specs.Walk.Role.{Page}
+use Rattle.adf_volume.specs.Walk.{Has, heads, node_block, Walk, Role.Page}
 use Rattle.adf_findings.specs.declared.concern.Concern.{Concern}
 use Rattle.adf_findings.specs.declared.finding.Finding.{Finding}
 use Rattle.adf_findings.specs.Concerned.{concern_of_nth, is_taken}
 use Rattle.adf_findings.specs.Files.{grave}
-use Rattle.adf_findings.specs.Members.{at_role, number_at, owning_entry, owns, parent_node}
-use Rattle.adf_findings.specs.Members.{has_mark}
+use Rattle.adf_findings.specs.Members.{at_role, number_at, owning_entry, owns, parent_node, has_mark}
 use Rattle.adf_findings.specs.Parts.{finding_value}
 use Rattle.adf_findings.specs.Sound.{IsSound}
 use Rattle.adf_findings.specs.Survey.{FindingValue, IsSurvey, IsValidated}

@@ -6,8 +6,7 @@ use Rattle.adf_volume.specs.Fits.{FitsBy}
 use Rattle.adf_volume.specs.Layout.{Layout}
 use Rattle.adf_volume.specs.Walk.{FirstFaultBy}
 use Rattle.adf_volume.specs.Types.{letters_for}
-use Rattle.adf_volume.specs.declared.types.Types.{Types}
-use Rattle.adf_volume.specs.declared.types.Types.TheVariants.{Plain}
+use Rattle.adf_volume.specs.declared.types.Types.{Types, TheVariants.Plain}
 
 -- a tree and a layout fit the image, or it has a first fault, where volumes of these types are accepted
 abbrev pub FitsOrHasFaultBy : Types → List ℕ → Type 0

@@ -1,8 +1,7 @@
 // The pages of the bitmap, and what it tells of blocks.
 
 ghost use Rattle.std.specs.Prelude.{◌≡◌, ◌↔◌, ℕ, IfSome, IsSome, IsTrue, Some};
-ghost use Rattle.adf_volume.specs.Walk.{Has, IsFreeIn};
-ghost use Rattle.adf_volume.specs.Walk.Role.{Page};
+ghost use Rattle.adf_volume.specs.Walk.{Has, IsFreeIn, Role.Page};
 ghost use Rattle.adf_findings.specs.Survey.{OnSurvey};
 ghost use Rattle.adf_findings.specs.SurveyResult.{IsBitStated};
 

@@ -3,8 +3,7 @@
 ghost use Rattle.std.specs.Prelude.{◌≡◌, IfErr, IfOk, false};
 ghost use Rattle.adf_volume.specs.Demands.{FirstFails, IsSize, boot_demands};
 ghost use Rattle.adf_findings.specs.Start.{boot_findings, root_findings, unread_findings};
-ghost use Rattle.adf_findings.specs.Survey.{BootTells, RootJudged, RootTells, UnreadTells, is_other_type};
-ghost use Rattle.adf_findings.specs.Survey.JudgementValue.{skipped};
+ghost use Rattle.adf_findings.specs.Survey.{BootTells, RootJudged, RootTells, UnreadTells, is_other_type, JudgementValue.skipped};
 
 use crate::image::Image;
 use adf_base::BLOCK_LEN;

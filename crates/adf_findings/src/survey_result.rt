@@ -1,19 +1,17 @@
 // The results of a survey.
 
-ghost use Rattle.std.specs.Prelude.{◌≡◌, ◌≤◌, ◌<◌, ◌↔◌, ℕ, [], map, slice_index};
-ghost use Rattle.std.specs.Prelude.{true, slice_get, IsTrue, IsNone, IsOk, IsSome, IfOk, IfSome};
+ghost use Rattle.std.specs.Prelude.{◌≡◌, ◌≤◌, ◌<◌, ◌↔◌, ℕ, [], map, slice_index, true, slice_get, IsTrue, IsNone, IsOk, IsSome};
+ghost use Rattle.std.specs.Prelude.{IfOk, IfSome};
 ghost use Rattle.std.specs.Option.{option_flatten};
 ghost use Rattle.adf_blocks.specs.HeadBlock.{body_at, meta_stated};
 ghost use Rattle.adf_blocks.specs.Sizes.{is_allowed};
 ghost use Rattle.adf_base.specs.Words.{block};
 ghost use Rattle.adf_volume.specs.Image.{letters_of, name_of};
-ghost use Rattle.adf_volume.specs.Walk.{FileAt, Has, heads, node_block};
-ghost use Rattle.adf_volume.specs.Walk.Role.{Head};
+ghost use Rattle.adf_volume.specs.Walk.{FileAt, Has, heads, node_block, Role.Head};
 ghost use Rattle.adf_findings.specs.Concerned.{concern_of_nth, taker_of_nth};
 ghost use Rattle.adf_findings.specs.Files.{IsSoundFile, counting, file_in, grave};
-ghost use Rattle.adf_findings.specs.Members.{number_at as number_of, owning_entry, owns, parent_node};
+ghost use Rattle.adf_findings.specs.Members.{number_at as number_of, owning_entry, owns, parent_node, has_mark};
 ghost use Rattle.adf_findings.specs.SoundMarks.{AreMarks, mark_in, whole_in};
-ghost use Rattle.adf_findings.specs.Members.{has_mark};
 ghost use Rattle.adf_findings.specs.Opening.{opening_in};
 ghost use Rattle.adf_findings.specs.Parts.{finding_value};
 ghost use Rattle.adf_findings.specs.Sound.{IsSound};

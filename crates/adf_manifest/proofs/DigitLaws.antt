@@ -1,9 +1,8 @@
 -- Laws of hexadecimal digits.
-use Rattle.std.proofs.Common.{◌&&◌, true, ◌≡◌, ◌<◌, ◌^◌, ◌+◌, ◌*◌, ◌/◌, ◌%◌, ◌==◌, ◌++◌, ◌∙◌, ℕ, false, List, [], ◌∷◌, refl, ap, arith, length}
-use Rattle.std.proofs.Common.{get_or, zero, suc}
+use Rattle.std.proofs.Common.{◌&&◌, true, ◌≡◌, ◌<◌, ◌^◌, ◌+◌, ◌*◌, ◌/◌, ◌%◌, ◌==◌, ◌++◌, ◌∙◌, ℕ, false, List, [], ◌∷◌, refl, ap, arith, length, get_or, zero}
+use Rattle.std.proofs.Common.{suc}
 use Rattle.std.specs.List.{All, list_all}
-use Rattle.std.proofs.lemmas.Bool.{and_from, and_parts}
-use Rattle.std.proofs.lemmas.Bool.Decides.{nat_tests}
+use Rattle.std.proofs.lemmas.Bool.{and_from, and_parts, Decides.nat_tests}
 use Rattle.std.proofs.lemmas.List.Elements.{All-cons, All-head, All-nil, All-tail}
 use Rattle.std.proofs.lemmas.Grind.{common_steps}
 use Rattle.adf_names.specs.Escapes.{hex_digit}

@@ -1,8 +1,7 @@
 -- A manifest with one more line.
 use Rattle.std.proofs.Common.{◌≡◌, ◌++◌, ℕ, List, [], ◌∷◌, Option, Some, None, refl, sym, subst, arith, IfSome, IsOk}
 use Rattle.std.specs.List.{All, flat_map}
-use Rattle.std.proofs.lemmas.List.{append_assoc, append-nil, map-append}
-use Rattle.std.proofs.lemmas.List.Elements.{All-push}
+use Rattle.std.proofs.lemmas.List.{append_assoc, append-nil, map-append, Elements.All-push}
 use Rattle.std.proofs.lemmas.Grind.{flat_map-append, common_steps}
 use Rattle.adf_names.specs.Escapes.{escaped}
 use Rattle.adf_tree.specs.Tree.{Tree, room_for}

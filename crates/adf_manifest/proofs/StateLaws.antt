@@ -2,8 +2,7 @@
 use Rattle.std.proofs.Common.{◌≡◌, ◌≤◌, inl, inr, ◌<◌, ◌++◌, ◌∙◌, ℕ, List, [], ◌∷◌, Option, Some, None, refl, sym, ap, subst, arith, length, length-append}
 use Rattle.std.specs.Prelude.{IsOk, IfErr, Result, Ok, Err, is_some, false}
 use Rattle.std.specs.List.{All}
-use Rattle.std.proofs.lemmas.List.{append-nil, length-replicate}
-use Rattle.std.proofs.lemmas.List.Elements.{All-head, All-nil}
+use Rattle.std.proofs.lemmas.List.{append-nil, length-replicate, Elements.All-head, Elements.All-nil}
 use Rattle.adf_base.specs.declared.dates.Stamp.{Stamp}
 use Rattle.adf_base.specs.declared.hash.Letters.TheVariants.{Ascii}
 use Rattle.adf_names.specs.Escapes.{IsSpelling, escaped}
@@ -15,8 +14,8 @@ use Rattle.adf_tree.specs.Tree.{Tree, room_for, with_entry, with_entry_by}
 use Rattle.adf_tree.specs.declared.entry.Body.{Body}
 use Rattle.adf_manifest.specs.Lines.{EntryLine, IsLine, IsRun, RunValue, DataRun, FillRun, entry_line, note_line, run_line, LineValue}
 use Rattle.adf_manifest.specs.Items.{IsItem, Item, body_of_sort, bytes_of_runs, items_tree, run_bytes, with_item}
-use Rattle.adf_manifest.specs.Manifest.{Entries, IsPreamble, IsWell, Manifest, MayStand, preamble_lines, preamble_tree, items_of, manifest_lines}
-use Rattle.adf_manifest.specs.Manifest.{manifest_tree, ExplainsKind, lines, most_bytes}
+use Rattle.adf_manifest.specs.Manifest.{Entries, IsPreamble, IsWell, Manifest, MayStand, preamble_lines, preamble_tree, items_of, manifest_lines, manifest_tree}
+use Rattle.adf_manifest.specs.Manifest.{ExplainsKind, lines, most_bytes}
 use Rattle.adf_manifest.specs.Reader.{HasNextLine, IsLastEntry, IsReading, Stops, StopsIn, bare, ExplainsLines}
 use Rattle.adf_manifest.specs.declared.lines.Sort.{Sort, TheVariants.File}
 use Rattle.adf_manifest.specs.declared.reader.Preamble.{Preamble}

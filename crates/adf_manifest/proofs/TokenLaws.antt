@@ -1,22 +1,17 @@
 -- Laws of parts of lines: cuts at a byte, numbers in decimal, stamps.
-use Rattle.std.proofs.Common.{◌≡◌, ◌-◌, ◌+◌, ◌≢◌, ◌≤◌, ◌<◌, ◌^◌, ◌==◌, ◌&&◌, ◌||◌, not, ◌++◌, ◌∙◌, ℕ, Bool, true, false, nat_lt, List, ◌∷◌, []}
-use Rattle.std.proofs.Common.{Option, Some, None, Result, Ok, IfNone, refl, sym, ap, subst, arith, rules, length, slice_index, slice_index_or, length-append}
-use Rattle.std.proofs.Common.{drop, take, take-append-drop, IfSome, MatchOption, nat_eq}
+use Rattle.std.proofs.Common.{◌≡◌, ◌-◌, ◌+◌, ◌≢◌, ◌≤◌, ◌<◌, ◌^◌, ◌==◌, ◌&&◌, ◌||◌, not, ◌++◌, ◌∙◌, ℕ, Bool, true, false, nat_lt, List, ◌∷◌, [], Option, Some}
+use Rattle.std.proofs.Common.{None, Result, Ok, IfNone, refl, sym, ap, subst, arith, rules, length, slice_index, slice_index_or, length-append, drop, take}
+use Rattle.std.proofs.Common.{take-append-drop, IfSome, MatchOption, nat_eq}
 use Rattle.std.proofs.Math.Seq.{get_or-append_seam}
 use Rattle.std.specs.List.{slice_split}
 use Rattle.std.specs.Result.{OkIff}
-use Rattle.std.proofs.lemmas.Bool.{cases_eq, cases_lt}
+use Rattle.std.proofs.lemmas.Bool.{cases_eq, cases_lt, Decides.nat_tests}
 use Rattle.std.specs.Fmt.{decimal}
-use Rattle.std.specs.Str.{IsUtf8}
-use Rattle.std.specs.Str.Parse.{AllDigits, ParsesUnsigned, digits_value}
+use Rattle.std.specs.Str.{IsUtf8, Parse.AllDigits, Parse.ParsesUnsigned, Parse.digits_value}
 use Rattle.std.proofs.lemmas.Fmt.{IsAscii-decimal, decimal_is_IsNumeral, decimal-digits_value, decimal_digit, decimal_nonempty, first_decimal, parse-decimal}
 use Rattle.std.specs.Cmp.Lexicographic.{other_text, pointwise, same_text}
-use Rattle.std.proofs.lemmas.List.{append_cancel_left, take_at}
-use Rattle.std.proofs.lemmas.Bool.Decides.{nat_tests}
-use Rattle.std.proofs.lemmas.List.Elements.{All-append, All-cons, All-from_get_or}
-use Rattle.std.proofs.lemmas.List.Splits.{slice_split_at}
-use Rattle.std.proofs.lemmas.Str.{IsUtf8-from_ascii}
-use Rattle.std.proofs.lemmas.Str.Parse.{IsNumeralModel, digit_at, numerals_by_value, parse_plain, tells_digits}
+use Rattle.std.proofs.lemmas.List.{append_cancel_left, take_at, Elements.All-append, Elements.All-cons, Elements.All-from_get_or, Splits.slice_split_at}
+use Rattle.std.proofs.lemmas.Str.{IsUtf8-from_ascii, Parse.IsNumeralModel, Parse.digit_at, Parse.numerals_by_value, Parse.parse_plain, Parse.tells_digits}
 use Rattle.std.proofs.lemmas.Grind.{common_steps}
 use Rattle.adf_base.specs.Dates.{plain_text, IsStamp}
 use Rattle.adf_base.specs.declared.dates.Stamp.{Stamp}

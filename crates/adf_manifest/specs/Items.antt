@@ -13,8 +13,7 @@ use Rattle.adf_tree.specs.declared.entry.Body.TheVariants as body
 use Rattle.adf_names.specs.declared.meta.Meta.{Meta}
 use Rattle.adf_base.specs.Dates.{IsStamp}
 use Rattle.adf_manifest.specs.Lines.{IsRun, RunValue, DataRun, FillRun, entry_line, note_line, run_line}
-use Rattle.adf_manifest.specs.declared.lines.Sort.{Sort}
-use Rattle.adf_manifest.specs.declared.lines.Sort.TheVariants.{Dir, File}
+use Rattle.adf_manifest.specs.declared.lines.Sort.{Sort, TheVariants.Dir, TheVariants.File}
 
 -- an entry of a manifest: the fields of its line, its note, and the bytes from the lines of a file
 pub record Item : Type 0 where

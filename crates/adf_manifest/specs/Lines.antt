@@ -9,8 +9,7 @@ use Rattle.adf_manifest.specs.Tokens.{stamps_text}
 use Rattle.adf_names.specs.Meta.{AreStamps}
 use Rattle.adf_names.specs.Kinds.{kind_text}
 use Rattle.adf_manifest.specs.Texts.{hex_word, pair, pairs}
-use Rattle.adf_manifest.specs.declared.lines.Sort.{Sort}
-use Rattle.adf_manifest.specs.declared.lines.Sort.TheVariants.{Dir, File}
+use Rattle.adf_manifest.specs.declared.lines.Sort.{Sort, TheVariants.Dir, TheVariants.File}
 use Rattle.adf_manifest.specs.declared.lines.EntryText.{EntryText}
 use Rattle.adf_manifest.specs.declared.lines.Run.{Run}
 use Rattle.adf_manifest.specs.declared.lines.Run.TheVariants as run

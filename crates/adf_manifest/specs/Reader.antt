@@ -4,10 +4,9 @@ use Rattle.adf_drafts.specs.Draft.{IsRoomFor}
 use Rattle.adf_tree.specs.Tree.{Tree}
 use Rattle.adf_manifest.specs.Lines.{LineValue}
 use Rattle.adf_manifest.specs.Items.{Item, bytes_of_runs, items_tree}
-use Rattle.adf_manifest.specs.Manifest.{Entries, HasFault, IsFaultOf, IsLaterFault, IsWell, Manifest, MayStand, MayTakeMemory, TakesMemory}
-use Rattle.adf_manifest.specs.Manifest.{preamble_tree, manifest_lines, manifest_tree}
-use Rattle.adf_manifest.specs.declared.manifest.ManifestKind.{ManifestKind}
-use Rattle.adf_manifest.specs.declared.manifest.ManifestKind.TheVariants.{BadLine, NoMemory}
+use Rattle.adf_manifest.specs.Manifest.{Entries, HasFault, IsFaultOf, IsLaterFault, IsWell, Manifest, MayStand, MayTakeMemory, TakesMemory, preamble_tree}
+use Rattle.adf_manifest.specs.Manifest.{manifest_lines, manifest_tree}
+use Rattle.adf_manifest.specs.declared.manifest.ManifestKind.{ManifestKind, TheVariants.BadLine, TheVariants.NoMemory}
 use Rattle.adf_manifest.specs.declared.reader.Preamble.{Preamble}
 use Rattle.adf_manifest.specs.declared.reader.LastEntry.{LastEntry}
 use Rattle.adf_manifest.specs.declared.reader.Reading.{Reading}

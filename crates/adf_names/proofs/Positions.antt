@@ -1,11 +1,8 @@
 -- The first element that passes a test, and a list cut there.
-use Rattle.std.proofs.Common.{◌≡◌, List, [], ◌∷◌, false, Bool, arith, sym, ◌∙◌, ap, Some, None, take, drop, ◌+◌, ◌-◌}
-use Rattle.std.proofs.Common.{nat_lt, ℕ, length, ◌<◌, position}
+use Rattle.std.proofs.Common.{◌≡◌, List, [], ◌∷◌, false, Bool, arith, sym, ◌∙◌, ap, Some, None, take, drop, ◌+◌, ◌-◌, nat_lt, ℕ, length, ◌<◌, position}
 use Rattle.std.specs.List.{All, position_or_len, slice_split}
 use Rattle.std.proofs.lemmas.Bool.{cases_Bool, ltb-false}
-use Rattle.std.proofs.lemmas.List.{take_rest}
-use Rattle.std.proofs.lemmas.List.Quantifiers.{position-Some}
-use Rattle.std.proofs.lemmas.List.Splits.{slice_split_first, slice_split_none}
+use Rattle.std.proofs.lemmas.List.{take_rest, Quantifiers.position-Some, Splits.slice_split_first, Splits.slice_split_none}
 use Rattle.std.proofs.lemmas.List.Sums.{position_or_len_is, fails_before_first}
 use Rattle.std.proofs.lemmas.Grind.{common_steps}
 

@@ -1,7 +1,6 @@
 -- The numbers and texts of faults of a path's text.
 use Rattle.std.specs.Prelude.{ℕ, List, codes}
-use Rattle.adf_names.specs.declared.path_texts.PathFault.{PathFault}
-use Rattle.adf_names.specs.declared.path_texts.PathFault.TheVariants.{BadText, NoMemory}
+use Rattle.adf_names.specs.declared.path_texts.PathFault.{PathFault, TheVariants.BadText, TheVariants.NoMemory}
 
 -- the number of a fault of a path's text, 1 or 2
 abbrev pub path_fault_number : PathFault → ℕ

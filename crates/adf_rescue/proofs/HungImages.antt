@@ -1,12 +1,10 @@
 -- Hung images: the directories that are made, the steps, and what stays.
 -- Letters: given the image of a survey, w its walk, s whether each directory is settled; b, p blocks; k, n numbers of blocks;
 -- e an end; v, m, l, t answers of tests.
-use Rattle.std.proofs.Common.{◌==◌, ◌&&◌, ◌||◌, slice_index, slice_index_or, cond, replicate, Some, None, codes, decimal, ◌≡◌, ◌≤◌, ◌<◌, ℕ, zero}
-use Rattle.std.proofs.Common.{suc, ◌+◌, ◌^◌, Bool, true, false, List, []}
-use Rattle.std.proofs.Common.{◌∷◌, length, add-one, ◌∙◌, ap, arith, inl, inr, refl, subst, sym, length-append}
+use Rattle.std.proofs.Common.{◌==◌, ◌&&◌, ◌||◌, slice_index, slice_index_or, cond, replicate, Some, None, codes, decimal, ◌≡◌, ◌≤◌, ◌<◌, ℕ, zero, suc, ◌+◌, ◌^◌}
+use Rattle.std.proofs.Common.{Bool, true, false, List, [], ◌∷◌, length, add-one, ◌∙◌, ap, arith, inl, inr, refl, subst, sym, length-append}
 use Rattle.std.specs.List.{list_all}
-use Rattle.std.proofs.lemmas.Bool.{and_from, and_left, cases_lt, cond-false, cond-true, or_from, or_left, or_right}
-use Rattle.std.proofs.lemmas.Bool.Decides.{nat_tests}
+use Rattle.std.proofs.lemmas.Bool.{and_from, and_left, cases_lt, cond-false, cond-true, or_from, or_left, or_right, Decides.nat_tests}
 use Rattle.std.proofs.lemmas.Fmt.{decimal_is_IsNumeral, length-decimal-le}
 use Rattle.std.proofs.lemmas.List.Folds.{list_all-append}
 use Rattle.adf_names.specs.Texts.{is_name, is_name_byte}
@@ -14,8 +12,7 @@ use Rattle.adf_blocks.specs.declared.layout.TheConstants.{NEXT_IN_CHAIN, PARENT}
 use Rattle.adf_blocks.specs.Sizes.{blocks, in_range}
 use Rattle.adf_volume.specs.Image.{word_in}
 use Rattle.adf_volume.specs.Walk.{heads, Walk}
-use Rattle.adf_findings.specs.Members.{has_mark}
-use Rattle.adf_findings.specs.Members.{owns, parent_node}
+use Rattle.adf_findings.specs.Members.{has_mark, owns, parent_node}
 use Rattle.adf_rescue.specs.Hung.{AreEnds, AreMade, directory_end, hung_at, hung_in, slot_word, last_open, open_end, hung_first, hung_loose, is_made}
 use Rattle.adf_rescue.specs.Hung.{has_lost_child, is_vacant, readied, ready_in}
 use Rattle.adf_rescue.specs.Lost.{directory_at, is_lost, lost_among}

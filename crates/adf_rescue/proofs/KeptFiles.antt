@@ -2,8 +2,8 @@
 -- Letters: i, j indices of verdicts; n the node of an entry; x, y additions; b a block, bs blocks.
 use Rattle.std.specs.Prelude.{◌==◌, ◌&&◌, cond, not, map, nat_lt, slice_get, slice_index_or}
 use Rattle.std.specs.Option.{unwrap_or}
-use Rattle.std.proofs.Common.{◌≡◌, ◌∙◌, ℕ, zero, suc, Bool, true, false, List, [], ◌∷◌, ◌++◌, inl, inr, Option, Some, None, Result, Ok, Err}
-use Rattle.std.proofs.Common.{ap, arith, refl, sym}
+use Rattle.std.proofs.Common.{◌≡◌, ◌∙◌, ℕ, zero, suc, Bool, true, false, List, [], ◌∷◌, ◌++◌, inl, inr, Option, Some, None, Result, Ok, Err, ap, arith, refl}
+use Rattle.std.proofs.Common.{sym}
 use Rattle.std.proofs.lemmas.Bool.{and_parts, cases_lt, eqb-true, not-true}
 use Rattle.std.proofs.lemmas.List.{length_push}
 use Rattle.std.proofs.lemmas.Option.{slice_get_past}
@@ -22,16 +22,13 @@ use Rattle.adf_volume.specs.Made.{datas_in}
 use Rattle.adf_volume.specs.Walk.{heads, node_block}
 use Rattle.adf_volume.proofs.Lists.{get_before}
 use Rattle.adf_findings.specs.Files.{IsSoundFile, file_content, file_in, grave}
-use Rattle.adf_findings.specs.Members.{owning_entry, parent_node}
-use Rattle.adf_findings.specs.Members.{has_mark}
+use Rattle.adf_findings.specs.Members.{owning_entry, parent_node, has_mark}
 use Rattle.adf_findings.specs.SoundMarks.{AreMarks}
 use Rattle.adf_findings.specs.Survey.{FindingValue}
 use Rattle.adf_rescue.specs.declared.left_out.Why.{Why, TheVariants.Damaged, TheVariants.Link}
-use Rattle.adf_rescue.specs.Rescue.{Basis, Ground, Verdict, added_marks, are_given, as_given, at_path, before_second_by, body_of, body_of_type}
-use Rattle.adf_rescue.specs.Rescue.{by_body, entry_headed, first_verdicts_by, is_added, is_given, is_of_kept_entry, is_same_block, new_path}
-use Rattle.adf_rescue.specs.Rescue.{second_verdicts_by, verdict_tree}
-use Rattle.adf_rescue.specs.Rescue.{unless_known}
-use Rattle.adf_rescue.specs.Rescue.{verdict, verdict_anew, verdicts}
+use Rattle.adf_rescue.specs.Rescue.{Basis, Ground, Verdict, added_marks, are_given, as_given, at_path, before_second_by, body_of, body_of_type, by_body}
+use Rattle.adf_rescue.specs.Rescue.{entry_headed, first_verdicts_by, is_added, is_given, is_of_kept_entry, is_same_block, new_path, second_verdicts_by}
+use Rattle.adf_rescue.specs.Rescue.{verdict_tree, unless_known, verdict, verdict_anew, verdicts}
 use Rattle.adf_rescue.specs.Rescue.Verdict.{adds}
 use Rattle.adf_rescue.proofs.RescuedTrees.{fitting_is}
 use Rattle.adf_rescue.proofs.Steps.{verdicts_count}

@@ -1,14 +1,13 @@
 -- Lost headers: what the bitmap tells of a block, the directories of a survey, and the marks of those that are settled.
 -- Letters: w a walk, fs findings; s whether each directory is settled; b, p, h blocks; n, m nodes; k a number of entries, findings or
 -- blocks; i the number of a page; r an answer.
-use Rattle.std.specs.Prelude.{◌==◌, ◌&&◌, ◌||◌, ◌↔◌, not, Option, Some, None, IfSome, IsSome, IsTrue, option_and_then, option_map, unwrap_or, cond}
-use Rattle.std.specs.Prelude.{map, replicate}
-use Rattle.std.proofs.Common.{◌≡◌, ◌≢◌, ◌≤◌, ◌<◌, ℕ, suc, ◌+◌, ◌-◌, ◌/◌, ◌%◌, Bool, true, false, List, [], ◌∷◌, ◌++◌, length, add-one}
-use Rattle.std.proofs.Common.{◌∙◌, ap, arith, inl, inr, refl, subst, sym, zero}
+use Rattle.std.specs.Prelude.{◌==◌, ◌&&◌, ◌||◌, ◌↔◌, not, Option, Some, None, IfSome, IsSome, IsTrue, option_and_then, option_map, unwrap_or, cond, map}
+use Rattle.std.specs.Prelude.{replicate}
+use Rattle.std.proofs.Common.{◌≡◌, ◌≢◌, ◌≤◌, ◌<◌, ℕ, suc, ◌+◌, ◌-◌, ◌/◌, ◌%◌, Bool, true, false, List, [], ◌∷◌, ◌++◌, length, add-one, ◌∙◌, ap, arith, inl, inr}
+use Rattle.std.proofs.Common.{refl, subst, sym, zero}
 use Rattle.std.specs.List.{list_any, range_with_len}
-use Rattle.std.proofs.lemmas.Bool.{and_from, and_left, and_parts, or_from, or_left, or_right, cases_Bool, cases_lt, cond-false, cond-true, eq-eqb}
-use Rattle.std.proofs.lemmas.Bool.{eqb-true, false_from_ne_true}
-use Rattle.std.proofs.lemmas.Bool.{ne_eqb}
+use Rattle.std.proofs.lemmas.Bool.{and_from, and_left, and_parts, or_from, or_left, or_right, cases_Bool, cases_lt, cond-false, cond-true, eq-eqb, eqb-true}
+use Rattle.std.proofs.lemmas.Bool.{false_from_ne_true, ne_eqb}
 use Rattle.std.proofs.lemmas.Bool.Decides.{nat_tests}
 use Rattle.std.proofs.lemmas.List.FromFn.{get_or-map-range_with_len, length-map-range_with_len, map-range_with_len_more}
 use Rattle.std.proofs.Math.Bool.{and-false, and-true, or-true}
@@ -16,22 +15,19 @@ use Rattle.std.proofs.lemmas.Grind.{common_steps}
 use Rattle.adf_blocks.specs.declared.layout.TheConstants.{BITMAP_FLAG, FIRST_POINTER, PAGE_BITS, PARENT, VALID}
 use Rattle.adf_blocks.specs.Sizes.{blocks, in_range}
 use Rattle.adf_volume.specs.Image.{root_of, word_in}
-use Rattle.adf_volume.specs.Walk.{Has, IsFreeIn, heads, Walk}
-use Rattle.adf_volume.specs.Walk.Role.{Page}
+use Rattle.adf_volume.specs.Walk.{Has, IsFreeIn, heads, Walk, Role.Page}
 use Rattle.adf_volume.proofs.Roles.{same_refl}
 use Rattle.adf_findings.specs.declared.concern.Concern.{Concern}
 use Rattle.adf_findings.specs.declared.finding.Finding.{Finding}
 use Rattle.adf_findings.specs.Concerned.{concern_of_nth, node_of}
-use Rattle.adf_findings.specs.Members.{at_role, owning_entry, parent_node}
-use Rattle.adf_findings.specs.Members.{has_mark}
+use Rattle.adf_findings.specs.Members.{at_role, owning_entry, parent_node, has_mark}
 use Rattle.adf_findings.specs.Parts.{finding_value, part_role}
 use Rattle.adf_findings.specs.Survey.{FindingValue, IsSurvey, IsValidated}
 use Rattle.adf_findings.proofs.BitSteps.{has_page}
 use Rattle.adf_findings.proofs.BitsStated.{one_page}
 use Rattle.adf_findings.proofs.RoleBlocks.{lacks_at}
 use Rattle.adf_rescue.specs.Lost.{AreEntered, AreSettled, AreUnblamed, bit_stated, has_free_data_among, is_root_doubtful, is_settled, is_stated_free}
-use Rattle.adf_rescue.specs.Lost.{directory_at, directory_by, has_child, has_finding, is_denied}
-use Rattle.adf_rescue.specs.Lost.{is_lost, is_of, is_root, is_set_in}
+use Rattle.adf_rescue.specs.Lost.{directory_at, directory_by, has_child, has_finding, is_denied, is_lost, is_of, is_root, is_set_in}
 use Rattle.adf_findings.specs.SurveyResult.{IsBitStated}
 use Rattle.adf_findings.proofs.Doubts.{both as and_more}
 

@@ -1,13 +1,10 @@
 -- The root that is made: where it stands in an image, what it says, and what of the image stays.
 -- Letters: b a block or its number; i the number of a page; from, to places of bytes.
-use Rattle.std.proofs.Common.{◌≡◌, ◌<◌, ◌≤◌, ℕ, ◌+◌, ◌*◌, ◌/◌, ◌^◌, true, false, List, [], length, take, drop, get_or, set, ◌∙◌, ap, arith, map, refl}
-use Rattle.std.proofs.Common.{subst, sym, ◌==◌, ◌&&◌, slice_range}
+use Rattle.std.proofs.Common.{◌≡◌, ◌<◌, ◌≤◌, ℕ, ◌+◌, ◌*◌, ◌/◌, ◌^◌, true, false, List, [], length, take, drop, get_or, set, ◌∙◌, ap, arith, map, refl, subst}
+use Rattle.std.proofs.Common.{sym, ◌==◌, ◌&&◌, slice_range}
 use Rattle.std.specs.List.{range_with_len}
-use Rattle.std.proofs.lemmas.Bool.{cond-false, cond-true, cond_both}
-use Rattle.std.proofs.lemmas.Bool.Decides.{nat_tests}
-use Rattle.std.proofs.lemmas.List.{length-take}
-use Rattle.std.proofs.lemmas.List.Edits.{fill_by_more}
-use Rattle.std.proofs.lemmas.List.FromFn.{get_or-map-range_with_len, length-map-range_with_len}
+use Rattle.std.proofs.lemmas.Bool.{cond-false, cond-true, cond_both, Decides.nat_tests}
+use Rattle.std.proofs.lemmas.List.{length-take, Edits.fill_by_more, FromFn.get_or-map-range_with_len, FromFn.length-map-range_with_len}
 use Rattle.std.proofs.lemmas.Grind.{common_steps}
 use Rattle.adf_base.specs.Words.{block, long_sum, with_block, word}
 use Rattle.adf_base.proofs.WordLaws.{block_written, drop-with_bytes_above, front-with_bytes, length-with_bytes, range-with_bytes_below}
@@ -17,8 +14,8 @@ use Rattle.adf_blocks.specs.declared.layout.TheConstants.{FIRST_SLOT, MOST_BLOCK
 use Rattle.adf_blocks.specs.Forms.{text_at}
 use Rattle.adf_blocks.specs.RootBlock.{FitsRoot, RootFields, label_stated, root_block, stamps_at}
 use Rattle.adf_blocks.specs.Sizes.{blocks}
-use Rattle.adf_blocks.proofs.RootLaws.{length_root_block, root_block-secondary, root_block-slot, root_block-stamps}
-use Rattle.adf_blocks.proofs.RootLaws.{root_block-sum, root_block-text, root_block-type}
+use Rattle.adf_blocks.proofs.RootLaws.{length_root_block, root_block-secondary, root_block-slot, root_block-stamps, root_block-sum, root_block-text}
+use Rattle.adf_blocks.proofs.RootLaws.{root_block-type}
 use Rattle.adf_volume.specs.Image.{root_of}
 use Rattle.adf_volume.specs.Start.{is_image_len}
 use Rattle.adf_findings.specs.Start.{has_root_type}

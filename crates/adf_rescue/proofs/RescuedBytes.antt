@@ -1,8 +1,7 @@
 -- The images that a rescue makes of bytes are bytes.
 -- Letters: given the image of a survey, w its walk, s whether each directory is settled; b, p, e blocks; i the number of a word;
 -- k a number of blocks.
-use Rattle.std.proofs.Common.{◌<◌, ◌≤◌, ◌*◌, ◌^◌, ◌++◌, ◌&&◌, ℕ, zero, suc, Bool, List, [], ◌∷◌}
-use Rattle.std.proofs.Common.{arith, codes, decimal, drop, length, length-append, replicate}
+use Rattle.std.proofs.Common.{◌<◌, ◌≤◌, ◌*◌, ◌^◌, ◌++◌, ◌&&◌, ℕ, zero, suc, Bool, List, [], ◌∷◌, arith, codes, decimal, drop, length, length-append, replicate}
 use Rattle.std.proofs.lemmas.Bool.{cond_both}
 use Rattle.std.proofs.lemmas.Fmt.{decimal_is_IsNumeral, length-decimal-le}
 use Rattle.std.proofs.lemmas.List.Elements.{All-append, All-cons, All-drop, All-from_get_or, All-from_recursion, All-nil, All-replicate, All-take}
@@ -19,8 +18,8 @@ use Rattle.adf_volume.specs.Image.{root_of, word_in}
 use Rattle.adf_volume.specs.Walk.{Walk}
 use Rattle.adf_findings.specs.Members.{owns}
 use Rattle.adf_findings.specs.Start.{has_root_type}
-use Rattle.adf_rescue.specs.Hung.{emptied, directory_end, home, hung, hung_at, hung_behind, hung_first, hung_in, hung_loose, is_hung, is_made}
-use Rattle.adf_rescue.specs.Hung.{made_header, put_in, readied, ready_in, sealed_in, slot_word}
+use Rattle.adf_rescue.specs.Hung.{emptied, directory_end, home, hung, hung_at, hung_behind, hung_first, hung_in, hung_loose, is_hung, is_made, made_header}
+use Rattle.adf_rescue.specs.Hung.{put_in, readied, ready_in, sealed_in, slot_word}
 use Rattle.adf_rescue.specs.Lost.{is_lost, says_directory}
 use Rattle.adf_rescue.specs.MadeRoot.{has_root, label_in, made_root, middle_block, rooted}
 use Rattle.adf_boot_blocks.specs.BootBlocks.{begins_with_dos}

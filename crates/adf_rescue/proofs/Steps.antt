@@ -1,6 +1,6 @@
 -- The state of a rescue after one more verdict.
-use Rattle.std.proofs.Common.{add-one, ◌≡◌, ℕ, ◌+◌, ◌-◌, ◌<◌, ◌≤◌, inl, inr, List, [], ◌∷◌, ◌++◌, Option, Some, None, Result, Ok, Err}
-use Rattle.std.proofs.Common.{length, get_or, arith, refl, sym, ◌∙◌, ap, subst, zero, suc, length-append, IfOk, cond, true, false, min, ◌^◌}
+use Rattle.std.proofs.Common.{add-one, ◌≡◌, ℕ, ◌+◌, ◌-◌, ◌<◌, ◌≤◌, inl, inr, List, [], ◌∷◌, ◌++◌, Option, Some, None, Result, Ok, Err, length, get_or, arith}
+use Rattle.std.proofs.Common.{refl, sym, ◌∙◌, ap, subst, zero, suc, length-append, IfOk, cond, true, false, min, ◌^◌}
 use Rattle.std.proofs.lemmas.Bool.{cases_lt, le-leb, lt-leb}
 use Rattle.std.proofs.lemmas.List.Sums.{fold_push}
 use Rattle.std.proofs.lemmas.Grind.{flat_map-append, common_steps}
@@ -25,10 +25,8 @@ use Rattle.adf_build.specs.Plan.{blocks_needed, entries_blocks, reserved}
 use Rattle.adf_rescue.specs.declared.left_out.Why.{Why, TheVariants.NoRoom}
 use Rattle.adf_rescue.specs.declared.salvage.Salvage.{Salvage}
 use Rattle.adf_rescue.specs.Rescue.{Ground, IsSecond, Basis, OnBasis, Verdict, added_marks, verdict_addition, verdict_additions, as_given, at_path}
-use Rattle.adf_rescue.specs.Rescue.{before_second_by}
-use Rattle.adf_rescue.specs.Rescue.{body_of, by_body, directory_path}
-use Rattle.adf_rescue.specs.Rescue.{entry_headed, fitting, is_added, left_out_by, left_out_from, path_by, path_for, new_path, second_verdicts_by, verdict_tree}
-use Rattle.adf_rescue.specs.Rescue.{unless_known, verdict, verdict_anew, verdicts}
+use Rattle.adf_rescue.specs.Rescue.{before_second_by, body_of, by_body, directory_path, entry_headed, fitting, is_added, left_out_by, left_out_from, path_by}
+use Rattle.adf_rescue.specs.Rescue.{path_for, new_path, second_verdicts_by, verdict_tree, unless_known, verdict, verdict_anew, verdicts}
 use Rattle.adf_rescue.specs.Rescue.Verdict.{adds, leaves}
 use Rattle.adf_rescue.specs.Salvage.{ComesNext, IsPlace, IsRoomOf, IsSalvage, entry_cost, free_blocks}
 use Rattle.adf_rescue.proofs.TreeBlocks.{added_blocks}

@@ -1,19 +1,17 @@
 -- The hung image: each lost header hangs in the directory that it names, or in the root.
 -- Letters: given the image of the survey, w its walk, s whether each of its directories is settled; b, p, e blocks; n a node; i a word; k a number
 -- of blocks or nodes.
-use Rattle.std.specs.Prelude.{◌≡◌, ◌<◌, ◌≤◌, ℕ, ◌==◌, ◌&&◌, ◌||◌, not, ◌+◌, ◌*◌, ◌%◌, Bool, false, cond, List, [], length, replicate, Option, Some}
-use Rattle.std.specs.Prelude.{None, is_some, slice_index, unwrap_or}
+use Rattle.std.specs.Prelude.{◌≡◌, ◌<◌, ◌≤◌, ℕ, ◌==◌, ◌&&◌, ◌||◌, not, ◌+◌, ◌*◌, ◌%◌, Bool, false, cond, List, [], length, replicate, Option, Some, None}
+use Rattle.std.specs.Prelude.{is_some, slice_index, unwrap_or}
 use Rattle.std.proofs.Common.{zero, suc}
 use Rattle.adf_base.specs.Words.{block, sealed, with_block, with_bytes, with_word}
 use Rattle.adf_names.specs.declared.meta.Meta.{Meta}
 use Rattle.adf_blocks.specs.declared.layout.TheConstants.{CHECKSUM, FIRST_SLOT, NEXT_IN_CHAIN, PARENT, SLOTS}
-use Rattle.adf_blocks.specs.HeadBlock.{HeadFields, head_block}
-use Rattle.adf_blocks.specs.HeadBlock.BodyFields.{DirFields}
+use Rattle.adf_blocks.specs.HeadBlock.{HeadFields, head_block, BodyFields.DirFields}
 use Rattle.adf_blocks.specs.Sizes.{blocks, in_range}
 use Rattle.adf_volume.specs.Image.{root_of, word_in}
 use Rattle.adf_volume.specs.Walk.{heads, node_block, Walk}
-use Rattle.adf_findings.specs.Members.{owns, parent_node}
-use Rattle.adf_findings.specs.Members.{has_mark}
+use Rattle.adf_findings.specs.Members.{owns, parent_node, has_mark}
 use Rattle.adf_rescue.specs.declared.hung.Loose.{Loose}
 use Rattle.adf_rescue.specs.Lost.{AreLost, directory_at, is_lost, says_directory}
 use Rattle.adf_rescue.specs.Rescue.{lost_name}

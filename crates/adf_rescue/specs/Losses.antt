@@ -2,11 +2,9 @@
 -- Letters: w the walk of the survey, f a finding of it; b the second survey, if there is one; h a block, p the node of a directory.
 use Rattle.std.specs.Prelude.{◌&&◌, ◌||◌, not, ℕ, Bool, true, false, cond, List, Option, Some, None, is_some}
 use Rattle.std.specs.List.{filter_map}
-use Rattle.adf_blocks.specs.declared.cause.Cause.{Cause}
-use Rattle.adf_blocks.specs.declared.cause.Cause.TheVariants.{LostBlock, OutOfRange}
+use Rattle.adf_blocks.specs.declared.cause.Cause.{Cause, TheVariants.LostBlock, TheVariants.OutOfRange}
 use Rattle.adf_volume.specs.Walk.{Walk}
-use Rattle.adf_findings.specs.declared.concern.Concern.{Concern}
-use Rattle.adf_findings.specs.declared.concern.Concern.TheVariants.{Within}
+use Rattle.adf_findings.specs.declared.concern.Concern.{Concern, TheVariants.Within}
 use Rattle.adf_findings.specs.Concerned.{concern_of}
 use Rattle.adf_findings.specs.Members.{owning_entry}
 use Rattle.adf_findings.specs.Survey.{FindingValue}

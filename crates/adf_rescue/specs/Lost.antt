@@ -1,22 +1,19 @@
 -- What no directory of a survey leads to any more: lost headers.
 -- Letters: w the walk of the survey, fs its findings, f one of them; b, p blocks, h that of a header; n a node; k a number of nodes, findings
 -- or blocks; mended whether the image was; s whether each directory is settled.
-use Rattle.std.specs.Prelude.{◌≡◌, ◌≤◌, ℕ, ◌+◌, ◌-◌, ◌/◌, ◌%◌, ◌^◌, ◌==◌, ◌&&◌, ◌||◌, not, nat_le, nat_lt, min, bit_and, Bool, true, false, cond}
-use Rattle.std.specs.Prelude.{List, [], ◌∷◌, length}
-use Rattle.std.specs.Prelude.{Option, Some, None, option_and_then, option_map, unwrap_or}
+use Rattle.std.specs.Prelude.{◌≡◌, ◌≤◌, ℕ, ◌+◌, ◌-◌, ◌/◌, ◌%◌, ◌^◌, ◌==◌, ◌&&◌, ◌||◌, not, nat_le, nat_lt, min, bit_and, Bool, true, false, cond, List, [], ◌∷◌}
+use Rattle.std.specs.Prelude.{length, Option, Some, None, option_and_then, option_map, unwrap_or}
 use Rattle.std.specs.List.{list_any}
 use Rattle.std.proofs.Common.{zero, suc}
-use Rattle.adf_blocks.specs.declared.layout.TheConstants.{BITMAP_FLAG, FIRST_POINTER, OWN_KEY, PAGE_BITS, PAGE_FIRST, PARENT, POINTERS, SECONDARY_TYPE}
-use Rattle.adf_blocks.specs.declared.layout.TheConstants.{ST_DIR, TYPE, T_SHORT, VALID}
+use Rattle.adf_blocks.specs.declared.layout.TheConstants.{BITMAP_FLAG, FIRST_POINTER, OWN_KEY, PAGE_BITS, PAGE_FIRST, PARENT, POINTERS, SECONDARY_TYPE, ST_DIR}
+use Rattle.adf_blocks.specs.declared.layout.TheConstants.{TYPE, T_SHORT, VALID}
 use Rattle.adf_blocks.specs.Sizes.{blocks, in_range}
 use Rattle.adf_volume.specs.Image.{root_of, word_in}
 use Rattle.adf_volume.specs.Start.{is_image_len}
-use Rattle.adf_volume.specs.Walk.{Role, data_count, heads, node_block, Walk}
-use Rattle.adf_volume.specs.Walk.Role.{Root, Page}
+use Rattle.adf_volume.specs.Walk.{Role, data_count, heads, node_block, Walk, Role.Root, Role.Page}
 use Rattle.adf_findings.specs.Concerned.{concern_of_nth, node_of}
 use Rattle.adf_findings.specs.declared.concern.Concern.{Concern}
-use Rattle.adf_findings.specs.Members.{at_role, owning_entry, owns, parent_node}
-use Rattle.adf_findings.specs.Members.{has_mark}
+use Rattle.adf_findings.specs.Members.{at_role, owning_entry, owns, parent_node, has_mark}
 use Rattle.adf_findings.specs.Survey.{FindingValue}
 use Rattle.adf_rescue.specs.Opened.{says_file}
 

@@ -1,7 +1,7 @@
 // The hung image: each lost header hangs in the directory that it names, or in the root.
 
-ghost use Rattle.std.specs.Prelude.{◌≡◌, ◌≢◌, ◌<◌, ◌≤◌, ◌||◌, ◌&&◌, ◌==◌, ◌↔◌, ℕ, Bool, List, Some, None, true, false, cond, length, is_some, slice_index};
-ghost use Rattle.std.specs.Prelude.{IfOk, IfSome, IsNone, OnErr, OnOk};
+ghost use Rattle.std.specs.Prelude.{◌≡◌, ◌≢◌, ◌<◌, ◌≤◌, ◌||◌, ◌&&◌, ◌==◌, ◌↔◌, ℕ, Bool, List, Some, None, true, false, cond};
+ghost use Rattle.std.specs.Prelude.{length, is_some, slice_index, IfOk, IfSome, IsNone, OnErr, OnOk};
 ghost use Rattle.adf_base.specs.Words.{block, with_block};
 ghost use Rattle.adf_blocks.specs.HeadBlock.{head_block};
 ghost use Rattle.adf_blocks.specs.declared.layout.TheConstants.{CHECKSUM, PARENT};
@@ -9,14 +9,13 @@ ghost use Rattle.adf_blocks.specs.Sizes.{blocks};
 ghost use Rattle.adf_volume.specs.Image.{kind_of, word_in};
 ghost use Rattle.adf_volume.specs.Start.{is_image_len};
 ghost use Rattle.adf_volume.specs.Walk.{heads, node_block, Walk};
-ghost use Rattle.adf_findings.specs.Members.{owning_entry, owns};
-ghost use Rattle.adf_findings.specs.Members.{has_mark};
+ghost use Rattle.adf_findings.specs.Members.{owning_entry, owns, has_mark};
 ghost use Rattle.adf_findings.specs.Survey.{OnSurvey};
 ghost use Rattle.adf_rescue.specs.Lost.{AreLost, directory_at, has_findings, has_lost, is_lost, is_settled, lost_among};
 ghost use Rattle.adf_rescue.specs.Rescue.{lost_name};
 ghost use Rattle.adf_rescue.specs.Hung.{AreEnds, AreLoose, directory_end, emptied, home, hung, hung_at, hung_in, hung_loose};
-ghost use Rattle.adf_rescue.specs.Hung.{is_container, is_hung};
-ghost use Rattle.adf_rescue.specs.Hung.{is_made, is_vacant, made_header, open_end, ready_in, readied, slot_word};
+ghost use Rattle.adf_rescue.specs.Hung.{is_container, is_hung, is_made, is_vacant, made_header, open_end, ready_in, readied};
+ghost use Rattle.adf_rescue.specs.Hung.{slot_word};
 
 use crate::image::{block_count, root_of};
 use crate::lost::{directory_at, in_range, lost, mark, says_directory, word_in};

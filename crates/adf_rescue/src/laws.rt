@@ -26,11 +26,8 @@ ghost use Rattle.adf_volume.specs.Walk.{FileAt, node_block, Walk};
 ghost use Rattle.adf_build.specs.Laid.{IsLaid};
 ghost use Rattle.adf_rescue.specs.Lost.{has_lost};
 ghost use Rattle.adf_rescue.specs.Rescue.{Basis, Verdict, at_path, before_first_by, first_verdicts_by, path_by};
-ghost use Rattle.adf_rescue.specs.Rescue.{verdict_additions};
-ghost use Rattle.adf_rescue.specs.Rescue.{new_path};
-ghost use Rattle.adf_rescue.specs.Rescue.{rescue_leaves_by, rescued_additions_by, rescued_tree_by, second_verdicts_by};
-ghost use Rattle.adf_rescue.specs.Rescue.{verdict_tree};
-ghost use Rattle.adf_rescue.specs.Rescue.{verdict};
+ghost use Rattle.adf_rescue.specs.Rescue.{verdict_additions, new_path, rescue_leaves_by, rescued_additions_by, rescued_tree_by};
+ghost use Rattle.adf_rescue.specs.Rescue.{second_verdicts_by, verdict_tree, verdict};
 ghost use Rattle.adf_rescue.specs.Rescue.Verdict.{adds};
 ghost use Rattle.adf_rescue.specs.Salvage.{are_held};
 

@@ -11,8 +11,7 @@ ghost use Rattle.adf_volume.specs.Walk.{heads, node_block};
 ghost use Rattle.adf_findings.specs.Files.{file_content};
 ghost use Rattle.adf_findings.specs.Survey.{FindingValue, IsSurvey, OnSurvey};
 ghost use Rattle.adf_rescue.specs.Rescue.{Ground, OnBasis, added_marks, are_given, as_given, before_first_by, body_of};
-ghost use Rattle.adf_rescue.specs.Rescue.{body_of_type, entry_headed, entry_by};
-ghost use Rattle.adf_rescue.specs.Rescue.{is_given, is_of_kept_entry, is_same_block};
+ghost use Rattle.adf_rescue.specs.Rescue.{body_of_type, entry_headed, entry_by, is_given, is_of_kept_entry, is_same_block};
 ghost use Rattle.adf_rescue.specs.Salvage.{are_held};
 
 use crate::left_out::Why;

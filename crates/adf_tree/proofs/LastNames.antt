@@ -1,9 +1,7 @@
 -- The set of names in the last chain of a tree.
 -- Letters: l the letters whose case is ignored.
-use Rattle.std.proofs.Common.{◌≡◌, ℕ, List, [], ◌∷◌, length, get_or, true, false, Option, Some, None, Result, Ok, Err}
-use Rattle.std.proofs.Common.{arith, nat_lt, sym, refl, ◌∙◌}
-use Rattle.std.specs.List.{list_any}
-use Rattle.std.specs.List.Sorted.{IsPartitionPoint}
+use Rattle.std.proofs.Common.{◌≡◌, ℕ, List, [], ◌∷◌, length, get_or, true, false, Option, Some, None, Result, Ok, Err, arith, nat_lt, sym, refl, ◌∙◌}
+use Rattle.std.specs.List.{list_any, Sorted.IsPartitionPoint}
 use Rattle.std.specs.Option.{is_some}
 use Rattle.std.specs.Result.{is_err, OnOk}
 use Rattle.std.proofs.lemmas.Bool.{and_parts, eqb-true, le-ltb, ltb-true}

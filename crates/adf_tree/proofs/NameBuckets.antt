@@ -1,13 +1,12 @@
 -- The buckets of names.
-use Rattle.std.proofs.Common.{◌≡◌, ◌==◌, ◌&&◌, ◌||◌, ◌⊎◌, inl, inr, ℕ, ◌+◌, ◌-◌, ◌<◌, ◌≤◌, List, [], ◌∷◌, ◌++◌, length, get_or, set, take, Bool, true}
-use Rattle.std.proofs.Common.{false, Option, Some, None, arith, sym, refl, zero, suc, ◌∙◌, ap, get_or-set_same, get_or-set_other, ◌^◌}
+use Rattle.std.proofs.Common.{◌≡◌, ◌==◌, ◌&&◌, ◌||◌, ◌⊎◌, inl, inr, ℕ, ◌+◌, ◌-◌, ◌<◌, ◌≤◌, List, [], ◌∷◌, ◌++◌, length, get_or, set, take, Bool, true, false}
+use Rattle.std.proofs.Common.{Option, Some, None, arith, sym, refl, zero, suc, ◌∙◌, ap, get_or-set_same, get_or-set_other, ◌^◌}
 use Rattle.std.specs.Ordering.{is_eq}
 use Rattle.std.specs.List.{slice_get}
 use Rattle.std.proofs.Math.Seq.{take-suc}
 use Rattle.std.proofs.lemmas.Bool.{cases_Bool, false_from_ne_true, lt-ltb, ltb-true}
-use Rattle.std.proofs.lemmas.List.{length-set}
+use Rattle.std.proofs.lemmas.List.{length-set, Folds.list_any-append, Folds.list_any_at}
 use Rattle.std.proofs.lemmas.Option.{get_or_from_slice_get, slice_get_within}
-use Rattle.std.proofs.lemmas.List.Folds.{list_any-append, list_any_at}
 use Rattle.std.proofs.lemmas.Grind.{common_steps}
 use Rattle.adf_tree.specs.declared.name_key.NameKey.{NameKey}
 use Rattle.adf_tree.specs.declared.name_set.Probe.{Probe, TheVariants.Stored, TheVariants.Vacant, TheVariants.Full}

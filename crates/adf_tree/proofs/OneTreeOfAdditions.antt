@@ -1,9 +1,8 @@
 -- Additions have at most one tree.
 -- Letters: l the letters whose case is ignored.
-use Rattle.std.proofs.Common.{◌≡◌, ℕ, ◌-◌, ◌≤◌, inl, inr, List, [], ◌∷◌, ◌++◌, length, get_or, map, true, false, Bool, cond, arith, sym, refl}
-use Rattle.std.proofs.Common.{◌∙◌, ap, zero, suc}
-use Rattle.std.specs.List.{filter, All}
-use Rattle.std.specs.List.Sorted.{IsNonDecreasingBy}
+use Rattle.std.proofs.Common.{◌≡◌, ℕ, ◌-◌, ◌≤◌, inl, inr, List, [], ◌∷◌, ◌++◌, length, get_or, map, true, false, Bool, cond, arith, sym, refl, ◌∙◌, ap, zero}
+use Rattle.std.proofs.Common.{suc}
+use Rattle.std.specs.List.{filter, All, Sorted.IsNonDecreasingBy}
 use Rattle.std.proofs.lemmas.Bool.{cases_Bool}
 use Rattle.std.proofs.lemmas.List.{append_assoc, append_cancel_left, map-append, get_or_append_left, get_or_at, length-append, drop_at}
 use Rattle.std.proofs.lemmas.List.Elements.{filter-append, filter_passes, All-filter}

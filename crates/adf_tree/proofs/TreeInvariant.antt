@@ -1,19 +1,15 @@
 -- An addition keeps the invariant of trees: numbers, order, directories and names.
 -- Letters: l the letters whose case is ignored; es entries, e the new one; n, p, q, m numbers of entries.
 use Rattle.std.proofs.Common.{◌≡◌, ℕ, ◌+◌, ◌-◌, ◌*◌, ◌<◌, ◌≤◌, inl, inr, List, length, get_or, take, map, arith, nat_lt, sym, ◌∙◌, ap, not}
-use Rattle.std.specs.List.{AllPairs, insert, drop-map}
-use Rattle.std.specs.List.Sorted.{IsNonDecreasingBy}
-use Rattle.std.proofs.lemmas.Bool.{cases_lt, cases_order, ltb-true, ltb-false}
-use Rattle.std.proofs.lemmas.List.{get_or-map, length-map, get_or-take, length-take-le, take-map}
+use Rattle.std.specs.List.{AllPairs, insert, drop-map, Sorted.IsNonDecreasingBy}
+use Rattle.std.proofs.lemmas.Bool.{cases_lt, cases_order, ltb-true, ltb-false, Decides.nat_tests}
+use Rattle.std.proofs.lemmas.List.{get_or-map, length-map, get_or-take, length-take-le, take-map, Sorted.IsNonDecreasingBy-insert, Folds.map_fixed}
 use Rattle.std.proofs.lemmas.List.Edits.{length-insert, get_or-insert_below, get_or-insert_at, get_or-insert_above}
 use Rattle.std.proofs.lemmas.List.Sums.{fails_before_first, passes_at_first, prefix_len-le-length}
-use Rattle.std.proofs.lemmas.List.Sorted.{IsNonDecreasingBy-insert}
-use Rattle.std.proofs.lemmas.Bool.Decides.{nat_tests}
 use Rattle.adf_base.specs.declared.hash.Letters.{Letters, TheVariants.Ascii, TheVariants.International}
 use Rattle.adf_tree.specs.declared.entry.Entry.{Entry}
 use Rattle.adf_base.specs.Hash.{slot_by, slot_of}
 use Rattle.adf_tree.specs.Tree.{place, place_by, rank_by, moved_entry, moved, added_by, IsTreeBy, IsDir, AreApartBy, MayAddBy}
-use Rattle.std.proofs.lemmas.List.Folds.{map_fixed}
 use Rattle.std.proofs.lemmas.Grind.{common_steps}
 
 -- numbers

@@ -1,14 +1,12 @@
 -- Where an entry is inserted in walk order, and the result of inserting and renumbering.
 -- Letters: l the letters whose case is ignored.
 use Rattle.std.proofs.Common.{◌≡◌, ℕ, ◌≤◌, List, [], ◌∷◌, length, true, false, arith, nat_lt, nat_le, ◌+◌, ◌++◌, take, drop, map}
-use Rattle.std.specs.List.Sorted.{IsPartitionPoint}
-use Rattle.std.proofs.lemmas.List.Sums.{position_or_len_is}
 use Rattle.std.proofs.lemmas.Bool.{le-ltb, lt-ltb, leb-true, leb-false}
 use Rattle.adf_base.specs.declared.hash.Letters.{Letters, TheVariants.Ascii}
 use Rattle.adf_tree.specs.declared.entry.Entry.{Entry}
 use Rattle.adf_tree.specs.Tree.{place, place_by, rank, rank_by}
-use Rattle.std.specs.List.{insert}
-use Rattle.std.proofs.lemmas.List.{append_assoc, take_at, drop_at, length-take-le, drop_all, append-nil, take_all, length-append}
+use Rattle.std.specs.List.{insert, Sorted.IsPartitionPoint}
+use Rattle.std.proofs.lemmas.List.{append_assoc, take_at, drop_at, length-take-le, drop_all, append-nil, take_all, length-append, Sums.position_or_len_is}
 use Rattle.std.proofs.lemmas.Grind.{common_steps}
 
 pub place_is_by : (l : Letters) (es : List Entry) (r i : ℕ) → i ≤ length es

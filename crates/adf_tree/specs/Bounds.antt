@@ -1,8 +1,7 @@
 -- The bounds of the fields of a tree.
 use Rattle.std.specs.Prelude.{◌≡◌, ◌<◌, ◌≤◌, ◌^◌, length, true}
 use Rattle.std.specs.List.{All}
-use Rattle.adf_tree.specs.declared.entry.Body.{Body}
-use Rattle.adf_tree.specs.declared.entry.Body.TheVariants.{Dir, File}
+use Rattle.adf_tree.specs.declared.entry.Body.{Body, TheVariants.Dir, TheVariants.File}
 use Rattle.adf_tree.specs.declared.entry.Entry.{Entry}
 use Rattle.adf_names.specs.Meta.{AreStamps, IsBoundedMeta}
 use Rattle.adf_names.specs.Texts.{is_name}

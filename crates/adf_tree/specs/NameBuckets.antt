@@ -3,8 +3,7 @@ use Rattle.std.specs.Prelude.{◌≡◌, ℕ, ◌+◌, ◌-◌, ◌*◌, ◌/◌
 use Rattle.std.specs.List.{slice_get}
 use Rattle.std.specs.Ordering.{is_eq}
 use Rattle.adf_tree.specs.declared.name_key.NameKey.{NameKey}
-use Rattle.adf_tree.specs.declared.name_set.Probe.{Probe}
-use Rattle.adf_tree.specs.declared.name_set.Probe.TheVariants.{Stored, Vacant, Full}
+use Rattle.adf_tree.specs.declared.name_set.Probe.{Probe, TheVariants.Stored, TheVariants.Vacant, TheVariants.Full}
 use Rattle.adf_tree.specs.NameKeys.{by_words, spread_of}
 use Rattle.adf_tree.specs.NameSet.{Names, is_among}
 

@@ -12,8 +12,7 @@ use Rattle.adf_names.specs.Texts.{is_name}
 use Rattle.adf_names.specs.declared.kind.Kind.{Kind}
 use Rattle.adf_tree.specs.Bounds.{IsBounded, IsBoundedEntry, IsData}
 use Rattle.adf_tree.specs.Tree.{Tree}
-use Rattle.adf_tree.specs.declared.entry.Body.{Body}
-use Rattle.adf_tree.specs.declared.entry.Body.TheVariants.{Dir, File}
+use Rattle.adf_tree.specs.declared.entry.Body.{Body, TheVariants.Dir, TheVariants.File}
 use Rattle.adf_tree.specs.declared.entry.Entry.{Entry}
 use Rattle.adf_blocks.specs.Forms.{stamp_at, text_at}
 use Rattle.adf_blocks.specs.declared.layout.TheConstants.{COMMENT, SIZE}

@@ -1,6 +1,6 @@
 -- Chains of a tree.
-use Rattle.std.proofs.Common.{◌≡◌, ℕ, zero, suc, List, [], ◌∷◌, ◌++◌, ◌⊎◌, inl, inr, ◌+◌, ◌<◌, ◌≤◌, length, refl, sym, ap, subst, ◌∙◌, arith, Bool}
-use Rattle.std.proofs.Common.{true, false, cond, rules, Some, ◌↔◌, map, append_assoc, ◌==◌, ◌&&◌}
+use Rattle.std.proofs.Common.{◌≡◌, ℕ, zero, suc, List, [], ◌∷◌, ◌++◌, ◌⊎◌, inl, inr, ◌+◌, ◌<◌, ◌≤◌, length, refl, sym, ap, subst, ◌∙◌, arith, Bool, true, false}
+use Rattle.std.proofs.Common.{cond, rules, Some, ◌↔◌, map, append_assoc, ◌==◌, ◌&&◌}
 use Rattle.std.specs.List.{slice_get}
 use Rattle.adf_tree.specs.Tree.{entry, Tree}
 use Rattle.adf_tree.specs.Chain.{chain_by, in_chain_by}
@@ -13,8 +13,7 @@ use Rattle.adf_base.specs.declared.hash.Letters.{Letters}
 use Rattle.adf_tree.specs.declared.entry.Entry.{Entry}
 use Rattle.adf_volume.specs.Layout.{EntryAt, nodes_from_by, chain_nodes_by}
 use Rattle.adf_volume.proofs.TreeOrder.{Ordered}
-use Rattle.adf_volume.specs.Walk.{Before}
-use Rattle.adf_volume.specs.Walk.Role.{Head}
+use Rattle.adf_volume.specs.Walk.{Before, Role.Head}
 use Rattle.adf_volume.proofs.Comparisons.{both_equal, equal_both}
 
 -- a place in a list that begins with k where t holds

@@ -8,9 +8,7 @@ use Rattle.adf_volume.specs.Image.{letters_of, root_of, word_in}
 use Rattle.adf_volume.specs.Layout.{Layout, owned}
 use Rattle.adf_volume.specs.LayoutRoles.{LayoutHasBy, owner_of}
 use Rattle.adf_volume.specs.Lists.{In}
-use Rattle.adf_volume.specs.Walk.{Role, third, Before, Same, heads, Asks, Lacks, IsDue, IsWalkBy, IsWhole, Walk}
-use Rattle.adf_volume.specs.Walk.Role.{Root}
-use Rattle.adf_volume.specs.Walk.IsWalkBy.{start, step}
+use Rattle.adf_volume.specs.Walk.{Role, third, Before, Same, heads, Asks, Lacks, IsDue, IsWalkBy, IsWhole, Walk, Role.Root, IsWalkBy.start, IsWalkBy.step}
 use Rattle.adf_volume.specs.declared.owner.Owner.{Owner}
 use Rattle.adf_volume.proofs.DecidedAsks.{Asked, dec_asked}
 use Rattle.adf_volume.proofs.ImageStart.{own_letters}

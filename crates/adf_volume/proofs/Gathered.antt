@@ -1,17 +1,15 @@
 -- Facts of every list of parts that were each asked for and missing when added, for any content of their blocks.
-use Rattle.std.proofs.lemmas.Bool.{eqb-true}
-use Rattle.std.proofs.Common.{Bool, true, cond, eq-eqb, ◌≡◌, ℕ, zero, suc, List, [], ◌∷◌, inl, inr, ◌/◌, ◌<◌, ◌≤◌, ◌≢◌, refl, sym, ap}
-use Rattle.std.proofs.Common.{subst, ◌∙◌, arith, rules}
+use Rattle.std.proofs.lemmas.Bool.{eqb-true, Decides.eqb_tells}
+use Rattle.std.proofs.Common.{Bool, true, cond, eq-eqb, ◌≡◌, ℕ, zero, suc, List, [], ◌∷◌, inl, inr, ◌/◌, ◌<◌, ◌≤◌, ◌≢◌, refl, sym, ap, subst, ◌∙◌, arith, rules}
 use native.Mathlib.Decide.{dec_le, dec_lt}
 use Rattle.adf_blocks.specs.declared.layout.TheConstants.{POINTERS}
 use Rattle.adf_volume.specs.Image.{root_of}
-use Rattle.std.proofs.lemmas.Bool.Decides.{eqb_tells}
 use Rattle.std.proofs.lemmas.Grind.{common_steps}
-use Rattle.adf_volume.specs.Walk.{first, ext_block_in, ext_block_of, ext_count, ext_count_of, member_block, node_block, node_block_of, Walk}
-use Rattle.adf_volume.specs.Walk.{Role, second, Same, Has, head_count, heads, HeadAt, NodeAt, DirAt, FileAt, MemberAt, NamesPage, Asks, Lacks}
+use Rattle.adf_volume.specs.Walk.{first, ext_block_in, ext_block_of, ext_count, ext_count_of, member_block, node_block, node_block_of, Walk, Role, second, Same}
+use Rattle.adf_volume.specs.Walk.{Has, head_count, heads, HeadAt, NodeAt, DirAt, FileAt, MemberAt, NamesPage, Asks, Lacks}
 use Rattle.adf_volume.specs.Walk.Role.{Root, Page, MapExt, Head, Ext, Data}
-use Rattle.adf_volume.proofs.Roles.{asks_number, count_own, count_up, dir_is_node, dir_up, head_at, head_in, head_role, heads_up, new_number, no_head}
-use Rattle.adf_volume.proofs.Roles.{same_of, typed_up}
+use Rattle.adf_volume.proofs.Roles.{asks_number, count_own, count_up, dir_is_node, dir_up, head_at, head_in, head_role, heads_up, new_number, no_head, same_of}
+use Rattle.adf_volume.proofs.Roles.{typed_up}
 
 pub data IsGathered (image : List ℕ) : Walk → Type 0 where
   start : IsGathered image ((Root, root_of image) ∷ [])

@@ -1,11 +1,9 @@
 -- The size, boot bytes and root of an image.
 use Rattle.std.proofs.Common.{Some, None, cond, slice_index, ◌≡◌, ◌<◌, ◌≤◌, ℕ, List, ◌∷◌, ◌++◌, Bool, true, false, length, refl, ap, arith}
-use Rattle.std.proofs.lemmas.Bool.{le-ltb, lt-ltb}
-use Rattle.std.proofs.lemmas.Bool.Decides.{nat_tests}
+use Rattle.std.proofs.lemmas.Bool.{le-ltb, lt-ltb, Decides.nat_tests}
 use Rattle.std.proofs.lemmas.Grind.{common_steps}
 use Rattle.adf_base.specs.Words.{block}
-use Rattle.adf_base.specs.declared.hash.Letters.{Letters}
-use Rattle.adf_base.specs.declared.hash.Letters.TheVariants.{Ascii, International}
+use Rattle.adf_base.specs.declared.hash.Letters.{Letters, TheVariants.Ascii, TheVariants.International}
 use Rattle.adf_blocks.specs.declared.cause.Cause.{Cause, TheVariants.BadSize}
 use Rattle.adf_blocks.specs.Forms.{first_cause}
 use Rattle.adf_blocks.specs.RootBlock.{root_form}

@@ -10,8 +10,7 @@ use Rattle.adf_volume.specs.Layout.{Place, Layout, head_at, exts_at, datas_at, o
 use Rattle.adf_volume.specs.declared.owner.Owner.{Owner}
 use Rattle.adf_volume.specs.declared.owner.Owner.TheVariants.{Root as TheRoot, Page as APage, MapExt as AMapExt, Head as AHead, Ext as AnExt, Data as AData}
 use Rattle.adf_volume.specs.Fits.{FitsBy}
-use Rattle.adf_volume.specs.Walk.{Role}
-use Rattle.adf_volume.specs.Walk.Role.{Root, Page, MapExt, Head, Ext, Data}
+use Rattle.adf_volume.specs.Walk.{Role, Role.Root, Role.Page, Role.MapExt, Role.Head, Role.Ext, Role.Data}
 use Rattle.adf_volume.specs.LayoutRoles.{owner_of, LayoutHasBy}
 use Rattle.adf_volume.proofs.Lists.{in_left, in_right, in_numbered, one_member, in_cases, numbered_at}
 use Rattle.adf_volume.proofs.Chains.{entry_at, entry_below, entry_some, place_at, one_place}

@@ -1,6 +1,5 @@
 -- The facts of each member of a walk when it was added, stated of the walk as it is now.
-use Rattle.std.proofs.Common.{◌≡◌, ℕ, zero, suc, List, [], ◌∷◌, inl, inr, ◌+◌, ◌*◌, ◌/◌, ◌<◌, ◌≤◌, ◌≢◌, refl, sym, ap, subst, ◌∙◌, arith, true}
-use Rattle.std.proofs.Common.{nat_lt, rules}
+use Rattle.std.proofs.Common.{◌≡◌, ℕ, zero, suc, List, [], ◌∷◌, inl, inr, ◌+◌, ◌*◌, ◌/◌, ◌<◌, ◌≤◌, ◌≢◌, refl, sym, ap, subst, ◌∙◌, arith, true, nat_lt, rules}
 use native.Mathlib.Decide.{dec_le}
 use Rattle.adf_blocks.specs.declared.layout.TheConstants.{EXTENSION, FIRST_MAP_EXT, FIRST_POINTER, FIRST_SLOT, MAP_EXT_NEXT, MAP_EXT_PAGES, NEXT_IN_CHAIN}
 use Rattle.adf_blocks.specs.declared.layout.TheConstants.{POINTERS, ROOT_PAGES, SIZE, SLOTS}
@@ -9,8 +8,8 @@ use Rattle.adf_blocks.specs.Sizes.{blocks, pages_needed}
 use Rattle.adf_base.specs.declared.hash.Letters.{Letters}
 use Rattle.adf_names.specs.Texts.{uppers_by}
 use Rattle.adf_volume.specs.Demands.{AllHold, page_demands, head_demands_by, ext_demands, data_demands}
-use Rattle.adf_volume.specs.Walk.{Role, second, Has, DirAt, FileAt, MemberAt, NamesPage, data_count, Asks, IsDue, ext_count, node_block, Walk}
-use Rattle.adf_volume.specs.Walk.{member_block, next_data, IsWalkBy}
+use Rattle.adf_volume.specs.Walk.{Role, second, Has, DirAt, FileAt, MemberAt, NamesPage, data_count, Asks, IsDue, ext_count, node_block, Walk, member_block}
+use Rattle.adf_volume.specs.Walk.{next_data, IsWalkBy}
 use Rattle.adf_volume.specs.Walk.Role.{Root, Page, MapExt, Head, Ext, Data}
 use Rattle.adf_volume.specs.Walk.IsWalkBy.{start, step}
 use Rattle.adf_volume.proofs.Gathered.{asked_file, ext_counted, member_is, node_is}

@@ -12,8 +12,7 @@ use Rattle.adf_tree.specs.Tree.{Tree}
 use Rattle.adf_volume.specs.Layout.{Layout, owned}
 use Rattle.adf_volume.specs.declared.owner.Owner.{Owner}
 use Rattle.adf_volume.specs.Fits.{FitsBy, IsFree}
-use Rattle.adf_volume.specs.Walk.{IsAbsent, IsFreeIn, demands_by, bitmap_demands, IsWalkBy, IsWhole, FirstFaultBy, Walk}
-use Rattle.adf_volume.specs.Walk.Role.{Page}
+use Rattle.adf_volume.specs.Walk.{IsAbsent, IsFreeIn, demands_by, bitmap_demands, IsWalkBy, IsWhole, FirstFaultBy, Walk, Role.Page}
 use Rattle.adf_volume.specs.Walk.FirstFaultBy.{at_boot, at_due, at_bitmap}
 use Rattle.adf_volume.specs.LayoutRoles.{owner_of}
 use Rattle.adf_volume.proofs.Lists.{all_append, fails_not_all}

@@ -11,8 +11,7 @@ use Rattle.adf_tree.specs.declared.entry.Entry.{Entry}
 use Rattle.adf_tree.specs.Tree.{Tree}
 use Rattle.adf_volume.specs.Layout.{EntryAt, Place, Layout, at_node, exts_of, datas_of}
 use Rattle.adf_volume.specs.Fits.{FitsBy, BodyFits}
-use Rattle.adf_volume.specs.Walk.{Role, heads, IsWalkBy, IsWhole, Walk}
-use Rattle.adf_volume.specs.Walk.Role.{Page, MapExt, Head, Ext, Data}
+use Rattle.adf_volume.specs.Walk.{Role, heads, IsWalkBy, IsWhole, Walk, Role.Page, Role.MapExt, Role.Head, Role.Ext, Role.Data}
 use Rattle.adf_volume.specs.LayoutRoles.{LayoutHasBy}
 use Rattle.adf_volume.proofs.Lists.{at_below, at_some, same_list}
 use Rattle.adf_volume.proofs.Chains.{entry_at, entry_some, place_at}

@@ -6,8 +6,7 @@ use Rattle.std.proofs.lemmas.Grind.{common_steps}
 use Rattle.adf_blocks.specs.declared.layout.TheConstants.{EXTENSION, MAP_EXT_PAGES, ROOT_PAGES, SLOTS}
 use Rattle.adf_blocks.specs.Sizes.{blocks, pages_needed}
 use Rattle.adf_volume.specs.Image.{word_in}
-use Rattle.adf_volume.specs.Walk.{Has, MemberAt, NamesPage, Asks, heads, Walk}
-use Rattle.adf_volume.specs.Walk.Role.{Page, MapExt, Head, Ext}
+use Rattle.adf_volume.specs.Walk.{Has, MemberAt, NamesPage, Asks, heads, Walk, Role.Page, Role.MapExt, Role.Head, Role.Ext}
 use Rattle.adf_volume.specs.Positions.{IsLink, IsPageHolder, before_page, behind, in_map, position_of, word_of_map_ext, word_of_page}
 use Rattle.adf_volume.proofs.Gathered.{IsGathered, dir_one, member_one, one_block}
 

@@ -2,8 +2,7 @@
 use Rattle.std.proofs.Common.{true, false, ◌≡◌, ℕ, zero, suc, [], inl, inr, ◌+◌, ◌-◌, ◌%◌, ◌<◌, ◌≤◌, refl, ap, subst, ◌∙◌, arith}
 use Rattle.std.proofs.lemmas.Grind.{common_steps}
 use Rattle.adf_base.specs.Words.{block, word, words}
-use Rattle.adf_base.specs.declared.hash.Letters.{Letters}
-use Rattle.adf_base.specs.declared.hash.Letters.TheVariants.{Ascii, International}
+use Rattle.adf_base.specs.declared.hash.Letters.{Letters, TheVariants.Ascii, TheVariants.International}
 use Rattle.adf_names.specs.declared.kind.Kind.TheVariants.{Ffs}
 use Rattle.adf_tree.specs.declared.entry.Entry.{Entry}
 use Rattle.adf_tree.specs.Tree.{IsDir}
@@ -17,8 +16,7 @@ use Rattle.adf_volume.specs.Demands.{AllHold, boot_demands_by, boot_form, boot_f
 use Rattle.adf_volume.specs.Layout.{EntryAt, at_node, owned}
 use Rattle.adf_volume.specs.Fits.{Fits, FitsBy, IsFree}
 use Rattle.adf_volume.specs.Samples.{tiny, tiny_root, tiny_tree, tiny_layout}
-use Rattle.adf_volume.specs.Walk.{FirstFault}
-use Rattle.adf_volume.specs.Walk.FirstFaultBy.{at_boot}
+use Rattle.adf_volume.specs.Walk.{FirstFault, FirstFaultBy.at_boot}
 use Rattle.adf_volume.proofs.FormDemands.{all_demanded}
 use Rattle.adf_volume.proofs.Zeros.{zero_at}
 

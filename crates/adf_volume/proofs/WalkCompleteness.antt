@@ -1,8 +1,7 @@
 -- Completeness: if a tree and a layout fit, a walk that asks for nothing more has all their parts.
 use Rattle.std.proofs.Common.{◌≡◌, ℕ, zero, suc, List, ◌+◌, ◌*◌, ◌/◌, ◌<◌, ◌≤◌, length, refl, sym, subst, ◌∙◌, arith}
 use Rattle.std.proofs.lemmas.Grind.{common_steps}
-use Rattle.adf_blocks.specs.declared.layout.TheConstants.{EXTENSION, FIRST_MAP_EXT, MAP_EXT_NEXT, MAP_EXT_PAGES, POINTERS, ROOT_PAGES, SECONDARY_TYPE}
-use Rattle.adf_blocks.specs.declared.layout.TheConstants.{ST_FILE}
+use Rattle.adf_blocks.specs.declared.layout.TheConstants.{EXTENSION, FIRST_MAP_EXT, MAP_EXT_NEXT, MAP_EXT_PAGES, POINTERS, ROOT_PAGES, SECONDARY_TYPE, ST_FILE}
 use Rattle.adf_volume.specs.Lists.{At}
 use Rattle.adf_blocks.specs.Sizes.{blocks, pages_needed}
 use Rattle.adf_volume.specs.Image.{root_of, word_in, table_word}

@@ -8,8 +8,7 @@ use Rattle.adf_blocks.specs.Sizes.{blocks}
 use Rattle.adf_volume.specs.Demands.{AllHold, boot_demands_by, root_demands}
 use Rattle.adf_volume.proofs.TreeOrder.{dir_node, is_tree_from}
 use Rattle.adf_volume.specs.Fits.{FitsBy, FileFits}
-use Rattle.adf_volume.specs.Walk.{IsAbsent, IsFreeIn, bitmap_demands, IsWalkBy, IsWhole, Walk}
-use Rattle.adf_volume.specs.Walk.Role.{Page, MapExt}
+use Rattle.adf_volume.specs.Walk.{IsAbsent, IsFreeIn, bitmap_demands, IsWalkBy, IsWhole, Walk, Role.Page, Role.MapExt}
 use Rattle.adf_volume.specs.Made.{tree_in_by, layout_in}
 use Rattle.adf_volume.specs.LayoutRoles.{owner_of}
 use Rattle.adf_volume.proofs.MemberFacts.{kept, in_range}

@@ -6,8 +6,7 @@ use Rattle.adf_volume.specs.Layout.{owned}
 use Rattle.adf_volume.specs.LayoutRoles.{owner_of}
 use Rattle.adf_volume.specs.Lists.{In, NoBlockTwice}
 use Rattle.adf_volume.specs.Made.{layout_in}
-use Rattle.adf_volume.specs.Walk.{Role, Has, heads, IsWalkBy, IsWhole, Walk}
-use Rattle.adf_volume.specs.Walk.IsWalkBy.{start, step}
+use Rattle.adf_volume.specs.Walk.{Role, Has, heads, IsWalkBy, IsWhole, Walk, IsWalkBy.start, IsWalkBy.step}
 use Rattle.adf_volume.proofs.FitWalks.{without}
 use Rattle.adf_volume.proofs.PartDemands.{part_holds_by}
 use Rattle.adf_volume.proofs.WalkOwners.{is_owned, once, owned_has}

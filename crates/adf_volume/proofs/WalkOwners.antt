@@ -5,8 +5,7 @@ use Rattle.adf_base.specs.declared.hash.Letters.{Letters}
 use Rattle.adf_volume.specs.Lists.{At, In, NoBlockTwice}
 use Rattle.adf_volume.specs.Layout.{datas_at, exts_at, owned}
 use Rattle.adf_volume.specs.declared.owner.Owner.{Owner}
-use Rattle.adf_volume.specs.Walk.{Role, Has, IsWalkBy, IsWhole, Walk}
-use Rattle.adf_volume.specs.Walk.Role.{Root, Page, MapExt, Head, Ext, Data}
+use Rattle.adf_volume.specs.Walk.{Role, Has, IsWalkBy, IsWhole, Walk, Role.Root, Role.Page, Role.MapExt, Role.Head, Role.Ext, Role.Data}
 use Rattle.adf_volume.specs.Made.{datas_in, entries_in, exts_in, layout_in, places_in, tree_in_by}
 use Rattle.adf_volume.specs.LayoutRoles.{LayoutHasBy, owner_of}
 use Rattle.adf_volume.proofs.Gathered.{root_in, root_is}

@@ -12,8 +12,7 @@ use Rattle.adf_volume.specs.Walk.IsWalkBy.{start, step}
 use Rattle.adf_volume.proofs.Roles.{dec_has, has_low, head_key}
 use Rattle.adf_volume.proofs.PartDemands.{part_holds_by}
 use Rattle.adf_volume.proofs.Gathered as gathered
-use Rattle.adf_volume.proofs.Gathered.{IsGathered}
-use Rattle.adf_volume.proofs.Gathered.IsGathered.{start as gathered_start, step as gathered_step}
+use Rattle.adf_volume.proofs.Gathered.{IsGathered, IsGathered.start as gathered_start, IsGathered.step as gathered_step}
 
 module _ {letters : Letters} (image : List ℕ) where
   -- a walk was gathered

@@ -2,14 +2,11 @@
 use Rattle.std.specs.Prelude.{ℕ, List, [], ◌∷◌, ◌++◌, ◌+◌, ◌-◌, ◌*◌, ◌/◌, ◌%◌, ◌==◌, cond, nat_lt, slice_index, slice_range, take}
 use Rattle.std.proofs.Common.{suc}
 use Rattle.adf_base.specs.Words.{block, word}
-use Rattle.adf_base.specs.declared.hash.Letters.{Letters}
-use Rattle.adf_base.specs.declared.hash.Letters.TheVariants.{Ascii, International}
-use Rattle.adf_names.specs.declared.kind.Kind.{Kind}
-use Rattle.adf_names.specs.declared.kind.Kind.TheVariants.{Ofs, Ffs}
+use Rattle.adf_base.specs.declared.hash.Letters.{Letters, TheVariants.Ascii, TheVariants.International}
+use Rattle.adf_names.specs.declared.kind.Kind.{Kind, TheVariants.Ofs, TheVariants.Ffs}
 use Rattle.adf_names.specs.declared.meta.Meta.{Meta}
 use Rattle.adf_names.specs.declared.meta.Stamps.{Stamps}
-use Rattle.adf_blocks.specs.declared.layout.TheConstants.{DATA_BYTES, FIRST_POINTER, MAP_EXT_PAGES, NAME, POINTERS}
-use Rattle.adf_blocks.specs.declared.layout.TheConstants.{ROOT_PAGES, SIZE}
+use Rattle.adf_blocks.specs.declared.layout.TheConstants.{DATA_BYTES, FIRST_POINTER, MAP_EXT_PAGES, NAME, POINTERS, ROOT_PAGES, SIZE}
 use Rattle.adf_blocks.specs.Forms.{text_at}
 use Rattle.adf_blocks.specs.HeadBlock.{meta_at}
 use Rattle.adf_blocks.specs.PageBlock.{IsFreeBit}

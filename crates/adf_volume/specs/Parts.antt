@@ -1,7 +1,6 @@
 -- Parts as roles, and the entries that owners are parts of.
 use Rattle.std.specs.Prelude.{ℕ}
-use Rattle.adf_volume.specs.Walk.{Role}
-use Rattle.adf_volume.specs.Walk.Role.{Root, Page, MapExt, Head, Ext, Data}
+use Rattle.adf_volume.specs.Walk.{Role, Role.Root, Role.Page, Role.MapExt, Role.Head, Role.Ext, Role.Data}
 use Rattle.adf_volume.specs.declared.owner.Owner.{Owner}
 use Rattle.adf_volume.specs.declared.owner.Owner.TheVariants as owner
 use Rattle.adf_volume.specs.declared.part.Part.{Part}

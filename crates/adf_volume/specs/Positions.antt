@@ -5,8 +5,7 @@ use Rattle.std.specs.Prelude.{◌≡◌, ℕ, List, ◌+◌, ◌-◌, ◌/◌, �
 use Rattle.std.proofs.Common.{zero, suc}
 use Rattle.adf_blocks.specs.declared.layout.TheConstants.{FIRST_MAP_EXT, FIRST_PAGE, FIRST_SLOT, MAP_EXT_NEXT, MAP_EXT_PAGES, NEXT_IN_CHAIN, ROOT_PAGES}
 use Rattle.adf_volume.specs.Image.{root_of}
-use Rattle.adf_volume.specs.Walk.{Role, first, second, third, Has, DirAt, Asks, Lacks, Walk}
-use Rattle.adf_volume.specs.Walk.Role.{MapExt, Head}
+use Rattle.adf_volume.specs.Walk.{Role, first, second, third, Has, DirAt, Asks, Lacks, Walk, Role.MapExt, Role.Head}
 
 -- three numbers, compared as those of roles are
 pub record Position : Type 0 where

@@ -1,16 +1,13 @@
 -- The rows of entries.
 use Rattle.std.specs.Prelude.{ℕ, List, length}
 use Rattle.adf_blocks.specs.declared.layout.TheConstants.{NAME}
-use Rattle.adf_tree.specs.declared.entry.Body.{Body}
-use Rattle.adf_tree.specs.declared.entry.Body.TheVariants.{Dir as ADir, File as AFile}
+use Rattle.adf_tree.specs.declared.entry.Body.{Body, TheVariants.Dir as ADir, TheVariants.File as AFile}
 use Rattle.adf_tree.specs.declared.entry.Entry.{Entry}
 use Rattle.adf_blocks.specs.Forms.{text_at}
 use Rattle.adf_blocks.specs.HeadBlock.{body_at, meta_at}
-use Rattle.adf_blocks.specs.declared.head.HeadBody.{HeadBody}
-use Rattle.adf_blocks.specs.declared.head.HeadBody.TheVariants.{Dir as HeadDir, File as HeadFile}
+use Rattle.adf_blocks.specs.declared.head.HeadBody.{HeadBody, TheVariants.Dir as HeadDir, TheVariants.File as HeadFile}
 use Rattle.adf_volume.specs.declared.row.Row.{Row}
-use Rattle.adf_volume.specs.declared.row.RowBody.{RowBody}
-use Rattle.adf_volume.specs.declared.row.RowBody.TheVariants.{Dir, File}
+use Rattle.adf_volume.specs.declared.row.RowBody.{RowBody, TheVariants.Dir, TheVariants.File}
 
 -- the body of a row, from the body of a header
 abbrev pub row_body : HeadBody → RowBody

@@ -1,8 +1,7 @@
 -- Images with a valid size, boot block and root.
 use Rattle.std.specs.Prelude.{◌≡◌, ◌/◌, ◌%◌, ◌==◌, ◌&&◌, Bool, ℕ, List, ◌∷◌, ◌++◌, length}
 use Rattle.adf_base.specs.Words.{block}
-use Rattle.adf_base.specs.declared.hash.Letters.{Letters}
-use Rattle.adf_base.specs.declared.hash.Letters.TheVariants.{Ascii}
+use Rattle.adf_base.specs.declared.hash.Letters.{Letters, TheVariants.Ascii}
 use Rattle.adf_blocks.specs.declared.cause.Cause.TheVariants.{BadSize}
 use Rattle.adf_blocks.specs.Forms.{Clause}
 use Rattle.adf_names.specs.declared.kind.Kind.{Kind}

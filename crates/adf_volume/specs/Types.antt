@@ -1,10 +1,8 @@
 -- The types of volumes that are accepted.
 use Rattle.std.specs.Prelude.{ℕ, List}
-use Rattle.adf_base.specs.declared.hash.Letters.{Letters}
-use Rattle.adf_base.specs.declared.hash.Letters.TheVariants.{Ascii}
+use Rattle.adf_base.specs.declared.hash.Letters.{Letters, TheVariants.Ascii}
 use Rattle.adf_volume.specs.Image.{letters_of}
-use Rattle.adf_volume.specs.declared.types.Types.{Types}
-use Rattle.adf_volume.specs.declared.types.Types.TheVariants.{Plain, WithInternational}
+use Rattle.adf_volume.specs.declared.types.Types.{Types, TheVariants.Plain, TheVariants.WithInternational}
 
 -- the letters by which the names of an image are read where these types are accepted
 abbrev pub letters_for : Types → List ℕ → Letters

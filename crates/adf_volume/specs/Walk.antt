@@ -10,8 +10,7 @@ use Rattle.adf_blocks.specs.Sizes.{blocks, count, pages_needed}
 use Rattle.adf_volume.specs.Image.{word_in, root_of, kind_of, held, table_word, name_of, IsFreeAt}
 use Rattle.adf_blocks.specs.declared.layout.TheConstants.{EXTENSION, FIRST_MAP_EXT, FIRST_PAGE, FIRST_SLOT, MAP_EXT_NEXT, MAP_EXT_PAGES, NEXT_IN_CHAIN}
 use Rattle.adf_blocks.specs.declared.layout.TheConstants.{PAGE_BITS, POINTERS, ROOT_PAGES, SECONDARY_TYPE, SIZE, SLOTS, ST_DIR, ST_FILE}
-use Rattle.adf_base.specs.declared.hash.Letters.{Letters}
-use Rattle.adf_base.specs.declared.hash.Letters.TheVariants.{Ascii}
+use Rattle.adf_base.specs.declared.hash.Letters.{Letters, TheVariants.Ascii}
 use Rattle.adf_names.specs.Texts.{uppers_by}
 use Rattle.adf_volume.specs.Demands.{Demand, demand, AllHold, FirstFails, boot_demands_by, root_demands, page_demands, head_demands_by, ext_demands, data_demands}
 

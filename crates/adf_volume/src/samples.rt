@@ -1,8 +1,7 @@
 // The definitions tried on small images. Each function does nothing; its contract is the test.
 
 ghost use Rattle.adf_base.specs.declared.hash.Letters.TheVariants.{Ascii, International};
-ghost use Rattle.adf_blocks.specs.declared.cause.Cause.{Cause};
-ghost use Rattle.adf_blocks.specs.declared.cause.Cause.TheVariants.{LostBlock};
+ghost use Rattle.adf_blocks.specs.declared.cause.Cause.{Cause, TheVariants.LostBlock};
 ghost use Rattle.adf_volume.specs.Fits.{Fits, FitsBy};
 ghost use Rattle.adf_volume.specs.Samples.{one_file, one_file_layout, one_file_tree, one_lost, tiny, tiny_layout, tiny_tree};
 ghost use Rattle.adf_volume.specs.Walk.{FirstFault};

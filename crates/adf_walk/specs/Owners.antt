@@ -1,7 +1,6 @@
 -- The owners of blocks.
 use Rattle.std.specs.Prelude.{ℕ, Bool, List, count_by, slice_index_or}
-use Rattle.adf_volume.specs.declared.owner.Owner.{Owner}
-use Rattle.adf_volume.specs.declared.owner.Owner.TheVariants.{Free}
+use Rattle.adf_volume.specs.declared.owner.Owner.{Owner, TheVariants.Free}
 use Rattle.adf_walk.specs.OwnerClass.{class_of, is_part_class}
 
 -- the owner of block b

@@ -4,8 +4,7 @@ use Rattle.adf_findings.specs.declared.finding.Finding.{Finding}
 use Rattle.adf_findings.specs.Parts.{finding_value}
 use Rattle.adf_findings.specs.Start.{boot_findings, unread_findings}
 use Rattle.adf_findings.specs.declared.start.Unread.{Unread}
-use Rattle.adf_findings.specs.Survey.{UnreadTells, finding}
-use Rattle.adf_findings.specs.Survey.IsSurvey.{unread}
+use Rattle.adf_findings.specs.Survey.{UnreadTells, finding, IsSurvey.unread}
 use Rattle.adf_findings.proofs.Keeping.{unread_kept}
 use Rattle.adf_findings.proofs.surveyor.only.Goals as goal
 

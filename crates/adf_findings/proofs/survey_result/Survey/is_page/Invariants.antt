@@ -1,6 +1,5 @@
 use Rattle.std.proofs.Common.{ℕ, ◌<◌}
-use Rattle.adf_volume.specs.Walk.{Has}
-use Rattle.adf_volume.specs.Walk.Role.{Page}
+use Rattle.adf_volume.specs.Walk.{Has, Role.Page}
 use Rattle.adf_findings.specs.Survey.{OnSurvey}
 use Rattle.adf_findings.proofs.survey_result.Survey.is_page.Given as goal
 

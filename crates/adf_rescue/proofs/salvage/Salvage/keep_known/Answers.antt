@@ -1,7 +1,6 @@
 use Rattle.std.proofs.Common.{◌∙◌, ◌+◌, ap, append-nil, length, refl, sym}
 use Rattle.std.proofs.lemmas.Result.{on_ok_weaker}
-use Rattle.adf_rescue.specs.Rescue.{new_path}
-use Rattle.adf_rescue.specs.Rescue.Verdict.{knows}
+use Rattle.adf_rescue.specs.Rescue.{new_path, Verdict.knows}
 use Rattle.adf_rescue.proofs.Steps.{none_more}
 use Rattle.adf_rescue.proofs.salvage.Salvage.keep_known.Goals as goal
 
