@@ -17,7 +17,7 @@ use Rattle.adf_tree.specs.declared.entry.Body.{Body, TheVariants.Dir, TheVariant
 use Rattle.adf_tree.specs.declared.tree.RoomFault.{RoomFault, TheVariants.EmptyPath, TheVariants.NoParent, TheVariants.ParentIsFile, TheVariants.Exists}
 use Rattle.adf_tree.specs.Tree.{added, added_by, child, child_by, directory_from, directory_from_by, free_in, is_dir, is_dir_body, last_of, new_entry}
 use Rattle.adf_tree.specs.Tree.{new_entry_by, parents_of, room_at, room_at_by, room_for, room_for_by, with_added, with_entry, with_entry_by, AreApartBy, IsDir}
-use Rattle.adf_tree.specs.Tree.{IsTreeBy, MayAdd, MayAddBy, Tree, TreeEntries}
+use Rattle.adf_tree.specs.Tree.{IsTreeBy, MayAddBy, Tree, TreeEntries}
 use Rattle.adf_tree.proofs.TreeInvariant.{added_tree}
 use Rattle.adf_tree.proofs.ChildLookup.{none_is}
 

@@ -11,7 +11,7 @@ use Rattle.adf_base.specs.declared.hash.Letters.{Letters, TheVariants.Ascii, The
 use Rattle.adf_tree.specs.declared.entry.Entry.{Entry}
 use Rattle.adf_base.specs.Hash.{slot_by, slot_of, upper_by}
 use Rattle.adf_names.specs.Texts.{uppers, uppers_by}
-use Rattle.adf_tree.specs.Tree.{rank, rank_by, rank_of, is_child, is_child_by, child, child_by, place, place_by, moved_entry, moved, added_by, IsDir, IsTree}
+use Rattle.adf_tree.specs.Tree.{rank_by, rank_of, is_child, is_child_by, child, child_by, place_by, moved_entry, moved, added_by, IsDir, IsTree}
 use Rattle.adf_tree.specs.Tree.{IsTreeBy, MayAddBy}
 use Rattle.adf_tree.proofs.TreeInvariant.{after, moved_same, moved_below, moved_above, moved_up, moved_near, added_tree, place_le_by, dir_before, at_place}
 use Rattle.adf_tree.proofs.TreeInvariant.{by_case, length_added, new_get}

@@ -4,7 +4,7 @@ use Rattle.std.proofs.Common.{◌≡◌, ℕ, ◌≤◌, List, [], ◌∷◌, le
 use Rattle.std.proofs.lemmas.Bool.{le-ltb, lt-ltb, leb-true, leb-false}
 use Rattle.adf_base.specs.declared.hash.Letters.{Letters, TheVariants.Ascii}
 use Rattle.adf_tree.specs.declared.entry.Entry.{Entry}
-use Rattle.adf_tree.specs.Tree.{place, place_by, rank, rank_by}
+use Rattle.adf_tree.specs.Tree.{place_by, rank_by}
 use Rattle.std.specs.List.{insert, Sorted.IsPartitionPoint}
 use Rattle.std.proofs.lemmas.List.{append_assoc, take_at, drop_at, length-take-le, drop_all, append-nil, take_all, length-append, Sums.position_or_len_is}
 use Rattle.std.proofs.lemmas.Grind.{common_steps}
