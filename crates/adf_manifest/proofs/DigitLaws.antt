@@ -77,13 +77,7 @@ pub pair_lacks : (b : ℕ) (rest : List ℕ) → b < 256 → LacksByte 32 rest �
 pair_lacks b rest h a = grind (arith, common_steps, no_space)
 
 pub word_lacks : (w : ℕ) → LacksByte 32 (hex_word w)
-word_lacks w =
-    let last = pair (w % 256) in
-    let third = pair (w / 256 % 256) ++ last in
-    let second = pair (w / 65536 % 256) ++ third in
-    pair_lacks (w / 16777216 % 256) second (omega arith)
-    (pair_lacks (w / 65536 % 256) third (omega arith) (pair_lacks (w / 256 % 256) last (omega arith)
-    (pair_lacks (w % 256) [] (omega arith) (All-nil (λ x. (x == 32) ≡ false)))))
+word_lacks w = search (arith, pair_lacks, All-nil)
 
 -- a word is the same where its digits are
 pub one_word : (v w : ℕ) → v < 2 ^ 32 → w < 2 ^ 32 → hex_word v ≡ hex_word w → v ≡ w

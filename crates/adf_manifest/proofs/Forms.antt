@@ -71,13 +71,10 @@ differ x y h e = absurd (apart x y h e)
 pub line_same : (a b : LineValue) → IsLine a → IsLine b → line_text a ≡ line_text b → a ≡ b
 line_same (LabelLine a) (LabelLine b) g h e = ap LabelLine (append_cancel_left (codes "label ") a b e)
 line_same (StampsLine s) (StampsLine t) g h e = ap StampsLine (one_stamps s t g h e)
-line_same (EntryLine Dir s p x) (EntryLine Dir t q y) g h e =
-    one_entry Dir s t p q x y g.0 h.0 g.1 h.1 (append_cancel_left (codes "dir ") (fields_text s p x) (fields_text t q y) e)
-line_same (EntryLine File s p x) (EntryLine File t q y) g h e =
-    one_entry File s t p q x y g.0 h.0 g.1 h.1 (append_cancel_left (codes "file ") (fields_text s p x) (fields_text t q y) e)
+line_same (EntryLine Dir s p x) (EntryLine Dir t q y) g h e = search (arith, one_entry, append_cancel_left, codes)
+line_same (EntryLine File s p x) (EntryLine File t q y) g h e = search (arith, one_entry, append_cancel_left, codes)
 line_same (NoteLine a) (NoteLine b) g h e = ap NoteLine (append_cancel_left (codes "note ") a b e)
-line_same (RunLine (DataRun a)) (RunLine (DataRun b)) g h e =
-    ap (λ x. RunLine (DataRun x)) (one_run a b g h (append_cancel_left (codes "data ") (pairs a) (pairs b) e))
+line_same (RunLine (DataRun a)) (RunLine (DataRun b)) g h e = search (arith, one_run, append_cancel_left, codes)
 line_same (RunLine (FillRun n a)) (RunLine (FillRun m b)) g h e = ap RunLine (one_fill n m a b g h e)
 line_same a (EntryLine Dir t q y) g h e = differ (key (line_text a)) (key (line_text (EntryLine Dir t q y))) refl (ap key e)
 line_same a (EntryLine File t q y) g h e = differ (key (line_text a)) (key (line_text (EntryLine File t q y))) refl (ap key e)

@@ -63,11 +63,7 @@ pub new_lines : (m : Manifest) (i : Item) → manifest_lines (with_new m i) ≡ 
 new_lines m i = rw lines_push (sym (append_assoc (preamble_lines m.preamble) (flat_map item_lines (items_of m.entries)) (item_lines i)))
 
 pub new_well : (m : Manifest) (i : Item) → IsWell m → IsItem i → IsOk (room_for (manifest_tree m).entries i.path) → IsWell (with_new m i)
-new_well m i w g room = record {
-  preamble = w.preamble;
-  items = All-push IsItem (items_of m.entries) i w.items g;
-  room = room_more (preamble_tree m.preamble) (items_of m.entries) i w.room room;
-}
+new_well m i w g room = grind (arith, common_steps, room_more, All-push IsItem (items_of m.entries) i w.items)
 
 last_split : (h : List (List ℕ)) (before : List Item) (last last' : Item) (text : List ℕ) → item_lines last' ≡ item_lines last ++ text ∷ []
     → h ++ flat_map item_lines (before ++ last' ∷ []) ≡ (h ++ flat_map item_lines (before ++ last ∷ [])) ++ text ∷ []

@@ -1,7 +1,8 @@
 -- Laws of a manifest's lines and of their faults.
-use Rattle.std.proofs.Common.{◌≡◌, ◌≤◌, ◌+◌, ◌==◌, ◌++◌, ◌∙◌, ℕ, List, [], ◌∷◌, refl, sym, ap, arith, append_assoc, length, length-append}
+use Rattle.std.proofs.Common.{◌≡◌, ◌≤◌, ◌+◌, ◌==◌, ◌++◌, ◌∙◌, ℕ, List, [], ◌∷◌, refl, ap, arith, append_assoc, length, length-append}
 use Rattle.std.proofs.lemmas.List.Sums.{count_by-le-length}
 use Rattle.std.proofs.lemmas.List.Splits.{length-slice_split, slice_split_at, slice_split_none}
+use Rattle.std.proofs.lemmas.Grind.{common_steps}
 use Rattle.adf_manifest.specs.Tokens.{LacksByte}
 use Rattle.adf_manifest.specs.Manifest.{between_feeds}
 
@@ -18,7 +19,4 @@ parts_few text = omega (arith, length-slice_split (λ c. c == 10) text, count_by
 -- the lines read so far, and one more of those that are left
 pub one_more_line : {all : List (List ℕ)} (before now left behind : List (List ℕ)) (line : List ℕ) (number : ℕ) → all ≡ before ++ left
     → number ≡ length before → left ≡ line ∷ behind → now ≡ before ++ line ∷ [] → (all ≡ now ++ behind) × (number + 1 ≡ length now)
-one_more_line before now left behind line number e n l m = (
-  e ∙ ap (λ ls. before ++ ls) l ∙ sym (ap (λ ls. ls ++ behind) m ∙ append_assoc before (line ∷ []) behind),
-  omega (arith, ap length m, length-append before (line ∷ [])),
-)
+one_more_line before now left behind line number e n l m = grind (arith, common_steps, append_assoc, length-append)

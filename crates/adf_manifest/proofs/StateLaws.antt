@@ -163,8 +163,7 @@ item_is t o i comment body g e2 e3 = grind (arith, common_steps)
 pub closed_is : (t : Tree) (o : LastEntry) (i : Item) (comment : List ℕ) (body : Body) → t.letters ≡ Ascii → IsLastEntry o i
     → comment ≡ unwrap_or o.note [] → body ≡ body_of_sort o.sort o.bytes.items
     → with_entry_by t.letters t i.path (new_meta comment o.protect o.stamp) body ≡ with_item t i
-closed_is t o i comment body letters g e2 e3 =
-    ap (λ l. with_entry_by l t i.path (new_meta comment o.protect o.stamp) body) letters ∙ item_is t o i comment body g e2 e3
+closed_is t o i comment body letters g e2 e3 = search (arith, item_is)
 
 pub stopped : {T : Type 0} (r : Result T ManifestKind) (m : Manifest) (line : LineValue) (tree : Tree) → tree ≡ manifest_tree m → MayStand m line
     → IfErr r (λ k. StopsIn tree line k) → IfErr r (λ k. Stops m line k)

@@ -1,7 +1,5 @@
 -- Laws of parts of lines: cuts at a byte, numbers in decimal, stamps.
-use Rattle.std.proofs.Common.{◌≡◌, ◌-◌, ◌+◌, ◌≢◌, ◌≤◌, ◌<◌, ◌^◌, ◌==◌, ◌&&◌, ◌||◌, not, ◌++◌, ◌∙◌, ℕ, Bool, true, false, nat_lt, List, ◌∷◌, [], Option, Some}
-use Rattle.std.proofs.Common.{None, Result, Ok, IfNone, refl, sym, ap, subst, arith, rules, length, slice_index, slice_index_or, length-append, drop, take}
-use Rattle.std.proofs.Common.{take-append-drop, IfSome, MatchOption, nat_eq}
+use Rattle.std.proofs.Common.{◌≡◌, ◌-◌, ◌+◌, ◌≢◌, ◌≤◌, ◌<◌, ◌^◌, ◌==◌, ◌&&◌, ◌||◌, not, ◌++◌, ◌∙◌, ℕ, Bool, true, false, nat_lt, List, ◌∷◌, [], Option, Some, None, Result, Ok, IfNone, refl, sym, ap, subst, arith, rules, length, slice_index, slice_index_or, length-append, drop, take, take-append-drop, IfSome, MatchOption, nat_eq}
 use Rattle.std.proofs.Math.Seq.{get_or-append_seam}
 use Rattle.std.specs.List.{slice_split}
 use Rattle.std.specs.Result.{OkIff}
@@ -36,13 +34,7 @@ one_cut c a b a' b' h h' e =
 
 -- a text with the byte does not lack it
 pub not_cut : (c : ℕ) (t a b : List ℕ) → LacksByte c t → t ≡ a ++ c ∷ b → ⊥
-not_cut c t a b h e =
-    let at : slice_index_or t (length a) 0 ≡ c = rw e (get_or-append_seam a c b 0) in
-    let within : length a < length t = rw e (omega (arith, length-append a (c ∷ b))) in
-    let other : (slice_index_or t (length a) 0 == c) ≡ false = h (length a) 0 within in
-    let same : (c == c) ≡ true = search rules in
-    let bad : true ≡ false = sym same ∙ ap (λ x. x == c) (sym at) ∙ other in
-    absurd cc
+not_cut c t a b h e = grind (arith, common_steps, slice_index_or t (length a) 0, get_or-append_seam a c b 0, length-append a (c ∷ b))
 
 -- the text is cut at the first two of a byte
 abbrev pub CutTwice : ℕ → List ℕ → List ℕ → List ℕ → List ℕ → Type 0
@@ -66,10 +58,7 @@ pub space_lacks : (n : ℕ) → n < 2 ^ 32 → LacksByte 32 (decimal n)
 space_lacks n h = decimal_lacks 32 n (λ d low high. grind (arith, nat_tests)) h
 
 pub stamp_lacks : (s : Stamp) → IsStamp s → LacksByte 32 (plain_text s)
-stamp_lacks s h =
-    let P : ℕ → Type 0 = λ x. (x == 32) ≡ false in
-    All-append P (decimal s.days) _ (space_lacks s.days h.days)
-    (All-cons P 58 _ refl (All-append P (decimal s.mins) _ (space_lacks s.mins h.mins) (All-cons P 58 _ refl (space_lacks s.ticks h.ticks))))
+stamp_lacks s h = search (arith, All-append, space_lacks, All-cons)
 
 -- the parts of a stamp
 pub stamp_parts : {text x y z : List ℕ} (s : Stamp) → CutTwice 58 text x y z → IsStamp s → text ≡ plain_text s
@@ -130,6 +119,4 @@ prefix_says L text prefix f (Some x) h =
 -- a text of one digit is that number
 pub one_digit : (text : List ℕ) (n : ℕ) → length text ≡ 1 → 48 ≤ slice_index text 0 → slice_index text 0 ≤ 57 → n ≡ slice_index text 0 - 48
     → text ≡ decimal n
-one_digit [] n long low high is = absurd (omega arith)
-one_digit (d ∷ []) n long low high is = let same : 48 + n ≡ d = omega arith in sym (decimal_digit n (omega arith) ∙ ap (λ k. k ∷ []) same)
-one_digit (d ∷ e ∷ more) n long low high is = absurd (omega arith)
+one_digit text n h k l m = grind (arith, common_steps, decimal_digit)

@@ -1,6 +1,7 @@
 -- The tree of a manifest's lines: adding the entry lines in order gives it, and there is no other.
-use Rattle.std.proofs.Common.{◌≡◌, ◌++◌, ◌∙◌, List, [], ◌∷◌, refl, sym, ap, subst, map, append_assoc}
+use Rattle.std.proofs.Common.{◌≡◌, ◌++◌, ◌∙◌, List, [], ◌∷◌, refl, sym, ap, subst, map, append_assoc, arith}
 use Rattle.std.proofs.lemmas.List.{append-nil}
+use Rattle.std.proofs.lemmas.Grind.{common_steps}
 use Rattle.adf_base.specs.declared.hash.Letters.TheVariants.{Ascii}
 use Rattle.adf_tree.specs.Additions.{Addition, IsTreeOf}
 use Rattle.adf_tree.specs.Tree.{Tree}
@@ -37,8 +38,7 @@ of_parts : (t u : Tree) → record t { entries = [] } ≡ record u { entries = [
 of_parts t u e g = ap (λ (v : Tree). record v { entries = t.entries }) e ∙ ap (λ es. record u { entries = es }) g
 
 pub one_tree_of : (m : Manifest) (t u : Tree) → IsTreeOfManifest t m → IsTreeOfManifest u m → t ≡ u
-one_tree_of m t u g h =
-    of_parts t u (g.preamble ∙ sym h.preamble) (one_tree t.entries u.entries (map addition_of (items_of m.entries)) g.entries h.entries)
+one_tree_of m t u g h = grind (arith, common_steps, of_parts, one_tree t.entries u.entries (map addition_of (items_of m.entries)) g.entries h.entries)
 
 pub manifest_letters : (m : Manifest) (t : Tree) → IsTreeOfManifest t m → t.letters ≡ Ascii
 manifest_letters m t is = ap (λ (u : Tree). u.letters) is.preamble

@@ -1,12 +1,12 @@
 -- A manifest has one verdict: one tree and number of blocks, or one first fault.
 use Rattle.std.proofs.Common.{◌≡◌, ◌<◌, ◌≤◌, ◌^◌, ◌∙◌, inl, inr, ℕ, zero, suc, true, List, [], ◌∷◌, Option, Some, None, sym, ap, subst, arith}
-use Rattle.std.proofs.Common.{length, length-append, codes, slice_index}
+use Rattle.std.proofs.Common.{length, length-append, codes}
 use Rattle.std.proofs.lemmas.Bool.Decides.{nat_tests}
 use Rattle.std.proofs.lemmas.Fmt.{decimal_injective}
 use Rattle.std.proofs.lemmas.List.{append_cancel_left, same_from_push}
 use Rattle.std.proofs.lemmas.Grind.{common_steps}
 use Rattle.adf_names.specs.Escapes.{IsSpelling}
-use Rattle.adf_names.specs.declared.kind.Kind.{Kind, TheVariants.Ofs, TheVariants.Ffs}
+use Rattle.adf_names.specs.declared.kind.Kind.{Kind}
 use Rattle.adf_names.proofs.Spellings.{only_spelled}
 use Rattle.adf_names.proofs.PathParts.{one_path}
 use Rattle.adf_blocks.specs.Sizes.{is_allowed}
@@ -28,10 +28,7 @@ small n h = grind (arith, nat_tests)
 
 -- a volume line has one kind and one number
 pub one_volume : (kind kind' : Kind) (n n' : ℕ) → n < 2 ^ 32 → n' < 2 ^ 32 → volume_line kind n ≡ volume_line kind' n' → (kind ≡ kind') × (n ≡ n')
-one_volume Ofs Ofs n n' h h' e = grind (arith, common_steps, decimal_injective, append_cancel_left, codes)
-one_volume Ffs Ffs n n' h h' e = grind (arith, common_steps, decimal_injective, append_cancel_left, codes)
-one_volume Ofs Ffs n n' h h' e = let bad : 111 ≡ 102 = ap (λ t. slice_index t 7) e in absurd (omega (arith, bad))
-one_volume Ffs Ofs n n' h h' e = let bad : 102 ≡ 111 = ap (λ t. slice_index t 7) e in absurd (omega (arith, bad))
+one_volume kind kind' n n' h k l = grind (arith, common_steps, decimal_injective, append_cancel_left, codes)
 
 one_entries : (o : Option Entries) (e f : Entries) → o ≡ Some e → o ≡ Some f → e ≡ f
 one_entries o e f p q = cc

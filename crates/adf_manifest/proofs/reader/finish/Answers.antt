@@ -1,13 +1,11 @@
-use Rattle.std.proofs.Common.{◌∙◌}
+use Rattle.std.proofs.Common.{◌∙◌, arith}
 use Rattle.std.proofs.lemmas.Result.{IfOk-weaker}
+use Rattle.std.proofs.lemmas.Grind.{common_steps}
 use Rattle.adf_manifest.proofs.StateLaws.{bare_tree, closed_tree, reading_letters}
 use Rattle.adf_manifest.proofs.reader.finish.Goals as goal
 
 pub returns-in-Preamble-clause-told : goal.returns-in-Preamble-clause-told
-returns-in-Preamble-clause-told c = λ m w t.
-    let preamble = c.in-Preamble.preamble in
-    rw (rw c.in-Preamble.is at t) (IfOk-weaker c.finished.result _ _ (λ r h. (bare_tree preamble r.0 (h.0 ∙ c.tree_of.ensures), h.1))
-    c.finished.ensures.told)
+returns-in-Preamble-clause-told c = grind (arith, common_steps, IfOk-weaker, bare_tree)
 
 pub returns-in_ok-close-in-Entries-clause-told : goal.returns-in_ok-close-in-Entries-clause-told
 returns-in_ok-close-in-Entries-clause-told c = λ m w t.
@@ -16,6 +14,4 @@ returns-in_ok-close-in-Entries-clause-told c = λ m w t.
     IfOk-weaker c.finished-in-Entries.result _ _ (λ r h. (h.0 ∙ is, h.1 ∙ g.1.blocks)) c.finished-in-Entries.ensures.told
 
 pub close-requires-clause-letters : goal.close-requires-clause-letters
-close-requires-clause-letters c =
-    let told = rw c.in-Entries.is at c.requires.told in
-    reading_letters c.in-Entries.reading told.0 told.1.0 told.1.1
+close-requires-clause-letters c = grind (arith, common_steps, reading_letters)

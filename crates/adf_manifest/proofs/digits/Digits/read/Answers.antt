@@ -1,5 +1,6 @@
 use Rattle.std.proofs.Common.{◌≡◌, ◌%◌, ◌∙◌, arith, sym, length}
 use Rattle.std.proofs.lemmas.Bool.Decides.{nat_tests}
+use Rattle.std.proofs.lemmas.Grind.{common_steps}
 use Rattle.adf_manifest.proofs.DigitLaws.{pairs_of_digits}
 use Rattle.adf_manifest.proofs.digits.Digits.read.Goals as goal
 
@@ -14,6 +15,4 @@ returns-then-are_digits-clause-bytes c =
     (pairs_of_digits c.args.text.now even (sym c.are_digits.ensures ∙ c.if-are_digits.true)).are_bytes
 
 pub returns-then-are_digits-clause-some : goal.returns-then-are_digits-clause-some
-returns-then-are_digits-clause-some c =
-    let even : length c.args.text.now % 2 ≡ 0 = grind (arith, nat_tests) in
-    (pairs_of_digits c.args.text.now even (sym c.are_digits.ensures ∙ c.if-are_digits.true)).spells
+returns-then-are_digits-clause-some c = grind (arith, common_steps, nat_tests, pairs_of_digits)
