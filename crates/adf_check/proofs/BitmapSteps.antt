@@ -9,6 +9,8 @@ use Rattle.adf_blocks.specs.Sizes.{blocks, pages_needed}
 use Rattle.adf_volume.specs.Image.{root_of, word_in, IsFreeAt, letters_of}
 use Rattle.adf_volume.specs.Demands.{AllHold, FirstFails, root_demands, boot_demands_by}
 use Rattle.adf_volume.specs.Walk.{Has, IsAbsent, IsFreeIn, bitmap_demands, Walk, FirstFaultBy, Role.Page, FirstFaultBy.at_bitmap}
+use Rattle.adf_volume.specs.Walk.Role.{Page}
+use Rattle.adf_volume.specs.Walk.FirstFaultBy.{at_bitmap}
 use Rattle.adf_volume.proofs.Gathered.{one_block}
 use Rattle.adf_volume.proofs.Images.{page_in}
 use Rattle.adf_volume.proofs.Lists.{all_append, all_split, fails_right}
@@ -55,8 +57,7 @@ module _ (free : Bool) {image : List ℕ} {store : StoreValue} {b page : ℕ} {l
       subst (Has st.walk (Page q)) (sym k ∙ l ∙ sym page_is_at) x.1
 
   only_page : (c : ℕ) → Has st.walk (Page ((b - 2) / 4064)) c → c ≡ page
-  only_page c h =
-      (one_block image (of_walk image st.read.is_walk) (Page ((b - 2) / 4064)) (Page ((b - 2) / 4064)) c page h has_page (refl, refl, refl)).1
+  only_page c h = grind (arith, common_steps, one_block, of_walk, has_page)
 
   free_then : free ≡ true → IsFreeIn image st.walk b
   free_then e = (page, has_page, free_is.0 e)
@@ -102,22 +103,13 @@ module _ (free : Bool) {image : List ℕ} {store : StoreValue} {b page : ℕ} {l
       }
 
   agrees_by : (t : Bool) → free ≡ t → IsTrue free ↔ (kept_at store.owners b ≡ no_owner) → IsMapped image store (suc b)
-  agrees_by true e h = mapped (λ _. free_then e) (λ _. absent_then (h.0 e))
-  agrees_by false e h =
-      let other : kept_at store.owners b ≢ no_owner = λ o. clash (h.1 o) e in
-      mapped (λ a. absurd (then_absent a other)) (λ k. absurd (clash (then_free k) e))
+  agrees_by t h k = grind (arith, mapped, free_then, absent_then, clash, then_absent, then_free)
 
   pub agrees : IsTrue free ↔ (kept_at store.owners b ≡ no_owner) → IsMapped image store (suc b)
   agrees h = agrees_by free refl h
 
 pub fits_alone : (image : List ℕ) (store : StoreValue) (b : ℕ) → IsOwnBegun image → b ≡ blocks image → IsMapped image store b → StoreFits image store
-fits_alone image store b begun e st =
-    let s = all_split (boot_demands_by (letters_of image) image) (root_demands image (root_of image)) begun in
-    record {
-      walk = st.walk;
-      read = st.read;
-      fits = fits image st.walk st.read.is_walk st.read.whole s.0 s.1 (subst (λ n. AllHold (bitmap_demands image st.walk 2 (n - 2))) e st.agrees);
-    }
+fits_alone image store b begun e st = grind (arith, common_steps, all_split, fits)
 
 -- where the bit of block b stands in word i
 module _ (i b : ℕ) (lo : 2 + 32 * i ≤ b) (within : b < 2 + 32 * i + 32) where

@@ -182,20 +182,7 @@ module _ {image : List ℕ} {store : StoreValue} {letters : Letters} {t : Tree} 
 
       -- or it is passed
       pub chain_next : uppers_by letters (name_of image b) ≢ uppers_by letters name → OnChain letters image t l p name (next_in image b)
-      chain_next other = record {
-        first = c.first;
-        spelled = c.spelled;
-        place = suc c.place;
-        here = next_here;
-        ended = (λ z. ends_by p name (suc c.place)
-            (λ d a. sym z ∙ spelled_link (next_in image) c.first (heads_named letters image t l p name) c.place b d c.spelled (c.here ne) a));
-        passed = (λ j n e lt a v. elim (ℕ_discrete j c.place) [
-          | yes z ↦
-              let same : n ≡ at.0 = at_fun (nodes_named letters t p name) c.place n at.0 (subst (λ j. At (nodes_named letters t p name) j n) z a) at.1 in
-              λ u. other (ap (uppers_by letters) (sym (entry_fits e (subst (λ m. EntryAt t m e) same v)).name) ∙ u)
-          | no earlier ↦ c.passed j n e (omega arith) a v
-        ]);
-      }
+      chain_next other = grind (arith, next_here, ends_by, spelled_link, at, at_fun, entry_fits)
 
       -- the chain ends: its nodes rise
       pub chain_smaller : chain_left store (next_in image b) < chain_left store b

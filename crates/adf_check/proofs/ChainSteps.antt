@@ -38,12 +38,8 @@ next_head w chain j = Head (suc (heads w)) chain.parent chain.slot j
 -- a chain that ends leaves its slot
 pub chain_ends : (image : List ℕ) (store : StoreValue) (chain : Chain) (link : Link) (seen : List ℕ → Type 0)
     → IsInChain image store chain link seen → link.block ≡ 0 → IsAtSlot image store chain.parent chain.up (suc chain.slot)
-chain_ends image store chain link seen st end = record {
-  walk = st.walk;
-  read = read_to st.read (end_chain image chain.parent chain.slot st.place st.read.up_to
-      (link_ends image st.walk (gathered st.read) chain.parent chain.slot st.place link.holder st.index st.pointer (st.named ∙ end)));
-  dir = st.dir;
-}
+chain_ends image store chain link seen st end =
+    grind (arith, common_steps, read_to, link_ends, end_chain image chain.parent chain.slot st.place st.read.up_to, gathered st.read)
 
 -- a slot's chain begins at the directory, and nothing of it was seen
 pub chain_begins : (image : List ℕ) (store : StoreValue) (chain : Chain) (b : ℕ) (seen : List ℕ → Type 0) → ((x : List ℕ) → seen x → ⊥)

@@ -3,7 +3,7 @@ use Rattle.adf_check.specs.Claims.{InRange, IsClaimFault}
 use Rattle.std.proofs.Common.{◌≡◌, ℕ, suc, List, [], ◌∷◌, ◌++◌, ◌+◌, ◌≤◌, length, set, count_by, inl, inr, refl, sym, ap, subst, ◌∙◌, arith, Result, Ok, Err}
 use Rattle.std.specs.Prelude.{IfErr, IsOk, OnOk}
 use Rattle.std.proofs.lemmas.Grind.{common_steps}
-use Rattle.adf_blocks.specs.declared.cause.Cause.{Cause, TheVariants.Taken, TheVariants.SameName, TheVariants.ShortFile}
+use Rattle.adf_blocks.specs.declared.cause.Cause.{Cause, TheVariants.SameName, TheVariants.ShortFile}
 use Rattle.adf_blocks.specs.Sizes.{blocks}
 use Rattle.adf_volume.specs.Demands.{Demand, demand, AllHold, FirstFails}
 use Rattle.adf_volume.specs.Image.{word_in, letters_of}
@@ -74,11 +74,7 @@ longer_headers _ b headers = omega arith
 
 module _ {image : List ℕ} {store : StoreValue} {w : Walk} {r : Role} {a b : ℕ} (st : IsNextAt image store w r a b) where
   is_due : IsDue image w r a st.index
-  is_due = record {
-    asked = st.asked;
-    lacks = not_taken image r st.read.up_to;
-    least = (λ q c k h l before. st.read.up_to.gone q c k h l (λ z d n. absurd n) before);
-  }
+  is_due = grind (arith, not_taken)
 
   is_fault : (x : ℕ) (c : Cause) → FirstFails (demands_by (letters_of image) image w r a b) x c → IsOwnFault image (fault x c)
   is_fault x c h =
@@ -95,11 +91,7 @@ module _ {image : List ℕ} {store : StoreValue} {w : Walk} {r : Role} {a b : �
   module _ (enough : Enough image w r) where
     -- the block is not claimed
     claim_fault : (f : Fault) → IsClaimFault store.owners a b f → IsOwnFault image f
-    claim_fault f (inl out) = grind (arith, common_steps, is_fault)
-    claim_fault f (inr taken) =
-        let within = in_image taken.0 in
-        let present = taken_present image store.owners w st.read.tells.owns b within.0 within.1 taken.1 in
-        subst (IsOwnFault image) (sym taken.2) (is_fault b Taken (inr (enough, inr (within, inl (present, refl, refl)))))
+    claim_fault f h = grind (arith, is_fault, in_image, taken_present)
 
     pub claim_refused : {T : Type 0} (x : Result T Fault) → IfErr x (IsClaimFault store.owners a b) → IfErr x (IsOwnFault image)
     claim_refused (Ok y) h = tt
@@ -114,8 +106,7 @@ module _ {image : List ℕ} {store : StoreValue} {w : Walk} {r : Role} {a b : �
 
       -- it has not the form of the role
       pub form_fault : (c : Cause) → FirstFails (form_demands_by (letters_of image) image w r b) b c → IsOwnFault image (fault b c)
-      form_fault c h =
-          late_fault c (fails_left (form_demands_by (letters_of image) image w r b) (demand SameName b (NewNameBy (letters_of image) image w r b) ∷ []) b c h)
+      form_fault c h = grind (arith, common_steps, late_fault, fails_left)
 
       module _ (form : AllHold (form_demands_by (letters_of image) image w r b)) where
         -- an earlier header of the chain has the name

@@ -40,8 +40,7 @@ member_inside image w begun v n (suc m) c h = (in_range image v (many_blocks ima
 -- the blocks of the table are those of the image
 pub table_inside : {image : List ℕ} {store : StoreValue} {file : File} {table : List ℕ} {k : ℕ} → IsInDatas image store file table k
     → (i : ℕ) → i < length table → slice_index table i < blocks image
-table_inside {image = image} {file = file} {table = table} st i lt =
-    member_inside image st.walk st.read.begun st.read.is_walk file.node i (slice_index table i) (st.holds.members i (slice_index table i) (at_or table i 0 lt))
+table_inside {image = image} {file = file} {table = table} st i lt = grind (arith, member_inside, at_or table i 0 lt)
 
 -- behind the last data block
 pub datas_end : (image : List ℕ) (store : StoreValue) (file : File) (table : List ℕ) (k : ℕ) → IsInDatas image store file table k

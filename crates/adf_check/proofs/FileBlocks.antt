@@ -1,7 +1,7 @@
 -- The blocks of each file are adjacent in the flat lists of a walk.
-use Rattle.std.proofs.Common.{◌≡◌, ℕ, suc, List, [], ◌∷◌, ◌++◌, inl, inr, ◌+◌, ◌<◌, ◌≤◌, length, length-append, refl, sym, ap, ◌∙◌, arith, Bool, true, false}
-use Rattle.std.proofs.Common.{cond, take, drop, append_assoc, Option, Some, None, ◌==◌, ◌||◌, is_some, nat_lt, not}
+use Rattle.std.proofs.Common.{◌≡◌, ℕ, suc, List, [], ◌∷◌, ◌++◌, inl, inr, ◌+◌, ◌<◌, ◌≤◌, length, length-append, refl, sym, ap, ◌∙◌, arith, Bool, true, false, cond, take, drop, append_assoc, Option, Some, None, ◌==◌, ◌||◌, is_some, nat_lt, not}
 use Rattle.std.proofs.lemmas.Bool.{eqb-true, false_from_ne_true, le-ltb, lt-ltb, ltb-false, ltb-true, not-true, Decides.nat_tests}
+use Rattle.std.proofs.lemmas.Bool.Decides.{nat_tests}
 use Rattle.std.proofs.lemmas.List.{append-nil}
 use Rattle.std.proofs.Math.Seq.{drop-append_seam, take-append_seam}
 use Rattle.std.proofs.lemmas.Grind.{common_steps}
@@ -16,14 +16,7 @@ use Rattle.adf_check.specs.Own.{IsOwnWalk}
 -- a test that passes whatever another one passes picks no fewer blocks
 picked_fewer : (f g : Role → Bool) (w : Walk) → ((r : Role) → f r ≡ true → g r ≡ true) → length (picked f w) ≤ length (picked g w)
 picked_fewer f g [] h = omega arith
-picked_fewer f g (x ∷ w) h = go (f x.0) (g x.0) (h x.0) (picked_fewer f g w h)
-  where
-    go : (y z : Bool) → (y ≡ true → z ≡ true) → length (picked f w) ≤ length (picked g w)
-        → length (cond y (picked f w ++ x.1 ∷ []) (picked f w)) ≤ length (cond z (picked g w ++ x.1 ∷ []) (picked g w))
-    go true true e ih = omega (arith, snoc_length (picked f w) x.1, snoc_length (picked g w) x.1)
-    go true false e ih = let no : false ≡ true = e refl in cc
-    go false true e ih = omega (arith, snoc_length (picked g w) x.1)
-    go false false e ih = ih
+picked_fewer f g (x ∷ w) h = grind (arith, common_steps, snoc_length, picked_fewer f g w h)
 
 -- two tests that agree on the members of a walk pick the same blocks
 picked_same : (f g : Role → Bool) (w : Walk) → ((r : Role) (b : ℕ) → Has w r b → f r ≡ g r) → picked f w ≡ picked g w
@@ -115,9 +108,7 @@ module _ (image : List ℕ) (file : Role → Option ℕ) (tells : TellsFile file
     from_later r (Some m) t e = omega (arith, ltb-false m (suc n) (not-true (nat_lt m (suc n)) e))
 
     below_next : picked (λ r. is_below (suc n) (file r)) w ≡ picked (λ r. is_below n (file r)) w ++ picked of w
-    below_next =
-        split n (λ r. is_below (suc n) (file r)) of (λ r. at_file (file r) ∙ ap (λ t. is_below n (file r) || t) (sym (is_of r)))
-        (λ r e. from_file r (file r) (tells r) (sym (is_of r) ∙ e)) v
+    below_next = grind (arith, split, at_file, from_file)
 
     -- they end where those of a later file begin, or before
     file_apart : (m : ℕ) → n < m → blocks_before file w n + length (picked of w) ≤ blocks_before file w m

@@ -1,8 +1,8 @@
 -- Places in the flat lists of a walk, and the owners that are kept by them.
 -- Letters: f a test of roles; w a walk; b a block; i, j places; n, m nodes.
-use Rattle.std.proofs.Common.{◌≡◌, ℕ, zero, suc, List, [], ◌∷◌, ◌++◌, ◌+◌, ◌<◌, ◌≤◌, inl, inr, length, take, drop, get_or, cond, Bool, true, false, sym, ap}
-use Rattle.std.proofs.Common.{subst, ◌∙◌, arith}
+use Rattle.std.proofs.Common.{◌≡◌, ℕ, zero, suc, List, [], ◌∷◌, ◌++◌, ◌+◌, ◌<◌, ◌≤◌, inl, inr, length, take, drop, get_or, cond, Bool, true, false, sym, ap, subst, ◌∙◌, arith}
 use Rattle.std.proofs.lemmas.List.{get_or-take, get_or-drop, length-take, length-drop, Sorted.IsNonDecreasingBy-from_default}
+use Rattle.std.proofs.lemmas.List.Sorted.{IsNonDecreasingBy-from_default}
 use Rattle.std.proofs.lemmas.Grind.{common_steps}
 use native.Mathlib.Decide.{dec_lt}
 use Rattle.adf_tree.specs.Tree.{Tree}
@@ -25,11 +25,7 @@ use Rattle.adf_base.specs.declared.hash.Letters.{Letters}
 -- a member of a part of a list, in the whole list
 pub at_whole : (xs ys : List ℕ) (s k b : ℕ) → take (length ys) (drop s xs) ≡ ys → At ys k b → At xs (s + k) b
 at_whole xs ys s k b part h =
-    let lt : k < length ys = at_below ys k b h in
-    let within : s + k < length xs = omega (arith, sym (ap length part) ∙ length-take (length ys) (drop s xs), length-drop s xs) in
-    let here : get_or xs (s + k) 0 ≡ b =
-    sym (get_or-drop s xs k 0) ∙ sym (get_or-take (length ys) (drop s xs) k 0 lt) ∙ ap (λ zs. get_or zs k 0) part ∙ at_index_or ys k b 0 h in
-    subst (At xs (s + k)) here (at_or xs (s + k) 0 within)
+    grind (arith, get_or-take, at_or, at_below ys k b h, length-take (length ys) (drop s xs), length-drop s xs, get_or-drop s xs k 0, at_index_or ys k b 0 h)
 
 -- a block that is picked is in the walk
 picked_in : (f : Role → Bool) (w : Walk) (i b : ℕ) → At (picked f w) i b → (r : Role) × In w (r, b)
@@ -47,15 +43,7 @@ picked_in f (x ∷ w) i b h = go (f x.0) (picked_in f w) h
 -- no block stands at two places
 pub one_place : (f : Role → Bool) (w : Walk) → NoBlockTwice w → (i j b : ℕ) → At (picked f w) i b → At (picked f w) j b → i ≡ j
 one_place f [] once i j b h k = absurd h
-one_place f (x ∷ w) once i j b h k = go (f x.0) (one_place f w once.1) h k
-  where
-    new : (i : ℕ) → At (picked f w) i b → x.1 ≡ b → ⊥
-    new i y e = let z = picked_in f w i b y in once.0 (z.0, b) z.1 e
-
-    go : (t : Bool) → ((i j b : ℕ) → At (picked f w) i b → At (picked f w) j b → i ≡ j) → At (cond t (picked f w ++ x.1 ∷ []) (picked f w)) i b
-        → At (cond t (picked f w ++ x.1 ∷ []) (picked f w)) j b → i ≡ j
-    go true ih h k = grind (arith, common_steps, at_snoc, new)
-    go false ih h k = ih i j b h k
+one_place f (x ∷ w) once i j b h k = grind (arith, common_steps, picked_in, at_snoc, one_place f w once.1)
 
 -- the node of a part of a file is an entry
 pub ext_node : (l : Layout) (n k b : ℕ) → At (exts_of l n) k b → n ≤ length l.places

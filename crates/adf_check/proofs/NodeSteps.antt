@@ -1,9 +1,9 @@
 -- The steps along the nodes: each is begun, then the parts that its header points to are read.
-use Rattle.std.proofs.Common.{◌≡◌, ◌≢◌, inl, inr, ℕ, suc, ◌-◌, List, [], ◌∷◌, ◌<◌, ◌≤◌, length, get_or, refl, sym, ap, subst, ◌∙◌, arith}
+use Rattle.std.proofs.Common.{◌≡◌, ◌≢◌, ℕ, suc, ◌-◌, List, [], ◌∷◌, ◌<◌, ◌≤◌, length, get_or, refl, sym, ap, subst, arith}
 use Rattle.std.proofs.lemmas.Grind.{common_steps}
 use Rattle.adf_blocks.specs.declared.layout.TheConstants.{EXTENSION, SECONDARY_TYPE, SIZE, ST_DIR}
 use Rattle.adf_blocks.specs.Sizes.{blocks}
-use Rattle.adf_volume.specs.Image.{letters_of, kind_of, root_of, word_in}
+use Rattle.adf_volume.specs.Image.{root_of, word_in}
 use Rattle.adf_volume.specs.Lists.{At}
 use Rattle.adf_volume.specs.Walk.{Has, first, heads, HeadAt, DirAt, FileAt, Role, Walk, Role.Root}
 use Rattle.adf_volume.proofs.Gathered.{root_in}
@@ -12,7 +12,6 @@ use Rattle.adf_volume.proofs.Lists.{at_below, at_fun, at_index_or, at_snoc, at_s
 use Rattle.adf_volume.proofs.MemberFacts.{in_range, kept}
 use Rattle.adf_volume.proofs.PositionSteps.{end_nodes, enter_dir, low_first}
 use Rattle.adf_volume.proofs.Roles.{head_role}
-use Rattle.adf_volume.specs.Positions.{before_node}
 use Rattle.adf_volume.proofs.Walks.{numbered}
 use Rattle.adf_walk.specs.declared.kept_header.KeptHeader.{KeptHeader}
 use Rattle.adf_check.specs.Reading.{IsAtNode, IsAtSlot, IsInExts, IsInNode, IsRead}
@@ -40,18 +39,7 @@ enter_store : (image : List ℕ) (store : StoreValue) (w : Walk) (n : ℕ) → S
 enter_store image store w n tells started le = grind (arith, common_steps, at_snoc, all_before, ext_tells, data_tells)
 
 pub enter_node : (image : List ℕ) (store : StoreValue) (n : ℕ) → n ≤ length store.headers → IsAtNode image store n → IsInNode image (entered store) n
-enter_node image store n le st = record {
-  walk = st.walk;
-  read = record {
-    begun = st.read.begun;
-    tells = enter_store image store st.walk n st.read.tells st.read.started
-        (λ r b h. omega (arith, low_first r (before_node n) (st.read.up_to.taken r b h) refl refl));
-    started = snoc_length store.starts _ ∙ ap suc st.read.started;
-    within = omega arith;
-    is_walk = st.read.is_walk;
-    up_to = st.read.up_to;
-  };
-}
+enter_node image store n le st = grind (arith, enter_store, low_first, snoc_length)
 
 -- the node of a row
 module _ (image : List ℕ) (store : StoreValue) (w : Walk) (t : StoreMatches image store w) (v : IsOwnWalk image w) where
@@ -65,24 +53,15 @@ module _ (image : List ℕ) (store : StoreValue) (w : Walk) (t : StoreMatches im
       subst (HeadAt w (suc i)) (ap (λ (x : KeptHeader). x.head) (sym z)) k
 
   pub file_here : (i : ℕ) (r : KeptHeader) → At store.headers i r → word_in image r.head SECONDARY_TYPE ≢ ST_DIR → FileAt image w (suc i) r.head
-  file_here i r h d =
-      let x = node_here i r h in
-      let k = (kept image v (head_role x) r.head x.has).2 in
-      record { header = x; type = elim (head_type (letters_of image) image (kind_of image) r.head k.0 x.slot k.2) [ inl e ↦ absurd (d e) | inr e ↦ e ] }
+  file_here i r h d = grind (arith, node_here, kept, head_role, head_type)
 
 -- a directory's slots are next
 pub enter_directory : (image : List ℕ) (store : StoreValue) (n a : ℕ) (st : IsInNode image store n) → DirAt image st.walk n a
     → IsAtSlot image store n a 0
-enter_directory image store n a st dir = record {
-  walk = st.walk;
-  read = read_to st.read (enter_dir image (gathered st.read) n a dir st.read.up_to);
-  dir = dir;
-}
+enter_directory image store n a st dir = search (arith, read_to, enter_dir, gathered)
 
 pub root_begins : (image : List ℕ) (store : StoreValue) (n a : ℕ) → n ≡ 0 → a ≡ root_of image → IsInNode image store n → IsAtSlot image store n a 0
-root_begins image store n a z e st =
-    enter_directory image store n a st (subst (λ n. DirAt image st.walk n a) (sym z)
-    (subst (Has st.walk Root) (sym e) (root_in image (gathered st.read))))
+root_begins image store n a z e st = grind (arith, enter_directory, root_in image (gathered st.read), gathered st.read)
 
 -- the next node is n, and its row is known
 module _ {image : List ℕ} {store : StoreValue} {m n : ℕ} {header : KeptHeader} (view : m ≡ n) (ne : m ≢ 0)
@@ -94,9 +73,7 @@ module _ {image : List ℕ} {store : StoreValue} {m n : ℕ} {header : KeptHeade
   node = omega arith
 
   pub head_inside : header.head < blocks image
-  head_inside =
-      let x = node_here image store st.walk st.read.tells st.read.is_walk (m - 1) header here in
-      (in_range image st.read.is_walk (many_blocks image st.read.begun) (head_role x) header.head x.has).1
+  head_inside = grind (arith, node_here, here, in_range, many_blocks, head_role)
 
   pub directory_begins : word_in image header.head SECONDARY_TYPE ≡ ST_DIR → IsAtSlot image store n header.head 0
   directory_begins e =
@@ -114,14 +91,4 @@ module _ {image : List ℕ} {store : StoreValue} {m n : ℕ} {header : KeptHeade
 
 -- behind the last node all is read
 pub all_read : (image : List ℕ) (store : StoreValue) (n : ℕ) → n ≡ suc (length store.headers) → IsAtNode image store n → IsRead image store
-all_read image store n e st = record {
-  walk = st.walk;
-  read = record {
-    tells = st.read.tells;
-    started = st.read.started ∙ e;
-    is_walk = st.read.is_walk;
-    whole = (λ r a i h l.
-        let c : length store.headers ≡ heads st.walk = st.read.tells.headers.count in
-        end_nodes image (gathered st.read) n (omega arith) st.read.up_to r a i h l (λ q b k. absurd k));
-  };
-}
+all_read image store n e st = grind (arith, common_steps, end_nodes, gathered st.read)

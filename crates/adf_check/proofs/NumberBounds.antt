@@ -50,8 +50,7 @@ module _ {image : List ℕ} {store : StoreValue} (used : store.used ≡ claimed_
 
   -- the number of a directory is short
   pub parent_short : {chain : Chain} {link : Link} {seen : List ℕ → Type 0} → IsInChain image store chain link seen → chain.parent < 2 ^ 29
-  parent_short {chain = chain} st =
-      omega (arith, heads_short st.read, dir_number image (of_walk image st.read.is_walk) chain.parent chain.up st.dir)
+  parent_short {chain = chain} st = grind (arith, heads_short, dir_number, of_walk)
 
   -- the number of a header that is due is short
   pub entry_short : {chain : Chain} {link : Link} {seen : List ℕ → Type 0} → IsInChain image store chain link seen → length store.headers + 1 < 2 ^ 29

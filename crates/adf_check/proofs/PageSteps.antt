@@ -1,7 +1,6 @@
 -- The steps along the bitmap pages and the bitmap extension blocks.
 use Rattle.adf_check.specs.Claims.{InRange}
-use Rattle.std.proofs.Common.{◌≡◌, inl, inr, ℕ, zero, suc, List, [], ◌∷◌, ◌++◌, ◌+◌, ◌-◌, ◌/◌, ◌%◌, ◌<◌, ◌≤◌, length, refl, sym, ap, subst, ◌∙◌, arith, Some}
-use Rattle.std.proofs.Common.{None, nat_lt, slice_index}
+use Rattle.std.proofs.Common.{◌≡◌, inl, inr, ℕ, zero, suc, List, [], ◌∷◌, ◌++◌, ◌+◌, ◌-◌, ◌/◌, ◌%◌, ◌<◌, ◌≤◌, length, refl, sym, ap, subst, ◌∙◌, arith, Some, None, nat_lt, slice_index}
 use Rattle.std.proofs.lemmas.Grind.{common_steps}
 use Rattle.std.proofs.lemmas.Bool.{cond-true, cond-false, le-ltb, lt-ltb}
 use Rattle.adf_base.specs.Words.{block}
@@ -44,13 +43,7 @@ map_ext_is image w (suc j) a v h =
 
 names_is : (image : List ℕ) (w : Walk) (k b a i : ℕ) → IsOwnWalk image w → NamesPage image w k a i → word_in image a i ≡ b
     → block_of_page image k ≡ b
-names_is image w k b a i v (inl x) e = grind (arith, common_steps, cond-true, lt-ltb)
-names_is image w k b a i v (inr x) e =
-    let ej : (k - 25) / 127 ≡ x.0 = omega arith in
-    let ei : (k - 25) % 127 ≡ i = omega arith in
-    cond-false (nat_lt k 25) _ _ (le-ltb k 25 (omega arith))
-    ∙ ap (word_in image (block_of_map_ext image ((k - 25) / 127))) ei ∙ ap (λ j. word_in image (block_of_map_ext image j) i) ej
-    ∙ ap (λ a. word_in image a i) (map_ext_is image w x.0 a v x.1) ∙ e
+names_is image w k b a i h l m = grind (arith, common_steps, cond-true, lt-ltb, cond-false, nat_lt, le-ltb, map_ext_is)
 
 pub page_is : (image : List ℕ) (w : Walk) (k b : ℕ) → IsOwnWalk image w → Has w (Page k) b → block_of_page image k ≡ b
 page_is image w k b v h = let x = (kept image v (Page k) b h).1 in names_is image w k b x.0 x.1 v x.2 x.3

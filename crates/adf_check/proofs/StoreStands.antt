@@ -1,5 +1,5 @@
 -- The store of a whole walk stands for the tree and the layout that fit.
-use Rattle.std.proofs.Common.{◌≡◌, ◌≢◌, ◌⊎◌, ℕ, zero, suc, List, ◌+◌, ◌-◌, ◌≤◌, inl, inr, length, refl, sym, ap, ◌∙◌, take, drop, arith, is_some}
+use Rattle.std.proofs.Common.{◌≡◌, ◌≢◌, ◌⊎◌, ℕ, zero, suc, List, ◌+◌, ◌-◌, ◌≤◌, inl, inr, length, sym, ap, ◌∙◌, take, drop, arith, is_some}
 use Rattle.std.proofs.lemmas.Grind.{common_steps}
 use Rattle.adf_base.specs.declared.hash.Letters.{Letters}
 use Rattle.adf_tree.specs.declared.entry.Entry.{Entry}
@@ -18,7 +18,6 @@ use Rattle.adf_volume.proofs.WholeWalks.{head_is, entry_is}
 use Rattle.adf_volume.proofs.WalkOwners.{owned_has, is_owned}
 use Rattle.adf_walk.specs.declared.kept_header.KeptHeader.{KeptHeader}
 use Rattle.adf_walk.specs.declared.kept_owner.KeptOwner.{KeptOwner}
-use Rattle.adf_walk.specs.declared.owner_class.OwnerClass.{OwnerClass}
 use Rattle.adf_walk.specs.declared.owner_class.OwnerClass.TheVariants as class
 use Rattle.adf_walk.specs.KeptOwner.{kept_at, no_owner}
 use Rattle.adf_walk.specs.Places.{kept_as, start_of}
@@ -32,12 +31,7 @@ use Rattle.adf_check.proofs.KeptPlaces.{at_whole, data_node, ext_node, one_place
 use Rattle.adf_volume.specs.Image.{letters_of}
 
 is_free : (o : KeptOwner) → (o ≡ no_owner) ⊎ (o ≢ no_owner)
-is_free o = by o.class o.place
-  where
-    by : (c : OwnerClass) (i : ℕ) → (record { class = c; place = i } ≡ no_owner) ⊎ (record { class = c; place = i } ≢ no_owner)
-    by class.Free zero = inl refl
-    by class.Free (suc i) = inr (λ e. let past : suc i ≡ 0 = ap (λ (o : KeptOwner). o.place) e in omega arith)
-    by c i = inr (λ e. let free : c ≡ class.Free = ap (λ (o : KeptOwner). o.class) e in cc)
+is_free o = grind (arith, common_steps)
 
 module _ (image : List ℕ) (store : StoreValue) (st : StoreFits image store) where
   headers_fit : HeadersFit image (tree_in_by (letters_of image) image st.walk) (layout_in st.walk) store.headers

@@ -1,5 +1,5 @@
 -- Adding the entries of a tree one after another gives the tree.
-use Rattle.std.proofs.Common.{◌≡◌, ℕ, suc, [], ◌∷◌, ◌++◌, ◌+◌, ◌<◌, ◌≤◌, length, take, take_all, get_or, refl, sym, ap, subst, ◌∙◌, arith, Option, Some, None}
+use Rattle.std.proofs.Common.{◌≡◌, ℕ, suc, ◌+◌, ◌<◌, ◌≤◌, length, take, take_all, get_or, refl, sym, ap, subst, ◌∙◌, arith, Option, Some, None}
 use Rattle.std.specs.Prelude.{IsSome, option_map}
 use Rattle.std.proofs.lemmas.List.{take_more}
 use Rattle.std.proofs.lemmas.Grind.{common_steps}
@@ -39,9 +39,7 @@ some_entry t n i x z lt e =
     subst IsSome (sym (e ∙ ap (entry t.entries) (z ∙ k) ∙ (entry_is_at t (suc i) v.0).0 v.1)) refl
 
 entry_here : (t : Tree) (i : ℕ) (x : Entry) → Some x ≡ entry t.entries (i + 1) → get_or t.entries i x ≡ x
-entry_here t i x e =
-    let k : i + 1 ≡ suc i = omega arith in
-    at_index_or t.entries i x x ((entry_is_at t (suc i) x).1 (sym (e ∙ ap (entry t.entries) k)))
+entry_here t i x e = grind (arith, common_steps, at_index_or, entry_is_at t (suc i) x)
 
 -- each entry may be added behind those before it
 pub may_follow : {letters : Letters} {t u : Tree} {i n : ℕ} {x : Entry} {r : Option Entry} → t.letters ≡ letters → IsTreeBy letters t.entries
@@ -58,10 +56,7 @@ may_follow {letters = l} {t = t} {u = u} {i = i} {x = x} is_letters tree e count
 pub tree_more : (t : Tree) (i : ℕ) (x : Entry) → i < length t.entries → Some x ≡ entry t.entries (i + 1)
     → with_last (record { kind = t.kind; letters = t.letters; label = t.label; stamps = t.stamps; entries = take i t.entries }) x
     ≡ record { kind = t.kind; letters = t.letters; label = t.label; stamps = t.stamps; entries = take (i + 1) t.entries }
-tree_more t i x lt e =
-    let z : take i t.entries ++ x ∷ [] ≡ take (i + 1) t.entries =
-    ap (λ y. take i t.entries ++ y ∷ []) (sym (entry_here t i x e)) ∙ sym (take_more t.entries i x lt) in
-    λ j. record { kind = t.kind; letters = t.letters; label = t.label; stamps = t.stamps; entries = z j }
+tree_more t i x lt e = grind (arith, common_steps, entry_here, take_more t.entries i x lt)
 
 -- all entries
 pub tree_whole : (t : Tree) (i : ℕ) → length t.entries ≤ i

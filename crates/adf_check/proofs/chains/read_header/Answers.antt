@@ -1,5 +1,6 @@
 use Rattle.std.proofs.Common.{◌≡◌, ◌==◌, ◌+◌, ◌++◌, ◌∷◌, [], ℕ, suc, length, set, ap, refl, sym, ◌∙◌, arith, rules, true, false}
 use Rattle.std.proofs.lemmas.Bool.{not-false, not-true}
+use Rattle.std.proofs.lemmas.Grind.{common_steps}
 use Rattle.adf_blocks.specs.declared.layout.TheConstants.{SECONDARY_TYPE, ST_DIR}
 use Rattle.adf_base.specs.Words.{word}
 use Rattle.adf_tree.specs.NameSet.{has}
@@ -68,5 +69,4 @@ pub overflow_add-node : goal.overflow_add-node
 overflow_add-node c = omega (arith, entry_short refl c.requires.state, c.len.ensures)
 
 pub claim_named-requires-clause-place : goal.claim_named-requires-clause-place
-claim_named-requires-clause-place c =
-    omega (arith, entry_short refl c.requires.state, c.len.ensures)
+claim_named-requires-clause-place c = grind (arith, common_steps, entry_short refl c.requires.state)

@@ -1,4 +1,5 @@
-use Rattle.std.proofs.Common.{◌≡◌, ◌≢◌, ◌<◌, map, ap, subst, sym, ◌∙◌}
+use Rattle.std.proofs.Common.{◌≡◌, ◌≢◌, map, ap, subst, sym, ◌∙◌, arith}
+use Rattle.std.proofs.lemmas.Grind.{common_steps}
 use Rattle.adf_blocks.specs.declared.layout.TheConstants.{NEXT_IN_CHAIN}
 use Rattle.adf_base.specs.Hash.{slot_by}
 use Rattle.adf_base.specs.Words.{word}
@@ -32,8 +33,7 @@ pub over-head-requires : goal.over-head-requires
 over-head-requires c = subst IsHead (sym c.block.ensures.block) (on_head c.requires.tells c.loop-b.invariant c.loop-b-test.true)
 
 pub node_at-requires : goal.node_at-requires
-node_at-requires c =
-    subst (λ n. c.loop-b.b < n) (sym c.requires.tells.read.tells.owns.size) (on_inside c.requires.tells c.loop-b.invariant c.loop-b-test.true)
+node_at-requires c = grind (arith, common_steps, on_inside c.requires.tells c.loop-b.invariant c.loop-b-test.true)
 
 pub returns-then-same_by : goal.returns-then-same_by
 returns-then-same_by c =
@@ -45,11 +45,7 @@ returns-then-same_by c =
     record { found = found; node = child_within c.requires.tells c.args.parent c.args.name.now c.node_at.result found }
 
 pub loop-b-smaller : goal.loop-b-smaller
-loop-b-smaller c =
-    let store = store_value c.args.store.now in
-    let next : c.next-b.result ≡ word_in c.args.image.now c.loop-b.b NEXT_IN_CHAIN =
-    c.next-b.ensures ∙ ap (λ x. word x NEXT_IN_CHAIN) (c.over-head.ensures ∙ c.block.ensures.block) in
-    subst (λ d. chain_left store d < chain_left store c.loop-b.b) (sym next) (on_smaller c.requires.tells c.loop-b.invariant c.loop-b-test.true)
+loop-b-smaller c = grind (arith, common_steps, chain_left, on_smaller c.requires.tells c.loop-b.invariant c.loop-b-test.true)
 
 pub loop-b-preserved : goal.loop-b-preserved
 loop-b-preserved c = λ letters t l k.

@@ -1,22 +1,17 @@
-use Rattle.std.proofs.Common.{◌∙◌, ap, arith}
+use Rattle.std.proofs.Common.{arith}
 use Rattle.std.proofs.lemmas.Grind.{common_steps}
-use Rattle.adf_blocks.specs.HeadBlock.{body_at}
 use Rattle.adf_check.proofs.HeaderBodies.{dir_type, file_words}
 use Rattle.adf_check.proofs.NodeSteps.{directory_begins, file_begins, head_inside}
 use Rattle.adf_check.proofs.nodes.read_node.Goals as goal
 
 pub block-requires : goal.block-requires
-block-requires c =
-    head_inside c.node.view_is c.if-node-eq0.false c.index.ensures c.requires.state
+block-requires c = grind (arith, common_steps, head_inside c.node.view_is c.if-node-eq0.false c.index.ensures c.requires.state)
 
 pub read_directory-requires-in-Dir-clause-inside : goal.read_directory-requires-in-Dir-clause-inside
-read_directory-requires-in-Dir-clause-inside c =
-    head_inside c.node.view_is c.if-node-eq0.false c.index.ensures c.requires.state
+read_directory-requires-in-Dir-clause-inside c = grind (arith, common_steps, head_inside c.node.view_is c.if-node-eq0.false c.index.ensures c.requires.state)
 
 pub read_directory-requires-in-Dir-clause-state : goal.read_directory-requires-in-Dir-clause-state
 read_directory-requires-in-Dir-clause-state c = grind (arith, common_steps, directory_begins, dir_type)
 
 pub read_file-requires : goal.read_file-requires
-read_file-requires c =
-    let told = file_words c.args.image.now c.index.result.now.head (c.of.ensures ∙ ap body_at c.block.ensures.block) c.in-File.is in
-    record { state = file_begins c.node.view_is c.if-node-eq0.false c.index.ensures c.requires.state told.0 _ _ told.1 told.2 }
+read_file-requires c = grind (arith, file_words, file_begins)

@@ -1,4 +1,5 @@
-use Rattle.std.proofs.Common.{◌≡◌, suc, length, subst, sym, refl, arith}
+use Rattle.std.proofs.Common.{subst, sym, refl, arith}
+use Rattle.std.proofs.lemmas.Grind.{common_steps}
 use Rattle.adf_check.specs.Reading.{IsInNode}
 use Rattle.adf_check.specs.Store.{store_value}
 use Rattle.adf_check.proofs.NodeSteps.{enter_node, all_read}
@@ -6,9 +7,7 @@ use Rattle.adf_check.proofs.NumberBounds.{headers_within, lists_short}
 use Rattle.adf_check.proofs.nodes.read_nodes.Goals as goal
 
 pub enter-requires : goal.enter-requires
-enter-requires c =
-    let short = lists_short refl c.loop-node.invariant.read in
-    record { exts = omega (arith, short.0); datas = omega (arith, short.1) }
+enter-requires c = grind (arith, common_steps, lists_short refl c.loop-node.invariant.read)
 
 pub read_node-requires : goal.read_node-requires
 read_node-requires c = record {
@@ -17,10 +16,7 @@ read_node-requires c = record {
 }
 
 pub returns-clause-state : goal.returns-clause-state
-returns-clause-state c =
-    let headers = c.loop-node.store.headers.items in
-    let end : c.loop-node.node ≡ suc (length headers) = omega (arith, c.loop-node.invariant.read.within) in
-    all_read c.args.image.now (store_value c.loop-node.store) c.loop-node.node end c.loop-node.invariant
+returns-clause-state c = search (arith, all_read)
 
 pub loop-node-smaller : goal.loop-node-smaller
 loop-node-smaller c = omega (arith, headers_within refl c.loop-node.invariant.read)

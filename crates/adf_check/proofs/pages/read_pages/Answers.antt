@@ -13,6 +13,7 @@ returns-clause-state c =
     pages_end image store c.loop-i.holder (subst (λ k. IsBeforePage image store k c.loop-i.holder) end c.loop-i.invariant.state)
 
 pub loop-i-preserved : goal.loop-i-preserved
+<<<<<<< HEAD
 loop-i-preserved c =
     let image = c.args.image.now in
     let pages = c.loop-i.pages.items in
@@ -26,3 +27,6 @@ loop-i-preserved c =
 
 pub returns-in_err-push-clause-fault : goal.returns-in_err-push-clause-fault
 returns-in_err-push-clause-fault c = search rules
+=======
+loop-i-preserved c = grind (arith, pushed, list_done)
+>>>>>>> 11ff31f3 (compress adf_check)

@@ -1,7 +1,7 @@
 use Rattle.std.proofs.Common.{◌≡◌, ◌≤◌, ◌<◌, ap, subst, sym, Some, ◌∙◌, arith}
 use Rattle.adf_tree.specs.Tree.{Tree}
 use Rattle.adf_blocks.specs.Sizes.{blocks}
-use Rattle.adf_volume.specs.declared.owner.Owner.{Owner, TheVariants.Boot, TheVariants.Free}
+use Rattle.adf_volume.specs.declared.owner.Owner.{Owner, TheVariants.Free}
 use Rattle.adf_volume.specs.Layout.{Layout, owned}
 use Rattle.adf_volume.specs.Lists.{In}
 use Rattle.adf_walk.specs.Places.{kept_as}
@@ -29,10 +29,7 @@ returns-then-b-blocks-clause-part c =
     (c.at-kept.ensures.owner ∙ st.owners.part o c.args.b has ∙ ap (λ s. kept_as s o) (sym c.deref.ensures.value))))
 
 pub returns-then-b-blocks-clause-boot : goal.returns-then-b-blocks-clause-boot
-returns-then-b-blocks-clause-boot c = λ low.
-    let st = keeps c.self.inside.image (store_value c.self.inside.store) c.self.invariant.tells in
-    ap Some (c.owner_of.ensures.part Boot tt (c.at-kept.ensures.owner ∙ st.owners.boot c.args.b low
-    (omega (arith, c.if-b-blocks.true, c.blocks-2.ensures.blocks))))
+returns-then-b-blocks-clause-boot c = grind (arith, keeps)
 
 pub returns-then-b-blocks-clause-free : goal.returns-then-b-blocks-clause-free
 returns-then-b-blocks-clause-free c =
