@@ -2,14 +2,14 @@
 use Rattle.std.proofs.Common.{◌≡◌, ◌≢◌, ℕ, ◌<◌, ◌≤◌, inl, inr, List, [], ◌∷◌, ◌++◌, length, set, get_or, Some, None, Option, cond, true, arith, ◌==◌, ◌&&◌}
 use Rattle.std.proofs.Common.{refl, zero, suc, sym, subst, ◌∙◌, ap}
 use Rattle.std.specs.List.{slice_get}
-use Rattle.std.specs.Ordering.{is_eq, nat_cmp}
+use Rattle.std.specs.Ordering.{is_eq}
 use Rattle.std.specs.Str.{bytes_eq}
 use Rattle.std.specs.Map.{lookup}
 use Rattle.std.specs.BTreeMap.{BTreeMap, get, is_at, IsEmpty, IsUnchanged, Updates}
 use Rattle.std.proofs.lemmas.Bool.{and_parts, cases_Bool, cases_eq, eqb-true, false_from_ne_true, cond-false}
 use Rattle.std.proofs.lemmas.Option.{slice_get-get_or}
 use Rattle.adf_drafts.specs.declared.child_map.ChildKey.{ChildKey}
-use Rattle.adf_tree.specs.NameKeys.{by_words, is_short, key_of_name}
+use Rattle.adf_tree.specs.NameKeys.{is_short}
 use Rattle.adf_drafts.specs.ChildMap.{bucket_of, by_child, child_key, number_in_bucket, number_in, AddsNumber, Numbers}
 use Rattle.adf_tree.proofs.NameKeys.{equal_words, not_short, same_names, same_number, then_is}
 use Rattle.std.proofs.Math.Bool.{and_comm}
@@ -17,8 +17,7 @@ use Rattle.std.proofs.lemmas.Grind.{common_steps}
 
 same_key : (m p : ℕ) (k x : List ℕ) → is_short k ≡ true → is_short x ≡ true
     → is_eq (by_child (child_key m k) (child_key p x)) ≡ ((m == p) && bytes_eq k x)
-same_key m p k x sk sx =
-    rw (then_is (by_words (key_of_name k) (key_of_name x)) (nat_cmp m p), same_names k x sk sx, same_number m p) (and_comm (bytes_eq k x) (m == p))
+same_key m p k x sk sx = grind (arith, then_is, same_names, same_number, and_comm)
 
 -- one bucket more, with nothing in it
 empty_none : (bucket : BTreeMap ChildKey ℕ) (k : ChildKey) → IsEmpty bucket → get by_child bucket k ≡ None

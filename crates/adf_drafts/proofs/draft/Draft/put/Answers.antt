@@ -1,3 +1,4 @@
+use Rattle.std.proofs.Common.{arith}
 use Rattle.adf_drafts.proofs.DraftInvariant.{kept_draft}
 use Rattle.adf_drafts.proofs.DraftDirectories.{put_count, put_directories, put_directory}
 use Rattle.adf_drafts.proofs.DraftRooms.{put_in, put_paths, put_tree, room_may, room_within}
@@ -32,6 +33,4 @@ returns-clause-count c = rw (← c.self.view_is) (λ path is.
     (rw c.copy-name.ensures at c.add_child.ensures.entries))
 
 pub returns-clause-directory : goal.returns-clause-directory
-returns-clause-directory c = rw (← c.self.view_is) (λ path is.
-    put_directory c.self.invariant is c.args.meta c.args.body c.add_child.new.entries.items c.add_child.result
-    (rw c.copy-name.ensures at c.add_child.ensures.entries))
+returns-clause-directory c = grind (arith, put_directory)
