@@ -1,6 +1,5 @@
 -- Additions that all have room, and the additions of a tree. xs are additions, x is the next one, es the entries of a tree.
-use Rattle.std.proofs.Common.{◌≡◌, ◌≢◌, ◌<◌, ◌≤◌, ◌++◌, ◌∷◌, ◌+◌, ◌-◌, ◌==◌, ℕ, List, [], Some, Ok, Err, Option, Result, length, get_or, take, arith, ap, sym}
-use Rattle.std.proofs.Common.{refl, subst, inl, inr, ◌∙◌, IsOk, OnOk, is_ok, if◌then◌else◌, zero, suc}
+use Rattle.std.proofs.Common.{◌≡◌, ◌≢◌, ◌<◌, ◌≤◌, ◌++◌, ◌∷◌, ◌+◌, ◌-◌, ◌==◌, ℕ, List, [], Some, Ok, Err, Option, Result, length, get_or, take, arith, ap, sym, refl, subst, inl, inr, ◌∙◌, IsOk, OnOk, is_ok, if◌then◌else◌, zero, suc}
 use Rattle.std.proofs.Math.Seq.{take-append_seam, get_or-append_seam}
 use Rattle.std.proofs.Math.ListN.{get_or-append}
 use Rattle.std.proofs.lemmas.Bool.{cases_Bool, eqb-true, ne_eqb, Decides.nat_tests}
@@ -9,6 +8,8 @@ use Rattle.std.proofs.lemmas.Option.{get_or_from_slice_get, slice_get-get_or}
 use Rattle.std.specs.List.{slice_get}
 use Rattle.std.specs.Option.{IsSome}
 use Rattle.adf_base.specs.declared.hash.Letters.{Letters, TheVariants.Ascii}
+use Rattle.std.proofs.lemmas.Grind.{common_steps}
+use Rattle.adf_base.specs.declared.hash.Letters.TheVariants.{Ascii}
 use Rattle.adf_tree.proofs.Lists.{some_in}
 use Rattle.adf_tree.specs.declared.entry.Entry.{Entry}
 use Rattle.adf_tree.specs.declared.tree.AddFault.{AddFault, TheVariants.NoMemory}
@@ -16,8 +17,7 @@ use Rattle.adf_tree.specs.declared.tree.RoomFault.{RoomFault}
 use Rattle.adf_tree.specs.Additions.{Addition, AllHaveRoom, AllHaveRoomBy, entries_of_additions, entries_of_additions_by, with_addition, with_addition_by}
 use Rattle.adf_tree.specs.Faults.{add_fault}
 use Rattle.adf_tree.specs.Tree.{entry, room_for, room_for_by, with_entry_by, IsAnswer, IsTree, Tree}
-use Rattle.adf_edits.specs.Outline.{IsWithoutRoomBy, OutlineValue, addition_for, tree_additions, tree_of_outline_by, with_addition_in, with_addition_for}
-use Rattle.adf_edits.specs.Outline.{with_first}
+use Rattle.adf_edits.specs.Outline.{IsWithoutRoomBy, OutlineValue, addition_for, tree_additions, tree_of_outline_by, with_addition_in, with_addition_for, with_first}
 
 -- the tree of one addition more
 pub tree_more_by : (ls : Letters) (xs : List Addition) (x : Addition)
@@ -35,16 +35,8 @@ take_front (x ∷ xs) ys (suc i) le = ap (λ zs. x ∷ zs) (take_front xs ys i (
 -- one addition more has room too
 pub room_more_by : (ls : Letters) (xs : List Addition) (x : Addition) → AllHaveRoomBy ls xs
     → IsOk (room_for_by ls (entries_of_additions_by ls xs) x.path) → AllHaveRoomBy ls (xs ++ x ∷ [])
-room_more_by ls xs x h ok = λ i d lt.
-    elim (cases_Bool (i == length xs)) [
-      | inl t ↦
-          let is : i ≡ length xs = eqb-true i (length xs) t in
-          rw (is, take-append_seam xs (x ∷ []), get_or-append_seam xs x [] d) ok
-      | inr f ↦
-          let long : length (xs ++ x ∷ []) ≡ length xs + 1 = length-append xs (x ∷ []) in
-          let less : i < length xs = grind (arith, nat_tests) in
-          rw (take_front xs (x ∷ []) i (omega (arith, less)), get_or-append xs (x ∷ []) d i less) (h i d less)
-    ]
+room_more_by ls xs x h ok =
+    grind (arith, cases_Bool, eqb-true, get_or-append_seam, nat_tests, take_front, get_or-append, take-append_seam xs (x ∷ []), length-append xs (x ∷ []))
 
 pub room_more : (xs : List Addition) (x : Addition) → AllHaveRoom xs → IsOk (room_for (entries_of_additions xs) x.path)
     → AllHaveRoom (xs ++ x ∷ [])
@@ -73,8 +65,7 @@ grown ls o xs x t u is new = new ∙ (ap (λ (v : Tree). with_addition_in v x) i
 
 pub room_grown : (ls : Letters) (o : OutlineValue) (xs : List Addition) (x : Addition) (t : Tree) → t ≡ tree_of_outline_by ls (with_first o xs)
     → AllHaveRoomBy ls xs → IsOk (room_for_by t.letters t.entries x.path) → AllHaveRoomBy ls (xs ++ x ∷ [])
-room_grown ls o xs x t is room ok =
-    room_more_by ls xs x room (subst (λ (v : Tree). IsOk (room_for_by v.letters v.entries x.path)) is ok)
+room_grown ls o xs x t is room ok = grind (arith, common_steps, room_more_by)
 
 pub refused : (ls : Letters) (o : OutlineValue) (xs ys : List Addition) (x : Addition) (t : Tree) (f : AddFault)
     → t ≡ tree_of_outline_by ls (with_first o xs) → xs ++ x ∷ ys ≡ o.additions → IsAnswer (room_for_by t.letters t.entries x.path) (Err f)
@@ -91,12 +82,7 @@ pub refused_for_memory : (ls : Letters) (o : OutlineValue) (xs ys : List Additio
     → t ≡ tree_of_outline_by ls (with_first o xs) → xs ++ x ∷ ys ≡ o.additions → IsAnswer (room_for_by t.letters t.entries x.path) (Err f)
     → AllHaveRoomBy ls o.additions → f ≡ NoMemory
 refused_for_memory ls o xs ys x t f is all h room =
-    let long : length (xs ++ x ∷ ys) ≡ length xs + length (x ∷ ys) = length-append xs (x ∷ ys) in
-    let whole : AllHaveRoomBy ls (xs ++ x ∷ ys) = subst (AllHaveRoomBy ls) (sym all) room in
-    let ok : IsOk (room_for_by ls (entries_of_additions_by ls xs) x.path) =
-    rw (take-append_seam xs (x ∷ ys), get_or-append_seam xs x ys x) at (whole (length xs) x (omega (arith, long))) in
-    room_memory (room_for_by ls (entries_of_additions_by ls xs) x.path) f
-    (subst (λ (v : Tree). IsAnswer (room_for_by v.letters v.entries x.path) (Err f)) is h) ok
+    grind (arith, common_steps, room_memory, length-append xs (x ∷ ys), take-append_seam xs (x ∷ ys), get_or-append_seam xs x ys x)
 
 pub added_ok : (r : Result (Unit {0}) AddFault) (old new : Tree) (x : Addition)
     → new ≡ (if is_ok r then with_entry_by old.letters old x.path x.meta x.body else old) → OnOk r (new ≡ with_addition_in old x)
@@ -120,16 +106,12 @@ some_entry es i o lt is =
 -- the additions of one entry more
 pub additions_more : (es : List Entry) (i : ℕ) (e : Entry) → i < length es → entry es (i + 1) ≡ Some e
     → tree_additions (take (i + 1) es) ≡ with_addition_for (tree_additions (take i es)) e
-additions_more es i e lt is =
-    ap tree_additions (take_more es i e lt ∙ ap (λ x. take i es ++ x ∷ []) (at_entry es i e is)) ∙ fold_push with_addition_for [] (take i es) e
+additions_more es i e lt is = grind (arith, common_steps, at_entry, take_more es i e lt, fold_push with_addition_for [] (take i es) e)
 
 pub entry_step : (es : List Entry) (i : ℕ) (e : Entry) (xs ys : List Addition) → i < length es → entry es (i + 1) ≡ Some e
     → xs ≡ tree_additions (take i es) → length xs ≡ i → ys ≡ with_addition_for xs e
     → record { additions : ys ≡ tree_additions (take (i + 1) es); count : length ys ≡ i + 1 }
-entry_step es i e xs ys lt is were count are = record {
-  additions = are ∙ (ap (λ zs. with_addition_for zs e) were ∙ sym (additions_more es i e lt is));
-  count = ap length are ∙ (length-append xs (addition_for xs e ∷ []) ∙ ap (λ n. n + 1) count);
-}
+entry_step es i e xs ys lt is were count are = grind (arith, common_steps, additions_more, length-append)
 
 -- the parent of an entry comes before it
 pub parent_early : (es : List Entry) (i : ℕ) (e : Entry) → IsTree es → i < length es → entry es (i + 1) ≡ Some e → e.parent ≤ i

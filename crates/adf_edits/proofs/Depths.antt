@@ -1,7 +1,9 @@
 -- Paths that are too deep.
 -- Letters: xs are additions, ys those with the next entry's; es are entries, e the next of them, i the number of those before.
-use Rattle.std.proofs.Common.{◌≡◌, ◌<◌, ◌+◌, ◌-◌, ◌++◌, ◌∷◌, ◌||◌, ◌∙◌, ℕ, List, [], Some, length, drop, take, fold, true, false, Bool, ap, refl, sym}
+use Rattle.std.proofs.Common.{◌≡◌, ◌<◌, ◌+◌, ◌-◌, ◌++◌, ◌∷◌, ◌||◌, ◌∙◌, ℕ, List, [], Some, length, drop, take, fold, true, false, Bool, ap, refl, sym, arith}
 use Rattle.std.proofs.lemmas.List.{length-append, length-drop, take-append-drop, Folds.list_any-append}
+use Rattle.std.proofs.lemmas.List.Folds.{list_any-append}
+use Rattle.std.proofs.lemmas.Grind.{common_steps}
 use Rattle.adf_tree.specs.declared.entry.Entry.{Entry}
 use Rattle.adf_tree.specs.Additions.{Addition}
 use Rattle.adf_tree.specs.Tree.{entry}
@@ -16,8 +18,7 @@ moved_long from to path = length-append to (drop (length from) path) ∙ ap (λ 
 -- an entry more that is not too deep
 pub shallow_more : (xs ys : List Addition) (e : Entry) → ys ≡ with_addition_for xs e → has_deep xs ≡ false
     → is_deep (addition_for xs e).path ≡ false → has_deep ys ≡ false
-shallow_more xs ys e are none off =
-    ap has_deep are ∙ (list_any-append (λ (x : Addition). is_deep x.path) xs (addition_for xs e ∷ []) ∙ rw (none, off) refl)
+shallow_more xs ys e are none off = grind (arith, common_steps, list_any-append)
 
 -- what is too deep stays among the additions
 deep_kept : (xs zs : List Addition) → has_deep xs ≡ true → has_deep (xs ++ zs) ≡ true
@@ -34,14 +35,4 @@ fold_on (e ∷ es) us xs = fold_on es us (with_addition_for xs e)
 -- an entry that is too deep is so in the tree
 pub deep_entry : (es : List Entry) (i : ℕ) (e : Entry) (xs : List Addition) → i < length es → entry es (i + 1) ≡ Some e
     → xs ≡ tree_additions (take i es) → is_deep (addition_for xs e).path ≡ true → has_deep (tree_additions es) ≡ true
-deep_entry es i e xs lt is were deep =
-    let now : tree_additions (take (i + 1) es) ≡ with_addition_for xs e = additions_more es i e lt is ∙ ap (λ us. with_addition_for us e) (sym were) in
-    let here : has_deep (tree_additions (take (i + 1) es)) ≡ true =
-    ap has_deep now ∙ (list_any-append (λ (x : Addition). is_deep x.path) xs (addition_for xs e ∷ [])
-    ∙ rw deep (or_true (has_deep xs))) in
-    ap (λ us. has_deep (tree_additions us)) (sym (take-append-drop (i + 1) es))
-    ∙ (ap has_deep (fold_on (take (i + 1) es) (drop (i + 1) es) []) ∙ deep_on (drop (i + 1) es) (tree_additions (take (i + 1) es)) here)
-  where
-    or_true : (b : Bool) → (b || true) ≡ true
-    or_true true = refl
-    or_true false = refl
+deep_entry es i e xs lt is were deep = grind (arith, common_steps, list_any-append, fold_on, deep_on, additions_more es i e lt is, take-append-drop (i + 1) es)

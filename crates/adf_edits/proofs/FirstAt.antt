@@ -5,6 +5,7 @@ use Rattle.std.proofs.Common.{true, false, Bool, None, Option, Some, not, option
 use Rattle.std.specs.List.{filter, find, list_any}
 use Rattle.std.specs.Option.{option_and_then, option_or}
 use Rattle.std.proofs.lemmas.Bool.{cases_Bool}
+use Rattle.std.proofs.lemmas.Grind.{common_steps}
 use Rattle.adf_names.specs.Texts.{uppers}
 use Rattle.adf_tree.specs.declared.entry.Entry.{Entry}
 use Rattle.adf_tree.specs.Additions.{Addition, AllHaveRoom, IsTreeOf, content_of, entries_of_additions}
@@ -41,32 +42,17 @@ or_nothing (Some x) n h = refl
 
 pub first_kept : (p w : Addition → Bool) (xs : List Addition) → ((y : Addition) → p y ≡ true → w y ≡ true) → find p (filter w xs) ≡ find p xs
 first_kept p w [] h = refl
-first_kept p w (x ∷ xs) h = elim (cases_Bool (w x)) [
-  | inl t ↦ rw (t, first_kept p w xs h) refl
-  | inr f ↦ elim (cases_Bool (p x)) [
-    | inl g ↦ let clash : true ≡ false = sym (h x g) ∙ f in cc
-    | inr g ↦ rw (f, g) (first_kept p w xs h)
-  ]
-]
+first_kept p w (x ∷ xs) h = grind (arith, common_steps, cases_Bool, first_kept p w xs h)
 
 pub first_left_out : (p w : Addition → Bool) (xs : List Addition) → ((y : Addition) → p y ≡ true → w y ≡ true)
     → find p (filter (λ y. not (w y)) xs) ≡ None
 first_left_out p w [] h = refl
-first_left_out p w (x ∷ xs) h = elim (cases_Bool (w x)) [
-  | inl t ↦ rw t (first_left_out p w xs h)
-  | inr f ↦ elim (cases_Bool (p x)) [
-    | inl g ↦ let clash : true ≡ false = sym (h x g) ∙ f in cc
-    | inr g ↦ rw (f, g) (first_left_out p w xs h)
-  ]
-]
+first_left_out p w (x ∷ xs) h = grind (arith, common_steps, cases_Bool, first_left_out p w xs h)
 
 pub first_mapped : (p : Addition → Bool) (f : Addition → Addition) (xs : List Addition) → ((y : Addition) → p (f y) ≡ p y)
     → find p (map f xs) ≡ option_map f (find p xs)
 first_mapped p f [] h = refl
-first_mapped p f (x ∷ xs) h = elim (cases_Bool (p x)) [
-  | inl t ↦ rw (h x, t) refl
-  | inr g ↦ rw (h x, g) (first_mapped p f xs h)
-]
+first_mapped p f (x ∷ xs) h = grind (arith, common_steps, cases_Bool, first_mapped p f xs h)
 
 pub first_unlike : (p : Addition → Bool) (f : Addition → Addition) (xs : List Addition) → ((y : Addition) → p (f y) ≡ false)
     → find p (map f xs) ≡ None
@@ -78,26 +64,14 @@ pub first_through : (w p q : Addition → Bool) (f : Addition → Addition) (xs 
     → ((y : Addition) → w y ≡ true → q (f y) ≡ p y) → ((y : Addition) → p y ≡ true → w y ≡ true)
     → find q (map f (filter w xs)) ≡ option_map f (find p xs)
 first_through w p q f [] h g = refl
-first_through w p q f (x ∷ xs) h g = elim (cases_Bool (w x)) [
-  | inl t ↦ elim (cases_Bool (p x)) [
-    | inl a ↦ rw (t, h x t, a) refl
-    | inr a ↦ rw (t, h x t, a) (first_through w p q f xs h g)
-  ]
-  | inr n ↦ elim (cases_Bool (p x)) [
-    | inl a ↦ let clash : true ≡ false = sym (g x a) ∙ n in cc
-    | inr a ↦ rw (n, a) (first_through w p q f xs h g)
-  ]
-]
+first_through w p q f (x ∷ xs) h g = grind (arith, common_steps, cases_Bool, first_through w p q f xs h g)
 
 -- what is done to the first that passes is done to its content
 pub content_done : (p : Addition → Bool) (f : Addition → Addition) (g : Content → Content) (xs : List Addition)
     → ((y : Addition) → p y ≡ true → content_of (f y) ≡ g (content_of y))
     → option_map content_of (option_map f (find p xs)) ≡ option_map g (option_map content_of (find p xs))
 content_done p f g [] h = refl
-content_done p f g (x ∷ xs) h = elim (cases_Bool (p x)) [
-  | inl t ↦ rw t (ap Some (h x t))
-  | inr n ↦ rw n (content_done p f g xs h)
-]
+content_done p f g (x ∷ xs) h = grind (arith, common_steps, cases_Bool, content_done p f g xs h)
 
 -- paths that are equal ignoring case have the same content
 content_uppers : (es : List Entry) (a b : List (List ℕ)) → map uppers a ≡ map uppers b → content_at es a ≡ content_at es b

@@ -1,7 +1,6 @@
 -- What each path leads to after a move.
 -- Letters: xs are additions, ys what the move makes of them; y an addition; r the names behind a path; q a path.
-use Rattle.std.proofs.Common.{◌≡◌, ℕ, List, [], ◌∷◌, ◌++◌, ◌+◌, ◌-◌, ◌<◌, length, get_or, map, refl, sym, ap, ◌∙◌, arith, true, false, Bool, None, Ok, Some}
-use Rattle.std.proofs.Common.{Option, drop, not, option_map}
+use Rattle.std.proofs.Common.{◌≡◌, ℕ, List, [], ◌∷◌, ◌++◌, ◌+◌, ◌-◌, ◌<◌, length, get_or, map, refl, sym, ap, ◌∙◌, arith, true, false, Bool, None, Ok, Some, Option, drop, not, option_map}
 use Rattle.std.specs.Cmp.{both_ways}
 use Rattle.std.specs.List.{filter, find}
 use Rattle.std.specs.Option.{option_or}
@@ -10,6 +9,8 @@ use Rattle.std.proofs.Math.Seq.{drop-append_seam}
 use Rattle.std.proofs.lemmas.Bool.{false_from_ne_true}
 use Rattle.std.proofs.lemmas.Iterator.Adapters.{option_map_id}
 use Rattle.std.proofs.lemmas.List.{append-nil, get_or-append-add, get_or-drop, length-append, length-drop, map-append, Folds.find-append}
+use Rattle.std.proofs.lemmas.List.Folds.{find-append}
+use Rattle.std.proofs.lemmas.Grind.{common_steps}
 use Rattle.adf_names.specs.Texts.{uppers}
 use Rattle.adf_tree.specs.Additions.{Addition, AllHaveRoom, content_of, entries_of_additions}
 use Rattle.adf_tree.specs.Paths.{Content, content_at}
@@ -26,10 +27,7 @@ use Rattle.adf_edits.proofs.RoomKept.{made_is}
 
 -- a path is within a directory however its names are written
 within_alike : (d a b : List (List ℕ)) → map uppers a ≡ map uppers b → is_at_or_under d a ≡ true → is_at_or_under d b ≡ true
-within_alike d a b same h =
-    let le = no_longer d a h in
-    let long = as_long a b same in
-    within_from d b (omega arith) (sym (fronts (length d) a b same) ∙ front_is d a h)
+within_alike d a b same h = grind (arith, common_steps, no_longer, as_long, within_from, fronts, front_is)
 
 nothing_or : (o n : Option Addition) → o ≡ None → option_or o n ≡ n
 nothing_or None n h = refl
@@ -37,14 +35,7 @@ nothing_or (Some x) n h = cc
 
 -- the last name of a path is that of what stands behind its first names
 last_behind : (to p : List (List ℕ)) (n : ℕ) → n < length p → last_of (to ++ drop n p) ≡ last_of p
-last_behind to p n lt =
-    let long = length-append to (drop n p) in
-    let back = length-drop n p in
-    let at : length (to ++ drop n p) - 1 ≡ length to + (length p - n - 1) = omega (arith, long, back) in
-    let place : n + (length p - n - 1) ≡ length p - 1 = omega arith in
-    ap (λ i. get_or (to ++ drop n p) i []) at
-    ∙ (get_or-append-add to (drop n p) (length p - n - 1) []
-    ∙ (get_or-drop n p (length p - n - 1) [] ∙ ap (λ i. get_or p i []) place))
+last_behind to p n lt = grind (arith, common_steps, length-append, length-drop, get_or-append-add, get_or-drop)
 
 -- a move
 
@@ -67,10 +58,7 @@ module _ (from to : List (List ℕ)) (xs ys : List Addition) (room : AllHaveRoom
 
   after : (q : List (List ℕ)) → content_at (entries_of_additions ys) q
       ≡ option_map content_of (option_or (find (is_at q) rest) (find (is_at q) (map rb (filter w xs))))
-  after q =
-      told ys (move_kept from to xs ys room h) q
-      ∙ ap (option_map content_of) (ap (find (is_at q)) (sym (made_is (move_fault xs from to) (moved_additions from to xs) ys h).1)
-      ∙ find-append (is_at q) rest (map rb (filter w xs)))
+  after q = search (arith, told, move_kept, option_map, made_is, find-append)
 
   -- what is moved
 
@@ -98,11 +86,7 @@ module _ (from to : List (List ℕ)) (xs ys : List Addition) (room : AllHaveRoom
       (λ y at. joined_within from r y.path ((same_paths y.path (from ++ r)).0 at)))
 
   top_named : (y : Addition) → is_at from y ≡ true → content_of (rb y) ≡ (record (content_of y) { name = last_of to })
-  top_named y at =
-      let long = as_long y.path from ((same_paths y.path from).0 at) in
-      let whole : to ++ drop n y.path ≡ to = ap (λ us. to ++ us) (drop_of_length-le y.path (omega (arith, long))) ∙ append-nil to in
-      let under_name : List ℕ → Content = λ us. record (content_of y) { name = us } in
-      ap (λ us. under_name (last_of us)) whole
+  top_named y at = grind (arith, as_long, same_paths, drop_of_length-le, append-nil)
 
   pub moved_top : content_at (entries_of_additions ys) to
       ≡ option_map (λ (c : Content). record c { name = last_of to }) (content_at (entries_of_additions xs) from)
@@ -131,10 +115,7 @@ module _ (from to : List (List ℕ)) (xs ys : List Addition) (room : AllHaveRoom
   -- other paths
 
   none_moved : (q : List (List ℕ)) → is_at_or_under to q ≡ false → find (is_at q) (map rb (filter w xs)) ≡ None
-  none_moved q off =
-      first_unlike (is_at q) rb (filter w xs)
-      (λ y. false_from_ne_true (is_at q (rb y))
-      (λ t. let clash : true ≡ false = sym (joined_within to (drop n y.path) q (sym ((same_paths (to ++ drop n y.path) q).0 t))) ∙ off in cc))
+  none_moved q off = grind (arith, first_unlike, false_from_ne_true, joined_within, same_paths)
 
   pub source_gone : (q : List (List ℕ)) → is_at_or_under from q ≡ true → is_at_or_under to q ≡ false
       → content_at (entries_of_additions ys) q ≡ None
@@ -145,11 +126,4 @@ module _ (from to : List (List ℕ)) (xs ys : List Addition) (room : AllHaveRoom
 
   pub far_kept : (q : List (List ℕ)) → is_at_or_under from q ≡ false → is_at_or_under to q ≡ false
       → content_at (entries_of_additions ys) q ≡ content_at (entries_of_additions xs) q
-  far_kept q outside off =
-      let stays : (y : Addition) → is_at q y ≡ true → w y ≡ false =
-      λ y at. false_from_ne_true (w y)
-      (λ t. let clash : true ≡ false = sym (within_alike from y.path q ((same_paths y.path q).0 at) t) ∙ outside in cc) in
-      after q
-      ∙ (ap (option_map content_of) (or_nothing (find (is_at q) rest) (find (is_at q) (map rb (filter w xs))) (none_moved q off)
-      ∙ first_kept (is_at q) (λ y. not (w y)) xs (λ y at. rw (stays y at) refl))
-      ∙ sym (told xs room q))
+  far_kept q outside off = grind (arith, false_from_ne_true, within_alike, same_paths, after, option_map, or_nothing, none_moved, first_kept, told)

@@ -16,10 +16,11 @@ use Rattle.adf_tree.specs.Tree.{is_dir_body, last_of, parents_of}
 use Rattle.adf_tree.proofs.AddRoom.{whole_path}
 use Rattle.adf_tree.proofs.Lists.{some_in}
 use Rattle.std.specs.Option.{option_or}
+use Rattle.std.proofs.lemmas.Grind.{common_steps}
 use Rattle.adf_edits.specs.declared.edits.EditFault.{EditFault}
-use Rattle.adf_edits.specs.Edits.{depth_fault, has_directory, has_path, is_at, leads_to_directory, is_directory_at, is_within, move_fault, moved_additions}
+use Rattle.adf_edits.specs.Edits.{has_directory, has_path, is_at, leads_to_directory, is_directory_at, is_within, move_fault, moved_additions}
 use Rattle.adf_edits.specs.Edits.{rebased, room_fault, unless, without}
-use Rattle.adf_edits.specs.Paths.{is_at_or_under, is_under}
+use Rattle.adf_edits.specs.Paths.{is_at_or_under}
 use Rattle.adf_edits.proofs.PlacedInOrder.{KeepsDirectory, PlacedAfter, any_kept, filtered_after, nothing_before, placed, roomy}
 use Rattle.adf_edits.proofs.Places.{HasPlace, same_paths, some_passes}
 use Rattle.adf_edits.proofs.RoomKept.{made_is, place_without_fault}
@@ -36,17 +37,13 @@ pub backs : (n : ℕ) (a b : List (List ℕ)) → map uppers a ≡ map uppers b 
 backs n a b same = sym (drop-map uppers n a) ∙ (ap (drop n) same ∙ drop-map uppers n b)
 
 pub no_longer : (d p : List (List ℕ)) → is_at_or_under d p ≡ true → length d ≤ length p
-no_longer d p h =
-    let le = (and_parts (nat_le (length d) (length p)) (same_path (take (length d) p) d) h).0 in grind (arith, nat_tests)
+no_longer d p h = grind (arith, common_steps, and_parts, nat_le, nat_tests)
 
 pub front_is : (d p : List (List ℕ)) → is_at_or_under d p ≡ true → map uppers (take (length d) p) ≡ map uppers d
-front_is d p h =
-    (same_paths (take (length d) p) d).0 (and_parts (nat_le (length d) (length p)) (same_path (take (length d) p) d) h).1
+front_is d p h = grind (arith, common_steps, same_paths, and_parts, nat_le)
 
 pub within_from : (d p : List (List ℕ)) → length d ≤ length p → map uppers (take (length d) p) ≡ map uppers d → is_at_or_under d p ≡ true
-within_from d p le same =
-    and_from (nat_le (length d) (length p)) (same_path (take (length d) p) d) (le-leb (length d) (length p) le)
-    ((same_paths (take (length d) p) d).1 same)
+within_from d p le same = grind (arith, common_steps, and_from, nat_le, le-leb, same_paths)
 
 parents_long : (p : List (List ℕ)) → length (parents_of p) ≡ length p - 1
 parents_long p = length-take-le (length p - 1) p (omega arith)
@@ -68,22 +65,14 @@ parent_within d a p same lt h =
     (fronts (length d) a (parents_of p) same ∙ (ap (map uppers) (take-take (length d) (length p - 1) p (omega arith)) ∙ front_is d p h))
 
 pub joined_within : (d r a : List (List ℕ)) → map uppers a ≡ map uppers (d ++ r) → is_at_or_under d a ≡ true
-joined_within d r a same =
-    let long = as_long a (d ++ r) same in
-    let sum = length-append d r in
-    within_from d a (omega arith) (fronts (length d) a (d ++ r) same ∙ ap (map uppers) (take-append_seam d r))
+joined_within d r a same = grind (arith, common_steps, as_long, within_from, fronts, length-append d r, take-append_seam d r)
 
 directory_is : (dir : List (List ℕ)) (y : Addition) → is_directory_at dir y ≡ true → map uppers y.path ≡ map uppers dir
 directory_is dir y h = (same_paths y.path dir).0 (and_parts (is_dir_body y.body) (same_path y.path dir) h).1
 
 -- what stays keeps its directories
 stays_with : (from : List (List ℕ)) (x : Addition) → KeepsDirectory (λ y. not (is_within from y)) x
-stays_with from x = λ some stays y dir. elim (cases_Bool (is_within from y)) [
-  | inr f ↦ rw f refl
-  | inl t ↦
-      let up : is_within from x ≡ true = within_parent from y.path x.path (directory_is (parents_of x.path) y dir) t in
-      let clash = rw up at stays in cc
-]
+stays_with from x = grind (arith, cases_Bool, within_parent, directory_is)
 
 -- an entry under a path has its directory there
 none_here : (d : List (List ℕ)) (front : List Addition) (x : Addition) → (length d == 0) ≡ false → HasPlace front x.path
@@ -124,16 +113,10 @@ drop_front (suc n) [] b le = absurd (omega arith)
 drop_front (suc n) (x ∷ a) b le = drop_front n a b (omega arith)
 
 parents_joined : (q : List (List ℕ)) (x : List ℕ) → parents_of (q ++ x ∷ []) ≡ q
-parents_joined q x =
-    let long : length (q ++ x ∷ []) - 1 ≡ length q = omega (arith, length-append q (x ∷ [])) in
-    ap (λ n. take n (q ++ x ∷ [])) long ∙ take-append_seam q (x ∷ [])
+parents_joined q x = grind (arith, common_steps, length-append, take-append_seam)
 
 behind_directory : (xs ys : List Addition) (dir : List (List ℕ)) → has_directory ys dir ≡ true → leads_to_directory (xs ++ ys) dir ≡ true
-behind_directory xs ys dir h =
-    let there : has_directory (xs ++ ys) dir ≡ true =
-    list_any-append (is_directory_at dir) xs ys
-    ∙ elim (cases_Bool (has_directory xs dir)) [ inl t ↦ rw (t) refl | inr f ↦ rw (f, h) refl ] in
-    elim (cases_Bool (length dir == 0)) [ inl z ↦ rw z refl | inr f ↦ rw (f, there) refl ]
+behind_directory xs ys dir h = grind (arith, common_steps, list_any-append, cases_Bool)
 
 -- after a move
 
@@ -192,12 +175,7 @@ module _ (from to : List (List ℕ)) (rest : List Addition) (named : (length fro
   ]
 
   more_directory : (xs ys : List Addition) (dir : List (List ℕ)) → leads_to_directory xs dir ≡ true → leads_to_directory (xs ++ ys) dir ≡ true
-  more_directory xs ys dir h = elim (cases_Bool (length dir == 0)) [
-    | inl z ↦ rw z refl
-    | inr f ↦
-        let there : has_directory xs dir ≡ true = rw f at h in
-        rw f (list_any-append (is_directory_at dir) xs ys ∙ rw there refl)
-  ]
+  more_directory xs ys dir h = grind (arith, common_steps, cases_Bool, list_any-append)
 
   parents_moved : (p : List (List ℕ)) → n < length p → parents_of (to ++ drop n p) ≡ to ++ drop n (parents_of p)
   parents_moved p lt =
@@ -244,34 +222,13 @@ module _ (from to : List (List ℕ)) (rest : List Addition) (named : (length fro
 
   moved_place : (front : List Addition) (x : Addition) → HasPlace front x.path → w x ≡ true
       → HasPlace (rest ++ map rb (filter w front)) (rb x).path
-  moved_place front x h wx =
-      let long = length-append to (drop n x.path) in
-      let some : length to ≢ 0 = eqb-false (length to) 0 place.some in
-      record {
-        some = ne_eqb (length (to ++ drop n x.path)) 0 (omega arith);
-        directory = directory_moved front x h wx;
-        free = list_any-append (is_at (rb x).path) rest (map rb (filter w front))
-            ∙ rw (free_rest (drop n x.path), free_moved x front wx h.free) refl;
-      }
+  moved_place front x h wx = grind (arith, common_steps, length-append, eqb-false, ne_eqb, directory_moved, list_any-append, free_rest, free_moved)
 
   moved_after : (front xs : List Addition) → PlacedAfter front xs
       → PlacedAfter (rest ++ map rb (filter w front)) (map rb (filter w xs))
   moved_after front [] h = tt
   moved_after front (x ∷ xs) h =
-      let before : List Addition = rest ++ map rb (filter w front) in
-      let go : PlacedAfter (rest ++ map rb (filter w (front ++ x ∷ []))) (map rb (filter w xs)) = moved_after (front ++ x ∷ []) xs h.1 in
-      let split : (b : Bool) → w x ≡ b → rest ++ map rb (filter w (front ++ x ∷ [])) ≡ before ++ map rb (cond b (x ∷ []) []) =
-      λ b is. ap (λ us. rest ++ map rb us) (filter-append w front (x ∷ []) ∙ ap (λ c. filter w front ++ cond c (x ∷ []) []) is)
-      ∙ (ap (λ us. rest ++ us) (map-append rb (filter w front) (cond b (x ∷ []) []))
-      ∙ sym (append_assoc rest (map rb (filter w front)) (map rb (cond b (x ∷ []) [])))) in
-      elim (cases_Bool (w x)) [
-        | inl t ↦
-            subst (λ b. PlacedAfter before (map rb (cond b (x ∷ filter w xs) (filter w xs)))) (sym t)
-            (moved_place front x h.0 t, subst (λ us. PlacedAfter us (map rb (filter w xs))) (split true t) go)
-        | inr f ↦
-            subst (λ b. PlacedAfter before (map rb (cond b (x ∷ filter w xs) (filter w xs)))) (sym f)
-            (subst (λ us. PlacedAfter us (map rb (filter w xs))) (split false f ∙ append-nil before) go)
-      ]
+      grind (arith, common_steps, filter-append, map-append, append_assoc, cases_Bool, moved_place, append-nil, moved_after (front ++ x ∷ []) xs h.1)
 
 both_placed : (front xs ys : List Addition) → PlacedAfter front xs → PlacedAfter (front ++ xs) ys → PlacedAfter front (xs ++ ys)
 both_placed front [] ys h g = subst (λ us. PlacedAfter us ys) (append-nil front) g
@@ -294,13 +251,7 @@ first_none (Some f) n h = cc
 
 no_move_fault : (from to : List (List ℕ)) (xs : List Addition) → move_fault xs from to ≡ None
     → (has_path xs from ≡ true) × (room_fault (without from xs) to ≡ None)
-no_move_fault from to xs h = elim (cases_Bool (has_path xs from)) [
-  | inr f ↦ let clash = rw f at h in cc
-  | inl t ↦ elim (cases_Bool (is_under from to)) [
-    | inl u ↦ let clash = rw (t, u) at h in cc
-    | inr u ↦ (t, first_none (room_fault (without from xs) to) (depth_fault xs from to) (rw (t, u) at h))
-  ]
-]
+no_move_fault from to xs h = grind (arith, common_steps, cases_Bool, first_none)
 
 -- what is moved has a path with a name, and what stays has room for it
 pub record MayMove (from to : List (List ℕ)) (xs : List Addition) : Type 0 where

@@ -5,6 +5,8 @@ use Rattle.std.proofs.Common.{IsOk, take_all, add-one}
 use Rattle.std.specs.List.{slice_get}
 use Rattle.std.proofs.lemmas.Bool.{cases_lt, ne_eqb}
 use Rattle.std.proofs.lemmas.List.{get_or_default, length_push, length-take-le, take_more, Sums.fold_push}
+use Rattle.std.proofs.lemmas.List.Sums.{fold_push}
+use Rattle.std.proofs.lemmas.Grind.{common_steps}
 use Rattle.adf_base.specs.declared.hash.Letters.TheVariants.{Ascii}
 use Rattle.adf_tree.specs.declared.entry.Body.TheVariants.{Dir}
 use Rattle.adf_tree.specs.declared.entry.Entry.{Entry}
@@ -43,13 +45,7 @@ record IsFront (es : List Entry) (k : ℕ) (xs : List Addition) : Type 0 where
   places : (p : ℕ) → p ≤ k → IsDir es p → directory_from (take k es) 0 (path_at xs p) ≡ Ok p
 
 nothing_yet : (es : List Entry) → IsFront es 0 []
-nothing_yet es = record {
-  is = refl;
-  count = refl;
-  entries = refl;
-  room = λ i d lt. absurd (omega arith);
-  places = λ p le is. let none : 0 ≡ p = omega arith in subst (λ m. directory_from (take 0 es) 0 (path_at [] m) ≡ Ok m) none refl;
-}
+nothing_yet es = grind (arith, common_steps)
 
 -- one more entry is added
 module _ (es : List Entry) (k : ℕ) (xs : List Addition) (e : Entry) (t : IsTree es) (lt : k < length es) (here : get_or es k e ≡ e)
@@ -61,8 +57,7 @@ module _ (es : List Entry) (k : ℕ) (xs : List Addition) (e : Entry) (t : IsTre
   dir = path_at xs e.parent
 
   to : directory_from (take k es) 0 dir ≡ Ok e.parent
-  to = f.places e.parent (subst (λ (d : Entry). d.parent ≤ k) here (t.parents k e lt))
-      (subst (λ (d : Entry). IsDir es d.parent) here (t.dirs k e lt))
+  to = grind (arith, common_steps)
 
   next : IsNextEntry es k e
   next = subst (IsNextEntry es k) here (is_next es k e t lt)
@@ -103,13 +98,7 @@ module _ (es : List Entry) (k : ℕ) (xs : List Addition) (e : Entry) (t : IsTre
   ]
 
   front_more : IsFront es (k + 1) (xs ++ x ∷ [])
-  front_more = record {
-    is = is_more;
-    count = length_push xs x ∙ ap (λ n. n + 1) f.count;
-    entries = entries_more;
-    room = room_more xs x f.room enough;
-    places = place_more;
-  }
+  front_more = search (arith, is_more, length_push, entries_more, room_more, enough, place_more)
 
 front : (es : List Entry) (k : ℕ) → IsTree es → k ≤ length es → IsFront es k (tree_additions (take k es))
 front es zero t le = nothing_yet es

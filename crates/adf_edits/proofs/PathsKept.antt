@@ -1,17 +1,18 @@
 -- What each path leads to after a removal, an addition, a change or a new label.
 -- Letters: xs are additions, ys what the edit makes of them; x, y additions; q a path.
-use Rattle.std.proofs.Common.{◌≡◌, ◌≢◌, ℕ, List, [], ◌∷◌, ◌++◌, inl, inr, map, refl, sym, ap, ◌∙◌, true, false, None, Ok, Some, Result, not, option_map}
+use Rattle.std.proofs.Common.{◌≡◌, ◌≢◌, ℕ, List, [], ◌∷◌, ◌++◌, inl, inr, map, refl, sym, ap, ◌∙◌, true, false, None, Ok, Some, Result, not, option_map, arith}
 use Rattle.std.specs.List.{find}
 use Rattle.std.specs.Option.{option_or}
 use Rattle.std.proofs.lemmas.Bool.{cases_Bool, false_from_ne_true}
 use Rattle.std.proofs.lemmas.Iterator.Adapters.{option_map_id}
 use Rattle.std.proofs.lemmas.List.Folds.{find-append}
+use Rattle.std.proofs.lemmas.Grind.{common_steps}
 use Rattle.adf_names.specs.Texts.{uppers}
 use Rattle.adf_tree.specs.Additions.{Addition, AllHaveRoom, content_of, entries_of_additions}
 use Rattle.adf_tree.specs.Paths.{Content, content_at}
 use Rattle.adf_edits.specs.declared.edits.Change.{Change}
 use Rattle.adf_edits.specs.declared.edits.EditFault.{EditFault}
-use Rattle.adf_edits.specs.Edits.{change_fault, changed_meta, changed_at, changed_if, is_at, remove_fault, removed, room_fault, unless, with_new}
+use Rattle.adf_edits.specs.Edits.{change_fault, changed_meta, changed_at, changed_if, is_at, remove_fault, removed, unless, with_new}
 use Rattle.adf_edits.proofs.FirstAt.{content_done, first_kept, first_left_out, first_mapped, none_first, or_nothing, told}
 use Rattle.adf_edits.proofs.Places.{same_paths}
 use Rattle.adf_edits.proofs.RoomKept.{change_kept, made_is, new_kept, place_without_fault, remove_kept}
@@ -25,9 +26,7 @@ not_both a b y far at = false_from_ne_true (is_at b y) (λ t. far (sym ((same_pa
 module _ (path : List (List ℕ)) (xs ys : List Addition) (room : AllHaveRoom xs)
     (h : unless (remove_fault xs path) (removed path xs) ≡ Ok ys) where
   left : (q : List (List ℕ)) → content_at (entries_of_additions ys) q ≡ option_map content_of (find (is_at q) (removed path xs))
-  left q =
-      told ys (remove_kept path xs ys room h) q
-      ∙ ap (λ us. option_map content_of (find (is_at q) us)) (sym (made_is (remove_fault xs path) (removed path xs) ys h).1)
+  left q = grind (arith, common_steps, told, remove_kept, option_map, made_is)
 
   pub gone : content_at (entries_of_additions ys) path ≡ None
   gone = left path ∙ ap (option_map content_of) (first_left_out (is_at path) (is_at path) xs (λ y at. at))
@@ -44,22 +43,14 @@ module _ (path : List (List ℕ)) (xs ys : List Addition) (room : AllHaveRoom xs
 module _ (x : Addition) (xs ys : List Addition) (room : AllHaveRoom xs) (h : with_new x xs ≡ Ok ys) where
   more : (q : List (List ℕ))
       → content_at (entries_of_additions ys) q ≡ option_map content_of (option_or (find (is_at q) xs) (find (is_at q) (x ∷ [])))
-  more q =
-      told ys (new_kept x xs ys room h) q
-      ∙ ap (option_map content_of) (ap (find (is_at q)) (sym (made_is (room_fault xs x.path) (xs ++ x ∷ []) ys h).1)
-      ∙ find-append (is_at q) xs (x ∷ []))
+  more q = grind (arith, told, new_kept, option_map, made_is, find-append)
 
   pub new_there : content_at (entries_of_additions ys) x.path ≡ Some (content_of x)
-  new_there =
-      let place = place_without_fault xs x.path (made_is (room_fault xs x.path) (xs ++ x ∷ []) ys h).0 in
-      let here : is_at x.path x ≡ true = (same_paths x.path x.path).1 refl in
-      more x.path ∙ rw (none_first (is_at x.path) xs place.free, here) refl
+  new_there = grind (arith, common_steps, place_without_fault, made_is, same_paths, more, none_first)
 
   pub old_kept : (q : List (List ℕ)) → map uppers q ≢ map uppers x.path
       → content_at (entries_of_additions ys) q ≡ content_at (entries_of_additions xs) q
-  old_kept q far =
-      let off : is_at q x ≡ false = false_from_ne_true (is_at q x) (λ t. far (sym ((same_paths x.path q).0 t))) in
-      more q ∙ (ap (option_map content_of) (or_nothing (find (is_at q) xs) (find (is_at q) (x ∷ [])) (rw off refl)) ∙ sym (told xs room q))
+  old_kept q far = grind (arith, false_from_ne_true, same_paths, more, option_map, or_nothing, told)
 
 -- changes
 
@@ -70,16 +61,11 @@ module _ (path : List (List ℕ)) (what : Change) (xs ys : List Addition) (room 
 
   after : (q : List (List ℕ))
       → content_at (entries_of_additions ys) q ≡ option_map content_of (option_map (changed_if path what) (find (is_at q) xs))
-  after q =
-      told ys (change_kept path what xs ys room h) q
-      ∙ ap (option_map content_of) (ap (find (is_at q)) (sym (made_is (change_fault xs path) (changed_at path what xs) ys h).1)
-      ∙ first_mapped (is_at q) (changed_if path what) xs (same_at q))
+  after q = grind (arith, common_steps, told, change_kept, option_map, made_is, first_mapped, same_at)
 
   pub change_there : content_at (entries_of_additions ys) path
       ≡ option_map (λ (c : Content). record c { meta = changed_meta what c.meta }) (content_at (entries_of_additions xs) path)
-  change_there =
-      let g : Content → Content = λ c. record c { meta = changed_meta what c.meta } in
-      after path ∙ (content_done (is_at path) (changed_if path what) g xs (λ y at. rw at refl) ∙ ap (option_map g) (sym (told xs room path)))
+  change_there = grind (arith, common_steps, after, content_done, option_map, told)
 
   pub unchanged_kept : (q : List (List ℕ)) → map uppers q ≢ map uppers path
       → content_at (entries_of_additions ys) q ≡ content_at (entries_of_additions xs) q

@@ -1,14 +1,15 @@
 -- Additions that have a place behind those before them: that is to have room, and it stays where a change keeps paths and bodies, and
 -- where what is left out is no directory of what stays.
 -- Letters: xs are additions, front those before them; x, y additions; q the test of what stays.
-use Rattle.std.proofs.Common.{◌≡◌, ℕ, suc, List, [], ◌∷◌, ◌++◌, inl, inr, ◌+◌, ◌==◌, ◌&&◌, ◌||◌, length, map, refl, sym, ap, subst, ◌∙◌, arith, true, false}
-use Rattle.std.proofs.Common.{Bool, IsOk, cond}
+use Rattle.std.proofs.Common.{◌≡◌, ℕ, suc, List, [], ◌∷◌, ◌++◌, inl, inr, ◌+◌, ◌==◌, ◌&&◌, ◌||◌, length, map, refl, sym, ap, subst, ◌∙◌, arith, true, false, Bool, IsOk, cond}
 use Rattle.std.specs.List.{All, filter, list_any}
 use Rattle.std.proofs.Math.Seq.{take-append_seam, get_or-append_seam}
 use Rattle.std.proofs.lemmas.Bool.{cases_Bool}
 use Rattle.std.proofs.lemmas.List.{append-nil, append_assoc, length-append, map-append, Elements.filter-append}
 use Rattle.adf_tree.specs.Additions.{Addition, AllHaveRoom, entries_of_additions, same_path}
 use Rattle.adf_tree.specs.Tree.{is_dir_body, parents_of, room_for}
+use Rattle.std.proofs.lemmas.List.Elements.{filter-append}
+use Rattle.std.proofs.lemmas.Grind.{common_steps}
 use Rattle.adf_tree.proofs.TreeOfAdditions.{all_built}
 use Rattle.adf_edits.specs.declared.edits.Change.{Change}
 use Rattle.adf_edits.specs.Edits.{changed_at, changed_if, is_at, is_directory_at}
@@ -58,17 +59,10 @@ module _ (path : List (List ℕ)) (what : Change) where
   same_body y = elim (cases_Bool (is_at path y)) [ inl t ↦ rw t refl | inr f ↦ rw f refl ]
 
   same_directory : (dir : List (List ℕ)) (y : Addition) → is_directory_at dir (change y) ≡ is_directory_at dir y
-  same_directory dir y =
-      ap (λ b. is_dir_body b && same_path (change y).path dir) (same_body y)
-      ∙ ap (λ b. is_dir_body y.body && same_path b dir) (same_place y)
+  same_directory dir y = grind (arith, common_steps, same_body, same_place)
 
   changed_place : (front : List Addition) (to : List (List ℕ)) → HasPlace front to → HasPlace (changed_at path what front) to
-  changed_place front to h = record {
-    some = h.some;
-    directory = ap (λ b. (length (parents_of to) == 0) || b)
-        (any_mapped (is_directory_at (parents_of to)) change front (same_directory (parents_of to))) ∙ h.directory;
-    free = any_mapped (is_at to) change front (λ y. ap (λ b. same_path b to) (same_place y)) ∙ h.free;
-  }
+  changed_place front to h = grind (arith, common_steps, any_mapped, same_directory, same_place)
 
   pub changed_after : (front xs : List Addition) → PlacedAfter front xs → PlacedAfter (changed_at path what front) (changed_at path what xs)
   changed_after front [] h = tt
@@ -82,13 +76,7 @@ module _ (path : List (List ℕ)) (what : Change) where
 pub any_kept : (p q : Addition → Bool) (xs : List Addition) → ((y : Addition) → p y ≡ true → q y ≡ true)
     → list_any p (filter q xs) ≡ list_any p xs
 any_kept p q [] h = refl
-any_kept p q (x ∷ xs) h = elim (cases_Bool (q x)) [
-  | inl t ↦ rw (t, any_kept p q xs h) refl
-  | inr f ↦ elim (cases_Bool (p x)) [
-    | inl g ↦ let clash : true ≡ false = sym (h x g) ∙ f in cc
-    | inr g ↦ rw (f, g) (any_kept p q xs h)
-  ]
-]
+any_kept p q (x ∷ xs) h = grind (arith, common_steps, cases_Bool, any_kept p q xs h)
 
 pub any_fewer : (p q : Addition → Bool) (xs : List Addition) → list_any p xs ≡ false → list_any p (filter q xs) ≡ false
 any_fewer p q [] h = h
@@ -106,11 +94,7 @@ KeepsDirectory q x = (length x.path == 0) ≡ false → q x ≡ true → (y : Ad
 module _ (q : Addition → Bool) where
   place_stays : (front : List Addition) (x : Addition) → ((y : Addition) → is_directory_at (parents_of x.path) y ≡ true → q y ≡ true)
       → HasPlace front x.path → HasPlace (filter q front) x.path
-  place_stays front x keeps h = record {
-    some = h.some;
-    directory = ap (λ b. (length (parents_of x.path) == 0) || b) (any_kept (is_directory_at (parents_of x.path)) q front keeps) ∙ h.directory;
-    free = any_fewer (is_at x.path) q front h.free;
-  }
+  place_stays front x keeps h = grind (arith, common_steps, any_kept, any_fewer)
 
   pub filtered_after : (front xs : List Addition) → All (KeepsDirectory q) xs → PlacedAfter front xs → PlacedAfter (filter q front) (filter q xs)
   filtered_after front [] keeps h = tt

@@ -7,8 +7,8 @@ use Rattle.std.specs.Option.{option_and_then}
 use Rattle.std.proofs.lemmas.Bool.{and_from, and_parts, cases_Bool, eqb-true, false_from_ne_true}
 use Rattle.std.proofs.lemmas.List.{nil_from_length, Folds.list_any_at}
 use Rattle.std.proofs.lemmas.Slice.Eq.{bytes_eq-Decides, slice_eq-Decides}
+use Rattle.std.proofs.lemmas.Grind.{common_steps}
 use Rattle.adf_names.specs.Texts.{uppers}
-use Rattle.adf_tree.specs.declared.entry.Body.TheVariants.{Dir}
 use Rattle.adf_tree.specs.declared.entry.Entry.{Entry}
 use Rattle.adf_tree.specs.Additions.{Addition, IsTreeOf, content_of, same_path}
 use Rattle.adf_tree.specs.Paths.{Content, content_at, entry_content}
@@ -20,7 +20,7 @@ use Rattle.adf_tree.proofs.PathContents.{directory_found, entry_at, entry_says, 
 use Rattle.adf_tree.proofs.PathLookup.{then_find}
 use Rattle.adf_tree.proofs.TreeOfAdditions.{has_room}
 use Rattle.adf_drafts.proofs.DraftLookup.{dir_at, past}
-use Rattle.adf_edits.specs.Edits.{has_path, is_at, leads_to_directory, is_directory_at, new_addition}
+use Rattle.adf_edits.specs.Edits.{has_path, is_at, leads_to_directory, is_directory_at}
 
 -- a path with a name, whose directory is there, and that nothing has
 pub record HasPlace (xs : List Addition) (path : List (List ℕ)) : Type 0 where
@@ -47,9 +47,7 @@ next_found es names q None h = cc
 next_found es names q (Some n) h = (n, refl, h)
 
 found_is_some : (es : List Entry) (p : ℕ) (x : List ℕ) (m : ℕ) → child es p x ≡ Some m → (0 < m) × (m ≤ length es)
-found_is_some es p x m h =
-    let d : Entry = record { parent = 0; name = x; meta = (new_addition [] Dir).meta; body = Dir } in
-    let is = found_is es p x m d h in (is.0, is.1)
+found_is_some es p x m h = grind (arith, common_steps, found_is)
 
 is_dir_from : (es : List Entry) (n : ℕ) → IsDir es n → is_dir es n ≡ true
 is_dir_from es zero h = refl
@@ -83,9 +81,7 @@ past_root es n (x ∷ xs) q some h =
 
 under_root : (es : List Entry) (n : ℕ) (names : List (List ℕ)) (q : ℕ) → (length names == 0) ≡ false → find_from es n names ≡ Some q → 0 < q
 under_root es n [] q some h = cc
-under_root es n (x ∷ xs) q some h =
-    let next = next_found es xs q (child es n x) h in
-    past_root es next.0 xs q (found_is_some es n x next.0 next.1).0 next.2
+under_root es n (x ∷ xs) q some h = grind (arith, common_steps, next_found, past_root, found_is_some)
 
 -- content at a path
 
@@ -101,25 +97,17 @@ content_from es c (Some n) h = let found = entry_from (entry es n) c h in (n, fo
 -- the entry of an addition that is a directory
 entry_dir : (es : List Entry) (n : ℕ) (e : Entry) (y : Addition) → entry es n ≡ Some e → entry_content e ≡ content_of y → is_dir_body y.body ≡ true
     → is_dir es n ≡ true
-entry_dir es n e y h same dir =
-    let says = entry_says es n e h in
-    let body : is_dir_body e.body ≡ true = ap (λ (c : Content). is_dir_body c.body) same ∙ dir in
-    dir_at es n e says.0 says.1 ∙ (ap (λ (d : Entry). is_dir_body d.body) (says.2 e) ∙ body)
+entry_dir es n e y h same dir = grind (arith, common_steps, entry_says, dir_at)
 
 -- room, told by the additions
 module _ (es : List Entry) (xs : List Addition) (t : IsTreeOf es xs) where
   -- what has a path is found there
   found_at : (dir : List (List ℕ)) (i : ℕ) (d : Addition) → i < length xs → same_path (get_or xs i d).path dir ≡ true
       → (n : ℕ) × (e : Entry) × (find es dir ≡ Some n) × (entry es n ≡ Some e) × (entry_content e ≡ content_of (get_or xs i d))
-  found_at dir i d lt same =
-      let y : Addition = get_or xs i d in
-      let at = content_from es (content_of y) (find es y.path) (t.there i d lt) in
-      (at.0, at.1, sym (find_uppers es 0 y.path dir ((same_paths y.path dir).0 same)) ∙ at.2, at.3, at.4)
+  found_at dir i d lt same = grind (arith, common_steps, content_from, find_uppers, same_paths)
 
   pub nothing_at : (path : List (List ℕ)) → has_path xs path ≡ false → content_at es path ≡ None
-  nothing_at path none = t.others path (λ i d lt same.
-      let there : has_path xs path ≡ true =
-      list_any_at (is_at path) xs i d lt ((same_paths (get_or xs i d).path path).1 (sym same)) in cc)
+  nothing_at path none = grind (arith, common_steps, list_any_at, same_paths)
 
   to_directory : (dir : List (List ℕ)) → leads_to_directory xs dir ≡ true → (q : ℕ) × (directory_from es 0 dir ≡ Ok q)
   to_directory dir h = elim (cases_Bool (length dir == 0)) [

@@ -1,17 +1,18 @@
 -- What an edit makes of additions that all have room, has room.
 -- Letters: xs are additions, ys what the edit makes of them; x, y are additions, front those before them.
-use Rattle.std.proofs.Common.{◌≡◌, ◌≢◌, ℕ, List, [], ◌∷◌, ◌++◌, inl, inr, ◌==◌, length, refl, sym, ap, subst, ◌∙◌, arith, true, false, Bool, Some, None, Ok}
-use Rattle.std.proofs.Common.{Option, Result, not, ◌-◌, get_or, map, nat_lt, take}
+use Rattle.std.proofs.Common.{◌≡◌, ◌≢◌, ℕ, List, [], ◌∷◌, ◌++◌, inl, inr, ◌==◌, length, refl, sym, ap, subst, ◌∙◌, arith, true, false, Bool, Some, None, Ok, Option, Result, not, ◌-◌, get_or, map, nat_lt, take}
 use Rattle.std.specs.List.{All, list_any}
 use Rattle.std.proofs.lemmas.Bool.{and_from, and_parts, cases_Bool, eqb-false, false_from_ne_true, lt-ltb}
 use Rattle.std.proofs.lemmas.List.{length-map, length-take-le, Folds.list_any_at}
+use Rattle.std.proofs.lemmas.List.Folds.{list_any_at}
+use Rattle.std.proofs.lemmas.Grind.{common_steps}
 use Rattle.adf_names.specs.Texts.{uppers}
-use Rattle.adf_tree.specs.Additions.{Addition, AllHaveRoom, entries_of_additions, same_path}
-use Rattle.adf_tree.specs.Tree.{is_dir_body, parents_of}
+use Rattle.adf_tree.specs.Additions.{Addition, AllHaveRoom}
+use Rattle.adf_tree.specs.Tree.{parents_of}
 use Rattle.adf_tree.proofs.TreeOfAdditions.{all_built}
 use Rattle.adf_edits.specs.declared.edits.EditFault.{EditFault}
 use Rattle.adf_edits.specs.declared.edits.Change.{Change}
-use Rattle.adf_edits.specs.Edits.{change_fault, changed_at, has_path, has_under, is_at, leads_to_directory, leads_through_file, remove_fault, removed}
+use Rattle.adf_edits.specs.Edits.{change_fault, changed_at, has_under, is_at, remove_fault, removed}
 use Rattle.adf_edits.specs.Edits.{room_fault, unless, with_new}
 use Rattle.adf_edits.specs.Paths.{is_under}
 use Rattle.adf_edits.proofs.Additions.{room_more}
@@ -26,25 +27,10 @@ made_is (Some f) xs ys h = cc
 made_is None xs ys h = (refl, cc)
 
 pub place_without_fault : (xs : List Addition) (path : List (List ℕ)) → room_fault xs path ≡ None → HasPlace xs path
-place_without_fault xs path h = elim (cases_Bool (length path == 0)) [
-  | inl z ↦ let clash = rw z at h in cc
-  | inr some ↦ elim (cases_Bool (leads_through_file xs path)) [
-    | inl t ↦ let clash = rw (some, t) at h in cc
-    | inr through ↦ elim (cases_Bool (leads_to_directory xs (parents_of path))) [
-      | inr f ↦ let clash = rw (some, through, f) at h in cc
-      | inl directory ↦ elim (cases_Bool (has_path xs path)) [
-        | inl t ↦ let clash = rw (some, through, directory, t) at h in cc
-        | inr free ↦ record { some = some; directory = directory; free = free }
-      ]
-    ]
-  ]
-]
+place_without_fault xs path h = grind (arith, common_steps, cases_Bool)
 
 pub new_kept : (x : Addition) (xs ys : List Addition) → AllHaveRoom xs → with_new x xs ≡ Ok ys → AllHaveRoom ys
-new_kept x xs ys room h =
-    let made = made_is (room_fault xs x.path) (xs ++ x ∷ []) ys h in
-    subst AllHaveRoom made.1 (room_more xs x room
-    (room_from (entries_of_additions xs) xs (all_built xs room) x.path (place_without_fault xs x.path made.0)))
+new_kept x xs ys room h = grind (arith, common_steps, made_is, room_from, place_without_fault, room_more xs x room, all_built xs room)
 
 pub label_kept : (xs ys : List Addition) → AllHaveRoom xs → (let r : Result (List Addition) EditFault = Ok xs in r ≡ Ok ys) → AllHaveRoom ys
 label_kept xs ys room h = let same : xs ≡ ys = cc in subst AllHaveRoom same room
@@ -64,34 +50,14 @@ none_pass p xs h = λ i d lt. false_from_ne_true (p (get_or xs i d)) (λ t. let 
 -- what is in the directory of a path is under it
 in_directory_under : (dir path : List (List ℕ)) → (length path == 0) ≡ false → map uppers (parents_of path) ≡ map uppers dir
     → is_under dir path ≡ true
-in_directory_under dir path some same =
-    let some_names : length path ≢ 0 = eqb-false (length path) 0 some in
-    let long : length (parents_of path) ≡ length path - 1 = length-take-le (length path - 1) path (omega arith) in
-    let as_long : length dir ≡ length path - 1 =
-    sym (length-map dir uppers) ∙ (sym (ap length same) ∙ (length-map (parents_of path) uppers ∙ long)) in
-    let front : same_path (take (length dir) path) dir ≡ true =
-    ap (λ n. same_path (take n path) dir) as_long ∙ (same_paths (parents_of path) dir).1 same in
-    and_from (nat_lt (length dir) (length path)) (same_path (take (length dir) path) dir)
-    (lt-ltb (length dir) (length path) (omega arith)) front
+in_directory_under dir path some same = grind (arith, common_steps, eqb-false, length-take-le, length-map, same_paths, and_from, nat_lt, lt-ltb)
 
 -- where nothing is under a path, it is the directory of nothing
 keeps_directory : (path : List (List ℕ)) (x : Addition) → is_under path x.path ≡ false → KeepsDirectory (λ y. not (is_at path y)) x
-keeps_directory path x none = λ some stays y dir.
-    elim (cases_Bool (is_at path y)) [
-      | inr f ↦ rw f refl
-      | inl t ↦
-          let at_dir = (and_parts (is_dir_body y.body) (same_path y.path (parents_of x.path)) dir).1 in
-          let same : map uppers (parents_of x.path) ≡ map uppers path =
-          sym ((same_paths y.path (parents_of x.path)).0 at_dir) ∙ (same_paths y.path path).0 t in
-          let under : is_under path x.path ≡ true = in_directory_under path x.path some same in
-          let clash : true ≡ false = sym under ∙ none in cc
-    ]
+keeps_directory path x none = grind (arith, common_steps, cases_Bool, and_parts, same_paths, in_directory_under)
 
 nothing_under : (xs : List Addition) (path : List (List ℕ)) → remove_fault xs path ≡ None → has_under xs path ≡ false
-nothing_under xs path h = elim (cases_Bool (has_path xs path)) [
-  | inr f ↦ let clash = rw f at h in cc
-  | inl t ↦ elim (cases_Bool (has_under xs path)) [ inr f ↦ f | inl u ↦ let clash = rw (t, u) at h in cc ]
-]
+nothing_under xs path h = grind (arith, common_steps, cases_Bool)
 
 pub remove_kept : (path : List (List ℕ)) (xs ys : List Addition) → AllHaveRoom xs
     → unless (remove_fault xs path) (removed path xs) ≡ Ok ys → AllHaveRoom ys

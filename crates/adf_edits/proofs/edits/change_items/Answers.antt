@@ -1,11 +1,8 @@
 use Rattle.std.proofs.Common.{arith}
 use Rattle.std.proofs.lemmas.List.Edits.{map_over_more}
+use Rattle.std.proofs.lemmas.Grind.{common_steps}
 use Rattle.adf_edits.specs.Edits.{changed_if}
 use Rattle.adf_edits.proofs.edits.change_items.Goals as goal
 
 pub loop-item-preserved : goal.loop-item-preserved
-loop-item-preserved c =
-    rw (c.change_item.ensures, ← c.item-item.is)
-    (map_over_more (changed_if c.args.path.now c.args.change.now) c.args.items.now c.loop-item.items
-    c.loop-item.item-index c.item-item.result (omega arith)
-    c.loop-item.invariant c.item-item.is)
+loop-item-preserved c = grind (arith, common_steps, map_over_more (changed_if c.args.path.now c.args.change.now) c.args.items.now c.loop-item.items)
