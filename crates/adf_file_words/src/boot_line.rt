@@ -114,10 +114,7 @@ fn boot_matches<'a>(alloc: Global, args: &'a [&str]) -> Result<ArgMatches<'a>, A
     ensures refused { IfErr result (λ fault. fault ≡ Usage
         → ¬ (fault_of boot_app (texts_of args.entry.now) ≡ [])) }
 {
-    match command(alloc) {
-        Ok(boot) => matches_of(boot, args),
-        Err(_) => Err(ArgsError::NoMemory),
-    }
+    matches_of(command(alloc)?, args)
 }
 
 /// Reads the arguments; the first one is the program's name. `Usage` if and only if clap refuses them or its matches lack the
@@ -129,16 +126,12 @@ pub fn parse_boot<'a>(alloc: Global, args: &'a [&str]) -> Result<BootWords<'a>, 
         option_map (λ s. s.now) words.file ≡ boot_file (texts_of args.entry.now)) }
     ensures refused { IfErr result (λ fault. ExplainsBootArgs fault (texts_of args.entry.now)) }
 {
-    match boot_matches(alloc, args) {
-        Ok(matches) => match request_in(&matches) {
-            Some(request) => Ok(BootWords {
-                request,
-                file: file_met(&matches),
-            }),
-            None => Err(ArgsError::Usage),
-        },
-        Err(error) => Err(error),
-    }
+    let matches = boot_matches(alloc, args)?;
+    let request = request_in(&matches).ok_or(ArgsError::Usage)?;
+    Ok(BootWords {
+        request,
+        file: file_met(&matches),
+    })
 }
 
 /// The arguments of the documentation are taken with what they ask for and the file that they name, and other

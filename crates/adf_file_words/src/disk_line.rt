@@ -129,10 +129,7 @@ fn disk_matches<'a>(alloc: Global, args: &'a [&str]) -> Result<ArgMatches<'a>, A
     ensures refused { IfErr result (λ fault. fault ≡ Usage
         → ¬ (fault_of disk_app (texts_of args.entry.now) ≡ [])) }
 {
-    match command(alloc) {
-        Ok(disk) => matches_of(disk, args),
-        Err(_) => Err(ArgsError::NoMemory),
-    }
+    matches_of(command(alloc)?, args)
 }
 
 /// Reads the arguments; the first one is the program's name. `Usage` if and only if clap refuses them or its matches lack the
@@ -142,13 +139,8 @@ pub fn parse_disk<'a>(alloc: Global, args: &'a [&str]) -> Result<DiskRequest<'a>
         AsksDisk (texts_of args.entry.now) (disk_request_value request)) }
     ensures refused { IfErr result (λ fault. ExplainsDiskArgs fault (texts_of args.entry.now)) }
 {
-    match disk_matches(alloc, args) {
-        Ok(matches) => match request_in(&matches) {
-            Some(request) => Ok(request),
-            None => Err(ArgsError::Usage),
-        },
-        Err(error) => Err(error),
-    }
+    let matches = disk_matches(alloc, args)?;
+    request_in(&matches).ok_or(ArgsError::Usage)
 }
 
 /// The file that the arguments name, `None` if they name none or `-`, which is standard input. `Usage` if and only if clap
@@ -158,10 +150,8 @@ pub fn disk_file<'a>(alloc: Global, args: &'a [&str]) -> Result<Option<&'a str>,
         option_map (λ s. s.now) file ≡ disk_file (texts_of args.entry.now)) }
     ensures refused { IfErr result (λ fault. ExplainsDiskArgs fault (texts_of args.entry.now)) }
 {
-    match disk_matches(alloc, args) {
-        Ok(matches) => Ok(file_met(&matches)),
-        Err(error) => Err(error),
-    }
+    let matches = disk_matches(alloc, args)?;
+    Ok(file_met(&matches))
 }
 
 /// The arguments of the documentation are taken with what they ask for and the file that they name, and other

@@ -93,10 +93,7 @@ fn shelf_matches<'a>(alloc: Global, args: &'a [&str]) -> Result<ArgMatches<'a>, 
     ensures refused { IfErr result (λ fault. fault ≡ Usage
         → ¬ (fault_of shelf_app (texts_of args.entry.now) ≡ [])) }
 {
-    match command(alloc) {
-        Ok(shelf) => matches_of(shelf, args),
-        Err(_) => Err(ArgsError::NoMemory),
-    }
+    matches_of(command(alloc)?, args)
 }
 
 /// Reads the arguments; the first one is the program's name. `Usage` if and only if clap refuses them, `NoMemory` if an
@@ -105,13 +102,8 @@ pub fn parse_shelf<'a>(alloc: Global, args: &'a [&str]) -> Result<Order<'a>, Arg
     ensures ok { IfOk result (λ order. AsksShelf (texts_of args.entry.now) order) }
     ensures refused { IfErr result (λ fault. ExplainsShelfArgs fault (texts_of args.entry.now)) }
 {
-    match shelf_matches(alloc, args) {
-        Ok(matches) => match order_in(alloc, &matches) {
-            Ok(order) => Ok(order),
-            Err(_) => Err(ArgsError::NoMemory),
-        },
-        Err(error) => Err(error),
-    }
+    let matches = shelf_matches(alloc, args)?;
+    Ok(order_in(alloc, &matches)?)
 }
 
 /// The arguments of the documentation are taken with the order that they are, and other arguments are refused,

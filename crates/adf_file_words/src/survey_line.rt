@@ -188,10 +188,7 @@ fn survey_matches<'a>(alloc: Global, args: &'a [&str]) -> Result<ArgMatches<'a>,
     ensures refused { IfErr result (λ fault. fault ≡ Usage
         → ¬ (fault_of survey_app (texts_of args.entry.now) ≡ [])) }
 {
-    match command(alloc) {
-        Ok(survey) => matches_of(survey, args),
-        Err(_) => Err(ArgsError::NoMemory),
-    }
+    matches_of(command(alloc)?, args)
 }
 
 /// Reads the arguments; the first one is the program's name. `Usage` if and only if clap refuses them or its matches lack the
@@ -202,13 +199,8 @@ pub fn parse_survey<'a>(alloc: Global, args: &'a [&str]) -> Result<Inquiry<'a>, 
     ensures few { IfOk result (λ inquiry. AreFew inquiry.blocks) }
     ensures refused { IfErr result (λ fault. ExplainsSurveyArgs fault (texts_of args.entry.now)) }
 {
-    match survey_matches(alloc, args) {
-        Ok(matches) => match inquiry_in(&matches) {
-            Some(inquiry) => Ok(inquiry),
-            None => Err(ArgsError::Usage),
-        },
-        Err(error) => Err(error),
-    }
+    let matches = survey_matches(alloc, args)?;
+    inquiry_in(&matches).ok_or(ArgsError::Usage)
 }
 
 /// The file that the arguments name, `None` if they name none or `-`, which is standard input. `Usage` if and only if clap
@@ -218,10 +210,8 @@ pub fn survey_file<'a>(alloc: Global, args: &'a [&str]) -> Result<Option<&'a str
         option_map (λ s. s.now) file ≡ survey_file (texts_of args.entry.now)) }
     ensures refused { IfErr result (λ fault. ExplainsSurveyArgs fault (texts_of args.entry.now)) }
 {
-    match survey_matches(alloc, args) {
-        Ok(matches) => Ok(file_met(&matches)),
-        Err(error) => Err(error),
-    }
+    let matches = survey_matches(alloc, args)?;
+    Ok(file_met(&matches))
 }
 
 /// The arguments of the documentation are taken with what they ask for and the file that they name, and other

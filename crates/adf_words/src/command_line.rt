@@ -56,6 +56,16 @@ impl fmt::Display for ArgsError {
 
 impl Error for ArgsError {}
 
+impl From<AllocError> for ArgsError {
+    ghost use Rattle.adf_words.specs.declared.command_line.ArgsError.TheVariants.{NoMemory};
+
+    ghost from_gives = { λ _ x. x ≡ NoMemory };
+
+    fn from(_error: AllocError) -> ArgsError {
+        ArgsError::NoMemory
+    }
+}
+
 // The command `build [--list]`.
 fn build_command<'a>(alloc: Global) -> Result<Command<'a>, AllocError>
     ensures app { IfOk result (λ c. app_of c ≡ build_app) }
@@ -150,10 +160,7 @@ fn adf_matches<'a>(alloc: Global, args: &'a [&str]) -> Result<ArgMatches<'a>, Ar
     ensures refused { IfErr result (λ fault. fault ≡ Usage
         → ¬ (fault_of adf_app (texts_of args.entry.now) ≡ [])) }
 {
-    match command(alloc) {
-        Ok(adf) => matches_of(adf, args),
-        Err(_) => Err(ArgsError::NoMemory),
-    }
+    matches_of(command(alloc)?, args)
 }
 
 /// Reads the arguments; the first one is the program's name. `Usage` if and only if clap refuses them or its matches lack the
@@ -163,13 +170,8 @@ pub fn parse<'a>(alloc: Global, args: &'a [&str]) -> Result<Request<'a>, ArgsErr
         AsksFor (texts_of args.entry.now) (request_value request)) }
     ensures refused { IfErr result (λ fault. ExplainsArgs fault (texts_of args.entry.now)) }
 {
-    match adf_matches(alloc, args) {
-        Ok(matches) => match request_in(&matches) {
-            Some(request) => Ok(request),
-            None => Err(ArgsError::Usage),
-        },
-        Err(error) => Err(error),
-    }
+    let matches = adf_matches(alloc, args)?;
+    request_in(&matches).ok_or(ArgsError::Usage)
 }
 
 /// The commands of the documentation are taken with the request that they name, and other arguments are
