@@ -14,20 +14,13 @@ use Rattle.adf_volume.proofs.Lists.{at_new, at_old, at_below, snoc_length}
 use Rattle.adf_walk.specs.declared.kept_header.KeptHeader.{KeptHeader}
 use Rattle.adf_walk.specs.declared.kept_owner.KeptOwner.{KeptOwner}
 use Rattle.adf_walk.specs.KeptOwner.{is_claimed, kept_at, no_owner}
-use Rattle.adf_check.specs.Store.{StoreValue, IsKeptOwner, Owns, KeepsHeaders, StoreMatches, file_blocks, next_kept, push_header, push_block, ext_file, data_file, is_dir_at, blocks_before, stored, IsKept}
+use Rattle.adf_check.specs.Store.{StoreValue, IsKeptOwner, Owns, KeepsHeaders, StoreMatches, file_blocks, next_kept, push_header, push_block, ext_file, data_file, is_dir_at, blocks_before, stored}
 use Rattle.adf_volume.specs.Made.{picked}
 use Rattle.adf_check.proofs.FileBlocks.{TellsFile, data_tells, ext_tells, not_below}
 
 -- no block of a role is kept as free
-<<<<<<< HEAD
 kept_not_free : (w : Walk) (r : Role) (b : ℕ) (o : KeptOwner) → IsKeptOwner w r b o → o ≢ no_owner
-kept_not_free w (Ext n m) b o k e = let claimed : true ≡ false = ap is_claimed (sym k.2 ∙ e) in cc
-kept_not_free w (Data n m) b o k e = let claimed : true ≡ false = ap is_claimed (sym k.2 ∙ e) in cc
-kept_not_free w _ b o k e = let claimed : true ≡ false = ap is_claimed (sym k ∙ e) in cc
-=======
-kept_not_free : (w : Walk) (r : Role) (b : ℕ) (o : KeptOwner) → IsKept w r b o → o ≢ no_owner
 kept_not_free w r b o h = grind (arith, common_steps)
->>>>>>> 11ff31f3 (compress adf_check)
 
 -- a place in the list of a walk stays where it is
 at_more : (f : Role → Bool) (w : Walk) (x : Role × ℕ) (i b : ℕ) → At (picked f w) i b → At (picked f (x ∷ w)) i b
@@ -40,15 +33,8 @@ kept_more w x _ b o k = k
 
 -- what is kept of the next block
 kept_next : (store : StoreValue) (w : Walk) → store.exts ≡ file_blocks ext_file w → store.datas ≡ file_blocks data_file w
-<<<<<<< HEAD
     → (r : Role) (b : ℕ) → IsKeptOwner ((r, b) ∷ w) r b (next_kept store r)
-kept_next store w exts datas (Ext n m) b = (length store.exts, at_new (file_blocks ext_file w) b (length store.exts) (ap length exts), refl)
-kept_next store w exts datas (Data n m) b = (length store.datas, at_new (file_blocks data_file w) b (length store.datas) (ap length datas), refl)
-kept_next store w exts datas _ b = refl
-=======
-    → (r : Role) (b : ℕ) → IsKept ((r, b) ∷ w) r b (next_kept store r)
 kept_next store w h k r b = grind (arith, common_steps, at_new)
->>>>>>> 11ff31f3 (compress adf_check)
 
 row_same : (p b q c : ℕ) → p ≡ q → b ≡ c → ◌≡◌ {A = KeptHeader} (record { parent = p; head = b }) (record { parent = q; head = c })
 row_same p b q c x z = λ i. record { parent = x i; head = z i }

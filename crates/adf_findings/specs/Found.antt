@@ -89,7 +89,7 @@ last_node (x ∷ w) = node_after (owner_of x.0) (last_node w)
 -- the owners that are kept of n blocks are those by the walk
 pub record AreOwned (n : ℕ) (owners : OwnersValue) (w : Walk) : Type 0 where
   pub size : length owners.owners ≡ n
-  pub owning_entry : (b : ℕ) → owner_at owners.owners b ≡ owner_by w b
+  pub owner : (b : ℕ) → owner_at owners.owners b ≡ owner_by w b
   pub node : owners.node ≡ last_node w
 
 -- whether a part owns block b

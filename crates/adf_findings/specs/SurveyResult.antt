@@ -50,7 +50,7 @@ pub record TellsOf (v : SurveyValue) (w : Walk) (fs : List FindingValue) : Type 
   pub survey : IsSurvey v.image w fs
   pub findings : map finding_value v.findings ≡ fs
   pub concerned : (k : ℕ) → option_flatten (slice_get v.concerned k) ≡ concern_of_nth w fs k
-  pub owning_entry : (b : ℕ) → entry_at v.owners b ≡ owning_entry w b
+  pub owner : (b : ℕ) → entry_at v.owners b ≡ owning_entry w b
   pub number : (b : ℕ) → data_number_of (owner_at v.owners b) ≡ number_at w b
   pub part : (b : ℕ) → is_part (owner_at v.owners b) ≡ owns w b
   pub page : (i : ℕ) → block_at v.pages i ≡ at_role w (Page i)

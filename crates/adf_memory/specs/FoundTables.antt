@@ -49,7 +49,7 @@ finding_row r = record {
   node = concern_node r.concern;
   owner = entry_number r.owner;
   cause = cause_number r.cause;
-  within_number = within_number r.concern;
+  is_within = within_number r.concern;
 }
 
 -- the table of findings

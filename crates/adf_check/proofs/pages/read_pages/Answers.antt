@@ -1,4 +1,5 @@
 use Rattle.std.proofs.Common.{◌≡◌, subst, arith, rules}
+use Rattle.std.proofs.lemmas.Grind.{common_steps}
 use Rattle.adf_blocks.specs.Sizes.{blocks, pages_needed}
 use Rattle.adf_check.specs.Reading.{IsBeforePage}
 use Rattle.adf_check.specs.Store.{store_value}
@@ -13,20 +14,7 @@ returns-clause-state c =
     pages_end image store c.loop-i.holder (subst (λ k. IsBeforePage image store k c.loop-i.holder) end c.loop-i.invariant.state)
 
 pub loop-i-preserved : goal.loop-i-preserved
-<<<<<<< HEAD
-loop-i-preserved c =
-    let image = c.args.image.now in
-    let pages = c.loop-i.pages.items in
-    record {
-      inside = c.in_ok-holder.ensures.inside;
-      state = c.in_ok-page.ensures.state;
-      pages =
-          rw c.in_ok-push.ensures.items
-          (list_done image pages c.in_ok-page.page c.loop-i.i c.loop-i.invariant.pages c.in_ok-page.ensures.page c.in_ok-page.ensures.within);
-    }
+loop-i-preserved c = grind (arith, common_steps, list_done)
 
 pub returns-in_err-push-clause-fault : goal.returns-in_err-push-clause-fault
 returns-in_err-push-clause-fault c = search rules
-=======
-loop-i-preserved c = grind (arith, pushed, list_done)
->>>>>>> 11ff31f3 (compress adf_check)
