@@ -1,6 +1,6 @@
 -- The blocks that a tree needs which fits an image: no more than the image has.
 -- Letters: t a tree, l its layout; es entries, qs their places; n a node; h the block of its header; a, b blocks; xs blocks with what has them.
-use Rattle.std.proofs.Common.{◌≡◌, ℕ, zero, suc, List, [], ◌∷◌, ◌++◌, inl, inr, ◌+◌, ◌-◌, ◌*◌, ◌≤◌, length, take, length-append, refl, sym, arith}
+use Rattle.std.proofs.Common.{◌≡◌, ℕ, zero, suc, List, [], ◌∷◌, ◌++◌, ◌+◌, ◌-◌, ◌*◌, ◌≤◌, length, take, length-append, refl, arith}
 use Rattle.std.specs.List.{range_with_len}
 use Rattle.std.proofs.lemmas.List.FromFn.{length-range_with_len}
 use Rattle.std.proofs.lemmas.Grind.{common_steps}
@@ -14,7 +14,7 @@ use Rattle.adf_blocks.specs.Sizes.{blocks}
 use Rattle.adf_volume.specs.declared.owner.Owner.TheVariants.{Data, Ext}
 use Rattle.adf_volume.specs.Fits.{BodyFits, FileFits, FitsBy}
 use Rattle.adf_volume.specs.Layout.{Layout, Place, at_node, datas_at, datas_of, exts_at, exts_of, owned, owned_from}
-use Rattle.adf_volume.specs.Lists.{At, In, NoBlockTwice, numbered}
+use Rattle.adf_volume.specs.Lists.{At, numbered}
 use Rattle.adf_volume.proofs.Lists.{length_numbered}
 use Rattle.adf_volume.proofs.WalkLengths.{no_longer}
 use Rattle.adf_build.specs.Plan.{blocks_needed, data_blocks, entries_blocks, exts_needed, reserved}

@@ -1,14 +1,12 @@
 -- Data blocks that were given: of the first survey those that are held.
 -- Letters: held the number of blocks that the input holds whole; b a block, bs blocks; f a file.
 use Rattle.std.specs.Prelude.{◌==◌, ◌&&◌, cond, nat_lt, Option, None}
-use Rattle.std.specs.Str.{bytes_eq}
 use Rattle.std.specs.Option.{unwrap_or}
-use Rattle.std.proofs.Common.{◌≡◌, ◌≤◌, ◌<◌, ℕ, suc, ◌+◌, ◌*◌, Bool, true, false, List, [], ◌∷◌, length, refl, arith}
+use Rattle.std.proofs.Common.{◌≡◌, ◌≤◌, ◌<◌, ℕ, suc, ◌*◌, Bool, true, false, List, [], ◌∷◌, length, refl, arith}
 use Rattle.std.proofs.Math.Bool.{and-true}
 use Rattle.std.proofs.lemmas.Bool.{and_from, le-leb, lt-ltb}
 use Rattle.std.proofs.lemmas.Slice.Eq.{bytes_eq-Decides}
 use Rattle.std.proofs.lemmas.Grind.{common_steps}
-use Rattle.adf_base.specs.Words.{block}
 use Rattle.adf_base.specs.declared.hash.Letters.{Letters}
 use Rattle.adf_blocks.specs.declared.layout.TheConstants.{BITMAP_FLAG, VALID}
 use Rattle.adf_blocks.specs.Sizes.{blocks, in_range}
@@ -31,10 +29,7 @@ none_stated image b = none_either (in_range image b && (word_in image (root_of i
 
 -- a block of an image is the same in it
 same_itself : (image : List ℕ) (b : ℕ) → b < blocks image → length image ≡ 512 * blocks image → is_same_block image image b ≡ true
-same_itself image b lt whole =
-    let inside = le-leb (b * 512 + 512) (length image) (omega arith) in
-    let alike : bytes_eq (block image b) (block image b) ≡ true = (bytes_eq-Decides (block image b) (block image b)).1 refl in
-    grind (arith, common_steps, and_from)
+same_itself image b lt whole = grind (arith, common_steps, le-leb, bytes_eq-Decides, and_from)
 
 first_given : (letters : Letters) (held : ℕ) (image : List ℕ) (b : ℕ) → b < blocks image → length image ≡ 512 * blocks image
     → is_given (before_first_by letters held image) image b ≡ nat_lt b held

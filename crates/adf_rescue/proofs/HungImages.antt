@@ -142,13 +142,7 @@ module _ {given : List ℕ} {w : Walk} {s : ℕ → Bool} {k : ℕ} {marks : Lis
 
   pub made_same : is_lost given w s k ≡ false → AreMade given w s (k + 1) marks
   unfolding has_lost_child
-  made_same kept = record {
-    length = are.length;
-    made = λ p lt.
-        are.made p lt
-        ∙ ((λ i. is_vacant given w s p && sym (or-false (has_lost_child given w s p k)) i)
-        ∙ rw add-one (λ i. is_vacant given w s p && (has_lost_child given w s p k || sym kept i && (word_in given k PARENT == p))));
-  }
+  made_same kept = grind (arith, common_steps, or-false, add-one)
 
 vacant_inside : (given : List ℕ) (w : Walk) (s : ℕ → Bool) (p : ℕ) → blocks given ≤ p → is_vacant given w s p ≡ false
 unfolding is_vacant

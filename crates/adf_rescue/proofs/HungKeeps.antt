@@ -57,11 +57,7 @@ at_second b h = record { length = h.length; others = λ c nb np. h.others c np n
 
 -- another word of the block stays
 word_other : (x : List ℕ) (b i v k : ℕ) → b < blocks x → i < 128 → k ≢ i → word_in (put_in x b i v) b k ≡ word_in x b k
-word_other x b i v k inside lt other =
-    let len = length-block x b (whole x b inside) in
-    let long : length (with_word (block x b) i v) ≡ 512 = length-with_word (block x b) i v (omega (arith, len, lt)) ∙ len in
-    ap (λ bs. word bs k) (block_written x b (with_word (block x b) i v) (whole x b inside) long)
-    ∙ word-with_word_other (block x b) i v k (omega (arith, len, lt)) other
+word_other x b i v k inside lt other = grind (arith, common_steps, length-block, whole, length-with_word, block_written, word-with_word_other)
 
 still : (x y : List ℕ) (b : ℕ) → length y ≡ length x → b < blocks x → b < blocks y
 still x y b e inside = omega (arith, e, inside)
@@ -151,11 +147,7 @@ module _ (given : List ℕ) (w : Walk) (s : ℕ → Bool) (len : is_image_len (l
   Keeps x y = (length y ≡ length x) × ((c : ℕ) → is_hung given w s c ≡ false → block y c ≡ block x c)
 
   keeps : {b : ℕ} {x y : List ℕ} → is_hung given w s b ≡ true → Touches b b x y → Keeps x y
-  keeps h t = (
-    t.length,
-    λ c out.
-        let ne : c ≢ _ = λ e. let yes = subst (λ i. is_hung given w s i ≡ true) (sym e) h in cc in t.others c ne ne,
-  )
+  keeps h t = grind (arith, common_steps)
 
   -- making ready changes what is hung alone
   ready_touches : (x : List ℕ) (b : ℕ) → length x ≡ length given → b < blocks given → Keeps x (ready_in given w s x b)

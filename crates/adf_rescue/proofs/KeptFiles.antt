@@ -1,12 +1,13 @@
 -- Files that are kept: they are whole, and share no block with what is kept before.
 -- Letters: i, j indices of verdicts; n the node of an entry; x, y additions; b a block, bs blocks.
-use Rattle.std.specs.Prelude.{◌==◌, ◌&&◌, cond, not, map, nat_lt, slice_get, slice_index_or}
+use Rattle.std.specs.Prelude.{◌==◌, ◌&&◌, cond, map, slice_get, slice_index_or}
 use Rattle.std.specs.Option.{unwrap_or}
 use Rattle.std.proofs.Common.{◌≡◌, ◌∙◌, ℕ, zero, suc, Bool, true, false, List, [], ◌∷◌, ◌++◌, inl, inr, Option, Some, None, Result, Ok, Err, ap, arith, refl}
 use Rattle.std.proofs.Common.{sym}
 use Rattle.std.proofs.lemmas.Bool.{and_parts, cases_lt, eqb-true, not-true}
 use Rattle.std.proofs.lemmas.List.{length_push}
 use Rattle.std.proofs.lemmas.Option.{slice_get_past}
+use Rattle.std.proofs.lemmas.Grind.{common_steps}
 use Rattle.adf_base.specs.declared.hash.Letters.{Letters}
 use Rattle.adf_tree.specs.Additions.{Addition}
 use Rattle.adf_tree.specs.declared.entry.Body.{Body, TheVariants.Dir, TheVariants.File}
@@ -15,7 +16,6 @@ use Rattle.adf_tree.proofs.Lists.{get_last}
 use Rattle.adf_names.specs.declared.meta.Meta.{Meta}
 use Rattle.adf_blocks.specs.declared.layout.TheConstants.{SECONDARY_TYPE, ST_DIR, ST_FILE}
 use Rattle.adf_blocks.specs.HeadBlock.{is_link}
-use Rattle.adf_blocks.specs.Sizes.{blocks}
 use Rattle.adf_volume.specs.Image.{word_in}
 use Rattle.adf_volume.specs.Lists.{At}
 use Rattle.adf_volume.specs.Made.{datas_in}
@@ -26,9 +26,8 @@ use Rattle.adf_findings.specs.Members.{owning_entry, parent_node, has_mark}
 use Rattle.adf_findings.specs.SoundMarks.{AreMarks}
 use Rattle.adf_findings.specs.Survey.{FindingValue}
 use Rattle.adf_rescue.specs.declared.left_out.Why.{Why, TheVariants.Damaged, TheVariants.Link}
-use Rattle.adf_rescue.specs.Rescue.{Basis, Ground, Verdict, added_marks, are_given, as_given, at_path, before_second_by, body_of, body_of_type, by_body}
-use Rattle.adf_rescue.specs.Rescue.{entry_headed, first_verdicts_by, is_added, is_given, is_of_kept_entry, is_same_block, new_path, second_verdicts_by}
-use Rattle.adf_rescue.specs.Rescue.{verdict_tree, unless_known, verdict, verdict_anew, verdicts}
+use Rattle.adf_rescue.specs.Rescue.{Basis, Ground, Verdict, added_marks, are_given, as_given, at_path, before_second_by, body_of, body_of_type, by_body, entry_headed, first_verdicts_by, is_added, is_given, is_of_kept_entry, is_same_block, new_path, second_verdicts_by, verdict_tree, unless_known, verdict, verdict_anew, verdicts}
+use Rattle.adf_findings.specs.Found.{owner}
 use Rattle.adf_rescue.specs.Rescue.Verdict.{adds}
 use Rattle.adf_rescue.proofs.RescuedTrees.{fitting_is}
 use Rattle.adf_rescue.proofs.Steps.{verdicts_count}
@@ -37,9 +36,7 @@ use Rattle.adf_rescue.proofs.Steps.{verdicts_count}
 
 body_at_path : (t : Tree) (n : ℕ) (meta : Meta) (body : Body) (o : Option (List (List ℕ))) (x : Addition) → at_path t n meta body o ≡ adds x
     → x.body ≡ body
-body_at_path t n meta body None x h = absurd cc
-body_at_path t n meta body (Some path) x h =
-    ap (λ (y : Addition). y.body) (sym (fitting_is _ (record { path = path; meta = meta; body = body }) x h))
+body_at_path t n meta body o x h = grind (arith, common_steps, fitting_is)
 
 body_in_verdict : (image : List ℕ) (n : ℕ) (t : Tree) (dir : Option (List (List ℕ))) (h : ℕ) (r : Result Body Why) (x : Addition)
     → by_body image n t dir h r ≡ adds x → r ≡ Ok x.body
@@ -52,9 +49,7 @@ unless_adds g (Some m) v x is = absurd cc
 
 pub stands_added : (g : Ground) (l : Basis) (vs : List Verdict) (n : ℕ) (x : Addition) → verdict g l vs n ≡ adds x
     → body_of (as_given g l) n ≡ Ok x.body
-stands_added g l vs n x is =
-    body_in_verdict l.image (blocks g.given) (verdict_tree g vs) (new_path vs (parent_node l.walk n)) (node_block l.walk n) (body_of (as_given g l) n) x
-    (unless_adds g (entry_headed g.walk (node_block l.walk n)) (verdict_anew g l vs n) x is)
+stands_added g l vs n x is = search (arith, body_in_verdict, unless_adds)
 
 -- a file that stands is whole
 
@@ -72,12 +67,7 @@ file_or false content bytes other none h = absurd (none h)
 
 pub whole_stands : (l : Basis) (n : ℕ) (bytes : List ℕ) → body_of l n ≡ Ok (File bytes)
     → (l.sound n ≡ true) × (word_in l.image (node_block l.walk n) SECONDARY_TYPE ≡ ST_FILE) × (bytes ≡ file_content (file_in l.image l.walk n))
-whole_stands l n bytes h =
-    let secondary = word_in l.image (node_block l.walk n) SECONDARY_TYPE in
-    let told = file_or (l.sound n && (secondary == ST_FILE)) (file_content (file_in l.image l.walk n)) bytes (body_of_type secondary)
-    (no_file secondary bytes) h in
-    let parts = and_parts (l.sound n) (secondary == ST_FILE) told.0 in
-    (parts.0, eqb-true secondary ST_FILE parts.1, told.1)
+whole_stands l n bytes h = grind (arith, common_steps, file_or, no_file, and_parts, eqb-true)
 
 -- the verdict at an index
 
@@ -130,9 +120,7 @@ given_at g image (c ∷ bs) zero b all at = ap (is_given g image) (sym at) ∙ (
 given_at g image (c ∷ bs) (suc k) b all at = given_at g image bs k b (and_parts (is_given g image c) _ all).1 at
 
 not_kept : (g : Ground) (image : List ℕ) (b : ℕ) → is_given g image b ≡ true → is_of_kept_entry g b ≡ false
-not_kept g image b given =
-    not-true (is_of_kept_entry g b) (and_parts (not (is_of_kept_entry g b)) _
-    (and_parts (is_same_block g.given image b) _ (and_parts (nat_lt b g.held) _ given).1).1).0
+not_kept g image b given = grind (arith, common_steps, not-true, and_parts)
 
 marked : (vs : List Verdict) (i : ℕ) (x : Addition) → slice_get vs i ≡ Some (adds x) → slice_index_or (map is_added vs) i false ≡ true
 marked [] i x at = absurd cc

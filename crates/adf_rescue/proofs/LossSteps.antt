@@ -3,7 +3,8 @@
 use Rattle.std.specs.List.{cons_option, filter_map}
 use Rattle.std.specs.Option.{option_and_then}
 use Rattle.std.specs.Prelude.{slice_get}
-use Rattle.std.proofs.Common.{◌≡◌, ◌≤◌, ◌∙◌, ◌+◌, ℕ, zero, suc, List, [], ◌∷◌, ◌++◌, Option, Some, None, add-one, ap, length, refl, sym, take, take_all}
+use Rattle.std.proofs.Common.{◌≡◌, ◌≤◌, ◌∙◌, ◌+◌, ℕ, zero, suc, List, [], ◌∷◌, ◌++◌, Option, Some, None, add-one, ap, length, refl, take, take_all, arith}
+use Rattle.std.proofs.lemmas.Grind.{common_steps}
 
 cons_append : {Y : Type 0} (o : Option Y) (xs ys : List Y) → cons_option o (xs ++ ys) ≡ cons_option o xs ++ ys
 cons_append None xs ys = refl
@@ -14,15 +15,12 @@ told_more : {X Y : Type 0} (h : X → Option Y) (fs : List X) (k : ℕ)
 told_more h [] zero = refl
 told_more h [] (suc k) = refl
 told_more h (x ∷ fs) zero = refl
-told_more h (x ∷ fs) (suc k) =
-    ap (cons_option (h x)) (told_more h fs k)
-    ∙ cons_append (h x) (filter_map h (take k fs)) (cons_option (option_and_then h (slice_get fs k)) [])
+told_more h (x ∷ fs) (suc k) = grind (arith, common_steps, cons_append, told_more h fs k)
 
 -- what the findings up to one more tell
 pub one_more : {X Y : Type 0} (h : X → Option Y) (fs : List X) (k : ℕ) (o : Option Y) (xs ys : List Y) → xs ≡ filter_map h (take k fs)
     → o ≡ option_and_then h (slice_get fs k) → ys ≡ xs ++ cons_option o [] → ys ≡ filter_map h (take (k + 1) fs)
-one_more h fs k o xs ys before one more =
-    more ∙ ((λ i. before i ++ cons_option (one i) []) ∙ (sym (told_more h fs k) ∙ ap (λ n. filter_map h (take n fs)) (sym (add-one k))))
+one_more h fs k o xs ys before one more = grind (arith, common_steps, told_more, add-one)
 
 -- what all findings tell
 pub all_told : {X Y : Type 0} (h : X → Option Y) (fs : List X) (k : ℕ) (xs : List Y) → xs ≡ filter_map h (take k fs) → length fs ≤ k

@@ -45,9 +45,7 @@ is_zero n e z = let clash : not (n == 0) ≡ false = ap not (eq-eqb n 0 z) in cc
 
 told_some : (image : List ℕ) (w : Walk) (b page : ℕ) (r : Option Bool) → ((a : ℕ) → Has w (Page (page_of b)) a → a ≡ page)
     → Has w (Page (page_of b)) page → IsSome r → IfSome r (λ t. IsTrue t ↔ IsFreeIn image w b) → r ≡ Some (is_set_in image page ((b - 2) % PAGE_BITS))
-told_some image w b page None one has some free = absurd cc
-told_some image w b page (Some true) one has some free = grind (arith, common_steps, not_zero)
-told_some image w b page (Some false) one has some free = grind (arith, common_steps, false_from_ne_true, is_zero)
+told_some image w b page r h k l m = grind (arith, common_steps, not_zero, false_from_ne_true, is_zero)
 
 told_none : (r : Option Bool) → (IsSome r → ⊥) → r ≡ None
 told_none None h = refl
@@ -93,8 +91,7 @@ module _ (image : List ℕ) (w : Walk) (h : ℕ) where
   pub none_free_more : (k : ℕ) → has_free_data_among image w h k ≡ false → is_stated_free image w (word_in image h (FIRST_POINTER - k)) ≡ false
       → has_free_data_among image w h (k + 1) ≡ false
   unfolding has_free_data_among
-  none_free_more k before here =
-      rw add-one (or_from (has_free_data_among image w h k) (is_stated_free image w (word_in image h (FIRST_POINTER - k))) before here)
+  none_free_more k before here = grind (arith, common_steps, add-one, or_from)
 
   pub one_free : (k n : ℕ) → k < n → is_stated_free image w (word_in image h (FIRST_POINTER - k)) ≡ true → has_free_data_among image w h n ≡ true
   unfolding has_free_data_among
@@ -134,11 +131,7 @@ module _ (image : List ℕ) (w : Walk) (p : ℕ) where
 
   -- its number, or that of the root
   pub number_known : unwrap_or (directory_at image w p) 0 ≤ heads w
-  number_known = by (directory_at image w p) refl
-    where
-      by : (o : Option ℕ) → directory_at image w p ≡ o → unwrap_or o 0 ≤ heads w
-      by None e = omega arith
-      by (Some n) e = directory_known n e
+  number_known = grind (arith, common_steps, directory_known)
 
 -- the marks of those that are settled
 
@@ -148,9 +141,7 @@ unfolding has_child
 entered_first w marks len none = record { length = len; entry = λ n le. none n }
 
 or_cond : (a b : Bool) → cond b true a ≡ (a || b)
-or_cond a true = sym (or-true a)
-or_cond true false = refl
-or_cond false false = refl
+or_cond a b = grind (arith, common_steps, or-true)
 
 pub entered_more : {w : Walk} {k p : ℕ} {marks more : List Bool} → AreEntered w k marks → p ≡ parent_node w (k + 1)
     → ((m : ℕ) → m < length marks → has_mark more m ≡ cond (p == m) true (has_mark marks m)) → length more ≡ length marks → AreEntered w (k + 1) more
@@ -181,43 +172,18 @@ pub unblamed_some : {w : Walk} {fs : List FindingValue} {k n : ℕ} {marks more 
     → Some x ≡ concern_of_nth w fs k → n ≡ node_of x
     → ((m : ℕ) → m < length marks → has_mark more m ≡ (has_mark marks m && not ((n == m) || (parent_node w n == m)))) → length more ≡ length marks
     → AreUnblamed w fs (k + 1) more
-unblamed_some {w} {fs} {k} {n} {marks} {more} {x} are is node put len =
-    unblamed_by w fs k marks more (Some x) are is
-    (λ m lt. put m lt ∙ (λ i. has_mark marks m && not ((node i == m) || (parent_node w (node i) == m)))) len
+unblamed_some {w} {fs} {k} {n} {marks} {more} {x} are is node put len = grind (arith, unblamed_by)
 
 -- the mark of the root, where it is in doubt
 
 module _ (mended : Bool) (w : Walk) (fs : List FindingValue) (marks : List Bool) (are : AreUnblamed w fs (length fs) marks) where
   pub settled_kept : is_root_doubtful mended fs ≡ false → AreSettled w (is_settled mended w fs) marks
-  settled_kept sure = record {
-    length = are.length;
-    settled = λ n le.
-        are.unblamed n le
-        ∙ (sym (and-true (has_child w n (heads w) && not (has_finding w fs n (length fs))))
-        ∙ (λ i. (has_child w n (heads w) && not (has_finding w fs n (length fs))) && not (none n i)));
-  }
-    where
-      none : (n : ℕ) → false ≡ ((n == 0) && is_root_doubtful mended fs)
-      none n = sym (and-false (n == 0)) ∙ (λ i. (n == 0) && sym sure i)
+  settled_kept sure = grind (arith, common_steps, and-true, and-false)
 
   pub settled_less : (more : List Bool) → is_root_doubtful mended fs ≡ true
       → ((m : ℕ) → m < length marks → has_mark more m ≡ cond (0 == m) false (has_mark marks m)) → length more ≡ length marks
       → AreSettled w (is_settled mended w fs) more
-  settled_less more doubt put len = record {
-    length = len ∙ are.length;
-    settled = λ n le. by n (put n (omega (arith, are.length, le))) le;
-  }
-    where
-      by : (n : ℕ) → has_mark more n ≡ cond (0 == n) false (has_mark marks n) → n ≤ heads w → has_mark more n ≡ is_settled mended w fs n
-      by zero is le =
-          is ∙ (sym (and-false (has_child w 0 (heads w) && not (has_finding w fs 0 (length fs))))
-          ∙ (λ i. (has_child w 0 (heads w) && not (has_finding w fs 0 (length fs))) && not (sym doubt i)))
-      by (suc n) is le =
-          let free : Bool = has_child w (suc n) (heads w) && not (has_finding w fs (suc n) (length fs)) in
-          let other : (suc n == 0) ≡ false = ne_eqb (suc n) 0 (λ e. cc) in
-          is
-          ∙ (cond-false (0 == suc n) false (has_mark marks (suc n)) (ne_eqb 0 (suc n) (λ e. cc))
-          ∙ (are.unblamed (suc n) le ∙ (sym (and-true free) ∙ (λ i. free && not (sym other i && is_root_doubtful mended fs)))))
+  settled_less more doubt put len = grind (arith, common_steps, and-false, ne_eqb, cond-false, and-true)
 
 -- a finding is of the root
 one_of_root : (xs : List Finding) → list_any (λ x. is_root (part_role x.part)) xs ≡ list_any (λ f. is_root f.part) (map finding_value xs)

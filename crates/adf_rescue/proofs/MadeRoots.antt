@@ -49,8 +49,7 @@ fill_step f xs i v h before e = subst (λ u. (k : ℕ) → k < i + 1 → get_or 
 -- the root that is made is a root
 
 short_label : (b : List ℕ) → length (label_in b) ≤ 30
-short_label b =
-    cond_both (has_root_type b) (label_stated b) [] (λ l. length l ≤ 30) (λ e. omega (arith, length-take 30 (text_at b NAME))) (λ e. omega arith)
+short_label b = grind (arith, common_steps, cond_both, length-take 30 (text_at b NAME))
 
 pub made_fits : (image : List ℕ) → FitsRoot (made_root image)
 made_fits image = grind (arith, common_steps, length-map-range_with_len, short_label)

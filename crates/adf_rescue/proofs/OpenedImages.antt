@@ -6,7 +6,7 @@ use Rattle.std.proofs.lemmas.Bool.{and_from, and_left, and_parts, and_right, cas
 use Rattle.std.proofs.lemmas.Bool.{not_from_true, or_from, or_left, or_right}
 use Rattle.std.proofs.lemmas.List.{drop-drop, get_or-take, length-take, take_all}
 use Rattle.std.proofs.lemmas.Grind.{common_steps}
-use Rattle.adf_base.specs.Words.{block, long_sum, with_bytes, word}
+use Rattle.adf_base.specs.Words.{block, long_sum, with_bytes}
 use Rattle.adf_base.specs.declared.hash.Letters.{Letters}
 use Rattle.adf_tree.specs.Tree.{Tree}
 use Rattle.adf_blocks.specs.declared.layout.TheConstants.{FIRST_SLOT, SLOTS}
@@ -66,8 +66,7 @@ pub begun_other : (image : List ℕ) → begins_with_dos image ≡ false → wit
 begun_other image h = cond-false (begins_with_dos image) image _ h
 
 pub length_begun : (image : List ℕ) → 4 ≤ length image → length (with_boot_type image) ≡ length image
-length_begun image long =
-    cond_both (begins_with_dos image) image _ (λ l. length l ≡ length image) (λ e. refl) (λ e. omega (arith, length-drop 4 image))
+length_begun image long = grind (arith, common_steps, cond_both, length-drop)
 
 rest_begun : (image : List ℕ) → drop 4 (with_boot_type image) ≡ drop 4 image
 rest_begun image = cond_both (begins_with_dos image) image _ (λ l. drop 4 l ≡ drop 4 image) (λ e. refl) (λ e. refl)
@@ -77,9 +76,7 @@ dos_begun image = cond_both (begins_with_dos image) image _ (λ l. begins_with_d
 
 -- bytes that are the same from a place on
 past : (xs ys : List ℕ) (n m : ℕ) → drop n xs ≡ drop n ys → n ≤ m → drop m xs ≡ drop m ys
-past xs ys n m e le =
-    let at : m ≡ n + (m - n) = omega arith in
-    ap (λ k. drop k xs) at ∙ sym (drop-drop (m - n) n xs) ∙ ap (drop (m - n)) e ∙ drop-drop (m - n) n ys ∙ ap (λ k. drop k ys) (sym at)
+past xs ys n m e le = grind (arith, common_steps, drop-drop (m - n) n xs, drop-drop (m - n) n ys)
 
 block_begun : (image : List ℕ) (b : ℕ) → 1 ≤ b → block (with_boot_type image) b ≡ block image b
 unfolding block
@@ -126,13 +123,7 @@ module _ (image : List ℕ) (len : is_image_len (length image) ≡ true) where
 
   same_table : (s : ℕ) → s < SLOTS → word_in image (root_of image) (FIRST_SLOT + s) < 2 ^ 32
       → word_in (rooted (with_boot_type image)) (root_of image) (FIRST_SLOT + s) ≡ word_in image (root_of image) (FIRST_SLOT + s)
-  same_table s lt small = elim (cases_Bool (has_root image)) [
-    | inl whole ↦ ap (λ b. word b (FIRST_SLOT + s)) (kept_middle whole)
-    | inr none ↦
-        ap (λ b. word b (FIRST_SLOT + s)) (made_middle none)
-        ∙ (made_slot (with_boot_type image) s lt (subst (λ b. word b (FIRST_SLOT + s) < 2 ^ 32) (sym same_middle) small)
-        ∙ ap (λ b. word b (FIRST_SLOT + s)) same_middle)
-  ]
+  same_table s lt small = grind (arith, cases_Bool, kept_middle, made_middle, made_slot, same_middle)
 
   middle_is_whole : (let b = block (rooted (with_boot_type image)) (root_of image) in has_root_type b && (long_sum b == 0)) ≡ true
   middle_is_whole = elim (cases_Bool (has_root image)) [
@@ -201,15 +192,7 @@ no_root_mended : (image : List ℕ) → is_image_len (length image) ≡ true →
 no_root_mended image len none = grind (arith, common_steps, and_from, not_from_false, and_right)
 
 pub root_opened : (image : List ℕ) → is_image_len (length image) ≡ true → has_root (opened image) ≡ true
-root_opened image len = elim (cases_Bool (is_mended image)) [
-  | inl mended ↦
-      ap (λ b. has_root_type b && (long_sum b == 0))
-      (middle_opened image ∙ ap (λ (l : List ℕ). block l (root_of image)) (opened_mended image mended)) ∙ middle_is_whole image len
-  | inr kept ↦ elim (cases_Bool (has_root image)) [
-    | inl whole ↦ ap has_root (opened_kept image kept) ∙ whole
-    | inr none ↦ let mended = no_root_mended image len none in absurd cc
-  ]
-]
+root_opened image len = grind (arith, cases_Bool, middle_opened, opened_mended, middle_is_whole, opened_kept, no_root_mended)
 
 -- a root of which the middle block says nothing has no label and no dates
 

@@ -1,11 +1,11 @@
 -- Surveys with no finding but that of an accepted type, which concerns no part: each entry is sound. And whether there are others.
 -- Letters: w the walk of the survey, fs its findings; f a finding; r, q roles; n a node, h the block of its header; c a cause.
-use Rattle.std.proofs.Common.{◌≡◌, ◌≢◌, ◌<◌, ◌≤◌, ℕ, List, [], ◌∷◌, ◌++◌, inl, inr, refl, sym, ap, subst, ◌∙◌, Bool, true, false, cond, Option, Some, None}
-use Rattle.std.proofs.Common.{append-nil, arith, length, length-append}
+use Rattle.std.proofs.Common.{◌≡◌, ◌≢◌, ◌<◌, ◌≤◌, ℕ, List, [], ◌∷◌, ◌++◌, inl, inr, refl, sym, ap, subst, ◌∙◌, Bool, true, false, cond, Option, Some, None, append-nil, arith, length, length-append}
 use Rattle.std.specs.Prelude.{◌↔◌}
 use Rattle.std.proofs.Math.Dec.{ltb}
 use Rattle.std.proofs.lemmas.Bool.{cases_lt, lt-ltb, ltb-true}
 use Rattle.std.proofs.lemmas.List.{nil_from_length}
+use Rattle.std.proofs.lemmas.Grind.{common_steps}
 use Rattle.adf_base.specs.declared.hash.Letters.{Letters}
 use Rattle.adf_blocks.specs.declared.cause.Cause.{Cause}
 use Rattle.adf_blocks.specs.Forms.{first_cause}
@@ -32,9 +32,7 @@ use Rattle.adf_findings.proofs.AllSound.{none_over}
 -- the finding of a type concerns no part, and is grave
 
 one_part : (b : Bool) (c : Cause) (f : FindingValue) → In (cond b (finding None 0 c ∷ []) []) f → f.part ≡ None
-one_part true c f (inl e) = ap (λ g. g.part) (sym e)
-one_part true c f (inr none) = absurd none
-one_part false c f none = absurd none
+one_part b c f h = grind (arith, common_steps)
 
 cause_part : (o : Option Cause) (f : FindingValue) → In (passed_of o) f → f.part ≡ None
 cause_part None f none = absurd none
@@ -60,9 +58,7 @@ passed_grave WithInternational image = cause_grave (first_cause (start_form imag
 
 none_of : (types : Types) (image : List ℕ) (fs : List FindingValue) (f : FindingValue) (r : Role) → fs ≡ passed types image → In fs f → f.part ≡ Some r
     → ⊥
-none_of types image fs f r clean i is =
-    let none = no_part types image f (subst (λ gs. In gs f) clean i) in
-    let clash : Some r ≡ None = sym is ∙ none in cc
+none_of types image fs f r clean i is = grind (arith, common_steps, no_part)
 
 pub typed_sound : (types : Types) (image : List ℕ) (w : Walk) (fs : List FindingValue) (n h : ℕ) → IsSurvey image w fs → fs ≡ passed types image
     → IsOfItsKind image w → HeadAt w n h → IsSound image w fs n h
@@ -102,13 +98,7 @@ module _ (types : Types) (image : List ℕ) (w : Walk) (fs : List FindingValue) 
   -- there is one where more are found than are passed
   pub fault_told : (few many : ℕ) (mended : Bool) → few ≡ length (passed types image) → many ≡ length fs → mended ≡ false
       → (ltb few many ≡ true) ↔ IsFaulty types image mended fs
-  fault_told few many mended known found kept = elim (cases_lt few many) [
-    | inl more ↦ ((λ t. inr (some_fault (omega arith))), (λ fault. lt-ltb few many more))
-    | inr none ↦ (
-      (λ t. absurd (omega (arith, ltb-true few many t))),
-      (λ fault. elim fault [ inl is ↦ absurd cc | inr some ↦ absurd (some (no_fault (omega arith))) ]),
-    )
-  ]
+  fault_told few many mended known found kept = grind (arith, common_steps, cases_lt, some_fault, lt-ltb, ltb-true, no_fault)
 
   -- of an image of which nothing is surveyed there is a finding that is a fault
   pub unread_fault : w ≡ [] → fs ≢ passed types image

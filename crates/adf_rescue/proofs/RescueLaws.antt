@@ -1,5 +1,5 @@
 -- Laws of verdicts: sound files stand, and one survey has one rescue.
-use Rattle.std.proofs.Common.{◌≡◌, ℕ, Bool, false, true, List, [], Ok, ap, subst, sym, ◌∙◌, arith}
+use Rattle.std.proofs.Common.{◌≡◌, ℕ, Bool, false, true, List, [], Ok, ap, arith}
 use Rattle.std.proofs.Math.Bool.{and-false}
 use Rattle.std.proofs.lemmas.Bool.{and_from, eq-eqb}
 use Rattle.std.proofs.lemmas.Grind.{common_steps}
@@ -49,15 +49,7 @@ same_basis image w fs s t a b = grind (arith, common_steps)
 
 -- an image has one survey as a rescue takes it
 pub one_basis : (image : List ℕ) (l m : Basis) → IsBasis image l → IsBasis image m → l ≡ m
-one_basis image l m x y =
-    let here = subst (λ i. IsSurvey i l.walk x.findings) x.of x.survey in
-    let there = subst (λ i. IsSurvey i m.walk y.findings) y.of y.survey in
-    let same = one_survey image l.walk m.walk x.findings y.findings here there in
-    let image_is : l.image ≡ m.image = x.of ∙ sym y.of in
-    let marks = subst (λ i. AreMarks i m.walk (grave y.findings) l.sound) image_is
-    (subst (λ gs. AreMarks l.image m.walk (grave gs) l.sound) same.1 (subst (λ w. AreMarks l.image w (grave x.findings) l.sound) same.0 x.marks)) in
-    let step : (i : List ℕ) (w : Walk) → Basis = λ i w. record { image = i; walk = w; sound = l.sound } in
-    ap (λ i. step i l.walk) image_is ∙ (ap (step m.image) same.0 ∙ same_basis m.image m.walk (grave y.findings) l.sound m.sound marks y.marks)
+one_basis image l m x y = grind (arith, one_survey, same_basis)
 
 -- nothing is lost without a finding
 pub nothing_lost : (image : List ℕ) (w : Walk) (fs : List FindingValue) → fs ≡ [] → (mended : Bool) → has_lost mended image w fs ≡ false

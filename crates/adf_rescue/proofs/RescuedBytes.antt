@@ -6,20 +6,20 @@ use Rattle.std.proofs.lemmas.Bool.{cond_both}
 use Rattle.std.proofs.lemmas.Fmt.{decimal_is_IsNumeral, length-decimal-le}
 use Rattle.std.proofs.lemmas.List.Elements.{All-append, All-cons, All-drop, All-from_get_or, All-from_recursion, All-nil, All-replicate, All-take}
 use Rattle.std.proofs.lemmas.Str.Parse.{digit_at}
-use Rattle.adf_base.specs.Words.{block, sealed, with_bytes, with_word}
+use Rattle.std.proofs.lemmas.Grind.{common_steps}
+use Rattle.adf_base.specs.Words.{block, with_bytes}
 use Rattle.adf_base.proofs.ByteLists.{AreBytes, IsByte, block_bytes, block_written_bytes, range_bytes, sealed_bytes, word_written, written_bytes}
-use Rattle.adf_blocks.specs.declared.layout.TheConstants.{CHECKSUM, FIRST_SLOT, NAME, NEXT_IN_CHAIN, PARENT, SLOTS}
+use Rattle.adf_blocks.specs.declared.layout.TheConstants.{CHECKSUM, FIRST_SLOT, NAME, SLOTS}
 use Rattle.adf_blocks.specs.Forms.{text_at}
 use Rattle.adf_blocks.specs.HeadBlock.{head_block}
 use Rattle.adf_blocks.specs.RootBlock.{label_stated, root_block}
 use Rattle.adf_blocks.specs.Sizes.{blocks, in_range}
 use Rattle.adf_blocks.proofs.ByteBlocks.{head_bytes, root_bytes}
-use Rattle.adf_volume.specs.Image.{root_of, word_in}
+use Rattle.adf_volume.specs.Image.{root_of}
 use Rattle.adf_volume.specs.Walk.{Walk}
 use Rattle.adf_findings.specs.Members.{owns}
 use Rattle.adf_findings.specs.Start.{has_root_type}
-use Rattle.adf_rescue.specs.Hung.{emptied, directory_end, home, hung, hung_at, hung_behind, hung_first, hung_in, hung_loose, is_hung, is_made, made_header}
-use Rattle.adf_rescue.specs.Hung.{put_in, readied, ready_in, sealed_in, slot_word}
+use Rattle.adf_rescue.specs.Hung.{emptied, directory_end, home, hung, hung_at, hung_behind, hung_first, hung_in, hung_loose, is_hung, is_made, made_header, put_in, readied, ready_in, sealed_in, slot_word}
 use Rattle.adf_rescue.specs.Lost.{is_lost, says_directory}
 use Rattle.adf_rescue.specs.MadeRoot.{has_root, label_in, made_root, middle_block, rooted}
 use Rattle.adf_boot_blocks.specs.BootBlocks.{begins_with_dos}
@@ -73,10 +73,7 @@ name_bytes : (p : ℕ) → p < 2 ^ 32 → AreBytes (lost_name p)
 name_bytes p small = All-append IsByte (codes "lost-") (decimal p) lost_bytes (digits_bytes p small)
 
 name_short : (p : ℕ) → p < 2 ^ 32 → length (lost_name p) ≤ 255
-name_short p small =
-    let len = length-append (codes "lost-") (decimal p) in
-    let short = length-decimal-le 10 p (omega arith) (omega arith) (omega arith) in
-    omega arith
+name_short p small = grind (arith, common_steps, length-append, codes, decimal, length-decimal-le)
 
 made_bytes : (root p : ℕ) → p < 2 ^ 32 → AreBytes (head_block (made_header root p))
 made_bytes root p small = head_bytes (made_header root p) (name_short p small) (name_bytes p small) (omega arith) (All-nil IsByte)
@@ -84,34 +81,26 @@ made_bytes root p small = head_bytes (made_header root p) (name_short p small) (
 -- the steps
 
 put_bytes : (image : List ℕ) (b i v : ℕ) → AreBytes image → AreBytes (put_in image b i v)
-put_bytes image b i v are =
-    block_written_bytes image b (with_word (block image b) i v) are (word_written (block image b) i v (block_bytes image b are))
+put_bytes image b i v are = grind (arith, common_steps, block_written_bytes, word_written, block_bytes)
 
 seal_bytes : (image : List ℕ) (b : ℕ) → AreBytes image → AreBytes (sealed_in image b)
-seal_bytes image b are =
-    block_written_bytes image b (sealed CHECKSUM (block image b)) are (sealed_bytes CHECKSUM (block image b) (block_bytes image b are))
+seal_bytes image b are = grind (arith, block_written_bytes, sealed_bytes CHECKSUM (block image b) (block_bytes image b are), block_bytes image b are)
 
 hung_at_bytes : (image : List ℕ) (b p e i : ℕ) → AreBytes image → AreBytes (hung_at image b p e i)
 unfolding hung_at
-hung_at_bytes image b p e i are =
-    seal_bytes _ e (put_bytes _ e i b (seal_bytes _ b (put_bytes _ b PARENT p (put_bytes image b NEXT_IN_CHAIN (word_in image e i) are))))
+hung_at_bytes image b p e i are = search (arith, seal_bytes, put_bytes)
 
 module _ (given : List ℕ) (w : Walk) (s : ℕ → Bool) where
   behind_bytes : (image : List ℕ) (b p e : ℕ) → AreBytes image → AreBytes (hung_behind image b p e)
-  behind_bytes image b p e are =
-      cond_both (in_range image e) (hung_at image b p e NEXT_IN_CHAIN) image AreBytes (λ t. hung_at_bytes image b p e NEXT_IN_CHAIN are) (λ t. are)
+  behind_bytes image b p e are = grind (arith, common_steps, cond_both, hung_at_bytes)
 
   hung_in_bytes : (image : List ℕ) (b p : ℕ) → AreBytes image → AreBytes (hung_in given w image b p)
   unfolding hung_in
-  hung_in_bytes image b p are =
-      cond_both (owns w (word_in image p (slot_word b))) (hung_behind image b p (directory_end given w p)) (hung_at image b p p (slot_word b)) AreBytes
-      (λ t. behind_bytes image b p (directory_end given w p) are) (λ t. hung_at_bytes image b p p (slot_word b) are)
+  hung_in_bytes image b p are = grind (arith, common_steps, cond_both, behind_bytes, hung_at_bytes)
 
   loose_bytes : (image : List ℕ) (b : ℕ) → AreBytes image → AreBytes (hung_loose given w s image b)
   unfolding hung_loose
-  loose_bytes image b are =
-      cond_both (is_hung given w s b) (hung_in given w image b (home given w s b)) image AreBytes
-      (λ t. hung_in_bytes image b (home given w s b) are) (λ t. are)
+  loose_bytes image b are = grind (arith, common_steps, cond_both, hung_in_bytes)
 
   emptied_bytes : (image : List ℕ) (b : ℕ) → AreBytes image → AreBytes (emptied image b)
   emptied_bytes image b are =
@@ -121,10 +110,7 @@ module _ (given : List ℕ) (w : Walk) (s : ℕ → Bool) where
 
   ready_bytes : (image : List ℕ) (b : ℕ) → b < 2 ^ 32 → AreBytes image → AreBytes (ready_in given w s image b)
   unfolding ready_in
-  ready_bytes image b small are =
-      cond_both (is_made given w s b) _ _ AreBytes
-      (λ t. block_written_bytes image b (head_block (made_header (root_of given) b)) are (made_bytes (root_of given) b small))
-      (λ t. cond_both (is_lost given w s b && says_directory given b) (emptied image b) image AreBytes (λ u. emptied_bytes image b are) (λ u. are))
+  ready_bytes image b small are = grind (arith, common_steps, cond_both, block_written_bytes, made_bytes, emptied_bytes)
 
   readied_bytes : AreBytes given → (k : ℕ) → k ≤ 2 ^ 32 → AreBytes (readied given w s k)
   unfolding readied

@@ -16,7 +16,7 @@ use Rattle.adf_blocks.specs.Sizes.{blocks}
 use Rattle.adf_volume.specs.Walk.{heads, node_block}
 use Rattle.adf_rescue.specs.declared.left_out.Why.{Why, TheVariants.NoRoom}
 use Rattle.adf_rescue.specs.Rescue.{Ground, Basis, Verdict, verdict_addition, verdict_additions, at_path, before_first_by, before_second_by, by_body}
-use Rattle.adf_rescue.specs.Rescue.{entry_headed, lost_name}
+use Rattle.adf_rescue.specs.Rescue.{entry_headed}
 use Rattle.adf_rescue.specs.Rescue.{path_by, path_with_room, rescued_additions_by, rescued_tree_by, verdict_tree, unless_known, verdict, verdict_anew, verdicts}
 use Rattle.adf_rescue.specs.Rescue.Verdict.{adds, knows, leaves}
 use Rattle.adf_rescue.proofs.Steps.{additions_more, tree_more}
@@ -40,9 +40,7 @@ room_either t None other path one two h = two path h
 
 room_by : (t : Tree) (dir : Option (List (List ℕ))) (name : List ℕ) (h : ℕ) (path : List (List ℕ)) → path_by t dir name h ≡ Some path
     → IsOk (room_for_by t.letters t.entries path)
-room_by t None name h path is = absurd cc
-room_by t (Some dir) name h path is =
-    room_either t (path_with_room t dir name) (path_with_room t dir (lost_name h)) path (room_in t dir name) (room_in t dir (lost_name h)) is
+room_by t dir name h path k = search (arith, room_either, room_in)
 
 -- so has an addition
 
@@ -103,9 +101,7 @@ tree_of_verdicts : (g : Ground) (l : Basis) (k : ℕ) → IsTreeOfBy g.letters (
     (verdict_additions g.verdicts)
     → IsTreeOfBy g.letters (verdict_tree g (verdicts g l k)).entries (verdict_additions g.verdicts ++ verdict_additions (verdicts g l k))
 tree_of_verdicts g l zero h = nothing_yet g h
-tree_of_verdicts g l (suc k) h =
-    let vs : List Verdict = verdicts g l k in
-    grown_by g vs (verdict g l vs (suc k)) (tree_of_verdicts g l k h) (room_of_verdict g l vs (suc k))
+tree_of_verdicts g l (suc k) h = search (arith, grown_by, room_of_verdict, tree_of_verdicts g l k h)
 
 pub tree_of_rescue : (letters : Letters) (held : ℕ) (a : Basis) (b : Option Basis)
     → IsTreeOfBy letters (rescued_tree_by letters held a b).entries (rescued_additions_by letters held a b)

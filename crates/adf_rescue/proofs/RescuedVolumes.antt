@@ -2,8 +2,7 @@
 -- Letters: g what is taken before a survey, l the survey, vs the verdicts on its entries so far, v one more; n a number of blocks;
 -- k a number of entries; h the block of a header; m metadata; b the body of an entry, or why it is left out; o a path, if there is one;
 -- x, y additions; a the survey of the image, second the second one, if there is one.
-use Rattle.std.proofs.Common.{◌≡◌, ◌<◌, ◌≤◌, ◌+◌, ◌-◌, ◌^◌, ◌++◌, ◌∙◌, ◌==◌, ◌&&◌, ℕ, zero, suc, Bool, true, false, List, [], ◌∷◌, Option, Some, None, Result}
-use Rattle.std.proofs.Common.{Ok, Err, ap, arith, append-nil, cond, length, refl, subst, sym}
+use Rattle.std.proofs.Common.{◌≡◌, ◌<◌, ◌≤◌, ◌+◌, ◌-◌, ◌^◌, ◌++◌, ◌∙◌, ◌==◌, ◌&&◌, ℕ, zero, suc, Bool, true, false, List, [], ◌∷◌, Option, Some, None, Result, Ok, Err, ap, arith, append-nil, cond, length, refl, subst, sym}
 use Rattle.std.specs.Prelude.{IfSome, nat_le}
 use Rattle.std.specs.List.{All}
 use Rattle.std.proofs.lemmas.Bool.{and_parts, cond_both, Decides.nat_tests}
@@ -20,15 +19,14 @@ use Rattle.adf_names.specs.declared.meta.Meta.{Meta}
 use Rattle.adf_tree.specs.Additions.{Addition}
 use Rattle.adf_tree.specs.Bounds.{IsBounded, IsData}
 use Rattle.adf_tree.specs.Tree.{Tree, last_of, with_entry_by}
-use Rattle.adf_tree.specs.declared.entry.Body.{Body, TheVariants.Dir, TheVariants.File}
+use Rattle.adf_tree.specs.declared.entry.Body.{Body}
 use Rattle.adf_tree.proofs.BoundedEntries.{IsBoundedAddition, bounded_additions_by}
 use Rattle.adf_drafts.proofs.NextEntries.{last_is}
-use Rattle.adf_blocks.specs.declared.layout.TheConstants.{ALTERED, COMMENT, CREATED, DATE, NAME, PROTECTION, SECONDARY_TYPE, SIZE, ST_DIR, ST_FILE}
+use Rattle.adf_blocks.specs.declared.layout.TheConstants.{ALTERED, COMMENT, CREATED, DATE, NAME, PROTECTION}
 use Rattle.adf_blocks.specs.Forms.{stamp_at, text_at}
 use Rattle.adf_blocks.specs.HeadBlock.{meta_stated}
 use Rattle.adf_blocks.specs.Sizes.{blocks, is_allowed}
-use Rattle.adf_volume.specs.Image.{content, joined, kind_of, name_of, root_of, word_in}
-use Rattle.adf_volume.specs.Made.{datas_in}
+use Rattle.adf_volume.specs.Image.{content, name_of, root_of}
 use Rattle.adf_volume.specs.Walk.{heads, node_block}
 use Rattle.adf_volume.proofs.Sizes.{size_low}
 use Rattle.adf_findings.specs.Files.{file_content, file_in}
@@ -39,9 +37,7 @@ use Rattle.adf_build.proofs.AllocatedBlocks.{reserved_below}
 use Rattle.adf_build.proofs.LaidWrites.{CanHold, volume_blocks}
 use Rattle.adf_build.proofs.WholeVolume.{volume_laid}
 use Rattle.adf_rescue.specs.declared.left_out.Why.{Why, TheVariants.NoRoom}
-use Rattle.adf_rescue.specs.Rescue.{Basis, Ground, Verdict, verdict_addition, verdict_additions, as_given, at_path, before_first_by, before_second_by, body_of}
-use Rattle.adf_rescue.specs.Rescue.{body_of_type, by_body, entry_headed, first_verdicts_by, lost_name, path_by, path_with_room, new_path, rescued_additions_by}
-use Rattle.adf_rescue.specs.Rescue.{rescued_tree_by, second_verdicts_by, verdict_tree, unless_known, verdict, verdict_anew, verdicts}
+use Rattle.adf_rescue.specs.Rescue.{Basis, Ground, Verdict, verdict_addition, verdict_additions, as_given, at_path, before_first_by, before_second_by, body_of, body_of_type, by_body, entry_headed, first_verdicts_by, lost_name, path_by, path_with_room, new_path, rescued_additions_by, rescued_tree_by, second_verdicts_by, verdict_tree, unless_known, verdict, verdict_anew, verdicts}
 use Rattle.adf_rescue.specs.Rescue.Verdict.{adds, knows, leaves}
 use Rattle.adf_rescue.proofs.RescuedTrees.{fitting_is, or_else, tree_of_rescue}
 use Rattle.adf_rescue.proofs.Steps.{additions_more, tree_more}
@@ -52,10 +48,7 @@ use Rattle.adf_volume.proofs.BoundedFits.{stamp_small}
 
 -- the path has a valid name last
 named_in : (t : Tree) (dir : List (List ℕ)) (name : List ℕ) (path : List (List ℕ)) → path_with_room t dir name ≡ Some path → is_name (last_of path) ≡ true
-named_in t dir name path h =
-    let x = cond_some _ (dir ++ name ∷ []) path h in
-    let valid : is_name name ≡ true = (and_parts (is_name name) _ x.0).0 in
-    ap is_name (ap last_of (sym x.1) ∙ last_is dir name) ∙ valid
+named_in t dir name path h = grind (arith, common_steps, cond_some, and_parts, last_is)
 
 named_either : (o other : Option (List (List ℕ))) (path : List (List ℕ)) → ((p : List (List ℕ)) → o ≡ Some p → is_name (last_of p) ≡ true)
     → ((p : List (List ℕ)) → other ≡ Some p → is_name (last_of p) ≡ true) → or_else o other ≡ Some path → is_name (last_of path) ≡ true
@@ -81,13 +74,7 @@ fits_so false x y h = absurd cc
 
 added_at : (t : Tree) (n : ℕ) (meta : Meta) (body : Body) (o : Option (List (List ℕ))) (x : Addition) → at_path t n meta body o ≡ adds x
     → IsAdded t n o meta (Ok body) x
-added_at t n meta body None x h = absurd cc
-added_at t n meta body (Some path) x h =
-    let y : Addition = record { path = path; meta = meta; body = body } in
-    let same : y ≡ x = fitting_is (nat_le (blocks_needed (with_entry_by t.letters t path meta body) n) (n - 2)) y x h in
-    let room : nat_le (blocks_needed (with_entry_by t.letters t path meta body) n) (n - 2) ≡ true = fits_so _ y x h in
-    let fits : blocks_needed (with_entry_by t.letters t path meta body) n ≤ n - 2 = grind (arith, nat_tests) in
-    subst (IsAdded t n (Some path) meta (Ok body)) same (record { path = refl; meta = refl; body = refl; fits = fits })
+added_at t n meta body o x h = grind (arith, common_steps, fitting_is, fits_so, nat_tests)
 
 added_by : (image : List ℕ) (n : ℕ) (t : Tree) (dir : Option (List (List ℕ))) (h : ℕ) (b : Result Body Why) (x : Addition)
     → by_body image n t dir h b ≡ adds x → IsAdded t n (path_by t dir (name_of image h) h) (meta_stated (block image h)) b x
@@ -101,38 +88,22 @@ module _ (g : Ground) (l : Basis) where
 
   added_so : (vs : List Verdict) (n : ℕ) (x : Addition) → verdict g l vs n ≡ adds x
       → IsAdded (verdict_tree g vs) (blocks g.given) (path_of vs n) (meta_stated (block l.image (node_block l.walk n))) (body_of (as_given g l) n) x
-  added_so vs n x is =
-      added_by l.image (blocks g.given) (verdict_tree g vs) (new_path vs (parent_node l.walk n)) (node_block l.walk n) (body_of (as_given g l) n) x
-      (unless_adds g (entry_headed g.walk (node_block l.walk n)) (verdict_anew g l vs n) x is)
+  added_so vs n x is = search (arith, added_by, unless_adds)
 
 -- the bounds of what is added
 
 meta_bounded : (bs : List ℕ) → AreBytes bs → IsBoundedMeta (meta_stated bs)
-meta_bounded bs are = record {
-  comment = omega (arith, length-take 79 (text_at bs COMMENT));
-  protect = word_small bs PROTECTION are;
-  stamp = stamp_small bs DATE are;
-}
+meta_bounded bs are = grind (arith, common_steps, stamp_small, length-take 79 (text_at bs COMMENT), word_small bs PROTECTION)
 
 content_bounded : (l : Basis) (n : ℕ) → AreBytes l.image → length (file_content (file_in l.image l.walk n)) < 2 ^ 63
 unfolding content
-content_bounded l n are =
-    let h : ℕ = node_block l.walk n in
-    let size : word_in l.image h SIZE < 2 ^ 32 = word_small (block l.image h) SIZE (block_bytes l.image h are) in
-    let few = length-take (word_in l.image h SIZE) (joined l.image (kind_of l.image) (datas_in l.walk n)) in
-    omega arith
+content_bounded l n are = grind (arith, common_steps, word_small, block_bytes, length-take)
 
 type_data : (secondary : ℕ) (body : Body) → body_of_type secondary ≡ Ok body → IsData body
-type_data secondary body =
-    cond_both (secondary == ST_DIR) (Ok Dir) (Err _) (λ (r : Result Body Why). r ≡ Ok body → IsData body)
-    (λ e is. let one : Dir ≡ body = cc in subst IsData one tt) (λ e is. absurd cc)
+type_data secondary body = grind (arith, common_steps, cond_both)
 
 body_bounded : (l : Basis) (n : ℕ) (body : Body) → AreBytes l.image → body_of l n ≡ Ok body → IsData body
-body_bounded l n body are =
-    let bytes : List ℕ = file_content (file_in l.image l.walk n) in
-    let secondary : ℕ = word_in l.image (node_block l.walk n) SECONDARY_TYPE in
-    cond_both (l.sound n && (secondary == ST_FILE)) (Ok (File bytes)) (body_of_type secondary) (λ (r : Result Body Why). r ≡ Ok body → IsData body)
-    (λ e is. let one : File bytes ≡ body = cc in subst IsData one (content_bounded l n are)) (λ e is. type_data secondary body is)
+body_bounded l n body are = grind (arith, common_steps, cond_both, content_bounded, type_data)
 
 added_bounded : (v : Verdict) → ((x : Addition) → v ≡ adds x → IsBoundedAddition x) → All IsBoundedAddition (verdict_addition v)
 added_bounded (adds x) each = All-cons IsBoundedAddition x [] (each x refl) (All-nil IsBoundedAddition)
@@ -191,19 +162,14 @@ FitsIn n t = blocks_needed t n ≤ n - 2
 
 nothing_fits : (letters : Letters) (held : ℕ) (image : List ℕ) → is_allowed (blocks image) ≡ true
     → FitsIn (blocks image) (verdict_tree (before_first_by letters held image) [])
-nothing_fits letters held image allowed =
-    let low = size_low (blocks image) allowed in
-    let below = reserved_below (blocks image) low in
-    omega arith
+nothing_fits letters held image allowed = grind (arith, common_steps, size_low, reserved_below)
 
 same_tree : (g : Ground) (vs : List Verdict) (v : Verdict) → verdict_addition v ≡ [] → verdict_tree g (vs ++ v ∷ []) ≡ verdict_tree g vs
 same_tree g vs v none = grind (arith, common_steps, additions_more, append-nil)
 
 fits_on : (g : Ground) (vs : List Verdict) (v : Verdict) (n : ℕ) → FitsIn n (verdict_tree g vs)
     → ((x : Addition) → v ≡ adds x → FitsIn n (with_entry_by g.letters (verdict_tree g vs) x.path x.meta x.body)) → FitsIn n (verdict_tree g (vs ++ v ∷ []))
-fits_on g vs (adds x) n before each = subst (FitsIn n) (sym (tree_more g vs x)) (each x refl)
-fits_on g vs (leaves why) n before each = subst (FitsIn n) (sym (same_tree g vs (leaves why) refl)) before
-fits_on g vs (knows place) n before each = subst (FitsIn n) (sym (same_tree g vs (knows place) refl)) before
+fits_on g vs v n h k = grind (arith, common_steps, tree_more, same_tree)
 
 verdicts_fit : (g : Ground) (l : Basis) → FitsIn (blocks g.given) (verdict_tree g []) → (k : ℕ) → FitsIn (blocks g.given) (verdict_tree g (verdicts g l k))
 verdicts_fit g l begun zero = begun

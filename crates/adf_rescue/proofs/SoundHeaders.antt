@@ -1,17 +1,17 @@
 -- The entries of a survey with no finding but that of an accepted type: what their headers tell is what the tree of the walk has.
 -- Letters: w the walk of the survey, fs its findings; sound the marks; n a node, i its index; b the block of its header; bs a block's bytes.
-use Rattle.std.proofs.Common.{◌≡◌, ◌⊎◌, ◌∙◌, ℕ, suc, List, inl, inr, ◌<◌, ◌≤◌, take, refl, arith, Bool, true, false, cond, Result, Ok, Err}
+use Rattle.std.proofs.Common.{◌≡◌, ◌⊎◌, ◌∙◌, ℕ, suc, List, inl, inr, ◌<◌, ◌≤◌, refl, arith, Bool, true, false, cond, Result, Ok, Err}
 use Rattle.std.proofs.lemmas.Bool.{and_from, and_right, eq-eqb, ne_eqb}
 use Rattle.std.proofs.lemmas.List.{take_all}
 use Rattle.std.proofs.lemmas.Grind.{common_steps}
-use Rattle.adf_base.specs.Words.{block, word}
+use Rattle.adf_base.specs.Words.{block}
 use Rattle.adf_base.specs.declared.hash.Letters.{Letters}
 use Rattle.adf_tree.specs.declared.entry.Body.{Body, TheVariants.Dir}
 use Rattle.adf_tree.specs.declared.entry.Entry.{Entry}
 use Rattle.adf_names.specs.declared.kind.Kind.{Kind}
 use Rattle.adf_names.specs.Texts.{is_name}
-use Rattle.adf_blocks.specs.declared.layout.TheConstants.{COMMENT, DATE, NAME, PROTECTION, SECONDARY_TYPE, ST_DIR, ST_FILE}
-use Rattle.adf_blocks.specs.Forms.{stamp_at, text_at}
+use Rattle.adf_blocks.specs.declared.layout.TheConstants.{NAME, SECONDARY_TYPE, ST_DIR, ST_FILE}
+use Rattle.adf_blocks.specs.Forms.{text_at}
 use Rattle.adf_blocks.specs.HeadBlock.{is_link, meta_stated}
 use Rattle.adf_blocks.specs.RootBlock.{label_stated}
 use Rattle.adf_blocks.specs.Sizes.{blocks}
@@ -46,16 +46,12 @@ use Rattle.adf_rescue.proofs.GivenBlocks.{all_held, first_given_all}
 pub label_whole : (image : List ℕ) → AllHold (root_demands image (root_of image))
     → label_stated (block image (root_of image)) ≡ name_of image (root_of image)
 unfolding name_of
-label_whole image h =
-    take_all 30 (text_at (block image (root_of image)) NAME) (label_short image h)
+label_whole image h = grind (arith, common_steps, take_all 30 (text_at (block image (root_of image)) NAME) (label_short image h), label_short image h)
 
 meta_whole : (letters : Letters) (image : List ℕ) (kind : Kind) (b up s : ℕ) → AllHold (head_demands_by letters image kind b up s)
     → meta_stated (block image b) ≡ meta_of image b
 unfolding meta_of
-meta_whole letters image kind b up s h =
-    let bs : List ℕ = block image b in
-    let same : take 79 (text_at bs COMMENT) ≡ text_at bs COMMENT = take_all 79 (text_at bs COMMENT) (comment_short letters image kind b up s h) in
-    λ i. record { comment = same i; protect = word bs PROTECTION; stamp = stamp_at bs DATE }
+meta_whole letters image kind b up s h = search (arith, take_all, comment_short)
 
 -- a sound file and a directory stand, with the body that the tree has
 

@@ -6,7 +6,7 @@ use Rattle.std.proofs.lemmas.List.Sums.{fold_push}
 use Rattle.std.proofs.lemmas.Grind.{flat_map-append, common_steps}
 use Rattle.std.proofs.lemmas.List.{map-append, append-nil, append_assoc, get_or_append_left, get_or_past, get_or_push, length_push, nil_from_length}
 use Rattle.std.proofs.lemmas.Option.{slice_get_past}
-use Rattle.adf_tree.specs.Additions.{Addition, with_addition_by}
+use Rattle.adf_tree.specs.Additions.{Addition}
 use Rattle.adf_drafts.specs.declared.draft.Room.{Room}
 use Rattle.adf_drafts.specs.Draft.{DraftValue, IsDirectoryOf, IsRoomFor}
 use Rattle.adf_tree.specs.declared.entry.Body.{TheVariants.Dir, TheVariants.File, Body}
@@ -42,9 +42,7 @@ marks_more vs v = ap (λ bs. false ∷ bs) (map-append is_added vs (v ∷ []))
 
 pub left_out_more : (n : ℕ) (vs : List Verdict) (v : Verdict) → left_out_from n (vs ++ v ∷ []) ≡ left_out_from n vs ++ left_out_by (length vs + n) v
 left_out_more n [] v = let at : n ≡ 0 + n = omega arith in rw (append-nil (left_out_by n v)) (ap (λ k. left_out_by k v) at)
-left_out_more n (x ∷ xs) v =
-    let at : length xs + suc n ≡ suc (length xs) + n = omega arith in
-    rw (left_out_more (suc n) xs v, at) (sym (append_assoc (left_out_by n x) (left_out_from (suc n) xs) (left_out_by (suc (length xs) + n) v)))
+left_out_more n (x ∷ xs) v = grind (arith, common_steps, append_assoc, left_out_more (suc n) xs v)
 
 -- the places of one more node
 pub places_more : (d : DraftValue) (vs : List Verdict) (v : Verdict) (ps : List (Option ℕ)) (place : Option ℕ) → length ps ≡ length vs + 1
@@ -70,10 +68,7 @@ places_more d vs v ps place long old new (suc i) =
 -- a directory that is kept in the draft keeps its place
 pub kept_place : (d e : DraftValue) → ((dir : List (List ℕ)) (m : ℕ) → IsDirectoryOf d dir m → IsDirectoryOf e dir m)
     → (o : Option (List (List ℕ))) (place : Option ℕ) → IsPlace d o place → IsPlace e o place
-kept_place d e dirs (Some dir) (Some m) h = dirs dir m h
-kept_place d e dirs (Some dir) None h = h
-kept_place d e dirs None (Some m) h = h
-kept_place d e dirs None None h = h
+kept_place d e h o place k = grind (arith, common_steps)
 
 -- the room of a path
 pub room_some : (d : DraftValue) (o : Option (List (List ℕ))) (room : Room) → IsRoomOf d o (Some room)
@@ -135,11 +130,7 @@ none_more g vs r s n v place is at none unmarked new d k hd kn kp l before ps ad
 
 pub tree_more : (g : Ground) (vs : List Verdict) (x : Addition) → verdict_tree g (vs ++ adds x ∷ [])
     ≡ with_entry_by g.letters (verdict_tree g vs) x.path x.meta x.body
-tree_more g vs x =
-    let more = additions_more vs (adds x) in
-    let joined = append_assoc (verdict_additions g.verdicts) (verdict_additions vs) (x ∷ []) in
-    let grown = fold_push (with_addition_by g.letters) [] (verdict_additions g.verdicts ++ verdict_additions vs) x in
-    rw (more, ← joined, grown) refl
+tree_more g vs x = grind (arith, additions_more, append_assoc, fold_push)
 
 -- blocks: `left` of `free` are left beside `used`, `real` are asked for, as `cost` tells; `most` and `fixed` are all blocks and those of no entry
 room_left : (left used free most fixed cost real : ℕ) → left + used ≡ free → free ≡ most - (1 + fixed) → left < 2 ^ 32 → cost ≡ min real (2 ^ 64 - 1)
@@ -218,9 +209,7 @@ verdicts_more g l k = rw add-one refl
 
 pub verdicts_count : (g : Ground) (l : Basis) (k : ℕ) → length (verdicts g l k) ≡ k
 verdicts_count g l zero = refl
-verdicts_count g l (suc k) =
-    let vs : List Verdict = verdicts g l k in
-    omega (arith, length_push vs (verdict g l vs (suc k)), verdicts_count g l k)
+verdicts_count g l (suc k) = grind (arith, common_steps, length_push, verdicts_count g l k)
 
 pub next_is : (g : Ground) (l : Basis) (k : ℕ) → k + 1 ≤ heads l.walk → ComesNext l.walk (verdicts g l k) (k + 1)
 next_is g l k le = record { number = omega (arith, verdicts_count g l k); within = le }
@@ -234,17 +223,13 @@ none_added g vs r is none = nil_from_length (verdict_additions g.verdicts ++ ver
 -- the state before a second survey has its letters, and its number of blocks that are held
 pub own_terms : (letters : Letters) (held : ℕ) (a : Basis) (r : Salvage) → IsSalvage (before_second_by letters held a) [] r
     → IsSalvage (before_second_by r.draft.tree.letters r.held a) [] r
-own_terms letters held a r is =
-    let own : r.draft.tree.letters ≡ letters = ap (λ (t : Tree). t.letters) is.tree in
-    subst (λ l. IsSalvage (before_second_by l r.held a) [] r) (sym own) (subst (λ h. IsSalvage (before_second_by letters h a) [] r) (sym is.held) is)
+own_terms letters held a r is = grind (arith, common_steps)
 
 -- a state behind a second survey, by letters and a number of blocks that are its own
 pub with_terms : (own letters : Letters) (mine held : ℕ) (a : Basis) (b : Option Basis) (r : Salvage) → own ≡ letters → mine ≡ held
     → IsSalvage (before_second_by own mine a) (second_verdicts_by own mine a b) r
     → IsSalvage (before_second_by letters held a) (second_verdicts_by letters held a b) r
-with_terms own letters mine held a b r same all is =
-    subst (λ l. IsSalvage (before_second_by l held a) (second_verdicts_by l held a b) r) same
-    (subst (λ h. IsSalvage (before_second_by own h a) (second_verdicts_by own h a b) r) all is)
+with_terms own letters mine held a b r same all is = grind (arith, common_steps)
 
 -- the tree of the additions fits
 pub buildable : (t : Tree) (left n m : ℕ) → m ≡ n → is_allowed m ≡ true → 1 + reserved m ≤ m - 2

@@ -164,11 +164,7 @@ module _ (types : Types) (held : ℕ) (image : List ℕ) (w : Walk) (fs : List F
 
   -- the first entries have the blocks that they need
   front_room : (k : ℕ) → 1 + reserved (blocks image) + entries_blocks (kind_of image) (take k all) ≤ blocks image - 2
-  front_room k =
-      let needed : 1 + reserved (blocks image) + entries_blocks (kind_of image) all ≤ blocks image - 2 =
-      fit_room image (tree_in_by ls image w) (layout_in w) fit in
-      let fewer = front_blocks (kind_of image) k all in
-      omega arith
+  front_room k = search (arith, fit_room, front_blocks)
 
   next_front : (k : ℕ) (vs : List Verdict) → k < heads w → IsFront ls all k vs
       → IsFront ls all (suc k) (vs ++ verdict (before_first_by ls held image) basis vs (suc k) ∷ [])

@@ -1,14 +1,13 @@
 use Rattle.std.proofs.Common.{ap, arith, length}
 use Rattle.std.proofs.lemmas.List.{length-map}
+use Rattle.std.proofs.lemmas.Grind.{common_steps}
 use Rattle.adf_findings.specs.Parts.{finding_value}
 use Rattle.adf_rescue.specs.Losses.{lost_header}
 use Rattle.adf_rescue.proofs.LossSteps.{all_told, one_more}
 use Rattle.adf_rescue.proofs.losses.lost_headers.Goals as goal
 
 pub loop-k-preserved : goal.loop-k-preserved
-loop-k-preserved c = λ w fs survey b is.
-    one_more (lost_header w b) fs c.loop-k.k c.lost_header.result c.loop-k.lost.items _ (c.loop-k.invariant w fs survey b is)
-    (c.lost_header.ensures w fs survey b is) c.in_ok-push_some.ensures
+loop-k-preserved c = grind (arith, common_steps, one_more)
 
 pub returns : goal.returns
 returns c = λ w fs survey b is.

@@ -38,9 +38,7 @@ returns-clause-second_left_out c = λ w fs sound survey marks b is.
     marks b is).left_out
 
 pub returns-in_err-salvage-clause-begun : goal.returns-in_err-salvage-clause-begun
-returns-in_err-salvage-clause-begun c = λ w fs survey.
-    on_err c.from_residual-in_err-salvage.result (λ none. let not = (c.in-Some.ensures.some w fs survey).1 none in absurd cc)
+returns-in_err-salvage-clause-begun c = grind (arith, on_err)
 
 pub returns-in_err-begun-clause-begun : goal.returns-in_err-begun-clause-begun
-returns-in_err-begun-clause-begun c = λ w fs survey.
-    on_err c.from_residual.result (λ none. let not = (c.in-Some.ensures.some w fs survey).1 none in absurd cc)
+returns-in_err-begun-clause-begun c = grind (arith, on_err)

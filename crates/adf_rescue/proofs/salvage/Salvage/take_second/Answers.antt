@@ -1,4 +1,5 @@
-use Rattle.std.proofs.Common.{◌≡◌, ◌≤◌, ◌∙◌, Some, None, arith, subst, sym}
+use Rattle.std.proofs.Common.{◌≡◌, ◌≤◌, ◌∙◌, Some, arith, subst, sym}
+use Rattle.std.proofs.lemmas.Grind.{common_steps}
 use Rattle.adf_volume.specs.Walk.{node_block}
 use Rattle.adf_findings.specs.Survey.{IsSurvey}
 use Rattle.adf_rescue.specs.Rescue.{entry_headed}
@@ -13,9 +14,4 @@ returns-in-Some c = λ w fs sound survey marks g hs vs given first is next.
     rw known (c.keep_known.ensures g vs is)
 
 pub returns-in_ok-standing-in-None : goal.returns-in_ok-standing-in-None
-returns-in_ok-standing-in-None c = λ w fs sound survey marks g hs vs given first is next.
-    let low : 1 ≤ c.args.n = omega (arith, next.number) in
-    let here = subst (λ image. IsSurvey image g.walk hs) given first in
-    let new : entry_headed g.walk (node_block w c.args.n) ≡ None = sym (c.known_as.ensures g.walk hs here w fs survey low next.within) ∙ c.in-None.is in
-    let standing = c.in_ok-standing-in-None.ensures w fs sound survey marks g hs given first is.held is.kept low next.within in
-    c.keep.ensures g w fs sound vs survey is next new standing
+returns-in_ok-standing-in-None c = grind (arith, common_steps)
