@@ -7,6 +7,7 @@ use Rattle.jiff.specs.Words.{days_in_month}
 use Rattle.jiff.proofs.Family.{epoch_day-lt, days_from_civil-day, days_from_civil-next_month, days_from_civil-next_year, days_from_civil-max}
 use Rattle.jiff.proofs.SpanFacts.{signed_arith}
 use Rattle.adf_fields.specs.Dates.{IsCivilDay}
+use Rattle.adf_fields.specs.declared.date_texts.TheConstants.{CIVIL_DAYS, DAYS_TO_1978}
 use Rattle.adf_fields.proofs.Digits.{epoch_day_1970}
 
 -- a day has a civil date
@@ -38,7 +39,7 @@ in_year n d is last short = (
   omega (arith, signed_arith, is, days_from_civil-next_month d.year d.month d.day d.month_in.0 last),
 )
 
-in_next_year : (n : ℕ) (d : Date) → IsCivilDay n d → d.month ≡ 12 → d.day ≡ 31 → n < 2932896 → HasDate (suc n)
+in_next_year : (n : ℕ) (d : Date) → IsCivilDay n d → d.month ≡ 12 → d.day ≡ 31 → n + 1 < DAYS_TO_1978 + CIVIL_DAYS → HasDate (suc n)
 in_next_year n d is december last short =
     let day = rw (december, last) at is in
     let early : d.year <ℤ pos 9999 = by_lt_z d.year (pos 9999) (λ lt. lt)
@@ -55,7 +56,7 @@ in_next_year n d is december last short =
       omega (arith, signed_arith, day, days_from_civil-next_year d.year (d.year +ℤ pos 1) (omega (arith, signed_arith)) refl),
     )
 
-next_date : (n : ℕ) → n < 2932896 → HasDate n → HasDate (suc n)
+next_date : (n : ℕ) → n + 1 < DAYS_TO_1978 + CIVIL_DAYS → HasDate n → HasDate (suc n)
 next_date n short (d, is) = elim (cases_lt d.day (days_in_month d.year d.month)) [
   | inl before ↦ in_month n d is before
   | inr after ↦
@@ -66,7 +67,7 @@ next_date n short (d, is) = elim (cases_lt d.day (days_in_month d.year d.month))
       ]
 ]
 
-pub civil_date : (n : ℕ) → n ≤ 2932896 → HasDate n
+pub civil_date : (n : ℕ) → n < DAYS_TO_1978 + CIVIL_DAYS → HasDate n
 civil_date zero h = first_date
 civil_date (suc n) h = next_date n (omega arith) (civil_date n (omega arith))
 

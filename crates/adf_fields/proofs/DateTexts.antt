@@ -7,22 +7,23 @@ use Rattle.jiff.proofs.Family.{epoch_day_injective}
 use Rattle.adf_base.specs.declared.dates.Stamp.{Stamp}
 use Rattle.adf_base.specs.Dates.{plain_text}
 use Rattle.adf_fields.specs.Dates.{AppendsStampText, IsCivilDay, IsCivilText, IsStampText, civil_text, is_civil}
+use Rattle.adf_fields.specs.declared.date_texts.TheConstants.{CIVIL_DAYS, DAYS_TO_1978}
 use Rattle.adf_fields.proofs.CivilDates.{civil_date}
 
-few_days : (s : Stamp) → is_civil s ≡ true → s.days < 2929975
+few_days : (s : Stamp) → is_civil s ≡ true → s.days < CIVIL_DAYS
 few_days s e = ltb-true _ _ (and_parts _ _ (and_parts _ _ e).0).0
 
 text_where : (s : Stamp) (b : Bool) → is_civil s ≡ b → (t : List ℕ) × MatchBool b (IsCivilText s t) (t ≡ plain_text s)
 text_where s true e =
     let few = few_days s e in
-    let day = civil_date (s.days + 2922) (omega arith) in
+    let day = civil_date (s.days + DAYS_TO_1978) (omega arith) in
     (civil_text day.0 s, (day.0, day.1, refl))
 text_where s false e = (plain_text s, refl)
 
 pub some_text : (s : Stamp) → (t : List ℕ) × IsStampText s t
 some_text s = text_where s (is_civil s) refl
 
-same_civil_text : (s : Stamp) (a b : Date) → IsCivilDay (s.days + 2922) a → IsCivilDay (s.days + 2922) b → civil_text a s ≡ civil_text b s
+same_civil_text : (s : Stamp) (a b : Date) → IsCivilDay (s.days + DAYS_TO_1978) a → IsCivilDay (s.days + DAYS_TO_1978) b → civil_text a s ≡ civil_text b s
 same_civil_text s a b p q = let same = epoch_day_injective a b (p ∙ sym q) in rw (same.0, same.1, same.2) refl
 
 one_text_where : (s : Stamp) (b : Bool) (t u : List ℕ) → MatchBool b (IsCivilText s t) (t ≡ plain_text s)

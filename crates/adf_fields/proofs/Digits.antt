@@ -9,6 +9,7 @@ use Rattle.jiff.proofs.SpanFacts.{signed_arith}
 use Rattle.jiff.proofs.OnLiterals.{jiff_on_literals}
 use Rattle.adf_base.specs.declared.dates.Stamp.{Stamp}
 use Rattle.adf_fields.specs.Dates.{two_digits, IsCivilDay, IsStampText, civil_text, is_civil}
+use Rattle.adf_fields.specs.declared.date_texts.TheConstants.{DAYS_TO_1978}
 
 -- what `{:02}` writes of a number below 100
 pub two_places : (n : ℕ) → n < 100 → padded_integral (format_spec 32 0 4 2 (2 ^ 64 - 1)) false [] (decimal n) ≡ two_digits n
@@ -32,5 +33,5 @@ epoch_day_1970 d h =
     rw (h.0, month, day) refl
 
 -- the text of a date that has a civil one
-pub civil_case : (s : Stamp) (d : Date) (t : List ℕ) → true ≡ is_civil s → IsCivilDay (s.days + 2922) d → t ≡ civil_text d s → IsStampText s t
+pub civil_case : (s : Stamp) (d : Date) (t : List ℕ) → true ≡ is_civil s → IsCivilDay (s.days + DAYS_TO_1978) d → t ≡ civil_text d s → IsStampText s t
 civil_case s d t civil day e = rw (sym civil) (d, day, e)

@@ -4,6 +4,7 @@ use Rattle.jiff.specs.Words.{epoch_day, date_text}
 use Rattle.jiff.specs.Types.{Date}
 use Rattle.adf_base.specs.declared.dates.Stamp.{Stamp}
 use Rattle.adf_base.specs.Dates.{plain_text}
+use Rattle.adf_fields.specs.declared.date_texts.TheConstants.{CIVIL_DAYS, DAYS_TO_1978}
 
 -- two digits of a number below 100
 abbrev pub two_digits : ℕ → List ℕ
@@ -15,7 +16,7 @@ IsCivilDay n d = epoch_day d ≡ pos n
 
 -- a date that has a civil text: at most 9999-12-31, a minute of the day and a tick of the minute
 abbrev pub is_civil : Stamp → Bool
-is_civil s = nat_lt s.days 2929975 && nat_lt s.mins 1440 && nat_lt s.ticks 3000
+is_civil s = nat_lt s.days CIVIL_DAYS && nat_lt s.mins 1440 && nat_lt s.ticks 3000
 
 -- hours, minutes, seconds and fiftieths of a second
 abbrev pub clock_text : Stamp → List ℕ
@@ -26,9 +27,9 @@ clock_text s = two_digits (s.mins / 60) ++ (codes ":" ++ (two_digits (s.mins % 6
 abbrev pub civil_text : Date → Stamp → List ℕ
 civil_text day s = date_text day ++ (codes " " ++ clock_text s)
 
--- t is the civil text of the date, whose day is days + 2922 from 1970-01-01
+-- t is the civil text of the date, whose day is days + DAYS_TO_1978 from 1970-01-01
 abbrev pub IsCivilText : Stamp → List ℕ → Type 0
-IsCivilText s t = (day : Date) × IsCivilDay (s.days + 2922) day × (t ≡ civil_text day s)
+IsCivilText s t = (day : Date) × IsCivilDay (s.days + DAYS_TO_1978) day × (t ≡ civil_text day s)
 
 -- t is the text of the date: the civil one, or the three numbers
 abbrev pub IsStampText : Stamp → List ℕ → Type 0

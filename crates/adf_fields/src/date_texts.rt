@@ -3,26 +3,33 @@
 ghost use Rattle.std.specs.Prelude.{◌≡◌, ◌<◌, ◌+◌, ◌/◌, ◌%◌, ◌≤ℤ◌, pos, OnOk, OnErr, IfOk, string_bytes};
 ghost use Rattle.adf_base.specs.Dates.{plain_text};
 ghost use Rattle.adf_fields.specs.Dates.{IsCivilDay, IsStampText, AppendsStampText, DatesHaveOneText, civil_text, is_civil};
+ghost use Rattle.adf_fields.specs.declared.date_texts.TheConstants.{CIVIL_DAYS, DAYS_TO_1978};
 
 use adf_base::{NoMemory, Stamp};
 use jiff::ToSpan;
 use jiff::civil::{Date, date};
 use std::alloc::{AllocError, Global};
 
+// The days from 1970-01-01 to 1978-01-01.
+const DAYS_TO_1978: u32 = 2922;
+
+/// The days from 1978-01-01 to the first whose year has five digits.
+pub const CIVIL_DAYS: u32 = 2_929_975;
+
 // Whether a date has a civil text: at most 9999-12-31, a minute of the day and a tick of the minute.
 fn is_civil(s: Stamp) -> bool
     ensures { result ≡ is_civil s }
 {
-    s.days < 2_929_975 && s.mins < 1440 && s.ticks < 3000
+    s.days < CIVIL_DAYS && s.mins < 1440 && s.ticks < 3000
 }
 
 // The civil date of a day since 1978-01-01, up to 9999-12-31.
 fn civil_day(days: u32) -> Date
-    requires { days < 2929975 }
-    ensures { IsCivilDay (days + 2922) result }
+    requires { days < CIVIL_DAYS }
+    ensures { IsCivilDay (days + DAYS_TO_1978) result }
 {
     date(1970, 1, 1)
-        .checked_add((i64::from(days) + 2922).days())
+        .checked_add(i64::from(days + DAYS_TO_1978).days())
         .unwrap()
 }
 
