@@ -8,7 +8,7 @@ use adf_base::{Letters, NoMemory, Stamp};
 use adf_blocks::Cause;
 use adf_build::build;
 use adf_check::{Owner, Owners, check_types};
-use adf_fields::{CIVIL_DAYS, stamp_text};
+use adf_dates::{CIVIL_DAYS, stamp_text};
 use adf_findings::{Types, survey};
 use adf_tree::{Comment, Label, Node};
 use std::alloc::Global;
