@@ -5,37 +5,20 @@ use Rattle.std.proofs.lemmas.Bool.Decides.{nat_tests}
 use Rattle.std.proofs.lemmas.List.{drop_all, take_all, take_more}
 use Rattle.std.proofs.Math.Seq.{drop-cons}
 use Rattle.std.proofs.lemmas.Grind.{common_steps}
-use Rattle.adf_plans.specs.PlanTexts.{before_byte, behind_byte, number_from, decimal_number}
+use Rattle.std.specs.List.{position, position_or_len}
+use Rattle.adf_plans.specs.PlanTexts.{number_from, decimal_number}
 use Rattle.adf_plans.specs.declared.plan_words.TheConstants.{MOST_NUMBER}
 
 -- what is left from a byte on
 pub left_at : (xs : List ℕ) (i x : ℕ) → i < length xs → x ≡ get_or xs i 0 → drop i xs ≡ x ∷ drop (i + 1) xs
 left_at xs i x lt e = grind (arith, common_steps, drop-cons)
 
-module _ (c : ℕ) (xs : List ℕ) (i : ℕ) where
-  -- the cut of a text is that of what is left of it
-  pub record IsCutLater : Type 0 where
-    pub front : before_byte c xs ≡ take i xs ++ before_byte c (drop i xs)
-    pub rest : behind_byte c xs ≡ behind_byte c (drop i xs)
+-- where a text is cut
+pub found_there : (p : ℕ → Bool) (xs : List ℕ) (i : ℕ) → Some i ≡ position p xs → i ≡ position_or_len p xs
+found_there p xs i h = grind (arith, common_steps, nat_tests)
 
-front_other : (c x : ℕ) (xs : List ℕ) → (x == c) ≡ false → (before_byte c (x ∷ xs) ≡ x ∷ before_byte c xs) × (behind_byte c (x ∷ xs) ≡ behind_byte c xs)
-unfolding before_byte behind_byte
-front_other c x xs h = (ap (λ b. if b then [] else x ∷ before_byte c xs) h, ap (λ b. if b then xs else behind_byte c xs) h)
-
-front_same : (c x : ℕ) (xs : List ℕ) → (x == c) ≡ true → (before_byte c (x ∷ xs) ≡ []) × (behind_byte c (x ∷ xs) ≡ xs)
-unfolding before_byte behind_byte
-front_same c x xs h = (ap (λ b. if b then [] else x ∷ before_byte c xs) h, ap (λ b. if b then xs else behind_byte c xs) h)
-
-pub cut_past : (c : ℕ) (xs : List ℕ) (i x : ℕ) → IsCutLater c xs i → i < length xs → x ≡ get_or xs i 0 → x ≢ c → IsCutLater c xs (i + 1)
-cut_past c xs i x h lt e ne = grind (arith, common_steps, nat_tests, left_at, front_other, take_more, append_assoc)
-
-pub cut_there : (c : ℕ) (xs : List ℕ) (i x : ℕ) → IsCutLater c xs i → i < length xs → x ≡ get_or xs i 0 → x ≡ c
-    → (take i xs ≡ before_byte c xs) × (drop (i + 1) xs ≡ behind_byte c xs)
-cut_there c xs i x h lt e is = grind (arith, common_steps, nat_tests, left_at, front_same, append-nil)
-
-pub cut_nowhere : (c : ℕ) (xs : List ℕ) (i : ℕ) → IsCutLater c xs i → length xs ≤ i → (xs ≡ before_byte c xs) × ([] ≡ behind_byte c xs)
-unfolding before_byte behind_byte
-cut_nowhere c xs i h le = grind (arith, common_steps, drop_all, append-nil, take_all)
+pub found_nowhere : (p : ℕ → Bool) (xs : List ℕ) → None ≡ position p xs → length xs ≤ position_or_len p xs
+found_nowhere p xs h = grind (arith, common_steps, nat_tests)
 
 -- the number of a text is that of what is left of it
 module _ (xs : List ℕ) (i n x : ℕ) (h : number_from n (drop i xs) ≡ decimal_number xs) (lt : i < length xs) (e : x ≡ get_or xs i 0) where

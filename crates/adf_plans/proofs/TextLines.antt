@@ -1,8 +1,8 @@
 -- The lines of a plan's text. left is what is left of a text, ps its partitions, e the text behind their lines.
-use Rattle.std.proofs.Common.{◌≡◌, ◌≢◌, ◌<◌, ◌≤◌, ◌+◌, ℕ, true, false, List, [], ◌∷◌, ◌++◌, length, ap, refl, subst, arith, append-nil, append_assoc}
+use Rattle.std.proofs.Common.{◌≡◌, ◌≢◌, ◌<◌, ◌≤◌, ◌+◌, ℕ, true, false, List, [], ◌∷◌, ◌++◌, length, ap, refl, subst, arith, append-nil, append_assoc, length-drop}
 use Rattle.std.proofs.Common.{◌==◌, All}
 use Rattle.std.proofs.lemmas.Bool.Decides.{nat_tests}
-use Rattle.std.proofs.lemmas.Bool.{and_parts}
+use Rattle.std.proofs.lemmas.Bool.{and_parts, leb-true, ltb-true}
 use Rattle.std.proofs.lemmas.Grind.{common_steps}
 use Rattle.adf_partitions.specs.declared.plan.PartitionPlan.{PartitionPlan}
 use Rattle.adf_plans.specs.declared.plan_text.TextFault.{TextFault}
@@ -11,22 +11,15 @@ use Rattle.adf_partitions.specs.Plans.{IsPartitionPlan, IsPlan, PlanValue}
 use Rattle.adf_plans.specs.PlanTexts.{AreLines, HasPartition, IsDiskLine, IsEndFault, IsTextFault, IsPartitionLine, IsPartitionText}
 use Rattle.adf_plans.specs.PlanTexts.{HasNoPartition, before_byte, behind_byte}
 use Rattle.adf_plans.specs.PlanTexts.{behind_line, first_line, is_plan}
-use Rattle.adf_partitions.proofs.NumberTests.{le_of, lt_of}
 
 -- no line of a partition is empty
 pub no_empty_line : (p : PartitionPlan) → ¬ IsPartitionLine (first_line []) p
 unfolding before_byte
 no_empty_line p h = let w = h.word in absurd cc
 
-at_most : (c : ℕ) (xs : List ℕ) → length (behind_byte c xs) ≤ length xs
-unfolding behind_byte
-at_most c [] = omega arith
-at_most c (x ∷ xs) = grind (arith, common_steps, (at_most c xs))
-
 pub shorter : (c : ℕ) (xs : List ℕ) → 0 < length xs → length (behind_byte c xs) < length xs
 unfolding behind_byte
-shorter c [] lt = absurd (omega arith)
-shorter c (x ∷ xs) lt = grind (arith, common_steps, at_most)
+shorter c xs lt = omega (arith, length-drop {A = ℕ})
 
 -- a line of a partition takes bytes
 pub line_taken : (left : List ℕ) (p : PartitionPlan) → IsPartitionLine (first_line left) p → length (behind_line left) < length left
@@ -66,7 +59,7 @@ plans_of_lines left [] e h = λ k d lt. absurd (omega arith)
 plans_of_lines left (p ∷ ps) e h = grind (arith, common_steps, first_and_others, plan_of_text, (plans_of_lines (behind_line left) ps e h.1))
 
 pub is_plan-tells : (plan : PlanValue) (left end : List ℕ) → AreLines left plan.partitions end → is_plan plan ≡ true → IsPlan plan
-is_plan-tells plan left end lines h = grind (arith, common_steps, and_parts, le_of, plans_of_lines, lt_of)
+is_plan-tells plan left end lines h = grind (arith, common_steps, and_parts, leb-true, plans_of_lines, ltb-true)
 
 -- a fault behind the lines of a plan
 pub fault_behind : (text rest end : List ℕ) (plan : PlanValue) (f : TextFault) (kind : TextKind) → rest ≡ behind_line text

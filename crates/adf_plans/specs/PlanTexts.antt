@@ -4,7 +4,7 @@ use Rattle.std.specs.Prelude.{◌≡◌, ◌≢◌, ◌≤◌, ◌⊎◌, ◌+�
 use Rattle.std.specs.Prelude.{false, List, [], ◌∷◌, ◌++◌, codes, decimal}
 use Rattle.std.specs.Prelude.{Option, Some, None, if◌then◌else◌, length, slice_index}
 use Rattle.std.specs.Int.{w8}
-use Rattle.std.specs.List.{list_all}
+use Rattle.std.specs.List.{after_first, before_first, list_all}
 use Rattle.std.specs.Str.{bytes_eq}
 use Rattle.adf_blocks.specs.Sizes.{is_allowed}
 use Rattle.adf_names.specs.Escapes.{IsSpelling}
@@ -32,13 +32,11 @@ text_fault_text f = codes "line " ++ (decimal f.line ++ (codes ": " ++ text_kind
 
 -- the bytes before the first byte c, or all
 unfoldable pub before_byte : ℕ → List ℕ → List ℕ
-before_byte c [] = []
-before_byte c (x ∷ xs) = if x == c then [] else x ∷ before_byte c xs
+before_byte c text = before_first (λ x. x == c) text
 
 -- the bytes behind the first byte c, if there is one
 unfoldable pub behind_byte : ℕ → List ℕ → List ℕ
-behind_byte c [] = []
-behind_byte c (x ∷ xs) = if x == c then xs else behind_byte c xs
+behind_byte c text = after_first (λ x. x == c) text
 
 -- the first word of a text, and the text behind its space
 abbrev pub first_word : List ℕ → List ℕ

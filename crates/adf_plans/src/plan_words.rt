@@ -1,24 +1,29 @@
 // The words of a plan's text.
 
-ghost use Rattle.std.specs.Prelude.{◌≡◌, Some};
+ghost use Rattle.std.specs.Prelude.{◌≡◌, ◌==◌, Some, position};
 ghost use Rattle.adf_plans.specs.PlanTexts.{before_byte, behind_byte, behind_line, decimal_number, ends_in_space};
 ghost use Rattle.adf_plans.specs.PlanTexts.{first_line, priority_down, priority_of, priority_up};
 
 /// The largest number of a text.
 pub const MOST_NUMBER: u32 = 1_048_576;
 
-#[tactic(auto, using(crate::proofs::Cuts::cut_there, crate::proofs::Cuts::cut_nowhere, std::proofs::lemmas::List::take_rest))]
+// The index of the first byte of this value.
+fn place_of(text: &[u8], byte: u8) -> Option<usize>
+    ensures { result ≡ position (λ c. c == byte) text.now }
+{
+    text.iter().position(|c| *c == byte)
+}
+
+#[tactic(auto, using(crate::proofs::Cuts::found_there, crate::proofs::Cuts::found_nowhere, std::proofs::lemmas::List::take_rest), unfolding(crate::specs::PlanTexts::before_byte, crate::specs::PlanTexts::behind_byte))]
 /// The bytes before and behind the first byte of this value; all bytes and none, if there is none.
 pub fn cut(text: &[u8], byte: u8) -> (&[u8], &[u8])
     ensures front { result.0.now ≡ before_byte byte text.now }
     ensures rest { result.1.now ≡ behind_byte byte text.now }
 {
-    for i in 0..text.len() {
-        if text[i] == byte {
-            return (&text[..i], &text[i + 1..]);
-        }
+    match place_of(text, byte) {
+        Some(i) => (&text[..i], &text[i + 1..]),
+        None => (text, &text[text.len()..]),
     }
-    (text, &text[text.len()..])
 }
 
 /// The first line of a text, no bytes if no line feed ends it, and the text behind its line feed.
