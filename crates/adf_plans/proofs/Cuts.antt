@@ -1,8 +1,8 @@
 -- Texts that are read byte after byte. xs is a text, i the number of bytes that were read, x the next one.
-use Rattle.std.proofs.Common.{◌≡◌, ◌≢◌, ◌<◌, ◌≤◌, ◌+◌, ◌-◌, ◌*◌, ◌∙◌, ℕ, Bool, true, false, List, [], ◌∷◌, ◌++◌, Some, None, length, get_or, take}
-use Rattle.std.proofs.Common.{drop, ap, refl, sym, arith, append-nil, append_assoc, ◌==◌, ◌&&◌, nat_le, if◌then◌else◌}
+use Rattle.std.proofs.Common.{◌≡◌, ◌<◌, ◌≤◌, ◌+◌, ◌-◌, ◌*◌, ◌∙◌, ℕ, Bool, true, false, List, [], ◌∷◌, Some, None, length, get_or}
+use Rattle.std.proofs.Common.{drop, ap, refl, sym, arith, ◌&&◌, nat_le, if◌then◌else◌}
 use Rattle.std.proofs.lemmas.Bool.Decides.{nat_tests}
-use Rattle.std.proofs.lemmas.List.{drop_all, take_all, take_more}
+use Rattle.std.proofs.lemmas.List.{drop_all, take_rest}
 use Rattle.std.proofs.Math.Seq.{drop-cons}
 use Rattle.std.proofs.lemmas.Grind.{common_steps}
 use Rattle.std.specs.List.{position, position_or_len}
@@ -19,6 +19,8 @@ found_there p xs i h = grind (arith, common_steps, nat_tests)
 
 pub found_nowhere : (p : ℕ → Bool) (xs : List ℕ) → None ≡ position p xs → length xs ≤ position_or_len p xs
 found_nowhere p xs h = grind (arith, common_steps, nat_tests)
+
+pub ruleset cuts = (found_there, found_nowhere, take_rest)
 
 -- the number of a text is that of what is left of it
 module _ (xs : List ℕ) (i n x : ℕ) (h : number_from n (drop i xs) ≡ decimal_number xs) (lt : i < length xs) (e : x ≡ get_or xs i 0) where

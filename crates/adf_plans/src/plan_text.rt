@@ -1,14 +1,12 @@
 // The text of a plan.
 
-ghost use Rattle.std.specs.Prelude.{◌≡◌, ◌≢◌, ◌≤◌, ◌^◌, ℕ, List, IfErr, IfOk, OnErr, bytes_eq, codes, length, nat_lt};
+ghost use Rattle.std.specs.Prelude.{◌≡◌, ◌≢◌, ◌≤◌, ◌^◌, ℕ, List, IfErr, IfNone, IfOk, IfSome, OnErr, length, nat_lt, true};
 ghost use Rattle.std.specs.List.{list_all};
 ghost use Rattle.adf_names.specs.VolumeTypes.{kind_text_by};
 ghost use Rattle.adf_partitions.specs.Plans.{IsPlan, cylinder_blocks, plan_value, planned_blocks, planned_type};
-ghost use Rattle.adf_plans.specs.PlanTexts.{text_kind_text};
-ghost use Rattle.adf_plans.specs.PlanTexts.{AreLines, HasBegun, HasPartition, HasPlanOrFault, IsPartitionText, IsText};
-ghost use Rattle.adf_plans.specs.PlanTexts.{IsTextFault};
-ghost use Rattle.adf_plans.specs.PlanTexts.{PlansHaveNoFault, HasNoPartition, TextsHaveOneFault, TextsHaveOnePlan};
-ghost use Rattle.adf_plans.specs.PlanTexts.{has_volume, begins_with_end, is_plan, kind_word};
+ghost use Rattle.adf_plans.specs.PlanTexts.{AreLines, HasBegun, HasNoPartition, HasPartition, HasPlanOrFault, IsEndFault, IsPartitionText};
+ghost use Rattle.adf_plans.specs.PlanTexts.{IsText, IsTextFault, PlansHaveNoFault, TextsHaveOneFault, TextsHaveOnePlan};
+ghost use Rattle.adf_plans.specs.PlanTexts.{begins_with_end, has_volume, is_plan, kind_word, text_kind_text};
 ghost use Rattle.adf_partitions.specs.declared.layout.TheConstants.{MOST_PARTITIONS};
 ghost use Rattle.adf_partitions.specs.declared.plan.PartitionPlan.{PartitionPlan};
 ghost use Rattle.adf_plans.specs.declared.plan_text.TextKind.{TextKind};
@@ -83,13 +81,6 @@ fn fault_at(line: usize, kind: TextKind) -> TextFault
     ensures { (result.line ≡ line) × (result.kind ≡ kind) }
 {
     TextFault { line, kind }
-}
-
-// Whether a line is `end`.
-fn is_end(line: &[u8]) -> bool
-    ensures { result ≡ bytes_eq line.now (codes "end") }
-{
-    line == b"end".as_slice()
 }
 
 #[tactic(auto, using(crate::proofs::TextLines::line_taken, crate::proofs::TextLines::line_added))]
@@ -170,6 +161,24 @@ pub fn is_plan(plan: &DiskPlan) -> bool
     is_small(plan, cylinder) && have_volumes(&plan.partitions, cylinder)
 }
 
+// What is wrong behind the lines of a plan, if something is.
+fn end_fault(plan: &DiskPlan, end: &[u8]) -> Option<TextKind>
+    ensures some { IfSome result (λ kind. IsEndFault (plan_value plan.now) end.now kind) }
+    ensures none { IfNone result ((begins_with_end end.now ≡ true)
+        × (is_plan (plan_value plan.now) ≡ true)) }
+{
+    let (line, _rest) = cut_line(end);
+    if end.is_empty() {
+        Some(TextKind::NoEnd)
+    } else if line != b"end".as_slice() {
+        Some(TextKind::BadLine)
+    } else if !is_plan(plan) {
+        Some(TextKind::TooLarge)
+    } else {
+        None
+    }
+}
+
 /// Reads the text of a plan, whose lines end in a line feed, with one space between their words: a line `disk SECTORS HEADS`,
 /// a line `partition NAME KIND CYLINDERS` for each partition, perhaps with `bootable`, `priority P` and `given` behind it in
 /// this order, and a line `end`. Returns the plan, and the bytes behind the text. KIND is `ofs` or `ffs`, or one of these with
@@ -199,17 +208,10 @@ pub fn read_plan(alloc: Global, text: &[u8]) -> Result<(DiskPlan, &[u8]), TextFa
         heads,
         partitions,
     };
-    if end.is_empty() {
-        return Err(fault_at(number, TextKind::NoEnd));
+    match end_fault(&plan, end) {
+        Some(kind) => Err(fault_at(number, kind)),
+        None => Ok((plan, cut_line(end).1)),
     }
-    let (word, rest) = cut_line(end);
-    if !is_end(word) {
-        return Err(fault_at(number, TextKind::BadLine));
-    }
-    if !is_plan(&plan) {
-        return Err(fault_at(number, TextKind::TooLarge));
-    }
-    Ok((plan, rest))
 }
 
 /// Every text has a plan, or a fault.

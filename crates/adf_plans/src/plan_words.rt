@@ -14,7 +14,7 @@ fn place_of(text: &[u8], byte: u8) -> Option<usize>
     text.iter().position(|c| *c == byte)
 }
 
-#[tactic(auto, using(crate::proofs::Cuts::found_there, crate::proofs::Cuts::found_nowhere, std::proofs::lemmas::List::take_rest), unfolding(crate::specs::PlanTexts::before_byte, crate::specs::PlanTexts::behind_byte))]
+#[tactic(auto, using(crate::proofs::Cuts::cuts), unfolding(crate::specs::PlanTexts::before_byte, crate::specs::PlanTexts::behind_byte))]
 /// The bytes before and behind the first byte of this value; all bytes and none, if there is none.
 pub fn cut(text: &[u8], byte: u8) -> (&[u8], &[u8])
     ensures front { result.0.now ≡ before_byte byte text.now }
