@@ -4,10 +4,10 @@ use Rattle.adf_findings.proofs.FitsOrFault.{fits_or_fault_by}
 use Rattle.adf_findings.specs.Verdict.{FitsOrHasFaultBy}
 use Rattle.adf_volume.specs.declared.types.Types.TheVariants.{WithInternational}
 use Rattle.adf_partitions.proofs.SomeReadings.{some_disk, some_reading}
-use Rattle.adf_partitions.proofs.SomeTexts.{some_text}
+use Rattle.adf_plans.proofs.SomeTexts.{some_text}
 use Rattle.adf_partitions.specs.Disks.{HasListOrFault}
-use Rattle.adf_partitions.specs.FaultTexts.{disk_fault_text, place_fault_text, text_fault_text}
-use Rattle.adf_partitions.specs.PlanTexts.{HasPlanOrFault}
+use Rattle.adf_partitions.specs.FaultTexts.{disk_fault_text, place_fault_text}
+use Rattle.adf_plans.specs.PlanTexts.{HasPlanOrFault, text_fault_text}
 use Rattle.adf_partitions.specs.declared.fault.DiskFault.{DiskFault}
 use Rattle.adf_partitions.specs.declared.partition.Partition.{Partition}
 use Rattle.adf_partitions.specs.declared.place.Place.{Place}

@@ -5,9 +5,10 @@ ghost use Rattle.std.specs.Prelude.{length};
 
 use adf_base::{Block, seal, set_word};
 use adf_partitions::{
-    Disk, DiskCause, DiskFault, FieldFault, Partition, Place, PlaceFault, disk_fault, read_plan,
-    stated_place, write_tables,
+    Disk, DiskCause, DiskFault, FieldFault, Partition, Place, PlaceFault, disk_fault, stated_place,
+    write_tables,
 };
+use adf_plans::read_plan;
 use std::alloc::{AllocError, Global};
 
 type Tables = [u8; 2048];

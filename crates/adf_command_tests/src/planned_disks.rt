@@ -2,7 +2,8 @@
 // 8 blocks and DH1 has 12.
 
 use crate::disks::is_partition;
-use adf_partitions::{Disk, Place, TextFault, TextKind, read_plan, write_tables};
+use adf_partitions::{Disk, Place, write_tables};
+use adf_plans::{TextFault, TextKind, read_plan};
 use std::alloc::Global;
 
 const TEXT: &[u8] =

@@ -14,9 +14,9 @@ use Rattle.adf_disk_cmd.specs.Builds.{plan_reply, volume_of, volumes_of}
 use Rattle.adf_partitions.proofs.PlanSizes.{blocks_fit, cylinders_fit, plans_at}
 use Rattle.adf_partitions.proofs.PlannedDisk.{planned_disk}
 use Rattle.adf_partitions.proofs.PlannedVolumes.{disk_size, volumes_stand}
-use Rattle.adf_partitions.proofs.TextLines.{is_plan-tells}
+use Rattle.adf_plans.proofs.TextLines.{is_plan-tells}
 use Rattle.adf_partitions.specs.Disks.{IsDisk}
-use Rattle.adf_partitions.specs.PlanTexts.{IsText, behind_line, has_volume, is_plan}
+use Rattle.adf_plans.specs.PlanTexts.{IsText, behind_line, has_volume, is_plan}
 use Rattle.adf_partitions.specs.Plans.{AreVolumes, IsPlan, PlanValue, cylinder_blocks, cylinders_of, planned_blocks, planned_partitions}
 use Rattle.adf_partitions.specs.WrittenTables.{disk_bytes, planned_tables}
 use Rattle.adf_partitions.specs.declared.plan.PartitionPlan.{PartitionPlan}

@@ -21,7 +21,7 @@ use Rattle.adf_names.specs.declared.kind.Kind.{Kind}
 use Rattle.adf_names.specs.declared.kind.Kind.TheVariants.{Ofs, Ffs}
 use Rattle.adf_partitions.proofs.NumberTests.{le_of}
 use Rattle.adf_partitions.specs.Plans.{planned_type}
-use Rattle.adf_partitions.specs.PlanTexts.{has_volume}
+use Rattle.adf_plans.specs.PlanTexts.{has_volume}
 use Rattle.adf_partitions.specs.declared.plan.PartitionPlan.{PartitionPlan}
 use Rattle.adf_tree.proofs.TreeOfAdditions.{nothing_added_by}
 use Rattle.adf_tree.specs.Tree.{Tree}

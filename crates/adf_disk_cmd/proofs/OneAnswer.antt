@@ -14,14 +14,15 @@ use Rattle.adf_volume.specs.declared.types.Types.TheVariants.{WithInternational}
 use Rattle.adf_disk_cmd.specs.declared.unchecked.Unchecked.{Unchecked}
 use Rattle.adf_disk_cmd.specs.declared.work.TheConstants.{MOST_DISK_BYTES}
 use Rattle.adf_partitions.proofs.OneAnswer.{no_fault, one_disk, one_fault, one_reading}
-use Rattle.adf_partitions.proofs.OnePlan.{no_text_fault, one_plan, one_text_fault}
-use Rattle.adf_partitions.specs.FaultTexts.{place_fault_text, text_fault_text}
+use Rattle.adf_plans.proofs.OnePlan.{no_text_fault, one_plan, one_text_fault}
+use Rattle.adf_partitions.specs.FaultTexts.{place_fault_text}
 use Rattle.adf_partitions.specs.Plans.{PlanValue}
 use Rattle.adf_partitions.specs.declared.fault.DiskFault.{DiskFault}
 use Rattle.adf_partitions.specs.declared.partition.Partition.{Partition}
 use Rattle.adf_partitions.specs.declared.place.Place.{Place}
 use Rattle.adf_partitions.specs.declared.place.PlaceFault.{PlaceFault}
-use Rattle.adf_partitions.specs.declared.plan_text.TextFault.{TextFault}
+use Rattle.adf_plans.specs.PlanTexts.{text_fault_text}
+use Rattle.adf_plans.specs.declared.plan_text.TextFault.{TextFault}
 use Rattle.adf_runs.specs.Commands.{Reply, on_output}
 use Rattle.adf_blocks.specs.declared.cause.Cause.{Cause}
 use Rattle.adf_file_words.specs.DiskLine.{AsksDisk, DiskRequestValue, build, check, list, survey, volume}

@@ -10,12 +10,11 @@ use Rattle.adf_volume.specs.Image.{word_in}
 use Rattle.adf_build.specs.Laid.{volume}
 use Rattle.adf_build.specs.Plan.{planned}
 use Rattle.adf_partitions.specs.Disks.{IsDisk}
-use Rattle.adf_partitions.specs.FaultTexts.{text_fault_text}
 use Rattle.adf_partitions.specs.Plans.{PlanValue, StandInPlaces, cylinder_blocks, planned_partitions, planned_type}
-use Rattle.adf_partitions.specs.PlanTexts.{IsText, IsTextFault}
+use Rattle.adf_plans.specs.PlanTexts.{IsText, IsTextFault, text_fault_text}
 use Rattle.adf_partitions.specs.WrittenTables.{disk_bytes, planned_tables}
 use Rattle.adf_partitions.specs.declared.plan.PartitionPlan.{PartitionPlan}
-use Rattle.adf_partitions.specs.declared.plan_text.TextFault.{TextFault}
+use Rattle.adf_plans.specs.declared.plan_text.TextFault.{TextFault}
 use Rattle.adf_runs.specs.Commands.{Reply, on_errors, on_output}
 use Rattle.adf_texts.specs.Lines.{ok_line_by}
 use Rattle.adf_cmd.specs.Answers.{Checks}

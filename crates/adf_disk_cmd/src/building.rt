@@ -7,17 +7,16 @@ ghost use Rattle.adf_build.specs.Laid.{volume};
 ghost use Rattle.adf_disk_cmd.specs.Builds.{BuildsDisk, DisksHavePlanned, RefusesPlan, behind_volume, built_disk, given_bytes};
 ghost use Rattle.adf_disk_cmd.specs.Builds.{given_line, plan_reply, planned_tree, volume_of};
 ghost use Rattle.adf_partitions.specs.Plans.{IsPlan, cylinder_blocks, plan_value};
-ghost use Rattle.adf_partitions.specs.PlanTexts.{IsTextFault, has_volume, is_plan};
-ghost use Rattle.adf_partitions.specs.declared.plan_text.TextKind.{TextKind};
+ghost use Rattle.adf_plans.specs.PlanTexts.{IsTextFault, has_volume, is_plan};
+ghost use Rattle.adf_plans.specs.declared.plan_text.TextKind.{TextKind};
 ghost use Rattle.adf_runs.specs.Commands.{on_errors};
 ghost use Rattle.adf_runs.specs.Outcomes.{EndsBy, is_read_fault, is_write_fault};
 
 use crate::answering::write_text;
 use adf_base::BLOCK_LEN;
 use adf_build::{BuildFault, build};
-use adf_partitions::{
-    DiskPlan, PartitionPlan, TextFault, TextKind, cylinder_blocks, read_plan, write_tables,
-};
+use adf_partitions::{DiskPlan, PartitionPlan, cylinder_blocks, write_tables};
+use adf_plans::{TextFault, TextKind, read_plan};
 use adf_runs::{Outcome, Sink};
 use adf_tree::{Label, NO_STAMPS, Tree};
 use std::alloc::{AllocError, Global};

@@ -8,7 +8,7 @@ use Rattle.adf_manifest.specs.Texts.{hex_word}
 use Rattle.adf_names.specs.Escapes.{IsSpelling}
 use Rattle.adf_names.specs.PathTexts.{IsPathText}
 use Rattle.adf_edit_cmd.specs.Lines.{SaysBehindVerb, SaysEdit, before_colon, value_in, verb_of}
-use Rattle.adf_partitions.specs.PlanTexts.{behind_word, first_word}
+use Rattle.adf_plans.specs.PlanTexts.{behind_word, first_word}
 use Rattle.adf_edit_cmd.specs.declared.lines.Verb.{Verb}
 use Rattle.adf_edit_cmd.specs.declared.lines.Verb.TheVariants.{Remove, Move, Dir, File, Note, Protect, Date, Label}
 

@@ -5,8 +5,8 @@ use Rattle.std.proofs.lemmas.List.{length-map, map-append}
 use Rattle.adf_base.specs.declared.hash.Letters.{Letters}
 use Rattle.adf_edits.specs.Edits.{EditValue, edit_value}
 use Rattle.adf_edits.specs.declared.edits.Edit.{Edit}
-use Rattle.adf_partitions.specs.PlanTexts.{before_byte, behind_line, first_line}
-use Rattle.adf_partitions.proofs.TextLines.{shorter}
+use Rattle.adf_plans.specs.PlanTexts.{before_byte, behind_line, first_line}
+use Rattle.adf_plans.proofs.TextLines.{shorter}
 use Rattle.adf_edit_cmd.specs.Lines.{SaysEdit}
 use Rattle.adf_edit_cmd.specs.Script.{AreEdits, IsNextRead, IsScript, IsScriptFault, ending}
 use Rattle.adf_edit_cmd.specs.declared.script.TheConstants.{MOST_LINES}

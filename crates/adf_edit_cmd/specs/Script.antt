@@ -6,7 +6,7 @@ use Rattle.adf_base.specs.declared.hash.Letters.{Letters}
 use Rattle.adf_base.specs.declared.hash.Letters.TheVariants.{Ascii, International}
 use Rattle.adf_edits.specs.Edits.{EditValue, edit_value, file}
 use Rattle.adf_edits.specs.declared.edits.Edit.{Edit}
-use Rattle.adf_partitions.specs.PlanTexts.{behind_line, first_line}
+use Rattle.adf_plans.specs.PlanTexts.{behind_line, first_line}
 use Rattle.adf_edit_cmd.specs.Lines.{SaysEdit}
 use Rattle.adf_edit_cmd.specs.declared.script.TheConstants.{MOST_LINES}
 use Rattle.adf_edit_cmd.specs.declared.stop.Stop.{Stop}

@@ -7,7 +7,7 @@ ghost use Rattle.adf_edit_cmd.specs.Lines.{SaysBehindVerb, SaysEdit, verb_of};
 use adf_edits::{Change, Edit};
 use adf_manifest::{read_number, read_stamp, read_word};
 use adf_names::{Comment, Label, Name, PathFault, read_path};
-use adf_partitions::cut;
+use adf_plans::cut;
 use std::alloc::Global;
 
 /// The first word of a line.

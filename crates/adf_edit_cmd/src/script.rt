@@ -11,7 +11,7 @@ use crate::stop::Stop;
 use adf_base::Letters;
 use adf_edits::Edit;
 use adf_names::PathFault;
-use adf_partitions::cut_line;
+use adf_plans::cut_line;
 use std::alloc::Global;
 use std::marker::Model;
 

@@ -9,13 +9,9 @@ pub mod NumberTests
 pub mod Searches
 pub mod NamedPartitions
 pub mod PlanSizes
-pub mod Cuts
-pub mod TextLines
-pub mod OnePlan
 pub mod WrittenBlocks
 pub mod WrittenTables
 pub mod PlannedDisk
 pub mod PlannedVolumes
 pub mod SeparatePartitions
 pub mod SomeReadings
-pub mod SomeTexts

@@ -5,7 +5,7 @@ use Rattle.adf_base.specs.Words.{sealed, word, words, checksum}
 use Rattle.adf_base.proofs.WordLaws.{length-with_word, long_sum-sealed, sum_words_more, range-with_bytes_above, length-big_bytes, word-with_word_other}
 use Rattle.adf_blocks.specs.Fields.{Descends, Field, block_of_fields, long, longs, text}
 use Rattle.adf_blocks.specs.Forms.{text_at}
-use Rattle.adf_blocks.proofs.FieldLaws.{HasField, apart_below, field_there, fields_between, length-block_of_fields, long_number, numbers_of_field, text_reads}
+use Rattle.adf_blocks.proofs.FieldLaws.{HasField, apart_below, field_there, fields_between, fields_long, length-block_of_fields, long_number, text_reads}
 use Rattle.adf_partitions.specs.declared.layout.TheConstants.{CHECKSUM}
 use Rattle.adf_partitions.specs.Summed.{is_summed, sum_of}
 
@@ -43,10 +43,10 @@ module _ (fs : List Field) (d : Descends 256 fs) where
       ap (λ n. n % 2 ^ 32) (sym front) ∙ long_sum-sealed CHECKSUM (block_of_fields fs) (omega arith) whole
 
   -- a word that was put down
-  pub word_written : (i s : ℕ) (ws : List ℕ) → HasField fs (4 * i, longs ws) → s < length ws → i + s ≢ CHECKSUM → slice_index ws s < 2 ^ 32
-      → word (sealed CHECKSUM (block_of_fields fs)) (i + s) ≡ slice_index ws s
-  word_written i s ws h lt other small =
-      numbers_of_field CHECKSUM fs i s ws (omega arith) (fits_block fs d) h lt other ∙ long_number (slice_index ws s) small
+  pub word_written : (i w : ℕ) → HasField fs (4 * i, long w) → i ≢ CHECKSUM → w < 2 ^ 32 → word (sealed CHECKSUM (block_of_fields fs)) i ≡ w
+  word_written i w h other small =
+      word-with_word_other (block_of_fields fs) CHECKSUM (checksum CHECKSUM (block_of_fields fs)) i (omega (arith, whole)) other
+      ∙ fields_long fs i w (fits_block fs d) h ∙ long_number w small
 
   -- a text that was put down behind the sum
   pub text_written : (at : ℕ) (bs : List ℕ) → HasField fs (at, text bs) → 12 ≤ at

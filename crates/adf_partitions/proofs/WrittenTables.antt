@@ -1,5 +1,5 @@
 -- What a reader finds in the rigid disk block and the partition blocks of a plan.
-use Rattle.std.proofs.Common.{◌≡◌, ◌≤◌, ◌<◌, ◌+◌, ◌-◌, ◌*◌, ◌^◌, ◌∙◌, ℕ, length, ap, ap₂, refl, arith, rules, true, false, Bool}
+use Rattle.std.proofs.Common.{◌≡◌, ◌≢◌, ◌≤◌, ◌<◌, ◌+◌, ◌-◌, ◌*◌, ◌^◌, ◌∙◌, ℕ, length, ap, ap₂, refl, arith, rules, true, false, Bool}
 use Rattle.std.specs.Prelude.{slice_index, take, ◌&&◌, ◌==◌, not, nat_le, if◌then◌else◌, FitsSigned, ℤ, pos, negsuc}
 use Rattle.std.specs.Int.{cast_signed, cast_unsigned, w32, w8}
 use Rattle.std.proofs.lemmas.Bool.Decides.{nat_tests}
@@ -7,20 +7,21 @@ use Rattle.std.proofs.lemmas.Int.{to_z-of_z}
 use Rattle.std.proofs.lemmas.List.{take_all}
 use Rattle.std.proofs.lemmas.Grind.{common_steps}
 use Rattle.adf_base.specs.Words.{word}
-use Rattle.adf_blocks.specs.Fields.{Descends}
+use Rattle.adf_blocks.specs.Fields.{Descends, long}
 use Rattle.adf_blocks.specs.Forms.{text_at}
+use Rattle.adf_blocks.proofs.FieldLaws.{HasField}
 use Rattle.adf_base.specs.declared.hash.Letters.{TheVariants.Ascii, TheVariants.International, Letters}
 use Rattle.adf_names.specs.declared.kind.Kind.{TheVariants.Ofs, TheVariants.Ffs, Kind}
-use Rattle.adf_partitions.specs.declared.layout.TheConstants.{BLOCK_BYTES, BLOCK_SECTORS, BOOT_PRIORITY, BOOTABLE, DOS_TYPE, DRIVE_NAME, ENV_BLOCK_WORDS}
-use Rattle.adf_partitions.specs.declared.layout.TheConstants.{ENV_LENGTH, FIRST_PART, FLAGS, HIGH_CYLINDER, HIGHEST_TABLE, LOW_CYLINDER, LOWEST_TABLE, MARK}
-use Rattle.adf_partitions.specs.declared.layout.TheConstants.{MOST_PARTITIONS, NEXT_PART, PART, RDSK, RESERVED, SUMMED_LONGS, SURFACES, TRACK_BLOCKS}
+use Rattle.adf_partitions.specs.declared.layout.TheConstants.{BLOCK_BYTES, BLOCK_SECTORS, BOOT_PRIORITY, BOOTABLE, CHECKSUM, DOS_TYPE, DRIVE_NAME}
+use Rattle.adf_partitions.specs.declared.layout.TheConstants.{ENV_BLOCK_WORDS, ENV_LENGTH, FIRST_PART, FLAGS, HIGH_CYLINDER, HIGHEST_TABLE, LOW_CYLINDER}
+use Rattle.adf_partitions.specs.declared.layout.TheConstants.{LOWEST_TABLE, MARK, MOST_PARTITIONS, NEXT_PART, PART, RDSK, RESERVED}
+use Rattle.adf_partitions.specs.declared.layout.TheConstants.{SUMMED_LONGS, SURFACES, TRACK_BLOCKS}
 use Rattle.adf_partitions.specs.declared.plan.PartitionPlan.{PartitionPlan}
 use Rattle.adf_partitions.specs.Partitions.{has_drive_name, name_at}
 use Rattle.adf_partitions.specs.Places.{blocks_from, has_cylinders, partition_place}
 use Rattle.adf_partitions.specs.Plans.{PlanValue, IsPartitionPlan, IsPlan, cylinder_blocks, planned_cylinders, planned_flags, planned_type, table_cylinders}
 use Rattle.adf_partitions.specs.Summed.{is_summed}
-use Rattle.adf_partitions.specs.WrittenTables.{block_after, environment, kept_words, part_block, part_table, part_words, planned_tables, rdsk_block}
-use Rattle.adf_partitions.specs.WrittenTables.{rdsk_table, rdsk_words}
+use Rattle.adf_partitions.specs.WrittenTables.{block_after, part_block, part_table, planned_tables, rdsk_block, rdsk_table}
 use Rattle.adf_partitions.proofs.NumberTests.{of_le}
 use Rattle.adf_partitions.proofs.PlanSizes.{blocks_fit, cylinders_fit, heads_fit, sectors_fit, some_blocks}
 use Rattle.adf_partitions.proofs.WrittenBlocks.{is_summed_written, length_written, sum_written, text_written, word_written}
@@ -37,35 +38,30 @@ module _ (plan : PlanValue) (h : IsPlan plan) where
   unfolding rdsk_block
   length_rdsk = length_written (rdsk_table plan) rdsk_descends
 
-  pub rdsk_mark : word (rdsk_block plan) MARK ≡ RDSK
+  rdsk_word : (i w : ℕ) → HasField (rdsk_table plan) (4 * i, long w) → i ≢ CHECKSUM → w < 2 ^ 32 → word (rdsk_block plan) i ≡ w
   unfolding rdsk_block
-  rdsk_mark = word_written (rdsk_table plan) rdsk_descends MARK 0 (rdsk_words plan) (search rules) (omega arith) (omega arith) (omega arith)
+  rdsk_word = word_written (rdsk_table plan) rdsk_descends
 
-  rdsk-longs : word (rdsk_block plan) SUMMED_LONGS ≡ 64
-  unfolding rdsk_block
-  rdsk-longs = word_written (rdsk_table plan) rdsk_descends MARK 1 (rdsk_words plan) (search rules) (omega arith) (omega arith) (omega arith)
+  pub rdsk_mark : word (rdsk_block plan) MARK ≡ RDSK
+  rdsk_mark = rdsk_word MARK RDSK (search rules) (omega arith) (omega arith)
 
   pub rdsk-size : word (rdsk_block plan) BLOCK_BYTES ≡ 512
-  unfolding rdsk_block
-  rdsk-size = word_written (rdsk_table plan) rdsk_descends MARK 4 (rdsk_words plan) (search rules) (omega arith) (omega arith) (omega arith)
+  rdsk-size = rdsk_word BLOCK_BYTES 512 (search rules) (omega arith) (omega arith)
 
   pub rdsk-first : word (rdsk_block plan) FIRST_PART ≡ (planned_tables plan).first
-  unfolding rdsk_block
-  rdsk-first = word_written (rdsk_table plan) rdsk_descends MARK 7 (rdsk_words plan) (search rules) (omega arith) (omega arith)
-      (after_fits (length plan.partitions) 0 h.few (omega arith))
+  rdsk-first = rdsk_word FIRST_PART (planned_tables plan).first (search rules) (omega arith) (after_fits (length plan.partitions) 0 h.few (omega arith))
 
   pub rdsk-lowest : word (rdsk_block plan) LOWEST_TABLE ≡ 0
-  unfolding rdsk_block
-  rdsk-lowest = word_written (rdsk_table plan) rdsk_descends LOWEST_TABLE 0 (kept_words plan) (search rules) (omega arith) (omega arith) (omega arith)
+  rdsk-lowest = rdsk_word LOWEST_TABLE 0 (search rules) (omega arith) (omega arith)
 
   pub rdsk-highest : word (rdsk_block plan) HIGHEST_TABLE ≡ (planned_tables plan).highest
-  unfolding rdsk_block
-  rdsk-highest = word_written (rdsk_table plan) rdsk_descends LOWEST_TABLE 1 (kept_words plan) (search rules) (omega arith) (omega arith)
+  rdsk-highest = rdsk_word HIGHEST_TABLE (planned_tables plan).highest (search rules) (omega arith)
       (omega (arith, blocks_fit plan h (table_cylinders plan) (omega arith)))
 
   pub rdsk-summed : is_summed (rdsk_block plan) ≡ true
   unfolding rdsk_block
-  rdsk-summed = is_summed_written (rdsk_block plan) rdsk-longs (sum_written (rdsk_table plan) rdsk_descends)
+  rdsk-summed = is_summed_written (rdsk_block plan) (rdsk_word SUMMED_LONGS 64 (search rules) (omega arith) (omega arith))
+      (sum_written (rdsk_table plan) rdsk_descends)
 
 wide : (z : ℤ) → FitsSigned w8 z → FitsSigned w32 z
 wide z f = record { sfits = omega (arith, f.sfits) }
@@ -97,81 +93,54 @@ module _ (plan : PlanValue) (h : IsPlan plan) (b low : ℕ) (p : PartitionPlan) 
   unfolding part_block
   length_part = length_written (part_table plan b low p) part_descends
 
-  pub part-mark : word (part_block plan b low p) MARK ≡ PART
+  part_word : (i w : ℕ) → HasField (part_table plan b low p) (4 * i, long w) → i ≢ CHECKSUM → w < 2 ^ 32 → word (part_block plan b low p) i ≡ w
   unfolding part_block
-  part-mark =
-      word_written (part_table plan b low p) part_descends MARK 0 (part_words plan b p) (search rules) (omega arith) (omega arith) (omega arith)
+  part_word = word_written (part_table plan b low p) part_descends
 
-  part-longs : word (part_block plan b low p) SUMMED_LONGS ≡ 64
-  unfolding part_block
-  part-longs =
-      word_written (part_table plan b low p) part_descends MARK 1 (part_words plan b p) (search rules) (omega arith) (omega arith) (omega arith)
+  pub part-mark : word (part_block plan b low p) MARK ≡ PART
+  part-mark = part_word MARK PART (search rules) (omega arith) (omega arith)
 
   pub part-summed : is_summed (part_block plan b low p) ≡ true
   unfolding part_block
-  part-summed = is_summed_written (part_block plan b low p) part-longs (sum_written (part_table plan b low p) part_descends)
+  part-summed = is_summed_written (part_block plan b low p) (part_word SUMMED_LONGS 64 (search rules) (omega arith) (omega arith))
+      (sum_written (part_table plan b low p) part_descends)
 
   pub part-next : b ≤ length plan.partitions → word (part_block plan b low p) NEXT_PART ≡ block_after (length plan.partitions) b
-  unfolding part_block
-  part-next le = word_written (part_table plan b low p) part_descends MARK 4 (part_words plan b p) (search rules) (omega arith) (omega arith)
-      (after_fits (length plan.partitions) b h.few le)
+  part-next le = part_word NEXT_PART (block_after (length plan.partitions) b) (search rules) (omega arith) (after_fits (length plan.partitions) b h.few le)
 
   pub part-flags : word (part_block plan b low p) FLAGS ≡ planned_flags p
-  unfolding part_block
-  part-flags = word_written (part_table plan b low p) part_descends MARK 5 (part_words plan b p)
-      (search rules) (omega arith) (omega arith) (flags_fit p.bootable)
+  part-flags = part_word FLAGS (planned_flags p) (search rules) (omega arith) (flags_fit p.bootable)
 
   part-length : word (part_block plan b low p) ENV_LENGTH ≡ 16
-  unfolding part_block
-  part-length = word_written (part_table plan b low p) part_descends ENV_LENGTH 0 (environment plan low p)
-      (search rules) (omega arith) (omega arith) (omega arith)
+  part-length = part_word ENV_LENGTH 16 (search rules) (omega arith) (omega arith)
 
   part-block_words : word (part_block plan b low p) ENV_BLOCK_WORDS ≡ 128
-  unfolding part_block
-  part-block_words = word_written (part_table plan b low p) part_descends ENV_LENGTH 1 (environment plan low p)
-      (search rules) (omega arith) (omega arith) (omega arith)
+  part-block_words = part_word ENV_BLOCK_WORDS 128 (search rules) (omega arith) (omega arith)
 
   part-surfaces : word (part_block plan b low p) SURFACES ≡ plan.heads
-  unfolding part_block
-  part-surfaces = word_written (part_table plan b low p) part_descends ENV_LENGTH 3 (environment plan low p)
-      (search rules) (omega arith) (omega arith) (heads_fit plan h)
+  part-surfaces = part_word SURFACES plan.heads (search rules) (omega arith) (heads_fit plan h)
 
   part-sectors : word (part_block plan b low p) BLOCK_SECTORS ≡ 1
-  unfolding part_block
-  part-sectors = word_written (part_table plan b low p) part_descends ENV_LENGTH 4 (environment plan low p)
-      (search rules) (omega arith) (omega arith) (omega arith)
+  part-sectors = part_word BLOCK_SECTORS 1 (search rules) (omega arith) (omega arith)
 
   pub part-reserved : word (part_block plan b low p) RESERVED ≡ 2
-  unfolding part_block
-  part-reserved = word_written (part_table plan b low p) part_descends ENV_LENGTH 6 (environment plan low p)
-      (search rules) (omega arith) (omega arith) (omega arith)
+  part-reserved = part_word RESERVED 2 (search rules) (omega arith) (omega arith)
 
   part-track : word (part_block plan b low p) TRACK_BLOCKS ≡ plan.sectors
-  unfolding part_block
-  part-track = word_written (part_table plan b low p) part_descends ENV_LENGTH 5 (environment plan low p)
-      (search rules) (omega arith) (omega arith) (sectors_fit plan h)
+  part-track = part_word TRACK_BLOCKS plan.sectors (search rules) (omega arith) (sectors_fit plan h)
 
   part-low : word (part_block plan b low p) LOW_CYLINDER ≡ low
-  unfolding part_block
-  part-low = word_written (part_table plan b low p) part_descends ENV_LENGTH 9 (environment plan low p) (search rules) (omega arith) (omega arith)
-      (omega (arith, within, cylinders_fit plan h))
+  part-low = part_word LOW_CYLINDER low (search rules) (omega arith) (omega (arith, within, cylinders_fit plan h))
 
   part-high : word (part_block plan b low p) HIGH_CYLINDER ≡ low + p.cylinders - 1
-  unfolding part_block
-  part-high = word_written (part_table plan b low p) part_descends ENV_LENGTH 10 (environment plan low p) (search rules) (omega arith) (omega arith)
-      (omega (arith, within, cylinders_fit plan h))
+  part-high = part_word HIGH_CYLINDER (low + p.cylinders - 1) (search rules) (omega arith) (omega (arith, within, cylinders_fit plan h))
 
   pub part-type : word (part_block plan b low p) DOS_TYPE ≡ planned_type p.letters p.kind
-  unfolding part_block
-  part-type = word_written (part_table plan b low p) part_descends ENV_LENGTH 16 (environment plan low p)
-      (search rules) (omega arith) (omega arith) (types_fit p.letters p.kind)
+  part-type = part_word DOS_TYPE (planned_type p.letters p.kind) (search rules) (omega arith) (types_fit p.letters p.kind)
 
   pub part_priority : cast_signed w32 (word (part_block plan b low p) BOOT_PRIORITY) ≡ p.priority
-  unfolding part_block
   part_priority =
-      ap (cast_signed w32) (word_written (part_table plan b low p) part_descends ENV_LENGTH 15 (environment plan low p)
-      (search rules) (omega arith) (omega arith)
-      (unsigned_fits p.priority fits.priority))
+      ap (cast_signed w32) (part_word BOOT_PRIORITY (cast_unsigned w32 p.priority) (search rules) (omega arith) (unsigned_fits p.priority fits.priority))
       ∙ to_z-of_z w32 p.priority (wide p.priority fits.priority)
 
   part-text : (slice_index (part_block plan b low p) DRIVE_NAME ≡ length p.name) × (text_at (part_block plan b low p) DRIVE_NAME ≡ p.name)

@@ -8,9 +8,6 @@ use Rattle.adf_partitions.specs.declared.field_fault.FieldFault.{FieldFault}
 use Rattle.adf_partitions.specs.declared.field_fault.FieldFault.TheVariants.{ShortEnvironment, OtherBlocks, BadName}
 use Rattle.adf_partitions.specs.declared.place.PlaceFault.{PlaceFault}
 use Rattle.adf_partitions.specs.declared.place.PlaceFault.TheVariants.{NoCylinders, BeyondImage, OverTables, OverPartition}
-use Rattle.adf_partitions.specs.declared.plan_text.TextFault.{TextFault}
-use Rattle.adf_partitions.specs.declared.plan_text.TextKind.{TextKind}
-use Rattle.adf_partitions.specs.declared.plan_text.TextKind.TheVariants.{BadLine, NoEnd, TooLarge, NoMemory as OutOfMemory}
 
 -- what is wrong with a disk
 abbrev pub disk_cause_text : DiskCause → List ℕ
@@ -63,14 +60,3 @@ abbrev pub field_fault_number : FieldFault → ℕ
 field_fault_number ShortEnvironment = 1
 field_fault_number OtherBlocks = 2
 field_fault_number BadName = 7
-
--- what is wrong with the text of a plan
-abbrev pub text_kind_text : TextKind → List ℕ
-text_kind_text BadLine = codes "bad line"
-text_kind_text NoEnd = codes "no end"
-text_kind_text TooLarge = codes "too large"
-text_kind_text OutOfMemory = codes "no memory"
-
--- the line and what is wrong
-abbrev pub text_fault_text : TextFault → List ℕ
-text_fault_text f = codes "line " ++ (decimal f.line ++ (codes ": " ++ text_kind_text f.kind))

@@ -10,4 +10,3 @@ pub mod Searches
 pub mod Volumes
 pub mod Plans
 pub mod WrittenTables
-pub mod PlanTexts

@@ -2,10 +2,14 @@
 use Rattle.std.specs.Prelude.{ℕ, ◌+◌, ◌-◌, ◌*◌, nat_lt, List, [], ◌∷◌, ◌++◌, length, replicate, if◌then◌else◌}
 use Rattle.std.specs.Int.{cast_unsigned, w32}
 use Rattle.std.specs.List.{flat_map}
-use Rattle.adf_blocks.specs.Fields.{Field, block_of_fields, longs, text}
+use Rattle.adf_blocks.specs.Fields.{Field, block_of_fields, long, longs, text}
 use Rattle.adf_base.specs.Words.{sealed}
 use Rattle.adf_partitions.specs.Plans.{PlanValue, cylinder_blocks, planned_cylinders, planned_flags, planned_type, table_cylinders}
-use Rattle.adf_partitions.specs.declared.layout.TheConstants.{CHECKSUM, CYLINDERS, DRIVE_NAME, ENV_LENGTH, LOWEST_TABLE, MARK, NO_BLOCK, PART, RDSK}
+use Rattle.adf_partitions.specs.declared.layout.TheConstants.{ADDRESS_MASK, BAD_BLOCKS, BLOCK_BYTES, BLOCK_SECTORS, BOOT_PRIORITY, BUFFERS, CHECKSUM}
+use Rattle.adf_partitions.specs.declared.layout.TheConstants.{CYLINDERS, CYLINDER_BLOCKS, DOS_TYPE, DRIVE_NAME, ENV_BLOCK_WORDS, ENV_LENGTH, FIRST_PART}
+use Rattle.adf_partitions.specs.declared.layout.TheConstants.{FLAGS, HEADS, HIGHEST_CYLINDER, HIGHEST_TABLE, HIGHEST_USED, HIGH_CYLINDER, HOST, INTERLEAVE}
+use Rattle.adf_partitions.specs.declared.layout.TheConstants.{LOWEST_CYLINDER, LOWEST_TABLE, LOW_CYLINDER, MARK, MOST_TRANSFER, NEXT_PART, NO_BLOCK}
+use Rattle.adf_partitions.specs.declared.layout.TheConstants.{OTHER_LISTS, PARKED, PART, RDSK, RESERVED, SECTORS, SUMMED_LONGS, SURFACES, TRACK_BLOCKS}
 use Rattle.adf_partitions.specs.declared.layout.TheConstants.{WRITTEN_LONGS}
 use Rattle.adf_partitions.specs.declared.plan.PartitionPlan.{PartitionPlan}
 use Rattle.adf_partitions.specs.declared.tables.Tables.{Tables}
@@ -23,44 +27,58 @@ planned_tables plan = record {
   highest = table_cylinders plan * cylinder_blocks plan - 1;
 }
 
--- the first words of the rigid disk block: 64 words have its sum, the host is 7, blocks have 512 bytes, and of all lists of blocks
--- that of the partitions alone has any; words 11 to 15, which have no meaning yet, name no block either
-abbrev pub rdsk_words : PlanValue → List ℕ
-rdsk_words plan =
-    RDSK ∷ WRITTEN_LONGS ∷ 0 ∷ 7 ∷ 512 ∷ 0 ∷ NO_BLOCK ∷ (planned_tables plan).first ∷ NO_BLOCK ∷ NO_BLOCK
-    ∷ NO_BLOCK ∷ NO_BLOCK ∷ NO_BLOCK ∷ NO_BLOCK ∷ NO_BLOCK ∷ NO_BLOCK ∷ []
-
--- the drive: its cylinders, tracks and heads, interleave 1, and where the heads are parked
-abbrev pub drive_words : PlanValue → List ℕ
-drive_words plan = planned_cylinders plan ∷ plan.sectors ∷ plan.heads ∷ 1 ∷ planned_cylinders plan ∷ []
-
--- the blocks kept for the tables, the cylinders that are left, the blocks of a cylinder, and the highest block in use
-abbrev pub kept_words : PlanValue → List ℕ
-kept_words plan =
-    0 ∷ (planned_tables plan).highest ∷ table_cylinders plan ∷ (planned_cylinders plan - 1) ∷ cylinder_blocks plan ∷ 0 ∷ length plan.partitions ∷ []
-
--- the fields of the rigid disk block and their offsets, the last first
+-- the fields of the rigid disk block and their offsets, the last first: 64 words have its sum, blocks have 512 bytes, and of all lists
+-- of blocks that of the partitions alone has any; words that have no meaning yet name no block either
 abbrev pub rdsk_table : PlanValue → List Field
-rdsk_table plan = (4 * LOWEST_TABLE, longs (kept_words plan)) ∷ (4 * CYLINDERS, longs (drive_words plan)) ∷ (4 * MARK, longs (rdsk_words plan)) ∷ []
+rdsk_table plan =
+    (4 * HIGHEST_USED, long (length plan.partitions))
+    ∷ (4 * CYLINDER_BLOCKS, long (cylinder_blocks plan))
+    ∷ (4 * HIGHEST_CYLINDER, long (planned_cylinders plan - 1))
+    ∷ (4 * LOWEST_CYLINDER, long (table_cylinders plan))
+    ∷ (4 * HIGHEST_TABLE, long (planned_tables plan).highest)
+    ∷ (4 * LOWEST_TABLE, long 0)
+    ∷ (4 * PARKED, long (planned_cylinders plan))
+    ∷ (4 * INTERLEAVE, long 1)
+    ∷ (4 * HEADS, long plan.heads)
+    ∷ (4 * SECTORS, long plan.sectors)
+    ∷ (4 * CYLINDERS, long (planned_cylinders plan))
+    ∷ (4 * OTHER_LISTS, longs (replicate 8 NO_BLOCK))
+    ∷ (4 * FIRST_PART, long (planned_tables plan).first)
+    ∷ (4 * BAD_BLOCKS, long NO_BLOCK)
+    ∷ (4 * BLOCK_BYTES, long 512)
+    ∷ (4 * HOST, long 7)
+    ∷ (4 * SUMMED_LONGS, long WRITTEN_LONGS)
+    ∷ (4 * MARK, long RDSK)
+    ∷ []
 
 -- the rigid disk block
 unfoldable pub rdsk_block : PlanValue → List ℕ
 rdsk_block plan = sealed CHECKSUM (block_of_fields (rdsk_table plan))
 
--- the first words of a partition block: the host is 7, then the next block and the flags
-abbrev pub part_words : PlanValue → ℕ → PartitionPlan → List ℕ
-part_words plan b p = PART ∷ WRITTEN_LONGS ∷ 0 ∷ 7 ∷ block_after (length plan.partitions) b ∷ planned_flags p ∷ []
-
--- the environment, behind its length: blocks of 128 words and one sector, 2 blocks reserved, the lowest and the highest cylinder,
--- 30 buffers, transfers of at most 255 blocks to any memory, the boot priority and the type
-abbrev pub environment : PlanValue → ℕ → PartitionPlan → List ℕ
-environment plan low p =
-    16 ∷ 128 ∷ 0 ∷ plan.heads ∷ 1 ∷ plan.sectors ∷ 2 ∷ 0 ∷ 0 ∷ low ∷ (low + p.cylinders - 1) ∷ 30 ∷ 0 ∷ 0x1FE00 ∷ 0xFFFFFFFE
-    ∷ cast_unsigned w32 p.priority ∷ planned_type p.letters p.kind ∷ []
-
--- the fields of a partition block and their offsets, the last first
+-- the fields of a partition block and their offsets, the last first: blocks of 128 words and one sector, 2 blocks reserved, 30 buffers,
+-- transfers of at most 255 blocks to any memory
 abbrev pub part_table : PlanValue → ℕ → ℕ → PartitionPlan → List Field
-part_table plan b low p = (4 * ENV_LENGTH, longs (environment plan low p)) ∷ (DRIVE_NAME, text p.name) ∷ (4 * MARK, longs (part_words plan b p)) ∷ []
+part_table plan b low p =
+    (4 * DOS_TYPE, long (planned_type p.letters p.kind))
+    ∷ (4 * BOOT_PRIORITY, long (cast_unsigned w32 p.priority))
+    ∷ (4 * ADDRESS_MASK, long 0xFFFFFFFE)
+    ∷ (4 * MOST_TRANSFER, long 0x1FE00)
+    ∷ (4 * BUFFERS, long 30)
+    ∷ (4 * HIGH_CYLINDER, long (low + p.cylinders - 1))
+    ∷ (4 * LOW_CYLINDER, long low)
+    ∷ (4 * RESERVED, long 2)
+    ∷ (4 * TRACK_BLOCKS, long plan.sectors)
+    ∷ (4 * BLOCK_SECTORS, long 1)
+    ∷ (4 * SURFACES, long plan.heads)
+    ∷ (4 * ENV_BLOCK_WORDS, long 128)
+    ∷ (4 * ENV_LENGTH, long 16)
+    ∷ (DRIVE_NAME, text p.name)
+    ∷ (4 * FLAGS, long (planned_flags p))
+    ∷ (4 * NEXT_PART, long (block_after (length plan.partitions) b))
+    ∷ (4 * HOST, long 7)
+    ∷ (4 * SUMMED_LONGS, long WRITTEN_LONGS)
+    ∷ (4 * MARK, long PART)
+    ∷ []
 
 -- a partition block
 unfoldable pub part_block : PlanValue → ℕ → ℕ → PartitionPlan → List ℕ

@@ -11,9 +11,6 @@ mod names;
 mod partition;
 mod place;
 mod plan;
-mod plan_line;
-mod plan_text;
-mod plan_words;
 mod search;
 mod summed;
 mod tables;
@@ -34,13 +31,9 @@ pub use crate::layout::{
     SUMMED_LONGS, SURFACES, TRACK_BLOCKS,
 };
 pub use crate::names::are_same;
-pub use crate::partition::{DriveName, Partition};
+pub use crate::partition::{DriveName, Partition, are_name_bytes};
 pub use crate::place::{Place, PlaceFault, stated_place};
 pub use crate::plan::{DiskPlan, PartitionPlan, cylinder_blocks};
-pub use crate::plan_text::{
-    TextFault, TextKind, kind_words_tell_types, one_text, read_plan, some_text,
-};
-pub use crate::plan_words::{cut, cut_line};
 pub use crate::search::readable_partitions;
 pub use crate::tables::{Tables, read_tables};
 pub use crate::tables_out::{planned_disks, write_tables};

@@ -9,14 +9,18 @@ ghost use Rattle.adf_partitions.specs.WrittenTables.{block_after, disk_bytes, pa
 ghost use Rattle.adf_partitions.specs.declared.layout.TheConstants.{DRIVE_NAME};
 
 use crate::layout::{
-    CHECKSUM, CYLINDERS, DRIVE_NAME, ENV_LENGTH, LOWEST_TABLE, MARK, NO_BLOCK, PART, RDSK,
+    ADDRESS_MASK, BAD_BLOCKS, BLOCK_BYTES, BLOCK_SECTORS, BOOT_PRIORITY, BUFFERS, CHECKSUM,
+    CYLINDER_BLOCKS, CYLINDERS, DOS_TYPE, DRIVE_NAME, ENV_BLOCK_WORDS, ENV_LENGTH, FIRST_PART,
+    FLAGS, HEADS, HIGH_CYLINDER, HIGHEST_CYLINDER, HIGHEST_TABLE, HIGHEST_USED, HOST, INTERLEAVE,
+    LOW_CYLINDER, LOWEST_CYLINDER, LOWEST_TABLE, MARK, MOST_TRANSFER, NEXT_PART, NO_BLOCK,
+    OTHER_LISTS, PARKED, PART, RDSK, RESERVED, SECTORS, SUMMED_LONGS, SURFACES, TRACK_BLOCKS,
     WRITTEN_LONGS,
 };
 use crate::plan::{
     DiskPlan, PartitionPlan, cylinder_blocks, planned_cylinders, planned_flags, planned_type,
     table_cylinders,
 };
-use adf_base::{BLOCK_LEN, put_bytes, put_words, seal_block};
+use adf_base::{BLOCK_LEN, put_bytes, put_word, put_words, seal_block};
 use std::alloc::{AllocError, Global};
 
 // The number of the first partition blocks behind block `b`, if there is one.
@@ -36,48 +40,25 @@ fn rdsk_bytes(plan: &DiskPlan) -> [u8; 512]
     let cylinder = cylinder_blocks(plan);
     let kept = table_cylinders(plan);
     let cylinders = planned_cylinders(plan);
-    let first = block_after(count, 0);
     let mut block = [0u8; 512];
-    put_words(
-        &mut block,
-        MARK,
-        &[
-            RDSK,
-            WRITTEN_LONGS,
-            0,
-            7,
-            512,
-            0,
-            NO_BLOCK,
-            first,
-            NO_BLOCK,
-            NO_BLOCK,
-            NO_BLOCK,
-            NO_BLOCK,
-            NO_BLOCK,
-            NO_BLOCK,
-            NO_BLOCK,
-            NO_BLOCK,
-        ],
-    );
-    put_words(
-        &mut block,
-        CYLINDERS,
-        &[cylinders, plan.sectors, plan.heads, 1, cylinders],
-    );
-    put_words(
-        &mut block,
-        LOWEST_TABLE,
-        &[
-            0,
-            kept * cylinder - 1,
-            kept,
-            cylinders - 1,
-            cylinder,
-            0,
-            count,
-        ],
-    );
+    put_word(&mut block, MARK, RDSK);
+    put_word(&mut block, SUMMED_LONGS, WRITTEN_LONGS);
+    put_word(&mut block, HOST, 7);
+    put_word(&mut block, BLOCK_BYTES, 512);
+    put_word(&mut block, BAD_BLOCKS, NO_BLOCK);
+    put_word(&mut block, FIRST_PART, block_after(count, 0));
+    put_words(&mut block, OTHER_LISTS, &[NO_BLOCK; 8]);
+    put_word(&mut block, CYLINDERS, cylinders);
+    put_word(&mut block, SECTORS, plan.sectors);
+    put_word(&mut block, HEADS, plan.heads);
+    put_word(&mut block, INTERLEAVE, 1);
+    put_word(&mut block, PARKED, cylinders);
+    put_word(&mut block, LOWEST_TABLE, 0);
+    put_word(&mut block, HIGHEST_TABLE, kept * cylinder - 1);
+    put_word(&mut block, LOWEST_CYLINDER, kept);
+    put_word(&mut block, HIGHEST_CYLINDER, cylinders - 1);
+    put_word(&mut block, CYLINDER_BLOCKS, cylinder);
+    put_word(&mut block, HIGHEST_USED, count);
     seal_block(&mut block, CHECKSUM);
     block
 }
@@ -105,35 +86,25 @@ fn part_bytes(plan: &DiskPlan, b: u32, low: u32, partition: &PartitionPlan) -> [
     let priority = i32::from(partition.priority).cast_unsigned();
     let dos_type = planned_type(partition.letters, partition.kind);
     let mut block = [0u8; 512];
-    put_words(
-        &mut block,
-        MARK,
-        &[PART, WRITTEN_LONGS, 0, 7, next, planned_flags(partition)],
-    );
+    put_word(&mut block, MARK, PART);
+    put_word(&mut block, SUMMED_LONGS, WRITTEN_LONGS);
+    put_word(&mut block, HOST, 7);
+    put_word(&mut block, NEXT_PART, next);
+    put_word(&mut block, FLAGS, planned_flags(partition));
     put_name(&mut block, partition.name.bytes());
-    put_words(
-        &mut block,
-        ENV_LENGTH,
-        &[
-            16,
-            128,
-            0,
-            plan.heads,
-            1,
-            plan.sectors,
-            2,
-            0,
-            0,
-            low,
-            high,
-            30,
-            0,
-            0x0001_FE00,
-            0xFFFF_FFFE,
-            priority,
-            dos_type,
-        ],
-    );
+    put_word(&mut block, ENV_LENGTH, 16);
+    put_word(&mut block, ENV_BLOCK_WORDS, 128);
+    put_word(&mut block, SURFACES, plan.heads);
+    put_word(&mut block, BLOCK_SECTORS, 1);
+    put_word(&mut block, TRACK_BLOCKS, plan.sectors);
+    put_word(&mut block, RESERVED, 2);
+    put_word(&mut block, LOW_CYLINDER, low);
+    put_word(&mut block, HIGH_CYLINDER, high);
+    put_word(&mut block, BUFFERS, 30);
+    put_word(&mut block, MOST_TRANSFER, 0x0001_FE00);
+    put_word(&mut block, ADDRESS_MASK, 0xFFFF_FFFE);
+    put_word(&mut block, BOOT_PRIORITY, priority);
+    put_word(&mut block, DOS_TYPE, dos_type);
     seal_block(&mut block, CHECKSUM);
     block
 }

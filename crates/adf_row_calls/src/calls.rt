@@ -8,7 +8,7 @@ use adf_base::{Letters, NoMemory, Stamp};
 use adf_blocks::Cause;
 use adf_build::build;
 use adf_check::{Owner, Owners, check_types};
-use adf_fields::stamp_text;
+use adf_dates::{CIVIL_DAYS, stamp_text};
 use adf_findings::{Types, survey};
 use adf_tree::{Comment, Label, Node};
 use std::alloc::Global;
@@ -20,8 +20,8 @@ pub const FILE: &str = "volume ofs 16 | file 0:0:0 00000000 a | fill 489 41";
 const DATES: [(u32, u32, u32, &str); 6] = [
     (8035, 0, 0, "2000-01-01 00:00:00.00"),
     (0, 1439, 2999, "1978-01-01 23:59:59.49"),
-    (2_929_974, 0, 0, "9999-12-31 00:00:00.00"),
-    (2_929_975, 0, 0, "2929975:0:0"),
+    (CIVIL_DAYS - 1, 0, 0, "9999-12-31 00:00:00.00"),
+    (CIVIL_DAYS, 0, 0, "2929975:0:0"),
     (0, 1440, 0, "0:1440:0"),
     (0, 0, 3000, "0:0:3000"),
 ];

@@ -3,7 +3,8 @@
 
 use adf_base::{seal, set_word};
 use adf_memory::{TableDisk, TablePartition, put_disk};
-use adf_partitions::{read_plan, write_tables};
+use adf_partitions::write_tables;
+use adf_plans::read_plan;
 use std::alloc::Global;
 
 const PLAN: &[u8] =

@@ -1,5 +1,0 @@
-use Rattle.adf_partitions.proofs.Cuts.{IsCutLater}
-use Rattle.adf_partitions.proofs.plan_words.cut.Given as goal
-
-abbrev pub invariant-loop-i : goal.invariant-loop-i
-invariant-loop-i l = IsCutLater l.byte l.text l.i

@@ -1,0 +1,4 @@
+pub mod Cuts
+pub mod TextLines
+pub mod OnePlan
+pub mod SomeTexts

@@ -1,0 +1,179 @@
+-- Every text has a plan, or a fault. k is how many bytes are left at most; t is a text, p a partition, ps partitions, e what is behind their lines.
+use Rattle.std.proofs.Common.{◌≡◌, ◌∙◌, ◌≤◌, ◌+◌, ◌⊎◌, ℕ, ℤ, zero, suc, Bool, true, false, List, [], ◌∷◌, Option, Some}
+use Rattle.std.proofs.Common.{arith, codes, inl, inr, length, refl, subst, sym}
+use Rattle.std.specs.Prelude.{FitsSigned}
+use Rattle.std.specs.Int.{int_wrap, w8}
+use Rattle.std.proofs.Math.IntN.{ℤ_discrete}
+use Rattle.std.specs.List.{list_all}
+use Rattle.std.proofs.lemmas.Int.{SFits-int_wrap, int_wrap_fits}
+use native.Mathlib.Decide.{dec_le, map_dec}
+use mathlib.Core.Logic.Dec.{and as dec_and}
+use Rattle.adf_base.specs.declared.hash.Letters.{Letters}
+use Rattle.adf_names.proofs.SomeSpellings.{Spells, spelt}
+use Rattle.adf_names.proofs.Spellings.{only_spelled}
+use Rattle.adf_names.specs.Escapes.{IsSpelling}
+use Rattle.adf_names.specs.VolumeTypes.{kind_named_by}
+use Rattle.adf_names.specs.Texts.{is_name_byte}
+use Rattle.adf_names.specs.declared.kind.Kind.{Kind}
+use Rattle.adf_partitions.proofs.NamedPartitions.{none_or_some}
+use Rattle.adf_plans.proofs.TextLines.{line_taken}
+use Rattle.adf_partitions.specs.declared.plan.PartitionPlan.{PartitionPlan}
+use Rattle.adf_plans.specs.declared.plan_line.Options.{Options}
+use Rattle.adf_plans.specs.declared.plan_text.TextKind.TheVariants.{BadLine, NoEnd, TooLarge}
+use Rattle.adf_partitions.specs.Plans.{PlanValue}
+use Rattle.adf_plans.specs.PlanTexts.{AreLines, HasLines, HasPlanOrFault, IsDiskLine, IsPartitionLine, IsPartitionText, HasNoPartition}
+use Rattle.adf_plans.specs.PlanTexts.{behind_line, behind_word, ends_in_space, first_line, first_word, has_word, begins_with_end, is_plan}
+use Rattle.adf_plans.specs.PlanTexts.{kind_word, decimal_number}
+use Rattle.adf_plans.specs.PlanTexts.{options_in}
+use Rattle.adf_plans.specs.PlanTexts.{options_of}
+
+-- whether two truth values are equal
+dec_is : (a b : Bool) → Dec (a ≡ b)
+dec_is true true = yes refl
+dec_is true false = no (λ e. absurd cc)
+dec_is false true = no (λ e. absurd cc)
+dec_is false false = yes refl
+
+not_true : (b : Bool) → ¬ (b ≡ true) → b ≡ false
+not_true true h = absurd (h refl)
+not_true false h = refl
+
+pub one_some : {A : Type 0} (o : Option A) (x y : A) → o ≡ Some x → o ≡ Some y → x ≡ y
+one_some o x y h k = cc
+
+-- what a name is, and whether it is one
+abbrev IsDriveName : List ℕ → List ℕ → Type 0
+IsDriveName t name = IsSpelling 31 t name × (1 ≤ length name) × (list_all is_name_byte name ≡ true)
+
+some_name : (t : List ℕ) → ((name : List ℕ) × IsDriveName t name) ⊎ ((name : List ℕ) → ¬ IsDriveName t name)
+some_name t = elim (spelt t) [
+  | inr none ↦ inr (λ name is. none name (is.0.spells, is.0.are_bytes))
+  | inl found ↦ by_bytes found.0 found.1
+]
+  where
+    by_bytes : (bytes : List ℕ) → Spells t bytes → ((name : List ℕ) × IsDriveName t name) ⊎ ((name : List ℕ) → ¬ IsDriveName t name)
+    by_bytes bytes spells =
+        elim (dec_and (dec_and (dec_le (length bytes) 31) (dec_le 1 (length bytes))) (dec_is (list_all is_name_byte bytes) true)) [
+          | yes good ↦ inl (bytes, (record { spells = spells.0; are_bytes = spells.1; short = good.0.0 }, good.0.1, good.1))
+          | no bad ↦ inr (λ name is.
+              let same : name ≡ bytes = only_spelled name bytes is.0.are_bytes spells.1 (sym is.0.spells ∙ spells.0) in
+              let here = subst (IsDriveName t) same is in bad ((here.0.short, here.1), here.2))
+        ]
+
+-- whether a number has so many bits
+dec_fits : (z : ℤ) → Dec (FitsSigned w8 z)
+dec_fits z =
+    map_dec (λ (e : int_wrap w8 z ≡ z). subst (FitsSigned w8) e (SFits-int_wrap w8 z)) (λ (f : FitsSigned w8 z). int_wrap_fits w8 z f)
+    (ℤ_discrete (int_wrap w8 z) z)
+
+abbrev pub made : List ℕ → Kind × Letters → ℕ → Options → PartitionPlan
+made name kind cylinders o = record {
+  name = name;
+  kind = kind.0;
+  letters = kind.1;
+  cylinders = cylinders;
+  bootable = o.bootable;
+  priority = o.priority;
+  given = o.given;
+}
+
+-- the words behind `partition` are those of a partition, or of none
+partition_text : (t : List ℕ) → ((p : PartitionPlan) × IsPartitionText t p) ⊎ ((p : PartitionPlan) → ¬ IsPartitionText t p)
+partition_text t = elim (some_name (first_word t)) [
+  | inr none ↦ inr (λ p is. none p.name (is.name, is.some, is.bytes))
+  | inl name ↦ elim (none_or_some (kind_named_by (kind_word t))) [
+    | inl none ↦ inr (λ p is. let e = is.kind in absurd cc)
+    | inr kind ↦ elim (none_or_some (decimal_number (first_word (behind_word (behind_word t))))) [
+      | inl none ↦ inr (λ p is. let e = is.cylinders in absurd cc)
+      | inr cylinders ↦ elim (none_or_some (options_of (behind_word (behind_word (behind_word t))))) [
+        | inl none ↦ inr (λ p is. let e = is.options in absurd cc)
+        | inr options ↦ elim (dec_and (dec_le 1 cylinders.0) (dec_fits options.0.priority)) [
+          | yes good ↦ inl (made name.0 kind.0 cylinders.0 options.0, of_words name kind cylinders options good)
+          | no bad ↦ inr (λ p is. bad (same_words cylinders options p is))
+        ]
+      ]
+    ]
+  ]
+]
+  where
+    of_words : (name : (n : List ℕ) × IsDriveName (first_word t) n) (kind : (x : Kind × Letters) × (kind_named_by (kind_word t) ≡ Some x))
+        (cylinders : (n : ℕ) × (decimal_number (first_word (behind_word (behind_word t))) ≡ Some n))
+        (options : (o : Options) × (options_of (behind_word (behind_word (behind_word t))) ≡ Some o))
+        → (1 ≤ cylinders.0) × FitsSigned w8 options.0.priority → IsPartitionText t (made name.0 kind.0 cylinders.0 options.0)
+    of_words name kind cylinders options good = record {
+      name = name.1.0;
+      kind = kind.1;
+      cylinders = cylinders.1;
+      options = options.1;
+      some = name.1.1;
+      bytes = name.1.2;
+      size = good.0;
+      priority = good.1;
+    }
+
+    same_words : (cylinders : (n : ℕ) × (decimal_number (first_word (behind_word (behind_word t))) ≡ Some n))
+        (options : (o : Options) × (options_of (behind_word (behind_word (behind_word t))) ≡ Some o)) (p : PartitionPlan) → IsPartitionText t p
+        → (1 ≤ cylinders.0) × FitsSigned w8 options.0.priority
+    same_words cylinders options p is =
+        let number : p.cylinders ≡ cylinders.0 = one_some _ p.cylinders cylinders.0 is.cylinders cylinders.1 in
+        let words : options_in p ≡ options.0 = one_some _ (options_in p) options.0 is.options options.1 in
+        (subst (λ (n : ℕ). 1 ≤ n) number is.size, subst (λ (o : Options). FitsSigned w8 o.priority) words is.priority)
+
+-- a line is that of a partition, or of none
+partition_line : (line : List ℕ) → ((p : PartitionPlan) × IsPartitionLine line p) ⊎ ((p : PartitionPlan) → ¬ IsPartitionLine line p)
+partition_line line = elim (dec_and (dec_is (ends_in_space line) false) (dec_is (has_word (codes "partition") line) true)) [
+  | no bad ↦ inr (λ p is. bad (is.last, is.word))
+  | yes good ↦ elim (partition_text (behind_word line)) [
+    | inl found ↦ inl (found.0, record { last = good.0; word = good.1; text = found.1 })
+    | inr none ↦ inr (λ p is. none p is.text)
+  ]
+]
+
+-- the lines of partitions that come first
+some_lines : (k : ℕ) (left : List ℕ) → length left ≤ k → (ps : List PartitionPlan) × (e : List ℕ) × AreLines left ps e × HasNoPartition e
+unfolding AreLines
+some_lines zero left le = elim (partition_line (first_line left)) [
+  | inr none ↦ ([], left, refl, none)
+  | inl (p, is) ↦ absurd (omega (arith, le, line_taken left p is))
+]
+some_lines (suc k) left le = elim (partition_line (first_line left)) [
+  | inr none ↦ ([], left, refl, none)
+  | inl (p, is) ↦
+      let (ps, e, are, stops) = some_lines k (behind_line left) (omega (arith, le, line_taken left p is)) in (p ∷ ps, e, (is, are), stops)
+]
+
+-- the first line is that of a disk, or of none
+disk_line : (line : List ℕ)
+    → ((sectors heads : ℕ) × IsDiskLine line sectors heads) ⊎ ((sectors heads : ℕ) → ¬ IsDiskLine line sectors heads)
+disk_line line = elim (dec_is (has_word (codes "disk") line) true) [
+  | no bad ↦ inr (λ sectors heads is. bad is.word)
+  | yes word ↦ elim (none_or_some (decimal_number (first_word (behind_word line)))) [
+    | inl none ↦ inr (λ sectors heads is. let e = is.text.first in absurd cc)
+    | inr sectors ↦ elim (none_or_some (decimal_number (behind_word (behind_word line)))) [
+      | inl none ↦ inr (λ sectors heads is. let e = is.text.second in absurd cc)
+      | inr heads ↦ inl (sectors.0, heads.0, record { word = word; text = record { first = sectors.1; second = heads.1 } })
+    ]
+  ]
+]
+
+-- what is behind the lines of a plan ends it, or is a fault
+end_of_lines : (text : List ℕ) (plan : PlanValue) (e : List ℕ) → HasLines text plan e → HasPlanOrFault text
+end_of_lines text plan [] lines = inr (record { line = length plan.partitions + 2; kind = NoEnd }, inr (plan, [], lines, refl, refl))
+end_of_lines text plan (c ∷ cs) lines = elim (dec_is (begins_with_end (c ∷ cs)) true) [
+  | no bad ↦ inr (
+    record { line = length plan.partitions + 2; kind = BadLine },
+    inr (plan, c ∷ cs, lines, refl, ((λ h. absurd cc), not_true (begins_with_end (c ∷ cs)) bad)),
+  )
+  | yes ends ↦ elim (dec_is (is_plan plan) true) [
+    | yes good ↦ inl (plan, behind_line (c ∷ cs), record { end = c ∷ cs; lines = lines; ends = ends; good = good; behind = refl })
+    | no large ↦ inr (record { line = length plan.partitions + 2; kind = TooLarge }, inr (plan, c ∷ cs, lines, refl, (ends, not_true (is_plan plan) large)))
+  ]
+]
+
+pub some_text : (text : List ℕ) → HasPlanOrFault text
+some_text text = elim (disk_line (first_line text)) [
+  | inr none ↦ inr (record { line = 1; kind = BadLine }, inl (refl, refl, none))
+  | inl (sectors, heads, is) ↦
+      let (ps, e, are, stops) = some_lines (length (behind_line text)) (behind_line text) (omega arith) in
+      end_of_lines text (record { sectors = sectors; heads = heads; partitions = ps }) e (is, are, stops)
+]

@@ -1,0 +1,2 @@
+-- All of it is the promise.
+pub mod PlanTexts

@@ -1,0 +1,11 @@
+//! The texts of plans of hard disks.
+#![tactic(auto)]
+
+mod plan_line;
+mod plan_text;
+mod plan_words;
+
+pub use crate::plan_text::{
+    TextFault, TextKind, kind_words_tell_types, one_text, read_plan, some_text,
+};
+pub use crate::plan_words::{cut, cut_line};

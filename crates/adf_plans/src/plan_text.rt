@@ -1,0 +1,235 @@
+// The text of a plan.
+
+ghost use Rattle.std.specs.Prelude.{◌≡◌, ◌≢◌, ◌≤◌, ◌^◌, ℕ, List, IfErr, IfNone, IfOk, IfSome, OnErr, length, nat_lt, true};
+ghost use Rattle.std.specs.List.{list_all};
+ghost use Rattle.adf_names.specs.VolumeTypes.{kind_text_by};
+ghost use Rattle.adf_partitions.specs.Plans.{IsPlan, cylinder_blocks, plan_value, planned_blocks, planned_type};
+ghost use Rattle.adf_plans.specs.PlanTexts.{AreLines, HasBegun, HasNoPartition, HasPartition, HasPlanOrFault, IsEndFault, IsPartitionText};
+ghost use Rattle.adf_plans.specs.PlanTexts.{IsText, IsTextFault, PlansHaveNoFault, TextsHaveOneFault, TextsHaveOnePlan};
+ghost use Rattle.adf_plans.specs.PlanTexts.{begins_with_end, has_volume, is_plan, kind_word, text_kind_text};
+ghost use Rattle.adf_partitions.specs.declared.layout.TheConstants.{MOST_PARTITIONS};
+ghost use Rattle.adf_partitions.specs.declared.plan.PartitionPlan.{PartitionPlan};
+ghost use Rattle.adf_plans.specs.declared.plan_text.TextKind.{TextKind};
+
+use crate::plan_line::{read_disk, read_partition};
+use crate::plan_words::cut_line;
+use adf_blocks::MOST_BLOCKS;
+use adf_partitions::{DiskPlan, MOST_PARTITIONS, PartitionPlan};
+use std::alloc::{AllocError, Global};
+use std::fmt;
+
+/// What is wrong with a text.
+#[derive(Clone, Copy, Debug, PartialEq, Eq)]
+pub enum TextKind {
+    /// The line has no form that is allowed at its place.
+    BadLine = 1,
+    /// The text ends before a line `end`.
+    NoEnd = 2,
+    /// No disk can have the plan, or a new volume cannot have the size or the label of its partition.
+    TooLarge = 3,
+    /// An allocation failed.
+    NoMemory = 4,
+}
+
+impl TextKind {
+    /// The text of the kind as printed.
+    pub fn text(self) -> &'static str
+        ensures { result.now ≡ text_kind_text self }
+    {
+        match self {
+            TextKind::BadLine => "bad line",
+            TextKind::NoEnd => "no end",
+            TextKind::TooLarge => "too large",
+            TextKind::NoMemory => "no memory",
+        }
+    }
+}
+
+impl fmt::Display for TextKind {
+    ghost use Rattle.std.specs.Prelude.{Some};
+    ghost use Rattle.adf_plans.specs.PlanTexts.{text_kind_text};
+
+    ghost output = { λ x. Some (text_kind_text x) };
+
+    fn fmt<W: fmt::Write>(&self, f: &mut fmt::Formatter<W>) -> fmt::Result {
+        f.write_str(self.text())
+    }
+}
+
+/// The first line with a fault, counted from 1, and its kind.
+#[derive(Clone, Copy, Debug, PartialEq, Eq)]
+pub struct TextFault {
+    pub line: usize,
+    pub kind: TextKind,
+}
+
+impl fmt::Display for TextFault {
+    ghost use Rattle.std.specs.Prelude.{Some};
+    ghost use Rattle.adf_plans.specs.PlanTexts.{text_fault_text};
+
+    ghost output = { λ f. Some (text_fault_text f) };
+
+    fn fmt<W: fmt::Write>(&self, f: &mut fmt::Formatter<W>) -> fmt::Result {
+        let line = self.line;
+        let kind = self.kind;
+        write!(f, "line {line}: {kind}")
+    }
+}
+
+// A fault of a line.
+fn fault_at(line: usize, kind: TextKind) -> TextFault
+    ensures { (result.line ≡ line) × (result.kind ≡ kind) }
+{
+    TextFault { line, kind }
+}
+
+#[tactic(auto, using(crate::proofs::TextLines::line_taken, crate::proofs::TextLines::line_added))]
+// The partitions whose lines stand first, and the text behind them.
+fn read_lines(alloc: Global, text: &[u8]) -> Result<(Vec<PartitionPlan>, &[u8]), AllocError>
+    ensures lines { IfOk result (λ r. AreLines text.now r.0.items r.1.now) }
+    ensures stops { IfOk result (λ r. HasNoPartition r.1.now) }
+    ensures begun { OnErr result (HasPartition text.now) }
+{
+    let mut partitions = Vec::new(alloc);
+    let mut left = text;
+    loop {
+        let (line, rest) = cut_line(left);
+        match read_partition(line) {
+            Some(partition) => partitions.push(partition)?,
+            None => return Ok((partitions, left)),
+        }
+        left = rest;
+    }
+}
+
+// Whether a volume of so many blocks may be made, or needs not.
+fn has_volume(partition: &PartitionPlan, cylinder: u64) -> bool
+    ensures { result ≡ has_volume cylinder partition.now }
+{
+    if partition.given {
+        return true;
+    }
+    match u64::from(partition.cylinders).checked_mul(cylinder) {
+        Some(blocks) => {
+            4 <= blocks
+                && blocks <= u64::from(MOST_BLOCKS)
+                && blocks % 2 == 0
+                && partition.name.bytes().len() <= 30
+        }
+        None => false,
+    }
+}
+
+// Whether each of these partitions has a volume that is given or may be made.
+fn have_volumes(partitions: &[PartitionPlan], cylinder: u64) -> bool
+    ensures { result ≡ list_all (has_volume cylinder) partitions.now }
+{
+    partitions
+        .iter()
+        .all(|partition| has_volume(partition, cylinder))
+}
+
+#[tactic(auto, using(adf_partitions::proofs::PlanSizes::cylinder_sums))]
+// Whether a disk of this plan has fewer blocks than 2^32.
+fn is_small(plan: &DiskPlan, cylinder: u64) -> bool
+    requires positive { 1 ≤ cylinder }
+    requires few { length plan.now.partitions.items ≤ MOST_PARTITIONS }
+    requires cylinder { cylinder ≡ cylinder_blocks (plan_value plan.now) }
+    ensures { result ≡ nat_lt (planned_blocks (plan_value plan.now)) (2 ^ 32) }
+{
+    if 1 << 32 <= cylinder {
+        return false;
+    }
+    let mut cylinders = (plan.partitions.len() as u64 + cylinder) / cylinder;
+    for partition in &plan.partitions {
+        cylinders += u64::from(partition.cylinders);
+    }
+    match cylinders.checked_mul(cylinder) {
+        Some(blocks) => blocks < 1 << 32,
+        None => false,
+    }
+}
+
+/// Whether a disk can have this plan, and its new volumes too.
+pub fn is_plan(plan: &DiskPlan) -> bool
+    ensures { result ≡ is_plan (plan_value plan.now) }
+{
+    if plan.sectors < 1 || plan.heads < 1 || MOST_PARTITIONS < plan.partitions.len() {
+        return false;
+    }
+    let cylinder = u64::from(plan.heads) * u64::from(plan.sectors);
+    is_small(plan, cylinder) && have_volumes(&plan.partitions, cylinder)
+}
+
+// What is wrong behind the lines of a plan, if something is.
+fn end_fault(plan: &DiskPlan, end: &[u8]) -> Option<TextKind>
+    ensures some { IfSome result (λ kind. IsEndFault (plan_value plan.now) end.now kind) }
+    ensures none { IfNone result ((begins_with_end end.now ≡ true)
+        × (is_plan (plan_value plan.now) ≡ true)) }
+{
+    let (line, _rest) = cut_line(end);
+    if end.is_empty() {
+        Some(TextKind::NoEnd)
+    } else if line != b"end".as_slice() {
+        Some(TextKind::BadLine)
+    } else if !is_plan(plan) {
+        Some(TextKind::TooLarge)
+    } else {
+        None
+    }
+}
+
+/// Reads the text of a plan, whose lines end in a line feed, with one space between their words: a line `disk SECTORS HEADS`,
+/// a line `partition NAME KIND CYLINDERS` for each partition, perhaps with `bootable`, `priority P` and `given` behind it in
+/// this order, and a line `end`. Returns the plan, and the bytes behind the text. KIND is `ofs` or `ffs`, or one of these with
+/// `-international` behind it. A number is at most 1,048,576, P is -128 to 127.
+///
+/// The first line with a fault; `NoMemory`, at line 0, if an allocation fails, which can happen only if a line of a partition
+/// stands behind the first.
+pub fn read_plan(alloc: Global, text: &[u8]) -> Result<(DiskPlan, &[u8]), TextFault>
+    ensures text { IfOk result (λ r. IsText text.now (plan_value r.0) r.1.now) }
+    ensures plan { IfOk result (λ r. IsPlan (plan_value r.0)) }
+    ensures fault { IfErr result (λ f. f.kind ≢ TextKind.NoMemory → IsTextFault text.now f) }
+    ensures memory { IfErr result (λ f. f.kind ≡ TextKind.NoMemory → f.line ≡ 0) }
+
+    // Memory is wanted only for the lines of partitions.
+    ensures begun { IfErr result (λ f. f.kind ≡ TextKind.NoMemory → HasBegun text.now) }
+{
+    let (line, rest) = cut_line(text);
+    let Some((sectors, heads)) = read_disk(line) else {
+        return Err(fault_at(1, TextKind::BadLine));
+    };
+    let Ok((partitions, end)) = read_lines(alloc, rest) else {
+        return Err(fault_at(0, TextKind::NoMemory));
+    };
+    let number = partitions.len() + 2;
+    let plan = DiskPlan {
+        sectors,
+        heads,
+        partitions,
+    };
+    match end_fault(&plan, end) {
+        Some(kind) => Err(fault_at(number, kind)),
+        None => Ok((plan, cut_line(end).1)),
+    }
+}
+
+/// Every text has a plan, or a fault.
+pub fn some_text()
+    ensures { (text : List ℕ) → HasPlanOrFault text }
+{}
+
+/// The line of a partition has the word for its kind and letters, and partitions of one type have the same.
+pub fn kind_words_tell_types()
+    ensures word { (text : List ℕ) (p : PartitionPlan) → IsPartitionText text p
+        → kind_word text ≡ kind_text_by p.letters p.kind }
+    ensures types { (p q : PartitionPlan) → planned_type p.letters p.kind ≡ planned_type q.letters q.kind
+        → (p.letters ≡ q.letters) × (p.kind ≡ q.kind) }
+{}
+
+/// A text has one plan, or one first fault.
+pub fn one_text()
+    ensures plan { TextsHaveOnePlan }
+    ensures faultless { PlansHaveNoFault }
+    ensures fault { TextsHaveOneFault }
+{}
