@@ -47,9 +47,13 @@ pub record Seen : Type 0 where
 abbrev pub seen : {D : Type 0} → (D → Option (List ℕ)) → (D → Bool) → D → D → Seen
 seen known has_failed old new = record { before = known old; after = known new; failed = has_failed new }
 
+-- a device of which the same is known before and after
+abbrev pub still : Option (List ℕ) → Bool → Seen
+still known failed = record { before = known; after = known; failed = failed }
+
 -- bytes at hand, which cannot fail
 abbrev pub at_hand : List ℕ → Seen
-at_hand bytes = record { before = Some bytes; after = Some bytes; failed = false }
+at_hand bytes = still (Some bytes) false
 
 -- the text was added to errors, or where they have failed a front part of it, but not all
 abbrev pub IsTold : Seen → List ℕ → Type 0
