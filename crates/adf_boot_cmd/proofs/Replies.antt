@@ -1,12 +1,10 @@
 -- The answers to orders, case by case.
-use Rattle.std.proofs.Common.{◌≡◌, ℕ, List, ◌++◌, ◌+◌, ◌<◌, ◌≤◌, true, false, Option, codes, drop, length, min, take, ap, ◌∙◌, subst, sym, refl, arith}
+use Rattle.std.proofs.Common.{◌≡◌, ℕ, List, ◌++◌, ◌+◌, ◌<◌, ◌≤◌, true, false, codes, drop, length, min, take, ap, ◌∙◌, refl, arith}
 use Rattle.std.proofs.lemmas.Bool.{lt-leb, le-leb}
 use Rattle.std.proofs.lemmas.List.{take-take, take_min}
 use Rattle.adf_boot_blocks.specs.BootBlocks.{begins_with_dos, is_bootable}
 use Rattle.adf_boot_blocks.specs.declared.boot.TheConstants.{BOOT_LEN}
 use Rattle.adf_runs.specs.Commands.{Reply, on_errors, on_output}
-use Rattle.adf_runs.specs.Outcomes.{EndsBy}
-use Rattle.adf_runs.specs.declared.outcome.Outcome.{Outcome}
 use Rattle.adf_boot_cmd.specs.Answers.{BootAnswer, Order, reply_of, changed_boot, is_whole, line_status, boot_reply, written, written_from}
 use Rattle.adf_boot_cmd.specs.declared.work.TheConstants.{MOST_BYTES}
 use Rattle.adf_boot_cmd.specs.Lines.{boot_line}
@@ -22,10 +20,6 @@ pub long_answers : (order : Order) (image bytes : List ℕ) → image ≡ take (
     → (reply : Reply) → BootAnswer order image reply → BootAnswer order bytes reply
 long_answers order image bytes front reply h =
     h ∙ ap (reply_of order) (ap (take MOST_BYTES) front ∙ take-take MOST_BYTES (MOST_BYTES + 1) bytes (omega arith))
-
--- what ends by one reply ends by another that it is
-pub ends_by : (a b : Reply) (w : Outcome) (o o' : Option (List ℕ)) → a ≡ b → EndsBy (λ r. r ≡ b) w o o' → EndsBy (λ r. r ≡ a) w o o'
-ends_by a b w o o' e h = subst (λ (x : Reply). EndsBy (λ r. r ≡ x) w o o') (sym e) h
 
 pub told_short : (image : List ℕ) → length image < BOOT_LEN → boot_reply image ≡ on_errors 1 (codes "bad size\n")
 told_short image lt = rw (lt-leb BOOT_LEN (length image) lt) refl

@@ -9,7 +9,7 @@ use Rattle.std.specs.Io.KnownBytes.{Appends}
 use Rattle.adf_file_words.specs.BootLine.{AreRefusedByBoot, AsksBoot, BootRequestValue}
 use Rattle.adf_file_words.specs.BootLine.BootRequestValue.{tell as tells, install as installs, clear as clears, copy as copies}
 use Rattle.adf_file_runs.specs.FileRuns.{unopened_line}
-use Rattle.adf_runs.specs.Streams.{Says}
+use Rattle.adf_runs.specs.Streams.{IsTold, Seen}
 use Rattle.adf_file_runs.specs.declared.files.Unopened.{Unopened}
 use Rattle.adf_runs.specs.Commands.{Command, Reply, on_errors, on_output}
 use Rattle.adf_boot_cmd.specs.Lines.{boot_line}
@@ -91,8 +91,7 @@ boot_command bytes_of = record {
 }
 
 -- the boot file that words name could not be read, or memory was refused for it: errors tell it, and output is as it was
-abbrev pub LacksBoot : (name : List ℕ) → (n : ℕ) → (o o' : Option (List ℕ)) → Bool → (e e' : Option (List ℕ)) → Type 0
-LacksBoot name n o o' errors_failed e e' =
-    (n ≡ 3) × Appends o o' []
-    × (((why : Unopened) × Says errors_failed e e' (unopened_line name why))
-    ⊎ (Says errors_failed e e' (codes "boot file: read fault\n") ⊎ Says errors_failed e e' (codes "no memory\n")))
+abbrev pub LacksBoot : (name : List ℕ) → (n : ℕ) → (o o' : Option (List ℕ)) → (errors : Seen) → Type 0
+LacksBoot name n o o' errors = (n ≡ 3) × Appends o o' []
+    × (((why : Unopened) × IsTold errors (unopened_line name why))
+    ⊎ (IsTold errors (codes "boot file: read fault\n") ⊎ IsTold errors (codes "no memory\n")))

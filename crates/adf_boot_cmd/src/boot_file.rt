@@ -5,6 +5,7 @@ ghost use Rattle.std.specs.Io.KnownBytes.{Appends};
 ghost use Rattle.adf_boot_blocks.specs.declared.boot.TheConstants.{BOOT_LEN};
 ghost use Rattle.adf_file_words.specs.BootLine.{boot_request_value, copy};
 ghost use Rattle.adf_boot_cmd.specs.Answers.{IsOrderOf, LacksBoot};
+ghost use Rattle.adf_runs.specs.Streams.{seen};
 ghost use Rattle.adf_boot_cmd.specs.Work.{IsBootFaultOf, order_of};
 
 use crate::work::Work;
@@ -68,8 +69,7 @@ impl BootFault<'_> {
     pub fn refuse<E: Sink>(self, alloc: Global, errors: &mut E) -> u8
         requires { E.has_failed errors.old ≡ false }
         ensures { (name : List ℕ) (held : Option (List ℕ)) → IsBootFaultOf name self.entry
-            → LacksBoot name result held held
-            (E.has_failed errors.new) (E.held errors.old) (E.held errors.new) }
+            → LacksBoot name result held held (seen E.held E.has_failed errors.old errors.new) }
     {
         match self {
             BootFault::Unopened(name, why) => refuse_file(alloc, name, why, errors),

@@ -1,9 +1,10 @@
 // The whole command.
 
 ghost use Rattle.std.specs.Prelude.{◌≡◌, ◌⊎◌, List, ℕ, false};
-ghost use Rattle.adf_file_runs.specs.FileRuns.{RunEndsOnFiles};
+ghost use Rattle.adf_file_runs.specs.FileRuns.{RunEndsOnFiles, known_files};
 ghost use Rattle.adf_file_words.specs.BootLine.{AreRefusedByBoot, AsksBoot, boot_file, copy};
 ghost use Rattle.adf_words.specs.CommandLine.{texts_of};
+ghost use Rattle.adf_runs.specs.Streams.{seen};
 ghost use Rattle.adf_boot_cmd.specs.Answers.{LacksBoot, boot_command};
 
 use crate::boot_file::work_for;
@@ -31,13 +32,10 @@ pub fn run<F: Files, R: Source, W: Sink, E: Sink>(
     requires writes { W.has_failed output.old ≡ false }
     requires tells { E.has_failed errors.old ≡ false }
     ensures ends { RunEndsOnFiles (boot_command (F.bytes_of files.now)) boot_file (texts_of words.now)
-        (R.left input.old) (R.has_failed input.new)
-        (F.bytes_of files.now) (F.may_fail files.now) (F.may_open files.now) result
-        (W.has_failed output.new) (W.held output.old) (W.held output.new)
-        (E.has_failed errors.new) (E.held errors.old) (E.held errors.new)
+        (known_files F.bytes_of F.may_fail F.may_open files.now) (seen R.left R.has_failed input.old input.new) result
+        (seen W.held W.has_failed output.old output.new) (seen E.held E.has_failed errors.old errors.new)
         ⊎ ((name : List ℕ) × AsksBoot (texts_of words.now) (copy name)
-        × LacksBoot name result (W.held output.old) (W.held output.new)
-        (E.has_failed errors.new) (E.held errors.old) (E.held errors.new)) }
+        × LacksBoot name result (W.held output.old) (W.held output.new) (seen E.held E.has_failed errors.old errors.new)) }
     ensures untouched { AreRefusedByBoot (texts_of words.now)
         → (input.new ≡ input.old) × (output.new ≡ output.old) }
 {

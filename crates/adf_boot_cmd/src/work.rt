@@ -1,8 +1,8 @@
 // What is done with the boot blocks of an image.
 
-ghost use Rattle.std.specs.Prelude.{◌≡◌, ◌+◌, ◌≤◌, false, true, length, IfSome};
-ghost use Rattle.adf_runs.specs.Outcomes.{EndsBy, is_read_fault, is_write_fault};
-ghost use Rattle.adf_runs.specs.Streams.{TakesAtMost};
+ghost use Rattle.std.specs.Prelude.{◌≡◌, ◌+◌, ◌≤◌, false, true, length};
+ghost use Rattle.adf_runs.specs.Outcomes.{Does, DoesOn, is_read_fault};
+ghost use Rattle.adf_runs.specs.Streams.{TakesAtMost, seen};
 ghost use Rattle.adf_boot_cmd.specs.Answers.{BootAnswer, reply_of};
 ghost use Rattle.adf_boot_cmd.specs.Work.{order_of};
 
@@ -33,10 +33,8 @@ impl Work {
     fn on_image<W: Sink>(&self, alloc: Global, image: &[u8], output: &mut W) -> Outcome
         requires works { W.has_failed output.old ≡ false }
         requires few { length image.now ≤ MOST_BYTES }
-        ensures ends { EndsBy (λ reply. reply ≡ reply_of (order_of self.now) image.now) result
-            (W.held output.old) (W.held output.new) }
-        ensures read { is_read_fault result ≡ false }
-        ensures written { W.has_failed output.new ≡ is_write_fault result }
+        ensures { Does (λ reply. reply ≡ reply_of (order_of self.now) image.now) result
+            (seen W.held W.has_failed output.old output.new) }
     {
         match self {
             Work::Tell => tell(alloc, image, output),
@@ -49,10 +47,7 @@ impl Work {
     /// Does the work on the bytes of an input.
     pub fn on<W: Sink>(&self, alloc: Global, bytes: &[u8], output: &mut W) -> Outcome
         requires { W.has_failed output.old ≡ false }
-        ensures ends { EndsBy (BootAnswer (order_of self.now) bytes.now) result
-            (W.held output.old) (W.held output.new) }
-        ensures read { is_read_fault result ≡ false }
-        ensures written { W.has_failed output.new ≡ is_write_fault result }
+        ensures { Does (BootAnswer (order_of self.now) bytes.now) result (seen W.held W.has_failed output.old output.new) }
     {
         self.on_image(alloc, &bytes[..bytes.len().min(MOST_BYTES)], output)
     }
@@ -66,10 +61,8 @@ impl Work {
     ) -> Outcome
         requires reads { R.has_failed input.old ≡ false }
         requires writes { W.has_failed output.old ≡ false }
-        ensures ends { IfSome (R.left input.old) (λ bytes.
-            EndsBy (BootAnswer (order_of self.now) bytes) result (W.held output.old) (W.held output.new)) }
-        ensures read { R.has_failed input.new ≡ is_read_fault result }
-        ensures written { W.has_failed output.new ≡ is_write_fault result }
+        ensures ends { DoesOn (BootAnswer (order_of self.now)) result (seen R.left R.has_failed input.old input.new)
+            (seen W.held W.has_failed output.old output.new) }
         ensures unwritten { is_read_fault result ≡ true → output.new ≡ output.old }
         ensures at_most { TakesAtMost (MOST_BYTES + 1) (R.left input.old) (R.left input.new) }
     {

@@ -1,9 +1,10 @@
 // Images with other boot blocks.
 
-ghost use Rattle.std.specs.Prelude.{◌≡◌, ◌≤◌, ◌++◌, List, Option, ℕ, codes, false, drop, length};
+ghost use Rattle.std.specs.Prelude.{◌≡◌, ◌≤◌, ◌++◌, codes, false, length};
 ghost use Rattle.adf_boot_blocks.specs.declared.boot.TheConstants.{BOOT_LEN};
 ghost use Rattle.adf_runs.specs.Commands.{on_errors, on_output};
-ghost use Rattle.adf_runs.specs.Outcomes.{EndsBy, is_read_fault, is_write_fault};
+ghost use Rattle.adf_runs.specs.Outcomes.{Does, DoesSilently};
+ghost use Rattle.adf_runs.specs.Streams.{seen};
 ghost use Rattle.adf_boot_cmd.specs.Answers.{changed_boot, is_whole, line_status, boot_reply, written, written_from};
 ghost use Rattle.adf_boot_cmd.specs.Work.{HasBoot, order_of};
 ghost use Rattle.adf_boot_cmd.specs.declared.work.TheConstants.{MOST_BYTES};
@@ -19,9 +20,7 @@ use std::alloc::Global;
 
 /// Refuses with a text and a line feed on errors; output gets nothing.
 pub fn refuse(alloc: Global, text: &str) -> Outcome
-    ensures ends { (held : Option (List ℕ)) → EndsBy (λ reply. reply ≡ on_errors 1 (text.now ++ codes "\n")) result held held }
-    ensures read { is_read_fault result ≡ false }
-    ensures written { is_write_fault result ≡ false }
+    ensures { DoesSilently (λ reply. reply ≡ on_errors 1 (text.now ++ codes "\n")) result }
 {
     match format!(in alloc; "{text}\n") {
         Ok(line) => Outcome::Refused(line),
@@ -32,10 +31,8 @@ pub fn refuse(alloc: Global, text: &str) -> Outcome
 // Writes a text, at status 0 if an Amiga starts from the boot blocks that it tells of, else at status 1.
 fn write_line<W: Sink>(output: &mut W, line: &[u8], bootable: bool) -> Outcome
     requires { W.has_failed output.old ≡ false }
-    ensures ends { EndsBy (λ reply. reply ≡ on_output (line_status bootable) line.now) result
-        (W.held output.old) (W.held output.new) }
-    ensures read { is_read_fault result ≡ false }
-    ensures written { W.has_failed output.new ≡ is_write_fault result }
+    ensures { Does (λ reply. reply ≡ on_output (line_status bootable) line.now) result
+        (seen W.held W.has_failed output.old output.new) }
 {
     match write_all(output, line) {
         Ok(()) if bootable => Outcome::Done,
@@ -47,9 +44,7 @@ fn write_line<W: Sink>(output: &mut W, line: &[u8], bootable: bool) -> Outcome
 /// Writes the line of the boot blocks of an image.
 pub fn tell<W: Sink>(alloc: Global, image: &[u8], output: &mut W) -> Outcome
     requires { W.has_failed output.old ≡ false }
-    ensures ends { EndsBy (λ reply. reply ≡ boot_reply image.now) result (W.held output.old) (W.held output.new) }
-    ensures read { is_read_fault result ≡ false }
-    ensures written { W.has_failed output.new ≡ is_write_fault result }
+    ensures { Does (λ reply. reply ≡ boot_reply image.now) result (seen W.held W.has_failed output.old output.new) }
 {
     if image.len() < BOOT_LEN {
         return refuse(alloc, "bad size");
@@ -63,10 +58,8 @@ pub fn tell<W: Sink>(alloc: Global, image: &[u8], output: &mut W) -> Outcome
 // Writes boot blocks, and what is behind those of an image.
 fn write_parts<W: Sink>(boot: &[u8], behind: &[u8], output: &mut W) -> Outcome
     requires { W.has_failed output.old ≡ false }
-    ensures ends { EndsBy (λ reply. reply ≡ on_output 0 (boot.now ++ behind.now)) result
-        (W.held output.old) (W.held output.new) }
-    ensures read { is_read_fault result ≡ false }
-    ensures written { W.has_failed output.new ≡ is_write_fault result }
+    ensures { Does (λ reply. reply ≡ on_output 0 (boot.now ++ behind.now)) result
+        (seen W.held W.has_failed output.old output.new) }
 {
     match write_both(output, boot, behind) {
         Ok(()) => Outcome::Done,
@@ -108,10 +101,8 @@ impl Work {
         requires works { W.has_failed output.old ≡ false }
         requires few { length image.now ≤ MOST_BYTES }
         requires boot { HasBoot (order_of self.now) }
-        ensures ends { EndsBy (λ reply. reply ≡ written (order_of self.now) image.now) result
-            (W.held output.old) (W.held output.new) }
-        ensures read { is_read_fault result ≡ false }
-        ensures written { W.has_failed output.new ≡ is_write_fault result }
+        ensures { Does (λ reply. reply ≡ written (order_of self.now) image.now) result
+            (seen W.held W.has_failed output.old output.new) }
     {
         if !is_whole(image) {
             return refuse(alloc, "bad size");
@@ -134,10 +125,8 @@ impl Work {
         requires works { W.has_failed output.old ≡ false }
         requires few { length image.now ≤ MOST_BYTES }
         requires boot { BOOT_LEN ≤ length boot.now → HasBoot (order_of self.now) }
-        ensures ends { EndsBy (λ reply. reply ≡ written_from boot.now (order_of self.now) image.now) result
-            (W.held output.old) (W.held output.new) }
-        ensures read { is_read_fault result ≡ false }
-        ensures written { W.has_failed output.new ≡ is_write_fault result }
+        ensures { Does (λ reply. reply ≡ written_from boot.now (order_of self.now) image.now) result
+            (seen W.held W.has_failed output.old output.new) }
     {
         if boot.len() < BOOT_LEN {
             return refuse(alloc, "boot file: bad size");

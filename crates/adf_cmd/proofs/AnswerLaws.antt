@@ -24,15 +24,16 @@ use Rattle.adf_volume.specs.declared.fault.Fault.{Fault}
 use Rattle.adf_volume.specs.declared.types.Types.{Types}
 use Rattle.adf_cmd.specs.Answers.{Answer, BuildsOrIsFull, Checks, Copies, IsBuilt, RefusesImage, contents_at}
 use Rattle.adf_runs.specs.Commands.{Reply, on_errors, on_output}
+use Rattle.adf_runs.specs.Streams.{Seen}
 use Rattle.adf_words.specs.CommandLine.{build, cat, convert, list}
 use Rattle.adf_manifest.specs.Manifest.{ExplainsFault, IsManifest}
-use Rattle.adf_runs.specs.Outcomes.{EndsBy}
+use Rattle.adf_runs.specs.Outcomes.{Does, DoesSilently, EndsBy}
 use Rattle.adf_cmd.specs.Refusals.{IsFaultOutcome, IsRefusedImage}
 use Rattle.adf_texts.specs.Lines.{fault_line, ok_line_by}
 use Rattle.adf_texts.specs.VolumeLines.{volume_lines}
 use Rattle.adf_manifest.specs.declared.manifest.ManifestFault.{ManifestFault}
 use Rattle.adf_runs.specs.declared.outcome.Outcome.{Outcome, TheVariants.Refused, TheVariants.NoMemory}
-use Rattle.adf_runs.proofs.Endings.{ends_weaker}
+use Rattle.adf_runs.proofs.Endings.{does_weaker, ends_weaker}
 use Rattle.adf_runs.proofs.PendingText.{appends_nil}
 
 -- the line of the first fault of an image answers a check
@@ -48,22 +49,27 @@ accepted_answer types image line t l fits by counted e =
     inl (t, l, fits, ap (on_output 0) (e ∙ (λ i. ok_line_by ((by ∙ fits.letters) i) (counted i))))
 
 -- what is said of a refused image is one of the answers that refuse it so
-pub refused_image_ends : (w : Outcome) (image : List ℕ) (answers : Reply → Type 0) (o : Option (List ℕ))
-    → ((reply : Reply) → RefusesImage image reply → answers reply) → IsRefusedImage image w → EndsBy answers w o o
-refused_image_ends (Refused line) image answers o f h = ([], f (on_errors 1 (string_bytes line)) (h.0, h.1, ap (on_errors 1) h.2), appends_nil o)
-refused_image_ends NoMemory image answers o f h = inl (appends_nil o)
-refused_image_ends _ image answers o f h = absurd h
+pub refused_image_ends : (w : Outcome) (image : List ℕ) (answers : Reply → Type 0)
+    → ((reply : Reply) → RefusesImage image reply → answers reply) → IsRefusedImage image w → DoesSilently answers w
+refused_image_ends (Refused line) image answers f h = record {
+  ends = λ o. ([], f (on_errors 1 (string_bytes line)) (h.0, h.1, ap (on_errors 1) h.2), appends_nil o);
+  read = refl;
+  written = refl;
+}
+refused_image_ends NoMemory image answers f h = record { ends = λ o. inl (appends_nil o); read = refl; written = refl }
+refused_image_ends _ image answers f h = absurd h
 
 -- the lines of a volume answer `list`
 pub listed : (image : List ℕ) (t : Tree) (l : Layout) → Fits image t l → Answer list image (on_output 0 (volume_lines date_of t (blocks image)))
 listed image t l fits = inl (t, l, fits, date_of, date_of_is, refl)
 
 -- what is said of a refused manifest answers it
-pub fault_ends : (w : Outcome) (lines : Bool) (input : List ℕ) (f : ManifestFault) (o : Option (List ℕ)) → ExplainsFault f input → IsFaultOutcome f w
-    → EndsBy (Answer (build lines) input) w o o
-fault_ends (Refused line) lines input f o why h = ([], inr (f, why, h.0, ap (on_errors 1) h.1), appends_nil o)
-fault_ends NoMemory lines input f o why h = inl (appends_nil o)
-fault_ends _ lines input f o why h = absurd h
+pub fault_ends : (w : Outcome) (lines : Bool) (input : List ℕ) (f : ManifestFault) → ExplainsFault f input → IsFaultOutcome f w
+    → DoesSilently (Answer (build lines) input) w
+fault_ends (Refused line) lines input f why h =
+    record { ends = λ o. ([], inr (f, why, h.0, ap (on_errors 1) h.1), appends_nil o); read = refl; written = refl }
+fault_ends NoMemory lines input f why h = record { ends = λ o. inl (appends_nil o); read = refl; written = refl }
+fault_ends _ lines input f why h = absurd h
 
 -- an image that was built of a tree is the one that is laid of it
 pub is_built : (image : List ℕ) (tree : Tree) (n : ℕ) → image ≡ volume tree n → IsBuildable tree n → IsLaid image tree
@@ -73,17 +79,16 @@ is_built image tree n e room laid letters fits =
     let plain : Fits image tree (planned tree n) = fits_plain letters fits in grind (arith, common_steps)
 
 -- what builds the tree of a manifest answers its building
-pub build_ends : (w : Outcome) (lines : Bool) (input : List ℕ) (tree : Tree) (n : ℕ) (o o' : Option (List ℕ)) → IsManifest input tree n
-    → EndsBy (BuildsOrIsFull lines tree n) w o o' → EndsBy (Answer (build lines) input) w o o'
-build_ends w lines input tree n o o' m h = grind (arith, common_steps, ends_weaker)
+pub build_ends : {w : Outcome} {output : Seen} (lines : Bool) (input : List ℕ) (tree : Tree) (n : ℕ) → IsManifest input tree n
+    → Does (BuildsOrIsFull lines tree n) w output → Does (Answer (build lines) input) w output
+build_ends lines input tree n m h = grind (arith, common_steps, does_weaker)
 
 -- what builds the tree of an image as one of another kind answers its conversion
-pub convert_ends : (w : Outcome) (kind : Kind) (image : List ℕ) (t : Tree) (l : Layout) (n : ℕ) (o o' : Option (List ℕ)) → Fits image t l
-    → n ≡ blocks image
-    → EndsBy (BuildsOrIsFull false (with_kind t kind) n) w o o' → EndsBy (Answer (convert kind) image) w o o'
-convert_ends w kind image t l n o o' fits e h =
+pub convert_ends : {w : Outcome} {output : Seen} (kind : Kind) (image : List ℕ) (t : Tree) (l : Layout) (n : ℕ) → Fits image t l → n ≡ blocks image
+    → Does (BuildsOrIsFull false (with_kind t kind) n) w output → Does (Answer (convert kind) image) w output
+convert_ends kind image t l n fits e h =
     let u = with_kind t kind in
-    ends_weaker (BuildsOrIsFull false u n) (Answer (convert kind) image) w o o'
+    does_weaker (BuildsOrIsFull false u n) (Answer (convert kind) image)
     (λ reply builds. inl (t, l, fits, subst (λ k. BuildsOrIsFull false u k reply) e builds)) h
 
 -- the bytes of a file are what its path leads to

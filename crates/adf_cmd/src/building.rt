@@ -7,9 +7,9 @@ ghost use Rattle.adf_blocks.specs.Sizes.{is_allowed};
 ghost use Rattle.adf_cmd.specs.Answers.{Answer, BuildsOrIsFull};
 ghost use Rattle.adf_words.specs.CommandLine.{build};
 ghost use Rattle.adf_cmd.specs.Listing.{image_or_lines};
-ghost use Rattle.adf_runs.specs.Outcomes.{EndsBy, is_read_fault, is_write_fault};
 ghost use Rattle.adf_cmd.specs.Refusals.{IsFaultOutcome, IsFullOutcome};
-ghost use Rattle.adf_runs.specs.Streams.{AppendsPart, is_device};
+ghost use Rattle.adf_runs.specs.Streams.{AppendsPart, is_device, seen};
+ghost use Rattle.adf_runs.specs.Outcomes.{Does};
 
 use crate::listing::write_listing;
 use adf_build::{BuildFault, build};
@@ -63,10 +63,7 @@ pub fn build_tree<W: Sink>(
     requires works { W.has_failed output.old ≡ false }
     requires size { is_allowed blocks ≡ true }
     requires letters { tree.now.letters ≡ Ascii }
-    ensures ends { EndsBy (BuildsOrIsFull lines tree.now blocks) result
-        (W.held output.old) (W.held output.new) }
-    ensures read { is_read_fault result ≡ false }
-    ensures written { W.has_failed output.new ≡ is_write_fault result }
+    ensures { Does (BuildsOrIsFull lines tree.now blocks) result (seen W.held W.has_failed output.old output.new) }
 {
     match build(alloc, tree, blocks) {
         Ok(image) => match write_image(alloc, &image, lines, output) {
@@ -96,10 +93,7 @@ fn refuse_manifest(alloc: Global, fault: ManifestFault) -> Outcome
 /// Builds the tree of a manifest, and writes the image or the lines of its words.
 pub fn build_manifest<W: Sink>(alloc: Global, bytes: &[u8], lines: bool, output: &mut W) -> Outcome
     requires { W.has_failed output.old ≡ false }
-    ensures ends { EndsBy (Answer (build lines) bytes.now) result
-        (W.held output.old) (W.held output.new) }
-    ensures written { W.has_failed output.new ≡ is_write_fault result }
-    ensures read { is_read_fault result ≡ false }
+    ensures { Does (Answer (build lines) bytes.now) result (seen W.held W.has_failed output.old output.new) }
 {
     match read_manifest(alloc, bytes) {
         Ok((tree, blocks)) => build_tree(alloc, &tree, blocks, lines, output),

@@ -1,6 +1,6 @@
 // The command `check`.
 
-ghost use Rattle.std.specs.Prelude.{◌≡◌, ◌+◌, false, IfOk, List, Some, string_bytes, true, ℕ};
+ghost use Rattle.std.specs.Prelude.{◌≡◌, ◌+◌, false, IfOk, List, string_bytes, true, ℕ};
 ghost use Rattle.adf_tree.specs.Tree.{Tree};
 ghost use Rattle.adf_volume.specs.Layout.{Layout};
 ghost use Rattle.adf_volume.specs.Walk.{FirstFaultBy};
@@ -9,9 +9,9 @@ ghost use Rattle.adf_volume.specs.declared.types.Types.{Types};
 ghost use Rattle.adf_check.specs.Volumes.{StandsForBy};
 ghost use Rattle.adf_cmd.specs.Answers.{Answer, limit_of};
 ghost use Rattle.adf_words.specs.CommandLine.{check};
-ghost use Rattle.adf_runs.specs.Outcomes.{EndsBy, is_read_fault, is_write_fault};
 ghost use Rattle.adf_cmd.specs.CheckAnswers.{IsCheckAnswer, IsCheckAnswerTo};
-ghost use Rattle.adf_runs.specs.Streams.{TakesAtMost, is_device};
+ghost use Rattle.adf_runs.specs.Streams.{TakesAtMost, is_device, seen};
+ghost use Rattle.adf_runs.specs.Outcomes.{Does};
 ghost use Rattle.adf_texts.specs.Lines.{ok_line_by};
 
 use crate::images::{MOST_IMAGE_BYTES, checked, refused_line};
@@ -93,10 +93,7 @@ pub fn answer_to_input<R: Source>(
 /// Checks an image, and writes the verdict.
 pub fn check_image<W: Sink>(alloc: Global, image: &[u8], output: &mut W) -> Outcome
     requires { W.has_failed output.old ≡ false }
-    ensures ends { EndsBy (Answer check image.now) result
-        (W.held output.old) (W.held output.new) }
-    ensures written { W.has_failed output.new ≡ is_write_fault result }
-    ensures read { is_read_fault result ≡ false }
+    ensures { Does (Answer check image.now) result (seen W.held W.has_failed output.old output.new) }
 {
     let Ok(answer) = answer_to_image(alloc, Types::Plain, image) else {
         return Outcome::NoMemory;

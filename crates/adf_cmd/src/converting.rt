@@ -8,8 +8,9 @@ ghost use Rattle.adf_volume.specs.Fits.{Fits};
 ghost use Rattle.adf_volume.specs.Layout.{Layout};
 ghost use Rattle.adf_cmd.specs.Answers.{Answer, BuildsOrIsFull};
 ghost use Rattle.adf_words.specs.CommandLine.{convert};
-ghost use Rattle.adf_runs.specs.Outcomes.{EndsBy, is_read_fault, is_write_fault};
 ghost use Rattle.adf_cmd.specs.Refusals.{IsRefusedImage};
+ghost use Rattle.adf_runs.specs.Outcomes.{Blames, Does};
+ghost use Rattle.adf_runs.specs.Streams.{seen};
 
 use crate::building::build_tree;
 use crate::images::volume_of;
@@ -22,8 +23,7 @@ fn tree_of(alloc: Global, image: &[u8]) -> Result<(Tree, u32), Outcome>
     ensures tree { IfOk result (λ r. (l : Layout) × Fits image.now r.0 l) }
     ensures size { IfOk result (λ r. r.1 ≡ blocks image.now) }
     ensures refused { IfErr result (IsRefusedImage image.now) }
-    ensures read { IfErr result (λ w. is_read_fault w ≡ false) }
-    ensures written { IfErr result (λ w. is_write_fault w ≡ false) }
+    ensures blames { IfErr result (λ w. Blames w false false) }
 {
     let volume = volume_of(alloc, image)?;
     let count = volume.counts().blocks;
@@ -36,8 +36,7 @@ fn tree_in(alloc: Global, image: Vec<u8>) -> Result<(Tree, u32), Outcome>
     ensures tree { IfOk result (λ r. (l : Layout) × Fits image.items r.0 l) }
     ensures size { IfOk result (λ r. r.1 ≡ blocks image.items) }
     ensures refused { IfErr result (IsRefusedImage image.items) }
-    ensures read { IfErr result (λ w. is_read_fault w ≡ false) }
-    ensures written { IfErr result (λ w. is_write_fault w ≡ false) }
+    ensures blames { IfErr result (λ w. Blames w false false) }
 {
     tree_of(alloc, &image)
 }
@@ -53,10 +52,7 @@ fn convert_tree<W: Sink>(
     requires works { W.has_failed output.old ≡ false }
     requires size { is_allowed blocks ≡ true }
     requires letters { tree.letters ≡ Ascii }
-    ensures ends { EndsBy (BuildsOrIsFull false (with_kind tree kind) blocks) result
-        (W.held output.old) (W.held output.new) }
-    ensures read { is_read_fault result ≡ false }
-    ensures written { W.has_failed output.new ≡ is_write_fault result }
+    ensures { Does (BuildsOrIsFull false (with_kind tree kind) blocks) result (seen W.held W.has_failed output.old output.new) }
 {
     tree.set_kind(kind);
     build_tree(alloc, &tree, blocks, false, output)
@@ -65,10 +61,7 @@ fn convert_tree<W: Sink>(
 /// Checks an image, and builds its tree again, as one of another kind.
 pub fn convert_image<W: Sink>(alloc: Global, image: &[u8], kind: Kind, output: &mut W) -> Outcome
     requires { W.has_failed output.old ≡ false }
-    ensures ends { EndsBy (Answer (convert kind) image.now) result
-        (W.held output.old) (W.held output.new) }
-    ensures read { is_read_fault result ≡ false }
-    ensures written { W.has_failed output.new ≡ is_write_fault result }
+    ensures { Does (Answer (convert kind) image.now) result (seen W.held W.has_failed output.old output.new) }
 {
     match tree_of(alloc, image) {
         Ok((tree, blocks)) => convert_tree(alloc, tree, blocks, kind, output),
@@ -79,10 +72,7 @@ pub fn convert_image<W: Sink>(alloc: Global, image: &[u8], kind: Kind, output: &
 /// Does so too, and lets the image go before the new one is built.
 pub fn convert_read<W: Sink>(alloc: Global, image: Vec<u8>, kind: Kind, output: &mut W) -> Outcome
     requires { W.has_failed output.old ≡ false }
-    ensures ends { EndsBy (Answer (convert kind) image.items) result
-        (W.held output.old) (W.held output.new) }
-    ensures read { is_read_fault result ≡ false }
-    ensures written { W.has_failed output.new ≡ is_write_fault result }
+    ensures { Does (Answer (convert kind) image.items) result (seen W.held W.has_failed output.old output.new) }
 {
     match tree_in(alloc, image) {
         Ok((tree, blocks)) => convert_tree(alloc, tree, blocks, kind, output),

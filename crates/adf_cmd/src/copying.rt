@@ -9,7 +9,7 @@ ghost use Rattle.adf_volume.specs.Layout.{Layout};
 ghost use Rattle.adf_check.specs.Volumes.{StandsFor};
 ghost use Rattle.adf_cmd.specs.Answers.{Answer, Copies, contents_at};
 ghost use Rattle.adf_words.specs.CommandLine.{cat};
-ghost use Rattle.adf_runs.specs.Outcomes.{EndsBy, is_read_fault, is_write_fault};
+ghost use Rattle.adf_runs.specs.Outcomes.{Blames, EndsBy};
 ghost use Rattle.adf_runs.specs.Streams.{AppendsPart, KeepsPending};
 
 use crate::images::volume_of;
@@ -100,8 +100,7 @@ fn copy_file<W: Sink>(volume: &Checked<'_>, names: &[Name], output: &mut W) -> O
     ensures ends { (t : Tree) (l : Layout) → StandsFor volume.now t l
         → EndsBy (Copies (contents_at t names.now)) result
         (W.held output.old) (W.held output.new) }
-    ensures read { is_read_fault result ≡ false }
-    ensures written { W.has_failed output.new ≡ is_write_fault result }
+    ensures blames { Blames result false (W.has_failed output.new) }
 {
     let Some(node) = volume.find(names) else {
         return Outcome::NoSuchPath;
@@ -120,8 +119,7 @@ pub fn cat_image<W: Sink>(alloc: Global, image: &[u8], names: &[Name], output: &
     requires { W.has_failed output.old ≡ false }
     ensures ends { (path : List ℕ) → IsPathText path names.now
         → EndsBy (Answer (cat path) image.now) result (W.held output.old) (W.held output.new) }
-    ensures read { is_read_fault result ≡ false }
-    ensures written { W.has_failed output.new ≡ is_write_fault result }
+    ensures blames { Blames result false (W.has_failed output.new) }
 {
     match volume_of(alloc, image) {
         Ok(volume) => copy_file(&volume, names, output),

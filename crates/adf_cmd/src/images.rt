@@ -8,8 +8,8 @@ ghost use Rattle.adf_volume.specs.Walk.{FirstFaultBy};
 ghost use Rattle.adf_volume.specs.Types.{letters_for};
 ghost use Rattle.adf_check.specs.Volumes.{StandsFor, StandsForBy};
 ghost use Rattle.adf_cmd.specs.Refusals.{IsRefusedImage};
-ghost use Rattle.adf_runs.specs.Outcomes.{is_read_fault, is_write_fault};
 ghost use Rattle.adf_texts.specs.Lines.{fault_line};
+ghost use Rattle.adf_runs.specs.Outcomes.{Blames};
 
 use adf_base::BLOCK_LEN;
 use adf_blocks::{Cause, MOST_BLOCKS};
@@ -60,8 +60,7 @@ pub fn volume_of<'a>(alloc: Global, image: &'a [u8]) -> Result<Checked<'a>, Outc
     ensures image { IfOk result (λ v. v.image ≡ image.now) }
     ensures fits { IfOk result (λ v. (t : Tree) × (l : Layout) × StandsFor v t l) }
     ensures refused { IfErr result (IsRefusedImage image.now) }
-    ensures read { IfErr result (λ w. is_read_fault w ≡ false) }
-    ensures written { IfErr result (λ w. is_write_fault w ≡ false) }
+    ensures blames { IfErr result (λ w. Blames w false false) }
 {
     match checked(alloc, Types::Plain, image)? {
         Ok(volume) => Ok(volume),

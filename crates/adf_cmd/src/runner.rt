@@ -4,6 +4,7 @@ ghost use Rattle.std.specs.Prelude.{◌≡◌, false, true};
 ghost use Rattle.adf_cmd.specs.Answers.{RequestsHaveOneAnswer, WordsAskForOneRequest, adf_command};
 ghost use Rattle.adf_words.specs.CommandLine.{texts_of};
 ghost use Rattle.adf_runs.specs.Commands.{IsUnanswered, RunEnds, TakesEnough};
+ghost use Rattle.adf_runs.specs.Streams.{seen};
 
 use crate::work::Work;
 use adf_runs::{Sink, Source, run_program};
@@ -25,10 +26,8 @@ pub fn run<R: Source, W: Sink, E: Sink>(
     requires reads { R.has_failed input.old ≡ false }
     requires writes { W.has_failed output.old ≡ false }
     requires tells { E.has_failed errors.old ≡ false }
-    ensures ends { RunEnds adf_command (texts_of words.now) (R.left input.old)
-        (R.has_failed input.new) result
-        (W.has_failed output.new) (W.held output.old) (W.held output.new)
-        (E.has_failed errors.new) (E.held errors.old) (E.held errors.new) }
+    ensures ends { RunEnds adf_command (texts_of words.now) (seen R.left R.has_failed input.old input.new) result
+        (seen W.held W.has_failed output.old output.new) (seen E.held E.has_failed errors.old errors.new) }
     ensures untouched { IsUnanswered adf_command (texts_of words.now)
         → (input.new ≡ input.old) × (output.new ≡ output.old) }
     ensures unwritten { R.has_failed input.new ≡ true → output.new ≡ output.old }

@@ -10,8 +10,8 @@ ghost use Rattle.adf_check.specs.Volumes.{StandsFor};
 ghost use Rattle.adf_texts.specs.VolumeLines.{lines_of_entries, lines_of_entry, opening_lines, volume_lines};
 ghost use Rattle.adf_cmd.specs.Answers.{Answer};
 ghost use Rattle.adf_words.specs.CommandLine.{list};
-ghost use Rattle.adf_runs.specs.Outcomes.{EndsBy, is_read_fault, is_write_fault};
-ghost use Rattle.adf_runs.specs.Streams.{AppendsPart, KeepsPending, is_device};
+ghost use Rattle.adf_runs.specs.Streams.{AppendsPart, KeepsPending, is_device, seen};
+ghost use Rattle.adf_runs.specs.Outcomes.{Does};
 ghost use Rattle.adf_cmd.specs.VolumeListing.{InAnyDates};
 
 use crate::images::volume_of;
@@ -141,10 +141,7 @@ fn write_volume<W: Sink>(
 fn list_volume<W: Sink>(alloc: Global, volume: &Checked<'_>, output: &mut W) -> Outcome
     requires works { W.has_failed output.old ≡ false }
     requires stands { (t : Tree) × (l : Layout) × StandsFor volume.now t l }
-    ensures ends { EndsBy (Answer list volume.now.image) result
-        (W.held output.old) (W.held output.new) }
-    ensures read { is_read_fault result ≡ false }
-    ensures written { W.has_failed output.new ≡ is_write_fault result }
+    ensures { Does (Answer list volume.now.image) result (seen W.held W.has_failed output.old output.new) }
 {
     match write_volume(alloc, volume, output) {
         Ok(()) => Outcome::Done,
@@ -155,9 +152,7 @@ fn list_volume<W: Sink>(alloc: Global, volume: &Checked<'_>, output: &mut W) -> 
 /// Checks an image, and writes the lines of its volume.
 pub fn list_image<W: Sink>(alloc: Global, image: &[u8], output: &mut W) -> Outcome
     requires { W.has_failed output.old ≡ false }
-    ensures ends { EndsBy (Answer list image.now) result (W.held output.old) (W.held output.new) }
-    ensures read { is_read_fault result ≡ false }
-    ensures written { W.has_failed output.new ≡ is_write_fault result }
+    ensures { Does (Answer list image.now) result (seen W.held W.has_failed output.old output.new) }
 {
     match volume_of(alloc, image) {
         Ok(volume) => list_volume(alloc, &volume, output),

@@ -3,7 +3,7 @@
 ghost use Rattle.std.specs.Prelude.{◌≡◌, false, IfErr, IfOk};
 ghost use Rattle.adf_cmd.specs.Answers.{Answer, HasBadPath};
 ghost use Rattle.adf_words.specs.CommandLine.{RequestValue, request_value};
-ghost use Rattle.adf_runs.specs.Outcomes.{EndsBy, is_read_fault, is_write_fault};
+ghost use Rattle.adf_runs.specs.Outcomes.{Blames, EndsBy};
 ghost use Rattle.adf_cmd.specs.Work.{Serves};
 ghost use Rattle.adf_runs.specs.WorkFaults.{IsNoWork};
 
@@ -51,8 +51,7 @@ impl Work {
         requires { W.has_failed output.old ≡ false }
         ensures ends { (r : RequestValue) → Serves self.now r
             → EndsBy (Answer r bytes.items) result (W.held output.old) (W.held output.new) }
-        ensures read { is_read_fault result ≡ false }
-        ensures written { W.has_failed output.new ≡ is_write_fault result }
+        ensures blames { Blames result false (W.has_failed output.new) }
     {
         match self {
             Work::Convert(kind) => convert_read(alloc, bytes, *kind, output),

@@ -17,17 +17,23 @@ use Rattle.adf_partitions.specs.declared.partition.Partition.{Partition}
 use Rattle.adf_partitions.specs.declared.tables.Tables.{Tables}
 use Rattle.adf_runs.proofs.Endings.{ends_weaker}
 use Rattle.adf_runs.specs.Commands.{Reply, on_output}
-use Rattle.adf_runs.specs.Outcomes.{EndsBy}
-use Rattle.adf_runs.specs.Streams.{IsPart}
+use Rattle.adf_runs.specs.Outcomes.{Blames, DoesOn, EndsBy}
+use Rattle.adf_runs.specs.Streams.{IsPart, Seen}
 use Rattle.adf_runs.specs.declared.outcome.Outcome.{Outcome}
 
 -- the bytes that count
 abbrev pub disk_of : List ℕ → List ℕ
 disk_of all = take MOST_DISK_BYTES all
 
-pub if_some : {P Q : List ℕ → Type 0} (o : Option (List ℕ)) → ((x : List ℕ) → P x → Q x) → IfSome o P → IfSome o Q
+if_some : {P Q : List ℕ → Type 0} (o : Option (List ℕ)) → ((x : List ℕ) → P x → Q x) → IfSome o P → IfSome o Q
 if_some None f h = tt
 if_some (Some x) f h = f x h
+
+-- what is done by what is held of an input is done to the input, where it did not fail
+pub does_held : {P : List ℕ → Type 0} {answers : List ℕ → Reply → Type 0} {w : Outcome} {output : Seen} (input : Seen)
+    → ((all : List ℕ) → P all → EndsBy (answers all) w output.before output.after) → IfSome input.before P → input.failed ≡ false
+    → Blames w false output.failed → DoesOn answers w input output
+does_held input f h works blames = record { ends = if_some input.before f h; read = works ∙ blames.read; written = blames.written }
 
 module _ (all bytes : List ℕ) (len n : ℕ) (held : IsPart 0 TABLES_LEN (MOST_DISK_BYTES + 1) all bytes len)
     (blocks : n ≡ min len MOST_DISK_BYTES / 512) where

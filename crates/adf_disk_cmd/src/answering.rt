@@ -1,10 +1,11 @@
 // How an answer is written.
 
-ghost use Rattle.std.specs.Prelude.{◌≡◌, ◌++◌, List, Option, ℕ, false};
+ghost use Rattle.std.specs.Prelude.{◌≡◌, ◌++◌, false};
 ghost use Rattle.adf_disk_cmd.specs.Builds.{refusal};
 ghost use Rattle.adf_disk_cmd.specs.Checks.{check_status};
 ghost use Rattle.adf_runs.specs.Commands.{on_output};
-ghost use Rattle.adf_runs.specs.Outcomes.{EndsBy, is_read_fault, is_write_fault};
+ghost use Rattle.adf_runs.specs.Outcomes.{Does, DoesSilently};
+ghost use Rattle.adf_runs.specs.Streams.{seen};
 
 use adf_runs::{Outcome, Sink, write_all, write_both};
 use std::alloc::Global;
@@ -12,10 +13,8 @@ use std::alloc::Global;
 /// Writes a text, at status 0 if all is sound, else at status 1.
 pub fn write_text<W: Sink>(output: &mut W, text: &[u8], sound: bool) -> Outcome
     requires { W.has_failed output.old ≡ false }
-    ensures ends { EndsBy (λ reply. reply ≡ on_output (check_status sound) text.now) result
-        (W.held output.old) (W.held output.new) }
-    ensures read { is_read_fault result ≡ false }
-    ensures written { W.has_failed output.new ≡ is_write_fault result }
+    ensures { Does (λ reply. reply ≡ on_output (check_status sound) text.now) result
+        (seen W.held W.has_failed output.old output.new) }
 {
     match write_all(output, text) {
         Ok(()) if sound => Outcome::Done,
@@ -27,10 +26,8 @@ pub fn write_text<W: Sink>(output: &mut W, text: &[u8], sound: bool) -> Outcome
 /// Writes two texts, one after the other, at status 0.
 pub fn write_parts<W: Sink>(output: &mut W, first: &[u8], second: &[u8]) -> Outcome
     requires { W.has_failed output.old ≡ false }
-    ensures ends { EndsBy (λ reply. reply ≡ on_output 0 (first.now ++ second.now)) result
-        (W.held output.old) (W.held output.new) }
-    ensures read { is_read_fault result ≡ false }
-    ensures written { W.has_failed output.new ≡ is_write_fault result }
+    ensures { Does (λ reply. reply ≡ on_output 0 (first.now ++ second.now)) result
+        (seen W.held W.has_failed output.old output.new) }
 {
     match write_both(output, first, second) {
         Ok(()) => Outcome::Done,
@@ -40,9 +37,7 @@ pub fn write_parts<W: Sink>(output: &mut W, first: &[u8], second: &[u8]) -> Outc
 
 /// Refuses with a text and a line feed on errors; output gets nothing.
 pub fn refuse(alloc: Global, text: &str) -> Outcome
-    ensures ends { (held : Option (List ℕ)) → EndsBy (λ reply. reply ≡ refusal text.now) result held held }
-    ensures read { is_read_fault result ≡ false }
-    ensures written { is_write_fault result ≡ false }
+    ensures { DoesSilently (λ reply. reply ≡ refusal text.now) result }
 {
     match format!(in alloc; "{text}\n") {
         Ok(line) => Outcome::Refused(line),

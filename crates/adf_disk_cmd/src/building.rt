@@ -10,7 +10,8 @@ ghost use Rattle.adf_partitions.specs.Plans.{IsPlan, cylinder_blocks, plan_value
 ghost use Rattle.adf_plans.specs.PlanTexts.{IsTextFault, has_volume, is_plan};
 ghost use Rattle.adf_plans.specs.declared.plan_text.TextKind.{TextKind};
 ghost use Rattle.adf_runs.specs.Commands.{on_errors};
-ghost use Rattle.adf_runs.specs.Outcomes.{EndsBy, is_read_fault, is_write_fault};
+ghost use Rattle.adf_runs.specs.Outcomes.{Blames, Does, DoesSilently, EndsBy};
+ghost use Rattle.adf_runs.specs.Streams.{seen};
 
 use crate::answering::write_text;
 use adf_base::BLOCK_LEN;
@@ -97,10 +98,7 @@ fn disk_of(alloc: Global, plan: &DiskPlan, given: &[u8]) -> Result<Vec<u8>, Allo
 
 // Tells on errors that there are other bytes than those of the given volumes.
 fn refuse_given(alloc: Global, need: usize, have: usize) -> Outcome
-    ensures ends { (held : Option (List ℕ))
-        → EndsBy (λ reply. reply ≡ on_errors 1 (given_line need have)) result held held }
-    ensures read { is_read_fault result ≡ false }
-    ensures written { is_write_fault result ≡ false }
+    ensures { DoesSilently (λ reply. reply ≡ on_errors 1 (given_line need have)) result }
 {
     match format!(in alloc; "given: need {need}, have {have}\n") {
         Ok(line) => Outcome::Refused(line),
@@ -113,10 +111,8 @@ fn write_plan<W: Sink>(alloc: Global, plan: &DiskPlan, given: &[u8], output: &mu
     requires works { W.has_failed output.old ≡ false }
     requires plan { IsPlan (plan_value plan.now) }
     requires good { is_plan (plan_value plan.now) ≡ true }
-    ensures ends { EndsBy (λ reply. reply ≡ plan_reply (plan_value plan.now) given.now) result
-        (W.held output.old) (W.held output.new) }
-    ensures read { is_read_fault result ≡ false }
-    ensures written { W.has_failed output.new ≡ is_write_fault result }
+    ensures { Does (λ reply. reply ≡ plan_reply (plan_value plan.now) given.now) result
+        (seen W.held W.has_failed output.old output.new) }
 {
     let need = given_bytes(plan);
     let have = given.len();
@@ -133,8 +129,7 @@ fn write_plan<W: Sink>(alloc: Global, plan: &DiskPlan, given: &[u8], output: &mu
 fn refuse_text(alloc: Global, fault: TextFault) -> Outcome
     ensures ends { (text : List ℕ) → (fault.kind ≢ TextKind.NoMemory → IsTextFault text fault)
         → (held : Option (List ℕ)) → EndsBy (RefusesPlan text) result held held }
-    ensures read { is_read_fault result ≡ false }
-    ensures written { is_write_fault result ≡ false }
+    ensures blames { Blames result false false }
 {
     if let TextKind::NoMemory = fault.kind {
         return Outcome::NoMemory;
@@ -148,9 +143,7 @@ fn refuse_text(alloc: Global, fault: TextFault) -> Outcome
 /// Builds the disk of a plan: its text comes first, then the bytes of the given volumes.
 pub fn build_disk<W: Sink>(alloc: Global, text: &[u8], output: &mut W) -> Outcome
     requires { W.has_failed output.old ≡ false }
-    ensures ends { EndsBy (BuildsDisk text.now) result (W.held output.old) (W.held output.new) }
-    ensures read { is_read_fault result ≡ false }
-    ensures written { W.has_failed output.new ≡ is_write_fault result }
+    ensures { Does (BuildsDisk text.now) result (seen W.held W.has_failed output.old output.new) }
 {
     match read_plan(alloc, text) {
         Ok((plan, given)) => write_plan(alloc, &plan, given, output),

@@ -6,7 +6,7 @@ ghost use Rattle.adf_disk_cmd.specs.Checks.{AreChecked, TellsPartition};
 ghost use Rattle.adf_disk_cmd.specs.HeldChecks.{IsAnswered, IsKnown, KnowsVolume, KnowsVolumes, lies_at};
 ghost use Rattle.adf_disk_cmd.specs.Lines.{name_text, volume_at};
 ghost use Rattle.adf_disk_cmd.specs.Checks.{IsVolumeAnswer};
-ghost use Rattle.adf_runs.specs.Outcomes.{EndsBy, is_read_fault, is_write_fault};
+ghost use Rattle.adf_runs.specs.Outcomes.{Blames, EndsBy};
 
 use crate::answering::write_text;
 use crate::listing::push_name;
@@ -131,8 +131,7 @@ pub fn write_checks<W: Sink>(
     requires { W.has_failed output.old ≡ false }
     ensures ends { (all : List ℕ) → KnowsVolumes all bytes.now checked.now partitions.now
         → EndsBy (ChecksAll all partitions.now) result (W.held output.old) (W.held output.new) }
-    ensures read { is_read_fault result ≡ false }
-    ensures written { W.has_failed output.new ≡ is_write_fault result }
+    ensures blames { Blames result false (W.has_failed output.new) }
 {
     match check_partitions(alloc, bytes, checked, partitions) {
         Ok(checks) => write_text(output, &checks.text, checks.sound),

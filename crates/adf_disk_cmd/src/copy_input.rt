@@ -4,8 +4,8 @@ ghost use Rattle.std.specs.Prelude.{◌≡◌, ◌+◌, ◌++◌, ◌≤◌, Lis
 ghost use Rattle.adf_disk_cmd.specs.Answers.{DiskAnswer};
 ghost use Rattle.adf_disk_cmd.specs.Work.{HoldsVolume, IsSoughtPlace, held_reply, sought_value};
 ghost use Rattle.adf_partitions.specs.Places.{end_of};
-ghost use Rattle.adf_runs.specs.Outcomes.{EndsBy, LacksInput, is_read_fault, is_write_fault};
-ghost use Rattle.adf_runs.specs.Streams.{TakesAtMost};
+ghost use Rattle.adf_runs.specs.Outcomes.{Blames, Does, DoesOn, EndsBy, LacksInput, is_read_fault};
+ghost use Rattle.adf_runs.specs.Streams.{TakesAtMost, seen};
 ghost use Rattle.adf_file_words.specs.DiskLine.{volume};
 
 use crate::answering::{refuse, write_parts};
@@ -68,8 +68,7 @@ fn read_volume<R: Source>(alloc: Global, input: &mut R, sought: &Sought) -> Resu
     ensures at_most { TakesAtMost (MOST_DISK_BYTES + 1) (R.left input.old) (R.left input.new) }
     ensures works { OnOk result (R.has_failed input.new ≡ false) }
     ensures unread { IfErr result LacksInput }
-    ensures failed { IfErr result (λ w. R.has_failed input.new ≡ is_read_fault w) }
-    ensures written { IfErr result (λ w. is_write_fault w ≡ false) }
+    ensures blames { IfErr result (λ w. Blames w (R.has_failed input.new) false) }
 {
     let tables = match read_first(alloc, input, TABLES_LEN) {
         Ok(tables) => tables,
@@ -101,11 +100,8 @@ fn write_held<W: Sink>(
     output: &mut W,
 ) -> Outcome
     requires { W.has_failed output.old ≡ false }
-    ensures ends { EndsBy (λ reply.
-        reply ≡ held_reply (front.now ++ behind.now) (sought_value sought.now) (option_copied found.entry)) result
-        (W.held output.old) (W.held output.new) }
-    ensures read { is_read_fault result ≡ false }
-    ensures written { W.has_failed output.new ≡ is_write_fault result }
+    ensures { Does (λ reply. reply ≡ held_reply (front.now ++ behind.now) (sought_value sought.now) (option_copied found.entry)) result
+        (seen W.held W.has_failed output.old output.new) }
 {
     let Some(partition) = found else {
         return refuse_sought(alloc, sought);
@@ -124,8 +120,7 @@ fn copy_held<W: Sink>(alloc: Global, held: &Held, sought: &Sought, output: &mut 
         → HoldsVolume all held.now.tables.items held.now.place held.now.behind.bytes.items held.now.behind.len
         → IsSoughtPlace held.now.tables.items (sought_value sought.now) held.now.place
         → EndsBy (DiskAnswer (volume (sought_value sought.now)) all) result (W.held output.old) (W.held output.new) }
-    ensures read { is_read_fault result ≡ false }
-    ensures written { W.has_failed output.new ≡ is_write_fault result }
+    ensures blames { Blames result false (W.has_failed output.new) }
 {
     let blocks = blocks_of(held.tables.len().saturating_add(held.behind.len));
     let tables = held.tables.as_slice();
@@ -154,10 +149,8 @@ pub fn copy_input<R: Source, W: Sink>(
 ) -> Outcome
     requires reads { R.has_failed input.old ≡ false }
     requires writes { W.has_failed output.old ≡ false }
-    ensures ends { IfSome (R.left input.old) (λ all.
-        EndsBy (DiskAnswer (volume (sought_value sought.now)) all) result (W.held output.old) (W.held output.new)) }
-    ensures read { R.has_failed input.new ≡ is_read_fault result }
-    ensures written { W.has_failed output.new ≡ is_write_fault result }
+    ensures ends { DoesOn (DiskAnswer (volume (sought_value sought.now))) result (seen R.left R.has_failed input.old input.new)
+        (seen W.held W.has_failed output.old output.new) }
     ensures unwritten { is_read_fault result ≡ true → output.new ≡ output.old }
     ensures at_most { TakesAtMost (MOST_DISK_BYTES + 1) (R.left input.old) (R.left input.new) }
 {

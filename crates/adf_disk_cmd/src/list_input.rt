@@ -1,10 +1,10 @@
 // The commands `list` and `survey` over an input, of which only the blocks that may have tables are held.
 
-ghost use Rattle.std.specs.Prelude.{◌≡◌, ◌+◌, ◌/◌, List, ℕ, false, min, true, IfSome};
+ghost use Rattle.std.specs.Prelude.{◌≡◌, ◌+◌, ◌/◌, List, ℕ, false, min, true};
 ghost use Rattle.adf_disk_cmd.specs.Answers.{DiskAnswer};
 ghost use Rattle.adf_disk_cmd.specs.Work.{TellsFault, listing_request};
-ghost use Rattle.adf_runs.specs.Outcomes.{EndsBy, is_read_fault, is_write_fault};
-ghost use Rattle.adf_runs.specs.Streams.{IsPart, TakesAtMost};
+ghost use Rattle.adf_runs.specs.Outcomes.{Blames, Does, DoesOn, EndsBy, is_read_fault};
+ghost use Rattle.adf_runs.specs.Streams.{IsPart, TakesAtMost, seen};
 
 use crate::listing::write_list;
 use crate::surveying::write_readable;
@@ -34,10 +34,7 @@ pub fn write_fault<W: Sink>(
     output: &mut W,
 ) -> Outcome
     requires { W.has_failed output.old ≡ false }
-    ensures ends { EndsBy (TellsFault survey tables.now blocks fault) result
-        (W.held output.old) (W.held output.new) }
-    ensures read { is_read_fault result ≡ false }
-    ensures written { W.has_failed output.new ≡ is_write_fault result }
+    ensures { Does (TellsFault survey tables.now blocks fault) result (seen W.held W.has_failed output.old output.new) }
 {
     let Ok(line) = format!(in alloc; "{fault}\n") else {
         return Outcome::NoMemory;
@@ -55,8 +52,7 @@ fn list_part<W: Sink>(alloc: Global, held: &Part, survey: bool, output: &mut W) 
     ensures ends { (all : List ℕ)
         → IsPart 0 TABLES_LEN (MOST_DISK_BYTES + 1) all held.now.bytes.items held.now.len
         → EndsBy (DiskAnswer (listing_request survey) all) result (W.held output.old) (W.held output.new) }
-    ensures read { is_read_fault result ≡ false }
-    ensures written { W.has_failed output.new ≡ is_write_fault result }
+    ensures blames { Blames result false (W.has_failed output.new) }
 {
     let blocks = blocks_of(held.len);
     let tables = held.bytes.as_slice();
@@ -78,10 +74,8 @@ pub fn list_input<R: Source, W: Sink>(
 ) -> Outcome
     requires reads { R.has_failed input.old ≡ false }
     requires writes { W.has_failed output.old ≡ false }
-    ensures ends { IfSome (R.left input.old) (λ all.
-        EndsBy (DiskAnswer (listing_request survey) all) result (W.held output.old) (W.held output.new)) }
-    ensures read { R.has_failed input.new ≡ is_read_fault result }
-    ensures written { W.has_failed output.new ≡ is_write_fault result }
+    ensures ends { DoesOn (DiskAnswer (listing_request survey)) result (seen R.left R.has_failed input.old input.new)
+        (seen W.held W.has_failed output.old output.new) }
     ensures unwritten { is_read_fault result ≡ true → output.new ≡ output.old }
     ensures at_most { TakesAtMost (MOST_DISK_BYTES + 1) (R.left input.old) (R.left input.new) }
 {

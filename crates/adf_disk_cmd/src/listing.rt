@@ -3,7 +3,8 @@
 ghost use Rattle.std.specs.Prelude.{◌≡◌, ◌++◌, false, string_bytes, IfOk, OnOk};
 ghost use Rattle.adf_disk_cmd.specs.Lines.{fields_fault_text, list_line, list_lines, name_text, place_text, words_text};
 ghost use Rattle.adf_runs.specs.Commands.{on_output};
-ghost use Rattle.adf_runs.specs.Outcomes.{EndsBy, is_read_fault, is_write_fault};
+ghost use Rattle.adf_runs.specs.Outcomes.{Does};
+ghost use Rattle.adf_runs.specs.Streams.{seen};
 
 use crate::answering::write_text;
 use crate::types::type_text;
@@ -86,10 +87,8 @@ pub fn list_lines(alloc: Global, partitions: &[Partition]) -> Result<Vec<u8>, Al
 /// Writes the lines of all partitions.
 pub fn write_list<W: Sink>(alloc: Global, partitions: &[Partition], output: &mut W) -> Outcome
     requires { W.has_failed output.old ≡ false }
-    ensures ends { EndsBy (λ reply. reply ≡ on_output 0 (list_lines 1 partitions.now)) result
-        (W.held output.old) (W.held output.new) }
-    ensures read { is_read_fault result ≡ false }
-    ensures written { W.has_failed output.new ≡ is_write_fault result }
+    ensures { Does (λ reply. reply ≡ on_output 0 (list_lines 1 partitions.now)) result
+        (seen W.held W.has_failed output.old output.new) }
 {
     match list_lines(alloc, partitions) {
         Ok(text) => write_text(output, &text, true),

@@ -3,7 +3,8 @@
 ghost use Rattle.std.specs.Prelude.{◌≡◌, List, ℕ, false, IfOk};
 ghost use Rattle.adf_disk_cmd.specs.Answers.{TellsReadable};
 ghost use Rattle.adf_runs.specs.Commands.{on_output};
-ghost use Rattle.adf_runs.specs.Outcomes.{EndsBy, is_read_fault, is_write_fault};
+ghost use Rattle.adf_runs.specs.Outcomes.{Does};
+ghost use Rattle.adf_runs.specs.Streams.{seen};
 
 use crate::answering::write_text;
 use crate::listing::list_lines;
@@ -35,10 +36,8 @@ pub fn write_readable<W: Sink>(
     output: &mut W,
 ) -> Outcome
     requires { W.has_failed output.old ≡ false }
-    ensures ends { EndsBy (λ reply. (text : List ℕ) × TellsReadable bytes.now blocks line.now text
-        × (reply ≡ on_output 1 text)) result (W.held output.old) (W.held output.new) }
-    ensures read { is_read_fault result ≡ false }
-    ensures written { W.has_failed output.new ≡ is_write_fault result }
+    ensures { Does (λ reply. (text : List ℕ) × TellsReadable bytes.now blocks line.now text × (reply ≡ on_output 1 text)) result
+        (seen W.held W.has_failed output.old output.new) }
 {
     match readable_lines(alloc, bytes, blocks, line) {
         Ok(text) => write_text(output, &text, false),

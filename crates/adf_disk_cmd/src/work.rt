@@ -1,10 +1,11 @@
 // What is done with a disk.
 
-ghost use Rattle.std.specs.Prelude.{◌≡◌, false, IfOk, List, Option, option_copied, string_bytes, ℕ};
+ghost use Rattle.std.specs.Prelude.{◌≡◌, false, IfOk, List, Option, option_copied, string_bytes};
 ghost use Rattle.adf_disk_cmd.specs.Answers.{OfDisk, OfFault, OfPartitions, no_partition_text, volume_reply, wanted_of};
 ghost use Rattle.adf_disk_cmd.specs.Builds.{refusal};
 ghost use Rattle.adf_disk_cmd.specs.Work.{IsWorkOf, sought_value};
-ghost use Rattle.adf_runs.specs.Outcomes.{EndsBy, is_read_fault, is_write_fault};
+ghost use Rattle.adf_runs.specs.Outcomes.{Blames, Does, DoesSilently, EndsBy};
+ghost use Rattle.adf_runs.specs.Streams.{seen};
 ghost use Rattle.adf_file_words.specs.DiskLine.{DiskRequestValue, wanted_value};
 
 use crate::answering::{refuse, write_text};
@@ -83,10 +84,7 @@ fn no_partition_text(alloc: Global, sought: &Sought) -> Result<String, AllocErro
 
 /// Says on errors that a disk has no such partition; output gets nothing.
 pub fn refuse_sought(alloc: Global, sought: &Sought) -> Outcome
-    ensures ends { (held : Option (List ℕ))
-        → EndsBy (λ reply. reply ≡ refusal (no_partition_text (sought_value sought.now))) result held held }
-    ensures read { is_read_fault result ≡ false }
-    ensures written { is_write_fault result ≡ false }
+    ensures { DoesSilently (λ reply. reply ≡ refusal (no_partition_text (sought_value sought.now))) result }
 {
     match no_partition_text(alloc, sought) {
         Ok(text) => refuse(alloc, &text),
@@ -103,11 +101,8 @@ fn write_volume<W: Sink>(
     output: &mut W,
 ) -> Outcome
     requires { W.has_failed output.old ≡ false }
-    ensures ends { EndsBy (λ reply.
-        reply ≡ volume_reply bytes.now (sought_value sought.now) (option_copied found.entry)) result
-        (W.held output.old) (W.held output.new) }
-    ensures read { is_read_fault result ≡ false }
-    ensures written { W.has_failed output.new ≡ is_write_fault result }
+    ensures { Does (λ reply. reply ≡ volume_reply bytes.now (sought_value sought.now) (option_copied found.entry)) result
+        (seen W.held W.has_failed output.old output.new) }
 {
     let Some(partition) = found else {
         return refuse_sought(alloc, sought);
@@ -125,8 +120,7 @@ impl Work {
         ensures ends { (r : DiskRequestValue) → IsWorkOf self.now r
             → EndsBy (OfPartitions r bytes.now disk.now.partitions.items) result
             (W.held output.old) (W.held output.new) }
-        ensures read { is_read_fault result ≡ false }
-        ensures written { W.has_failed output.new ≡ is_write_fault result }
+        ensures blames { Blames result false (W.has_failed output.new) }
     {
         match self {
             Work::List | Work::Survey => write_list(alloc, &disk.partitions, output),
@@ -149,8 +143,7 @@ impl Work {
         requires { W.has_failed output.old ≡ false }
         ensures ends { (r : DiskRequestValue) → IsWorkOf self.now r
             → EndsBy (OfFault r bytes.now fault) result (W.held output.old) (W.held output.new) }
-        ensures read { is_read_fault result ≡ false }
-        ensures written { W.has_failed output.new ≡ is_write_fault result }
+        ensures blames { Blames result false (W.has_failed output.new) }
     {
         let Ok(line) = format!(in alloc; "{fault}\n") else {
             return Outcome::NoMemory;
@@ -170,8 +163,7 @@ impl Work {
         requires { W.has_failed output.old ≡ false }
         ensures ends { (r : DiskRequestValue) → IsWorkOf self.now r
             → EndsBy (OfDisk r bytes.now) result (W.held output.old) (W.held output.new) }
-        ensures read { is_read_fault result ≡ false }
-        ensures written { W.has_failed output.new ≡ is_write_fault result }
+        ensures blames { Blames result false (W.has_failed output.new) }
     {
         let blocks = (bytes.len() / BLOCK_LEN) as u64;
         match Disk::open(alloc, bytes, blocks) {

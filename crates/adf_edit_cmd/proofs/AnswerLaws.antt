@@ -7,15 +7,16 @@ use Rattle.adf_edit_cmd.specs.Stops.{stop_text}
 use Rattle.adf_edit_cmd.specs.declared.program.TheConstants.{MOST_INPUT_BYTES}
 use Rattle.adf_edit_cmd.specs.declared.stop.Stop.{Stop}
 use Rattle.adf_edit_cmd.specs.declared.stop.Stop.TheVariants.{NoMemory}
-use Rattle.adf_runs.proofs.Endings.{ends_weaker}
+use Rattle.adf_runs.proofs.Endings.{does_weaker, ends_weaker}
 use Rattle.adf_runs.specs.Commands.{Reply, on_errors, on_output}
-use Rattle.adf_runs.specs.Outcomes.{EndsBy}
+use Rattle.adf_runs.specs.Outcomes.{Does, EndsBy}
+use Rattle.adf_runs.specs.Streams.{Seen}
 use Rattle.adf_runs.specs.declared.outcome.Outcome.{Outcome}
 
 -- a new image that is written is an answer
-pub written : (input new : List ℕ) (w : Outcome) (o o' : Option (List ℕ)) → IsEdited input new → EndsBy (λ reply. reply ≡ on_output 0 new) w o o'
-    → EndsBy (Edits input) w o o'
-written input new w o o' is h = ends_weaker (λ reply. reply ≡ on_output 0 new) (Edits input) w o o' (λ reply e. inl (new, is, e)) h
+pub written : {w : Outcome} {output : Seen} (input new : List ℕ) → IsEdited input new → Does (λ reply. reply ≡ on_output 0 new) w output
+    → Does (Edits input) w output
+written input new is h = does_weaker (λ reply. reply ≡ on_output 0 new) (Edits input) (λ reply e. inl (new, is, e)) h
 
 -- so is why there is none
 pub refused : (input : List ℕ) (stop : Stop) (w : Outcome) (o o' : Option (List ℕ)) → StopsInput input stop → stop ≢ NoMemory

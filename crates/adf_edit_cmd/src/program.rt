@@ -5,7 +5,8 @@ ghost use Rattle.adf_edit_cmd.specs.Answers.{Edits, edit_command};
 ghost use Rattle.adf_edit_cmd.specs.Edited.{StopsInput};
 ghost use Rattle.adf_edit_cmd.specs.Stops.{stop_text};
 ghost use Rattle.adf_runs.specs.Commands.{IsUnanswered, RunEnds, TakesEnough, on_errors, on_output};
-ghost use Rattle.adf_runs.specs.Outcomes.{EndsBy, is_read_fault, is_write_fault};
+ghost use Rattle.adf_runs.specs.Outcomes.{Blames, Does, DoesSilently, EndsBy};
+ghost use Rattle.adf_runs.specs.Streams.{seen};
 ghost use Rattle.adf_words.specs.CommandLine.{texts_of};
 
 use crate::editing::new_image;
@@ -23,10 +24,7 @@ const USAGE: &str = "usage: adf-edit < INPUT > IMAGE\n\
 // Writes an image.
 fn write_image<W: Sink>(output: &mut W, image: &[u8]) -> Outcome
     requires { W.has_failed output.old ≡ false }
-    ensures ends { EndsBy (λ reply. reply ≡ on_output 0 image.now) result
-        (W.held output.old) (W.held output.new) }
-    ensures read { is_read_fault result ≡ false }
-    ensures written { W.has_failed output.new ≡ is_write_fault result }
+    ensures { Does (λ reply. reply ≡ on_output 0 image.now) result (seen W.held W.has_failed output.old output.new) }
 {
     match write_all(output, image) {
         Ok(()) => Outcome::Done,
@@ -36,10 +34,7 @@ fn write_image<W: Sink>(output: &mut W, image: &[u8]) -> Outcome
 
 // Says a reason on errors; output gets nothing.
 fn say_stop(alloc: Global, stop: Stop) -> Outcome
-    ensures ends { (held : Option (List ℕ))
-        → EndsBy (λ reply. reply ≡ on_errors 1 (stop_text stop ++ codes "\n")) result held held }
-    ensures read { is_read_fault result ≡ false }
-    ensures written { is_write_fault result ≡ false }
+    ensures { DoesSilently (λ reply. reply ≡ on_errors 1 (stop_text stop ++ codes "\n")) result }
 {
     match format!(in alloc; "{stop}\n") {
         Ok(line) => Outcome::Refused(line),
@@ -51,8 +46,7 @@ fn say_stop(alloc: Global, stop: Stop) -> Outcome
 fn refuse(alloc: Global, stop: Stop) -> Outcome
     ensures ends { (held : Option (List ℕ)) (input : List ℕ) → StopsInput input stop
         → EndsBy (Edits input) result held held }
-    ensures read { is_read_fault result ≡ false }
-    ensures written { is_write_fault result ≡ false }
+    ensures blames { Blames result false false }
 {
     match stop {
         Stop::NoMemory => Outcome::NoMemory,
@@ -63,9 +57,7 @@ fn refuse(alloc: Global, stop: Stop) -> Outcome
 // Writes the image that a script makes of another, or says why there is none.
 fn edit_input<W: Sink>(alloc: Global, input: &[u8], output: &mut W) -> Outcome
     requires { W.has_failed output.old ≡ false }
-    ensures ends { EndsBy (Edits input.now) result (W.held output.old) (W.held output.new) }
-    ensures read { is_read_fault result ≡ false }
-    ensures written { W.has_failed output.new ≡ is_write_fault result }
+    ensures { Does (Edits input.now) result (seen W.held W.has_failed output.old output.new) }
 {
     match new_image(alloc, input) {
         Ok(image) => write_image(output, &image),
@@ -141,10 +133,8 @@ pub fn run<R: Source, W: Sink, E: Sink>(
     requires reads { R.has_failed input.old ≡ false }
     requires writes { W.has_failed output.old ≡ false }
     requires tells { E.has_failed errors.old ≡ false }
-    ensures ends { RunEnds edit_command (texts_of words.now) (R.left input.old)
-        (R.has_failed input.new) result
-        (W.has_failed output.new) (W.held output.old) (W.held output.new)
-        (E.has_failed errors.new) (E.held errors.old) (E.held errors.new) }
+    ensures ends { RunEnds edit_command (texts_of words.now) (seen R.left R.has_failed input.old input.new) result
+        (seen W.held W.has_failed output.old output.new) (seen E.held E.has_failed errors.old errors.new) }
     ensures untouched { IsUnanswered edit_command (texts_of words.now)
         → (input.new ≡ input.old) × (output.new ≡ output.old) }
     ensures at_most { TakesEnough edit_command (texts_of words.now)

@@ -1,11 +1,11 @@
 -- Runs whose words may name a file, which is then the input.
--- Letters: c a command, file_of the file that its words name; n the status; o and e what output and errors held before a run, o' and e' after it.
+-- Letters: c a command, file_of the file that its words name; n the status.
 use Rattle.std.specs.Prelude.{◌≡◌, ◌⊎◌, ◌++◌, ℕ, Bool, true, List, [], codes, Option, None, Some}
 use Rattle.std.specs.Io.KnownBytes.{Appends}
 use Rattle.adf_names.specs.Escapes.{escaped}
 use Rattle.adf_runs.specs.Commands.{Command, RunEnds}
 use Rattle.adf_file_runs.specs.Files.{unopened_text}
-use Rattle.adf_runs.specs.Streams.{Says}
+use Rattle.adf_runs.specs.Streams.{IsTold, Seen, still}
 use Rattle.adf_file_runs.specs.declared.files.Unopened.{Unopened}
 use Rattle.adf_file_runs.specs.declared.files.Unopened.TheVariants.{Other}
 
@@ -26,23 +26,29 @@ refusal_text why = unopened_text why
 abbrev pub unopened_line : List ℕ → Unopened → List ℕ
 unopened_line name why = escaped name ++ refusal_text why
 
--- the file of a name was not opened, for a reason that there may be: errors tell it, and output is as it was
-abbrev pub IsUnopened : (List ℕ → Bool) → (List ℕ → Option Unopened → Type 0) → List ℕ → ℕ → Option (List ℕ) → Option (List ℕ)
-    → Bool → Option (List ℕ) → Option (List ℕ) → Type 0
-IsUnopened may_fail may_open name n o o' errors_failed e e' =
-    (n ≡ 3) × (may_fail name ≡ true) × Appends o o' []
-    × ((why : Unopened) × may_open name (Some why) × Says errors_failed e e' (unopened_line name why))
+-- what is known of files by their names: the bytes of each, whether it may fail, and what may come of opening it
+pub record KnownFiles : Type 1 where
+  pub bytes_of : List ℕ → Option (List ℕ)
+  pub may_fail : List ℕ → Bool
+  pub may_open : List ℕ → Option Unopened → Type 0
 
--- how a run with these words ends, over an input and files whose bytes are known or not
-pub record RunEndsOnFiles {Words : Type 0} (c : Command Words) (file_of : Words → Option (List ℕ)) (words : Words)
-    (input : Option (List ℕ)) (input_failed : Bool)
-    (bytes_of : List ℕ → Option (List ℕ)) (may_fail : List ℕ → Bool) (may_open : List ℕ → Option Unopened → Type 0) (n : ℕ)
-    (output_failed : Bool) (o o' : Option (List ℕ)) (errors_failed : Bool) (e e' : Option (List ℕ)) : Type 0 where
+-- what is known of these files, by what tells it of any
+abbrev pub known_files : {F : Type 0} → (F → List ℕ → Option (List ℕ)) → (F → List ℕ → Bool) → (F → List ℕ → Option Unopened → Type 0) → F → KnownFiles
+known_files bytes_of may_fail may_open files =
+    record { bytes_of = bytes_of files; may_fail = may_fail files; may_open = may_open files }
+
+-- the file of a name was not opened, for a reason that there may be: errors tell it, and output is as it was
+abbrev pub IsUnopened : KnownFiles → List ℕ → ℕ → Seen → Seen → Type 0
+IsUnopened files name n output errors = (n ≡ 3) × (files.may_fail name ≡ true) × Appends output.before output.after []
+    × ((why : Unopened) × files.may_open name (Some why) × IsTold errors (unopened_line name why))
+
+-- how a run with these words ends, over files and an input
+pub record RunEndsOnFiles {Words : Type 0} (c : Command Words) (file_of : Words → Option (List ℕ)) (words : Words) (files : KnownFiles)
+    (input : Seen) (n : ℕ) (output errors : Seen) : Type 0 where
   -- where the words name no file, as a run over the input
-  pub on_input : file_of words ≡ None → RunEnds c words input input_failed n output_failed o o' errors_failed e e'
+  pub on_input : file_of words ≡ None → RunEnds c words input n output errors
   -- where they name one, as a run over its bytes, or it was not opened
   pub on_file : (name : List ℕ) → file_of words ≡ Some name
-      → ((file_failed : Bool) × RunEnds c words (bytes_of name) file_failed n output_failed o o' errors_failed e e')
-      ⊎ IsUnopened may_fail may_open name n o o' errors_failed e e'
+      → ((failed : Bool) × RunEnds c words (still (files.bytes_of name) failed) n output errors) ⊎ IsUnopened files name n output errors
   -- where they name one and are answered, it was opened
-  pub opened : (name : List ℕ) → file_of words ≡ Some name → ¬ (n ≡ 2) → ¬ (n ≡ 3) → may_open name None
+  pub opened : (name : List ℕ) → file_of words ≡ Some name → ¬ (n ≡ 2) → ¬ (n ≡ 3) → files.may_open name None

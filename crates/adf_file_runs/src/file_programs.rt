@@ -4,8 +4,8 @@ ghost use Rattle.std.specs.Prelude.{◌≡◌, ◌⊎◌, ◌++◌, ℕ, List, O
 ghost use Rattle.adf_names.specs.Escapes.{escape_of, escaped};
 ghost use Rattle.adf_words.specs.CommandLine.{texts_of};
 ghost use Rattle.adf_runs.specs.Commands.{IsUnanswered, TakesEnough};
-ghost use Rattle.adf_file_runs.specs.FileRuns.{RunEndsOnFiles, refusal_text, unopened_line, without_files};
-ghost use Rattle.adf_runs.specs.Streams.{Says};
+ghost use Rattle.adf_file_runs.specs.FileRuns.{RunEndsOnFiles, known_files, refusal_text, unopened_line, without_files};
+ghost use Rattle.adf_runs.specs.Streams.{IsTold, seen};
 ghost use Rattle.adf_runs.specs.WorkFaults.{IsNoWork};
 
 use crate::files::{Files, Unopened};
@@ -71,10 +71,8 @@ fn unopened_line(alloc: Global, name: &str, why: Unopened) -> Result<Vec<u8>, Al
 pub fn refuse_file<E: Sink>(alloc: Global, name: &str, why: Unopened, errors: &mut E) -> u8
     requires { E.has_failed errors.old ≡ false }
     ensures status { result ≡ 3 }
-    ensures said { Says (E.has_failed errors.new) (E.held errors.old) (E.held errors.new)
-        (unopened_line name.now why)
-        ⊎ Says (E.has_failed errors.new) (E.held errors.old) (E.held errors.new)
-        (codes "no memory\n") }
+    ensures said { IsTold (seen E.held E.has_failed errors.old errors.new) (unopened_line name.now why)
+        ⊎ IsTold (seen E.held E.has_failed errors.old errors.new) (codes "no memory\n") }
 {
     match unopened_line(alloc, name, why) {
         Ok(line) => say(errors, &line),
@@ -98,10 +96,8 @@ pub fn run_program_on_files<P: FileProgram, F: Files, R: Source, W: Sink, E: Sin
     requires writes { W.has_failed output.old ≡ false }
     requires tells { E.has_failed errors.old ≡ false }
     ensures ends { RunEndsOnFiles P.command P.file_of (texts_of words.now)
-        (R.left input.old) (R.has_failed input.new)
-        (F.bytes_of files.now) (F.may_fail files.now) (F.may_open files.now) result
-        (W.has_failed output.new) (W.held output.old) (W.held output.new)
-        (E.has_failed errors.new) (E.held errors.old) (E.held errors.new) }
+        (known_files F.bytes_of F.may_fail F.may_open files.now) (seen R.left R.has_failed input.old input.new) result
+        (seen W.held W.has_failed output.old output.new) (seen E.held E.has_failed errors.old errors.new) }
     ensures untouched { IsUnanswered P.command (texts_of words.now)
         → (input.new ≡ input.old) × (output.new ≡ output.old) }
     ensures unread { (name : List ℕ) → P.file_of (texts_of words.now) ≡ Some name

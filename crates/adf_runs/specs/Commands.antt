@@ -1,8 +1,7 @@
 -- Commands: what their words ask for, how that is answered, and how a run of one ends.
--- Letters: o and e what output and errors held before a run, o' and e' after it.
 use Rattle.std.specs.Prelude.{◌≡◌, ◌⊎◌, ◌≤◌, ◌+◌, ℕ, Bool, true, false, List, [], codes, length, min, Option, IfSome}
 use Rattle.std.specs.Io.KnownBytes.{Appends}
-use Rattle.adf_runs.specs.Streams.{AppendsPart, Says, TakesAtMost}
+use Rattle.adf_runs.specs.Streams.{AppendsPart, IsTold, Seen, TakesAtMost}
 
 -- an answer: its status, and what is written to output and errors
 pub record Reply : Type 0 where
@@ -47,18 +46,19 @@ IsUnanswered c words = c.refuses words ⊎ c.asks_bad_path words
 abbrev pub WritesFront : (Reply → Type 0) → Bool → Option (List ℕ) → Option (List ℕ) → Type 0
 WritesFront answers failed o o' = (reply : Reply) × answers reply × AppendsPart failed o o' reply.output
 
--- something is asked for, and output and errors got an answer to it at this status, or where errors failed a front part of its errors, but not all
-abbrev pub GetsAnswer : {R : Type 0} → (R → Type 0) → (R → List ℕ → Reply → Type 0) → List ℕ → ℕ → Option (List ℕ) → Option (List ℕ) → Bool
-    → Option (List ℕ) → Option (List ℕ) → Type 0
-GetsAnswer {R = R} asks answer input status o o' failed e e' =
-    (r : R) × asks r × (reply : Reply) × (reply.status ≡ status) × answer r input reply × Appends o o' reply.output × Says failed e e' reply.errors
+-- something is asked for, and output and errors got an answer to it at status n, or where errors failed a front part of its errors, but not all
+abbrev pub GetsAnswer : {Words : Type 0} → Command Words → Words → List ℕ → ℕ → Seen → Seen → Type 0
+GetsAnswer c words input n output errors =
+    (r : c.Request) × c.asks words r × (reply : Reply) × (reply.status ≡ n) × c.answer r input reply
+    × Appends output.before output.after reply.output × IsTold errors reply.errors
 
--- what output has got at status 3: nothing where the input failed; where output failed a front part of an answer to what is asked for, but not all of it;
--- else nothing or a front part
-abbrev pub GetsFront : {R : Type 0} → (R → Type 0) → (R → List ℕ → Reply → Type 0) → Bool → Bool → List ℕ → Option (List ℕ) → Option (List ℕ) → Type 0
-GetsFront asks answer true _ input o o' = Appends o o' []
-GetsFront {R = R} asks answer false true input o o' = (r : R) × asks r × WritesFront (answer r input) true o o'
-GetsFront {R = R} asks answer false false input o o' = Appends o o' [] ⊎ ((r : R) × asks r × WritesFront (answer r input) false o o')
+-- what output has got at status 3, where these tell whether the input failed and whether output did: nothing where the input failed; where output failed
+-- a front part of an answer to what is asked for, but not all of it; else nothing or a front part
+abbrev pub GetsFront : Bool → Bool → {Words : Type 0} → Command Words → Words → List ℕ → Seen → Type 0
+GetsFront true _ c words input output = Appends output.before output.after []
+GetsFront false true c words input output = (r : c.Request) × c.asks words r × WritesFront (c.answer r input) true output.before output.after
+GetsFront false false c words input output = Appends output.before output.after []
+    ⊎ ((r : c.Request) × c.asks words r × WritesFront (c.answer r input) false output.before output.after)
 
 -- the line of status 3: whether the input failed, and whether output failed
 abbrev pub failure_line : Bool → Bool → List ℕ
@@ -66,23 +66,21 @@ failure_line true _ = codes "read fault\n"
 failure_line false true = codes "write fault\n"
 failure_line false false = codes "no memory\n"
 
--- how a run with these words ends at status n, over an input that is known or not; of output and then of errors, whether it failed, and what it held
--- before and holds now
-pub record RunEnds {Words : Type 0} (c : Command Words) (words : Words) (input : Option (List ℕ)) (input_failed : Bool) (n : ℕ)
-    (output_failed : Bool) (o o' : Option (List ℕ)) (errors_failed : Bool) (e e' : Option (List ℕ)) : Type 0 where
+-- how a run with these words ends at status n
+pub record RunEnds {Words : Type 0} (c : Command Words) (words : Words) (input : Seen) (n : ℕ) (output errors : Seen) : Type 0 where
   pub status : n ≤ 3
   -- where the words are taken, at a status other than 3 the answer is the defined one
-  pub answer : ¬ c.refuses words → ¬ (n ≡ 3) → IfSome input (λ bytes. GetsAnswer (c.asks words) c.answer bytes n o o' errors_failed e e')
+  pub answer : ¬ c.refuses words → ¬ (n ≡ 3) → IfSome input.before (λ bytes. GetsAnswer c words bytes n output errors)
   pub answered : ¬ (n ≡ 2) → ¬ (n ≡ 3) → ¬ IsUnanswered c words
   -- at status 2 the words are refused or their path is not read, which errors tell
   pub usage : n ≡ 2 → IsUnanswered c words
-  pub bad_path : n ≡ 2 → c.asks_bad_path words → Says errors_failed e e' (codes "bad path\n")
-  pub refused : n ≡ 2 → c.refuses words → Says errors_failed e e' c.usage
+  pub bad_path : n ≡ 2 → c.asks_bad_path words → IsTold errors (codes "bad path\n")
+  pub refused : n ≡ 2 → c.refuses words → IsTold errors c.usage
   -- at status 3 errors tell what failed, and output has a front part of an answer: nothing where the input failed, and not all where output failed
-  pub read_failed : input_failed ≡ true → n ≡ 3
-  pub write_failed : output_failed ≡ true → n ≡ 3
-  pub failure : n ≡ 3 → Says errors_failed e e' (failure_line input_failed output_failed)
-  pub part : n ≡ 3 → IfSome input (λ bytes. GetsFront (c.asks words) c.answer input_failed output_failed bytes o o')
+  pub read_failed : input.failed ≡ true → n ≡ 3
+  pub write_failed : output.failed ≡ true → n ≡ 3
+  pub failure : n ≡ 3 → IsTold errors (failure_line input.failed output.failed)
+  pub part : n ≡ 3 → IfSome input.before (λ bytes. GetsFront input.failed output.failed c words bytes output)
 
 -- so many bytes are enough for an answer to what the words ask for
 abbrev pub IsEnough : {Words : Type 0} → Command Words → Words → ℕ → Type 0

@@ -1,7 +1,8 @@
 -- How the work of a command went.
-use Rattle.std.specs.Prelude.{ℕ, Bool, true, false, List, [], codes, ◌⊎◌, Option, string_bytes}
+use Rattle.std.specs.Prelude.{◌≡◌, ℕ, Bool, true, false, List, [], codes, ◌⊎◌, Option, IfSome, string_bytes}
 use Rattle.std.specs.Io.KnownBytes.{Appends}
 use Rattle.adf_runs.specs.Commands.{Reply, WritesFront}
+use Rattle.adf_runs.specs.Streams.{Seen}
 use Rattle.adf_runs.specs.declared.streams.StreamFault.{StreamFault}
 use Rattle.adf_runs.specs.declared.streams.StreamFault.TheVariants.{Device, NoMemory as StreamNoMemory}
 use Rattle.adf_runs.specs.declared.outcome.Outcome.{Outcome}
@@ -70,3 +71,26 @@ EndsBy answers ReadFault o o' = Appends o o' []
 EndsBy answers WriteFault o o' = WritesFront answers true o o'
 EndsBy answers NoMemory o o' = Appends o o' [] ⊎ WritesFront answers false o o'
 EndsBy answers w o o' = WritesOne answers w o o'
+
+-- an outcome is a fault of input or output just where that has failed
+pub record Blames (outcome : Outcome) (input_failed output_failed : Bool) : Type 0 where
+  pub read : input_failed ≡ is_read_fault outcome
+  pub written : output_failed ≡ is_write_fault outcome
+
+-- a work does one of these answers to output, on bytes at hand
+pub record Does (answers : Reply → Type 0) (outcome : Outcome) (output : Seen) : Type 0 where
+  pub ends : EndsBy answers outcome output.before output.after
+  pub read : is_read_fault outcome ≡ false
+  pub written : output.failed ≡ is_write_fault outcome
+
+-- a work does one of the answers to an input, where that is known
+pub record DoesOn (answers : List ℕ → Reply → Type 0) (outcome : Outcome) (input output : Seen) : Type 0 where
+  pub ends : IfSome input.before (λ bytes. EndsBy (answers bytes) outcome output.before output.after)
+  pub read : input.failed ≡ is_read_fault outcome
+  pub written : output.failed ≡ is_write_fault outcome
+
+-- a work does one of these answers, which writes nothing
+pub record DoesSilently (answers : Reply → Type 0) (outcome : Outcome) : Type 0 where
+  pub ends : (held : Option (List ℕ)) → EndsBy answers outcome held held
+  pub read : is_read_fault outcome ≡ false
+  pub written : is_write_fault outcome ≡ false

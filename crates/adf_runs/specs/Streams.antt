@@ -1,5 +1,5 @@
 -- What whole reads and writes take and add.
-use Rattle.std.specs.Prelude.{◌≡◌, ◌≢◌, ℕ, ◌≤◌, Bool, true, false, List, ◌++◌, ◌-◌, drop, length, min, [], take, Option, IfSome, Result, Err, codes}
+use Rattle.std.specs.Prelude.{◌≡◌, ◌≢◌, ℕ, ◌≤◌, Bool, true, false, List, ◌++◌, ◌-◌, drop, length, min, [], take, Option, Some, IfSome, Result, Err, codes}
 use Rattle.std.specs.Io.KnownBytes.{Appends, Consumes}
 use Rattle.adf_runs.specs.declared.streams.StreamFault.{StreamFault}
 use Rattle.adf_runs.specs.declared.streams.StreamFault.TheVariants.{Device, NoMemory}
@@ -36,6 +36,28 @@ AppendsPart failed old new whole = (part rest : List ℕ) × (whole ≡ part ++ 
 abbrev pub Says : Bool → Option (List ℕ) → Option (List ℕ) → List ℕ → Type 0
 Says false old new text = Appends old new text
 Says true old new text = AppendsPart true old new text
+
+-- a device over a run: what was known of it before and is after, of what it will give or of what it holds, and whether it has failed
+pub record Seen : Type 0 where
+  pub before : Option (List ℕ)
+  pub after : Option (List ℕ)
+  pub failed : Bool
+
+-- a device over a run, by what tells of it what is known and whether it has failed
+abbrev pub seen : {D : Type 0} → (D → Option (List ℕ)) → (D → Bool) → D → D → Seen
+seen known has_failed old new = record { before = known old; after = known new; failed = has_failed new }
+
+-- a device of which the same is known before and after
+abbrev pub still : Option (List ℕ) → Bool → Seen
+still known failed = record { before = known; after = known; failed = failed }
+
+-- bytes at hand, which cannot fail
+abbrev pub at_hand : List ℕ → Seen
+at_hand bytes = still (Some bytes) false
+
+-- the text was added to errors, or where they have failed a front part of it, but not all
+abbrev pub IsTold : Seen → List ℕ → Type 0
+IsTold errors text = Says errors.failed errors.before errors.after text
 
 -- the fault is that of the device
 abbrev pub is_device : {T : Type 0} → Result T StreamFault → Bool

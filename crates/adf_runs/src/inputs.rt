@@ -1,7 +1,7 @@
 // The input of a command.
 
 ghost use Rattle.std.specs.Prelude.{◌≡◌, ◌+◌, ◌<◌, ◌^◌, false, IfErr, IfOk, OnOk};
-ghost use Rattle.adf_runs.specs.Outcomes.{LacksInput, is_read_fault, is_write_fault};
+ghost use Rattle.adf_runs.specs.Outcomes.{Blames, LacksInput};
 ghost use Rattle.adf_runs.specs.Streams.{AreFirst, TakesAtMost};
 
 use crate::devices::Source;
@@ -17,8 +17,7 @@ pub fn read_input<R: Source>(alloc: Global, input: &mut R, limit: usize) -> Resu
     ensures at_most { TakesAtMost (limit + 1) (R.left input.old) (R.left input.new) }
     ensures works { OnOk result (R.has_failed input.new ≡ false) }
     ensures unread { IfErr result LacksInput }
-    ensures failed { IfErr result (λ w. R.has_failed input.new ≡ is_read_fault w) }
-    ensures written { IfErr result (λ w. is_write_fault w ≡ false) }
+    ensures blames { IfErr result (λ w. Blames w (R.has_failed input.new) false) }
 {
     match read_all(alloc, input, limit) {
         Ok(bytes) => Ok(bytes),

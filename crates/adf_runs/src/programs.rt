@@ -1,10 +1,10 @@
 // Programs, and runs of them.
 
-ghost use Rattle.std.specs.Prelude.{◌≡◌, ◌+◌, ◌<◌, ◌^◌, ℕ, List, Some, false, true, IfErr, IfOk, IfSome, OnOk};
+ghost use Rattle.std.specs.Prelude.{◌≡◌, ◌+◌, ◌<◌, ◌^◌, ℕ, List, false, true, IfErr, IfOk, IfSome, OnOk};
 ghost use Rattle.adf_words.specs.CommandLine.{texts_of};
 ghost use Rattle.adf_runs.specs.Commands.{Command, IsConsistent, IsUnanswered, IsConsumed, RunEnds, TakesEnough};
-ghost use Rattle.adf_runs.specs.Outcomes.{EndsBy, is_read_fault, is_write_fault};
-ghost use Rattle.adf_runs.specs.Streams.{TakesAtMost};
+ghost use Rattle.adf_runs.specs.Outcomes.{Blames, EndsBy, is_read_fault};
+ghost use Rattle.adf_runs.specs.Streams.{TakesAtMost, at_hand, seen};
 ghost use Rattle.adf_runs.specs.WorkFaults.{IsNoWork};
 
 use crate::devices::{Sink, Source};
@@ -42,8 +42,7 @@ pub trait Program: Drop {
         requires { W.has_failed output.old ≡ false }
         ensures ends { (r : command.Request) → serves self.now r
             → EndsBy (command.answer r bytes.now) result (W.held output.old) (W.held output.new) }
-        ensures read { is_read_fault result ≡ false }
-        ensures written { W.has_failed output.new ≡ is_write_fault result };
+        ensures blames { Blames result false (W.has_failed output.new) };
 
     /// Reads an input, and does the work on it.
     fn on_input<R: Source, W: Sink>(&self, alloc: Global, input: &mut R, output: &mut W) -> Outcome
@@ -52,8 +51,7 @@ pub trait Program: Drop {
         ensures ends { (r : command.Request) → serves self.now r
             → IfSome (R.left input.old) (λ bytes.
             EndsBy (command.answer r bytes) result (W.held output.old) (W.held output.new)) }
-        ensures read { R.has_failed input.new ≡ is_read_fault result }
-        ensures written { W.has_failed output.new ≡ is_write_fault result }
+        ensures blames { Blames result (R.has_failed input.new) (W.has_failed output.new) }
         ensures unwritten { is_read_fault result ≡ true → output.new ≡ output.old }
         ensures at_most { (r : command.Request) → serves self.now r
             → TakesAtMost (command.limit r + 1) (R.left input.old) (R.left input.new) };
@@ -74,10 +72,8 @@ pub fn run_program<P: Program, R: Source, W: Sink, E: Sink>(
     requires reads { R.has_failed input.old ≡ false }
     requires writes { W.has_failed output.old ≡ false }
     requires tells { E.has_failed errors.old ≡ false }
-    ensures ends { RunEnds P.command (texts_of words.now) (R.left input.old)
-        (R.has_failed input.new) result
-        (W.has_failed output.new) (W.held output.old) (W.held output.new)
-        (E.has_failed errors.new) (E.held errors.old) (E.held errors.new) }
+    ensures ends { RunEnds P.command (texts_of words.now) (seen R.left R.has_failed input.old input.new) result
+        (seen W.held W.has_failed output.old output.new) (seen E.held E.has_failed errors.old errors.new) }
     ensures untouched { IsUnanswered P.command (texts_of words.now)
         → (input.new ≡ input.old) × (output.new ≡ output.old) }
     ensures unwritten { R.has_failed input.new ≡ true → output.new ≡ output.old }
@@ -109,9 +105,8 @@ pub fn run_program_on<P: Program, W: Sink, E: Sink>(
 ) -> Ran
     requires writes { W.has_failed output.old ≡ false }
     requires tells { E.has_failed errors.old ≡ false }
-    ensures ends { RunEnds P.command (texts_of words.now) (Some input.now) false result.status
-        (W.has_failed output.new) (W.held output.old) (W.held output.new)
-        (E.has_failed errors.new) (E.held errors.old) (E.held errors.new) }
+    ensures ends { RunEnds P.command (texts_of words.now) (at_hand input.now) result.status
+        (seen W.held W.has_failed output.old output.new) (seen E.held E.has_failed errors.old errors.new) }
     ensures untouched { IsUnanswered P.command (texts_of words.now) → output.new ≡ output.old }
     ensures consumed { IsConsumed P.command (texts_of words.now) input.now result.status result.consumed }
 {

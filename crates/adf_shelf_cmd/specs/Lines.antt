@@ -7,7 +7,7 @@ use Rattle.adf_volume.specs.declared.types.Types.{Types}
 use Rattle.adf_names.specs.Escapes.{escaped}
 use Rattle.adf_cmd.specs.Answers.{Checks}
 use Rattle.adf_runs.specs.Commands.{on_output}
-use Rattle.adf_runs.specs.Streams.{AppendsPart, Says}
+use Rattle.adf_runs.specs.Streams.{AppendsPart, IsTold, Says, Seen}
 use Rattle.adf_file_runs.specs.Files.{why_line}
 use Rattle.adf_file_runs.specs.declared.files.Unopened.{Unopened}
 use Rattle.adf_shelf_cmd.specs.declared.report.Report.{Report}
@@ -132,13 +132,11 @@ stop_line StopNoMemory = codes "no memory\n"
 -- how a run ends, where `unread` says whether the names could not be read: output got all the lines, and errors what is said of the files; or it
 -- stopped at status 3, output got the lines of the first names, and where it failed not all of the next, and errors what is said of these names, and why
 -- it stopped
-abbrev pub Ends : Reports → Option (List (List ℕ)) → Bool → ℕ → Bool → Option (List ℕ) → Option (List ℕ) → Bool → Option (List ℕ) → Option (List ℕ)
-    → Type 0
-Ends may known unread status failed o o' errors_failed e e' = (said : List ℕ) × (
-    (WritesAll may known status o o' said × (unread ≡ false) × (failed ≡ false) × Says errors_failed e e' said)
-    ⊎ ((stop : Stop) × (status ≡ 3) × (unread ≡ is_names_fault stop) × (failed ≡ is_output_fault stop)
-    × WritesPart may known failed o o' said × Says errors_failed e e' (said ++ stop_line stop))
-    )
+abbrev pub Ends : Reports → Option (List (List ℕ)) → Bool → ℕ → Seen → Seen → Type 0
+Ends may known unread status output errors = (said : List ℕ) × (
+    (WritesAll may known status output.before output.after said × (unread ≡ false) × (output.failed ≡ false) × IsTold errors said)
+    ⊎ ((stop : Stop) × (status ≡ 3) × (unread ≡ is_names_fault stop) × (output.failed ≡ is_output_fault stop)
+    × WritesPart may known output.failed output.before output.after said × IsTold errors (said ++ stop_line stop)))
 
 -- the names stopped the work
 abbrev pub is_names_stop : {T : Type 0} → Result T Stop → Bool

@@ -3,7 +3,7 @@
 ghost use Rattle.std.specs.Prelude.{◌≡◌, ◌≢◌, ◌≤◌, Bool, List, ℕ, [], codes, false, if◌then◌else◌};
 ghost use Rattle.adf_volume.specs.declared.types.Types.TheVariants.{Plain, WithInternational};
 ghost use Rattle.adf_words.specs.CommandLine.{texts_of};
-ghost use Rattle.adf_runs.specs.Streams.{Says};
+ghost use Rattle.adf_runs.specs.Streams.{IsTold, seen};
 ghost use Rattle.adf_file_words.specs.ShelfLine.{AsksShelf, AreRefusedByShelf, ShelfOrder};
 ghost use Rattle.adf_shelf_cmd.specs.Lines.{Ends, IsReportOf, IsRunStatus};
 ghost use Rattle.adf_shelf_cmd.specs.Names.{are_unread, name_end, names_asked, types_asked};
@@ -31,8 +31,7 @@ fn run_names<N: Names, F: Files, W: Sink, E: Sink>(
     requires tells { E.has_failed errors.old ≡ false }
     ensures ends { Ends (IsReportOf checks.types (F.bytes_of files.now) (F.may_fail files.now) (F.may_open files.now))
         (N.left names.old) (N.has_failed names.new) result
-        (W.has_failed output.new) (W.held output.old) (W.held output.new)
-        (E.has_failed errors.new) (E.held errors.old) (E.held errors.new) }
+        (seen W.held W.has_failed output.old output.new) (seen E.held E.has_failed errors.old errors.new) }
     ensures status { IsRunStatus result }
 {
     match write_verdicts(checks, names, files, output, errors) {
@@ -75,8 +74,7 @@ fn run_order<B: BufRead, F: Files, W: Sink, E: Sink>(
     requires tells { E.has_failed errors.old ≡ false }
     ensures ends { Ends (IsReportOf (types_asked order.now) (F.bytes_of files.now) (F.may_fail files.now) (F.may_open files.now))
         (names_asked order.now (B.remaining input.old.text)) (are_unread order.now.files input.new.failed) result
-        (W.has_failed output.new) (W.held output.old) (W.held output.new)
-        (E.has_failed errors.new) (E.held errors.old) (E.held errors.new) }
+        (seen W.held W.has_failed output.old output.new) (seen E.held E.has_failed errors.old errors.new) }
     ensures status { IsRunStatus result }
     ensures unread { order.now.files ≢ [] → input.new ≡ input.old }
 {
@@ -118,8 +116,7 @@ pub fn run<B: BufRead, F: Files, W: Sink, E: Sink>(
         → (unread : Bool) × (input.old.failed ≡ false → unread ≡ are_unread order.files input.new.failed)
         × Ends (IsReportOf (types_asked order) (F.bytes_of files.now) (F.may_fail files.now) (F.may_open files.now))
         (names_asked order (B.remaining input.old.text)) unread result
-        (W.has_failed output.new) (W.held output.old) (W.held output.new)
-        (E.has_failed errors.new) (E.held errors.old) (E.held errors.new) }
+        (seen W.held W.has_failed output.old output.new) (seen E.held E.has_failed errors.old errors.new) }
 
     // Where the words name images, the input is not read.
     ensures unread { (order : ShelfOrder) → AsksShelf (texts_of words.now) order
@@ -130,12 +127,10 @@ pub fn run<B: BufRead, F: Files, W: Sink, E: Sink>(
     ensures refused { AreRefusedByShelf (texts_of words.now) → ¬ (result ≡ 3) → result ≡ 2 }
     ensures untouched { AreRefusedByShelf (texts_of words.now)
         → (input.new ≡ input.old) × (output.new ≡ output.old) }
-    ensures said { result ≡ 2
-        → Says (E.has_failed errors.new) (E.held errors.old) (E.held errors.new)
+    ensures said { result ≡ 2 → IsTold (seen E.held E.has_failed errors.old errors.new)
         (codes "usage: adf-shelf [--null] [--any-type] [FILE..]\n") }
     ensures memory { AreRefusedByShelf (texts_of words.now) → result ≡ 3
-        → Says (E.has_failed errors.new) (E.held errors.old) (E.held errors.new)
-        (codes "no memory\n") }
+        → IsTold (seen E.held E.has_failed errors.old errors.new) (codes "no memory\n") }
 {
     match parse_shelf(alloc, words) {
         Ok(order) => run_order(alloc, &order, input, files, output, errors),

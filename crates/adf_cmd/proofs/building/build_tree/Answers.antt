@@ -4,8 +4,8 @@ use Rattle.adf_runs.proofs.Endings.{front_ends}
 use Rattle.adf_cmd.proofs.AnswerLaws.{is_built}
 use Rattle.adf_cmd.proofs.building.build_tree.Goals as goal
 
-pub returns-in-Ok-clause-ends : goal.returns-in-Ok-clause-ends
-returns-in-Ok-clause-ends g c =
+pub returns-in-Ok : goal.returns-in-Ok
+returns-in-Ok g c =
     let e = c.in-Ok.ensures in
-    front_ends c.in-Err.fault _ (BuildsOrIsFull c.args.lines c.args.tree.now c.args.blocks) _ _ c.after_writing.ensures c.in-Err.ensures.failed
+    front_ends c.in-Err.fault _ (BuildsOrIsFull c.args.lines c.args.tree.now c.args.blocks) _ c.after_writing.ensures c.in-Err.ensures.failed
     (_, inl (is_built _ _ _ e.bytes e.room e.laid c.requires.letters e.fits, refl), rw (c.deref.ensures.value, e.bytes) at c.in-Err.ensures.err)

@@ -11,5 +11,5 @@ returns-in-Ok-clause-ends g c = λ path text.
 
 pub returns-in-Err-clause-ends : goal.returns-in-Err-clause-ends
 returns-in-Err-clause-ends g c = λ path text.
-    refused_image_ends c.in-Err.outcome _ (Answer (cat path) c.args.image.now) _ (λ err refuses. inr (inr ((c.args.names.now, text), refuses)))
-    c.in-Err.ensures.refused
+    (refused_image_ends c.in-Err.outcome _ (Answer (cat path) c.args.image.now) (λ err refuses. inr (inr ((c.args.names.now, text), refuses)))
+    c.in-Err.ensures.refused).ends _

@@ -25,6 +25,5 @@ returns g c = record {
       c.requires.within holds (sought_value c.args.sought.now) _ _ sum c.blocks_of-blocks.ensures c.in-Err.fault _ _ _
       (rw c.as_slice-tables.ensures.value at (c.in-Err.ensures.first c.in_default.not-NoMemory))
       (rw c.as_slice-tables.ensures.value at c.write_fault.ensures.ends);
-  read = Prim.search rules;
-  written = Prim.search rules;
+  blames = Prim.search rules;
 }

@@ -1,22 +1,16 @@
-use Rattle.std.proofs.Common.{◌≡◌, ap, subst, sym, option_copied}
+use Rattle.std.proofs.Common.{◌≡◌, ◌∙◌, ap, option_copied}
 use Rattle.adf_disk_cmd.specs.Answers.{place_reply, volume_reply}
 use Rattle.adf_disk_cmd.specs.Work.{sought_value}
-use Rattle.adf_runs.specs.Outcomes.{EndsBy}
+use Rattle.adf_runs.proofs.Endings.{does_same, silently}
 use Rattle.adf_disk_cmd.proofs.work.write_volume.Goals as goal
 
-pub returns-in_default-clause-ends : goal.returns-in_default-clause-ends
-returns-in_default-clause-ends g c =
-    let held = g.W.Sink.held c.args.output.now in
-    subst (λ found. EndsBy (λ reply. reply ≡ volume_reply c.args.bytes.now (sought_value c.args.sought.now) found) c.refuse_sought.result held held)
-    (sym (ap option_copied c.in_default.is))
-    (c.refuse_sought.ensures.ends held)
+pub returns-in_default : goal.returns-in_default
+returns-in_default g c =
+    does_same (ap (λ found. volume_reply c.args.bytes.now (sought_value c.args.sought.now) (option_copied found)) c.in_default.is)
+    (silently c.requires c.refuse_sought.ensures)
 
-pub returns-in-Err-clause-ends : goal.returns-in-Err-clause-ends
-returns-in-Err-clause-ends g c =
-    let held = g.W.Sink.held c.args.output.now in
-    let bytes = c.args.bytes.now in
-    let wrong = rw c.text.ensures at (c.refuse.ensures.ends held) in
-    let placed = subst (λ place. EndsBy (λ reply. reply ≡ place_reply bytes place) c.refuse.result held held)
-    (sym c.in-Err.is) wrong in
-    subst (λ found. EndsBy (λ reply. reply ≡ volume_reply bytes (sought_value c.args.sought.now) found) c.refuse.result held held)
-    (sym (ap option_copied c.in-Some.is)) placed
+pub returns-in-Err : goal.returns-in-Err
+returns-in-Err g c =
+    let reply = volume_reply c.args.bytes.now (sought_value c.args.sought.now) in
+    does_same (ap (λ found. reply (option_copied found)) c.in-Some.is ∙ ap (place_reply c.args.bytes.now) c.in-Err.is)
+    (silently c.requires (rw c.text.ensures at c.refuse.ensures))
