@@ -5,7 +5,9 @@ ghost use Rattle.std.specs.Prelude.{length};
 
 use crate::disk_runs::{answers_to, answers_within, empty_volume};
 use crate::memory::{Given, Kept};
-use adf_disk_cmd::run;
+use adf_disk_cmd::Job;
+use adf_file_runs::WithoutFiles;
+use adf_runs::run_program;
 use std::alloc::{AllocError, Global};
 
 const PLAN: &[u8] =
@@ -57,7 +59,7 @@ fn built(alloc: Global, input: &[u8]) -> Vec<u8> {
     let mut output = Kept::new(alloc, usize::MAX, usize::MAX);
     let mut errors = Kept::new(alloc, usize::MAX, usize::MAX);
     let mut source = Given::new(input, usize::MAX);
-    run(
+    run_program::<WithoutFiles<Job>, _, _, _>(
         alloc,
         &["adf-disk", "build"],
         &mut source,

@@ -5,7 +5,9 @@ ghost use Rattle.std.specs.Prelude.{length};
 use crate::disks::changed;
 use crate::memory::{Given, Kept, Long};
 use adf_base::{seal, set_word};
-use adf_disk_cmd::run;
+use adf_disk_cmd::Job;
+use adf_file_runs::WithoutFiles;
+use adf_runs::run_program;
 use std::alloc::{AllocError, Global};
 
 /// A volume of 32 blocks.
@@ -89,7 +91,13 @@ pub fn answers_within(
     let mut input = Given::new(image, calls.0);
     let mut output = Kept::new(alloc, usize::MAX, calls.1);
     let mut errors = Kept::new(alloc, usize::MAX, usize::MAX);
-    let status = run(alloc, words, &mut input, &mut output, &mut errors);
+    let status = run_program::<WithoutFiles<Job>, _, _, _>(
+        alloc,
+        words,
+        &mut input,
+        &mut output,
+        &mut errors,
+    );
     status == wanted.0
         && output.bytes.as_slice() == wanted.1
         && errors.bytes.as_slice() == wanted.2.as_bytes()
@@ -109,7 +117,13 @@ pub fn answers_long(
     let mut output = Kept::new(alloc, usize::MAX, usize::MAX);
     let mut errors = Kept::new(alloc, usize::MAX, usize::MAX);
     let words = ["adf-disk", command];
-    let status = run(alloc, &words, &mut input, &mut output, &mut errors);
+    let status = run_program::<WithoutFiles<Job>, _, _, _>(
+        alloc,
+        &words,
+        &mut input,
+        &mut output,
+        &mut errors,
+    );
     status == wanted.0 && output.bytes.as_slice() == wanted.1.as_bytes()
 }
 

@@ -5,8 +5,9 @@ ghost use Rattle.std.specs.Prelude.{◌≡◌, None, false};
 use crate::batch::{Folder, sound_image};
 use crate::disk_runs::USAGE as DISK_USAGE;
 use crate::memory::{Came, Given, Kept};
-use adf_file_runs::AnnouncedInput;
-use adf_runs::{Failed, Sink, read_input};
+use adf_file_runs::{AnnouncedInput, Invocation, WithoutFiles};
+use adf_runs::{Failed, Sink, read_input, run_program};
+use adf_survey_cmd::Work;
 use std::alloc::Global;
 use std::cell::Cell;
 
@@ -129,13 +130,17 @@ fn run_files(alloc: Global, words: &[&str], sound: &[u8], bytes: &[u8], reads: u
         sound,
         international: sound,
     };
+    let asked = Invocation {
+        words,
+        files: &folder,
+    };
     let mut input = Given::new(bytes, reads);
     let mut output = Kept::new(alloc, usize::MAX, usize::MAX);
     let mut errors = Kept::new(alloc, usize::MAX, usize::MAX);
     let status = if words.is_empty() || words[0] != "adf-disk" {
-        adf_survey_cmd::run_files(alloc, words, &folder, &mut input, &mut output, &mut errors)
+        adf_survey_cmd::run_files(alloc, &asked, &mut input, &mut output, &mut errors)
     } else {
-        adf_disk_cmd::run_files(alloc, words, &folder, &mut input, &mut output, &mut errors)
+        adf_disk_cmd::run_files(alloc, &asked, &mut input, &mut output, &mut errors)
     };
     Came {
         status,
@@ -192,7 +197,13 @@ fn run_without_files(alloc: Global, words: &[&str]) -> Came {
     let mut input = Given::new(b"", 0);
     let mut output = Kept::new(alloc, usize::MAX, usize::MAX);
     let mut errors = Kept::new(alloc, usize::MAX, usize::MAX);
-    let status = adf_survey_cmd::run(alloc, words, &mut input, &mut output, &mut errors);
+    let status = run_program::<WithoutFiles<Work>, _, _, _>(
+        alloc,
+        words,
+        &mut input,
+        &mut output,
+        &mut errors,
+    );
     Came {
         status,
         output: output.bytes,

@@ -2,7 +2,9 @@
 #![tactic(auto)]
 
 use adf_disk_cmd::run_files;
-use adf_file_runs::{About, AnnouncedInput, NamedErrors, SystemFiles, tell, telling_asked};
+use adf_file_runs::{
+    About, AnnouncedInput, Invocation, NamedErrors, SystemFiles, tell, telling_asked,
+};
 use adf_runs::{Device, Outcome, command_words, refuse_words};
 use std::alloc::AllocError;
 use std::io::IsTerminal;
@@ -46,14 +48,13 @@ fn status(rt: &HostRuntime) -> u8 {
     let mut output = Device::new(rt.stdout());
     match telling_asked(&texts) {
         Some(telling) => tell(&ABOUT, telling, &mut output, &mut errors),
-        None => run_files(
-            rt.alloc(),
-            &texts,
-            &SystemFiles::new(rt),
-            &mut input,
-            &mut output,
-            &mut errors,
-        ),
+        None => {
+            let asked = Invocation {
+                words: &texts,
+                files: &SystemFiles::new(rt),
+            };
+            run_files(rt.alloc(), &asked, &mut input, &mut output, &mut errors)
+        }
     }
 }
 

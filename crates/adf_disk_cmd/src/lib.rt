@@ -20,7 +20,7 @@ mod work;
 
 pub use crate::building::built_disks;
 pub use crate::job::Job;
-pub use crate::runner::{one_answer, run, run_files};
+pub use crate::runner::{one_answer, run_files};
 pub use crate::unchecked::large_volumes_are_refused;
 pub use crate::work::{MOST_DISK_BYTES, Sought, Work};
 pub use adf_file_words::{DiskRequest, Wanted, disk_words_as_documented, parse_disk as parse};

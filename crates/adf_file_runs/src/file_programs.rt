@@ -81,13 +81,19 @@ pub fn refuse_file<E: Sink>(alloc: Global, name: &str, why: Unopened, errors: &m
     3
 }
 
+/// The words of a command line, and what opens the file that they may name.
+#[derive(Drop)]
+pub struct Invocation<'a, F> {
+    pub words: &'a [&'a str],
+    pub files: &'a F,
+}
+
 /// Runs a program on the file that the words name, or else on the input, and returns its status. If the words are refused
 /// nothing is read or written; if they name a file, the input is not read. If the file cannot be opened, the status is 3, and
 /// errors get its name, escaped, and why.
 pub fn run_program_on_files<P: FileProgram, F: Files, R: Source, W: Sink, E: Sink>(
     alloc: Global,
-    words: &[&str],
-    files: &F,
+    asked: &Invocation<'_, F>,
     input: &mut R,
     output: &mut W,
     errors: &mut E,
@@ -95,24 +101,24 @@ pub fn run_program_on_files<P: FileProgram, F: Files, R: Source, W: Sink, E: Sin
     requires reads { R.has_failed input.old ≡ false }
     requires writes { W.has_failed output.old ≡ false }
     requires tells { E.has_failed errors.old ≡ false }
-    ensures ends { RunEndsOnFiles P.command P.file_of (texts_of words.now)
-        (known_files F.bytes_of F.may_fail F.may_open files.now) (seen R.left R.has_failed input.old input.new) result
+    ensures ends { RunEndsOnFiles P.command P.file_of (texts_of asked.now.words.now)
+        (known_files F.bytes_of F.may_fail F.may_open asked.now.files.now) (seen R.left R.has_failed input.old input.new) result
         (seen W.held W.has_failed output.old output.new) (seen E.held E.has_failed errors.old errors.new) }
-    ensures untouched { IsUnanswered P.command (texts_of words.now)
+    ensures untouched { IsUnanswered P.command (texts_of asked.now.words.now)
         → (input.new ≡ input.old) × (output.new ≡ output.old) }
-    ensures unread { (name : List ℕ) → P.file_of (texts_of words.now) ≡ Some name
+    ensures unread { (name : List ℕ) → P.file_of (texts_of asked.now.words.now) ≡ Some name
         → input.new ≡ input.old }
     ensures unwritten { R.has_failed input.new ≡ true → output.new ≡ output.old }
-    ensures at_most { TakesEnough P.command (texts_of words.now)
+    ensures at_most { TakesEnough P.command (texts_of asked.now.words.now)
         (R.left input.old) (R.left input.new) }
 {
-    let work = match P::of(alloc, words) {
+    let work = match P::of(alloc, asked.words) {
         Ok(work) => work,
         Err(fault) => return fault.refuse(P::usage(), errors),
     };
-    match P::file_named(alloc, words) {
+    match P::file_named(alloc, asked.words) {
         Ok(None) => work.on_input(alloc, input, output).finish(errors),
-        Ok(Some(name)) => match files.open(name.as_bytes()) {
+        Ok(Some(name)) => match asked.files.open(name.as_bytes()) {
             Ok(mut source) => work.on_input(alloc, &mut source, output).finish(errors),
             Err(why) => refuse_file(alloc, name, why, errors),
         },

@@ -9,6 +9,8 @@ mod named_errors;
 
 pub use crate::about::{About, Telling, VERSION_NUMBER, help_as_documented, tell, telling_asked};
 pub use crate::announced_input::AnnouncedInput;
-pub use crate::file_programs::{FileProgram, WithoutFiles, refuse_file, run_program_on_files};
+pub use crate::file_programs::{
+    FileProgram, Invocation, WithoutFiles, refuse_file, run_program_on_files,
+};
 pub use crate::files::{Files, SystemFiles, Unopened};
 pub use crate::named_errors::NamedErrors;

@@ -1,7 +1,10 @@
 // The programs that rows run.
 
 use crate::calls::{CALLS, text_of_call};
+use adf_file_runs::WithoutFiles;
 use adf_row_lines::{Devices, Program, Programs};
+use adf_runs::run_program;
+use adf_survey_cmd::Work;
 use std::alloc::Global;
 
 /// The commands `adf` and `adf-survey`, with the memory that they take.
@@ -19,7 +22,9 @@ impl Programs for Commands {
         } = devices;
         match program {
             Program::Adf => adf_cmd::run(self.alloc, words, input, output, errors),
-            Program::Survey => adf_survey_cmd::run(self.alloc, words, input, output, errors),
+            Program::Survey => {
+                run_program::<WithoutFiles<Work>, _, _, _>(self.alloc, words, input, output, errors)
+            }
         }
     }
 

@@ -1,7 +1,9 @@
 //! Tells all that is wrong in an image of an Amiga floppy or hard disk, and reads files that are sound.
 #![tactic(auto)]
 
-use adf_file_runs::{About, AnnouncedInput, NamedErrors, SystemFiles, tell, telling_asked};
+use adf_file_runs::{
+    About, AnnouncedInput, Invocation, NamedErrors, SystemFiles, tell, telling_asked,
+};
 use adf_runs::{Device, Outcome, command_words, refuse_words};
 use adf_survey_cmd::run_files;
 use std::alloc::AllocError;
@@ -48,14 +50,13 @@ fn status(rt: &HostRuntime) -> u8 {
     let mut output = Device::new(rt.stdout());
     match telling_asked(&texts) {
         Some(telling) => tell(&ABOUT, telling, &mut output, &mut errors),
-        None => run_files(
-            rt.alloc(),
-            &texts,
-            &SystemFiles::new(rt),
-            &mut input,
-            &mut output,
-            &mut errors,
-        ),
+        None => {
+            let asked = Invocation {
+                words: &texts,
+                files: &SystemFiles::new(rt),
+            };
+            run_files(rt.alloc(), &asked, &mut input, &mut output, &mut errors)
+        }
     }
 }
 

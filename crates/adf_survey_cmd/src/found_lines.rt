@@ -9,7 +9,7 @@ ghost use Rattle.adf_findings.specs.Opening.{opening_in};
 ghost use Rattle.adf_findings.specs.SoundMarks.{AreMarks};
 ghost use Rattle.adf_findings.specs.Survey.{OnSurvey};
 ghost use Rattle.adf_texts.specs.VolumeLines.{AreDates};
-ghost use Rattle.adf_runs.specs.Streams.{AppendsPart, KeepsPending, is_device};
+ghost use Rattle.adf_runs.specs.Streams.{AppendsPart, is_device};
 ghost use Rattle.adf_survey_cmd.specs.FoundLines.{InAnyTexts, found_lines, found_text, lines_of_found, mark_text, marked, opening_text};
 
 use adf_findings::{Opening, Survey};
@@ -79,34 +79,6 @@ fn push_found(
     push_head_lines(text, body, &meta, &path)
 }
 
-// Appends the mark and the lines of an entry, and writes what is long.
-fn tell_found<W: Sink>(
-    alloc: Global,
-    survey: &Survey<'_>,
-    n: Node,
-    end: u32,
-    text: &mut Vec<u8>,
-    output: &mut W,
-) -> Result<(), StreamFault>
-    requires works { W.has_failed output.old ≡ false }
-    ensures ok { OnSurvey survey.now.image (λ w fs.
-        InAnyTexts survey.now.image w fs (λ date sound. 1 ≤ n → n ≤ heads w
-        → OnOk result (KeepsPending
-        (W.held output.old)
-        (text.old.items ++ found_lines date (marked sound end survey.now.image w) survey.now.image w n)
-        (W.held output.new) text.new.items))) }
-    ensures err { OnSurvey survey.now.image (λ w fs.
-        InAnyTexts survey.now.image w fs (λ date sound. 1 ≤ n → n ≤ heads w
-        → OnErr result (AppendsPart
-        (W.has_failed output.new) (W.held output.old) (W.held output.new)
-        (text.old.items ++ found_lines date (marked sound end survey.now.image w) survey.now.image w n)))) }
-    ensures failed { W.has_failed output.new ≡ is_device result }
-{
-    push_found(alloc, survey, n, end, text)?;
-    flush_long(output, text)?;
-    Ok(())
-}
-
 // Writes the text that waits, and the marks and lines of the entries behind it.
 fn write_entries<W: Sink>(
     alloc: Global,
@@ -127,7 +99,8 @@ fn write_entries<W: Sink>(
     ensures failed { W.has_failed output.new ≡ is_device result }
 {
     for i in 0..survey.len() {
-        tell_found(alloc, survey, Node(i + 1), end, &mut text, output)?;
+        push_found(alloc, survey, Node(i + 1), end, &mut text)?;
+        flush_long(output, &mut text)?;
     }
     write_all(output, &text)?;
     Ok(())

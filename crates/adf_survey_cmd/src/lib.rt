@@ -15,7 +15,7 @@ mod subject;
 mod work;
 
 pub use crate::laws::rescued_volumes;
-pub use crate::runner::{one_answer, run, run_files};
+pub use crate::runner::{one_answer, run_files};
 pub use crate::runs::{Run, run_from};
 pub use crate::subject::Subject;
 pub use crate::work::{Task, View, Work};

@@ -3,13 +3,13 @@
 ghost use Rattle.std.specs.Prelude.{◌≡◌, ℕ, List, Some, false, true};
 ghost use Rattle.adf_words.specs.CommandLine.{texts_of};
 ghost use Rattle.adf_file_words.specs.SurveyLine.{survey_file};
-ghost use Rattle.adf_runs.specs.Commands.{IsUnanswered, RunEnds, TakesEnough};
+ghost use Rattle.adf_runs.specs.Commands.{IsUnanswered, TakesEnough};
 ghost use Rattle.adf_file_runs.specs.FileRuns.{RunEndsOnFiles};
-ghost use Rattle.adf_survey_cmd.specs.Answers.{InquiriesHaveOneAnswer, WordsAskForOneInquiry, survey_command, survey_without_files};
+ghost use Rattle.adf_survey_cmd.specs.Answers.{InquiriesHaveOneAnswer, WordsAskForOneInquiry, survey_command};
 
 use crate::work::Work;
-use adf_file_runs::{Files, WithoutFiles, run_program_on_files};
-use adf_runs::{Sink, Source, run_program};
+use adf_file_runs::{Files, Invocation, run_program_on_files};
+use adf_runs::{Sink, Source};
 use std::alloc::Global;
 
 /// Does what the words ask for, on the file that they name, or else on the input; the first word is the program's name. Returns
@@ -22,8 +22,7 @@ use std::alloc::Global;
 /// - 3 if the file cannot be opened, a device failed or an allocation failed, which is said on errors.
 pub fn run_files<F: Files, R: Source, W: Sink, E: Sink>(
     alloc: Global,
-    words: &[&str],
-    files: &F,
+    asked: &Invocation<'_, F>,
     input: &mut R,
     output: &mut W,
     errors: &mut E,
@@ -31,44 +30,20 @@ pub fn run_files<F: Files, R: Source, W: Sink, E: Sink>(
     requires reads { R.has_failed input.old ≡ false }
     requires writes { W.has_failed output.old ≡ false }
     requires tells { E.has_failed errors.old ≡ false }
-    ensures ends { RunEndsOnFiles survey_command survey_file (texts_of words.now)
+    ensures ends { RunEndsOnFiles survey_command survey_file (texts_of asked.now.words.now)
         (R.left input.old) (R.has_failed input.new)
-        (F.bytes_of files.now) (F.may_fail files.now) (F.may_open files.now) result
+        (F.bytes_of asked.now.files.now) (F.may_fail asked.now.files.now) (F.may_open asked.now.files.now) result
         (W.has_failed output.new) (W.held output.old) (W.held output.new)
         (E.has_failed errors.new) (E.held errors.old) (E.held errors.new) }
-    ensures untouched { IsUnanswered survey_command (texts_of words.now)
+    ensures untouched { IsUnanswered survey_command (texts_of asked.now.words.now)
         → (input.new ≡ input.old) × (output.new ≡ output.old) }
-    ensures unread { (name : List ℕ) → survey_file (texts_of words.now) ≡ Some name
+    ensures unread { (name : List ℕ) → survey_file (texts_of asked.now.words.now) ≡ Some name
         → input.new ≡ input.old }
     ensures unwritten { R.has_failed input.new ≡ true → output.new ≡ output.old }
-    ensures at_most { TakesEnough survey_command (texts_of words.now)
+    ensures at_most { TakesEnough survey_command (texts_of asked.now.words.now)
         (R.left input.old) (R.left input.new) }
 {
-    run_program_on_files::<Work, F, R, W, E>(alloc, words, files, input, output, errors)
-}
-
-/// Does what the words ask for on the input, as `run_files` does; words that name a file are not accepted.
-pub fn run<R: Source, W: Sink, E: Sink>(
-    alloc: Global,
-    words: &[&str],
-    input: &mut R,
-    output: &mut W,
-    errors: &mut E,
-) -> u8
-    requires reads { R.has_failed input.old ≡ false }
-    requires writes { W.has_failed output.old ≡ false }
-    requires tells { E.has_failed errors.old ≡ false }
-    ensures ends { RunEnds survey_without_files (texts_of words.now) (R.left input.old)
-        (R.has_failed input.new) result
-        (W.has_failed output.new) (W.held output.old) (W.held output.new)
-        (E.has_failed errors.new) (E.held errors.old) (E.held errors.new) }
-    ensures untouched { IsUnanswered survey_without_files (texts_of words.now)
-        → (input.new ≡ input.old) × (output.new ≡ output.old) }
-    ensures unwritten { R.has_failed input.new ≡ true → output.new ≡ output.old }
-    ensures at_most { TakesEnough survey_without_files (texts_of words.now)
-        (R.left input.old) (R.left input.new) }
-{
-    run_program::<WithoutFiles<Work>, R, W, E>(alloc, words, input, output, errors)
+    run_program_on_files::<Work, F, R, W, E>(alloc, asked, input, output, errors)
 }
 
 /// Words ask for one thing at most, and what is asked of an image has one answer at most: one status, one output and one text on errors.

@@ -1,9 +1,10 @@
-use Rattle.std.proofs.Common.{◌≡◌, ◌+◌, arith, rules}
+use Rattle.std.proofs.Common.{◌≡◌, ◌+◌, arith, refl, rules}
 use Rattle.std.proofs.lemmas.Grind.{common_steps}
 use Rattle.adf_base.proofs.Results.{on_err}
 use Rattle.adf_volume.specs.Walk.{heads}
 use Rattle.adf_runs.proofs.PendingText.{pending_begun, pending_end, pending_fails, pending_more}
 use Rattle.adf_survey_cmd.specs.FoundLines.{marked}
+use Rattle.adf_survey_cmd.proofs.PendingLines.{pending_stops}
 use Rattle.adf_survey_cmd.proofs.FoundTexts.{found_front, found_more, found_none}
 use Rattle.adf_survey_cmd.proofs.found_lines.write_entries.Goals as goal
 
@@ -18,19 +19,29 @@ loop-i-preserved g c = record {
       (found_more date (marked sound c.args.end c.args.survey.now.image w) c.args.survey.now.image w c.args.text.items c.loop-i.i)
       (c.loop-i.invariant.so_far w fs survey date sound dates marks) in
       let all = c.len-i-end.ensures w fs survey in
-      c.in_ok-tell_found.ensures.ok w fs survey date sound dates marks (omega arith) (omega (arith, all)) _ _ more;
+      let lines = c.in_ok-push_found.ensures w fs survey date sound dates marks (omega arith) (omega (arith, all)) in
+      (rw lines at c.in_ok-flush_long.ensures.ok) _ _ more;
 }
 
-pub returns-in_err-tell_found-clause-err : goal.returns-in_err-tell_found-clause-err
-returns-in_err-tell_found-clause-err g c = λ w fs survey date sound dates marks.
+pub returns-in_err-push_found-clause-err : goal.returns-in_err-push_found-clause-err
+returns-in_err-push_found-clause-err g c = λ w fs survey date sound dates marks.
+    let image = c.args.survey.now.image in
+    let front = found_front date (marked sound c.args.end image w) image w c.args.text.items c.loop-i.i (heads w)
+    (omega (arith, c.len-i-end.ensures w fs survey)) in
+    let none = pending_stops _ _ _ _ c.loop-i.invariant.works (pending_begun _ _ c.loop-i.text.items refl) in
+    on_err c.from_residual.result (pending_fails _ _ _ _ _ front.0 _ front.1 (c.loop-i.invariant.so_far w fs survey date sound dates marks) none)
+
+pub returns-in_err-flush_long-clause-err : goal.returns-in_err-flush_long-clause-err
+returns-in_err-flush_long-clause-err g c = λ w fs survey date sound dates marks.
     let image = c.args.survey.now.image in
     let all = c.len-i-end.ensures w fs survey in
     let more = pending_more _ _ _ _ _ _
     (found_more date (marked sound c.args.end image w) image w c.args.text.items c.loop-i.i)
     (c.loop-i.invariant.so_far w fs survey date sound dates marks) in
     let front = found_front date (marked sound c.args.end image w) image w c.args.text.items (c.loop-i.i + 1) (heads w) (omega (arith, all)) in
-    on_err c.from_residual.result (pending_fails _ _ _ _ _ front.0 _ front.1 more
-    (c.in_err-tell_found.ensures.err w fs survey date sound dates marks (omega arith) (omega (arith, all))))
+    let lines = c.in_ok-push_found.ensures w fs survey date sound dates marks (omega arith) (omega (arith, all)) in
+    on_err c.from_residual-in_err-flush_long.result
+    (pending_fails _ _ _ _ _ front.0 _ front.1 more (rw lines at c.in_err-flush_long.ensures.err))
 
 pub returns-clause-ok : goal.returns-clause-ok
 returns-clause-ok g c = λ w fs survey date sound dates marks.
