@@ -26,7 +26,6 @@ pub mod Refusals
 -- boot blocks that are written
 pub mod BootImages
 -- rescues
-pub mod LossTables
 pub mod PreparedRescues
 pub mod RescueReplies
 -- what is surveyed of an image

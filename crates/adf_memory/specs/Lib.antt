@@ -15,7 +15,6 @@ pub mod Words
 pub mod Boot
 pub mod Losses
 pub mod Rescuing
-pub mod RescueReplies
 pub mod Subjects
 -- The states of what looks up a name in a table.
 pub mod TableNames

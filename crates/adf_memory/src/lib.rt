@@ -18,7 +18,6 @@ mod lookup;
 mod losses;
 mod memory;
 mod owners;
-mod preparing;
 mod reading;
 mod rescue_laws;
 mod rescuing;

@@ -6,11 +6,11 @@ ghost use Rattle.adf_volume.specs.declared.fault.Fault.{Fault};
 ghost use Rattle.adf_runs.specs.Commands.{Reply};
 ghost use Rattle.adf_file_words.specs.SurveyLine.{asked, rescue};
 ghost use Rattle.adf_survey_cmd.specs.Answers.{SurveyAnswer};
-ghost use Rattle.adf_survey_cmd.specs.Hints.{Hinted};
+ghost use Rattle.adf_survey_cmd.specs.Hints.{hinted};
+ghost use Rattle.adf_survey_cmd.specs.Losses.{LossValue};
+ghost use Rattle.adf_survey_cmd.specs.Rescues.{RescueValue, RescueValue.written, rescue_reply};
 ghost use Rattle.adf_survey_cmd.specs.Subject.{meant, subject};
-ghost use Rattle.adf_memory.specs.Losses.{LossValue};
-ghost use Rattle.adf_memory.specs.RescueReplies.{RepliesRescue};
-ghost use Rattle.adf_memory.specs.Rescuing.{ExplainsRescue, HasRescue, RescueOf, RescueValue, RescueValue.written, asked_blocks};
+ghost use Rattle.adf_memory.specs.Rescuing.{ExplainsRescue, HasRescue, RescueOf, asked_blocks};
 ghost use Rattle.adf_memory.specs.Rooms.{filled};
 ghost use Rattle.adf_memory.specs.declared.losses.TableLoss.{TableLoss};
 ghost use Rattle.adf_memory.specs.declared.rescuing.RescueRefusal.TheVariants.{Fault as ForFault, SmallRoom};
@@ -29,7 +29,7 @@ pub fn rescues_agree()
         → SurveyAnswer (asked (asked_blocks n) (rescue false)) image reply → reply.output ≡ [] }
     ensures lines { (n : ℕ) (image : List ℕ) (reply : Reply) (r : RescueValue)
         → RescueOf (subject (asked_blocks n) image) r → SurveyAnswer (asked (asked_blocks n) (rescue false)) image reply
-        → Hinted image (RepliesRescue r) reply }
+        → reply ≡ hinted image (rescue_reply r) }
 {}
 
 /// A volume that a rescue gives has as many blocks as the image: those that it has, or as many as are asked for.

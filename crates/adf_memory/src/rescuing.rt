@@ -7,15 +7,14 @@ ghost use Rattle.adf_memory.specs.Rescuing.{ExplainsRescue, HasRescue, IsPutOut,
 ghost use Rattle.adf_memory.specs.Rooms.{filled};
 ghost use Rattle.adf_memory.specs.declared.rescuing.RescueRefusal.{RescueRefusal as ARescueRefusal};
 
-use crate::losses::TableLoss;
-use crate::preparing::{Prepared, Unrescued, prepare};
+use crate::losses::{TableLoss, table_of};
 use adf_base::{BLOCK_LEN, NoMemory};
 use adf_boot_blocks::restore;
 use adf_build::build_into;
 use adf_drafts::Draft;
-use adf_survey_cmd::Subject;
+use adf_survey_cmd::{Prepared, Scope, Subject, Unrescued, prepare};
 use adf_tree::Tree;
-use adf_volume::Fault;
+use adf_volume::{Fault, Types};
 use std::alloc::Global;
 
 /// What is told of a rescue beside its number. Fields that do not apply are 0.
@@ -97,7 +96,11 @@ fn ready_subject(alloc: Global, mut subject: Subject) -> Result<Ready, Unrescued
 {
     let boot = subject.boot(alloc)?;
     subject.be_typed(alloc)?;
-    match prepare(alloc, subject.image, subject.end as usize) {
+    let scope = Scope {
+        types: Types::Plain,
+        held: subject.end as usize,
+    };
+    match prepare(alloc, subject.image, scope) {
         Ok(prepared) => Ok(Ready { prepared, boot }),
         Err(unrescued) => Err(unrescued),
     }
@@ -116,7 +119,7 @@ fn refusal_of(unrescued: Unrescued) -> RescueRefusal
     ensures { result ≡ unrescued_refusal unrescued }
 {
     match unrescued {
-        Unrescued::Refused(fault) => RescueRefusal::Fault(fault),
+        Unrescued::Refused(fault, _) => RescueRefusal::Fault(fault),
         Unrescued::NoMemory => RescueRefusal::NoMemory,
     }
 }
@@ -214,8 +217,11 @@ fn put_rescue(
     let Prepared {
         draft,
         blocks,
-        losses: table,
+        losses: lost,
     } = prepared;
+    let Ok(table) = table_of(alloc, &lost) else {
+        return Err(RescueRefusal::NoMemory);
+    };
     lay_in_front(alloc, draft, blocks, &boot, room)?;
     put_rows(losses, &table.rows);
     put_bytes(paths, &table.paths);

@@ -1,5 +1,6 @@
 -- Volumes of rescues, with the boot blocks that are put into them.
--- Letters: s, t what is surveyed; a the survey of an image, b the second one, if there is one, fs findings; held the blocks that are held.
+-- Letters: s, t what is surveyed; a the survey of an image, b the second one, if there is one, fs findings; r what a rescue gives;
+-- held the blocks that are held.
 use Rattle.std.proofs.Common.{◌≡◌, ◌≢◌, ◌∙◌, ◌++◌, ◌-◌, ◌/◌, ◌≤◌, ℕ, List, [], Option, true}
 use Rattle.std.proofs.Common.{inl, inr, ap, refl, subst, sym, length, replicate, take, append-nil, arith, slice_index}
 use Rattle.std.proofs.lemmas.Bool.{and_parts, cond_both, leb-true}
@@ -24,9 +25,8 @@ use Rattle.adf_findings.specs.Survey.{FindingValue}
 use Rattle.adf_findings.specs.OwnKind.{is_mistyped, retyped}
 use Rattle.adf_rescue.specs.Rescue.{Basis, rescued_tree_by}
 use Rattle.adf_rescue.proofs.OpenedImages.{length_opened}
-use Rattle.adf_runs.specs.Commands.{Reply}
 use Rattle.adf_survey_cmd.specs.Answers.{RescuesTyped}
-use Rattle.adf_survey_cmd.specs.Rescues.{WritesVolume}
+use Rattle.adf_survey_cmd.specs.Rescues.{GivesVolume, RescueValue, rescue_reply}
 use Rattle.adf_survey_cmd.specs.Subject.{IsTyped, SubjectValue, changed, sized, type_line}
 use Rattle.adf_survey_cmd.proofs.SizedImages.{length_sized}
 
@@ -40,15 +40,15 @@ pub laid_long : (image : List ℕ) (t : Tree) → IsLaid image t → BOOT_LEN �
 laid_long image t laid = long_enough image (length image) laid.size refl
 
 -- what is written fits the tree of the rescue
-pub written_fits : (types : Types) (held : ℕ) (a : Basis) (b : Option Basis) (fs : List FindingValue) (boot : List ℕ) (reply : Reply) → BOOT_LEN ≤ length boot
-    → WritesVolume types held a b fs boot reply → (l : Layout) × FitsBy (letters_for types a.image) reply.output
+pub written_fits : (types : Types) (held : ℕ) (a : Basis) (b : Option Basis) (fs : List FindingValue) (boot : List ℕ) (r : RescueValue) → BOOT_LEN ≤ length boot
+    → GivesVolume types held a b fs boot r → (l : Layout) × FitsBy (letters_for types a.image) (rescue_reply r).output
     (rescued_tree_by (letters_for types a.image) held a b) l
-written_fits types held a b fs boot reply whole (volume, laid, size, e) =
+written_fits types held a b fs boot r whole (volume, laid, size, e) =
     let letters : Letters = letters_for types a.image in
     let t : Tree = rescued_tree_by letters held a b in
     let l : Layout = planned t (blocks volume) in (
       l,
-      subst (λ (image : List ℕ). FitsBy letters image t l) (sym (ap (λ (r : Reply). r.output) e))
+      subst (λ (image : List ℕ). FitsBy letters image t l) (sym (ap (λ (r : RescueValue). (rescue_reply r).output) e))
           (restored_fits volume boot t l (laid_fits volume t laid) whole),
     )
 
@@ -78,13 +78,13 @@ put_boots s volume tree laid long bytes begins =
     (volume_has_boot volume front tree l (laid_fits volume tree laid) size (front_are_bytes s.image bytes)
     (front_begins s.image ∙ begins)))
 
-pub keeps_boot : (types : Types) (s : SubjectValue) (reply : Reply) → RescuesTyped types s reply → reply.output ≢ [] → AreBytes s.image
-    → begins_with_dos s.image ≡ true → HasBootOf s.image reply.output
-keeps_boot types s reply (t, typed, (w, fs, survey, (sound, marks, (b, second, inl (none, (f, first, e)))))) some bytes begins =
-    absurd (some (ap (λ (r : Reply). r.output) e))
-keeps_boot types s reply (t, typed, (w, fs, survey, (sound, marks, (b, second, inr (read, inl (nothing, (f, first, e))))))) some bytes begins =
-    absurd (some (ap (λ (r : Reply). r.output) e))
-keeps_boot types s reply (t, typed, (w, fs, survey, (sound, marks, (b, second, inr (read, inr (stands, (volume, laid, size, e))))))) some bytes begins =
+pub keeps_boot : (types : Types) (s : SubjectValue) (r : RescueValue) → RescuesTyped types s r → (rescue_reply r).output ≢ [] → AreBytes s.image
+    → begins_with_dos s.image ≡ true → HasBootOf s.image (rescue_reply r).output
+keeps_boot types s r (t, typed, (w, fs, survey, (sound, marks, (b, second, inl (none, (f, first, e)))))) some bytes begins =
+    absurd (some (ap (λ (r : RescueValue). (rescue_reply r).output) e))
+keeps_boot types s r (t, typed, (w, fs, survey, (sound, marks, (b, second, inr (read, inl (nothing, (f, first, e))))))) some bytes begins =
+    absurd (some (ap (λ (r : RescueValue). (rescue_reply r).output) e))
+keeps_boot types s r (t, typed, (w, fs, survey, (sound, marks, (b, second, inr (read, inr (stands, (volume, laid, size, e))))))) some bytes begins =
     let long : BOOT_LEN ≤ length s.image =
     omega (arith, long_enough volume (length s.image) laid.size (size ∙ ap (λ n. n / 512) (length_opened t.image ∙ typed_length s t typed))) in
-    subst (HasBootOf s.image) (sym (ap (λ (r : Reply). r.output) e)) (put_boots s volume _ laid long bytes begins)
+    subst (HasBootOf s.image) (sym (ap (λ (r : RescueValue). (rescue_reply r).output) e)) (put_boots s volume _ laid long bytes begins)

@@ -32,7 +32,7 @@ use Rattle.adf_survey_cmd.specs.Hints.{disk_hint}
 use Rattle.adf_survey_cmd.specs.Subject.{IsTyped, OfTyped, SubjectValue, begun_subject, held_end, missing_text, sized, subject, subject_text}
 use Rattle.adf_file_words.specs.SurveyLine.{AreFew, InquiryValue, QuestionValue, cat, list, report, rescue}
 use Rattle.adf_survey_cmd.specs.Lines.{findings_text, runs_from}
-use Rattle.adf_survey_cmd.specs.Rescues.{Rescues, RescuesBoth, RescuesFound, second_image}
+use Rattle.adf_survey_cmd.specs.Rescues.{RescueValue, Rescues, RescuesBoth, RescuesFound, second_image}
 use Rattle.adf_survey_cmd.proofs.HintedAnswers.{same_disk}
 use Rattle.adf_survey_cmd.proofs.RescueAnswers.{none_hung}
 
@@ -74,17 +74,17 @@ none_second : (mended : Bool) (image : List ℕ) (w : Walk) (fs : List FindingVa
 none_second mended image w fs long = grind (arith, common_steps, false_from_ne_true, sized_len, none_hung, and_left)
 
 -- nothing stands, and the first fault is told
-same_rescue : (types : Types) (held h : ℕ) (image bytes opened_image opened_bytes boot other : List ℕ) (reply : Reply) → 512 * MOST_BLOCKS < length image
-    → 512 * MOST_BLOCKS < length bytes → 512 * MOST_BLOCKS < length opened_bytes → RescuesFound types held image opened_image [] bad_size boot reply
-    → RescuesFound types h bytes opened_bytes [] bad_size other reply
-same_rescue types held h image bytes opened_image opened_bytes boot other reply a b c (sound, marks, (two, second, inl (none, (f, first, e)))) =
+same_rescue : (types : Types) (held h : ℕ) (image bytes opened_image opened_bytes boot other : List ℕ) (r : RescueValue) → 512 * MOST_BLOCKS < length image
+    → 512 * MOST_BLOCKS < length bytes → 512 * MOST_BLOCKS < length opened_bytes → RescuesFound types held image opened_image [] bad_size boot r
+    → RescuesFound types h bytes opened_bytes [] bad_size other r
+same_rescue types held h image bytes opened_image opened_bytes boot other r a b c (sound, marks, (two, second, inl (none, (f, first, e)))) =
     let basis : Basis = record { image = opened_bytes; walk = []; sound = λ n. false } in (
       (λ n. false),
       no_marks opened_bytes (grave bad_size),
-      subst (λ o. RescuesBoth types h bytes basis o bad_size other reply) (sym (none_second (is_mended bytes) opened_bytes [] bad_size c))
+      subst (λ o. RescuesBoth types h bytes basis o bad_size other r) (sym (none_second (is_mended bytes) opened_bytes [] bad_size c))
           (None, tt, inl (refl, (f, long_fault (letters_for types image) (letters_for types bytes) image bytes f a b first, e))),
     )
-same_rescue types held h image bytes opened_image opened_bytes boot other reply a b c (sound, marks, (two, second, inr (some, e))) = absurd (some refl)
+same_rescue types held h image bytes opened_image opened_bytes boot other r a b c (sound, marks, (two, second, inr (some, e))) = absurd (some refl)
 
 -- and nothing is begun
 not_begun : (image : List ℕ) → 512 * MOST_BLOCKS < length image → lacks_boot image ≡ false
@@ -125,13 +125,13 @@ of_typed : (s t : SubjectValue) (answers : SubjectValue → Reply → Type 0) �
 of_typed s t answers a b reply same (u, is, x) = (t, long_typed t b, same (subst (λ u. answers u reply) (same_typed s u a is) x))
 
 long_rescue : (types : Types) (s t : SubjectValue) (boot other : List ℕ) → 512 * MOST_BLOCKS < length s.image → 512 * MOST_BLOCKS < length t.image
-    → (reply : Reply) → Rescues types s.end s.image boot reply → Rescues types t.end t.image other reply
-long_rescue types s t boot other a b reply (w, fs, h, found) = (
+    → (r : RescueValue) → Rescues types s.end s.image boot r → Rescues types t.end t.image other r
+long_rescue types s t boot other a b r (w, fs, h, found) = (
   [],
   bad_size,
   long_survey (opened t.image) (long_opened t.image b),
-  same_rescue types s.end t.end s.image t.image (opened s.image) (opened t.image) boot other reply a b (long_opened t.image b)
-      (of_long (opened s.image) w fs (λ u gs. RescuesFound types s.end s.image (opened s.image) u gs boot reply) (long_opened s.image a) h found),
+  same_rescue types s.end t.end s.image t.image (opened s.image) (opened t.image) boot other r a b (long_opened t.image b)
+      (of_long (opened s.image) w fs (λ u gs. RescuesFound types s.end s.image (opened s.image) u gs boot r) (long_opened s.image a) h found),
 )
 
 long_questions : (q : QuestionValue) (s t : SubjectValue) → s.front ≡ t.front → 512 * MOST_BLOCKS < length s.image
@@ -147,12 +147,9 @@ long_questions (cat damaged path) s t front a b reply (inl bad) = inl bad
 long_questions (cat damaged path) s t front a b reply (inr told) = inr (of_typed s t (CopiesFromSurvey damaged path) a b reply (λ x.
     let found = of_long s.image x.2 x.3 (λ u gs. CopiesFound damaged s u gs x.0 reply) a x.4 x.5 in
     (x.0, x.1, [], bad_size, long_survey t.image b, same_found damaged s t x.0 reply found)) told)
-long_questions (rescue keep_type) s t front a b reply (u, is, told) = (
-  t,
-  is_typed t b,
-  long_rescue (types_kept keep_type) s t (sized 2 s.image) (sized 2 t.image) a b reply
-      (subst (λ (u : SubjectValue). Rescues (types_kept keep_type) u.end u.image (sized 2 s.image) reply) (typed_so s u a is) told),
-)
+long_questions (rescue keep_type) s t front a b reply (r, (u, is, told), same) =
+    let rescues = subst (λ (u : SubjectValue). Rescues (types_kept keep_type) u.end u.image (sized 2 s.image) r) (typed_so s u a is) told in
+    (r, (t, is_typed t b, long_rescue (types_kept keep_type) s t (sized 2 s.image) (sized 2 t.image) a b r rescues), same)
 
 -- an image of n blocks is made of the front alone
 same_sized : (n : ℕ) (image bytes : List ℕ) → n ≤ MOST_BLOCKS → image ≡ take (512 * MOST_BLOCKS + 1) bytes → 512 * MOST_BLOCKS < length image

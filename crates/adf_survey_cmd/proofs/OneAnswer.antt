@@ -23,7 +23,8 @@ use Rattle.adf_survey_cmd.specs.Answers.{CopiesEntry, CopiesFound, CopiesFromSur
 use Rattle.adf_survey_cmd.specs.Answers.{Surveys, TellsFound, told_status, types_kept}
 use Rattle.adf_survey_cmd.specs.Hints.{hinted}
 use Rattle.adf_survey_cmd.specs.Subject.{IsTyped, OfTyped, SubjectValue, begun_subject, sized, subject, typed_subject}
-use Rattle.adf_survey_cmd.specs.Rescues.{Rescues, RescuesBy, RescuesFound, RescuesIn, RescuesSome, rescue_text, second_image}
+use Rattle.adf_survey_cmd.specs.Losses.{LossValue, losses_text}
+use Rattle.adf_survey_cmd.specs.Rescues.{GivesFault, Replies, RescueValue, Rescues, RescuesBy, RescuesFound, RescuesIn, RescuesSome, rescue_reply, second_image}
 use Rattle.adf_file_words.specs.SurveyLine.{AsksSurvey, InquiryValue, QuestionValue, cat, list, report, rescue}
 use Rattle.adf_survey_cmd.specs.FoundLines.{listing_text}
 use Rattle.adf_survey_cmd.proofs.FoundTexts.{same_tests}
@@ -109,21 +110,26 @@ one_fault_line types input f g first fault =
     ap (λ (r : Reply). r.output)
     (one_check types input (on_output 1 (fault_line f)) (on_output 1 (fault_line g)) (inr (f, first, refl)) (inr (g, fault, refl)))
 
-some_once : (types : Types) (held : ℕ) (input : List ℕ) (l : Basis) (m : Option Basis) (fs : List FindingValue) (boot : List ℕ) (a b : Reply)
-    → RescuesSome types held input l m fs boot a → RescuesSome types held input l m fs boot b → a ≡ b
-some_once types held input l m fs boot a b (inl (none, (f, first, x))) (inl (also, (g, fault, y))) =
-    x ∙ ap (λ line. on_errors 1 (line ++ rescue_text types held l m fs)) (one_fault_line types input f g first fault) ∙ sym y
-some_once types held input l m fs boot a b (inl (none, x)) (inr (some, y)) = absurd (some none)
-some_once types held input l m fs boot a b (inr (some, x)) (inl (none, y)) = absurd (some none)
-some_once types held input l m fs boot a b (inr (some, (one, laid, size, x))) (inr (also, (other, too, long, y))) = grind (arith, common_steps)
+-- what a rescue gives has one reply
 
-by_surveys_once : (types : Types) (held : ℕ) (input : List ℕ) (l : Basis) (m : Option Basis) (fs : List FindingValue) (boot : List ℕ) (a b : Reply)
-    → RescuesBy types held input l m fs boot a → RescuesBy types held input l m fs boot b → a ≡ b
-by_surveys_once types held input l m fs boot a b (inl (none, (f, first, x))) (inl (also, (g, fault, y))) =
-    x ∙ ap (on_errors 1) (one_fault_line types input f g first fault) ∙ sym y
-by_surveys_once types held input l m fs boot a b (inl (none, x)) (inr (some, y)) = absurd (some none)
-by_surveys_once types held input l m fs boot a b (inr (some, x)) (inl (none, y)) = absurd (some none)
-by_surveys_once types held input l m fs boot a b (inr (some, x)) (inr (also, y)) = some_once types held input l m fs boot a b x y
+refused_once : (types : Types) (input : List ℕ) (ls : List LossValue) (r q : RescueValue) → GivesFault ls types input r → GivesFault ls types input q
+    → rescue_reply r ≡ rescue_reply q
+refused_once types input ls r q (f, first, x) (g, fault, y) =
+    ap rescue_reply x ∙ ap (λ line. on_errors 1 (line ++ losses_text ls)) (one_fault_line types input f g first fault) ∙ sym (ap rescue_reply y)
+
+some_once : (types : Types) (held : ℕ) (input : List ℕ) (l : Basis) (m : Option Basis) (fs : List FindingValue) (boot : List ℕ) (r q : RescueValue)
+    → RescuesSome types held input l m fs boot r → RescuesSome types held input l m fs boot q → rescue_reply r ≡ rescue_reply q
+some_once types held input l m fs boot r q (inl (none, x)) (inl (also, y)) = refused_once types input _ r q x y
+some_once types held input l m fs boot r q (inl (none, x)) (inr (some, y)) = absurd (some none)
+some_once types held input l m fs boot r q (inr (some, x)) (inl (none, y)) = absurd (some none)
+some_once types held input l m fs boot r q (inr (some, (one, laid, size, x))) (inr (also, (other, too, long, y))) = grind (arith, common_steps)
+
+by_surveys_once : (types : Types) (held : ℕ) (input : List ℕ) (l : Basis) (m : Option Basis) (fs : List FindingValue) (boot : List ℕ) (r q : RescueValue)
+    → RescuesBy types held input l m fs boot r → RescuesBy types held input l m fs boot q → rescue_reply r ≡ rescue_reply q
+by_surveys_once types held input l m fs boot r q (inl (none, x)) (inl (also, y)) = refused_once types input [] r q x y
+by_surveys_once types held input l m fs boot r q (inl (none, x)) (inr (some, y)) = absurd (some none)
+by_surveys_once types held input l m fs boot r q (inr (some, x)) (inl (none, y)) = absurd (some none)
+by_surveys_once types held input l m fs boot r q (inr (some, x)) (inr (also, y)) = some_once types held input l m fs boot r q x y
 
 one_second : (image : Option (List ℕ)) (l m : Option Basis) → IsSecond image l → IsSecond image m → l ≡ m
 one_second None None None x y = refl
@@ -136,26 +142,25 @@ one_second (Some image) (Some l) (Some m) x y = ap some (one_basis image l m x y
     some : Basis → Option Basis
     some k = Some k
 
-found_rescued_once : (types : Types) (held : ℕ) (input image : List ℕ) (w : Walk) (fs : List FindingValue) (boot : List ℕ) (a b : Reply)
-    → RescuesFound types held input image w fs boot a → RescuesFound types held input image w fs boot b → a ≡ b
-found_rescued_once types held input image w fs boot a b (sound, marks, (l, second, x)) (others, also, (m, twice, y)) =
-    let r : (ℕ → Bool) → Basis = λ s. record { image = image; walk = w; sound = s } in
-    by_surveys_once types held input (r others) m fs boot a b
-    (subst (λ o. RescuesBy types held input (r others) o fs boot a) (one_second (second_image (is_mended input) image w fs) l m second twice)
-    (subst (λ s. RescuesBy types held input (r s) l fs boot a) (one_marks image w (grave fs) sound others marks also) x)) y
+found_rescued_once : (types : Types) (held : ℕ) (input image : List ℕ) (w : Walk) (fs : List FindingValue) (boot : List ℕ) (r q : RescueValue)
+    → RescuesFound types held input image w fs boot r → RescuesFound types held input image w fs boot q → rescue_reply r ≡ rescue_reply q
+found_rescued_once types held input image w fs boot r q (sound, marks, (l, second, x)) (others, also, (m, twice, y)) =
+    let by : (ℕ → Bool) → Basis = λ s. record { image = image; walk = w; sound = s } in
+    by_surveys_once types held input (by others) m fs boot r q
+    (subst (λ o. RescuesBy types held input (by others) o fs boot r) (one_second (second_image (is_mended input) image w fs) l m second twice)
+    (subst (λ s. RescuesBy types held input (by s) l fs boot r) (one_marks image w (grave fs) sound others marks also) x)) y
 
-rescued_once : (types : Types) (held : ℕ) (input image boot : List ℕ) (a b : Reply) → RescuesIn types held input image boot a
-    → RescuesIn types held input image boot b
-    → a ≡ b
-rescued_once types held input image boot a b (w, fs, s, x) (u, gs, t, y) =
+rescued_once : (types : Types) (held : ℕ) (input image boot : List ℕ) (r q : RescueValue) → RescuesIn types held input image boot r
+    → RescuesIn types held input image boot q → rescue_reply r ≡ rescue_reply q
+rescued_once types held input image boot r q (w, fs, s, x) (u, gs, t, y) =
     let same = one_survey image w u fs gs s t in
-    let moved = subst (λ v. RescuesFound types held input image v fs boot a) same.0 x in
-    found_rescued_once types held input image u gs boot a b (subst (λ hs. RescuesFound types held input image u hs boot a) same.1 moved) y
+    let moved = subst (λ v. RescuesFound types held input image v fs boot r) same.0 x in
+    found_rescued_once types held input image u gs boot r q (subst (λ hs. RescuesFound types held input image u hs boot r) same.1 moved) y
 
-typed_rescued_once : (types : Types) (s : SubjectValue) (a b : Reply) → RescuesTyped types s a → RescuesTyped types s b → a ≡ b
-typed_rescued_once types s a b (t, is, x) (u, also, y) =
-    rescued_once types u.end u.image (opened u.image) (sized 2 s.image) a b
-    (subst (λ (t : SubjectValue). Rescues types t.end t.image (sized 2 s.image) a) (one_typed s t u is also) x) y
+typed_rescued_once : (types : Types) (s : SubjectValue) (a b : Reply) → Replies (RescuesTyped types s) a → Replies (RescuesTyped types s) b → a ≡ b
+typed_rescued_once types s a b (r, (t, is, x), e) (q, (u, also, y), f) =
+    e ∙ rescued_once types u.end u.image (opened u.image) (sized 2 s.image) r q
+    (subst (λ (t : SubjectValue). Rescues types t.end t.image (sized 2 s.image) r) (one_typed s t u is also) x) y ∙ sym f
 
 one_question : (q : QuestionValue) (s : SubjectValue) (a b : Reply) → QuestionAnswer q s a → QuestionAnswer q s b → a ≡ b
 one_question report s a b x y = typed_once s Surveys surveyed_once a b x y

@@ -1,6 +1,6 @@
--- A rescue of bytes has an answer.
+-- A rescue of bytes gives something.
 -- Letters: w the walk of a survey, fs its findings; a the survey of an image, second the second one, if there is one; held the number of blocks
--- that the input holds whole; text the lines behind a first fault.
+-- that the input holds whole; ls losses; r what a rescue gives.
 use Rattle.std.proofs.Common.{◌≡◌, ◌≢◌, ◌≤◌, ◌^◌, ℕ, Bool, true, false, List, [], ◌∷◌, Option, None, Some, inl, inr, length, refl, subst, arith}
 use Rattle.std.specs.Prelude.{IfSome}
 use Rattle.std.proofs.lemmas.Bool.{and_parts, cases_lt, cond_both}
@@ -32,10 +32,10 @@ use Rattle.adf_rescue.specs.Hung.{hung}
 use Rattle.adf_rescue.specs.Lost.{has_lost, is_settled}
 use Rattle.adf_rescue.specs.Opened.{is_mended, opened}
 use Rattle.adf_rescue.specs.Rescue.{Basis, IsFaulty, IsSecond, rescued_additions_by}
-use Rattle.adf_runs.specs.Commands.{Reply}
 use Rattle.adf_survey_cmd.proofs.RescueAnswers.{none_fits_it, none_fits_mended}
 use Rattle.adf_survey_cmd.specs.Prepared.{IsNoVolume}
-use Rattle.adf_survey_cmd.specs.Rescues.{RefusesInput, RefusesWith, Rescues, RescuesBy, RescuesFound, RescuesSome, rescue_text, second_image}
+use Rattle.adf_survey_cmd.specs.Losses.{LossValue, rescue_losses}
+use Rattle.adf_survey_cmd.specs.Rescues.{GivesFault, RescueValue, Rescues, RescuesBy, RescuesFound, RescuesSome, second_image}
 
 -- the second survey
 
@@ -64,15 +64,11 @@ second_bytes mended image w fs are =
 abbrev fault_at : ℕ → Cause → Fault
 fault_at b c = record { block = b; cause = c }
 
--- an image that is no volume has a first fault, with lines behind it
-fault_with : (text : List ℕ) (types : Types) (input : List ℕ) → IsNoVolume types input → FitsOrHasFaultBy types input
-    → (reply : Reply) × RefusesWith text types input reply
-fault_with text types input none (inl (t, l, fits)) = absurd (none t l fits)
-fault_with text types input none (inr (b, c, first)) = (_, (fault_at b c, first, refl))
-
-fault_alone : (types : Types) (input : List ℕ) → IsNoVolume types input → FitsOrHasFaultBy types input → (reply : Reply) × RefusesInput types input reply
-fault_alone types input none (inl (t, l, fits)) = absurd (none t l fits)
-fault_alone types input none (inr (b, c, first)) = (_, (fault_at b c, first, refl))
+-- an image that is no volume has a first fault
+fault_given : (ls : List LossValue) (types : Types) (input : List ℕ) → IsNoVolume types input → FitsOrHasFaultBy types input
+    → (r : RescueValue) × GivesFault ls types input r
+fault_given ls types input none (inl (t, l, fits)) = absurd (none t l fits)
+fault_given ls types input none (inr (b, c, first)) = (_, (fault_at b c, first, refl))
 
 -- an input that is mended or has a fault is none
 none_fits_fault : (types : Types) (input : List ℕ) (w : Walk) (fs : List FindingValue) (mended : Bool) → is_mended input ≡ mended
@@ -114,36 +110,36 @@ module _ (types : Types) (held : ℕ) (input : List ℕ) (w : Walk) (fs : List F
   abbrev first : Basis
   first = record { image = opened input; walk = w; sound = sound }
 
-  some_rescued : w ≢ [] → (reply : Reply) × RescuesSome types held input first second fs boot reply
+  some_rescued : w ≢ [] → (r : RescueValue) × RescuesSome types held input first second fs boot r
   some_rescued some =
       let letters : Letters = letters_for types (opened input) in
       let fault = dec_fault types (opened input) w fs (is_mended input) survey in
       elim (dec_and fault (dec_nil (rescued_additions_by letters held first second))) [
         | yes nothing ↦
-            let (reply, refuses) = fault_with (rescue_text types held first second fs) types input
-            (none_fits_fault types input w fs (is_mended input) refl survey nothing.0) (fits_or_fault_by types input) in (reply, inl (nothing, refuses))
+            let (r, refuses) = fault_given (rescue_losses letters held first second fs) types input
+            (none_fits_fault types input w fs (is_mended input) refl survey nothing.0) (fits_or_fault_by types input) in (r, inl (nothing, refuses))
         | no stands ↦
             let (image, laid, size) = rescue_laid letters held first second (allowed_size (opened input) w fs survey some) are more in
             (_, inr (stands, (image, laid, size, refl)))
       ]
 
-  rescued_by : Dec (w ≡ []) → (reply : Reply) × RescuesBy types held input first second fs boot reply
+  rescued_by : Dec (w ≡ []) → (r : RescueValue) × RescuesBy types held input first second fs boot r
   rescued_by (yes none) =
-      let (reply, refuses) = fault_alone types input (none_fits_unread types input w fs survey none) (fits_or_fault_by types input) in
-      (reply, inl (none, refuses))
-  rescued_by (no some) = let (reply, told) = some_rescued some in (reply, inr (some, told))
+      let (r, refuses) = fault_given [] types input (none_fits_unread types input w fs survey none) (fits_or_fault_by types input) in
+      (r, inl (none, refuses))
+  rescued_by (no some) = let (r, told) = some_rescued some in (r, inr (some, told))
 
 rescued_found : (types : Types) (held : ℕ) (input : List ℕ) (w : Walk) (fs : List FindingValue) → IsSurvey (opened input) w fs → AreBytes (opened input)
-    → (boot : List ℕ) → (reply : Reply) × RescuesFound types held input (opened input) w fs boot reply
+    → (boot : List ℕ) → (r : RescueValue) × RescuesFound types held input (opened input) w fs boot r
 rescued_found types held input w fs survey are boot =
     let (sound, marks) = some_marks (opened input) w fs survey (grave fs) in
     let bytes = second_bytes (is_mended input) (opened input) w fs are in
     let (second, is, more) = second_of (second_image (is_mended input) (opened input) w fs) bytes in
-    let (reply, told) = rescued_by types held input w fs survey sound are second more boot (dec_nil w) in
-    (reply, (sound, marks, (second, is, told)))
+    let (r, told) = rescued_by types held input w fs survey sound are second more boot (dec_nil w) in
+    (r, (sound, marks, (second, is, told)))
 
-pub some_rescue : (types : Types) (held : ℕ) (input boot : List ℕ) → AreBytes input → (reply : Reply) × Rescues types held input boot reply
+pub some_rescue : (types : Types) (held : ℕ) (input boot : List ℕ) → AreBytes input → (r : RescueValue) × Rescues types held input boot r
 some_rescue types held input boot are =
     let (w, fs, survey) = some_survey (opened input) in
-    let (reply, told) = rescued_found types held input w fs survey (opened_bytes input are) boot in
-    (reply, (w, fs, survey, told))
+    let (r, told) = rescued_found types held input w fs survey (opened_bytes input are) boot in
+    (r, (w, fs, survey, told))

@@ -19,7 +19,7 @@ use Rattle.adf_file_words.specs.SurveyLine.{AreRefusedBySurvey, AsksSurvey, Inqu
 use Rattle.adf_survey_cmd.specs.FoundLines.{has_its_data, listing_text}
 use Rattle.adf_survey_cmd.specs.Hints.{Hinted}
 use Rattle.adf_survey_cmd.specs.Remains.{WritesRemains}
-use Rattle.adf_survey_cmd.specs.Rescues.{Rescues}
+use Rattle.adf_survey_cmd.specs.Rescues.{Replies, RescueValue, Rescues}
 use Rattle.adf_survey_cmd.specs.Subject.{IsTyped, OfTyped, SubjectValue, sized, subject, subject_text}
 
 -- the status of findings: 0 where there is none
@@ -96,15 +96,15 @@ types_kept true = WithInternational
 types_kept false = Plain
 
 -- `rescue` of what is surveyed, once it has the type that its files say: with its two boot blocks as they were before
-abbrev pub RescuesTyped : Types → SubjectValue → Reply → Type 0
-RescuesTyped types s reply = (t : SubjectValue) × IsTyped s t × Rescues types t.end t.image (sized 2 s.image) reply
+abbrev pub RescuesTyped : Types → SubjectValue → RescueValue → Type 0
+RescuesTyped types s r = (t : SubjectValue) × IsTyped s t × Rescues types t.end t.image (sized 2 s.image) r
 
 -- the answer to a question of what is surveyed: once it is begun, and has the type that its files say
 abbrev pub QuestionAnswer : QuestionValue → SubjectValue → Reply → Type 0
 QuestionAnswer report s reply = OfTyped s Surveys reply
 QuestionAnswer list s reply = OfTyped s ListsSurvey reply
 QuestionAnswer (cat damaged path) s reply = RefusesPath path reply ⊎ OfTyped s (CopiesFromSurvey damaged path) reply
-QuestionAnswer (rescue keep_type) s reply = RescuesTyped (types_kept keep_type) s reply
+QuestionAnswer (rescue keep_type) s reply = Replies (RescuesTyped (types_kept keep_type) s) reply
 
 -- the answer to an inquiry: that to its question, with the hint
 abbrev pub SurveyAnswer : InquiryValue → List ℕ → Reply → Type 0

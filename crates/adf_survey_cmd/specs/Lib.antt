@@ -2,6 +2,7 @@
 pub mod Lines
 pub mod Subject
 pub mod FoundLines
+pub mod Losses
 pub mod Rescues
 pub mod Remains
 pub mod Hints

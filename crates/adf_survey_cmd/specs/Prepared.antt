@@ -1,7 +1,7 @@
--- Rescues of which only the new volume is to be laid and written.
--- Letters: p a prepared rescue; w how a work ends; o what output has; boot the boot blocks of the input; types those that the new volume may
--- have.
-use Rattle.std.specs.Prelude.{◌≡◌, ◌++◌, ℕ, true, false, List, Option, None, Some, Result, Ok, Err, string_bytes}
+-- Rescues of which only the new volume is to be laid.
+-- Letters: p a prepared rescue; u why there is none; w how a work ends; f a fault; ls losses; boot the boot blocks of the input; types those that
+-- the new volume may have.
+use Rattle.std.specs.Prelude.{◌≡◌, ◌++◌, ℕ, List, Result, Ok, Err}
 use Rattle.adf_tree.specs.Tree.{Tree}
 use Rattle.adf_blocks.specs.Sizes.{blocks}
 use Rattle.adf_volume.specs.Fits.{FitsBy}
@@ -15,40 +15,45 @@ use Rattle.adf_build.specs.Building.{IsBuildable}
 use Rattle.adf_build.specs.Laid.{IsLaid}
 use Rattle.adf_texts.specs.Lines.{fault_line}
 use Rattle.adf_runs.specs.Commands.{Reply}
-use Rattle.adf_runs.specs.Outcomes.{EndsBy, is_read_fault, is_write_fault}
 use Rattle.adf_runs.specs.declared.outcome.Outcome.{Outcome}
-use Rattle.adf_runs.specs.declared.outcome.Outcome.TheVariants.{LeftOut, NoMemory, Refused}
-use Rattle.adf_survey_cmd.specs.Rescues.{rescue_reply}
-use Rattle.adf_survey_cmd.specs.declared.rescuing.Prepared.{Prepared}
-
--- a volume is written that is laid for the tree, in as many blocks, with the boot blocks put back into it, and the lines are told
-abbrev pub WritesPrepared : Prepared → (boot : List ℕ) → Reply → Type 0
-WritesPrepared p boot reply =
-    (volume : List ℕ) × IsLaid volume p.draft.tree × (blocks volume ≡ p.blocks)
-    × (reply ≡ rescue_reply (restored volume boot) p.lines.items)
-
--- a rescue that has these answers, by the boot blocks that are put back, is prepared: its tree fits, and each volume that is laid for it
--- answers; or nothing is written
-abbrev pub PreparesReply : ((boot : List ℕ) → Reply → Type 0) → Result Prepared Outcome → Type 0
-PreparesReply answers (Ok p) =
-    IsBuildable p.draft.tree p.blocks × ((boot : List ℕ) (reply : Reply) → WritesPrepared p boot reply → answers boot reply)
-PreparesReply answers (Err w) =
-    (is_read_fault w ≡ false) × (is_write_fault w ≡ false) × ((boot : List ℕ) (o : Option (List ℕ)) → EndsBy (answers boot) w o o)
+use Rattle.adf_runs.specs.declared.outcome.Outcome.TheVariants.{LeftOut, NoMemory as OutOfMemory}
+use Rattle.adf_survey_cmd.specs.Losses.{loss_values, losses_text}
+use Rattle.adf_survey_cmd.specs.Rescues.{RescueValue, RescueValue.refused, RescueValue.written, rescue_reply}
+use Rattle.adf_survey_cmd.specs.declared.preparing.Prepared.{Prepared}
+use Rattle.adf_survey_cmd.specs.declared.preparing.Unrescued.{Unrescued}
+use Rattle.adf_survey_cmd.specs.declared.preparing.Unrescued.TheVariants.{NoMemory, Refused}
 
 -- no tree and layout fit an image where these types are accepted
 abbrev pub IsNoVolume : Types → List ℕ → Type 0
 IsNoVolume types image = (t : Tree) (l : Layout) → FitsBy (letters_for types image) image t l → ⊥
 
--- saying that an input is refused where these types are accepted: the line of its first fault
-abbrev pub IsRefusedInput : Types → List ℕ → Outcome → Type 0
-IsRefusedInput types input (Refused line) =
-    (f : Fault) × FirstFaultBy (letters_for types input) input f.block f.cause × (string_bytes line ≡ fault_line f)
-IsRefusedInput types input NoMemory = Unit {0}
-IsRefusedInput types input _ = ⊥
+-- the fault is the first one of an image where these types are accepted
+abbrev pub IsFirstFault : Types → List ℕ → Fault → Type 0
+IsFirstFault types image f = FirstFaultBy (letters_for types image) image f.block f.cause
 
--- the same with lines behind it
-abbrev pub IsRefusedWith : List ℕ → Types → List ℕ → Outcome → Type 0
-IsRefusedWith text types input (LeftOut lines) =
-    (f : Fault) × FirstFaultBy (letters_for types input) input f.block f.cause × (lines.items ≡ fault_line f ++ text)
-IsRefusedWith text types input NoMemory = Unit {0}
-IsRefusedWith text types input _ = ⊥
+-- the tree fits, and each volume that is laid for it, with the boot blocks put back into it, is what the rescue gives
+abbrev pub LaysFor : (RescueValue → Type 0) → Prepared → (boot : List ℕ) → Type 0
+LaysFor gives p boot = IsBuildable p.draft.tree p.blocks
+    × ((volume : List ℕ) → IsLaid volume p.draft.tree → blocks volume ≡ p.blocks → gives (written (restored volume boot) (loss_values p.losses.items)))
+
+-- no volume: the fault is what the rescue gives, or memory is refused
+abbrev pub RefusesFor : (RescueValue → Type 0) → Unrescued → Type 0
+RefusesFor gives (Refused f ls) = gives (refused f (loss_values ls.items))
+RefusesFor gives NoMemory = Unit {0}
+
+-- a rescue that gives this, by the boot blocks that are put back, is prepared
+abbrev pub Prepares : ((boot : List ℕ) → RescueValue → Type 0) → Result Prepared Unrescued → Type 0
+Prepares gives (Ok p) = (boot : List ℕ) → LaysFor (gives boot) p boot
+Prepares gives (Err u) = (boot : List ℕ) → RefusesFor (gives boot) u
+
+-- a volume is written that is laid for the tree, in as many blocks, with the boot blocks put back into it, and the lines are told
+abbrev pub WritesPrepared : Prepared → (boot : List ℕ) → Reply → Type 0
+WritesPrepared p boot reply =
+    (volume : List ℕ) × IsLaid volume p.draft.tree × (blocks volume ≡ p.blocks)
+    × (reply ≡ rescue_reply (written (restored volume boot) (loss_values p.losses.items)))
+
+-- an outcome tells why there is no volume: the lines of the fault and the losses, or memory is refused
+abbrev pub IsToldRefusal : Unrescued → Outcome → Type 0
+IsToldRefusal (Refused f ls) (LeftOut lines) = lines.items ≡ fault_line f ++ losses_text (loss_values ls.items)
+IsToldRefusal u OutOfMemory = Unit {0}
+IsToldRefusal u _ = ⊥

@@ -14,7 +14,7 @@ ghost use Rattle.adf_rescue.specs.Rescue.{Basis, rescued_tree_by};
 ghost use Rattle.adf_runs.specs.Commands.{Reply};
 ghost use Rattle.adf_file_words.specs.SurveyLine.{asked, rescue};
 ghost use Rattle.adf_survey_cmd.specs.Answers.{SurveyAnswer};
-ghost use Rattle.adf_survey_cmd.specs.Rescues.{WritesVolume};
+ghost use Rattle.adf_survey_cmd.specs.Rescues.{GivesVolume, RescueValue, rescue_reply};
 ghost use Rattle.adf_survey_cmd.specs.Subject.{meant};
 
 /// The volume that a rescue writes fits the tree of all that stands, by its letters. It has the boot blocks of an image that
@@ -22,8 +22,8 @@ ghost use Rattle.adf_survey_cmd.specs.Subject.{meant};
 /// the image is.
 pub fn rescued_volumes()
     ensures fits { (types : Types) (held : ℕ) (a : Basis) (b : Option Basis) (fs : List FindingValue) (boot : List ℕ)
-        (reply : Reply) → BOOT_LEN ≤ length boot → WritesVolume types held a b fs boot reply
-        → (l : Layout) × FitsBy (letters_for types a.image) reply.output
+        (r : RescueValue) → BOOT_LEN ≤ length boot → GivesVolume types held a b fs boot r
+        → (l : Layout) × FitsBy (letters_for types a.image) (rescue_reply r).output
         (rescued_tree_by (letters_for types a.image) held a b) l }
     ensures boot { (blocks : Option ℕ) (keep_type : Bool) (input : List ℕ) (reply : Reply)
         → SurveyAnswer (asked blocks (rescue keep_type)) input reply → reply.output ≢ []

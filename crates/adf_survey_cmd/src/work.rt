@@ -7,6 +7,7 @@ ghost use Rattle.adf_runs.specs.Outcomes.{EndsBy, is_read_fault, is_write_fault}
 ghost use Rattle.adf_runs.specs.WorkFaults.{IsNoWork};
 ghost use Rattle.adf_survey_cmd.specs.Answers.{HasBadSurveyPath, QuestionAnswer, RescuesTyped, SurveyAnswer, types_kept};
 ghost use Rattle.adf_file_words.specs.SurveyLine.{InquiryValue, QuestionValue, question_value};
+ghost use Rattle.adf_survey_cmd.specs.Rescues.{Replies};
 ghost use Rattle.adf_survey_cmd.specs.Subject.{IsTyped, SubjectValue, begun_subject, subject_value};
 ghost use Rattle.adf_survey_cmd.specs.Work.{Answers, Meets, Shows};
 
@@ -14,7 +15,8 @@ use crate::copying::{Asked, copy_found};
 use crate::hints::{hinted, is_hard_disk};
 use crate::listing::write_list;
 use crate::reporting::write_findings;
-use crate::rescuing::{Scope, rescue_image};
+use crate::preparing::Scope;
+use crate::rescuing::rescue_image;
 use crate::subject::Subject;
 use adf_cmd::MOST_IMAGE_BYTES;
 use adf_file_runs::FileProgram;
@@ -186,7 +188,7 @@ fn rescue_subject<W: Sink>(
     output: &mut W,
 ) -> Outcome
     requires { W.has_failed output.old ≡ false }
-    ensures ends { EndsBy (RescuesTyped types (subject_value subject)) result (W.held output.old) (W.held output.new) }
+    ensures ends { EndsBy (Replies (RescuesTyped types (subject_value subject))) result (W.held output.old) (W.held output.new) }
     ensures read { is_read_fault result ≡ false }
     ensures written { W.has_failed output.new ≡ is_write_fault result }
 {

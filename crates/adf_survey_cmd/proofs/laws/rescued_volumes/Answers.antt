@@ -7,6 +7,7 @@ use Rattle.adf_boot_blocks.specs.Writing.{HasBootOf}
 use Rattle.adf_runs.specs.Commands.{Reply}
 use Rattle.adf_file_words.specs.SurveyLine.{asked, rescue}
 use Rattle.adf_survey_cmd.specs.Answers.{SurveyAnswer, types_kept}
+use Rattle.adf_survey_cmd.specs.Rescues.{rescue_reply}
 use Rattle.adf_survey_cmd.specs.Subject.{meant, subject}
 use Rattle.adf_survey_cmd.proofs.HintedAnswers.{hinted_output}
 use Rattle.adf_survey_cmd.proofs.KeptBoots.{keeps_boot, written_fits}
@@ -23,17 +24,17 @@ are_bytes : (bs : List ℕ) → All (λ byte. byte < 256) bs → AreBytes bs
 are_bytes bs all k lt = All-get_or (λ byte. byte < 256) bs k 0 lt all
 
 pub returns-clause-fits : goal.returns-clause-fits
-returns-clause-fits c types held a b fs boot reply whole writes = written_fits types held a b fs boot reply whole writes
+returns-clause-fits c = written_fits
 
 -- the output is the same without the hint
 boot_kept : (blocks : Option ℕ) (keep_type : Bool) (input : List ℕ) (reply : Reply) → SurveyAnswer (asked blocks (rescue keep_type)) input reply
     → reply.output ≢ []
     → All (λ byte. byte < 256) (subject blocks input).image → begins_with_dos (subject blocks input).image ≡ true
     → HasBootOf (subject blocks input).image reply.output
-boot_kept blocks keep_type input reply (told, answer, is) some all begins =
-    let same : reply.output ≡ told.output = ap (λ (r : Reply). r.output) is ∙ hinted_output input told in
+boot_kept blocks keep_type input reply (told, (r, answer, so), is) some all begins =
+    let same : reply.output ≡ (rescue_reply r).output = ap (λ (r : Reply). r.output) is ∙ hinted_output input told ∙ ap (λ (r : Reply). r.output) so in
     let s = subject blocks input in
-    subst (HasBootOf s.image) (sym same) (keeps_boot (types_kept keep_type) s told answer (λ none. some (same ∙ none)) (are_bytes s.image all) begins)
+    subst (HasBootOf s.image) (sym same) (keeps_boot (types_kept keep_type) s r answer (λ none. some (same ∙ none)) (are_bytes s.image all) begins)
 
 pub returns-clause-boot : goal.returns-clause-boot
 returns-clause-boot c None keep_type input reply answer some all begins = boot_kept None keep_type input reply answer some all begins

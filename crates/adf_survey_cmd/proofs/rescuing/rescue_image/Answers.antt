@@ -1,9 +1,21 @@
 use Rattle.adf_runs.proofs.Endings.{ends_weaker}
 use Rattle.adf_survey_cmd.specs.Prepared.{WritesPrepared}
-use Rattle.adf_survey_cmd.specs.Rescues.{Rescues}
+use Rattle.adf_survey_cmd.specs.Rescues.{Replies, Rescues}
+use Rattle.adf_survey_cmd.proofs.RescueAnswers.{refusal_ends, written_replies}
 use Rattle.adf_survey_cmd.proofs.rescuing.rescue_image.Goals as goal
 
 pub returns-in-Ok-clause-ends : goal.returns-in-Ok-clause-ends
 returns-in-Ok-clause-ends g c =
-    ends_weaker (WritesPrepared c.in-Ok.prepared c.args.boot.now) (Rescues c.args.scope.types c.args.scope.held c.args.input.items c.args.boot.now) _ _ _
-    (c.in-Ok.ensures.1 c.args.boot.now) c.write_prepared.ensures.ends
+    let boot = c.args.boot.now in
+    let gives = Rescues c.args.scope.types c.args.scope.held c.args.input.items boot in
+    ends_weaker (WritesPrepared c.in-Ok.prepared boot) (Replies gives) _ _ _
+    (λ reply written. written_replies gives c.in-Ok.prepared boot reply (c.in-Ok.ensures boot) written) c.write_prepared.ensures.ends
+
+pub returns-in-Err-clause-ends : goal.returns-in-Err-clause-ends
+returns-in-Err-clause-ends g c =
+    let boot = c.args.boot.now in
+    refusal_ends (Rescues c.args.scope.types c.args.scope.held c.args.input.items boot) c.in-Err.unrescued c.refused.result _ (c.in-Err.ensures boot)
+    c.refused.ensures
+
+pub write_prepared-requires-clause-fits : goal.write_prepared-requires-clause-fits
+write_prepared-requires-clause-fits g c = (c.in-Ok.ensures c.args.boot.now).0

@@ -1,19 +1,20 @@
 use Rattle.std.proofs.Common.{◌∙◌, ℕ, Bool, List, refl, subst}
 use Rattle.adf_boot_blocks.specs.Writing.{restored}
 use Rattle.adf_runs.specs.Streams.{AppendsPart}
-use Rattle.adf_survey_cmd.specs.Rescues.{rescue_reply}
+use Rattle.adf_survey_cmd.specs.Losses.{loss_values}
+use Rattle.adf_survey_cmd.specs.Rescues.{RescueValue.written, rescue_reply}
 use Rattle.adf_survey_cmd.proofs.rescuing.write_prepared.Goals as goal
 
-pub returns-in-Err-clause-ends : goal.returns-in-Err-clause-ends
-returns-in-Err-clause-ends g c =
-    let (volume, laid, size, is) = c.in-Ok.ensures in
+pub returns-clause-ends : goal.returns-clause-ends
+returns-clause-ends g c =
+    let (volume, laid, size, is) = c.in-Ok-lay_with.ensures in
     let image : List ℕ = restored volume c.args.boot.now in
     let old = g.W.Sink.held c.args.output.now in
     let new = g.W.Sink.held c.write_all.new.output in
     let part =
-    subst (λ (bytes : List ℕ). AppendsPart (g.W.Sink.has_failed c.write_all.new.output) old new bytes) (c.deref.ensures.value ∙ is)
+    subst (λ (bytes : List ℕ). AppendsPart (g.W.Sink.has_failed c.write_all.new.output) old new bytes) (c.deref-2.ensures.value ∙ is)
     c.in-Err.ensures.err in (
-      rescue_reply image c.args.prepared.lines.items,
+      rescue_reply (written image (loss_values c.args.prepared.losses.items)),
       (volume, laid, size, refl),
       subst (λ (failed : Bool). AppendsPart failed old new image) c.in-Err.ensures.failed part,
     )

@@ -1,6 +1,7 @@
 use Rattle.std.proofs.Common.{subst, sym}
 use Rattle.adf_runs.proofs.Endings.{ends_weaker}
 use Rattle.adf_survey_cmd.specs.Answers.{QuestionAnswer, RescuesTyped}
+use Rattle.adf_survey_cmd.specs.Rescues.{Replies}
 use Rattle.adf_survey_cmd.specs.Subject.{subject_value}
 use Rattle.adf_survey_cmd.specs.Work.{Answers}
 use Rattle.adf_survey_cmd.proofs.work.Task.on_subject.Goals as goal
@@ -9,6 +10,6 @@ pub returns-in-Rescue-clause-ends : goal.returns-in-Rescue-clause-ends
 returns-in-Rescue-clause-ends g c = λ q answers.
     let s = subject_value c.args.subject in
     let (keep_type, same, asks) = subst (λ task. Answers task q) c.in-Rescue.is answers in
-    ends_weaker (RescuesTyped _ s) (QuestionAnswer q s) _ _ _
-    (λ reply told. subst (λ q. QuestionAnswer q s reply) (sym asks) (subst (λ types. RescuesTyped types s reply) same told))
+    ends_weaker (Replies (RescuesTyped _ s)) (QuestionAnswer q s) _ _ _
+    (λ reply told. subst (λ q. QuestionAnswer q s reply) (sym asks) (subst (λ types. Replies (RescuesTyped types s) reply) same told))
     c.rescue_subject.ensures.ends
