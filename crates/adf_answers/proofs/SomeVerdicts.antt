@@ -21,7 +21,7 @@ use Rattle.adf_manifest.specs.Lines.{EntryLine, IsLine, IsRun, LabelLine, LineVa
 use Rattle.adf_manifest.specs.Lines.{run_line}
 use Rattle.adf_manifest.specs.Lines.{stamps_line, volume_line}
 use Rattle.adf_manifest.specs.Items.{IsItem}
-use Rattle.adf_manifest.specs.Manifest.{EndsInFile, Entries, ExplainsKind, HasFault, IsBare, IsFaultOf, IsFirstFault, IsLaterFault}
+use Rattle.adf_manifest.specs.Manifest.{EndsInFile, Entries, ExplainsKind, HasFault, IsBare, IsFaultOf, IsFirstLineFault, IsLaterFault}
 use Rattle.adf_manifest.specs.Manifest.{IsManifestOrHasFault, IsPreamble}
 use Rattle.adf_manifest.specs.Manifest.{IsWell, Manifest, MayStand, lines, manifest_lines, manifest_tree, most_bytes, preamble_lines}
 use Rattle.adf_manifest.specs.Manifest.{without_last_feed}
@@ -211,7 +211,7 @@ from_line (text ∷ rest) all m w e = elim (one_more m w text) [
       )
 ]
 
-first_fault : (text : List ℕ) (rest : List (List ℕ)) (kind : ManifestKind) → IsFirstFault text kind → Verdict (text ∷ rest)
+first_fault : (text : List ℕ) (rest : List (List ℕ)) (kind : ManifestKind) → IsFirstLineFault text kind → Verdict (text ∷ rest)
 first_fault text rest kind fault = inr (1, kind, inl (record { text = text; rest = rest; lines = refl; place = refl; fault = fault }))
 
 all_lines : (text : List ℕ) (rest : List (List ℕ)) → Verdict (text ∷ rest)

@@ -13,7 +13,7 @@ use Rattle.adf_manifest.specs.Lines.{IsLine, LineValue, LabelLine, StampsLine, E
 use Rattle.adf_manifest.specs.Items.{item_lines}
 use Rattle.std.specs.List.{flat_map}
 use Rattle.std.proofs.lemmas.Grind.{common_steps}
-use Rattle.adf_manifest.specs.Manifest.{EndsInFile, HasBadText, HasFault, HasFaultOf, HasNoRoom, IsBare, IsFirstFault, IsLaterFault, IsWell}
+use Rattle.adf_manifest.specs.Manifest.{EndsInFile, HasBadText, HasFault, HasFaultOf, HasNoRoom, IsBare, IsFirstLineFault, IsLaterFault, IsWell}
 use Rattle.adf_manifest.specs.Manifest.{Manifest, MayStandNext, MayStand, items_of, label_lines, manifest_lines, manifest_tree, stamps_lines}
 use Rattle.adf_manifest.specs.declared.manifest.ManifestKind.{ManifestKind}
 use Rattle.adf_manifest.specs.declared.manifest.ManifestKind.TheVariants.{BadLine, BadSize, BadText, NoParent, ParentIsFile, Exists}
@@ -141,7 +141,7 @@ later_good m n text rest kind w v e f =
 
 -- a first line of an allowed size has no fault
 first_good : (kind' : Kind) (n' : ℕ) (line : List ℕ) (kind : ManifestKind) → is_allowed n' ≡ true → line ≡ volume_line kind' n'
-    → IsFirstFault line kind → ⊥
+    → IsFirstLineFault line kind → ⊥
 first_good kind' n' line BadLine h e f = f (kind', n', small n' h, e)
 first_good kind' n' line BadSize h e f = grind (arith, common_steps, one_volume, small)
 first_good kind' n' line kind h e f = f
@@ -151,7 +151,7 @@ volume_first : (m : Manifest) → (rest : List (List ℕ)) × (manifest_lines m 
 volume_first m = ((label_lines m.preamble.label ++ stamps_lines m.preamble.stamps) ++ flat_map item_lines (items_of m.entries), refl)
 
 mixed : (all : List (List ℕ)) (text : List ℕ) (rest : List (List ℕ)) (kind : ManifestKind) (m : Manifest) (more : List (List ℕ)) → all ≡ text ∷ rest
-    → IsFirstFault text kind → IsWell m → all ≡ manifest_lines m ++ more → ⊥
+    → IsFirstLineFault text kind → IsWell m → all ≡ manifest_lines m ++ more → ⊥
 unfolding volume_first
 mixed all text rest kind m more e f w g = grind (arith, common_steps, volume_first, first_good, heads)
 
@@ -189,7 +189,7 @@ one_later_kind m text k k' (inr p) (inr q) =
     let same = line_same p.0.line q.0.line p.0.is_line q.0.is_line (sym p.0.reads ∙ q.0.reads) in
     one_of_line (manifest_tree m) q.0.line k k' (subst (λ l. OfLine (manifest_tree m) l k) same p.1) q.1
 
-one_first_kind : (text : List ℕ) (k k' : ManifestKind) → IsFirstFault text k → IsFirstFault text k' → k ≡ k'
+one_first_kind : (text : List ℕ) (k k' : ManifestKind) → IsFirstLineFault text k → IsFirstLineFault text k' → k ≡ k'
 one_first_kind text BadLine BadLine f g = refl
 one_first_kind text BadLine BadSize f g = absurd (f (g.0, g.1, g.2, g.3))
 one_first_kind text BadLine _ f g = absurd g

@@ -161,10 +161,10 @@ IsFaultOf tree line Exists = HasNoRoom tree line room.Exists
 IsFaultOf tree line _ = ⊥
 
 -- the fault of a first line
-abbrev pub IsFirstFault : List ℕ → ManifestKind → Type 0
-IsFirstFault text BadLine = ¬ IsVolumeLine text
-IsFirstFault text BadSize = (kind : Kind) × (n : ℕ) × (n < 2 ^ 32) × (text ≡ volume_line kind n) × (is_allowed n ≡ false)
-IsFirstFault text _ = ⊥
+abbrev pub IsFirstLineFault : List ℕ → ManifestKind → Type 0
+IsFirstLineFault text BadLine = ¬ IsVolumeLine text
+IsFirstLineFault text BadSize = (kind : Kind) × (n : ℕ) × (n < 2 ^ 32) × (text ≡ volume_line kind n) × (is_allowed n ≡ false)
+IsFirstLineFault text _ = ⊥
 
 -- a text is a line that is allowed after the lines of a manifest
 pub record MayStandNext (m : Manifest) (text : List ℕ) : Type 0 where
@@ -212,7 +212,7 @@ pub record FaultInFirst (all : List (List ℕ)) (number : ℕ) (kind : ManifestK
   pub rest : List (List ℕ)
   pub lines : all ≡ text ∷ rest
   pub place : number ≡ 1
-  pub fault : IsFirstFault text kind
+  pub fault : IsFirstLineFault text kind
 
 -- a later line has the fault, and the lines before it are those of a manifest
 pub record FaultInLater (all : List (List ℕ)) (number : ℕ) (kind : ManifestKind) : Type 0 where

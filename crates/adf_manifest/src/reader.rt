@@ -8,7 +8,7 @@ ghost use Rattle.adf_drafts.specs.Draft.{IsRoomFor};
 ghost use Rattle.adf_names.specs.Meta.{AreStamps};
 ghost use Rattle.adf_manifest.specs.Lines.{IsLine, IsRun, IsVolumeLine, LabelLine, NoteLine, RunLine, StampsLine, entry_value, label_line, line_text, line_value, run_value, stamps_line, volume_line};
 ghost use Rattle.adf_manifest.specs.Items.{Item, body_of_sort, run_bytes, with_item};
-ghost use Rattle.adf_manifest.specs.Manifest.{Entries, HasBadText, IsFirstFault, IsPreamble, IsLaterFault, IsWell, Manifest, preamble_lines, preamble_tree, manifest_lines, manifest_tree};
+ghost use Rattle.adf_manifest.specs.Manifest.{Entries, HasBadText, IsFirstLineFault, IsPreamble, IsLaterFault, IsWell, Manifest, preamble_lines, preamble_tree, manifest_lines, manifest_tree};
 ghost use Rattle.adf_manifest.specs.Reader.{HasNextLine, IsLastEntry, IsReading, StopsIn, Stops, StopsAt, StateMatches, bare};
 
 use crate::lines::{EntryText, Line, Run, Sort, line_of};
@@ -84,7 +84,7 @@ fn volume_of(line: &[u8]) -> Option<(Kind, u32)>
 fn read_volume(line: &[u8]) -> Result<Preamble, ManifestKind>
     ensures preamble { IfOk result IsPreamble }
     ensures lines { IfOk result (λ h. preamble_lines h ≡ line.now ∷ []) }
-    ensures fault { IfErr result (λ kind. IsFirstFault line.now kind) }
+    ensures fault { IfErr result (λ kind. IsFirstLineFault line.now kind) }
 {
     let Some((kind, blocks)) = volume_of(line) else {
         return Err(ManifestKind::BadLine);
@@ -359,7 +359,7 @@ fn line_in_entries(alloc: Global, reading: &mut Reading, line: Line) -> Result<(
 pub fn first_state(line: &[u8]) -> Result<State, ManifestKind>
     ensures lines { IfOk result (λ s. (m : Manifest) × IsWell m × StateMatches s m
         × (manifest_lines m ≡ line.now ∷ [])) }
-    ensures fault { IfErr result (λ kind. IsFirstFault line.now kind) }
+    ensures fault { IfErr result (λ kind. IsFirstLineFault line.now kind) }
 {
     Ok(State::Preamble(read_volume(line)?))
 }
