@@ -4,6 +4,7 @@ pub mod Lost
 pub mod MadeRoot
 pub mod Opened
 pub mod Rescue
+pub mod Losses
+pub mod Rescued
 -- The states of what adds entry after entry.
 pub mod Salvage
-pub mod Losses

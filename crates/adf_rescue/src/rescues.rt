@@ -10,10 +10,9 @@ ghost use Rattle.adf_findings.specs.Types.{passed};
 ghost use Rattle.adf_build.specs.Laid.{IsLaid};
 ghost use Rattle.adf_build.specs.Building.{IsBuildable};
 ghost use Rattle.adf_build.specs.Plan.{entries_blocks};
-ghost use Rattle.adf_rescue.specs.Losses.{lost_blocks, lost_headers};
 ghost use Rattle.adf_rescue.specs.Rescue.{IsFaulty, Basis, OnBasis, OnSecond, StandsNothingBy, before_first_by, before_second_by};
-ghost use Rattle.adf_rescue.specs.Rescue.{first_verdicts_by, rescue_leaves_by, rescued_tree_by, second_leaves_by};
-ghost use Rattle.adf_rescue.specs.Rescue.{second_verdicts_by};
+ghost use Rattle.adf_rescue.specs.Rescue.{first_verdicts_by, second_verdicts_by};
+ghost use Rattle.adf_rescue.specs.Rescued.{IsRescued};
 ghost use Rattle.adf_rescue.specs.Salvage.{free_blocks as blocks_free, IsSalvage};
 
 use crate::left_out::LeftOut;
@@ -170,24 +169,10 @@ pub fn rescue(
     terms: Terms,
 ) -> Result<Option<Rescued>, NoMemory>
     ensures none { OnSurvey survey.now.image (λ w _. IfOk result (λ r. IsNone r ↔ (w ≡ []))) }
-    ensures nothing { OnBasis survey.now.image (λ a fs. OnSecond (option_map (λ s. s.now.image) second.entry)
-        (λ b. IfOk result (λ r. IfSome r (λ v. IsTrue v.stands_nothing ↔
-        StandsNothingBy terms.types terms.held a b fs terms.mended)))) }
-    ensures tree { OnBasis survey.now.image (λ a _. OnSecond (option_map (λ s. s.now.image) second.entry)
-        (λ b. IfOk result (λ r. IfSome r (λ v. v.draft.tree ≡
-        rescued_tree_by (letters_for terms.types a.image) terms.held a b)))) }
+    ensures rescued { OnBasis survey.now.image (λ a fs. OnSecond (option_map (λ s. s.now.image) second.entry)
+        (λ b. IfOk result (λ r. IfSome r (IsRescued terms a b fs)))) }
     ensures size { IfOk result (λ r. IfSome r (λ v. v.blocks ≡ blocks_in survey.now.image)) }
     ensures fits { IfOk result (λ r. IfSome r (λ v. IsBuildable v.draft.tree v.blocks)) }
-    ensures left_out { OnBasis survey.now.image (λ a _. OnSecond (option_map (λ s. s.now.image) second.entry)
-        (λ b. IfOk result (λ r. IfSome r (λ v. v.left_out.items ≡
-        rescue_leaves_by (letters_for terms.types a.image) terms.held a)))) }
-    ensures second_left_out { OnBasis survey.now.image (λ a _. OnSecond (option_map (λ s. s.now.image) second.entry)
-        (λ b. IfOk result (λ r. IfSome r (λ v. v.second_left_out.items ≡
-        second_leaves_by (letters_for terms.types a.image) terms.held a b)))) }
-    ensures lost_headers { OnSurvey survey.now.image (λ w fs. OnSecond (option_map (λ s. s.now.image) second.entry)
-        (λ b. IfOk result (λ r. IfSome r (λ v. v.lost_headers.items ≡ lost_headers w b fs)))) }
-    ensures lost_blocks { OnSurvey survey.now.image (λ _ fs. OnSecond (option_map (λ s. s.now.image) second.entry)
-        (λ b. IfOk result (λ r. IfSome r (λ v. v.lost_blocks.items ≡ lost_blocks b fs)))) }
 
     // Memory is wanted only if something of the image is surveyed.
     ensures begun { OnSurvey survey.now.image (λ w _. OnErr result (w ≢ [])) }

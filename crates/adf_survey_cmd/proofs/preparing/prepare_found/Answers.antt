@@ -53,8 +53,8 @@ fault_of-requires-then-rescued c = λ as_it_is.
     let some = c.some_survey.ensures image in
     let marks = c.whole_marks.ensures some.0 some.1 some.2 in
     let told = if_some _ _ _ c.in-Some.is
-    (c.in_ok-rescued.ensures.nothing some.0 some.1 (whole_in c.args.found.now) some.2 marks c.requires.0 c.requires.1) in
-    let nothing = told.0 c.if-rescued.true in
+    (c.in_ok-rescued.ensures.rescued some.0 some.1 (whole_in c.args.found.now) some.2 marks c.requires.0 c.requires.1) in
+    let nothing = told.nothing.0 c.if-rescued.true in
     subst (IsNoVolume types) (sym c.image-then-rescued.ensures)
     (none_fits_it types image some.0 some.1 c.is_some.result (c.is_some.ensures ∙ as_it_is) some.2 nothing.0)
 
@@ -71,12 +71,10 @@ returns-then-rescued c = λ input opened w fs sound here marks b second boot.
     let is = c.in-Some.is in
     let same = c.is_some.ensures ∙ mended_so _ input _ _ opened in
     let read : w ≢ [] = λ none. let clash : true ≡ false = ap is_some (sym is) ∙ (kept.none w fs here).1 none in cc in
+    let gives = if_some _ _ _ is (kept.rescued w fs sound here marks b second) in
     let losses = c.in_ok-losses.ensures w fs here b second
-    ∙ same_losses c.args.found.now.image w b _ _ _ _ _ _ _ _ (if_some _ _ _ is (kept.left_out w fs sound here marks b second))
-    (if_some _ _ _ is (kept.second_left_out w fs sound here marks b second)) (if_some _ _ _ is (kept.lost_headers w fs here b second))
-    (if_some _ _ _ is (kept.lost_blocks w fs here b second)) in
-    let nothing = if_some _ _ _ is (kept.nothing w fs sound here marks b second) in
-    let stands = subst (StandsNothingBy c.args.scope.types c.args.scope.held a b fs) same (nothing.0 c.if-rescued.true) in
+    ∙ same_losses c.args.found.now.image w b _ _ _ _ _ _ _ _ gives.left_out gives.second_left_out gives.lost_headers gives.lost_blocks in
+    let stands = subst (StandsNothingBy c.args.scope.types c.args.scope.held a b fs) same (gives.nothing.0 c.if-rescued.true) in
     let f = c.in_ok-first-2.first in
     let first = c.in_ok-first-2.ensures input (subst (λ (i : List ℕ). IsOpened (IsFirstFault c.args.scope.types input) input i c.args.fault)
     (sym c.image-then-rescued.ensures) opened) in
@@ -89,14 +87,12 @@ returns c = λ input opened w fs sound here marks b second.
     let is = c.in-Some.is in
     let same = c.is_some.ensures ∙ mended_so _ input _ _ opened in
     let read : w ≢ [] = λ none. let clash : true ≡ false = ap is_some (sym is) ∙ (kept.none w fs here).1 none in cc in
+    let gives = if_some _ _ _ is (kept.rescued w fs sound here marks b second) in
     let losses = c.in_ok-losses.ensures w fs here b second
-    ∙ same_losses c.args.found.now.image w b _ _ _ _ _ _ _ _ (if_some _ _ _ is (kept.left_out w fs sound here marks b second))
-    (if_some _ _ _ is (kept.second_left_out w fs sound here marks b second)) (if_some _ _ _ is (kept.lost_headers w fs here b second))
-    (if_some _ _ _ is (kept.lost_blocks w fs here b second)) in
-    let nothing = if_some _ _ _ is (kept.nothing w fs sound here marks b second) in
+    ∙ same_losses c.args.found.now.image w b _ _ _ _ _ _ _ _ gives.left_out gives.second_left_out gives.lost_headers gives.lost_blocks in
     let some : ¬ StandsNothingBy c.args.scope.types c.args.scope.held a b fs (is_mended input) = λ stands.
-    let told = nothing.1 (subst (StandsNothingBy c.args.scope.types c.args.scope.held a b fs) (sym same) stands) in
+    let told = gives.nothing.1 (subst (StandsNothingBy c.args.scope.types c.args.scope.held a b fs) (sym same) stands) in
     let not = c.if-rescued.false in absurd cc in
     let p : Prepared = record { draft = c.in-Some.rescued.draft; blocks = c.in-Some.rescued.blocks; losses = c.in_ok-losses.losses } in
     volume_prepared c.args.scope.types c.args.scope.held input a b fs p (if_some _ _ _ is kept.fits)
-    (if_some _ _ _ is (kept.tree w fs sound here marks b second)) (if_some _ _ _ is kept.size) losses read some
+    gives.tree (if_some _ _ _ is kept.size) losses read some
