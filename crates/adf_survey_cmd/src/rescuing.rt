@@ -9,7 +9,8 @@ ghost use Rattle.adf_build.specs.Building.{IsBuildable};
 ghost use Rattle.adf_build.specs.Laid.{IsLaid};
 ghost use Rattle.adf_rescue.specs.Opened.{IsOpened, is_mended};
 ghost use Rattle.adf_rescue.specs.Rescue.{IsSecond, Basis, OnBasis, OnSecond};
-ghost use Rattle.adf_runs.specs.Outcomes.{EndsBy, is_read_fault, is_write_fault, outcome_text, status_of};
+ghost use Rattle.adf_runs.specs.Outcomes.{Blames, Does, outcome_text, status_of};
+ghost use Rattle.adf_runs.specs.Streams.{seen};
 ghost use Rattle.adf_survey_cmd.specs.Prepared.{IsNoVolume, IsRefusedInput, IsRefusedWith, PreparesReply, WritesPrepared};
 ghost use Rattle.adf_survey_cmd.specs.Rescues.{Rescues, RescuesBoth, RescuesBy, left_out_line, left_out_text, lines_text, second_text, text_status, why_text};
 
@@ -115,8 +116,7 @@ pub struct Prepared {
 fn told(lines: Vec<u8>) -> Outcome
     ensures status { status_of result ≡ text_status lines.items }
     ensures text { outcome_text result ≡ lines.items }
-    ensures read { is_read_fault result ≡ false }
-    ensures written { is_write_fault result ≡ false }
+    ensures blames { Blames result false false }
 {
     if lines.is_empty() {
         Outcome::Done
@@ -148,9 +148,7 @@ fn write_prepared<W: Sink>(
     requires works { W.has_failed output.old ≡ false }
     requires fits { IsBuildable prepared.draft.tree prepared.blocks }
     requires boot { BOOT_LEN ≤ length boot.now }
-    ensures ends { EndsBy (WritesPrepared prepared boot.now) result (W.held output.old) (W.held output.new) }
-    ensures read { is_read_fault result ≡ false }
-    ensures written { W.has_failed output.new ≡ is_write_fault result }
+    ensures { Does (WritesPrepared prepared boot.now) result (seen W.held W.has_failed output.old output.new) }
 {
     let Prepared {
         draft,
@@ -170,8 +168,7 @@ fn write_prepared<W: Sink>(
 fn refuse(alloc: Global, types: Types, image: &[u8]) -> Outcome
     requires { IsNoVolume types image.now }
     ensures refused { IsRefusedInput types image.now result }
-    ensures read { is_read_fault result ≡ false }
-    ensures written { is_write_fault result ≡ false }
+    ensures blames { Blames result false false }
 {
     match answer_to_image(alloc, types, image) {
         Ok(answer) => Outcome::Refused(answer.line),
@@ -331,9 +328,7 @@ pub fn rescue_image<W: Sink>(
 ) -> Outcome
     requires works { W.has_failed output.old ≡ false }
     requires boot { BOOT_LEN ≤ length boot.now }
-    ensures ends { EndsBy (Rescues scope.types scope.held input.items boot.now) result (W.held output.old) (W.held output.new) }
-    ensures read { is_read_fault result ≡ false }
-    ensures written { W.has_failed output.new ≡ is_write_fault result }
+    ensures { Does (Rescues scope.types scope.held input.items boot.now) result (seen W.held W.has_failed output.old output.new) }
 {
     match prepare(alloc, input, scope) {
         Ok(prepared) => write_prepared(alloc, prepared, boot, output),
