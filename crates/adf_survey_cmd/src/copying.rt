@@ -1,6 +1,6 @@
 // The bytes of sound files, and what is left of those that may be damaged.
 
-ghost use Rattle.std.specs.Prelude.{◌≡◌, ◌++◌, ℕ, IfOk, List, OnOk, Option, false, true};
+ghost use Rattle.std.specs.Prelude.{◌≡◌, ◌++◌, IfOk, OnOk, false, true};
 ghost use Rattle.std.specs.List.{flat_map};
 ghost use Rattle.adf_findings.specs.Files.{file_content};
 ghost use Rattle.adf_findings.specs.Survey.{OnSurvey};
@@ -8,7 +8,8 @@ ghost use Rattle.adf_runs.specs.Commands.{on_errors, on_output};
 ghost use Rattle.adf_survey_cmd.specs.Answers.{CopiesEntry, CopiesFound, no_path_line};
 ghost use Rattle.adf_survey_cmd.specs.Remains.{gap_line, remains_reply};
 ghost use Rattle.adf_survey_cmd.specs.Subject.{surveyed_as};
-ghost use Rattle.adf_runs.specs.Outcomes.{EndsBy, is_read_fault, is_write_fault};
+ghost use Rattle.adf_runs.specs.Outcomes.{Blames, Does, DoesSilently, EndsBy};
+ghost use Rattle.adf_runs.specs.Streams.{seen};
 
 use crate::found_lines::are_before;
 use crate::subject::Subject;
@@ -22,10 +23,8 @@ use std::alloc::{AllocError, Global};
 // Writes the bytes of a file.
 fn write_file<W: Sink>(file: &SoundFile<'_>, output: &mut W) -> Outcome
     requires { W.has_failed output.old ≡ false }
-    ensures ends { EndsBy (λ reply. reply ≡ on_output 0 (file_content file.now)) result
-        (W.held output.old) (W.held output.new) }
-    ensures read { is_read_fault result ≡ false }
-    ensures written { W.has_failed output.new ≡ is_write_fault result }
+    ensures { Does (λ reply. reply ≡ on_output 0 (file_content file.now)) result
+        (seen W.held W.has_failed output.old output.new) }
 {
     match write_through::<ROOM, W>(file.pieces(), output) {
         Ok(()) => Outcome::Done,
@@ -44,8 +43,7 @@ fn copy_entry<W: Sink>(
     requires { W.has_failed output.old ≡ false }
     ensures ends { OnSurvey survey.now.image (λ w fs. EndsBy (CopiesEntry false (surveyed_as survey.now.image subject.now) w fs n) result
         (W.held output.old) (W.held output.new)) }
-    ensures read { is_read_fault result ≡ false }
-    ensures written { W.has_failed output.new ≡ is_write_fault result }
+    ensures blames { Blames result false (W.has_failed output.new) }
 {
     if !survey.is_file(n) {
         return Outcome::NotAFile;
@@ -82,10 +80,8 @@ fn gap_lines(alloc: Global, gaps: &[Gap]) -> Result<Vec<u8>, AllocError>
 // Writes the bytes of a file, and tells which are no data.
 fn write_remains<W: Sink>(alloc: Global, remains: &Remains, output: &mut W) -> Outcome
     requires { W.has_failed output.old ≡ false }
-    ensures ends { EndsBy (λ reply. reply ≡ remains_reply remains.now.bytes.items remains.now.gaps.items)
-        result (W.held output.old) (W.held output.new) }
-    ensures read { is_read_fault result ≡ false }
-    ensures written { W.has_failed output.new ≡ is_write_fault result }
+    ensures { Does (λ reply. reply ≡ remains_reply remains.now.bytes.items remains.now.gaps.items)  result
+        (seen W.held W.has_failed output.old output.new) }
 {
     let Ok(lines) = gap_lines(alloc, &remains.gaps) else {
         return Outcome::NoMemory;
@@ -108,8 +104,7 @@ fn copy_remains<W: Sink>(
     requires { W.has_failed output.old ≡ false }
     ensures ends { OnSurvey survey.now.image (λ w fs. EndsBy (CopiesEntry true (surveyed_as survey.now.image subject.now) w fs n) result
         (W.held output.old) (W.held output.new)) }
-    ensures read { is_read_fault result ≡ false }
-    ensures written { W.has_failed output.new ≡ is_write_fault result }
+    ensures blames { Blames result false (W.has_failed output.new) }
 {
     match survey.remains(alloc, n, subject.end) {
         Ok(Some(remains)) => write_remains(alloc, &remains, output),
@@ -120,10 +115,7 @@ fn copy_remains<W: Sink>(
 
 // Says that nothing is under a path.
 fn no_such_path(alloc: Global, names: &[Name]) -> Outcome
-    ensures ends { (held : Option (List ℕ))
-        → EndsBy (λ reply. reply ≡ on_errors 1 (no_path_line names.now)) result held held }
-    ensures read { is_read_fault result ≡ false }
-    ensures written { is_write_fault result ≡ false }
+    ensures { DoesSilently (λ reply. reply ≡ on_errors 1 (no_path_line names.now)) result }
 {
     let Ok(path) = write_path(alloc, names) else {
         return Outcome::NoMemory;
@@ -153,8 +145,7 @@ pub fn copy_found<W: Sink>(
     ensures ends { OnSurvey survey.now.image (λ w fs.
         EndsBy (CopiesFound asked.now.damaged (surveyed_as survey.now.image subject.now) w fs asked.now.names.now) result
         (W.held output.old) (W.held output.new)) }
-    ensures read { is_read_fault result ≡ false }
-    ensures written { W.has_failed output.new ≡ is_write_fault result }
+    ensures blames { Blames result false (W.has_failed output.new) }
 {
     match survey.find(asked.names) {
         Some(n) if asked.damaged => copy_remains(alloc, subject, survey, n, output),

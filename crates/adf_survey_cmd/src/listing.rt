@@ -5,7 +5,7 @@ ghost use Rattle.std.specs.Io.KnownBytes.{Appends};
 ghost use Rattle.adf_findings.specs.Survey.{OnSurvey};
 ghost use Rattle.adf_runs.specs.Streams.{AppendsPart, is_device};
 ghost use Rattle.adf_survey_cmd.specs.Answers.{TellsFound};
-ghost use Rattle.adf_runs.specs.Outcomes.{EndsBy, is_read_fault, is_write_fault};
+ghost use Rattle.adf_runs.specs.Outcomes.{Blames, EndsBy};
 ghost use Rattle.adf_survey_cmd.specs.FoundLines.{InAnyTexts, listing_text};
 ghost use Rattle.adf_survey_cmd.specs.Subject.{surveyed_as};
 
@@ -51,8 +51,7 @@ pub fn write_list<W: Sink>(
     requires { W.has_failed output.old ≡ false }
     ensures ends { OnSurvey survey.now.image (λ w fs. EndsBy (TellsFound (surveyed_as survey.now.image subject.now) w fs) result
         (W.held output.old) (W.held output.new)) }
-    ensures read { is_read_fault result ≡ false }
-    ensures written { W.has_failed output.new ≡ is_write_fault result }
+    ensures blames { Blames result false (W.has_failed output.new) }
 {
     survey.marks();
     let Ok(front) = subject.lines(alloc) else {

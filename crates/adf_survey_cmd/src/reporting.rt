@@ -4,7 +4,7 @@ ghost use Rattle.std.specs.Prelude.{◌≡◌, cond, false};
 ghost use Rattle.adf_findings.specs.Survey.{OnSurvey};
 ghost use Rattle.adf_survey_cmd.specs.Answers.{TellsFindings, told_status};
 ghost use Rattle.adf_survey_cmd.specs.Subject.{surveyed_as};
-ghost use Rattle.adf_runs.specs.Outcomes.{EndsBy, is_read_fault, is_write_fault};
+ghost use Rattle.adf_runs.specs.Outcomes.{Blames, EndsBy};
 
 use crate::runs::write_runs;
 use crate::subject::Subject;
@@ -29,8 +29,7 @@ pub fn write_findings<W: Sink>(
     requires { W.has_failed output.old ≡ false }
     ensures ends { OnSurvey survey.now.image (λ w fs. EndsBy (TellsFindings (surveyed_as survey.now.image subject.now) w fs) result
         (W.held output.old) (W.held output.new)) }
-    ensures read { is_read_fault result ≡ false }
-    ensures written { W.has_failed output.new ≡ is_write_fault result }
+    ensures blames { Blames result false (W.has_failed output.new) }
 {
     let Ok(front) = subject.lines(alloc) else {
         return Outcome::NoMemory;

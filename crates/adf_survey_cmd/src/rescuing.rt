@@ -5,11 +5,12 @@ ghost use Rattle.adf_blocks.specs.Sizes.{blocks as blocks_in};
 ghost use Rattle.adf_boot_blocks.specs.Writing.{restored};
 ghost use Rattle.adf_build.specs.Building.{IsBuildable};
 ghost use Rattle.adf_build.specs.Laid.{IsLaid};
-ghost use Rattle.adf_runs.specs.Outcomes.{EndsBy, is_read_fault, is_write_fault, outcome_text, status_of};
+ghost use Rattle.adf_runs.specs.Outcomes.{Blames, Does, outcome_text, status_of};
 ghost use Rattle.adf_survey_cmd.specs.Losses.{loss_values, losses_text};
 ghost use Rattle.adf_survey_cmd.specs.Prepared.{IsToldRefusal, WritesPrepared};
 ghost use Rattle.adf_survey_cmd.specs.Rescues.{Replies, Rescues, text_status};
 ghost use Rattle.adf_texts.specs.Lines.{fault_line};
+ghost use Rattle.adf_runs.specs.Streams.{seen};
 
 use crate::loss_lines::push_losses;
 use crate::losses::Loss;
@@ -27,8 +28,7 @@ use std::alloc::{AllocError, Global};
 fn told(lines: Vec<u8>) -> Outcome
     ensures status { status_of result ≡ text_status lines.items }
     ensures text { outcome_text result ≡ lines.items }
-    ensures read { is_read_fault result ≡ false }
-    ensures written { is_write_fault result ≡ false }
+    ensures blames { Blames result false false }
 {
     if lines.is_empty() {
         Outcome::Done
@@ -69,9 +69,7 @@ fn write_prepared<W: Sink>(
     requires works { W.has_failed output.old ≡ false }
     requires fits { IsBuildable prepared.draft.tree prepared.blocks }
     requires boot { BOOT_LEN ≤ length boot.now }
-    ensures ends { EndsBy (WritesPrepared prepared boot.now) result (W.held output.old) (W.held output.new) }
-    ensures read { is_read_fault result ≡ false }
-    ensures written { W.has_failed output.new ≡ is_write_fault result }
+    ensures { Does (WritesPrepared prepared boot.now) result (seen W.held W.has_failed output.old output.new) }
 {
     let Prepared {
         draft,
@@ -124,10 +122,8 @@ pub fn rescue_image<W: Sink>(
 ) -> Outcome
     requires works { W.has_failed output.old ≡ false }
     requires boot { BOOT_LEN ≤ length boot.now }
-    ensures ends { EndsBy (Replies (Rescues scope.types scope.held input.items boot.now)) result
-        (W.held output.old) (W.held output.new) }
-    ensures read { is_read_fault result ≡ false }
-    ensures written { W.has_failed output.new ≡ is_write_fault result }
+    ensures { Does (Replies (Rescues scope.types scope.held input.items boot.now)) result
+        (seen W.held W.has_failed output.old output.new) }
 {
     match prepare(alloc, input, scope) {
         Ok(prepared) => write_prepared(alloc, prepared, boot, output),

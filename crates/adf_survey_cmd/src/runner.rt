@@ -3,9 +3,10 @@
 ghost use Rattle.std.specs.Prelude.{◌≡◌, ℕ, List, Some, false, true};
 ghost use Rattle.adf_words.specs.CommandLine.{texts_of};
 ghost use Rattle.adf_file_words.specs.SurveyLine.{survey_file};
-ghost use Rattle.adf_runs.specs.Commands.{IsUnanswered, TakesEnough};
-ghost use Rattle.adf_file_runs.specs.FileRuns.{RunEndsOnFiles};
-ghost use Rattle.adf_survey_cmd.specs.Answers.{InquiriesHaveOneAnswer, WordsAskForOneInquiry, survey_command};
+ghost use Rattle.adf_runs.specs.Commands.{IsUnanswered, TakesEnough, RunEnds};
+ghost use Rattle.adf_file_runs.specs.FileRuns.{RunEndsOnFiles, known_files};
+ghost use Rattle.adf_survey_cmd.specs.Answers.{InquiriesHaveOneAnswer, WordsAskForOneInquiry, survey_command, survey_without_files};
+ghost use Rattle.adf_runs.specs.Streams.{seen};
 
 use crate::work::Work;
 use adf_file_runs::{Files, Invocation, run_program_on_files};
@@ -31,10 +32,8 @@ pub fn run_files<F: Files, R: Source, W: Sink, E: Sink>(
     requires writes { W.has_failed output.old ≡ false }
     requires tells { E.has_failed errors.old ≡ false }
     ensures ends { RunEndsOnFiles survey_command survey_file (texts_of asked.now.words.now)
-        (R.left input.old) (R.has_failed input.new)
-        (F.bytes_of asked.now.files.now) (F.may_fail asked.now.files.now) (F.may_open asked.now.files.now) result
-        (W.has_failed output.new) (W.held output.old) (W.held output.new)
-        (E.has_failed errors.new) (E.held errors.old) (E.held errors.new) }
+        (known_files F.bytes_of F.may_fail F.may_open asked.now.files.now) (seen R.left R.has_failed input.old input.new) result
+        (seen W.held W.has_failed output.old output.new) (seen E.held E.has_failed errors.old errors.new) }
     ensures untouched { IsUnanswered survey_command (texts_of asked.now.words.now)
         → (input.new ≡ input.old) × (output.new ≡ output.old) }
     ensures unread { (name : List ℕ) → survey_file (texts_of asked.now.words.now) ≡ Some name

@@ -3,8 +3,9 @@
 ghost use Rattle.std.specs.Prelude.{◌≡◌, List, false, true, IfErr, IfNone, IfOk, IfSome};
 ghost use Rattle.adf_findings.specs.OwnKind.{is_mistyped};
 ghost use Rattle.adf_findings.specs.Survey.{OnSurvey};
-ghost use Rattle.adf_runs.specs.Outcomes.{EndsBy, is_read_fault, is_write_fault};
+ghost use Rattle.adf_runs.specs.Outcomes.{Blames, Does, EndsBy};
 ghost use Rattle.adf_runs.specs.WorkFaults.{IsNoWork};
+ghost use Rattle.adf_runs.specs.Streams.{seen};
 ghost use Rattle.adf_survey_cmd.specs.Answers.{HasBadSurveyPath, QuestionAnswer, RescuesTyped, SurveyAnswer, types_kept};
 ghost use Rattle.adf_file_words.specs.SurveyLine.{InquiryValue, QuestionValue, question_value};
 ghost use Rattle.adf_survey_cmd.specs.Rescues.{Replies};
@@ -93,8 +94,7 @@ impl View {
         ensures ends { (s : SubjectValue) (q : QuestionValue) → IsTyped (begun_subject s) (subject_value subject.now)
             → Shows self.now q
             → EndsBy (QuestionAnswer q s) result (W.held output.old) (W.held output.new) }
-        ensures read { is_read_fault result ≡ false }
-        ensures written { W.has_failed output.new ≡ is_write_fault result }
+        ensures blames { Blames result false (W.has_failed output.new) }
     {
         some_survey();
         match self {
@@ -116,8 +116,7 @@ impl View {
         ensures ends { (s : SubjectValue) (q : QuestionValue) → IsTyped (begun_subject s) (subject_value subject.now)
             → Shows self.now q
             → EndsBy (QuestionAnswer q s) result (W.held output.old) (W.held output.new) }
-        ensures read { is_read_fault result ≡ false }
-        ensures written { W.has_failed output.new ≡ is_write_fault result }
+        ensures blames { Blames result false (W.has_failed output.new) }
     {
         match survey(alloc, &subject.image) {
             Ok(survey) => self.of_survey(alloc, subject, &survey, output),
@@ -131,8 +130,7 @@ impl View {
         ensures ends { (s : SubjectValue) (q : QuestionValue) → subject_value subject.now ≡ begun_subject s
             → Shows self.now q
             → IfSome result (λ outcome. EndsBy (QuestionAnswer q s) outcome (W.held output.old) (W.held output.new)) }
-        ensures read { IfSome result (λ outcome. is_read_fault outcome ≡ false) }
-        ensures written { IfSome result (λ outcome. W.has_failed output.new ≡ is_write_fault outcome) }
+        ensures blames { IfSome result (λ outcome. Blames outcome false (W.has_failed output.new)) }
         ensures mistyped { IfNone result (OnSurvey subject.now.image.items (λ w _.
             is_mistyped subject.now.image.items w ≡ true)) }
         ensures unwritten { IfNone result (output.new ≡ output.old) }
@@ -151,8 +149,7 @@ impl View {
         ensures ends { (s : SubjectValue) (q : QuestionValue) → subject_value subject ≡ begun_subject s
             → Shows self.now q
             → EndsBy (QuestionAnswer q s) result (W.held output.old) (W.held output.new) }
-        ensures read { is_read_fault result ≡ false }
-        ensures written { W.has_failed output.new ≡ is_write_fault result }
+        ensures blames { Blames result false (W.has_failed output.new) }
     {
         some_survey();
         match subject.retype() {
@@ -167,8 +164,7 @@ impl View {
         ensures ends { (q : QuestionValue) → Shows self.now q
             → EndsBy (QuestionAnswer q (subject_value subject)) result
             (W.held output.old) (W.held output.new) }
-        ensures read { is_read_fault result ≡ false }
-        ensures written { W.has_failed output.new ≡ is_write_fault result }
+        ensures blames { Blames result false (W.has_failed output.new) }
     {
         let Ok(()) = subject.begin() else {
             return Outcome::NoMemory;
@@ -188,9 +184,7 @@ fn rescue_subject<W: Sink>(
     output: &mut W,
 ) -> Outcome
     requires { W.has_failed output.old ≡ false }
-    ensures ends { EndsBy (Replies (RescuesTyped types (subject_value subject))) result (W.held output.old) (W.held output.new) }
-    ensures read { is_read_fault result ≡ false }
-    ensures written { W.has_failed output.new ≡ is_write_fault result }
+    ensures { Does (Replies (RescuesTyped types (subject_value subject))) result (seen W.held W.has_failed output.old output.new) }
 {
     let Ok(boot) = subject.boot(alloc) else {
         return Outcome::NoMemory;
@@ -214,8 +208,7 @@ impl Task {
         ensures ends { (q : QuestionValue) → Answers self.now q
             → EndsBy (QuestionAnswer q (subject_value subject)) result
             (W.held output.old) (W.held output.new) }
-        ensures read { is_read_fault result ≡ false }
-        ensures written { W.has_failed output.new ≡ is_write_fault result }
+        ensures blames { Blames result false (W.has_failed output.new) }
     {
         match self {
             Task::Show(view) => view.of_subject(alloc, subject, output),
@@ -235,8 +228,7 @@ impl Work {
         requires { W.has_failed output.old ≡ false }
         ensures ends { (r : InquiryValue) (s : SubjectValue) → Meets self.now r → IfOk subject (λ x. subject_value x ≡ s)
             → EndsBy (QuestionAnswer r.question s) result (W.held output.old) (W.held output.new) }
-        ensures read { is_read_fault result ≡ false }
-        ensures written { W.has_failed output.new ≡ is_write_fault result }
+        ensures blames { Blames result false (W.has_failed output.new) }
     {
         match subject {
             Ok(subject) => self.task.on_subject(alloc, subject, output),
@@ -249,8 +241,7 @@ impl Work {
         requires { W.has_failed output.old ≡ false }
         ensures ends { (r : InquiryValue) → Meets self.now r
             → EndsBy (SurveyAnswer r bytes.items) result (W.held output.old) (W.held output.new) }
-        ensures read { is_read_fault result ≡ false }
-        ensures written { W.has_failed output.new ≡ is_write_fault result }
+        ensures blames { Blames result false (W.has_failed output.new) }
     {
         let on_disk = is_hard_disk(&bytes);
         let subject = Subject::of_read(alloc, bytes, self.blocks);

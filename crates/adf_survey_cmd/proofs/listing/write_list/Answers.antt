@@ -2,6 +2,7 @@ use Rattle.std.proofs.Common.{◌∙◌, ap, cond, refl, sym}
 use Rattle.adf_dates.proofs.DateTexts.{date_of, date_of_is}
 use Rattle.adf_findings.specs.SoundMarks.{mark_in}
 use Rattle.adf_runs.specs.Commands.{on_output}
+use Rattle.adf_runs.specs.Streams.{seen}
 use Rattle.adf_runs.proofs.Endings.{front_ends}
 use Rattle.adf_survey_cmd.specs.Answers.{TellsFound}
 use Rattle.adf_survey_cmd.specs.FoundLines.{listing_text}
@@ -47,8 +48,6 @@ returns-in-Err-clause-ends g c = λ w fs survey.
     let v = c.args.survey.now in
     let sound = mark_in v in
     let marks = c.marks.ensures w fs survey in
-    front_ends c.in-Err.fault _ (TellsFound (surveyed_as v.image c.args.subject.now) w fs) _ _ c.after_writing.ensures c.in-Err.ensures.failed (
-      _,
-      (date_of, date_of_is, sound, marks, refl),
-      rw c.in-Ok.ensures at (c.in-Err.ensures.err w fs survey date_of sound date_of_is marks),
-    )
+    (front_ends c.in-Err.fault _ (TellsFound (surveyed_as v.image c.args.subject.now) w fs)
+    (seen g.W.Sink.held g.W.Sink.has_failed c.args.output.now c.write_both.new.output) c.after_writing.ensures c.in-Err.ensures.failed
+    (_, (date_of, date_of_is, sound, marks, refl), rw c.in-Ok.ensures at (c.in-Err.ensures.err w fs survey date_of sound date_of_is marks))).ends

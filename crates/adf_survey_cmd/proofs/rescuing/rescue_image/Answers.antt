@@ -1,21 +1,27 @@
-use Rattle.adf_runs.proofs.Endings.{ends_weaker}
+use Rattle.std.proofs.Common.{arith}
+use Rattle.std.proofs.lemmas.Grind.{common_steps}
+use Rattle.adf_runs.proofs.Endings.{does_weaker}
 use Rattle.adf_survey_cmd.specs.Prepared.{WritesPrepared}
 use Rattle.adf_survey_cmd.specs.Rescues.{Replies, Rescues}
 use Rattle.adf_survey_cmd.proofs.RescueAnswers.{refusal_ends, written_replies}
 use Rattle.adf_survey_cmd.proofs.rescuing.rescue_image.Goals as goal
 
-pub returns-in-Ok-clause-ends : goal.returns-in-Ok-clause-ends
-returns-in-Ok-clause-ends g c =
+pub returns-in-Ok : goal.returns-in-Ok
+returns-in-Ok g c =
     let boot = c.args.boot.now in
     let gives = Rescues c.args.scope.types c.args.scope.held c.args.input.items boot in
-    ends_weaker (WritesPrepared c.in-Ok.prepared boot) (Replies gives) _ _ _
-    (λ reply written. written_replies gives c.in-Ok.prepared boot reply (c.in-Ok.ensures boot) written) c.write_prepared.ensures.ends
+    does_weaker (WritesPrepared c.in-Ok.prepared boot) (Replies gives)
+    (λ reply written. written_replies gives c.in-Ok.prepared boot reply (c.in-Ok.ensures boot) written) c.write_prepared.ensures
 
-pub returns-in-Err-clause-ends : goal.returns-in-Err-clause-ends
-returns-in-Err-clause-ends g c =
+pub returns-in-Err : goal.returns-in-Err
+returns-in-Err g c =
     let boot = c.args.boot.now in
-    refusal_ends (Rescues c.args.scope.types c.args.scope.held c.args.input.items boot) c.in-Err.unrescued c.refused.result _ (c.in-Err.ensures boot)
-    c.refused.ensures
+    record {
+      ends = refusal_ends (Rescues c.args.scope.types c.args.scope.held c.args.input.items boot) c.in-Err.unrescued c.refused.result _
+          (c.in-Err.ensures boot) c.refused.ensures;
+      read = grind (arith, common_steps);
+      written = grind (arith, common_steps);
+    }
 
 pub write_prepared-requires-clause-fits : goal.write_prepared-requires-clause-fits
 write_prepared-requires-clause-fits g c = (c.in-Ok.ensures c.args.boot.now).0

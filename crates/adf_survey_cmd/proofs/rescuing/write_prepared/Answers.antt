@@ -5,16 +5,18 @@ use Rattle.adf_survey_cmd.specs.Losses.{loss_values}
 use Rattle.adf_survey_cmd.specs.Rescues.{RescueValue.written, rescue_reply}
 use Rattle.adf_survey_cmd.proofs.rescuing.write_prepared.Goals as goal
 
-pub returns-clause-ends : goal.returns-clause-ends
-returns-clause-ends g c =
+pub returns-in-Err : goal.returns-in-Err
+returns-in-Err g c =
     let (volume, laid, size, is) = c.in-Ok-lay_with.ensures in
     let image : List ℕ = restored volume c.args.boot.now in
     let old = g.W.Sink.held c.args.output.now in
     let new = g.W.Sink.held c.write_all.new.output in
     let part =
     subst (λ (bytes : List ℕ). AppendsPart (g.W.Sink.has_failed c.write_all.new.output) old new bytes) (c.deref-2.ensures.value ∙ is)
-    c.in-Err.ensures.err in (
-      rescue_reply (written image (loss_values c.args.prepared.losses.items)),
-      (volume, laid, size, refl),
-      subst (λ (failed : Bool). AppendsPart failed old new image) c.in-Err.ensures.failed part,
-    )
+    c.in-Err.ensures.err in
+    let front = subst (λ (failed : Bool). AppendsPart failed old new image) c.in-Err.ensures.failed part in
+    record {
+      ends = (rescue_reply (written image (loss_values c.args.prepared.losses.items)), (volume, laid, size, refl), front);
+      read = refl;
+      written = c.in-Err.ensures.failed;
+    }
