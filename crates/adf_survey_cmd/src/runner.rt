@@ -3,9 +3,9 @@
 ghost use Rattle.std.specs.Prelude.{◌≡◌, ℕ, List, Some, false, true};
 ghost use Rattle.adf_words.specs.CommandLine.{texts_of};
 ghost use Rattle.adf_file_words.specs.SurveyLine.{survey_file};
-ghost use Rattle.adf_runs.specs.Commands.{IsUnanswered, TakesEnough, RunEnds};
+ghost use Rattle.adf_runs.specs.Commands.{IsUnanswered, TakesEnough};
 ghost use Rattle.adf_file_runs.specs.FileRuns.{RunEndsOnFiles, known_files};
-ghost use Rattle.adf_survey_cmd.specs.Answers.{InquiriesHaveOneAnswer, WordsAskForOneInquiry, survey_command, survey_without_files};
+ghost use Rattle.adf_survey_cmd.specs.Answers.{InquiriesHaveOneAnswer, WordsAskForOneInquiry, survey_command};
 ghost use Rattle.adf_runs.specs.Streams.{seen};
 
 use crate::work::Work;
