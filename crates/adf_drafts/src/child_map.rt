@@ -63,8 +63,8 @@ fn number_in_bucket(bucket: &BTreeMap<ChildKey, usize>, key: &ChildKey) -> Optio
 }
 
 impl ChildMap {
-    #[tactic(auto, unfolding(crate::specs::ChildMap::number_in))]
     /// The empty map.
+    #[tactic(auto, unfolding(crate::specs::ChildMap::number_in))]
     pub fn new(alloc: Global) -> ChildMap
         ensures { (p : ℕ) (x : List ℕ) → number_in result.buckets.items p x ≡ None }
     {

@@ -44,8 +44,8 @@ pub struct Room {
     pub name: Name,
 }
 
-#[tactic(auto, using(crate::proofs::DraftLookup::step_none))]
 // The directory that the path leads to, by number of addition.
+#[tactic(auto, using(crate::proofs::DraftLookup::step_none))]
 fn directory(
     letters: Letters,
     entries: &[Entry],

@@ -70,8 +70,8 @@ fn edit_line(
     }
 }
 
-#[tactic(auto, using(crate::proofs::EditSteps::after_err))]
 // Applies edits, one after the other; the first one is that of line 1.
+#[tactic(auto, using(crate::proofs::EditSteps::after_err))]
 fn edit_all(
     alloc: Global,
     outline: Outline,
@@ -162,8 +162,8 @@ fn by_tree(
     }
 }
 
-#[tactic(auto, using(crate::proofs::EditSteps::stops_on))]
 // The image after a script.
+#[tactic(auto, using(crate::proofs::EditSteps::stops_on))]
 fn by_script(alloc: Global, script: Script, given: &[u8], image: &[u8]) -> Result<Vec<u8>, Stop>
     ensures ok { IfOk result (λ new. IsByScript script given.now image.now new.items) }
     ensures stop { IfErr result (StopsOn script given.now image.now) }

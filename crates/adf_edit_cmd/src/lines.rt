@@ -48,8 +48,8 @@ fn verb_of(word: &[u8]) -> Option<Verb>
     }
 }
 
-#[tactic(auto, using(crate::proofs::ScriptLines::no_remove))]
 // PATH
+#[tactic(auto, using(crate::proofs::ScriptLines::no_remove))]
 fn read_remove(alloc: Global, text: &[u8]) -> Result<Edit, PathFault>
     ensures ok { IfOk result (λ e. SaysBehindVerb Verb.Remove text.now (edit_value e)) }
     ensures bad { IfErr result (λ f. f ≡ PathFault.BadText → (e : EditValue)
@@ -59,8 +59,8 @@ fn read_remove(alloc: Global, text: &[u8]) -> Result<Edit, PathFault>
     Ok(Edit::Remove(path))
 }
 
-#[tactic(auto, using(crate::proofs::ScriptLines::no_dir))]
 // PATH
+#[tactic(auto, using(crate::proofs::ScriptLines::no_dir))]
 fn read_dir(alloc: Global, text: &[u8]) -> Result<Edit, PathFault>
     ensures ok { IfOk result (λ e. SaysBehindVerb Verb.Dir text.now (edit_value e)) }
     ensures bad { IfErr result (λ f. f ≡ PathFault.BadText → (e : EditValue)
@@ -70,8 +70,8 @@ fn read_dir(alloc: Global, text: &[u8]) -> Result<Edit, PathFault>
     Ok(Edit::Dir(path))
 }
 
-#[tactic(auto, using(crate::proofs::ScriptLines::no_label))]
 // TEXT
+#[tactic(auto, using(crate::proofs::ScriptLines::no_label))]
 fn read_label(text: &[u8]) -> Result<Edit, PathFault>
     ensures ok { IfOk result (λ e. SaysBehindVerb Verb.Label text.now (edit_value e)) }
     ensures bad { IfErr result (λ f. f ≡ PathFault.BadText → (e : EditValue)
@@ -83,8 +83,8 @@ fn read_label(text: &[u8]) -> Result<Edit, PathFault>
     }
 }
 
-#[tactic(auto, using(crate::proofs::ScriptLines::no_origin, crate::proofs::ScriptLines::no_target))]
 // PATH:PATH
+#[tactic(auto, using(crate::proofs::ScriptLines::no_origin, crate::proofs::ScriptLines::no_target))]
 fn read_move(alloc: Global, text: &[u8]) -> Result<Edit, PathFault>
     ensures ok { IfOk result (λ e. SaysBehindVerb Verb.Move text.now (edit_value e)) }
     ensures bad { IfErr result (λ f. f ≡ PathFault.BadText → (e : EditValue)
@@ -96,8 +96,8 @@ fn read_move(alloc: Global, text: &[u8]) -> Result<Edit, PathFault>
     Ok(Edit::Move(from, to))
 }
 
-#[tactic(auto, using(crate::proofs::ScriptLines::no_file, crate::proofs::ScriptLines::no_size))]
 // PATH:SIZE
+#[tactic(auto, using(crate::proofs::ScriptLines::no_file, crate::proofs::ScriptLines::no_size))]
 fn read_file(alloc: Global, text: &[u8]) -> Result<Edit, PathFault>
     ensures ok { IfOk result (λ e. SaysBehindVerb Verb.File text.now (edit_value e)) }
     ensures bad { IfErr result (λ f. f ≡ PathFault.BadText → (e : EditValue)
@@ -111,8 +111,8 @@ fn read_file(alloc: Global, text: &[u8]) -> Result<Edit, PathFault>
     Ok(Edit::File(path, size))
 }
 
-#[tactic(auto, using(crate::proofs::ScriptLines::no_noted, crate::proofs::ScriptLines::no_note))]
 // PATH:TEXT
+#[tactic(auto, using(crate::proofs::ScriptLines::no_noted, crate::proofs::ScriptLines::no_note))]
 fn read_note(alloc: Global, text: &[u8]) -> Result<Edit, PathFault>
     ensures ok { IfOk result (λ e. SaysBehindVerb Verb.Note text.now (edit_value e)) }
     ensures bad { IfErr result (λ f. f ≡ PathFault.BadText → (e : EditValue)
@@ -126,8 +126,8 @@ fn read_note(alloc: Global, text: &[u8]) -> Result<Edit, PathFault>
     Ok(Edit::Change(path, Change::Note(note)))
 }
 
-#[tactic(auto, using(crate::proofs::ScriptLines::no_protected, crate::proofs::ScriptLines::no_word))]
 // PATH:WORD
+#[tactic(auto, using(crate::proofs::ScriptLines::no_protected, crate::proofs::ScriptLines::no_word))]
 fn read_protect(alloc: Global, text: &[u8]) -> Result<Edit, PathFault>
     ensures ok { IfOk result (λ e. SaysBehindVerb Verb.Protect text.now (edit_value e)) }
     ensures bad { IfErr result (λ f. f ≡ PathFault.BadText → (e : EditValue)
@@ -141,8 +141,8 @@ fn read_protect(alloc: Global, text: &[u8]) -> Result<Edit, PathFault>
     Ok(Edit::Change(path, Change::Protect(word)))
 }
 
-#[tactic(auto, using(crate::proofs::ScriptLines::no_dated, crate::proofs::ScriptLines::no_date))]
 // PATH:DATE
+#[tactic(auto, using(crate::proofs::ScriptLines::no_dated, crate::proofs::ScriptLines::no_date))]
 fn read_date(alloc: Global, text: &[u8]) -> Result<Edit, PathFault>
     ensures ok { IfOk result (λ e. SaysBehindVerb Verb.Date text.now (edit_value e)) }
     ensures bad { IfErr result (λ f. f ≡ PathFault.BadText → (e : EditValue)
@@ -174,8 +174,8 @@ fn read_verb(alloc: Global, verb: Verb, text: &[u8]) -> Result<Edit, PathFault>
     }
 }
 
-#[tactic(auto, using(crate::proofs::ScriptLines::no_verb, crate::proofs::ScriptLines::no_edit))]
 /// The edit of a line. `BadText` if and only if it has none; `NoMemory` if an allocation fails.
+#[tactic(auto, using(crate::proofs::ScriptLines::no_verb, crate::proofs::ScriptLines::no_edit))]
 pub fn read_edit(alloc: Global, line: &[u8]) -> Result<Edit, PathFault>
     ensures ok { IfOk result (λ e. SaysEdit line.now (edit_value e)) }
     ensures bad { IfErr result (λ f. f ≡ PathFault.BadText → (e : EditValue) → ¬ SaysEdit line.now e) }

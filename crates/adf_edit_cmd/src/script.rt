@@ -91,9 +91,9 @@ fn read_next(alloc: Global, edits: &mut Vec<Edit>, line: &[u8]) -> Result<(), St
     }
 }
 
-#[tactic(auto, using(crate::proofs::Scripts::none_read, crate::proofs::Scripts::next_fault, crate::proofs::Scripts::script_read))]
 /// Reads a script, and the bytes behind its line `end`. `BadLine` names the first line before its end that says no edit, or is
 /// one too many.
+#[tactic(auto, using(crate::proofs::Scripts::none_read, crate::proofs::Scripts::next_fault, crate::proofs::Scripts::script_read))]
 pub fn read_script(alloc: Global, text: &[u8]) -> Result<(Script, &[u8]), Stop>
     ensures script { IfOk result (λ r. IsScript text.now r.0 r.1.now) }
     ensures fault { IfErr result (IsScriptFault text.now) }
@@ -128,8 +128,8 @@ pub fn behind_file<'a>(edit: &Edit, given: &'a [u8]) -> &'a [u8]
     &given[size..]
 }
 
-#[tactic(auto, using(crate::proofs::EditSteps::file_over))]
 /// The bytes behind those of all files; `None` if there are fewer.
+#[tactic(auto, using(crate::proofs::EditSteps::file_over))]
 pub fn behind_files<'a>(edits: &[Edit], given: &'a [u8]) -> Option<&'a [u8]>
     ensures some { IfSome result (λ rest. behind_files (map edit_value edits.now) given.now ≡ Some rest.now) }
     ensures none { IfNone result (behind_files (map edit_value edits.now) given.now ≡ None) }

@@ -206,8 +206,8 @@ fn rebased(alloc: Global, item: Item, from: &[Name], to: &[Name]) -> Result<Item
     })
 }
 
-#[tactic(auto, using(crate::proofs::Depths::moved_long))]
 // Whether an entry's path gets too deep where `to` stands for its first names, as many as `from` has.
+#[tactic(auto, using(crate::proofs::Depths::moved_long))]
 fn gets_deep(from: &[Name], to: &[Name], item: &Item) -> bool
     ensures { result ≡ gets_deep from.now to.now item.now }
 {

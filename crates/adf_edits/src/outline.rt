@@ -127,8 +127,8 @@ fn push_entry(alloc: Global, items: &mut Vec<Item>, entry: &Entry) -> Result<(),
     }
 }
 
-#[tactic(auto, using(crate::proofs::Additions::some_entry, crate::proofs::Additions::entry_step, crate::proofs::Additions::parent_early, crate::proofs::Additions::additions_all))]
 // The additions of the entries of a tree.
+#[tactic(auto, using(crate::proofs::Additions::some_entry, crate::proofs::Additions::entry_step, crate::proofs::Additions::parent_early, crate::proofs::Additions::additions_all))]
 fn items_of(alloc: Global, tree: &Tree) -> Result<Vec<Item>, OutlineFault>
     ensures entries { IfOk result (λ items. items.items ≡ tree_additions tree.now.entries) }
     ensures shallow { IfOk result (λ items. has_deep items.items ≡ false) }
@@ -146,8 +146,8 @@ fn items_of(alloc: Global, tree: &Tree) -> Result<Vec<Item>, OutlineFault>
     Ok(items)
 }
 
-#[tactic(auto, using(crate::proofs::Additions::added_ok))]
 // Adds an entry to a draft.
+#[tactic(auto, using(crate::proofs::Additions::added_ok))]
 fn add_item(draft: &mut Draft, item: Item) -> Result<(), AddFault>
     ensures answer { IsAnswer (room_for_by draft.old.tree.letters draft.old.tree.entries item.path) result }
     ensures tree { OnOk result (draft.new.tree ≡ with_addition_in draft.old.tree item) }

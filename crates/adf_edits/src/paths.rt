@@ -10,8 +10,8 @@ use adf_names::Name;
 /// The most names in a path of an outline: AmigaDOS takes no path of more characters.
 pub const MOST_DEPTH: usize = 255;
 
-#[tactic(auto, using(crate::proofs::SamePaths::same_all, crate::proofs::SamePaths::same_short, crate::proofs::SamePaths::same_not))]
 /// Whether the paths are equal, ignoring the case of `a` to `z`.
+#[tactic(auto, using(crate::proofs::SamePaths::same_all, crate::proofs::SamePaths::same_short, crate::proofs::SamePaths::same_not))]
 pub fn same_path(a: &[Name], b: &[Name]) -> bool
     ensures { result ≡ same_path a.now b.now }
 {

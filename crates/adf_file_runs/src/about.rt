@@ -41,8 +41,8 @@ fn telling_named(word: &str) -> Option<Telling>
     }
 }
 
-#[tactic(auto, unfolding(crate::specs::About::telling_among))]
 // What arguments ask of it.
+#[tactic(auto, unfolding(crate::specs::About::telling_among))]
 fn telling_among(words: &[&str]) -> Option<Telling>
     ensures { result ≡ telling_among (texts_of words.now) }
 {
@@ -68,9 +68,9 @@ pub fn telling_asked(args: &[&str]) -> Option<Telling>
     }
 }
 
-#[tactic(auto, using(crate::proofs::AskedHelp::behind_others, crate::proofs::AskedHelp::none_asked), unfolding(crate::specs::About::telling_among))]
 /// `--help` and `--version` are answered wherever they stand before `--`, so behind each command of the documentation, and no
 /// other arguments are: behind `--` they are names or paths.
+#[tactic(auto, using(crate::proofs::AskedHelp::behind_others, crate::proofs::AskedHelp::none_asked), unfolding(crate::specs::About::telling_among))]
 pub fn help_as_documented()
     ensures help { (name : List ℕ) (before after : List (List ℕ)) → All AsksNothing before
         → telling_asked (name ∷ before ++ codes "--help" ∷ after) ≡ Some Telling.Help }

@@ -26,8 +26,8 @@ impl<'a> Model for Digits<'a> {
 }
 
 impl<'a> Digits<'a> {
-    #[tactic(auto, using(crate::proofs::DigitLaws::digits_of_pairs, crate::proofs::DigitLaws::pairs_of_digits))]
     /// The text as digits; `None` if it is not an even number of digits.
+    #[tactic(auto, using(crate::proofs::DigitLaws::digits_of_pairs, crate::proofs::DigitLaws::pairs_of_digits))]
     pub fn read(text: &'a [u8]) -> Option<Digits<'a>>
         ensures some { IfSome result (λ bytes. text.now ≡ pairs bytes) }
         ensures bytes { IfSome result (All (λ b. b < 256)) }
@@ -41,8 +41,8 @@ impl<'a> Digits<'a> {
         }
     }
 
-    #[tactic(auto, using(crate::proofs::DigitLaws::all_digits))]
     /// Appends the bytes with these digits; if memory is refused, some of them may have been appended.
+    #[tactic(auto, using(crate::proofs::DigitLaws::all_digits))]
     pub fn push_onto(self, bytes: &mut Vec<u8>) -> Result<(), AllocError>
         ensures { IfOk result (λ _. bytes.new.items ≡ bytes.old.items ++ self.entry) }
     {

@@ -185,9 +185,9 @@ pub fn read_manifest(alloc: Global, bytes: &[u8]) -> Result<(Tree, u32), Manifes
     }
 }
 
-#[tactic(auto, using(crate::proofs::TreesOfLines::adding_lines))]
 /// Bytes have one verdict: a manifest has one tree and one number of blocks, and no line with a fault;
 /// other lines have at most one first fault. Adding the entry lines one after another gives the tree.
+#[tactic(auto, using(crate::proofs::TreesOfLines::adding_lines))]
 pub fn one_verdict()
     ensures one_tree { ManifestsAreOfOneTree }
     ensures adding { AddingLinesGivesTheTree }

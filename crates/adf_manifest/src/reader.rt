@@ -260,8 +260,8 @@ fn next_entry(alloc: Global, reading: &mut Reading, line: EntryText) -> Result<(
     }
 }
 
-#[tactic(auto, using(crate::proofs::StateLaws::is_none, crate::proofs::StateLaws::no_runs, crate::proofs::Growth::last_is))]
 // Reads a note line.
+#[tactic(auto, using(crate::proofs::StateLaws::is_none, crate::proofs::StateLaws::no_runs, crate::proofs::Growth::last_is))]
 fn take_note(reading: &mut Reading, text: &[u8]) -> Result<(), ManifestKind>
     requires form { 0 < length text.now }
     ensures lines { (m : Manifest) (e : Entries) → IsWell m → IsReading reading.old m e
@@ -354,8 +354,8 @@ fn line_in_entries(alloc: Global, reading: &mut Reading, line: Line) -> Result<(
     }
 }
 
-#[tactic(auto, using(crate::proofs::StateLaws::bare_lines, crate::proofs::StateLaws::bare_well))]
 /// The state after the first line.
+#[tactic(auto, using(crate::proofs::StateLaws::bare_lines, crate::proofs::StateLaws::bare_well))]
 pub fn first_state(line: &[u8]) -> Result<State, ManifestKind>
     ensures lines { IfOk result (λ s. (m : Manifest) × IsWell m × StateMatches s m
         × (manifest_lines m ≡ line.now ∷ [])) }
@@ -396,8 +396,8 @@ fn finished(alloc: Global, draft: Draft, blocks: u32) -> Result<(Tree, u32), Man
     }
 }
 
-#[tactic(auto, using(crate::proofs::StateLaws::bare_tree))]
 /// The tree and the number of blocks of the lines.
+#[tactic(auto, using(crate::proofs::StateLaws::bare_tree))]
 pub fn finish(alloc: Global, state: State) -> Result<(Tree, u32), ManifestKind>
     requires told { (m : Manifest) × StateMatches state m }
     ensures told { (m : Manifest) → IsWell m → StateMatches state m

@@ -48,8 +48,8 @@ fn has_number_front(text: &[u8]) -> bool
     !text.is_empty() && text[0] != b'+' && (text[0] != b'0' || text.len() == 1)
 }
 
-#[tactic(auto, using(crate::proofs::TokenLaws::one_digit))]
 // Reads one digit as a number.
+#[tactic(auto, using(crate::proofs::TokenLaws::one_digit))]
 fn read_digit(text: &[u8]) -> Option<u32>
     ensures { IfSome result (λ n. text.now ≡ decimal n) }
 {
@@ -59,8 +59,8 @@ fn read_digit(text: &[u8]) -> Option<u32>
     }
 }
 
-#[tactic(auto, using(crate::proofs::TokenLaws::no_number_front, crate::proofs::TokenLaws::number_read))]
 // Reads any number of digits as a number.
+#[tactic(auto, using(crate::proofs::TokenLaws::no_number_front, crate::proofs::TokenLaws::number_read))]
 fn read_digits(text: &[u8]) -> Option<u32>
     ensures some { IfSome result (λ n. text.now ≡ decimal n) }
     ensures none { IfNone result ((n : ℕ) → n < 2 ^ 32 → text.now ≢ decimal n) }

@@ -108,8 +108,8 @@ pub fn append_escaped(out: &mut String, bytes: &[u8]) -> Result<(), NoMemory>
     out.push_str(text.as_str()).map_err(|_| NoMemory)
 }
 
-#[tactic(auto, using(crate::proofs::Spellings::only_spelled))]
 /// A text is the escape form of at most one list of bytes, so `read` inverts `write`.
+#[tactic(auto, using(crate::proofs::Spellings::only_spelled))]
 pub fn spellings_decide()
     ensures { SpellingsDecide }
 {}

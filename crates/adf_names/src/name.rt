@@ -137,8 +137,8 @@ fn are_same(a: &[u8], b: &[u8]) -> bool
     true
 }
 
-#[tactic(auto, using(crate::proofs::EqualNames::same_short, crate::proofs::EqualNames::same_no, crate::proofs::EqualNames::same_yes))]
 // Whether two texts are equal, ignoring the case of these letters.
+#[tactic(auto, using(crate::proofs::EqualNames::same_short, crate::proofs::EqualNames::same_no, crate::proofs::EqualNames::same_yes))]
 fn are_same_by(letters: Letters, a: &[u8], b: &[u8]) -> bool
     ensures { result ≡ bytes_eq (uppers_by letters a.now) (uppers_by letters b.now) }
 {

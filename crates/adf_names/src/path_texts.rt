@@ -48,8 +48,8 @@ impl fmt::Display for PathFault {
 
 impl Error for PathFault {}
 
-#[tactic(auto, using(crate::proofs::PathParts::no_name))]
 // The name whose escape form is the text.
+#[tactic(auto, using(crate::proofs::PathParts::no_name))]
 fn read_name(text: &[u8]) -> Option<Name>
     ensures some { IfSome result (λ n. text.now ≡ escaped n) }
     ensures name { IfSome result IsName }
@@ -66,8 +66,8 @@ fn slash(text: &[u8]) -> Option<usize>
     text.iter().position(|c| *c == b'/')
 }
 
-#[tactic(auto, using(crate::proofs::Positions::cut_at_position, crate::proofs::Positions::uncut_at_none))]
 // The part of a text before the first `/`, and the part after it.
+#[tactic(auto, using(crate::proofs::Positions::cut_at_position, crate::proofs::Positions::uncut_at_none))]
 fn cut(text: &[u8]) -> (&[u8], Option<&[u8]>)
     ensures last { IfNone result.1 (between_slashes text.now ≡ result.0.now ∷ []) }
     ensures more { IfSome result.1 (λ after.
@@ -80,8 +80,8 @@ fn cut(text: &[u8]) -> (&[u8], Option<&[u8]>)
     }
 }
 
-#[tactic(auto, using(crate::proofs::PathParts::name_steps, crate::proofs::PathParts::at_none))]
 // Whether the text is that of a path.
+#[tactic(auto, using(crate::proofs::PathParts::name_steps, crate::proofs::PathParts::at_none))]
 fn has_names(text: &[u8]) -> bool
     requires { 0 < length text.now }
     ensures yes { OnTrue result ((path : List (List ℕ)) × IsPathText text.now path) }
@@ -172,8 +172,8 @@ pub fn write_path(alloc: Global, path: &[Name]) -> Result<String, NoMemory>
     joined(alloc, path).map_err(|_| NoMemory)
 }
 
-#[tactic(auto, using(crate::proofs::PathParts::one_path))]
 /// A text is that of at most one path, so `read_path` inverts `write_path`.
+#[tactic(auto, using(crate::proofs::PathParts::one_path))]
 pub fn path_texts_decide()
     ensures { PathTextsDecide }
 {}

@@ -36,8 +36,8 @@ pub fn some_disk()
     ensures { (bytes : List ℕ) (n : ℕ) → HasListOrFault bytes n }
 {}
 
-#[tactic(auto, using(crate::proofs::SomeReadings::some_reading))]
 /// Every disk has a list of partitions that can be read, which may be empty.
+#[tactic(auto, using(crate::proofs::SomeReadings::some_reading))]
 pub fn some_reading()
     ensures { (bytes : List ℕ) (n : ℕ) → (ps : List Partition) × AreReadable bytes n ps }
 {}
@@ -73,9 +73,9 @@ pub fn tables_are_enough()
         → IsDisk (bytes ++ rest) n t ps }
 {}
 
-#[tactic(auto, using(crate::proofs::FirstBlocks::first_readable))]
 /// The blocks below 65,536 are enough, or all blocks of a disk that has fewer: what follows them changes nothing that is read of
 /// the disk.
+#[tactic(auto, using(crate::proofs::FirstBlocks::first_readable))]
 pub fn first_blocks_are_enough()
     ensures disk { (bytes : List ℕ) (n : ℕ) (t : Tables) (ps : List Partition)
         → IsDisk (take (MOST_TABLES * 512) bytes) n t ps ↔ IsDisk bytes n t ps }
@@ -98,8 +98,8 @@ pub fn length_moves_no_volume()
         → FoundAlike bytes n (find (is_partition_named name) ps) (find (is_partition_named name) qs) }
 {}
 
-#[tactic(auto, using(crate::proofs::VolumesApart::volumes_lie_well))]
 /// The volumes of a disk lie within it, beside its tables and apart from each other.
+#[tactic(auto, using(crate::proofs::VolumesApart::volumes_lie_well))]
 pub fn volumes_lie_apart()
     ensures each { (bytes : List ℕ) (n : ℕ) (t : Tables) (ps : List Partition) → IsDisk bytes n t ps
         → All (VolumeLiesWell n t) ps }

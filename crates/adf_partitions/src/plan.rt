@@ -64,8 +64,8 @@ pub fn table_cylinders(plan: &DiskPlan) -> u32
     ((plan.partitions.len() as u64 + cylinder) / cylinder) as u32
 }
 
-#[tactic(auto, using(crate::proofs::PlanSizes::cylinder_sums))]
 /// The cylinders of the disk.
+#[tactic(auto, using(crate::proofs::PlanSizes::cylinder_sums))]
 pub fn planned_cylinders(plan: &DiskPlan) -> u32
     requires { IsPlan (plan_value plan.now) }
     ensures { result ≡ planned_cylinders (plan_value plan.now) }

@@ -109,8 +109,8 @@ fn part_bytes(plan: &DiskPlan, b: u32, low: u32, partition: &PartitionPlan) -> [
     block
 }
 
-#[tactic(auto, using(crate::proofs::PlanSizes::cylinders_at, crate::proofs::PlanSizes::cylinders_fit))]
 // The rigid disk block and the partition blocks.
+#[tactic(auto, using(crate::proofs::PlanSizes::cylinders_at, crate::proofs::PlanSizes::cylinders_fit))]
 fn written_bytes(alloc: Global, plan: &DiskPlan) -> Result<Vec<u8>, AllocError>
     requires { IsPlan (plan_value plan.now) }
     ensures { IfOk result (λ b. b.items ≡ written_bytes (plan_value plan.now)) }
@@ -124,8 +124,8 @@ fn written_bytes(alloc: Global, plan: &DiskPlan) -> Result<Vec<u8>, AllocError>
     Ok(bytes)
 }
 
-#[tactic(auto, using(crate::proofs::PlannedVolumes::zeros_put))]
 /// Writes the tables of a disk, up to the end of their last cylinder. The volumes belong behind them.
+#[tactic(auto, using(crate::proofs::PlannedVolumes::zeros_put))]
 pub fn write_tables(alloc: Global, plan: &DiskPlan) -> Result<Vec<u8>, AllocError>
     requires { IsPlan (plan_value plan.now) }
     ensures bytes { IfOk result (λ b. b.items ≡ table_bytes (plan_value plan.now)) }
@@ -136,8 +136,8 @@ pub fn write_tables(alloc: Global, plan: &DiskPlan) -> Result<Vec<u8>, AllocErro
     Ok(bytes)
 }
 
-#[tactic(auto, using(crate::proofs::PlannedVolumes::disk_size, crate::proofs::PlannedVolumes::volumes_stand))]
 /// A disk of a plan has the planned partitions, and each volume at its place.
+#[tactic(auto, using(crate::proofs::PlannedVolumes::disk_size, crate::proofs::PlannedVolumes::volumes_stand))]
 pub fn planned_disks()
     // what stands behind the tables does not count
     ensures disk { (plan : PlanValue) (rest : List ℕ) → IsPlan plan

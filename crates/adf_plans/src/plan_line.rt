@@ -65,8 +65,8 @@ fn read_options(text: &[u8]) -> Option<Options>
     }
 }
 
-#[tactic(auto, using(adf_names::proofs::Spellings::only_spelled))]
 // The name of a drive, 1 to 31 bytes, none of them `/` or `:`.
+#[tactic(auto, using(adf_names::proofs::Spellings::only_spelled))]
 fn read_name(word: &[u8]) -> Option<DriveName>
     ensures some { IfSome result (λ name. IsSpelling 31 word.now name × (1 ≤ length name)
         × (list_all is_name_byte name ≡ true)) }

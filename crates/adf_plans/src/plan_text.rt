@@ -83,8 +83,8 @@ fn fault_at(line: usize, kind: TextKind) -> TextFault
     TextFault { line, kind }
 }
 
-#[tactic(auto, using(crate::proofs::TextLines::line_taken, crate::proofs::TextLines::line_added))]
 // The partitions whose lines stand first, and the text behind them.
+#[tactic(auto, using(crate::proofs::TextLines::line_taken, crate::proofs::TextLines::line_added))]
 fn read_lines(alloc: Global, text: &[u8]) -> Result<(Vec<PartitionPlan>, &[u8]), AllocError>
     ensures lines { IfOk result (λ r. AreLines text.now r.0.items r.1.now) }
     ensures stops { IfOk result (λ r. HasNoPartition r.1.now) }
@@ -129,8 +129,8 @@ fn have_volumes(partitions: &[PartitionPlan], cylinder: u64) -> bool
         .all(|partition| has_volume(partition, cylinder))
 }
 
-#[tactic(auto, using(adf_partitions::proofs::PlanSizes::cylinder_sums))]
 // Whether a disk of this plan has fewer blocks than 2^32.
+#[tactic(auto, using(adf_partitions::proofs::PlanSizes::cylinder_sums))]
 fn is_small(plan: &DiskPlan, cylinder: u64) -> bool
     requires positive { 1 ≤ cylinder }
     requires few { length plan.now.partitions.items ≤ MOST_PARTITIONS }

@@ -14,8 +14,8 @@ fn place_of(text: &[u8], byte: u8) -> Option<usize>
     text.iter().position(|c| *c == byte)
 }
 
-#[tactic(auto, using(crate::proofs::Cuts::cuts), unfolding(crate::specs::PlanTexts::before_byte, crate::specs::PlanTexts::behind_byte))]
 /// The bytes before and behind the first byte of this value; all bytes and none, if there is none.
+#[tactic(auto, using(crate::proofs::Cuts::cuts), unfolding(crate::specs::PlanTexts::before_byte, crate::specs::PlanTexts::behind_byte))]
 pub fn cut(text: &[u8], byte: u8) -> (&[u8], &[u8])
     ensures front { result.0.now ≡ before_byte byte text.now }
     ensures rest { result.1.now ≡ behind_byte byte text.now }
@@ -46,8 +46,8 @@ pub fn ends_in_space(line: &[u8]) -> bool
     !line.is_empty() && line[line.len() - 1] == b' '
 }
 
-#[tactic(auto, using(crate::proofs::Cuts::no_room, crate::proofs::Cuts::digit_read, crate::proofs::Cuts::number_done))]
 /// The number of decimal digits, at most `MOST_NUMBER`.
+#[tactic(auto, using(crate::proofs::Cuts::no_room, crate::proofs::Cuts::digit_read, crate::proofs::Cuts::number_done))]
 pub fn read_number(text: &[u8]) -> Option<u32>
     ensures { result ≡ decimal_number text.now }
 {

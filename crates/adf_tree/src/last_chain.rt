@@ -71,8 +71,8 @@ impl LastChain {
         self.slot = slot;
     }
 
-    #[tactic(auto, using(crate::proofs::LastNames::at_ok))]
     // Adds a name; if memory is refused, forgets all of them.
+    #[tactic(auto, using(crate::proofs::LastNames::at_ok))]
     fn put(&mut self, letters: Letters, name: &Name)
         ensures { Puts self.old self.new (uppers_by letters name.now) }
     {
@@ -81,8 +81,8 @@ impl LastChain {
         }
     }
 
-    #[tactic(auto, using(crate::proofs::LastNames::begun, crate::proofs::LastNames::place_past))]
     // Prepares for an entry of this parent and slot: keeps names only if they are those of the last chain.
+    #[tactic(auto, using(crate::proofs::LastNames::begun, crate::proofs::LastNames::place_past))]
     fn prepare(&mut self, letters: Letters, entries: &[Entry], parent: Node, slot: u8)
         requires slot { slot < 72 }
         requires order { IsNonDecreasingBy (rank_by letters) entries.now }

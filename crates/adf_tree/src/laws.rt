@@ -7,14 +7,14 @@ pub fn entries_stand_in_one_chain()
     ensures { EntriesStandInOneChain }
 {}
 
-#[tactic(auto, using(crate::proofs::ChildLookup::same_slot_by))]
 /// Names that are equal ignoring case have the same slot.
+#[tactic(auto, using(crate::proofs::ChildLookup::same_slot_by))]
 pub fn case_keeps_slots()
     ensures { CaseKeepsSlots }
 {}
 
-#[tactic(auto, using(crate::proofs::PathContents::find_uppers_by))]
 /// Paths that are equal ignoring case lead to the same node.
+#[tactic(auto, using(crate::proofs::PathContents::find_uppers_by))]
 pub fn case_keeps_paths()
     ensures { CaseKeepsPaths }
 {}
@@ -24,14 +24,14 @@ pub fn children_are_found()
     ensures { ChildrenAreFound }
 {}
 
-#[tactic(auto, using(crate::proofs::EntryPaths::path_found))]
 /// Each entry is found under its path.
+#[tactic(auto, using(crate::proofs::EntryPaths::path_found))]
 pub fn paths_are_found()
     ensures { PathsAreFound }
 {}
 
-#[tactic(auto, using(crate::proofs::EntryPaths::names_found))]
 /// Each entry is found under its names as written, from the root on.
+#[tactic(auto, using(crate::proofs::EntryPaths::names_found))]
 pub fn names_are_found()
     ensures { NamesAreFound }
 {}

@@ -20,8 +20,8 @@ fn is_child(letters: Letters, e: &Entry, parent: Node, name: &Name) -> bool
     e.parent.0 == parent.0 && e.name.same_by(letters, name)
 }
 
-#[tactic(auto, using(crate::proofs::ChildLookup::child_found_by))]
 // The number of the entry with this parent and this name.
+#[tactic(auto, using(crate::proofs::ChildLookup::child_found_by))]
 fn child(letters: Letters, entries: &[Entry], parent: Node, name: &Name) -> Option<Node>
     requires { IsNonDecreasingBy (rank_by letters) entries.now }
     ensures { result ≡ child_by letters entries.now parent name.now }
@@ -105,8 +105,8 @@ fn directory(letters: Letters, entries: &[Entry], path: &[Name]) -> Result<Node,
     Ok(node)
 }
 
-#[tactic(auto, using(crate::proofs::LastNames::known_child))]
 // Whether an entry has this parent and this name; the last chain needs no scan.
+#[tactic(auto, using(crate::proofs::LastNames::known_child))]
 fn is_taken(
     letters: Letters,
     entries: &[Entry],

@@ -26,8 +26,8 @@ fn hashed(number: u64, word: u64) -> u64
     number.wrapping_mul(FACTOR).wrapping_add(word)
 }
 
-#[tactic(auto, using(crate::proofs::NameKeys::short_name, crate::proofs::NameKeys::next_byte, crate::proofs::NameKeys::whole))]
 // The length of a name, its bytes in upper case, and zeros.
+#[tactic(auto, using(crate::proofs::NameKeys::short_name, crate::proofs::NameKeys::next_byte, crate::proofs::NameKeys::whole))]
 fn padded(name: &[u8]) -> [u8; 32]
     requires { length name.now ≤ 30 }
     ensures bytes { result ≡ padded (uppers name.now) }
@@ -66,8 +66,8 @@ impl NameKey {
         }
     }
 
-    #[tactic(auto, using(adf_names::proofs::RaisedNames::raised_stays))]
     /// The key of a name, in upper case by these letters.
+    #[tactic(auto, using(adf_names::proofs::RaisedNames::raised_stays))]
     #[inline(always)]
     pub fn of_by(letters: Letters, name: &Name) -> NameKey
         ensures key { result ≡ key_of_name (uppers_by letters name.now) }
@@ -79,8 +79,8 @@ impl NameKey {
         }
     }
 
-    #[tactic(auto, unfolding(crate::specs::NameKeys::spread_of))]
     /// A hash of the key: similar keys have hashes far apart.
+    #[tactic(auto, unfolding(crate::specs::NameKeys::spread_of))]
     pub fn spread(self) -> u64
         ensures { result ≡ spread_of self }
     {

@@ -54,8 +54,8 @@ pub enum Probe {
     Full,
 }
 
-#[tactic(auto, unfolding(crate::specs::NameBuckets::first_bucket_in))]
 // The first bucket of a name in a table of `count` buckets.
+#[tactic(auto, unfolding(crate::specs::NameBuckets::first_bucket_in))]
 fn first_bucket(name: NameKey, count: usize) -> usize
     ensures exact { result ≡ first_bucket_in count name }
     ensures within { result ≤ count }
@@ -72,8 +72,8 @@ fn holder(names: &[NameKey], buckets: &[u32], bucket: usize) -> Option<NameKey>
     names.get(place as usize).copied()
 }
 
-#[tactic(auto, using(crate::proofs::NameBuckets::bucket_steps))]
 // Searches the buckets of a name.
+#[tactic(auto, using(crate::proofs::NameBuckets::bucket_steps))]
 fn probe_buckets(names: &[NameKey], buckets: &[u32], name: NameKey) -> Probe
     ensures exact { result ≡ probe_buckets names.now buckets.now name }
     ensures inside { 8 < length buckets.now → (bucket : ℕ) → result ≡ Vacant bucket
@@ -112,8 +112,8 @@ fn probe_of(names: &[NameKey], buckets: &[u32], name: NameKey) -> Probe
     }
 }
 
-#[tactic(auto, using(crate::proofs::NameBuckets::stored_among))]
 // Whether a name has a bucket or is in the overflow.
+#[tactic(auto, using(crate::proofs::NameBuckets::stored_among))]
 fn is_in(names: &[NameKey], buckets: &[u32], overflow: &BTreeSet<NameKey>, name: NameKey) -> bool
     requires { AreStored names.now buckets.now overflow.now.keys }
     ensures { result ≡ is_among (names.now ++ overflow.now.keys) name }
@@ -259,8 +259,8 @@ fn make_room(
 }
 
 impl NameSet {
-    #[tactic(auto, unfolding(crate::specs::NameSet::has))]
     /// The empty set.
+    #[tactic(auto, unfolding(crate::specs::NameSet::has))]
     pub fn new(alloc: Global) -> NameSet
         ensures { (x : List ℕ) → has result x ≡ false }
     {
@@ -278,8 +278,8 @@ impl NameSet {
         self.has_by(Letters::Ascii, name)
     }
 
-    #[tactic(auto, using(crate::proofs::NameKeys::has_key))]
     /// Whether the set has the name, in upper case by these letters.
+    #[tactic(auto, using(crate::proofs::NameKeys::has_key))]
     pub fn has_by(&self, letters: Letters, name: &Name) -> bool
         ensures { result ≡ has self.now (uppers_by letters name.now) }
     {
@@ -306,8 +306,8 @@ impl NameSet {
         place(&mut self.stored, &mut self.buckets, &mut self.overflow, key)
     }
 
-    #[tactic(auto, unfolding(crate::specs::NameSet::has))]
     /// Removes all names, and shrinks the table to 4 buckets for each name that had one (at least 64).
+    #[tactic(auto, unfolding(crate::specs::NameSet::has))]
     pub fn clear(&mut self)
         ensures { (x : List ℕ) → has self.new x ≡ false }
     {

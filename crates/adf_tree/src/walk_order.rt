@@ -78,8 +78,8 @@ fn renumber(entries: &mut [Entry], at: usize)
     renumber_all(&mut entries[at + 1..count], Node(at + 1));
 }
 
-#[tactic(auto, using(crate::proofs::WalkOrder::inserted_mapped, crate::proofs::WalkOrder::written_whole))]
 /// Adds an entry after all entries of the same or a lower parent and slot.
+#[tactic(auto, using(crate::proofs::WalkOrder::inserted_mapped, crate::proofs::WalkOrder::written_whole))]
 pub fn insert_entry(
     letters: Letters,
     entries: &mut Vec<Entry>,
