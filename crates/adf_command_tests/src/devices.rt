@@ -4,7 +4,7 @@ ghost use Rattle.std.specs.Prelude.{◌≡◌, IfOk};
 
 use crate::memory::Given;
 use adf_cmd::{Device, Sink, Source};
-use adf_runs::{SeekingDevice, read_part};
+use adf_runs::{SeekingDevice, read_excerpt};
 use std::io;
 use std::io::{Read, Seek, SeekFrom, Write};
 
@@ -150,7 +150,7 @@ fn parts_are_held(rt: HostRuntime) {
     for (from, to, limit, bytes, len) in PARTS {
         let mut input = Given::new(b"0123456789", usize::MAX);
         assert!(rt; from <= to && to <= limit && *limit < 100);
-        match read_part(rt.alloc(), &mut input, *from, *to, *limit) {
+        match read_excerpt(rt.alloc(), &mut input, *from, *to, *limit) {
             Ok(part) => {
                 assert!(rt; part.bytes.as_slice() == *bytes);
                 assert_eq!(rt; part.len, *len);

@@ -18,7 +18,7 @@ use Rattle.adf_partitions.specs.declared.tables.Tables.{Tables}
 use Rattle.adf_runs.proofs.Endings.{ends_weaker}
 use Rattle.adf_runs.specs.Commands.{Reply, on_output}
 use Rattle.adf_runs.specs.Outcomes.{Blames, DoesOn, EndsBy}
-use Rattle.adf_runs.specs.Streams.{IsPart, Seen}
+use Rattle.adf_runs.specs.Streams.{IsExcerpt, Seen}
 use Rattle.adf_runs.specs.declared.outcome.Outcome.{Outcome}
 
 -- the bytes that count
@@ -35,7 +35,7 @@ pub does_held : {P : List ℕ → Type 0} {answers : List ℕ → Reply → Type
     → Blames w false output.failed → DoesOn answers w input output
 does_held input f h works blames = record { ends = if_some input.before f h; read = works ∙ blames.read; written = blames.written }
 
-module _ (all bytes : List ℕ) (len n : ℕ) (held : IsPart 0 TABLES_LEN (MOST_DISK_BYTES + 1) all bytes len)
+module _ (all bytes : List ℕ) (len n : ℕ) (held : IsExcerpt 0 TABLES_LEN (MOST_DISK_BYTES + 1) all bytes len)
     (blocks : n ≡ min len MOST_DISK_BYTES / 512) where
   first_held : bytes ≡ take TABLES_LEN (disk_of all)
   first_held = held.0 ∙ sym (take-take TABLES_LEN MOST_DISK_BYTES all (omega arith))

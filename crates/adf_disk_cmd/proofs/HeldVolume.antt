@@ -25,7 +25,7 @@ use Rattle.adf_texts.specs.Names.{names_text}
 use Rattle.adf_runs.proofs.Endings.{ends_weaker}
 use Rattle.adf_runs.proofs.KnownBytes.{left_over}
 use Rattle.adf_runs.specs.Outcomes.{EndsBy}
-use Rattle.adf_runs.specs.Streams.{IsPart, TakesFirst}
+use Rattle.adf_runs.specs.Streams.{IsExcerpt, TakesFirst}
 use Rattle.adf_runs.specs.declared.outcome.Outcome.{Outcome}
 use Rattle.adf_file_words.specs.DiskLine.{WantedValue, name, number, volume}
 use Rattle.adf_disk_cmd.proofs.Endings.{disk_ends, refused_ends, told_ends}
@@ -145,7 +145,7 @@ module _ (all tables behind : List ℕ) (q : Place) (len : ℕ) (within : end_of
       let count : length tables ≡ min TABLES_LEN (length all) = ap length held.0 ∙ length-take TABLES_LEN all in
       omega (arith, count, held.1.1)
 
-  tables_part : IsPart 0 TABLES_LEN (MOST_DISK_BYTES + 1) all tables (length tables + len)
+  tables_part : IsExcerpt 0 TABLES_LEN (MOST_DISK_BYTES + 1) all tables (length tables + len)
   tables_part =
       let count : length tables ≡ min TABLES_LEN (length all) = ap length held.0 ∙ length-take TABLES_LEN all in
       (held.0, omega (arith, count, held.1.1, length-drop TABLES_LEN all))
@@ -184,14 +184,14 @@ module _ (all tables behind : List ℕ) (q : Place) (len : ℕ) (within : end_of
 
 -- the part behind the tables is read of what is left of all
 pub parts_read : (a b : Option (List ℕ)) (tables behind : List ℕ) (q : Place) (from to len : ℕ) → TakesFirst TABLES_LEN a b tables
-    → IfSome b (λ rest. IsPart from to (MOST_DISK_BYTES - TABLES_LEN + 1) rest behind len)
+    → IfSome b (λ rest. IsExcerpt from to (MOST_DISK_BYTES - TABLES_LEN + 1) rest behind len)
     → from ≡ q.first * 512 - TABLES_LEN → to ≡ end_of q * 512 - TABLES_LEN → IfSome a (λ all. HoldsVolume all tables q behind len)
 parts_read None b tables behind q from to len h g e f = tt
 parts_read (Some all) None tables behind q from to len h g e f = absurd h.1
 parts_read (Some all) (Some rest) tables behind q from to len h g e f =
     let left = left_over TABLES_LEN all rest tables h in
-    let there = subst (λ (l : List ℕ). IsPart from to (MOST_DISK_BYTES - TABLES_LEN + 1) l behind len) left g in (
+    let there = subst (λ (l : List ℕ). IsExcerpt from to (MOST_DISK_BYTES - TABLES_LEN + 1) l behind len) left g in (
       h.0,
-      subst (λ (k : ℕ). IsPart k (end_of q * 512 - TABLES_LEN) (MOST_DISK_BYTES - TABLES_LEN + 1) (drop TABLES_LEN all) behind len) e
-          (subst (λ (k : ℕ). IsPart from k (MOST_DISK_BYTES - TABLES_LEN + 1) (drop TABLES_LEN all) behind len) f there),
+      subst (λ (k : ℕ). IsExcerpt k (end_of q * 512 - TABLES_LEN) (MOST_DISK_BYTES - TABLES_LEN + 1) (drop TABLES_LEN all) behind len) e
+          (subst (λ (k : ℕ). IsExcerpt from k (MOST_DISK_BYTES - TABLES_LEN + 1) (drop TABLES_LEN all) behind len) f there),
     )

@@ -10,7 +10,7 @@ use Rattle.adf_partitions.specs.declared.place.Place.{Place}
 use Rattle.adf_partitions.specs.declared.place.PlaceFault.{PlaceFault}
 use Rattle.adf_partitions.specs.declared.tables.Tables.{Tables}
 use Rattle.adf_runs.specs.Commands.{Reply, on_output}
-use Rattle.adf_runs.specs.Streams.{IsPart}
+use Rattle.adf_runs.specs.Streams.{IsExcerpt}
 use Rattle.adf_file_words.specs.DiskLine.{DiskRequestValue, WantedValue, check, list, name, number, survey, volume}
 use Rattle.adf_disk_cmd.specs.Answers.{TellsReadable, disk_fault_line, no_partition_text, wanted_of}
 use Rattle.adf_disk_cmd.specs.Builds.{refusal}
@@ -54,7 +54,7 @@ IsSoughtPlace bytes w q =
 abbrev pub HoldsVolume : List ℕ → List ℕ → Place → List ℕ → ℕ → Type 0
 HoldsVolume all tables q behind len =
     (tables ≡ take TABLES_LEN all)
-    × IsPart (q.first * 512 - TABLES_LEN) (end_of q * 512 - TABLES_LEN) (MOST_DISK_BYTES - TABLES_LEN + 1) (drop TABLES_LEN all) behind len
+    × IsExcerpt (q.first * 512 - TABLES_LEN) (end_of q * 512 - TABLES_LEN) (MOST_DISK_BYTES - TABLES_LEN + 1) (drop TABLES_LEN all) behind len
 
 -- these bytes of a volume, or what is wrong with its partition
 abbrev pub held_place_reply : List ℕ → Result Place PlaceFault → Reply

@@ -14,7 +14,7 @@ use crate::volumes::volume_at;
 use crate::work::{MOST_DISK_BYTES, Sought, partition_sought, refuse_sought};
 use adf_base::NoMemory;
 use adf_partitions::{Disk, DiskCause, Partition, Place, stated_place};
-use adf_runs::{Outcome, Part, Sink, Source, read_first, read_part};
+use adf_runs::{Excerpt, Outcome, Sink, Source, read_excerpt, read_first};
 use std::alloc::Global;
 
 /// The most blocks of a disk.
@@ -49,16 +49,20 @@ fn sought_place(alloc: Global, tables: &[u8], sought: &Sought) -> Result<Place, 
 
 /// What is held of a disk of which one volume is written.
 #[derive(Drop)]
-struct Held {
+struct HeldVolume {
     tables: Vec<u8>,
     /// Where the volume lies.
     place: Place,
     /// The bytes of the volume after the tables, and how many bytes there are in all.
-    behind: Part,
+    behind: Excerpt,
 }
 
 // Reads the tables, and of what is behind them the bytes of the volume that is sought.
-fn read_volume<R: Source>(alloc: Global, input: &mut R, sought: &Sought) -> Result<Held, Outcome>
+fn read_volume<R: Source>(
+    alloc: Global,
+    input: &mut R,
+    sought: &Sought,
+) -> Result<HeldVolume, Outcome>
     requires { R.has_failed input.old ≡ false }
     ensures held { IfOk result (λ held. IfSome (R.left input.old)
         (λ all. HoldsVolume all held.tables.items held.place held.behind.bytes.items held.behind.len)) }
@@ -80,8 +84,8 @@ fn read_volume<R: Source>(alloc: Global, input: &mut R, sought: &Sought) -> Resu
     let first = place.first as usize * 512;
     let from = first.saturating_sub(TABLES_LEN);
     let to = (first + place.blocks as usize * 512).saturating_sub(TABLES_LEN);
-    match read_part(alloc, input, from, to, MOST_DISK_BYTES - TABLES_LEN) {
-        Ok(behind) => Ok(Held {
+    match read_excerpt(alloc, input, from, to, MOST_DISK_BYTES - TABLES_LEN) {
+        Ok(behind) => Ok(HeldVolume {
             tables,
             place,
             behind,
@@ -113,7 +117,7 @@ fn write_held<W: Sink>(
 }
 
 // Writes the volume that is sought, or says why there is none.
-fn copy_held<W: Sink>(alloc: Global, held: &Held, sought: &Sought, output: &mut W) -> Outcome
+fn copy_held<W: Sink>(alloc: Global, held: &HeldVolume, sought: &Sought, output: &mut W) -> Outcome
     requires works { W.has_failed output.old ≡ false }
     requires within { end_of held.now.place ≤ MOST_DISK_BLOCKS }
     ensures ends { (all : List ℕ)

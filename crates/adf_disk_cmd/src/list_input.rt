@@ -4,14 +4,14 @@ ghost use Rattle.std.specs.Prelude.{◌≡◌, ◌+◌, ◌/◌, List, ℕ, fals
 ghost use Rattle.adf_disk_cmd.specs.Answers.{DiskAnswer};
 ghost use Rattle.adf_disk_cmd.specs.Work.{TellsFault, listing_request};
 ghost use Rattle.adf_runs.specs.Outcomes.{Blames, Does, DoesOn, EndsBy, is_read_fault};
-ghost use Rattle.adf_runs.specs.Streams.{IsPart, TakesAtMost, seen};
+ghost use Rattle.adf_runs.specs.Streams.{IsExcerpt, TakesAtMost, seen};
 
 use crate::listing::write_list;
 use crate::surveying::write_readable;
 use crate::work::MOST_DISK_BYTES;
 use adf_base::BLOCK_LEN;
 use adf_partitions::{Disk, DiskCause, DiskFault, MOST_TABLES};
-use adf_runs::{Outcome, Part, Sink, Source, read_part};
+use adf_runs::{Excerpt, Outcome, Sink, Source, read_excerpt};
 use std::alloc::Global;
 
 /// The bytes of the blocks that may have tables.
@@ -47,10 +47,10 @@ pub fn write_fault<W: Sink>(
 }
 
 // Lists the partitions of a disk of which the tables are held.
-fn list_part<W: Sink>(alloc: Global, held: &Part, survey: bool, output: &mut W) -> Outcome
+fn list_part<W: Sink>(alloc: Global, held: &Excerpt, survey: bool, output: &mut W) -> Outcome
     requires { W.has_failed output.old ≡ false }
     ensures ends { (all : List ℕ)
-        → IsPart 0 TABLES_LEN (MOST_DISK_BYTES + 1) all held.now.bytes.items held.now.len
+        → IsExcerpt 0 TABLES_LEN (MOST_DISK_BYTES + 1) all held.now.bytes.items held.now.len
         → EndsBy (DiskAnswer (listing_request survey) all) result (W.held output.old) (W.held output.new) }
     ensures blames { Blames result false (W.has_failed output.new) }
 {
@@ -79,7 +79,7 @@ pub fn list_input<R: Source, W: Sink>(
     ensures unwritten { is_read_fault result ≡ true → output.new ≡ output.old }
     ensures at_most { TakesAtMost (MOST_DISK_BYTES + 1) (R.left input.old) (R.left input.new) }
 {
-    match read_part(alloc, input, 0, TABLES_LEN, MOST_DISK_BYTES) {
+    match read_excerpt(alloc, input, 0, TABLES_LEN, MOST_DISK_BYTES) {
         Ok(held) => list_part(alloc, &held, survey, output),
         Err(fault) => Outcome::after_reading(fault),
     }

@@ -14,7 +14,7 @@ ghost use Rattle.adf_findings.specs.Found.{IsBitOf, IsCompleted, IsFinished, Has
 
 use crate::finding::Finding;
 use crate::found::Found;
-use crate::image::Image;
+use crate::image::SizedImage;
 use crate::progress::note;
 use adf_base::NoMemory;
 use adf_blocks::{
@@ -23,14 +23,14 @@ use adf_blocks::{
 use std::collections::BTreeMap;
 
 /// Whether the bitmap flag of the root is that of a valid bitmap.
-pub fn is_validated(image: &Image<'_>) -> bool
+pub fn is_validated(image: &SizedImage<'_>) -> bool
     ensures { IsTrue result ↔ IsValidated image.now }
 {
     image.word(image.root(), BITMAP_FLAG) == VALID
 }
 
 // Whether a bit of the page at block `at` is set.
-fn is_bit_set(image: &Image<'_>, at: u32, bit: u32) -> bool
+fn is_bit_set(image: &SizedImage<'_>, at: u32, bit: u32) -> bool
     requires { bit < PAGE_BITS }
     ensures { IsTrue result ↔ IsFreeAt image.now at bit }
 {
@@ -46,7 +46,12 @@ pub fn page_at(pages: &BTreeMap<u32, u32>, i: u32) -> Option<u32>
 }
 
 /// A bit of a page; `None` if the page was not taken.
-pub fn bit_of(image: &Image<'_>, pages: &BTreeMap<u32, u32>, page: u32, bit: u32) -> Option<bool>
+pub fn bit_of(
+    image: &SizedImage<'_>,
+    pages: &BTreeMap<u32, u32>,
+    page: u32,
+    bit: u32,
+) -> Option<bool>
     requires { bit < PAGE_BITS }
     ensures { IsBitOf image.now pages.now page bit result }
 {
@@ -58,7 +63,7 @@ pub fn bit_of(image: &Image<'_>, pages: &BTreeMap<u32, u32>, page: u32, bit: u32
 
 // The block of the page that has word `i` of the bitmap, if its bits are compared; that of the word before, if they have
 // one page.
-fn page_of(image: &Image<'_>, found: &Found, i: u32, before: Option<u32>) -> Option<u32>
+fn page_of(image: &SizedImage<'_>, found: &Found, i: u32, before: Option<u32>) -> Option<u32>
     requires before { (i % PAGE_WORDS ≡ 0 → ⊥)
         → IsPageCompared image.now found.now.pages (2 + 32 * i) before }
     ensures { IsPageCompared image.now found.now.pages (2 + 32 * i) result }
@@ -74,14 +79,14 @@ fn page_of(image: &Image<'_>, found: &Found, i: u32, before: Option<u32>) -> Opt
 }
 
 // Whether a block says that it is a directory cache, on a volume that has them.
-fn is_cache(image: &Image<'_>, b: u32) -> bool
+fn is_cache(image: &SizedImage<'_>, b: u32) -> bool
     ensures { result ≡ is_cache image.now b }
 {
     image.has_caches() && image.word(b, TYPE) == T_DIR_CACHE && image.word(b, OWN_KEY) == b
 }
 
 // Whether a block without an owner has an excuse: it was skipped, or is a directory cache.
-fn is_excused(image: &Image<'_>, found: &Found, b: u32) -> bool
+fn is_excused(image: &SizedImage<'_>, found: &Found, b: u32) -> bool
     ensures { result ≡ (slice_index_or found.now.skipped.items b false || is_cache image.now b) }
 {
     found.skipped.get(b as usize).copied().unwrap_or(false) || is_cache(image, b)
@@ -89,7 +94,7 @@ fn is_excused(image: &Image<'_>, found: &Found, b: u32) -> bool
 
 // The cause of the bit of block `b` if it disagrees: in use without an owner and without an excuse, or owned and free.
 fn bit_cause(
-    image: &Image<'_>,
+    image: &SizedImage<'_>,
     found: &Found,
     b: u32,
     is_owned: bool,
@@ -128,7 +133,7 @@ fn agree(found: &Found, first: u32, end: u32, word: u32) -> bool
 
 // Compares the bit of block `b`, and tells of it if it disagrees.
 fn compare_bit(
-    image: &Image<'_>,
+    image: &SizedImage<'_>,
     found: &Found,
     findings: &mut Vec<Finding>,
     b: u32,
@@ -155,7 +160,7 @@ fn compare_bit(
 
 // Compares the bits of word `i` of the bitmap, whose page is at a block, with the owners of its blocks.
 fn compare_word(
-    image: &Image<'_>,
+    image: &SizedImage<'_>,
     found: &Found,
     findings: &mut Vec<Finding>,
     page: Option<u32>,
@@ -186,7 +191,7 @@ fn compare_word(
 /// If the bitmap is valid, compares the bit of each block with its owner. Skips a block if its page was not taken, or
 /// if it has no owner and was skipped or is a directory cache.
 pub fn compare(
-    image: &Image<'_>,
+    image: &SizedImage<'_>,
     found: &Found,
     findings: &mut Vec<Finding>,
 ) -> Result<(), NoMemory>

@@ -17,7 +17,7 @@ ghost use Rattle.adf_findings.specs.Courses.{due_below, due_in, end_in, next_in,
 
 use crate::finding::Finding;
 use crate::forms::Context;
-use crate::image::Image;
+use crate::image::SizedImage;
 use crate::judge::{Facts, Judgement, judge};
 use crate::progress::{Progress, note};
 use adf_base::NoMemory;
@@ -90,7 +90,7 @@ fn of_part(part: Part, block: u32, cause: Cause) -> Finding
 // Judges the part that is next. The name of a header that is to be taken is kept.
 #[inline(always)]
 fn judge_named(
-    image: &Image<'_>,
+    image: &SizedImage<'_>,
     progress: &mut Progress,
     part: Part,
     reference: &Reference,
@@ -127,7 +127,7 @@ fn judge_named(
 // Judges the part that is next and tells its cause. Returns the part if it is to be taken, `None` if skipped.
 #[inline(always)]
 fn judge_next(
-    image: &Image<'_>,
+    image: &SizedImage<'_>,
     progress: &mut Progress,
     reference: &Reference,
 ) -> Result<Option<Part>, NoMemory>
@@ -158,7 +158,7 @@ fn judge_next(
 // Judges and takes a part that word `i` of block `holder` points to; returns its block, `None` if it is skipped.
 #[inline(always)]
 fn go_on(
-    image: &Image<'_>,
+    image: &SizedImage<'_>,
     progress: &mut Progress,
     due: Due,
     holder: u32,
@@ -213,7 +213,7 @@ fn map_ext_word(page: u32) -> usize
 // if that is skipped.
 #[tactic(auto, using(crate::proofs::MapPlaces::map_ext_named, crate::proofs::MapPlaces::map_ext_on))]
 fn holder_of(
-    image: &Image<'_>,
+    image: &SizedImage<'_>,
     progress: &mut Progress,
     page: u32,
     before: u32,
@@ -233,7 +233,7 @@ fn holder_of(
 }
 
 // Visits the pages of the bitmap and the bitmap extension blocks.
-fn go_through_map(image: &Image<'_>, progress: &mut Progress) -> Result<(), NoMemory>
+fn go_through_map(image: &SizedImage<'_>, progress: &mut Progress) -> Result<(), NoMemory>
     requires { HasReachedPage image.now progress.old 0 (root_of image.now) }
     ensures { OnOk result (HasReached image.now progress.new (before_node 0)) }
 {
@@ -251,7 +251,7 @@ fn go_through_map(image: &Image<'_>, progress: &mut Progress) -> Result<(), NoMe
 
 // Visits the chain of a slot of a directory.
 fn go_through_chain(
-    image: &Image<'_>,
+    image: &SizedImage<'_>,
     progress: &mut Progress,
     parent: u32,
     slot: u8,
@@ -284,7 +284,7 @@ fn go_through_chain(
 // Visits the chains of the directory at block `b`.
 #[tactic(auto, using(crate::proofs::CoursePlaces::slot_empty))]
 fn go_through_dir(
-    image: &Image<'_>,
+    image: &SizedImage<'_>,
     progress: &mut Progress,
     node: u32,
     b: u32,
@@ -302,7 +302,7 @@ fn go_through_dir(
 
 // Visits the extension blocks of a file, with its header at block `b`; returns how many are taken.
 fn go_through_exts(
-    image: &Image<'_>,
+    image: &SizedImage<'_>,
     progress: &mut Progress,
     node: u32,
     b: u32,
@@ -325,7 +325,7 @@ fn go_through_exts(
 }
 
 // The block of the table that points to data block `k + 1` of a file; `before` points to data block `k`.
-fn table_block(image: &Image<'_>, table: &FileTable, k: u32, before: u32) -> u32
+fn table_block(image: &SizedImage<'_>, table: &FileTable, k: u32, before: u32) -> u32
     ensures { result ≡ table_block_in image.now table.now k before }
 {
     if k as usize % POINTERS != 0 {
@@ -338,7 +338,7 @@ fn table_block(image: &Image<'_>, table: &FileTable, k: u32, before: u32) -> u32
 }
 
 // The pointer to data block `k + 1` of a file, and 0 past the last; `before` points to data block `k`.
-fn next_data(image: &Image<'_>, table: &FileTable, k: u32, before: u32) -> u32
+fn next_data(image: &SizedImage<'_>, table: &FileTable, k: u32, before: u32) -> u32
     ensures { result ≡ next_in image.now table.now k before }
 {
     if k >= table.count {
@@ -374,7 +374,7 @@ fn table_end(table: &FileTable, m: u32) -> u32
 // Judges data block `k + 1` of an FFS file, which block `holder` points to, and takes it or not.
 #[inline(never)]
 fn go_on_ffs(
-    image: &Image<'_>,
+    image: &SizedImage<'_>,
     progress: &mut Progress,
     table: &FileTable,
     k: u32,
@@ -400,7 +400,7 @@ fn go_on_ffs(
 
 // Visits the data blocks of an FFS file with enough extension blocks that a block of its table points to.
 fn go_through_ffs_table(
-    image: &Image<'_>,
+    image: &SizedImage<'_>,
     progress: &mut Progress,
     table: &FileTable,
     member: &Member,
@@ -430,7 +430,7 @@ fn go_through_ffs_table(
 
 // Visits the data blocks of a file that a block of its table points to.
 fn go_through_any_table(
-    image: &Image<'_>,
+    image: &SizedImage<'_>,
     progress: &mut Progress,
     table: &FileTable,
     member: &Member,
@@ -459,7 +459,7 @@ fn go_through_any_table(
 }
 
 // Whether the file is one of FFS with enough extension blocks.
-fn is_whole_ffs(image: &Image<'_>, table: &FileTable) -> bool
+fn is_whole_ffs(image: &SizedImage<'_>, table: &FileTable) -> bool
     ensures kind { IsTrue result → kind_of image.now ≡ Ffs }
     ensures whole { IsTrue result → table.now.count ≤ table.now.room }
 {
@@ -471,7 +471,7 @@ fn is_whole_ffs(image: &Image<'_>, table: &FileTable) -> bool
 
 // Visits the data blocks of a file that a block of its table points to.
 fn go_through_table(
-    image: &Image<'_>,
+    image: &SizedImage<'_>,
     progress: &mut Progress,
     table: &FileTable,
     member: &Member,
@@ -492,7 +492,7 @@ fn go_through_table(
 
 // Visits the data blocks of a file, with its header at block `b` and this many extension blocks.
 fn go_through_datas(
-    image: &Image<'_>,
+    image: &SizedImage<'_>,
     progress: &mut Progress,
     node: u32,
     b: u32,
@@ -526,7 +526,11 @@ fn go_through_datas(
 }
 
 // Visits the parts of a node: the chains of a directory, or the blocks of a file.
-fn go_through_node(image: &Image<'_>, progress: &mut Progress, node: u32) -> Result<(), NoMemory>
+fn go_through_node(
+    image: &SizedImage<'_>,
+    progress: &mut Progress,
+    node: u32,
+) -> Result<(), NoMemory>
     requires some { node < length progress.old.found.nodes.items }
     requires at { HasReached image.now progress.old (before_node node) }
     ensures { OnOk result (HasReached image.now progress.new (before_node (node + 1))) }
@@ -545,7 +549,7 @@ fn go_through_node(image: &Image<'_>, progress: &mut Progress, node: u32) -> Res
 
 /// Visits the parts of a volume, until none is next.
 #[tactic(auto, using(crate::proofs::CoursePlaces::nodes_end))]
-pub fn run(image: &Image<'_>, progress: &mut Progress) -> Result<(), NoMemory>
+pub fn run(image: &SizedImage<'_>, progress: &mut Progress) -> Result<(), NoMemory>
     requires { HasReachedPage image.now progress.old 0 (root_of image.now) }
     ensures { OnOk result (IsFinished image.now progress.new.found (noted progress.new)) }
 {

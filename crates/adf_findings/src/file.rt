@@ -6,7 +6,7 @@ ghost use Rattle.adf_blocks.specs.declared.layout.TheConstants.{SIZE};
 ghost use Rattle.adf_volume.specs.Image.{kind_of, pieces, word_in};
 ghost use Rattle.adf_findings.specs.Files.{HasItsBlocks, file_content, file_from, names_from};
 
-use crate::image::Image;
+use crate::image::SizedImage;
 use adf_base::NoMemory;
 use adf_blocks::{EXTENSION, FIRST_POINTER, POINTERS, SIZE};
 use adf_tree::Kind;
@@ -41,7 +41,7 @@ impl<'i> Model for SoundFile<'i> {
 // The first `count` pointers to data blocks in the table of the file with its header at block `head`.
 fn named_blocks(
     alloc: Global,
-    image: &Image<'_>,
+    image: &SizedImage<'_>,
     head: u32,
     count: u32,
 ) -> Result<Vec<u32>, NoMemory>
@@ -66,7 +66,11 @@ fn named_blocks(
 impl<'i> SoundFile<'i> {
     // The file with its header at a block.
     #[tactic(auto, using(crate::proofs::SoundFiles::names_none))]
-    pub(crate) fn at(alloc: Global, image: &Image<'i>, head: u32) -> Result<SoundFile<'i>, NoMemory>
+    pub(crate) fn at(
+        alloc: Global,
+        image: &SizedImage<'i>,
+        head: u32,
+    ) -> Result<SoundFile<'i>, NoMemory>
         requires { HasItsBlocks (file_from image.now head) }
         ensures file { IfOk result (λ f. f ≡ file_from image.now head) }
         ensures empty { (file_from image.now head).blocks ≡ [] → IsOk result }

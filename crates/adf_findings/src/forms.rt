@@ -9,7 +9,7 @@ ghost use Rattle.adf_findings.specs.Demands.{head_form_in};
 ghost use Rattle.adf_findings.specs.Forms.{form_of, itself_by};
 ghost use Rattle.adf_volume.specs.Parts.{role_of};
 
-use crate::image::Image;
+use crate::image::SizedImage;
 use adf_base::Block;
 use adf_blocks::{
     Cause, HeadPlace, OWN_KEY, PARENT, SIZE, T_DATA, TYPE, chunk_len, has_data_words, has_ext_type,
@@ -27,7 +27,7 @@ pub struct Context {
 
 // The first cause of block `b` in the form of data block `number` of a file.
 #[tactic(auto, unfolding(adf_blocks::specs::Sizes::chunk))]
-fn cause_of_data(image: &Image<'_>, number: u32, b: u32, context: Context) -> Option<Cause>
+fn cause_of_data(image: &SizedImage<'_>, number: u32, b: u32, context: Context) -> Option<Cause>
     requires { b < blocks image.now }
     ensures { result ≡ first_cause (form_of image.now (Part.Data 0 number) b context) }
 {
@@ -44,7 +44,7 @@ fn cause_of_data(image: &Image<'_>, number: u32, b: u32, context: Context) -> Op
 }
 
 // The first cause of block `b` in the form of a header in the chain of a slot.
-fn cause_of_head(image: &Image<'_>, slot: u8, b: u32, up: u32) -> Option<Cause>
+fn cause_of_head(image: &SizedImage<'_>, slot: u8, b: u32, up: u32) -> Option<Cause>
     requires { b < blocks image.now }
     ensures { result
         ≡ first_cause (head_form_in image.now (kind_of image.now) b up slot (block image.now b)) }
@@ -63,7 +63,7 @@ fn cause_of_head(image: &Image<'_>, slot: u8, b: u32, up: u32) -> Option<Cause>
 
 /// The first cause of block `b` in the form of the part.
 #[inline(always)]
-pub fn first_cause(image: &Image<'_>, part: Part, b: u32, context: Context) -> Option<Cause>
+pub fn first_cause(image: &SizedImage<'_>, part: Part, b: u32, context: Context) -> Option<Cause>
     requires { b < blocks image.now }
     ensures { result ≡ first_cause (form_of image.now part b context) }
 {
@@ -90,7 +90,7 @@ fn is_keyed(b: &Block<'_>, own: u32, up: u32) -> bool
 }
 
 // Whether the fields of block `b` identify it as data block `number` of a file.
-fn is_data_itself(image: &Image<'_>, number: u32, b: u32, context: Context) -> bool
+fn is_data_itself(image: &SizedImage<'_>, number: u32, b: u32, context: Context) -> bool
     requires { b < blocks image.now }
     ensures { result
         ≡ itself_by (role_of (Part.Data 0 number))
@@ -109,7 +109,7 @@ fn is_data_itself(image: &Image<'_>, number: u32, b: u32, context: Context) -> b
 
 /// Whether the fields of block `b` identify it as the part; for a page, whether its form holds.
 #[inline(always)]
-pub fn is_itself(image: &Image<'_>, part: Part, b: u32, context: Context) -> bool
+pub fn is_itself(image: &SizedImage<'_>, part: Part, b: u32, context: Context) -> bool
     requires { b < blocks image.now }
     ensures { result ≡ itself_by (role_of part) (form_of image.now part b context) }
 {

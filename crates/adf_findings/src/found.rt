@@ -14,7 +14,7 @@ ghost use Rattle.adf_findings.specs.Found.{begun_marks, is_owned, known_at, new_
 ghost use Rattle.adf_findings.specs.Survey.{begun};
 
 use crate::header_name::valid_name;
-use crate::image::Image;
+use crate::image::SizedImage;
 use crate::walk_owners::WalkOwners;
 use adf_base::NoMemory;
 use adf_tree::NameSet;
@@ -66,7 +66,7 @@ fn begin_marks(marks: &mut Vec<bool>, count: usize) -> Result<(), NoMemory>
 impl Found {
     /// The state with nothing but the root.
     #[tactic(auto, using(crate::proofs::Begun::stands_begun))]
-    pub fn begin(alloc: Global, image: &Image<'_>) -> Result<Found, NoMemory>
+    pub fn begin(alloc: Global, image: &SizedImage<'_>) -> Result<Found, NoMemory>
         ensures stands { IfOk result (λ f. Stands image.now f (begun image.now [])) }
         ensures few { blocks image.now ≤ 1048576 }
         ensures left { IfOk result (λ f. f.left + 1 ≡ blocks image.now) }
@@ -143,7 +143,12 @@ impl Found {
     // Keeps the name of a header.
     #[inline(never)]
     #[tactic(auto, using(crate::proofs::Known::kept_none, std::proofs::lemmas::Bool::false_from_ne_true))]
-    fn keep_header_name(&mut self, image: &Image<'_>, part: Part, b: u32) -> Result<bool, NoMemory>
+    fn keep_header_name(
+        &mut self,
+        image: &SizedImage<'_>,
+        part: Part,
+        b: u32,
+    ) -> Result<bool, NoMemory>
         requires { b < blocks image.now }
         ensures new { IfOk result (λ t. (w : Walk)
             → AreNamed image.now w (position_of (role_of part)) self.old.names → IsChain w part
@@ -163,7 +168,12 @@ impl Found {
 
     /// Keeps the name of a header that is to be taken, if it is valid. Returns whether it is new in its chain.
     #[inline(always)]
-    pub fn keep_name(&mut self, image: &Image<'_>, part: Part, b: u32) -> Result<bool, NoMemory>
+    pub fn keep_name(
+        &mut self,
+        image: &SizedImage<'_>,
+        part: Part,
+        b: u32,
+    ) -> Result<bool, NoMemory>
         requires { b < blocks image.now }
         ensures new { IfOk result (λ t. (w : Walk)
             → AreNamed image.now w (position_of (role_of part)) self.old.names → IsChain w part

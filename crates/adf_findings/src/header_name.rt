@@ -6,7 +6,7 @@ ghost use Rattle.adf_blocks.specs.declared.layout.TheConstants.{NAME};
 ghost use Rattle.adf_names.specs.Texts.{is_name};
 ghost use Rattle.adf_volume.specs.Image.{name_of};
 
-use crate::image::Image;
+use crate::image::SizedImage;
 use adf_base::Block;
 use adf_blocks::NAME;
 use adf_tree::Name;
@@ -22,7 +22,7 @@ pub fn name_in<'b>(head: &Block<'b>) -> &'b [u8]
 
 // The name of the header at block `b`.
 #[tactic(auto, using(crate::proofs::Names::cut_name))]
-fn name_at<'a>(image: &Image<'a>, b: u32) -> &'a [u8]
+fn name_at<'a>(image: &SizedImage<'a>, b: u32) -> &'a [u8]
     requires { b < blocks image.now }
     ensures { result.now ≡ name_of image.now b }
 {
@@ -31,7 +31,7 @@ fn name_at<'a>(image: &Image<'a>, b: u32) -> &'a [u8]
 }
 
 /// The name of the header at block `b`; `None` if it is not valid.
-pub fn valid_name(image: &Image<'_>, b: u32) -> Option<Name>
+pub fn valid_name(image: &SizedImage<'_>, b: u32) -> Option<Name>
     requires { b < blocks image.now }
     ensures valid { IsSome result ↔ (is_name (name_of image.now b) ≡ true) }
     ensures name { IfSome result (λ n. n ≡ name_of image.now b) }

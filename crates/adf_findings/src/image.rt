@@ -17,13 +17,13 @@ use std::marker::Model;
 
 /// An image of whole blocks, their number allowed.
 #[derive(Drop)]
-pub struct Image<'a> {
+pub struct SizedImage<'a> {
     bytes: &'a [u8],
     kind: Kind,
     blocks: u32,
 }
 
-impl<'a> Model for Image<'a> {
+impl<'a> Model for SizedImage<'a> {
     ghost use Rattle.std.specs.Prelude.{◌≡◌, List, ℕ};
     ghost use Rattle.adf_findings.specs.Start.{IsSized};
 
@@ -34,13 +34,13 @@ impl<'a> Model for Image<'a> {
     ghost invariant = { λ i. IsSized i.bytes.now i.kind i.blocks };
 }
 
-impl<'a> Image<'a> {
+impl<'a> SizedImage<'a> {
     // The image, with its kind and its number of blocks.
-    pub fn new(bytes: &'a [u8], kind: Kind, blocks: u32) -> Image<'a>
+    pub fn new(bytes: &'a [u8], kind: Kind, blocks: u32) -> SizedImage<'a>
         requires { IsSized bytes.now kind blocks }
         ensures { result ≡ bytes.now }
     {
-        Image {
+        SizedImage {
             bytes,
             kind,
             blocks,

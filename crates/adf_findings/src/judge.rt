@@ -7,7 +7,7 @@ ghost use Rattle.adf_findings.specs.Forms.{first_failing, form_of, judged_by, ke
 ghost use Rattle.adf_blocks.specs.Sizes.{in_range};
 
 use crate::forms::{Context, first_cause, is_itself};
-use crate::image::Image;
+use crate::image::SizedImage;
 use adf_blocks::Cause;
 use adf_volume::Part;
 
@@ -30,7 +30,7 @@ pub struct Facts {
 
 // The first cause of a part in block `b`, which `holder` points to, and the block of the cause, if its name is new.
 fn first_failing(
-    image: &Image<'_>,
+    image: &SizedImage<'_>,
     part: Part,
     holder: u32,
     b: u32,
@@ -52,7 +52,7 @@ fn first_failing(
 }
 
 // Whether block `b` is in range, has no owner, and identifies itself as the part.
-fn is_kept(image: &Image<'_>, part: Part, b: u32, facts: &Facts) -> bool
+fn is_kept(image: &SizedImage<'_>, part: Part, b: u32, facts: &Facts) -> bool
     ensures { result ≡ keeps image.now part b facts.now }
 {
     b >= 2 && b < image.blocks() && facts.is_absent && is_itself(image, part, b, facts.context)
@@ -60,7 +60,7 @@ fn is_kept(image: &Image<'_>, part: Part, b: u32, facts: &Facts) -> bool
 
 // Whether a part in block `b` has no cause, if its name is new.
 #[inline(always)]
-fn is_clean(image: &Image<'_>, part: Part, b: u32, facts: &Facts) -> bool
+fn is_clean(image: &SizedImage<'_>, part: Part, b: u32, facts: &Facts) -> bool
     ensures { result ≡ (facts.now.is_enough && (in_range image.now b && (facts.now.is_absent
         && is_none (first_cause (form_of image.now part b facts.now.context))))) }
 {
@@ -73,7 +73,13 @@ fn is_clean(image: &Image<'_>, part: Part, b: u32, facts: &Facts) -> bool
 
 // Judges a part by its demands, one by one.
 #[inline(never)]
-fn judge_by_demands(image: &Image<'_>, part: Part, holder: u32, b: u32, facts: &Facts) -> Judgement
+fn judge_by_demands(
+    image: &SizedImage<'_>,
+    part: Part,
+    holder: u32,
+    b: u32,
+    facts: &Facts,
+) -> Judgement
     ensures { judgement_value result
         ≡ judged_by (first_failing image.now part holder b facts.now true)
         (keeps image.now part b facts.now) }
@@ -94,7 +100,7 @@ fn judge_by_demands(image: &Image<'_>, part: Part, holder: u32, b: u32, facts: &
 /// clean is judged by its demands.
 #[tactic(auto, using(crate::proofs::CleanParts::clean_judged))]
 #[inline(always)]
-pub fn judge(image: &Image<'_>, part: Part, holder: u32, b: u32, facts: &Facts) -> Judgement
+pub fn judge(image: &SizedImage<'_>, part: Part, holder: u32, b: u32, facts: &Facts) -> Judgement
     ensures { judgement_value result
         ≡ judged_by (first_failing image.now part holder b facts.now true)
         (keeps image.now part b facts.now) }

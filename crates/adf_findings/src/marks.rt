@@ -14,7 +14,7 @@ ghost use Rattle.adf_findings.specs.Members.{has_mark};
 use crate::concern::Concern;
 use crate::finding::Finding;
 use crate::found::Found;
-use crate::image::Image;
+use crate::image::SizedImage;
 use crate::owners::{data_number_of, entry_of};
 use crate::survey_result::number_at;
 use adf_base::NoMemory;
@@ -73,7 +73,7 @@ fn blamed(found: &Found, part: Option<Part>) -> Option<Concern>
 }
 
 // Whether a block was skipped, or has the type of an OFS data block.
-fn is_dubious(image: &Image<'_>, found: &Found, b: u32) -> bool
+fn is_dubious(image: &SizedImage<'_>, found: &Found, b: u32) -> bool
     ensures { result ≡ (slice_index_or found.now.skipped.items b false || (word_in image.now b TYPE == T_DATA)) }
 {
     found.skipped.get(b as usize).copied().unwrap_or(false) || image.word(b, TYPE) == T_DATA
@@ -82,7 +82,7 @@ fn is_dubious(image: &Image<'_>, found: &Found, b: u32) -> bool
 // The file of the data block at block `b`, if the block was also skipped, or says that it is an OFS one; `None` if it is
 // no data block.
 #[tactic(auto, using(crate::proofs::SoundMarks::none_doubted))]
-fn doubted(image: &Image<'_>, found: &Found, b: u32) -> Option<usize>
+fn doubted(image: &SizedImage<'_>, found: &Found, b: u32) -> Option<usize>
     ensures { result ≡ doubted image.now found.now b }
 {
     if !is_dubious(image, found, b) {
@@ -131,7 +131,7 @@ pub fn strike_blamed(found: &Found, findings: &[Finding], marks: &mut Vec<bool>)
 }
 
 // Removes the mark of the file of the data block at block `b`, if the block was also skipped, or says that it is an OFS one.
-fn strike_doubted_at(image: &Image<'_>, found: &Found, marks: &mut Vec<bool>, b: u32)
+fn strike_doubted_at(image: &SizedImage<'_>, found: &Found, marks: &mut Vec<bool>, b: u32)
     ensures { (m : ℕ) → has_mark marks.new.items m
         ≡ (has_mark marks.old.items m && not (is_node (doubted image.now found.now b) m)) }
 {
@@ -143,7 +143,7 @@ fn strike_doubted_at(image: &Image<'_>, found: &Found, marks: &mut Vec<bool>, b:
 // Whether no file is in doubt by the blocks from `first` up to, but not including, `end`: parts own none of them, or no
 // block was skipped and none has the type of an OFS data block.
 #[tactic(auto, using(crate::proofs::Doubts::unowned_sure, crate::proofs::Doubts::untyped_sure))]
-fn are_sure(image: &Image<'_>, found: &Found, first: u32, end: u32) -> bool
+fn are_sure(image: &SizedImage<'_>, found: &Found, first: u32, end: u32) -> bool
     requires { end ≤ blocks image.now }
     ensures { IsTrue result → (b : ℕ) → first ≤ b → b < end → doubted image.now found.now b ≡ None }
 {
@@ -163,7 +163,7 @@ fn are_sure(image: &Image<'_>, found: &Found, first: u32, end: u32) -> bool
 
 // Removes the marks of files in doubt by the blocks from `first` up to, but not including, `end`.
 fn strike_doubted_among(
-    image: &Image<'_>,
+    image: &SizedImage<'_>,
     found: &Found,
     marks: &mut Vec<bool>,
     first: u32,
@@ -183,7 +183,7 @@ fn strike_doubted_among(
 }
 
 // Removes the marks of files with a data block that was also skipped, or says that it is an OFS one.
-fn strike_doubted(image: &Image<'_>, found: &Found, marks: &mut Vec<bool>)
+fn strike_doubted(image: &SizedImage<'_>, found: &Found, marks: &mut Vec<bool>)
     ensures { (m : ℕ) → has_mark marks.new.items m
         ≡ (has_mark marks.old.items m && not
         (is_doubted image.now found.now (blocks image.now) m)) }
@@ -232,7 +232,7 @@ pub fn grave(alloc: Global, findings: &[Finding]) -> Result<Vec<Finding>, NoMemo
 /// The marks of the nodes: true but for FFS files with a data block that was also skipped, or says that it is an OFS one.
 pub fn undoubted_marks(
     alloc: Global,
-    image: &Image<'_>,
+    image: &SizedImage<'_>,
     found: &Found,
 ) -> Result<Vec<bool>, NoMemory>
     ensures { IfOk result (λ v. (m : ℕ)

@@ -4,7 +4,7 @@ ghost use Rattle.std.specs.Prelude.{◌≡◌, true};
 ghost use Rattle.adf_blocks.specs.Sizes.{is_allowed};
 ghost use Rattle.adf_findings.specs.Opening.{opening_in};
 
-use crate::image::Image;
+use crate::image::SizedImage;
 use adf_blocks::{label_stated, stamps_stated};
 use adf_tree::{Kind, Label, Stamps};
 
@@ -21,7 +21,7 @@ pub struct Opening {
 
 impl Opening {
     // The facts of an image whose root is taken.
-    pub(crate) fn of(image: &Image<'_>) -> Opening
+    pub(crate) fn of(image: &SizedImage<'_>) -> Opening
         ensures opening { result ≡ opening_in image.now }
         ensures size { is_allowed result.blocks ≡ true }
     {

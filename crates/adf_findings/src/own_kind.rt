@@ -8,7 +8,7 @@ ghost use Rattle.adf_findings.specs.Sound.{IsSound};
 ghost use Rattle.adf_findings.specs.OwnKind.{is_mistyped, is_other_kind, retyped, said_in, tallied, tally};
 ghost use Rattle.adf_findings.specs.Survey.{OnSurvey};
 
-use crate::image::Image;
+use crate::image::SizedImage;
 use crate::owners::{data_number_of, entry_of};
 use crate::start::start;
 use crate::survey_result::{Survey, number_at};
@@ -54,7 +54,7 @@ impl Tally {
 
 impl Survey<'_> {
     // Whether the data block at a block says that it is an OFS one of its file; `None` where no data block is found.
-    fn said_at(&self, image: &Image<'_>, b: u32) -> Option<bool>
+    fn said_at(&self, image: &SizedImage<'_>, b: u32) -> Option<bool>
         ensures { result ≡ said_in image.now self.now b }
     {
         let owner = self.owners.at(b);
@@ -67,7 +67,7 @@ impl Survey<'_> {
     }
 
     // How many data blocks say so, and how many do not.
-    fn tally(&self, image: &Image<'_>) -> Tally
+    fn tally(&self, image: &SizedImage<'_>) -> Tally
         ensures { OnSurvey self.now.image (λ w _. result ≡ tally image.now w (blocks image.now)) }
     {
         let _owners = &self.owners;

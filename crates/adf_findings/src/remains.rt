@@ -10,7 +10,7 @@ ghost use Rattle.adf_findings.specs.Remains.{below, blocks_stated, bytes_in, byt
 ghost use Rattle.adf_findings.specs.Remains.{size_stated, with_gap, with_lost};
 ghost use Rattle.adf_findings.specs.Survey.{OnSurvey};
 
-use crate::image::Image;
+use crate::image::SizedImage;
 use crate::owners::{data_number_of, entry_of};
 use crate::start::start;
 use crate::survey_result::{Survey, number_at};
@@ -35,7 +35,7 @@ pub struct Remains {
 }
 
 // How many bytes of a file its header states.
-fn size_stated(image: &Image<'_>, head: u32) -> u32
+fn size_stated(image: &SizedImage<'_>, head: u32) -> u32
     ensures size { result ≡ size_stated image.now head }
     ensures small { result ≤ 2 ^ 29 }
 {
@@ -54,7 +54,7 @@ fn count_stated(kind: Kind, size: u32) -> u32
 
 // The bytes of data block `k`, counted from 0, of a file of `size` bytes, in its block.
 #[tactic(auto, unfolding(adf_blocks::specs::Sizes::chunk))]
-fn data_in<'i>(image: &Image<'i>, b: u32, size: u32, k: u32) -> &'i [u8]
+fn data_in<'i>(image: &SizedImage<'i>, b: u32, size: u32, k: u32) -> &'i [u8]
     requires inside { b < blocks image.now }
     requires few { k < 2 ^ 21 }
     ensures { result.now ≡ piece (kind_of image.now) size (k + 1) (block image.now b) }
@@ -69,7 +69,7 @@ fn data_in<'i>(image: &Image<'i>, b: u32, size: u32, k: u32) -> &'i [u8]
 
 // The bytes of data block `k`, by the first and the last.
 #[tactic(auto, unfolding(adf_blocks::specs::Sizes::chunk))]
-fn gap_at(image: &Image<'_>, size: u32, k: u32) -> Gap
+fn gap_at(image: &SizedImage<'_>, size: u32, k: u32) -> Gap
     requires { k < 2 ^ 21 }
     ensures { result ≡ gap_at image.now size k }
 {
@@ -122,7 +122,7 @@ impl Remains {
     // Appends data block `k`, counted from 0, of a file of `size` bytes: the bytes in its block, or zeros.
     fn add(
         &mut self,
-        image: &Image<'_>,
+        image: &SizedImage<'_>,
         size: u32,
         k: u32,
         found: Option<u32>,
@@ -157,7 +157,7 @@ fn below(end: u32, found: Option<u32>) -> Option<u32>
 
 impl<'i> Survey<'i> {
     // A block, if it is taken as data block `k`, counted from 0, of an entry.
-    fn data_at(&self, image: &Image<'_>, n: Node, k: u32, b: u32) -> Option<u32>
+    fn data_at(&self, image: &SizedImage<'_>, n: Node, k: u32, b: u32) -> Option<u32>
         requires { k < 2 ^ 21 }
         ensures data { result ≡ data_at image.now self.now n k b }
         ensures inside { IfSome result (λ b. b < blocks image.now) }
@@ -175,7 +175,7 @@ impl<'i> Survey<'i> {
     fn left_of(
         &self,
         alloc: Global,
-        image: &Image<'_>,
+        image: &SizedImage<'_>,
         n: Node,
         end: u32,
     ) -> Result<Remains, AllocError>

@@ -5,7 +5,7 @@ ghost use Rattle.adf_volume.specs.Demands.{FirstFails, IsSize, boot_demands};
 ghost use Rattle.adf_findings.specs.Start.{boot_findings, root_findings, unread_findings};
 ghost use Rattle.adf_findings.specs.Survey.{BootTells, RootJudged, RootTells, UnreadTells, is_other_type, JudgementValue.skipped};
 
-use crate::image::Image;
+use crate::image::SizedImage;
 use adf_base::BLOCK_LEN;
 use adf_blocks::{Cause, has_root_type, read_root};
 use adf_volume::{Fault, boot_cause, kind_in};
@@ -13,7 +13,7 @@ use adf_volume::{Fault, boot_cause, kind_in};
 /// An image to survey, and the causes of its boot block and its root, if they have any.
 #[derive(Drop)]
 pub struct Started<'a> {
-    pub image: Image<'a>,
+    pub image: SizedImage<'a>,
     pub boot: Option<Cause>,
     pub root: Option<Fault>,
 }
@@ -51,16 +51,16 @@ fn judge_boot(bytes: &[u8]) -> Result<Option<Cause>, Cause>
 }
 
 // The image, of an allowed size.
-fn sized<'a>(bytes: &'a [u8]) -> Image<'a>
+fn sized<'a>(bytes: &'a [u8]) -> SizedImage<'a>
     requires { IsSize bytes.now }
     ensures { result ≡ bytes.now }
 {
-    Image::new(bytes, kind_in(bytes), (bytes.len() / BLOCK_LEN) as u32)
+    SizedImage::new(bytes, kind_in(bytes), (bytes.len() / BLOCK_LEN) as u32)
 }
 
 // The cause of the root, if it has one; otherwise why it is not taken.
 #[tactic(auto, using(crate::proofs::Starts::root_clean, crate::proofs::Starts::root_reported))]
-fn judge_root(image: &Image<'_>) -> Result<Option<Fault>, Fault>
+fn judge_root(image: &SizedImage<'_>) -> Result<Option<Fault>, Fault>
     ensures reported { IfOk result (λ root. RootTells image.now (root_findings root)) }
     ensures skipped { IfErr result (λ u. RootJudged image.now (skipped u.block u.cause)) }
 {

@@ -10,7 +10,7 @@ use crate::bits::compare;
 use crate::course::run;
 use crate::finding::Finding;
 use crate::found::Found;
-use crate::image::Image;
+use crate::image::SizedImage;
 use crate::marks::{concerned, grave, strike_blamed, undoubted_marks};
 use crate::progress::{Progress, note};
 use crate::start::{Started, Unread, start};

@@ -6,7 +6,7 @@ use Rattle.std.proofs.Math.Seq.{take-add, take-append-add, drop-append_seam}
 use Rattle.std.proofs.lemmas.List.{take_all, take-append-le, nil_from_length}
 use Rattle.std.proofs.lemmas.Bool.{cases_lt}
 use Rattle.std.proofs.Math.ListN.{drop_of_length-le}
-use Rattle.adf_runs.specs.Streams.{IsPart, PassesOver, TakesAtMost, TakesCount, TakesFirst}
+use Rattle.adf_runs.specs.Streams.{IsExcerpt, PassesOver, TakesAtMost, TakesCount, TakesFirst}
 
 pub appends_two : (a b c : Option (List ℕ)) (bs cs all : List ℕ) → all ≡ bs ++ cs → Appends a b bs → Appends b c cs → Appends a c all
 appends_two None b c bs cs all e p q = tt
@@ -85,7 +85,7 @@ first_length n x bytes e = ap length e ∙ length-take n x
 -- bytes that are passed over, bytes that are held, and bytes that are passed over again
 pub part_read : (from to limit : ℕ) (a b c d : Option (List ℕ)) (before held after : ℕ) (bytes : List ℕ)
     → held ≡ length bytes → from ≤ to → to ≤ limit → PassesOver from a b before
-    → TakesFirst (to - from) b c bytes → PassesOver (limit - to) c d after → IfSome a (λ all. IsPart from to limit all bytes (before + held + after))
+    → TakesFirst (to - from) b c bytes → PassesOver (limit - to) c d after → IfSome a (λ all. IsExcerpt from to limit all bytes (before + held + after))
 part_read from to limit None b c d before held after bytes count order inside p q r = tt
 part_read from to limit (Some x) None c d before held after bytes count order inside (u, f, l) q r = absurd f.1
 part_read from to limit (Some x) (Some y) None d before held after bytes count order inside p q r = absurd q.1

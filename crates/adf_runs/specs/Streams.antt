@@ -25,8 +25,8 @@ abbrev pub PassesOver : ℕ → Option (List ℕ) → Option (List ℕ) → ℕ 
 PassesOver n old new count = (bytes : List ℕ) × TakesFirst n old new bytes × (length bytes ≡ count)
 
 -- the bytes between two places of all, and how many all are, up to a limit
-abbrev pub IsPart : ℕ → ℕ → ℕ → List ℕ → List ℕ → ℕ → Type 0
-IsPart from to limit all bytes len = (bytes ≡ take (to - from) (drop from all)) × (len ≡ min limit (length all))
+abbrev pub IsExcerpt : ℕ → ℕ → ℕ → List ℕ → List ℕ → ℕ → Type 0
+IsExcerpt from to limit all bytes len = (bytes ≡ take (to - from) (drop from all)) × (len ≡ min limit (length all))
 
 -- a front part of `whole` was added to the known bytes, and where the device has failed not all of it
 abbrev pub AppendsPart : Bool → Option (List ℕ) → Option (List ℕ) → List ℕ → Type 0

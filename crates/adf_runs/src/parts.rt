@@ -1,7 +1,7 @@
 // Reads that hold a part of an input, and pass over the rest.
 
 ghost use Rattle.std.specs.Prelude.{◌≡◌, ◌+◌, ◌<◌, ◌≤◌, ◌^◌, false, vec_len, IfOk, IfSome};
-ghost use Rattle.adf_runs.specs.Streams.{IsPart, TakesAtMost, TakesFirst, is_device};
+ghost use Rattle.adf_runs.specs.Streams.{IsExcerpt, TakesAtMost, TakesFirst, is_device};
 
 use crate::devices::Source;
 use crate::streams::{StreamFault, read_all};
@@ -29,7 +29,7 @@ pub fn read_first<R: Source>(
 
 /// A part of an input.
 #[derive(Drop)]
-pub struct Part {
+pub struct Excerpt {
     pub bytes: Vec<u8>,
     /// How many bytes the whole input has.
     pub len: usize,
@@ -37,19 +37,19 @@ pub struct Part {
 
 /// Reads the bytes between two places of an input, as far as it has them, and passes over the others; at most one byte more than
 /// the limit, so that a longer input is seen to be longer. `Device` if the reader failed, `NoMemory` if an allocation failed.
-pub fn read_part<R: Source>(
+pub fn read_excerpt<R: Source>(
     alloc: Global,
     input: &mut R,
     from: usize,
     to: usize,
     limit: usize,
-) -> Result<Part, StreamFault>
+) -> Result<Excerpt, StreamFault>
     requires order { from ≤ to }
     requires inside { to ≤ limit }
     requires limited { limit < 2 ^ 63 }
     requires works { R.has_failed input.old ≡ false }
     ensures part { IfOk result (λ part. IfSome (R.left input.old)
-        (λ all. IsPart from to (limit + 1) all part.bytes.items part.len)) }
+        (λ all. IsExcerpt from to (limit + 1) all part.bytes.items part.len)) }
     ensures within { IfOk result (λ part. part.len ≤ limit + 1) }
     ensures at_most { TakesAtMost (limit + 1) (R.left input.old) (R.left input.new) }
     ensures failed { R.has_failed input.new ≡ is_device result }
@@ -58,5 +58,5 @@ pub fn read_part<R: Source>(
     let bytes = read_first(alloc, input, to - from)?;
     let after = input.skip(limit + 1 - to)?;
     let len = before + bytes.len() + after;
-    Ok(Part { bytes, len })
+    Ok(Excerpt { bytes, len })
 }

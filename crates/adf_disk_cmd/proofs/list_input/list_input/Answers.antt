@@ -7,7 +7,7 @@ use Rattle.adf_disk_cmd.proofs.list_input.list_input.Goals as goal
 
 pub returns-in-Ok-clause-ends : goal.returns-in-Ok-clause-ends
 returns-in-Ok-clause-ends g c =
-    does_held (seen g.R.Source.left g.R.Source.has_failed c.args.input.now c.read_part.new.input) c.list_part.ensures.ends c.in-Ok.ensures.part
+    does_held (seen g.R.Source.left g.R.Source.has_failed c.args.input.now c.read_excerpt.new.input) c.list_part.ensures.ends c.in-Ok.ensures.part
     c.in-Ok.ensures.failed c.list_part.ensures.blames
 
 pub returns-in-Err-clause-ends : goal.returns-in-Err-clause-ends

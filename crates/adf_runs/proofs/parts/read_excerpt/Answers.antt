@@ -1,6 +1,6 @@
 use Rattle.std.proofs.Common.{◌+◌, ◌-◌, arith}
 use Rattle.adf_runs.proofs.KnownBytes.{fewer_at_most, part_read, two_at_most}
-use Rattle.adf_runs.proofs.parts.read_part.Goals as goal
+use Rattle.adf_runs.proofs.parts.read_excerpt.Goals as goal
 
 pub returns-in_err-before-clause-at_most : goal.returns-in_err-before-clause-at_most
 returns-in_err-before-clause-at_most g c = fewer_at_most c.args.from (c.args.limit + 1) _ _ (omega arith) c.skip.ensures.at_most
