@@ -10,20 +10,15 @@ use Rattle.adf_build.proofs.LaidWrites.{CanHold, volume_blocks}
 use Rattle.adf_build.proofs.WholeVolume.{volume_laid}
 use Rattle.adf_boot_blocks.specs.Writing.{restored}
 use Rattle.adf_boot_blocks.proofs.Restored.{other_restored}
-use Rattle.adf_rescue.specs.Opened.{is_mended, opened}
-use Rattle.adf_rescue.specs.Rescue.{Basis, StandsNothing, rescued_tree}
-use Rattle.adf_survey_cmd.specs.Rescues.{second_image, RescueValue, RescueValue.written, Rescues}
-use Rattle.adf_survey_cmd.proofs.KeptBoots.{laid_long}
-use Rattle.adf_memory.specs.Losses.{LossTableValue, loss_table, rescue_losses, table_of_losses}
-use Rattle.adf_memory.specs.Rescuing.{HasRescue, IsHopeless, IsPutOut, IsRefusal, LaysFor, Prepares, Rescue, RescueBoth, RescueBy, RescueIn, ExplainsRescue, IsRoomRefusal, Readies, RefusesFor, RescueOf, RescueValue, RescueValue.written, told_volume, unrescued_refusal}
 use Rattle.adf_survey_cmd.specs.Losses.{loss_values}
 use Rattle.adf_survey_cmd.specs.Prepared.{LaysFor, Prepares, RefusesFor}
+use Rattle.adf_survey_cmd.specs.Rescues.{RescueValue, RescueValue.written, Rescues}
 use Rattle.adf_survey_cmd.specs.Subject.{IsTyped, SubjectValue, sized}
 use Rattle.adf_survey_cmd.specs.declared.preparing.Prepared.{Prepared}
 use Rattle.adf_survey_cmd.specs.declared.preparing.Unrescued.{Unrescued}
 use Rattle.adf_survey_cmd.specs.declared.preparing.Unrescued.TheVariants.{NoMemory, Refused}
 use Rattle.adf_survey_cmd.proofs.KeptBoots.{laid_long}
-use Rattle.adf_memory.specs.Rescuing.{ExplainsRescue, HasRescue, IsPut, IsRoomRefusal, Readies, RescueOf, ready_table, told_volume, unrescued_refusal}
+use Rattle.adf_memory.specs.Rescuing.{ExplainsRescue, HasRescue, IsPutOut, IsRoomRefusal, Readies, RescueOf, ready_table, told_volume, unrescued_refusal}
 use Rattle.adf_memory.specs.declared.losses.TableLoss.{TableLoss}
 use Rattle.adf_memory.specs.declared.rescuing.Ready.{Ready}
 use Rattle.adf_memory.specs.declared.rescuing.RescueRefusal.{RescueRefusal}

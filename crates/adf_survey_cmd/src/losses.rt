@@ -129,12 +129,7 @@ fn push_headers(
 }
 
 // Appends the loss of a run of blocks.
-fn push_run(
-    alloc: Global,
-    losses: &mut Vec<Loss>,
-    first: u32,
-    last: u32,
-) -> Result<(), AllocError>
+fn push_run(alloc: Global, losses: &mut Vec<Loss>, first: u32, last: u32) -> Result<(), AllocError>
     ensures { OnOk result (loss_values losses.new.items ≡ loss_values losses.old.items ++ run_loss first last ∷ []) }
 {
     losses.push(Loss {
@@ -147,11 +142,7 @@ fn push_run(
 }
 
 // Appends the losses of blocks.
-fn push_lost_blocks(
-    alloc: Global,
-    blocks: &[u32],
-    losses: &mut Vec<Loss>,
-) -> Result<(), AllocError>
+fn push_lost_blocks(alloc: Global, blocks: &[u32], losses: &mut Vec<Loss>) -> Result<(), AllocError>
     ensures { OnOk result (loss_values losses.new.items ≡ loss_values losses.old.items ++ block_losses blocks.now) }
 {
     if blocks.is_empty() {

@@ -19,4 +19,4 @@ returns-clause-refused c = λ n room image reply f (ls, given) answer.
     ap (λ (r : Reply). r.output) (replies_agree (asked_blocks n) image r reply given answer) ∙ hinted_output image (rescue_reply r)
 
 pub returns-clause-lines : goal.returns-clause-lines
-returns-clause-lines c = λ n. replies_agree (asked_blocks n)
+returns-clause-lines c = λ n image reply r. replies_agree (asked_blocks n) image r reply
