@@ -1,10 +1,9 @@
 -- The tree of a manifest has its fields within their bounds: its files have fewer than 2^63 bytes, since its text is short.
-use Rattle.std.proofs.Common.{◌≡◌, ◌<◌, ◌≤◌, ◌^◌, ◌*◌, ◌+◌, ◌-◌, ◌==◌, ◌&&◌, ◌++◌, ℕ, Bool, true, false, List, [], ◌∷◌, Option, Some, None, IfSome}
-use Rattle.std.proofs.Common.{ap, arith, length, length-append, map, nat_lt, slice_index, subst, sym, take, if◌then◌else◌}
+use Rattle.std.proofs.Common.{◌≡◌, ◌<◌, ◌≤◌, ◌^◌, ◌*◌, ◌+◌, ◌-◌, ◌==◌, ◌&&◌, ◌++◌, ℕ, Bool, true, false, List, [], ◌∷◌, Option, Some, None, IfSome, ap, arith}
+use Rattle.std.proofs.Common.{length, length-append, map, nat_lt, slice_index, subst, sym, take, if◌then◌else◌}
 use Rattle.std.specs.List.{All, flat_map, join_with_byte}
 use Rattle.std.specs.Option.{unwrap_or}
-use Rattle.std.proofs.lemmas.List.{length-replicate, length-take}
-use Rattle.std.proofs.lemmas.List.Elements.{All-cons, All-head, All-nil, All-tail}
+use Rattle.std.proofs.lemmas.List.{length-replicate, length-take, Elements.All-cons, Elements.All-head, Elements.All-nil, Elements.All-tail}
 use Rattle.std.proofs.lemmas.List.Splits.{join_with_byte-slice_split}
 use Rattle.adf_base.specs.Dates.{IsStamp}
 use Rattle.adf_names.specs.Meta.{AreStamps}
@@ -20,8 +19,7 @@ use Rattle.adf_manifest.specs.Items.{IsGivenNote, IsItem, Item, body_of_sort, by
 use Rattle.adf_manifest.specs.Items.{run_bytes, with_item}
 use Rattle.adf_manifest.specs.Manifest.{IsGivenLabel, IsManifest, IsTreeOfManifest, IsWell, Manifest, items_of, lines, manifest_lines, manifest_tree}
 use Rattle.adf_manifest.specs.Manifest.{most_bytes, preamble_lines, preamble_tree, without_last_feed}
-use Rattle.adf_manifest.specs.declared.lines.Sort.{Sort}
-use Rattle.adf_manifest.specs.declared.lines.Sort.TheVariants.{Dir, File}
+use Rattle.adf_manifest.specs.declared.lines.Sort.{Sort, TheVariants.Dir, TheVariants.File}
 use Rattle.adf_manifest.proofs.TreesOfLines.{adding_lines, one_tree_of}
 
 -- the bytes of lines

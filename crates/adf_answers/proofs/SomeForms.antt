@@ -9,15 +9,13 @@ use native.Mathlib.Decide.{dec_lt, map_dec, ℕ_discrete}
 use Rattle.adf_base.specs.Dates.{IsStamp, plain_text}
 use Rattle.adf_base.specs.declared.dates.Stamp.{Stamp}
 use Rattle.adf_names.specs.Meta.{AreStamps}
-use Rattle.adf_names.specs.declared.kind.Kind.{Kind}
-use Rattle.adf_names.specs.declared.kind.Kind.TheVariants.{Ffs, Ofs}
+use Rattle.adf_names.specs.declared.kind.Kind.{Kind, TheVariants.Ffs, TheVariants.Ofs}
 use Rattle.adf_names.specs.declared.meta.Stamps.{Stamps}
 use Rattle.adf_names.proofs.SomeSpellings.{begins}
-use Rattle.adf_manifest.specs.Lines.{DataRun, EntryLine, FillRun, HasForm, IsLine, IsVolumeLine, LabelLine, LineValue, NoteLine, RunLine}
-use Rattle.adf_manifest.specs.Lines.{StampsLine, entry_line, fill_line, line_text, most_fill, sort_text, stamps_line, volume_line}
+use Rattle.adf_manifest.specs.Lines.{DataRun, EntryLine, FillRun, HasForm, IsLine, IsVolumeLine, LabelLine, LineValue, NoteLine, RunLine, StampsLine}
+use Rattle.adf_manifest.specs.Lines.{entry_line, fill_line, line_text, most_fill, sort_text, stamps_line, volume_line}
 use Rattle.adf_manifest.specs.Texts.{hex_word, is_digit, pairs, unpaired}
-use Rattle.adf_manifest.specs.declared.lines.Sort.{Sort}
-use Rattle.adf_manifest.specs.declared.lines.Sort.TheVariants.{Dir, File}
+use Rattle.adf_manifest.specs.declared.lines.Sort.{Sort, TheVariants.Dir, TheVariants.File}
 use Rattle.adf_manifest.proofs.DigitLaws.{digits_of_pairs, pairs_of_digits}
 
 dec_text : (s t : List ℕ) → Dec (s ≡ t)

@@ -1,10 +1,7 @@
 -- Each text is a manifest, or has a fault. m is a manifest of the lines so far, n one with a line more.
-use Rattle.std.proofs.Common.{◌≡◌, ◌≢◌, ◌∙◌, ◌<◌, ◌≤◌, ◌^◌, ◌+◌, ◌==◌, ◌++◌, ◌⊎◌, ℕ, Bool, true, false, List, [], ◌∷◌, Option, Some, None, Result, Ok}
-use Rattle.std.proofs.Common.{Err, IsOk}
-use Rattle.std.proofs.Common.{ap, arith, inl, inr, length, refl, subst, sym}
-use Rattle.std.proofs.lemmas.List.{append-nil, append_assoc}
-use Rattle.std.proofs.lemmas.List.Elements.{All-nil}
-use Rattle.std.proofs.lemmas.List.Splits.{length-slice_split}
+use Rattle.std.proofs.Common.{◌≡◌, ◌≢◌, ◌∙◌, ◌<◌, ◌≤◌, ◌^◌, ◌+◌, ◌==◌, ◌++◌, ◌⊎◌, ℕ, Bool, true, false, List, [], ◌∷◌, Option, Some, None, Result, Ok, Err}
+use Rattle.std.proofs.Common.{IsOk, ap, arith, inl, inr, length, refl, subst, sym}
+use Rattle.std.proofs.lemmas.List.{append-nil, append_assoc, Elements.All-nil, Splits.length-slice_split}
 use mathlib.Core.Logic.Dec.{and as dec_and}
 use native.Mathlib.Decide.{dec_le}
 use Rattle.adf_names.specs.Escapes.{IsSpelling, escaped}
@@ -17,24 +14,19 @@ use Rattle.adf_tree.specs.Tree.{room_for}
 use Rattle.adf_tree.specs.declared.tree.RoomFault.{RoomFault}
 use Rattle.adf_tree.specs.declared.tree.RoomFault.TheVariants as room
 use Rattle.adf_tree.proofs.AddRoom.{no_room}
-use Rattle.adf_manifest.specs.Lines.{EntryLine, IsLine, IsRun, LabelLine, LineValue, NoteLine, RunLine, StampsLine, label_line, line_text, note_line}
-use Rattle.adf_manifest.specs.Lines.{run_line}
+use Rattle.adf_manifest.specs.Lines.{EntryLine, IsLine, IsRun, LabelLine, LineValue, NoteLine, RunLine, StampsLine, label_line, line_text, note_line, run_line}
 use Rattle.adf_manifest.specs.Lines.{stamps_line, volume_line}
 use Rattle.adf_manifest.specs.Items.{IsItem}
-use Rattle.adf_manifest.specs.Manifest.{EndsInFile, Entries, ExplainsKind, HasFault, IsBare, IsFaultOf, IsFirstLineFault, IsLaterFault}
-use Rattle.adf_manifest.specs.Manifest.{IsManifestOrHasFault, IsPreamble}
-use Rattle.adf_manifest.specs.Manifest.{IsWell, Manifest, MayStand, lines, manifest_lines, manifest_tree, most_bytes, preamble_lines}
+use Rattle.adf_manifest.specs.Manifest.{EndsInFile, Entries, ExplainsKind, HasFault, IsBare, IsFaultOf, IsFirstLineFault, IsLaterFault, IsManifestOrHasFault}
+use Rattle.adf_manifest.specs.Manifest.{IsPreamble, IsWell, Manifest, MayStand, lines, manifest_lines, manifest_tree, most_bytes, preamble_lines}
 use Rattle.adf_manifest.specs.Manifest.{without_last_feed}
 use Rattle.adf_manifest.specs.Reader.{bare}
-use Rattle.adf_manifest.specs.declared.lines.Sort.{Sort}
-use Rattle.adf_manifest.specs.declared.lines.Sort.TheVariants.{Dir, File}
+use Rattle.adf_manifest.specs.declared.lines.Sort.{Sort, TheVariants.Dir, TheVariants.File}
 use Rattle.adf_manifest.specs.declared.manifest.ManifestKind.{ManifestKind}
-use Rattle.adf_manifest.specs.declared.manifest.ManifestKind.TheVariants.{BadLine, BadSize, BadText, Exists, NoMemory, NoParent, ParentIsFile}
-use Rattle.adf_manifest.specs.declared.manifest.ManifestKind.TheVariants.{TooLong}
+use Rattle.adf_manifest.specs.declared.manifest.ManifestKind.TheVariants.{BadLine, BadSize, BadText, Exists, NoMemory, NoParent, ParentIsFile, TooLong}
 use Rattle.adf_manifest.specs.declared.reader.Preamble.{Preamble}
-use Rattle.adf_manifest.proofs.Growth.{last_is, last_lines, last_well, new_item, new_lines, new_well, noted, noted_is, noted_lines, with_last}
-use Rattle.adf_manifest.proofs.Growth.{with_new, with_run}
-use Rattle.adf_manifest.proofs.Growth.{with_run_is, with_run_lines}
+use Rattle.adf_manifest.proofs.Growth.{last_is, last_lines, last_well, new_item, new_lines, new_well, noted, noted_is, noted_lines, with_last, with_new}
+use Rattle.adf_manifest.proofs.Growth.{with_run, with_run_is, with_run_lines}
 use Rattle.adf_manifest.proofs.Forms.{line_same}
 use Rattle.adf_manifest.proofs.LastLines.{stamps_behind, with_label, with_stamps}
 use Rattle.adf_survey_cmd.proofs.SomeRescues.{dec_nil}

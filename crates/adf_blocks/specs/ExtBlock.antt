@@ -3,8 +3,8 @@ use Rattle.std.specs.Prelude.{◌≤◌, ◌<◌, ◌*◌, ◌^◌, ℕ, ◌==�
 use Rattle.adf_base.specs.Words.{word, long_sum, sealed}
 use Rattle.adf_blocks.specs.declared.cause.Cause.TheVariants.{BadSum, BadType, BadOwnKey, BadParent}
 use Rattle.adf_blocks.specs.declared.ext.ExtOut.{ExtOut}
-use Rattle.adf_blocks.specs.declared.layout.TheConstants.{CHECKSUM, EXTENSION, FIRST_POINTER, OWN_KEY, PARENT, POINTERS, POINTER_COUNT, SECONDARY_TYPE}
-use Rattle.adf_blocks.specs.declared.layout.TheConstants.{ST_FILE, TYPE, T_LIST}
+use Rattle.adf_blocks.specs.declared.layout.TheConstants.{CHECKSUM, EXTENSION, FIRST_POINTER, OWN_KEY, PARENT, POINTERS, POINTER_COUNT, SECONDARY_TYPE, ST_FILE}
+use Rattle.adf_blocks.specs.declared.layout.TheConstants.{TYPE, T_LIST}
 use Rattle.adf_blocks.specs.Fields.{Field, downwards, block_of_fields, long}
 use Rattle.adf_blocks.specs.Forms.{Clause}
 

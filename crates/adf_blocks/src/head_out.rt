@@ -8,7 +8,9 @@ ghost use Rattle.adf_names.specs.declared.kind.Kind.{Kind};
 ghost use Rattle.adf_base.specs.Dates.{IsStamp};
 ghost use Rattle.adf_blocks.specs.Forms.{first_cause, stamp_at, text_at};
 ghost use Rattle.adf_blocks.specs.HeadBlock.BodyFields.{DirFields, FileFields};
-ghost use Rattle.adf_blocks.specs.HeadBlock.{FitsBody, FitsBodyWords, FitsHead, FitsTable, HeadFields, body_at, body_fields, body_stated, count_of, ext_of, first_of, head_block, head_fields, head_form, meta_at, secondary_of, size_of, table_of};
+ghost use Rattle.adf_blocks.specs.HeadBlock.{FitsBody, FitsBodyWords, FitsHead, FitsTable, HeadFields, body_at, body_fields};
+ghost use Rattle.adf_blocks.specs.HeadBlock.{body_stated, count_of, ext_of, first_of, head_block, head_fields, head_form};
+ghost use Rattle.adf_blocks.specs.HeadBlock.{meta_at, secondary_of, size_of, table_of};
 
 use crate::fields::{put_stamp, put_text};
 use crate::layout::{

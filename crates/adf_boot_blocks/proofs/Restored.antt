@@ -1,7 +1,7 @@
 -- Boot blocks that are put back: what stays of them, and that they stay bootable.
 -- Letters: image an image, boot one with other boot blocks; a, b, k bytes; i a word.
-use Rattle.std.proofs.Common.{◌≡◌, ◌∙◌, ℕ, zero, suc, true, false, List, [], ◌∷◌, ◌++◌, ◌+◌, ◌-◌, ◌*◌, ◌<◌, ◌≤◌, length, take, drop}
-use Rattle.std.proofs.Common.{slice_index, slice_range, ap, ap₂, refl, sym, subst, inl, inr, arith, add-one, length-drop, length-take, Bool}
+use Rattle.std.proofs.Common.{◌≡◌, ◌∙◌, ℕ, zero, suc, true, false, List, [], ◌∷◌, ◌++◌, ◌+◌, ◌-◌, ◌*◌, ◌<◌, ◌≤◌, length, take, drop, slice_index, slice_range}
+use Rattle.std.proofs.Common.{ap, ap₂, refl, sym, subst, inl, inr, arith, add-one, length-drop, length-take, Bool}
 use Rattle.std.specs.Prelude.{◌==◌, ◌&&◌, not}
 use Rattle.std.proofs.lemmas.Bool.{and_parts, and_cases, cases_Bool, cases_eq, eqb-true, leb-true, not-false}
 use Rattle.std.proofs.lemmas.Grind.{common_steps}

@@ -3,8 +3,7 @@
 use Rattle.std.proofs.Common.{◌≡◌, ◌∙◌, ℕ, List, Option, None, Some, IfSome, take, sym, arith}
 use Rattle.std.proofs.lemmas.Grind.{common_steps}
 use Rattle.adf_file_words.specs.BootLine.{AreRefusedByBoot, ExplainsBootArgs}
-use Rattle.adf_words.specs.declared.command_line.ArgsError.{ArgsError}
-use Rattle.adf_words.specs.declared.command_line.ArgsError.TheVariants.{Usage, NoMemory as ArgsNoMemory}
+use Rattle.adf_words.specs.declared.command_line.ArgsError.{ArgsError, TheVariants.Usage, TheVariants.NoMemory as ArgsNoMemory}
 use Rattle.adf_runs.specs.Commands.{Command, IsUnanswered, RunEnds}
 use Rattle.adf_file_runs.specs.FileRuns.{KnownFiles, RunEndsOnFiles}
 use Rattle.adf_runs.specs.Outcomes.{DoesOn, outcome_text, status_of}

@@ -1,6 +1,6 @@
 -- Images that are written have the tree of the image that they are made of.
-use Rattle.std.proofs.Common.{◌≡◌, ◌≢◌, ℕ, List, ◌++◌, ◌+◌, ◌-◌, ◌%◌, ◌≤◌, Bool, true, false, ap, sym, ◌∙◌, refl, arith, drop, take, length}
-use Rattle.std.proofs.Common.{replicate, slice_range, subst, nat_le, length-append, length-drop, length-take}
+use Rattle.std.proofs.Common.{◌≡◌, ◌≢◌, ℕ, List, ◌++◌, ◌+◌, ◌-◌, ◌%◌, ◌≤◌, Bool, true, false, ap, sym, ◌∙◌, refl, arith, drop, take, length, replicate}
+use Rattle.std.proofs.Common.{slice_range, subst, nat_le, length-append, length-drop, length-take}
 use Rattle.std.specs.Prelude.{◌==◌}
 use Rattle.std.proofs.lemmas.Bool.{and_parts, leb-false, leb-true}
 use Rattle.std.proofs.lemmas.List.{drop_at, length-take-le, take-append-le, take-take}

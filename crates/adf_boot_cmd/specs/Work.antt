@@ -2,10 +2,8 @@
 use Rattle.std.specs.Prelude.{◌≡◌, ◌≤◌, ℕ, List, length}
 use Rattle.adf_boot_blocks.specs.declared.boot.TheConstants.{BOOT_LEN}
 use Rattle.adf_boot_cmd.specs.Answers.{Order, clear, copy, install, tell}
-use Rattle.adf_boot_cmd.specs.declared.boot_file.BootFault.{BootFault}
-use Rattle.adf_boot_cmd.specs.declared.boot_file.BootFault.TheVariants.{Unopened, Unread, NoMemory}
-use Rattle.adf_boot_cmd.specs.declared.work.Work.{Work}
-use Rattle.adf_boot_cmd.specs.declared.work.Work.TheVariants.{Tell, Install, Clear, Copy}
+use Rattle.adf_boot_cmd.specs.declared.boot_file.BootFault.{BootFault, TheVariants.Unopened, TheVariants.Unread, TheVariants.NoMemory}
+use Rattle.adf_boot_cmd.specs.declared.work.Work.{Work, TheVariants.Tell, TheVariants.Install, TheVariants.Clear, TheVariants.Copy}
 
 -- the order that is done
 abbrev pub order_of : Work → Order

@@ -1,6 +1,6 @@
 -- Steps of a count of blocks over the entries of a tree.
-use Rattle.std.proofs.Common.{◌≡◌, ◌<◌, ℕ, zero, suc, ◌+◌, ◌-◌, ◌^◌, List, [], ◌∷◌, length, drop, min, sym, ap, ◌∙◌, arith, Some, None, add-one}
-use Rattle.std.proofs.Common.{false, if◌then◌else◌, ◌==◌}
+use Rattle.std.proofs.Common.{◌≡◌, ◌<◌, ℕ, zero, suc, ◌+◌, ◌-◌, ◌^◌, List, [], ◌∷◌, length, drop, min, sym, ap, ◌∙◌, arith, Some, None, add-one, false}
+use Rattle.std.proofs.Common.{if◌then◌else◌, ◌==◌}
 use Rattle.std.specs.List.{slice_get}
 use Rattle.std.proofs.lemmas.Bool.Decides.{nat_tests}
 use Rattle.std.proofs.lemmas.Grind.{common_steps}

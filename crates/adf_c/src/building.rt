@@ -1,7 +1,8 @@
 // Building volumes.
 
 ghost use Rattle.std.specs.Prelude.{◌≡◌, length};
-ghost use Rattle.adf_memory.specs.Building.{ExplainsBuild, ExplainsNeed, HasVolume, IsFewest, IsSoundVolume, Refuses, built_in, tree_of};
+ghost use Rattle.adf_memory.specs.Building.{ExplainsBuild, ExplainsNeed, HasVolume, IsFewest, IsSoundVolume, Refuses, built_in};
+ghost use Rattle.adf_memory.specs.Building.{tree_of};
 
 use adf_memory::{Built, NewVolume, TableAddition, build_volume, need_volume};
 use std::alloc::Global;

@@ -9,8 +9,8 @@ ghost use Rattle.adf_volume.specs.Layout.{Layout};
 ghost use Rattle.adf_volume.specs.Start.{IsBegun, IsBegunBy};
 ghost use Rattle.adf_volume.specs.Counts.{counts_of};
 ghost use Rattle.adf_memory.specs.OwnerNumbers.{IsOwnerNumber};
-ghost use Rattle.adf_memory.specs.Verdicts.{IsFirstCause, IsFirstCauseBy, IsVerdictNumber, OnFault, WantsMemory};
-ghost use Rattle.adf_memory.specs.Verdicts.{accepted, accepted_by, refused};
+ghost use Rattle.adf_memory.specs.Verdicts.{IsFirstCause, IsFirstCauseBy, IsVerdictNumber, OnFault, WantsMemory, accepted};
+ghost use Rattle.adf_memory.specs.Verdicts.{accepted_by, refused};
 
 use adf_memory::{Verdict, check_image, check_image_types, owners_of, owners_of_types};
 use std::alloc::Global;

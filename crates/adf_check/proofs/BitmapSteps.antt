@@ -6,10 +6,9 @@ use Rattle.std.proofs.lemmas.Bool.Decides.{nat_tests}
 use Rattle.std.proofs.lemmas.Grind.{common_steps}
 use Rattle.adf_blocks.specs.declared.cause.Cause.{Cause, TheVariants.LostBlock, TheVariants.OwnedFree}
 use Rattle.adf_blocks.specs.Sizes.{blocks, pages_needed}
-use Rattle.adf_volume.specs.Image.{root_of, word_in, IsFreeAt, letters_of}
-use Rattle.adf_volume.specs.Demands.{AllHold, FirstFails, root_demands, boot_demands_by}
-use Rattle.adf_volume.specs.Walk.{Has, IsAbsent, IsFreeIn, bitmap_demands, Walk, FirstFaultBy, Role.Page, FirstFaultBy.at_bitmap}
-use Rattle.adf_volume.specs.Walk.Role.{Page}
+use Rattle.adf_volume.specs.Image.{word_in, IsFreeAt, letters_of}
+use Rattle.adf_volume.specs.Demands.{AllHold, FirstFails}
+use Rattle.adf_volume.specs.Walk.{Has, IsAbsent, IsFreeIn, bitmap_demands, Walk, FirstFaultBy, Role.Page, FirstFaultBy.at_bitmap, Role.Page}
 use Rattle.adf_volume.specs.Walk.FirstFaultBy.{at_bitmap}
 use Rattle.adf_volume.proofs.Gathered.{one_block}
 use Rattle.adf_volume.proofs.Images.{page_in}

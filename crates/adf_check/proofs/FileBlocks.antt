@@ -1,7 +1,7 @@
 -- The blocks of each file are adjacent in the flat lists of a walk.
-use Rattle.std.proofs.Common.{◌≡◌, ℕ, suc, List, [], ◌∷◌, ◌++◌, inl, inr, ◌+◌, ◌<◌, ◌≤◌, length, length-append, refl, sym, ap, ◌∙◌, arith, Bool, true, false, cond, take, drop, append_assoc, Option, Some, None, ◌==◌, ◌||◌, is_some, nat_lt, not}
-use Rattle.std.proofs.lemmas.Bool.{eqb-true, false_from_ne_true, le-ltb, lt-ltb, ltb-false, ltb-true, not-true, Decides.nat_tests}
-use Rattle.std.proofs.lemmas.Bool.Decides.{nat_tests}
+use Rattle.std.proofs.Common.{◌≡◌, ℕ, suc, List, [], ◌∷◌, ◌++◌, inl, inr, ◌+◌, ◌<◌, ◌≤◌, length, length-append, refl, ap, ◌∙◌, arith, Bool, true, false, cond}
+use Rattle.std.proofs.Common.{take, drop, append_assoc, Option, Some, None, ◌==◌, ◌||◌, is_some, nat_lt, not}
+use Rattle.std.proofs.lemmas.Bool.{eqb-true, false_from_ne_true, le-ltb, lt-ltb, ltb-false, ltb-true, not-true, Decides.nat_tests, Decides.nat_tests}
 use Rattle.std.proofs.lemmas.List.{append-nil}
 use Rattle.std.proofs.Math.Seq.{drop-append_seam, take-append_seam}
 use Rattle.std.proofs.lemmas.Grind.{common_steps}

@@ -5,7 +5,7 @@ use Rattle.adf_blocks.specs.declared.layout.TheConstants.{EXTENSION, SECONDARY_T
 use Rattle.adf_blocks.specs.Sizes.{blocks}
 use Rattle.adf_volume.specs.Image.{root_of, word_in}
 use Rattle.adf_volume.specs.Lists.{At}
-use Rattle.adf_volume.specs.Walk.{Has, first, heads, HeadAt, DirAt, FileAt, Role, Walk, Role.Root}
+use Rattle.adf_volume.specs.Walk.{Has, first, HeadAt, DirAt, FileAt, Role, Walk}
 use Rattle.adf_volume.proofs.Gathered.{root_in}
 use Rattle.adf_volume.proofs.FormDemands.{head_type}
 use Rattle.adf_volume.proofs.Lists.{at_below, at_fun, at_index_or, at_snoc, at_some, snoc_length}

@@ -19,8 +19,7 @@ use Rattle.adf_volume.proofs.NoneFits.{none_fits}
 use Rattle.adf_volume.proofs.OneFault.{one_fault}
 use Rattle.adf_volume.specs.Types.{letters_for}
 use Rattle.adf_volume.specs.declared.fault.Fault.{Fault}
-use Rattle.adf_volume.specs.declared.types.Types.{Types}
-use Rattle.adf_volume.specs.declared.types.Types.TheVariants.{Plain}
+use Rattle.adf_volume.specs.declared.types.Types.{Types, TheVariants.Plain}
 use Rattle.adf_manifest.specs.Manifest.{ExplainsKind, IsManifest, lines}
 use Rattle.adf_manifest.specs.declared.manifest.ManifestKind.{ManifestKind, TheVariants.NoMemory, TheVariants.TooLong}
 use Rattle.adf_manifest.proofs.Faults as manifests

@@ -17,8 +17,7 @@ use Rattle.adf_check.specs.Pieces.{bytes_of}
 use Rattle.adf_volume.specs.Counts.{counts_of}
 use Rattle.adf_volume.specs.Types.{letters_for}
 use Rattle.adf_volume.specs.declared.fault.Fault.{Fault}
-use Rattle.adf_volume.specs.declared.types.Types.{Types}
-use Rattle.adf_volume.specs.declared.types.Types.TheVariants.{Plain}
+use Rattle.adf_volume.specs.declared.types.Types.{Types, TheVariants.Plain}
 use Rattle.adf_words.specs.CommandLine.{AsksFor, AreRefused, RequestValue, build, cat, check, convert, list}
 use Rattle.adf_runs.specs.Commands.{Command, Reply, bad_path, on_errors, on_output}
 use Rattle.adf_cmd.specs.Listing.{image_or_lines}

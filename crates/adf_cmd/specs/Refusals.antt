@@ -5,8 +5,7 @@ use Rattle.adf_volume.specs.declared.fault.Fault.{Fault}
 use Rattle.adf_texts.specs.Lines.{fault_line, full_line, manifest_fault_line}
 use Rattle.adf_manifest.specs.declared.manifest.ManifestFault.{ManifestFault}
 use Rattle.adf_manifest.specs.declared.manifest.ManifestKind.TheVariants.{NoMemory as ManifestNoMemory}
-use Rattle.adf_runs.specs.declared.outcome.Outcome.{Outcome}
-use Rattle.adf_runs.specs.declared.outcome.Outcome.TheVariants.{Refused, NoMemory}
+use Rattle.adf_runs.specs.declared.outcome.Outcome.{Outcome, TheVariants.Refused, TheVariants.NoMemory}
 
 -- saying that a tree needs more blocks than there are
 abbrev pub IsFullOutcome : ℕ → ℕ → Outcome → Type 0

@@ -2,8 +2,7 @@
 use Rattle.std.specs.Prelude.{◌≡◌, ℕ, List}
 use Rattle.adf_names.specs.PathTexts.{IsPathText}
 use Rattle.adf_words.specs.CommandLine.{RequestValue, build, cat, check, convert, list}
-use Rattle.adf_cmd.specs.declared.work.Work.{Work}
-use Rattle.adf_cmd.specs.declared.work.Work.TheVariants.{Check, List as ListAll, Cat, Build, Convert}
+use Rattle.adf_cmd.specs.declared.work.Work.{Work, TheVariants.Check, TheVariants.List as ListAll, TheVariants.Cat, TheVariants.Build, TheVariants.Convert}
 
 -- the work is that of a request, of whose path it has the names
 abbrev pub Serves : Work → RequestValue → Type 0

@@ -1,16 +1,14 @@
 -- Disks that are built. p is the plan of a partition, n the number of its blocks, ps are partitions, c the number of blocks of a cylinder; `given` are
 -- the bytes of given volumes.
-use Rattle.std.proofs.Common.{◌≡◌, ◌≢◌, ◌≤◌, ◌<◌, ◌+◌, ◌*◌, ◌∙◌, ℕ, Bool, true, false, List, [], ◌∷◌, ◌++◌, ap, ap₂, arith, append-nil, append_assoc}
-use Rattle.std.proofs.Common.{drop, get_or, ◌^◌, inl, inr, length, length-drop, refl, subst, suc, sym, zero, ◌==◌, ◌/◌, if◌then◌else◌}
-use Rattle.std.proofs.lemmas.Bool.Decides.{nat_tests}
-use Rattle.std.proofs.lemmas.List.{drop_all, length-take-le}
-use Rattle.std.proofs.lemmas.List.Folds.{list_all_at}
+use Rattle.std.proofs.Common.{◌≡◌, ◌≢◌, ◌≤◌, ◌<◌, ◌+◌, ◌*◌, ◌∙◌, ℕ, Bool, true, false, List, [], ◌∷◌, ◌++◌, ap, ap₂, arith, append-nil, append_assoc, drop}
+use Rattle.std.proofs.Common.{get_or, ◌^◌, inl, inr, length, length-drop, refl, subst, suc, sym, zero, ◌==◌, ◌/◌, if◌then◌else◌}
+use Rattle.std.proofs.lemmas.List.{drop_all, length-take-le, Folds.list_all_at}
 use Rattle.std.specs.List.{flat_map, list_all}
-use Rattle.std.proofs.lemmas.Bool.{and_parts}
+use Rattle.std.proofs.lemmas.Bool.{and_parts, Decides.nat_tests}
 use Rattle.std.proofs.lemmas.Grind.{common_steps}
 use Rattle.adf_disk_cmd.proofs.NewVolumes.{MayBeNew, length_new, may_be_new, new_volume}
-use Rattle.adf_disk_cmd.specs.Builds.{BuildsDisk, HasPlanned, behind_volume, built_disk, given_bytes, given_cylinders, given_line, given_size}
-use Rattle.adf_disk_cmd.specs.Builds.{plan_reply, volume_of, volumes_of}
+use Rattle.adf_disk_cmd.specs.Builds.{BuildsDisk, HasPlanned, behind_volume, built_disk, given_bytes, given_cylinders, given_line, given_size, plan_reply}
+use Rattle.adf_disk_cmd.specs.Builds.{volume_of, volumes_of}
 use Rattle.adf_partitions.proofs.PlanSizes.{blocks_fit, cylinders_fit, plans_at}
 use Rattle.adf_partitions.proofs.PlannedDisk.{planned_disk}
 use Rattle.adf_partitions.proofs.PlannedVolumes.{disk_size, volumes_stand}

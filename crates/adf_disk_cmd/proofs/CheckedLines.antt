@@ -1,6 +1,6 @@
 -- The lines of partitions, one behind the other.
-use Rattle.std.proofs.Common.{◌≡◌, ◌&&◌, ◌<◌, ◌+◌, ◌++◌, ◌∙◌, ℕ, Bool, true, false, List, [], ◌∷◌, Ok, ap₂, arith, refl, subst, sym}
-use Rattle.std.proofs.Common.{None, Some, append-nil, append_assoc, codes, drop, get_or, length}
+use Rattle.std.proofs.Common.{◌≡◌, ◌&&◌, ◌<◌, ◌+◌, ◌++◌, ◌∙◌, ℕ, Bool, true, false, List, [], ◌∷◌, Ok, ap₂, arith, refl, subst, sym, None, Some, append-nil}
+use Rattle.std.proofs.Common.{append_assoc, codes, drop, get_or, length}
 use Rattle.std.proofs.Math.Seq.{drop-cons}
 use Rattle.std.proofs.Math.Bool.{and-true}
 use Rattle.std.proofs.lemmas.Grind.{common_steps}

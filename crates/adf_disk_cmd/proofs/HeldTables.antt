@@ -1,7 +1,7 @@
 -- What is told of a disk of which only the blocks that may have tables are held.
 -- Letters: all is an input, bytes what is held of it, len how many it has; n is the number of its blocks that count.
-use Rattle.std.proofs.Common.{◌≡◌, ◌+◌, ◌/◌, ◌∙◌, ℕ, Bool, true, false, List, Option}
-use Rattle.std.proofs.Common.{None, Some, IfSome, ap, arith, length, length-take, min, refl, subst, sym, take}
+use Rattle.std.proofs.Common.{◌≡◌, ◌+◌, ◌/◌, ◌∙◌, ℕ, Bool, true, false, List, Option, None, Some, IfSome, ap, arith, length, length-take, min, refl, subst, sym}
+use Rattle.std.proofs.Common.{take}
 use Rattle.std.proofs.lemmas.List.{take-take}
 use Rattle.adf_disk_cmd.specs.Answers.{DiskAnswer, OfFault, OfPartitions}
 use Rattle.adf_disk_cmd.specs.Lines.{list_lines}

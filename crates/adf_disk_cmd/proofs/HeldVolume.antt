@@ -1,7 +1,7 @@
 -- What is told of a disk of which the blocks that may have tables and the bytes of one volume are held.
 -- Letters: as in proofs/HeldTables; tables are the first t bytes of all, q is the place of the volume, f its first byte and b how many it has.
-use Rattle.std.proofs.Common.{◌≡◌, ◌≤◌, ◌+◌, ◌-◌, ◌*◌, ◌/◌, ◌∙◌, ◌++◌, [], ℕ, List, Option, None, Some, Result, Ok, Err, IfOk, IfSome, inl, inr, ap}
-use Rattle.std.proofs.Common.{append-nil, arith, drop, false, length, length-drop, length-take, min, refl, subst, sym, take}
+use Rattle.std.proofs.Common.{◌≡◌, ◌≤◌, ◌+◌, ◌-◌, ◌*◌, ◌/◌, ◌∙◌, ◌++◌, [], ℕ, List, Option, None, Some, Result, Ok, Err, IfOk, IfSome, inl, inr, ap, append-nil}
+use Rattle.std.proofs.Common.{arith, drop, false, length, length-drop, length-take, min, refl, subst, sym, take}
 use Rattle.std.proofs.Math.ListN.{drop_of_length-le}
 use Rattle.std.proofs.Math.Seq.{take-add}
 use Rattle.std.specs.Prelude.{Bool, bytes_eq, ◌||◌, ◌∷◌}

@@ -3,8 +3,7 @@ use Rattle.std.proofs.Common.{◌≡◌, ◌≤◌, ◌-◌, ◌*◌, ◌∙◌,
 use Rattle.std.proofs.lemmas.Grind.{common_steps}
 use Rattle.adf_base.specs.Dates.{IsStamp}
 use Rattle.adf_base.specs.Words.{with_bytes, word}
-use Rattle.adf_base.specs.declared.hash.Letters.{Letters}
-use Rattle.adf_base.specs.declared.hash.Letters.TheVariants.{Ascii, International}
+use Rattle.adf_base.specs.declared.hash.Letters.{Letters, TheVariants.Ascii, TheVariants.International}
 use Rattle.adf_blocks.specs.Fields.{block_of_fields}
 use Rattle.adf_blocks.specs.Sizes.{is_allowed}
 use Rattle.adf_build.proofs.AllocatedBlocks.{reserved_below}
@@ -17,8 +16,7 @@ use Rattle.adf_build.specs.declared.builder.BuildFault.TheVariants.{Full}
 use Rattle.adf_disk_cmd.specs.Builds.{IsNewVolume, planned_tree}
 use Rattle.adf_cmd.specs.Answers.{Checks}
 use Rattle.adf_volume.specs.declared.types.Types.TheVariants.{WithInternational}
-use Rattle.adf_names.specs.declared.kind.Kind.{Kind}
-use Rattle.adf_names.specs.declared.kind.Kind.TheVariants.{Ofs, Ffs}
+use Rattle.adf_names.specs.declared.kind.Kind.{Kind, TheVariants.Ofs, TheVariants.Ffs}
 use Rattle.adf_partitions.proofs.NumberTests.{le_of}
 use Rattle.adf_partitions.specs.Plans.{planned_type}
 use Rattle.adf_plans.specs.PlanTexts.{has_volume}

@@ -1,11 +1,9 @@
 -- What is asked of a disk has one answer.
 -- Letters: ps are its partitions, p is one of them; s, t whether it is sound, l, m its lines; a, b replies.
-use Rattle.std.proofs.Common.{◌≡◌, ◌&&◌, ◌++◌, ◌∙◌, ℕ, Bool, true, false, List, [], ◌∷◌, Option, None, Some, Result, Ok, Err, inl, inr, ap, ap₂}
-use Rattle.std.proofs.Common.{refl, sym, subst}
-use Rattle.std.proofs.Common.{length, ◌/◌, take, arith}
+use Rattle.std.proofs.Common.{◌≡◌, ◌&&◌, ◌++◌, ◌∙◌, ℕ, Bool, true, false, List, [], ◌∷◌, Option, None, Some, Result, Ok, Err, inl, inr, ap, ap₂, refl, sym}
+use Rattle.std.proofs.Common.{subst, length, ◌/◌, take, arith}
 use Rattle.std.proofs.lemmas.Grind.{common_steps}
-use Rattle.adf_disk_cmd.specs.Answers.{ChecksAll, DiskAnswer, OfBytes}
-use Rattle.adf_disk_cmd.specs.Answers.{OfDisk, OfFault, OfPartitions, TellsReadable, disk_fault_line}
+use Rattle.adf_disk_cmd.specs.Answers.{ChecksAll, DiskAnswer, OfBytes, OfDisk, OfFault, OfPartitions, TellsReadable, disk_fault_line}
 use Rattle.adf_disk_cmd.specs.Builds.{BuildsDisk, plan_reply, refusal}
 use Rattle.adf_disk_cmd.specs.Checks.{AreChecked, TellsPlace, TellsText, TellsVolume, check_status, unchecked_text, why_unchecked}
 use Rattle.adf_disk_cmd.specs.Lines.{name_text, volume_at}

@@ -1,7 +1,7 @@
 -- The bytes of an input that are held, up to where it stands.
 -- Letters: `start` is what the input had at first, a, b and c what is left of it; k is where the held bytes begin, f the first byte of a place, n a count.
-use Rattle.std.proofs.Common.{◌≡◌, ◌<◌, ◌≤◌, ◌+◌, ◌-◌, ◌*◌, ◌∙◌, ◌++◌, ◌∷◌, [], ℕ, List, Option, None, Some, All, ap, append-nil, append_assoc, arith}
-use Rattle.std.proofs.Common.{drop, get_or, length, min, subst, sym, take, length-append, length-drop, length-take, length-take-le}
+use Rattle.std.proofs.Common.{◌≡◌, ◌<◌, ◌≤◌, ◌+◌, ◌-◌, ◌*◌, ◌∙◌, ◌++◌, ◌∷◌, [], ℕ, List, Option, None, Some, All, ap, append-nil, append_assoc, arith, drop}
+use Rattle.std.proofs.Common.{get_or, length, min, subst, sym, take, length-append, length-drop, length-take, length-take-le}
 use Rattle.std.proofs.Math.Seq.{drop-append_seam}
 use Rattle.std.proofs.lemmas.Bool.{cases_lt}
 use Rattle.std.proofs.lemmas.List.{drop-append-le, drop-drop, get_or-drop, map_push, take-append-drop, take-append-le, take_more}

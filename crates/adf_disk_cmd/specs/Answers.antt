@@ -13,8 +13,8 @@ use Rattle.adf_partitions.specs.declared.partition.Partition.{Partition}
 use Rattle.adf_partitions.specs.declared.place.Place.{Place}
 use Rattle.adf_partitions.specs.declared.place.PlaceFault.{PlaceFault}
 use Rattle.adf_partitions.specs.declared.tables.Tables.{Tables}
-use Rattle.adf_file_words.specs.DiskLine.{AreRefusedByDisk, AsksDisk, DiskRequestValue, WantedValue, build, check, disk_file, list, name, number}
-use Rattle.adf_file_words.specs.DiskLine.{survey, volume}
+use Rattle.adf_file_words.specs.DiskLine.{AreRefusedByDisk, AsksDisk, DiskRequestValue, WantedValue, build, check, disk_file, list, name, number, survey}
+use Rattle.adf_file_words.specs.DiskLine.{volume}
 use Rattle.adf_runs.specs.Commands.{Command, Reply, on_output}
 use Rattle.adf_file_runs.specs.FileRuns.{without_files}
 use Rattle.adf_disk_cmd.specs.Builds.{BuildsDisk, refusal}

@@ -1,18 +1,16 @@
 -- What is known of volumes of which not all bytes are held. `all` are the bytes of a disk, `tables` those of its blocks that may have tables, `bytes` what
 -- is held; `checked` are volumes that were checked, q is a place, p a partition.
-use Rattle.std.specs.Prelude.{◌≡◌, ◌≤◌, ◌<◌, ◌*◌, ◌++◌, ◌==◌, ◌&&◌, ◌⊎◌, ℕ, List, Option, None, Bool}
-use Rattle.std.specs.Prelude.{All, IfOk, length, map, min, take}
+use Rattle.std.specs.Prelude.{◌≡◌, ◌≤◌, ◌<◌, ◌*◌, ◌++◌, ◌==◌, ◌&&◌, ◌⊎◌, ℕ, List, Option, None, Bool, All, IfOk, length, map, min, take}
 use Rattle.std.specs.List.{Contains}
 use Rattle.std.specs.Io.KnownBytes.{Consumes}
 use Rattle.adf_base.specs.Words.{block}
-use Rattle.adf_disk_cmd.specs.Checks.{IsVolumeAnswer}
+use Rattle.adf_disk_cmd.specs.Checks.{IsVolumeAnswer, why_unchecked}
 use Rattle.adf_partitions.specs.Disks.{IsDisk}
 use Rattle.adf_partitions.specs.Places.{StatesPlace, end_of, partition_place}
 use Rattle.adf_partitions.specs.declared.layout.TheConstants.{MOST_TABLES}
 use Rattle.adf_partitions.specs.declared.partition.Partition.{Partition}
 use Rattle.adf_partitions.specs.declared.place.Place.{Place}
 use Rattle.adf_partitions.specs.declared.tables.Tables.{Tables}
-use Rattle.adf_disk_cmd.specs.Checks.{why_unchecked}
 use Rattle.adf_disk_cmd.specs.Lines.{volume_at}
 use Rattle.adf_disk_cmd.specs.declared.checking.CheckedVolume.{CheckedVolume}
 use Rattle.adf_disk_cmd.specs.declared.copy_input.TheConstants.{MOST_DISK_BLOCKS}

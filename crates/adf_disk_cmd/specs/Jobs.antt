@@ -2,8 +2,7 @@
 use Rattle.std.specs.Prelude.{◌≡◌}
 use Rattle.adf_file_words.specs.DiskLine.{DiskRequestValue, build}
 use Rattle.adf_disk_cmd.specs.Work.{IsWorkOf}
-use Rattle.adf_disk_cmd.specs.declared.job.Job.{Job}
-use Rattle.adf_disk_cmd.specs.declared.job.Job.TheVariants.{Tell, Build}
+use Rattle.adf_disk_cmd.specs.declared.job.Job.{Job, TheVariants.Tell, TheVariants.Build}
 
 -- the job is that of a request
 abbrev pub IsJobOf : Job → DiskRequestValue → Type 0

@@ -17,10 +17,8 @@ use Rattle.adf_disk_cmd.specs.Builds.{refusal}
 use Rattle.adf_disk_cmd.specs.declared.copy_input.TheConstants.{MOST_DISK_BLOCKS}
 use Rattle.adf_disk_cmd.specs.declared.list_input.TheConstants.{TABLES_LEN}
 use Rattle.adf_disk_cmd.specs.declared.work.TheConstants.{MOST_DISK_BYTES}
-use Rattle.adf_disk_cmd.specs.declared.work.Sought.{Sought}
-use Rattle.adf_disk_cmd.specs.declared.work.Sought.TheVariants.{Numbered, Named}
-use Rattle.adf_disk_cmd.specs.declared.work.Work.{Work}
-use Rattle.adf_disk_cmd.specs.declared.work.Work.TheVariants.{List as ListAll, Check, Survey, Volume}
+use Rattle.adf_disk_cmd.specs.declared.work.Sought.{Sought, TheVariants.Numbered, TheVariants.Named}
+use Rattle.adf_disk_cmd.specs.declared.work.Work.{Work, TheVariants.List as ListAll, TheVariants.Check, TheVariants.Survey, TheVariants.Volume}
 
 -- what is wanted, as the work keeps it
 abbrev pub sought_value : Sought → WantedValue

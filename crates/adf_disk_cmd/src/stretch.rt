@@ -1,7 +1,7 @@
 // What is held of a disk while it is read.
 
-ghost use Rattle.std.specs.Prelude.{◌≡◌, ◌<◌, ◌≤◌, ◌+◌, ◌*◌, ◌-◌, ◌++◌, [], ℕ, false};
-ghost use Rattle.std.specs.Prelude.{All, IfOk, List, OnOk, Option, Some, drop, is_err, length, take, vec_len};
+ghost use Rattle.std.specs.Prelude.{◌≡◌, ◌<◌, ◌≤◌, ◌+◌, ◌*◌, ◌-◌, ◌++◌, [], ℕ, false, All, IfOk, List, OnOk, Option, Some, drop};
+ghost use Rattle.std.specs.Prelude.{is_err, length, take, vec_len};
 ghost use Rattle.std.specs.List.Sorted.{IsNonDecreasingBy};
 ghost use Rattle.std.specs.Io.KnownBytes.{Consumes, IsAtEnd};
 ghost use Rattle.adf_disk_cmd.specs.HeldChecks.{BeginsFrom, IsStretch, IsWithin, first_of_place};

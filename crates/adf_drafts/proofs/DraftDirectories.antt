@@ -1,7 +1,7 @@
 -- The directories of a draft: what has room in them, and how they stay when an entry is put in the draft.
 -- Letters: l the letters whose case is ignored.
-use Rattle.std.proofs.Common.{◌≡◌, ◌≢◌, ℕ, ◌+◌, ◌-◌, ◌<◌, ◌≤◌, List, [], ◌∷◌, ◌++◌, length, get_or, true, Option, Some, None, Result, Ok, Err, arith}
-use Rattle.std.proofs.Common.{sym, refl, ◌∙◌, ap, if◌then◌else◌, is_ok, option_map, OnOk}
+use Rattle.std.proofs.Common.{◌≡◌, ◌≢◌, ℕ, ◌+◌, ◌-◌, ◌<◌, ◌≤◌, List, [], ◌∷◌, ◌++◌, length, get_or, true, Option, Some, None, Result, Ok, Err, arith, sym, refl}
+use Rattle.std.proofs.Common.{◌∙◌, ap, if◌then◌else◌, is_ok, option_map, OnOk}
 use Rattle.std.proofs.lemmas.Bool.{ne_eqb}
 use Rattle.std.proofs.lemmas.List.{get_or_push, length_push, length-map}
 use Rattle.std.proofs.Math.Seq.{take-append_seam}
@@ -17,8 +17,8 @@ use Rattle.adf_tree.specs.declared.tree.RoomFault.{RoomFault, TheVariants.Exists
 use Rattle.adf_names.specs.Texts.{uppers_by}
 use Rattle.adf_drafts.specs.ChildMap.{number_in, Numbers}
 use Rattle.adf_drafts.specs.Draft.{draft_value, in_tree, new_number, addition_node, built, built_more, IsDirectoryOf, IsDraft, IsRoomFor}
-use Rattle.adf_tree.specs.Tree.{added_by, child_by, directory_from_by, free_in, is_dir, moved, parents_of, place_by, rank_by}
-use Rattle.adf_tree.specs.Tree.{room_at_by, room_for_by, IsTreeBy, MayAddBy}
+use Rattle.adf_tree.specs.Tree.{added_by, child_by, directory_from_by, free_in, is_dir, moved, parents_of, place_by, rank_by, room_at_by, room_for_by, IsTreeBy}
+use Rattle.adf_tree.specs.Tree.{MayAddBy}
 use Rattle.adf_tree.proofs.AddRoom.{next_dir_by, room_may_add_by, room_says_by, IsNewBy}
 use Rattle.adf_tree.proofs.ChildLookup.{child_new, child_other, child_says_by, found_is_by, parent_stays}
 use Rattle.adf_drafts.proofs.DraftInvariant.{node_new, node_old, walked_more}

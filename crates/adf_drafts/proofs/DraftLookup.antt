@@ -1,7 +1,7 @@
 -- Where paths lead in a draft.
 -- Letters: l the letters whose case is ignored.
-use Rattle.std.proofs.Common.{◌≡◌, ℕ, ◌+◌, ◌-◌, ◌<◌, ◌≤◌, inl, inr, List, length, get_or, drop, Bool, Option, Some, None, Result, Err, arith, ap}
-use Rattle.std.proofs.Common.{if◌then◌else◌, option_map}
+use Rattle.std.proofs.Common.{◌≡◌, ℕ, ◌+◌, ◌-◌, ◌<◌, ◌≤◌, inl, inr, List, length, get_or, drop, Bool, Option, Some, None, Result, Err, arith, ap, if◌then◌else◌}
+use Rattle.std.proofs.Common.{option_map}
 use Rattle.std.proofs.lemmas.Bool.{cases_eq, ne_eqb}
 use Rattle.std.proofs.lemmas.List.{drop_more}
 use Rattle.adf_base.specs.declared.hash.Letters.{Letters, TheVariants.Ascii}

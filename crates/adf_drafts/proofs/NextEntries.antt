@@ -7,8 +7,8 @@ use Rattle.std.proofs.lemmas.Grind.{common_steps}
 use Rattle.adf_base.specs.declared.hash.Letters.{Letters}
 use Rattle.adf_tree.specs.declared.entry.Body.TheVariants.{Dir}
 use Rattle.adf_tree.specs.declared.entry.Entry.{Entry}
-use Rattle.adf_tree.specs.Tree.{IsTreeBy, MayAddBy, child_by, directory_from_by, free_in, is_child_by, is_dir, is_dir_body, last_of}
-use Rattle.adf_tree.specs.Tree.{new_entry_by, room_at_by, room_for_by}
+use Rattle.adf_tree.specs.Tree.{IsTreeBy, MayAddBy, child_by, directory_from_by, free_in, is_child_by, is_dir, is_dir_body, last_of, new_entry_by, room_at_by}
+use Rattle.adf_tree.specs.Tree.{room_for_by}
 use Rattle.adf_tree.proofs.AddRoom.{next_dir_by}
 use Rattle.adf_tree.proofs.ChildLookup.{child_is_by, child_says_by, found_is_by, is_child_from_by, no_children_by}
 use Rattle.adf_drafts.proofs.DraftLookup.{dir_at, past_by}

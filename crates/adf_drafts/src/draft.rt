@@ -1,6 +1,7 @@
 // Trees under construction.
 
-ghost use Rattle.std.specs.Prelude.{◌≡◌, ◌≤◌, ◌+◌, ◌++◌, ◌∷◌, ℕ, List, [], length, is_ok, if◌then◌else◌, Err, IfOk, IfErr, IfNone, IfSome, OnOk, OnErr};
+ghost use Rattle.std.specs.Prelude.{◌≡◌, ◌≤◌, ◌+◌, ◌++◌, ◌∷◌, ℕ, List, [], length, is_ok, if◌then◌else◌, Err, IfOk, IfErr};
+ghost use Rattle.std.specs.Prelude.{IfNone, IfSome, OnOk, OnErr};
 ghost use Rattle.adf_base.specs.declared.hash.Letters.TheVariants.{Ascii};
 ghost use Rattle.adf_tree.specs.Tree.{directory_from_by, new_entry_by, room_at_by, room_for_by, with_entry_by, IsAnswer};
 ghost use Rattle.adf_tree.specs.Paths.{AddsOneBy};

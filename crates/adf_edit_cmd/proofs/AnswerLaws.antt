@@ -5,8 +5,7 @@ use Rattle.adf_edit_cmd.specs.Answers.{EditAnswer, Edits}
 use Rattle.adf_edit_cmd.specs.Edited.{IsEdited, StopsInput}
 use Rattle.adf_edit_cmd.specs.Stops.{stop_text}
 use Rattle.adf_edit_cmd.specs.declared.program.TheConstants.{MOST_INPUT_BYTES}
-use Rattle.adf_edit_cmd.specs.declared.stop.Stop.{Stop}
-use Rattle.adf_edit_cmd.specs.declared.stop.Stop.TheVariants.{NoMemory}
+use Rattle.adf_edit_cmd.specs.declared.stop.Stop.{Stop, TheVariants.NoMemory}
 use Rattle.adf_runs.proofs.Endings.{does_weaker, ends_weaker}
 use Rattle.adf_runs.specs.Commands.{Reply, on_errors, on_output}
 use Rattle.adf_runs.specs.Outcomes.{Does, EndsBy}

@@ -1,6 +1,6 @@
 -- Edits one after the other, and the bytes of their files.
-use Rattle.std.proofs.Common.{◌≡◌, ◌<◌, ◌≤◌, ◌+◌, ℕ, suc, List, [], ◌∷◌, ◌++◌, take, Option, Some, None, Result, Ok, Err, length, map, drop}
-use Rattle.std.proofs.Common.{get_or, nat_lt, true, false, ap, refl, sym, subst, inl, inr, arith, ◌∙◌}
+use Rattle.std.proofs.Common.{◌≡◌, ◌<◌, ◌≤◌, ◌+◌, ℕ, suc, List, [], ◌∷◌, ◌++◌, take, Option, Some, None, Result, Ok, Err, length, map, drop, get_or, nat_lt}
+use Rattle.std.proofs.Common.{true, false, ap, refl, sym, subst, inl, inr, arith, ◌∙◌}
 use Rattle.std.proofs.Math.Seq.{drop-cons, take-append_seam}
 use Rattle.std.proofs.lemmas.List.{drop_all, length-map}
 use Rattle.adf_blocks.specs.Sizes.{blocks}
@@ -20,8 +20,7 @@ use Rattle.adf_volume.specs.Fits.{Fits, FitsBy}
 use Rattle.adf_volume.specs.Layout.{Layout}
 use Rattle.adf_edit_cmd.specs.Edited.{IsLaidOver, IsShallow, StopsOn, StopsTree, outline_after, next_outline, with_boot_by}
 use Rattle.adf_edit_cmd.specs.Script.{ScriptValue, behind_file, behind_files, bytes_taken}
-use Rattle.adf_edit_cmd.specs.declared.stop.Stop.{Stop}
-use Rattle.adf_edit_cmd.specs.declared.stop.Stop.TheVariants.{Line, NoRoom}
+use Rattle.adf_edit_cmd.specs.declared.stop.Stop.{Stop, TheVariants.Line, TheVariants.NoRoom}
 
 pub after_ok : (n : ℕ) (e : EditValue) (es : List EditValue) (given : List ℕ) (o p : OutlineValue) → edited e given o ≡ Ok p
     → outline_after n (e ∷ es) given o ≡ outline_after (n + 1) es (behind_file e given) p

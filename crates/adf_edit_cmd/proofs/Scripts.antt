@@ -1,6 +1,6 @@
 -- The lines of a script. left is what is left of a text, es are edits.
-use Rattle.std.proofs.Common.{◌≡◌, ◌<◌, ◌≤◌, ℕ, List, [], ◌∷◌, ◌++◌, Some, None, Ok, Err, length, map, ap, refl, sym, subst}
-use Rattle.std.proofs.Common.{arith, append-nil, append_assoc, ◌∙◌}
+use Rattle.std.proofs.Common.{◌≡◌, ◌<◌, ◌≤◌, ℕ, List, [], ◌∷◌, ◌++◌, Some, None, Ok, Err, length, map, ap, refl, sym, subst, arith, append-nil, append_assoc}
+use Rattle.std.proofs.Common.{◌∙◌}
 use Rattle.std.proofs.lemmas.List.{length-map, map-append}
 use Rattle.adf_base.specs.declared.hash.Letters.{Letters}
 use Rattle.adf_edits.specs.Edits.{EditValue, edit_value}
@@ -10,8 +10,7 @@ use Rattle.adf_plans.proofs.TextLines.{shorter}
 use Rattle.adf_edit_cmd.specs.Lines.{SaysEdit}
 use Rattle.adf_edit_cmd.specs.Script.{AreEdits, IsNextRead, IsScript, IsScriptFault, ending}
 use Rattle.adf_edit_cmd.specs.declared.script.TheConstants.{MOST_LINES}
-use Rattle.adf_edit_cmd.specs.declared.stop.Stop.{Stop}
-use Rattle.adf_edit_cmd.specs.declared.stop.Stop.TheVariants.{BadLine, NoMemory}
+use Rattle.adf_edit_cmd.specs.declared.stop.Stop.{Stop, TheVariants.BadLine, TheVariants.NoMemory}
 
 no_empty_line : (e : EditValue) → ¬ SaysEdit (first_line []) e
 unfolding before_byte

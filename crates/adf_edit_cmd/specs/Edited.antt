@@ -4,8 +4,7 @@ use Rattle.adf_blocks.specs.Sizes.{blocks}
 use Rattle.adf_build.specs.Building.{IsBuildable, need_of}
 use Rattle.adf_build.specs.Laid.{volume}
 use Rattle.adf_build.specs.Plan.{blocks_needed, planned}
-use Rattle.adf_base.specs.declared.hash.Letters.{Letters}
-use Rattle.adf_base.specs.declared.hash.Letters.TheVariants.{Ascii, International}
+use Rattle.adf_base.specs.declared.hash.Letters.{Letters, TheVariants.Ascii, TheVariants.International}
 use Rattle.adf_boot_blocks.specs.Writing.{restored, with_boot}
 use Rattle.adf_edits.specs.Edits.{EditValue, edited}
 use Rattle.adf_edits.specs.Outline.{IsWithoutRoomBy, OutlineValue, outline_of, tree_of_outline_by}

@@ -2,8 +2,8 @@
 
 ghost use Rattle.std.specs.Prelude.{◌≡◌, ◌≤◌, IfOk, IfErr, IfSome, IfNone, None, Some, length, map};
 ghost use Rattle.adf_edits.specs.Edits.{edit_value};
-ghost use Rattle.adf_edit_cmd.specs.Script.{IsNextRead, IsScript, IsScriptFault, behind_file, behind_files, ending};
-ghost use Rattle.adf_edit_cmd.specs.Script.{is_end, letters_asked, bytes_taken};
+ghost use Rattle.adf_edit_cmd.specs.Script.{IsNextRead, IsScript, IsScriptFault, behind_file, behind_files, ending, is_end};
+ghost use Rattle.adf_edit_cmd.specs.Script.{letters_asked, bytes_taken};
 ghost use Rattle.adf_edit_cmd.specs.declared.script.TheConstants.{MOST_LINES};
 
 use crate::lines::read_edit;

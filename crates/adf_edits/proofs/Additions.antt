@@ -1,5 +1,6 @@
 -- Additions that all have room, and the additions of a tree. xs are additions, x is the next one, es the entries of a tree.
-use Rattle.std.proofs.Common.{◌≡◌, ◌≢◌, ◌<◌, ◌≤◌, ◌++◌, ◌∷◌, ◌+◌, ◌-◌, ◌==◌, ℕ, List, [], Some, Ok, Err, Option, Result, length, get_or, take, arith, ap, sym, refl, subst, inl, inr, ◌∙◌, IsOk, OnOk, is_ok, if◌then◌else◌, zero, suc}
+use Rattle.std.proofs.Common.{◌≡◌, ◌≢◌, ◌<◌, ◌≤◌, ◌++◌, ◌∷◌, ◌+◌, ◌-◌, ◌==◌, ℕ, List, [], Some, Ok, Err, Option, Result, length, get_or, take, arith, ap, sym}
+use Rattle.std.proofs.Common.{refl, subst, inl, inr, ◌∙◌, IsOk, OnOk, is_ok, if◌then◌else◌, zero, suc}
 use Rattle.std.proofs.Math.Seq.{take-append_seam, get_or-append_seam}
 use Rattle.std.proofs.Math.ListN.{get_or-append}
 use Rattle.std.proofs.lemmas.Bool.{cases_Bool, eqb-true, ne_eqb, Decides.nat_tests}
@@ -7,9 +8,8 @@ use Rattle.std.proofs.lemmas.List.{length-append, take_all, take_more, Sums.fold
 use Rattle.std.proofs.lemmas.Option.{get_or_from_slice_get, slice_get-get_or}
 use Rattle.std.specs.List.{slice_get}
 use Rattle.std.specs.Option.{IsSome}
-use Rattle.adf_base.specs.declared.hash.Letters.{Letters, TheVariants.Ascii}
+use Rattle.adf_base.specs.declared.hash.Letters.{Letters, TheVariants.Ascii, TheVariants.Ascii}
 use Rattle.std.proofs.lemmas.Grind.{common_steps}
-use Rattle.adf_base.specs.declared.hash.Letters.TheVariants.{Ascii}
 use Rattle.adf_tree.proofs.Lists.{some_in}
 use Rattle.adf_tree.specs.declared.entry.Entry.{Entry}
 use Rattle.adf_tree.specs.declared.tree.AddFault.{AddFault, TheVariants.NoMemory}
@@ -17,7 +17,8 @@ use Rattle.adf_tree.specs.declared.tree.RoomFault.{RoomFault}
 use Rattle.adf_tree.specs.Additions.{Addition, AllHaveRoom, AllHaveRoomBy, entries_of_additions, entries_of_additions_by, with_addition, with_addition_by}
 use Rattle.adf_tree.specs.Faults.{add_fault}
 use Rattle.adf_tree.specs.Tree.{entry, room_for, room_for_by, with_entry_by, IsAnswer, IsTree, Tree}
-use Rattle.adf_edits.specs.Outline.{IsWithoutRoomBy, OutlineValue, addition_for, tree_additions, tree_of_outline_by, with_addition_in, with_addition_for, with_first}
+use Rattle.adf_edits.specs.Outline.{IsWithoutRoomBy, OutlineValue, addition_for, tree_additions, tree_of_outline_by, with_addition_in, with_addition_for}
+use Rattle.adf_edits.specs.Outline.{with_first}
 
 -- the tree of one addition more
 pub tree_more_by : (ls : Letters) (xs : List Addition) (x : Addition)

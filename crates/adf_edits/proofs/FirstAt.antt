@@ -1,7 +1,7 @@
 -- A path leads to the content of the first addition that has it.
 -- Letters: xs are additions; x, y additions; p, w tests of additions; f, g what is done to them and to their content; q a path.
-use Rattle.std.proofs.Common.{◌≡◌, ℕ, suc, List, [], ◌∷◌, ◌<◌, inl, inr, length, get_or, map, refl, sym, ap, ◌∙◌, arith}
-use Rattle.std.proofs.Common.{true, false, Bool, None, Option, Some, not, option_map}
+use Rattle.std.proofs.Common.{◌≡◌, ℕ, suc, List, [], ◌∷◌, ◌<◌, inl, inr, length, get_or, map, refl, sym, ap, ◌∙◌, arith, true, false, Bool, None, Option, Some}
+use Rattle.std.proofs.Common.{not, option_map}
 use Rattle.std.specs.List.{filter, find, list_any}
 use Rattle.std.specs.Option.{option_and_then, option_or}
 use Rattle.std.proofs.lemmas.Bool.{cases_Bool}

@@ -18,8 +18,8 @@ use Rattle.adf_tree.proofs.Lists.{some_in}
 use Rattle.std.specs.Option.{option_or}
 use Rattle.std.proofs.lemmas.Grind.{common_steps}
 use Rattle.adf_edits.specs.declared.edits.EditFault.{EditFault}
-use Rattle.adf_edits.specs.Edits.{has_directory, has_path, is_at, leads_to_directory, is_directory_at, is_within, move_fault, moved_additions}
-use Rattle.adf_edits.specs.Edits.{rebased, room_fault, unless, without}
+use Rattle.adf_edits.specs.Edits.{has_directory, has_path, is_at, leads_to_directory, is_directory_at, is_within, move_fault, moved_additions, rebased}
+use Rattle.adf_edits.specs.Edits.{room_fault, unless, without}
 use Rattle.adf_edits.specs.Paths.{is_at_or_under}
 use Rattle.adf_edits.proofs.PlacedInOrder.{KeepsDirectory, PlacedAfter, any_kept, filtered_after, nothing_before, placed, roomy}
 use Rattle.adf_edits.proofs.Places.{HasPlace, same_paths, some_passes}

@@ -1,10 +1,10 @@
 -- What an edit makes of additions that all have room, has room.
 -- Letters: xs are additions, ys what the edit makes of them; x, y are additions, front those before them.
-use Rattle.std.proofs.Common.{◌≡◌, ◌≢◌, ℕ, List, [], ◌∷◌, ◌++◌, inl, inr, ◌==◌, length, refl, sym, ap, subst, ◌∙◌, arith, true, false, Bool, Some, None, Ok, Option, Result, not, ◌-◌, get_or, map, nat_lt, take}
+use Rattle.std.proofs.Common.{◌≡◌, ◌≢◌, ℕ, List, [], ◌∷◌, ◌++◌, inl, inr, ◌==◌, length, refl, sym, ap, subst, ◌∙◌, arith, true, false, Bool, Some, None, Ok}
+use Rattle.std.proofs.Common.{Option, Result, not, ◌-◌, get_or, map, nat_lt, take}
 use Rattle.std.specs.List.{All, list_any}
 use Rattle.std.proofs.lemmas.Bool.{and_from, and_parts, cases_Bool, eqb-false, false_from_ne_true, lt-ltb}
-use Rattle.std.proofs.lemmas.List.{length-map, length-take-le, Folds.list_any_at}
-use Rattle.std.proofs.lemmas.List.Folds.{list_any_at}
+use Rattle.std.proofs.lemmas.List.{length-map, length-take-le, Folds.list_any_at, Folds.list_any_at}
 use Rattle.std.proofs.lemmas.Grind.{common_steps}
 use Rattle.adf_names.specs.Texts.{uppers}
 use Rattle.adf_tree.specs.Additions.{Addition, AllHaveRoom}
@@ -12,8 +12,7 @@ use Rattle.adf_tree.specs.Tree.{parents_of}
 use Rattle.adf_tree.proofs.TreeOfAdditions.{all_built}
 use Rattle.adf_edits.specs.declared.edits.EditFault.{EditFault}
 use Rattle.adf_edits.specs.declared.edits.Change.{Change}
-use Rattle.adf_edits.specs.Edits.{change_fault, changed_at, has_under, is_at, remove_fault, removed}
-use Rattle.adf_edits.specs.Edits.{room_fault, unless, with_new}
+use Rattle.adf_edits.specs.Edits.{change_fault, changed_at, has_under, is_at, remove_fault, removed, room_fault, unless, with_new}
 use Rattle.adf_edits.specs.Paths.{is_under}
 use Rattle.adf_edits.proofs.Additions.{room_more}
 use Rattle.adf_edits.proofs.PlacedInOrder.{KeepsDirectory, changed_after, filtered_after, nothing_before, placed, roomy}

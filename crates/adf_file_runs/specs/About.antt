@@ -3,8 +3,7 @@ use Rattle.std.specs.Prelude.{◌≡◌, ℕ, Bool, false, List, [], ◌∷◌, 
 use Rattle.std.specs.Option.{option_or}
 use Rattle.std.specs.Str.{bytes_eq}
 use Rattle.adf_file_runs.specs.declared.about.About.{About}
-use Rattle.adf_file_runs.specs.declared.about.Telling.{Telling}
-use Rattle.adf_file_runs.specs.declared.about.Telling.TheVariants.{Help, Version}
+use Rattle.adf_file_runs.specs.declared.about.Telling.{Telling, TheVariants.Help, TheVariants.Version}
 
 -- what a lone argument asks of the program itself
 abbrev pub telling_named : List ℕ → Option Telling

@@ -1,8 +1,7 @@
 // What opens files by their names.
 
 ghost use Rattle.std.specs.Prelude.{◌≡◌, ◌≢◌, Bool, ℕ, false, IfErr, IfOk, IfSome, List, None, OnErr, OnOk, Option, Some, true};
-ghost use Rattle.adf_file_runs.specs.declared.files.Unopened.{Unopened};
-ghost use Rattle.adf_file_runs.specs.declared.files.Unopened.TheVariants.{NotText};
+ghost use Rattle.adf_file_runs.specs.declared.files.Unopened.{Unopened, TheVariants.NotText};
 ghost use Rattle.adf_file_runs.specs.Files.{SystemOpens, unopened_text};
 
 use adf_runs::{SeekingDevice, Source};

@@ -4,10 +4,8 @@ use Rattle.std.specs.Str.{bytes_eq}
 use Rattle.clap.specs.Words.{App, Row, Rule, Text, fault_of, first_of, matches_of, new_app, new_rule, subcommand_of, with_rule, with_subcommand}
 use Rattle.adf_words.specs.Arguments.{bare_app}
 use Rattle.adf_file_words.specs.FileArgument.{file_matched, file_rule, with_file}
-use Rattle.adf_file_words.specs.declared.boot_line.BootRequest.{BootRequest}
-use Rattle.adf_file_words.specs.declared.boot_line.BootRequest.TheVariants.{Tell, Install, Clear, Copy}
-use Rattle.adf_words.specs.declared.command_line.ArgsError.{ArgsError}
-use Rattle.adf_words.specs.declared.command_line.ArgsError.TheVariants.{NoMemory, Usage}
+use Rattle.adf_file_words.specs.declared.boot_line.BootRequest.{BootRequest, TheVariants.Tell, TheVariants.Install, TheVariants.Clear, TheVariants.Copy}
+use Rattle.adf_words.specs.declared.command_line.ArgsError.{ArgsError, TheVariants.NoMemory, TheVariants.Usage}
 
 -- the argument BOOTFILE
 abbrev pub boot_rule : Rule

@@ -6,12 +6,10 @@ use Rattle.clap.specs.Words.{App, Row, Rule, Text, fault_of, first_of, new_app, 
 use Rattle.adf_words.specs.Arguments.{bare_app}
 use Rattle.adf_file_words.specs.FileArgument.{file_matched, file_rule, with_file}
 use Rattle.adf_file_words.specs.SurveyLine.{number_named}
-use Rattle.adf_words.specs.declared.command_line.ArgsError.{ArgsError}
-use Rattle.adf_words.specs.declared.command_line.ArgsError.TheVariants.{NoMemory, Usage}
+use Rattle.adf_words.specs.declared.command_line.ArgsError.{ArgsError, TheVariants.NoMemory, TheVariants.Usage}
 use Rattle.adf_file_words.specs.declared.disk_line.DiskRequest.{DiskRequest}
 use Rattle.adf_file_words.specs.declared.disk_line.DiskRequest.TheVariants.{List as ListAll, Check, Survey, Volume, Build}
-use Rattle.adf_file_words.specs.declared.disk_line.Wanted.{Wanted}
-use Rattle.adf_file_words.specs.declared.disk_line.Wanted.TheVariants.{Number, Name}
+use Rattle.adf_file_words.specs.declared.disk_line.Wanted.{Wanted, TheVariants.Number, TheVariants.Name}
 
 -- the argument NAME
 abbrev pub name_rule : Rule

@@ -3,8 +3,7 @@ use Rattle.std.specs.Prelude.{◌≡◌, List, [], Bool, true, Some, codes, unwr
 use Rattle.clap.specs.Words.{App, Row, Rule, Text, all_of, fault_of, first_of, matches_of, new_app, new_rule, with_rule}
 use Rattle.clap.specs.declared.builder.action.ArgAction.TheVariants.{Append, SetTrue}
 use Rattle.adf_words.specs.Arguments.{is_text}
-use Rattle.adf_words.specs.declared.command_line.ArgsError.{ArgsError}
-use Rattle.adf_words.specs.declared.command_line.ArgsError.TheVariants.{NoMemory, Usage}
+use Rattle.adf_words.specs.declared.command_line.ArgsError.{ArgsError, TheVariants.NoMemory, TheVariants.Usage}
 
 -- what a command line asks for: whether names that are read end in zero bytes, whether types 2 and 3 are accepted too, and the names
 pub record ShelfOrder : Type 0 where

@@ -2,19 +2,15 @@
 use Rattle.std.specs.Prelude.{◌≡◌, ◌⊎◌, ◌≤◌, ◌&&◌, ◌||◌, ℕ, List, [], Bool, Option, Some, None, IfSome, codes, is_some, length, nat_le, option_map}
 use Rattle.std.specs.Prelude.{if◌then◌else◌}
 use Rattle.std.specs.Option.{option_and_then}
-use Rattle.std.specs.Str.{all_ascii_digits, bytes_eq}
-use Rattle.std.specs.Str.Parse.{digits_value}
-use Rattle.clap.specs.Words.{App, Row, Rule, Text, fault_of, first_of, matches_of, new_app, new_rule, subcommand_of, with_rule}
-use Rattle.clap.specs.Words.{with_subcommand}
+use Rattle.std.specs.Str.{all_ascii_digits, bytes_eq, Parse.digits_value}
+use Rattle.clap.specs.Words.{App, Row, Rule, Text, fault_of, first_of, matches_of, new_app, new_rule, subcommand_of, with_rule, with_subcommand}
 use Rattle.clap.specs.declared.builder.action.ArgAction.TheVariants.{SetTrue}
 use Rattle.adf_blocks.specs.declared.layout.TheConstants.{MOST_BLOCKS}
 use Rattle.adf_words.specs.Arguments.{bare_app, cat_app, is_text, list_rule}
 use Rattle.adf_file_words.specs.FileArgument.{file_matched, file_rule}
-use Rattle.adf_words.specs.declared.command_line.ArgsError.{ArgsError}
-use Rattle.adf_words.specs.declared.command_line.ArgsError.TheVariants.{NoMemory, Usage}
+use Rattle.adf_words.specs.declared.command_line.ArgsError.{ArgsError, TheVariants.NoMemory, TheVariants.Usage}
 use Rattle.adf_file_words.specs.declared.survey_line.Inquiry.{Inquiry}
-use Rattle.adf_file_words.specs.declared.survey_line.Question.{Question}
-use Rattle.adf_file_words.specs.declared.survey_line.Question.TheVariants.{Report, List as ListAll, Cat, Rescue}
+use Rattle.adf_file_words.specs.declared.survey_line.Question.{Question, TheVariants.Report, TheVariants.List as ListAll, TheVariants.Cat, TheVariants.Rescue}
 
 -- the option --blocks N
 abbrev pub blocks_rule : Rule

@@ -3,7 +3,9 @@
 ghost use Rattle.std.specs.Prelude.{◌≡◌, ◌==◌, IfOk, IfErr, ℕ, List, [], ◌∷◌, None, Some, codes, false, option_map};
 ghost use Rattle.clap.specs.Words.{app_of, fault_of, found_of, matches_of, rows_of, subcommand_of, subcommand_rows_of};
 ghost use Rattle.clap.specs.declared.builder.command.Command.TheViews.{out-Command};
-ghost use Rattle.adf_file_words.specs.BootLine.{AreRefusedByBoot, AsksBoot, AsksBootOf, ExplainsBootArgs, boot_app, boot_file, boot_file_met, boot_met, boot_request_named, boot_request_value, clear, copy, copy_app, install, tell, told_app};
+ghost use Rattle.adf_file_words.specs.BootLine.{AreRefusedByBoot, AsksBoot, AsksBootOf, ExplainsBootArgs, boot_app, boot_file};
+ghost use Rattle.adf_file_words.specs.BootLine.{boot_file_met, boot_met, boot_request_named, boot_request_value, clear, copy};
+ghost use Rattle.adf_file_words.specs.BootLine.{copy_app, install, tell, told_app};
 ghost use Rattle.adf_words.specs.CommandLine.{texts_of};
 ghost use Rattle.adf_words.specs.declared.command_line.ArgsError.TheVariants.{Usage};
 

@@ -7,7 +7,10 @@ ghost use Rattle.clap.specs.declared.builder.command.Command.TheViews.{out-Comma
 ghost use Rattle.adf_words.specs.CommandLine.{texts_of};
 ghost use Rattle.adf_words.specs.declared.command_line.ArgsError.TheVariants.{Usage};
 ghost use Rattle.adf_file_words.specs.FileArgument.{file_matched, file_meant, with_file};
-ghost use Rattle.adf_file_words.specs.DiskLine.{AreRefusedByDisk, AsksDisk, AsksDiskOf, disk_file, ExplainsDiskArgs, build, check, disk_app, disk_met, disk_request_named, disk_request_value, list, lists_and_checks, name, number, survey, volume, volume_app, wanted_named, wanted_value};
+ghost use Rattle.adf_file_words.specs.DiskLine.{AreRefusedByDisk, AsksDisk, AsksDiskOf, disk_file, ExplainsDiskArgs, build};
+ghost use Rattle.adf_file_words.specs.DiskLine.{check, disk_app, disk_met, disk_request_named, disk_request_value, list};
+ghost use Rattle.adf_file_words.specs.DiskLine.{lists_and_checks, name, number, survey, volume, volume_app, wanted_named};
+ghost use Rattle.adf_file_words.specs.DiskLine.{wanted_value};
 
 use crate::file_argument::{file_argument, file_matched, with_file};
 use crate::survey_line::number_named;

@@ -20,8 +20,8 @@ use Rattle.adf_volume.proofs.Lists.{in_left, in_right}
 use Rattle.adf_volume.proofs.Roles.{head_role, renumbered_same, same_of}
 use Rattle.adf_volume.specs.Parts.{renumbered}
 use Rattle.adf_findings.specs.Demands.{demands_in}
-use Rattle.adf_findings.specs.Survey.{FindingValue, finding, JudgementValue, Judged, BootTells, RootJudged, RootTells, begun, is_other_type}
-use Rattle.adf_findings.specs.Survey.{Course, after, IsNext, IsCourse, IsDone, IsSurvey}
+use Rattle.adf_findings.specs.Survey.{FindingValue, finding, JudgementValue, Judged, BootTells, RootJudged, RootTells, begun, is_other_type, Course, after}
+use Rattle.adf_findings.specs.Survey.{IsNext, IsCourse, IsDone, IsSurvey}
 use Rattle.adf_findings.specs.Survey.JudgementValue.{clean, reported, skipped}
 use Rattle.adf_findings.specs.Survey.IsCourse.{start, step}
 use Rattle.adf_findings.specs.Survey.BootTells.{clean_boot, other_type}

@@ -1,7 +1,7 @@
 // Comparison of the bitmap with the blocks that are owned.
 
-ghost use Rattle.std.specs.Prelude.{◌≡◌, ◌≤◌, ◌<◌, ◌+◌, ◌-◌, ◌*◌, ◌%◌, ◌||◌, ◌↔◌, ℕ, false};
-ghost use Rattle.std.specs.Prelude.{map, min, slice_index_or, IsBitSet, IsTrue, OnOk};
+ghost use Rattle.std.specs.Prelude.{◌≡◌, ◌≤◌, ◌<◌, ◌+◌, ◌-◌, ◌*◌, ◌%◌, ◌||◌, ◌↔◌, ℕ, false, map, min, slice_index_or, IsBitSet};
+ghost use Rattle.std.specs.Prelude.{IsTrue, OnOk};
 ghost use Rattle.adf_blocks.specs.declared.layout.TheConstants.{PAGE_BITS, PAGE_WORDS};
 ghost use Rattle.adf_blocks.specs.Sizes.{blocks};
 ghost use Rattle.std.specs.BTreeMap.{get};

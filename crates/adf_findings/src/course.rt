@@ -11,9 +11,9 @@ ghost use Rattle.adf_findings.specs.Survey.{Course};
 ghost use Rattle.adf_volume.specs.Parts.{role_of};
 ghost use Rattle.adf_findings.specs.Found.{IsFinished};
 ghost use Rattle.adf_findings.specs.Courses.{HasReached, HasReachedData, HasReachedFile, HasReachedPage, HasReachedPart};
-ghost use Rattle.adf_findings.specs.Courses.{HasReachedNamed, HasReachedSlot, Holds, IsGoneOn, IsJudged};
-ghost use Rattle.adf_findings.specs.Courses.{IsNamed, IsNextReference, IsOutcome, IsPageNamed, KeepsNameBy};
-ghost use Rattle.adf_findings.specs.Courses.{due_below, due_in, end_in, next_in, noted, table_block_in};
+ghost use Rattle.adf_findings.specs.Courses.{HasReachedNamed, HasReachedSlot, Holds, IsGoneOn, IsJudged, IsNamed};
+ghost use Rattle.adf_findings.specs.Courses.{IsNextReference, IsOutcome, IsPageNamed, KeepsNameBy, due_below, due_in, end_in};
+ghost use Rattle.adf_findings.specs.Courses.{next_in, noted, table_block_in};
 
 use crate::finding::Finding;
 use crate::forms::Context;

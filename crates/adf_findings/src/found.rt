@@ -8,9 +8,9 @@ ghost use Rattle.adf_tree.specs.NameSet.{has};
 ghost use Rattle.adf_volume.specs.Positions.{position_of};
 ghost use Rattle.adf_volume.specs.Walk.{Walk};
 ghost use Rattle.adf_volume.specs.Parts.{role_of};
-ghost use Rattle.adf_findings.specs.Found.{AreNamed, AreSame, Stands, IsChain, IsKept, IsOwned, IsBlockSkipped};
-ghost use Rattle.adf_findings.specs.Found.{HasValidName, IsPut, IsTaken, IsNextPart, KeepsName, KeepsParts};
-ghost use Rattle.adf_findings.specs.Found.{begun_marks, is_owned, known_at, new_in};
+ghost use Rattle.adf_findings.specs.Found.{AreNamed, AreSame, Stands, IsChain, IsKept, IsOwned, IsBlockSkipped, HasValidName};
+ghost use Rattle.adf_findings.specs.Found.{IsPut, IsTaken, IsNextPart, KeepsName, KeepsParts, begun_marks, is_owned, known_at};
+ghost use Rattle.adf_findings.specs.Found.{new_in};
 ghost use Rattle.adf_findings.specs.Survey.{begun};
 
 use crate::header_name::valid_name;

@@ -1,13 +1,13 @@
 // What is left of files that may be damaged.
 
-ghost use Rattle.std.specs.Prelude.{◌≡◌, ◌≤◌, ◌<◌, ◌^◌, ◌+◌, ◌++◌, ◌↔◌, ℕ, IfOk, IsOk, IfSome, IsSome, OnOk};
-ghost use Rattle.std.specs.Prelude.{replicate, slice_index};
+ghost use Rattle.std.specs.Prelude.{◌≡◌, ◌≤◌, ◌<◌, ◌^◌, ◌+◌, ◌++◌, ◌↔◌, ℕ, IfOk, IsOk, IfSome, IsSome, OnOk, replicate};
+ghost use Rattle.std.specs.Prelude.{slice_index};
 ghost use Rattle.adf_blocks.specs.Sizes.{blocks, count};
 ghost use Rattle.adf_base.specs.Words.{block};
 ghost use Rattle.adf_volume.specs.Image.{kind_of, piece};
 ghost use Rattle.adf_volume.specs.Walk.{FileAt, node_block};
-ghost use Rattle.adf_findings.specs.Remains.{below, blocks_stated, bytes_in, bytes_left, data_at, gap_at, gaps_left, gaps_of, joined_gaps, left_of, named_below};
-ghost use Rattle.adf_findings.specs.Remains.{size_stated, with_gap, with_lost};
+ghost use Rattle.adf_findings.specs.Remains.{below, blocks_stated, bytes_in, bytes_left, data_at, gap_at, gaps_left, gaps_of};
+ghost use Rattle.adf_findings.specs.Remains.{joined_gaps, left_of, named_below, size_stated, with_gap, with_lost};
 ghost use Rattle.adf_findings.specs.Survey.{OnSurvey};
 
 use crate::image::SizedImage;

@@ -1,6 +1,6 @@
 -- A manifest has no fault, and lines have at most one first fault.
-use Rattle.std.proofs.Common.{◌≡◌, ◌<◌, ◌≤◌, ◌+◌, ◌++◌, ◌∙◌, ◌⊎◌, inl, inr, ℕ, zero, suc, true, List, [], ◌∷◌, Result, Ok, Err, refl, sym, ap, subst}
-use Rattle.std.proofs.Common.{arith, length, length-append, take, drop, IsOk}
+use Rattle.std.proofs.Common.{◌≡◌, ◌<◌, ◌≤◌, ◌+◌, ◌++◌, ◌∙◌, ◌⊎◌, inl, inr, ℕ, zero, suc, true, List, [], ◌∷◌, Result, Ok, Err, refl, sym, ap, subst, arith}
+use Rattle.std.proofs.Common.{length, length-append, take, drop, IsOk}
 use Rattle.std.proofs.lemmas.Bool.{cases_order}
 use Rattle.std.proofs.lemmas.List.{append_assoc, same_from_push, take_at, drop_at}
 use Rattle.adf_tree.specs.Tree.{Tree, room_for}
@@ -13,8 +13,8 @@ use Rattle.adf_manifest.specs.Lines.{IsLine, LineValue, LabelLine, StampsLine, E
 use Rattle.adf_manifest.specs.Items.{item_lines}
 use Rattle.std.specs.List.{flat_map}
 use Rattle.std.proofs.lemmas.Grind.{common_steps}
-use Rattle.adf_manifest.specs.Manifest.{EndsInFile, HasBadText, HasFault, HasFaultOf, HasNoRoom, IsBare, IsFirstLineFault, IsLaterFault, IsWell}
-use Rattle.adf_manifest.specs.Manifest.{Manifest, MayStandNext, MayStand, items_of, label_lines, manifest_lines, manifest_tree, stamps_lines}
+use Rattle.adf_manifest.specs.Manifest.{EndsInFile, HasBadText, HasFault, HasFaultOf, HasNoRoom, IsBare, IsFirstLineFault, IsLaterFault, IsWell, Manifest}
+use Rattle.adf_manifest.specs.Manifest.{MayStandNext, MayStand, items_of, label_lines, manifest_lines, manifest_tree, stamps_lines}
 use Rattle.adf_manifest.specs.declared.manifest.ManifestKind.{ManifestKind}
 use Rattle.adf_manifest.specs.declared.manifest.ManifestKind.TheVariants.{BadLine, BadSize, BadText, NoParent, ParentIsFile, Exists}
 use Rattle.adf_manifest.proofs.Forms.{line_same}

@@ -11,18 +11,18 @@ use Rattle.adf_names.specs.declared.kind.Kind.{Kind}
 use Rattle.adf_names.specs.declared.meta.Stamps.{Stamps}
 use Rattle.adf_names.proofs.Spellings.{spelling_some}
 use Rattle.adf_names.proofs.PathParts.{empty_path}
-use Rattle.adf_manifest.specs.Lines.{IsLine, IsRun, LineValue, LabelLine, StampsLine, EntryLine, NoteLine, RunLine, RunValue, line_text, run_line}
-use Rattle.adf_manifest.specs.Lines.{stamps_line, note_line}
+use Rattle.adf_manifest.specs.Lines.{IsLine, IsRun, LineValue, LabelLine, StampsLine, EntryLine, NoteLine, RunLine, RunValue, line_text, run_line, stamps_line}
+use Rattle.adf_manifest.specs.Lines.{note_line}
 use Rattle.adf_manifest.specs.Items.{HaveRoom, IsGivenNote, IsItem, Item, items_tree}
-use Rattle.adf_manifest.specs.Manifest.{Entries, IsPreamble, IsWell, Manifest, preamble_lines, preamble_tree, items_of, manifest_lines}
-use Rattle.adf_manifest.specs.Manifest.{manifest_tree, EndsInFile, IsBare, MayStand}
+use Rattle.adf_manifest.specs.Manifest.{Entries, IsPreamble, IsWell, Manifest, preamble_lines, preamble_tree, items_of, manifest_lines, manifest_tree}
+use Rattle.adf_manifest.specs.Manifest.{EndsInFile, IsBare, MayStand}
 use Rattle.adf_manifest.specs.Reader.{bare}
 use Rattle.adf_base.specs.declared.dates.Stamp.{Stamp}
 use Rattle.adf_manifest.specs.declared.lines.Sort.{Sort, TheVariants.Dir, TheVariants.File}
 use Rattle.adf_manifest.specs.declared.reader.Preamble.{Preamble}
 use Rattle.adf_manifest.proofs.Forms.{of_three}
-use Rattle.adf_manifest.proofs.Growth.{with_run, with_run_lines, last_lines, new_item, new_lines, noted, noted_lines, room_less, well_before}
-use Rattle.adf_manifest.proofs.Growth.{with_last, with_new, item_with, last_is, last_well}
+use Rattle.adf_manifest.proofs.Growth.{with_run, with_run_lines, last_lines, new_item, new_lines, noted, noted_lines, room_less, well_before, with_last}
+use Rattle.adf_manifest.proofs.Growth.{with_new, item_with, last_is, last_well}
 use Rattle.adf_manifest.proofs.StateLaws.{bare_lines, bare_well}
 use Rattle.adf_tree.proofs.Lists.{last_off}
 

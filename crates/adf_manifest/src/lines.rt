@@ -6,7 +6,9 @@ ghost use Rattle.adf_names.specs.declared.meta.Stamps.{Stamps as StampsValue};
 ghost use Rattle.adf_manifest.specs.declared.lines.Sort.{Sort as SortValue};
 ghost use Rattle.adf_base.specs.Dates.{IsStamp};
 ghost use Rattle.adf_names.specs.Meta.{AreStamps};
-ghost use Rattle.adf_manifest.specs.Lines.{DataRun, FillRun, HasForm, IsLine, IsRun, LineValue, RunValue, data_line, entry_line, fields_text, fill_line, label_line, line_text, line_value, note_line, run_line, run_value, sort_text, stamps_line};
+ghost use Rattle.adf_manifest.specs.Lines.{DataRun, FillRun, HasForm, IsLine, IsRun, LineValue, RunValue, data_line, entry_line};
+ghost use Rattle.adf_manifest.specs.Lines.{fields_text, fill_line, label_line, line_text, line_value, note_line, run_line};
+ghost use Rattle.adf_manifest.specs.Lines.{run_value, sort_text, stamps_line};
 
 use crate::digits::{Digits, read_byte, read_word};
 use crate::tokens::{after, cut_at, cut_twice, read_number, read_stamp, read_stamps};

@@ -6,9 +6,11 @@ ghost use Rattle.adf_base.specs.declared.hash.Letters.TheVariants.{Ascii};
 ghost use Rattle.adf_names.specs.PathTexts.{IsPathText};
 ghost use Rattle.adf_drafts.specs.Draft.{IsRoomFor};
 ghost use Rattle.adf_names.specs.Meta.{AreStamps};
-ghost use Rattle.adf_manifest.specs.Lines.{IsLine, IsRun, IsVolumeLine, LabelLine, NoteLine, RunLine, StampsLine, entry_value, label_line, line_text, line_value, run_value, stamps_line, volume_line};
+ghost use Rattle.adf_manifest.specs.Lines.{IsLine, IsRun, IsVolumeLine, LabelLine, NoteLine, RunLine, StampsLine, entry_value};
+ghost use Rattle.adf_manifest.specs.Lines.{label_line, line_text, line_value, run_value, stamps_line, volume_line};
 ghost use Rattle.adf_manifest.specs.Items.{Item, body_of_sort, run_bytes, with_item};
-ghost use Rattle.adf_manifest.specs.Manifest.{Entries, HasBadText, IsFirstLineFault, IsPreamble, IsLaterFault, IsWell, Manifest, preamble_lines, preamble_tree, manifest_lines, manifest_tree};
+ghost use Rattle.adf_manifest.specs.Manifest.{Entries, HasBadText, IsFirstLineFault, IsPreamble, IsLaterFault, IsWell, Manifest};
+ghost use Rattle.adf_manifest.specs.Manifest.{preamble_lines, preamble_tree, manifest_lines, manifest_tree};
 ghost use Rattle.adf_manifest.specs.Reader.{HasNextLine, IsLastEntry, IsReading, StopsIn, Stops, StopsAt, StateMatches, bare};
 
 use crate::lines::{EntryText, Line, Run, Sort, line_of};

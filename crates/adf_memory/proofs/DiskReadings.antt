@@ -3,8 +3,7 @@ use Rattle.std.proofs.Common.{◌≡◌, ℕ, List, length, Option, Some, None, 
 use Rattle.adf_memory.specs.DiskTables.{IsDiskRead, table_disk}
 use Rattle.adf_partitions.proofs.OneAnswer.{no_fault, one_disk, one_fault, one_reading}
 use Rattle.adf_partitions.specs.Disks.{FirstDiskFault, IsDisk}
-use Rattle.adf_partitions.specs.Searches.{AreReadable}
-use Rattle.adf_partitions.specs.Searches.AreReadable.{whole}
+use Rattle.adf_partitions.specs.Searches.{AreReadable, AreReadable.whole}
 use Rattle.adf_partitions.specs.declared.fault.DiskFault.{DiskFault}
 use Rattle.adf_partitions.specs.declared.partition.Partition.{Partition}
 use Rattle.adf_partitions.specs.declared.tables.Tables.{Tables}

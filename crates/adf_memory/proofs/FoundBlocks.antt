@@ -9,8 +9,7 @@ use Rattle.std.proofs.lemmas.List.FromFn.{get_or-map-range_with_len, length-map-
 use Rattle.std.proofs.lemmas.Option.{slice_get-get_or}
 use Rattle.adf_names.specs.declared.kind.Kind.{Kind, TheVariants.Ofs, TheVariants.Ffs}
 use Rattle.adf_blocks.specs.Sizes.{blocks, chunk, count}
-use Rattle.adf_volume.specs.Walk.{Role, Has, FileAt, Walk}
-use Rattle.adf_volume.specs.Walk.Role.{Data}
+use Rattle.adf_volume.specs.Walk.{Role, Has, FileAt, Walk, Role.Data}
 use Rattle.adf_volume.proofs.Roles.{same_refl}
 use Rattle.adf_findings.specs.Files.{named_from}
 use Rattle.adf_findings.specs.Members.{number_at, owning_entry}

@@ -13,8 +13,7 @@ use Rattle.adf_volume.proofs.Gathered.{head_block}
 use Rattle.adf_volume.proofs.Sizes.{size_high}
 use Rattle.adf_findings.specs.declared.remains.Gap.{Gap}
 use Rattle.adf_findings.specs.Remains.{below, bytes_left, data_below, data_found, gaps_left, size_stated}
-use Rattle.adf_findings.specs.Survey.{FindingValue, IsSurvey}
-use Rattle.adf_findings.specs.Survey.IsSurvey.{read, unread}
+use Rattle.adf_findings.specs.Survey.{FindingValue, IsSurvey, IsSurvey.read, IsSurvey.unread}
 use Rattle.adf_findings.proofs.DataFound.{found_named, has_data}
 use Rattle.adf_findings.proofs.OneSurvey.{gathered}
 use Rattle.adf_findings.proofs.Starts.{course_size}

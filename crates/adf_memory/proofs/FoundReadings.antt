@@ -4,9 +4,8 @@
 use Rattle.std.specs.Prelude.{◌⊎◌, cond, min, nat_lt, Option, Some, None, replicate}
 use Rattle.std.specs.List.{range_with_len}
 use Rattle.std.specs.Option.{unwrap_or}
-use Rattle.std.proofs.Common.{◌≡◌, ℕ, zero, suc, List, [], ◌∷◌, ◌++◌, ◌+◌, ◌-◌, ◌*◌, ◌/◌, ◌%◌, ◌≤◌, ◌<◌, length}
-use Rattle.std.proofs.Common.{take, drop, map, inl, inr, refl, sym, ap, subst, ◌∙◌, add-one, arith, append_assoc}
-use Rattle.std.proofs.Common.{append-nil, length-append, length-drop, take_all}
+use Rattle.std.proofs.Common.{◌≡◌, ℕ, zero, suc, List, [], ◌∷◌, ◌++◌, ◌+◌, ◌-◌, ◌*◌, ◌/◌, ◌%◌, ◌≤◌, ◌<◌, length, take, drop, map, inl, inr, refl, sym, ap}
+use Rattle.std.proofs.Common.{subst, ◌∙◌, add-one, arith, append_assoc, append-nil, length-append, length-drop, take_all}
 use Rattle.std.proofs.Math.Seq.{drop-append-add, drop-nil, take-append-add, take-nil}
 use Rattle.std.proofs.Math.ListN.{drop_of_length-le}
 use Rattle.std.proofs.lemmas.Bool.{cases_lt, cond_above, cond_below}

@@ -6,13 +6,10 @@ use Rattle.std.proofs.lemmas.Bool.{eq-eqb}
 use Rattle.adf_walk.specs.declared.owner_class.OwnerClass.{OwnerClass}
 use Rattle.adf_walk.specs.declared.owner_class.OwnerClass.TheVariants as class
 use Rattle.adf_volume.specs.Image.{root_of}
-use Rattle.adf_volume.specs.Walk.{Role, Asks, Has, HeadAt, heads, node_block, Walk}
-use Rattle.adf_volume.specs.Walk.Role.{Root, Page, MapExt, Head, Ext, Data}
-use Rattle.adf_volume.proofs.Gathered.{IsGathered, head_block, number_of, root_in, root_is}
-use Rattle.adf_volume.proofs.Gathered.IsGathered.{start, step}
+use Rattle.adf_volume.specs.Walk.{Role, Asks, Has, HeadAt, heads, node_block, Walk, Role.Root, Role.Page, Role.MapExt, Role.Head, Role.Ext, Role.Data}
+use Rattle.adf_volume.proofs.Gathered.{IsGathered, head_block, number_of, root_in, root_is, IsGathered.start, IsGathered.step}
 use Rattle.adf_findings.specs.Members.{data_number, role_entry, number_at, owning_entry, owns}
-use Rattle.adf_findings.specs.Survey.{FindingValue, IsSurvey}
-use Rattle.adf_findings.specs.Survey.IsSurvey.{read, unread}
+use Rattle.adf_findings.specs.Survey.{FindingValue, IsSurvey, IsSurvey.read, IsSurvey.unread}
 use Rattle.adf_findings.proofs.BlockOwners.{first_with}
 use Rattle.adf_findings.proofs.Lookups.{header_at}
 use Rattle.adf_findings.proofs.OneSurvey.{gathered}

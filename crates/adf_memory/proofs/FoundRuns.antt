@@ -3,8 +3,7 @@
 -- low a data block before which nothing is looked at; gs gaps, in order; at a place in the file.
 use Rattle.std.specs.Prelude.{◌==◌, ◌⊎◌, cond, min, nat_le, Option, Some, None}
 use Rattle.std.proofs.Common.{◌≡◌, ℕ, zero, suc, List, [], ◌∷◌, ◌+◌, ◌-◌, ◌*◌, ◌≤◌, ◌<◌, false, inl, inr, refl, sym, ap, subst, ◌∙◌, arith}
-use Rattle.std.proofs.lemmas.Bool.{cases_eq, cases_lt, eq-eqb}
-use Rattle.std.proofs.lemmas.Bool.Decides.{eqb_tells, nat_tests}
+use Rattle.std.proofs.lemmas.Bool.{cases_eq, cases_lt, eq-eqb, Decides.eqb_tells, Decides.nat_tests}
 use Rattle.adf_names.specs.declared.kind.Kind.{Kind, TheVariants.Ofs, TheVariants.Ffs}
 use Rattle.adf_blocks.specs.Sizes.{chunk, count}
 use Rattle.adf_volume.specs.Image.{held, kind_of}

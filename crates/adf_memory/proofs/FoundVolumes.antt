@@ -4,8 +4,8 @@
 use Rattle.std.specs.Prelude.{◌==◌, min, Some}
 use Rattle.std.specs.List.{range_with_len}
 use Rattle.std.specs.Option.{unwrap_or}
-use Rattle.std.proofs.Common.{◌≡◌, ℕ, zero, suc, List, [], ◌∷◌, ◌+◌, ◌-◌, ◌*◌, ◌/◌, ◌≤◌}
-use Rattle.std.proofs.Common.{◌<◌, length, take, drop, map, refl, sym, ap, subst, ◌∙◌, arith, take_all}
+use Rattle.std.proofs.Common.{◌≡◌, ℕ, zero, suc, List, [], ◌∷◌, ◌+◌, ◌-◌, ◌*◌, ◌/◌, ◌≤◌, ◌<◌, length, take, drop, map, refl, sym, ap, subst, ◌∙◌, arith}
+use Rattle.std.proofs.Common.{take_all}
 use Rattle.std.proofs.lemmas.Bool.{cond_above, cond_below, eq-eqb}
 use Rattle.std.proofs.Math.Nat.{min-eq_left}
 use Rattle.adf_base.specs.declared.hash.Letters.{Letters, TheVariants.Ascii}
@@ -29,8 +29,7 @@ use Rattle.adf_volume.specs.Image.{kind_of, word_in}
 use Rattle.adf_volume.specs.Layout.{EntryAt, Layout, at_node, datas_of, head_at}
 use Rattle.adf_volume.specs.LayoutRoles.{LayoutHas, owner_of}
 use Rattle.adf_volume.specs.Lists.{At}
-use Rattle.adf_volume.specs.Walk.{Role, Has, Walk}
-use Rattle.adf_volume.specs.Walk.Role.{Root, Page, MapExt, Head, Ext, Data}
+use Rattle.adf_volume.specs.Walk.{Role, Has, Walk, Role.Root, Role.Page, Role.MapExt, Role.Head, Role.Ext, Role.Data}
 use Rattle.adf_volume.proofs.FitWalks.{one_fit}
 use Rattle.adf_volume.proofs.LayoutRoles.{owned_part, part_owned, part_range}
 use Rattle.adf_volume.proofs.WalkAgreement.{agreement}

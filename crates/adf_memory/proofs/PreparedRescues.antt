@@ -15,8 +15,7 @@ use Rattle.adf_survey_cmd.specs.Prepared.{LaysFor, Prepares, RefusesFor}
 use Rattle.adf_survey_cmd.specs.Rescues.{RescueValue, RescueValue.written, Rescues}
 use Rattle.adf_survey_cmd.specs.Subject.{IsTyped, SubjectValue, sized}
 use Rattle.adf_survey_cmd.specs.declared.preparing.Prepared.{Prepared}
-use Rattle.adf_survey_cmd.specs.declared.preparing.Unrescued.{Unrescued}
-use Rattle.adf_survey_cmd.specs.declared.preparing.Unrescued.TheVariants.{NoMemory, Refused}
+use Rattle.adf_survey_cmd.specs.declared.preparing.Unrescued.{Unrescued, TheVariants.NoMemory, TheVariants.Refused}
 use Rattle.adf_survey_cmd.proofs.KeptBoots.{laid_long}
 use Rattle.adf_memory.specs.Rescuing.{ExplainsRescue, HasRescue, IsPutOut, IsRoomRefusal, Readies, RescueOf, ready_table, told_volume, unrescued_refusal}
 use Rattle.adf_memory.specs.declared.losses.TableLoss.{TableLoss}

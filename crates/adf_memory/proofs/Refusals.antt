@@ -14,8 +14,7 @@ use Rattle.adf_memory.specs.TableAdditions.{AreSoundBefore, IsNotAdded, fault_of
 use Rattle.adf_memory.specs.declared.building.NewVolume.{NewVolume}
 use Rattle.adf_memory.specs.declared.building.Refusal.{Refusal}
 use Rattle.adf_memory.specs.declared.building.Refusal.TheVariants as refusal
-use Rattle.adf_memory.specs.declared.table_additions.NotAdded.{NotAdded}
-use Rattle.adf_memory.specs.declared.table_additions.NotAdded.TheVariants.{Fault, NoMemory}
+use Rattle.adf_memory.specs.declared.table_additions.NotAdded.{NotAdded, TheVariants.Fault, TheVariants.NoMemory}
 use Rattle.adf_memory.specs.declared.table_additions.TableAddition.{TableAddition}
 
 -- the addition at a place is the first that has a fault

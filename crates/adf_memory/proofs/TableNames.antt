@@ -1,7 +1,7 @@
 -- A table of entries has their directories and names, and look-up in it finds what look-up in the tree finds.
 -- Letters: ls the letters whose case is ignored.
-use Rattle.std.proofs.Common.{◌≡◌, ◌+◌, ◌≤◌, ◌<◌, ℕ, List, Bool, true, false, Some, None, get_or, length, max, take, nat_le, nat_lt, replicate, suc}
-use Rattle.std.proofs.Common.{refl, sym, ap, subst, ◌∙◌, arith, inl, inr, take_all}
+use Rattle.std.proofs.Common.{◌≡◌, ◌+◌, ◌≤◌, ◌<◌, ℕ, List, Bool, true, false, Some, None, get_or, length, max, take, nat_le, nat_lt, replicate, suc, refl, sym}
+use Rattle.std.proofs.Common.{ap, subst, ◌∙◌, arith, inl, inr, take_all}
 use Rattle.std.specs.List.Sorted.{IsNonDecreasingBy, IsPartitionPoint}
 use Rattle.std.proofs.lemmas.Bool.{cases_lt, false_from_ne_true}
 use Rattle.std.proofs.Math.Seq.{take-append_seam}

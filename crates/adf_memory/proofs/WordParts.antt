@@ -3,8 +3,7 @@ use Rattle.std.proofs.Common.{◌≡◌, Bor, ℕ, ◌<◌, List, [], ◌∷◌,
 use Rattle.std.specs.List.{All}
 use Rattle.std.specs.Str.{IsUtf8}
 use Rattle.std.proofs.Math.Seq.{get_or-append_seam}
-use Rattle.std.proofs.lemmas.List.{append_assoc, append_cancel_right, get_or_append_left, map-append, length-append}
-use Rattle.std.proofs.lemmas.List.Elements.{All-push}
+use Rattle.std.proofs.lemmas.List.{append_assoc, append_cancel_right, get_or_append_left, map-append, length-append, Elements.All-push}
 use Rattle.std.proofs.lemmas.List.Splits.{length-slice_split}
 use Rattle.std.proofs.lemmas.Grind.{common_steps}
 use Rattle.adf_memory.specs.Words.{AreWords, BeginWithWords, is_zero, between_zeros}

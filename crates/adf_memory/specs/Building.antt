@@ -2,8 +2,7 @@
 -- Letters: v a new volume; xs the table of its additions; bytes the contents of the files; t a tree; n a number of blocks.
 use Rattle.std.specs.Prelude.{◌≡◌, ◌≤◌, ◌<◌, ◌*◌, ◌-◌, ◌==◌, ℕ, true, false, not, nat_lt, if◌then◌else◌, Option, Some, None, List, [], length, take}
 use Rattle.adf_base.specs.declared.hash.Letters.TheVariants.{Ascii}
-use Rattle.adf_names.specs.declared.kind.Kind.{Kind}
-use Rattle.adf_names.specs.declared.kind.Kind.TheVariants.{Ofs, Ffs}
+use Rattle.adf_names.specs.declared.kind.Kind.{Kind, TheVariants.Ofs, TheVariants.Ffs}
 use Rattle.adf_tree.specs.Tree.{Tree}
 use Rattle.adf_blocks.specs.Sizes.{is_allowed}
 use Rattle.adf_blocks.specs.declared.layout.TheConstants.{MOST_BLOCKS}

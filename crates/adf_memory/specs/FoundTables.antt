@@ -4,16 +4,14 @@ use Rattle.std.specs.Prelude.{ℕ, Bool, true, false, List, [], ◌∷◌, Optio
 use Rattle.std.specs.List.{range_with_len}
 use Rattle.adf_base.specs.Words.{block}
 use Rattle.adf_blocks.specs.Causes.{cause_number}
-use Rattle.adf_blocks.specs.declared.head.HeadBody.{HeadBody}
-use Rattle.adf_blocks.specs.declared.head.HeadBody.TheVariants.{Dir, File}
+use Rattle.adf_blocks.specs.declared.head.HeadBody.{HeadBody, TheVariants.Dir, TheVariants.File}
 use Rattle.adf_blocks.specs.HeadBlock.{body_at, meta_stated}
 use Rattle.adf_names.specs.declared.meta.Meta.{Meta}
 use Rattle.adf_volume.specs.Image.{name_of}
 use Rattle.adf_base.specs.declared.hash.Letters.TheVariants.{Ascii}
 use Rattle.adf_names.specs.VolumeTypes.{type_number}
 use Rattle.adf_volume.specs.Walk.{heads, node_block, Walk}
-use Rattle.adf_findings.specs.declared.concern.Concern.{Concern}
-use Rattle.adf_findings.specs.declared.concern.Concern.TheVariants.{Entry, Within}
+use Rattle.adf_findings.specs.declared.concern.Concern.{Concern, TheVariants.Entry, TheVariants.Within}
 use Rattle.adf_findings.specs.declared.opening.Opening.{Opening}
 use Rattle.adf_findings.specs.Members.{parent_node}
 use Rattle.adf_findings.specs.Opening.{opening_in}

@@ -13,8 +13,7 @@ use Rattle.adf_survey_cmd.specs.Losses.{LossValue, loss_values}
 use Rattle.adf_survey_cmd.specs.Prepared.{LaysFor, RefusesFor}
 use Rattle.adf_survey_cmd.specs.Rescues.{RescueValue, RescueValue.refused, RescueValue.written}
 use Rattle.adf_survey_cmd.specs.Subject.{SubjectValue}
-use Rattle.adf_survey_cmd.specs.declared.preparing.Unrescued.{Unrescued}
-use Rattle.adf_survey_cmd.specs.declared.preparing.Unrescued.TheVariants.{NoMemory, Refused}
+use Rattle.adf_survey_cmd.specs.declared.preparing.Unrescued.{Unrescued, TheVariants.NoMemory, TheVariants.Refused}
 use Rattle.adf_memory.specs.Losses.{LossTableValue, table_of_losses}
 use Rattle.adf_memory.specs.Rooms.{filled}
 use Rattle.adf_memory.specs.declared.losses.TableLoss.{TableLoss}

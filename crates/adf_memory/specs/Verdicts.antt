@@ -1,11 +1,9 @@
 -- The verdict on an image.
 use Rattle.std.specs.Prelude.{◌≡◌, ◌⊎◌, ℕ, List}
-use Rattle.adf_base.specs.declared.hash.Letters.{Letters}
-use Rattle.adf_base.specs.declared.hash.Letters.TheVariants.{Ascii}
+use Rattle.adf_base.specs.declared.hash.Letters.{Letters, TheVariants.Ascii}
 use Rattle.adf_names.specs.VolumeTypes.{type_number}
 use Rattle.adf_blocks.specs.Causes.{cause_number}
-use Rattle.adf_blocks.specs.declared.cause.Cause.{Cause}
-use Rattle.adf_blocks.specs.declared.cause.Cause.TheVariants.{NoMemory}
+use Rattle.adf_blocks.specs.declared.cause.Cause.{Cause, TheVariants.NoMemory}
 use Rattle.adf_volume.specs.Walk.{FirstFaultBy}
 use Rattle.adf_volume.specs.declared.counts.Counts.{Counts}
 use Rattle.adf_memory.specs.declared.verdict.Verdict.{Verdict}

@@ -9,7 +9,8 @@ ghost use Rattle.adf_boot_blocks.specs.BootBlocks.{IsOtherBoot, is_bootable};
 ghost use Rattle.adf_boot_blocks.specs.Writing.{cleared, copied, installed};
 ghost use Rattle.adf_boot_blocks.specs.declared.boot.TheConstants.{BOOT_LEN};
 ghost use Rattle.adf_boot_blocks.specs.declared.standard.TheConstants.{STANDARD_CODE};
-ghost use Rattle.adf_memory.specs.Boot.{answer_number, boot_blocks, boot_refusal_number, copy_refusal, image_refusal, has_whole_blocks};
+ghost use Rattle.adf_memory.specs.Boot.{answer_number, boot_blocks, boot_refusal_number, copy_refusal, image_refusal};
+ghost use Rattle.adf_memory.specs.Boot.{has_whole_blocks};
 ghost use Rattle.adf_memory.specs.declared.boot.BootRefusal.TheVariants.{BadSize};
 
 use crate::found_tables::mark_number;

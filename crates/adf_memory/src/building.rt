@@ -1,8 +1,11 @@
 // Volumes that are built from a table of additions.
 
-ghost use Rattle.std.specs.Prelude.{◌≡◌, ◌≤◌, ◌<◌, ◌*◌, ◌↔◌, [], List, ℕ, length, take, IsSome, IfSome, IfOk, IfErr, OnOk, OnErr, true};
+ghost use Rattle.std.specs.Prelude.{◌≡◌, ◌≤◌, ◌<◌, ◌*◌, ◌↔◌, [], List, ℕ, length, take, IsSome, IfSome, IfOk, IfErr, OnOk, OnErr};
+ghost use Rattle.std.specs.Prelude.{true};
 ghost use Rattle.adf_tree.specs.Tree.{Tree as ATree};
-ghost use Rattle.adf_memory.specs.Building.{Explains, ExplainsBuild, ExplainsNeed, HasVolume, IsBadVolume, IsFewest, IsFullAtMost, IsSoundVolume, IsTableRefusal, Refuses, bad_room, built_in, kind_by, new_tree, refusal_by, refusal_number, refusal_of, told, tree_of};
+ghost use Rattle.adf_memory.specs.Building.{Explains, ExplainsBuild, ExplainsNeed, HasVolume, IsBadVolume, IsFewest};
+ghost use Rattle.adf_memory.specs.Building.{IsFullAtMost, IsSoundVolume, IsTableRefusal, Refuses, bad_room, built_in, kind_by};
+ghost use Rattle.adf_memory.specs.Building.{new_tree, refusal_by, refusal_number, refusal_of, told, tree_of};
 ghost use Rattle.adf_memory.specs.TableAdditions.{AreSound, IsDraftOf, tree_with};
 
 use crate::table_additions::{AdditionFault, NotAdded, TableAddition, add_next, stamp_of, text_in};

@@ -3,7 +3,8 @@
 ghost use Rattle.std.specs.Prelude.{◌≡◌, IfNone, IfSome, length};
 ghost use Rattle.adf_blocks.specs.Causes.{cause_number, cause_text};
 ghost use Rattle.adf_blocks.specs.declared.cause.Cause.{Cause};
-ghost use Rattle.adf_partitions.specs.FaultTexts.{disk_cause_number, disk_cause_text, field_fault_number, field_fault_text, place_fault_number, place_fault_text};
+ghost use Rattle.adf_partitions.specs.FaultTexts.{disk_cause_number, disk_cause_text, field_fault_number, field_fault_text};
+ghost use Rattle.adf_partitions.specs.FaultTexts.{place_fault_number, place_fault_text};
 ghost use Rattle.adf_partitions.specs.declared.fault.DiskCause.{DiskCause};
 ghost use Rattle.adf_partitions.specs.declared.field_fault.FieldFault.{FieldFault};
 ghost use Rattle.adf_partitions.specs.declared.place.PlaceFault.{PlaceFault};

@@ -3,7 +3,8 @@
 ghost use Rattle.std.specs.Prelude.{◌≡◌, ◌≤◌, ◌*◌, ◌<◌, List, ℕ, IfErr, IfOk, OnErr, OnOk, length};
 ghost use Rattle.adf_boot_blocks.specs.declared.boot.TheConstants.{BOOT_LEN};
 ghost use Rattle.adf_survey_cmd.specs.Subject.{subject, subject_value};
-ghost use Rattle.adf_memory.specs.Rescuing.{ExplainsRescue, HasRescue, IsPutOut, IsRoomRefusal, IsVolumeOf, Readies, RescueOf, asked_blocks, rescue_number, rescue_told, unrescued_refusal};
+ghost use Rattle.adf_memory.specs.Rescuing.{ExplainsRescue, HasRescue, IsPutOut, IsRoomRefusal, IsVolumeOf, Readies, RescueOf};
+ghost use Rattle.adf_memory.specs.Rescuing.{asked_blocks, rescue_number, rescue_told, unrescued_refusal};
 ghost use Rattle.adf_memory.specs.Rooms.{filled};
 ghost use Rattle.adf_memory.specs.declared.rescuing.RescueRefusal.{RescueRefusal as ARescueRefusal};
 

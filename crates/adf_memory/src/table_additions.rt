@@ -1,6 +1,7 @@
 // The additions to a new volume, from a table.
 
-ghost use Rattle.std.specs.Prelude.{◌≡◌, ◌≤◌, ◌<◌, ◌+◌, ◌↔◌, ◌⊎◌, ◌++◌, ◌∷◌, [], List, None, true, false, take, drop, length, slice_index_or, IsSome, IfSome, IfNone, IfOk, IfErr, OnOk};
+ghost use Rattle.std.specs.Prelude.{◌≡◌, ◌≤◌, ◌<◌, ◌+◌, ◌↔◌, ◌⊎◌, ◌++◌, ◌∷◌, [], List, None, true, false, take, drop, length};
+ghost use Rattle.std.specs.Prelude.{slice_index_or, IsSome, IfSome, IfNone, IfOk, IfErr, OnOk};
 ghost use Rattle.adf_tree.specs.Tree.{Tree};
 ghost use Rattle.adf_memory.specs.TableAdditions.{IsDraftOf, IsNextAddition, IsNotAdded, addition_body, addition_fault_number};
 ghost use Rattle.adf_memory.specs.TableAdditions.{addition_name, directory_in, fault_of, has_bytes, has_entry_name, meta_in};

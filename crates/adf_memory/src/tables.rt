@@ -11,8 +11,8 @@ ghost use Rattle.adf_volume.specs.Rows.{row_of_body, row_of_entry};
 ghost use Rattle.adf_check.specs.Volumes.{StandsForBy};
 ghost use Rattle.adf_volume.specs.Counts.{counts_of};
 ghost use Rattle.adf_memory.specs.Rooms.{filled};
-ghost use Rattle.adf_memory.specs.Tables.{block_table, bytes_of_body, contents_of, date_of, entry_table, field};
-ghost use Rattle.adf_memory.specs.Tables.{file_number, refused_at, table_entry};
+ghost use Rattle.adf_memory.specs.Tables.{block_table, bytes_of_body, contents_of, date_of, entry_table, field, file_number};
+ghost use Rattle.adf_memory.specs.Tables.{refused_at, table_entry};
 
 use adf_base::Stamp;
 use adf_check::{Checked, Counts, Row, RowBody};

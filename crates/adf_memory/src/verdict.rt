@@ -7,8 +7,8 @@ ghost use Rattle.adf_volume.specs.Image.{letters_of};
 ghost use Rattle.adf_volume.specs.Layout.{Layout};
 ghost use Rattle.adf_volume.specs.Start.{IsBegun, IsBegunBy};
 ghost use Rattle.adf_volume.specs.Counts.{counts_of};
-ghost use Rattle.adf_memory.specs.Verdicts.{IsFirstCause, IsFirstCauseBy, IsVerdictNumber, OnFault, WantsMemory};
-ghost use Rattle.adf_memory.specs.Verdicts.{accepted, accepted_by, refused};
+ghost use Rattle.adf_memory.specs.Verdicts.{IsFirstCause, IsFirstCauseBy, IsVerdictNumber, OnFault, WantsMemory, accepted};
+ghost use Rattle.adf_memory.specs.Verdicts.{accepted_by, refused};
 
 use adf_base::Letters;
 use adf_check::{Counts, check, check_types};

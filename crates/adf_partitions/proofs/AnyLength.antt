@@ -1,15 +1,13 @@
 -- What a disk says of its partitions whatever its number of blocks.
 -- Letters: as in specs/Disks; n and m two numbers of blocks, ps and p partitions with n, qs and q with m.
-use Rattle.std.proofs.Common.{◌≡◌, ◌∙◌, ℕ, zero, suc, List, [], ◌∷◌, ◌++◌, length, refl, sym, ap, subst, arith}
-use Rattle.std.proofs.Common.{Bool, true, false, Option, None, Some}
+use Rattle.std.proofs.Common.{◌≡◌, ◌∙◌, ℕ, zero, suc, List, [], ◌∷◌, ◌++◌, length, refl, sym, ap, subst, arith, Bool, true, false, Option, None, Some}
 use Rattle.std.specs.Prelude.{cond, find, IfOk, slice_get, ⊤}
 use Rattle.std.specs.List.{list_any}
 use Rattle.std.proofs.lemmas.Bool.{and_parts}
 use Rattle.std.proofs.lemmas.Grind.{common_steps}
 use Rattle.adf_partitions.specs.declared.partition.Partition.{Partition}
 use Rattle.adf_partitions.specs.declared.tables.Tables.{Tables}
-use Rattle.adf_partitions.specs.Disks.{IsDisk, IsFound, is_block_of, part_form, partition_at}
-use Rattle.adf_partitions.specs.Disks.IsFound.{start, step}
+use Rattle.adf_partitions.specs.Disks.{IsDisk, IsFound, is_block_of, part_form, partition_at, IsFound.start, IsFound.step}
 use Rattle.adf_partitions.specs.Faults.{first_failed}
 use Rattle.adf_partitions.specs.Partitions.{partition_numbered}
 use Rattle.adf_partitions.specs.Volumes.{AreAlike, FoundAlike, IsStated}

@@ -1,7 +1,7 @@
 -- The blocks that may have tables are all that is read of a disk.
 -- Letters: as in specs/Searches; A, B two disks that agree in these blocks.
-use Rattle.std.proofs.Common.{◌≡◌, ◌<◌, ◌≤◌, ◌*◌, inl, inr, ℕ, zero, suc, List, ◌++◌, [], ◌∷◌, length, take, drop, refl, sym, ap, subst, ◌∙◌, arith}
-use Rattle.std.proofs.Common.{Bool, true, false, ◌&&◌, if◌then◌else◌, not, nat_lt, ◌↔◌}
+use Rattle.std.proofs.Common.{◌≡◌, ◌<◌, ◌≤◌, ◌*◌, inl, inr, ℕ, zero, suc, List, ◌++◌, [], ◌∷◌, length, take, drop, refl, sym, ap, subst, ◌∙◌, arith, Bool, true}
+use Rattle.std.proofs.Common.{false, ◌&&◌, if◌then◌else◌, not, nat_lt, ◌↔◌}
 use Rattle.std.specs.List.{list_any}
 use Rattle.std.proofs.lemmas.Bool.{and_parts, cases_lt}
 use Rattle.std.proofs.lemmas.List.{take-append-drop, take_all, length-take-le}
@@ -11,13 +11,12 @@ use Rattle.adf_partitions.specs.declared.fault.DiskFault.{DiskFault}
 use Rattle.adf_partitions.specs.declared.layout.TheConstants.{BLOCK_BYTES, MOST_PARTITIONS, MOST_TABLES, RDSK_BLOCKS}
 use Rattle.adf_partitions.specs.declared.partition.Partition.{Partition}
 use Rattle.adf_partitions.specs.declared.tables.Tables.{Tables}
-use Rattle.adf_partitions.specs.Disks.{FirstDiskFault, IsDisk, is_block_of}
-use Rattle.adf_partitions.specs.Disks.FirstDiskFault.{at_list, at_tables}
+use Rattle.adf_partitions.specs.Disks.{FirstDiskFault, IsDisk, is_block_of, FirstDiskFault.at_list, FirstDiskFault.at_tables}
 use Rattle.adf_partitions.specs.Partitions.{partition_of}
 use Rattle.adf_partitions.specs.Searches.{AreReadable, is_partition_block, no_tables, with_all_lost, with_lost_partition}
 use Rattle.adf_partitions.specs.Searches.AreReadable.{whole, cut, bare, other}
-use Rattle.adf_partitions.proofs.TablesEnough.{StartAgrees, TablesAgree, same_cut, same_lack, same_list_fault, same_rdsk}
-use Rattle.adf_partitions.proofs.TablesEnough.{same_tables, same_whole, start_agrees, start_back, tables_agree, tables_back}
+use Rattle.adf_partitions.proofs.TablesEnough.{StartAgrees, TablesAgree, same_cut, same_lack, same_list_fault, same_rdsk, same_tables, same_whole, start_agrees}
+use Rattle.adf_partitions.proofs.TablesEnough.{start_back, tables_agree, tables_back}
 
 -- all blocks that may have tables agree
 record Agrees (A B : List ℕ) : Type 0 where

@@ -4,8 +4,7 @@ use Rattle.adf_base.specs.Words.{block, word}
 use Rattle.adf_partitions.specs.declared.layout.TheConstants.{NEXT_PART, NO_BLOCK}
 use Rattle.adf_partitions.specs.declared.partition.Partition.{Partition}
 use Rattle.adf_partitions.specs.declared.tables.Tables.{Tables}
-use Rattle.adf_partitions.specs.Disks.{IsFound, part_form}
-use Rattle.adf_partitions.specs.Disks.IsFound.{step}
+use Rattle.adf_partitions.specs.Disks.{IsFound, part_form, IsFound.step}
 use Rattle.adf_partitions.specs.Faults.{first_failed}
 use Rattle.adf_partitions.specs.Partitions.{partition_of}
 

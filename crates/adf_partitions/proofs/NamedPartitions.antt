@@ -7,11 +7,9 @@ use Rattle.adf_partitions.specs.declared.fault.DiskFault.{DiskFault}
 use Rattle.adf_partitions.specs.declared.layout.TheConstants.{MOST_PARTITIONS, MOST_TABLES, NO_BLOCK}
 use Rattle.adf_partitions.specs.declared.partition.Partition.{Partition}
 use Rattle.adf_partitions.specs.declared.tables.Tables.{Tables}
-use Rattle.adf_partitions.specs.Disks.{IsFollowed, IsFound, NamesPartition, part_form, partition_at}
-use Rattle.adf_partitions.specs.Disks.IsFound.{start, step}
+use Rattle.adf_partitions.specs.Disks.{IsFollowed, IsFound, NamesPartition, part_form, partition_at, IsFound.start, IsFound.step}
 use Rattle.adf_partitions.specs.Faults.{first_failed}
-use Rattle.adf_partitions.specs.Searches.{HasReadable, with_all_lost}
-use Rattle.adf_partitions.specs.Searches.AreReadable.{cut, whole}
+use Rattle.adf_partitions.specs.Searches.{HasReadable, with_all_lost, AreReadable.cut, AreReadable.whole}
 use Rattle.adf_partitions.specs.Tables.{IsTables}
 use Rattle.adf_partitions.proofs.NumberTests.{lt_of}
 use Rattle.adf_partitions.proofs.Searches.{pushed, some_before}

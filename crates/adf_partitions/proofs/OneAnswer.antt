@@ -10,12 +10,10 @@ use Rattle.adf_partitions.specs.declared.fault.DiskFault.{DiskFault}
 use Rattle.adf_partitions.specs.declared.layout.TheConstants.{BLOCK_BYTES, MOST_TABLES, NEXT_PART, NO_BLOCK}
 use Rattle.adf_partitions.specs.declared.partition.Partition.{Partition}
 use Rattle.adf_partitions.specs.declared.tables.Tables.{Tables}
-use Rattle.adf_partitions.specs.Disks.{FirstDiskFault, IsCut, IsDisk, IsFound, IsListFault, IsWholeList, part_form, partition_at}
+use Rattle.adf_partitions.specs.Disks.{FirstDiskFault, IsCut, IsDisk, IsFound, IsListFault, IsWholeList, part_form, partition_at, IsFound.start, IsFound.step}
 use Rattle.adf_partitions.specs.Disks.FirstDiskFault.{at_tables, at_list}
-use Rattle.adf_partitions.specs.Disks.IsFound.{start, step}
 use Rattle.adf_partitions.specs.Faults.{disk_fault, first_failed}
-use Rattle.adf_partitions.specs.Searches.{AreReadable, with_all_lost}
-use Rattle.adf_partitions.specs.Searches.AreReadable.{bare, cut, other, whole}
+use Rattle.adf_partitions.specs.Searches.{AreReadable, with_all_lost, AreReadable.bare, AreReadable.cut, AreReadable.other, AreReadable.whole}
 use Rattle.adf_partitions.specs.Tables.{HasNoRdsk, HasNoTables, IsRdsk, IsTables, tables_at}
 
 -- a disk has one rigid disk block

@@ -1,8 +1,8 @@
 -- A disk with the tables of a plan has its partitions.
 -- Letters: `plan` a plan, k the number of partitions before the one in block k + 1, low its lowest cylinder, ps those that are left, `done`
 -- the partitions found before.
-use Rattle.std.proofs.Common.{◌≡◌, ◌≤◌, ◌<◌, ◌+◌, ◌-◌, ◌*◌, ◌∙◌, ℕ, suc, List, [], ◌∷◌, ◌++◌, length, ap, refl, sym, subst, arith, true, false, Bool}
-use Rattle.std.proofs.Common.{None, Ok, Err, append-nil, append_assoc, length-append, All, IfOk, Result, not, nat_le, nat_lt, replicate}
+use Rattle.std.proofs.Common.{◌≡◌, ◌≤◌, ◌<◌, ◌+◌, ◌-◌, ◌*◌, ◌∙◌, ℕ, suc, List, [], ◌∷◌, ◌++◌, length, ap, refl, sym, subst, arith, true, false, Bool, None, Ok}
+use Rattle.std.proofs.Common.{Err, append-nil, append_assoc, length-append, All, IfOk, Result, not, nat_le, nat_lt, replicate}
 use Rattle.std.specs.List.{list_any}
 use Rattle.std.proofs.lemmas.Bool.Decides.{nat_tests}
 use Rattle.std.proofs.lemmas.List.{drop_at, length_push, take_at}
@@ -15,8 +15,7 @@ use Rattle.adf_partitions.specs.declared.place.Place.{Place}
 use Rattle.adf_partitions.specs.declared.place.PlaceFault.{PlaceFault}
 use Rattle.adf_partitions.specs.declared.place.PlaceFault.TheVariants.{BeyondImage, NoCylinders, OverPartition, OverTables}
 use Rattle.adf_partitions.specs.declared.plan.PartitionPlan.{PartitionPlan}
-use Rattle.adf_partitions.specs.Disks.{IsDisk, IsFound, IsWholeList, is_block_of, part_form}
-use Rattle.adf_partitions.specs.Disks.IsFound.{start}
+use Rattle.adf_partitions.specs.Disks.{IsDisk, IsFound, IsWholeList, is_block_of, part_form, IsFound.start}
 use Rattle.adf_partitions.specs.Faults.{first_failed}
 use Rattle.adf_partitions.specs.Partitions.{field_form, is_over_earlier, is_over_place, partition_of, place_form, place_or_fault}
 use Rattle.adf_partitions.specs.Places.{blocks_from, end_of, has_cylinders, is_over_tables, partition_place}
@@ -27,11 +26,9 @@ use Rattle.adf_partitions.specs.WrittenTables.{block_after, part_block, part_blo
 use Rattle.adf_partitions.proofs.FoundSteps.{one_more}
 use Rattle.adf_partitions.proofs.NumberTests.{of_le, of_lt}
 use Rattle.adf_partitions.proofs.PlanSizes.{cylinders_more, tables_hold}
-use Rattle.adf_partitions.proofs.WrittenTables.{length_part, length_rdsk, part-blocks, part-cylinders, part-environment, part-flags}
-use Rattle.adf_partitions.proofs.WrittenTables.{part-has_drive_name, part-mark}
-use Rattle.adf_partitions.proofs.WrittenTables.{part-name, part-next, part-place, part-reserved, part-summed, part-type, part_priority, rdsk-first}
-use Rattle.adf_partitions.proofs.WrittenTables.{rdsk-highest}
-use Rattle.adf_partitions.proofs.WrittenTables.{rdsk-lowest, rdsk-size, rdsk-summed, rdsk_mark}
+use Rattle.adf_partitions.proofs.WrittenTables.{length_part, length_rdsk, part-blocks, part-cylinders, part-environment, part-flags, part-has_drive_name}
+use Rattle.adf_partitions.proofs.WrittenTables.{part-mark, part-name, part-next, part-place, part-reserved, part-summed, part-type, part_priority, rdsk-first}
+use Rattle.adf_partitions.proofs.WrittenTables.{rdsk-highest, rdsk-lowest, rdsk-size, rdsk-summed, rdsk_mark}
 
 -- partitions in blocks before b, each with its place, if it has one, before block e
 abbrev AreBefore : ℕ → ℕ → List Partition → Type 0

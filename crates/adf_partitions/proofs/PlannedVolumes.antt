@@ -1,7 +1,7 @@
 -- The sizes of written tables, and the volumes behind them.
 -- Letters: as in proofs/PlannedDisk; c the blocks of a cylinder, vs the volumes of ps.
-use Rattle.std.proofs.Common.{◌≡◌, ◌≤◌, ◌+◌, ◌-◌, ◌*◌, ℕ, List, [], ◌∷◌, ◌++◌, length, refl, subst, arith, append-nil, append_assoc, drop, take}
-use Rattle.std.proofs.Common.{length-append, replicate, slice_range}
+use Rattle.std.proofs.Common.{◌≡◌, ◌≤◌, ◌+◌, ◌-◌, ◌*◌, ℕ, List, [], ◌∷◌, ◌++◌, length, refl, subst, arith, append-nil, append_assoc, drop, take, length-append}
+use Rattle.std.proofs.Common.{replicate, slice_range}
 use Rattle.std.specs.List.{flat_map}
 use Rattle.std.proofs.lemmas.List.{drop_all, drop_at, length-replicate, take_all, take_at}
 use Rattle.std.proofs.lemmas.Grind.{common_steps}

@@ -9,12 +9,10 @@ use Rattle.adf_partitions.specs.declared.fault.DiskFault.{DiskFault}
 use Rattle.adf_partitions.specs.declared.layout.TheConstants.{BLOCK_BYTES, MOST_PARTITIONS, MOST_TABLES, NO_BLOCK, RDSK_BLOCKS}
 use Rattle.adf_partitions.specs.declared.partition.Partition.{Partition}
 use Rattle.adf_partitions.specs.declared.tables.Tables.{Tables}
-use Rattle.adf_partitions.specs.Disks.{HasListOrFault, IsFollowed, IsFound, part_form, partition_at}
-use Rattle.adf_partitions.specs.Disks.FirstDiskFault.{at_list, at_tables}
+use Rattle.adf_partitions.specs.Disks.{HasListOrFault, IsFollowed, IsFound, part_form, partition_at, FirstDiskFault.at_list, FirstDiskFault.at_tables}
 use Rattle.adf_partitions.specs.Disks.IsFound.{start, step}
 use Rattle.adf_partitions.specs.Faults.{disk_fault, first_failed}
-use Rattle.adf_partitions.specs.Searches.{AreReadable, bare_partitions, with_all_lost}
-use Rattle.adf_partitions.specs.Searches.AreReadable.{bare, cut, other, whole}
+use Rattle.adf_partitions.specs.Searches.{AreReadable, bare_partitions, with_all_lost, AreReadable.bare, AreReadable.cut, AreReadable.other, AreReadable.whole}
 use Rattle.adf_partitions.specs.Tables.{HasNoRdsk, IsRdsk, IsTables, is_rdsk, tables_at}
 use Rattle.adf_partitions.proofs.NamedPartitions.{no_more, none_or_some}
 

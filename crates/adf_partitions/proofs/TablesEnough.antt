@@ -1,7 +1,7 @@
 -- What follows the tables of a disk changes nothing that is read of it.
 -- Letters: as in specs/Disks; A, B two disks that agree in the blocks that may have tables, or in those that A holds.
-use Rattle.std.proofs.Common.{◌≡◌, ◌<◌, ◌≤◌, ◌+◌, ◌*◌, inl, inr, ℕ, List, ◌++◌, [], ◌∷◌, length, refl, sym, ap, ◌∙◌, arith, Bool, true, false}
-use Rattle.std.proofs.Common.{None, ◌&&◌, ◌==◌, not, nat_lt, length-append}
+use Rattle.std.proofs.Common.{◌≡◌, ◌<◌, ◌≤◌, ◌+◌, ◌*◌, inl, inr, ℕ, List, ◌++◌, [], ◌∷◌, length, refl, sym, ap, ◌∙◌, arith, Bool, true, false, None, ◌&&◌, ◌==◌}
+use Rattle.std.proofs.Common.{not, nat_lt, length-append}
 use Rattle.std.specs.List.{list_any}
 use Rattle.std.proofs.lemmas.Bool.{and_parts}
 use Rattle.std.proofs.lemmas.List.{take-append-le}
@@ -10,12 +10,11 @@ use Rattle.std.proofs.lemmas.Grind.{common_steps}
 use Rattle.adf_base.specs.Words.{block, word}
 use Rattle.adf_partitions.specs.declared.fault.DiskCause.TheVariants.{OutOfRange, Repeated, NotPartition, BadSum, TooMany}
 use Rattle.adf_partitions.specs.declared.fault.DiskFault.{DiskFault}
-use Rattle.adf_partitions.specs.declared.layout.TheConstants.{BLOCK_BYTES, FIRST_PART, HIGHEST_TABLE, LOWEST_TABLE, MARK, MOST_PARTITIONS, MOST_TABLES}
-use Rattle.adf_partitions.specs.declared.layout.TheConstants.{PART, RDSK_BLOCKS}
+use Rattle.adf_partitions.specs.declared.layout.TheConstants.{BLOCK_BYTES, FIRST_PART, HIGHEST_TABLE, LOWEST_TABLE, MARK, MOST_PARTITIONS, MOST_TABLES, PART}
+use Rattle.adf_partitions.specs.declared.layout.TheConstants.{RDSK_BLOCKS}
 use Rattle.adf_partitions.specs.declared.partition.Partition.{Partition}
 use Rattle.adf_partitions.specs.declared.tables.Tables.{Tables}
-use Rattle.adf_partitions.specs.Disks.{IsCut, IsDisk, IsFound, IsListFault, IsWholeList, is_block_of, part_form}
-use Rattle.adf_partitions.specs.Disks.IsFound.{start, step}
+use Rattle.adf_partitions.specs.Disks.{IsCut, IsDisk, IsFound, IsListFault, IsWholeList, is_block_of, part_form, IsFound.start, IsFound.step}
 use Rattle.adf_partitions.specs.Faults.{disk_fault, first_failed}
 use Rattle.adf_partitions.specs.Summed.{holds, is_summed}
 use Rattle.adf_partitions.specs.Tables.{HasNoTables, IsRdsk, IsTables, is_rdsk, may_be_table}

@@ -14,8 +14,8 @@ use Rattle.adf_base.specs.declared.hash.Letters.{TheVariants.Ascii, TheVariants.
 use Rattle.adf_names.specs.declared.kind.Kind.{TheVariants.Ofs, TheVariants.Ffs, Kind}
 use Rattle.adf_partitions.specs.declared.layout.TheConstants.{BLOCK_BYTES, BLOCK_SECTORS, BOOT_PRIORITY, BOOTABLE, CHECKSUM, DOS_TYPE, DRIVE_NAME}
 use Rattle.adf_partitions.specs.declared.layout.TheConstants.{ENV_BLOCK_WORDS, ENV_LENGTH, FIRST_PART, FLAGS, HIGH_CYLINDER, HIGHEST_TABLE, LOW_CYLINDER}
-use Rattle.adf_partitions.specs.declared.layout.TheConstants.{LOWEST_TABLE, MARK, MOST_PARTITIONS, NEXT_PART, PART, RDSK, RESERVED}
-use Rattle.adf_partitions.specs.declared.layout.TheConstants.{SUMMED_LONGS, SURFACES, TRACK_BLOCKS}
+use Rattle.adf_partitions.specs.declared.layout.TheConstants.{LOWEST_TABLE, MARK, MOST_PARTITIONS, NEXT_PART, PART, RDSK, RESERVED, SUMMED_LONGS, SURFACES}
+use Rattle.adf_partitions.specs.declared.layout.TheConstants.{TRACK_BLOCKS}
 use Rattle.adf_partitions.specs.declared.plan.PartitionPlan.{PartitionPlan}
 use Rattle.adf_partitions.specs.Partitions.{has_drive_name, name_at}
 use Rattle.adf_partitions.specs.Places.{blocks_from, has_cylinders, partition_place}

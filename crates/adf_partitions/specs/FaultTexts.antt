@@ -4,8 +4,7 @@ use Rattle.std.specs.Fmt.{decimal}
 use Rattle.adf_partitions.specs.declared.fault.DiskCause.{DiskCause}
 use Rattle.adf_partitions.specs.declared.fault.DiskCause.TheVariants.{NoRigidDisk, BlockSize, OutOfRange, Repeated, NotPartition, BadSum, TooMany, NoMemory}
 use Rattle.adf_partitions.specs.declared.fault.DiskFault.{DiskFault}
-use Rattle.adf_partitions.specs.declared.field_fault.FieldFault.{FieldFault}
-use Rattle.adf_partitions.specs.declared.field_fault.FieldFault.TheVariants.{ShortEnvironment, OtherBlocks, BadName}
+use Rattle.adf_partitions.specs.declared.field_fault.FieldFault.{FieldFault, TheVariants.ShortEnvironment, TheVariants.OtherBlocks, TheVariants.BadName}
 use Rattle.adf_partitions.specs.declared.place.PlaceFault.{PlaceFault}
 use Rattle.adf_partitions.specs.declared.place.PlaceFault.TheVariants.{NoCylinders, BeyondImage, OverTables, OverPartition}
 

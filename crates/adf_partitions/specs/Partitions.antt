@@ -1,13 +1,12 @@
 -- Partitions. p is the partition block, n the number of blocks of the disk, t its tables, `earlier` the partitions before.
-use Rattle.std.specs.Prelude.{ℕ, ◌-◌, ◌==◌, ◌&&◌, if◌then◌else◌, not, nat_le, Bool, false, List, [], ◌∷◌, Option, Some, None, Result, Ok, Err}
-use Rattle.std.specs.Prelude.{bytes_eq, slice_get, slice_index, take}
+use Rattle.std.specs.Prelude.{ℕ, ◌-◌, ◌==◌, ◌&&◌, if◌then◌else◌, not, nat_le, Bool, false, List, [], ◌∷◌, Option, Some, None, Result, Ok, Err, bytes_eq}
+use Rattle.std.specs.Prelude.{slice_get, slice_index, take}
 use Rattle.std.specs.Int.{w32, cast_signed}
 use Rattle.std.specs.List.{list_all, list_any}
 use Rattle.adf_base.specs.Words.{word}
 use Rattle.adf_names.specs.Texts.{is_name_byte, uppers}
 use Rattle.adf_blocks.specs.Forms.{text_at}
-use Rattle.adf_partitions.specs.declared.field_fault.FieldFault.{FieldFault}
-use Rattle.adf_partitions.specs.declared.field_fault.FieldFault.TheVariants.{ShortEnvironment, OtherBlocks, BadName}
+use Rattle.adf_partitions.specs.declared.field_fault.FieldFault.{FieldFault, TheVariants.ShortEnvironment, TheVariants.OtherBlocks, TheVariants.BadName}
 use Rattle.adf_partitions.specs.declared.layout.TheConstants.{BLOCK_SECTORS, BOOT_PRIORITY, DOS_TYPE, DRIVE_NAME, ENV_BLOCK_WORDS, ENV_LENGTH, FLAGS, RESERVED}
 use Rattle.adf_partitions.specs.declared.partition.Partition.{Partition}
 use Rattle.adf_partitions.specs.declared.place.Place.{Place}

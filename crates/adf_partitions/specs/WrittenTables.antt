@@ -5,12 +5,11 @@ use Rattle.std.specs.List.{flat_map}
 use Rattle.adf_blocks.specs.Fields.{Field, block_of_fields, long, longs, text}
 use Rattle.adf_base.specs.Words.{sealed}
 use Rattle.adf_partitions.specs.Plans.{PlanValue, cylinder_blocks, planned_cylinders, planned_flags, planned_type, table_cylinders}
-use Rattle.adf_partitions.specs.declared.layout.TheConstants.{ADDRESS_MASK, BAD_BLOCKS, BLOCK_BYTES, BLOCK_SECTORS, BOOT_PRIORITY, BUFFERS, CHECKSUM}
-use Rattle.adf_partitions.specs.declared.layout.TheConstants.{CYLINDERS, CYLINDER_BLOCKS, DOS_TYPE, DRIVE_NAME, ENV_BLOCK_WORDS, ENV_LENGTH, FIRST_PART}
-use Rattle.adf_partitions.specs.declared.layout.TheConstants.{FLAGS, HEADS, HIGHEST_CYLINDER, HIGHEST_TABLE, HIGHEST_USED, HIGH_CYLINDER, HOST, INTERLEAVE}
-use Rattle.adf_partitions.specs.declared.layout.TheConstants.{LOWEST_CYLINDER, LOWEST_TABLE, LOW_CYLINDER, MARK, MOST_TRANSFER, NEXT_PART, NO_BLOCK}
-use Rattle.adf_partitions.specs.declared.layout.TheConstants.{OTHER_LISTS, PARKED, PART, RDSK, RESERVED, SECTORS, SUMMED_LONGS, SURFACES, TRACK_BLOCKS}
-use Rattle.adf_partitions.specs.declared.layout.TheConstants.{WRITTEN_LONGS}
+use Rattle.adf_partitions.specs.declared.layout.TheConstants.{ADDRESS_MASK, BAD_BLOCKS, BLOCK_BYTES, BLOCK_SECTORS, BOOT_PRIORITY, BUFFERS, CHECKSUM, CYLINDERS}
+use Rattle.adf_partitions.specs.declared.layout.TheConstants.{CYLINDER_BLOCKS, DOS_TYPE, DRIVE_NAME, ENV_BLOCK_WORDS, ENV_LENGTH, FIRST_PART, FLAGS, HEADS}
+use Rattle.adf_partitions.specs.declared.layout.TheConstants.{HIGHEST_CYLINDER, HIGHEST_TABLE, HIGHEST_USED, HIGH_CYLINDER, HOST, INTERLEAVE, LOWEST_CYLINDER}
+use Rattle.adf_partitions.specs.declared.layout.TheConstants.{LOWEST_TABLE, LOW_CYLINDER, MARK, MOST_TRANSFER, NEXT_PART, NO_BLOCK, OTHER_LISTS, PARKED, PART}
+use Rattle.adf_partitions.specs.declared.layout.TheConstants.{RDSK, RESERVED, SECTORS, SUMMED_LONGS, SURFACES, TRACK_BLOCKS, WRITTEN_LONGS}
 use Rattle.adf_partitions.specs.declared.plan.PartitionPlan.{PartitionPlan}
 use Rattle.adf_partitions.specs.declared.tables.Tables.{Tables}
 

@@ -1,7 +1,8 @@
 // Plans of hard disks.
 
 ghost use Rattle.std.specs.Prelude.{◌≡◌};
-ghost use Rattle.adf_partitions.specs.Plans.{IsPlan, cylinder_blocks, planned_cylinders, planned_flags, planned_type, table_cylinders, plan_value};
+ghost use Rattle.adf_partitions.specs.Plans.{IsPlan, cylinder_blocks, planned_cylinders, planned_flags, planned_type};
+ghost use Rattle.adf_partitions.specs.Plans.{table_cylinders, plan_value};
 
 use crate::layout::BOOTABLE;
 use crate::partition::DriveName;

@@ -1,6 +1,6 @@
 -- Texts that are read byte after byte. xs is a text, i the number of bytes that were read, x the next one.
-use Rattle.std.proofs.Common.{◌≡◌, ◌<◌, ◌≤◌, ◌+◌, ◌-◌, ◌*◌, ◌∙◌, ℕ, Bool, true, false, List, [], ◌∷◌, Some, None, length, get_or}
-use Rattle.std.proofs.Common.{drop, ap, refl, sym, arith, ◌&&◌, nat_le, if◌then◌else◌}
+use Rattle.std.proofs.Common.{◌≡◌, ◌<◌, ◌≤◌, ◌+◌, ◌-◌, ◌*◌, ◌∙◌, ℕ, Bool, true, false, List, [], ◌∷◌, Some, None, length, get_or, drop, ap, refl, sym, arith}
+use Rattle.std.proofs.Common.{◌&&◌, nat_le, if◌then◌else◌}
 use Rattle.std.proofs.lemmas.Bool.Decides.{nat_tests}
 use Rattle.std.proofs.lemmas.List.{drop_all, take_rest}
 use Rattle.std.proofs.Math.Seq.{drop-cons}

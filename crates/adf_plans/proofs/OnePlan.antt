@@ -5,8 +5,7 @@ use Rattle.adf_names.proofs.Spellings.{only_spelled}
 use Rattle.adf_plans.proofs.SomeTexts.{made, one_some}
 use Rattle.adf_partitions.specs.declared.plan.PartitionPlan.{PartitionPlan}
 use Rattle.adf_plans.specs.declared.plan_text.TextFault.{TextFault}
-use Rattle.adf_plans.specs.declared.plan_text.TextKind.{TextKind}
-use Rattle.adf_plans.specs.declared.plan_text.TextKind.TheVariants.{BadLine, NoEnd, NoMemory, TooLarge}
+use Rattle.adf_plans.specs.declared.plan_text.TextKind.{TextKind, TheVariants.BadLine, TheVariants.NoEnd, TheVariants.NoMemory, TheVariants.TooLarge}
 use Rattle.adf_partitions.specs.Plans.{PlanValue}
 use Rattle.adf_plans.specs.PlanTexts.{AreLines, HasLines, IsEndFault, IsPartitionLine, IsPartitionText, IsText, IsTextFault, HasNoPartition, before_byte}
 use Rattle.adf_plans.specs.PlanTexts.{behind_line, first_line, begins_with_end, is_plan, options_in}

@@ -1,6 +1,6 @@
 -- Every text has a plan, or a fault. k is how many bytes are left at most; t is a text, p a partition, ps partitions, e what is behind their lines.
-use Rattle.std.proofs.Common.{◌≡◌, ◌∙◌, ◌≤◌, ◌+◌, ◌⊎◌, ℕ, ℤ, zero, suc, Bool, true, false, List, [], ◌∷◌, Option, Some}
-use Rattle.std.proofs.Common.{arith, codes, inl, inr, length, refl, subst, sym}
+use Rattle.std.proofs.Common.{◌≡◌, ◌∙◌, ◌≤◌, ◌+◌, ◌⊎◌, ℕ, ℤ, zero, suc, Bool, true, false, List, [], ◌∷◌, Option, Some, arith, codes, inl, inr, length, refl}
+use Rattle.std.proofs.Common.{subst, sym}
 use Rattle.std.specs.Prelude.{FitsSigned}
 use Rattle.std.specs.Int.{int_wrap, w8}
 use Rattle.std.proofs.Math.IntN.{ℤ_discrete}
@@ -21,11 +21,9 @@ use Rattle.adf_partitions.specs.declared.plan.PartitionPlan.{PartitionPlan}
 use Rattle.adf_plans.specs.declared.plan_line.Options.{Options}
 use Rattle.adf_plans.specs.declared.plan_text.TextKind.TheVariants.{BadLine, NoEnd, TooLarge}
 use Rattle.adf_partitions.specs.Plans.{PlanValue}
-use Rattle.adf_plans.specs.PlanTexts.{AreLines, HasLines, HasPlanOrFault, IsDiskLine, IsPartitionLine, IsPartitionText, HasNoPartition}
-use Rattle.adf_plans.specs.PlanTexts.{behind_line, behind_word, ends_in_space, first_line, first_word, has_word, begins_with_end, is_plan}
-use Rattle.adf_plans.specs.PlanTexts.{kind_word, decimal_number}
-use Rattle.adf_plans.specs.PlanTexts.{options_in}
-use Rattle.adf_plans.specs.PlanTexts.{options_of}
+use Rattle.adf_plans.specs.PlanTexts.{AreLines, HasLines, HasPlanOrFault, IsDiskLine, IsPartitionLine, IsPartitionText, HasNoPartition, behind_line}
+use Rattle.adf_plans.specs.PlanTexts.{behind_word, ends_in_space, first_line, first_word, has_word, begins_with_end, is_plan, kind_word, decimal_number}
+use Rattle.adf_plans.specs.PlanTexts.{options_in, options_of}
 
 -- whether two truth values are equal
 dec_is : (a b : Bool) → Dec (a ≡ b)

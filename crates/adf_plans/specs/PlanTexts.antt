@@ -1,8 +1,7 @@
 -- The text of a plan: lines, each ended by a line feed, of words with a space between them. `left` is what is left of a text from a
 -- line on, ps are partitions.
-use Rattle.std.specs.Prelude.{◌≡◌, ◌≢◌, ◌≤◌, ◌⊎◌, ◌+◌, ◌-◌, ◌*◌, ◌^◌, ◌==◌, ◌&&◌, ◌||◌, ℕ, ℤ, pos, neg_ℤ, nat_le, nat_lt, Bool, FitsSigned, true}
-use Rattle.std.specs.Prelude.{false, List, [], ◌∷◌, ◌++◌, codes, decimal}
-use Rattle.std.specs.Prelude.{Option, Some, None, if◌then◌else◌, length, slice_index}
+use Rattle.std.specs.Prelude.{◌≡◌, ◌≢◌, ◌≤◌, ◌⊎◌, ◌+◌, ◌-◌, ◌*◌, ◌^◌, ◌==◌, ◌&&◌, ◌||◌, ℕ, ℤ, pos, neg_ℤ, nat_le, nat_lt, Bool, FitsSigned, true, false, List}
+use Rattle.std.specs.Prelude.{[], ◌∷◌, ◌++◌, codes, decimal, Option, Some, None, if◌then◌else◌, length, slice_index}
 use Rattle.std.specs.Int.{w8}
 use Rattle.std.specs.List.{after_first, before_first, list_all}
 use Rattle.std.specs.Str.{bytes_eq}
@@ -14,8 +13,7 @@ use Rattle.adf_partitions.specs.declared.layout.TheConstants.{MOST_PARTITIONS}
 use Rattle.adf_partitions.specs.declared.plan.PartitionPlan.{PartitionPlan}
 use Rattle.adf_plans.specs.declared.plan_line.Options.{Options}
 use Rattle.adf_plans.specs.declared.plan_text.TextFault.{TextFault}
-use Rattle.adf_plans.specs.declared.plan_text.TextKind.{TextKind}
-use Rattle.adf_plans.specs.declared.plan_text.TextKind.TheVariants.{BadLine, NoEnd, NoMemory, TooLarge}
+use Rattle.adf_plans.specs.declared.plan_text.TextKind.{TextKind, TheVariants.BadLine, TheVariants.NoEnd, TheVariants.NoMemory, TheVariants.TooLarge}
 use Rattle.adf_plans.specs.declared.plan_words.TheConstants.{MOST_NUMBER}
 use Rattle.adf_partitions.specs.Plans.{PlanValue, cylinder_blocks, planned_blocks}
 

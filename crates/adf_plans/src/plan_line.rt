@@ -5,7 +5,8 @@ ghost use Rattle.adf_names.specs.Escapes.{IsSpelling};
 ghost use Rattle.adf_names.specs.Texts.{is_name_byte};
 ghost use Rattle.std.specs.List.{list_all};
 ghost use Rattle.adf_partitions.specs.Plans.{IsPartitionPlan};
-ghost use Rattle.adf_plans.specs.PlanTexts.{IsDiskLine, IsDiskText, IsPartitionLine, IsPartitionText, has_word, option_priority, options_of, without_priority, without_word};
+ghost use Rattle.adf_plans.specs.PlanTexts.{IsDiskLine, IsDiskText, IsPartitionLine, IsPartitionText, has_word, option_priority};
+ghost use Rattle.adf_plans.specs.PlanTexts.{options_of, without_priority, without_word};
 ghost use Rattle.adf_partitions.specs.declared.plan.PartitionPlan.{PartitionPlan as PlanOfPartition};
 
 use crate::plan_words::{cut, ends_in_space, read_number, read_priority};

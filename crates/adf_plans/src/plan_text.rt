@@ -4,9 +4,9 @@ ghost use Rattle.std.specs.Prelude.{◌≡◌, ◌≢◌, ◌≤◌, ◌^◌, �
 ghost use Rattle.std.specs.List.{list_all};
 ghost use Rattle.adf_names.specs.VolumeTypes.{kind_text_by};
 ghost use Rattle.adf_partitions.specs.Plans.{IsPlan, cylinder_blocks, plan_value, planned_blocks, planned_type};
-ghost use Rattle.adf_plans.specs.PlanTexts.{AreLines, HasBegun, HasNoPartition, HasPartition, HasPlanOrFault, IsEndFault, IsPartitionText};
-ghost use Rattle.adf_plans.specs.PlanTexts.{IsText, IsTextFault, PlansHaveNoFault, TextsHaveOneFault, TextsHaveOnePlan};
-ghost use Rattle.adf_plans.specs.PlanTexts.{begins_with_end, has_volume, is_plan, kind_word, text_kind_text};
+ghost use Rattle.adf_plans.specs.PlanTexts.{AreLines, HasBegun, HasNoPartition, HasPartition, HasPlanOrFault, IsEndFault};
+ghost use Rattle.adf_plans.specs.PlanTexts.{IsPartitionText, IsText, IsTextFault, PlansHaveNoFault, TextsHaveOneFault};
+ghost use Rattle.adf_plans.specs.PlanTexts.{TextsHaveOnePlan, begins_with_end, has_volume, is_plan, kind_word, text_kind_text};
 ghost use Rattle.adf_partitions.specs.declared.layout.TheConstants.{MOST_PARTITIONS};
 ghost use Rattle.adf_partitions.specs.declared.plan.PartitionPlan.{PartitionPlan};
 ghost use Rattle.adf_plans.specs.declared.plan_text.TextKind.{TextKind};

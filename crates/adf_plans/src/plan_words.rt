@@ -1,8 +1,8 @@
 // The words of a plan's text.
 
 ghost use Rattle.std.specs.Prelude.{◌≡◌, ◌==◌, Some, position};
-ghost use Rattle.adf_plans.specs.PlanTexts.{before_byte, behind_byte, behind_line, decimal_number, ends_in_space};
-ghost use Rattle.adf_plans.specs.PlanTexts.{first_line, priority_down, priority_of, priority_up};
+ghost use Rattle.adf_plans.specs.PlanTexts.{before_byte, behind_byte, behind_line, decimal_number, ends_in_space, first_line};
+ghost use Rattle.adf_plans.specs.PlanTexts.{priority_down, priority_of, priority_up};
 
 /// The largest number of a text.
 pub const MOST_NUMBER: u32 = 1_048_576;

@@ -2,7 +2,8 @@
 -- Letters: g what is taken before a survey, l the survey, vs the verdicts on its entries so far, v one more; n a number of blocks;
 -- k a number of entries; h the block of a header; m metadata; b the body of an entry, or why it is left out; o a path, if there is one;
 -- x, y additions; a the survey of the image, second the second one, if there is one.
-use Rattle.std.proofs.Common.{◌≡◌, ◌<◌, ◌≤◌, ◌+◌, ◌-◌, ◌^◌, ◌++◌, ◌∙◌, ◌==◌, ◌&&◌, ℕ, zero, suc, Bool, true, false, List, [], ◌∷◌, Option, Some, None, Result, Ok, Err, ap, arith, append-nil, cond, length, refl, subst, sym}
+use Rattle.std.proofs.Common.{◌≡◌, ◌<◌, ◌≤◌, ◌+◌, ◌-◌, ◌^◌, ◌++◌, ◌∙◌, ◌==◌, ◌&&◌, ℕ, zero, suc, Bool, true, false, List, [], ◌∷◌, Option, Some, None, Result}
+use Rattle.std.proofs.Common.{Ok, Err, ap, arith, append-nil, cond, length, refl, subst, sym}
 use Rattle.std.specs.Prelude.{IfSome, nat_le}
 use Rattle.std.specs.List.{All}
 use Rattle.std.proofs.lemmas.Bool.{and_parts, cond_both, Decides.nat_tests}
@@ -37,7 +38,9 @@ use Rattle.adf_build.proofs.AllocatedBlocks.{reserved_below}
 use Rattle.adf_build.proofs.LaidWrites.{CanHold, volume_blocks}
 use Rattle.adf_build.proofs.WholeVolume.{volume_laid}
 use Rattle.adf_rescue.specs.declared.left_out.Why.{Why, TheVariants.NoRoom}
-use Rattle.adf_rescue.specs.Rescue.{Basis, Ground, Verdict, verdict_addition, verdict_additions, as_given, at_path, before_first_by, before_second_by, body_of, body_of_type, by_body, entry_headed, first_verdicts_by, lost_name, path_by, path_with_room, new_path, rescued_additions_by, rescued_tree_by, second_verdicts_by, verdict_tree, unless_known, verdict, verdict_anew, verdicts}
+use Rattle.adf_rescue.specs.Rescue.{Basis, Ground, Verdict, verdict_addition, verdict_additions, as_given, at_path, before_first_by, before_second_by, body_of}
+use Rattle.adf_rescue.specs.Rescue.{body_of_type, by_body, entry_headed, first_verdicts_by, lost_name, path_by, path_with_room, new_path, rescued_additions_by}
+use Rattle.adf_rescue.specs.Rescue.{rescued_tree_by, second_verdicts_by, verdict_tree, unless_known, verdict, verdict_anew, verdicts}
 use Rattle.adf_rescue.specs.Rescue.Verdict.{adds, knows, leaves}
 use Rattle.adf_rescue.proofs.RescuedTrees.{fitting_is, or_else, tree_of_rescue}
 use Rattle.adf_rescue.proofs.Steps.{additions_more, tree_more}

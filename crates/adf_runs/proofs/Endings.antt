@@ -1,5 +1,6 @@
 -- How a work ends, and by which answers.
-use Rattle.std.proofs.Common.{◌≡◌, ◌<◌, ◌+◌, ◌∙◌, inl, inr, ℕ, Bool, false, List, Option, Some, None, IfSome, Err, refl, subst, sym, arith, length, take, length-take}
+use Rattle.std.proofs.Common.{◌≡◌, ◌<◌, ◌+◌, ◌∙◌, inl, inr, ℕ, Bool, false, List, Option, Some, None, IfSome, Err, refl, subst, sym, arith, length, take}
+use Rattle.std.proofs.Common.{length-take}
 use Rattle.std.proofs.lemmas.Bool.{cases_lt}
 use Rattle.std.proofs.lemmas.List.{take_all}
 use Rattle.adf_runs.specs.Commands.{Reply, WritesFront}

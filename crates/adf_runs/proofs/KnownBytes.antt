@@ -1,6 +1,6 @@
 -- Laws of known bytes.
-use Rattle.std.proofs.Common.{◌≡◌, ◌≤◌, ◌+◌, ◌-◌, ◌++◌, ap, length-drop, ◌∙◌, ℕ, List, Option, Some, None, IfSome, min, inl, inr, refl, sym, length}
-use Rattle.std.proofs.Common.{take, drop, arith, append_assoc, length-append, length-take, length-take-le}
+use Rattle.std.proofs.Common.{◌≡◌, ◌≤◌, ◌+◌, ◌-◌, ◌++◌, ap, length-drop, ◌∙◌, ℕ, List, Option, Some, None, IfSome, min, inl, inr, refl, sym, length, take, drop}
+use Rattle.std.proofs.Common.{arith, append_assoc, length-append, length-take, length-take-le}
 use Rattle.std.specs.Io.KnownBytes.{Appends, Consumes, Keeps}
 use Rattle.std.proofs.Math.Seq.{take-add, take-append-add, drop-append_seam}
 use Rattle.std.proofs.lemmas.List.{take_all, take-append-le, nil_from_length}

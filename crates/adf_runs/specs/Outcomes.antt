@@ -3,10 +3,10 @@ use Rattle.std.specs.Prelude.{◌≡◌, ℕ, Bool, true, false, List, [], codes
 use Rattle.std.specs.Io.KnownBytes.{Appends}
 use Rattle.adf_runs.specs.Commands.{Reply, WritesFront}
 use Rattle.adf_runs.specs.Streams.{Seen}
-use Rattle.adf_runs.specs.declared.streams.StreamFault.{StreamFault}
-use Rattle.adf_runs.specs.declared.streams.StreamFault.TheVariants.{Device, NoMemory as StreamNoMemory}
+use Rattle.adf_runs.specs.declared.streams.StreamFault.{StreamFault, TheVariants.Device, TheVariants.NoMemory as StreamNoMemory}
 use Rattle.adf_runs.specs.declared.outcome.Outcome.{Outcome}
-use Rattle.adf_runs.specs.declared.outcome.Outcome.TheVariants.{Done, FaultWritten, Refused, LeftOut, NoSuchPath, NotAFile, Damaged, ReadFault, WriteFault, NoMemory}
+use Rattle.adf_runs.specs.declared.outcome.Outcome.TheVariants.{Done, FaultWritten, Refused, LeftOut, NoSuchPath, NotAFile, Damaged, ReadFault, WriteFault}
+use Rattle.adf_runs.specs.declared.outcome.Outcome.TheVariants.{NoMemory}
 
 -- the exit status of an outcome
 abbrev pub status_of : Outcome → ℕ

@@ -1,8 +1,7 @@
 -- What whole reads and writes take and add.
 use Rattle.std.specs.Prelude.{◌≡◌, ◌≢◌, ℕ, ◌≤◌, Bool, true, false, List, ◌++◌, ◌-◌, drop, length, min, [], take, Option, Some, IfSome, Result, Err, codes}
 use Rattle.std.specs.Io.KnownBytes.{Appends, Consumes}
-use Rattle.adf_runs.specs.declared.streams.StreamFault.{StreamFault}
-use Rattle.adf_runs.specs.declared.streams.StreamFault.TheVariants.{Device, NoMemory}
+use Rattle.adf_runs.specs.declared.streams.StreamFault.{StreamFault, TheVariants.Device, TheVariants.NoMemory}
 
 -- at most n of the known bytes were taken
 abbrev pub TakesAtMost : ℕ → Option (List ℕ) → Option (List ℕ) → Type 0

@@ -1,11 +1,8 @@
 -- Why no work is begun for the words of a command.
 use Rattle.std.specs.Prelude.{ℕ, List, codes}
-use Rattle.adf_names.specs.declared.path_texts.PathFault.{PathFault}
-use Rattle.adf_names.specs.declared.path_texts.PathFault.TheVariants.{BadText, NoMemory as PathNoMemory}
-use Rattle.adf_words.specs.declared.command_line.ArgsError.{ArgsError}
-use Rattle.adf_words.specs.declared.command_line.ArgsError.TheVariants.{NoMemory as ArgsNoMemory, Usage as ArgsUsage}
-use Rattle.adf_runs.specs.declared.work_fault.WorkFault.{WorkFault}
-use Rattle.adf_runs.specs.declared.work_fault.WorkFault.TheVariants.{Usage, BadPath, NoMemory}
+use Rattle.adf_names.specs.declared.path_texts.PathFault.{PathFault, TheVariants.BadText, TheVariants.NoMemory as PathNoMemory}
+use Rattle.adf_words.specs.declared.command_line.ArgsError.{ArgsError, TheVariants.NoMemory as ArgsNoMemory, TheVariants.Usage as ArgsUsage}
+use Rattle.adf_runs.specs.declared.work_fault.WorkFault.{WorkFault, TheVariants.Usage, TheVariants.BadPath, TheVariants.NoMemory}
 
 -- the fault where words are not had
 abbrev pub args_refused : ArgsError → WorkFault

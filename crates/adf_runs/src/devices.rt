@@ -1,8 +1,7 @@
 // Devices that give and take bytes, and know whether they have failed.
 
 ghost use Rattle.std.specs.Prelude.{◌≡◌, ◌≤◌, ℕ, Bool, false, is_err, IfOk, List, None, Option, true};
-ghost use Rattle.std.specs.Io.{ReadsAtMost, WritesAtMost};
-ghost use Rattle.std.specs.Io.KnownBytes.{ReadConsumes, WriteAppends};
+ghost use Rattle.std.specs.Io.{ReadsAtMost, WritesAtMost, KnownBytes.ReadConsumes, KnownBytes.WriteAppends};
 ghost use Rattle.adf_runs.specs.Devices.{write_fails};
 ghost use Rattle.adf_runs.specs.Streams.{PassesOver, TakesAtMost};
 

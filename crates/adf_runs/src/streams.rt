@@ -1,6 +1,7 @@
 // Whole reads and writes over devices.
 
-ghost use Rattle.std.specs.Prelude.{◌≡◌, [], ◌+◌, ◌++◌, ◌<◌, ◌≤◌, ◌^◌, false, is_err, IfErr, IfOk, IsOk, List, OnOk, OnErr, Option, length, take, vec_len, ℕ};
+ghost use Rattle.std.specs.Prelude.{◌≡◌, [], ◌+◌, ◌++◌, ◌<◌, ◌≤◌, ◌^◌, false, is_err, IfErr, IfOk, IsOk, List, OnOk, OnErr};
+ghost use Rattle.std.specs.Prelude.{Option, length, take, vec_len, ℕ};
 ghost use Rattle.std.specs.Io.KnownBytes.{Appends, Consumes, IsAtEnd, Keeps};
 ghost use Rattle.adf_runs.specs.Streams.{AppendsPart, AreFirst, KeepsPending, Says, TakesAtMost, is_device};
 

@@ -1,7 +1,7 @@
 -- What a run of names has done so far. `may` says what may be reported of the file of a name, `a` is what was left of the names before the run
 -- and `b` what is left, `o` and `o'` are what output held and holds, and `e` and `e'` what errors do.
-use Rattle.std.proofs.Common.{◌≡◌, ◌∙◌, ℕ, max, Bool, true, false, List, [], ◌∷◌, ◌++◌, Option, None, Some, IfSome}
-use Rattle.std.proofs.Common.{append-nil, append_assoc, inl, inr, refl, sym, ap, subst, arith}
+use Rattle.std.proofs.Common.{◌≡◌, ◌∙◌, ℕ, max, Bool, true, false, List, [], ◌∷◌, ◌++◌, Option, None, Some, IfSome, append-nil, append_assoc, inl, inr, refl}
+use Rattle.std.proofs.Common.{sym, ap, subst, arith}
 use Rattle.std.specs.Io.KnownBytes.{Appends}
 use Rattle.std.proofs.lemmas.Grind.{common_steps}
 use Rattle.adf_volume.specs.declared.types.Types.{Types}

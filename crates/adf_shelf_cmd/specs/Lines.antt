@@ -1,7 +1,7 @@
 -- The lines of names. In each definition `may` says of a name, a status, a text and why its file could not be opened whether they may be reported
 -- of it, `o` and `o'` are what output held and holds, and `e` and `e'` what errors do. `said` is what is said on errors of files.
-use Rattle.std.specs.Prelude.{◌≡◌, ◌≢◌, ◌≤◌, ◌⊎◌, ℕ, max, Bool, true, false, List, [], ◌∷◌, ◌++◌, codes}
-use Rattle.std.specs.Prelude.{Option, None, Some, IfSome, Result, Err, if◌then◌else◌, string_bytes}
+use Rattle.std.specs.Prelude.{◌≡◌, ◌≢◌, ◌≤◌, ◌⊎◌, ℕ, max, Bool, true, false, List, [], ◌∷◌, ◌++◌, codes, Option, None, Some, IfSome, Result, Err, if◌then◌else◌}
+use Rattle.std.specs.Prelude.{string_bytes}
 use Rattle.std.specs.Io.KnownBytes.{Appends}
 use Rattle.adf_volume.specs.declared.types.Types.{Types}
 use Rattle.adf_names.specs.Escapes.{escaped}
@@ -10,10 +10,8 @@ use Rattle.adf_runs.specs.Commands.{on_output}
 use Rattle.adf_runs.specs.Streams.{AppendsPart, IsTold, Says, Seen}
 use Rattle.adf_file_runs.specs.Files.{why_line}
 use Rattle.adf_file_runs.specs.declared.files.Unopened.{Unopened}
-use Rattle.adf_shelf_cmd.specs.declared.report.Report.{Report}
-use Rattle.adf_shelf_cmd.specs.declared.report.Report.TheVariants.{Checked, NotOpened, ReadFault, NoMemory}
-use Rattle.adf_shelf_cmd.specs.declared.batch.Stop.{Stop}
-use Rattle.adf_shelf_cmd.specs.declared.batch.Stop.TheVariants.{ReadFault as NamesFault, WriteFault, NoMemory as StopNoMemory}
+use Rattle.adf_shelf_cmd.specs.declared.report.Report.{Report, TheVariants.Checked, TheVariants.NotOpened, TheVariants.ReadFault, TheVariants.NoMemory}
+use Rattle.adf_shelf_cmd.specs.declared.batch.Stop.{Stop, TheVariants.ReadFault as NamesFault, TheVariants.WriteFault, TheVariants.NoMemory as StopNoMemory}
 
 -- the line of a name: its escape form, a tab, and the text reported of its file
 abbrev pub batch_line : List ℕ → List ℕ → List ℕ

@@ -1,7 +1,8 @@
 // What is reported of a file, and the line of its name.
 
 ghost use Rattle.std.specs.Prelude.{◌≡◌, ◌++◌, None, false, OnOk};
-ghost use Rattle.adf_shelf_cmd.specs.Lines.{IsOpenedReport, IsReport, IsRunStatus, is_unread, report_status, report_text, report_why, batch_line};
+ghost use Rattle.adf_shelf_cmd.specs.Lines.{IsOpenedReport, IsReport, IsRunStatus, is_unread, report_status, report_text};
+ghost use Rattle.adf_shelf_cmd.specs.Lines.{report_why, batch_line};
 ghost use Rattle.adf_file_runs.specs.Files.{why_line};
 
 use adf_cmd::{CheckAnswer, answer_to_input};

@@ -1,7 +1,7 @@
 -- Answers with the hint, and how a work ends with it.
 -- Letters: w an outcome; o and o' what output held before and after.
-use Rattle.std.proofs.Common.{◌≡◌, ◌==◌, ◌&&◌, ◌++◌, ◌∙◌, ◌*◌, ◌+◌, inl, inr, ℕ, Bool, true, false, List, [], Option, ap, arith, append-nil, refl}
-use Rattle.std.proofs.Common.{subst, sym, take}
+use Rattle.std.proofs.Common.{◌≡◌, ◌==◌, ◌&&◌, ◌++◌, ◌∙◌, ◌*◌, ◌+◌, inl, inr, ℕ, Bool, true, false, List, [], Option, ap, arith, append-nil, refl, subst, sym}
+use Rattle.std.proofs.Common.{take}
 use Rattle.std.specs.Io.KnownBytes.{Appends}
 use Rattle.std.proofs.lemmas.Bool.{cond_both, cond-false, cond-true}
 use Rattle.std.proofs.lemmas.List.{take-take}

@@ -1,8 +1,8 @@
 -- Volumes of rescues, with the boot blocks that are put into them.
 -- Letters: s, t what is surveyed; a the survey of an image, b the second one, if there is one, fs findings; r what a rescue gives;
 -- held the blocks that are held.
-use Rattle.std.proofs.Common.{◌≡◌, ◌≢◌, ◌∙◌, ◌++◌, ◌-◌, ◌/◌, ◌≤◌, ℕ, List, [], Option, true}
-use Rattle.std.proofs.Common.{inl, inr, ap, refl, subst, sym, length, replicate, take, append-nil, arith, slice_index}
+use Rattle.std.proofs.Common.{◌≡◌, ◌≢◌, ◌∙◌, ◌++◌, ◌-◌, ◌/◌, ◌≤◌, ℕ, List, [], Option, true, inl, inr, ap, refl, subst, sym, length, replicate, take}
+use Rattle.std.proofs.Common.{append-nil, arith, slice_index}
 use Rattle.std.proofs.lemmas.Bool.{and_parts, cond_both, leb-true}
 use Rattle.std.proofs.lemmas.Grind.{common_steps}
 use Rattle.std.proofs.lemmas.List.{length-set}

@@ -1,8 +1,7 @@
 -- What is answered to the front of an input that is longer than the largest image is answered to the whole of it.
 -- Letters: s, t what is surveyed; w the walk of a survey, fs its findings; n an entry's node.
-use Rattle.std.proofs.Common.{◌≡◌, ◌<◌, ◌≤◌, ◌+◌, ◌-◌, ◌*◌, ◌∙◌, ◌++◌, true, false, inl, inr, ℕ, Bool, List, [], ◌∷◌, Option, None, Some, refl, ap}
-use Rattle.std.proofs.Common.{ap₂, arith, subst, sym}
-use Rattle.std.proofs.Common.{◌==◌, ◌&&◌, cond, length, replicate, take}
+use Rattle.std.proofs.Common.{◌≡◌, ◌<◌, ◌≤◌, ◌+◌, ◌-◌, ◌*◌, ◌∙◌, ◌++◌, true, false, inl, inr, ℕ, Bool, List, [], ◌∷◌, Option, None, Some, refl, ap, ap₂, arith}
+use Rattle.std.proofs.Common.{subst, sym, ◌==◌, ◌&&◌, cond, length, replicate, take}
 use Rattle.std.proofs.lemmas.Bool.{and_left, cond-false, false_from_ne_true}
 use Rattle.std.proofs.Math.Nat.{min-eq_left}
 use Rattle.std.proofs.lemmas.List.{take-take}
@@ -15,9 +14,7 @@ use Rattle.adf_volume.specs.Walk.{Walk}
 use Rattle.adf_findings.specs.Files.{grave}
 use Rattle.adf_findings.specs.Lookup.{LeadsTo}
 use Rattle.adf_findings.specs.SoundMarks.{AreMarks}
-use Rattle.adf_findings.specs.Survey.{FindingValue, IsSurvey, finding}
-use Rattle.adf_findings.specs.Survey.IsSurvey.{unread}
-use Rattle.adf_findings.specs.Survey.UnreadTells.{bad_boot}
+use Rattle.adf_findings.specs.Survey.{FindingValue, IsSurvey, finding, IsSurvey.unread, UnreadTells.bad_boot}
 use Rattle.adf_findings.specs.OwnKind.{is_mistyped}
 use Rattle.adf_findings.proofs.OneSurvey.{one_survey}
 use Rattle.adf_findings.proofs.OwnKinds.{none_mistyped}

@@ -28,15 +28,13 @@ use Rattle.adf_rescue.specs.Rescue.{IsFaulty, Basis, StandsNothingBy, rescued_tr
 use Rattle.adf_rescue.proofs.OpenedImages.{volumes_are_kept}
 use Rattle.adf_runs.specs.Commands.{Reply, on_errors}
 use Rattle.adf_runs.specs.Outcomes.{EndsBy}
-use Rattle.adf_runs.specs.declared.outcome.Outcome.{Outcome}
-use Rattle.adf_runs.specs.declared.outcome.Outcome.TheVariants.{LeftOut as Tells, NoMemory as OutOfMemory}
+use Rattle.adf_runs.specs.declared.outcome.Outcome.{Outcome, TheVariants.LeftOut as Tells, TheVariants.NoMemory as OutOfMemory}
 use Rattle.adf_runs.proofs.PendingText.{appends_nil}
 use Rattle.adf_survey_cmd.specs.Losses.{loss_values, losses_of, rescue_losses}
 use Rattle.adf_survey_cmd.specs.Prepared.{IsNoVolume, IsToldRefusal, LaysFor, Prepares, RefusesFor, WritesPrepared}
 use Rattle.adf_survey_cmd.specs.Rescues.{Replies, RescueValue, RescueValue.written, Rescues, RescuesBoth, RescuesBy, RescuesIn, second_image}
 use Rattle.adf_survey_cmd.specs.declared.preparing.Prepared.{Prepared}
-use Rattle.adf_survey_cmd.specs.declared.preparing.Unrescued.{Unrescued}
-use Rattle.adf_survey_cmd.specs.declared.preparing.Unrescued.TheVariants.{NoMemory, Refused}
+use Rattle.adf_survey_cmd.specs.declared.preparing.Unrescued.{Unrescued, TheVariants.NoMemory, TheVariants.Refused}
 
 -- what holds if there is a value holds of it
 pub if_some : {X : Type 0} (o : Option X) (x : X) (P : X → Type 0) → o ≡ Some x → IfSome o P → P x

@@ -19,8 +19,7 @@ use Rattle.adf_findings.proofs.SomeMarks.{some_marks}
 use Rattle.adf_findings.proofs.SomeSurvey.{some_survey}
 use Rattle.adf_findings.proofs.Starts.{course_size}
 use Rattle.adf_findings.specs.Files.{grave}
-use Rattle.adf_findings.specs.Survey.{FindingValue, IsSurvey}
-use Rattle.adf_findings.specs.Survey.IsSurvey.{read, unread}
+use Rattle.adf_findings.specs.Survey.{FindingValue, IsSurvey, IsSurvey.read, IsSurvey.unread}
 use Rattle.adf_findings.specs.Types.{passed}
 use Rattle.adf_findings.specs.Verdict.{FitsOrHasFaultBy}
 use Rattle.adf_rescue.proofs.MadeRoots.{sized}

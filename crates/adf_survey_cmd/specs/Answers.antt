@@ -4,8 +4,7 @@ use Rattle.std.specs.Prelude.{◌≡◌, ◌*◌, ◌⊎◌, ◌++◌, ℕ, Bool
 use Rattle.adf_blocks.specs.declared.layout.TheConstants.{MOST_BLOCKS}
 use Rattle.adf_names.specs.PathTexts.{IsPathText, path_text}
 use Rattle.adf_volume.specs.Walk.{FileAt, Walk}
-use Rattle.adf_volume.specs.declared.types.Types.{Types}
-use Rattle.adf_volume.specs.declared.types.Types.TheVariants.{Plain, WithInternational}
+use Rattle.adf_volume.specs.declared.types.Types.{Types, TheVariants.Plain, TheVariants.WithInternational}
 use Rattle.adf_findings.specs.Files.{IsSoundFile, file_content, file_in}
 use Rattle.adf_findings.specs.Lookup.{LeadsTo}
 use Rattle.adf_findings.specs.SoundMarks.{AreMarks}

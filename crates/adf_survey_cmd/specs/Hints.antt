@@ -8,8 +8,7 @@ use Rattle.adf_partitions.specs.Summed.{holds}
 use Rattle.adf_partitions.specs.declared.layout.TheConstants.{MARK, RDSK, RDSK_BLOCKS}
 use Rattle.adf_runs.specs.Commands.{Reply}
 use Rattle.adf_runs.specs.Outcomes.{outcome_text, status_of}
-use Rattle.adf_runs.specs.declared.outcome.Outcome.{Outcome}
-use Rattle.adf_runs.specs.declared.outcome.Outcome.TheVariants.{LeftOut, NoMemory}
+use Rattle.adf_runs.specs.declared.outcome.Outcome.{Outcome, TheVariants.LeftOut, TheVariants.NoMemory}
 
 -- the bytes hold the whole block b, and it begins with `RDSK`
 abbrev pub begins_table : List ℕ → ℕ → Bool

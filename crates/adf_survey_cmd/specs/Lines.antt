@@ -5,8 +5,7 @@ use Rattle.std.specs.Fmt.{decimal}
 use Rattle.std.specs.List.{flat_map}
 use Rattle.adf_blocks.specs.Causes.{cause_number, cause_text}
 use Rattle.adf_volume.specs.Walk.{Walk}
-use Rattle.adf_findings.specs.declared.concern.Concern.{Concern}
-use Rattle.adf_findings.specs.declared.concern.Concern.TheVariants.{Entry, Within}
+use Rattle.adf_findings.specs.declared.concern.Concern.{Concern, TheVariants.Entry, TheVariants.Within}
 use Rattle.adf_findings.specs.Concerned.{concern_of, taker_of}
 use Rattle.adf_findings.specs.Lookup.{path_to}
 use Rattle.adf_findings.specs.Survey.{FindingValue}

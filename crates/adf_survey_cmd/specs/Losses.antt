@@ -11,8 +11,7 @@ use Rattle.adf_findings.specs.Survey.{FindingValue}
 use Rattle.adf_rescue.specs.Losses.{lost_blocks, lost_headers}
 use Rattle.adf_rescue.specs.Rescue.{Basis, rescue_leaves_by, second_leaves_by}
 use Rattle.adf_rescue.specs.declared.left_out.LeftOut.{LeftOut}
-use Rattle.adf_rescue.specs.declared.left_out.Why.{Why}
-use Rattle.adf_rescue.specs.declared.left_out.Why.TheVariants.{Damaged, Link, NoRoom}
+use Rattle.adf_rescue.specs.declared.left_out.Why.{Why, TheVariants.Damaged, TheVariants.Link, TheVariants.NoRoom}
 use Rattle.adf_texts.specs.Names.{names_text}
 use Rattle.adf_survey_cmd.specs.Lines.{blocks_text}
 use Rattle.adf_survey_cmd.specs.declared.losses.Loss.{Loss}

@@ -15,13 +15,11 @@ use Rattle.adf_build.specs.Building.{IsBuildable}
 use Rattle.adf_build.specs.Laid.{IsLaid}
 use Rattle.adf_texts.specs.Lines.{fault_line}
 use Rattle.adf_runs.specs.Commands.{Reply}
-use Rattle.adf_runs.specs.declared.outcome.Outcome.{Outcome}
-use Rattle.adf_runs.specs.declared.outcome.Outcome.TheVariants.{LeftOut, NoMemory as OutOfMemory}
+use Rattle.adf_runs.specs.declared.outcome.Outcome.{Outcome, TheVariants.LeftOut, TheVariants.NoMemory as OutOfMemory}
 use Rattle.adf_survey_cmd.specs.Losses.{loss_values, losses_text}
 use Rattle.adf_survey_cmd.specs.Rescues.{RescueValue, RescueValue.refused, RescueValue.written, rescue_reply}
 use Rattle.adf_survey_cmd.specs.declared.preparing.Prepared.{Prepared}
-use Rattle.adf_survey_cmd.specs.declared.preparing.Unrescued.{Unrescued}
-use Rattle.adf_survey_cmd.specs.declared.preparing.Unrescued.TheVariants.{NoMemory, Refused}
+use Rattle.adf_survey_cmd.specs.declared.preparing.Unrescued.{Unrescued, TheVariants.NoMemory, TheVariants.Refused}
 
 -- no tree and layout fit an image where these types are accepted
 abbrev pub IsNoVolume : Types → List ℕ → Type 0

@@ -10,7 +10,8 @@ ghost use Rattle.adf_findings.specs.SoundMarks.{AreMarks};
 ghost use Rattle.adf_findings.specs.Survey.{OnSurvey};
 ghost use Rattle.adf_texts.specs.VolumeLines.{AreDates};
 ghost use Rattle.adf_runs.specs.Streams.{AppendsPart, is_device};
-ghost use Rattle.adf_survey_cmd.specs.FoundLines.{InAnyTexts, found_lines, found_text, lines_of_found, mark_text, marked, opening_text};
+ghost use Rattle.adf_survey_cmd.specs.FoundLines.{InAnyTexts, found_lines, found_text, lines_of_found, mark_text, marked};
+ghost use Rattle.adf_survey_cmd.specs.FoundLines.{opening_text};
 
 use adf_findings::{Opening, Survey};
 use adf_runs::{Sink, StreamFault, flush_long, write_all};

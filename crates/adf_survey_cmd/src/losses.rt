@@ -1,9 +1,11 @@
 // What of an image is not in the volume of its rescue.
 
-ghost use Rattle.std.specs.Prelude.{◌≡◌, ◌+◌, ◌<◌, ◌++◌, ◌∷◌, [], List, IfOk, OnOk, Option, drop, length, not, option_map, slice_index};
+ghost use Rattle.std.specs.Prelude.{◌≡◌, ◌+◌, ◌<◌, ◌++◌, ◌∷◌, [], List, IfOk, OnOk, Option, drop, length, not, option_map};
+ghost use Rattle.std.specs.Prelude.{slice_index};
 ghost use Rattle.adf_findings.specs.Survey.{OnSurvey};
 ghost use Rattle.adf_rescue.specs.Rescue.{OnSecond};
-ghost use Rattle.adf_survey_cmd.specs.Losses.{begins_with, block_losses, header_losses, header_of, left_out_losses, loss_values, losses_of, path_loss, run_loss, second_losses, why_number};
+ghost use Rattle.adf_survey_cmd.specs.Losses.{begins_with, block_losses, header_losses, header_of, left_out_losses, loss_values};
+ghost use Rattle.adf_survey_cmd.specs.Losses.{losses_of, path_loss, run_loss, second_losses, why_number};
 
 use crate::runs::push_path;
 use adf_findings::Survey;

@@ -1,11 +1,10 @@
 -- A path with one more name.
-use Rattle.std.proofs.Common.{◌≡◌, ◌<◌, ◌+◌, ◌++◌, ◌==◌, ◌∙◌, ℕ, List, [], ◌∷◌, Bool, true, false, if◌then◌else◌, ap, append_assoc, refl, sym, arith}
-use Rattle.std.proofs.Common.{get_or, length, map, nat_le, take}
+use Rattle.std.proofs.Common.{◌≡◌, ◌<◌, ◌+◌, ◌++◌, ◌==◌, ◌∙◌, ℕ, List, [], ◌∷◌, Bool, true, false, if◌then◌else◌, ap, append_assoc, refl, sym, arith, get_or}
+use Rattle.std.proofs.Common.{length, map, nat_le, take}
 use Rattle.std.specs.Borrow.{Bor}
 use Rattle.std.specs.List.{All, join_with_byte, list_all}
 use Rattle.std.proofs.lemmas.Bool.{and_parts, ne_eqb}
-use Rattle.std.proofs.lemmas.List.{length-map, length-take-le, map-append, take_more}
-use Rattle.std.proofs.lemmas.List.Elements.{All-head, All-tail}
+use Rattle.std.proofs.lemmas.List.{length-map, length-take-le, map-append, take_more, Elements.All-head, Elements.All-tail}
 use Rattle.std.proofs.lemmas.Grind.{common_steps}
 use Rattle.adf_names.specs.Escapes.{escape_of, escaped}
 use Rattle.adf_names.specs.PathTexts.{IsName, path_text, with_name}

@@ -1,8 +1,7 @@
 -- The output lines of the commands.
 use Rattle.std.specs.Prelude.{ℕ, List, [], ◌∷◌, ◌++◌, codes}
 use Rattle.std.specs.Fmt.{decimal}
-use Rattle.adf_base.specs.declared.hash.Letters.{Letters}
-use Rattle.adf_base.specs.declared.hash.Letters.TheVariants.{Ascii}
+use Rattle.adf_base.specs.declared.hash.Letters.{Letters, TheVariants.Ascii}
 use Rattle.adf_names.specs.VolumeTypes.{kind_text_by}
 use Rattle.adf_manifest.specs.Kinds.{manifest_fault_text}
 use Rattle.adf_manifest.specs.Texts.{hex_word}

@@ -5,8 +5,7 @@ use Rattle.adf_base.specs.declared.dates.Stamp.{Stamp}
 use Rattle.adf_names.specs.declared.meta.Meta.{Meta}
 use Rattle.adf_blocks.specs.declared.head.HeadBody.{HeadBody}
 use Rattle.adf_volume.specs.Rows.{row_body}
-use Rattle.adf_volume.specs.declared.row.RowBody.{RowBody}
-use Rattle.adf_volume.specs.declared.row.RowBody.TheVariants.{Dir, File}
+use Rattle.adf_volume.specs.declared.row.RowBody.{RowBody, TheVariants.Dir, TheVariants.File}
 use Rattle.adf_manifest.specs.Texts.{hex_word}
 use Rattle.adf_texts.specs.Names.{names_text}
 use Rattle.adf_texts.specs.VolumeLines.{lines_with, right_in_ten}

@@ -8,8 +8,7 @@ use Rattle.adf_names.specs.Escapes.{escaped}
 use Rattle.adf_names.specs.PathTexts.{path_text}
 use Rattle.adf_tree.specs.Paths.{names_of}
 use Rattle.adf_tree.specs.Tree.{Tree, entry}
-use Rattle.adf_tree.specs.declared.entry.Body.{Body}
-use Rattle.adf_tree.specs.declared.entry.Body.TheVariants.{Dir, File}
+use Rattle.adf_tree.specs.declared.entry.Body.{Body, TheVariants.Dir, TheVariants.File}
 use Rattle.adf_tree.specs.declared.entry.Entry.{Entry}
 use Rattle.adf_names.specs.declared.kind.Kind.{Kind}
 use Rattle.adf_names.specs.declared.meta.Meta.{Meta}

@@ -5,7 +5,8 @@ ghost use Rattle.adf_tree.specs.declared.entry.Entry.{Entry};
 ghost use Rattle.adf_names.specs.PathTexts.{path_text};
 ghost use Rattle.adf_volume.specs.Rows.{row_of_entry};
 ghost use Rattle.adf_texts.specs.RowTexts.{columns, head_lines, row_size, row_word};
-ghost use Rattle.adf_texts.specs.VolumeLines.{AreDates, blocks_line, entry_lines, escaped_line, lines_with, opening_lines, right_in_ten, text_line};
+ghost use Rattle.adf_texts.specs.VolumeLines.{AreDates, blocks_line, entry_lines, escaped_line, lines_with, opening_lines};
+ghost use Rattle.adf_texts.specs.VolumeLines.{right_in_ten, text_line};
 
 use crate::digits::{push_hex, push_number, push_right};
 use crate::escapes::{push_escaped, push_names, push_path};

@@ -15,9 +15,8 @@ use Rattle.adf_names.specs.declared.meta.Meta.{Meta}
 use Rattle.adf_names.specs.declared.meta.Stamps.{Stamps}
 use Rattle.adf_tree.specs.declared.entry.Body.{Body, TheVariants.Dir, TheVariants.File}
 use Rattle.adf_tree.specs.declared.tree.RoomFault.{RoomFault, TheVariants.EmptyPath, TheVariants.NoParent, TheVariants.ParentIsFile, TheVariants.Exists}
-use Rattle.adf_tree.specs.Tree.{added, added_by, child, child_by, directory_from, directory_from_by, free_in, is_dir, is_dir_body, last_of, new_entry}
-use Rattle.adf_tree.specs.Tree.{new_entry_by, parents_of, room_at, room_at_by, room_for, room_for_by, with_added, with_entry, with_entry_by, AreApartBy, IsDir}
-use Rattle.adf_tree.specs.Tree.{IsTreeBy, MayAddBy, Tree, TreeEntries}
+use Rattle.adf_tree.specs.Tree.{added_by, child, child_by, directory_from, directory_from_by, free_in, is_dir, is_dir_body, last_of, new_entry_by, parents_of}
+use Rattle.adf_tree.specs.Tree.{room_at, room_at_by, room_for, room_for_by, with_added, with_entry_by, AreApartBy, IsDir, IsTreeBy, MayAddBy, Tree, TreeEntries}
 use Rattle.adf_tree.proofs.TreeInvariant.{added_tree}
 use Rattle.adf_tree.proofs.ChildLookup.{none_is}
 

@@ -7,7 +7,7 @@ use Rattle.adf_base.specs.declared.hash.Letters.{Letters, TheVariants.Ascii}
 use Rattle.adf_names.specs.Meta.{IsBoundedMeta}
 use Rattle.adf_names.specs.PathTexts.{IsName}
 use Rattle.adf_names.specs.Texts.{is_name}
-use Rattle.adf_tree.specs.Additions.{Addition, entries_of_additions, entries_of_additions_by, with_addition_by}
+use Rattle.adf_tree.specs.Additions.{Addition, entries_of_additions_by, with_addition_by}
 use Rattle.adf_tree.specs.Bounds.{IsBoundedEntry, IsData}
 use Rattle.adf_tree.specs.Tree.{added, added_by, last_of, new_entry_by, place_by, rank_by, moved_entry}
 use Rattle.adf_tree.specs.declared.entry.Entry.{Entry}

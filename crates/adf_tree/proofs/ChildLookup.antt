@@ -9,10 +9,10 @@ use Rattle.std.proofs.lemmas.List.{length-map, Sums.position_or_len_is, Quantifi
 use Rattle.std.proofs.lemmas.Slice.Eq.{bytes_eq-Decides}
 use Rattle.adf_base.specs.declared.hash.Letters.{Letters, TheVariants.Ascii, TheVariants.International}
 use Rattle.adf_tree.specs.declared.entry.Entry.{Entry}
-use Rattle.adf_base.specs.Hash.{slot_by, slot_of, upper_by}
+use Rattle.adf_base.specs.Hash.{slot_by, upper_by}
 use Rattle.adf_names.specs.Texts.{uppers, uppers_by}
-use Rattle.adf_tree.specs.Tree.{rank_by, rank_of, is_child, is_child_by, child, child_by, place_by, moved_entry, moved, added_by, IsDir, IsTree}
-use Rattle.adf_tree.specs.Tree.{IsTreeBy, MayAddBy}
+use Rattle.adf_tree.specs.Tree.{rank_by, rank_of, is_child, is_child_by, child, child_by, place_by, moved_entry, moved, added_by, IsDir, IsTree, IsTreeBy}
+use Rattle.adf_tree.specs.Tree.{MayAddBy}
 use Rattle.adf_tree.proofs.TreeInvariant.{after, moved_same, moved_below, moved_above, moved_up, moved_near, added_tree, place_le_by, dir_before, at_place}
 use Rattle.adf_tree.proofs.TreeInvariant.{by_case, length_added, new_get}
 use Rattle.adf_tree.proofs.ChainOrder.{moved_test}

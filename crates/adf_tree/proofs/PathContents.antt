@@ -1,7 +1,7 @@
 -- The content of a tree by paths, and what `add` promises of paths and chains.
 -- Letters: l the letters whose case is ignored.
-use Rattle.std.proofs.Common.{◌≡◌, ◌≢◌, ℕ, ◌+◌, ◌-◌, ◌<◌, ◌≤◌, inl, inr, List, [], ◌∷◌, ◌++◌, length, get_or, map, Option, Some, None, arith, sym}
-use Rattle.std.proofs.Common.{refl, ◌∙◌, ap, if◌then◌else◌, zero, suc, ◌==◌, ◌&&◌, Result, Ok, Err, option_map, position, OnOk, is_ok}
+use Rattle.std.proofs.Common.{◌≡◌, ◌≢◌, ℕ, ◌+◌, ◌-◌, ◌<◌, ◌≤◌, inl, inr, List, [], ◌∷◌, ◌++◌, length, get_or, map, Option, Some, None, arith, sym, refl, ◌∙◌}
+use Rattle.std.proofs.Common.{ap, if◌then◌else◌, zero, suc, ◌==◌, ◌&&◌, Result, Ok, Err, option_map, position, OnOk, is_ok}
 use Rattle.std.specs.Option.{option_and_then}
 use Rattle.std.specs.Str.{bytes_eq}
 use Rattle.std.proofs.lemmas.Bool.{cases_eq, ne_eqb, cases_lt}
@@ -10,8 +10,8 @@ use Rattle.adf_base.specs.declared.hash.Letters.{Letters, TheVariants.Ascii}
 use Rattle.adf_tree.specs.declared.entry.Entry.{Entry}
 use Rattle.adf_names.specs.Texts.{uppers, uppers_by}
 use Rattle.adf_tree.specs.Paths.{entry_content, content_at_by, path_in_by, path_of_by, AddsOneBy, names_in}
-use Rattle.adf_tree.specs.Tree.{place_by, rank_by, moved, added_by, entry, child, child_by, directory_from, directory_from_by, find_by, find_from}
-use Rattle.adf_tree.specs.Tree.{find_from_by, new_entry_by, room_at_by, IsTreeBy, MayAddBy}
+use Rattle.adf_tree.specs.Tree.{place_by, rank_by, moved, added_by, entry, child, child_by, directory_from, directory_from_by, find_by, find_from, find_from_by}
+use Rattle.adf_tree.specs.Tree.{new_entry_by, room_at_by, IsTreeBy, MayAddBy}
 use Rattle.adf_tree.proofs.TreeInvariant.{moved_below, moved_above, moved_up, moved_near, length_added, at_place, place_le_by, new_get}
 use Rattle.adf_tree.proofs.ChildLookup.{child_new, found_is_by, child_says_by, parent_stays}
 use Rattle.adf_tree.proofs.PathLookup.{then_find, then_find_by, leads}

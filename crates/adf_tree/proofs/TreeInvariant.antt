@@ -8,7 +8,7 @@ use Rattle.std.proofs.lemmas.List.Edits.{length-insert, get_or-insert_below, get
 use Rattle.std.proofs.lemmas.List.Sums.{fails_before_first, passes_at_first, prefix_len-le-length}
 use Rattle.adf_base.specs.declared.hash.Letters.{Letters, TheVariants.Ascii, TheVariants.International}
 use Rattle.adf_tree.specs.declared.entry.Entry.{Entry}
-use Rattle.adf_base.specs.Hash.{slot_by, slot_of}
+use Rattle.adf_base.specs.Hash.{slot_by}
 use Rattle.adf_tree.specs.Tree.{place_by, rank_by, moved_entry, moved, added_by, IsTreeBy, IsDir, AreApartBy, MayAddBy}
 use Rattle.std.proofs.lemmas.Grind.{common_steps}
 

@@ -2,7 +2,7 @@
 use Rattle.std.specs.Prelude.{◌≡◌, ℕ, ◌==◌, ◌&&◌, Bool, List, true}
 use Rattle.std.specs.List.{list_any}
 use Rattle.adf_base.specs.Hash.{slot_by}
-use Rattle.adf_base.specs.declared.hash.Letters.{Letters, TheVariants.Ascii}
+use Rattle.adf_base.specs.declared.hash.Letters.{Letters}
 use Rattle.adf_names.specs.Texts.{uppers_by}
 use Rattle.adf_tree.specs.NameSet.{has, HasMore}
 use Rattle.adf_tree.specs.Tree.{is_child_by}

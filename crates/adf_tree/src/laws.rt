@@ -1,6 +1,8 @@
 // Laws of trees, for the proofs of callers. None of these functions does anything.
 
-ghost use Rattle.adf_tree.specs.Laws.{AddingGrowsTheTree, AdditionsAreBuilt, AdditionsHaveOneTree, CaseKeepsPaths, CaseKeepsSlots, ChildrenAreFound, EntriesStandInOneChain, NamesAreFound, PathsAreFound, TreesGrowInOrder};
+ghost use Rattle.adf_tree.specs.Laws.{AddingGrowsTheTree, AdditionsAreBuilt, AdditionsHaveOneTree, CaseKeepsPaths};
+ghost use Rattle.adf_tree.specs.Laws.{CaseKeepsSlots, ChildrenAreFound, EntriesStandInOneChain, NamesAreFound, PathsAreFound};
+ghost use Rattle.adf_tree.specs.Laws.{TreesGrowInOrder};
 
 /// Every entry is in the chain of exactly one parent and slot.
 pub fn entries_stand_in_one_chain()

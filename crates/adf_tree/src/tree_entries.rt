@@ -3,7 +3,8 @@
 ghost use Rattle.std.specs.Prelude.{◌≡◌, [], length, is_ok, if◌then◌else◌, IfOk, OnOk};
 ghost use Rattle.std.specs.Option.{option_copied};
 ghost use Rattle.std.specs.List.{All};
-ghost use Rattle.adf_tree.specs.Tree.{entry, find_by, new_entry_by, room_for_by, with_added, with_last_entry, IsAnswer, IsLastBy, IsTreeBy, MayAddBy};
+ghost use Rattle.adf_tree.specs.Tree.{entry, find_by, new_entry_by, room_for_by, with_added, with_last_entry, IsAnswer, IsLastBy};
+ghost use Rattle.adf_tree.specs.Tree.{IsTreeBy, MayAddBy};
 ghost use Rattle.adf_tree.specs.Bounds.{IsBoundedEntry};
 ghost use Rattle.adf_tree.specs.Paths.{AddsOneBy};
 

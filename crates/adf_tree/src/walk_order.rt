@@ -1,6 +1,7 @@
 // Walk order: where an entry belongs, and how it is inserted.
 
-ghost use Rattle.std.specs.Prelude.{◌≡◌, ◌≤◌, ◌<◌, length, map, take, drop, nat_lt, nat_le, ℕ, ◌+◌, ◌^◌, slice_index_or, if◌then◌else◌, is_ok, IfErr, ◌++◌, true, false};
+ghost use Rattle.std.specs.Prelude.{◌≡◌, ◌≤◌, ◌<◌, length, map, take, drop, nat_lt, nat_le, ℕ, ◌+◌, ◌^◌, slice_index_or};
+ghost use Rattle.std.specs.Prelude.{if◌then◌else◌, is_ok, IfErr, ◌++◌, true, false};
 ghost use Rattle.std.specs.List.Sorted.{IsNonDecreasingBy, IsPartitionPoint};
 ghost use Rattle.adf_tree.specs.Tree.{added_by, place_by, rank_by, rank_of, moved_entry, IsTreeBy};
 

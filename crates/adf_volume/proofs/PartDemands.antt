@@ -1,10 +1,10 @@
 -- The demands on a part that has no cause, by name.
 use Rattle.std.proofs.Common.{ℕ, List, ◌<◌, ◌≤◌, arith}
 use Rattle.std.proofs.lemmas.Grind.{common_steps}
-use Rattle.adf_base.specs.declared.hash.Letters.{Letters, TheVariants.Ascii}
+use Rattle.adf_base.specs.declared.hash.Letters.{Letters}
 use Rattle.adf_blocks.specs.Sizes.{blocks}
 use Rattle.adf_volume.specs.Demands.{AllHold}
-use Rattle.adf_volume.specs.Walk.{Role, Enough, IsAbsent, NewNameBy, NoCause, demands_by, form_demands_by, Walk}
+use Rattle.adf_volume.specs.Walk.{Role, Enough, IsAbsent, NewNameBy, demands_by, form_demands_by, Walk}
 use Rattle.adf_volume.proofs.Lists.{all_split}
 
 -- each demand of the role at block b holds, by these letters

@@ -10,7 +10,8 @@ use Rattle.adf_blocks.specs.Sizes.{blocks, middle, pages_needed}
 use Rattle.adf_volume.specs.Image.{IsFreeAt, root_of, word_in}
 use Rattle.adf_volume.specs.Demands.{AllHold, FirstFails, boot_demands, boot_form, root_demands, page_demands}
 use Rattle.adf_volume.specs.Samples.{one_lost}
-use Rattle.adf_volume.specs.Walk.{Asks, Before, FirstFault, Has, IsAbsent, IsDue, IsFreeIn, IsWalk, IsWhole, Lacks, NoCause, Role, TypedAt, bitmap_demands, second, Walk}
+use Rattle.adf_volume.specs.Walk.{Asks, Before, FirstFault, Has, IsAbsent, IsDue, IsFreeIn, IsWalk, IsWhole, Lacks, NoCause, Role, TypedAt, bitmap_demands}
+use Rattle.adf_volume.specs.Walk.{second, Walk}
 use Rattle.adf_volume.specs.Walk.Role.{Root, Page, MapExt, Head, Ext, Data}
 use Rattle.adf_volume.specs.Walk.IsWalkBy.{start, step}
 use Rattle.adf_volume.specs.Walk.FirstFaultBy.{at_bitmap}

@@ -1,6 +1,6 @@
 -- Agreement: if a tree and a layout fit, each walk follows them.
-use Rattle.std.proofs.Common.{◌≡◌, ℕ, zero, suc, List, inl, inr, ◌+◌, ◌/◌, ◌<◌, ◌≤◌, ◌≢◌, length, refl, sym, ap, subst, ◌∙◌, arith, map, Bool, true}
-use Rattle.std.proofs.Common.{false, cond, slice_index, nat_lt}
+use Rattle.std.proofs.Common.{◌≡◌, ℕ, zero, suc, List, inl, inr, ◌+◌, ◌/◌, ◌<◌, ◌≤◌, ◌≢◌, length, refl, sym, ap, subst, ◌∙◌, arith, map, Bool, true, false}
+use Rattle.std.proofs.Common.{cond, slice_index, nat_lt}
 use Rattle.adf_blocks.specs.declared.layout.TheConstants.{EXTENSION, FIRST_SLOT, NEXT_IN_CHAIN, POINTERS, SECONDARY_TYPE, SIZE, SLOTS, ST_DIR, ST_FILE}
 use Rattle.adf_volume.specs.Lists.{At}
 use Rattle.adf_blocks.specs.Sizes.{blocks, count, pages_needed}
@@ -22,8 +22,8 @@ use Rattle.adf_volume.specs.Walk.Role.{Root, Page, MapExt, Head, Ext, Data}
 use Rattle.adf_volume.specs.Walk.IsWalkBy.{start, step}
 use Rattle.adf_volume.specs.LayoutRoles.{LayoutHasBy}
 use Rattle.adf_volume.proofs.Images.{map_exts_high}
-use Rattle.adf_volume.proofs.Lists.{at_fun, at_below, at_some, at_before, at_map, at_unmap, spelled_first, spelled_next, spelled_word, spelled_link}
-use Rattle.adf_volume.proofs.Lists.{all_append, at_index, index_past}
+use Rattle.adf_volume.proofs.Lists.{at_fun, at_below, at_some, at_before, at_map, at_unmap, spelled_first, spelled_next, spelled_word, spelled_link, all_append}
+use Rattle.adf_volume.proofs.Lists.{at_index, index_past}
 use Rattle.adf_volume.proofs.Chains.{entry_at, entry_below, entry_some, place_at, one_place, sorted_places, chain_rises}
 use Rattle.adf_volume.proofs.Roles.{asks_number, dir_is_node, head_at, head_key, head_role, same_of}
 use Rattle.adf_volume.specs.Parts.{renumbered}

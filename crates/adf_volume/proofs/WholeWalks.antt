@@ -1,6 +1,6 @@
 -- The tree, pages, chains and files of a whole walk.
-use Rattle.std.proofs.Common.{◌≡◌, ℕ, zero, suc, List, inl, inr, ◌+◌, ◌*◌, ◌/◌, ◌<◌, ◌≤◌, length, refl, sym, ap, subst, ◌∙◌, arith, Bool, true, false}
-use Rattle.std.proofs.Common.{cond, map, eq-eqb, ◌==◌, slice_index}
+use Rattle.std.proofs.Common.{◌≡◌, ℕ, zero, suc, List, inl, inr, ◌+◌, ◌*◌, ◌/◌, ◌<◌, ◌≤◌, length, refl, sym, ap, subst, ◌∙◌, arith, Bool, true, false, cond}
+use Rattle.std.proofs.Common.{map, eq-eqb, ◌==◌, slice_index}
 use Rattle.std.proofs.lemmas.Bool.{eqb-true}
 use native.Mathlib.Decide.{dec_lt}
 use Rattle.adf_blocks.specs.declared.layout.TheConstants.{EXTENSION, FIRST_MAP_EXT, FIRST_PAGE, FIRST_SLOT, MAP_EXT_NEXT, MAP_EXT_PAGES, NEXT_IN_CHAIN}
@@ -28,8 +28,8 @@ use Rattle.adf_volume.proofs.Walks.{of_walk, number_of, numbered, ext_file, aske
 use Rattle.adf_volume.proofs.WalkOrder.{in_order}
 use Rattle.adf_volume.proofs.MemberFacts.{kept, there, IsNext, new_names, in_range, map_ext_low}
 use Rattle.adf_volume.proofs.Roles.{head_at, head_role}
-use Rattle.adf_volume.proofs.WalkMembers.{entries_length, entry_has, place_has, exts_length, ext_has, has_ext, data_has, has_data, pages}
-use Rattle.adf_volume.proofs.WalkMembers.{map_exts, slot_is, chains}
+use Rattle.adf_volume.proofs.WalkMembers.{entries_length, entry_has, place_has, exts_length, ext_has, has_ext, data_has, has_data, pages, map_exts, slot_is}
+use Rattle.adf_volume.proofs.WalkMembers.{chains}
 use Rattle.adf_volume.proofs.Places.{place_parts}
 use Rattle.std.proofs.lemmas.List.{length-map, nil_from_length}
 use Rattle.std.proofs.lemmas.Grind.{common_steps}

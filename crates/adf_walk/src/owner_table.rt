@@ -1,7 +1,7 @@
 // The owners of the blocks of an image, as a check keeps them.
 
-ghost use Rattle.std.specs.Prelude.{◌≡◌, ◌≢◌, ◌≤◌, ◌<◌, ◌+◌, ◌-◌, ◌^◌, ◌∷◌, ◌↔◌, length};
-ghost use Rattle.std.specs.Prelude.{replicate, ℕ, true, false, IsTrue, IsOk, IfOk, IfErr, OnOk, OnErr, slice_set};
+ghost use Rattle.std.specs.Prelude.{◌≡◌, ◌≢◌, ◌≤◌, ◌<◌, ◌+◌, ◌-◌, ◌^◌, ◌∷◌, ◌↔◌, length, replicate, ℕ, true, false, IsTrue, IsOk};
+ghost use Rattle.std.specs.Prelude.{IfOk, IfErr, OnOk, OnErr, slice_set};
 ghost use Rattle.adf_walk.specs.KeptOwner.{boot_owner, claimed_count, is_claimed, kept_at, no_owner};
 
 use crate::kept_owner::{BOOT_OWNER, KeptOwner, NO_OWNER, PackedOwner};

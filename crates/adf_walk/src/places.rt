@@ -2,8 +2,8 @@
 
 ghost use Rattle.std.specs.Prelude.{◌≡◌, ◌<◌, ◌^◌};
 ghost use Rattle.adf_volume.specs.declared.owner.Owner.{Owner};
-ghost use Rattle.adf_walk.specs.Places.{AreStarts, IsLastStart, IsNumbered, first_data, first_ext, kept_as};
-ghost use Rattle.adf_walk.specs.Places.{last_start, owner_kept};
+ghost use Rattle.adf_walk.specs.Places.{AreStarts, IsLastStart, IsNumbered, first_data, first_ext, kept_as, last_start};
+ghost use Rattle.adf_walk.specs.Places.{owner_kept};
 
 use crate::kept_owner::KeptOwner;
 use crate::node_start::NodeStart;

@@ -8,8 +8,7 @@ use Rattle.adf_names.specs.Kinds.{kind_named}
 use Rattle.adf_words.specs.Arguments.{bare_app, cat_app, is_text, list_rule}
 use Rattle.adf_words.specs.declared.command_line.Request.{Request}
 use Rattle.adf_words.specs.declared.command_line.Request.TheVariants.{Check, List as ListAll, Cat, Build, Convert}
-use Rattle.adf_words.specs.declared.command_line.ArgsError.{ArgsError}
-use Rattle.adf_words.specs.declared.command_line.ArgsError.TheVariants.{NoMemory, Usage}
+use Rattle.adf_words.specs.declared.command_line.ArgsError.{ArgsError, TheVariants.NoMemory, TheVariants.Usage}
 
 -- the argument KIND
 abbrev pub kind_rule : Rule

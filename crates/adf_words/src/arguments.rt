@@ -1,8 +1,8 @@
 // What the command lines of the programs share, by clap.
 
 ghost use Rattle.std.specs.Prelude.{◌≡◌, [], IfErr, IfOk, codes, false, option_map, true};
-ghost use Rattle.clap.specs.Words.{App, HasMatchesOf, Rule, app_of, fault_of, first_of, found_of};
-ghost use Rattle.clap.specs.Words.{is_simple_and_free, rows_of, rule_of, with_rule, with_subcommand};
+ghost use Rattle.clap.specs.Words.{App, HasMatchesOf, Rule, app_of, fault_of, first_of, found_of, is_simple_and_free, rows_of};
+ghost use Rattle.clap.specs.Words.{rule_of, with_rule, with_subcommand};
 ghost use Rattle.clap.specs.declared.builder.command.Command.TheViews.{out-Command};
 ghost use Rattle.adf_words.specs.Arguments.{bare_app, cat_app, is_text, list_rule};
 ghost use Rattle.adf_words.specs.CommandLine.{texts_of};

@@ -1,5 +1,5 @@
-use Rattle.adf_blocks.proofs.RootLaws.{length_root_block, root_block-form, root_block-map_ext, root_block-page, root_block-slot}
-use Rattle.adf_blocks.proofs.RootLaws.{root_block-stamps, root_block-text}
+use Rattle.adf_blocks.proofs.RootLaws.{length_root_block, root_block-form, root_block-map_ext, root_block-page, root_block-slot, root_block-stamps}
+use Rattle.adf_blocks.proofs.RootLaws.{root_block-text}
 use Rattle.adf_blocks.proofs.root_out.written_roots_are_read.Goals as goal
 
 pub returns-clause-whole : goal.returns-clause-whole

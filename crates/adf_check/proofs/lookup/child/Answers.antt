@@ -11,8 +11,8 @@ use Rattle.adf_volume.specs.Layout.{Layout, at_node, chain_nodes_by}
 use Rattle.adf_check.specs.StoreStands.{StoreStandsForBy}
 use Rattle.adf_volume.specs.Lists.{Spelled}
 use Rattle.adf_check.specs.Store.{store_value}
-use Rattle.adf_check.proofs.ChainLookups.{OnChain, chain_begins, chain_ended, chain_found, chain_left, chain_next, child_within, on_head, on_inside}
-use Rattle.adf_check.proofs.ChainLookups.{on_smaller, other_name, same_name}
+use Rattle.adf_check.proofs.ChainLookups.{OnChain, chain_begins, chain_ended, chain_found, chain_left, chain_next, child_within, on_head, on_inside, on_smaller}
+use Rattle.adf_check.proofs.ChainLookups.{other_name, same_name}
 use Rattle.adf_check.proofs.StoreStands.{own_are}
 use Rattle.adf_check.proofs.lookup.child.Goals as goal
 use Rattle.adf_base.specs.declared.hash.Letters.{Letters}

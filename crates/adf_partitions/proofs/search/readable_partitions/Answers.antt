@@ -1,7 +1,6 @@
 use Rattle.std.proofs.Common.{ap, inl, inr, subst, sym}
 use Rattle.std.proofs.lemmas.Result.{IfOk-weaker, on_err_weaker}
-use Rattle.adf_partitions.specs.Searches.{AreReadable, bare_partitions}
-use Rattle.adf_partitions.specs.Searches.AreReadable.{bare, other}
+use Rattle.adf_partitions.specs.Searches.{AreReadable, bare_partitions, AreReadable.bare, AreReadable.other}
 use Rattle.adf_partitions.specs.declared.fault.DiskFault.{DiskFault}
 use Rattle.adf_partitions.proofs.search.readable_partitions.Goals as goal
 

@@ -1,6 +1,5 @@
 use Rattle.std.proofs.Common.{rules, subst}
-use Rattle.adf_partitions.specs.Disks.{IsFollowed}
-use Rattle.adf_partitions.specs.Disks.FirstDiskFault.{at_list}
+use Rattle.adf_partitions.specs.Disks.{IsFollowed, FirstDiskFault.at_list}
 use Rattle.adf_partitions.proofs.OneAnswer.{no_fault}
 use Rattle.adf_partitions.proofs.disk.Disk.open.Goals as goal
 
