@@ -1,5 +1,5 @@
-// The laws of answers. Each is the contract of a function that does nothing at run time. Beside each stands the law `one_answer` of
-// its command: there is one answer at most.
+// The laws of answers. Each is the contract of a function that does nothing at run time. Beside each stands the law `one_answer`
+// of its command: there is one answer at most.
 
 ghost use Rattle.std.specs.Prelude.{◌<◌, ◌≢◌, ℕ, Bool, List};
 ghost use Rattle.std.specs.List.{All};

@@ -163,8 +163,8 @@ module _ (image other : List ℕ) (o : IsOtherBoot image other) where
         let own : block other h ≡ block image h = same_head n e at in
         subst (λ (b : ℕ). FileFits other t l n b bytes) (sym (same_node l n)) (record {
           exts =
-              spelled_same (λ b. word_in image b EXTENSION) (λ b. word_in other b EXTENSION) (word_in image h EXTENSION) (word_in other h EXTENSION) (exts_of l n)
-              (ap (λ x. word x EXTENSION) (sym own)) (λ k b i. ap (λ x. word x EXTENSION) (sym (same (Ext n (suc k)) b i))) was.exts;
+              spelled_same (λ b. word_in image b EXTENSION) (λ b. word_in other b EXTENSION) (word_in image h EXTENSION) (word_in other h EXTENSION)
+              (exts_of l n) (ap (λ x. word x EXTENSION) (sym own)) (λ k b i. ap (λ x. word x EXTENSION) (sym (same (Ext n (suc k)) b i))) was.exts;
           ext_form = λ k b i.
               subst (λ (x : List ℕ). AllHold (demands_at b (ext_form b h x))) (sym (same (Ext n (suc k)) b i)) (was.ext_form k b i);
           enough = was.enough;

@@ -64,7 +64,8 @@ module _ (image : List ℕ) (owners : List KeptOwner) (w : Walk) (t : Owns image
         assigned = (λ q x k. elim k [
           | inl y ↦
               let at : kept_at (set owners b o) x ≡ o = ap (kept_at (set owners b o)) (sym y.1) ∙ here in
-              subst (IsKeptOwner ((r, b) ∷ w) q x) (sym at) (subst (λ x. IsKeptOwner ((r, b) ∷ w) q x o) y.1 (subst (λ q. IsKeptOwner ((r, b) ∷ w) q b o) y.0 is))
+              subst (IsKeptOwner ((r, b) ∷ w) q x) (sym at)
+              (subst (λ x. IsKeptOwner ((r, b) ∷ w) q x o) y.1 (subst (λ q. IsKeptOwner ((r, b) ∷ w) q b o) y.0 is))
           | inr y ↦
               let at = other o x b (λ e. free_absent b h q (subst (Has w q) e y)) in
               subst (IsKeptOwner ((r, b) ∷ w) q x) (sym at) (kept_more w (r, b) q x (kept_at owners x) (t.assigned q x y))

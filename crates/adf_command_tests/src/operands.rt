@@ -124,7 +124,8 @@ const UNNAMED: &[Row<'static>] = &[
     ),
 ];
 
-// Runs the program of the first word, where the folder has a sound image, and the input has these bytes and fails after so many reads.
+// Runs the program of the first word, where the folder has a sound image, and the input has these bytes and fails after so many
+// reads.
 fn run_files(alloc: Global, words: &[&str], sound: &[u8], bytes: &[u8], reads: usize) -> Came {
     let folder = Folder {
         sound,

@@ -104,8 +104,8 @@ fn write_held<W: Sink>(
     output: &mut W,
 ) -> Outcome
     requires { W.has_failed output.old ≡ false }
-    ensures { Does (λ reply. reply ≡ held_reply (front.now ++ behind.now) (sought_value sought.now) (option_copied found.entry)) result
-        (seen W.held W.has_failed output.old output.new) }
+    ensures { Does (λ reply. reply ≡ held_reply (front.now ++ behind.now) (sought_value sought.now) (option_copied found.entry))
+        result (seen W.held W.has_failed output.old output.new) }
 {
     let Some(partition) = found else {
         return refuse_sought(alloc, sought);

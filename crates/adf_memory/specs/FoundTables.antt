@@ -1,5 +1,5 @@
 -- The tables of a survey: a row for each run of findings, and one for each entry that is found.
--- Letters: w the walk of an image's survey, fs its findings; `sound` tells whether an entry is sound; n an entry's node, h its header's bytes; k a count of rows.
+-- Letters: w the walk of an image's survey, fs its findings; `sound` tells whether an entry is sound; n an entry's node, h its header's bytes; k a count.
 use Rattle.std.specs.Prelude.{ℕ, Bool, true, false, List, [], ◌∷◌, Option, Some, None, length, map}
 use Rattle.std.specs.List.{range_with_len}
 use Rattle.adf_base.specs.Words.{block}

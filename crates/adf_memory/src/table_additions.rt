@@ -161,7 +161,8 @@ fn add_in(
     addition: &TableAddition,
     contents: &[u8],
 ) -> Result<(), NotAdded>
-    requires { (t : Tree) × (before : List TableAddition) × IsNextAddition t contents.now before addition.now directory draft.old }
+    requires { (t : Tree) × (before : List TableAddition)
+        × IsNextAddition t contents.now before addition.now directory draft.old }
     ensures added { OnOk result ((t : Tree) (before : List TableAddition)
         → IsNextAddition t contents.now before addition.now directory draft.old
         → IsDraftOf t contents.now (before ++ addition.now ∷ []) draft.new) }

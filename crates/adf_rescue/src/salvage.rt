@@ -325,7 +325,8 @@ impl Salvage {
         requires { GoesOn survey.now.image n self.old }
         ensures { OnBasis survey.now.image (λ b _. (g : Ground) (fs : List FindingValue) (vs : List Verdict)
             → g.given ≡ before.now.image → IsSurvey g.given g.walk fs
-            → IsSalvage g vs self.old → ComesNext b.walk vs n → OnOk result (IsSalvage g (vs ++ verdict g b vs n ∷ []) self.new)) }
+            → IsSalvage g vs self.old → ComesNext b.walk vs n
+            → OnOk result (IsSalvage g (vs ++ verdict g b vs n ∷ []) self.new)) }
     {
         match known_as(before, survey, n) {
             Some(m) => self.keep_known(m),

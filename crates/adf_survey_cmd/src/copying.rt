@@ -41,8 +41,8 @@ fn copy_entry<W: Sink>(
     output: &mut W,
 ) -> Outcome
     requires { W.has_failed output.old ≡ false }
-    ensures ends { OnSurvey survey.now.image (λ w fs. EndsBy (CopiesEntry false (surveyed_as survey.now.image subject.now) w fs n) result
-        (W.held output.old) (W.held output.new)) }
+    ensures ends { OnSurvey survey.now.image (λ w fs. EndsBy (CopiesEntry false (surveyed_as survey.now.image subject.now) w fs n)
+        result (W.held output.old) (W.held output.new)) }
     ensures blames { Blames result false (W.has_failed output.new) }
 {
     if !survey.is_file(n) {
@@ -102,8 +102,8 @@ fn copy_remains<W: Sink>(
     output: &mut W,
 ) -> Outcome
     requires { W.has_failed output.old ≡ false }
-    ensures ends { OnSurvey survey.now.image (λ w fs. EndsBy (CopiesEntry true (surveyed_as survey.now.image subject.now) w fs n) result
-        (W.held output.old) (W.held output.new)) }
+    ensures ends { OnSurvey survey.now.image (λ w fs. EndsBy (CopiesEntry true (surveyed_as survey.now.image subject.now) w fs n)
+        result (W.held output.old) (W.held output.new)) }
     ensures blames { Blames result false (W.has_failed output.new) }
 {
     match survey.remains(alloc, n, subject.end) {

@@ -45,7 +45,8 @@ pub fn run_files<F: Files, R: Source, W: Sink, E: Sink>(
     run_program_on_files::<Work, F, R, W, E>(alloc, asked, input, output, errors)
 }
 
-/// Words ask for one thing at most, and what is asked of an image has one answer at most: one status, one output and one text on errors.
+/// Words ask for one thing at most, and what is asked of an image has one answer at most: one status, one output and one text on
+/// errors.
 #[tactic(auto, using(crate::proofs::OneAnswer::one_answer, crate::proofs::OneAnswer::one_inquiry))]
 pub fn one_answer()
     ensures request { WordsAskForOneInquiry }

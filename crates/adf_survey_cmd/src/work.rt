@@ -184,7 +184,8 @@ fn rescue_subject<W: Sink>(
     output: &mut W,
 ) -> Outcome
     requires { W.has_failed output.old ≡ false }
-    ensures { Does (Replies (RescuesTyped types (subject_value subject))) result (seen W.held W.has_failed output.old output.new) }
+    ensures { Does (Replies (RescuesTyped types (subject_value subject))) result
+        (seen W.held W.has_failed output.old output.new) }
 {
     let Ok(boot) = subject.boot(alloc) else {
         return Outcome::NoMemory;

@@ -1,5 +1,5 @@
-// The partitions of a disk of 80 blocks in a table: DH0 has its block in block 1, and DH1 in block 2. A cylinder has 2 surfaces of
-// 4 blocks, so the tables take the first one.
+// The partitions of a disk of 80 blocks in a table: DH0 has its block in block 1, and DH1 in block 2. A cylinder has 2 surfaces
+// of 4 blocks, so the tables take the first one.
 
 use adf_base::{seal, set_word};
 use adf_memory::{TableDisk, TablePartition, put_disk};

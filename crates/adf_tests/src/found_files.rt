@@ -163,8 +163,8 @@ fn other_rows(rt: HostRuntime) {
     assert!(rt; table_by(&image, &parts[..5], 2, 1) == (3, [NO_BLOCK, 9, 9, 9]));
 }
 
-// A table that is shorter than the file, a place in the file, and what is read from there on; then one with a block that the image
-// does not have, and one behind the file.
+// A table that is shorter than the file, a place in the file, and what is read from there on; then one with a block that the
+// image does not have, and one behind the file.
 const OTHER_TABLES: &[(&[u32], usize, (usize, usize))] = &[
     (&[3], 0, (488, 0)),
     (&[3], 488, (0, 0)),

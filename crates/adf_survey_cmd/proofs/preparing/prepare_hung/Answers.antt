@@ -28,7 +28,8 @@ returns c = λ input opened u gs sound found marks.
     let b : Basis = record { image = v.image; walk = w; sound = whole_in v } in
     let is : IsBasis v.image b = record { of = refl; findings = fs; survey = here; marks = c.whole_marks.ensures w fs here } in
     let whole = subst (λ (image : List ℕ). IsBasis image b) c.in_ok-second.ensures.image is in
-    prepares_weaker (RescuesBy c.args.scope.types c.args.scope.held input a (Some b) gs) (RescuesBoth c.args.scope.types c.args.scope.held input a (Some hung) gs) _ (λ boot r by. (Some b, whole, by))
+    prepares_weaker (RescuesBy c.args.scope.types c.args.scope.held input a (Some b) gs)
+    (RescuesBoth c.args.scope.types c.args.scope.held input a (Some hung) gs) _ (λ boot r by. (Some b, whole, by))
     (c.prepare_found.ensures input opened u gs sound found marks (Some b) is)
 
 pub returns-in_err-second : goal.returns-in_err-second

@@ -36,7 +36,8 @@ returns-in-Some c = λ input opened.
     let second : second_image (is_mended input) v.image w fs ≡ Some c.deref.result.now =
     subst (λ mended. second_image mended v.image w fs ≡ Some c.deref.result.now) so
     (one_hung c.is_some.result v.image w fs c.deref.result.now lost hung) in
-    prepares_weaker (RescuesBoth c.args.scope.types c.args.scope.held input a (Some c.deref.result.now) fs) (Rescues c.args.scope.types c.args.scope.held input) _
+    prepares_weaker (RescuesBoth c.args.scope.types c.args.scope.held input a (Some c.deref.result.now) fs)
+    (Rescues c.args.scope.types c.args.scope.held input) _
     (λ boot r by. found_gives c.args.scope.types c.args.scope.held input v.image w fs sound (Some c.deref.result.now) boot r
     (same ∙ opened_so _ input _ _ opened) here marks second by)
     (c.prepare_hung.ensures input (subst (λ (image : List ℕ). IsOpened (IsFirstFault c.args.scope.types input) input image c.args.fault) (sym same) opened)
@@ -57,7 +58,8 @@ returns c = λ input opened.
     subst (λ mended. second_image mended v.image w fs ≡ None) so
     (none_hung c.is_some.result v.image w fs ((c.in_ok-hung.ensures.none w fs here).0 (ap is_some c.in-None.is))) in
     prepares_weaker (RescuesBy c.args.scope.types c.args.scope.held input a None fs) (Rescues c.args.scope.types c.args.scope.held input) _
-    (λ boot r by. found_gives c.args.scope.types c.args.scope.held input v.image w fs sound None boot r (same ∙ opened_so _ input _ _ opened) here marks none (None, tt, by))
+    (λ boot r by. found_gives c.args.scope.types c.args.scope.held input v.image w fs sound None boot r
+    (same ∙ opened_so _ input _ _ opened) here marks none (None, tt, by))
     (c.prepare_found.ensures input (subst (λ (image : List ℕ). IsOpened (IsFirstFault c.args.scope.types input) input image c.args.fault) (sym same) opened)
     w fs sound here marks None tt)
 

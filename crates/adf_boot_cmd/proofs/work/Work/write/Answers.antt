@@ -9,7 +9,8 @@ use Rattle.adf_boot_cmd.proofs.work.Work.write.Goals as goal
 
 pub returns-then-not-is_whole : goal.returns-then-not-is_whole
 returns-then-not-is_whole g c =
-    does_same (not_whole (order_of c.args.self.now) c.args.image.now (sym c.is_whole.ensures ∙ c.if-not-is_whole.true)) (silently c.requires.works c.refuse.ensures)
+    does_same (not_whole (order_of c.args.self.now) c.args.image.now (sym c.is_whole.ensures ∙ c.if-not-is_whole.true))
+    (silently c.requires.works c.refuse.ensures)
 
 pub returns-then-not-begins_with_dos : goal.returns-then-not-begins_with_dos
 returns-then-not-begins_with_dos g c =
