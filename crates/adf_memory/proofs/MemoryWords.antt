@@ -1,7 +1,8 @@
 -- A command whose words are bytes in memory.
-use Rattle.std.proofs.Common.{ℕ, Bool, false, List, Option, Some, inl, inr, arith}
+use Rattle.std.proofs.Common.{ℕ, List, inl, inr, arith}
 use Rattle.std.proofs.lemmas.Grind.{common_steps}
 use Rattle.adf_runs.specs.Commands.{Command, IsUnanswered, IsConsumed, RunEnds}
+use Rattle.adf_runs.specs.Streams.{Seen, at_hand}
 use Rattle.adf_memory.specs.Words.{AreWords, in_memory}
 use Rattle.adf_memory.proofs.WordParts.{along}
 
@@ -21,11 +22,9 @@ module _ (c : Command (List (List ℕ))) (bytes : List ℕ) (words : List (List 
   unanswered_bytes (inl refused) = inl (refused_bytes refused)
   unanswered_bytes (inr bad) = inr (words, are, bad)
 
-  pub ends_in_memory : (input : List ℕ) (n : ℕ) (no_output no_errors : Bool) (o o' e e' : Option (List ℕ))
-      → RunEnds c words (Some input) false n no_output o o' no_errors e e'
-      → RunEnds (in_memory c) bytes (Some input) false n no_output o o' no_errors e e'
-  ends_in_memory input n no_output no_errors o o' e e' h =
-      grind (arith, common_steps, unanswered_words, unanswered_bytes, refused_bytes, bad_path_words)
+  pub ends_in_memory : (input : List ℕ) (n : ℕ) (output errors : Seen) → RunEnds c words (at_hand input) n output errors
+      → RunEnds (in_memory c) bytes (at_hand input) n output errors
+  ends_in_memory input n output errors h = grind (arith, common_steps, unanswered_words, unanswered_bytes, refused_bytes, bad_path_words)
 
   pub consumed_in_memory : (input : List ℕ) (n consumed : ℕ) → IsConsumed c words input n consumed → IsConsumed (in_memory c) bytes input n consumed
   consumed_in_memory input n consumed h = record {

@@ -5,7 +5,7 @@ use Rattle.std.proofs.lemmas.List.{get_or-set_same, get_or-set_other, length-set
 use Rattle.std.specs.Io.KnownBytes.{Appends}
 use Rattle.std.proofs.lemmas.Grind.{common_steps}
 use Rattle.adf_runs.specs.Commands.{Command, GetsFront, IsUnanswered, RunEnds}
-use Rattle.adf_runs.specs.Streams.{AppendsPart, Says}
+use Rattle.adf_runs.specs.Streams.{AppendsPart, Says, Seen, at_hand}
 
 -- what holds of each byte before place i, and of the one that is put there, holds of each byte up to it
 pub put_more : (P : ℕ → ℕ → Type 0) (xs : List ℕ) (i r : ℕ) → i < length xs → P i r
@@ -34,10 +34,18 @@ pub said : (failed : Bool) (n n' : ℕ) (k e text : List ℕ) → k ≡ []
 said false n n' k e text empty h = appended n n' k e text empty h
 said true n n' k e text empty h = appended_part true n n' k e text empty h
 
+-- a room over a run, told by its name and what stands in it
+abbrev named : ℕ → List ℕ → ℕ → List ℕ → Bool → Seen
+named name before name' after failed = record { before = Some (name ∷ before); after = Some (name' ∷ after); failed = failed }
+
+-- a room that was empty, told by what stands in it
+abbrev unnamed : List ℕ → Bool → Seen
+unnamed after failed = record { before = Some []; after = Some after; failed = failed }
+
 -- a run into rooms, of which each is told by its name and what stands in it, and that were empty
 module _ {Words : Type 0} (c : Command Words) (words : Words) (input : List ℕ) (n : ℕ) (no_output no_errors : Bool) (m m' l l' : ℕ)
     (k o j e : List ℕ) (none_o : k ≡ []) (none_e : j ≡ [])
-    (ends : RunEnds c words (Some input) false n no_output (Some (m ∷ k)) (Some (m' ∷ o)) no_errors (Some (l ∷ j)) (Some (l' ∷ e))) where
+    (ends : RunEnds c words (at_hand input) n (named m k m' o no_output) (named l j l' e no_errors)) where
   -- what was said is all that stands in the room for errors
   told : (text : List ℕ) → Says no_errors (Some (l ∷ j)) (Some (l' ∷ e)) text → Says no_errors (Some []) (Some e) text
   told text says = (said no_errors l l' j e text none_e says).1
@@ -51,11 +59,11 @@ module _ {Words : Type 0} (c : Command Words) (words : Words) (input : List ℕ)
   put_front failed whole h = (appended_part failed m m' k o whole none_o h).1
 
   -- the run ends so in rooms without names
-  room_ends : RunEnds c words (Some input) false n no_output (Some []) (Some o) no_errors (Some []) (Some e)
+  room_ends : RunEnds c words (at_hand input) n (unnamed o no_output) (unnamed e no_errors)
   room_ends = grind (arith, common_steps, put, told, put_front)
 
   -- the room for output is kept to at status 3
-  front_kept : (failed : Bool) → GetsFront (c.asks words) c.answer false failed input (Some (m ∷ k)) (Some (m' ∷ o)) → m' ≡ m
+  front_kept : (failed : Bool) → GetsFront false failed c words input (named m k m' o no_output) → m' ≡ m
   front_kept true (r, asks, (reply, answers, front)) = (appended_part true m m' k o reply.output none_o front).0
   front_kept false (inl nothing) = (appended m m' k o [] none_o nothing).0
   front_kept false (inr (r, asks, (reply, answers, front))) = (appended_part false m m' k o reply.output none_o front).0
@@ -71,5 +79,5 @@ module _ {Words : Type 0} (c : Command Words) (words : Words) (input : List ℕ)
   -- the run ends so in the caller's rooms, which are these where they have the same names
   pub moved_ends : (no_output' no_errors' : Bool) (o' e' : List ℕ) → (IsUnanswered c words → m' ≡ m) → (m' ≡ m → o ≡ o') → (l' ≡ l → e ≡ e')
       → no_output ≡ no_output' → no_errors ≡ no_errors'
-      → RunEnds c words (Some input) false n no_output' (Some []) (Some o') no_errors' (Some []) (Some e')
+      → RunEnds c words (at_hand input) n (unnamed o' no_output') (unnamed e' no_errors')
   moved_ends no_output' no_errors' o' e' same room_o room_e written told = grind (arith, common_steps, told, output_kept, errors_kept, room_ends)

@@ -1,8 +1,9 @@
 // Programs over memory.
 
-ghost use Rattle.std.specs.Prelude.{◌≡◌, [], Some, false, take};
+ghost use Rattle.std.specs.Prelude.{◌≡◌, false};
 ghost use Rattle.adf_runs.specs.Commands.{IsUnanswered, IsConsumed, RunEnds};
-ghost use Rattle.adf_memory.specs.Rooms.{StandIn};
+ghost use Rattle.adf_runs.specs.Streams.{at_hand, seen};
+ghost use Rattle.adf_memory.specs.Rooms.{StandIn, room_seen};
 ghost use Rattle.adf_memory.specs.Words.{in_memory};
 
 use crate::memory::{CallerMemory, Moved};
@@ -20,9 +21,8 @@ fn run_words<P: Program, W: Sink, E: Sink>(
 ) -> Ran
     requires writes { W.has_failed output.old ≡ false }
     requires tells { E.has_failed errors.old ≡ false }
-    ensures ends { RunEnds (in_memory P.command) words.now (Some input.now) false result.status
-        (W.has_failed output.new) (W.held output.old) (W.held output.new)
-        (E.has_failed errors.new) (E.held errors.old) (E.held errors.new) }
+    ensures ends { RunEnds (in_memory P.command) words.now (at_hand input.now) result.status
+        (seen W.held W.has_failed output.old output.new) (seen E.held E.has_failed errors.old errors.new) }
     ensures untouched { IsUnanswered (in_memory P.command) words.now → output.new ≡ output.old }
     ensures consumed { IsConsumed (in_memory P.command) words.now input.now result.status result.consumed }
 {
@@ -44,9 +44,8 @@ pub fn run_in_memory<P: Program>(
     errors: &mut [u8],
     moved: &mut Moved,
 ) -> u8
-    ensures ends { RunEnds (in_memory P.command) words.now (Some input.now) false result
-        moved.new.output_full (Some []) (Some (take moved.new.output output.new))
-        moved.new.errors_full (Some []) (Some (take moved.new.errors errors.new)) }
+    ensures ends { RunEnds (in_memory P.command) words.now (at_hand input.now) result
+        (room_seen moved.new.output moved.new.output_full output.new) (room_seen moved.new.errors moved.new.errors_full errors.new) }
     ensures untouched { IsUnanswered (in_memory P.command) words.now
         → (moved.new.output ≡ 0) × (output.new ≡ output.old) }
     ensures consumed { IsConsumed (in_memory P.command) words.now input.now result moved.new.input }
