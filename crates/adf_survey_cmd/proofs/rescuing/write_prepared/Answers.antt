@@ -5,8 +5,8 @@ use Rattle.adf_survey_cmd.specs.Losses.{loss_values}
 use Rattle.adf_survey_cmd.specs.Rescues.{RescueValue.written, rescue_reply}
 use Rattle.adf_survey_cmd.proofs.rescuing.write_prepared.Goals as goal
 
-pub returns-in-Err : goal.returns-in-Err
-returns-in-Err g c =
+pub returns : goal.returns
+returns g c =
     let (volume, laid, size, is) = c.in-Ok-lay_with.ensures in
     let image : List ℕ = restored volume c.args.boot.now in
     let old = g.W.Sink.held c.args.output.now in
