@@ -1,10 +1,11 @@
 // Whole commands.
 
-ghost use Rattle.std.specs.Prelude.{◌≡◌, [], Some, false, take};
+ghost use Rattle.std.specs.Prelude.{◌≡◌};
 ghost use Rattle.adf_cmd.specs.Answers.{adf_command};
 ghost use Rattle.adf_runs.specs.Commands.{IsUnanswered, IsConsumed, RunEnds};
+ghost use Rattle.adf_runs.specs.Streams.{at_hand};
 ghost use Rattle.adf_survey_cmd.specs.Answers.{survey_without_files};
-ghost use Rattle.adf_memory.specs.Rooms.{StandIn};
+ghost use Rattle.adf_memory.specs.Rooms.{StandIn, room_seen};
 ghost use Rattle.adf_memory.specs.Words.{in_memory};
 
 use adf_file_runs::WithoutFiles;
@@ -27,9 +28,9 @@ pub extern "C" fn adf_run(
     errors: &mut [u8],
     moved: &mut Moved,
 ) -> u8
-    ensures ends { RunEnds (in_memory adf_command) words.now (Some input.now) false result
-        moved.new.output_full (Some []) (Some (take moved.new.output output.new))
-        moved.new.errors_full (Some []) (Some (take moved.new.errors errors.new)) }
+    ensures ends { RunEnds (in_memory adf_command) words.now (at_hand input.now) result
+        (room_seen moved.new.output moved.new.output_full output.new)
+        (room_seen moved.new.errors moved.new.errors_full errors.new) }
     ensures untouched { IsUnanswered (in_memory adf_command) words.now
         → (moved.new.output ≡ 0) × (output.new ≡ output.old) }
     ensures consumed { IsConsumed (in_memory adf_command) words.now input.now result moved.new.input }
@@ -57,9 +58,9 @@ pub extern "C" fn adf_survey_run(
     errors: &mut [u8],
     moved: &mut Moved,
 ) -> u8
-    ensures ends { RunEnds (in_memory survey_without_files) words.now (Some input.now) false result
-        moved.new.output_full (Some []) (Some (take moved.new.output output.new))
-        moved.new.errors_full (Some []) (Some (take moved.new.errors errors.new)) }
+    ensures ends { RunEnds (in_memory survey_without_files) words.now (at_hand input.now) result
+        (room_seen moved.new.output moved.new.output_full output.new)
+        (room_seen moved.new.errors moved.new.errors_full errors.new) }
     ensures untouched { IsUnanswered (in_memory survey_without_files) words.now
         → (moved.new.output ≡ 0) × (output.new ≡ output.old) }
     ensures consumed { IsConsumed (in_memory survey_without_files) words.now input.now result moved.new.input }

@@ -1,6 +1,6 @@
 -- Additions that all have room, and the additions of a tree. xs are additions, x is the next one, es the entries of a tree.
-use Rattle.std.proofs.Common.{◌≡◌, ◌≢◌, ◌<◌, ◌≤◌, ◌++◌, ◌∷◌, ◌+◌, ◌-◌, ◌==◌, ℕ, List, [], Some, Ok, Err, Option, Result, length, get_or, take, arith, ap, sym}
-use Rattle.std.proofs.Common.{refl, subst, inl, inr, ◌∙◌, IsOk, OnOk, is_ok, if◌then◌else◌, zero, suc}
+use Rattle.std.proofs.Common.{◌≡◌, ◌≢◌, ◌<◌, ◌≤◌, ◌++◌, ◌∷◌, ◌+◌, ◌-◌, ℕ, List, [], Some, Ok, Err, Option, Result, length, get_or, take, arith, ap, sym, refl}
+use Rattle.std.proofs.Common.{subst, ◌∙◌, IsOk, OnOk, is_ok, if◌then◌else◌, zero, suc}
 use Rattle.std.proofs.Math.Seq.{take-append_seam, get_or-append_seam}
 use Rattle.std.proofs.Math.ListN.{get_or-append}
 use Rattle.std.proofs.lemmas.Bool.{cases_Bool, eqb-true, ne_eqb, Decides.nat_tests}
@@ -17,8 +17,7 @@ use Rattle.adf_tree.specs.declared.tree.RoomFault.{RoomFault}
 use Rattle.adf_tree.specs.Additions.{Addition, AllHaveRoom, AllHaveRoomBy, entries_of_additions, entries_of_additions_by, with_addition, with_addition_by}
 use Rattle.adf_tree.specs.Faults.{add_fault}
 use Rattle.adf_tree.specs.Tree.{entry, room_for, room_for_by, with_entry_by, IsAnswer, IsTree, Tree}
-use Rattle.adf_edits.specs.Outline.{IsWithoutRoomBy, OutlineValue, addition_for, tree_additions, tree_of_outline_by, with_addition_in, with_addition_for}
-use Rattle.adf_edits.specs.Outline.{with_first}
+use Rattle.adf_edits.specs.Outline.{IsWithoutRoomBy, OutlineValue, tree_additions, tree_of_outline_by, with_addition_in, with_addition_for, with_first}
 
 -- the tree of one addition more
 pub tree_more_by : (ls : Letters) (xs : List Addition) (x : Addition)

@@ -1,6 +1,6 @@
 -- Paths that are too deep.
 -- Letters: xs are additions, ys those with the next entry's; es are entries, e the next of them, i the number of those before.
-use Rattle.std.proofs.Common.{◌≡◌, ◌<◌, ◌+◌, ◌-◌, ◌++◌, ◌∷◌, ◌||◌, ◌∙◌, ℕ, List, [], Some, length, drop, take, fold, true, false, Bool, ap, refl, sym, arith}
+use Rattle.std.proofs.Common.{◌≡◌, ◌<◌, ◌+◌, ◌-◌, ◌++◌, ◌∷◌, ◌∙◌, ℕ, List, [], Some, length, drop, take, fold, true, false, ap, refl, arith}
 use Rattle.std.proofs.lemmas.List.{length-append, length-drop, take-append-drop, Folds.list_any-append, Folds.list_any-append}
 use Rattle.std.proofs.lemmas.Grind.{common_steps}
 use Rattle.adf_tree.specs.declared.entry.Entry.{Entry}

@@ -1,7 +1,7 @@
 -- What each path leads to after a move.
 -- Letters: xs are additions, ys what the move makes of them; y an addition; r the names behind a path; q a path.
-use Rattle.std.proofs.Common.{◌≡◌, ℕ, List, [], ◌∷◌, ◌++◌, ◌+◌, ◌-◌, ◌<◌, length, get_or, map, refl, sym, ap, ◌∙◌, arith, true, false, Bool, None, Ok, Some}
-use Rattle.std.proofs.Common.{Option, drop, not, option_map}
+use Rattle.std.proofs.Common.{◌≡◌, ℕ, List, [], ◌∷◌, ◌++◌, ◌<◌, length, map, refl, sym, ap, ◌∙◌, arith, true, false, Bool, None, Ok, Some, Option, drop}
+use Rattle.std.proofs.Common.{option_map}
 use Rattle.std.specs.Cmp.{both_ways}
 use Rattle.std.specs.List.{filter, find}
 use Rattle.std.specs.Option.{option_or}

@@ -1,6 +1,6 @@
 -- What each path leads to after a removal, an addition, a change or a new label.
 -- Letters: xs are additions, ys what the edit makes of them; x, y additions; q a path.
-use Rattle.std.proofs.Common.{◌≡◌, ◌≢◌, ℕ, List, [], ◌∷◌, ◌++◌, inl, inr, map, refl, sym, ap, ◌∙◌, true, false, None, Ok, Some, Result, not, option_map, arith}
+use Rattle.std.proofs.Common.{◌≡◌, ◌≢◌, ℕ, List, [], ◌∷◌, inl, inr, map, refl, sym, ap, ◌∙◌, true, false, None, Ok, Some, Result, not, option_map, arith}
 use Rattle.std.specs.List.{find}
 use Rattle.std.specs.Option.{option_or}
 use Rattle.std.proofs.lemmas.Bool.{cases_Bool, false_from_ne_true}

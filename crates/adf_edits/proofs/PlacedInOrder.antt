@@ -1,14 +1,14 @@
 -- Additions that have a place behind those before them: that is to have room, and it stays where a change keeps paths and bodies, and
 -- where what is left out is no directory of what stays.
 -- Letters: xs are additions, front those before them; x, y additions; q the test of what stays.
-use Rattle.std.proofs.Common.{◌≡◌, ℕ, suc, List, [], ◌∷◌, ◌++◌, inl, inr, ◌+◌, ◌==◌, ◌&&◌, ◌||◌, length, map, refl, sym, ap, subst, ◌∙◌, arith, true, false}
-use Rattle.std.proofs.Common.{Bool, IsOk, cond}
+use Rattle.std.proofs.Common.{◌≡◌, ℕ, suc, List, [], ◌∷◌, ◌++◌, inl, inr, ◌+◌, ◌==◌, length, map, refl, sym, ap, subst, ◌∙◌, arith, true, false, Bool, IsOk}
+use Rattle.std.proofs.Common.{cond}
 use Rattle.std.specs.List.{All, filter, list_any}
 use Rattle.std.proofs.Math.Seq.{take-append_seam, get_or-append_seam}
 use Rattle.std.proofs.lemmas.Bool.{cases_Bool}
 use Rattle.std.proofs.lemmas.List.{append-nil, append_assoc, length-append, map-append, Elements.filter-append, Elements.filter-append}
-use Rattle.adf_tree.specs.Additions.{Addition, AllHaveRoom, entries_of_additions, same_path}
-use Rattle.adf_tree.specs.Tree.{is_dir_body, parents_of, room_for}
+use Rattle.adf_tree.specs.Additions.{Addition, AllHaveRoom, entries_of_additions}
+use Rattle.adf_tree.specs.Tree.{parents_of, room_for}
 use Rattle.std.proofs.lemmas.Grind.{common_steps}
 use Rattle.adf_tree.proofs.TreeOfAdditions.{all_built}
 use Rattle.adf_edits.specs.declared.edits.Change.{Change}

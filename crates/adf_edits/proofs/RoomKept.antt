@@ -1,7 +1,6 @@
 -- What an edit makes of additions that all have room, has room.
 -- Letters: xs are additions, ys what the edit makes of them; x, y are additions, front those before them.
-use Rattle.std.proofs.Common.{◌≡◌, ◌≢◌, ℕ, List, [], ◌∷◌, ◌++◌, inl, inr, ◌==◌, length, refl, sym, ap, subst, ◌∙◌, arith, true, false, Bool, Some, None, Ok}
-use Rattle.std.proofs.Common.{Option, Result, not, ◌-◌, get_or, map, nat_lt, take}
+use Rattle.std.proofs.Common.{◌≡◌, ℕ, List, [], ◌==◌, length, refl, subst, arith, true, false, Bool, Some, None, Ok, Option, Result, not, get_or, map, nat_lt}
 use Rattle.std.specs.List.{All, list_any}
 use Rattle.std.proofs.lemmas.Bool.{and_from, and_parts, cases_Bool, eqb-false, false_from_ne_true, lt-ltb}
 use Rattle.std.proofs.lemmas.List.{length-map, length-take-le, Folds.list_any_at, Folds.list_any_at}

@@ -7,7 +7,7 @@ use Rattle.std.proofs.lemmas.Bool.{and_parts, le-leb, lt-ltb}
 use Rattle.adf_names.specs.declared.kind.Kind.{Kind, TheVariants.Ofs, TheVariants.Ffs}
 use Rattle.std.proofs.lemmas.Grind.{common_steps}
 use Rattle.adf_blocks.specs.Forms.{first_cause}
-use Rattle.adf_blocks.specs.Sizes.{blocks, in_range}
+use Rattle.adf_blocks.specs.Sizes.{in_range}
 use Rattle.adf_volume.specs.declared.owner.Owner.TheVariants.{Free}
 use Rattle.adf_walk.specs.Owners.{owner_at}
 use Rattle.adf_blocks.specs.declared.layout.TheConstants.{FIRST_POINTER, POINTERS}

@@ -23,7 +23,7 @@ fits_or_fault_by types image =
           tree_in_by (letters_for types image) image w,
           layout_in w,
           none_found image (letters_for types image) (passed types image) (types_read image types) w
-          (subst (IsSurvey image w) (append-nil (passed types image)) v),
+              (subst (IsSurvey image w) (append-nil (passed types image)) v),
         )
     by_findings w (f ∷ fs) v =
         inr (f.block, f.cause, first_finding image (letters_for types image) (passed types image) (types_read image types) w f fs v)

@@ -1,12 +1,12 @@
 -- The forms of parts, and the judgement of a part by them.
 -- Letters: b the block of a part, a the block that points to it; x the context of a part; f the facts about it;
 -- r a role; w a walk.
-use Rattle.std.specs.Prelude.{◌≡◌, ℕ, Bool, true, false, ◌&&◌, ◌||◌, nat_le, nat_lt, cond, List, [], ◌∷◌, Option, Some, None}
+use Rattle.std.specs.Prelude.{◌≡◌, ℕ, Bool, true, false, ◌&&◌, ◌||◌, cond, List, [], ◌∷◌, Option, Some, None}
 use Rattle.adf_base.specs.Words.{block}
 use Rattle.adf_names.specs.declared.kind.Kind.{Kind, TheVariants.Ofs, TheVariants.Ffs}
 use Rattle.adf_blocks.specs.declared.cause.Cause.{Cause, TheVariants.OutOfRange, TheVariants.SameName, TheVariants.ShortFile, TheVariants.Taken}
 use Rattle.adf_blocks.specs.declared.layout.TheConstants.{SIZE}
-use Rattle.adf_blocks.specs.Sizes.{blocks, in_range}
+use Rattle.adf_blocks.specs.Sizes.{in_range}
 use Rattle.adf_blocks.specs.Forms.{Clause, first_cause}
 use Rattle.adf_blocks.specs.DataBlock.{data_form}
 use Rattle.adf_blocks.specs.ExtBlock.{ext_form}

@@ -15,7 +15,7 @@ use Rattle.adf_volume.specs.Image.{IsFreeAt, name_of}
 use Rattle.adf_volume.specs.LayoutRoles.{owner_of}
 use Rattle.adf_volume.specs.declared.owner.Owner.{Owner, TheVariants.Free, TheVariants.Boot}
 use Rattle.adf_volume.specs.Positions.{Position}
-use Rattle.adf_volume.specs.Walk.{Role, first, second, third, Has, bitmap_demands, heads, node_block, Walk, Role.Page, Role.Head, Role.Ext, Role.Data}
+use Rattle.adf_volume.specs.Walk.{Role, Has, bitmap_demands, heads, node_block, Walk, Role.Page, Role.Head}
 use Rattle.adf_walk.specs.Owners.{is_part, owned_count, owner_at}
 use Rattle.adf_findings.specs.WalkOwners.{HasNumber, OwnersValue, node_after}
 use Rattle.adf_findings.specs.Demands.{uppers_in}
@@ -24,7 +24,7 @@ use Rattle.adf_findings.specs.declared.found.ChainPlace.{ChainPlace}
 use Rattle.adf_findings.specs.declared.found.Found.{Found}
 use Rattle.adf_findings.specs.Survey.{BitsTell, Course, FindingValue, IsCompared, IsCourse, IsDone}
 use Rattle.adf_volume.specs.Parts.{role_of}
-use Rattle.adf_findings.specs.Members.{at_role, owns, owning_entry, parent_node}
+use Rattle.adf_findings.specs.Members.{at_role, owns, parent_node}
 
 -- whether the role at block c is a header of the chain with this name
 abbrev pub is_named : List ℕ → Role → ℕ → ℕ → ℕ → List ℕ → Bool

@@ -1,6 +1,6 @@
 -- What the members of a walk say of blocks and of entries, and the marks of entries.
 -- Letters: w a walk; q, r roles; b, c blocks; n, m, p nodes.
-use Rattle.std.specs.Prelude.{◌==◌, ◌&&◌, ◌||◌, ℕ, Bool, true, false, cond, List, [], ◌∷◌, slice_index_or, Option, Some, None}
+use Rattle.std.specs.Prelude.{◌==◌, ◌&&◌, ◌||◌, ℕ, Bool, false, cond, List, [], ◌∷◌, slice_index_or, Option, Some, None}
 use Rattle.adf_volume.specs.Walk.{Role, first, second, third, Walk, Role.Head, Role.Ext, Role.Data}
 
 -- whether two roles have the same place in the order of roles

@@ -1,5 +1,5 @@
 -- The state of the reader after one more line.
-use Rattle.std.proofs.Common.{◌≡◌, ◌≤◌, inl, inr, ◌<◌, ◌++◌, ◌∙◌, ℕ, List, [], ◌∷◌, Option, Some, None, refl, sym, ap, subst, arith, length, length-append}
+use Rattle.std.proofs.Common.{◌≡◌, ◌<◌, ◌++◌, ◌∙◌, ℕ, List, [], ◌∷◌, Option, Some, None, refl, sym, ap, subst, arith, length, length-append}
 use Rattle.std.specs.Prelude.{IsOk, IfErr, Result, Ok, Err, is_some, false}
 use Rattle.std.specs.List.{All}
 use Rattle.std.proofs.lemmas.List.{append-nil, length-replicate, Elements.All-head, Elements.All-nil}
@@ -15,14 +15,13 @@ use Rattle.adf_tree.specs.declared.entry.Body.{Body}
 use Rattle.adf_manifest.specs.Lines.{EntryLine, IsLine, IsRun, RunValue, DataRun, FillRun, entry_line, note_line, run_line, LineValue}
 use Rattle.adf_manifest.specs.Items.{IsItem, Item, body_of_sort, bytes_of_runs, items_tree, run_bytes, with_item}
 use Rattle.adf_manifest.specs.Manifest.{Entries, IsPreamble, IsWell, Manifest, MayStand, preamble_lines, preamble_tree, items_of, manifest_lines, manifest_tree}
-use Rattle.adf_manifest.specs.Manifest.{ExplainsKind, lines, most_bytes}
-use Rattle.adf_manifest.specs.Reader.{HasNextLine, IsLastEntry, IsReading, Stops, StopsIn, bare, ExplainsLines}
+use Rattle.adf_manifest.specs.Reader.{HasNextLine, IsLastEntry, IsReading, Stops, StopsIn, bare}
 use Rattle.adf_manifest.specs.declared.lines.Sort.{Sort, TheVariants.File}
 use Rattle.adf_manifest.specs.declared.reader.Preamble.{Preamble}
 use Rattle.adf_manifest.specs.declared.reader.LastEntry.{LastEntry}
 use Rattle.adf_manifest.specs.declared.reader.Reading.{Reading}
 use Rattle.adf_manifest.specs.declared.reader.State.TheVariants as state
-use Rattle.adf_manifest.specs.declared.manifest.ManifestKind.{ManifestKind, TheVariants.BadLine, TheVariants.NoMemory, TheVariants.TooLong}
+use Rattle.adf_manifest.specs.declared.manifest.ManifestKind.{ManifestKind, TheVariants.BadLine}
 use Rattle.adf_manifest.proofs.Growth.{with_run, with_run_is, with_run_lines, last_is, last_lines, last_well, new_item, new_lines, new_well, noted, noted_is}
 use Rattle.adf_manifest.proofs.Growth.{noted_lines, room_none, tree_more, tree_none, with_last, with_new}
 use Rattle.std.proofs.lemmas.Grind.{common_steps}

@@ -1,6 +1,6 @@
 -- Laws of parts of lines: cuts at a byte, numbers in decimal, stamps.
-use Rattle.std.proofs.Common.{◌≡◌, ◌-◌, ◌+◌, ◌≢◌, ◌≤◌, ◌<◌, ◌^◌, ◌==◌, ◌&&◌, ◌||◌, not, ◌++◌, ◌∙◌, ℕ, Bool, true, false, nat_lt, List, ◌∷◌, [], Option, Some}
-use Rattle.std.proofs.Common.{None, Result, Ok, IfNone, refl, sym, ap, subst, arith, rules, length, slice_index, slice_index_or, length-append, drop, take}
+use Rattle.std.proofs.Common.{◌≡◌, ◌-◌, ◌≢◌, ◌≤◌, ◌<◌, ◌^◌, ◌==◌, ◌&&◌, ◌||◌, not, ◌++◌, ◌∙◌, ℕ, Bool, true, false, nat_lt, List, ◌∷◌, Option, Some, None}
+use Rattle.std.proofs.Common.{Result, Ok, IfNone, refl, sym, ap, subst, arith, rules, length, slice_index, slice_index_or, length-append, drop, take}
 use Rattle.std.proofs.Common.{take-append-drop, IfSome, MatchOption, nat_eq}
 use Rattle.std.proofs.Math.Seq.{get_or-append_seam}
 use Rattle.std.specs.List.{slice_split}

@@ -132,10 +132,7 @@ fn is_vacant(survey: &Survey<'_>, lost: &Vec<bool>, p: u32) -> bool
         → result ≡ is_vacant survey.now.image w s p) }
 {
     let image = survey.image();
-    in_range(image, p)
-        && p != root_of(image)
-        && !survey.has_part(p)
-        && !has_mark(lost, p as usize)
+    in_range(image, p) && p != root_of(image) && !survey.has_part(p) && !has_mark(lost, p as usize)
 }
 
 // Marks the block that header `b` names as its directory, if a directory may be made there.

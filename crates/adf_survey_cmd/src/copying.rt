@@ -80,7 +80,7 @@ fn gap_lines(alloc: Global, gaps: &[Gap]) -> Result<Vec<u8>, AllocError>
 // Writes the bytes of a file, and tells which are no data.
 fn write_remains<W: Sink>(alloc: Global, remains: &Remains, output: &mut W) -> Outcome
     requires { W.has_failed output.old ≡ false }
-    ensures { Does (λ reply. reply ≡ remains_reply remains.now.bytes.items remains.now.gaps.items)  result
+    ensures { Does (λ reply. reply ≡ remains_reply remains.now.bytes.items remains.now.gaps.items) result
         (seen W.held W.has_failed output.old output.new) }
 {
     let Ok(lines) = gap_lines(alloc, &remains.gaps) else {
