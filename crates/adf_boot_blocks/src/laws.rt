@@ -21,8 +21,8 @@ pub fn sums_are_right()
         → has_right_sum (with_sum image) ≡ true }
 {}
 
-/// What is put back into an image is no part of a tree. Boot blocks that begin with `DOS` are as they were behind the type, but for
-/// a checksum that was right for another type, and what was bootable stays so.
+/// What is put back into an image is no part of a tree. Boot blocks that begin with `DOS` are as they were behind the type, but
+/// for a checksum that was right for another type, and what was bootable stays so.
 pub fn boots_stay()
     ensures other { (image boot : List ℕ) → BOOT_LEN ≤ length image → BOOT_LEN ≤ length boot
         → IsOtherBoot image (restored image boot) }

@@ -45,7 +45,8 @@ pub fn run_in_memory<P: Program>(
     moved: &mut Moved,
 ) -> u8
     ensures ends { RunEnds (in_memory P.command) words.now (at_hand input.now) result
-        (room_seen moved.new.output moved.new.output_full output.new) (room_seen moved.new.errors moved.new.errors_full errors.new) }
+        (room_seen moved.new.output moved.new.output_full output.new)
+        (room_seen moved.new.errors moved.new.errors_full errors.new) }
     ensures untouched { IsUnanswered (in_memory P.command) words.now
         → (moved.new.output ≡ 0) × (output.new ≡ output.old) }
     ensures consumed { IsConsumed (in_memory P.command) words.now input.now result moved.new.input }
