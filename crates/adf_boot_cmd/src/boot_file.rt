@@ -1,7 +1,6 @@
 // Boot files.
 
-ghost use Rattle.std.specs.Prelude.{◌≡◌, ◌⊎◌, List, Option, ℕ, false, take, IfErr, IfOk, IfSome, codes};
-ghost use Rattle.std.specs.Io.KnownBytes.{Appends};
+ghost use Rattle.std.specs.Prelude.{◌≡◌, ◌⊎◌, List, Option, ℕ, false, take, IfErr, IfOk, IfSome};
 ghost use Rattle.adf_boot_blocks.specs.declared.boot.TheConstants.{BOOT_LEN};
 ghost use Rattle.adf_file_words.specs.BootLine.{boot_request_value, copy};
 ghost use Rattle.adf_boot_cmd.specs.Answers.{IsOrderOf, LacksBoot};

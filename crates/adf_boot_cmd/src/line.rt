@@ -1,6 +1,6 @@
 // The line of boot blocks.
 
-ghost use Rattle.std.specs.Prelude.{◌≡◌, ◌≤◌, length, slice_index, IfOk};
+ghost use Rattle.std.specs.Prelude.{◌≡◌, ◌≤◌, length, IfOk};
 ghost use Rattle.adf_boot_blocks.specs.declared.boot.TheConstants.{BOOT_LEN};
 ghost use Rattle.adf_boot_cmd.specs.Lines.{boot_line, state_text, type_of, type_name};
 

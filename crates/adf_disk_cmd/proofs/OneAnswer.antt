@@ -22,7 +22,6 @@ use Rattle.adf_partitions.specs.declared.place.PlaceFault.{PlaceFault}
 use Rattle.adf_plans.specs.PlanTexts.{text_fault_text}
 use Rattle.adf_plans.specs.declared.plan_text.TextFault.{TextFault}
 use Rattle.adf_runs.specs.Commands.{Reply, on_output}
-use Rattle.adf_blocks.specs.declared.cause.Cause.{Cause}
 use Rattle.adf_file_words.specs.DiskLine.{AsksDisk, DiskRequestValue, build, check, list, survey, volume}
 
 pub one_request : (words : List (List ℕ)) (r q : DiskRequestValue) → AsksDisk words r → AsksDisk words q → r ≡ q

@@ -1,6 +1,6 @@
 // Lines of a script: a word, and what it is about. A value stands behind the first `:`, which no name has.
 
-ghost use Rattle.std.specs.Prelude.{◌≡◌, IfOk, IfErr, List, ℕ};
+ghost use Rattle.std.specs.Prelude.{◌≡◌, IfOk, IfErr};
 ghost use Rattle.adf_edits.specs.Edits.{EditValue, edit_value};
 ghost use Rattle.adf_edit_cmd.specs.Lines.{SaysBehindVerb, SaysEdit, verb_of};
 

@@ -2,9 +2,8 @@
 -- Letters: s, t, u what is surveyed; w, v walks of its survey, fs, gs the findings; n the number of blocks that is asked for, 0 for those that the image has.
 use Rattle.std.proofs.Common.{◌≡◌, ◌≤◌, ◌<◌, ◌∙◌, ◌-◌, ◌==◌, ◌&&◌, ◌++◌, ℕ, Bool, true, false, List, [], None, Some, ap, append-nil, arith, codes, cond, drop}
 use Rattle.std.proofs.Common.{length, nat_lt, not, refl, slice_index, subst, sym, take}
-use Rattle.std.proofs.Math.Seq.{take-append_seam}
 use Rattle.std.proofs.lemmas.Bool.{and_parts, cond_both, cond-false, Decides.nat_tests}
-use Rattle.std.proofs.lemmas.List.{drop-set-lt, length-append, length-set, take_all}
+use Rattle.std.proofs.lemmas.List.{drop-set-lt, length-append, length-set}
 use Rattle.adf_volume.specs.Start.{is_image_len}
 use Rattle.adf_volume.specs.Walk.{Walk}
 use Rattle.adf_boot_blocks.specs.BootBlocks.{begins_with_dos}
@@ -19,7 +18,6 @@ use Rattle.adf_survey_cmd.specs.Hints.{Hinted}
 use Rattle.adf_survey_cmd.specs.Subject.{IsTyped, OfTyped, SubjectValue, begun_subject, changed, meant, missing_text, subject, type_line, typed_subject}
 use Rattle.adf_memory.specs.FoundTables.{mark_number}
 use Rattle.adf_memory.specs.Rescuing.{asked_blocks}
-use Rattle.adf_memory.specs.Rooms.{filled}
 use Rattle.adf_memory.specs.Subjects.{HasSubject, IsRetyped, front_lines, surveyed_subject, subject_in}
 use Rattle.adf_memory.specs.declared.subjects.SubjectTold.{SubjectTold}
 use Rattle.adf_memory.proofs.RescueReplies.{meant_image}

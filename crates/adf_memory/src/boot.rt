@@ -1,6 +1,6 @@
 // The boot blocks of an image in memory.
 
-ghost use Rattle.std.specs.Prelude.{◌≡◌, ◌<◌, ◌≤◌, List, Option, ℕ, length, true};
+ghost use Rattle.std.specs.Prelude.{◌≡◌, ◌<◌, ◌≤◌, Option, length, true};
 ghost use Rattle.adf_tree.specs.Tree.{Tree};
 ghost use Rattle.adf_blocks.specs.Sizes.{blocks, middle};
 ghost use Rattle.adf_volume.specs.Fits.{Fits};

@@ -1,7 +1,6 @@
 // Volumes that are built from a table of additions.
 
-ghost use Rattle.std.specs.Prelude.{◌≡◌, ◌≤◌, ◌<◌, ◌*◌, ◌↔◌, [], List, ℕ, length, take, IsSome, IfSome, IfOk, IfErr, OnOk, OnErr};
-ghost use Rattle.std.specs.Prelude.{true};
+ghost use Rattle.std.specs.Prelude.{◌≡◌, ◌≤◌, ◌<◌, ◌*◌, ◌↔◌, [], List, ℕ, length, IsSome, IfSome, IfOk, IfErr, OnOk, OnErr};
 ghost use Rattle.adf_tree.specs.Tree.{Tree as ATree};
 ghost use Rattle.adf_memory.specs.Building.{Explains, ExplainsBuild, ExplainsNeed, HasVolume, IsBadVolume, IsFewest};
 ghost use Rattle.adf_memory.specs.Building.{IsFullAtMost, IsSoundVolume, IsTableRefusal, Refuses, bad_room, built_in, kind_by};

@@ -22,13 +22,13 @@ use Rattle.adf_volume.specs.Made.{datas_in}
 use Rattle.adf_volume.specs.Walk.{heads, node_block}
 use Rattle.adf_volume.proofs.Lists.{get_before}
 use Rattle.adf_findings.specs.Files.{IsSoundFile, file_content, file_in, grave}
-use Rattle.adf_findings.specs.Members.{owning_entry, parent_node, has_mark}
+use Rattle.adf_findings.specs.Members.{owning_entry, has_mark}
 use Rattle.adf_findings.specs.SoundMarks.{AreMarks}
 use Rattle.adf_findings.specs.Survey.{FindingValue}
 use Rattle.adf_rescue.specs.declared.left_out.Why.{Why, TheVariants.Damaged, TheVariants.Link}
 use Rattle.adf_rescue.specs.Rescue.{Basis, Ground, Verdict, added_marks, are_given, as_given, at_path, before_second_by, body_of, body_of_type, by_body}
-use Rattle.adf_rescue.specs.Rescue.{entry_headed, first_verdicts_by, is_added, is_given, is_of_kept_entry, is_same_block, new_path, second_verdicts_by}
-use Rattle.adf_rescue.specs.Rescue.{verdict_tree, unless_known, verdict, verdict_anew, verdicts}
+use Rattle.adf_rescue.specs.Rescue.{first_verdicts_by, is_added, is_given, is_of_kept_entry, second_verdicts_by}
+use Rattle.adf_rescue.specs.Rescue.{unless_known, verdict, verdicts}
 use Rattle.adf_rescue.specs.Rescue.Verdict.{adds}
 use Rattle.adf_rescue.proofs.RescuedTrees.{fitting_is}
 use Rattle.adf_rescue.proofs.Steps.{verdicts_count}

@@ -1,6 +1,6 @@
 -- Surveys with no finding but that of an accepted type, which concerns no part: each entry is sound. And whether there are others.
 -- Letters: w the walk of the survey, fs its findings; f a finding; r, q roles; n a node, h the block of its header; c a cause.
-use Rattle.std.proofs.Common.{◌≡◌, ◌≢◌, ◌<◌, ◌≤◌, ℕ, List, [], ◌∷◌, ◌++◌, inl, inr, refl, sym, ap, subst, ◌∙◌, Bool, true, false, cond, Option, Some, None}
+use Rattle.std.proofs.Common.{◌≡◌, ◌≢◌, ◌<◌, ◌≤◌, ℕ, List, [], ◌∷◌, ◌++◌, refl, sym, ap, subst, ◌∙◌, Bool, true, false, cond, Option, Some, None}
 use Rattle.std.proofs.Common.{append-nil, arith, length, length-append}
 use Rattle.std.specs.Prelude.{◌↔◌}
 use Rattle.std.proofs.Math.Dec.{ltb}
@@ -13,7 +13,7 @@ use Rattle.adf_blocks.specs.Forms.{first_cause}
 use Rattle.adf_volume.specs.Start.{start_form}
 use Rattle.adf_volume.specs.Lists.{In}
 use Rattle.adf_volume.specs.Types.{letters_for}
-use Rattle.adf_volume.specs.Walk.{IsWalkBy, Role, Has, HeadAt, Walk, IsWalkBy.start as walk_start, IsWalkBy.step as walk_step}
+use Rattle.adf_volume.specs.Walk.{IsWalkBy, Role, HeadAt, Walk, IsWalkBy.start as walk_start, IsWalkBy.step as walk_step}
 use Rattle.adf_volume.specs.declared.types.Types.{Types, TheVariants.Plain, TheVariants.WithInternational}
 use Rattle.adf_volume.proofs.Gathered.{head_block}
 use Rattle.adf_volume.proofs.Lists.{in_left}

@@ -13,15 +13,13 @@ use Rattle.adf_blocks.specs.declared.layout.TheConstants.{CHECKSUM, FIRST_SLOT, 
 use Rattle.adf_blocks.specs.Forms.{text_at}
 use Rattle.adf_blocks.specs.HeadBlock.{head_block}
 use Rattle.adf_blocks.specs.RootBlock.{label_stated, root_block}
-use Rattle.adf_blocks.specs.Sizes.{blocks, in_range}
+use Rattle.adf_blocks.specs.Sizes.{blocks}
 use Rattle.adf_blocks.proofs.ByteBlocks.{head_bytes, root_bytes}
 use Rattle.adf_volume.specs.Image.{root_of}
 use Rattle.adf_volume.specs.Walk.{Walk}
-use Rattle.adf_findings.specs.Members.{owns}
 use Rattle.adf_findings.specs.Start.{has_root_type}
-use Rattle.adf_rescue.specs.Hung.{emptied, directory_end, home, hung, hung_at, hung_behind, hung_first, hung_in, hung_loose, is_hung, is_made, made_header}
-use Rattle.adf_rescue.specs.Hung.{put_in, readied, ready_in, sealed_in, slot_word}
-use Rattle.adf_rescue.specs.Lost.{is_lost, says_directory}
+use Rattle.adf_rescue.specs.Hung.{emptied, hung, hung_at, hung_behind, hung_first, hung_in, hung_loose, made_header}
+use Rattle.adf_rescue.specs.Hung.{put_in, readied, ready_in, sealed_in}
 use Rattle.adf_rescue.specs.MadeRoot.{has_root, label_in, made_root, middle_block, rooted}
 use Rattle.adf_boot_blocks.specs.BootBlocks.{begins_with_dos}
 use Rattle.adf_rescue.specs.Opened.{with_boot_type, has_data, is_mended, opened, type_byte}

@@ -4,13 +4,12 @@
 -- x, y additions; a the survey of the image, second the second one, if there is one.
 use Rattle.std.proofs.Common.{◌≡◌, ◌<◌, ◌≤◌, ◌+◌, ◌-◌, ◌^◌, ◌++◌, ◌∙◌, ◌==◌, ◌&&◌, ℕ, zero, suc, Bool, true, false, List, [], ◌∷◌, Option, Some, None, Result}
 use Rattle.std.proofs.Common.{Ok, Err, ap, arith, append-nil, cond, length, refl, subst, sym}
-use Rattle.std.specs.Prelude.{IfSome, nat_le}
+use Rattle.std.specs.Prelude.{IfSome}
 use Rattle.std.specs.List.{All}
 use Rattle.std.proofs.lemmas.Bool.{and_parts, cond_both, Decides.nat_tests}
 use Rattle.std.proofs.lemmas.List.{length-take, Elements.All-append, Elements.All-cons, Elements.All-nil}
 use Rattle.std.proofs.lemmas.Option.{cond_some}
 use Rattle.std.proofs.lemmas.Grind.{common_steps}
-use Rattle.adf_base.specs.Dates.{IsStamp}
 use Rattle.adf_base.specs.Words.{block}
 use Rattle.adf_base.specs.declared.hash.Letters.{Letters}
 use Rattle.adf_base.proofs.ByteLists.{AreBytes, block_bytes, word_small}
@@ -24,7 +23,7 @@ use Rattle.adf_tree.specs.declared.entry.Body.{Body}
 use Rattle.adf_tree.proofs.BoundedEntries.{IsBoundedAddition, bounded_additions_by}
 use Rattle.adf_drafts.proofs.NextEntries.{last_is}
 use Rattle.adf_blocks.specs.declared.layout.TheConstants.{ALTERED, COMMENT, CREATED, DATE, NAME, PROTECTION}
-use Rattle.adf_blocks.specs.Forms.{stamp_at, text_at}
+use Rattle.adf_blocks.specs.Forms.{text_at}
 use Rattle.adf_blocks.specs.HeadBlock.{meta_stated}
 use Rattle.adf_blocks.specs.Sizes.{blocks, is_allowed}
 use Rattle.adf_volume.specs.Image.{content, name_of, root_of}
@@ -39,8 +38,8 @@ use Rattle.adf_build.proofs.LaidWrites.{CanHold, volume_blocks}
 use Rattle.adf_build.proofs.WholeVolume.{volume_laid}
 use Rattle.adf_rescue.specs.declared.left_out.Why.{Why, TheVariants.NoRoom}
 use Rattle.adf_rescue.specs.Rescue.{Basis, Ground, Verdict, verdict_addition, verdict_additions, as_given, at_path, before_first_by, before_second_by, body_of}
-use Rattle.adf_rescue.specs.Rescue.{body_of_type, by_body, entry_headed, first_verdicts_by, lost_name, path_by, path_with_room, new_path, rescued_additions_by}
-use Rattle.adf_rescue.specs.Rescue.{rescued_tree_by, second_verdicts_by, verdict_tree, unless_known, verdict, verdict_anew, verdicts}
+use Rattle.adf_rescue.specs.Rescue.{body_of_type, by_body, first_verdicts_by, lost_name, path_by, path_with_room, new_path, rescued_additions_by}
+use Rattle.adf_rescue.specs.Rescue.{rescued_tree_by, second_verdicts_by, verdict_tree, verdict, verdicts}
 use Rattle.adf_rescue.specs.Rescue.Verdict.{adds, knows, leaves}
 use Rattle.adf_rescue.proofs.RescuedTrees.{fitting_is, or_else, tree_of_rescue}
 use Rattle.adf_rescue.proofs.Steps.{additions_more, tree_more}

@@ -1,7 +1,7 @@
 -- What no directory of a survey leads to any more: lost headers.
 -- Letters: w the walk of the survey, fs its findings, f one of them; b, p blocks, h that of a header; n a node; k a number of nodes, findings
 -- or blocks; mended whether the image was; s whether each directory is settled.
-use Rattle.std.specs.Prelude.{◌≡◌, ◌≤◌, ℕ, ◌+◌, ◌-◌, ◌/◌, ◌%◌, ◌^◌, ◌==◌, ◌&&◌, ◌||◌, not, nat_le, nat_lt, min, bit_and, Bool, true, false, cond, List, [], ◌∷◌}
+use Rattle.std.specs.Prelude.{◌≡◌, ◌≤◌, ℕ, ◌+◌, ◌-◌, ◌/◌, ◌%◌, ◌^◌, ◌==◌, ◌&&◌, ◌||◌, not, nat_le, min, bit_and, Bool, true, false, cond, List, [], ◌∷◌}
 use Rattle.std.specs.Prelude.{length, Option, Some, None, option_and_then, option_map, unwrap_or}
 use Rattle.std.specs.List.{list_any}
 use Rattle.std.proofs.Common.{zero, suc}

@@ -11,7 +11,7 @@ ghost use Rattle.adf_volume.specs.Start.{is_image_len};
 ghost use Rattle.adf_volume.specs.Walk.{heads, node_block, Walk};
 ghost use Rattle.adf_findings.specs.Members.{owning_entry, owns, has_mark};
 ghost use Rattle.adf_findings.specs.Survey.{OnSurvey};
-ghost use Rattle.adf_rescue.specs.Lost.{AreLost, directory_at, has_findings, has_lost, is_lost, is_settled, lost_among};
+ghost use Rattle.adf_rescue.specs.Lost.{AreLost, directory_at, has_findings, has_lost, is_settled, lost_among};
 ghost use Rattle.adf_rescue.specs.Rescue.{lost_name};
 ghost use Rattle.adf_rescue.specs.Hung.{AreEnds, AreLoose, directory_end, emptied, home, hung, hung_at, hung_in, hung_loose};
 ghost use Rattle.adf_rescue.specs.Hung.{is_container, is_hung, is_made, is_vacant, made_header, open_end, ready_in, readied};

@@ -2,7 +2,7 @@
 
 ghost use Rattle.std.specs.Prelude.{◌≡◌, ◌≤◌, ◌<◌, ◌++◌, ℕ, Bool, List, [], IfSome, None, Option, Some, true, false, slice_get};
 ghost use Rattle.std.proofs.Common.{suc};
-ghost use Rattle.std.specs.List.{All, concat};
+ghost use Rattle.std.specs.List.{All};
 ghost use Rattle.adf_base.specs.Words.{block};
 ghost use Rattle.adf_base.specs.declared.hash.Letters.{Letters};
 ghost use Rattle.adf_tree.specs.Additions.{Addition, IsTreeOfBy};

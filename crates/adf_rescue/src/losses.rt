@@ -3,7 +3,6 @@
 ghost use Rattle.std.specs.List.{cons_option};
 ghost use Rattle.std.specs.Prelude.{◌≡◌, ◌++◌, [], IfOk, OnOk, Option, is_some, option_map, slice_get};
 ghost use Rattle.std.specs.Option.{option_and_then};
-ghost use Rattle.adf_findings.specs.Parts.{finding_value};
 ghost use Rattle.adf_findings.specs.Survey.{OnSurvey};
 ghost use Rattle.adf_rescue.specs.Losses.{is_astray, is_surveyed_header, is_second_block, is_second_header, is_unowned};
 ghost use Rattle.adf_rescue.specs.Losses.{lost_block, lost_blocks, lost_header, lost_headers, unless_found};

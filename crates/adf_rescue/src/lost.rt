@@ -1,13 +1,12 @@
 // Lost headers: what no directory of a survey leads to any more.
 
-ghost use Rattle.std.specs.Prelude.{◌≡◌, ◌<◌, ◌≤◌, ◌+◌, ◌==◌, ◌&&◌, ◌||◌, ◌↔◌, ℕ, List, Bool, not, cond, true, length, IfOk};
+ghost use Rattle.std.specs.Prelude.{◌≡◌, ◌<◌, ◌≤◌, ◌+◌, ◌==◌, ◌&&◌, ◌||◌, ◌↔◌, ℕ, Bool, not, cond, true, length, IfOk};
 ghost use Rattle.std.specs.List.{list_any};
 ghost use Rattle.adf_blocks.specs.declared.layout.TheConstants.{POINTERS};
 ghost use Rattle.adf_blocks.specs.Sizes.{blocks, in_range};
 ghost use Rattle.adf_volume.specs.Image.{word_in};
 ghost use Rattle.adf_volume.specs.Start.{is_image_len};
 ghost use Rattle.adf_volume.specs.Walk.{heads};
-ghost use Rattle.adf_findings.specs.Concerned.{concern_of_nth};
 ghost use Rattle.adf_findings.specs.Members.{parent_node, has_mark};
 ghost use Rattle.adf_findings.specs.Parts.{part_role};
 ghost use Rattle.adf_findings.specs.Survey.{OnSurvey};

@@ -3,7 +3,6 @@
 ghost use Rattle.std.specs.Prelude.{◌≡◌, ◌≤◌, ◌+◌, ◌-◌, ◌++◌, ◌∷◌, ◌^◌, ℕ, Bool, false, true, List, [], cond, Some, None, Result};
 ghost use Rattle.std.specs.Prelude.{IfOk, OnOk, min, length, slice_index_or};
 ghost use Rattle.adf_base.specs.declared.hash.Letters.{Letters};
-ghost use Rattle.adf_tree.specs.declared.entry.Body.{Body as ABody};
 ghost use Rattle.adf_drafts.specs.Draft.{IsRoomFor};
 ghost use Rattle.adf_blocks.specs.Sizes.{blocks};
 ghost use Rattle.adf_tree.specs.Tree.{is_dir_body};

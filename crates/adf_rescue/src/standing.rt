@@ -1,11 +1,9 @@
 // The entries that stand.
 
-ghost use Rattle.std.specs.Prelude.{◌≡◌, ◌==◌, ◌&&◌, ◌≤◌, ◌<◌, ◌+◌, ◌*◌, ℕ, Bool, cond, List, IfOk, drop, length, nat_le, not};
-ghost use Rattle.std.specs.Str.{bytes_eq};
+ghost use Rattle.std.specs.Prelude.{◌≡◌, ◌==◌, ◌&&◌, ◌≤◌, ◌<◌, ◌+◌, ◌*◌, cond, List, IfOk, not};
 ghost use Rattle.adf_base.specs.Words.{block};
 ghost use Rattle.adf_base.specs.declared.hash.Letters.{Letters};
 ghost use Rattle.adf_tree.specs.declared.entry.Body.TheVariants.{File};
-ghost use Rattle.adf_blocks.specs.HeadBlock.{is_link};
 ghost use Rattle.adf_volume.specs.Image.{word_in};
 ghost use Rattle.adf_volume.specs.Walk.{heads, node_block};
 ghost use Rattle.adf_findings.specs.Files.{file_content};

@@ -1,6 +1,6 @@
 // The whole command.
 
-ghost use Rattle.std.specs.Prelude.{◌≡◌, ◌≢◌, ◌≤◌, Bool, List, ℕ, [], codes, false, if◌then◌else◌};
+ghost use Rattle.std.specs.Prelude.{◌≡◌, ◌≢◌, ◌≤◌, Bool, [], codes, false, if◌then◌else◌};
 ghost use Rattle.adf_volume.specs.declared.types.Types.TheVariants.{Plain, WithInternational};
 ghost use Rattle.adf_words.specs.CommandLine.{texts_of};
 ghost use Rattle.adf_runs.specs.Streams.{IsTold, seen};

@@ -4,7 +4,6 @@ ghost use Rattle.std.specs.Prelude.{◌≡◌, ◌≤◌, ◌++◌, IfOk, OnOk, 
 ghost use Rattle.adf_blocks.specs.declared.layout.TheConstants.{MOST_BLOCKS};
 ghost use Rattle.adf_findings.specs.OwnKind.{is_mistyped, retyped};
 ghost use Rattle.adf_findings.specs.Survey.{OnSurvey};
-ghost use Rattle.adf_rescue.specs.Opened.{with_boot_type};
 ghost use Rattle.adf_survey_cmd.specs.Subject.{IsTyped, begun_subject, changed, held_end, missing_text, sized, subject};
 ghost use Rattle.adf_survey_cmd.specs.Subject.{subject_value, type_line};
 
