@@ -1,6 +1,5 @@
 // `adf-disk` over the disk of 80 blocks of `disks`, with an empty FFS volume of 32 blocks in the place of DH0.
 
-
 use crate::disks::changed;
 use crate::memory::{Given, Kept, Long};
 use adf_base::{seal, set_word};

@@ -1,7 +1,6 @@
 // The partitions of disks of 80 blocks of 512 bytes, of which 4 have tables: the rigid disk block in block 0, the partition DH0
 // in block 2, and DH1 in block 1. A cylinder has 2 surfaces of 4 blocks. A row changes words of such a disk.
 
-
 use adf_base::{Block, seal, set_word};
 use adf_partitions::{
     Disk, DiskCause, DiskFault, FieldFault, Partition, Place, PlaceFault, disk_fault, stated_place,
