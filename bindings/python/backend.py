@@ -24,6 +24,7 @@ HERE = os.path.dirname(os.path.abspath(__file__))
 TOP = os.path.join(HERE, "..", "..")
 ARCHIVE = os.path.join(TOP, "crates", "adf_c", "out", "libadf_c.a")
 SONAME, CALLS = "libadf.so.1", "{ global: adf_*; local: *; };\n"
+OLDEST_GLIBC = 5  # pip knows none that is older
 SOURCES = ("adf/py.typed", "adf/*.py", "adf_tools/*.py")
 OWN = ("README.md", "backend.py", "pyproject.toml", "tests/*.py")
 WHEEL = "Wheel-Version: 1.0\nGenerator: adf\nRoot-Is-Purelib: {is_pure}\nTag: {tag}\n"
@@ -58,11 +59,11 @@ def library() -> bytes | None:
 
 
 def linked(archive: str, libc: str) -> bytes:
-    """The bytes of the shared library of an archive."""
+    """The bytes of the shared library of an archive, whose calls the loader looks up once, before they can be written over."""
     with tempfile.TemporaryDirectory() as folder:
         with open(os.path.join(folder, "calls"), "w", encoding="ascii") as file:
             file.write(CALLS)
-        names = [f"-Wl,-soname,{SONAME}", f"-Wl,--version-script={folder}/calls"]
+        names = [f"-Wl,-soname,{SONAME}", f"-Wl,--version-script={folder}/calls", "-Wl,-z,relro,-z,now"]
         subprocess.run(["cc", "-shared", "-o", f"{folder}/library", *names, "-Wl,--whole-archive", archive, "-Wl,--no-whole-archive", libc], check=True)
         return content_of(folder, "library")
 
@@ -113,11 +114,17 @@ def write_wheel(folder: str, files: Files, tag: str) -> str:
     return name
 
 
+def tag_of(shared: bytes) -> str:
+    """The systems that load a library: those with glibc of the newest version that it names, or a later one; musl does not."""
+    newest = max((int(minor) for minor in re.findall(rb"GLIBC_2\.(\d+)", shared)), default=0)
+    return f"py3-none-manylinux_2_{max(newest, OLDEST_GLIBC)}_x86_64"
+
+
 def build_wheel(wheel_directory: str, config_settings: Settings = None, metadata_directory: str | None = None) -> str:
     """Writes the wheel into a folder, and gives its name."""
     shared = library()
     own = {f"adf/{SONAME}": shared} if shared else {}
-    return write_wheel(wheel_directory, {**sources(), **own}, "py3-none-linux_x86_64" if shared else "py3-none-any")
+    return write_wheel(wheel_directory, {**sources(), **own}, tag_of(shared) if shared else "py3-none-any")
 
 
 def build_editable(wheel_directory: str, config_settings: Settings = None, metadata_directory: str | None = None) -> str:
