@@ -13,18 +13,12 @@ from typing import Callable, Dict, Iterator, List, Optional, Sequence
 import adf
 from adf_tools import uaem
 from adf_tools.given import Given, add_image, add_strict, given
-from adf_tools.names import text_of
+from adf_tools.names import ESCAPE, LETTERS, UAEM, host_name
 from adf_tools.program import REFUSED, USAGE, add_escape, begin, command_line, host_text, new_file, new_folder, stop
 from adf_tools.trees import Place, named
 
 DAYS_TO_1978 = 2922
 DAMAGED, GAPS = b".damaged", b".gaps"
-
-
-def host_name(name: bytes, is_escaped: bool) -> bytes:
-    """The name of the host for a name of an Amiga: one that stays in its directory."""
-    text = text_of(name, is_escaped)
-    return (text.replace(".", "\\x2e") if text in (".", "..") else text).encode("utf-8")
 
 
 def set_date(fd: int, date: adf.Date) -> None:
@@ -146,9 +140,8 @@ def boot_file(path: Optional[str], image: Given) -> Iterator[None]:
 def work(words: argparse.Namespace) -> int:
     image = given(words)
     volume = image.volume(words.strict)
-    host: Callable[[bytes], bytes] = functools.partial(host_name, is_escaped=words.escape)
-    if words.uaem and not words.escape:
-        host = uaem.host_name
+    form = ESCAPE if words.escape else UAEM if words.uaem else LETTERS
+    host: Callable[[bytes], bytes] = functools.partial(host_name, form=form)
     if words.boot is not None and os.path.abspath(words.boot) == os.path.abspath(words.folder):
         stop(USAGE, f"{host_text(words.folder)}: FOLDER and the FILE of --boot are the same")
     with boot_file(words.boot, image), new_folder(words.folder) as folder:

@@ -4,6 +4,7 @@ import os
 
 import adf
 from adf_tools import trees, uaem
+from adf_tools.names import UAEM, host_name
 from tests.shared import LARGE, NAME_BYTES, Folder, built, changed, image_of, listed, nested, written
 
 
@@ -65,7 +66,7 @@ class Names(Folder):
             **{b"auxx": "auxx", b"com": "com", b"com12": "com12", b"xaux": "xaux", b"aux_": "aux_"},
         }
         for name, host in names.items():
-            self.assertEqual(uaem.host_name(name).decode(), host)
+            self.assertEqual(host_name(name, UAEM).decode(), host)
             self.assertEqual(uaem.name_in(host.encode()), name)
         image = self.volume_of(*(name for name in names if name != b"A.UAEM"))
         self.tool("unpack", "--uaem", "new", given=image)
