@@ -107,12 +107,15 @@ static bool is_named(const struct parts *parts, const char *name) {
     return false;
 }
 
-/* Adds the folder of a partition: it has its name, or its number, where it has none or an earlier one has it too. */
+/* Adds the folder of a partition: it has its name, or its number, where it has none or an earlier one has it too; with - behind it
+ * while an earlier one has that. */
 static void add_part(struct parts *parts, const struct adf_partition *partition, size_t number) {
     char name[NAME_TEXT];
-    show_name(partition->name, partition->name_length, name);
+    show_name(partition->name, partition->name_length, "", name);
     if (partition->name_length == 0 || is_named(parts, name))
         sprintf(name, "%zu", number);
+    while (is_named(parts, name) && strlen(name) < LONGEST_NAME)
+        strcat(name, "-");
     parts->parts[parts->count] = part_of(partition);
     strcpy(parts->parts[parts->count++].name, name);
 }
@@ -138,7 +141,7 @@ static int take_all(int file, const char *name, const struct adf_partition *rows
             add_part(parts, &rows[i], i + 1);
             continue;
         }
-        show_name(rows[i].name, rows[i].name_length, drive);
+        show_name(rows[i].name, rows[i].name_length, "", drive);
         if (rows[i].name_length == 0)
             sprintf(drive, "%zu", i + 1);
         fprintf(stderr, "adf-mount: %s: %s: %s\n", name, drive, why);

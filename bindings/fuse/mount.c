@@ -295,7 +295,7 @@ static bool list_entries(const struct spot *spot, const struct listing *listing)
     bool has_room = true;
     for (size_t i = first_in(volume, spot->node);
          has_room && i < volume->contents.entries && volume->entries[i].parent == spot->node; i++) {
-        show_name(volume->entries[i].name, volume->entries[i].name_length, name);
+        show_name(volume->entries[i].name, volume->entries[i].name_length, "", name);
         describe_entry(spot, i + 1, &status);
         has_room = add_name(listing, name, &status);
     }
@@ -389,7 +389,7 @@ static int get_space(const char *path, struct statvfs *space) {
     int error = locate(path, &spot);
     if (error != 0)
         return error;
-    *space = (struct statvfs){.f_bsize = 512, .f_frsize = 512, .f_namemax = NAME_TEXT - 1};
+    *space = (struct statvfs){.f_bsize = 512, .f_frsize = 512, .f_namemax = LONGEST_NAME};
     if (spot.kind != FOLDERS) {
         space->f_blocks = spot.volume->contents.blocks;
         space->f_bfree = space->f_bavail = spot.volume->contents.free;

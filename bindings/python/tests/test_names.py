@@ -1,15 +1,29 @@
 """Tests of names of the host."""
 
+import ctypes
+import os
 import random
 import re
+import shutil
+import subprocess
 import unittest
 
+import adf
 from adf_tools.names import ESCAPE, LETTERS, UAEM, bytes_of, host_name
 from adf_tools.uaem import name_in
+from tests.shared import TOP, Folder
 
+NAMES_C = os.path.join(TOP, "bindings", "fuse", "names.c")
 FORMS = (LETTERS, ESCAPE, UAEM)
 DEVICES = re.compile(rb"(?i)(aux|con|nul|prn|com[0-9]|lpt[0-9])(\..*)?", re.DOTALL)
 WAYS_BACK = {LETTERS: bytes_of, ESCAPE: lambda text: bytes_of(text, is_escaped=True), UAEM: name_in}
+
+
+def hostile_names(count):
+    """Names as they may stand in a damaged header."""
+    chance, parts = random.Random(1), (b".", b"..", b"/", b"con", b"LPT7", b"nul", b".uaem", b"\0", b"\\", b"\\x41", b"%", b"\xff\xfe", b"a", b" ", b":")
+    yield from (b"\1" * 79, b"\xe9" * 79, b"a" * 79, b"", b".", b"..", b"con", b"COM1.x", b"auxx", b"com", b"com12", b"lpt:", b"x.UAEM", b"uaem")
+    yield from (b"".join(chance.choices(parts, k=chance.randrange(30)))[: chance.choice((30, 79))] for _ in range(count))
 
 
 class HostNames(unittest.TestCase):
@@ -38,11 +52,10 @@ class HostNames(unittest.TestCase):
         self.assertEqual(host_name(b"\1" * 79, taken={long}, number=1048575), b"\\x01" * 59 + b"~20d9d952-1048575")
 
     def test_hold_whatever_the_bytes(self):
-        chance, parts = random.Random(1), (b".", b"..", b"/", b"con", b"nul", b".uaem", b"\0", b"\\", b"%", b"\xff", b"a", b" ")
+        chance = random.Random(1)
         for form in FORMS:
             taken = set()
-            for _ in range(3000):
-                raw = b"".join(chance.choices(parts, k=chance.randrange(30)))[:79]
+            for raw in hostile_names(3000):
                 endings = chance.choice(((b"",), (b".damaged", b".gaps"), (b"", b".uaem")))
                 name = host_name(raw, form, endings, taken, chance.randrange(1 << 20))
                 for whole in (name + ending for ending in endings):
@@ -57,3 +70,20 @@ class HostNames(unittest.TestCase):
         for form in FORMS:
             for raw in names:
                 self.assertEqual(WAYS_BACK[form](host_name(raw, form)), raw)
+
+
+@unittest.skipUnless(shutil.which("cc") and os.path.exists(NAMES_C), "needs cc and the sources of adf-mount")
+class Mounted(Folder):
+    def test_are_those_of_the_mount(self):
+        subprocess.run(["cc", "-shared", "-fPIC", "-o", "names.so", NAMES_C], check=True)
+        mount, room = ctypes.CDLL("./names.so"), ctypes.create_string_buffer(256)
+        is_escaped, path = ctypes.c_bool.in_dll(mount, "is_escaped"), ctypes.create_string_buffer(1024)
+        for is_escaped.value, form in ((False, LETTERS), (True, ESCAPE)):
+            for raw in hostile_names(3000):
+                for number, taken in ((7, set()), (1048575, {host_name(raw, form)})):
+                    mount.show_name(raw, ctypes.c_size_t(len(raw)), b"-%d" % number if taken else b"", room)
+                    self.assertEqual(room.value, host_name(raw, form, taken=taken, number=number), raw)
+                if len(raw) <= 30 and not set(raw) & set(b"/:"):
+                    mount.show_name(raw, ctypes.c_size_t(len(raw)), b"", room)
+                    mount.escape_path(room, path)
+                    self.assertEqual(path.value.decode(), adf.escape(raw) or "\\x")
