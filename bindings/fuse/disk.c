@@ -96,7 +96,8 @@ static void why_unread(int file, const struct adf_partition *partition, bool is_
 static struct part part_of(const struct adf_partition *partition) {
     bool is_small = partition->blocks <= MOST_BYTES / BLOCK;
     return (struct part){.first = (off_t)partition->first * BLOCK,
-                         .most = is_small ? (size_t)partition->blocks * BLOCK : MOST_BYTES};
+                         .most = is_small ? (size_t)partition->blocks * BLOCK : MOST_BYTES,
+                         .whole = (uint64_t)partition->blocks * BLOCK};
 }
 
 /* Whether an earlier part has this name. */
@@ -152,6 +153,13 @@ static int take_all(int file, const char *name, const struct adf_partition *rows
     return parts->count == 0 ? REFUSED : SOUND;
 }
 
+static void say_no_partition(const char *name, const char *wanted, bool is_disk) {
+    char *line = host_line(wanted);
+    fprintf(stderr, "adf-mount: %s: no such partition: %s%s\n", name, line == NULL ? "" : line,
+            is_disk ? " (adf-disk survey)" : "");
+    free(line);
+}
+
 static int take_one(int file, const char *name, const char *wanted, const struct adf_partition *rows, const struct adf_disk *disk,
                     struct parts *parts) {
     char why[LONGEST_TEXT];
@@ -159,8 +167,7 @@ static int take_one(int file, const char *name, const char *wanted, const struct
     while (i < disk->partitions && !is_wanted(&rows[i], i + 1, wanted))
         i++;
     if (i == disk->partitions) {
-        bool is_disk = disk->cause != ADF_DISK_NO_RIGID_DISK;
-        fprintf(stderr, "adf-mount: %s: no such partition: %s%s\n", name, wanted, is_disk ? " (adf-disk survey)" : "");
+        say_no_partition(name, wanted, disk->cause != ADF_DISK_NO_RIGID_DISK);
         return REFUSED;
     }
     why_unread(file, &rows[i], true, why);
@@ -206,6 +213,6 @@ int find_parts(int file, const char *name, const char *wanted, struct parts *par
     if (has_tables && disk.partitions != 0)
         return take_all(file, name, rows, &disk, parts);
     parts->has_tables = has_tables;
-    parts->parts[parts->count++] = (struct part){.most = MOST_BYTES};
+    parts->parts[parts->count++] = (struct part){.most = MOST_BYTES, .whole = length < 0 ? 0 : (uint64_t)length};
     return SOUND;
 }

@@ -2,6 +2,7 @@
 #include "names.h"
 
 #include <stdio.h>
+#include <stdlib.h>
 #include <string.h>
 #include <strings.h>
 
@@ -98,6 +99,28 @@ void show_name(const uint8_t *name, size_t length, const char *more, char text[N
         sprintf(text, "%.*s%s", (int)whole, pieces.text, more);
     else
         sprintf(text, "%.*s~%08lx%s", (int)end, pieces.text, (unsigned long)check_of(name, length), more);
+}
+
+/* The bytes of the letter at the front of a text in UTF-8, or 0 for what is none, or a control character. */
+static int letter_length(const uint8_t *text) {
+    int length = text[0] < 0x80 ? 1 : text[0] < 0xc2 ? 0 : text[0] < 0xe0 ? 2 : text[0] < 0xf0 ? 3 : text[0] < 0xf5 ? 4 : 0;
+    bool is_control = text[0] < 32 || text[0] == 127 || text[0] == '\\' || (text[0] == 0xc2 && text[1] < 0xa0);
+    for (int i = 1; i < length; i++)
+        if ((text[i] & 0xc0) != 0x80)
+            return 0;
+    return is_control ? 0 : length;
+}
+
+char *host_line(const char *text) {
+    char *line = malloc(4 * strlen(text) + 1), *end = line;
+    while (line != NULL && *text != '\0') {
+        int length = letter_length((const uint8_t *)text);
+        end += length == 0 ? sprintf(end, "\\x%02x", (uint8_t)*text) : sprintf(end, "%.*s", length, text);
+        text += length == 0 ? 1 : length;
+    }
+    if (line != NULL)
+        *end = '\0';
+    return line;
 }
 
 static int digit_of(char digit) {

@@ -19,6 +19,10 @@ char *show_text(const uint8_t *bytes, size_t length, char *text);
  * lead neither out of their folder nor to a device of Windows. */
 void show_name(const uint8_t *name, size_t length, const char *more, char text[NAME_TEXT]);
 
+/* A text of the host as one line, to be freed: \xHH for the backslash, for control characters, and for what is not UTF-8. NULL if memory
+ * ran out. */
+char *host_line(const char *text);
+
 /* A path of the host as adf_find takes it: in the escape form, in which what has a letter stands for itself. The room has two bytes for
  * each, and one more. */
 void escape_path(const char *path, char *escaped);
