@@ -125,14 +125,19 @@ void say_no_volume(const char *name) {
     fprintf(stderr, "adf-mount: %s: a hard disk without a volume that can be read (adf-disk survey)\n", name);
 }
 
+/* Says the first fault of the tables of a disk. */
+static void say_fault(const char *name, const struct adf_disk *disk) {
+    uint8_t text[LONGEST_TEXT];
+    int length = (int)adf_disk_cause_text(disk->cause, text, sizeof text);
+    fprintf(stderr, "adf-mount: %s: block %lu: %.*s\n", name, (unsigned long)disk->block, length, (const char *)text);
+}
+
 /* All partitions whose volumes can be read; a line for each other one. */
 static int take_all(int file, const char *name, const struct adf_partition *rows, const struct adf_disk *disk,
                     struct parts *parts) {
     parts->is_disk = true;
     if (disk->cause != ADF_DISK_WHOLE) {
-        uint8_t text[LONGEST_TEXT];
-        int length = (int)adf_disk_cause_text(disk->cause, text, sizeof text);
-        fprintf(stderr, "adf-mount: %s: block %lu: %.*s\n", name, (unsigned long)disk->block, length, (const char *)text);
+        say_fault(name, disk);
         parts->is_whole = false;
     }
     for (size_t i = 0; i < disk->partitions; i++) {
@@ -153,10 +158,13 @@ static int take_all(int file, const char *name, const struct adf_partition *rows
     return parts->count == 0 ? REFUSED : SOUND;
 }
 
-static void say_no_partition(const char *name, const char *wanted, bool is_disk) {
+/* Says that a disk has no such partition, or why it is no disk. */
+static void say_no_partition(const char *name, const char *wanted, const struct adf_disk *disk) {
     char *line = host_line(wanted);
-    fprintf(stderr, "adf-mount: %s: no such partition: %s%s\n", name, line == NULL ? "" : line,
-            is_disk ? " (adf-disk survey)" : "");
+    if (disk->cause == ADF_DISK_NO_RIGID_DISK && disk->partitions == 0)
+        say_fault(name, disk);
+    else
+        fprintf(stderr, "adf-mount: %s: no such partition: %s (adf-disk survey)\n", name, line == NULL ? "" : line);
     free(line);
 }
 
@@ -167,7 +175,7 @@ static int take_one(int file, const char *name, const char *wanted, const struct
     while (i < disk->partitions && !is_wanted(&rows[i], i + 1, wanted))
         i++;
     if (i == disk->partitions) {
-        say_no_partition(name, wanted, disk->cause != ADF_DISK_NO_RIGID_DISK);
+        say_no_partition(name, wanted, disk);
         return REFUSED;
     }
     why_unread(file, &rows[i], true, why);

@@ -60,15 +60,13 @@ def draw_disk(name: str, disk: adf.Disk) -> int:
     return refuse(name, fault) if fault else 0
 
 
-def volume_in(name: str, disk: Optional[adf.Disk], wanted: str) -> Tuple[bytes, int]:
+def volume_in(name: str, disk: adf.Disk, wanted: str) -> Tuple[bytes, int]:
     """The volume of a partition, by its name or number, and how many bytes it has: more than are given, if no volume is so large."""
-    none = f"{name}: no such partition: {host_text(wanted)}"
-    if disk is None:
-        stop(REFUSED, none)
     try:
         partition = disk[int(wanted) if re.fullmatch("[0-9]{1,9}", wanted) else wanted]
     except adf.NoSuchPath:
-        stop(REFUSED, none)
+        is_disk = disk.partitions or disk.cause != "no rigid disk"
+        stop(REFUSED, f"{name}: no such partition: {host_text(wanted)}" if is_disk else f"{name}: block {disk.block}: {disk.cause}")
     volume = volume_of(disk, partition)
     if volume is None:
         stop(REFUSED, f"{name}: {host_text(wanted)}: {fault_of(disk, partition) or 'no volume of an Amiga'}")
@@ -80,10 +78,10 @@ def work(words: argparse.Namespace) -> int:
     with opened(words.image) as file:
         size = size_of(file)
         content = adf.read_image(file) if size is None or words.image == STANDARD_INPUT else content_of(file, size)
-    disk = disk_of(content)
     if words.partition is not None:
-        volume, size = volume_in(name, disk, words.partition)
+        volume, size = volume_in(name, adf.Disk(content), words.partition)
         return draw_volume(f"{name}: {host_text(words.partition)}", volume, words.blocks, size)
+    disk = disk_of(content)
     if disk is not None:
         return draw_disk(name, disk)
     return draw_volume(name, content if isinstance(content, bytes) else bytes(memoryview(content)[: adf.MOST_BYTES + 1]), words.blocks, size)

@@ -34,8 +34,9 @@ class Place:
     to the top alone, and there if that is wanted."""
 
     def __init__(self, path: str | bytes, is_link_followed: bool = True) -> None:
-        self.fd = os.open(path, FOLDER if is_link_followed else FOLDER | os.O_NOFOLLOW)
-        self._names = [os.fsencode(path).rstrip(b"/")]
+        top = os.fsencode(path).rstrip(b"/")
+        self.fd = os.open(path, FOLDER) if is_link_followed else os.open(top or b"/", FOLDER | os.O_NOFOLLOW)
+        self._names = [top]
         self._above: list[Identity] = []
 
     def __enter__(self) -> Place:

@@ -73,8 +73,9 @@ class WholeMaps(Folder):
             self.assertIn("of 64 blocks used", self.tool("map", "--partition", name, "disk.hdf").decode())
         self.assertEqual(self.run_tool("map", "--partition", "DH1", "disk.hdf").stderr, b"adf-map: disk.hdf: DH1: block 880: bad sum\n")
         written("plain.adf", OFS)
-        for wanted, path in (("DH9", "disk.hdf"), ("²", "disk.hdf"), ("9" * 5000, "disk.hdf"), ("DH0", "plain.adf")):
-            self.refused(1, f"{path}: no such partition: {wanted}", "map", "--partition", wanted, path)
+        for wanted in ("DH9", "²", "9" * 5000):
+            self.refused(1, f"disk.hdf: no such partition: {wanted}", "map", "--partition", wanted, "disk.hdf")
+        self.refused(1, "plain.adf: block 0: no rigid disk", "map", "--partition", "DH0", "plain.adf")
         with open("disk.hdf", "r+b") as file:
             file.seek(512 + 40)
             file.write(b"X")
