@@ -96,7 +96,8 @@ static void why_unread(int file, const struct adf_partition *partition, bool is_
 static struct part part_of(const struct adf_partition *partition) {
     bool is_small = partition->blocks <= MOST_BYTES / BLOCK;
     return (struct part){.first = (off_t)partition->first * BLOCK,
-                         .most = is_small ? (size_t)partition->blocks * BLOCK : MOST_BYTES};
+                         .most = is_small ? (size_t)partition->blocks * BLOCK : MOST_BYTES,
+                         .whole = (uint64_t)partition->blocks * BLOCK};
 }
 
 /* Whether an earlier part has this name. */
@@ -107,12 +108,15 @@ static bool is_named(const struct parts *parts, const char *name) {
     return false;
 }
 
-/* Adds the folder of a partition: it has its name, or its number, where it has none or an earlier one has it too. */
+/* Adds the folder of a partition: it has its name, or its number, where it has none or an earlier one has it too; with - behind it
+ * while an earlier one has that. */
 static void add_part(struct parts *parts, const struct adf_partition *partition, size_t number) {
     char name[NAME_TEXT];
-    show_name(partition->name, partition->name_length, name);
+    show_name(partition->name, partition->name_length, "", name);
     if (partition->name_length == 0 || is_named(parts, name))
         sprintf(name, "%zu", number);
+    while (is_named(parts, name) && strlen(name) < LONGEST_NAME)
+        strcat(name, "-");
     parts->parts[parts->count] = part_of(partition);
     strcpy(parts->parts[parts->count++].name, name);
 }
@@ -121,14 +125,19 @@ void say_no_volume(const char *name) {
     fprintf(stderr, "adf-mount: %s: a hard disk without a volume that can be read (adf-disk survey)\n", name);
 }
 
+/* Says the first fault of the tables of a disk. */
+static void say_fault(const char *name, const struct adf_disk *disk) {
+    uint8_t text[LONGEST_TEXT];
+    int length = (int)adf_disk_cause_text(disk->cause, text, sizeof text);
+    fprintf(stderr, "adf-mount: %s: block %lu: %.*s\n", name, (unsigned long)disk->block, length, (const char *)text);
+}
+
 /* All partitions whose volumes can be read; a line for each other one. */
 static int take_all(int file, const char *name, const struct adf_partition *rows, const struct adf_disk *disk,
                     struct parts *parts) {
     parts->is_disk = true;
     if (disk->cause != ADF_DISK_WHOLE) {
-        uint8_t text[LONGEST_TEXT];
-        int length = (int)adf_disk_cause_text(disk->cause, text, sizeof text);
-        fprintf(stderr, "adf-mount: %s: block %lu: %.*s\n", name, (unsigned long)disk->block, length, (const char *)text);
+        say_fault(name, disk);
         parts->is_whole = false;
     }
     for (size_t i = 0; i < disk->partitions; i++) {
@@ -138,7 +147,7 @@ static int take_all(int file, const char *name, const struct adf_partition *rows
             add_part(parts, &rows[i], i + 1);
             continue;
         }
-        show_name(rows[i].name, rows[i].name_length, drive);
+        show_name(rows[i].name, rows[i].name_length, "", drive);
         if (rows[i].name_length == 0)
             sprintf(drive, "%zu", i + 1);
         fprintf(stderr, "adf-mount: %s: %s: %s\n", name, drive, why);
@@ -149,6 +158,16 @@ static int take_all(int file, const char *name, const struct adf_partition *rows
     return parts->count == 0 ? REFUSED : SOUND;
 }
 
+/* Says that a disk has no such partition, or why it is no disk. */
+static void say_no_partition(const char *name, const char *wanted, const struct adf_disk *disk) {
+    char *line = host_line(wanted);
+    if (disk->cause == ADF_DISK_NO_RIGID_DISK && disk->partitions == 0)
+        say_fault(name, disk);
+    else
+        fprintf(stderr, "adf-mount: %s: no such partition: %s (adf-disk survey)\n", name, line == NULL ? "" : line);
+    free(line);
+}
+
 static int take_one(int file, const char *name, const char *wanted, const struct adf_partition *rows, const struct adf_disk *disk,
                     struct parts *parts) {
     char why[LONGEST_TEXT];
@@ -156,8 +175,7 @@ static int take_one(int file, const char *name, const char *wanted, const struct
     while (i < disk->partitions && !is_wanted(&rows[i], i + 1, wanted))
         i++;
     if (i == disk->partitions) {
-        bool is_disk = disk->cause != ADF_DISK_NO_RIGID_DISK;
-        fprintf(stderr, "adf-mount: %s: no such partition: %s%s\n", name, wanted, is_disk ? " (adf-disk survey)" : "");
+        say_no_partition(name, wanted, disk);
         return REFUSED;
     }
     why_unread(file, &rows[i], true, why);
@@ -203,6 +221,6 @@ int find_parts(int file, const char *name, const char *wanted, struct parts *par
     if (has_tables && disk.partitions != 0)
         return take_all(file, name, rows, &disk, parts);
     parts->has_tables = has_tables;
-    parts->parts[parts->count++] = (struct part){.most = MOST_BYTES};
+    parts->parts[parts->count++] = (struct part){.most = MOST_BYTES, .whole = length < 0 ? 0 : (uint64_t)length};
     return SOUND;
 }

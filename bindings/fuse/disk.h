@@ -6,10 +6,12 @@
 
 #include <sys/types.h>
 
-/* A volume in the file of an image: where it begins, its most bytes, and the folder that shows it; no name for a whole image. */
+/* A volume in the file of an image: where it begins, how many of its bytes are read, one more than any volume has at most, how many it
+ * has, or 0 where that is not known, and the folder that shows it; no name for a whole image. */
 struct part {
     off_t first;
     size_t most;
+    uint64_t whole;
     char name[NAME_TEXT];
 };
 

@@ -5,11 +5,12 @@
 #include "survey.h"
 
 #include <errno.h>
+#include <search.h>
 #include <stdio.h>
 #include <stdlib.h>
 #include <string.h>
 
-enum { BLOCK = 512 };
+enum { BLOCK = 512, MOST_MORE = 64 };
 
 /* A directory or file of the tree: its number among the entries that are found, that of its directory, and its name of the host. */
 struct place {
@@ -60,25 +61,39 @@ static int by_name(const void *one, const void *other) {
     const struct place *first = one, *second = other;
     if (first->parent != second->parent)
         return first->parent < second->parent ? -1 : 1;
-    int difference = strcmp(first->name, second->name);
-    return difference != 0 ? difference : first->number < second->number ? -1 : first->number > second->number;
+    return strcmp(first->name, second->name);
 }
 
-/* Gives each place but the first with a name the block of its header behind it. */
-static bool tell_apart(struct left *left) {
-    qsort(left->places, left->count, sizeof *left->places, by_name);
-    for (size_t i = left->count; i-- > 1;) {
-        struct place *place = &left->places[i];
-        if (place->parent != place[-1].parent || strcmp(place->name, place[-1].name) != 0)
-            continue;
-        char *name;
-        if (asprintf(&name, "%s.%lu", place->name, (unsigned long)left->found[place->number - 1].header) < 0)
-            return false;
+/* Gives a place a name that no earlier one of its directory has: that of its entry, and behind it the block of its header, and a count,
+ * where it is taken. The tree `taken` has the places by their names. */
+static bool name_place(struct place *place, const struct adf_found *found, void **taken) {
+    char more[MOST_MORE] = "", name[NAME_TEXT];
+    for (unsigned long count = 1;; count++) {
+        show_name(found->name, found->name_length, more, name);
+        place->name = strdup(name);
+        const struct place *const *first = place->name == NULL ? NULL : tsearch(place, taken, by_name);
+        if (first != NULL && *first == place)
+            return true;
         free(place->name);
-        place->name = name;
+        place->name = NULL;
+        if (first == NULL)
+            return false;
+        sprintf(more, count == 1 ? "-%lu" : "-%lu-%lu", (unsigned long)found->header, count);
     }
-    qsort(left->places, left->count, sizeof *left->places, by_name);
-    return true;
+}
+
+static void keep_place(void *place) { (void)place; }
+
+/* Names all places, and sorts them. */
+static bool name_places(struct left *left) {
+    void *taken = NULL;
+    bool has_room = true;
+    for (size_t i = 0; has_room && i < left->count; i++)
+        has_room = name_place(&left->places[i], &left->found[left->places[i].number - 1], &taken);
+    tdestroy(taken, keep_place);
+    if (has_room)
+        qsort(left->places, left->count, sizeof *left->places, by_name);
+    return has_room;
 }
 
 /* Makes the places: each damaged file, and each directory that leads to one. */
@@ -98,19 +113,11 @@ static bool make_places(struct left *left) {
         if (is_wanted[i] && found->parent != 0)
             is_wanted[found->parent - 1] = true;
     }
-    bool has_room = true;
-    for (size_t i = 0; has_room && i < count; i++) {
-        char name[NAME_TEXT];
-        if (!is_wanted[i])
-            continue;
-        show_name(left->found[i].name, left->found[i].name_length, name);
-        struct place *place = &left->places[left->count];
-        *place = (struct place){.parent = left->found[i].parent, .number = i + 1, .name = strdup(name)};
-        has_room = place->name != NULL;
-        left->count += has_room;
-    }
+    for (size_t i = 0; i < count; i++)
+        if (is_wanted[i])
+            left->places[left->count++] = (struct place){.parent = left->found[i].parent, .number = i + 1};
     free(is_wanted);
-    return has_room && tell_apart(left);
+    return name_places(left);
 }
 
 struct left *left_of(uint8_t *image, size_t length, size_t blocks) {

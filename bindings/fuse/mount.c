@@ -65,7 +65,9 @@ static int read_volume(size_t number, const char *name) {
             fprintf(stderr, "adf-mount: %s: %s\n", name, strerror(errno));
         return FAILED;
     }
-    int status = take_volume(volume, image, length, name, &shown.taking);
+    struct taking taking = shown.taking;
+    taking.whole = part->whole;
+    int status = take_volume(volume, image, length, name, &taking);
     if (status == SOUND && volume->left != NULL && find_entry(volume, shown.left_folder, &node) == 0) {
         if (name != NULL)
             fprintf(stderr, "adf-mount: %s: it has an entry called %s: --damaged NAME\n", name, shown.left_folder);
@@ -295,7 +297,7 @@ static bool list_entries(const struct spot *spot, const struct listing *listing)
     bool has_room = true;
     for (size_t i = first_in(volume, spot->node);
          has_room && i < volume->contents.entries && volume->entries[i].parent == spot->node; i++) {
-        show_name(volume->entries[i].name, volume->entries[i].name_length, name);
+        show_name(volume->entries[i].name, volume->entries[i].name_length, "", name);
         describe_entry(spot, i + 1, &status);
         has_room = add_name(listing, name, &status);
     }
@@ -389,7 +391,7 @@ static int get_space(const char *path, struct statvfs *space) {
     int error = locate(path, &spot);
     if (error != 0)
         return error;
-    *space = (struct statvfs){.f_bsize = 512, .f_frsize = 512, .f_namemax = NAME_TEXT - 1};
+    *space = (struct statvfs){.f_bsize = 512, .f_frsize = 512, .f_namemax = LONGEST_NAME};
     if (spot.kind != FOLDERS) {
         space->f_blocks = spot.volume->contents.blocks;
         space->f_bfree = space->f_bavail = spot.volume->contents.free;
@@ -443,11 +445,35 @@ static int try_volumes(const char *name) {
     return kept == 0 || shown.taking.is_strict ? status : SOUND;
 }
 
+/* Whether an open file is a pipe that has a name, which nobody may ever write to. */
+static bool is_named_pipe(int file, const char *path) {
+    struct stat status;
+    char *place = fstat(file, &status) == 0 && S_ISFIFO(status.st_mode) ? realpath(path, NULL) : NULL;
+    bool is_named = place != NULL && strncmp(place, "/dev/", strlen("/dev/")) != 0;
+    free(place);
+    return is_named;
+}
+
+/* Opens the file of the image, and waits for nobody: SOUND, or the status to end with, and why stands on standard error. */
+static int open_file_of(const char *path, const char *name) {
+    shown.file = open(path, O_RDONLY | O_CLOEXEC | O_NONBLOCK | O_NOCTTY);
+    const char *why = shown.file < 0 ? strerror(errno) : NULL;
+    if (why == NULL && is_named_pipe(shown.file, path))
+        why = "a pipe: give it as /dev/stdin";
+    if (why == NULL)
+        fcntl(shown.file, F_SETFL, fcntl(shown.file, F_GETFL) & ~O_NONBLOCK);
+    else
+        fprintf(stderr, "adf-mount: %s: %s\n", name, why);
+    return why == NULL ? SOUND : FAILED;
+}
+
 /* Opens the image and reads its volumes: SOUND, or the status to end with, and why stands on standard error. */
-static int open_image(const char *name, const char *wanted) {
-    shown.file = open(name, O_RDONLY | O_CLOEXEC);
-    errno = shown.file < 0 ? errno : 0;
-    int status = shown.file < 0 ? FAILED : find_parts(shown.file, name, wanted, &shown.parts);
+static int open_image(const char *path, const char *name, const char *wanted) {
+    int status = open_file_of(path, name);
+    if (status != SOUND)
+        return status;
+    errno = 0;
+    status = find_parts(shown.file, name, wanted, &shown.parts);
     if (status == FAILED)
         fprintf(stderr, "adf-mount: %s: %s\n", name, strerror(errno == 0 ? ENOMEM : errno));
     if (status != SOUND)
@@ -468,7 +494,8 @@ struct words {
     char *folder;
     char *partition;
     char *damaged;
-    unsigned long blocks;
+    char *blocks;
+    bool has_more; /* words than the image and the folder */
     int strict;
     int nonempty;
     int escape;
@@ -485,8 +512,8 @@ static const struct fuse_opt OPTIONS[] = {
     {"--partition=%s", offsetof(struct words, partition), 0},
     {"--damaged %s", offsetof(struct words, damaged), 0},
     {"--damaged=%s", offsetof(struct words, damaged), 0},
-    {"--blocks %lu", offsetof(struct words, blocks), 0},
-    {"--blocks=%lu", offsetof(struct words, blocks), 0},
+    {"--blocks %s", offsetof(struct words, blocks), 0},
+    {"--blocks=%s", offsetof(struct words, blocks), 0},
     {"--strict", offsetof(struct words, strict), 1},
     {"nonempty", offsetof(struct words, nonempty), 1},
     {"escape", offsetof(struct words, escape), 1},
@@ -498,8 +525,9 @@ static int take_word(void *data, const char *word, int key, struct fuse_args *ar
     (void)arguments;
     if (key != FUSE_OPT_KEY_NONOPT)
         return 1;
-    if (words->folder != NULL)
-        return -1;
+    words->has_more = words->folder != NULL;
+    if (words->has_more)
+        return 0;
     char **place = words->image == NULL ? &words->image : &words->folder;
     *place = strdup(word);
     return *place == NULL ? -1 : place == &words->folder;
@@ -533,7 +561,9 @@ static int try_folder(const struct words *words) {
         closedir(directory);
     if (why == NULL)
         return SOUND;
-    fprintf(stderr, "adf-mount: %s: %s\n", words->folder, why);
+    char *name = host_line(words->folder);
+    fprintf(stderr, "adf-mount: %s: %s\n", name == NULL ? "" : name, why);
+    free(name);
     return status;
 }
 
@@ -567,43 +597,91 @@ static int mount_volume(const struct words *words, struct fuse_args *arguments) 
         fuse_opt_insert_arg(arguments, 1, "-oentry_timeout=86400,attr_timeout=86400,negative_timeout=86400") != 0 ||
         fuse_opt_add_arg(arguments, "-oro,default_permissions,subtype=adf") != 0)
         return FAILED;
-    fuse_set_log_func(say);
     int answer = fuse_main(arguments->argc, arguments->argv, &OPERATIONS, NULL);
     return answer == 0 ? SOUND : answer <= NO_SUCH_OPTION ? USAGE : FAILED;
 }
 
-/* Whether the words make sense together: the folder for what is left has a name, and no image has more blocks. */
+/* The number of blocks that a word is, from 1 to those of the largest volume, or 0. */
+static size_t blocks_in(const char *word) {
+    bool is_number = *word != '\0' && word[strspn(word, "0123456789")] == '\0';
+    unsigned long long blocks = is_number ? strtoull(word, NULL, 10) : 0;
+    return blocks <= MOST_BLOCKS ? (size_t)blocks : 0;
+}
+
+/* Whether the words make sense together: the folder for what is left has a name. */
 static bool are_possible(const struct words *words) {
     const char *name = words->damaged;
     bool is_name =
         name == NULL || (*name != '\0' && strchr(name, '/') == NULL && strcmp(name, ".") != 0 && strcmp(name, "..") != 0);
-    return words->folder != NULL && is_name && words->blocks <= MOST_BLOCKS && !(words->strict && name != NULL);
+    return words->folder != NULL && !words->has_more && is_name && !(words->strict && name != NULL);
+}
+
+static const char USED[] =
+    "usage: adf-mount IMAGE FOLDER [--partition NAME] [--damaged NAME] [--blocks N] [--strict] [-f] [-o OPTION,..]"
+    "    (man adf-mount)\n";
+
+/* Answers for help or the version: SOUND, or FAILED where that cannot be written. */
+static int answer(const struct words *words) {
+    if (words->help)
+        fputs(USED, stdout);
+    else
+        printf("adf-mount %s, libfuse %s\n", ADF_VERSION, fuse_pkgversion());
+    if (fflush(stdout) == 0)
+        return SOUND;
+    fprintf(stderr, "adf-mount: standard output: %s\n", strerror(errno));
+    return FAILED;
+}
+
+/* Refuses the command line, and says why where that is not the form of the words: USAGE. */
+static int refuse_words(const struct words *words, bool is_parsed) {
+    bool is_form = !is_parsed || words->blocks == NULL || blocks_in(words->blocks) != 0;
+    if (is_form)
+        fputs(USED, stderr);
+    else
+        fprintf(stderr, "adf-mount: argument --blocks: a number of blocks from 1 to %d\n", MOST_BLOCKS);
+    return USAGE;
+}
+
+/* Looks at the folder and the image, and mounts: the status to end with. */
+static int show(const struct words *words, struct fuse_args *arguments) {
+    char *name = host_line(words->image);
+    if (name == NULL)
+        return FAILED;
+    int status = try_folder(words);
+    if (status == SOUND)
+        status = open_image(words->image, name, words->partition);
+    free(name);
+    return status == SOUND ? mount_volume(words, arguments) : status;
 }
 
 /* Does what the words ask for, and answers the status. */
 static int run(const struct words *words, bool is_parsed, struct fuse_args *arguments) {
-    if (is_parsed && words->version) {
-        printf("adf-mount %s, libfuse %s\n", ADF_VERSION, fuse_pkgversion());
-        return SOUND;
-    }
-    if (!is_parsed || words->help || !are_possible(words)) {
-        fputs("usage: adf-mount IMAGE FOLDER [--partition NAME] [--damaged NAME] [--blocks N] [--strict] [-f] [-o OPTION,..]"
-              "    (man adf-mount)\n",
-              words->help ? stdout : stderr);
-        return words->help ? SOUND : USAGE;
-    }
+    if (is_parsed && (words->help || words->version))
+        return answer(words);
+    size_t blocks = is_parsed && words->blocks != NULL ? blocks_in(words->blocks) : 0;
+    if (!is_parsed || (words->blocks != NULL && blocks == 0) || !are_possible(words))
+        return refuse_words(words, is_parsed);
     is_escaped = words->escape;
     shown.left_folder = words->damaged;
-    shown.taking = (struct taking){.is_strict = words->strict, .blocks = words->blocks, .wants_left = words->damaged != NULL};
-    int status = try_folder(words);
-    if (status == SOUND)
-        status = open_image(words->image, words->partition);
-    return status == SOUND ? mount_volume(words, arguments) : status;
+    shown.taking = (struct taking){.is_strict = words->strict, .blocks = blocks, .wants_left = words->damaged != NULL};
+    return show(words, arguments);
+}
+
+/* Opens what stands for a standard stream that is closed, so that no file is opened as one: it can be neither read nor written. */
+static bool fill_streams(void) {
+    static const int ACCESS[] = {O_WRONLY, O_RDONLY, O_WRONLY};
+    for (int stream = 0; stream <= STDERR_FILENO; stream++)
+        if (fcntl(stream, F_GETFD) < 0 && open("/dev/null", ACCESS[stream]) != stream)
+            return false;
+    return true;
 }
 
 int main(int count, char **given) {
     struct fuse_args arguments = FUSE_ARGS_INIT(count, given);
     struct words words = {0};
+    if (!fill_streams())
+        return FAILED;
+    fuse_set_log_func(say);
     bool is_parsed = fuse_opt_parse(&arguments, &words, OPTIONS, take_word) == 0;
     int status = run(&words, is_parsed, &arguments);
     fuse_opt_free_args(&arguments);
@@ -611,5 +689,6 @@ int main(int count, char **given) {
     free(words.folder);
     free(words.partition);
     free(words.damaged);
+    free(words.blocks);
     return status;
 }

@@ -6,7 +6,7 @@
 #include <stddef.h>
 #include <stdint.h>
 
-enum { MOST_NAME = 79, NAME_TEXT = 4 * MOST_NAME + 1 };
+enum { LONGEST_NAME = 255, NAME_TEXT = LONGEST_NAME + 1 };
 
 /* Whether texts are in the escape form, which has letters of ASCII alone (-o escape). */
 extern bool is_escaped;
@@ -15,10 +15,16 @@ extern bool is_escaped;
  * the text ends. */
 char *show_text(const uint8_t *bytes, size_t length, char *text);
 
-/* A name as the host sees it: a text without `/`; a name of one or two dots, and an empty one, in the escape form. */
-void show_name(const uint8_t *name, size_t length, char text[NAME_TEXT]);
+/* A name as the host sees it, with a text behind it, as `host_name` of adf_tools/names.py makes it: of any bytes at most 255, which
+ * lead neither out of their folder nor to a device of Windows. */
+void show_name(const uint8_t *name, size_t length, const char *more, char text[NAME_TEXT]);
 
-/* A path of the host in the escape form, in which a name of dots stands for itself. The room has two bytes for each, and one more. */
+/* A text of the host as one line, to be freed: \xHH for the backslash, for control characters, and for what is not UTF-8. NULL if memory
+ * ran out. */
+char *host_line(const char *text);
+
+/* A path of the host as adf_find takes it: in the escape form, in which what has a letter stands for itself. The room has two bytes for
+ * each, and one more. */
 void escape_path(const char *path, char *escaped);
 
 #endif

@@ -64,8 +64,17 @@ static size_t fitting_blocks(const uint8_t *image, size_t length) {
     return 0;
 }
 
+/* Says how many bytes an image has, of which no more are read than the largest has, and one. */
+static void say_length(size_t length, uint64_t whole) {
+    const size_t most = (size_t)BLOCK * MOST_BLOCKS;
+    if (length > most && whole <= most)
+        fprintf(stderr, "; it has more than %zu bytes", most);
+    else
+        fprintf(stderr, "; it has %llu bytes", length > most ? (unsigned long long)whole : (unsigned long long)length);
+}
+
 /* Says why an image is refused as a whole, and what helps: REFUSED. */
-static int say_refused(const struct volume *volume, const char *name, uint8_t cause) {
+static int say_refused(const struct volume *volume, const char *name, uint8_t cause, uint64_t whole) {
     uint8_t text[LONGEST_TEXT];
     int length = (int)adf_cause_text(cause, text, sizeof text);
     if (name == NULL)
@@ -74,7 +83,7 @@ static int say_refused(const struct volume *volume, const char *name, uint8_t ca
     bool is_odd = cause == ADF_BAD_SIZE || volume->contents.block == volume->length / BLOCK / 2;
     size_t fits = is_odd ? fitting_blocks(volume->image, volume->length) : 0;
     if (cause == ADF_BAD_SIZE || fits != 0)
-        fprintf(stderr, "; it has %zu bytes", volume->length);
+        say_length(volume->length, whole);
     if (fits != 0)
         fprintf(stderr, ", and %zu would fit: --blocks %zu", fits * BLOCK, fits);
     fputc('\n', stderr);
@@ -125,10 +134,10 @@ static int take_rescue(struct volume *volume, uint8_t fault, const char *name, c
     if (cause == ADF_NO_MEMORY)
         return say_no_memory(name);
     if (cause == ADF_INTERNATIONAL && fault != ADF_ACCEPTED)
-        return say_refused(volume, name, fault);
+        return say_refused(volume, name, fault, taking->whole);
     if (cause != ADF_ACCEPTED) {
         volume->contents.block = rescue.block;
-        return say_refused(volume, name, cause);
+        return say_refused(volume, name, cause, taking->whole);
     }
     if (!tell(volume, name, taking, &rescue)) {
         free(rescue.volume);
@@ -152,7 +161,7 @@ int take_volume(struct volume *volume, uint8_t *image, size_t length, const char
         return say_no_memory(name);
     if (cause == ADF_ACCEPTED && (taking->is_strict || volume->length == meant))
         return SOUND;
-    return taking->is_strict ? say_refused(volume, name, cause) : take_rescue(volume, cause, name, taking);
+    return taking->is_strict ? say_refused(volume, name, cause, taking->whole) : take_rescue(volume, cause, name, taking);
 }
 
 int find_entry(const struct volume *volume, const char *path, size_t *node) {

@@ -9,11 +9,12 @@ enum { SOUND = 0, REFUSED = 1, USAGE = 2, FAILED = 3 };
 enum { LONGEST_TEXT = 64 }; /* the bytes of the texts that the library has for numbers */
 
 /* How images are taken: refused ones as a whole, or what stands of them; with so many blocks, or 0 for those that they have; with
- * what is left of their damaged files, or without. */
+ * what is left of their damaged files, or without; and how many bytes there are of one that is too large to be read, or 0. */
 struct taking {
     bool is_strict;
     size_t blocks;
     bool wants_left;
+    uint64_t whole;
 };
 
 struct volume {

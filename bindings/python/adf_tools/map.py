@@ -4,15 +4,16 @@ from __future__ import annotations
 
 import argparse
 import os
+import re
 import sys
-from typing import Optional
+from typing import Optional, Tuple
 
 import adf
 from adf_tools.collection import content_of
-from adf_tools.given import STANDARD_INPUT, add_image, help_of
+from adf_tools.given import STANDARD_INPUT, add_image, help_of, opened, size_of
 from adf_tools.names import letters
-from adf_tools.picture import Fault, disk_picture, picture, roles_of_refused
-from adf_tools.program import FAILED, REFUSED, begin, command_line, host_text, stop
+from adf_tools.picture import Fault, disk_picture, picture, roles_of_refused, without
+from adf_tools.program import REFUSED, begin, command_line, host_text, stop, tell
 from adf_tools.volumes import disk_of, fault_of, volume_of
 
 
@@ -21,22 +22,33 @@ def write(text: str) -> None:
 
 
 def refuse(name: str, why: object) -> int:
-    print(f"adf-map: {name}: {why}", file=sys.stderr)
+    tell("adf-map", f"{name}: {why}")
     return REFUSED
 
 
-def draw_volume(name: str, image: bytes, blocks: Optional[int] = None) -> int:
-    """Draws a volume, or a refused image, of which so many blocks are meant."""
-    is_whole = blocks is None or len(image) >= adf.BLOCK * blocks
-    given = image if blocks is None else image[: adf.BLOCK * blocks]
+def meant(image: bytes, blocks: Optional[int]) -> Tuple[bytes, range]:
+    """An image of so many blocks, and those of them that are missing, for which zeros stand."""
+    if blocks is None:
+        return image, range(0)
+    given = image[: adf.BLOCK * blocks]
+    return given.ljust(adf.BLOCK * blocks, b"\0"), range(len(given) // adf.BLOCK, blocks)
+
+
+def draw_volume(name: str, image: bytes, blocks: Optional[int] = None, size: Optional[int] = None) -> int:
+    """Draws a volume, or a refused image, of which so many blocks are meant; its file may have more bytes than the image."""
+    (whole, missing), status = meant(image, blocks), 0
+    told = f", {len(missing)} missing" if missing else ""
     try:
-        volume = adf.Volume(given)
+        volume = adf.Volume(whole)
+        write(picture(f"{name}: {volume.kind}, {volume.used} of {volume.blocks} blocks used{told}", without(volume.owners(), missing)))
     except adf.Refused as refused:
-        drawn = adf.survey(image, blocks)
-        write(picture(f"{name}: refused, {refused}", roles_of_refused(drawn), Fault(refused.block, str(refused))))
-        return refuse(name, f"{refused}{help_of(image, refused) if is_whole else ''}")
-    write(picture(f"{name}: {volume.kind}, {volume.used} of {volume.blocks} blocks used", volume.owners()))
-    return 0
+        roles = without(roles_of_refused(adf.survey(image, blocks)), missing)
+        write(picture(f"{name}: refused, {refused}{told}", roles, Fault(refused.block, str(refused))))
+        status = refuse(name, f"{refused}{'' if missing else help_of(image, refused, size)}")
+    if missing:
+        first, last = missing[0], missing[-1]
+        status = refuse(name, f"block {first}: no data" if first == last else f"blocks {first} to {last}: no data")
+    return status
 
 
 def draw_disk(name: str, disk: adf.Disk) -> int:
@@ -48,37 +60,31 @@ def draw_disk(name: str, disk: adf.Disk) -> int:
     return refuse(name, fault) if fault else 0
 
 
-def volume_in(name: str, disk: Optional[adf.Disk], wanted: str) -> bytes:
-    """The volume of a partition, by its name or number."""
-    if disk is None:
-        stop(FAILED, f"{name}: not a hard disk")
+def volume_in(name: str, disk: adf.Disk, wanted: str) -> Tuple[bytes, int]:
+    """The volume of a partition, by its name or number, and how many bytes it has: more than are given, if no volume is so large."""
     try:
-        partition = disk[int(wanted) if wanted.isdigit() else wanted]
+        partition = disk[int(wanted) if re.fullmatch("[0-9]{1,9}", wanted) else wanted]
     except adf.NoSuchPath:
-        stop(FAILED, f"{name}: no partition has this name or number: {wanted}")
+        is_disk = disk.partitions or disk.cause != "no rigid disk"
+        stop(REFUSED, f"{name}: no such partition: {host_text(wanted)}" if is_disk else f"{name}: block {disk.block}: {disk.cause}")
     volume = volume_of(disk, partition)
     if volume is None:
-        stop(FAILED, f"{name}: {wanted}: {fault_of(disk, partition) or 'no volume of an Amiga'}")
-    return volume
-
-
-def read(path: str) -> adf.Image:
-    """The bytes of the image in a file, or on standard input."""
-    if path == STANDARD_INPUT:
-        return adf.read_image(sys.stdin.buffer)
-    with open(path, "rb") as file:
-        return content_of(file, os.fstat(file.fileno()).st_size)
+        stop(REFUSED, f"{name}: {host_text(wanted)}: {fault_of(disk, partition) or 'no volume of an Amiga'}")
+    return volume, adf.BLOCK * partition.blocks
 
 
 def work(words: argparse.Namespace) -> int:
     name = "standard input" if words.image == STANDARD_INPUT else host_text(os.path.basename(words.image))
-    content = read(words.image)
-    disk = disk_of(content)
+    with opened(words.image) as file:
+        size = size_of(file)
+        content = adf.read_image(file) if size is None or words.image == STANDARD_INPUT else content_of(file, size)
     if words.partition is not None:
-        return draw_volume(f"{name}: {words.partition}", volume_in(name, disk, words.partition), words.blocks)
+        volume, size = volume_in(name, adf.Disk(content), words.partition)
+        return draw_volume(f"{name}: {host_text(words.partition)}", volume, words.blocks, size)
+    disk = disk_of(content)
     if disk is not None:
         return draw_disk(name, disk)
-    return draw_volume(name, content if isinstance(content, bytes) else bytes(memoryview(content)[: adf.MOST_BYTES + 1]), words.blocks)
+    return draw_volume(name, content if isinstance(content, bytes) else bytes(memoryview(content)[: adf.MOST_BYTES + 1]), words.blocks, size)
 
 
 def main() -> None:

@@ -11,7 +11,7 @@ import adf
 from adf import boots, building
 from adf_tools.names import host_letters
 from adf_tools.pack import Item, Packer, amiga_name, opened
-from adf_tools.program import REFUSED, Progress, host_text, new_file, stop
+from adf_tools.program import REFUSED, Progress, host_text, new_file, open_input, stop
 from adf_tools.trees import Place
 
 
@@ -75,7 +75,7 @@ def boot_in(path: Optional[str]) -> Optional[adf.Boot]:
     """The boot blocks of a file, if one is named; an empty image gets them, before the folder is read."""
     if path is None:
         return None
-    with open(path, "rb") as file:
+    with open_input(path) as file:
         source = adf.read_image(file)
     try:
         return adf.Boot.of(adf.with_boot(adf.build("ffs", None, []), source))

@@ -12,9 +12,9 @@ import adf
 CYLINDER = 22
 STEP, SIDE, MARGIN = 10, 9, 12
 LINE, LEGEND = 20, 17
-UNKNOWN, NOTED = len(adf.ROLES), len(adf.ROLES) + 1
-NAMES = (*adf.ROLES, "unknown", "has a finding")
-COLOURS = ("#e8e8e8", "#333333", "#2ca02c", "#9467bd", "#c5b0d5", "#ff7f0e", "#bcbd22", "#1f77b4", "#bbbbbb", "#d62728")
+UNKNOWN, NOTED, MISSING = range(len(adf.ROLES), len(adf.ROLES) + 3)
+NAMES = (*adf.ROLES, "unknown", "has a finding", "missing")
+COLOURS = ("#e8e8e8", "#333333", "#2ca02c", "#9467bd", "#c5b0d5", "#ff7f0e", "#bcbd22", "#1f77b4", "#bbbbbb", "#d62728", "#ffc0cb")
 FAULT = "#d62728"
 RUN = re.compile(rb"(.)\1*", re.DOTALL)
 MOST_SQUARES, OUTSIDE, TABLES, OWN = 4096, 0, 1, 2  # of a disk; what its squares are: outside of partitions, tables, the first partition
@@ -53,6 +53,11 @@ def roles_of_refused(survey: adf.Survey) -> bytes:
         inside = range(blocks.start, min(blocks.stop, len(roles)))
         roles[blocks.start : blocks.start + len(inside)] = bytes([NOTED]) * len(inside)
     return bytes(roles)
+
+
+def without(roles: bytes, missing: range) -> bytes:
+    """The roles of a volume of which these blocks, the last ones, are missing."""
+    return roles[: missing.start] + bytes([MISSING]) * len(missing) if missing else roles
 
 
 def width_of(count: int) -> int:

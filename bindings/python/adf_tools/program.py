@@ -8,14 +8,15 @@ import errno
 import os
 import re
 import signal
+import stat
 import sys
 import tempfile
 import time
-from typing import Callable, Iterable, Iterator, NoReturn
+from typing import BinaryIO, Callable, Iterable, Iterator, NoReturn
 
 import adf
 from adf_tools import trees
-from adf_tools.names import host_letters
+from adf_tools.names import host_letters, one_line
 
 MOST_MANIFEST_BYTES = 16_777_216
 FILL = re.compile(rb"(.)\1{63,}", re.DOTALL)
@@ -44,6 +45,23 @@ def command_line(program: str, does: str, more: str | None = None) -> argparse.A
     return line
 
 
+def tell(program: str, text: str) -> None:
+    """Writes a line to standard error, if that takes it."""
+    with contextlib.suppress(OSError):
+        print(f"{program}: {one_line(text)}", file=sys.stderr, flush=True)
+
+
+def open_input(path: str) -> BinaryIO:
+    """A file that the words name, to be read. A pipe with a name is refused, since nobody may ever write to it."""
+    file = open(path, "rb", opener=lambda name, flags: os.open(name, flags | os.O_NONBLOCK | os.O_NOCTTY | os.O_CLOEXEC))
+    place = os.path.realpath(path)
+    if stat.S_ISFIFO(os.fstat(file.fileno()).st_mode) and os.path.exists(place) and not place.startswith("/dev/"):
+        file.close()
+        stop(FAILED, f"{host_text(path)}: a pipe: give it as standard input")
+    os.set_blocking(file.fileno(), True)
+    return file
+
+
 def add_escape(line: argparse.ArgumentParser, what: str) -> None:
     """Adds the option that wants the escape form in place of letters."""
     line.add_argument("--escape", action="store_true", help=f"{what} in the escape form: \\x and two digits for bytes outside 32 to 126")
@@ -69,6 +87,22 @@ def why(error: BaseException) -> tuple[int, str]:
     return FAILED, f"an error that nobody foresaw: {type(error).__name__}: {error}".replace("\n", " ")
 
 
+def fill_streams() -> None:
+    """Puts streams in the place of standard ones that are closed, so that no file is opened as one: the input cannot be read, the output
+    cannot be written, and errors are lost."""
+    for number, name, access in ((0, "stdin", os.O_WRONLY), (1, "stdout", os.O_RDONLY), (2, "stderr", os.O_WRONLY)):
+        if getattr(sys, name) is None:
+            setattr(sys, name, open(os.open(os.devnull, access), "w" if number else "r", closefd=False))
+
+
+def status_of(line: argparse.ArgumentParser, work: Callable[[argparse.Namespace], int]) -> int:
+    """Does the work that the words ask for, or answers for help and version; the status."""
+    try:
+        return work(line.parse_intermixed_args())
+    except SystemExit as end:  # of the command line
+        return int(end.code or 0)
+
+
 def begin(line: argparse.ArgumentParser, work: Callable[[argparse.Namespace], int]) -> NoReturn:
     """Runs a program: does the work that the words ask for, and ends with the status that it returns. An error is one line, and what
     waits for standard output is not written then; PYTHONDEVMODE=1 shows where an error comes from that nobody foresaw."""
@@ -76,16 +110,15 @@ def begin(line: argparse.ArgumentParser, work: Callable[[argparse.Namespace], in
     try:
         for number in heard:
             signal.signal(number, signal.default_int_handler)
-        status = work(line.parse_intermixed_args())
+        fill_streams()
+        status = status_of(line, work)
         sys.stdout.flush()
-    except SystemExit:
-        raise
     except BaseException as error:
         status, text = why(error)
         if sys.flags.dev_mode and not isinstance(error, (adf.Error, Stop, OSError, MemoryError, KeyboardInterrupt)):
             raise
         if text:
-            print(f"{line.prog.split()[0]}: {text}", file=sys.stderr, flush=True)
+            tell(line.prog.split()[0], text)
         os._exit(status)
     for number in heard:
         signal.signal(number, signal.SIG_DFL)
@@ -174,16 +207,21 @@ def new_file(path: str) -> Iterator[int]:
             os.rename(whole, path)
 
 
+def moved_error(error: OSError, folder: str, path: str) -> OSError:
+    """An error of a file in a folder as if this had another path already; so is one of no file, such as that no space is left."""
+    name = folder if error.filename is None else os.fsdecode(error.filename)
+    if name == folder or name.startswith(folder + "/"):
+        error.filename = path.rstrip("/") + name[len(folder) :]
+    return error
+
+
 @contextlib.contextmanager
 def moved(folder: str, path: str) -> Iterator[None]:
-    """Errors of files in a folder are told as if it had this path already; so are those of no file, such as that no space is left."""
+    """Errors of files in a folder are told as if it had this path already."""
     try:
         yield
     except OSError as error:
-        name = folder if error.filename is None else os.fsdecode(error.filename)
-        if name == folder or name.startswith(folder + "/"):
-            error.filename = path + name[len(folder) :]
-        raise
+        raise moved_error(error, folder, path)
 
 
 def host_text(name: str | bytes | os.PathLike[str]) -> str:

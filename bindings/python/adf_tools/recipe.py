@@ -8,8 +8,10 @@ import sys
 from typing import Iterator
 
 import adf
-from adf_tools.given import add_image, add_strict, given
-from adf_tools.program import begin, command_line, manifest_of, run_lines
+from adf_tools.given import Given, add_image, add_strict, given
+from adf_tools.program import REFUSED, begin, command_line, manifest_of, run_lines, tell
+
+INTERNATIONAL = 2  # is added to the type of a volume whose names have the case of all letters ignored
 
 
 def parts_of(entry: adf.Entry) -> Iterator[bytes]:
@@ -27,7 +29,7 @@ def entry_lines(entry: adf.Entry) -> Iterator[str]:
 
 
 def lines_of(volume: adf.Volume) -> Iterator[str]:
-    kind, *_letters = volume.kind.split("-")  # a manifest tells none
+    kind, *_letters = volume.kind.split("-")  # a manifest has no word for them
     yield f"volume {kind} {volume.blocks}"
     if volume.raw_label:
         yield f"label {adf.escape(volume.raw_label)}"
@@ -36,11 +38,20 @@ def lines_of(volume: adf.Volume) -> Iterator[str]:
         yield from entry_lines(entry)
 
 
+def tell_letters(image: Given, volume: adf.Volume) -> int:
+    """A line for a volume with international letters, which no manifest has; the status to end with."""
+    if volume.letters == "ascii":
+        return 0
+    kind = adf.TYPES.index(volume.kind)
+    tell("adf-recipe", image.line(f"type {kind}: adf build makes type {kind - INTERNATIONAL}, in whose names only the case of a to z is ignored"))
+    return REFUSED
+
+
 def work(words: argparse.Namespace) -> int:
     image = given(words)
     volume = image.volume(words.strict)
     sys.stdout.buffer.write(manifest_of(lines_of(volume)))
-    return image.tell("adf-recipe", volume)
+    return max(image.tell("adf-recipe", volume), tell_letters(image, volume))
 
 
 def main() -> None:

@@ -9,7 +9,7 @@ from typing import BinaryIO, Iterator, Tuple
 
 FOLDER = os.O_RDONLY | os.O_DIRECTORY | os.O_CLOEXEC
 FILE = os.O_RDONLY | os.O_NOFOLLOW | os.O_NONBLOCK | os.O_NOCTTY | os.O_CLOEXEC
-NEW_FILE = os.O_WRONLY | os.O_CREAT | os.O_EXCL | os.O_CLOEXEC
+NEW_FILE = os.O_WRONLY | os.O_CREAT | os.O_EXCL | os.O_NOFOLLOW | os.O_CLOEXEC
 Identity = Tuple[int, int]
 
 
@@ -30,11 +30,13 @@ def identity(folder: int | str | bytes) -> Identity:
 
 
 class Place:
-    """A place in a tree, which goes into a folder and out again: `fd` is the descriptor of the folder where it is."""
+    """A place in a tree, which goes into a folder and out again: `fd` is the descriptor of the folder where it is. A link is followed
+    to the top alone, and there if that is wanted."""
 
-    def __init__(self, path: str | bytes) -> None:
-        self.fd = os.open(path, FOLDER)
-        self._names = [os.fsencode(path).rstrip(b"/")]
+    def __init__(self, path: str | bytes, is_link_followed: bool = True) -> None:
+        top = os.fsencode(path).rstrip(b"/")
+        self.fd = os.open(path, FOLDER) if is_link_followed else os.open(top or b"/", FOLDER | os.O_NOFOLLOW)
+        self._names = [top]
         self._above: list[Identity] = []
 
     def __enter__(self) -> Place:
@@ -72,6 +74,11 @@ class Place:
         with named(self.path_of(name)):
             return os.fdopen(os.open(name, NEW_FILE, 0o666, dir_fd=self.fd), "wb")
 
+    def make(self, name: bytes) -> None:
+        """Makes a new folder here."""
+        with named(self.path_of(name)):
+            os.mkdir(name, dir_fd=self.fd)
+
     def go_in(self, name: bytes) -> None:
         """Goes into the folder with this name."""
         with named(self.path_of(name)):
@@ -94,8 +101,8 @@ class Place:
 
 
 def remove(path: str | bytes) -> None:
-    """Removes a folder and all that is in it. Links are not followed."""
-    with Place(path) as place:
+    """Removes a folder and all that is in it. Links are not followed, and one at the top is an error."""
+    with Place(path, is_link_followed=False) as place:
         waiting = [place.names()]
         while waiting:
             if not waiting[-1]:

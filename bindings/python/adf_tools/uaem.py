@@ -4,8 +4,8 @@ A line: `----rwed 2026-11-25 06:56:04.10 comment`, with hundredths of a second. 
 a byte: 0 to 31, 128 to 255, each of "%*/<>?\\|, and a dot or space at the end. Every other byte stands for itself.
 
 A name that has such a file is in UTF-8, with % and digits for bytes that have no letter, for these bytes, for the last letter of
-.uaem at the end, and for the third letter of names that Windows keeps for itself: aux, con, nul, prn, com0 to com9 and lpt0 to lpt9,
-also with a dot and more behind them. FS-UAE 3.1.66 writes the same, but for bytes 127 to 159, which it does not turn into digits.
+.uaem at the end, and for the third letter of names that Windows keeps for itself (adf_tools/names.py). FS-UAE 3.1.66 writes the
+same, but for bytes 127 to 159, which it does not turn into digits.
 """
 
 from __future__ import annotations
@@ -21,8 +21,6 @@ from adf_tools.protection import protection_of, protection_text
 ENDING = ".uaem"
 LINE = re.compile(r"([h-][s-][p-][a-][r-][w-][e-][d-]) ([\d-]{10} [\d:]{8})\.(\d\d)(?: (.*))?")
 NOT_PLAIN = re.compile(rb'[^ -\x7f]|["%*/<>?\\|]|[. ]\Z')
-WINDOWS = rb"(?<=\Aau)x(?=\.|\Z)|(?:(?<=\Aco)|(?<=\Apr))n(?=\.|\Z)|(?<=\Anu)l(?=\.|\Z)|(?:(?<=\Aco)m|(?<=\Alp)t)(?=[0-9](?:\.|\Z))"
-NOT_IN_NAMES = re.compile(rb'[^ -~\xa0-\xff]|["%*/<>?\\|]|[. ]\Z|(?<=\.uae)m\Z|' + WINDOWS, re.IGNORECASE)
 DIGITS = re.compile(rb"%([0-9a-fA-F]{2})")
 CIVIL = "%Y-%m-%d %H:%M:%S"
 NEVER = datetime.datetime(1978, 1, 1)
@@ -44,11 +42,6 @@ def with_digits(pattern: re.Pattern[bytes], raw: bytes) -> bytes:
 def without_digits(text: bytes) -> bytes:
     """The bytes that stand in a text with % and digits."""
     return DIGITS.sub(lambda found: bytes.fromhex(found[1].decode("ascii")), text)
-
-
-def host_name(raw: bytes) -> bytes:
-    """The name of the host for a name of an Amiga that has such a file."""
-    return with_digits(NOT_IN_NAMES, raw).decode("latin-1").encode("utf-8")
 
 
 def name_in(text: bytes) -> bytes:

@@ -5,26 +5,47 @@ from __future__ import annotations
 
 import argparse
 import contextlib
-import functools
+import errno
 import itertools
 import os
-from typing import Callable, Dict, Iterator, List, Optional, Sequence
+from typing import Dict, Iterable, Iterator, List, NamedTuple, Optional, Sequence, Tuple
 
 import adf
 from adf_tools import uaem
 from adf_tools.given import Given, add_image, add_strict, given
-from adf_tools.names import text_of
-from adf_tools.program import REFUSED, USAGE, add_escape, begin, command_line, host_text, new_file, new_folder, stop
+from adf_tools.names import ESCAPE, LETTERS, UAEM, Form, host_name
+from adf_tools.program import (
+    FAILED, REFUSED, USAGE, add_escape, begin, command_line, host_text, moved_error, new_file, new_folder, stop, tell, why)
 from adf_tools.trees import Place, named
 
 DAYS_TO_1978 = 2922
-DAMAGED, GAPS = b".damaged", b".gaps"
+DAMAGED, GAPS, BESIDE = b".damaged", b".gaps", os.fsencode(uaem.ENDING)
+OF_ALL = (errno.ENOSPC, errno.EDQUOT, errno.EROFS, errno.EIO, errno.ENOMEM, errno.EMFILE, errno.ENFILE)  # errors that each file would have
 
 
-def host_name(name: bytes, is_escaped: bool) -> bytes:
-    """The name of the host for a name of an Amiga: one that stays in its directory."""
-    text = text_of(name, is_escaped)
-    return (text.replace(".", "\\x2e") if text in (".", "..") else text).encode("utf-8")
+class Content(NamedTuple):
+    """What is written into a file: its bytes at their places, with zeros between them, up to its size, and its date."""
+
+    size: int
+    parts: Iterable[Tuple[int, bytes]]
+    date: Optional[adf.Date] = None
+
+
+def content_of(entry: adf.Entry) -> Content:
+    """The content of a file of a volume."""
+    return Content(entry.size, ((at, entry.read(at, adf.PART)) for at in range(0, entry.size, adf.PART)), entry.date)
+
+
+def text(line: bytes) -> Content:
+    return Content(len(line), [(0, line)])
+
+
+def runs(left: bytes, lost: Sequence[range]) -> Iterator[Tuple[int, bytes]]:
+    """What is left of a file between its gaps."""
+    at = 0
+    for gap in (*lost, range(len(left), len(left))):
+        yield at, left[at : gap.start]
+        at = gap.stop
 
 
 def set_date(fd: int, date: adf.Date) -> None:
@@ -36,10 +57,12 @@ def set_date(fd: int, date: adf.Date) -> None:
 
 
 class Unpacker:
-    """Writes the tree of a volume into a folder: by a function for names, and whether files NAME.uaem are written."""
+    """Writes the tree of a volume into a folder, by the form of names, and whether files NAME.uaem are written. An error of the host
+    costs one file, or one directory with what is in it; `failed` has all of them."""
 
-    def __init__(self, volume: adf.Volume, host: Callable[[bytes], bytes], writes_uaem: bool, damaged: Sequence[adf.Found] = ()) -> None:
-        self.host, self.writes_uaem = host, writes_uaem
+    def __init__(self, volume: adf.Volume, form: Form, writes_uaem: bool, damaged: Sequence[adf.Found] = ()) -> None:
+        self.form, self.endings = form, (b"", BESIDE) if writes_uaem else (b"",)
+        self.failed: List[OSError] = []
         self.inside = {number: list(each) for number, each in itertools.groupby(volume.entries, lambda entry: entry.parent)}
         self.damaged: Dict[int, List[adf.Found]] = {}
         for found in damaged:
@@ -47,67 +70,89 @@ class Unpacker:
 
     def write(self, folder: str) -> None:
         """Writes all directories and files. A directory gets its date when all that is in it is written."""
-        with Place(folder) as place:
+        with Place(folder, is_link_followed=False) as place:
             self.write_damaged(place, 0)
             waiting = [self.entries_in(0)]
             above: list[adf.Entry] = []
             while waiting:
                 entry = next(waiting[-1], None)
                 if entry:
-                    self.write_entry(place, entry)
-                    if not entry.is_file:
-                        place.go_in(self.host(entry.raw_name))
+                    if self.write_entry(place, entry):
                         self.write_damaged(place, entry.number)
                         waiting.append(self.entries_in(entry.number))
                         above.append(entry)
                     continue
                 waiting.pop()
                 if above:
-                    set_date(place.fd, above.pop().date)
+                    with self.kept(place.path):
+                        set_date(place.fd, above.pop().date)
                     place.go_out()
+
+    @contextlib.contextmanager
+    def kept(self, path: bytes) -> Iterator[None]:
+        """An error in here is kept as one of this path, unless all other files would have it too."""
+        try:
+            with named(path):
+                yield
+        except OSError as error:
+            if error.errno in OF_ALL:
+                raise
+            self.failed.append(error)
 
     def entries_in(self, number: int) -> Iterator[adf.Entry]:
         """The entries of a directory."""
         return iter(self.inside.get(number, ()))
 
-    def write_entry(self, place: Place, entry: adf.Entry) -> None:
-        """Writes a file, or a directory without what is in it, and beside it what the host has no room for."""
-        name = self.host(entry.raw_name)
-        with named(place.path_of(name)):
+    def host(self, entry: adf.Entry) -> bytes:
+        """The name of an entry on the host; those of a directory of a volume all differ."""
+        return host_name(entry.raw_name, self.form, self.endings)
+
+    def write_file(self, place: Place, name: bytes, content: Content) -> None:
+        """Writes a new file; nothing is left of one that cannot be written. It stays if its date is refused."""
+        with place.create(name) as file:
+            try:
+                for at, part in content.parts:
+                    file.seek(at)
+                    file.write(part)
+                file.truncate(content.size)
+            except OSError:
+                os.unlink(name, dir_fd=place.fd)
+                raise
+            if content.date:
+                with self.kept(place.path_of(name)):
+                    set_date(file.fileno(), content.date)
+
+    def write_entry(self, place: Place, entry: adf.Entry) -> bool:
+        """Writes a file or a directory, and beside it what the host has no room for. Goes into a directory, and says whether it did."""
+        name = self.host(entry)
+        with self.kept(place.path_of(name)):
             if entry.is_file:
-                self.write_file(place, name, entry)
+                self.write_file(place, name, content_of(entry))
             else:
-                os.mkdir(name, dir_fd=place.fd)
-        if self.writes_uaem:
-            with place.create(name + os.fsencode(uaem.ENDING)) as file:
-                file.write(uaem.line_of(entry))
+                place.make(name)
+            for beside in (name + ending for ending in self.endings[1:]):
+                with self.kept(place.path_of(beside)):
+                    self.write_file(place, beside, text(uaem.line_of(entry)))
+            if not entry.is_file:
+                place.go_in(name)
+                return True
+        return False
 
     def write_damaged(self, place: Place, number: int) -> None:
         """Writes what is left of the damaged files of a directory, with zeros for what is lost, and beside it a line for each gap."""
-        names = {self.host(entry.raw_name) for entry in self.entries_in(number)}
+        taken = {self.host(entry) + ending for entry in self.entries_in(number) for ending in self.endings}
         for found in self.damaged.get(number, ()):
             try:
                 left, lost = found.remains()
             except adf.NotAFile:  # a link
                 continue
-            name = self.host(found.raw_name)
-            while names & {name + DAMAGED, name + GAPS}:
-                name += b"-%d" % found.header
-            names |= {name + DAMAGED, name + GAPS}
-            with place.create(name + DAMAGED) as file:
-                file.write(left)
-                file.flush()
-                set_date(file.fileno(), found.date)
-            with place.create(name + GAPS) as file:
-                file.writelines(b"bytes %d to %d: no data\n" % (gap.start, gap.stop - 1) for gap in lost)
-
-    @staticmethod
-    def write_file(place: Place, name: bytes, entry: adf.Entry) -> None:
-        with place.create(name) as file:
-            for at in range(0, entry.size, adf.PART):
-                file.write(entry.read(at, adf.PART))
-            file.flush()
-            set_date(file.fileno(), entry.date)
+            name = host_name(found.raw_name, self.form, (DAMAGED, GAPS), taken, found.header)
+            lines = b"".join(b"bytes %d to %d: no data\n" % (gap.start, gap.stop - 1) for gap in lost)
+            contents = ((DAMAGED, Content(len(left), runs(left, lost), found.date)), (GAPS, text(lines)))
+            for path, content in ((name + ending, content) for ending, content in contents):
+                taken.add(path)
+                with self.kept(place.path_of(path)):
+                    self.write_file(place, path, content)
 
 
 def directory_of(volume: adf.Volume, found: adf.Found) -> int:
@@ -146,14 +191,16 @@ def boot_file(path: Optional[str], image: Given) -> Iterator[None]:
 def work(words: argparse.Namespace) -> int:
     image = given(words)
     volume = image.volume(words.strict)
-    host: Callable[[bytes], bytes] = functools.partial(host_name, is_escaped=words.escape)
-    if words.uaem and not words.escape:
-        host = uaem.host_name
     if words.boot is not None and os.path.abspath(words.boot) == os.path.abspath(words.folder):
         stop(USAGE, f"{host_text(words.folder)}: FOLDER and the FILE of --boot are the same")
+    form = ESCAPE if words.escape else UAEM if words.uaem else LETTERS
+    unpacker = Unpacker(volume, form, words.uaem, damaged_files(volume) if words.damaged else ())
     with boot_file(words.boot, image), new_folder(words.folder) as folder:
-        Unpacker(volume, host, words.uaem, damaged_files(volume) if words.damaged else ()).write(folder)
-    return image.tell("adf-unpack", volume)
+        unpacker.write(folder)
+    status = image.tell("adf-unpack", volume)
+    for error in unpacker.failed:
+        tell("adf-unpack", why(moved_error(error, folder, words.folder))[1])
+    return FAILED if unpacker.failed else status
 
 
 def main() -> None:

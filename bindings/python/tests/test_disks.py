@@ -72,9 +72,10 @@ class WholeMaps(Folder):
         for name in ("DH0", "dh0", "1"):
             self.assertIn("of 64 blocks used", self.tool("map", "--partition", name, "disk.hdf").decode())
         self.assertEqual(self.run_tool("map", "--partition", "DH1", "disk.hdf").stderr, b"adf-map: disk.hdf: DH1: block 880: bad sum\n")
-        self.refused(3, "disk.hdf: no partition has this name or number: DH9", "map", "--partition", "DH9", "disk.hdf")
         written("plain.adf", OFS)
-        self.refused(3, "plain.adf: not a hard disk", "map", "--partition", "DH0", "plain.adf")
+        for wanted in ("DH9", "²", "9" * 5000):
+            self.refused(1, f"disk.hdf: no such partition: {wanted}", "map", "--partition", wanted, "disk.hdf")
+        self.refused(1, "plain.adf: block 0: no rigid disk", "map", "--partition", "DH0", "plain.adf")
         with open("disk.hdf", "r+b") as file:
             file.seek(512 + 40)
             file.write(b"X")

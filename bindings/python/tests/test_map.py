@@ -1,5 +1,6 @@
 """Tests of adf-map."""
 
+import os
 import re
 from xml.etree import ElementTree
 
@@ -59,3 +60,30 @@ class Maps(Folder):
         with open("a.adf", "wb") as file:
             file.truncate(adf.MOST_BYTES + 1)
         self.assertEqual(self.run_tool("map", "a.adf").stderr, b"adf-map: a.adf: block 0: bad size; it has 536870913 bytes\n")
+        os.truncate("a.adf", 943_423_488)
+        for name, words in (("map", ["a.adf"]), ("recipe", ["a.adf"])):
+            told = f"adf-{name}: a.adf: block 0: bad size; it has 943423488 bytes\n"
+            self.assertEqual(self.run_tool(name, *words).stderr.decode(), told)
+
+    def test_draws_what_is_missing(self):
+        written("a.adf", image_of())
+        ran = self.run_tool("map", "--blocks", "3520", "a.adf")
+        picture = ran.stdout.decode()
+        self.assertEqual((ran.returncode, squares(picture)), (1, 3520))
+        for told in (">a.adf: refused, block 1760: bad type, 1760 missing<", ">missing: 1760<"):
+            self.assertIn(told, picture)
+        self.assertEqual(ran.stderr, b"adf-map: a.adf: block 1760: bad type\nadf-map: a.adf: blocks 1760 to 3519: no data\n")
+        written("cut.adf", image_of()[:-100])
+        ran = self.run_tool("map", "--blocks", "1760", "cut.adf")
+        used = adf.Volume(image_of()).used
+        self.assertIn(f">cut.adf: ofs, {used} of 1760 blocks used, 1 missing<", ran.stdout.decode())
+        self.assertEqual((ran.returncode, ran.stderr), (1, b"adf-map: cut.adf: block 1759: no data\n"))
+
+    def test_takes_numbers_of_blocks_alone(self):
+        written("a.adf", image_of())
+        for name, words in (("map", ["a.adf"]), ("unpack", ["a.adf", "new"]), ("recipe", ["a.adf"])):
+            for blocks in ("-1", "0", "1048577", "9" * 5000, "x", "", " 4", "+4", "1_0", "\u0664", "4.0"):
+                ran = self.run_tool(name, f"--blocks={blocks}", *words)
+                self.assertEqual((ran.returncode, ran.stdout), (2, b""), blocks)
+                self.assertTrue(ran.stderr.endswith(b"argument --blocks: a number of blocks from 1 to 1048576\n"), ran.stderr)
+        self.leaves("a.adf")

@@ -75,7 +75,39 @@ class Mounts(Folder):
         ):
             self.assertEqual(self.mount(*words), (status, "", f"adf-mount: {told}\n"))
 
+    def test_says_how_long_an_image_is(self):
+        with open("long.adf", "wb") as file:
+            file.truncate(943_423_488)
+        self.assertEqual(self.mount("long.adf", "seen"), (1, "", "adf-mount: long.adf: block 0: bad size; it has 943423488 bytes\n"))
+        written("disk.hdf", table(RIGID_DISK) + bytes(1024) + table({**DRIVE, 36: 64, 42: 28791}))  # 28,791 cylinders of 64 blocks
+        os.truncate("disk.hdf", 1 << 30)
+        self.assertEqual(self.mount("disk.hdf", "seen", "--partition", "DH0")[::2], (1, "adf-mount: disk.hdf: block 0: bad size; it has 943423488 bytes\n"))
+
+    def test_takes_numbers_of_blocks_alone(self):
+        for blocks in ("-1", "0", "1048577", "9" * 5000, "x", "", " 4", "+4", "4.0"):
+            status, output, errors = self.mount("a.adf", "seen", f"--blocks={blocks}")
+            self.assertEqual((status, output), (2, ""), blocks)
+            self.assertEqual(errors, "adf-mount: argument --blocks: a number of blocks from 1 to 1048576\n")
+
+    def test_waits_for_no_pipe_and_escapes_names(self):
+        os.mkfifo("pipe")
+        self.assertEqual(self.mount("pipe", "seen"), (3, "", "adf-mount: pipe: a pipe: give it as /dev/stdin\n"))
+        told = "adf-mount: a\\x0a\\x1b\\xffü: No such file or directory\n"
+        self.assertEqual(self.mount(b"a\n\x1b\xff\xc3\xbc", "seen"), (3, "", told))
+
+    def test_stands_closed_streams(self):
+        output = "adf-mount: standard output: {}\n".format
+        for line, status, told in (
+            *(("--help >&-", 3, output("Bad file descriptor")), ("--version > /dev/full", 3, output("No space left on device"))),
+            *(("nix.adf seen 2>&-", 3, ""), ("a.adf seen <&- >&- 2>&-", 0, "")),
+        ):
+            ran = subprocess.run(f"./adf-mount {line}", shell=True, stderr=subprocess.PIPE, timeout=60)
+            self.assertEqual((ran.returncode, ran.stderr.decode()), (status, told), line)
+        with open("seen/c/readme", "rb") as file:
+            self.assertEqual(file.read(), b"Hello\n")
+
     def test_answers_help_and_version(self):
-        for words, told in ((["--help"], "usage: adf-mount IMAGE FOLDER "), (["--version"], f"adf-mount {adf.__version__}, libfuse ")):
+        used, version = "usage: adf-mount IMAGE FOLDER ", f"adf-mount {adf.__version__}, libfuse "
+        for words, told in ((["-h"], used), (["a.adf", "seen", "more", "--help"], used), (["-V"], version), (["--version"], version)):
             status, output, errors = self.mount(*words)
             self.assertEqual((status, errors, output.startswith(told)), (0, "", True))

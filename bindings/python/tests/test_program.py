@@ -25,7 +25,8 @@ begin(command_line("adf-try", "Tries."), work)
 class Words(Folder):
     def test_answers_help_and_version(self):
         for tool in TOOLS:
-            self.assertTrue(self.tool(tool, "--help").decode().startswith(f"usage: adf-{tool} "))
+            for word in ("-h", "--help"):
+                self.assertTrue(self.tool(tool, word).decode().startswith(f"usage: adf-{tool} "))
             self.assertEqual(self.tool(tool, "--version").decode(), f"adf-{tool} {adf.__version__}\n")
 
     def test_refuses_words(self):
@@ -72,6 +73,35 @@ class Ends(Folder):
             output, errors = process.communicate(timeout=60)
             if process.returncode != -signal.SIGINT:  # the shell itself, before its trap
                 self.assertEqual((process.returncode, errors, output[-7:]), (0, b"", b"</svg>\n"))
+
+
+class Streams(Folder):
+    """Standard streams that are closed or full, and files that are none."""
+
+    def test_may_be_closed(self):
+        written("a.adf", image_of())
+        closed = "{}: standard {}put: Bad file descriptor\n"
+        for line, status, told in (
+            *(("map a.adf >&-", 3, closed.format("adf-map", "out")), ("map <&-", 3, closed.format("adf-map", "in"))),
+            *(("recipe <&-", 3, closed.format("adf-recipe", "in")), ("unpack a.adf new <&- >&-", 0, ""), ("unpack a.adf n2 <&- >&- 2>&-", 0, "")),
+            *(("map nix 2>&-", 3, ""), ("map a.adf <&- 2>&- > a.svg", 0, ""), ("recipe --help >&-", 3, closed.format("adf-recipe", "out"))),
+            *(("map nix 2> /dev/full", 3, ""), ("map --version > /dev/full", 3, "adf-map: No space left on device\n")),
+        ):
+            self.assertEqual(self.shell(f"{{}} -m adf_tools.{line}"), (status, told), line)
+        self.assertTrue(os.path.getsize("a.svg") > 1000 and os.path.exists("n2/c/readme"))
+
+    def test_are_files_that_can_be_read(self):
+        os.mkfifo("pipe")
+        os.mkfifo("folder.uaem")
+        for name, words in (("map", []), ("unpack", ["new"]), ("recipe", [])):
+            self.refused(3, "pipe: a pipe: give it as standard input", name, "pipe", *words)
+            self.refused(3, ": No such file or directory", name, "", *words)
+            self.refused(3, "File name too long", name, "a" * 300, *words)
+            self.refused(3, ".: Is a directory", name, ".", *words)
+            self.refused(3, "a\\x0ab\\xff: No such file or directory", name, b"a\nb\xff", *words)
+            self.refused(1, "bad size", name, "/dev/null", *words)
+        self.refused(3, "pipe: a pipe: give it as standard input", "pack", "--boot", "pipe", "--image", "a.adf", ".")
+        self.assertEqual(self.shell("{} -c 'import os; os.write(1, bytes(9))' | {} -m adf_tools.recipe /dev/stdin")[0], 1)
 
 
 class NewFolders(Folder):

@@ -3,7 +3,7 @@
 import os
 
 import adf
-from tests.shared import Folder, built, changed, image_of, international
+from tests.shared import Folder, built, changed, image_of, international, listed
 
 
 class Recipes(Folder):
@@ -12,8 +12,12 @@ class Recipes(Folder):
             image = image_of(kind)
             self.assertEqual(built(self.tool("recipe", given=image).decode()), adf.run(["convert", kind], image).output)
 
-    def test_tells_no_letters(self):
-        self.assertEqual(self.tool("recipe", given=international()).decode().splitlines()[0], "volume ffs 1760")
+    def test_says_that_letters_are_left_out(self):
+        for kind, told in (("ofs", "type 2: adf build makes type 0"), ("ffs", "type 3: adf build makes type 1")):
+            ran = self.run_tool("recipe", given=international(kind))
+            self.assertEqual((ran.returncode, ran.stdout.decode().splitlines()[0]), (1, f"volume {kind} 1760"))
+            self.assertEqual(ran.stderr.decode(), f"adf-recipe: {told}, in whose names only the case of a to z is ignored\n")
+            self.assertEqual([line.split()[-1] for line in listed(built(ran.stdout.decode()))], ["c", "\\xe9"])
 
     def test_refuses(self):
         self.refused(1, "block 880: bad sum", "recipe", "--strict", given=changed(image_of(), 880, 440, 1))

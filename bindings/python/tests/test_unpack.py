@@ -1,9 +1,13 @@
 """Tests of adf-unpack."""
 
+import errno
 import os
+from unittest import mock
 
 import adf
 from adf_tools import trees, uaem
+from adf_tools.names import LETTERS, UAEM, host_name
+from adf_tools.unpack import Unpacker
 from tests.shared import LARGE, NAME_BYTES, Folder, built, changed, image_of, listed, nested, written
 
 
@@ -27,13 +31,36 @@ class Folders(Folder):
             self.assertEqual(sorted(place.names()), [b"f", b"f.uaem"])
         trees.remove("deep")
 
-    def test_leaves_nothing_of_what_fails(self):
-        self.refused(3, "new/large: File too large", "unpack", "new", given=image_of(), prefix=["prlimit", "--fsize=512"])
-        self.leaves()
+    def test_leaves_out_what_the_host_refuses(self):
+        self.refused(3, "new/large: File too large", "unpack", "new/", given=image_of(), prefix=["prlimit", "--fsize=512"])
+        self.assertEqual((sorted(os.listdir("new")), os.listdir("new/c")), (["c", "empty", "none"], ["readme"]))
+        self.assertEqual(os.stat("new/c").st_mtime_ns, (946684800 + 61 * 60 + 3) * 10**9 + 20_000_000)
+        self.leaves("new")
 
-    def test_leaves_nothing_of_a_deep_tree_that_fails(self):
-        image = nested(1756, 600)
-        self.refused(3, "/ddd/f: File too large", "unpack", "new", given=image, prefix=["prlimit", "--fsize=512"])
+    def test_leaves_out_a_directory_with_what_is_in_it(self):
+        os.mkdir("new")
+        written("new/c")
+        volume = adf.Volume(image_of())
+        unpacker = Unpacker(volume, LETTERS, writes_uaem=False)
+        unpacker.write("new")
+        self.assertEqual([(error.filename, error.errno) for error in unpacker.failed], [(b"new/c", errno.EEXIST)])
+        self.assertEqual(sorted(os.listdir("new")), ["c", "empty", "large", "none"])
+
+    def test_follows_no_links(self):
+        for name in ("out", "new"):
+            os.mkdir(name)
+        os.symlink("../out", "new/c")
+        os.symlink("../out/none", "new/none")
+        os.symlink("new", "link")
+        unpacker = Unpacker(adf.Volume(image_of()), LETTERS, writes_uaem=False)
+        unpacker.write("new")
+        self.assertEqual((os.listdir("out"), [error.filename for error in unpacker.failed]), ([], [b"new/c", b"new/none"]))
+        self.assertRaises(NotADirectoryError, unpacker.write, "link")
+
+    def test_leaves_nothing_if_no_file_can_be_written(self):
+        with mock.patch.object(os, "mkdir", side_effect=OSError(errno.ENOSPC, "No space left on device")):
+            unpacker = Unpacker(adf.Volume(nested(3)), LETTERS, writes_uaem=False)
+            self.assertRaises(OSError, unpacker.write, ".")
         self.leaves()
 
     def test_refuses(self):
@@ -65,7 +92,7 @@ class Names(Folder):
             **{b"auxx": "auxx", b"com": "com", b"com12": "com12", b"xaux": "xaux", b"aux_": "aux_"},
         }
         for name, host in names.items():
-            self.assertEqual(uaem.host_name(name).decode(), host)
+            self.assertEqual(host_name(name, UAEM).decode(), host)
             self.assertEqual(uaem.name_in(host.encode()), name)
         image = self.volume_of(*(name for name in names if name != b"A.UAEM"))
         self.tool("unpack", "--uaem", "new", given=image)
@@ -73,9 +100,61 @@ class Names(Folder):
         self.assertEqual(sorted(os.listdir("new")), sorted([*hosts, *(f"{host}.uaem" for host in hosts)]))
         self.assertEqual(listed(self.pack("ofs", "1760", "new")), listed(image))
 
-    def test_says_that_names_clash(self):
-        self.refused(3, "new/a.uaem: File exists", "unpack", "--escape", "--uaem", "new", given=self.volume_of(b"a", b"a.uaem"))
-        self.leaves()
+    def test_tells_files_from_those_beside_them(self):
+        line = b"----rwed 2000-01-01 00:00:00.00 x\n"
+        image = built(["volume ofs 1760", "file 8035:0:0 00000000 a", "file 8035:0:0 00000000 a.uaem", f"data {line.hex()}"])
+        for number, options in enumerate(([], ["--escape"], ["--uaem"], ["--uaem", "--escape"])):
+            self.tool("unpack", *options, f"f{number}", given=image)
+            packed = self.pack(*(option for option in options if option == "--escape"), "ofs", "1760", f"f{number}")
+            self.assertEqual((listed(packed), adf.Volume(packed)["a.uaem"].read()), (listed(image), line))
+
+
+def renamed(image, raw):
+    """The image of a volume, of which the file `a` has these bytes as its name, and as its checksum what it was."""
+    copy, at = bytearray(image), 512 * (adf.Volume(image)["a"].header + 1) - 80
+    copy[at : at + 1 + len(raw)] = bytes([len(raw)]) + raw
+    return bytes(copy)
+
+
+class Damaged(Folder):
+    """What is left of damaged files, under the names in their headers."""
+
+    image = built("volume ofs 1760\nfile 8035:0:0 00000000 a\ndata 41\n")
+
+    def test_stays_in_the_folder(self):
+        for raw, name in (
+            *((b"../escaped", "..\\x2fescaped"), (b"/tmp/abs", "\\x2ftmp\\x2fabs"), (b"..", "\\x2e\\x2e"), (b"nix/b", "nix\\x2fb")),
+            *((b"con", "co\\x6e"), (b"a\0:b", "a\\x00\\x3ab"), (b"", "\\x"), (b"x.uaem", "x.uae\\x6d"), (b"\x1b[2J", "\\x1b[2J")),
+        ):
+            ran = self.run_tool("unpack", "--damaged", "in/new", given=renamed(self.image, raw), prefix=["sh", "-c", 'mkdir in && exec "$@"', "sh"])
+            self.assertEqual((ran.returncode, ran.stderr.count(b"\n")), (1, 1), ran.stderr)
+            self.assertEqual(sorted(os.listdir("in/new")), [f"{name}.damaged", f"{name}.gaps"])
+            self.leaves("in")
+            self.assertEqual(os.listdir("in"), ["new"])
+            trees.remove("in")
+
+    def test_has_names_that_are_short_enough(self):
+        image = renamed(self.image, b"\1" * 70)
+        ran = self.run_tool("unpack", "--damaged", "new", given=image)
+        self.assertEqual(ran.returncode, 1, ran.stderr)
+        self.assertEqual([len(name) <= 255 and name.startswith("\\x01" * 50) for name in os.listdir("new")], [True, True])
+
+    def test_has_names_of_its_own(self):
+        image = built("volume ofs 1760\n" + "".join(f"file 8035:0:0 00000000 {name}\ndata 4{n}\n" for n, name in enumerate(("a", "b", "b.damaged"))))
+        header, copy = adf.Volume(image)["b"].header, bytearray(renamed(image, b"b"))
+        copy[512 * header + 20] ^= 1  # the sum of `b` is wrong too: two damaged files are called `b`
+        self.assertEqual(self.run_tool("unpack", "--damaged", "new", given=bytes(copy)).returncode, 1)
+        other = adf.Volume(image)["a"].header
+        self.assertEqual(sorted(os.listdir("new")), sorted(["b.damaged", *(f"b-{block}.{end}" for block in (header, other) for end in ("damaged", "gaps"))]))
+
+    def test_is_written_with_holes(self):
+        image = bytearray(self.image)
+        header = 512 * adf.Volume(self.image)["a"].header
+        image[header + 324 : header + 328] = (900_000).to_bytes(4, "big")
+        self.run_tool("unpack", "--damaged", "new", given=bytes(image))
+        status = os.stat("new/a.damaged")
+        self.assertEqual(status.st_size, 900_000)
+        self.assertLess(512 * status.st_blocks, 100_000)
 
 
 class Sidecars(Folder):
