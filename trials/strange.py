@@ -6,6 +6,7 @@ import io
 import os
 import sqlite3
 import struct
+import warnings
 import zipfile
 import zlib
 
@@ -186,7 +187,8 @@ def packed(chance):
         whole = gzip.compress(given, 1)
     else:
         room = io.BytesIO()
-        with zipfile.ZipFile(room, "w", zipfile.ZIP_DEFLATED) as archive:
+        with warnings.catch_warnings(), zipfile.ZipFile(room, "w", zipfile.ZIP_DEFLATED) as archive:
+            warnings.simplefilter("ignore", UserWarning)  # of names that come twice
             for _ in range(chance.randint(1, 3)):
                 name = chance.choice(RAW_NAMES).decode("latin-1").replace("\0", "_") + chance.choice((".adf", "", ".hdf"))
                 archive.writestr(zipfile.ZipInfo(name), image(chance))
