@@ -80,7 +80,8 @@ def why(error: BaseException) -> tuple[int, str]:
     if isinstance(error, MemoryError):
         return FAILED, str(error) or "no memory"
     if isinstance(error, OSError):
-        name = "" if error.filename is None else host_text(error.filename) + ": "
+        output = "standard output: " if error.errno == errno.EBADF else ""
+        name = output if error.filename is None else host_text(error.filename) + ": "
         return FAILED, name + (error.strerror or str(error))
     if isinstance(error, ImportError):
         return FAILED, str(error)

@@ -79,7 +79,7 @@ class Mounts(Folder):
         with open("long.adf", "wb") as file:
             file.truncate(943_423_488)
         self.assertEqual(self.mount("long.adf", "seen"), (1, "", "adf-mount: long.adf: block 0: bad size; it has 943423488 bytes\n"))
-        written("disk.hdf", table(RIGID_DISK) + bytes(1024) + table({**DRIVE, 36: 64, 42: 28791}))  # 28,791 cylinders of 64 blocks
+        written("disk.hdf", table(RIGID_DISK) + bytes(1024) + table({**DRIVE, 37: 64, 42: 28791}))  # 28,791 cylinders of 64 blocks
         os.truncate("disk.hdf", 1 << 30)
         self.assertEqual(self.mount("disk.hdf", "seen", "--partition", "DH0")[::2], (1, "adf-mount: disk.hdf: block 0: bad size; it has 943423488 bytes\n"))
 

@@ -2,6 +2,7 @@
 
 import errno
 import os
+import zlib
 from unittest import mock
 
 import adf
@@ -119,7 +120,7 @@ def renamed(image, raw):
 class Damaged(Folder):
     """What is left of damaged files, under the names in their headers."""
 
-    image = built("volume ofs 1760\nfile 8035:0:0 00000000 a\ndata 41\n")
+    image = built("volume ofs 1760\nfile 8035:0:0 00000000 a\ndata 41\nfile 8035:0:0 00000000 sound\n")
 
     def test_stays_in_the_folder(self):
         for raw, name in (
@@ -128,16 +129,16 @@ class Damaged(Folder):
         ):
             ran = self.run_tool("unpack", "--damaged", "in/new", given=renamed(self.image, raw), prefix=["sh", "-c", 'mkdir in && exec "$@"', "sh"])
             self.assertEqual((ran.returncode, ran.stderr.count(b"\n")), (1, 1), ran.stderr)
-            self.assertEqual(sorted(os.listdir("in/new")), [f"{name}.damaged", f"{name}.gaps"])
+            self.assertEqual(sorted(os.listdir("in/new")), sorted([f"{name}.damaged", f"{name}.gaps", "sound"]))
             self.leaves("in")
             self.assertEqual(os.listdir("in"), ["new"])
             trees.remove("in")
 
     def test_has_names_that_are_short_enough(self):
-        image = renamed(self.image, b"\1" * 70)
-        ran = self.run_tool("unpack", "--damaged", "new", given=image)
+        ran = self.run_tool("unpack", "--damaged", "new", given=renamed(self.image, b"\1" * 64))
         self.assertEqual(ran.returncode, 1, ran.stderr)
-        self.assertEqual([len(name) <= 255 and name.startswith("\\x01" * 50) for name in os.listdir("new")], [True, True])
+        name = "\\x01" * 59 + f"~{zlib.crc32(bytes([1]) * 64):08x}"
+        self.assertEqual(sorted(os.listdir("new")), [f"{name}.damaged", f"{name}.gaps", "sound"])
 
     def test_has_names_of_its_own(self):
         image = built("volume ofs 1760\n" + "".join(f"file 8035:0:0 00000000 {name}\ndata 4{n}\n" for n, name in enumerate(("a", "b", "b.damaged"))))
