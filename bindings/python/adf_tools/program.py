@@ -38,9 +38,16 @@ def stop(status: int, text: str) -> NoReturn:
     raise Stop(status, text)
 
 
+class CommandLine(argparse.ArgumentParser):
+    """A command line whose errors are one line, whatever the words have."""
+
+    def error(self, message: str) -> NoReturn:
+        super().error(one_line(message))
+
+
 def command_line(program: str, does: str, more: str | None = None) -> argparse.ArgumentParser:
     """The command line of a program, to which its words are to be added. Wrong words end it with the usage, at status 2."""
-    line = argparse.ArgumentParser(prog=program, description=does, epilog=more, allow_abbrev=False)
+    line = CommandLine(prog=program, description=does, epilog=more, allow_abbrev=False)
     line.add_argument("--version", action="version", version=f"{program} {adf.__version__}")
     return line
 
