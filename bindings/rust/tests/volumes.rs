@@ -479,6 +479,21 @@ fn escape_forms_are_read_back() {
 }
 
 #[test]
+fn the_example_prints_nothing_that_a_terminal_obeys() {
+    // Cargo builds the examples beside the tests, unless it is asked for one test alone.
+    let example = std::env::current_exe().unwrap().ancestors().nth(2).unwrap().join("examples/list");
+    if !example.exists() {
+        return;
+    }
+    let path = std::env::temp_dir().join(format!("adf-list-{}.adf", std::process::id()));
+    std::fs::write(&path, built("volume ofs 16\nfile 0:0:0 00000000 \\x1b[2J\ndata 41\n")).unwrap();
+    let ran = |words: &[&str]| std::process::Command::new(&example).arg(&path).args(words).output().unwrap().stdout;
+    let (listed, read) = (ran(&[]), ran(&["\\x1b[2J"]));
+    std::fs::remove_file(&path).unwrap();
+    assert_eq!((listed, read), (b"         1 \\x1b[2J\n".to_vec(), b"A".to_vec()));
+}
+
+#[test]
 fn what_stands_is_opened() {
     let sound = image("ofs");
     let opened = open(&sound).unwrap();
