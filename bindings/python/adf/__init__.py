@@ -3,19 +3,19 @@
     import adf
 
     volume = adf.open("games.adf")                  # of a damaged image what stands of it; adf.Refused if nothing does
-    print(volume.label, volume.kind, volume.free, volume.created)
+    print(adf.escape(volume.label), volume.kind, volume.free, volume.created)
     for each in volume.left_out:                    # what is not in it: nothing for a sound image, else as `damaged: c/list`
         print(each)
     volume = adf.open("games.adf", strict=True)     # or adf.Refused: .filename, .block and .cause, as "bad sum"
     for entry in volume.entries:
-        print(entry.path, entry.size, entry.date, entry.comment)
+        print(adf.escape(entry.path), entry.size, entry.date, adf.escape(entry.comment))
     start = volume["s/startup-sequence"].read()     # bytes; the case of its letters does not count; KeyError where nothing is there
     file = volume["c/list"].open()                  # a file of Python, which seeks
     for path, directories, files in volume.walk():  # as os.walk
-        print(path, directories, files)
+        print(adf.escape(path), directories, files)
     roles = volume.owners()                         # a byte for each block: adf.ROLES[roles[880]] is "root"
     with adf.open("large.hdf") as volume:           # at the end the memory is given back
-        print(volume.label)
+        print(volume.used)
     found = adf.survey(image)                       # of a damaged image: found.findings, found.entries, found.read("c/list")
     left, lost = found.remains("c/list")            # what is left of a damaged file, and the ranges of its bytes that are lost
     pieces = found.entries[0].pieces()              # the same by number: each run of bytes that is found, with its place in the file
@@ -25,7 +25,10 @@
     disk = adf.Disk(image)                          # of a whole hard disk: disk.partitions, and adf.Volume(disk.volume("DH0"))
 
 Texts are in Latin-1, as Amigas have them, so each byte is one character and nothing is lost; where a path is given, bytes do
-as well, and mean themselves. `raw_label`, `raw_name`, `raw_path` and `raw_comment` are the bytes.
+as well, and mean themselves. `raw_label`, `raw_name`, `raw_path` and `raw_comment` are the bytes. Any byte but `/` and `:` may be in a
+name, also one that a terminal obeys: adf.escape(text) is fit to print, and adf.unescape the way back. Of a damaged image even these may
+be in a name: the paths of what is found there, and of what is left out, are spelled as by adf-survey, and fit to print as they are. No
+path is one of the host: a name may be `..`.
 
 The shared library is the one that `adf.load(path)` is given; else the one that ADF_LIBRARY names; else that beside this file;
 else libadf.so.1, where the loader finds it; else that in PREFIX/lib, if this module is installed in PREFIX or the program
@@ -43,13 +46,24 @@ import datetime
 import errno
 import functools
 import io
-import mmap
 import os
 import re
 import shutil
 import warnings
 from typing import Any, BinaryIO, Iterable, Iterator, NamedTuple, Sequence, Union, overload
 
+from adf import _arguments, _texts
+from adf._arguments import MOST_NUMBER, Buffer, Image
+from adf._texts import escape, unescape
+
+__all__ = [
+    "Addition", "Answer", "BLOCK", "BadBoot", "Boot", "Buffer", "Closed", "Damaged", "DamagedWarning", "Date", "Disk", "Entries",
+    "Entry", "Error", "File", "Finding", "Findings", "Found", "Image", "KINDS", "LETTERS", "LeftOut", "MOST_BYTES", "NoLibrary",
+    "NoMemory", "NoSuchPath", "NotAFile", "NotBuilt", "PART", "Partition", "Path", "ROLES", "Reason", "Refused", "Rescued",
+    "Survey", "TYPES", "Verdict", "Volume", "build", "check", "escape", "library_path", "library_version", "load", "open",
+    "open_image", "partitions", "read_image", "rescue", "run", "survey", "unescape", "with_boot", "with_standard_boot",
+    "without_boot",
+]  # fmt: skip
 __version__ = "1.0"
 BLOCK = 512
 MOST_BYTES = BLOCK * 1_048_576
@@ -61,7 +75,7 @@ TYPES = (*KINDS, "ofs-international", "ffs-international")
 MOST_PARTITIONS, MOST_TABLES, DOS_TYPE = 1024, BLOCK * 65536, 0x444F5300
 ROLES = ("free", "boot", "root", "page", "map extension", "header", "extension", "data")
 SONAME = "libadf.so.1"
-LONGEST_NAME, LONGEST_COMMENT, MOST_NUMBER, PART = 30, 79, 2**32 - 1, 1 << 20
+LONGEST_NAME, LONGEST_COMMENT, PART = 30, 79, 1 << 20
 FIRST_ROOM, FIRST_OUTPUT, FIRST_ERRORS, MOST_OUTPUT, LONGEST_TEXT = 2048, 4096, 4096, 1 << 32, 64
 EPOCH = datetime.datetime(1978, 1, 1)
 LAST_DAY = (datetime.datetime.max - EPOCH).days
@@ -71,8 +85,6 @@ STAMP = re.compile(":".join([r"(0|[1-9][0-9]*)"] * 3))
 CIVIL = re.compile(r"([0-9]{4}-[0-9]{2}-[0-9]{2} [0-9]{2}:[0-9]{2}:[0-9]{2})\.([0-4][0-9])")
 
 Path = Union[str, bytes, "os.PathLike[str]", "os.PathLike[bytes]"]
-Image = Union[bytes, bytearray, memoryview, mmap.mmap]
-Buffer = Union[bytearray, memoryview, mmap.mmap]
 
 
 def _struct(*fields: tuple[str, Any]) -> Any:
@@ -182,6 +194,11 @@ def library_path() -> str:
     return os.fsdecode(found.name)
 
 
+def _shown(filename: Path) -> str:
+    """The name of a file in a line of text, without what a terminal obeys."""
+    return "".join(letter if letter.isprintable() else ascii(letter)[1:-1] for letter in os.fsdecode(filename))
+
+
 class Error(Exception):
     """What the module itself raises; each kind is also the error of Python that fits."""
 
@@ -221,7 +238,7 @@ class Refused(Error):
         self.cause, self.block, self.number, self.filename = cause, block, number, filename
 
     def __str__(self) -> str:
-        name = "" if self.filename is None else f"{os.fsdecode(self.filename)}: "
+        name = "" if self.filename is None else f"{_shown(self.filename)}: "
         return f"{name}block {self.block}: {self.cause}"
 
 
@@ -265,7 +282,7 @@ class Date(NamedTuple):
     @property
     def civil(self) -> datetime.datetime | None:
         """The date as a datetime, or None where it is none up to the year 9999."""
-        is_civil = self.days <= LAST_DAY and self.mins < 1440 and self.ticks < 3000
+        is_civil = 0 <= self.days <= LAST_DAY and 0 <= self.mins < 1440 and 0 <= self.ticks < 3000
         return EPOCH + datetime.timedelta(self.days, 60 * self.mins, 20_000 * self.ticks) if is_civil else None
 
     def __str__(self) -> str:
@@ -283,21 +300,16 @@ def _date(date: Any) -> Date:
     return Date(date.days, date.mins, date.ticks)
 
 
-def _bytes(image: Image) -> bytes:
-    return image if isinstance(image, bytes) else bytes(memoryview(image))
-
-
-def _view(image: Image) -> memoryview:
-    """The bytes of an image, not copied if they stand one behind the other."""
-    view = memoryview(image)
-    return view if view.format == "B" and view.ndim == 1 and view.contiguous else memoryview(view.tobytes())
-
-
 def _accept(number: int, block: int, filename: Path | None = None) -> None:
     if number == NO_MEMORY:
         raise NoMemory
     if number != 0:
         raise Refused(_cause(number), block, number, filename)
+
+
+def _accept_path(path: object) -> None:
+    if not isinstance(path, (str, bytes)):
+        raise TypeError(f"a path is a str or bytes, and not {type(path).__name__}; entries[n] is the entry n + 1")
 
 
 def _text(call: Any, number: int) -> str:
@@ -320,7 +332,7 @@ def library_version() -> int:
 def check(image: Image, international: bool = False) -> Verdict:
     """The numbers of the volume that has this image; Refused where none has. If international letters are accepted too (types 2
     and 3), the kind of a volume with them is one of TYPES, as `ffs-international`."""
-    image, verdict = _bytes(image), _Verdict()
+    image, verdict = _arguments.plain(image), _Verdict()
     call = _calls().adf_check_types if international else _calls().adf_check
     _accept(call(image, len(image), ctypes.byref(verdict)), verdict.block)
     return Verdict(TYPES[verdict.kind], *(getattr(verdict, name) for name in Verdict._fields[1:]))
@@ -337,7 +349,7 @@ class Answer(NamedTuple):
 def run(words: Iterable[str], given: Image = b"") -> Answer:
     """Runs the command `adf` with these words over the input. An output of more than 4 GiB is cut there, with status 3 and
     `write fault` on errors."""
-    all_words, given = ("adf", *words), _bytes(given)
+    all_words, given = ("adf", *words), _arguments.plain(given)
     if isinstance(words, (str, bytes)) or not all(isinstance(word, str) for word in all_words):
         raise TypeError('words are a list of str, as ["cat", "c/list"]')
     line = b"".join(word.encode() + b"\0" for word in all_words)
@@ -378,18 +390,20 @@ def _subject(image: bytes, blocks: int | None) -> tuple[bytes, Any]:
     return image if is_given else ctypes.string_at(room, length), told
 
 
+def _blocks(blocks: int | None) -> int | None:
+    """A number of blocks as which an image is read, if one is given."""
+    return None if blocks is None else _arguments.within("the number of blocks", blocks, MOST_BYTES // BLOCK)
+
+
 def _cut(image: bytes, blocks: int | None) -> bytes:
     """What an image has of so many blocks."""
-    if blocks is None:
-        return image
-    if not 0 <= blocks <= MOST_BYTES // BLOCK:
-        raise ValueError(f"{blocks} blocks")
-    return image[: BLOCK * blocks]
+    return image if blocks is None else image[: BLOCK * blocks]
 
 
 class Finding(NamedTuple):
     """Blocks from the first to the last with one cause, as `bad sum`; the path of the entry that is concerned, or of the directory in
-    which a header was skipped, with a `/` behind it (`/` for the root); the path of the entry that owns a taken block."""
+    which a header was skipped, with a `/` behind it (`/` for the root); the path of the entry that owns a taken block. The paths are
+    spelled as by `adf-survey`."""
 
     first: int
     last: int
@@ -400,7 +414,11 @@ class Finding(NamedTuple):
 
 class Found(NamedTuple):
     """A directory, file or link that is found: entry n is survey.entries[n - 1], and `parent` is the number of its directory, 0 for
-    the root; a link counts as a file. The name is that of the header, and may be none that a volume can have."""
+    the root; a link counts as a file.
+
+    The name is that of the header, which need not be one: `raw_name` and `raw_path` may have any bytes, as `/` in a name, or `..`, which
+    leads out of a folder. `name` and `path` are these as `adf-survey` spells them: in the escape form, with \\x2f for a `/` in a name.
+    """
 
     survey: Survey
     number: int
@@ -416,7 +434,7 @@ class Found(NamedTuple):
 
     @property
     def name(self) -> str:
-        return self.raw_name.decode("latin-1")
+        return _texts.spelled_name(self.raw_name)
 
     @property
     def comment(self) -> str:
@@ -424,15 +442,20 @@ class Found(NamedTuple):
 
     @property
     def path(self) -> str:
-        return self.raw_path.decode("latin-1")
+        return _texts.spelled_path(self._names)
 
     @property
     def raw_path(self) -> bytes:
+        return b"/".join(self._names)
+
+    @property
+    def _names(self) -> list[bytes]:
+        """The names of its directories, from the root on, and its own."""
         names, entry = [self.raw_name], self
         while entry.parent:
             entry = self.survey.entries[entry.parent - 1]
             names.append(entry.raw_name)
-        return b"/".join(reversed(names))
+        return names[::-1]
 
     def __repr__(self) -> str:
         return f"<adf.Found {self.path!r}>"
@@ -506,7 +529,8 @@ class Survey(_ReadOnly):
     _held: int
 
     def __init__(self, image: Image, blocks: int | None = None) -> None:
-        given = _cut(_bytes(image), blocks)
+        blocks = _blocks(blocks)
+        given = _cut(_arguments.plain(image), blocks)
         raw, subject = _subject(given, blocks)
         told = _Surveyed()
         rooms, wanted = (0, 0), (FIRST_ROOM, FIRST_ROOM)
@@ -593,8 +617,9 @@ class Survey(_ReadOnly):
         return Finding(row.first, row.last, cause, path, self.entries[row.owner - 1].path if row.owner else None)
 
     def read(self, path: str | bytes) -> bytes:
-        """The bytes of a sound file, for which the image is surveyed again; of several with this path those of the first. NoSuchPath
-        if nothing has the path, NotAFile if it is not a file, Damaged if it is damaged."""
+        """The bytes of a sound file, for which the image is surveyed again; of several with this path those of the first. The path is a
+        text in Latin-1, or as `adf-survey` spells it, or bytes, which mean themselves. NoSuchPath if nothing has it, as none has one
+        through a name that is not one; NotAFile if it is not a file, Damaged if it is damaged."""
         found = self._file(path)
         if not found.is_sound:
             raise Damaged(errno.EIO, "damaged", path)
@@ -615,8 +640,9 @@ class Survey(_ReadOnly):
 
     def _file(self, path: str | bytes) -> Found:
         """The file under a path, the first of several."""
+        _accept_path(path)
         try:
-            text = escape(path).encode("ascii")
+            text = (escape(path) if isinstance(path, bytes) else _texts.as_spelled(path)).encode("ascii")
         except UnicodeEncodeError:
             raise NoSuchPath(path) from None
         node = _SIZE()
@@ -692,7 +718,7 @@ class Disk(_ReadOnly):
 
     def __init__(self, image: Image) -> None:
         told, rows = _Disk(), (_Partition * MOST_PARTITIONS)()
-        view = _view(image)
+        view = _arguments.view(image)
         tables, blocks = bytes(view[:MOST_TABLES]), len(view) // BLOCK
         if _calls().adf_disk_index(tables, len(tables), blocks, rows, MOST_PARTITIONS, ctypes.byref(told)) != 0:
             raise NoMemory
@@ -710,19 +736,24 @@ class Disk(_ReadOnly):
         fields = row.first, row.blocks, row.flags, row.priority, row.block, _text(_calls().adf_partition_fault_text, row.fault)
         return Partition(number, bytes(row.name)[: row.name_length], text, *fields)
 
-    def __getitem__(self, wanted: int | str) -> Partition:
-        """The partition with a number, or the first with a name; the case of a to z does not count. NoSuchPath if there is none."""
+    def __getitem__(self, wanted: int | str | bytes) -> Partition:
+        """The partition with a number, or the first with a name, a text or bytes; the case of a to z does not count. NoSuchPath if there
+        is none."""
+        name = wanted.decode("latin-1") if isinstance(wanted, bytes) else wanted
+        if isinstance(name, bool) or not isinstance(name, (int, str)):
+            raise TypeError(f"a partition has a number or a name, and not {type(name).__name__}")
         for partition in self.partitions:
-            if wanted == partition.number or isinstance(wanted, str) and _upper(wanted) == _upper(partition.name):
+            if name == partition.number or isinstance(name, str) and _upper(name) == _upper(partition.name):
                 return partition
         raise NoSuchPath(wanted)
 
-    def volume(self, wanted: int | str) -> bytes:
+    def volume(self, wanted: int | str | bytes) -> bytes:
         """The bytes of its volume. NoSuchPath if there is no such partition, Damaged if it has no place."""
-        partition = self[wanted]
-        if not partition.blocks:
-            raise Damaged(errno.EIO, partition.fault, partition.name)
-        return bytes(_view(self.image)[BLOCK * partition.first : BLOCK * (partition.first + partition.blocks)])
+        partition, view = self[wanted], _arguments.view(self.image)
+        past = BLOCK * (partition.first + partition.blocks)
+        if not partition.blocks or past > len(view):
+            raise Damaged(errno.EIO, partition.fault or "the image is shorter than it was", partition.name)
+        return bytes(view[BLOCK * partition.first : past])
 
 
 def partitions(image: Image) -> list[Partition]:
@@ -735,17 +766,6 @@ def partitions(image: Image) -> list[Partition]:
 
 def _upper(text: str) -> str:
     return re.sub("[a-z]+", lambda found: found[0].upper(), text)
-
-
-def _plain(text: str) -> str:
-    """The text in Latin-1 of which this is the escape form."""
-    return re.sub(r"\\x([0-9a-f]{2})", lambda found: chr(int(found[1], 16)), text)
-
-
-def escape(text: str | bytes) -> str:
-    """The escape form of bytes or of a text in Latin-1: bytes outside 32 to 126, and the backslash, are \\x and two digits."""
-    raw = text if isinstance(text, bytes) else text.encode("latin-1")
-    return re.sub(rb"[^ -\[\]-~]", lambda found: b"\\x%02x" % ord(found[0]), raw).decode("ascii")
 
 
 def read_image(file: BinaryIO) -> bytes:
@@ -763,7 +783,7 @@ def read_image(file: BinaryIO) -> bytes:
 
 def open(path: Path, *, strict: bool = False, blocks: int | None = None) -> Volume:
     """The volume of an image in a file: as `open_image` of its bytes. OSError if the file cannot be read."""
-    with io.open(path, "rb") as file:
+    with io.open(os.fspath(path), "rb") as file:
         return _opened(read_image(file), path, strict, blocks)
 
 
@@ -771,11 +791,12 @@ def open_image(image: Image, filename: Path | None = None, *, strict: bool = Fal
     """The volume of an image of type 0 to 3. If the image is refused, a DamagedWarning says so, and the volume is a Rescued one, that of what stands:
     `left_out` is what is not in it. Refused if nothing stands, or with `strict` if the image is not a volume. With a number of blocks
     it is read as if it had so many; those that it does not have are lost."""
-    return _opened(_bytes(image), filename, strict, blocks)
+    return _opened(_arguments.plain(image), filename, strict, blocks)
 
 
 def _opened(image: bytes, filename: Path | None, strict: bool, blocks: int | None) -> Volume:
     """What `open` and `open_image` give; the warning is told of their caller."""
+    blocks = _blocks(blocks)
     given = _cut(image, blocks)
     if strict or len(given) == BLOCK * (len(given) // BLOCK if blocks is None else blocks):
         try:
@@ -784,7 +805,7 @@ def _opened(image: bytes, filename: Path | None, strict: bool, blocks: int | Non
             if strict:
                 raise
     volume = Rescued(given, filename, blocks)
-    why = volume.refused or f"{'image' if filename is None else os.fsdecode(filename)}: it has {len(given)} bytes"
+    why = volume.refused or f"{'image' if filename is None else _shown(filename)}: it has {len(given)} bytes"
     warnings.warn(f"{why}: {len(volume.left_out)} left out (volume.left_out)", DamagedWarning, stacklevel=3)
     return volume
 
@@ -812,7 +833,7 @@ class Volume(_ReadOnly):
     _known_tables: Any
 
     def __init__(self, image: Image, filename: Path | None = None) -> None:
-        raw, contents = _bytes(image), _Contents()
+        raw, contents = _arguments.plain(image), _Contents()
         rooms, wanted = (0, 0), (FIRST_ROOM, FIRST_ROOM)
         while rooms != wanted:
             rooms = wanted
@@ -841,16 +862,21 @@ class Volume(_ReadOnly):
         return Volume, (self._tables[0][0],)
 
     def __enter__(self) -> Volume:
+        self._accept_open()
         return self
 
     def __exit__(self, *_error: object) -> None:
         self.close()
 
-    @property
-    def _tables(self) -> Any:
+    def _accept_open(self) -> None:
         if self._known_tables is None:
             raise Closed("the volume is closed")
-        return self._known_tables
+
+    @property
+    def _tables(self) -> Any:
+        known = self._known_tables
+        self._accept_open()
+        return known
 
     @property
     def _table(self) -> Any:
@@ -922,8 +948,7 @@ class Volume(_ReadOnly):
 
     def _find(self, path: str | bytes) -> int | None:
         """The number under a path, 0 for the empty one, None where nothing is there."""
-        if not isinstance(path, (str, bytes)):
-            raise TypeError(f"a path is a str or bytes, and not {type(path).__name__}; entries[n] is the entry n + 1")
+        _accept_path(path)
         try:
             text = escape(path).encode("ascii")
         except UnicodeEncodeError:
@@ -950,11 +975,11 @@ class Rescued(Volume):
     that is wrong with the image, by its `survey`; `refused` says why it is refused. Its blocks, and the headers of its entries, are
     not those of the image. Refused if nothing stands."""
 
-    _given: tuple[bytes, Path | None, int | None]
+    _given: tuple[bytes, Path | None, int | None] | None
     _left_out: list[LeftOut]
 
     def __init__(self, image: Image, filename: Path | None = None, blocks: int | None = None) -> None:
-        given = _bytes(image)
+        given, blocks = _arguments.plain(image), _blocks(blocks)
         try:
             new, left_out = rescue(given, blocks)
         except Refused as refused:
@@ -968,11 +993,20 @@ class Rescued(Volume):
 
     def __reduce__(self) -> Any:
         """Pickled as its image, which is rescued again."""
-        return Rescued, self._given
+        return Rescued, self._image_given
 
     def close(self) -> None:
         super().close()
-        vars(self).update(_given=(b"", *self._given[1:]))
+        vars(self).update(_given=None)
+        vars(self).pop("survey", None)
+
+    @property
+    def _image_given(self) -> tuple[bytes, Path | None, int | None]:
+        """The image that was rescued, its file, and its blocks; Closed if they are given back."""
+        given = self._given
+        if given is None:
+            raise Closed("the volume is closed")
+        return given
 
     @property
     def left_out(self) -> list[LeftOut]:
@@ -981,10 +1015,12 @@ class Rescued(Volume):
     @functools.cached_property
     def survey(self) -> Survey:
         """The survey of the image, made when it is asked for first."""
-        return Survey(self._given[0], self._given[2])
+        image, _, blocks = self._image_given
+        return Survey(image, blocks)
 
     def entry_of(self, found: Found) -> Entry | None:
         """The entry of this volume that is an entry of `survey`; None if it is left out."""
+        self._accept_open()
         return self._entry(self._places[found.number]) if found.number in self._places else None
 
     @functools.cached_property
@@ -1008,10 +1044,11 @@ class Rescued(Volume):
     @functools.cached_property
     def refused(self) -> Refused | None:
         """Why the image is refused; None if it is sound."""
+        image, filename, _ = self._image_given
         try:
-            check(self._given[0], international=True)
+            check(image, international=True)
         except Refused as refused:
-            return Refused(refused.cause, refused.block, refused.number, self._given[1])
+            return Refused(refused.cause, refused.block, refused.number, filename)
         return None
 
 
@@ -1077,18 +1114,21 @@ class Entry(NamedTuple):
         """Puts the bytes of the file from an offset on into a buffer, as many as there are and fit; answers how many."""
         if not self.is_file:
             raise NotAFile(errno.EISDIR, os.strerror(errno.EISDIR), self.path)
-        if offset < 0:
-            raise ValueError("an offset is below 0")
-        view, (image, table, blocks) = memoryview(room).cast("B"), self.volume._tables
-        begin = ctypes.byref(ctypes.c_char.from_buffer(view)) if view else b""
-        return _calls().adf_read(*image, *table, *blocks, self.number, min(offset, self.size), begin, len(view))
+        (image, table, blocks), begin = self.volume._tables, self._begin(offset)
+        return int(_calls().adf_read(*image, *table, *blocks, self.number, begin, *_arguments.to_write(room)))
 
     def read(self, offset: int = 0, count: int = -1) -> bytes:
         """The bytes of the file from an offset on: all, or at most so many where the count is not negative."""
-        left = max(self.size - offset, 0)
-        room = bytearray(left if count < 0 else min(count, left))
+        left = self.size - self._begin(offset)
+        room = bytearray(left if _arguments.whole("a count", count) < 0 else min(count, left))
         self.read_into(room, offset)
         return bytes(room)
+
+    def _begin(self, offset: int) -> int:
+        """An offset, or the end of the file if that comes first."""
+        if _arguments.whole("an offset", offset) < 0:
+            raise ValueError("an offset is below 0")
+        return min(offset, self.size)
 
     def open(self) -> io.BufferedReader:
         """The file as one of Python, buffered, to read and seek."""
@@ -1109,20 +1149,26 @@ class File(io.RawIOBase):
         return True
 
     def readinto(self, room: Any) -> int:
+        self._accept_open()
         moved = self._entry.read_into(room, self._at)
         self._at += moved
         return moved
 
     def seek(self, offset: int, whence: int = io.SEEK_SET) -> int:
+        self._accept_open()
         if whence not in (io.SEEK_SET, io.SEEK_CUR, io.SEEK_END):
             raise ValueError(f"whence is {whence}, and not 0, 1 or 2")
-        at = offset + (0, self._at, self._entry.size)[whence]
+        at = _arguments.whole("an offset", offset) + (0, self._at, self._entry.size)[whence]
         if at < 0:
             raise OSError(errno.EINVAL, os.strerror(errno.EINVAL))
         self._at = at
         return at
 
+    def _accept_open(self) -> None:
+        if self.closed:
+            raise ValueError("the file is closed")
 
-from adf._rescues import LeftOut, Reason, rescue  # noqa: E402,F401: it stands on all that is above
-from adf.boots import BadBoot, Boot, with_boot, with_standard_boot, without_boot  # noqa: E402,F401: so do these
-from adf.building import Addition, NotBuilt, build  # noqa: E402,F401
+
+from adf._rescues import LeftOut, Reason, rescue  # noqa: E402: it stands on all that is above
+from adf.boots import BadBoot, Boot, with_boot, with_standard_boot, without_boot  # noqa: E402: so do these
+from adf.building import Addition, NotBuilt, build  # noqa: E402

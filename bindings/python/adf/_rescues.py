@@ -7,10 +7,11 @@ import enum
 from typing import Any, NamedTuple
 
 import adf
+from adf import _arguments, _texts
 
 FIRST_PATHS = 1 << 16
 _WORD, _BYTE, _SIZE = ctypes.c_uint32, ctypes.c_uint8, ctypes.c_size_t
-_Loss = adf._struct(("path path_length", _SIZE), ("first last", _WORD), ("why", _BYTE))
+_LossRow = adf._struct(("path path_length", _SIZE), ("first last", _WORD), ("why", _BYTE))
 _RescueTold = adf._struct(("losses paths", _SIZE), ("blocks block", _WORD))
 
 
@@ -28,15 +29,19 @@ class Reason(enum.IntEnum):
 WHY = {Reason.DAMAGED: "damaged", Reason.LINK: "link", Reason.NO_ROOM: "no room", Reason.HEADERS: "lost", Reason.BLOCKS: "lost"}
 
 
-class LeftOut(NamedTuple):
-    """What a rescue leaves out: the path of an entry, or of the directory in which headers are lost, and the block of its header twice
-    (0 for the root); or the first and the last of the blocks that are lost. A reason of a newer library is its number. As a text it
-    is the line of `adf-survey rescue`."""
-
+class _Loss(NamedTuple):
     reason: Reason | int
     raw_path: bytes
     first: int
     last: int
+
+
+class LeftOut(_Loss):
+    """What a rescue leaves out: the bytes of the path of an entry, or of the directory in which headers are lost, and the block of its
+    header twice (0 for the root); or the first and the last of the blocks that are lost. A reason of a newer library is its number. As a
+    text it is the line of `adf-survey rescue`. A name in the bytes may have any, as `/`, or be `..`, which leads out of a folder."""
+
+    _text: str | None = None
 
     @property
     def why(self) -> str:
@@ -45,10 +50,10 @@ class LeftOut(NamedTuple):
 
     @property
     def path(self) -> str:
-        """The path of an entry; of what is lost `in c/` or `blocks 44 to 65`."""
+        """The path of an entry, as `adf-survey` spells it; of what is lost `in c/` or `blocks 44 to 65`."""
         if self.blocks:
             return f"block {self.first}" if self.first == self.last else f"blocks {self.first} to {self.last}"
-        return self.raw_path.decode("latin-1") if self.directory is None else f"in {self.directory}/"
+        return self._spelled if self.directory is None else f"in {self.directory}/"
 
     @property
     def is_entry(self) -> bool:
@@ -62,29 +67,37 @@ class LeftOut(NamedTuple):
 
     @property
     def directory(self) -> str | None:
-        """The path of the directory in which headers are lost, empty for the root; None for anything else."""
-        return self.raw_path.decode("latin-1") if self.reason == Reason.HEADERS else None
+        """The path of the directory in which headers are lost, as `adf-survey` spells it, empty for the root; None for anything else."""
+        return self._spelled if self.reason == Reason.HEADERS else None
+
+    @property
+    def _spelled(self) -> str:
+        return adf.escape(self.raw_path) if self._text is None else self._text
 
     def __str__(self) -> str:
-        return f"{self.why}: {adf.escape(self.path)}"
+        return f"{self.why}: {self.path}"
 
 
 def _left_out(row: Any, paths: bytes) -> LeftOut:
     """A row of the table of losses, with its path in the text of all paths."""
-    path = adf._plain(paths[row.path : row.path + row.path_length].decode("ascii")).encode("latin-1")
-    return LeftOut(Reason(row.why) if row.why in list(Reason) else row.why, path, row.first, row.last)
+    text = paths[row.path : row.path + row.path_length].decode("ascii")
+    reason = Reason(row.why) if row.why in list(Reason) else row.why
+    left_out = LeftOut(reason, _texts.raw_path(text), row.first, row.last)
+    left_out._text = text
+    return left_out
 
 
 def rescue(image: adf.Image, blocks: int | None = None) -> tuple[bytes, list[LeftOut]]:
     """A new, sound volume of as many blocks with all that stands in an image, and what is left out; with a number of blocks as if the
     image had so many. Refused where nothing stands."""
-    raw, told = adf._cut(adf._bytes(image), blocks), _RescueTold()
+    blocks, told = adf._blocks(blocks), _RescueTold()
+    raw = adf._cut(_arguments.plain(image), blocks)
     length = adf.BLOCK * blocks if blocks else len(raw)
     volume = ctypes.create_string_buffer(length or 1)
     rooms, wanted = (0, 0), (adf.FIRST_ROOM, FIRST_PATHS)
     while rooms != wanted:
         rooms = wanted
-        losses, paths = (_Loss * rooms[0])(), ctypes.create_string_buffer(rooms[1])
+        losses, paths = (_LossRow * rooms[0])(), ctypes.create_string_buffer(rooms[1])
         tables = volume, length, losses, rooms[0], paths, rooms[1], ctypes.byref(told)
         adf._accept(adf._calls().adf_rescue(raw, len(raw), blocks or 0, *tables), told.block)
         wanted = max(rooms[0], told.losses), max(rooms[1], told.paths)

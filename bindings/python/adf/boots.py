@@ -6,6 +6,7 @@ import ctypes
 from typing import Any, NamedTuple, Union
 
 import adf
+from adf import _arguments
 
 BYTES = 2 * adf.BLOCK
 REFUSALS = {1: "bad size", 2: "not dos", 3: "boot blocks: bad size", 4: "boot blocks: not dos"}
@@ -37,7 +38,7 @@ class Boot(NamedTuple):
     @classmethod
     def of(cls, image: adf.Image) -> Boot:
         """The boot blocks at the front of an image, or of a file of them. BadBoot if it is shorter."""
-        raw, told = bytes(adf._view(image)[:BYTES]), _BootBlocks()
+        raw, told = bytes(_arguments.view(image)[:BYTES]), _BootBlocks()
         _accept(adf._calls().adf_boot(raw, len(raw), ctypes.byref(told)))
         marks = bool(told.has_right_sum), bool(told.is_bootable), bool(told.has_code)
         return cls(raw, told.crc, bool(told.begins_with_dos), told.volume_type, *marks)
@@ -63,20 +64,23 @@ def _accept(number: int) -> None:
 
 def _changed(call: Any, image: adf.Image, *source: Any) -> bytes:
     """An image of which a call changes a copy."""
-    room = bytearray(adf._view(image))
+    room = bytearray(_arguments.view(image))
     _change(call, room, *source)
     return bytes(room)
 
 
 def _change(call: Any, room: adf.Buffer, *source: Any) -> None:
     """Has a call change an image where it is."""
-    view = memoryview(room).cast("B")
-    _accept(call((ctypes.c_char * len(view)).from_buffer(view) if view else b"", len(view), *source))
+    _accept(call(*_arguments.to_write(room), *source))
+
+
+def _source(boot: Union[Boot, adf.Image]) -> bytes:
+    return _arguments.plain(boot.raw if isinstance(boot, Boot) else boot)
 
 
 def copy_into(room: adf.Buffer, boot: Union[Boot, adf.Image]) -> None:
     """Puts boot blocks into an image where it is, as with_boot."""
-    source = boot.raw if isinstance(boot, Boot) else adf._bytes(boot)
+    source = _source(boot)
     _change(adf._calls().adf_boot_copy, room, source, len(source))
 
 
@@ -88,7 +92,7 @@ def install_into(room: adf.Buffer) -> None:
 def with_boot(image: adf.Image, boot: Union[Boot, adf.Image]) -> bytes:
     """The image with other boot blocks: those of a volume (volume.boot), of another image, or the bytes of a file of them. It keeps its
     type, and gets the checksum with which an Amiga starts it. BadBoot if there are none."""
-    source = boot.raw if isinstance(boot, Boot) else adf._bytes(boot)
+    source = _source(boot)
     return _changed(adf._calls().adf_boot_copy, image, source, len(source))
 
 

@@ -1,4 +1,4 @@
-"""Volumes that are built from memory: adf.build, adf.need, adf.Addition and adf.NotBuilt."""
+"""Volumes that are built from memory: adf.build, adf.Addition and adf.NotBuilt."""
 
 from __future__ import annotations
 
@@ -6,9 +6,12 @@ import ctypes
 from typing import Any, Iterable, NamedTuple, Sequence
 
 import adf
+from adf import _arguments
 
 NEVER = adf.Date(0, 0, 0)
 DONE, FULL = 0, 11
+MOST_SIZE = 2**63 - 1
+DATES = "root", "last change", "creation"
 REFUSALS = {
     1: "no kind of volume", 2: "a label is longer than 30 bytes", 3: "bad size", 4: "the room is too small", 5: "no parent",
     6: "parent is file", 7: "no name of an Amiga", 8: "exists", 9: "a comment is longer than 79 bytes", 10: "past the contents",
@@ -28,7 +31,7 @@ class Addition(NamedTuple):
     """A directory or file to build: its path, its bytes (None for a directory), comment, protection and date. Texts are in Latin-1."""
 
     path: str | bytes
-    content: bytes | None = None
+    content: adf.Image | None = None
     comment: str | bytes = b""
     protection: int = 0
     date: adf.Date = NEVER
@@ -50,11 +53,7 @@ class NotBuilt(adf.Error, ValueError):
         self.entry: Addition | None = None
 
     def __str__(self) -> str:
-        return f"{self.path}: {self.why}" if self.path else self.why
-
-
-def _raw(text: str | bytes) -> bytes:
-    return text if isinstance(text, bytes) else text.encode("latin-1")
+        return f"{adf.escape(self.path)}: {self.why}" if self.path else self.why
 
 
 def _filled(field: Any, raw: bytes) -> int:
@@ -63,21 +62,31 @@ def _filled(field: Any, raw: bytes) -> int:
     return min(len(raw), 255)
 
 
+def _stamp(what: str, date: adf.Date) -> Any:
+    """A date as the library takes it."""
+    if not isinstance(date, (tuple, list)) or len(date) != len(adf.Date._fields):
+        raise TypeError(f"{what} is an adf.Date, and not {date!r}")
+    return adf._Date(*(_arguments.within(f"{what}, {field}", number) for field, number in zip(adf.Date._fields, date)))
+
+
 class Plan:
     """The table of what is added, in order, and where the bytes of each file are in the contents, whose size is `size`."""
 
     def __init__(self) -> None:
         self.size, self.largest = 0, 0
-        self._rows: list[tuple[int, int, int | None, int, adf.Date, bytes, bytes]] = []
+        self._rows: list[tuple[int, int, int | None, int, Any, bytes, bytes]] = []
 
     def __len__(self) -> int:
         return len(self._rows)
 
-    def put(self, parent: int, name: bytes, size: int | None, comment: bytes, protection: int, date: adf.Date) -> int:
-        """Adds a file of so many bytes, or a directory (None), to addition `parent`, 0 for the root. Where its bytes begin."""
-        begin = self.size
-        self._rows.append((parent, begin, size, protection, date, name, comment))
-        self.size, self.largest = begin + (size or 0), max(self.largest, size or 0)
+    def put(self, parent: int, name: bytes, size: int | None, comment: str | bytes, protection: int, date: adf.Date) -> int:
+        """Adds a file of so many bytes, or a directory (None), to addition `parent`, 0 for the root. Where its bytes begin. TypeError or
+        ValueError if the table has no room for one of them."""
+        begin, count = self.size, 0 if size is None else _arguments.within("the size", size, MOST_SIZE)
+        numbers = _arguments.within("the parent", parent, MOST_SIZE), begin, None if size is None else count
+        meta = _arguments.within("the protection", protection), _stamp("the date", date)
+        self._rows.append((*numbers, *meta, _arguments.raw("the name", name), _arguments.raw("the comment", comment)))
+        self.size, self.largest = begin + count, max(self.largest, count)
         return begin
 
     def path_of(self, number: int) -> bytes:
@@ -94,7 +103,7 @@ class Plan:
         table = (_Addition * max(len(self._rows), 1))()
         for row, (parent, begin, size, protection, date, name, comment) in zip(table, self._rows):
             row.parent, row.begin, row.size, row.protection = parent, 0 if is_shared else begin, size or 0, protection
-            row.date, row.is_file = adf._Date(*date), size is not None
+            row.date, row.is_file = date, size is not None
             row.name_length, row.comment_length = _filled(row.name, name), _filled(row.comment, comment)
         return table
 
@@ -103,10 +112,11 @@ def new_volume(kind: str, blocks: int, label: str | bytes = b"", dates: Sequence
     """A volume to build, as the library takes it."""
     if kind not in adf.KINDS:
         raise ValueError(f"a kind is one of {', '.join(adf.KINDS)}, and not {kind!r}")
-    if len(dates) != 3:
+    if len(dates) != len(DATES):
         raise ValueError("the dates are three: of the root, of the last change, and of the creation")
-    volume = _NewVolume(adf.KINDS.index(kind), min(max(blocks, 0), adf.MOST_NUMBER), *(adf._Date(*date) for date in dates))
-    volume.label_length = _filled(volume.label, _raw(label))
+    count = min(max(_arguments.whole("the number of blocks", blocks), 0), _arguments.MOST_NUMBER)
+    volume = _NewVolume(adf.KINDS.index(kind), count, *(_stamp(f"the date of the {name}", date) for name, date in zip(DATES, dates)))
+    volume.label_length = _filled(volume.label, _arguments.raw("the label", label))
     return volume
 
 
@@ -121,25 +131,42 @@ def _done(number: int, told: Any, plan: Plan) -> int:
     return int(told.blocks)
 
 
-def _place(given: Any) -> tuple[Any, int]:
-    """The bytes of a buffer as the library takes them, and how many."""
-    view = memoryview(given)
-    return (bytes(given) if view.readonly else (ctypes.c_char * len(view)).from_buffer(view)) if len(view) else b"", len(view)
-
-
 def need_of(volume: Any, plan: Plan, contents: Any, is_shared: bool = False) -> int:
     """The fewest blocks of a volume in which a plan has room."""
     told = _Built()
     number = adf._calls().adf_need(
-        ctypes.byref(volume), plan.table(is_shared), len(plan), *_place(contents), ctypes.byref(told))
+        ctypes.byref(volume), plan.table(is_shared), len(plan), *_arguments.to_read(contents), ctypes.byref(told))
     return _done(number, told, plan)
 
 
 def build_into(room: Any, volume: Any, plan: Plan, contents: Any) -> None:
     """Builds a volume at the front of a room, of a plan and its contents."""
-    told, places = _Built(), (*_place(contents), *_place(room))
+    told, places = _Built(), (*_arguments.to_read(contents), *_arguments.to_write(room))
     number = adf._calls().adf_build(ctypes.byref(volume), plan.table(), len(plan), *places, ctypes.byref(told))
     _done(number, told, plan)
+
+
+def _planned(entries: Sequence[Addition]) -> tuple[Plan, list[memoryview]]:
+    """The plan of these entries, and the bytes of their files. TypeError and ValueError name the path of an entry that has a fault."""
+    plan, parts, numbers = Plan(), [], {b"": 0}  # type: Plan, list[memoryview], dict[bytes, int]
+    for number, entry in enumerate(entries, 1):
+        try:
+            path = _arguments.raw("the path", entry.path)
+            above, slash, name = path.rpartition(b"/")
+            content = None if entry.content is None else _arguments.view(entry.content)
+            parent = number if slash and not above else numbers.get(above.translate(adf.CAPITALS), number)
+            plan.put(parent, name, None if content is None else len(content), entry.comment, entry.protection, entry.date)
+        except (TypeError, ValueError) as error:
+            kind = TypeError if isinstance(error, TypeError) else ValueError
+            raise kind(f"{_shown(entry.path, number)}: {error}") from None
+        parts += [] if content is None else [content]
+        numbers.setdefault(path.translate(adf.CAPITALS), number)
+    return plan, parts
+
+
+def _shown(path: object, number: int) -> str:
+    """The path of an addition in a line of text, or its number."""
+    return ascii(path) if isinstance(path, (str, bytes)) else f"entry {number}"
 
 
 def build(
@@ -148,16 +175,10 @@ def build(
 ) -> bytes:
     """The image of a volume with these entries, each directory before what is in it: the kind "ofs" or "ffs", the blocks (None for the
     fewest), the label, and the dates of the root, of the last change and of the creation. NotBuilt if there is none."""
-    given, plan, numbers = [Addition(*entry) for entry in entries], Plan(), {b"": 0}
-    for number, entry in enumerate(given, 1):
-        path = _raw(entry.path)
-        above, _, name = path.rpartition(b"/")
-        parent = numbers.get(above.translate(adf.CAPITALS), number)
-        size = None if entry.content is None else len(entry.content)
-        plan.put(parent, name, size, _raw(entry.comment), entry.protection, entry.date)
-        numbers.setdefault(path.translate(adf.CAPITALS), number)
-    contents = b"".join(entry.content for entry in given if entry.content is not None)
-    volume = new_volume(kind, blocks or 0, label, dates)
+    given = [Addition(*entry) for entry in entries]
+    plan, parts = _planned(given)
+    contents = b"".join(parts)
+    volume = new_volume(kind, 0 if blocks is None else blocks, label, dates)
     try:
         if blocks is None:
             volume.blocks = need_of(volume, plan, contents)

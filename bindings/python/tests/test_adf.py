@@ -1,10 +1,15 @@
 """Tests of the module adf."""
 
+import array
 import copy
+import ctypes
 import datetime
 import io
+import mmap
 import os
 import pickle
+import random
+import re
 import struct
 import tempfile
 import threading
@@ -12,7 +17,15 @@ import unittest
 import unittest.mock
 
 import adf
-from tests.shared import LARGE, NAME_BYTES, built, changed, image_of, international
+from adf import _arguments
+from tests.shared import HERE, LARGE, NAME_BYTES, TOP, Folder, built, changed, image_of, international, written
+
+
+class Longer(bytes):
+    """Bytes that say that there are more of them than there are."""
+
+    def __len__(self):
+        return 1 << 40
 
 
 class Volumes(unittest.TestCase):
@@ -125,6 +138,7 @@ class Volumes(unittest.TestCase):
         for call in (entry.read, volume.owners, lambda: volume["c"], lambda: volume.entries, lambda: entry.path, lambda: next(volume.walk())):
             with self.assertRaises(ValueError):
                 call()
+        self.assertRaises(adf.Closed, volume.__enter__)
 
     def test_walks(self):
         lines = "".join(f"dir 0:0:0 00000000 {path}\n" for path in ("a", "b", "a/c", "a/c/d"))
@@ -206,8 +220,65 @@ class Volumes(unittest.TestCase):
         image = image_of()
         apart = bytearray(2 * len(image))
         apart[::2] = image
-        for view in (memoryview(apart)[::2], memoryview(image).cast("I"), memoryview(image[::-1])[::-1]):
+        for view in (memoryview(apart)[::2], memoryview(image).cast("I"), memoryview(image[::-1])[::-1], array.array("H", image), Longer(image)):
             self.assertEqual((adf.Volume(view).image, adf.check(view).blocks, adf.survey(view).findings), (image, 1760, []))
+            self.assertEqual((adf.rescue(view), adf.Boot.of(view).raw, type(adf.Volume(view).image)), ((image, []), image[:1024], bytes))
+
+    def test_takes_no_buffer_that_is_gone(self):
+        released, closed = memoryview(image_of()), mmap.mmap(-1, 901120)
+        released.release()
+        closed.close()
+        for gone in (released, closed):
+            for call in (adf.Volume, adf.check, adf.survey, adf.rescue, adf.Disk, adf.Boot.of, adf.open_image, adf.with_standard_boot):
+                self.assertRaises(ValueError, call, gone)
+
+    def test_holds_a_buffer_while_it_is_used(self):
+        room, mapped = bytearray(b"abc"), mmap.mmap(-1, 4096)
+        for take in (_arguments.to_write, _arguments.to_read):
+            held = take(room), take(mapped)
+            for change in (lambda: room.append(0), room.clear, mapped.close, lambda: mapped.resize(8192)):
+                self.assertRaises(BufferError, change)
+            self.assertEqual([size for _, size in held], [3, 4096])
+            del held
+        mapped.close()
+        disk = adf.Disk(mapped := mmap.mmap(-1, 901120))
+        mapped.close()
+        self.assertEqual(disk.cause, "no rigid disk")
+
+    def test_takes_no_other_numbers_of_blocks(self):
+        image = image_of()
+        for blocks, error in ((-1, ValueError), (2**20 + 1, ValueError), (2**32 + 1760, ValueError), (1760.0, TypeError), (True, TypeError), ("16", TypeError)):
+            for call in (adf.survey, adf.rescue, lambda image, blocks: adf.Rescued(image, None, blocks), lambda *both: adf.open_image(both[0], blocks=both[1])):
+                with self.assertRaisesRegex(error, re.escape(f"{blocks!r}")):
+                    call(image, blocks)
+
+    def test_answers_odd_things_with_the_errors_that_fit(self):
+        volume, survey, disk = adf.Volume(image_of()), adf.survey(changed(image_of(), 880, 440, 1)), adf.Disk(b"")
+        entry, file = volume["large"], adf.File(volume["large"])
+        released = memoryview(b"abc")
+        released.release()
+        calls = (
+            *(adf.Volume, adf.Rescued, adf.check, adf.survey, adf.rescue, adf.Disk, adf.partitions, adf.open_image, adf.escape, adf.unescape, adf.Date.of),
+            *(adf.Boot.of, adf.with_standard_boot, adf.without_boot, lambda odd: adf.with_boot(image_of(), odd), adf.run, lambda odd: adf.run(["check"], odd)),
+            *(lambda odd: adf.survey(b"", odd), lambda odd: adf.rescue(b"", odd), lambda odd: adf.open_image(b"", blocks=odd)),
+            *(volume.__getitem__, volume.__contains__, lambda odd: list(volume.walk(odd)), volume.entries.__getitem__, survey.findings.__getitem__),
+            *(survey.read, survey.remains, disk.__getitem__, disk.volume, entry.read, lambda odd: entry.read(0, odd), entry.read_into),
+            *(lambda odd: entry.read_into(bytearray(1), odd), file.readinto, file.seek, lambda odd: file.seek(0, odd)),
+            *(lambda odd: adf.build(odd, None, []), lambda odd: adf.build("ofs", odd, []), lambda odd: adf.build("ofs", None, odd)),
+            *(lambda odd: adf.build("ofs", None, [], odd), lambda odd: adf.build("ofs", None, [], dates=odd), lambda odd: adf.build("ofs", None, [odd])),
+            *(lambda odd, place=place: adf.build("ofs", None, [adf.Addition(*["a", b"", b"", 0, (0, 0, 0)][:place], odd)]) for place in range(5)),
+        )  # fmt: skip
+        odds = (None, True, -1, 7, 2**31, -(2**63), 2**64, 1.5, "x", "\u20ac", "\udcff", b"", b"x" * 7, bytearray(3), [], [65], {}, {"a"}, object(), int)
+        for odd in (*odds, released, array.array("H", [1]), memoryview(b"abcdef")[::2], (1, 2, 3), (b"a", b"b"), [None]):
+            for call in calls:
+                try:
+                    call(odd)
+                except (adf.Error, TypeError, ValueError, IndexError, OSError):
+                    pass
+
+    def test_opens_paths_alone(self):
+        for path in (0, True, None, 1.0):
+            self.assertRaises(TypeError, adf.open, path)
 
 
 class Refusals(unittest.TestCase):
@@ -259,6 +330,10 @@ class Refusals(unittest.TestCase):
             with open(path, "r+b") as file:
                 file.truncate(adf.MOST_BYTES + 512)
                 self.assertEqual(len(adf.read_image(file)), adf.MOST_BYTES + 1)
+
+    def test_names_a_file_by_what_can_be_printed(self):
+        for name, shown in (("B\xfc \u20ac.adf", "B\xfc \u20ac.adf"), ("a\x1b[2J\n", r"a\x1b[2J\n"), (b"a\x9b\xff", r"a\udc9b\udcff")):
+            self.assertEqual(str(adf.Refused("bad sum", 880, 7, name)), f"{shown}: block 880: bad sum")
 
     def test_raises_errors_of_its_own(self):
         for kind, python in (
@@ -312,14 +387,18 @@ class Surveys(unittest.TestCase):
         directory, file = damaged.entries
         self.assertEqual(directory[1:], (1, 0, 2, 0, 1, adf.Date(0, 0, 0), False, False, b"c", b""))
         self.assertEqual(file[1:], (2, 1, 3, 488, 15, adf.Date(8035, 1, 50), True, True, b"l\xf6ng", b"a\tb"))
-        self.assertEqual((file.name, file.path, file.comment), ("l\xf6ng", "c/l\xf6ng", "a\tb"))
+        self.assertEqual((file.name, file.path, file.raw_path, file.comment), (r"l\xf6ng", r"c/l\xf6ng", b"c/l\xf6ng", "a\tb"))
         self.assertEqual((damaged.label, damaged.raw_label, damaged.kind), ("B\xfccher", b"B\xfccher", "ofs"))
-        self.assertEqual((damaged.read(file.path), file.read()), (b"A" * 488, b"A" * 488))
+        for path in (file.path, file.raw_path, "C/l\xf6ng"):
+            self.assertEqual((damaged.read(path), damaged.remains(path), file.read()), (b"A" * 488, (b"A" * 488, []), b"A" * 488))
         for path in ("", "c"):
             with self.assertRaises(IsADirectoryError):
                 damaged.read(path)
-        for path in ("nix", "c//", "\u20ac"):
+        for path in ("nix", "c//", "\u20ac", "\\x", b"c/l\\xf6ng"):
             with self.assertRaises(KeyError):
+                damaged.read(path)
+        for path in (0, None, ["c"], bytearray(b"c")):
+            with self.assertRaises(TypeError):
                 damaged.read(path)
         with self.assertRaisesRegex(OSError, "damaged"):
             adf.survey(changed(sound, 3, 323, 1)).read(file.path)
@@ -413,6 +492,47 @@ class Surveys(unittest.TestCase):
             (entry,) = adf.survey(changed(sound, adf.Volume(sound)["ab"].header, 433, name ^ ord("a"))).entries
             self.assertEqual(entry.remains(), (b"1", []))
 
+    def test_spells_names_that_are_none_as_adf_survey_does(self):
+        # The header of `c` is block 2, that of `c/ab` block 3, its data block 4, whose type becomes 0. Byte 432 is the length of a name.
+        sound = changed(built("volume ofs 16\ndir 0:0:0 00000000 c\nfile 0:0:0 00000000 c/ab\ndata 41\n"), 4, 3, 8)
+        for name, path in (
+            (b"\2/b", r"c/\x2fb"), (b"\2..", "c/.."), (b"\2:\x1b", r"c/\x3a\x1b"), (b"\0ab", r"c/\x"), (b"\2\\\xfc", r"c/\x5c\xfc"),
+        ):  # fmt: skip
+            image = bytearray(sound)
+            image[512 * 3 + 432 : 512 * 3 + 435] = name
+            survey = adf.survey(image)
+            found, raw = survey.entries[1], name[1 : 1 + name[0]]
+            self.assertEqual((found.path, found.name, found.raw_path, found.raw_name), (path, path[2:], b"c/" + raw, raw))
+            self.assertIn(f"blocks 3 to 4: bad sum: {path}", lines_of("--list", image))
+            self.assertEqual({finding.path for finding in survey.findings} - {None, "c", "c/"}, {path})
+            self.assertTrue(any(line.startswith("damaged file") and line.endswith(f" {path}") for line in lines_of("--list", image)))
+            left_out = adf.rescue(image)[1]
+            self.assertEqual([(each.path, each.raw_path) for each in pickle.loads(pickle.dumps(left_out)) if each.is_entry], [(path, b"c/" + raw)])
+            self.assertEqual([str(each) for each in left_out], lines_of("rescue", image))
+
+    def test_spells_random_names_as_adf_survey_does(self):
+        names = [f"{'d/' * depth}n{number}" for depth in (0, 1) for number in range(9)]
+        sound = built(["volume ofs 64", "dir 0:0:0 00000000 d", *(f"file 0:0:0 00000000 {name}" for name in names)])
+        draw, headers = random.Random(1), [entry.header for entry in adf.Volume(sound).entries]
+        for _ in range(20):
+            image = bytearray(sound)
+            for header in draw.sample(headers, 6):
+                length = draw.choice((0, 1, 2, 30, 31, 79, 80, 255))
+                image[512 * header + 432] = length
+                image[512 * header + 433 : 512 * header + 433 + min(length, 40)] = draw.choices(b"/:.\\x\0\x1b\x7f\x9b\xfc ab", k=min(length, 40))
+            lines = [line for line in lines_of("--list", image) if re.match("(sound|damaged) ", line)]
+            survey = adf.survey(image)
+            self.assertEqual([re.sub(r"^(?:\S+ +){4}(?:\S+:\S+|\S+ \S+) ", "", line) for line in lines], [found.path for found in survey.entries])
+            self.assertEqual([str(each) for each in adf.rescue(image)[1]], lines_of("rescue", image))
+
+    def test_reads_no_other_file_for_a_name_with_a_slash(self):
+        # `a/b` is a file in `a`, and becomes the name of the file `axb` too; that one is read by itself alone.
+        sound = built("volume ofs 16\ndir 0:0:0 00000000 a\nfile 0:0:0 00000000 a/b\ndata 31\nfile 0:0:0 00000000 axb\ndata 32\n")
+        survey = adf.survey(changed(sound, adf.Volume(sound)["axb"].header, 434, ord("x") ^ ord("/")))
+        found = next(entry for entry in survey.entries if entry.raw_name == b"a/b")
+        self.assertEqual((found.path, found.remains()[0], survey.read("a/b"), survey.read(b"a/b")), (r"a\x2fb", b"2", b"1", b"1"))
+        self.assertRaises(adf.NoSuchPath, survey.read, found.path)
+
     def test_has_findings_as_a_list_has(self):
         findings = adf.survey(changed(changed(image_of(), 880, 440, 1), 0, 3, 2)).findings
         self.assertEqual((findings[:1], [findings[-2]], list(findings)), ([findings[0]], [findings[0]], findings))
@@ -469,6 +589,17 @@ class Surveys(unittest.TestCase):
         self.assertEqual(sorted(entry.path for entry in left_out), names)
 
 
+def lines_of(word, image):
+    """The lines of adf-survey for an image: those of its output without a word for `rescue`, whose output is a volume, and its errors."""
+    words, image = b"adf-survey\0" + word.encode() + b"\0", bytes(image)
+    output, errors, moved = ctypes.create_string_buffer(1 << 16), ctypes.create_string_buffer(1 << 16), adf._Moved()
+    call = adf.load(adf.library_path()).adf_survey_run
+    call.argtypes = adf._CALLS["adf_run"][1:]
+    call(words, len(words), image, len(image), output, len(output), errors, len(errors), ctypes.byref(moved))
+    told = (b"" if word == "rescue" else output.raw[: moved.output]) + errors.raw[: moved.errors]
+    return told.decode("ascii").splitlines()
+
+
 def table(words):
     """A block of a disk's tables with these words, and its sum in word 2."""
     block = [0] * 128
@@ -502,9 +633,18 @@ class Disks(unittest.TestCase):
         )
         self.assertEqual((disk["dh0"].number, disk[2].name), (1, "DH1"))
         self.assertEqual(adf.Volume(disk.volume("DH0"))["a"].read(), b"abc")
-        for wanted in (0, 3, "DH", "DH2"):
+        for wanted in (0, 3, -1, 2**64 + 1, "DH", "DH2", "\u20ac", b"\xff"):
             self.assertRaises(KeyError, disk.volume, wanted)
+        for wanted in (None, True, 1.0, ["DH0"]):
+            self.assertRaises(TypeError, disk.volume, wanted)
+        self.assertEqual(disk[b"dh0"], disk["DH0"])
         self.assertRaises(OSError, disk.volume, "DH1")
+
+    def test_says_that_an_image_is_shorter_than_it_was(self):
+        image = bytearray(self.disk())
+        disk = adf.Disk(image)
+        del image[31 * 512 :]
+        self.assertRaises(adf.Damaged, disk.volume, "DH0")
 
     def test_finds_volumes_whatever_their_file_system(self):
         head, volume = self.disk()[:512], self.disk()[16 * 512 : 32 * 512]
@@ -547,13 +687,23 @@ class Files(unittest.TestCase):
 
     def test_refuses_what_is_no_part(self):
         entry = self.volumes[0]["large"]
-        with self.assertRaises(ValueError):
-            entry.read(-1)
-        with self.assertRaises((TypeError, BufferError)):
-            entry.read_into(bytes(5))
+        for offset in (-1, -(10**12), -(2**64)):
+            self.assertRaises(ValueError, entry.read, offset)
+            self.assertRaises(ValueError, entry.read_into, bytearray(5), offset)
+        for number in (None, "1", 1.0, True):
+            self.assertRaises(TypeError, entry.read, number)
+            self.assertRaises(TypeError, entry.read, 0, number)
+            self.assertRaises(TypeError, entry.read_into, bytearray(5), number)
+        for room in (bytes(5), b"", memoryview(bytes(5)), memoryview(bytearray(8))[::2], 5, None, [0]):
+            self.assertRaises(TypeError, entry.read_into, room)
         for call in (self.volumes[0]["c"].read, self.volumes[0]["c"].open):
             with self.assertRaises(IsADirectoryError):
                 call()
+
+    def test_fills_buffers_of_any_items(self):
+        for volume in self.volumes:
+            for room in (array.array("H", [0] * 4), memoryview(bytearray(8)).cast("B", (2, 4)), (ctypes.c_uint32 * 2)()):
+                self.assertEqual((volume["large"].read_into(room, 100), bytes(room)), (8, LARGE[100:108]))
 
     def test_is_a_file_that_seeks(self):
         wanted = io.BytesIO(LARGE)
@@ -568,10 +718,16 @@ class Files(unittest.TestCase):
                 for whence in (-1, 3):
                     with self.assertRaises(ValueError):
                         adf.File(volume["large"]).seek(0, whence)
+                for offset in (1.0, None, True):
+                    self.assertRaises(TypeError, adf.File(volume["large"]).seek, offset)
                 with self.assertRaises(io.UnsupportedOperation):
                     file.write(b"x")
             with self.assertRaises(ValueError):
                 file.read()
+            bare = adf.File(volume["large"])
+            bare.close()
+            self.assertRaises(ValueError, bare.readinto, bytearray(1))
+            self.assertRaises(ValueError, bare.seek, 0)
             with volume["none"].open() as file:
                 self.assertEqual((file.read(), file.seek(0, 2)), (b"", 0))
             self.assertEqual(list(io.TextIOWrapper(volume["c/readme"].open(), "latin-1")), ["Hello\n"])
@@ -590,3 +746,40 @@ class Files(unittest.TestCase):
         for thread in crowd:
             thread.join()
         self.assertEqual((set(came), len(came)), ({True}, 8 * 62))
+
+
+class Pages(Folder):
+    """What the page of the module and the example in Python tell to write."""
+
+    @unittest.skipUnless(os.path.exists(os.path.join(HERE, "..", "README.md")), "needs README.md")
+    def test_change_a_volume_with_its_dates_and_boot_blocks(self):
+        dates = adf.Date(1, 2, 3), adf.Date(4, 5, 6), adf.Date(7, 8, 9)
+        entries = [adf.Addition("s", date=dates[0]), adf.Addition("readme", b"A"), adf.Addition("s/startup-sequence", b"B", b"N", 5, dates[1])]
+        old = adf.build("ffs", 1760, entries, "Games", dates)
+        for image in (old, adf.with_standard_boot(old), old[:12] + b"code" + old[16:]):
+            written("games.adf", image)
+            with open(os.path.join(HERE, "..", "README.md"), encoding="utf-8") as file:
+                (lines,) = re.findall(r"build it again.*?```python\n(.*?)```", file.read(), re.DOTALL)
+            names = {"adf": adf}
+            exec(lines, names)
+            new = adf.Volume(names["image"])
+            self.assertEqual((new.boot.raw, new.label, new.blocks, (new.date, new.altered, new.created)), (image[:1024], "Games", 1760, dates))
+            files = {entry.path: entry.read() for entry in new.entries if entry.is_file}
+            self.assertEqual(files, {"s/startup-sequence": b"B", "s/user-startup": b"echo Hello\n"})
+            self.assertEqual(new["s/startup-sequence"][5:], adf.Volume(image)["s/startup-sequence"][5:])
+
+    @unittest.skipUnless(os.path.exists(os.path.join(TOP, "examples", "list.py")), "needs examples")
+    def test_write_nothing_that_a_terminal_obeys(self):
+        names = [bytes([byte]) + b"[2J" for byte in NAME_BYTES if byte != 91 and not 97 <= byte <= 122]
+        image = adf.build("ofs", None, [adf.Addition(name, name) for name in names], b"\x1b[2J")
+        header = adf.Volume(image)[b"\x1b[2J"].header
+        for content in (image, changed(image, header + 1, 3, 8)):
+            written("a.adf", content)
+            ran = self.run_python(os.path.join(TOP, "examples", "list.py"), "a.adf")
+            self.assertEqual((ran.returncode, {byte for byte in ran.stdout + ran.stderr if not 32 <= byte <= 126}), (0, {10}))
+            self.assertIn(b"\\x1b[2J\n", ran.stdout)
+        ran = self.run_python(os.path.join(TOP, "examples", "list.py"), "a.adf", r"\xff[2J")
+        self.assertEqual((ran.returncode, ran.stdout), (0, b"\xff[2J"))
+        for word in ("nix", "\\", "\xff"):
+            ran = self.run_python(os.path.join(TOP, "examples", "list.py"), "a.adf", word)
+            self.assertEqual((ran.returncode, ran.stdout, b"Traceback" in ran.stderr), (1, b"", False))

@@ -1,9 +1,11 @@
 """Tests of boot blocks: of the module, of adf-pack and adf-unpack, and of what a catalogue tells of them."""
 
+import array
 import os
 import zlib
 
 import adf
+from adf import boots
 from tests.samples import volume
 from tests.shared import Folder, changed, image_of, written
 from tests.test_catalogue import Catalogues, pages_of, rows_of
@@ -58,9 +60,24 @@ class Boots(Folder):
             with self.assertRaises(adf.BadBoot) as caught:
                 adf.with_boot(image, source)
             self.assertEqual(caught.exception.why, why)
+        for wrong in (None, 7, "DOS", [68]):
+            for call in (adf.Boot.of, adf.with_standard_boot, adf.without_boot, lambda source: adf.with_boot(OFS, source)):
+                self.assertRaises(TypeError, call, wrong)
+        self.assertRaises(TypeError, adf.with_boot, OFS, adf.Boot.of(AMIGA)._replace(raw="DOS"))
         self.assertRaises(adf.BadBoot, adf.Boot.of, AMIGA[:-1])
         self.assertRaises(adf.BadBoot, adf.with_standard_boot, bytes(2048))
         self.assertRaises(adf.Closed, lambda: closed().boot)
+
+    def test_takes_the_bytes_that_a_buffer_shows(self):
+        apart = bytearray(2 * len(AMIGA))
+        apart[::2] = AMIGA
+        for source in (array.array("H", AMIGA), memoryview(AMIGA).cast("I"), memoryview(apart)[::2]):
+            self.assertEqual(adf.with_boot(array.array("I", OFS), source), adf.with_boot(OFS, AMIGA))
+        room = array.array("I", OFS)
+        boots.copy_into(room, AMIGA)
+        self.assertEqual(room.tobytes(), adf.with_boot(OFS, AMIGA))
+        for wrong in (OFS, memoryview(OFS), memoryview(bytearray(OFS))[::2]):
+            self.assertRaises(TypeError, boots.copy_into, wrong, AMIGA)
 
     def test_is_kept_of_what_stands_unless_it_is_lost(self):
         damaged = changed(adf.with_boot(OFS, AMIGA), 880, 440, 1)

@@ -1,6 +1,8 @@
 """Tests of volumes that are built from memory, and of adf-pack --image."""
 
 import argparse
+import array
+import ctypes
 import os
 import random
 
@@ -13,6 +15,13 @@ DATE = adf.Date(1, 2, 3)
 ENTRIES = [
     adf.Addition("c", comment="ein <\u00dcbel>"), adf.Addition("C/list", b"L" * 600, b"N", 15, DATE), adf.Addition(b"none", b""),
 ]
+
+
+class Longer(bytes):
+    """Bytes that say that there are more of them than there are."""
+
+    def __len__(self):
+        return 1 << 40
 
 
 class Volumes(Folder):
@@ -38,10 +47,12 @@ class Volumes(Folder):
         self.assertEqual(len(adf.build("ofs", None, [])), 512 * 4)
 
     def test_tells_the_entry_that_has_a_fault(self):
-        for path, why in (("x/y", "no parent"), ("none/y", "parent is file"), ("c/", "no name of an Amiga"), ("c/LIST", "exists")):
+        for path, why in (
+            *((path, "no parent") for path in ("x/y", "/c", "x\x1b/y")), ("none/y", "parent is file"), ("c/", "no name of an Amiga"), ("c/LIST", "exists"),
+        ):  # fmt: skip
             with self.assertRaises(adf.NotBuilt) as caught:
                 adf.build("ofs", 1760, [*ENTRIES, adf.Addition(path), adf.Addition("x/z")])
-            self.assertEqual((str(caught.exception), caught.exception.number), (f"{path}: {why}", 4))
+            self.assertEqual((str(caught.exception), caught.exception.number), (f"{adf.escape(path)}: {why}", 4))
             self.assertEqual(caught.exception.entry, adf.Addition(path))
         for given, why in ((adf.Addition("a" * 31), "no name"), (adf.Addition("a", comment="b" * 80), "a comment is longer")):
             with self.assertRaisesRegex(adf.NotBuilt, why):
@@ -51,7 +62,65 @@ class Volumes(Folder):
         for blocks, label, why in ((7, "", "bad size"), (2**20 + 2, "", "bad size"), (1760, "a" * 31, "a label is longer")):
             with self.assertRaisesRegex(adf.NotBuilt, why):
                 adf.build("ofs", blocks, [], label)
-        self.assertRaises(ValueError, adf.build, "pfs", 1760, [])
+        for kind in ("pfs", "ffs-international", None, 0, ["ofs"]):
+            self.assertRaises(ValueError, adf.build, kind, 1760, [])
+        for blocks in (-1, 0, 2**32 + 1760, 2**64 + 1760):
+            with self.assertRaisesRegex(adf.NotBuilt, "bad size"):
+                adf.build("ofs", blocks, [])
+        for blocks in (1760.0, "1760", True, b""):
+            self.assertRaises(TypeError, adf.build, "ofs", blocks, [])
+
+    def test_takes_the_bytes_that_a_buffer_shows(self):
+        apart = memoryview(bytes(range(12)))[::2]
+        for content, size in (
+            (array.array("H", [0x3130] * 3), 6), (array.array("I", [0x33323130]), 4), (array.array("I"), 0), (apart, 6), (bytearray(b"abc"), 3),
+            (memoryview(b"abcdef").cast("B", (2, 3)), 6), ((ctypes.c_uint16 * 2)(1, 2), 4), (Longer(b"abc"), 3),
+        ):  # fmt: skip
+            volume = adf.Volume(adf.build("ofs", None, [adf.Addition("a", content), adf.Addition("b", b"next")]))
+            self.assertEqual((volume["a"].size, volume["a"].read(), volume["b"].read()), (size, memoryview(content).tobytes(), b"next"))
+
+    def test_takes_the_largest_numbers_and_cuts_none(self):
+        most = 2**32 - 1
+        entry = adf.Addition("a", b"", protection=most, date=adf.Date(most, most, most))
+        volume = adf.Volume(adf.build("ofs", None, [entry], dates=[entry.date] * 3))
+        self.assertEqual((volume["a"].protection, volume["a"].date, volume.created), (most, entry.date, entry.date))
+        wrongs = [(2**40 + 5, ValueError), (2**32, ValueError), (-1, ValueError), *((wrong, TypeError) for wrong in (5.0, True, "5", None))]
+        for wrong, error in wrongs:
+            for given in (
+                entry._replace(protection=wrong), *(entry._replace(date=entry.date._replace(**{field: wrong})) for field in adf.Date._fields),
+            ):  # fmt: skip
+                with self.assertRaisesRegex(error, f"^'c/a': .*{wrong}"):
+                    adf.build("ofs", None, [adf.Addition("c"), given._replace(path="c/a")])
+            for place in range(3):
+                dates = [building.NEVER] * 3
+                dates[place] = adf.Date(0, wrong, 0)
+                with self.assertRaisesRegex(error, f"date of the .*{wrong}"):
+                    adf.build("ofs", None, [], dates=dates)
+
+    def test_takes_no_other_texts_buffers_and_dates(self):
+        for entry, error, said in (
+            (adf.Addition("c/\u20ac"), ValueError, r"'c/\\u20ac': the path .*'\u20ac'"),
+            (adf.Addition("a", b"", "\u20ac"), ValueError, "'a': the comment .*\u20ac"),
+            (adf.Addition("a", "text"), TypeError, "^'a': .*'str'"), (adf.Addition("a", 7), TypeError, "^'a': .*'int'"),
+            (adf.Addition("a", [65]), TypeError, "^'a': .*'list'"), (adf.Addition("a", b"", None), TypeError, "'a': the comment"),
+            (adf.Addition(None), TypeError, "^entry 2: the path"), (adf.Addition(7), TypeError, "^entry 2: the path"),
+            (adf.Addition(bytearray(b"a")), TypeError, "^entry 2: the path"), (adf.Addition("a", date=(5,)), TypeError, "^'a': the date .*5"),
+            (adf.Addition("a", date="8035:0:0"), TypeError, "^'a': the date"), (adf.Addition("a", date=None), TypeError, "^'a': the date"),
+        ):  # fmt: skip
+            with self.assertRaisesRegex(error, said):
+                adf.build("ofs", None, [adf.Addition("c"), entry])
+        for label, error in (("\u20ac", ValueError), (None, TypeError), (7, TypeError)):
+            with self.assertRaisesRegex(error, "the label"):
+                adf.build("ofs", None, [], label)
+
+    def test_writes_into_no_buffer_that_can_only_be_read(self):
+        room, plan = bytes(8192), building.Plan()
+        for wrong in (room, memoryview(room), memoryview(bytearray(16384))[::2]):
+            self.assertRaises(TypeError, building.build_into, wrong, building.new_volume("ofs", 16), plan, b"")
+        self.assertEqual(room, bytes(8192))
+        words = array.array("I", [0] * 2048)
+        building.build_into(words, building.new_volume("ofs", 16), plan, array.array("H", [1]))
+        self.assertEqual(words.tobytes(), adf.build("ofs", 16, []))
 
 
 class Images(Folder):

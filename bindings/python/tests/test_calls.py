@@ -27,7 +27,7 @@ HEADER = os.path.join(TOP, "include", "adf.h")
 STRUCTS = {
     **{name: getattr(adf, "_" + name.capitalize()) for name in "date verdict entry contents finding found surveyed part subject partition disk moved".split()},
     **{"addition": building._Addition, "new_volume": building._NewVolume, "built": building._Built, "boot_blocks": boots._BootBlocks},
-    **{"loss": _rescues._Loss, "rescue_told": _rescues._RescueTold},
+    **{"loss": _rescues._LossRow, "rescue_told": _rescues._RescueTold},
 }
 
 

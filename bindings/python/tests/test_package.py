@@ -14,6 +14,59 @@ from tests.shared import HERE, TOP, Folder, image_of, written
 SOURCE = os.path.dirname(HERE)
 ARCHIVE = os.path.join(TOP, "crates", "adf_c", "out", "libadf_c.a")
 LIBRARY = adf.load() and adf.library_path()
+USER = '''"""What a user writes."""
+
+from __future__ import annotations
+
+import array
+import mmap
+
+import adf
+
+
+def listed(path: str) -> list[str]:
+    with adf.open(path, strict=True) as volume:
+        verdict: adf.Verdict = adf.check(volume.image)
+        boot: adf.Boot = volume.boot
+        texts = [f"{entry.size} {entry.date.civil} {adf.escape(entry.path)}" for entry in volume.entries]
+        return [*texts, verdict.kind, volume.label, boot.state, adf.ROLES[volume.owners()[0]]]
+
+
+def read(volume: adf.Volume, path: str | bytes) -> bytes:
+    room = bytearray(8)
+    count: int = volume[path].read_into(room)
+    with volume[path].open() as file:
+        return file.read() + bytes(room[:count]) + volume[path].read(0, 1)
+
+
+def rebuilt(volume: adf.Volume) -> bytes:
+    entries = [adf.Addition.of(entry) for entry in volume.entries] + [adf.Addition("x", bytearray(b"X"), date=adf.Date.of("1:2:3"))]
+    try:
+        new: bytes = adf.build(volume.kind, None, entries, volume.raw_label, (volume.date, volume.altered, volume.created))
+        return adf.with_boot(adf.with_standard_boot(adf.without_boot(new)), volume.boot)
+    except (adf.NotBuilt, adf.BadBoot) as error:
+        raise SystemExit(error.why)
+
+
+def surveyed(image: adf.Image) -> list[str]:
+    new, left_out = adf.rescue(image, 1760)
+    survey: adf.Survey = adf.survey(image)
+    lost: list[adf.LeftOut] = [each for each in left_out if each.reason is adf.Reason.DAMAGED]
+    paths = [found.path for found in survey.entries] + [finding.path or "" for finding in survey.findings]
+    return [*paths, *map(str, lost), adf.unescape(survey.entries[0].path).decode("latin-1"), str(len(new))]
+
+
+def partition(image: mmap.mmap) -> adf.Partition:
+    return adf.Disk(image)["DH0"] if adf.partitions(image) else adf.Disk(memoryview(array.array("H")))[1]
+
+
+def ran() -> tuple[int, bytes, bytes]:
+    answer: adf.Answer = adf.run(["check"], b"")
+    return answer.status, answer.output, answer.errors + adf.library_path().encode() + bytes(adf.library_version())
+
+
+errors: tuple[type[Exception], ...] = (adf.Refused, adf.NoSuchPath, adf.NotAFile, adf.Damaged, adf.Closed, adf.NoMemory, adf.NoLibrary, adf.DamagedWarning)
+'''
 
 
 def has_venv():
@@ -71,6 +124,18 @@ class Packages(Folder):
         written("libadf.so", subprocess.run(words, cwd=SOURCE, env=environment, check=True, stdout=subprocess.PIPE).stdout)
         shown = subprocess.run(["nm", "-D", "--defined-only", "libadf.so"], check=True, stdout=subprocess.PIPE).stdout.decode().split()[2::3]
         self.assertTrue(set(adf._CALLS) <= set(shown) and all(name.startswith("adf_") for name in shown), shown)
+
+    @unittest.skipUnless(shutil.which("mypy"), "needs mypy")
+    def test_is_typed_for_those_who_use_it(self):
+        for text, status in ((USER, 0), (USER.replace("volume.kind, None", "volume.blocks, None"), 1), (USER + "adf.nix()\n", 1)):
+            written("user.py", text.encode())
+            ran = subprocess.run(["mypy", "--strict", "user.py"], env={**os.environ, "MYPYPATH": SOURCE}, stdout=subprocess.PIPE)
+            self.assertEqual((ran.returncode, ran.stdout.count(b": error:")), (status, status), ran.stdout.decode())
+
+    def test_names_all_that_it_exports(self):
+        public = {name for name, value in vars(adf).items() if getattr(value, "__module__", "").startswith("adf") and not name.startswith("_")}
+        self.assertEqual(public - set(adf.__all__), set())
+        self.assertEqual([name for name in adf.__all__ if not hasattr(adf, name)], [])
 
     @unittest.skipUnless(has_venv(), "needs venv")
     def test_is_installed_by_pip(self):

@@ -66,8 +66,12 @@ class Stands(Folder):
         volume = adf.Rescued(DAMAGED)
         copy = pickle.loads(pickle.dumps(volume))
         self.assertEqual((copy.left_out, copy["b"].read()), ([FAULT], b"B"))
+        first = volume.survey.entries[0]
         volume.close()
         self.assertRaises(adf.Closed, volume.__getitem__, "b")
+        for call in (lambda: volume.findings, lambda: volume.survey, lambda: volume.refused, lambda: volume.entry_of(first), lambda: pickle.dumps(volume)):
+            self.assertRaises(adf.Closed, call)
+        self.assertEqual((volume.left_out, repr(volume)), ([FAULT], "<adf.Rescued 'Kept': closed, 1 left out>"))
         for name in ("left_out", "survey", "more"):
             self.assertRaises(AttributeError, setattr, copy, name, 1)
 

@@ -99,7 +99,9 @@ pub fn build(kind: Kind, blocks: Option<u32>, entries: &[Addition<'_>], label: &
     };
     const MOST_BLOCKS: u32 = 1 << 20;
     let bytes = if volume.blocks <= MOST_BLOCKS { 512 * volume.blocks as usize } else { 0 };
-    let mut image = vec![0; bytes];
+    let mut image = Vec::new();
+    image.try_reserve_exact(bytes).map_err(|_| NotBuilt { refusal: BuildRefusal::NoMemory, number: 0, need: 0, have: 0 })?;
+    image.resize(bytes, 0);
     done(ffi::build(&volume, &additions, &contents, &mut image))?;
     Ok(image)
 }
@@ -111,7 +113,10 @@ fn table(entries: &[Addition<'_>]) -> (Vec<AdditionRecord>, Vec<u8>) {
     for (place, entry) in entries.iter().enumerate() {
         let path = entry.path.to_ascii_uppercase();
         let slash = entry.path.iter().rposition(|byte| *byte == b'/');
-        let parent = numbers.get(&path[..slash.unwrap_or(0)]).copied().unwrap_or(place + 1);
+        let parent = match slash {
+            Some(0) => place + 1,
+            slash => numbers.get(&path[..slash.unwrap_or(0)]).copied().unwrap_or(place + 1),
+        };
         let bytes = entry.content.unwrap_or_default();
         let mut record = AdditionRecord {
             parent,

@@ -16,8 +16,9 @@ pub struct Remains {
 /// If several entries have the path, up to the case of letters, the error is `not unique`: `Found::remains` tells them apart.
 pub fn remains(path: &str, image: &[u8]) -> Result<Remains, Failed> {
     let survey = Survey::of(image).map_err(failed)?;
-    let wanted = unescape(path).map(|path| in_capitals(&path));
-    if survey.entries().filter(|found| Some(in_capitals(&found.path_bytes())) == wanted).count() > 1 {
+    let wanted: Option<Vec<_>> = path.split('/').map(|name| Some(in_capitals(&unescape(name)?))).collect();
+    let names = |found: Found| found.names().into_iter().map(in_capitals).collect::<Vec<_>>();
+    if survey.entries().map(names).filter(|names| wanted.as_ref() == Some(names)).count() > 1 {
         return Err(Failed::with(1, "not unique"));
     }
     match survey.find(path) {

@@ -1,7 +1,7 @@
 use crate::ffi::{self, LossRecord};
 use crate::numbered::numbered;
-use crate::text::unescape;
-use crate::{escape, Refused};
+use crate::text::unspelled;
+use crate::Refused;
 use std::fmt;
 
 /// A new, sound volume of all that stands in a damaged image, and what it leaves out.
@@ -16,8 +16,9 @@ pub struct Rescue {
 #[derive(Clone, Debug, PartialEq, Eq)]
 pub struct LeftOut {
     pub reason: Reason,
-    /// The bytes of the path of an entry, or of the directory in which headers are lost; none for the root and for blocks.
-    pub path: Vec<u8>,
+    /// The path of an entry, or of the directory in which headers are lost, as `adf-survey` spells it (`Found::path`); empty for the root
+    /// and for blocks.
+    pub path: String,
     /// The header of the entry or of the directory, 0 for the root; or the first of the blocks.
     pub first: u32,
     /// The same header; or the last of the blocks.
@@ -38,9 +39,16 @@ numbered! {
     Blocks = 5,
 }
 
+impl LeftOut {
+    /// The bytes of the path. A name of a damaged entry may have any, as `/`, or be `..`, which leads out of a folder.
+    pub fn path_bytes(&self) -> Vec<u8> {
+        unspelled(&self.path).unwrap_or_default()
+    }
+}
+
 impl fmt::Display for LeftOut {
     fn fmt(&self, f: &mut fmt::Formatter<'_>) -> fmt::Result {
-        let (path, LeftOut { first, last, .. }) = (escape(&self.path), self);
+        let LeftOut { path, first, last, .. } = self;
         match self.reason {
             Reason::Damaged => write!(f, "damaged: {path}"),
             Reason::Link => write!(f, "link: {path}"),
@@ -64,6 +72,5 @@ pub fn rescue(image: &[u8]) -> Result<Rescue, Refused> {
 /// A row of the table of losses, with its path in the text of all paths.
 fn left_out_of(loss: &LossRecord, paths: &[u8]) -> LeftOut {
     let path = paths.get(loss.path..).and_then(|rest| rest.get(..loss.path_length)).unwrap_or_default();
-    let path = unescape(&String::from_utf8_lossy(path)).unwrap_or_default();
-    LeftOut { reason: loss.why.into(), path, first: loss.first, last: loss.last }
+    LeftOut { reason: loss.why.into(), path: String::from_utf8_lossy(path).into_owned(), first: loss.first, last: loss.last }
 }

@@ -186,17 +186,22 @@ impl<'survey> Found<'survey> {
         self.survey.entry(self.record().parent)
     }
 
-    /// The path: names with `/` between them, their bytes read as Latin-1.
+    /// The path as `adf-survey` spells it: names in the escape form with `/` between them. A name need not be one: a `/` or `:` in it is
+    /// `\x2f` or `\x3a`, and one without bytes is `\x`.
     pub fn path(&self) -> String {
-        text::from_latin(&self.path_bytes())
+        text::spelled(&self.names())
     }
 
-    /// The bytes of the path.
+    /// The bytes of the path. A name may have any bytes, as `/`, or be `..`, which leads out of a folder.
     pub fn path_bytes(&self) -> Vec<u8> {
-        let mut names: Vec<&[u8]> =
-            std::iter::successors(Some(*self), Found::parent).map(|found| found.name().as_bytes()).collect();
+        self.names().join(&b'/')
+    }
+
+    /// The names of its directories, from the root on, and its own.
+    pub(crate) fn names(&self) -> Vec<&'survey [u8]> {
+        let mut names: Vec<_> = std::iter::successors(Some(*self), Found::parent).map(|found| found.name().as_bytes()).collect();
         names.reverse();
-        names.join(&b'/')
+        names
     }
 
     /// What is left of this file, for which the image is surveyed again: that of this entry, also where another one has its path. A

@@ -50,6 +50,25 @@ pub fn unescape(text: &str) -> Option<Vec<u8>> {
     Some(bytes)
 }
 
+/// How `adf-survey` spells a name without bytes.
+const NO_BYTES: &str = "\\x";
+
+/// A path of names that need not be names, as `adf-survey` spells it: each in the escape form, in which `/` and `:` are `\x2f` and
+/// `\x3a`; a name without bytes is `\x`.
+pub(crate) fn spelled(names: &[&[u8]]) -> String {
+    let name = |name: &&[u8]| match name {
+        [] => NO_BYTES.to_owned(),
+        _ => escape(name).replace('/', "\\x2f").replace(':', "\\x3a"),
+    };
+    names.iter().map(name).collect::<Vec<_>>().join("/")
+}
+
+/// The bytes of a path that `adf-survey` spells; `None` if it spells none so.
+pub(crate) fn unspelled(path: &str) -> Option<Vec<u8>> {
+    let name = |name: &str| if name == NO_BYTES { Some(Vec::new()) } else { unescape(name) };
+    Some(path.split('/').map(name).collect::<Option<Vec<_>>>()?.join(&b'/'))
+}
+
 /// The bytes with their letters in capitals, as the volumes compare names that ignore the case of most letters: those of Latin-1.
 pub(crate) fn in_capitals(bytes: &[u8]) -> Vec<u8> {
     let capital = |&byte: &u8| match byte {

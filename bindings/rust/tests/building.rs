@@ -46,6 +46,7 @@ fn a_fault_names_its_entry() {
         (b"read/y", BuildRefusal::ParentIsFile),
         (b"c/", BuildRefusal::BadName),
         (b"c/LIST", BuildRefusal::Exists),
+        (b"/y", BuildRefusal::NoParent),
     ] {
         assert_eq!((fault(path).refusal, fault(path).number), (refusal, 4));
     }

@@ -373,6 +373,6 @@ fn a_reason_that_is_new_keeps_its_number() {
     assert_eq!(adf::rescue(b"").unwrap_err(), Refused { cause: Cause::Unknown(NEW + 1), block: 3 });
     let adf::Rescue { image, left_out } = adf::rescue(&[0; 512]).unwrap();
     assert_eq!(image, [b'A'; 512]);
-    let unknown = adf::LeftOut { reason: adf::Reason::Unknown(NEW), path: b"a/b".to_vec(), first: 7, last: 7 };
+    let unknown = adf::LeftOut { reason: adf::Reason::Unknown(NEW), path: "a/b".to_owned(), first: 7, last: 7 };
     assert_eq!((&left_out[..], unknown.to_string()), (&[unknown][..], "unknown reason 24: a/b".to_owned()));
 }

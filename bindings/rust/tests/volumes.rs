@@ -416,13 +416,42 @@ fn a_path_that_two_files_have_is_refused() {
 }
 
 #[test]
+fn names_that_are_none_are_spelled_as_by_the_command() {
+    // The header of `c` is block 2, that of `ab` block 3, with its data in block 4. Byte 432 is the length of a name, 433 its first; the
+    // type of the data block becomes 0.
+    let mut sound = built("volume ofs 16\ndir 0:0:0 00000000 c\nfile 0:0:0 00000000 c/ab\ndata 41\n");
+    sound[512 * 4 + 3] = 0;
+    let cases: [(&[u8], &str, &[u8]); 5] = [
+        (b"\x02/b", r"c/\x2fb", b"c//b"),
+        (b"\x02..", "c/..", b"c/.."),
+        (b"\x02:\x1b", r"c/\x3a\x1b", b"c/:\x1b"),
+        (b"\x00ab", r"c/\x", b"c/"),
+        (b"\x02\\\xfc", r"c/\x5c\xfc", b"c/\\\xfc"),
+    ];
+    for (name, path, bytes) in cases {
+        let mut image = sound.clone();
+        image[512 * 3 + 432..][..3].copy_from_slice(name);
+        let survey = Survey::of(&image).unwrap();
+        let found = survey.entries().find(|found| found.is_file()).unwrap();
+        assert_eq!((found.path(), &found.path_bytes()[..]), (path.to_owned(), bytes));
+        let lines = String::from_utf8(adf::survey(&["--list"], &image).output).unwrap();
+        assert!(lines.lines().any(|line| line.starts_with("damaged file ") && line.ends_with(&format!(" {path}"))), "{lines}");
+        let left_out = rescue(&image).unwrap().left_out;
+        let told = left_out.iter().find(|each| each.reason == Reason::Damaged).unwrap();
+        assert_eq!((told.to_string(), told.path_bytes()), (format!("damaged: {path}"), bytes.to_vec()));
+        let lines: String = left_out.iter().map(|each| format!("{each}\n")).collect();
+        assert_eq!(String::from_utf8(adf::survey(&["rescue"], &image).errors).unwrap(), lines);
+    }
+}
+
+#[test]
 fn a_rescue_tells_what_it_leaves_out() {
     // The header of `a` is block 2, its data 3 to 5; the type of 3 becomes 0.
     let mut image = built("volume ofs 16\nfile 0:0:0 00000000 a\nfill 1000 41\ndir 0:0:0 00000000 c\n");
     assert_eq!(rescue(&image).unwrap().left_out, []);
     image[3 * 512 + 3] = 0;
     let rescued = rescue(&image).unwrap();
-    assert_eq!(rescued.left_out, [LeftOut { reason: Reason::Damaged, path: b"a".to_vec(), first: 2, last: 2 }]);
+    assert_eq!(rescued.left_out, [LeftOut { reason: Reason::Damaged, path: "a".to_owned(), first: 2, last: 2 }]);
     let volume = Volume::check_owned(rescued.image).unwrap();
     assert_eq!(volume.entries().map(|entry| entry.path()).collect::<Vec<_>>(), ["c"]);
     assert_eq!(rescue(b"").unwrap_err(), Refused { cause: Cause::BadSize, block: 0 });
@@ -434,8 +463,8 @@ fn a_rescue_tells_what_is_lost() {
     let mut image = built("volume ofs 64\ndir 0:0:0 00000000 c\nfile 0:0:0 00000000 c/x\nfill 900 41\n");
     image[3 * 512 + 3] = 0;
     let left_out = rescue(&image).unwrap().left_out;
-    let headers = LeftOut { reason: Reason::Headers, path: b"c".to_vec(), first: 2, last: 2 };
-    let blocks = LeftOut { reason: Reason::Blocks, path: Vec::new(), first: 4, last: 5 };
+    let headers = LeftOut { reason: Reason::Headers, path: "c".to_owned(), first: 2, last: 2 };
+    let blocks = LeftOut { reason: Reason::Blocks, path: String::new(), first: 4, last: 5 };
     assert_eq!(left_out, [headers, blocks]);
     assert_eq!(left_out.iter().map(LeftOut::to_string).collect::<Vec<_>>(), ["lost: in c/", "lost: blocks 4 to 5"]);
 }
@@ -447,6 +476,21 @@ fn escape_forms_are_read_back() {
     for text in ["\\", "\\x", "\\x0", "\\x0g", "\\y00", "\\x+1", "\u{fc}", "\n"] {
         assert_eq!(adf::unescape(text), None, "{text}");
     }
+}
+
+#[test]
+fn the_example_prints_nothing_that_a_terminal_obeys() {
+    // Cargo builds the examples beside the tests, unless it is asked for one test alone.
+    let example = std::env::current_exe().unwrap().ancestors().nth(2).unwrap().join("examples/list");
+    if !example.exists() {
+        return;
+    }
+    let path = std::env::temp_dir().join(format!("adf-list-{}.adf", std::process::id()));
+    std::fs::write(&path, built("volume ofs 16\nfile 0:0:0 00000000 \\x1b[2J\ndata 41\n")).unwrap();
+    let ran = |words: &[&str]| std::process::Command::new(&example).arg(&path).args(words).output().unwrap().stdout;
+    let (listed, read) = (ran(&[]), ran(&["\\x1b[2J"]));
+    std::fs::remove_file(&path).unwrap();
+    assert_eq!((listed, read), (b"         1 \\x1b[2J\n".to_vec(), b"A".to_vec()));
 }
 
 #[test]
@@ -463,7 +507,7 @@ fn what_stands_is_opened() {
     assert_eq!(opened.volume.find("c/readme").unwrap().read(), b"Hello\n");
     assert_eq!(opened.volume.find("large").err(), Some(NotFound::Nothing));
     let header = header as u32;
-    assert_eq!(opened.left_out, [LeftOut { reason: Reason::Damaged, path: b"large".to_vec(), first: header, last: header }]);
+    assert_eq!(opened.left_out, [LeftOut { reason: Reason::Damaged, path: "large".to_owned(), first: header, last: header }]);
 
     assert_eq!(open(&[]).err(), Some(Refused { cause: Cause::BadSize, block: 0 }));
     assert_eq!(open(&[0; 8192]).err(), Some(Refused { cause: Cause::NotDos, block: 0 }));

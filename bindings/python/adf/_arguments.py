@@ -1,0 +1,70 @@
+"""What callers give, checked before the library gets it: numbers, texts and buffers. ctypes cuts a number that is too large, and takes
+the items of a buffer for bytes."""
+
+from __future__ import annotations
+
+import ctypes
+import mmap
+import operator
+from typing import Any, Union
+
+Image = Union[bytes, bytearray, memoryview, mmap.mmap]
+Buffer = Union[bytearray, memoryview, mmap.mmap]
+MOST_NUMBER = 2**32 - 1
+
+
+def whole(what: str, given: Any) -> int:
+    """A whole number, of any size. TypeError if it is another thing, as a bool."""
+    if isinstance(given, bool) or not hasattr(type(given), "__index__"):
+        raise TypeError(f"{what} is a whole number, and not {given!r}")
+    return operator.index(given)
+
+
+def within(what: str, given: Any, most: int = MOST_NUMBER) -> int:
+    """A whole number from 0 to the most. TypeError and ValueError say what is wrong, and with which value."""
+    number = whole(what, given)
+    if not 0 <= number <= most:
+        raise ValueError(f"{what} is from 0 to {most}, and not {number}")
+    return number
+
+
+def raw(what: str, given: Any) -> bytes:
+    """The bytes of a text in Latin-1, or bytes themselves."""
+    if isinstance(given, bytes):
+        return plain(given)
+    if not isinstance(given, str):
+        raise TypeError(f"{what} is a str or bytes, and not {type(given).__name__}")
+    try:
+        return str.encode(given, "latin-1")
+    except UnicodeEncodeError as error:
+        raise ValueError(f"{what} has a letter that is not in Latin-1: {given[error.start]!r}") from None
+
+
+def plain(image: Image) -> bytes:
+    """The bytes that a buffer shows: bytes themselves, and a copy of anything else."""
+    return image if type(image) is bytes else bytes(memoryview(image))
+
+
+def view(image: Image) -> memoryview:
+    """The bytes that a buffer shows, one behind the other; not copied if they stand so in memory."""
+    shown = memoryview(image)
+    try:
+        return shown.cast("B")
+    except (TypeError, ValueError):  # it leaves bytes out, or its items are of a kind that Python does not cast
+        return memoryview(shown.tobytes())
+
+
+def to_read(image: Image) -> tuple[Any, int]:
+    """A buffer as the library reads it, and how many bytes. It can be neither closed nor resized while they are held."""
+    shown = view(image)
+    if not shown.readonly:
+        return to_write(shown)
+    return (image if type(image) is bytes else bytes(shown)), len(shown)
+
+
+def to_write(room: Buffer) -> tuple[Any, int]:
+    """A buffer as the library writes into it, and how many bytes. TypeError if it can only be read, or leaves bytes out."""
+    shown = memoryview(room).cast("B")
+    if shown.readonly:
+        raise TypeError("a buffer to write into is needed, and not one that can only be read")
+    return (ctypes.c_char * len(shown)).from_buffer(shown) if len(shown) else b"", len(shown)
