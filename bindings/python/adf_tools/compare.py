@@ -9,7 +9,7 @@ from typing import Dict, Iterator, List, NamedTuple, Optional
 
 import adf
 from adf_tools.collection import Image, images_in
-from adf_tools.names import letters
+from adf_tools.names import letters, spelled_letters
 from adf_tools.program import FAILED, REFUSED, command_line, host_text, stop
 from adf_tools.volumes import disk_of, file_sum, sound_sums, volume_of
 
@@ -86,7 +86,7 @@ def side_of(image: bytes) -> Side:
     except adf.Refused as refused:
         survey = adf.survey(image)
         found = sound_sums(survey)
-        things = {letters(entry.path): thing_of(entry, found_sum(entry, found)) for entry in survey.entries}
+        things = {spelled_letters(entry.path): thing_of(entry, found_sum(entry, found)) for entry in survey.entries}
         return Side(image, str(refused), letters(survey.label), things)
     sums = ((entry, file_sum(entry) if entry.is_file else "") for entry in volume.entries)
     return Side(image, "ok", letters(volume.label), {letters(entry.path): thing_of(entry, digest) for entry, digest in sums})

@@ -27,12 +27,18 @@ BESIDE = rb"(?<=\.uae)m\Z"
 NO_LETTER = re.compile(r"[\x00-\x1f\\\x7f-\x9f]")
 CONTROL = re.compile(r"[\x00-\x1f\x7f-\x9f\u2028\u2029]")
 ESCAPED = re.compile(rb"\\x([0-9a-f]{2})")
+ESCAPED_LETTER = re.compile(r"\\x([a-f][0-9a-f])")
 
 
 def letters(text: str | bytes) -> str:
     """The text of bytes, or of a text in Latin-1, with \\x and two digits for what has no letter."""
     plain = text.decode("latin-1") if isinstance(text, bytes) else text
     return NO_LETTER.sub(lambda found: f"\\x{ord(found[0]):02x}", plain)
+
+
+def spelled_letters(path: str) -> str:
+    """The letters of a path that adf-survey spells: \\x and two digits stay for what has no letter, and for a `/` in a name."""
+    return ESCAPED_LETTER.sub(lambda found: chr(int(found[1], 16)), path)
 
 
 def one_line(text: object) -> str:

@@ -9,7 +9,7 @@ from typing import Iterator, Optional
 
 import adf
 from adf_tools.collection import Image, images_in, unread
-from adf_tools.names import host_letters, letters
+from adf_tools.names import host_letters, spelled_letters
 from adf_tools.trees import named
 from adf_tools.volumes import Columns, Record, content_facts, disk_of, disk_record, image_record, limited, record, volume_of
 
@@ -93,7 +93,7 @@ class Reader:
             return found
         link = found.columns["page"][: -len("html")] + "adf"
         self.write(link, volume)
-        return found._replace(columns={**found.columns, "rescued": link}, left_out=limited((each.why, letters(each.path)) for each in left_out))
+        return found._replace(columns={**found.columns, "rescued": link}, left_out=limited((each.why, spelled_letters(each.path)) for each in left_out))
 
     def write(self, link: str, content: bytes) -> None:
         """Writes a file of the catalogue, whole or not at all."""

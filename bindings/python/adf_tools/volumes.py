@@ -11,7 +11,7 @@ from typing import Any, Dict, Iterable, Iterator, List, NamedTuple, Optional, Se
 import adf
 from adf_tools import icons
 from adf_tools.advice import advice_of, length_that_fits, passed
-from adf_tools.names import letters
+from adf_tools.names import letters, spelled_letters
 from adf_tools.picture import roles_of_refused
 from adf_tools.sums import boot_facts, sums_of
 
@@ -67,8 +67,13 @@ def file_sum(entry: adf.Entry) -> str:
     return digest.hexdigest()
 
 
+def path_of(entry: adf.Entry | adf.Found) -> str:
+    """The path of an entry in letters; of one that is found as adf-survey spells it."""
+    return letters(entry.path) if isinstance(entry, adf.Entry) else spelled_letters(entry.path)
+
+
 def entry_row(entry: adf.Entry | adf.Found, digest: Optional[str], state: str) -> Tuple[Any, ...]:
-    kind, path, comment = "file" if entry.is_file else "dir", letters(entry.path), letters(entry.comment)
+    kind, path, comment = "file" if entry.is_file else "dir", path_of(entry), letters(entry.comment)
     return kind, path, entry.size, entry.protection, str(entry.date), comment, entry.header, state, digest
 
 
@@ -96,7 +101,7 @@ def icon_rows(entries: Sequence[adf.Entry] | Sequence[adf.Found]) -> Iterator[Tu
         if entry.is_file and not entry.parent and entry.raw_name.lower().endswith(INFO) and entry.raw_name.lower()[: -len(INFO)] in drawers:
             icon = icons.icon_of(content_of(entry)) if entry.size <= icons.MOST_BYTES else None
             if icon:
-                yield letters(entry.path), icon.width, icon.height, icon.palette, zlib.compress(icon.pixels)
+                yield path_of(entry), icon.width, icon.height, icon.palette, zlib.compress(icon.pixels)
 
 
 def content_of(entry: adf.Entry | adf.Found) -> bytes:
@@ -156,7 +161,7 @@ def refused_record(image: bytes, refused: adf.Refused, columns: Columns, has_tex
 def finding_rows(survey: adf.Survey) -> Iterator[Tuple[Any, ...]]:
     for place in range(passed(survey), min(len(survey.findings), MOST_FINDINGS)):
         first, last, cause, *paths = survey.findings[place]
-        yield first, last, cause, *(None if path is None else letters(path) for path in paths)
+        yield first, last, cause, *(None if path is None else spelled_letters(path) for path in paths)
 
 
 def image_record(image: bytes, columns: Columns, has_texts: bool) -> Record:

@@ -4,8 +4,9 @@ import gzip
 import os
 import zipfile
 
+import adf
 from tests.samples import BAD, OFS, Asked, disk, volume
-from tests.shared import written
+from tests.shared import changed, written
 from tests.test_catalogue import Page, pages_of
 
 
@@ -79,3 +80,14 @@ class Twice(Asked):
         for one, told in bad:
             self.refused(3, told, "catalogue", "compare", one, "two.zip/b.adf")
         self.refused(3, "nix: ", "catalogue", "compare", "nix", "two.zip/b.adf")
+
+    def test_compares_the_names_of_a_damaged_image_by_their_letters(self):
+        files = volume(("B\\xfccher", b"1"), ("a\\x5cb", b"2"), ("\\x1b[2J", b"3"))
+        written("one.adf", files)
+        written("other.adf", changed(files, 880, 440, 1))
+        ran = self.run_tool("catalogue", "compare", "one.adf", "other.adf")
+        self.assertEqual(ran.stdout.decode().splitlines(), ["verdict\tok\tblock 880: bad sum", "blocks\t880\t880"])
+        os.mkdir("damaged")
+        written("damaged/x.adf", changed(files, adf.Volume(files)["B\xfccher"].header, 433, ord("B") ^ ord("/")))
+        self.catalogue("damaged", "out", status=1)
+        self.assertEqual(sorted(self.asked("out", "SELECT path FROM entries")), [("\\x1b[2J",), ("\\x2f\xfccher",), ("a\\x5cb",)])
