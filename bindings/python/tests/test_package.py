@@ -89,10 +89,16 @@ class Packages(Folder):
         words = [sys.executable, "-c", line]
         return subprocess.run(words, cwd=source or self.source, env=environment, check=True, stdout=subprocess.PIPE).stdout.decode().strip()
 
+    def test_names_the_glibc_that_a_library_wants(self):
+        for wants, newest in ((b"GLIBC_2.2.5\0GLIBC_2.14\0GLIBC_2.9", 14), (b"GLIBC_2.4", 5), (b"", 5)):
+            line = f"import backend; print(backend.tag_of({wants!r}))"
+            ran = subprocess.run([sys.executable, "-c", line], cwd=os.path.dirname(HERE), check=True, stdout=subprocess.PIPE)
+            self.assertEqual(ran.stdout.decode().strip(), f"py3-none-manylinux_2_{newest}_x86_64")
+
     def test_has_the_library_if_there_is_one(self):
-        for library, tag in (("", "any"), (LIBRARY, "linux_x86_64")):
+        for library, tag in (("", "any"), (LIBRARY, "manylinux_2_[0-9]+_x86_64")):
             name = self.built_by("build_wheel", library=library)
-            self.assertEqual(name, f"adf-{adf.__version__}-py3-none-{tag}.whl")
+            self.assertRegex(name, rf"\Aadf-{adf.__version__}-py3-none-{tag}\.whl\Z")
             with zipfile.ZipFile(name) as wheel:
                 names = set(wheel.namelist())
             self.assertEqual("adf/libadf.so.1" in names, bool(library))
