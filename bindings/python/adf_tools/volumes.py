@@ -89,7 +89,7 @@ def tree_sum(volume: adf.Volume, rows: Rows) -> str:
     """A sum of all that a volume is but its dates, its free blocks, and which blocks hold what."""
     digest = hashlib.sha256(volume.boot.raw)
     digest.update(repr((volume.kind, volume.blocks, volume.label)).encode())
-    for kind, path, size, protection, _, comment, _, _, content in sorted(rows, key=lambda row: row[1]):
+    for kind, path, size, protection, _, comment, _, _, content in sorted(rows, key=lambda row: str(row[1])):
         digest.update(repr((kind, path, size, protection, comment, content)).encode())
     return digest.hexdigest()
 

@@ -9,7 +9,9 @@ import subprocess
 import unittest
 
 import adf
+from adf_tools.names import host_name
 from tests.shared import TOP, Folder, built, changed, image_of, written
+from tests.test_unpack import renamed
 
 SOURCES = glob.glob(os.path.join(TOP, "bindings", "fuse", "*.c"))
 RIGID_DISK = {0: 0x5244534B, 1: 64, 4: 512, 7: 3, 32: 0, 33: 15}
@@ -74,6 +76,24 @@ class Mounts(Folder):
             *((("a.adf", "bad.adf"), 3, "bad.adf: Not a directory"), (("seen", "seen"), 3, "seen: Is a directory")),
         ):
             self.assertEqual(self.mount(*words), (status, "", f"adf-mount: {told}\n"))
+
+    def test_shows_damaged_files_under_names_that_stay_in_the_folder(self):
+        image = built("volume ofs 1760\n" + "".join(f"file 8035:0:0 00000000 {name}\ndata 4{n}\n" for n, name in enumerate("abc")))
+        header = adf.Volume(image)["b"].header
+        twice = changed(renamed(image, b"b"), header, 20, 1)  # the sum of `b` is wrong too: two damaged files are called `b`
+        other = max(adf.Volume(image)["a"].header, header)
+        for content, names in (
+            *((renamed(image, b"../x"), ["..\\x2fx"]), (renamed(image, b"con.uaem"), ["co\\x6e.uae\\x6d"])),
+            *((renamed(image, b"\1" * 64), [host_name(b"\1" * 64).decode()]), (twice, ["b", f"b-{other}"])),
+        ):
+            written("b.adf", content)
+            self.assertEqual(self.mount("--damaged", "left", "b.adf", "seen")[0], 0)
+            self.assertEqual(sorted(os.listdir("seen/left")), names)
+            for name in names:
+                with open(f"seen/left/{name}", "rb") as file:
+                    self.assertIn(file.read(), (b"@", b"A"))
+            subprocess.run(["fusermount3", "-u", "seen"], check=True)
+        self.leaves("a.adf", "adf-mount", "b.adf", adf.SONAME, "seen")
 
     def test_says_how_long_an_image_is(self):
         with open("long.adf", "wb") as file:

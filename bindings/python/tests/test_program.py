@@ -102,7 +102,8 @@ class Streams(Folder):
             if name != "map":
                 self.refused(1, "bad size", name, "/dev/null", *words)
         self.refused(3, "pipe: a pipe: give it as standard input", "pack", "--boot", "pipe", "--image", "a.adf", ".")
-        self.assertEqual(self.shell("head -c 9 /dev/zero | {} -m adf_tools.recipe /dev/stdin"), (1, "adf-recipe: /dev/stdin: block 0: bad size; it has 9 bytes\n"))
+        told = "adf-recipe: /dev/stdin: block 0: bad size; it has 9 bytes\n"
+        self.assertEqual(self.shell("head -c 9 /dev/zero | {} -m adf_tools.recipe /dev/stdin"), (1, told))
 
 
 class NewFolders(Folder):
