@@ -10,11 +10,11 @@ import sys
 from typing import Callable, Dict, Iterator, Tuple
 
 import adf
-from adf_tools import compare, database, find, known, merge, store, tables, trees
+from adf_tools import compare, database, find, known, merge, store, trees
 from adf_tools.lists import INDEX
+from adf_tools.out_folder import ENTRIES, FOLDER, OTHER_NAMES, PAGES, PARTS, OutFolder, OwnNames, is_own
 from adf_tools.pages import count_of
-from adf_tools.program import FAILED, REFUSED, WORKING, add_escape, begin, command_line, host_text, new_folder
-from adf_tools.reader import FOLDER
+from adf_tools.program import FAILED, REFUSED, add_escape, begin, command_line, host_text, new_folder
 from adf_tools.scan import Options, Scan
 from adf_tools.site import Site
 
@@ -25,59 +25,87 @@ def is_catalogue(path: str) -> bool:
     return any(os.path.isfile(os.path.join(path, name)) for name in (database.NAME, FORMER))
 
 
+def made(path: str) -> int:
+    """The descriptor of a new folder with an empty database, which no other run has from its begin on."""
+    with contextlib.ExitStack() as stack:
+        with new_folder(path) as folder:
+            with database.opened(os.path.join(folder, database.NAME), True, path):
+                pass
+            held = database.lock(folder, FOLDER)
+            stack.callback(os.close, held)
+        stack.pop_all()
+    return held
+
+
 @contextlib.contextmanager
-def folder_for(path: str) -> Iterator[bool]:
-    """The folder of a catalogue, which is made with an empty database if nothing is there; tells whether it has none. One that is made is
-    removed again if no file was read."""
+def folder_for(path: str) -> Iterator[OutFolder]:
+    """The folder of a catalogue, which no other run has. It is made with an empty database if nothing is there; one that is made is removed
+    again if no file was read."""
     path = path.rstrip("/") or path
     is_new = not is_catalogue(path)
-    if is_new:
-        with new_folder(path) as folder, database.opened(os.path.join(folder, database.NAME), True, path):
-            pass
+    out = OutFolder(path, made(path) if is_new else database.lock(path, os.O_DIRECTORY))
     try:
-        with database.alone(path):
-            yield not os.path.isfile(os.path.join(path, database.NAME))
+        yield out
     except BaseException:
-        if is_new and not has_files(os.path.join(path, database.NAME)):
-            trees.remove(path)
+        if is_new:
+            unmake(out)
         raise
+    finally:
+        os.close(out.fd)
 
 
-def has_files(path: str) -> bool:
-    """Whether a database has what was read of a file, from which the next run can go on."""
-    try:
-        with contextlib.closing(database.connection_to(path, "ro")) as connection:
-            return connection.execute("SELECT COUNT(*) FROM files").fetchone()[0] > 0
-    except sqlite3.Error:
-        return False
+def unmake(out: OutFolder) -> None:
+    """Removes a catalogue that was made, if it has nothing that was read of a file, from which the next run can go on: what it has written,
+    and its database. What others have put there is left."""
+    with contextlib.suppress(sqlite3.Error, OSError):
+        with contextlib.closing(database.connection_to(out.path_of(database.NAME), "ro")) as connection:
+            if connection.execute("SELECT COUNT(*) FROM files").fetchone()[0]:
+                return
+            names = sorted(OwnNames(connection, out).names, key=lambda name: name.endswith("/"))
+        for name in names:
+            out.remove_any(name)
+        for name in (database.NAME, *(database.NAME + end for end in database.BESIDE)):
+            out.remove(name)
+        if trees.identity(out.path) == out.identity:
+            os.rmdir(out.path)
 
 
-def own_folders(out: str) -> set[trees.Identity]:
+@contextlib.contextmanager
+def opened(out: OutFolder) -> Iterator[Tuple[sqlite3.Connection, OwnNames]]:
+    """The database of a catalogue, to be written, and the names of what it has written beside."""
+    with database.opened(out.path_of(database.NAME), out.status(database.NAME) is None) as connection:
+        own = OwnNames(connection, out)
+        if out.status(FORMER) is not None or connection.execute("SELECT 1 FROM facts WHERE name = 'unnoted'").fetchone():
+            take_former(own)
+            connection.execute("DELETE FROM facts WHERE name = 'unnoted'")
+        own.make(PAGES, PARTS)
+        with own.working():
+            yield connection, own
+
+
+def take_former(own: OwnNames) -> None:
+    """Takes for the catalogue's own what an earlier version has written, which did not note it."""
+    names = [name for name in os.listdir(own.out.fd) if is_own(name)] + [name for name in OTHER_NAMES if name.endswith("/")]
+    for folder in (PAGES, PARTS):
+        if own.out.status(folder) is not None:
+            names += [f"{folder}/{name}" for name in own.out.names(folder) if is_own(f"{folder}/{name}")]
+    own.take(names)
+
+
+def own_folders(out: OutFolder) -> set[trees.Identity]:
     """The folders of a catalogue, whose volumes are not images of the collection."""
-    return {trees.identity(path) for path in (out, os.path.join(out, FOLDER)) if os.path.isdir(path)}
+    with out.above(f"{PAGES}/") as (pages, _):
+        return {out.identity, trees.identity(pages)}
 
 
-def write(words: argparse.Namespace, connection: sqlite3.Connection) -> None:
-    """Brings a catalogue up to date: its database, and then its pages."""
-    folder, out = os.fsencode(words.folder), words.out
-    os.makedirs(os.path.join(out, FOLDER), exist_ok=True)
-    for name in os.listdir(out):
-        if name.startswith(WORKING):  # of a run that was killed
-            trees.remove(os.path.join(out, name))
-    options = Options(out if words.rescue else None, words.fresh, store.wants_texts(connection, words.index_text))
-    Scan(connection, folder, out, own_folders(out), options).update()
-    write_pages(connection, out, words)
-
-
-def write_pages(connection: sqlite3.Connection, out: str, words: argparse.Namespace) -> None:
+def write_pages(connection: sqlite3.Connection, own: OwnNames, words: argparse.Namespace) -> None:
     """Brings the pages of a catalogue up to date, and its tables, if they are wanted or there."""
     if words.dat:
         known.take(connection, words.dat)
     known.note(connection)
-    has_tables = words.tsv or os.path.isfile(os.path.join(out, tables.ENTRIES))
-    Site(connection, out).write(has_tables, words.escape)
-    with contextlib.suppress(FileNotFoundError):
-        os.remove(os.path.join(out, FORMER))
+    has_tables = words.tsv or own.out.status(ENTRIES) is not None and ENTRIES in own.names
+    Site(connection, own).write(has_tables, words.escape)
+    own.out.remove(FORMER)
 
 
 def ended(connection: sqlite3.Connection, index: str) -> int:
@@ -90,20 +118,23 @@ def ended(connection: sqlite3.Connection, index: str) -> int:
 
 
 def work(words: argparse.Namespace) -> int:
+    """Brings a catalogue up to date: its database, and then its pages."""
     adf.load()
-    os.listdir(os.fsencode(words.folder))
-    with folder_for(words.out) as is_new, database.opened(os.path.join(words.out, database.NAME), is_new) as connection:
-        write(words, connection)
-        return ended(connection, os.path.join(words.out, INDEX))
+    folder = os.fsencode(words.folder)
+    os.listdir(folder)
+    with folder_for(words.out) as out, opened(out) as (connection, own):
+        options = Options(words.rescue, words.fresh, store.wants_texts(connection, words.index_text))
+        Scan(connection, folder, own, own_folders(out), options).update()
+        write_pages(connection, own, words)
+        return ended(connection, out.path_of(INDEX))
 
 
 def merged(words: argparse.Namespace) -> int:
     """Puts parts that were read on several machines into a catalogue."""
-    with merge.opened_parts(words.parts) as parts, folder_for(words.out) as is_new:
-        with database.opened(os.path.join(words.out, database.NAME), is_new) as connection:
-            merge.Merge(connection, parts).update()
-            write_pages(connection, words.out, words)
-            return ended(connection, os.path.join(words.out, INDEX))
+    with merge.opened_parts(words.parts) as parts, folder_for(words.out) as out, opened(out) as (connection, own):
+        merge.Merge(connection, parts).update()
+        write_pages(connection, own, words)
+        return ended(connection, out.path_of(INDEX))
 
 
 COMMANDS: Dict[str, Tuple[Callable[[], argparse.ArgumentParser], Callable[[argparse.Namespace], int]]] = {

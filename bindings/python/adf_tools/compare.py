@@ -11,7 +11,7 @@ import adf
 from adf_tools.collection import Image, images_in
 from adf_tools.names import letters, spelled_letters
 from adf_tools.program import FAILED, REFUSED, command_line, host_text, stop
-from adf_tools.volumes import disk_of, file_sum, sound_sums, volume_of
+from adf_tools.volumes import file_sum, sound_sums
 
 
 class Thing(NamedTuple):
@@ -61,13 +61,13 @@ def only(images: Iterator[Image], path: bytes, is_inside: bool) -> Image:
 def content_at(image: Image, path: bytes) -> bytes:
     """The bytes of an image, or of the volume of its partition."""
     if image.name == path or not path.startswith(image.name + b"/"):
-        return bytes(memoryview(image.content)[: adf.MOST_BYTES + 1])
-    disk, name = disk_of(image.content), path[len(image.name) + 1 :]
+        return image.content.begin()
+    disk, name = image.content.disk(), path[len(image.name) + 1 :]
     partition = next((one for one in disk.partitions if name in (one.raw_name, b"%d" % one.number)), None) if disk else None
-    volume = volume_of(disk, partition) if disk and partition else None
+    volume = image.content.volume(disk, partition) if disk and partition else None
     if volume is None:
         stop(FAILED, f"{host_text(path)}: no partition has this name, or it has no volume")
-    return volume
+    return volume.begin()
 
 
 def thing_of(entry: adf.Entry | adf.Found, content: str) -> Thing:

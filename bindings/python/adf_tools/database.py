@@ -1,20 +1,24 @@
 """The database of a catalogue, OUT/collection.sqlite: its schema, its versions, and how it is opened (docs/adf-catalogue.1).
 
-What it says is not relied on: another program may have written it. A page is written only under a name that a page can have, and every
-text is shown as a text.
+What it says is not relied on: another program may have written it. Before anything of it is read, its schema has to be the one of this
+program, since a view or an index can have any query; before it is written or merged, it has to be whole, and each value of the type of its
+column. A page is written only under a name that a page can have, and every text is shown as a text.
 """
 
 from __future__ import annotations
 
 import contextlib
 import fcntl
+import functools
 import os
 import sqlite3
+import stat
 import urllib.parse
-from typing import Iterator
+from typing import Iterator, List, NoReturn, Set, Tuple
 
+from adf_tools.names import one_line
 from adf_tools.program import FAILED, host_text, stop
-from adf_tools.trees import named
+from adf_tools.trees import identity, named
 
 NAME = "collection.sqlite"
 APPLICATION, WAIT = 0x61646643, 60.0  # adfC; so many seconds one program waits for another to end its transaction
@@ -102,7 +106,20 @@ ALTER TABLE images ADD COLUMN boot TEXT;
 CREATE INDEX images_by_boot ON images (boot_crc32);
 CREATE TABLE boots (crc32 TEXT PRIMARY KEY, images INTEGER NOT NULL) WITHOUT ROWID;
 """
-STEPS = (FIRST, SECOND, THIRD, FOURTH, FIFTH)  # each brings a database to the next version
+SIXTH = """
+ALTER TABLE known ADD COLUMN status TEXT;
+CREATE TABLE written (name TEXT PRIMARY KEY) WITHOUT ROWID;
+INSERT INTO facts (name, value) SELECT 'unnoted', '1' FROM runs LIMIT 1;
+"""
+STEPS = (FIRST, SECOND, THIRD, FOURTH, FIFTH, SIXTH)  # each brings a database to the next version
+TYPES = {"INTEGER": "integer", "TEXT": "text", "BLOB": "blob"}
+BESIDE = "-journal", "-wal", "-shm"
+JOURNAL_MARK = bytes.fromhex("d9d505f920a163d7")  # with it ends a journal that names another file, which is of several databases
+TEXTS = "SELECT 1 FROM text_words_content WHERE typeof(c0) NOT IN ('text', 'null') LIMIT 1"
+
+
+def left(path: str, why: object) -> NoReturn:
+    stop(FAILED, f"{host_text(path)}: {one_line(why)}; it is left as it is")
 
 
 @contextlib.contextmanager
@@ -111,12 +128,26 @@ def told(path: str) -> Iterator[None]:
     try:
         yield
     except sqlite3.DatabaseError as error:
-        is_damaged = not isinstance(error, sqlite3.OperationalError) or "malformed" in str(error)
-        stop(FAILED, f"{host_text(path)}: {'damaged; it is left as it is: ' if is_damaged else ''}{error}")
+        is_damaged = not isinstance(error, sqlite3.OperationalError) or any(word in str(error) for word in ("malformed", "UTF-8"))
+        stop(FAILED, f"{host_text(path)}: {'damaged; it is left as it is: ' if is_damaged else ''}{one_line(error)}")
+
+
+def check_files(path: str) -> None:
+    """What SQLite opens of a database are files, and its journal has no name of another file, which SQLite would remove."""
+    for name in (path, *(path + end for end in BESIDE)):
+        with contextlib.suppress(FileNotFoundError):
+            if not stat.S_ISREG(os.lstat(name).st_mode):
+                left(name, "not a file")
+    with contextlib.suppress(FileNotFoundError), open(path + BESIDE[0], "rb") as journal:
+        journal.seek(max(0, os.fstat(journal.fileno()).st_size - len(JOURNAL_MARK)))
+        if journal.read() == JOURNAL_MARK:
+            left(path, "its journal is of another program")
 
 
 def connection_to(path: str, mode: str) -> sqlite3.Connection:
     """A connection to the file of a database, which is made if the mode is `rwc`."""
+    with named(path):
+        check_files(path)
     name = urllib.parse.quote(os.fsencode(os.path.abspath(path)))
     connection = sqlite3.connect(f"file:{name}?mode={mode}", uri=True, timeout=WAIT, isolation_level=None)
     connection.row_factory = sqlite3.Row
@@ -125,23 +156,66 @@ def connection_to(path: str, mode: str) -> sqlite3.Connection:
     return connection
 
 
+def schema_of(connection: sqlite3.Connection) -> Set[Tuple[str, ...]]:
+    """All that a database is made of, each with its statement; how that is spaced does not count."""
+    rows = connection.execute("SELECT type, name, tbl_name, sql FROM sqlite_master").fetchall()
+    return {(*map(str, row[:3]), " ".join(str(row[3]).split())) for row in rows}
+
+
+@functools.lru_cache(maxsize=None)
+def own_schema(version: int) -> Set[Tuple[str, ...]]:
+    """What a database of a version is made of."""
+    with contextlib.closing(made_in_memory(version)) as connection:
+        return schema_of(connection)
+
+
+def made_in_memory(version: int) -> sqlite3.Connection:
+    connection = sqlite3.connect(":memory:", isolation_level=None)
+    for step in STEPS[:version]:
+        connection.executescript(step)
+    return connection
+
+
 def version_of(connection: sqlite3.Connection, path: str) -> int:
     """The version of a database: 0 if it is empty. A file of another program or of a newer version is left as it is."""
     mark, version = (connection.execute(f"PRAGMA {name}").fetchone()[0] for name in ("application_id", "user_version"))
     if mark == 0 and version == 0 and not connection.execute("SELECT COUNT(*) FROM sqlite_master").fetchone()[0]:
         return 0
-    if mark != APPLICATION:
-        stop(FAILED, f"{host_text(path)}: not the database of a catalogue; it is left as it is")
+    if mark != APPLICATION or version < 1:
+        left(path, "not the database of a catalogue")
     if version > len(STEPS):
-        stop(FAILED, f"{host_text(path)}: of version {version}, and this program knows those up to {len(STEPS)}; it is left as it is")
+        left(path, f"of version {version}, and this program knows those up to {len(STEPS)}")
+    other = schema_of(connection) ^ own_schema(version)
+    if other:
+        kind, name, *_ = min(other)
+        left(path, f"not the database of a catalogue: {kind} {name} is another one")
     return int(version)
 
 
-@contextlib.contextmanager
-def alone(path: str) -> Iterator[None]:
-    """Keeps other runs out of a folder or a file, as far as its file system can; the file is made if it is not there."""
+@functools.lru_cache(maxsize=None)
+def type_checks() -> List[Tuple[str, str]]:
+    """The name of each table, and a query for a row with a value of another type than its column; SQLite has any in any column."""
+    with contextlib.closing(made_in_memory(len(STEPS))) as connection:
+        names = [name for kind, name, _, line in sorted(own_schema(len(STEPS))) if kind == "table" and line.startswith(f"CREATE TABLE {name} ")]
+        checks = [("text_words", TEXTS)]
+        for name in names:
+            columns = [(row[1], TYPES[row[2]]) for row in connection.execute(f"PRAGMA table_info({name})")]
+            are_other = " OR ".join(f"typeof({column}) NOT IN ('{kind}', 'null')" for column, kind in columns)
+            checks.append((name, f"SELECT 1 FROM {name} WHERE {are_other} LIMIT 1"))
+        return checks
+
+
+def check_types(connection: sqlite3.Connection, path: str) -> None:
+    """Each value is of the type of its column, or null."""
+    for name, query in type_checks():
+        if connection.execute(query).fetchone() is not None:
+            left(path, f"damaged: {name} has a value of another type than its column")
+
+
+def lock(path: str, flags: int) -> int:
+    """The descriptor of a folder or a file which no other run has, as far as its file system can tell."""
     with named(path):
-        file = os.open(path, os.O_RDONLY | os.O_CLOEXEC | (0 if os.path.isdir(path) else os.O_CREAT), 0o666)
+        file = os.open(path, os.O_RDONLY | os.O_NONBLOCK | os.O_NOCTTY | os.O_CLOEXEC | flags, 0o666)
     try:
         try:
             fcntl.flock(file, fcntl.LOCK_EX | fcntl.LOCK_NB)
@@ -149,6 +223,21 @@ def alone(path: str) -> Iterator[None]:
             stop(FAILED, f"{host_text(path)}: another run is writing this catalogue")
         except OSError:
             pass
+        with named(path):
+            found = os.fstat(file)
+            if identity(path) != (found.st_dev, found.st_ino):
+                stop(FAILED, f"{host_text(path)}: another run is writing this catalogue")
+        return file
+    except BaseException:
+        os.close(file)
+        raise
+
+
+@contextlib.contextmanager
+def alone(path: str) -> Iterator[None]:
+    """Keeps other runs out of a file, which is made if it is not there."""
+    file = lock(path, os.O_CREAT | os.O_NOFOLLOW)
+    try:
         yield
     finally:
         os.close(file)
@@ -191,7 +280,7 @@ def check_whole(connection: sqlite3.Connection, path: str) -> None:
     """A damaged database is told before anything is written."""
     (found,) = connection.execute("PRAGMA quick_check(1)").fetchone()
     if found != "ok":
-        stop(FAILED, f"{host_text(path)}: damaged; it is left as it is: {' '.join(str(found).split())}")
+        stop(FAILED, f"{host_text(path)}: damaged; it is left as it is: {one_line(' '.join(str(found).split()))}")
 
 
 @contextlib.contextmanager
@@ -205,21 +294,32 @@ def opened(path: str, is_new: bool = False, folder: str = "") -> Iterator[sqlite
                 check_whole(connection, path)
             if version_of(connection, path) < len(STEPS):
                 migrate(connection, path)
+            check_types(connection, path)
             yield connection
         finally:
             connection.close()
 
 
+def check_version(connection: sqlite3.Connection, path: str) -> None:
+    version = version_of(connection, path)
+    if version < len(STEPS):
+        stop(FAILED, f"{host_text(path)}: of version {version}; the next run of adf-catalogue brings it to version {len(STEPS)}")
+
+
 @contextlib.contextmanager
-def asked(path: str) -> Iterator[sqlite3.Connection]:
-    """A database to ask. An older one is not brought to this version by that."""
+def asked(path: str, is_strange: bool = False) -> Iterator[sqlite3.Connection]:
+    """A database to ask. An older one is not brought to this version by that. One from elsewhere is checked whole, and not written at all:
+    what a run that was broken off has left is not put right."""
+    if is_strange and os.path.lexists(path + BESIDE[0]):
+        left(path, "a run is writing it, or was broken off")
     with told(path):
-        connection = connection_to(path, "rw" if os.access(path, os.W_OK) else "ro")
+        connection = connection_to(path, "rw" if os.access(path, os.W_OK) and not is_strange else "ro")
         try:
             connection.execute("PRAGMA query_only = ON")
-            version = version_of(connection, path)
-            if version < len(STEPS):
-                stop(FAILED, f"{host_text(path)}: of version {version}; the next run of adf-catalogue brings it to version {len(STEPS)}")
+            check_version(connection, path)
+            if is_strange:
+                check_whole(connection, path)
+                check_types(connection, path)
             yield connection
         finally:
             connection.close()

@@ -10,12 +10,14 @@ import sqlite3
 import sys
 from typing import Iterator, Sequence
 
+import adf
 from adf_tools import database
 from adf_tools.names import one_line
 from adf_tools.program import FAILED, NOT_FOUND, command_line, host_text, stop
 
 SUM_COLUMNS = {8: "crc32", 32: "md5", 40: "sha1", 64: "sha256"}
 SUM = re.compile("[0-9a-f]+")
+HIDDEN = re.compile("[\x7f-\x9f\u200b-\u200f\u2028-\u202e\u2060-\u206f\ufeff\ud800-\udfff]")  # what JSON has as it is, and no terminal shows
 FIELDS = "images.name AS image, entries.path, entries.kind, entries.size, entries.date, entries.state, entries.sha256"
 OF_IMAGE = "images.name AS image, NULL AS path, kind, bytes AS size, altered AS date, verdict AS state, sha256"
 BY_ENTRY = f"""SELECT {FIELDS} FROM entry_words JOIN entries ON entries.id = entry_words.rowid JOIN images ON images.id = image
@@ -55,9 +57,12 @@ def by_sum(connection: sqlite3.Connection, digits: str) -> Iterator[sqlite3.Row]
 
 
 def line_of(row: sqlite3.Row, is_json: bool) -> str:
+    """The line of a place. A terminal shows all of it, and does nothing that it says."""
     if is_json:
-        return json.dumps({name: row[name] for name in row.keys() if row[name] is not None}, ensure_ascii=False)
-    return f"{one_line(row['image'])}\t{one_line(row['path'] or '')}"
+        line_ = json.dumps({name: row[name] for name in row.keys() if row[name] is not None}, ensure_ascii=False, default=str)
+        return HIDDEN.sub(lambda found: json.dumps(found[0])[1:-1], line_)
+    image, path = (HIDDEN.sub(lambda found: adf.escape(found[0].encode("utf-8", "replace")), one_line(text or "")) for text in (row["image"], row["path"]))
+    return f"{image}\t{path}"
 
 
 def checksum(text: str) -> str:

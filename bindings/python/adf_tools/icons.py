@@ -5,8 +5,9 @@ from __future__ import annotations
 
 import struct
 import zlib
-from typing import Any, List, NamedTuple, Optional
+from typing import Any, Dict, List, NamedTuple, Optional
 
+from adf_tools.markup import Html, html, joined
 from adf_tools.picture import RUN
 
 MARK, VERSION = 0xE310, 1
@@ -15,6 +16,9 @@ MOST_SIDE, MOST_DEPTH, MOST_BYTES = 640, 8, 1 << 18  # pixels, planes, bytes of 
 OLD = ("#0055aa", "#ffffff", "#000000", "#ff8800")
 NEW = ("#aaaaaa", "#000000", "#ffffff", "#6688bb", "#999999", "#bbbbbb", "#bb9977", "#ffbbaa")
 PALETTES = (OLD, NEW)
+BITS = [bytes(byte >> (7 - place) & 1 for byte in range(256)) for place in range(8)]  # of each byte the bit at a place, from the highest
+SVG = """<svg xmlns="http://www.w3.org/2000/svg" width="{width}" height="{height}" viewBox="0 0 {width} {height}" role="img" \
+aria-label="{name}" shape-rendering="crispEdges">{paths}</svg>"""
 
 
 class Icon(NamedTuple):
@@ -44,25 +48,30 @@ def icon_of(content: bytes) -> Optional[Icon]:
         return None
 
 
+def spread(plane: bytes) -> int:
+    """A byte for each bit of a plane, as one number."""
+    room = bytearray(8 * len(plane))
+    for place, bits in enumerate(BITS):
+        room[place::8] = plane.translate(bits)
+    return int.from_bytes(room, "big")
+
+
 def chunky(content: bytes, begin: int, size: tuple[int, int, int], used: int, rest: int) -> Optional[bytes]:
     """The colour of each pixel, by the planes that follow one another, each used for the next bit that is set."""
     width, height, depth = size
     line = -(-width // 16) * 2
-    if begin + depth * line * height > len(content):
+    plane = line * height
+    if begin + depth * plane > len(content):
         return None
-    colours = [0] * (width * height)
-    plane = 0
+    colours, at = 0, begin
     for bit in range(depth):
         if used >> bit & 1:
-            at = begin + plane * line * height
-            plane += 1
-            for y in range(height):
-                row = int.from_bytes(content[at + y * line : at + (y + 1) * line], "big") >> (8 * line - width)
-                for x in range(width):
-                    colours[y * width + x] |= (row >> (width - 1 - x) & 1) << bit
+            colours |= spread(content[at : at + plane]) << bit
+            at += plane
         elif rest >> bit & 1:
-            colours = [colour | 1 << bit for colour in colours]
-    return bytes(colours)
+            colours |= int.from_bytes(b"\1" * (8 * plane), "big") << bit
+    rows = colours.to_bytes(8 * plane, "big")
+    return b"".join(rows[8 * line * y : 8 * line * y + width] for y in range(height))
 
 
 def pixels_of(packed: Any, count: int) -> Optional[bytes]:
@@ -74,16 +83,20 @@ def pixels_of(packed: Any, count: int) -> Optional[bytes]:
     return pixels if len(pixels) == count else None
 
 
-def icon_picture(name: str, icon: Icon) -> str:
-    """The picture as SVG, in which a pixel is twice as high as wide, as on the screens that icons are made for. It is called by this name,
-    which is already a text for HTML."""
+def icon_picture(name: str, icon: Icon, most: int) -> Optional[Html]:
+    """The picture as SVG, in which a pixel is twice as high as wide, as on the screens that icons are made for; none if it has more letters
+    than are wanted."""
     palette = PALETTES[icon.palette]
-    paths: List[str] = []
-    for colour in sorted(set(icon.pixels)):
-        lines = []
-        for y in range(icon.height):
-            row = icon.pixels[y * icon.width : (y + 1) * icon.width]
-            lines += [f"M{run.start()} {2 * y + 1}h{len(run[0])}" for run in RUN.finditer(row) if run[1][0] == colour]
-        paths.append(f'<path stroke="{palette[colour % len(palette)]}" stroke-width="2" d="{"".join(lines)}"/>')
-    size = f'width="{icon.width}" height="{2 * icon.height}" viewBox="0 0 {icon.width} {2 * icon.height}"'
-    return f'<svg xmlns="http://www.w3.org/2000/svg" {size} role="img" aria-label="{name}" shape-rendering="crispEdges">{"".join(paths)}</svg>'
+    pixels = icon.pixels.translate(bytes(colour % len(palette) for colour in range(256)))
+    lines: Dict[int, List[str]] = {}
+    letters = 0
+    for y in range(icon.height):
+        for run in RUN.finditer(pixels[y * icon.width : (y + 1) * icon.width]):
+            piece = f"M{run.start()} {2 * y + 1}h{len(run[0])}"
+            lines.setdefault(run[1][0], []).append(piece)
+            letters += len(piece)
+        if letters > most:
+            return None
+    path = '<path stroke="{colour}" stroke-width="2" d="{lines}"/>'
+    paths = joined(html(path, colour=palette[colour], lines="".join(lines[colour])) for colour in sorted(lines))
+    return html(SVG, width=icon.width, height=2 * icon.height, name=name, paths=paths)

@@ -12,21 +12,22 @@ from adf_tools.database import transaction
 from adf_tools.names import host_letters
 from adf_tools.program import FAILED, host_text, stop
 
-MOST_BYTES, MOST_DISKS, MOST_TEXT, MOST_TAG, PART = 1 << 30, 5_000_000, 1024, 4 << 20, 1 << 20
+MOST_BYTES, MOST_DISKS, MOST_TEXT, MOST_TAG, MOST_DEPTH, PART = 1 << 30, 5_000_000, 1024, 4 << 20, 100, 1 << 20
 SUMS = {"crc": (8, "crc32"), "md5": (32, "md5"), "sha1": (40, "sha1")}
 HEXADECIMAL = re.compile("[0-9a-f]+")
 PACKED = (".gz", ".adz", ".hdz", ".zip")
-INSERT = "INSERT INTO known (list, game, name, plain_name, size, crc32, md5, sha1) VALUES (?, ?, ?, ?, ?, ?, ?, ?)"
+STATUSES = {"baddump": "a bad dump", "nodump": "not dumped"}
+INSERT = "INSERT INTO known (list, game, name, plain_name, size, crc32, md5, sha1, status) VALUES (?, ?, ?, ?, ?, ?, ?, ?, ?)"
 MATCHES = """
-SELECT images.id, known.list, game, known.name FROM images JOIN known ON known.sha1 = images.sha1
-UNION ALL SELECT images.id, known.list, game, known.name FROM images JOIN known ON known.md5 = images.md5 WHERE known.sha1 IS NULL
-UNION ALL SELECT images.id, known.list, game, known.name FROM images JOIN known ON known.crc32 = images.crc32 AND known.size = bytes
+SELECT images.id, known.list, game, known.name, status, status IS NOT NULL FROM images JOIN known ON known.sha1 = images.sha1
+UNION ALL SELECT images.id, known.list, game, known.name, status, status IS NOT NULL FROM images JOIN known ON known.md5 = images.md5 WHERE known.sha1 IS NULL
+UNION ALL SELECT images.id, known.list, game, known.name, status, status IS NOT NULL FROM images JOIN known ON known.crc32 = images.crc32 AND known.size = bytes
     WHERE known.sha1 IS NULL AND known.md5 IS NULL
-ORDER BY 1, 4, 3, 2"""
+ORDER BY 1, 6, 4, 3, 2"""
 
 
 class Disk(NamedTuple):
-    """A disk that a list names: its list, the game or set it is of, its own name, its length and its checksums."""
+    """A disk that a list names: its list, the game or set it is of, its own name, its length, its checksums, and what the list says of it."""
 
     list: str
     game: str
@@ -35,6 +36,7 @@ class Disk(NamedTuple):
     crc32: Optional[str]
     md5: Optional[str]
     sha1: Optional[str]
+    status: Optional[str]
 
 
 class BadList(Exception):
@@ -67,22 +69,29 @@ class Parser:
     """Reads a list step by step. Nothing that it names is loaded, and no entity is taken."""
 
     def __init__(self, title: str) -> None:
-        self.title, self.game, self.found = title, "", []  # type: str, str, List[Disk]
+        self.title, self.game, self.depth, self.found = title, "", 0, []  # type: str, str, int, List[Disk]
         self.parser = expat.ParserCreate()
-        self.parser.StartElementHandler = self.begun
+        self.parser.StartElementHandler, self.parser.EndElementHandler = self.begun, self.ended
         self.parser.EntityDeclHandler = self.parser.ExternalEntityRefHandler = refused
 
     def begun(self, element: str, attributes: Dict[str, str]) -> None:
+        self.depth += 1
+        if self.depth > MOST_DEPTH:
+            raise BadList(f"it has tags in more than {MOST_DEPTH} tags")
         if element in ("game", "machine"):
             self.game = text(attributes, "name")
         elif element == "rom":
             size = attributes.get("size", "")
-            sums = (digits(attributes, name) for name in SUMS)
             number = int(size) if re.fullmatch("[0-9]{1,15}", size) else None
-            self.found.append(Disk(self.title, self.game, text(attributes, "name"), number, *sums))
+            status = attributes.get("status", "")
+            told = [*(digits(attributes, name) for name in SUMS), status if status in STATUSES else None]
+            self.found.append(Disk(self.title, self.game, text(attributes, "name"), number, *told))
+
+    def ended(self, _element: str) -> None:
+        self.depth -= 1
 
     def disks(self, file: BinaryIO) -> Iterator[Disk]:
-        """The disks of an open file that have a checksum."""
+        """The disks of an open file that have a checksum, or are said not to be dumped."""
         count = read = 0
         while part := file.read(PART):
             read += len(part)
@@ -91,7 +100,7 @@ class Parser:
             self.parser.Parse(part, False)
             if read - self.parser.CurrentByteIndex > MOST_TAG:
                 raise BadList(f"it has a tag of more than {MOST_TAG} bytes")
-            found, self.found = [disk for disk in self.found if disk.sha1 or disk.md5 or disk.crc32], []
+            found, self.found = [disk for disk in self.found if disk.sha1 or disk.md5 or disk.crc32 or disk.status == "nodump"], []
             count += len(found)
             if count > MOST_DISKS:
                 raise BadList(f"it has more than {MOST_DISKS} disks")
@@ -121,8 +130,8 @@ def note(connection: sqlite3.Connection) -> None:
     has_lists = connection.execute("SELECT EXISTS (SELECT 1 FROM known)").fetchone()[0]
     found: Dict[int, Tuple[str, str]] = {}
     if has_lists:
-        for image, title, game, name in connection.execute(MATCHES):
-            found.setdefault(image, ("known", f"{name or game} ({title})"))
+        for image, title, game, name, status, _ in connection.execute(MATCHES):
+            found.setdefault(image, ("known", called(name or game, title, status)))
     with transaction(connection):
         rows = connection.execute("SELECT id, name, sha256, known, known_as FROM images").fetchall()
         for row in rows:
@@ -131,8 +140,16 @@ def note(connection: sqlite3.Connection) -> None:
                 connection.execute("UPDATE images SET known = ?, known_as = ?, is_shown = 0 WHERE id = ?", (*now, row["id"]))
 
 
+def called(name: str, title: str, status: Optional[str]) -> str:
+    """What a list calls a disk, and what it says of it."""
+    return f"{name} ({title}, {STATUSES[status]})" if status in STATUSES else f"{name} ({title})"
+
+
 def unmatched(connection: sqlite3.Connection, row: sqlite3.Row) -> Tuple[str, Optional[str]]:
-    """Of an image that no list has by its checksums: whether a list has its name."""
-    line = "SELECT name, list FROM known WHERE plain_name = ? ORDER BY list, name LIMIT 1"
+    """Of an image that no list has by its checksums: whether a list has its name, and checksums for it."""
+    line = """SELECT name, list, status, COALESCE(sha1, md5, crc32) IS NOT NULL AS has_sums FROM known WHERE plain_name = ?
+        ORDER BY has_sums DESC, list, name LIMIT 1"""
     named = connection.execute(line, (plain_name(row["name"]),)).fetchone()
-    return ("differs", f"{named['name']} ({named['list']})") if named else ("unknown", None)
+    if named is None:
+        return "unknown", None
+    return "differs" if named["has_sums"] else "unknown", called(named["name"], named["list"], named["status"])

@@ -2,19 +2,17 @@
 
 from __future__ import annotations
 
-import os
-import re
 import sqlite3
-from typing import Iterator, List
+from typing import Iterator, List, NamedTuple
 
 from adf_tools.advice import GROUPS, TITLES, Advice
 from adf_tools.image_pages import is_page
-from adf_tools.pages import cell, count_of, day, link, page, paragraph, shown, table
+from adf_tools.markup import Html, html, joined, link, shown
+from adf_tools.out_folder import TWICE
+from adf_tools.pages import cell, count_of, day, page, paragraph, table
 from adf_tools.scripts import SCRIPT, SEARCHING
-from adf_tools.twice import NAME as TWICE
 
 INDEX = "index.html"
-LIST_NAME = re.compile(r"(index|list-[a-z-]+)(-[0-9]+)?\.html")
 HEADS = ("Image", "Verdict", "Label", "-Kind", "-Full", "-Files", "Lost", "-Changed")
 KNOWN = (
     ("known", "Known", "A published list has the image, by its checksums."),
@@ -22,10 +20,26 @@ KNOWN = (
     ("unknown", "Unknown", "No published list has the image."),
 )
 MOST_IMAGES = 500  # of a page
-FILTER = '<p><label>Filter this page <input id="filter" type="search"></label> <span id="shown" role="status"></span></p>\n'
-SEARCH = """<form role="search" id="search"><p><label>Find disks and files, by words or a SHA-256 <input id="wanted" type="search"></label>
+FILTER = Html('<p><label>Filter this page <input id="filter" type="search"></label> <span id="shown" role="status"></span></p>\n')
+SEARCH = Html("""<form role="search" id="search"><p><label>Find disks and files, by words or a SHA-256 <input id="wanted" type="search"></label>
 <button>Find</button> <span id="told" role="status"></span></p></form><ul id="places"></ul>
-"""
+""")
+
+
+class Listed(NamedTuple):
+    """A list: its name, the title of its pages, what stands before its images on the first of them, which images it has, and how many."""
+
+    name: str
+    title: str
+    front: Html
+    where: str
+    value: str
+    whole: int
+
+    @property
+    def pages(self) -> range:
+        """The numbers of its pages, from 1."""
+        return range(1, max(1, -(-self.whole // MOST_IMAGES)) + 1)
 
 
 def list_name(name: str, number: int) -> str:
@@ -43,101 +57,115 @@ class Lists:
         rows = connection.execute("SELECT known, COUNT(*) FROM images WHERE known IS NOT NULL GROUP BY known")
         self.known = {str(name): int(count) for name, count in rows}
 
-    def pages(self) -> Iterator[tuple[str, str]]:
-        """The name of each page, and the page; the index is the last."""
-        for group in GROUPS:
-            if self.counts.get(group.name) and group is not GROUPS[0]:
-                where, name = "WHERE advice = :advice", group_list(group)
-                front = f'<p><a href="{INDEX}">All images</a></p>\n{paragraph(shown(group.text))}'
-                yield from self.listed(name, f"{self.title}: {group.title}", front, where, group.name)
+    def all(self) -> Iterator[Listed]:
+        """The lists; the index is the last."""
+        above = paragraph(link(INDEX, "All images"))
+        for group in GROUPS[1:]:
+            if self.counts.get(group.name):
+                front = joined((above, paragraph(shown(group.text))))
+                yield Listed(group_list(group), f"{self.title}: {group.title}", front, "WHERE advice = :value", group.name, self.counts[group.name])
         for name, title, text in KNOWN if self.known else ():
-            front = f'<p><a href="{INDEX}">All images</a></p>\n{paragraph(shown(text))}{self.known_table()}'
-            yield from self.listed(f"list-{name}", f"{self.title}: {title}", front, "WHERE known = :advice", name)
-        yield from self.listed("index", self.title, self.front(), "", "")
+            front = joined((above, paragraph(shown(text)), self.known_table()))
+            yield Listed(f"list-{name}", f"{self.title}: {title}", front, "WHERE known = :value", name, self.known.get(name, 0))
+        yield Listed("index", self.title, self.front(), "", "", sum(self.counts.values()))
 
-    def known_table(self) -> str:
+    def names(self) -> List[str]:
+        """The names of all pages."""
+        return [list_name(each.name, number) for each in self.all() for number in each.pages]
+
+    def pages(self) -> Iterator[tuple[str, Html]]:
+        """The name of each page, and the page; the index is the last."""
+        for each in self.all():
+            yield from self.pages_of(each)
+
+    def known_table(self) -> Html:
         """How many images published lists know."""
         if not self.known:
-            return ""
+            return html("")
         rows = (list_row(f"list-{name}", title, self.known.get(name, 0), text) for name, title, text in KNOWN)
         return table("Known, unknown, differs", ("Images", "Count", "Means"), rows)
 
-    def front(self) -> str:
+    def front(self) -> Html:
         """What stands on the index before the images: how many there are, and what is to be done with them."""
         whole, sound = sum(self.counts.values()), self.counts.get("sound", 0)
         rows = [group_row(group, self.counts[group.name]) for group in GROUPS if self.counts.get(group.name)]
         counts = paragraph(f"{count_of(whole, 'image')}, {sound} sound")
-        groups = table("What to do", ("Images", "Count", "What to do"), rows) if rows else ""
-        return counts + groups + self.known_table() + paragraph(link(TWICE, "What is there twice")) + SEARCH
+        groups = table("What to do", ("Images", "Count", "What to do"), rows) if rows else html("")
+        return joined((counts, groups, self.known_table(), paragraph(link(TWICE, "What is there twice")), SEARCH))
 
-    def listed(self, name: str, title: str, front: str, where: str, advice: str) -> Iterator[tuple[str, str]]:
+    def pages_of(self, each: Listed) -> Iterator[tuple[str, Html]]:
         """The pages of one list, the last first."""
-        whole = self.counts.get(advice, self.known.get(advice, 0)) if advice else sum(self.counts.values())
-        last = max(1, -(-whole // MOST_IMAGES))
-        begins = self.begins(where, advice)
-        for number in range(last, 0, -1):
-            later = f"{where} AND" if where else "WHERE"
+        begins, has_known = self.begins(each.where, each.value), "known" in each.where
+        for number in reversed(each.pages):
+            later = f"{each.where} AND" if each.where else "WHERE"
             line = f"SELECT * FROM images {later} (name, number) >= (:name, :number) ORDER BY name, number LIMIT {MOST_IMAGES}"
             begin = begins[number - 1] if begins else ("", 0)
-            rows = self.connection.execute(line, {"advice": advice, "name": begin[0], "number": begin[1]})
-            links = self.links(name, number, last)
-            has_known = "known" in where
+            rows = self.connection.execute(line, {"value": each.value, "name": begin[0], "number": begin[1]})
+            links = self.links(each.name, number, each.pages[-1])
             images = table("Images", (*HEADS, "Known as") if has_known else HEADS, (index_row(row, has_known) for row in rows))
-            script = SCRIPT + SEARCHING if name == "index" and number == 1 else SCRIPT
-            top = front if number == 1 else f'<p><a href="{list_name(name, 1)}">The first page</a></p>\n'
-            yield list_name(name, number), page(title, f'{top}{FILTER}{links}<div id="images">{images}</div>{links}', script)
+            script = joined((SCRIPT, SEARCHING)) if each.name == "index" and number == 1 else SCRIPT
+            top = each.front if number == 1 else paragraph(link(list_name(each.name, 1), "The first page"))
+            form = '{top}{filter}{links}<div id="images">{images}</div>{links}'
+            yield list_name(each.name, number), page(each.title, html(form, top=top, filter=FILTER, links=links, images=images), script)
 
-    def begins(self, where: str, advice: str) -> List[tuple[str, int]]:
+    def begins(self, where: str, value: str) -> List[tuple[str, int]]:
         """The first image of each page of a list."""
-        rows = self.connection.execute(f"SELECT name, number FROM images {where} ORDER BY name, number", {"advice": advice})
+        rows = self.connection.execute(f"SELECT name, number FROM images {where} ORDER BY name, number", {"value": value})
         return [(row[0], row[1]) for place, row in enumerate(rows) if place % MOST_IMAGES == 0]
 
     @staticmethod
-    def links(name: str, number: int, last: int) -> str:
+    def links(name: str, number: int, last: int) -> Html:
         """Links to the other pages of a list, where there are any."""
         if last == 1:
-            return ""
+            return html("")
         near = sorted({1, last, *range(max(1, number - 3), min(last, number + 3) + 1)})
-        parts = [f"<strong>{each}</strong>" if each == number else f'<a href="{list_name(name, each)}">{each}</a>' for each in near]
-        return f'<nav aria-label="Pages">Page {" ".join(parts)} of {last}</nav>\n'
+        parts = joined((html("<strong>{each}</strong>", each=each) if each == number else link(list_name(name, each), each) for each in near), " ")
+        return html('<nav aria-label="Pages">Page {parts} of {last}</nav>\n', parts=parts, last=last)
 
 
 def group_list(group: Advice) -> str:
     return "list-" + group.name.replace(" ", "-")
 
 
-def group_row(group: Advice, count: int) -> str:
+def group_row(group: Advice, count: int) -> Html:
     """The line of a group on the first page."""
     if group is GROUPS[0]:  # most images, as a rule
-        return cell(group.title, "text") + cell(count, "number") + cell(group.text, "text")
+        return joined((cell(group.title, "text"), cell(count, "number"), cell(group.text, "text")))
     return list_row(group_list(group), group.title, count, group.text)
 
 
-def list_row(name: str, title: str, count: int, text: str) -> str:
+def list_row(name: str, title: str, count: int, text: str) -> Html:
     """The line that leads to a list."""
-    return cell(f'<a href="{list_name(name, 1)}">{title}</a>', "text") + cell(count, "number") + cell(text, "text")
+    return joined((cell(link(list_name(name, 1), title), "text"), cell(count, "number"), cell(text, "text")))
 
 
-def index_row(row: sqlite3.Row, has_known: bool) -> str:
-    """The line of an image, with the name that a published list has for it, where that is wanted."""
-    is_sound, name = row["verdict"] == "ok", shown(row["name"])
-    anchor = f'<a href="{row["page"]}">{name}</a>' if is_page(row["page"]) else name
+def verdict_of(row: sqlite3.Row) -> Html:
+    """What is wrong with an image, and the length that fits."""
+    is_sound = row["verdict"] == "ok"
+    told = TITLES.get(row["advice"], "") if row["advice"] == "tables" and is_sound else row["verdict"]
     kind = "note" if row["advice"] in ("other type", "bitmap") else "refused"
-    told = shown(TITLES.get(row["advice"], "")) if row["advice"] == "tables" and is_sound else shown(row["verdict"])
-    verdict = told if told == "ok" else f'<span class="{kind}">{told}</span>'
-    verdict += f"<br>{row['fits']} blocks fit" if row["fits"] is not None else ""
-    full = 100 * row["used"] / max(row["blocks"] - 2, 1) if is_sound and row["used"] is not None else None
-    meter = "" if full is None else f'<meter max="100" value="{full:.1f}" aria-label="full"></meter> {full:.0f} %'
+    verdict = shown(told) if told == "ok" else html('<span class="{kind}">{told}</span>', kind=kind, told=shown(told))
+    return verdict if row["fits"] is None else html("{verdict}<br>{fits} blocks fit", verdict=verdict, fits=row["fits"])
+
+
+def full_of(row: sqlite3.Row) -> float | None:
+    """How full a sound volume is, of 100."""
+    is_volume = row["verdict"] == "ok" and row["used"] is not None and row["blocks"] is not None
+    return 100 * row["used"] / max(row["blocks"] - 2, 1) if is_volume else None
+
+
+def index_row(row: sqlite3.Row, has_known: bool) -> Html:
+    """The line of an image, with the name that a published list has for it, where that is wanted."""
+    is_sound, full, has_page = row["verdict"] == "ok", full_of(row), is_page(row["page"])
+    anchor = link(row["page"], row["name"]) if has_page else shown(row["name"])
+    meter = html("")
+    if full is not None:
+        meter = html('<meter max="100" value="{value}" aria-label="full"></meter> {percent} %', value=f"{full:.1f}", percent=f"{full:.0f}")
     found = (row["dirs"] or 0) + (row["files"] or 0)
-    lost = f'<a href="{row["page"]}#found">{row["lost"]}</a>' if not is_sound and found and is_page(row["page"]) else ""
-    cells = [cell(anchor, "text"), cell(verdict, "verdict", key="" if is_sound else row["verdict"].split(": ")[-1])]
+    lost = link(row["page"], row["lost"], "found") if not is_sound and found and has_page else html("")
+    cells = [cell(anchor, "text"), cell(verdict_of(row), "verdict", key="" if is_sound else row["verdict"].split(": ")[-1])]
     cells += [cell(shown(row["label"] or ""), "text"), cell(shown(row["kind"] or ""), "nowrap wide")]
     cells += [cell(meter, "nowrap wide", key=f"{full or 0:.1f}")]
-    cells += [cell("" if row["files"] is None else row["files"], "number wide"), cell(lost, "number", key=row["lost"] or 0)]
+    cells += [cell(row["files"], "number wide"), cell(lost, "number", key=row["lost"] or 0)]
     cells += [cell(shown(day(row["altered"])), "nowrap wide")]
-    return "".join(cells + ([cell(shown(row["known_as"] or ""), "text")] if has_known else []))
-
-
-def is_list(name: str) -> bool:
-    """Whether a page of a list can have this name."""
-    return bool(LIST_NAME.fullmatch(name)) and os.path.basename(name) == name
+    return joined(cells + ([cell(shown(row["known_as"] or ""), "text")] if has_known else []))

@@ -7,14 +7,15 @@ import contextlib
 import os
 import re
 import sqlite3
-from typing import Any, Dict, List, Sequence, Tuple
+from typing import Any, Dict, Iterator, List, NamedTuple, Sequence, Tuple
 
 import adf
 from adf_tools import database, store
-from adf_tools.database import transaction
+from adf_tools.database import told, transaction
+from adf_tools.out_folder import OutFolder, OwnNames
+from adf_tools.names import one_line
 from adf_tools.program import FAILED, REFUSED, add_escape, command_line, host_text, stop
 from adf_tools.scan import Options, Part, Scan
-from adf_tools.trees import identity
 from adf_tools.volumes import Record, record
 
 PART = re.compile("([1-9][0-9]{0,5})/([1-9][0-9]{0,5})")
@@ -36,15 +37,29 @@ def part_of(text: str) -> Part:
 # Scan
 
 
+@contextlib.contextmanager
+def working_beside(path: str, connection: sqlite3.Connection) -> Iterator[OwnNames]:
+    """A working folder beside the database of a part, which names it."""
+    folder = os.path.dirname(os.path.abspath(path))
+    fd = os.open(folder, os.O_RDONLY | os.O_DIRECTORY | os.O_CLOEXEC)
+    try:
+        own = OwnNames(connection, OutFolder(folder, fd))
+        with own.working():
+            yield own
+    finally:
+        os.close(fd)
+
+
 def scan(words: argparse.Namespace) -> int:
     """Reads a part of the files into a database, or brings that up to date."""
     adf.load()
     os.listdir(os.fsencode(words.folder))
-    out = os.path.dirname(os.path.abspath(words.out))
     with database.alone(words.out), database.opened(words.out, not os.path.exists(words.out)) as connection:
-        own = {identity(out)} if os.path.exists(os.path.join(out, database.NAME)) else set()
-        options = Options(None, words.fresh, store.wants_texts(connection, words.index_text), words.part)
-        Scan(connection, os.fsencode(words.folder), out, own, options).update()
+        with working_beside(words.out, connection) as names:
+            out = names.out
+            left_out = {out.identity} if out.status(database.NAME) else set()
+            options = Options(False, words.fresh, store.wants_texts(connection, words.index_text), words.part)
+            Scan(connection, os.fsencode(words.folder), names, left_out, options).update()
         _, refused, unread = store.counts(connection)
     return FAILED if unread else REFUSED if refused else 0
 
@@ -66,9 +81,24 @@ def facts_of(connection: sqlite3.Connection) -> Dict[str, str]:
     return {name: value for name, value in connection.execute("SELECT name, value FROM facts")}
 
 
-def checked(parts: Sequence[Tuple[str, sqlite3.Connection]]) -> Dict[str, str]:
+class OpenPart(NamedTuple):
+    """The database of a part: its path, and the connection to it."""
+
+    path: str
+    connection: sqlite3.Connection
+
+
+class Row(NamedTuple):
+    """A file in a part."""
+
+    path: str
+    part: OpenPart
+    row: sqlite3.Row
+
+
+def checked(parts: Sequence[OpenPart]) -> Dict[str, str]:
     """The facts of the parts, which have to be all parts of one collection, read in one way."""
-    each = [(path, facts_of(connection)) for path, connection in parts]
+    each = [(part.path, facts_of(part.connection)) for part in parts]
     found = [PART.fullmatch(facts.get("part", "")) for _, facts in each]
     for (path, facts), which in zip(each, found):
         pairs = [(facts.get(name), each[0][1].get(name)) for name in ("reader", "title")] + [(which and which[2], found[0] and found[0][2])]
@@ -101,26 +131,38 @@ def rows_of(part: sqlite3.Connection, image: int, columns: Dict[str, Any]) -> Re
         for table, names in tables.items()
         for key in ["disk" if table == "partitions" else "image"]
     }
-    line = "SELECT entries.id, content FROM entries JOIN text_words ON text_words.rowid = entries.id WHERE image = ? ORDER BY entries.id"
+    line = """SELECT entries.id, c0 FROM entries JOIN text_words_content AS texts ON texts.id = entries.id
+        WHERE image = ? AND c0 IS NOT NULL ORDER BY entries.id"""
     (first,) = part.execute("SELECT MIN(id) FROM entries WHERE image = ?", (image,)).fetchone()
     return record(columns)._replace(texts=[(number - first, text) for number, text in part.execute(line, (image,))], **rows)
+
+
+def files_of(parts: Sequence[OpenPart]) -> List[Row]:
+    """The files of all parts by their paths, each of which is in one of them."""
+    files: Dict[str, Row] = {}
+    for part in parts:
+        with told(part.path):
+            for row in part.connection.execute("SELECT * FROM files"):
+                first = files.setdefault(row["path"], Row(row["path"], part, row))
+                if first.row is not row:
+                    stop(FAILED, f"{host_text(part.path)}: {one_line(row['path'])} is in {host_text(first.part.path)} too")
+    return [files[path] for path in sorted(files)]
 
 
 class Merge:
     """Puts parts into the database of a catalogue. What it has of a file already is left as it is."""
 
-    def __init__(self, connection: sqlite3.Connection, parts: Sequence[Tuple[str, sqlite3.Connection]]) -> None:
+    def __init__(self, connection: sqlite3.Connection, parts: Sequence[OpenPart]) -> None:
         self.connection, self.parts = connection, parts
 
     def update(self) -> None:
         facts = checked(self.parts)
         known = self.begun(facts)
-        files = [(row["path"], part, row) for _, part in self.parts for row in part.execute("SELECT * FROM files")]
-        files.sort(key=lambda file: file[0])
-        new = [file for file in files if known.get(file[0], (0, None))[1] != stamp_of(file[2]) or file[2]["size"] is None]
+        files = files_of(self.parts)
+        new = [file for file in files if known.get(file.path, (0, None))[1] != stamp_of(file.row) or file.row["size"] is None]
         for at in range(0, len(new), FILES):
             self.add(known, new[at : at + FILES])
-        names = {path for path, _, _ in files}
+        names = {file.path for file in files}
         with transaction(self.connection):
             gone = [number for path, (number, _) in known.items() if path not in names]
             for number in gone:
@@ -138,12 +180,14 @@ class Merge:
             self.run = self.connection.execute(line, (f"adf-catalogue merge {adf.__version__}",)).lastrowid or 0
         return {row["path"]: (row["id"], stamp_of(row)) for row in self.connection.execute("SELECT * FROM files")}
 
-    def add(self, known: Dict[str, Tuple[int, Any]], files: Sequence[Tuple[str, sqlite3.Connection, sqlite3.Row]]) -> None:
+    def add(self, known: Dict[str, Tuple[int, Any]], files: Sequence[Row]) -> None:
         with transaction(self.connection):
             for path, part, row in files:
+                with told(part.path):
+                    records = records_of(part.connection, row["id"])
                 if path in known:
                     store.remove(self.connection, known[path][0])
-                store.add(self.connection, path, stamp_of(row), self.run, records_of(part, row["id"]))
+                store.add(self.connection, path, stamp_of(row), self.run, records)
             self.connection.execute("UPDATE runs SET read = read + ? WHERE id = ?", (len(files), self.run))
 
 
@@ -153,10 +197,10 @@ def stamp_of(row: sqlite3.Row) -> Any:
 
 
 @contextlib.contextmanager
-def opened_parts(paths: Sequence[str]) -> Any:
+def opened_parts(paths: Sequence[str]) -> Iterator[List[OpenPart]]:
     """The databases of the parts, which are only asked."""
     with contextlib.ExitStack() as stack:
-        yield [(path, stack.enter_context(database.asked(path))) for path in paths]
+        yield [OpenPart(path, stack.enter_context(database.asked(path, True))) for path in paths]
 
 
 def merge_line() -> argparse.ArgumentParser:

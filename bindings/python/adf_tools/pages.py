@@ -1,21 +1,22 @@
-"""What the pages of a catalogue share: their form, their tables, and texts for HTML."""
+"""What the pages of a catalogue share: their form, and their tables."""
 
 from __future__ import annotations
 
 import base64
 import functools
 import hashlib
-import html
 import os
 import re
-from typing import Iterable, Optional, Sequence, Tuple
+from typing import Iterable, Optional, Tuple
+
+from adf_tools.markup import Html, escaped, html, joined, marked, shown
 
 HERE = os.path.dirname(os.path.abspath(__file__))
 FAULTS = os.path.join(HERE, "FAULTS.md")
 if not os.path.exists(FAULTS):  # in a clone
     FAULTS = os.path.join(HERE, "..", "..", "..", "docs", "FAULTS.md")
 MOST_ROWS, MOST_LETTERS = 100_000, 8 << 20  # of a table of a page, which is long if paths are
-STYLE = """
+STYLE = Html("""
 :root { color-scheme: light dark; --text: #222; --back: #fff; --line: #ddd; --head: #eee; --fault: #a00; --note: #555 }
 @media (prefers-color-scheme: dark) {
 :root { --text: #ddd; --back: #1b1b1b; --line: #444; --head: #2c2c2c; --fault: #ff8a80; --note: #aaa } a { color: #8ab4f8 } }
@@ -33,25 +34,23 @@ figure { display: inline-block; margin: 0 1.5em 1em 0; text-align: center } figc
 @media (max-width: 48em) { .wide { display: none } body { margin: .7em } .scroll { overflow-x: auto } td.text:first-child { min-width: 8em } }
 button { font: inherit; font-weight: bold; border: 0; background: none; color: inherit; padding: 0; cursor: pointer }
 [aria-sort=ascending] button::after { content: " \\25b2" } [aria-sort=descending] button::after { content: " \\25bc" }
+""")
+NO_SCRIPT, CELL_END = Html(""), Html("</td>")
+PAGE = """<!DOCTYPE html>
+<html lang="en"><head><meta charset="utf-8"><meta http-equiv="Content-Security-Policy" content="{policy}">
+<meta name="viewport" content="width=device-width"><title>{title}</title><style>{style}</style></head>
+<body>
+<h1 class="text">{head}</h1>
+{body}{script}
+</body></html>
 """
 
 
 # Texts
 
 
-def shown(text: object) -> str:
-    """A text of the database for HTML, which may break behind what parts it."""
-    return re.sub(r"(?<=[/_])(?=\w)", "<wbr>", html.escape(str(text)))
-
-
-def marked(text: str) -> str:
-    """A paragraph of the page of faults as HTML."""
-    text = re.sub(r"`([^`]*)`", r"<code>\1</code>", html.escape(text))
-    return "<p>" + re.sub(r"\*(\w+)\*", r"<em>\1</em>", re.sub(r"\*\*(.*?)\*\*", r"<strong>\1</strong>", text)) + "</p>"
-
-
 @functools.lru_cache(maxsize=None)
-def paragraphs_of_causes() -> dict[str, str]:
+def paragraphs_of_causes() -> dict[str, Html]:
     """What the page of faults says of each cause: the paragraph that begins with its name."""
     with open(FAULTS, encoding="utf-8") as file:
         paragraphs = [text for text in file.read().split("\n\n") if text.startswith("**`")]
@@ -71,31 +70,27 @@ def day(date: Optional[str]) -> str:
 # Pages
 
 
-def page(title: str, body: str, script: str = "") -> str:
-    """A whole page. Its policy lets no script run but this one and those that it loads, and nothing else be loaded."""
+def page(title: str, body: Html, script: Html = NO_SCRIPT) -> Html:
+    """A whole page. Its policy lets no script run but this one and those that it loads, and nothing else be loaded or sent."""
     digest = base64.b64encode(hashlib.sha256(script.encode()).digest()).decode()
     scripts = f"'sha256-{digest}' 'strict-dynamic'" if script else "'none'"
-    policy = f"default-src 'none'; style-src 'unsafe-inline'; script-src {scripts}"
-    return f"""<!DOCTYPE html>
-<html lang="en"><head><meta charset="utf-8"><meta http-equiv="Content-Security-Policy" content="{policy}">
-<meta name="viewport" content="width=device-width"><title>{html.escape(title)}</title><style>{STYLE}</style></head>
-<body>
-<h1 class="text">{shown(title)}</h1>
-{body}{f"<script>{script}</script>" if script else ""}
-</body></html>
-"""
+    policy = f"default-src 'none'; style-src 'unsafe-inline'; script-src {scripts}; form-action 'none'; base-uri 'none'"
+    run = html("<script>{script}</script>", script=script) if script else script
+    return html(PAGE, policy=policy, title=title, style=STYLE, head=shown(title), body=body, script=run)
 
 
-def table(name: str, heads: Iterable[str], rows: Iterable[str]) -> str:
+def table(name: str, heads: Iterable[str], rows: Iterable[Html]) -> Html:
     """A table with a name. A head that begins with `-` is hidden on a narrow screen, as its cells are."""
-    head = "".join(f'<th scope="col"{" class=wide" if text.startswith("-") else ""}>{text.lstrip("-")}</th>' for text in heads)
-    body = "".join(f"<tr>{row}</tr>\n" for row in rows)
-    return f'<div class="scroll"><table><caption>{name}</caption><thead><tr>{head}</tr></thead><tbody>\n{body}</tbody></table></div>\n'
+    wide, plain = '<th scope="col" class="wide">{text}</th>', '<th scope="col">{text}</th>'
+    head = joined(html(wide if text.startswith("-") else plain, text=text.lstrip("-")) for text in heads)
+    body = joined(html("<tr>{row}</tr>\n", row=row) for row in rows)
+    form = '<div class="scroll"><table><caption>{name}</caption><thead><tr>{head}</tr></thead><tbody>\n{body}</tbody></table></div>\n'
+    return html(form, name=name, head=head, body=body)
 
 
-def long_table(name: str, heads: Iterable[str], rows: Iterable[str], whole: int, command: str) -> str:
+def long_table(name: str, heads: Iterable[str], rows: Iterable[Html], whole: int, command: str) -> Html:
     """A table that ends where it gets too long, and says then how many rows it leaves out, and what command writes all."""
-    taken: list[str] = []
+    taken: list[Html] = []
     letters = 0
     for row in rows:
         letters += len(row)
@@ -103,27 +98,26 @@ def long_table(name: str, heads: Iterable[str], rows: Iterable[str], whole: int,
             break
         taken.append(row)
     left_out = whole - len(taken)
-    note = f'<p class="refused">{left_out} more are left out: <code>{html.escape(command)}</code> has all.</p>\n'
-    return table(name, heads, taken) + (note if left_out else "")
+    note = '<p class="refused">{count} more are left out: <code>{command}</code> has all.</p>\n' if left_out else ""
+    return joined((table(name, heads, taken), html(note, count=left_out, command=command)))
 
 
-def cell(text: object, kind: str = "nowrap", key: object = None) -> str:
+def cell(value: object, kind: str = "nowrap", key: object = None) -> Html:
     """A cell; where a table is to be sorted by something else than its text, that is the key."""
-    return f'<td class="{kind}"' + (f' data-key="{html.escape(str(key))}"' if key is not None else "") + f">{text}</td>"
+    if key is None:
+        return joined((cell_begin(kind), escaped(value), CELL_END))
+    return html('<td class="{kind}" data-key="{key}">{value}</td>', kind=kind, key=key, value=value)
 
 
-def facts(name: str, pairs: Iterable[Tuple[str, object]]) -> str:
-    rows = "".join(f'<tr><th scope="row">{head}</th>{cell(value, "text")}</tr>\n' for head, value in pairs)
-    return f"<table><caption>{name}</caption><tbody>{rows}</tbody></table>\n"
+@functools.lru_cache(maxsize=None)
+def cell_begin(kind: str) -> Html:
+    return html('<td class="{kind}">', kind=kind)
 
 
-def link(address: str, text: object) -> str:
-    return f'<a href="{html.escape(address)}">{shown(text)}</a>'
+def facts(name: str, pairs: Iterable[Tuple[str, object]]) -> Html:
+    rows = joined(html('<tr><th scope="row">{head}</th>{cell}</tr>\n', head=head, cell=cell(value, "text")) for head, value in pairs)
+    return html("<table><caption>{name}</caption><tbody>{rows}</tbody></table>\n", name=name, rows=rows)
 
 
-def paragraph(text: str, kind: str = "") -> str:
-    return f'<p class="{kind}">{text}</p>\n' if kind else f"<p>{text}</p>\n"
-
-
-def joined(parts: Sequence[str]) -> str:
-    return ", ".join(parts)
+def paragraph(value: object, kind: str = "") -> Html:
+    return html('<p class="{kind}">{value}</p>\n' if kind else "<p>{value}</p>\n", kind=kind, value=value)

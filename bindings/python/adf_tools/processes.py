@@ -7,15 +7,18 @@ import concurrent.futures.process
 import multiprocessing
 import os
 import pickle
+import secrets
 import signal
-import tempfile
+import sys
 import threading
-from typing import Callable, Deque, Generator, Generic, Optional, Sequence, TypeVar, Union
+from typing import Any, Callable, Deque, Generator, Generic, Iterable, Optional, Sequence, TypeVar, Union
 
 from adf_tools.program import FAILED, INTERRUPTS, stop, uninterrupted
 
 LARGE = 1 << 20  # bytes of an answer that waits in a file
 AHEAD = 16  # so many pieces for each process are given out before the first of them is done
+FILE = os.O_RDONLY | os.O_NOFOLLOW | os.O_CLOEXEC
+NEW_FILE = os.O_WRONLY | os.O_CREAT | os.O_EXCL | os.O_NOFOLLOW | os.O_CLOEXEC
 MEMORY, GROUP = "/proc/meminfo", "/sys/fs/cgroup"
 Piece = TypeVar("Piece")
 Answer = TypeVar("Answer")
@@ -64,29 +67,39 @@ def workers(pieces: int, need: int) -> int:
 
 
 class Packed(Generic[Piece, Answer]):
-    """Work whose answers are packed. A large one waits in a file of a folder, so that memory does not depend on how many wait."""
+    """Work whose answers are packed. A large one waits in a file of a folder, whose descriptor the processes have too, so that memory does
+    not depend on how many wait."""
 
-    def __init__(self, work: Callable[[Piece], Answer], folder: Optional[str]) -> None:
+    def __init__(self, work: Callable[[Piece], Answer], folder: Optional[int]) -> None:
         self.work, self.folder = work, folder
 
     def __call__(self, piece: Piece) -> Union[bytes, str]:
         packed = pickle.dumps(self.work(piece))
         if self.folder is None or len(packed) < LARGE:
             return packed
-        with tempfile.NamedTemporaryFile(dir=self.folder, delete=False) as file:
+        name = secrets.token_hex(16)
+        with open(os.open(name, NEW_FILE, 0o600, dir_fd=self.folder), "wb") as file:
             file.write(packed)
-        return file.name
+        return name
 
-    @staticmethod
-    def answer(packed: Union[bytes, str]) -> Answer:
+    def answer(self, packed: Union[bytes, str]) -> Answer:
         if isinstance(packed, bytes):
             return pickle.loads(packed)  # type: ignore[no-any-return]
-        with open(packed, "rb") as file:
-            os.remove(packed)
+        with open(os.open(packed, FILE, dir_fd=self.folder), "rb") as file:
+            os.unlink(packed, dir_fd=self.folder)
             return pickle.load(file)  # type: ignore[no-any-return]
 
 
-def in_order(work: Callable[[Piece], Answer], pieces: Sequence[Piece], need: int, folder: Optional[str] = None) -> Generator[Answer, None, None]:
+def give_up(pool: concurrent.futures.ProcessPoolExecutor, waiting: Iterable[concurrent.futures.Future[Any]]) -> None:
+    """Ends the processes without the work that waits."""
+    if sys.version_info >= (3, 9):
+        pool.shutdown(wait=True, cancel_futures=True)
+    else:
+        for future in waiting:
+            future.cancel()
+
+
+def in_order(work: Callable[[Piece], Answer], pieces: Sequence[Piece], need: int, folder: Optional[int] = None) -> Generator[Answer, None, None]:
     """What the work answers of each piece, in their order. A process takes so many bytes of memory; large answers wait in the folder."""
     count = workers(len(pieces), need)
     if count < 2:
@@ -106,5 +119,4 @@ def in_order(work: Callable[[Piece], Answer], pieces: Sequence[Piece], need: int
         except concurrent.futures.process.BrokenProcessPool:
             stop(FAILED, "a process was ended from outside, perhaps for lack of memory")
         finally:
-            for future in waiting:
-                future.cancel()
+            give_up(pool, waiting)

@@ -5,16 +5,17 @@ from __future__ import annotations
 import hashlib
 import os
 import re
+import sys
 from typing import Iterator, Optional
 
 import adf
-from adf_tools.collection import Image, images_in, unread
+from adf_tools.collection import Image, fault_of, images_in, unforeseen, unread
 from adf_tools.names import host_letters, spelled_letters
-from adf_tools.trees import named
-from adf_tools.volumes import Columns, Record, content_facts, disk_of, disk_record, image_record, limited, record, volume_of
+from adf_tools.out_folder import NEW_FILE, PAGES
+from adf_tools.program import FAILED, Stop, stop
+from adf_tools.sums import sums_of
+from adf_tools.volumes import Columns, Record, disk_record, image_record, limited, record
 
-FOLDER = "images"
-PAGE_NAME = re.compile(r"images/[a-z0-9-]*-[0-9a-f]{16}\.(html|adf)")
 MOST_WRITTEN = 128 << 20  # letters that are kept of one file; of an archive the rest is left out
 
 
@@ -22,7 +23,7 @@ def page_name(name: bytes, number: int) -> str:
     """The name of an image's page, plain on every server: what is plain of its own, and a part of a sum of all of it."""
     plain = re.sub(rb"[^A-Za-z0-9]+", b"-", name).decode().strip("-").lower()[:40]
     which = b"\0%d" % number if number else b""
-    return f"{FOLDER}/{plain}-{hashlib.sha256(name + which).hexdigest()[:16]}.html"
+    return f"{PAGES}/{plain}-{hashlib.sha256(name + which).hexdigest()[:16]}.html"
 
 
 def columns_of(image: Image) -> Columns:
@@ -31,11 +32,17 @@ def columns_of(image: Image) -> Columns:
     return {**columns, "verdict": f"read fault: {image.fault}", "advice": "not read"} if image.fault else columns
 
 
-class Reader:
-    """Reads a file below a folder. If a folder for the catalogue is given, it gets the new volumes; texts are kept if they are wanted."""
+def facts_of(image: Image) -> Columns:
+    """The length and the checksums of an image; if it is longer than what was read of it, neither is known."""
+    is_whole = image.length == image.content.size
+    return {"bytes": image.length, **(sums_of(image.content.parts())._asdict() if is_whole else {})}
 
-    def __init__(self, folder: bytes, out: Optional[str], has_texts: bool) -> None:
-        self.folder, self.out, self.has_texts = folder, out, has_texts
+
+class Reader:
+    """Reads a file below a folder. The new volumes go into a folder, if the descriptor of one is given; texts are kept if they are wanted."""
+
+    def __init__(self, folder: bytes, volumes: Optional[int], has_texts: bool) -> None:
+        self.folder, self.volumes, self.has_texts = folder, volumes, has_texts
 
     def __call__(self, path: bytes) -> list[Record]:
         """What is kept of the images in a file; of a hard disk its volumes follow it."""
@@ -45,27 +52,38 @@ class Reader:
             if weight > MOST_WRITTEN:
                 records.append(record(columns_of(unread(name, f"further images in it are left out: {weight} letters are kept of it"))))
                 break
-            try:
-                found = list(self.records_of(image))
-            except MemoryError:
-                found = [record(columns_of(unread(image.name, "no memory", image.number)))]
+            found = self.all_of(image)
             weight += sum(one.weight for one in found)
             records += found
         return records
+
+    def all_of(self, image: Image) -> list[Record]:
+        """What is kept of one image. What goes wrong with it costs no other image."""
+        try:
+            return list(self.records_of(image))
+        except Stop:
+            raise
+        except (MemoryError, OSError) as error:
+            fault = fault_of(error)
+        except Exception as error:
+            if sys.flags.dev_mode:
+                raise
+            fault = unforeseen(error)
+        return [record(columns_of(unread(image.name, fault, image.number, image.member)))]
 
     def records_of(self, image: Image) -> Iterator[Record]:
         """What is kept of one image."""
         if image.fault:
             yield record(columns_of(image))
             return
-        disk = disk_of(image.content)
+        disk = image.content.disk()
         if disk is None:
             yield self.record_of(image)
             return
         page = page_name(image.name, image.number)
-        yield disk_record(disk, {**columns_of(image), "page": page, **content_facts(image.content, image.length)})
+        yield disk_record(disk, {**columns_of(image), "page": page, **facts_of(image)})
         for partition in disk.partitions:
-            content = volume_of(disk, partition)
+            content = image.content.volume(disk, partition)
             if content is not None:
                 name = image.name + b"/" + (partition.raw_name or b"%d" % partition.number)
                 volume = Image(name, self.number_of(disk, partition, image), content, adf.BLOCK * partition.blocks, "", image.member)
@@ -80,24 +98,22 @@ class Reader:
 
     def record_of(self, image: Image) -> Record:
         """What is kept of the image of a volume."""
-        page = page_name(image.name, image.number)
-        content = image.content if isinstance(image.content, bytes) else bytes(memoryview(image.content)[: adf.MOST_BYTES + 1])
-        found = image_record(content, {**columns_of(image), "page": page, **content_facts(image.content, image.length)}, self.has_texts)
-        return self.rescued(content, found) if self.out is not None and found.columns["verdict"] != "ok" else found
+        page, content = page_name(image.name, image.number), image.content.begin()
+        found = image_record(content, {**columns_of(image), "page": page, **facts_of(image)}, self.has_texts)
+        return self.rescued(content, found) if self.volumes is not None and found.columns["verdict"] != "ok" else found
 
     def rescued(self, image: bytes, found: Record) -> Record:
-        """Writes the new volume of what stands in a refused image beside its page, if anything does."""
+        """Writes the new volume of what stands in a refused image, if anything does; it is to stand beside its page."""
         try:
             volume, left_out = adf.rescue(image, found.columns.get("fits"))
         except adf.Refused:
             return found
         link = found.columns["page"][: -len("html")] + "adf"
-        self.write(link, volume)
+        try:
+            with open(os.open(os.path.basename(link), NEW_FILE, 0o666, dir_fd=self.volumes), "wb") as file:
+                file.write(volume)
+        except FileExistsError:  # two images have one name
+            return found
+        except OSError as error:
+            stop(FAILED, f"{link}: {error.strerror}")
         return found._replace(columns={**found.columns, "rescued": link}, left_out=limited((each.why, spelled_letters(each.path)) for each in left_out))
-
-    def write(self, link: str, content: bytes) -> None:
-        """Writes a file of the catalogue, whole or not at all."""
-        path = os.path.join(self.out or "", link)
-        with named(path), open(path + ".new", "wb") as file:
-            file.write(content)
-        os.replace(path + ".new", path)

@@ -19,7 +19,8 @@ from adf_tools.collection import ARCHIVES, files_below
 from adf_tools.database import transaction
 from adf_tools.names import host_letters
 from adf_tools.processes import in_order
-from adf_tools.program import Progress, working_folder
+from adf_tools.out_folder import OwnNames, is_own
+from adf_tools.program import Progress
 from adf_tools.reader import Reader
 from adf_tools.trees import Identity
 from adf_tools.volumes import Record
@@ -49,10 +50,10 @@ class File(NamedTuple):
 
 
 class Options(NamedTuple):
-    """What is wanted of the files: the folder for the new volumes of refused images, if they are; all read again; the contents of text
-    files; a part of the files alone."""
+    """What is wanted of the files: the new volumes of refused images; all read again; the contents of text files; a part of the files
+    alone."""
 
-    rescues: Optional[str] = None
+    rescues: bool = False
     is_fresh: bool = False
     has_texts: bool = False
     part: Part = Part(1, 1)
@@ -69,7 +70,12 @@ def sum_of(path: str) -> str:
 def reader_of(options: Options) -> str:
     """What reads the files: the version of the module, its files, the library, and the options."""
     own = [path for path in sorted(glob.glob(os.path.join(HERE, "*.py"))) if os.path.basename(path)[:-3] in READING]
-    return json.dumps([adf.__version__, *map(sum_of, (adf.library_path(), adf.__file__, *own)), options.rescues is not None, options.has_texts])
+    return json.dumps([adf.__version__, *map(sum_of, (adf.library_path(), adf.__file__, *own)), options.rescues, options.has_texts])
+
+
+def links_of(records: List[Record]) -> List[str]:
+    """The new volumes of what was read of a file."""
+    return [record.columns["rescued"] for record in records if "rescued" in record.columns]
 
 
 def memory_for(files: List[File]) -> int:
@@ -81,8 +87,8 @@ def memory_for(files: List[File]) -> int:
 class Scan:
     """An update of a database, which is in another folder, from the files below a folder."""
 
-    def __init__(self, connection: sqlite3.Connection, folder: bytes, out: str, own: Container[Identity], options: Options) -> None:
-        self.connection, self.folder, self.out, self.options = connection, folder, out, options
+    def __init__(self, connection: sqlite3.Connection, folder: bytes, own_names: OwnNames, own: Container[Identity], options: Options) -> None:
+        self.connection, self.folder, self.own_names, self.options = connection, folder, own_names, options
         begin = os.path.join(folder, b"")
         paths = ((path, path[len(begin) :] if path.startswith(begin) else b".") for path in files_below(folder, own))
         self.files = [File(path, host_letters(name), store.stamp_of(path)) for path, name in paths if options.part.has(name)]
@@ -97,12 +103,15 @@ class Scan:
                 store.remove(self.connection, known[name][0])
         new = [file for file in self.files if file.name not in known or known[file.name][1] != file.stamp or file.stamp is None]
         for batch in self.batches(new):
+            self.own_names.note(link for _, records in batch for link in links_of(records))
             with transaction(self.connection):
                 for file, records in batch:
                     if file.name in known:
                         store.remove(self.connection, known[file.name][0])
                     store.add(self.connection, file.name, file.stamp, run, records)
                 self.connection.execute("UPDATE runs SET read = read + ? WHERE id = ?", (len(batch), run))
+            for link in (link for _, records in batch for link in links_of(records)):
+                self.own_names.out.move(os.path.basename(link), link)
         with transaction(self.connection):
             self.connection.execute("UPDATE runs SET ended = datetime('now'), removed = ? WHERE id = ?", (len(gone), run))
 
@@ -125,19 +134,20 @@ class Scan:
     def known(self) -> Dict[str, Tuple[int, object]]:
         """The files in the database: the number and the stamp of each. One whose new volumes are not all there has no stamp."""
         lost = set()
-        if self.options.rescues is not None:
+        if self.options.rescues:
             rows = self.connection.execute("SELECT file, rescued FROM images WHERE rescued IS NOT NULL")
-            lost = {file for file, link in rows if not os.path.isfile(os.path.join(self.options.rescues, link))}
+            lost = {file for file, link in rows if not is_own(link) or self.own_names.out.status(link) is None}
         rows = self.connection.execute("SELECT path, id, size, altered_ns, inode, changed_ns FROM files")
         return {path: (number, None if number in lost else tuple(stamp)) for path, number, *stamp in rows}
 
     def batches(self, files: List[File]) -> Iterator[List[Tuple[File, List[Record]]]]:
         """What is read of these files, some of them at a time."""
-        reader, progress = Reader(self.folder, self.options.rescues, self.options.has_texts), Progress(len(files), "files")
+        work = self.own_names.out.work
+        reader, progress = Reader(self.folder, work if self.options.rescues else None, self.options.has_texts), Progress(len(files), "files")
         batch: List[Tuple[File, List[Record]]] = []
         weight, begun = 0, time.monotonic()
-        with contextlib.closing(progress), working_folder(self.out, self.out) as folder, contextlib.ExitStack() as stack:
-            answers = stack.enter_context(contextlib.closing(in_order(reader, [file.path for file in files], memory_for(files), folder)))
+        answers = in_order(reader, [file.path for file in files], memory_for(files), work)
+        with contextlib.closing(progress), contextlib.closing(answers):
             for file, records in zip(files, answers):
                 batch.append((file, records))
                 weight += sum(record.weight for record in records)

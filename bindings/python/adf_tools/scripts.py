@@ -1,6 +1,8 @@
 """The scripts of the pages of a catalogue: tables are sorted and filtered by one, the parts of the search asked by the other."""
 
-SCRIPT = """
+from adf_tools.markup import Html
+
+SCRIPT = Html("""
 const order = new Intl.Collator("en", { numeric: true });
 const body = document.querySelector("#images tbody");
 const heads = [...body.parentElement.querySelectorAll("thead th")];
@@ -33,8 +35,8 @@ function hash() {
 filter.value = hash().startsWith("find=") ? "" : hash();
 filter.oninput = () => { history.replaceState(null, "", "#" + encodeURIComponent(filter.value)); hide(); };
 hide();
-"""
-SEARCHING = """
+""")
+SEARCHING = Html("""
 const loaded = new Map();
 const waiting = new Map();
 function part([name, images, words]) { waiting.get(name)?.({ images, words: Object.entries(words) }); }
@@ -92,4 +94,4 @@ function goTo() {
 }
 window.onhashchange = goTo;
 goTo();
-"""
+""")

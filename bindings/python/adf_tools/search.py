@@ -5,15 +5,15 @@ from __future__ import annotations
 
 import itertools
 import json
-import os
 import re
 import sqlite3
 from typing import Any, Dict, Iterable, Iterator, List, Optional, Set, Tuple
 
 from adf_tools.image_pages import is_page
+from adf_tools.out_folder import PARTS
 
-FOLDER = "search"
-PART_NAME = re.compile(r"search/[a-z0-9_]{3}\.js")
+Part = Tuple[str, Optional[bytes]]  # its name, and its bytes, if a word has it
+MARKUP = re.compile("[<>&\x7f]")  # letters that a text of a script has by their numbers
 FRONT, MOST_PLACES = 3, 100  # letters of a word that name its part; places of a word that a part has
 NO_LETTER = re.compile("[^a-z0-9]")
 TERMS = """SELECT term, 0 AS kind, doc FROM image_terms UNION ALL SELECT term, 1, doc FROM entry_terms UNION ALL SELECT sha256, 1, id
@@ -33,12 +33,18 @@ def part_of(term: str) -> str:
     return NO_LETTER.sub("_", term[:FRONT]).ljust(FRONT, "_")
 
 
+def script_of(value: object) -> str:
+    """A value for a script, in which no text ends a string or an element."""
+    return MARKUP.sub(lambda found: f"\\u{ord(found[0]):04x}", json.dumps(value, separators=(",", ":")))
+
+
 class Places:
     """The places of words, as the parts have them: a number for each image, and the path in it."""
 
     def __init__(self, connection: sqlite3.Connection) -> None:
         self.connection = connection
-        self.images = {row["id"]: (row["name"], row["page"]) for row in connection.execute("SELECT id, name, page FROM images")}
+        rows = connection.execute("SELECT id, name, page FROM images")
+        self.images = {row["id"]: (row["name"], row["page"] if is_page(row["page"]) else "") for row in rows}
 
     def place(self, kind: int, doc: int) -> Tuple[int, str]:
         """The image of a row of the database, and the path in it, which is empty for the image itself."""
@@ -54,9 +60,8 @@ class Places:
         for term, (count, docs) in terms.items():
             places = sorted((self.images[image], path, image) for image, path in itertools.starmap(self.place, docs) if image in self.images)
             words[term] = (count, [(numbers.setdefault(image, len(numbers)), path) for _, path, image in places])
-        images = [(self.images[image][0], self.images[image][1] if is_page(self.images[image][1]) else "") for image in numbers]
-        text = json.dumps([name, images, words], separators=(",", ":"))
-        return f"part({text});\n".encode("ascii")
+        images = [self.images[image] for image in numbers]
+        return f"part({script_of([name, images, words])});\n".encode("ascii")
 
     def one(self, name: str) -> Optional[bytes]:
         """The part of this name, if a word has it."""
@@ -76,7 +81,7 @@ class Places:
         return self.part(name, terms) if terms else None
 
 
-def all_parts(connection: sqlite3.Connection) -> Iterator[Tuple[str, bytes]]:
+def all_parts(connection: sqlite3.Connection) -> Iterator[Part]:
     """The name and the bytes of each part."""
     places = Places(connection)
     waiting: Dict[str, Dict[str, Any]] = {}
@@ -91,7 +96,7 @@ def all_parts(connection: sqlite3.Connection) -> Iterator[Tuple[str, bytes]]:
     yield from ((old, places.part(old, terms)) for old, terms in waiting.items())
 
 
-def due_parts(connection: sqlite3.Connection, names: Iterable[str]) -> Iterator[Tuple[str, Optional[bytes]]]:
+def due_parts(connection: sqlite3.Connection, names: Iterable[str]) -> Iterator[Part]:
     """The bytes of each of these parts, if a word has it."""
     places = Places(connection)
     yield from ((name, places.one(name)) for name in names)
@@ -104,9 +109,9 @@ def touched_parts(connection: sqlite3.Connection) -> Set[str]:
 
 
 def file_of(name: str) -> str:
-    return f"{FOLDER}/{name}.js"
+    return f"{PARTS}/{name}.js"
 
 
-def parts_in(out: str) -> List[str]:
-    """The names of the parts in the folder of a catalogue."""
-    return [name[: -len(".js")] for name in os.listdir(os.path.join(out, FOLDER)) if PART_NAME.fullmatch(f"{FOLDER}/{name}")]
+def part_in(file: str) -> str:
+    """The name of the part that a file has."""
+    return file[len(f"{PARTS}/") : -len(".js")]

@@ -5,26 +5,25 @@ from __future__ import annotations
 import contextlib
 import functools
 import glob
+import itertools
 import json
 import os
 import sqlite3
 from typing import Iterator, List, Optional, Sequence, Set
 
 import adf
-from adf_tools import database, search, tables, twice
+from adf_tools import database, search, tables
 from adf_tools.database import transaction
-from adf_tools.image_pages import ALSO, MOST_BOOTS, ImagePage, is_page
-from adf_tools.lists import Lists, is_list
+from adf_tools.image_pages import ALSO, MOST_BOOTS, ImagePage, is_page, pairs_of
+from adf_tools.lists import Lists
+from adf_tools.out_folder import ENTRIES, IMAGES, OTHER_NAMES, PAGES, PART_NAME, TWICE, WORKING_NAME, OutFolder, OwnNames
 from adf_tools.pages import FAULTS, HERE
 from adf_tools.processes import in_order
 from adf_tools.program import Progress
-from adf_tools.reader import FOLDER
 from adf_tools.scan import sum_of
-from adf_tools.trees import named
 from adf_tools.twice import Twice
 
-PAGES, MEMORY = 50, 256 << 20  # of a piece of work, and what it takes
-NEW = ".new"  # how files end that are being written
+PIECE, MEMORY, NOTED = 50, 256 << 20, 100  # pages of a piece of work, and what it takes; parts that are noted together
 HOLDING = "SELECT image FROM entries WHERE sha256 = ?1 UNION SELECT id FROM images WHERE sha256 = ?1 UNION SELECT id FROM images WHERE tree = ?1"
 COUNTED = """SELECT touched.sha256, touched.name, holders.images, (SELECT COUNT(*) FROM (
     SELECT image FROM entries WHERE entries.sha256 = touched.sha256 UNION SELECT id FROM images WHERE images.sha256 = touched.sha256
@@ -32,17 +31,6 @@ COUNTED = """SELECT touched.sha256, touched.name, holders.images, (SELECT COUNT(
 BOOTS = """SELECT crc, now.images FROM (SELECT boot_crc32 AS crc, MIN(COUNT(*), ?) AS images FROM images WHERE crc IS NOT NULL GROUP BY crc)
     AS now LEFT JOIN boots ON boots.crc32 = crc WHERE boots.images IS NOT now.images"""
 FIRSTS = ALSO + 2  # images of a sum that are kept: those that a page links to, itself, and one more
-
-
-def write_file(out: str, name: str, content: bytes) -> None:
-    """Writes a file of a catalogue whole, and not at all if it is there with the same bytes."""
-    path = os.path.join(out, name)
-    with contextlib.suppress(OSError), open(path, "rb") as old:
-        if os.fstat(old.fileno()).st_size == len(content) and old.read() == content:
-            return
-    with named(path), open(path + NEW, "wb") as file:
-        file.write(content)
-    os.replace(path + NEW, path)
 
 
 @functools.lru_cache(maxsize=1)
@@ -53,35 +41,34 @@ def connection_of(path: str, _process: int) -> sqlite3.Connection:
 
 def is_behind(name: str, images: Optional[str]) -> bool:
     """Whether an image comes behind all that are kept of those that hold a sum, so that these stay as they are."""
-    kept = json.loads(images) if images else []
+    kept = pairs_of(images)
     return len(kept) == FIRSTS and name > kept[-1][0]
 
 
 class PageWriter:
     """Writes the pages of some images."""
 
-    def __init__(self, out: str) -> None:
+    def __init__(self, out: OutFolder) -> None:
         self.out = out
 
     def __call__(self, images: Sequence[int]) -> Sequence[int]:
-        path = os.path.join(self.out, database.NAME)
+        path = self.out.path_of(database.NAME)
         with database.told(path):
             connection = connection_of(path, os.getpid())
             for number in images:
                 image = connection.execute("SELECT * FROM images WHERE id = ?", (number,)).fetchone()
                 if image is not None and is_page(image["page"]):
-                    write_file(self.out, image["page"], ImagePage(connection, image).html().encode("utf-8"))
+                    self.out.write(image["page"], ImagePage(connection, image).page().encode("utf-8"))
         return images
 
 
 class Site:
     """The pages of a catalogue, in the folder of its database."""
 
-    def __init__(self, connection: sqlite3.Connection, out: str) -> None:
-        self.connection, self.out = connection, out
+    def __init__(self, connection: sqlite3.Connection, own: OwnNames) -> None:
+        self.connection, self.own, self.out = connection, own, own.out
 
     def write(self, has_tables: bool, is_escaped: bool) -> None:
-        os.makedirs(os.path.join(self.out, FOLDER), exist_ok=True)
         self.note_maker()
         self.note_holders()
         self.note_boots()
@@ -137,7 +124,7 @@ class Site:
 
     def note_lost_pages(self) -> None:
         """Pages that are no longer there are made again."""
-        there = {f"{FOLDER}/{name}" for name in os.listdir(os.path.join(self.out, FOLDER))}
+        there = {f"{PAGES}/{name}" for name in self.out.names(PAGES)}
         rows = self.connection.execute("SELECT id, page FROM images WHERE is_shown AND page IS NOT NULL")
         lost = [(number,) for number, name in rows if name not in there]
         with transaction(self.connection):
@@ -145,8 +132,10 @@ class Site:
 
     def write_images(self) -> None:
         """Writes the pages of images that are not shown as they are."""
-        due = [row[0] for row in self.connection.execute("SELECT id FROM images WHERE NOT is_shown AND page IS NOT NULL ORDER BY name, number")]
-        pieces = [due[at : at + PAGES] for at in range(0, len(due), PAGES)]
+        rows = self.connection.execute("SELECT id, page FROM images WHERE NOT is_shown AND page IS NOT NULL ORDER BY name, number").fetchall()
+        due = [row["id"] for row in rows]
+        self.own.note(row["page"] for row in rows if is_page(row["page"]))
+        pieces = [due[at : at + PIECE] for at in range(0, len(due), PIECE)]
         progress = Progress(len(due), "pages")
         with contextlib.closing(progress), contextlib.closing(in_order(PageWriter(self.out), pieces, MEMORY)) as answers:
             for images in answers:
@@ -156,55 +145,50 @@ class Site:
 
     def write_parts(self) -> None:
         """Writes the parts that the index searches: all, if the programs are other ones or most have changed; else those that are due."""
-        os.makedirs(os.path.join(self.out, search.FOLDER), exist_ok=True)
         facts = dict(self.connection.execute("SELECT name, value FROM facts").fetchall())
-        due, there = [row[0] for row in self.connection.execute("SELECT name FROM parts_due ORDER BY name")], set(search.parts_in(self.out))
+        due = [row[0] for row in self.connection.execute("SELECT name FROM parts_due ORDER BY name")]
+        there = {search.part_in(name) for name in self.own.names if PART_NAME.fullmatch(name)}
         if facts.get("parts") != facts["maker"] or 2 * len(due) > len(there):
-            kept = self.write_all_parts()
-            gone = there - kept
+            gone = there - self.write_some(search.all_parts(self.connection))
         else:
-            gone = {name for name, content in search.due_parts(self.connection, due) if not self.write_part(name, content)}
-        for name in gone & there:
-            os.remove(os.path.join(self.out, search.file_of(name)))
+            gone = there & set(due) - self.write_some(search.due_parts(self.connection, due))
+        self.own.remove(search.file_of(name) for name in gone)
         with transaction(self.connection):
             self.connection.execute("DELETE FROM parts_due")
             self.connection.execute("INSERT OR REPLACE INTO facts VALUES ('parts', ?)", (facts["maker"],))
 
-    def write_all_parts(self) -> Set[str]:
-        return {name for name, content in search.all_parts(self.connection) if self.write_part(name, content)}
-
-    def write_part(self, name: str, content: Optional[bytes]) -> bool:
-        """Writes a part, if there is one."""
-        if content is not None:
-            write_file(self.out, search.file_of(name), content)
-        return content is not None
+    def write_some(self, parts: Iterator[search.Part]) -> Set[str]:
+        """Writes these parts, as far as there are such; gives their names."""
+        written: Set[str] = set()
+        while some := list(itertools.islice(parts, NOTED)):
+            there = {name: content for name, content in some if content is not None and PART_NAME.fullmatch(search.file_of(name))}
+            self.own.note(map(search.file_of, there))
+            for name, content in there.items():
+                self.out.write(search.file_of(name), content)
+            written.update(there)
+        return written
 
     def write_lists(self) -> List[str]:
         """Writes the pages of lists, the index last; gives their names."""
-        names = []
-        write_file(self.out, twice.NAME, Twice(self.connection).html().encode("utf-8"))
-        (title,) = self.connection.execute("SELECT value FROM facts WHERE name = 'title'").fetchone()
-        for name, page in Lists(self.connection, title).pages():
-            write_file(self.out, name, page.encode("utf-8"))
-            names.append(name)
+        title = self.connection.execute("SELECT value FROM facts WHERE name = 'title'").fetchone()
+        lists = Lists(self.connection, title[0] if title else "")
+        names = [TWICE, *lists.names()]
+        self.own.note(names)
+        self.out.write(TWICE, Twice(self.connection).page().encode("utf-8"))
+        for name, page in lists.pages():
+            self.out.write(name, page.encode("utf-8"))
         return names
 
     def write_tables(self, is_escaped: bool) -> None:
-        for name, query in ((tables.IMAGES, tables.IMAGE_QUERY), (tables.ENTRIES, tables.ENTRY_QUERY)):
-            path = os.path.join(self.out, name)
-            with named(path), open(path + NEW, "wb") as file:
+        self.own.note((IMAGES, ENTRIES))
+        for name, query in ((IMAGES, tables.IMAGE_QUERY), (ENTRIES, tables.ENTRY_QUERY)):
+            with self.out.new_file(name) as file:
                 tables.write_table(self.connection, query, file, is_escaped)
-            os.replace(path + NEW, path)
 
     def remove_old(self, lists: Sequence[str]) -> None:
         """Removes pages and volumes to which no row leads, and lists that are no longer written."""
-        leading = set(self.leading())
-        inside = [f"{FOLDER}/{name}" for name in os.listdir(os.path.join(self.out, FOLDER))]
-        old = [name for name in inside if is_page(name) and name not in leading or name.endswith(NEW) and is_page(name[: -len(NEW)])]
-        old += [name for name in os.listdir(self.out) if is_list(name) and name not in lists]
-        for name in old:
-            with contextlib.suppress(FileNotFoundError):
-                os.remove(os.path.join(self.out, name))
+        kept = {*self.leading(), *lists, *OTHER_NAMES}
+        self.own.remove([name for name in self.own.names if name not in kept and not PART_NAME.fullmatch(name) and not WORKING_NAME.fullmatch(name)])
 
     def leading(self) -> Iterator[str]:
         for row in self.connection.execute("SELECT page, rescued FROM images"):

@@ -44,10 +44,10 @@ TOUCHED = (
 
 def stamp_of(path: bytes) -> Optional[Stamp]:
     """What changes if a file does, or another one takes its place: its size, date, inode, and when the system last changed any of
-    these. None if they cannot be had."""
+    these, as far as a database has room for the numbers. None if they cannot be had."""
     try:
         found = os.stat(path)
-        return found.st_size, found.st_mtime_ns, found.st_ino & MOST_NUMBER, found.st_ctime_ns
+        return found.st_size, found.st_mtime_ns & MOST_NUMBER, found.st_ino & MOST_NUMBER, found.st_ctime_ns & MOST_NUMBER
     except OSError:
         return None
 

@@ -4,7 +4,7 @@ from __future__ import annotations
 
 import hashlib
 import zlib
-from typing import NamedTuple
+from typing import Iterable, NamedTuple
 
 import adf
 
@@ -18,11 +18,10 @@ class Sums(NamedTuple):
     sha256: str
 
 
-def sums_of(content: adf.Image) -> Sums:
-    """The checksums of an image, which is not copied whole."""
-    crc, digests, view = 0, [hashlib.new(name) for name in Sums._fields[1:]], memoryview(content)
-    for at in range(0, len(view), adf.PART):
-        part = view[at : at + adf.PART]
+def sums_of(parts: Iterable[adf.Image]) -> Sums:
+    """The checksums of bytes that come in parts."""
+    crc, digests = 0, [hashlib.new(name) for name in Sums._fields[1:]]
+    for part in parts:
         crc = zlib.crc32(part, crc)
         for digest in digests:
             digest.update(part)

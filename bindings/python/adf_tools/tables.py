@@ -8,7 +8,6 @@ from typing import Any, BinaryIO, Callable, Sequence
 import adf
 from adf_tools.names import CONTROL, bytes_of, one_line
 
-IMAGES, ENTRIES = "images.tsv", "entries.tsv"
 IMAGE_QUERY = """SELECT name AS image, bytes, sha256, verdict, kind, blocks, used, free, dirs, files, label, root, altered, created, unlisted,
 advice, lost, fits, rescued, crc32, md5, sha1, boot_crc32, boot_is_right, boot, boot_others FROM images
 LEFT JOIN (SELECT boot_crc32 AS crc, COUNT(*) - 1 AS boot_others FROM images GROUP BY boot_crc32) ON crc = boot_crc32 ORDER BY name, number"""
@@ -23,8 +22,11 @@ def escaped_name(name: str) -> str:
 
 
 def escaped_text(text: str) -> str:
-    """The escape form of a text of an Amiga."""
-    return adf.escape(bytes_of(text.encode("utf-8")))
+    """The escape form of a text of an Amiga; of one that no Amiga has, the one of a name of the host."""
+    try:
+        return adf.escape(bytes_of(text.encode("utf-8")))
+    except ValueError:
+        return escaped_name(text)
 
 
 def form_of(column: str, is_escaped: bool) -> Callable[[Any], str]:

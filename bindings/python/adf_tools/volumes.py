@@ -13,7 +13,7 @@ from adf_tools import icons
 from adf_tools.advice import advice_of, length_that_fits, passed
 from adf_tools.names import letters, spelled_letters
 from adf_tools.picture import roles_of_refused
-from adf_tools.sums import boot_facts, sums_of
+from adf_tools.sums import boot_facts
 
 DOS = b"DOS"
 MOST_LETTERS, MOST_FINDINGS, LINE = 64 << 20, 100_000, 100  # of the texts of one image; a row has so many letters beside them
@@ -172,11 +172,6 @@ def image_record(image: bytes, columns: Columns, has_texts: bool) -> Record:
     except adf.Refused as refused:
         return refused_record(image, refused, columns, has_texts)
     return volume_record(volume, columns, has_texts)
-
-
-def content_facts(content: adf.Image, length: Optional[int]) -> Columns:
-    """The length and the checksums of an image; if it is longer than what was read of it, neither is known."""
-    return {"bytes": length, **(sums_of(content)._asdict() if length == len(content) else {})}
 
 
 def disk_of(content: adf.Image) -> Optional[adf.Disk]:

@@ -235,9 +235,10 @@ class Bounds(Catalogues):
 
     def test_lets_large_answers_wait_in_files(self):
         os.mkdir("waiting")
-        pieces = range(40)
+        pieces, folder = range(40), os.open("waiting", os.O_RDONLY)
+        self.addCleanup(os.close, folder)
         with unittest.mock.patch.multiple(processes, LARGE=1000, workers=lambda _pieces, _need: 3):
-            answers = processes.in_order(long_answer, pieces, 1, "waiting")
+            answers = processes.in_order(long_answer, pieces, 1, folder)
             self.assertEqual([next(answers) for _ in range(3)], [long_answer(piece) for piece in pieces[:3]])
             time.sleep(0.5)
             self.assertGreater(len(os.listdir("waiting")), 10)
@@ -460,7 +461,7 @@ class Failures(Catalogues):
         os.remove(page)
         os.mkdir(page)
         written("disks/0.adf", BAD)
-        self.refused(3, f"adf-catalogue: {page}.new: Is a directory", "catalogue", "disks", "out")
+        self.refused(3, f"adf-catalogue: {page}: Is a directory", "catalogue", "disks", "out")
 
     def broken_off(self, number, part):
         """A run that gets a signal after a part of a second; gives its status and what it says on errors."""
@@ -479,7 +480,6 @@ class Failures(Catalogues):
                 status, errors = self.broken_off(number, part)
                 self.assertIn(status, statuses)
                 self.assertEqual(errors, b"adf-catalogue: interrupted\n" if status == 3 else b"")
-                self.assertFalse(glob.glob("disks/*.new"))
                 self.catalogue("disks", "out", "--tsv")
                 self.assertEqual(trees_of("out"), trees_of("whole"))
                 shutil.rmtree("out")

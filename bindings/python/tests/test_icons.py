@@ -18,6 +18,19 @@ class Icons(Catalogues):
             self.assertEqual(found.pixels, bytes([3, 2, 3, 2, 3, 0, 0, 0, 0, 0, 1, 3, 1, 3, 1]))
         self.assertEqual(icons.icon_of(icon(planes=planes, used=2)).pixels, bytes([2, 0, 2, 0, 2, 0, 0, 0, 0, 0, 2, 2, 2, 2, 2]))
 
+    def test_has_a_colour_for_planes_that_are_not_there(self):
+        image = bytearray(icon(planes=bytes.fromhex("a800 0000 f800".replace(" ", "")) + bytes(6), used=1))
+        image[78 + 15] = 2  # bits that are set for all pixels
+        self.assertEqual(icons.icon_of(bytes(image)).pixels, bytes([3, 2, 3, 2, 3, 2, 2, 2, 2, 2, 3, 3, 3, 3, 3]))
+        wide = icons.icon_of(icon(width=17, height=2, depth=1, planes=bytes.fromhex("8000800040008000"), used=1))
+        self.assertEqual(wide.pixels, bytes([1, *[0] * 15, 1, 0, 1, *[0] * 14, 1]))
+
+    def test_draws_each_run_once(self):
+        drawn = icons.icon_picture("<x>", icons.Icon(4, 1, 0, bytes([0, 4, 4, 1])), 99)
+        self.assertEqual(re.findall('stroke="(#[0-9a-f]*)".*? d="([^"]*)"', drawn), [("#0055aa", "M0 1h3"), ("#ffffff", "M3 1h1")])
+        self.assertIn('aria-label="&lt;x&gt;"', drawn)
+        self.assertIsNone(icons.icon_picture("x", icons.Icon(4, 1, 0, bytes([0, 1, 0, 1])), 9))
+
     def test_leaves_out_what_is_none(self):
         whole = icon()
         for length in range(len(whole)):

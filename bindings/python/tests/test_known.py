@@ -5,7 +5,7 @@ import zlib
 
 from tests.samples import OFS, Asked, dat
 from tests.shared import written
-from tests.test_catalogue import Page, trees_of
+from tests.test_catalogue import Page, pages_of, trees_of
 
 
 class Known(Asked):
@@ -38,13 +38,27 @@ class Known(Asked):
         self.catalogue("--dat", "crc.dat", "disks", "out", status=1)
         self.assertEqual(self.known()["a.zip/B\xfc.adf"], ("known", "b (crc.dat)"))
 
+    def test_tells_what_a_list_says_of_a_dump(self):
+        roms = f"""<rom name="b.adf" size="901120" crc="{zlib.crc32(OFS):08x}" status="baddump"/><rom name="tools.adf" status="nodump"/>
+            <rom name="other.adf" size="1" crc="00000000" status="baddump"/><rom name="bad.adf" status="good"/>"""
+        self.catalogue("--dat", self.list_of(f"<datafile><machine>{roms}</machine></datafile>".encode()), "disks", "out", status=1)
+        self.assertEqual(self.known(), {
+            "a.zip/B\xfc.adf": ("known", "b.adf (list.dat, a bad dump)"), "tools.adf": ("unknown", "tools.adf (list.dat, not dumped)"),
+            "other.adf": ("differs", "other.adf (list.dat, a bad dump)"), "games/bad.adf": ("unknown", None), "games/copy.adf": ("unknown", None),
+        })  # fmt: skip
+        self.assertIn("unknown: tools.adf (list.dat, not dumped)", "".join(page.text for page in pages_of("out")))
+        good = f"""<datafile><rom name="good" size="901120" crc="{zlib.crc32(OFS):08x}"/></datafile>"""
+        written("good.dat", good.encode())
+        self.catalogue("--dat", "list.dat", "--dat", "good.dat", "disks", "out", status=1)
+        self.assertEqual(self.known()["a.zip/B\xfc.adf"], ("known", "good (good.dat)"))
+
     def test_refuses_lists_that_are_none(self):
         bomb = '<!DOCTYPE datafile [<!ENTITY a "aaaaaaaa">' + "".join(f'<!ENTITY a{n} "&a;&a;&a;&a;">' for n in range(20)) + "]>"
         outside = '<!DOCTYPE datafile [<!ENTITY a SYSTEM "file:///etc/passwd">]>'
         self.catalogue("--dat", self.list_of(dat(("x.adf", OFS))), "disks", "out", status=1)
         before = trees_of("out"), self.known()
         long = b'<datafile><game name="' + b"a" * (8 << 20) + b'"/></datafile>'
-        for content in (b"", b"no list", b"<datafile>", long, dat(head=bomb), dat(head=outside), b"\xff\xfe", b"<a>" * 99999):
+        for content in (b"", b"no list", b"<datafile>", long, dat(head=bomb), dat(head=outside), b"\xff\xfe", b"<a>" * 99999, b"<a>" * 200 + b"</a>" * 200):
             self.refused(3, "list.dat: not a list of known disks: ", "catalogue", "--dat", self.list_of(content), "disks", "out")
             self.assertEqual((trees_of("out"), self.known()), before)
         self.refused(3, "nix.dat: No such file", "catalogue", "--dat", "nix.dat", "disks", "out")

@@ -1,0 +1,85 @@
+"""The bytes of an image: in memory, or, of one that is larger than the largest volume, in a file from which they are read where they are
+asked for. A file of others is never mapped: one that is cut while it is mapped ends the program."""
+
+from __future__ import annotations
+
+import io
+import mmap
+import os
+import tempfile
+from typing import IO, BinaryIO, Iterator, Optional
+
+import adf
+from adf_tools.volumes import disk_of, fault_of, is_volume, volume_of
+
+CHANGED = "changed while it was read"
+
+
+class Content:
+    """Bytes in memory."""
+
+    def __init__(self, content: bytes) -> None:
+        self.content, self.size = content, len(content)
+
+    def begin(self) -> bytes:
+        """All bytes, but at most one more than the largest volume has."""
+        return self.content
+
+    def parts(self) -> Iterator[memoryview]:
+        """All bytes, in parts."""
+        view = memoryview(self.content)
+        yield from (view[at : at + adf.PART] for at in range(0, len(view), adf.PART))
+
+    def disk(self) -> Optional[adf.Disk]:
+        """The hard disk, if it is one."""
+        return disk_of(self.content)
+
+    def volume(self, disk: adf.Disk, partition: adf.Partition) -> Optional[Content]:
+        """The volume of a partition, if it has one of an Amiga; of one that is too large one byte more than the largest has."""
+        content = volume_of(disk, partition)
+        return None if content is None else Content(content)
+
+
+class FileContent(Content):
+    """The bytes of an open file, of a length that it has to keep."""
+
+    def __init__(self, file: IO[bytes], size: int) -> None:
+        self.file, self.size = file, size
+
+    def read(self, at: int, count: int) -> bytes:
+        """So many bytes from a place, of those that there are."""
+        room = io.BytesIO()
+        whole = max(0, min(count, self.size - at))
+        while part := os.pread(self.file.fileno(), min(whole - room.tell(), adf.PART), at + room.tell()):
+            room.write(part)
+        if room.tell() != whole:
+            raise OSError(CHANGED)
+        return room.getvalue()
+
+    def begin(self) -> bytes:
+        return self.read(0, adf.MOST_BYTES + 1)
+
+    def parts(self) -> Iterator[memoryview]:
+        yield from (memoryview(self.read(at, adf.PART)) for at in range(0, self.size, adf.PART))
+
+    def disk(self) -> Optional[adf.Disk]:
+        """The hard disk, of which the tables alone are read: behind them is a hole in a file of this program's own."""
+        with tempfile.TemporaryFile() as tables:
+            tables.write(self.read(0, adf.MOST_TABLES))
+            tables.truncate(self.size)
+            return disk_of(mmap.mmap(tables.fileno(), 0, access=mmap.ACCESS_READ))
+
+    def volume(self, disk: adf.Disk, partition: adf.Partition) -> Optional[Content]:
+        if fault_of(disk, partition) or not is_volume(partition):
+            return None
+        return Content(self.read(adf.BLOCK * partition.first, min(adf.BLOCK * partition.blocks, adf.MOST_BYTES + 1)))
+
+
+def content_in(file: BinaryIO, size: int) -> Content:
+    """The bytes of an open file that has so many, and has to keep them."""
+    if size > adf.MOST_BYTES:
+        return FileContent(file, size)
+    content = adf.read_image(file)
+    if len(content) != size:
+        raise OSError(CHANGED)
+    return Content(content)
