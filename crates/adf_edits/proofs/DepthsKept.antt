@@ -15,9 +15,6 @@ use Rattle.adf_edits.specs.Paths.{has_deep, is_deep}
 use Rattle.adf_edits.proofs.PlacedInOrder.{any_fewer, any_mapped, same_place}
 use Rattle.adf_edits.proofs.RoomKept.{made_is}
 
-abbrev too_deep : Addition → Bool
-too_deep x = is_deep x.path
-
 -- what has room is not too deep
 room_shallow : (xs : List Addition) (path : List (List ℕ)) → room_fault xs path ≡ None → is_deep path ≡ false
 room_shallow xs path h = grind (arith, common_steps, cases_Bool)
