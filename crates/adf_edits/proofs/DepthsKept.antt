@@ -1,6 +1,6 @@
 -- An edit that is applied makes no path that is too deep.
 -- Letters: xs are additions, ys what the edit makes of them; x, y additions.
-use Rattle.std.proofs.Common.{◌≡◌, ◌∷◌, ℕ, List, [], map, false, Bool, None, Some, Ok, Option, Result, arith, refl, subst}
+use Rattle.std.proofs.Common.{◌≡◌, ◌∷◌, ℕ, List, [], map, false, None, Some, Ok, Option, Result, arith, refl, subst}
 use Rattle.std.specs.List.{filter, list_any}
 use Rattle.std.specs.Option.{option_or}
 use Rattle.std.proofs.lemmas.Bool.{cases_Bool}
