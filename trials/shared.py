@@ -5,6 +5,7 @@ import signal
 import struct
 import subprocess
 import sys
+import tempfile
 import time
 
 HERE = os.path.dirname(os.path.abspath(__file__))
@@ -110,16 +111,17 @@ def amiga_program(folder):
 
 def run_aros(top, drives, ends):
     """Starts AROS with a folder as its drive DH0, and these drives. It is ended when one of the files is in the folder."""
-    environment = {**os.environ, "HOME": top, "TZ": "UTC", "LIBGL_ALWAYS_SOFTWARE": "1", "SDL_AUDIODRIVER": "dummy"}
     words = ["xvfb-run", "-a", "fs-uae", *OPTIONS.split(), f"--hard-drive-0={top}", *(f"--{drive}={path}" for drive, path in drives)]
-    with subprocess.Popen(words, env=environment, start_new_session=True, stdout=subprocess.DEVNULL, stderr=subprocess.DEVNULL) as emulator:
-        try:
-            end = time.monotonic() + LONGEST
-            while time.monotonic() < end and not any(os.path.exists(os.path.join(top, name)) for name in ends):
-                time.sleep(0.2)
-            time.sleep(1)
-        finally:
-            os.killpg(emulator.pid, signal.SIGTERM)
+    with tempfile.TemporaryDirectory(prefix="adf-aros.") as folder:  # xvfb-run, when it is ended, leaves its files there
+        environment = {**os.environ, "TMPDIR": folder, "HOME": top, "TZ": "UTC", "LIBGL_ALWAYS_SOFTWARE": "1", "SDL_AUDIODRIVER": "dummy"}
+        with subprocess.Popen(words, env=environment, start_new_session=True, stdout=subprocess.DEVNULL, stderr=subprocess.DEVNULL) as emulator:
+            try:
+                end = time.monotonic() + LONGEST
+                while time.monotonic() < end and not any(os.path.exists(os.path.join(top, name)) for name in ends):
+                    time.sleep(0.2)
+                time.sleep(1)
+            finally:
+                os.killpg(emulator.pid, signal.SIGTERM)
 
 
 def start(top, drives, lines):

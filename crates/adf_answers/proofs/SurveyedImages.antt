@@ -5,7 +5,7 @@ use mathlib.Core.Logic.Dec.{and as dec_and}
 use native.Mathlib.Decide.{ℕ_discrete}
 use Rattle.adf_base.proofs.ByteLists.{AreBytes}
 use Rattle.adf_blocks.specs.declared.layout.TheConstants.{SECONDARY_TYPE, ST_FILE}
-use Rattle.adf_dates.proofs.DateTexts.{date_of, date_of_is}
+use Rattle.adf_fields.proofs.DateTexts.{date_of, date_of_is}
 use Rattle.adf_names.proofs.SomePaths.{path_or_none}
 use Rattle.adf_names.specs.PathTexts.{HasPathOrNone, IsPathText}
 use Rattle.adf_volume.specs.Image.{word_in}

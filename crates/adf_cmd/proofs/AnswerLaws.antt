@@ -3,7 +3,7 @@ use Rattle.std.proofs.Common.{◌≡◌, ◌∙◌, ap, inl, inr, ℕ, Bool, fal
 use Rattle.std.specs.Prelude.{codes, option_map}
 use Rattle.std.proofs.lemmas.Grind.{common_steps}
 use Rattle.adf_base.specs.declared.hash.Letters.{Letters, TheVariants.Ascii}
-use Rattle.adf_dates.proofs.DateTexts.{date_of, date_of_is}
+use Rattle.adf_fields.proofs.DateTexts.{date_of, date_of_is}
 use Rattle.adf_names.specs.PathTexts.{IsPathText}
 use Rattle.adf_tree.specs.Tree.{Tree, entry, find, with_kind}
 use Rattle.adf_names.specs.declared.kind.Kind.{Kind}

@@ -13,10 +13,9 @@ use Rattle.adf_partitions.specs.declared.partition.Partition.{Partition}
 use Rattle.adf_partitions.specs.declared.place.Place.{Place}
 use Rattle.adf_partitions.specs.declared.place.PlaceFault.{PlaceFault}
 use Rattle.adf_partitions.specs.declared.tables.Tables.{Tables}
-use Rattle.adf_file_words.specs.DiskLine.{AreRefusedByDisk, AsksDisk, DiskRequestValue, WantedValue, build, check, disk_file, list, name, number, survey}
+use Rattle.adf_file_words.specs.DiskLine.{AreRefusedByDisk, AsksDisk, DiskRequestValue, WantedValue, build, check, list, name, number, survey}
 use Rattle.adf_file_words.specs.DiskLine.{volume}
 use Rattle.adf_runs.specs.Commands.{Command, Reply, on_output}
-use Rattle.adf_file_runs.specs.FileRuns.{without_files}
 use Rattle.adf_disk_cmd.specs.Builds.{BuildsDisk, refusal}
 use Rattle.adf_disk_cmd.specs.Checks.{AreChecked, check_status}
 use Rattle.adf_disk_cmd.specs.Lines.{list_lines, volume_at}
@@ -119,7 +118,3 @@ disk_command = record {
   limit = λ r. MOST_DISK_BYTES;
   usage = disk_usage;
 }
-
--- the same where there are no files
-abbrev pub disk_without_files : Command (List (List ℕ))
-disk_without_files = without_files disk_command disk_file

@@ -1,6 +1,6 @@
 -- An edit that is applied makes no path that is too deep.
 -- Letters: xs are additions, ys what the edit makes of them; x, y additions.
-use Rattle.std.proofs.Common.{◌≡◌, ◌∷◌, ℕ, List, [], map, false, Bool, None, Some, Ok, Option, Result, arith, refl, subst}
+use Rattle.std.proofs.Common.{◌≡◌, ◌∷◌, ℕ, List, [], map, false, None, Some, Ok, Option, Result, arith, refl, subst}
 use Rattle.std.specs.List.{filter, list_any}
 use Rattle.std.specs.Option.{option_or}
 use Rattle.std.proofs.lemmas.Bool.{cases_Bool}
@@ -14,9 +14,6 @@ use Rattle.adf_edits.specs.Edits.{remove_fault, removed, room_fault, unless, wit
 use Rattle.adf_edits.specs.Paths.{has_deep, is_deep}
 use Rattle.adf_edits.proofs.PlacedInOrder.{any_fewer, any_mapped, same_place}
 use Rattle.adf_edits.proofs.RoomKept.{made_is}
-
-abbrev too_deep : Addition → Bool
-too_deep x = is_deep x.path
 
 -- what has room is not too deep
 room_shallow : (xs : List Addition) (path : List (List ℕ)) → room_fault xs path ≡ None → is_deep path ≡ false

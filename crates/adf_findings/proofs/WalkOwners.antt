@@ -1,5 +1,5 @@
 -- The owners that are kept of blocks, and what they tell of a walk.
--- Letters: w a walk; r a role; o an owning_entry; b a block; n a number of blocks.
+-- Letters: w a walk; r a role; o an owner; b a block; n a number of blocks.
 use Rattle.std.specs.Prelude.{◌||◌, nat_lt}
 use Rattle.std.specs.Option.{unwrap_or}
 use Rattle.std.proofs.Common.{◌≡◌, ◌==◌, ℕ, Bool, true, false, cond, List, [], ◌∷◌, ◌<◌, ◌≤◌, ◌+◌, length, set, refl, sym, ap, ◌∙◌, arith, length-set}
@@ -23,7 +23,7 @@ pub both : {X : Type 0} (t : Bool) (x : X) → cond t x x ≡ x
 both true x = refl
 both false x = refl
 
--- a role tells the same of its block as its owning_entry
+-- a role tells the same of its block as its owner
 entry_same : (r : Role) → entry_of (owner_of r) ≡ unwrap_or (role_entry r) 0
 entry_same r = grind (arith, common_steps)
 
@@ -33,7 +33,7 @@ number_same r = grind (arith, common_steps)
 pub part_owns : (r : Role) → is_part (owner_of r) ≡ true
 part_owns r = grind (arith, common_steps)
 
--- the owning_entry of a block by the walk tells its entry, its number, and whether a part has it
+-- the owner of a block by the walk tells its entry, its number, and whether a part has it
 entry_by : (w : Walk) (b : ℕ) → entry_of (owner_by w b) ≡ unwrap_or (owning_entry w b) 0
 entry_by [] b = through entry_of (nat_lt b 2) Boot Free ∙ both (nat_lt b 2) 0
 entry_by (x ∷ w) b =

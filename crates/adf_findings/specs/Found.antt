@@ -76,7 +76,7 @@ pub record AreSkipped (n : ℕ) (marks : List Bool) (w : Walk) : Type 0 where
   pub size : (marks ≡ []) ⊎ (length marks ≡ n)
   pub marked : (b : ℕ) → b < n → slice_index_or marks b false ≡ owns w b
 
--- the owning_entry of a block by the walk
+-- the owner of a block by the walk
 abbrev pub owner_by : Walk → ℕ → Owner
 owner_by [] b = cond (nat_lt b 2) Boot Free
 owner_by (x ∷ w) b = cond (x.1 == b) (owner_of x.0) (owner_by w b)
@@ -197,7 +197,7 @@ abbrev pub IsBitOf : List ℕ → BTreeMap ℕ ℕ → ℕ → ℕ → Option Bo
 IsBitOf image pages page bit None = get nat_cmp pages page ≡ None
 IsBitOf image pages page bit (Some t) = (at : ℕ) × (get nat_cmp pages page ≡ Some at) × (IsTrue t ↔ IsFreeAt image at bit)
 
--- the cause of a bit: a block in use without an owning_entry and without an excuse, or one owned and free
+-- the cause of a bit: a block in use without an owner and without an excuse, or one owned and free
 abbrev pub bit_cause : Bool → Bool → Bool → Option Cause
 bit_cause false false false = Some LostBlock
 bit_cause false true false = None

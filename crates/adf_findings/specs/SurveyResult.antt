@@ -20,7 +20,7 @@ use Rattle.adf_findings.specs.Parts.{finding_value}
 use Rattle.adf_findings.specs.Sound.{IsSound}
 use Rattle.adf_findings.specs.Survey.{FindingValue, IsSurvey, IsValidated}
 
--- the result: the findings and what they concern; the owning_entry of each block; the blocks of pages, by number;
+-- the result: the findings and what they concern; the owner of each block; the blocks of pages, by number;
 -- for each node its block, its parent, whether it is sound, and whether it is but for harmless findings of headers
 pub record SurveyValue : Type 0 where
   pub image : List ℕ

@@ -10,7 +10,7 @@ use Rattle.std.specs.List.{flat_map}
 use Rattle.std.specs.Option.{option_and_then, unwrap_or}
 use Rattle.std.specs.Str.{bytes_eq}
 use Rattle.std.proofs.Common.{zero, suc}
-use Rattle.adf_base.specs.declared.hash.Letters.{Letters, TheVariants.Ascii}
+use Rattle.adf_base.specs.declared.hash.Letters.{Letters}
 use Rattle.adf_base.specs.Words.{block}
 use Rattle.adf_tree.specs.declared.entry.Body.{Body, TheVariants.Dir, TheVariants.File}
 use Rattle.adf_names.specs.declared.meta.Meta.{Meta}
@@ -23,7 +23,7 @@ use Rattle.adf_blocks.specs.Sizes.{blocks}
 use Rattle.adf_volume.specs.Image.{name_of, word_in}
 use Rattle.adf_volume.specs.Made.{datas_in}
 use Rattle.adf_volume.specs.Types.{letters_for}
-use Rattle.adf_volume.specs.declared.types.Types.{Types, TheVariants.Plain}
+use Rattle.adf_volume.specs.declared.types.Types.{Types}
 use Rattle.adf_volume.specs.Walk.{heads, node_block, Walk}
 use Rattle.adf_findings.specs.Files.{file_content, file_in, grave}
 use Rattle.adf_findings.specs.Members.{owning_entry, parent_node, has_mark}
@@ -271,17 +271,3 @@ IsFaulty types image mended fs = (mended ≡ true) ⊎ (fs ≢ passed types imag
 abbrev pub StandsNothingBy : Types → (held : ℕ) → Basis → Option Basis → List FindingValue → Bool → Type 0
 StandsNothingBy types held a b fs mended =
     IsFaulty types a.image mended fs × (rescued_additions_by (letters_for types a.image) held a b ≡ [])
-
--- of a new tree with ASCII letters, and a new volume of type 0 or 1
-
-abbrev pub rescued_tree : (held : ℕ) → Basis → Option Basis → Tree
-rescued_tree = rescued_tree_by Ascii
-
-abbrev pub rescue_leaves : (held : ℕ) → Basis → List LeftOut
-rescue_leaves = rescue_leaves_by Ascii
-
-abbrev pub second_leaves : (held : ℕ) → Basis → Option Basis → List LeftOut
-second_leaves = second_leaves_by Ascii
-
-abbrev pub StandsNothing : (held : ℕ) → Basis → Option Basis → List FindingValue → Bool → Type 0
-StandsNothing = StandsNothingBy Plain

@@ -50,10 +50,10 @@ fn add(alloc: Global, tree: &mut Tree, path: &str, body: Body) -> Option<Result<
     Some(tree.add(&names, meta()?, body))
 }
 
-// A tree of a directory `a` with an empty file `b`, and of the directories `3` and `BA`, whose slots are behind that of `a`.
+// A tree of the directory `a`, the empty file `a/b` and the directory `3`, added in this order.
 fn worked_tree(alloc: Global) -> Option<Tree> {
     let mut tree = Tree::new(alloc, Kind::Ofs, Label::new(b"Work")?, NO_STAMPS);
-    for path in ["a", "a/b", "3", "BA"] {
+    for path in ["a", "a/b", "3"] {
         let body = match path {
             "a/b" => Body::File(Bytes::new(Vec::new(alloc))),
             _ => Body::Dir,
@@ -63,20 +63,23 @@ fn worked_tree(alloc: Global) -> Option<Tree> {
     Some(tree)
 }
 
-// Whether entries that have no place in the worked tree are refused, and the tree stays.
+// Whether the entries of the worked tree are numbered in walk order, and entries that have no place in it are refused and
+// leave it as it was.
 fn refuses_others(alloc: Global, tree: &mut Tree) -> Option<bool> {
-    let mut refuses = true;
+    let mut refuses = has_names(tree, "a 3 b");
     for (path, fault) in REFUSED {
         let res = add(alloc, tree, path, Body::Dir)?;
-        refuses = refuses && res == Err(fault) && has_names(tree, "a BA 3 b");
+        refuses = refuses && res == Err(fault) && has_names(tree, "a 3 b");
     }
     Some(refuses)
 }
 
-/// The second of two entries of one chain, where the entries fill the room that was made for them.
+/// The worked tree, and then two entries of one chain: the second is added where the entries fill the room that was made
+/// for them.
 pub fn tree_add_outcome(alloc: Global) -> Option<CallOutcome> {
     let mut tree = worked_tree(alloc)?;
     let refuses = refuses_others(alloc, &mut tree)?;
+    add(alloc, &mut tree, "BA", Body::Dir)?.ok()?;
     Some(match add(alloc, &mut tree, "AN", Body::Dir)? {
         Ok(()) => CallOutcome::Done.only_if(refuses && has_names(&tree, "a BA AN 3 b")),
         Err(fault) => {

@@ -2,7 +2,7 @@
 use Rattle.std.specs.Prelude.{ℕ, ◌-◌, ◌==◌, List, [], ◌++◌, codes, if◌then◌else◌, length, replicate, Some, None}
 use Rattle.std.specs.Fmt.{decimal}
 use Rattle.std.specs.List.{flat_map, range_with_len}
-use Rattle.adf_dates.specs.Dates.{IsStampText}
+use Rattle.adf_fields.specs.Dates.{IsStampText}
 use Rattle.adf_base.specs.declared.dates.Stamp.{Stamp}
 use Rattle.adf_names.specs.Escapes.{escaped}
 use Rattle.adf_names.specs.PathTexts.{path_text}

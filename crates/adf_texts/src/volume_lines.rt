@@ -12,7 +12,7 @@ use crate::digits::{push_hex, push_number, push_right};
 use crate::escapes::{push_escaped, push_names, push_path};
 use adf_base::Stamp;
 use adf_blocks::HeadBody;
-use adf_dates::push_stamp;
+use adf_fields::push_stamp;
 use adf_tree::{Kind, Label, Meta, Name, Stamps};
 use adf_volume::{Row, RowBody};
 use std::alloc::AllocError;

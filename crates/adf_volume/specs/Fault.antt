@@ -1,7 +1,7 @@
 -- Faults.
 use Rattle.std.specs.Prelude.{◌≡◌, ◌≢◌, ◌++◌, ℕ, List, codes}
 use Rattle.std.specs.Fmt.{decimal}
-use Rattle.adf_base.specs.declared.hash.Letters.{Letters, TheVariants.Ascii}
+use Rattle.adf_base.specs.declared.hash.Letters.{Letters}
 use Rattle.adf_blocks.specs.Causes.{cause_text}
 use Rattle.adf_blocks.specs.declared.cause.Cause.{Cause, TheVariants.NoMemory}
 use Rattle.adf_volume.specs.Walk.{FirstFaultBy}
@@ -19,7 +19,3 @@ fault_text f = codes "block " ++ (decimal f.block ++ (codes ": " ++ cause_text f
 pub record IsTrueFaultBy (letters : Letters) (image : List ℕ) (f : Fault) : Type 0 where
   pub first : f.cause ≢ NoMemory → FirstFaultBy letters image f.block f.cause
   pub memory : f.cause ≡ NoMemory → f.block ≡ 0
-
--- the same of a volume of type 0 or 1
-abbrev pub IsTrueFault : List ℕ → Fault → Type 0
-IsTrueFault = IsTrueFaultBy Ascii

@@ -224,10 +224,6 @@ demands_by letters image w r a b =
     ∷ demand Taken b (IsAbsent w b)
     ∷ form_demands_by letters image w r b ++ demand SameName b (NewNameBy letters image w r b) ∷ []
 
--- the same on volumes of types 0 and 1
-abbrev pub demands : List ℕ → Walk → Role → ℕ → ℕ → List Demand
-demands = demands_by Ascii
-
 -- each demand of the role holds; names have these letters
 abbrev pub NoCauseBy : Letters → List ℕ → Walk → Role → ℕ → ℕ → Type 0
 NoCauseBy letters image w r a b = AllHold (demands_by letters image w r a b)

@@ -1,4 +1,4 @@
-use Rattle.adf_dates.proofs.DateTexts.{date_of, date_of_is}
+use Rattle.adf_fields.proofs.DateTexts.{date_of, date_of_is}
 use Rattle.std.proofs.Common.{refl}
 use Rattle.adf_cmd.specs.Answers.{Answer}
 use Rattle.adf_words.specs.CommandLine.{list}

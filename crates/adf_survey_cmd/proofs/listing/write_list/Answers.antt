@@ -1,5 +1,5 @@
 use Rattle.std.proofs.Common.{◌∙◌, ap, cond, refl, sym}
-use Rattle.adf_dates.proofs.DateTexts.{date_of, date_of_is}
+use Rattle.adf_fields.proofs.DateTexts.{date_of, date_of_is}
 use Rattle.adf_findings.specs.SoundMarks.{mark_in}
 use Rattle.adf_runs.specs.Commands.{on_output}
 use Rattle.adf_runs.specs.Streams.{seen}

@@ -1,6 +1,6 @@
 use Rattle.std.proofs.lemmas.Result.{on_ok_weaker}
-use Rattle.adf_dates.specs.Dates.{AppendsStampText}
-use Rattle.adf_dates.proofs.DateTexts.{one_text}
+use Rattle.adf_fields.specs.Dates.{AppendsStampText}
+use Rattle.adf_fields.proofs.DateTexts.{one_text}
 use Rattle.adf_texts.proofs.volume_lines.push_date.Goals as goal
 
 pub returns : goal.returns

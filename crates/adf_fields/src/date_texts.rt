@@ -2,8 +2,8 @@
 
 ghost use Rattle.std.specs.Prelude.{◌≡◌, ◌<◌, ◌+◌, ◌/◌, ◌%◌, ◌≤ℤ◌, pos, OnOk, OnErr, IfOk, string_bytes};
 ghost use Rattle.adf_base.specs.Dates.{plain_text};
-ghost use Rattle.adf_dates.specs.Dates.{IsCivilDay, IsStampText, AppendsStampText, DatesHaveOneText, civil_text, is_civil};
-ghost use Rattle.adf_dates.specs.declared.date_texts.TheConstants.{CIVIL_DAYS, DAYS_TO_1978};
+ghost use Rattle.adf_fields.specs.Dates.{IsCivilDay, IsStampText, AppendsStampText, DatesHaveOneText, civil_text, is_civil};
+ghost use Rattle.adf_fields.specs.declared.date_texts.TheConstants.{CIVIL_DAYS, DAYS_TO_1978};
 
 use adf_base::{NoMemory, Stamp};
 use jiff::ToSpan;

@@ -6,9 +6,9 @@ use Rattle.jiff.specs.Types.{Date}
 use Rattle.jiff.proofs.Family.{epoch_day_injective}
 use Rattle.adf_base.specs.declared.dates.Stamp.{Stamp}
 use Rattle.adf_base.specs.Dates.{plain_text}
-use Rattle.adf_dates.specs.Dates.{AppendsStampText, IsCivilDay, IsCivilText, IsStampText, civil_text, is_civil}
-use Rattle.adf_dates.specs.declared.date_texts.TheConstants.{CIVIL_DAYS, DAYS_TO_1978}
-use Rattle.adf_dates.proofs.CivilDates.{civil_date}
+use Rattle.adf_fields.specs.Dates.{AppendsStampText, IsCivilDay, IsCivilText, IsStampText, civil_text, is_civil}
+use Rattle.adf_fields.specs.declared.date_texts.TheConstants.{CIVIL_DAYS, DAYS_TO_1978}
+use Rattle.adf_fields.proofs.CivilDates.{civil_date}
 
 few_days : (s : Stamp) → is_civil s ≡ true → s.days < CIVIL_DAYS
 few_days s e = ltb-true _ _ (and_parts _ _ (and_parts _ _ e).0).0

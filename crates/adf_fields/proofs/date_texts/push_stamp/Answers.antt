@@ -1,8 +1,8 @@
 use Rattle.std.proofs.Common.{◌∙◌, sym}
-use Rattle.adf_dates.proofs.CivilDates.{civil_year}
-use Rattle.adf_dates.proofs.DateTexts.{appends_where}
-use Rattle.adf_dates.proofs.Digits.{civil_case}
-use Rattle.adf_dates.proofs.date_texts.push_stamp.Goals as goal
+use Rattle.adf_fields.proofs.CivilDates.{civil_year}
+use Rattle.adf_fields.proofs.DateTexts.{appends_where}
+use Rattle.adf_fields.proofs.Digits.{civil_case}
+use Rattle.adf_fields.proofs.date_texts.push_stamp.Goals as goal
 
 pub civil_digits-requires-clause-year : goal.civil_digits-requires-clause-year
 civil_digits-requires-clause-year c = civil_year _ c.civil_day.result c.civil_day.ensures

@@ -6,9 +6,9 @@ use Rattle.jiff.specs.Types.{Date}
 use Rattle.jiff.specs.Words.{days_in_month}
 use Rattle.jiff.proofs.Family.{epoch_day-lt, days_from_civil-day, days_from_civil-next_month, days_from_civil-next_year, days_from_civil-max}
 use Rattle.jiff.proofs.SpanFacts.{signed_arith}
-use Rattle.adf_dates.specs.Dates.{IsCivilDay}
-use Rattle.adf_dates.specs.declared.date_texts.TheConstants.{CIVIL_DAYS, DAYS_TO_1978}
-use Rattle.adf_dates.proofs.Digits.{epoch_day_1970}
+use Rattle.adf_fields.specs.Dates.{IsCivilDay}
+use Rattle.adf_fields.specs.declared.date_texts.TheConstants.{CIVIL_DAYS, DAYS_TO_1978}
+use Rattle.adf_fields.proofs.Digits.{epoch_day_1970}
 
 -- a day has a civil date
 abbrev pub HasDate : ℕ → Type 0

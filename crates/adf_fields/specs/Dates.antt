@@ -4,7 +4,7 @@ use Rattle.jiff.specs.Words.{epoch_day, date_text}
 use Rattle.jiff.specs.Types.{Date}
 use Rattle.adf_base.specs.declared.dates.Stamp.{Stamp}
 use Rattle.adf_base.specs.Dates.{plain_text}
-use Rattle.adf_dates.specs.declared.date_texts.TheConstants.{CIVIL_DAYS, DAYS_TO_1978}
+use Rattle.adf_fields.specs.declared.date_texts.TheConstants.{CIVIL_DAYS, DAYS_TO_1978}
 
 -- two digits of a number below 100
 abbrev pub two_digits : ℕ → List ℕ

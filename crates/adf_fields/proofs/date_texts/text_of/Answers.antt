@@ -1,7 +1,7 @@
 use Rattle.std.proofs.Common.{◌∙◌, sym, string_bytes}
 use Rattle.std.proofs.lemmas.Result.{IfOk-weaker}
-use Rattle.adf_dates.proofs.Digits.{civil_case}
-use Rattle.adf_dates.proofs.date_texts.text_of.Goals as goal
+use Rattle.adf_fields.proofs.Digits.{civil_case}
+use Rattle.adf_fields.proofs.date_texts.text_of.Goals as goal
 
 pub returns-then-is_civil : goal.returns-then-is_civil
 returns-then-is_civil c =

@@ -8,8 +8,8 @@ use Rattle.jiff.specs.Words.{epoch_day, IsYmd}
 use Rattle.jiff.proofs.SpanFacts.{signed_arith}
 use Rattle.jiff.proofs.OnLiterals.{jiff_on_literals}
 use Rattle.adf_base.specs.declared.dates.Stamp.{Stamp}
-use Rattle.adf_dates.specs.Dates.{two_digits, IsCivilDay, IsStampText, civil_text, is_civil}
-use Rattle.adf_dates.specs.declared.date_texts.TheConstants.{DAYS_TO_1978}
+use Rattle.adf_fields.specs.Dates.{two_digits, IsCivilDay, IsStampText, civil_text, is_civil}
+use Rattle.adf_fields.specs.declared.date_texts.TheConstants.{DAYS_TO_1978}
 
 -- what `{:02}` writes of a number below 100
 pub two_places : (n : ℕ) → n < 100 → padded_integral (format_spec 32 0 4 2 (2 ^ 64 - 1)) false [] (decimal n) ≡ two_digits n

@@ -1,6 +1,6 @@
 use Rattle.std.proofs.Common.{arith, ◌/◌, ◌%◌}
-use Rattle.adf_dates.proofs.Digits.{two_places}
-use Rattle.adf_dates.proofs.date_texts.civil_text.Goals as goal
+use Rattle.adf_fields.proofs.Digits.{two_places}
+use Rattle.adf_fields.proofs.date_texts.civil_text.Goals as goal
 
 pub returns : goal.returns
 returns c =

@@ -1,5 +1,5 @@
 use Rattle.std.proofs.Common.{string_bytes, ◌∙◌, ap, ◌++◌}
-use Rattle.adf_dates.proofs.date_texts.stamp_text.Goals as goal
+use Rattle.adf_fields.proofs.date_texts.stamp_text.Goals as goal
 
 pub returns-clause-ok : goal.returns-clause-ok
 returns-clause-ok c = (

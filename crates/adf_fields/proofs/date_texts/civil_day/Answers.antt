@@ -1,8 +1,8 @@
 use Rattle.std.proofs.Common.{arith, ◌∙◌, FitsSigned, w64}
 use Rattle.jiff.proofs.SpanFacts.{signed_arith, date_add-days, can_add-days}
 use Rattle.std.proofs.lemmas.Int.{to_z-of_z}
-use Rattle.adf_dates.proofs.Digits.{epoch_day_1970}
-use Rattle.adf_dates.proofs.date_texts.civil_day.Goals as goal
+use Rattle.adf_fields.proofs.Digits.{epoch_day_1970}
+use Rattle.adf_fields.proofs.date_texts.civil_day.Goals as goal
 
 pub unwrap-requires : goal.unwrap-requires
 unwrap-requires c =

@@ -1,2 +1,0 @@
--- All of it is the promise: the texts of dates.
-pub mod Dates
