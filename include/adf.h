@@ -60,7 +60,7 @@ extern "C" {
 
 /* Why an image is refused: what adf_check, adf_owners and adf_index return, and those of types 0 to 3. Within one block the causes
  * are tested in this order, except that ADF_SAME_NAME comes after all other causes of a header. FAULTS.md explains them. A later
- * version may have more of them: an image is accepted if and only if the call returns 0. */
+ * version may have more of them, from 25 on: an image is accepted if and only if the call returns 0. */
 enum adf_cause {
     ADF_ACCEPTED = 0,
     ADF_BAD_SIZE = 1,       /* The length is not a multiple of 512, or not an allowed number of blocks. */
@@ -346,7 +346,7 @@ struct adf_subject {
     uint8_t is_retyped; /* 1 if the files say OFS, and the type says so in place of FFS, otherwise 0 */
 };
 
-/* The number of a subject that is larger than its room. */
+/* The number of a subject that is larger than its room: no adf_cause has it. */
 #define ADF_SUBJECT_SMALL_ROOM 24
 
 /* Writes the image that adf-survey surveys, of a given image of this length, for the calls below: as it is, or if blocks is not 0,
@@ -536,7 +536,7 @@ struct adf_rescue_told {
     uint32_t block;  /* the block of the first fault of the image */
 };
 
-/* The number of a rescue whose volume is larger than its room. */
+/* The number of a rescue whose volume is larger than its room: no adf_cause has it. */
 #define ADF_RESCUE_SMALL_ROOM 24
 
 /* Rescues an image of this length, as `adf-survey rescue` does: as it is, or if blocks is not 0, as if it had so many blocks, with

@@ -10,7 +10,7 @@ use Rattle.adf_boot_blocks.specs.declared.refusal.BootRefusal.TheVariants.{BadSi
 use Rattle.adf_boot_blocks.specs.declared.refusal.TheConstants.{MOST_BYTES}
 use Rattle.adf_boot_blocks.proofs.Taken.{IsTaken, copy_taken, image_taken, large_refused}
 use Rattle.adf_runs.specs.Commands.{Reply, on_errors, on_output}
-use Rattle.adf_boot_cmd.specs.Answers.{BootAnswer, Order, changed_boot, line_status, boot_reply, refusal_of, refusal_text, written}
+use Rattle.adf_boot_cmd.specs.Answers.{BootAnswer, Order, changed_boot, line_status, boot_reply, order_refusal, boot_refusal_text, written}
 use Rattle.adf_boot_cmd.specs.Answers.{clear, copy, install, tell}
 use Rattle.adf_boot_cmd.specs.Lines.{boot_line}
 use Rattle.adf_boot_cmd.specs.Work.{HasBoot}
@@ -27,11 +27,11 @@ told_short image lt = rw (lt-leb BOOT_LEN (length image) lt) refl
 pub told_long : (image : List ℕ) → BOOT_LEN ≤ length image → boot_reply image ≡ on_output (line_status (is_bootable image)) (boot_line image)
 told_long image le = rw (le-leb BOOT_LEN (length image) le) refl
 
-pub refused : (order : Order) (image : List ℕ) (refusal : BootRefusal) → refusal_of order image ≡ Some refusal
-    → written order image ≡ on_errors 1 (refusal_text refusal ++ codes "\n")
+pub refused : (order : Order) (image : List ℕ) (refusal : BootRefusal) → order_refusal order image ≡ Some refusal
+    → written order image ≡ on_errors 1 (boot_refusal_text refusal ++ codes "\n")
 refused order image refusal e = rw e refl
 
-pub is_written : (order : Order) (image : List ℕ) → refusal_of order image ≡ None
+pub is_written : (order : Order) (image : List ℕ) → order_refusal order image ≡ None
     → written order image ≡ on_output 0 (changed_boot order image ++ drop BOOT_LEN image)
 is_written order image e = rw e refl
 
@@ -40,7 +40,7 @@ pub record IsOrderTaken (order : Order) (image : List ℕ) : Type 0 where
   pub boot : HasBoot order
   pub taken : IsTaken image
 
-pub taken : (order : Order) (image : List ℕ) → refusal_of order image ≡ None → IsOrderTaken order image
+pub taken : (order : Order) (image : List ℕ) → order_refusal order image ≡ None → IsOrderTaken order image
 taken tell image e = record { boot = tt; taken = image_taken image e }
 taken install image e = record { boot = tt; taken = image_taken image e }
 taken clear image e = record { boot = tt; taken = image_taken image e }
@@ -62,7 +62,7 @@ source_refused true true rest refusal e = e
 source_refused true false rest refusal e = refl
 source_refused false dos rest refusal e = refl
 
-large : (order : Order) (image : List ℕ) → MOST_BYTES < length image → refusal_of order image ≡ Some (large_refusal order)
+large : (order : Order) (image : List ℕ) → MOST_BYTES < length image → order_refusal order image ≡ Some (large_refusal order)
 large tell image lt = large_refused image lt
 large install image lt = large_refused image lt
 large clear image lt = large_refused image lt

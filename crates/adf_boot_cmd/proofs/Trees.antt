@@ -16,7 +16,7 @@ use Rattle.adf_boot_blocks.proofs.OtherBoots.{other_fits}
 use Rattle.adf_boot_blocks.proofs.Writes.{other_bytes, other_next, other_sum, other_word, same_boot}
 use Rattle.adf_runs.specs.Commands.{Reply}
 use Rattle.adf_boot_cmd.proofs.Replies.{is_written, refused, taken}
-use Rattle.adf_boot_cmd.specs.Answers.{Order, changed_boot, clear, copy, install, refusal_of, reply_of, tell, written}
+use Rattle.adf_boot_cmd.specs.Answers.{Order, changed_boot, clear, copy, install, order_refusal, reply_of, tell, written}
 
 length_copied : (boot : List ℕ) → length (slice_range boot 4 BOOT_LEN) ≤ BOOT_LEN - 4
 length_copied boot = omega (arith, length-take {A = ℕ})
@@ -58,7 +58,7 @@ other_image image boot long o =
     }
 
 -- what is written at status 0
-written_fits : (order : Order) (image : List ℕ) (t : Tree) (l : Layout) (r : Option BootRefusal) → refusal_of order image ≡ r
+written_fits : (order : Order) (image : List ℕ) (t : Tree) (l : Layout) (r : Option BootRefusal) → order_refusal order image ≡ r
     → (written order image).status ≡ 0 → Fits image t l → Fits (written order image).output t l
 written_fits order image t l (Some refusal) e s fit = let no : 1 ≡ 0 = rw (refused order image refusal e) at s in absurd (omega (arith, no))
 written_fits order image t l None e s fit =
@@ -70,6 +70,6 @@ written_fits order image t l None e s fit =
 pub trees_stay : (order : Order) (image : List ℕ) (t : Tree) (l : Layout) → order ≢ tell → (reply_of order image).status ≡ 0
     → Fits image t l → Fits (reply_of order image).output t l
 trees_stay tell image t l writes s fit = absurd (writes refl)
-trees_stay install image t l writes s fit = written_fits install image t l (refusal_of install image) refl s fit
-trees_stay clear image t l writes s fit = written_fits clear image t l (refusal_of clear image) refl s fit
-trees_stay (copy boot) image t l writes s fit = written_fits (copy boot) image t l (refusal_of (copy boot) image) refl s fit
+trees_stay install image t l writes s fit = written_fits install image t l (order_refusal install image) refl s fit
+trees_stay clear image t l writes s fit = written_fits clear image t l (order_refusal clear image) refl s fit
+trees_stay (copy boot) image t l writes s fit = written_fits (copy boot) image t l (order_refusal (copy boot) image) refl s fit

@@ -42,24 +42,24 @@ changed_boot clear image = cleared (take BOOT_LEN image)
 changed_boot (copy boot) image = copied (take BOOT_LEN image) boot
 
 -- the text of a refusal
-abbrev pub refusal_text : BootRefusal → List ℕ
-refusal_text BadSize = codes "bad size"
-refusal_text NotDos = codes "not dos"
-refusal_text BadSourceSize = codes "boot file: bad size"
-refusal_text SourceNotDos = codes "boot file: not dos"
+abbrev pub boot_refusal_text : BootRefusal → List ℕ
+boot_refusal_text BadSize = codes "bad size"
+boot_refusal_text NotDos = codes "not dos"
+boot_refusal_text BadSourceSize = codes "boot file: bad size"
+boot_refusal_text SourceNotDos = codes "boot file: not dos"
 
 -- why an order is refused, if it is
-abbrev pub refusal_of : Order → List ℕ → Option BootRefusal
-refusal_of (copy boot) image = copy_refusal image boot
-refusal_of _ image = image_refusal image
+abbrev pub order_refusal : Order → List ℕ → Option BootRefusal
+order_refusal (copy boot) image = copy_refusal image boot
+order_refusal _ image = image_refusal image
 
 -- an image gets the boot blocks that an order leaves, where nothing refuses it
 abbrev pub written_unless : Option BootRefusal → Order → List ℕ → Reply
-written_unless (Some refusal) order image = on_errors 1 (refusal_text refusal ++ codes "\n")
+written_unless (Some refusal) order image = on_errors 1 (boot_refusal_text refusal ++ codes "\n")
 written_unless None order image = on_output 0 (changed_boot order image ++ drop BOOT_LEN image)
 
 abbrev pub written : Order → List ℕ → Reply
-written order image = written_unless (refusal_of order image) order image
+written order image = written_unless (order_refusal order image) order image
 
 -- the answer to an order, of an image
 abbrev pub reply_of : Order → List ℕ → Reply

@@ -6,7 +6,7 @@ ghost use Rattle.adf_boot_blocks.specs.declared.refusal.TheConstants.{MOST_BYTES
 ghost use Rattle.adf_runs.specs.Commands.{on_errors, on_output};
 ghost use Rattle.adf_runs.specs.Outcomes.{Does, DoesSilently};
 ghost use Rattle.adf_runs.specs.Streams.{seen};
-ghost use Rattle.adf_boot_cmd.specs.Answers.{changed_boot, line_status, boot_reply, refusal_of, refusal_text, written};
+ghost use Rattle.adf_boot_cmd.specs.Answers.{changed_boot, line_status, boot_reply, order_refusal, boot_refusal_text, written};
 ghost use Rattle.adf_boot_cmd.specs.Work.{HasBoot, order_of};
 
 use crate::line::boot_line;
@@ -69,8 +69,8 @@ fn write_parts<W: Sink>(boot: &[u8], behind: &[u8], output: &mut W) -> Outcome
 }
 
 // The text of a refusal.
-fn refusal_text(refusal: BootRefusal) -> &'static str
-    ensures { result.now ≡ refusal_text refusal }
+fn boot_refusal_text(refusal: BootRefusal) -> &'static str
+    ensures { result.now ≡ boot_refusal_text refusal }
 {
     match refusal {
         BootRefusal::BadSize => "bad size",
@@ -83,7 +83,7 @@ fn refusal_text(refusal: BootRefusal) -> &'static str
 impl Work {
     // Why an image gets no other boot blocks, if it gets none.
     fn refusal(&self, image: &[u8]) -> Option<BootRefusal>
-        ensures { result ≡ refusal_of (order_of self.now) image.now }
+        ensures { result ≡ order_refusal (order_of self.now) image.now }
     {
         match self {
             Work::Copy(boot) => copy_refusal(image, boot),
@@ -122,7 +122,7 @@ impl Work {
             (seen W.held W.has_failed output.old output.new) }
     {
         match self.refusal(image) {
-            Some(refusal) => refuse(alloc, refusal_text(refusal)),
+            Some(refusal) => refuse(alloc, boot_refusal_text(refusal)),
             None => {
                 let boot = self.changed(image);
                 write_parts(&boot, &image[BOOT_LEN..], output)

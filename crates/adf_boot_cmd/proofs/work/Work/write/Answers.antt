@@ -10,7 +10,7 @@ use Rattle.adf_boot_cmd.proofs.work.Work.write.Goals as goal
 pub returns-in-Some : goal.returns-in-Some
 returns-in-Some g c =
     does_same (refused (order_of c.args.self.now) c.args.image.now c.in-Some.refusal (sym c.refusal.ensures ∙ c.in-Some.is)
-    ∙ ap (λ b. on_errors 1 (b ++ codes "\n")) (sym c.refusal_text.ensures)) (silently c.requires c.refuse.ensures)
+    ∙ ap (λ b. on_errors 1 (b ++ codes "\n")) (sym c.boot_refusal_text.ensures)) (silently c.requires c.refuse.ensures)
 
 pub returns-in-None : goal.returns-in-None
 returns-in-None g c =
