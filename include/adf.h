@@ -60,7 +60,7 @@ extern "C" {
 
 /* Why an image is refused: what adf_check, adf_owners and adf_index return, and those of types 0 to 3. Within one block the causes
  * are tested in this order, except that ADF_SAME_NAME comes after all other causes of a header. FAULTS.md explains them. A later
- * version may have more of them: an image is accepted if and only if the call returns 0. */
+ * version may have more of them, from 25 on: an image is accepted if and only if the call returns 0. */
 enum adf_cause {
     ADF_ACCEPTED = 0,
     ADF_BAD_SIZE = 1,       /* The length is not a multiple of 512, or not an allowed number of blocks. */
@@ -99,7 +99,9 @@ size_t adf_cause_text(uint8_t cause, uint8_t *room, size_t room_length);
  */
 uint32_t adf_version(void);
 
-/* The type of a volume. Types 2 and 3 are accepted by adf_check_types, adf_owners_types and adf_index_types alone. */
+/* The type of a volume. Only adf_check_types, adf_owners_types and adf_index_types accept types 2 and 3, only the verdict and the
+ * contents that they fill have these numbers, and only adf_find_types takes them.
+ */
 enum adf_kind { ADF_OFS = 0, ADF_FFS = 1, ADF_OFS_INTERNATIONAL = 2, ADF_FFS_INTERNATIONAL = 3 };
 
 struct adf_verdict {
@@ -273,7 +275,7 @@ struct adf_addition {
 
 /* A volume that is to be built. */
 struct adf_new_volume {
-    uint32_t kind;        /* an adf_kind */
+    uint32_t kind;        /* ADF_OFS or ADF_FFS: no volume of another type is built */
     uint32_t blocks;      /* all blocks: even, 4 to 1,048,576; adf_need does not look at it */
     struct adf_date root; /* the three dates of the root block, as in struct adf_contents */
     struct adf_date altered;
@@ -294,7 +296,7 @@ struct adf_built {
  * and last whether the tree fits. */
 enum adf_build_refusal {
     ADF_BUILD_DONE = 0,
-    ADF_BUILD_BAD_KIND = 1,
+    ADF_BUILD_BAD_KIND = 1,       /* The kind is neither ADF_OFS nor ADF_FFS. */
     ADF_BUILD_BAD_LABEL = 2,      /* The label is longer than 30 bytes. */
     ADF_BUILD_BAD_SIZE = 3,       /* The number of blocks is not allowed. */
     ADF_BUILD_SMALL_ROOM = 4,     /* The room has fewer than blocks * 512 bytes. */
@@ -344,7 +346,7 @@ struct adf_subject {
     uint8_t is_retyped; /* 1 if the files say OFS, and the type says so in place of FFS, otherwise 0 */
 };
 
-/* The number of a subject that is larger than its room. */
+/* The number of a subject that is larger than its room: no adf_cause has it. */
 #define ADF_SUBJECT_SMALL_ROOM 24
 
 /* Writes the image that adf-survey surveys, of a given image of this length, for the calls below: as it is, or if blocks is not 0,
@@ -377,7 +379,7 @@ struct adf_finding {
     size_t node;       /* the entry that is concerned, or the directory in which a header was skipped; 0 for the root and
                           for none */
     size_t owner;      /* if the cause is ADF_TAKEN, the entry that owns the blocks; 0 for the root, the bitmap, and other causes */
-    uint8_t cause;     /* an adf_cause */
+    uint8_t cause;     /* an adf_cause, 1 to 22 */
     uint8_t is_within; /* 1 if `node` is the directory in which a header was skipped, otherwise 0 */
 };
 
@@ -398,7 +400,7 @@ struct adf_found {
 
 /* What a survey has beside its tables. Without a root nothing is found: all fields but `findings` are 0 then. */
 struct adf_surveyed {
-    uint32_t kind;        /* an adf_kind */
+    uint32_t kind;        /* ADF_OFS for types 0, 2 and 4, ADF_FFS for 1, 3 and 5: the letters of names are not told */
     uint32_t blocks;      /* all blocks, the two boot blocks included */
     size_t findings;      /* rows of the table of findings */
     size_t entries;       /* directories, files and links that are found, without the root */
@@ -534,12 +536,12 @@ struct adf_rescue_told {
     uint32_t block;  /* the block of the first fault of the image */
 };
 
-/* The number of a rescue whose volume is larger than its room. */
+/* The number of a rescue whose volume is larger than its room: no adf_cause has it. */
 #define ADF_RESCUE_SMALL_ROOM 24
 
 /* Rescues an image of this length, as `adf-survey rescue` does: as it is, or if blocks is not 0, as if it had so many blocks, with
- * zeros for what is not there. The losses come in the order of the lines of that command, and their paths are spelled as there.
- * Returns:
+ * zeros for what is not there; a number that no volume has is ADF_BAD_SIZE, and memory for so many blocks is taken all the same. The
+ * losses come in the order of the lines of that command, and their paths are spelled as there. Returns:
  *
  * 0: the room begins with the volume, of told->blocks * 512 bytes, which adf_check accepts, and the tables have what is not in it.
  *    told->losses and told->paths are the whole numbers: a table that is smaller has the front part. The rest of each room is
@@ -586,7 +588,7 @@ enum adf_boot_refusal {
     ADF_BOOT_DONE = 0,
     ADF_BOOT_BAD_SIZE = 1,        /* The image is not whole blocks of 512 bytes, or has fewer than 4, or more than 1,048,576. */
     ADF_BOOT_NOT_DOS = 2,         /* The image does not begin with `DOS`. */
-    ADF_BOOT_BAD_SOURCE_SIZE = 3, /* The source is not whole blocks, or has fewer than 2, or more than 1,048,576. */
+    ADF_BOOT_BAD_SOURCE_SIZE = 3, /* The source has fewer than ADF_BOOT_BYTES bytes. */
     ADF_BOOT_SOURCE_NOT_DOS = 4   /* The source does not begin with `DOS`. */
 };
 
@@ -598,9 +600,9 @@ enum adf_boot_refusal {
 uint8_t adf_boot(const uint8_t *image, size_t length, struct adf_boot_blocks *boot);
 
 /* Change the boot blocks of an image of this length, and nothing else: its first four bytes, `DOS` and the type, and all from byte
- * ADF_BOOT_BYTES on stay as they are. adf_boot_install writes code that starts AmigaDOS, and the number of the root, as
- * `adf-boot install` does; adf_boot_copy the boot blocks of a source, which is another image, or a file of them; adf_boot_clear zeros.
- * They return an adf_boot_refusal.
+ * ADF_BOOT_BYTES on stay as they are. adf_boot_install writes code that starts AmigaDOS, and the number of the root; adf_boot_copy
+ * the boot blocks at the front of a source, which is another image of any length, or a file of them; adf_boot_clear zeros. They take
+ * and refuse the images and sources that the commands of adf-boot(1) with these names do, and return an adf_boot_refusal.
  *
  * 0: they are written, by the first two with the checksum that is right for the type, so an Amiga starts them. If adf_check accepts
  *    the image, it does so now, with the same tree.

@@ -193,7 +193,7 @@ class Causes(unittest.TestCase):
         return length, room.raw[: min(length, size)]
 
     def test_have_their_texts(self):
-        for call, last in (("adf_cause_text", 23), ("adf_disk_cause_text", 8), ("adf_partition_fault_text", 7)):
+        for call, last in (("adf_cause_text", 23), ("adf_disk_cause_text", 7), ("adf_partition_fault_text", 7)):
             for number in range(1, last + 1):
                 length, whole = self.text(number, 63, call)
                 self.assertTrue(length == len(whole) > 0)

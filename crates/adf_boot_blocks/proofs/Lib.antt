@@ -4,5 +4,7 @@ pub mod CarrySums
 pub mod OtherBoots
 -- boot blocks that are put back
 pub mod Restored
+-- images that get other boot blocks
+pub mod Taken
 -- what writes leave
 pub mod Writes

@@ -4,6 +4,7 @@
 mod boot;
 mod crc;
 mod laws;
+mod refusal;
 mod standard;
 mod writing;
 
@@ -12,5 +13,6 @@ pub use crate::boot::{
 };
 pub use crate::crc::crc_32;
 pub use crate::laws::{boot_is_no_part, boots_stay, sums_are_right};
+pub use crate::refusal::{BootRefusal, LEAST_BYTES, MOST_BYTES, copy_refusal, image_refusal};
 pub use crate::standard::STANDARD_CODE;
 pub use crate::writing::{clear, copy, install, put_boot, restore};

@@ -1,23 +1,22 @@
 -- Images that are written have the tree of the image that they are made of.
-use Rattle.std.proofs.Common.{◌≡◌, ◌≢◌, ℕ, List, ◌++◌, ◌+◌, ◌-◌, ◌%◌, ◌≤◌, Bool, true, false, ap, sym, ◌∙◌, refl, arith, drop, take, length, replicate}
-use Rattle.std.proofs.Common.{slice_range, subst, nat_le, length-append, length-drop, length-take}
-use Rattle.std.specs.Prelude.{◌==◌}
-use Rattle.std.proofs.lemmas.Bool.{and_parts, leb-false, leb-true}
+use Rattle.std.proofs.Common.{◌≡◌, ◌≢◌, ℕ, List, ◌++◌, ◌+◌, ◌-◌, ◌≤◌, Option, None, Some, sym, ◌∙◌, refl, arith, drop, take, length, replicate}
+use Rattle.std.proofs.Common.{slice_range, subst, length-append, length-drop, length-take}
 use Rattle.std.proofs.lemmas.List.{drop_at, length-take-le, take-append-le, take-take}
 use Rattle.adf_base.specs.Words.{with_bytes, with_word}
 use Rattle.adf_blocks.specs.Sizes.{blocks, middle}
 use Rattle.adf_tree.specs.Tree.{Tree}
 use Rattle.adf_volume.specs.Fits.{Fits}
 use Rattle.adf_volume.specs.Layout.{Layout}
-use Rattle.adf_boot_blocks.specs.BootBlocks.{IsOtherBoot, begins_with_dos}
+use Rattle.adf_boot_blocks.specs.BootBlocks.{IsOtherBoot}
 use Rattle.adf_boot_blocks.specs.Writing.{cleared, copied, installed}
 use Rattle.adf_boot_blocks.specs.declared.boot.TheConstants.{BOOT_LEN, CODE, ROOT}
+use Rattle.adf_boot_blocks.specs.declared.refusal.BootRefusal.{BootRefusal}
 use Rattle.adf_boot_blocks.specs.declared.standard.TheConstants.{STANDARD_CODE}
 use Rattle.adf_boot_blocks.proofs.OtherBoots.{other_fits}
 use Rattle.adf_boot_blocks.proofs.Writes.{other_bytes, other_next, other_sum, other_word, same_boot}
 use Rattle.adf_runs.specs.Commands.{Reply}
-use Rattle.adf_boot_cmd.proofs.Replies.{is_written, not_dos, not_whole, short_boot, sound_boot, strange_boot}
-use Rattle.adf_boot_cmd.specs.Answers.{Order, changed_boot, clear, copy, install, is_whole, reply_of, tell, written, written_from}
+use Rattle.adf_boot_cmd.proofs.Replies.{is_written, refused, taken}
+use Rattle.adf_boot_cmd.specs.Answers.{Order, changed_boot, clear, copy, install, order_refusal, reply_of, tell, written}
 
 length_copied : (boot : List ℕ) → length (slice_range boot 4 BOOT_LEN) ≤ BOOT_LEN - 4
 length_copied boot = omega (arith, length-take {A = ℕ})
@@ -58,35 +57,19 @@ other_image image boot long o =
       behind = drop_at boot (drop BOOT_LEN image) BOOT_LEN size;
     }
 
-long_enough : (image : List ℕ) → is_whole image ≡ true → BOOT_LEN ≤ length image
-long_enough image w = omega (arith, leb-true 2048 (length image) (and_parts (length image % 512 == 0) (nat_le 2048 (length image)) w).1)
-
--- what is written at status 0, of an image that begins with `DOS`
-written_fits : (order : Order) (image : List ℕ) (t : Tree) (l : Layout) (whole dos : Bool) → is_whole image ≡ whole → begins_with_dos image ≡ dos
+-- what is written at status 0
+written_fits : (order : Order) (image : List ℕ) (t : Tree) (l : Layout) (r : Option BootRefusal) → order_refusal order image ≡ r
     → (written order image).status ≡ 0 → Fits image t l → Fits (written order image).output t l
-written_fits order image t l false dos w d s fit = let no : 1 ≡ 0 = rw (not_whole order image w) at s in absurd (omega (arith, no))
-written_fits order image t l true false w d s fit = let no : 1 ≡ 0 = rw (not_dos order image w d) at s in absurd (omega (arith, no))
-written_fits order image t l true true w d s fit =
-    let long : BOOT_LEN ≤ length image = long_enough image w in
-    subst (λ (r : Reply). Fits r.output t l) (sym (is_written order image w d))
+written_fits order image t l (Some refusal) e s fit = let no : 1 ≡ 0 = rw (refused order image refusal e) at s in absurd (omega (arith, no))
+written_fits order image t l None e s fit =
+    let long : BOOT_LEN ≤ length image = omega (arith, (taken order image e).taken.least) in
+    subst (λ (r : Reply). Fits r.output t l) (sym (is_written order image e))
     (other_fits image (changed_boot order image ++ drop BOOT_LEN image)
     (other_image image (changed_boot order image) long (other_changed order image long)) t l fit)
-
-copied_fits : (boot : List ℕ) (order : Order) (image : List ℕ) (t : Tree) (l : Layout) (has dos : Bool) → nat_le BOOT_LEN (length boot) ≡ has
-    → begins_with_dos boot ≡ dos → (written_from boot order image).status ≡ 0 → Fits image t l → Fits (written_from boot order image).output t l
-copied_fits boot order image t l false dos h d s fit =
-    let no : 1 ≡ 0 = rw (short_boot boot order image (leb-false BOOT_LEN (length boot) h)) at s in absurd (omega (arith, no))
-copied_fits boot order image t l true false h d s fit =
-    let no : 1 ≡ 0 = rw (strange_boot boot order image (leb-true BOOT_LEN (length boot) h) d) at s in absurd (omega (arith, no))
-copied_fits boot order image t l true true h d s fit =
-    let same = sound_boot boot order image (leb-true BOOT_LEN (length boot) h) d in
-    subst (λ (r : Reply). Fits r.output t l) (sym same)
-    (written_fits order image t l (is_whole image) (begins_with_dos image) refl refl (ap (λ (r : Reply). r.status) (sym same) ∙ s) fit)
 
 pub trees_stay : (order : Order) (image : List ℕ) (t : Tree) (l : Layout) → order ≢ tell → (reply_of order image).status ≡ 0
     → Fits image t l → Fits (reply_of order image).output t l
 trees_stay tell image t l writes s fit = absurd (writes refl)
-trees_stay install image t l writes s fit = written_fits install image t l (is_whole image) (begins_with_dos image) refl refl s fit
-trees_stay clear image t l writes s fit = written_fits clear image t l (is_whole image) (begins_with_dos image) refl refl s fit
-trees_stay (copy boot) image t l writes s fit =
-    copied_fits boot (copy boot) image t l (nat_le BOOT_LEN (length boot)) (begins_with_dos boot) refl refl s fit
+trees_stay install image t l writes s fit = written_fits install image t l (order_refusal install image) refl s fit
+trees_stay clear image t l writes s fit = written_fits clear image t l (order_refusal clear image) refl s fit
+trees_stay (copy boot) image t l writes s fit = written_fits (copy boot) image t l (order_refusal (copy boot) image) refl s fit

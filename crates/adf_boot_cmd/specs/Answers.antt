@@ -1,9 +1,13 @@
 -- What the command answers to its words and its input. `image` are the bytes of an image, `boot` those of a boot file.
-use Rattle.std.specs.Prelude.{◌≡◌, ◌⊎◌, [], IfSome, Option, ◌%◌, ◌==◌, ◌&&◌, ◌++◌, ℕ, Bool, List, codes, drop, if◌then◌else◌, length, nat_le, not, take}
+use Rattle.std.specs.Prelude.{◌≡◌, ◌⊎◌, [], IfSome, Option, Some, None, ◌++◌, ℕ, Bool, List, codes, drop, if◌then◌else◌, length, nat_le, take}
 use Rattle.adf_blocks.specs.Sizes.{blocks, middle}
-use Rattle.adf_boot_blocks.specs.BootBlocks.{begins_with_dos, is_bootable}
+use Rattle.adf_boot_blocks.specs.BootBlocks.{is_bootable}
+use Rattle.adf_boot_blocks.specs.Refusals.{copy_refusal, image_refusal}
 use Rattle.adf_boot_blocks.specs.Writing.{cleared, copied, installed}
 use Rattle.adf_boot_blocks.specs.declared.boot.TheConstants.{BOOT_LEN}
+use Rattle.adf_boot_blocks.specs.declared.refusal.BootRefusal.{BootRefusal}
+use Rattle.adf_boot_blocks.specs.declared.refusal.BootRefusal.TheVariants.{BadSize, NotDos, BadSourceSize, SourceNotDos}
+use Rattle.adf_boot_blocks.specs.declared.refusal.TheConstants.{MOST_BYTES}
 use Rattle.adf_boot_blocks.specs.declared.standard.TheConstants.{STANDARD_CODE}
 use Rattle.std.specs.Io.KnownBytes.{Appends}
 use Rattle.adf_file_words.specs.BootLine.{AreRefusedByBoot, AsksBoot, BootRequestValue}
@@ -13,7 +17,6 @@ use Rattle.adf_runs.specs.Streams.{IsTold, Seen}
 use Rattle.adf_file_runs.specs.declared.files.Unopened.{Unopened}
 use Rattle.adf_runs.specs.Commands.{Command, Reply, on_errors, on_output}
 use Rattle.adf_boot_cmd.specs.Lines.{boot_line}
-use Rattle.adf_boot_cmd.specs.declared.work.TheConstants.{MOST_BYTES}
 
 -- what is asked of an image: what its boot blocks are, that they get standard code, none, or those of a boot file
 pub data Order : Type 0 where
@@ -31,10 +34,6 @@ abbrev pub boot_reply : List ℕ → Reply
 boot_reply image =
     if nat_le BOOT_LEN (length image) then on_output (line_status (is_bootable image)) (boot_line image) else on_errors 1 (codes "bad size\n")
 
--- the image is whole blocks, four or more
-abbrev pub is_whole : List ℕ → Bool
-is_whole image = (length image % 512 == 0) && nat_le 2048 (length image)
-
 -- the boot blocks that an order leaves
 abbrev pub changed_boot : Order → List ℕ → List ℕ
 changed_boot tell image = take BOOT_LEN image
@@ -42,28 +41,34 @@ changed_boot install image = installed (take BOOT_LEN image) (middle (blocks ima
 changed_boot clear image = cleared (take BOOT_LEN image)
 changed_boot (copy boot) image = copied (take BOOT_LEN image) boot
 
--- an image that begins with `DOS` gets the boot blocks that an order leaves; another is refused
-abbrev pub written : Order → List ℕ → Reply
-written order image =
-    if not (is_whole image) then on_errors 1 (codes "bad size\n")
-    else (if begins_with_dos image then on_output 0 (changed_boot order image ++ drop BOOT_LEN image) else on_errors 1 (codes "not dos\n"))
+-- the text of a refusal
+abbrev pub boot_refusal_text : BootRefusal → List ℕ
+boot_refusal_text BadSize = codes "bad size"
+boot_refusal_text NotDos = codes "not dos"
+boot_refusal_text BadSourceSize = codes "boot file: bad size"
+boot_refusal_text SourceNotDos = codes "boot file: not dos"
 
--- the same for an order that has a boot file, which is refused where it has no boot blocks or does not begin with `DOS`
-abbrev pub written_from : List ℕ → Order → List ℕ → Reply
-written_from boot order image =
-    if not (nat_le BOOT_LEN (length boot)) then on_errors 1 (codes "boot file: bad size\n")
-    else (if begins_with_dos boot then written order image else on_errors 1 (codes "boot file: not dos\n"))
+-- why an order is refused, if it is
+abbrev pub order_refusal : Order → List ℕ → Option BootRefusal
+order_refusal (copy boot) image = copy_refusal image boot
+order_refusal _ image = image_refusal image
+
+-- an image gets the boot blocks that an order leaves, where nothing refuses it
+abbrev pub written_unless : Option BootRefusal → Order → List ℕ → Reply
+written_unless (Some refusal) order image = on_errors 1 (boot_refusal_text refusal ++ codes "\n")
+written_unless None order image = on_output 0 (changed_boot order image ++ drop BOOT_LEN image)
+
+abbrev pub written : Order → List ℕ → Reply
+written order image = written_unless (order_refusal order image) order image
 
 -- the answer to an order, of an image
 abbrev pub reply_of : Order → List ℕ → Reply
-reply_of tell image = boot_reply image
-reply_of install image = written install image
-reply_of clear image = written clear image
-reply_of (copy boot) image = written_from boot (copy boot) image
+reply_of tell image = boot_reply (take BOOT_LEN image)
+reply_of order image = written order image
 
--- the answer to an order and an input: what is past the largest image does not count
+-- the answer to an order and an input
 abbrev pub BootAnswer : Order → List ℕ → Reply → Type 0
-BootAnswer order input reply = reply ≡ reply_of order (take MOST_BYTES input)
+BootAnswer order input reply = reply ≡ reply_of order input
 
 -- the order that a request is: where the bytes of the boot file are known, it copies the first of them
 abbrev pub IsOrderOf : (bytes_of : List ℕ → Option (List ℕ)) → BootRequestValue → Order → Type 0

@@ -11,4 +11,4 @@ mod writing;
 pub use crate::laws::trees_stay;
 pub use crate::line::boot_line;
 pub use crate::runner::run;
-pub use crate::work::{MOST_BYTES, Work};
+pub use crate::work::Work;

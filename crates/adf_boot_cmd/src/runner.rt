@@ -17,7 +17,7 @@ use std::alloc::Global;
 /// status:
 ///
 /// - 0 if an Amiga starts from the boot blocks that output tells of, or if an image is written;
-/// - 1 if it does not, or if the image or the boot file has no boot blocks or does not begin with `DOS`, which is said on errors;
+/// - 1 if it does not, or if the image or the boot file has a wrong size or does not begin with `DOS`, which is said on errors;
 /// - 2 if the words are not accepted, which is said on errors; nothing is read, and output is empty;
 /// - 3 if a file, a device or an allocation failed, which is said on errors.
 pub fn run<F: Files, R: Source, W: Sink, E: Sink>(

@@ -1,19 +1,16 @@
 // What is done with the boot blocks of an image.
 
-ghost use Rattle.std.specs.Prelude.{◌≡◌, ◌+◌, ◌≤◌, false, true, length};
+ghost use Rattle.std.specs.Prelude.{◌≡◌, ◌+◌, false, true};
 ghost use Rattle.adf_runs.specs.Outcomes.{Does, DoesOn, is_read_fault};
 ghost use Rattle.adf_runs.specs.Streams.{TakesAtMost, seen};
-ghost use Rattle.adf_boot_cmd.specs.Answers.{BootAnswer, reply_of};
+ghost use Rattle.adf_boot_blocks.specs.declared.refusal.TheConstants.{MOST_BYTES};
+ghost use Rattle.adf_boot_cmd.specs.Answers.{BootAnswer};
 ghost use Rattle.adf_boot_cmd.specs.Work.{order_of};
 
 use crate::writing::tell;
-use adf_base::BLOCK_LEN;
-use adf_blocks::MOST_BLOCKS;
+use adf_boot_blocks::{BOOT_LEN, MOST_BYTES};
 use adf_runs::{Outcome, Sink, Source, read_input};
 use std::alloc::Global;
-
-/// The most bytes of an image.
-pub const MOST_BYTES: usize = MOST_BLOCKS as usize * BLOCK_LEN;
 
 /// What is done with the boot blocks of an image.
 #[derive(Drop)]
@@ -29,27 +26,17 @@ pub enum Work {
 }
 
 impl Work {
-    // Does the work on an image.
-    fn on_image<W: Sink>(&self, alloc: Global, image: &[u8], output: &mut W) -> Outcome
-        requires works { W.has_failed output.old ≡ false }
-        requires few { length image.now ≤ MOST_BYTES }
-        ensures { Does (λ reply. reply ≡ reply_of (order_of self.now) image.now) result
-            (seen W.held W.has_failed output.old output.new) }
-    {
-        match self {
-            Work::Tell => tell(alloc, image, output),
-            Work::Copy(boot) => self.write_from(alloc, boot, image, output),
-            Work::Install => self.write(alloc, image, output),
-            Work::Clear => self.write(alloc, image, output),
-        }
-    }
-
     /// Does the work on the bytes of an input.
     pub fn on<W: Sink>(&self, alloc: Global, bytes: &[u8], output: &mut W) -> Outcome
         requires { W.has_failed output.old ≡ false }
         ensures { Does (BootAnswer (order_of self.now) bytes.now) result (seen W.held W.has_failed output.old output.new) }
     {
-        self.on_image(alloc, &bytes[..bytes.len().min(MOST_BYTES)], output)
+        match self {
+            Work::Tell => tell(alloc, &bytes[..bytes.len().min(BOOT_LEN)], output),
+            Work::Copy(_) => self.write(alloc, bytes, output),
+            Work::Install => self.write(alloc, bytes, output),
+            Work::Clear => self.write(alloc, bytes, output),
+        }
     }
 
     /// Reads an input, and does the work on it.

@@ -2,18 +2,19 @@
 
 ghost use Rattle.std.specs.Prelude.{◌≡◌, ◌≤◌, ◌++◌, codes, false, length};
 ghost use Rattle.adf_boot_blocks.specs.declared.boot.TheConstants.{BOOT_LEN};
+ghost use Rattle.adf_boot_blocks.specs.declared.refusal.TheConstants.{MOST_BYTES};
 ghost use Rattle.adf_runs.specs.Commands.{on_errors, on_output};
 ghost use Rattle.adf_runs.specs.Outcomes.{Does, DoesSilently};
 ghost use Rattle.adf_runs.specs.Streams.{seen};
-ghost use Rattle.adf_boot_cmd.specs.Answers.{changed_boot, is_whole, line_status, boot_reply, written, written_from};
+ghost use Rattle.adf_boot_cmd.specs.Answers.{changed_boot, line_status, boot_reply, order_refusal, boot_refusal_text, written};
 ghost use Rattle.adf_boot_cmd.specs.Work.{HasBoot, order_of};
-ghost use Rattle.adf_boot_cmd.specs.declared.work.TheConstants.{MOST_BYTES};
 
 use crate::line::boot_line;
-use crate::work::{MOST_BYTES, Work};
+use crate::work::Work;
 use adf_base::BLOCK_LEN;
 use adf_boot_blocks::{
-    BOOT_LEN, STANDARD_CODE, begins_with_dos, clear, copy, install, is_bootable,
+    BOOT_LEN, BootRefusal, STANDARD_CODE, clear, copy, copy_refusal, image_refusal, install,
+    is_bootable,
 };
 use adf_runs::{Outcome, Sink, write_all, write_both};
 use std::alloc::Global;
@@ -67,14 +68,31 @@ fn write_parts<W: Sink>(boot: &[u8], behind: &[u8], output: &mut W) -> Outcome
     }
 }
 
-// Whether an image is whole blocks, four or more.
-fn is_whole(image: &[u8]) -> bool
-    ensures { result ≡ is_whole image.now }
+// The text of a refusal.
+fn boot_refusal_text(refusal: BootRefusal) -> &'static str
+    ensures { result.now ≡ boot_refusal_text refusal }
 {
-    image.len() % BLOCK_LEN == 0 && image.len() >= 4 * BLOCK_LEN
+    match refusal {
+        BootRefusal::BadSize => "bad size",
+        BootRefusal::NotDos => "not dos",
+        BootRefusal::BadSourceSize => "boot file: bad size",
+        BootRefusal::SourceNotDos => "boot file: not dos",
+    }
 }
 
 impl Work {
+    // Why an image gets no other boot blocks, if it gets none.
+    fn refusal(&self, image: &[u8]) -> Option<BootRefusal>
+        ensures { result ≡ order_refusal (order_of self.now) image.now }
+    {
+        match self {
+            Work::Copy(boot) => copy_refusal(image, boot),
+            Work::Tell => image_refusal(image),
+            Work::Install => image_refusal(image),
+            Work::Clear => image_refusal(image),
+        }
+    }
+
     // The boot blocks that an image gets.
     fn changed(&self, image: &[u8]) -> [u8; BOOT_LEN]
         requires whole { BOOT_LEN ≤ length image.now }
@@ -96,44 +114,19 @@ impl Work {
         boot
     }
 
-    /// Writes an image with other boot blocks.
+    /// Writes an image with other boot blocks, if nothing refuses it.
+    #[tactic(auto, using(crate::proofs::Replies::taken))]
     pub fn write<W: Sink>(&self, alloc: Global, image: &[u8], output: &mut W) -> Outcome
-        requires works { W.has_failed output.old ≡ false }
-        requires few { length image.now ≤ MOST_BYTES }
-        requires boot { HasBoot (order_of self.now) }
+        requires { W.has_failed output.old ≡ false }
         ensures { Does (λ reply. reply ≡ written (order_of self.now) image.now) result
             (seen W.held W.has_failed output.old output.new) }
     {
-        if !is_whole(image) {
-            return refuse(alloc, "bad size");
+        match self.refusal(image) {
+            Some(refusal) => refuse(alloc, boot_refusal_text(refusal)),
+            None => {
+                let boot = self.changed(image);
+                write_parts(&boot, &image[BOOT_LEN..], output)
+            }
         }
-        if !begins_with_dos(image) {
-            return refuse(alloc, "not dos");
-        }
-        let boot = self.changed(image);
-        write_parts(&boot, &image[BOOT_LEN..], output)
-    }
-
-    /// Writes an image with the boot blocks of a boot file, if it has them.
-    pub fn write_from<W: Sink>(
-        &self,
-        alloc: Global,
-        boot: &[u8],
-        image: &[u8],
-        output: &mut W,
-    ) -> Outcome
-        requires works { W.has_failed output.old ≡ false }
-        requires few { length image.now ≤ MOST_BYTES }
-        requires boot { BOOT_LEN ≤ length boot.now → HasBoot (order_of self.now) }
-        ensures { Does (λ reply. reply ≡ written_from boot.now (order_of self.now) image.now) result
-            (seen W.held W.has_failed output.old output.new) }
-    {
-        if boot.len() < BOOT_LEN {
-            return refuse(alloc, "boot file: bad size");
-        }
-        if !begins_with_dos(boot) {
-            return refuse(alloc, "boot file: not dos");
-        }
-        self.write(alloc, image, output)
     }
 }

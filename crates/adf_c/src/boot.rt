@@ -9,8 +9,9 @@ ghost use Rattle.adf_boot_blocks.specs.BootBlocks.{IsOtherBoot, is_bootable};
 ghost use Rattle.adf_boot_blocks.specs.Writing.{cleared, copied, installed};
 ghost use Rattle.adf_boot_blocks.specs.declared.boot.TheConstants.{BOOT_LEN};
 ghost use Rattle.adf_boot_blocks.specs.declared.standard.TheConstants.{STANDARD_CODE};
-ghost use Rattle.adf_memory.specs.Boot.{answer_number, boot_blocks, boot_refusal_number, copy_refusal, image_refusal};
-ghost use Rattle.adf_memory.specs.declared.boot.BootRefusal.TheVariants.{BadSize};
+ghost use Rattle.adf_boot_blocks.specs.Refusals.{copy_refusal, image_refusal};
+ghost use Rattle.adf_boot_blocks.specs.declared.refusal.BootRefusal.TheVariants.{BadSize};
+ghost use Rattle.adf_memory.specs.Boot.{answer_number, boot_blocks, boot_refusal_number};
 
 use adf_memory::{BootBlocks, clear_boot, copy_boot, install_boot, tell_boot};
 
@@ -45,8 +46,7 @@ pub extern "C" fn adf_boot_install(image: &mut [u8]) -> u8
     install_boot(image)
 }
 
-/// Writes the boot blocks of a source into an image, which keeps its type, with a checksum that is right: those of another image,
-/// or two blocks. Returns 0, or the number of a refusal: of the source first.
+/// Writes the boot blocks at the front of a source into an image, which keeps its type, with a checksum that is right. Returns 0, or the number of a refusal: of the source first.
 #[unsafe(no_mangle)]
 pub extern "C" fn adf_boot_copy(image: &mut [u8], source: &[u8]) -> u8
     ensures number { result ≡ answer_number (copy_refusal image.old source.now) }

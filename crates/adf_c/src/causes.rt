@@ -3,11 +3,12 @@
 ghost use Rattle.std.specs.Prelude.{◌≡◌, length};
 ghost use Rattle.adf_blocks.specs.Causes.{cause_number, cause_text};
 ghost use Rattle.adf_blocks.specs.declared.cause.Cause.{Cause};
-ghost use Rattle.adf_partitions.specs.FaultTexts.{disk_cause_number, disk_cause_text, field_fault_number, field_fault_text};
+ghost use Rattle.adf_partitions.specs.FaultTexts.{disk_cause_text, field_fault_number, field_fault_text};
 ghost use Rattle.adf_partitions.specs.FaultTexts.{place_fault_number, place_fault_text};
 ghost use Rattle.adf_partitions.specs.declared.fault.DiskCause.{DiskCause};
 ghost use Rattle.adf_partitions.specs.declared.field_fault.FieldFault.{FieldFault};
 ghost use Rattle.adf_partitions.specs.declared.place.PlaceFault.{PlaceFault};
+ghost use Rattle.adf_memory.specs.DiskTables.{IsDiskCause};
 ghost use Rattle.adf_memory.specs.Rooms.{filled};
 
 use adf_file_runs::VERSION_NUMBER;
@@ -40,14 +41,14 @@ pub extern "C" fn adf_cause_text(cause: u8, room: &mut [u8]) -> usize
 /// the length of the whole text, or 0 if no cause has the number.
 #[unsafe(no_mangle)]
 pub extern "C" fn adf_disk_cause_text(cause: u8, room: &mut [u8]) -> usize
-    ensures length { (c : DiskCause) → disk_cause_number c ≡ cause
+    ensures length { (c : DiskCause) → IsDiskCause c cause
         → result ≡ length (disk_cause_text c) }
-    ensures text { (c : DiskCause) → disk_cause_number c ≡ cause
+    ensures text { (c : DiskCause) → IsDiskCause c cause
         → room.new ≡ filled (disk_cause_text c) room.old }
 
     // If no cause has the number, nothing is written.
-    ensures none { ((c : DiskCause) → ¬ (disk_cause_number c ≡ cause)) → result ≡ 0 }
-    ensures unchanged { ((c : DiskCause) → ¬ (disk_cause_number c ≡ cause)) → room.new ≡ room.old }
+    ensures none { ((c : DiskCause) → ¬ IsDiskCause c cause) → result ≡ 0 }
+    ensures unchanged { ((c : DiskCause) → ¬ IsDiskCause c cause) → room.new ≡ room.old }
 {
     disk_cause_text(cause, room)
 }

@@ -20,6 +20,8 @@ mod disks;
 #[cfg(test)]
 mod edited_letters;
 #[cfg(test)]
+mod edited_lines;
+#[cfg(test)]
 mod memory;
 #[cfg(test)]
 mod named_errors;

@@ -1,5 +1,5 @@
 -- Lines that say no edit. text is what stands behind the first word of a line.
-use Rattle.std.proofs.Common.{◌≡◌, ◌≢◌, ◌<◌, ◌^◌, ℕ, List, Some, None, sym, ◌∙◌, subst, decimal}
+use Rattle.std.proofs.Common.{◌≡◌, ◌≢◌, ◌<◌, ◌^◌, ℕ, List, Some, None, false, true, sym, ◌∙◌, subst, decimal}
 use Rattle.adf_base.specs.Dates.{IsStamp, plain_text}
 use Rattle.adf_base.specs.declared.dates.Stamp.{Stamp}
 use Rattle.adf_edits.specs.Edits.{EditValue, change, dir, file, label, move, remove}
@@ -7,7 +7,7 @@ use Rattle.adf_edits.specs.declared.edits.Change.TheVariants as what
 use Rattle.adf_manifest.specs.Texts.{hex_word}
 use Rattle.adf_names.specs.Escapes.{IsSpelling}
 use Rattle.adf_names.specs.PathTexts.{IsPathText}
-use Rattle.adf_edit_cmd.specs.Lines.{SaysBehindVerb, SaysEdit, before_colon, value_in, verb_of}
+use Rattle.adf_edit_cmd.specs.Lines.{SaysBehindVerb, SaysEdit, before_colon, has_byte, value_in, verb_of}
 use Rattle.adf_plans.specs.PlanTexts.{behind_word, first_word}
 use Rattle.adf_edit_cmd.specs.declared.lines.Verb.{Verb}
 use Rattle.adf_edit_cmd.specs.declared.lines.Verb.TheVariants.{Remove, Move, Dir, File, Note, Protect, Date, Label}
@@ -28,12 +28,16 @@ pub no_label : (text : List ℕ) → ((bytes : List ℕ) → ¬ IsSpelling 30 te
 no_label text h (label bytes) s = h bytes s
 no_label text h _ s = s
 
+pub no_move : (text : List ℕ) → has_byte 58 text ≡ false → (e : EditValue) → ¬ SaysBehindVerb Move text e
+no_move text h (move from to) s = let clash : false ≡ true = sym h ∙ s.0 in absurd cc
+no_move text h _ s = s
+
 pub no_origin : (text : List ℕ) → HasNoPath (before_colon text) → (e : EditValue) → ¬ SaysBehindVerb Move text e
-no_origin text h (move from to) s = h from s.0
+no_origin text h (move from to) s = h from s.1
 no_origin text h _ s = s
 
 pub no_target : (text : List ℕ) → HasNoPath (value_in text) → (e : EditValue) → ¬ SaysBehindVerb Move text e
-no_target text h (move from to) s = h to s.1
+no_target text h (move from to) s = h to s.2
 no_target text h _ s = s
 
 pub no_file : (text : List ℕ) → HasNoPath (before_colon text) → (e : EditValue) → ¬ SaysBehindVerb File text e
@@ -44,12 +48,16 @@ pub no_size : (text : List ℕ) → ((n : ℕ) → n < 2 ^ 32 → value_in text 
 no_size text h (file path size) s = h size s.1 s.2
 no_size text h _ s = s
 
+pub no_comment : (text : List ℕ) → has_byte 58 text ≡ false → (e : EditValue) → ¬ SaysBehindVerb Note text e
+no_comment text h (change path (what.Note note)) s = let clash : false ≡ true = sym h ∙ s.0 in absurd cc
+no_comment text h _ s = s
+
 pub no_noted : (text : List ℕ) → HasNoPath (before_colon text) → (e : EditValue) → ¬ SaysBehindVerb Note text e
-no_noted text h (change path (what.Note note)) s = h path s.0
+no_noted text h (change path (what.Note note)) s = h path s.1
 no_noted text h _ s = s
 
 pub no_note : (text : List ℕ) → ((bytes : List ℕ) → ¬ IsSpelling 79 (value_in text) bytes) → (e : EditValue) → ¬ SaysBehindVerb Note text e
-no_note text h (change path (what.Note note)) s = h note s.1
+no_note text h (change path (what.Note note)) s = h note s.2
 no_note text h _ s = s
 
 pub no_protected : (text : List ℕ) → HasNoPath (before_colon text) → (e : EditValue) → ¬ SaysBehindVerb Protect text e
@@ -73,7 +81,10 @@ some_same a b e = cc
 
 pub no_edit : (line : List ℕ) (verb : Verb) → verb_of (first_word line) ≡ Some verb → ((e : EditValue) → ¬ SaysBehindVerb verb (behind_word line) e)
     → (e : EditValue) → ¬ SaysEdit line e
-no_edit line verb is h e s = h e (subst (λ v. SaysBehindVerb v (behind_word line) e) (some_same s.0 verb (sym s.1 ∙ is)) s.2)
+no_edit line verb is h e s = h e (subst (λ v. SaysBehindVerb v (behind_word line) e) (some_same s.0 verb (sym s.1 ∙ is)) s.3)
 
 pub no_verb : (line : List ℕ) → verb_of (first_word line) ≡ None → (e : EditValue) → ¬ SaysEdit line e
 no_verb line is e s = let clash : None ≡ Some s.0 = sym is ∙ s.1 in absurd cc
+
+pub no_space : (line : List ℕ) → has_byte 32 line ≡ false → (e : EditValue) → ¬ SaysEdit line e
+no_space line h e s = let clash : false ≡ true = sym h ∙ s.2 in absurd cc

@@ -1,5 +1,5 @@
 -- Lines of a script: a word, and behind a space what it is about. A value stands behind the first `:`, which no name has.
-use Rattle.std.specs.Prelude.{◌≡◌, ◌<◌, ◌^◌, ℕ, List, Option, Some, None, codes, decimal, if◌then◌else◌}
+use Rattle.std.specs.Prelude.{◌≡◌, ◌<◌, ◌^◌, ℕ, Bool, List, Option, Some, None, true, codes, decimal, if◌then◌else◌, length, nat_lt}
 use Rattle.std.specs.Str.{bytes_eq}
 use Rattle.adf_base.specs.Dates.{IsStamp, plain_text}
 use Rattle.adf_edits.specs.Edits.{EditValue, change, dir, file, label, move, remove}
@@ -19,6 +19,10 @@ verb_of word =
     else if bytes_eq word (codes "note") then Some Note else if bytes_eq word (codes "protect") then Some Protect
     else if bytes_eq word (codes "date") then Some Date else if bytes_eq word (codes "label") then Some Label else None
 
+-- whether a byte of this value stands in a text
+abbrev pub has_byte : ℕ → List ℕ → Bool
+has_byte byte text = nat_lt (length (before_byte byte text)) (length text)
+
 -- what stands before the first `:`, and the value behind it
 abbrev pub before_colon : List ℕ → List ℕ
 before_colon text = before_byte 58 text
@@ -26,18 +30,24 @@ before_colon text = before_byte 58 text
 abbrev pub value_in : List ℕ → List ℕ
 value_in text = behind_byte 58 text
 
+-- whether there is a value, though perhaps one of no bytes
+abbrev pub has_value : List ℕ → Bool
+has_value text = has_byte 58 text
+
 -- the text behind a word says this edit: PATH, PATH:PATH, PATH:SIZE, PATH:TEXT, PATH:WORD, PATH:DATE, or TEXT
 abbrev pub SaysBehindVerb : Verb → List ℕ → EditValue → Type 0
 SaysBehindVerb Remove text (remove path) = IsPathText text path
-SaysBehindVerb Move text (move from to) = IsPathText (before_colon text) from × IsPathText (value_in text) to
+SaysBehindVerb Move text (move from to) = (has_value text ≡ true) × IsPathText (before_colon text) from × IsPathText (value_in text) to
 SaysBehindVerb Dir text (dir path) = IsPathText text path
 SaysBehindVerb File text (file path size) = IsPathText (before_colon text) path × (size < 2 ^ 32) × (value_in text ≡ decimal size)
-SaysBehindVerb Note text (change path (what.Note note)) = IsPathText (before_colon text) path × IsSpelling 79 (value_in text) note
+SaysBehindVerb Note text (change path (what.Note note)) =
+    (has_value text ≡ true) × IsPathText (before_colon text) path × IsSpelling 79 (value_in text) note
 SaysBehindVerb Protect text (change path (what.Protect word)) = IsPathText (before_colon text) path × (word < 2 ^ 32) × (value_in text ≡ hex_word word)
 SaysBehindVerb Date text (change path (what.Date date)) = IsPathText (before_colon text) path × IsStamp date × (value_in text ≡ plain_text date)
 SaysBehindVerb Label text (label bytes) = IsSpelling 30 text bytes
 SaysBehindVerb _ _ _ = ⊥
 
--- a line says an edit
+-- a line says an edit: there is a space behind its word
 abbrev pub SaysEdit : List ℕ → EditValue → Type 0
-SaysEdit line e = (verb : Verb) × (verb_of (first_word line) ≡ Some verb) × SaysBehindVerb verb (behind_word line) e
+SaysEdit line e =
+    (verb : Verb) × (verb_of (first_word line) ≡ Some verb) × (has_byte 32 line ≡ true) × SaysBehindVerb verb (behind_word line) e

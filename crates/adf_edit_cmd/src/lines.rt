@@ -1,8 +1,9 @@
 // Lines of a script: a word, and what it is about. A value stands behind the first `:`, which no name has.
 
-ghost use Rattle.std.specs.Prelude.{◌≡◌, IfOk, IfErr};
+ghost use Rattle.std.specs.Prelude.{◌≡◌, IfOk, IfErr, IfSome, IfNone, false, true};
 ghost use Rattle.adf_edits.specs.Edits.{EditValue, edit_value};
-ghost use Rattle.adf_edit_cmd.specs.Lines.{SaysBehindVerb, SaysEdit, verb_of};
+ghost use Rattle.adf_plans.specs.PlanTexts.{before_byte, behind_byte};
+ghost use Rattle.adf_edit_cmd.specs.Lines.{SaysBehindVerb, SaysEdit, has_byte, verb_of};
 
 use adf_edits::{Change, Edit};
 use adf_manifest::{read_number, read_stamp, read_word};
@@ -48,6 +49,21 @@ fn verb_of(word: &[u8]) -> Option<Verb>
     }
 }
 
+// The bytes before and behind the first byte of this value; `None` if there is none.
+fn cut_at(text: &[u8], byte: u8) -> Option<(&[u8], &[u8])>
+    ensures some { IfSome result (λ r. has_byte byte text.now ≡ true) }
+    ensures front { IfSome result (λ r. r.0.now ≡ before_byte byte text.now) }
+    ensures behind { IfSome result (λ r. r.1.now ≡ behind_byte byte text.now) }
+    ensures none { IfNone result (has_byte byte text.now ≡ false) }
+{
+    let (front, behind) = cut(text, byte);
+    if front.len() < text.len() {
+        Some((front, behind))
+    } else {
+        None
+    }
+}
+
 // PATH
 #[tactic(auto, using(crate::proofs::ScriptLines::no_remove))]
 fn read_remove(alloc: Global, text: &[u8]) -> Result<Edit, PathFault>
@@ -84,13 +100,15 @@ fn read_label(text: &[u8]) -> Result<Edit, PathFault>
 }
 
 // PATH:PATH
-#[tactic(auto, using(crate::proofs::ScriptLines::no_origin, crate::proofs::ScriptLines::no_target))]
+#[tactic(auto, using(crate::proofs::ScriptLines::no_move, crate::proofs::ScriptLines::no_origin, crate::proofs::ScriptLines::no_target))]
 fn read_move(alloc: Global, text: &[u8]) -> Result<Edit, PathFault>
     ensures ok { IfOk result (λ e. SaysBehindVerb Verb.Move text.now (edit_value e)) }
     ensures bad { IfErr result (λ f. f ≡ PathFault.BadText → (e : EditValue)
         → ¬ SaysBehindVerb Verb.Move text.now e) }
 {
-    let (from, to) = cut(text, b':');
+    let Some((from, to)) = cut_at(text, b':') else {
+        return Err(PathFault::BadText);
+    };
     let from = read_path(alloc, from)?;
     let to = read_path(alloc, to)?;
     Ok(Edit::Move(from, to))
@@ -112,13 +130,15 @@ fn read_file(alloc: Global, text: &[u8]) -> Result<Edit, PathFault>
 }
 
 // PATH:TEXT
-#[tactic(auto, using(crate::proofs::ScriptLines::no_noted, crate::proofs::ScriptLines::no_note))]
+#[tactic(auto, using(crate::proofs::ScriptLines::no_comment, crate::proofs::ScriptLines::no_noted, crate::proofs::ScriptLines::no_note))]
 fn read_note(alloc: Global, text: &[u8]) -> Result<Edit, PathFault>
     ensures ok { IfOk result (λ e. SaysBehindVerb Verb.Note text.now (edit_value e)) }
     ensures bad { IfErr result (λ f. f ≡ PathFault.BadText → (e : EditValue)
         → ¬ SaysBehindVerb Verb.Note text.now e) }
 {
-    let (path, note) = cut(text, b':');
+    let Some((path, note)) = cut_at(text, b':') else {
+        return Err(PathFault::BadText);
+    };
     let Some(note) = Comment::read(note) else {
         return Err(PathFault::BadText);
     };
@@ -175,12 +195,14 @@ fn read_verb(alloc: Global, verb: Verb, text: &[u8]) -> Result<Edit, PathFault>
 }
 
 /// The edit of a line. `BadText` if and only if it has none; `NoMemory` if an allocation fails.
-#[tactic(auto, using(crate::proofs::ScriptLines::no_verb, crate::proofs::ScriptLines::no_edit))]
+#[tactic(auto, using(crate::proofs::ScriptLines::no_space, crate::proofs::ScriptLines::no_verb, crate::proofs::ScriptLines::no_edit))]
 pub fn read_edit(alloc: Global, line: &[u8]) -> Result<Edit, PathFault>
     ensures ok { IfOk result (λ e. SaysEdit line.now (edit_value e)) }
     ensures bad { IfErr result (λ f. f ≡ PathFault.BadText → (e : EditValue) → ¬ SaysEdit line.now e) }
 {
-    let (word, text) = cut(line, b' ');
+    let Some((word, text)) = cut_at(line, b' ') else {
+        return Err(PathFault::BadText);
+    };
     match verb_of(word) {
         Some(verb) => read_verb(alloc, verb, text),
         None => Err(PathFault::BadText),

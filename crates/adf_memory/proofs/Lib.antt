@@ -23,8 +23,6 @@ pub mod DiskReadings
 -- volumes that are built
 pub mod TableDrafts
 pub mod Refusals
--- boot blocks that are written
-pub mod BootImages
 -- rescues
 pub mod PreparedRescues
 pub mod RescueReplies

@@ -1,8 +1,9 @@
 -- The table of a hard disk's partitions. `bytes` are the first bytes of a disk of n blocks; ps are partitions of it.
-use Rattle.std.specs.Prelude.{ℕ, List, length, map, Option, Some, None, Result, Ok, Err}
+use Rattle.std.specs.Prelude.{◌≡◌, ◌≢◌, ℕ, List, length, map, Option, Some, None, Result, Ok, Err}
 use Rattle.adf_partitions.specs.Disks.{FirstDiskFault, IsDisk}
 use Rattle.adf_partitions.specs.FaultTexts.{disk_cause_number, field_fault_number, place_fault_number}
 use Rattle.adf_partitions.specs.Searches.{AreReadable}
+use Rattle.adf_partitions.specs.declared.fault.DiskCause.{DiskCause, TheVariants.NoMemory}
 use Rattle.adf_partitions.specs.declared.fault.DiskFault.{DiskFault}
 use Rattle.adf_partitions.specs.declared.field_fault.FieldFault.{FieldFault}
 use Rattle.adf_partitions.specs.declared.partition.Partition.{Partition}
@@ -50,6 +51,10 @@ partition_row p = record {
 -- the table of partitions
 abbrev pub partition_table : List Partition → List TablePartition
 partition_table ps = map partition_row ps
+
+-- this is the number of what may be wrong with the tables of a disk; that memory was refused is nothing of a disk
+abbrev pub IsDiskCause : DiskCause → ℕ → Type 0
+IsDiskCause cause n = (cause ≢ NoMemory) × (disk_cause_number cause ≡ n)
 
 -- what is told of a disk besides its k partitions: the first fault of its tables, if they have one
 abbrev pub table_disk : ℕ → Option DiskFault → TableDisk

@@ -9,16 +9,15 @@ ghost use Rattle.adf_boot_blocks.specs.BootBlocks.{IsOtherBoot, is_bootable};
 ghost use Rattle.adf_boot_blocks.specs.Writing.{cleared, copied, installed};
 ghost use Rattle.adf_boot_blocks.specs.declared.boot.TheConstants.{BOOT_LEN};
 ghost use Rattle.adf_boot_blocks.specs.declared.standard.TheConstants.{STANDARD_CODE};
-ghost use Rattle.adf_memory.specs.Boot.{answer_number, boot_blocks, boot_refusal_number, copy_refusal, image_refusal};
-ghost use Rattle.adf_memory.specs.Boot.{has_whole_blocks};
-ghost use Rattle.adf_memory.specs.declared.boot.BootRefusal.TheVariants.{BadSize};
+ghost use Rattle.adf_boot_blocks.specs.Refusals.{copy_refusal, image_refusal};
+ghost use Rattle.adf_boot_blocks.specs.declared.refusal.BootRefusal.TheVariants.{BadSize};
+ghost use Rattle.adf_memory.specs.Boot.{answer_number, boot_blocks, boot_refusal_number};
 
 use crate::found_tables::mark_number;
 use adf_base::BLOCK_LEN;
-use adf_blocks::MOST_BLOCKS;
 use adf_boot_blocks::{
-    BOOT_LEN, STANDARD_CODE, begins_with_dos, clear, copy, crc_32, has_no_code, has_right_sum,
-    install, is_bootable,
+    BOOT_LEN, BootRefusal, STANDARD_CODE, begins_with_dos, clear, copy, copy_refusal, crc_32,
+    has_no_code, has_right_sum, image_refusal, install, is_bootable,
 };
 
 /// What the boot blocks of an image say. A mark is 1 if it is so, otherwise 0.
@@ -39,65 +38,16 @@ pub struct BootBlocks {
     pub has_code: u8,
 }
 
-/// Why boot blocks are not written, or not told of.
-#[derive(Clone, Copy, Debug, PartialEq, Eq)]
-pub enum BootRefusal {
-    /// The image is not whole blocks, or has fewer than four, or more than the largest volume.
-    BadSize,
-    /// The image does not begin with `DOS`.
-    NotDos,
-    /// The source is not whole blocks, or has fewer than two, or more than the largest volume.
-    BadSourceSize,
-    /// The source does not begin with `DOS`.
-    SourceNotDos,
-}
-
-impl BootRefusal {
-    // The number of the refusal, above 0.
-    fn number(self) -> u8
-        ensures exact { result ≡ boot_refusal_number self }
-        ensures some { 0 < result }
-    {
-        match self {
-            BootRefusal::BadSize => 1,
-            BootRefusal::NotDos => 2,
-            BootRefusal::BadSourceSize => 3,
-            BootRefusal::SourceNotDos => 4,
-        }
-    }
-}
-
-// Whether bytes are whole blocks, so many or more, and no more than the largest volume has.
-fn has_whole_blocks(least: usize, bytes: &[u8]) -> bool
-    ensures { result ≡ has_whole_blocks least bytes.now }
+// The number of a refusal, above 0.
+fn boot_refusal_number(refusal: BootRefusal) -> u8
+    ensures exact { result ≡ boot_refusal_number refusal }
+    ensures some { 0 < result }
 {
-    let blocks = bytes.len() / BLOCK_LEN;
-    bytes.len() % BLOCK_LEN == 0 && least <= blocks && blocks <= MOST_BLOCKS as usize
-}
-
-// Why an image gets no other boot blocks.
-fn image_refusal(image: &[u8]) -> Option<BootRefusal>
-    ensures { result ≡ image_refusal image.now }
-{
-    if !has_whole_blocks(4, image) {
-        Some(BootRefusal::BadSize)
-    } else if begins_with_dos(image) {
-        None
-    } else {
-        Some(BootRefusal::NotDos)
-    }
-}
-
-// Why an image does not get the boot blocks of a source.
-fn copy_refusal(image: &[u8], source: &[u8]) -> Option<BootRefusal>
-    ensures { result ≡ copy_refusal image.now source.now }
-{
-    if !has_whole_blocks(2, source) {
-        Some(BootRefusal::BadSourceSize)
-    } else if begins_with_dos(source) {
-        image_refusal(image)
-    } else {
-        Some(BootRefusal::SourceNotDos)
+    match refusal {
+        BootRefusal::BadSize => 1,
+        BootRefusal::NotDos => 2,
+        BootRefusal::BadSourceSize => 3,
+        BootRefusal::SourceNotDos => 4,
     }
 }
 
@@ -126,7 +76,7 @@ pub fn tell_boot(image: &[u8], boot: &mut BootBlocks) -> u8
     ensures unchanged { length image.now < BOOT_LEN → boot.new ≡ boot.old }
 {
     if image.len() < BOOT_LEN {
-        return BootRefusal::BadSize.number();
+        return boot_refusal_number(BootRefusal::BadSize);
     }
     *boot = boot_blocks(image);
     0
@@ -134,7 +84,7 @@ pub fn tell_boot(image: &[u8], boot: &mut BootBlocks) -> u8
 
 /// Writes a standard boot block into an image: code that starts AmigaDOS, the number of the root, and a checksum that is right.
 /// Returns 0, or the number of a refusal.
-#[tactic(auto, using(crate::proofs::BootImages::image_dos, adf_boot_blocks::proofs::OtherBoots::other_fits))]
+#[tactic(auto, using(adf_boot_blocks::proofs::Taken::image_taken, adf_boot_blocks::proofs::OtherBoots::other_fits))]
 pub fn install_boot(image: &mut [u8]) -> u8
     ensures number { result ≡ answer_number (image_refusal image.old) }
 
@@ -148,7 +98,7 @@ pub fn install_boot(image: &mut [u8]) -> u8
     ensures unchanged { ¬ (result ≡ 0) → image.new ≡ image.old }
 {
     match image_refusal(image) {
-        Some(refusal) => refusal.number(),
+        Some(refusal) => boot_refusal_number(refusal),
         None => {
             let root = (image.len() / BLOCK_LEN / 2) as u32;
             install(image, root, &STANDARD_CODE);
@@ -157,9 +107,8 @@ pub fn install_boot(image: &mut [u8]) -> u8
     }
 }
 
-/// Writes the boot blocks of a source into an image, which keeps its type, with a checksum that is right: those of another image,
-/// or two blocks. Returns 0, or the number of a refusal: of the source first.
-#[tactic(auto, using(crate::proofs::BootImages::copied_dos, adf_boot_blocks::proofs::OtherBoots::other_fits))]
+/// Writes the boot blocks at the front of a source into an image, which keeps its type, with a checksum that is right. Returns 0, or the number of a refusal: of the source first.
+#[tactic(auto, using(adf_boot_blocks::proofs::Taken::copy_taken, adf_boot_blocks::proofs::OtherBoots::other_fits))]
 pub fn copy_boot(image: &mut [u8], source: &[u8]) -> u8
     ensures number { result ≡ answer_number (copy_refusal image.old source.now) }
 
@@ -173,7 +122,7 @@ pub fn copy_boot(image: &mut [u8], source: &[u8]) -> u8
     ensures unchanged { ¬ (result ≡ 0) → image.new ≡ image.old }
 {
     match copy_refusal(image, source) {
-        Some(refusal) => refusal.number(),
+        Some(refusal) => boot_refusal_number(refusal),
         None => {
             copy(image, source);
             0
@@ -182,7 +131,7 @@ pub fn copy_boot(image: &mut [u8], source: &[u8]) -> u8
 }
 
 /// Writes zeros in place of the boot blocks behind the type. Returns 0, or the number of a refusal.
-#[tactic(auto, using(adf_boot_blocks::proofs::OtherBoots::other_fits))]
+#[tactic(auto, using(adf_boot_blocks::proofs::Taken::image_taken, adf_boot_blocks::proofs::OtherBoots::other_fits))]
 pub fn clear_boot(image: &mut [u8]) -> u8
     ensures number { result ≡ answer_number (image_refusal image.old) }
 
@@ -195,7 +144,7 @@ pub fn clear_boot(image: &mut [u8]) -> u8
     ensures unchanged { ¬ (result ≡ 0) → image.new ≡ image.old }
 {
     match image_refusal(image) {
-        Some(refusal) => refusal.number(),
+        Some(refusal) => boot_refusal_number(refusal),
         None => {
             clear(image);
             0

@@ -3,11 +3,12 @@
 ghost use Rattle.std.specs.Prelude.{◌≡◌, IfNone, IfSome, length};
 ghost use Rattle.adf_blocks.specs.Causes.{cause_number, cause_text};
 ghost use Rattle.adf_blocks.specs.declared.cause.Cause.{Cause};
-ghost use Rattle.adf_partitions.specs.FaultTexts.{disk_cause_number, disk_cause_text, field_fault_number, field_fault_text};
+ghost use Rattle.adf_partitions.specs.FaultTexts.{disk_cause_text, field_fault_number, field_fault_text};
 ghost use Rattle.adf_partitions.specs.FaultTexts.{place_fault_number, place_fault_text};
 ghost use Rattle.adf_partitions.specs.declared.fault.DiskCause.{DiskCause};
 ghost use Rattle.adf_partitions.specs.declared.field_fault.FieldFault.{FieldFault};
 ghost use Rattle.adf_partitions.specs.declared.place.PlaceFault.{PlaceFault};
+ghost use Rattle.adf_memory.specs.DiskTables.{IsDiskCause};
 ghost use Rattle.adf_memory.specs.Rooms.{filled};
 
 use adf_blocks::Cause;
@@ -26,8 +27,8 @@ fn put_text(room: &mut [u8], text: &str) -> usize
 
 // The cause of a disk with this number.
 fn disk_cause_numbered(number: u8) -> Option<DiskCause>
-    ensures some { IfSome result (λ c. disk_cause_number c ≡ number) }
-    ensures none { IfNone result ((c : DiskCause) → ¬ (disk_cause_number c ≡ number)) }
+    ensures some { IfSome result (λ c. IsDiskCause c number) }
+    ensures none { IfNone result ((c : DiskCause) → ¬ IsDiskCause c number) }
 {
     match number {
         1 => Some(DiskCause::NoRigidDisk),
@@ -37,7 +38,6 @@ fn disk_cause_numbered(number: u8) -> Option<DiskCause>
         5 => Some(DiskCause::NotPartition),
         6 => Some(DiskCause::BadSum),
         7 => Some(DiskCause::TooMany),
-        8 => Some(DiskCause::NoMemory),
         _ => None,
     }
 }
@@ -89,14 +89,14 @@ pub fn cause_text(cause: u8, room: &mut [u8]) -> usize
 /// Writes the text of what is wrong with the tables of a disk, by its number, to the front of `room`, as far as it fits. Returns
 /// the length of the whole text, or 0 if no cause has the number.
 pub fn disk_cause_text(cause: u8, room: &mut [u8]) -> usize
-    ensures length { (c : DiskCause) → disk_cause_number c ≡ cause
+    ensures length { (c : DiskCause) → IsDiskCause c cause
         → result ≡ length (disk_cause_text c) }
-    ensures text { (c : DiskCause) → disk_cause_number c ≡ cause
+    ensures text { (c : DiskCause) → IsDiskCause c cause
         → room.new ≡ filled (disk_cause_text c) room.old }
 
     // If no cause has the number, nothing is written.
-    ensures none { ((c : DiskCause) → ¬ (disk_cause_number c ≡ cause)) → result ≡ 0 }
-    ensures unchanged { ((c : DiskCause) → ¬ (disk_cause_number c ≡ cause)) → room.new ≡ room.old }
+    ensures none { ((c : DiskCause) → ¬ IsDiskCause c cause) → result ≡ 0 }
+    ensures unchanged { ((c : DiskCause) → ¬ IsDiskCause c cause) → room.new ≡ room.old }
 {
     match disk_cause_numbered(cause) {
         Some(named) => put_text(room, named.text()),

@@ -30,7 +30,7 @@ mod tables;
 mod verdict;
 mod words;
 
-pub use crate::boot::{BootBlocks, BootRefusal, clear_boot, copy_boot, install_boot, tell_boot};
+pub use crate::boot::{BootBlocks, clear_boot, copy_boot, install_boot, tell_boot};
 pub use crate::building::{Built, NewVolume, Refusal, build_volume, need_volume};
 pub use crate::causes::{cause_text, disk_cause_text, partition_fault_text};
 pub use crate::disk_index::put_disk;

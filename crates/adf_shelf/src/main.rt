@@ -11,6 +11,7 @@ use crate::raw_words::{names_among, raw_words, stand_ins};
 use adf_file_runs::{About, NamedErrors, SystemFiles, tell, telling_asked};
 use adf_runs::{Device, Outcome, Sink, command_words, refuse_words};
 use adf_shelf_cmd::{TextNames, parse, run};
+use std::alloc::Global;
 use std::cell::Cell;
 use std::io::BufReader;
 use std::process::ExitCode;
@@ -18,11 +19,32 @@ use std::process::ExitCode;
 const ABOUT: About = About {
     name: "adf-shelf",
     help: "Checks many images, and writes for each its name, a tab, and the line of `adf check`.\n\n\
-    usage: adf-shelf [--null] [FILE..]\n\
+    usage: adf-shelf [--null] [--any-type] [FILE..]\n\
     \x20      adf-shelf --help, adf-shelf --version\n\n\
     Without a FILE the names come on standard input, one a line; with --null each ends in a zero byte.\n\
+    With --any-type volumes of types 2 and 3 are checked too.\n\
     man adf-shelf tells more.\n",
 };
+
+// Whether the words ask for any type; `None` if they ask for no verdicts.
+fn any_type_asked(alloc: Global, texts: &[&str]) -> Option<bool> {
+    if telling_asked(texts).is_some() {
+        return None;
+    }
+    match parse(alloc, texts) {
+        Ok(order) => Some(order.any_type),
+        Err(_) => None,
+    }
+}
+
+// The words that ask for names that end in a zero byte.
+fn words_of_names(any_type: bool) -> &'static [&'static str] {
+    if any_type {
+        &["adf-shelf", "--null", "--any-type"]
+    } else {
+        &["adf-shelf", "--null"]
+    }
+}
 
 // Checks the images of these words.
 fn run_words<W: Sink, E: Sink>(
@@ -53,15 +75,15 @@ fn run_raw<W: Sink, E: Sink>(
 {
     let words = raw_words(rt)?;
     let texts = stand_ins(rt.alloc(), &words)?;
-    if telling_asked(&texts).is_some() || parse(rt.alloc(), &texts).is_err() {
+    let Some(any_type) = any_type_asked(rt.alloc(), &texts) else {
         return run_words(rt, &texts, output, errors);
-    }
+    };
     let names = names_among(rt.alloc(), &words)?;
     let mut input = TextNames::new(names.as_slice(), 0);
     let files = SystemFiles::new(rt);
     Ok(run(
         rt.alloc(),
-        &["adf-shelf", "--null"],
+        words_of_names(any_type),
         &mut input,
         &files,
         output,

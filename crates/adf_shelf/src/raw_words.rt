@@ -37,6 +37,11 @@ pub fn stand_ins(alloc: Global, words: &[Vec<u8>]) -> Result<Vec<&str>, AllocErr
         .collect(alloc)
 }
 
+// Whether an argument before `--` is an option.
+fn is_option(text: &[u8]) -> bool {
+    text == b"--null".as_slice() || text == b"--any-type".as_slice()
+}
+
 /// The arguments that are names, each followed by a zero byte.
 pub fn names_among(alloc: Global, words: &[Vec<u8>]) -> Result<Vec<u8>, AllocError> {
     let mut names = Vec::new(alloc);
@@ -45,7 +50,7 @@ pub fn names_among(alloc: Global, words: &[Vec<u8>]) -> Result<Vec<u8>, AllocErr
         let text = word.as_slice();
         if options && text == b"--".as_slice() {
             options = false;
-        } else if !options || text != b"--null".as_slice() {
+        } else if !options || !is_option(text) {
             names.extend_from_slice(text)?;
             names.push(0)?;
         }

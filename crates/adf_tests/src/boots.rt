@@ -71,8 +71,10 @@ const ROWS: &[(usize, bool, usize, bool, u8)] = &[
     (2047, false, 1024, true, 1),
     (2048, false, 1024, true, 2),
     (2048, true, 1023, true, 3),
-    (1536, true, 1025, false, 3),
-    (2048, true, 2000, true, 3),
+    (1536, true, 1023, false, 3),
+    (1536, true, 1025, false, 4),
+    (2048, true, 1025, true, 0),
+    (2048, true, 2000, true, 0),
     (2048, false, 2048, false, 4),
 ];
 

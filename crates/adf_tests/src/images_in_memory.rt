@@ -5,9 +5,9 @@ use crate::images::{Image, NOT_MOVED, built, with_bytes};
 use adf_file_runs::WithoutFiles;
 use adf_memory::{
     Contents, Date, FoundEntry, Moved, Surveyed, TableDisk, TableEntry, TableFinding,
-    TablePartition, Verdict, cause_text, check_image, check_image_types, find_entry,
-    find_entry_types, owners_of, owners_of_types, put_index, put_index_types, put_survey,
-    read_bytes, run_in_memory,
+    TablePartition, Verdict, cause_text, check_image, check_image_types, disk_cause_text,
+    find_entry, find_entry_types, owners_of, owners_of_types, put_index, put_index_types,
+    put_survey, read_bytes, run_in_memory,
 };
 use std::alloc::Global;
 use std::mem::size_of;
@@ -269,6 +269,14 @@ fn told(cause: u8) -> (usize, [u8; 6]) {
 #[test]
 fn causes_have_texts(rt: HostRuntime) {
     assert!(rt; told(7) == (7, *b"bad su"));
+}
+
+// `too many` is the last of them.
+#[test]
+fn causes_of_disks_have_texts(rt: HostRuntime) {
+    let mut room = [9; 3];
+    assert!(rt; disk_cause_text(8, &mut room) == 0 && room == [9; 3]);
+    assert!(rt; disk_cause_text(7, &mut room) == 8 && room == *b"too");
 }
 
 // The headers of `c` and of `short` with a bit changed in the part of zeros.

@@ -1,0 +1,74 @@
+// Lines of `adf-edit` without what they are about, and without a text. The slot of `a` is (13 + 0x41) % 72 = 6, word 12 of the root; the
+// length of a comment is byte 328 of its header, that of the label byte 432 of the root.
+
+use adf_build::build;
+use adf_edit_cmd::{Stop, new_image};
+use adf_tree::{Kind, Label, NO_STAMPS, Tree};
+use std::alloc::Global;
+
+// The first byte of the root of a volume of 16 blocks.
+const ROOT: usize = 8 * 512;
+
+// What a script makes of an empty OFS volume of 16 blocks with a label.
+fn image_by(alloc: Global, script: &[u8]) -> Option<Result<Vec<u8>, Stop>> {
+    let tree = Tree::new(alloc, Kind::Ofs, Label::new(b"Work")?, NO_STAMPS);
+    let image = build(alloc, &tree, 16).ok()?;
+    let mut input = Vec::new(alloc);
+    input.extend_from_slice(script).ok()?;
+    input.extend_from_slice(&image).ok()?;
+    Some(new_image(alloc, &input))
+}
+
+// The script, and the number of its line that says nothing.
+const BAD: &[(&[u8], usize)] = &[
+    (b"remove\nend\n", 1),
+    (b"dir\nend\n", 1),
+    (b"label\nend\n", 1),
+    (b"dir a\nmove a\nend\n", 2),
+    (b"dir a\nnote a\nend\n", 2),
+    (b"dir a\nprotect a\nend\n", 2),
+    (b"dir a\ndate a\nend\n", 2),
+    (b"file a\nend\n", 1),
+];
+
+#[test]
+fn lines_without_what_they_are_about_are_bad(rt: HostRuntime) {
+    for (script, line) in BAD {
+        let made = image_by(rt.alloc(), script).expect(&rt, "a volume");
+        assert_eq!(rt; made.err(), Some(Stop::BadLine(*line)));
+    }
+}
+
+// A byte of an image; 255 past its end.
+fn byte_at(image: &[u8], at: usize) -> u8 {
+    match image.get(at) {
+        Some(byte) => *byte,
+        None => 255,
+    }
+}
+
+// The lengths of the label and of the comment of `a`.
+fn text_lengths(image: &[u8]) -> (u8, u8) {
+    let header = usize::from(byte_at(image, ROOT + 4 * 12 + 3));
+    (
+        byte_at(image, ROOT + 432),
+        byte_at(image, header * 512 + 328),
+    )
+}
+
+// The script, the length of the label, and that of the comment of `a`.
+const MADE: &[(&[u8], u8, u8)] = &[
+    (b"dir a\nnote a:xyz\nend\n", 4, 3),
+    (b"dir a\nnote a:xyz\nnote a:\nend\n", 4, 0),
+    (b"dir a\nlabel W\nend\n", 1, 0),
+    (b"dir a\nnote a::\nlabel \nend\n", 0, 1),
+];
+
+#[test]
+fn empty_texts_are_set(rt: HostRuntime) {
+    for (script, label, comment) in MADE {
+        let made = image_by(rt.alloc(), script).expect(&rt, "a volume");
+        let image = made.ok().expect(&rt, "an image");
+        assert_eq!(rt; text_lengths(&image), (*label, *comment));
+    }
+}
