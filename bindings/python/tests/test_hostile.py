@@ -224,6 +224,8 @@ class Strange(Catalogues):
     def test_is_refused_if_it_is_not_text(self):
         self.part("part", "UPDATE images SET label = CAST(x'ff1b5d' AS TEXT)")
         self.refused(3, "part: damaged", "catalogue", "merge", "out", "part")
+        written("part", read("part").replace(b"CREATE TABLE runs", b"CREATE TABLE \xff\xff\xff ("))
+        self.refused(3, "part: damaged", "catalogue", "merge", "out", "part")
 
     def test_removes_no_file_that_its_journal_names(self):
         self.part("part")
