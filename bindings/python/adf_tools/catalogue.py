@@ -113,7 +113,8 @@ def ended(connection: sqlite3.Connection, index: str) -> int:
     whole, refused, unread = store.counts(connection)
     if not refused and not unread:
         return 0
-    print(f"adf-catalogue: {host_text(index)}: of {count_of(whole, 'image')} {refused} refused, {unread} not read", file=sys.stderr)
+    with contextlib.suppress(OSError):  # nobody reads it
+        print(f"adf-catalogue: {host_text(index)}: of {count_of(whole, 'image')} {refused} refused, {unread} not read", file=sys.stderr, flush=True)
     return FAILED if unread else REFUSED
 
 

@@ -69,7 +69,8 @@ class OutFolder:
     def above(self, name: str) -> Iterator[Tuple[int, str]]:
         """The descriptor of the folder that a name is in, which is this one or one inside, and what it is called there."""
         folder, _, last = name.rpartition("/")
-        assert folder in ("", PAGES, PARTS), name
+        if folder not in ("", PAGES, PARTS):
+            raise ValueError(name)
         with named(self.path_of(name)):
             if not folder:
                 yield self.fd, last

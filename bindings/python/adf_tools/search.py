@@ -5,6 +5,7 @@ from __future__ import annotations
 
 import itertools
 import json
+import operator
 import re
 import sqlite3
 from typing import Any, Dict, Iterable, Iterator, List, Optional, Set, Tuple
@@ -86,7 +87,7 @@ def all_parts(connection: sqlite3.Connection) -> Iterator[Part]:
     places = Places(connection)
     waiting: Dict[str, Dict[str, Any]] = {}
     last = ""
-    for term, rows in itertools.groupby(connection.execute(TERMS), lambda row: row["term"]):
+    for term, rows in itertools.groupby(connection.execute(TERMS), operator.itemgetter("term")):
         name = part_of(term)
         if name != last:
             yield from ((old, places.part(old, waiting.pop(old))) for old in [old for old in waiting if "_" not in old])

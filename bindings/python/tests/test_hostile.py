@@ -11,7 +11,6 @@ import re
 import socket
 import sqlite3
 import struct
-import time
 import unittest.mock
 import zipfile
 import zlib
@@ -224,6 +223,8 @@ class Strange(Catalogues):
     def test_is_refused_if_it_is_not_text(self):
         self.part("part", "UPDATE images SET label = CAST(x'ff1b5d' AS TEXT)")
         self.refused(3, "part: damaged", "catalogue", "merge", "out", "part")
+        written("part", read("part").replace(b"CREATE TABLE runs", b"CREATE TABLE \xff\xff\xff ("))
+        self.refused(3, "part: damaged", "catalogue", "merge", "out", "part")
 
     def test_removes_no_file_that_its_journal_names(self):
         self.part("part")
@@ -427,9 +428,10 @@ class Bounded(Catalogues):
         drawn = icon(640, 409, 8, noise, used=255)
         names = ("Disk.info", "A.info", "B.info")
         written("disks/noise/x.adf", volume(*((name, drawn) for name in names), dirs=["A", "B"]))
-        begun = time.process_time()
+        begun = os.times().children_user
         self.catalogue("disks/noise", "out")
         (path,) = glob.glob("out/images/*.html")
         page = Page(path)
-        self.assertLess((len(page.text), time.process_time() - begun), (1 << 20, 20))
+        self.assertLess(len(page.text), 1 << 20)
+        self.assertLess(os.times().children_user - begun, 15)
         self.assertIn("3 icons not drawn", page.text)
