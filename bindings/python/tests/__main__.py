@@ -10,7 +10,7 @@ import unittest
 
 import adf
 
-WITHOUT_LIBRARY = ("test_names",)
+WITHOUT_LIBRARY = ("test_names", "test_plain")
 
 
 def main() -> None:
