@@ -241,6 +241,17 @@ class Strange(Catalogues):
         self.refused(3, "part: a run is writing it, or was broken off", "catalogue", "merge", "out", "part")
         self.assertEqual(read("victim"), b"kept")
 
+    def test_has_numbers_of_any_size(self):
+        last = 2**63 - 1
+        self.part("part", f"UPDATE entries SET id = {last}, header = -{last}, size = {last}; INSERT INTO text_words (rowid, content) VALUES ({last}, 'hello')",
+                  fits=last, blocks=-last, used=last, block=-last, faults=last)  # fmt: skip
+        for verdict in ("ok", "block 1: x"):
+            with database.opened("part") as connection:
+                connection.execute("UPDATE images SET verdict = ?, advice = 'read again'", (verdict,))
+            self.catalogue("merge", "out", "part", status=int(verdict != "ok"))
+            self.assertEqual(self.asked("out", "SELECT path, content FROM entries JOIN text_words ON text_words.rowid = entries.id"), [("x", "hello")])
+            os.rename("out", f"out-{verdict}")
+
     def test_has_each_file_once(self):
         self.part("one", "UPDATE facts SET value = '1/2' WHERE name = 'part'")
         self.part("two", "UPDATE facts SET value = '2/2' WHERE name = 'part'")
