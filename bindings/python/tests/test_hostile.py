@@ -15,7 +15,7 @@ import unittest.mock
 import zipfile
 import zlib
 
-from adf_tools import content, database, markup, program
+from adf_tools import content, database, image_pages, markup, program
 from tests.samples import BAD, OFS, disk, icon, volume
 from tests.shared import HERE, written
 from tests.test_catalogue import Catalogues, Page, trees_of
@@ -433,6 +433,12 @@ catalogue.main()"""
 
 
 class Bounded(Catalogues):
+    """What a page draws."""
+
+    def test_draws_no_blocks_that_are_too_many(self):
+        self.assertIn("<svg", image_pages.blocks_drawn("x", bytes([0, 1]) * 50_000))
+        self.assertIn("adf-map &lt; IMAGE", image_pages.blocks_drawn("x", bytes([0, 1]) * 50_000 + b"\0"))
+
     def test_draws_what_a_page_has_room_for(self):
         os.makedirs("disks/noise")
         noise = b"".join(hashlib.sha256(number.to_bytes(4, "big")).digest() for number in range(8180))  # 261,760 bytes
