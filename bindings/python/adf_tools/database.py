@@ -130,8 +130,8 @@ def told(path: str) -> Iterator[None]:
     except sqlite3.DatabaseError as error:
         is_damaged = not isinstance(error, sqlite3.OperationalError) or any(word in str(error) for word in ("malformed", "UTF-8"))
         stop(FAILED, f"{host_text(path)}: {'damaged; it is left as it is: ' if is_damaged else ''}{one_line(error)}")
-    except UnicodeDecodeError:  # of what SQLite says of it
-        left(path, "damaged: a text of it is not in UTF-8")
+    except (UnicodeDecodeError, OverflowError) as error:  # what SQLite tells is not in UTF-8, or a number is too large
+        left(path, f"damaged: {error}")
 
 
 def check_files(path: str) -> None:

@@ -16,7 +16,7 @@ from adf_tools.out_folder import OutFolder, OwnNames
 from adf_tools.names import one_line
 from adf_tools.program import FAILED, REFUSED, add_escape, command_line, host_text, stop
 from adf_tools.scan import Options, Part, Scan
-from adf_tools.volumes import Record, record
+from adf_tools.volumes import Record, Rows, record
 
 PART = re.compile("([1-9][0-9]{0,5})/([1-9][0-9]{0,5})")
 IMAGE = tuple(
@@ -131,10 +131,9 @@ def rows_of(part: sqlite3.Connection, image: int, columns: Dict[str, Any]) -> Re
         for table, names in tables.items()
         for key in ["disk" if table == "partitions" else "image"]
     }
-    line = """SELECT entries.id, c0 FROM entries JOIN text_words_content AS texts ON texts.id = entries.id
-        WHERE image = ? AND c0 IS NOT NULL ORDER BY entries.id"""
-    (first,) = part.execute("SELECT MIN(id) FROM entries WHERE image = ?", (image,)).fetchone()
-    return record(columns)._replace(texts=[(number - first, text) for number, text in part.execute(line, (image,))], **rows)
+    line = "SELECT c0 FROM entries LEFT JOIN text_words_content AS texts ON texts.id = entries.id WHERE image = ? ORDER BY entries.id"
+    texts: Rows = [(place, text) for place, (text,) in enumerate(part.execute(line, (image,))) if text is not None]
+    return record(columns)._replace(texts=texts, **rows)
 
 
 def files_of(parts: Sequence[OpenPart]) -> List[Row]:

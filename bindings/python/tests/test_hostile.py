@@ -15,7 +15,7 @@ import unittest.mock
 import zipfile
 import zlib
 
-from adf_tools import content, database, markup, program
+from adf_tools import content, database, image_pages, markup, program
 from tests.samples import BAD, OFS, disk, icon, volume
 from tests.shared import HERE, written
 from tests.test_catalogue import Catalogues, Page, trees_of
@@ -241,6 +241,17 @@ class Strange(Catalogues):
         self.refused(3, "part: a run is writing it, or was broken off", "catalogue", "merge", "out", "part")
         self.assertEqual(read("victim"), b"kept")
 
+    def test_has_numbers_of_any_size(self):
+        last = 2**63 - 1
+        self.part("part", f"UPDATE entries SET id = {last}, header = -{last}, size = {last}; INSERT INTO text_words (rowid, content) VALUES ({last}, 'hello')",
+                  fits=last, blocks=-last, used=last, block=-last, faults=last)  # fmt: skip
+        for verdict in ("ok", "block 1: x"):
+            with database.opened("part") as connection:
+                connection.execute("UPDATE images SET verdict = ?, advice = 'read again'", (verdict,))
+            self.catalogue("merge", "out", "part", status=int(verdict != "ok"))
+            self.assertEqual(self.asked("out", "SELECT path, content FROM entries JOIN text_words ON text_words.rowid = entries.id"), [("x", "hello")])
+            os.rename("out", f"out-{verdict}")
+
     def test_has_each_file_once(self):
         self.part("one", "UPDATE facts SET value = '1/2' WHERE name = 'part'")
         self.part("two", "UPDATE facts SET value = '2/2' WHERE name = 'part'")
@@ -422,6 +433,12 @@ catalogue.main()"""
 
 
 class Bounded(Catalogues):
+    """What a page draws."""
+
+    def test_draws_no_blocks_that_are_too_many(self):
+        self.assertIn("<svg", image_pages.blocks_drawn("x", bytes([0, 1]) * 50_000))
+        self.assertIn("adf-map &lt; IMAGE", image_pages.blocks_drawn("x", bytes([0, 1]) * 50_000 + b"\0"))
+
     def test_draws_what_a_page_has_room_for(self):
         os.makedirs("disks/noise")
         noise = b"".join(hashlib.sha256(number.to_bytes(4, "big")).digest() for number in range(8180))  # 261,760 bytes
