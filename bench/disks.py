@@ -138,7 +138,7 @@ class Disk:
 
 
 def written(kind, blocks=1760, files=50, international=False):
-    """A volume with some files two directories deep, of which some were removed and made again; the names of half of them have a letter
+    """A volume with some files two directories deep, some removed and made again; the names of half of them have a letter
     above 0xE0 where letters are international."""
     disk = Disk(kind, blocks, international)
     places = [()]
@@ -163,7 +163,7 @@ def written(kind, blocks=1760, files=50, international=False):
     return disk
 
 
-# Damages: each answers the changed image, and the blocks of which bytes were lost
+# Damages: each answers the changed image, and the blocks that lost bytes
 
 
 def lost(image, blocks, garbage=True):

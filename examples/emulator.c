@@ -2,8 +2,8 @@
  *
  *     emulator IMAGE [PATH]
  *
- * Writes to standard output the numbers of the volume and its list, or only the bytes under PATH. Status 0; 1 where the image
- * is refused or nothing can be read under PATH, which standard error says; 2 where the words are none of these; 3 where a file
+ * Writes to standard output the numbers of the volume and its list, or only the bytes under PATH. Status 0; 1 if the image
+ * is refused or nothing can be read under PATH, with the reason on standard error; 2 if the command line is another; 3 if a file
  * or memory failed. trials/library builds it.
  */
 #include "adf.h"

@@ -455,7 +455,7 @@ struct adf_part {
  */
 uint8_t adf_survey_parts(const uint8_t *image, size_t length, struct adf_part *parts, size_t room);
 
-/* Writes the role of each block of an image of this length by what its survey finds: byte b of the room is the adf_role of block b,
+/* Writes the role of each block of an image of this length, as its survey finds it: byte b of the room is the adf_role of block b,
  * as far as there is room. A block has the role of the part of the volume that the survey found there; without one it is
  * ADF_ROLE_BOOT for the blocks 0 and 1, and ADF_ROLE_FREE for others, which may be in use or lost. On an image that adf_check
  * accepts these are the roles of adf_owners. If nothing is found, as without a root, the room is unchanged; its bytes after the

@@ -72,7 +72,7 @@ static void use(const struct image *image, const struct tables *tables, size_t o
     free(part);
 }
 
-/* Uses tables of which one word has another value, for each of these words. */
+/* Uses the tables with one word changed, for each of their words. */
 static void change(const struct image *image, const struct tables *tables, void *words, size_t size) {
     for (size_t at = 0; at + sizeof(uint32_t) <= size; at += sizeof(uint32_t)) {
         uint32_t kept;

@@ -141,7 +141,7 @@ static int locate(const char *path, struct spot *spot) {
 
 /* Attributes */
 
-/* A date read as UTC; 1970-01-01 where it is none of the years up to 9999. */
+/* A date read as UTC; 1970-01-01 if it is not in the years up to 9999. */
 static struct timespec time_of(const struct adf_date *date) {
     struct timespec time = {0};
     if (date->days <= LAST_DAY && date->mins < 1440 && date->ticks < 3000) {
@@ -233,7 +233,7 @@ static bool extras_of(const struct spot *spot, struct extras *extras) {
 
 static const char PROTECTION[] = "user.amiga.protection", COMMENT[] = "user.amiga.comment";
 
-/* Gives bytes to a room, of which 0 bytes ask for their number. */
+/* Copies bytes into a room; a room of 0 bytes asks for their number. */
 static int give(const char *bytes, size_t count, char *room, size_t size) {
     if (size == 0)
         return (int)count;

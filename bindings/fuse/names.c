@@ -101,7 +101,7 @@ void show_name(const uint8_t *name, size_t length, const char *more, char text[N
         sprintf(text, "%.*s~%08lx%s", (int)end, pieces.text, (unsigned long)check_of(name, length), more);
 }
 
-/* The bytes of the letter at the front of a text in UTF-8, or 0 for what is none, or a control character. */
+/* The bytes of the letter at the front of a text in UTF-8, or 0 if there is no letter, or a control character. */
 static int letter_length(const uint8_t *text) {
     int length = text[0] < 0x80 ? 1 : text[0] < 0xc2 ? 0 : text[0] < 0xe0 ? 2 : text[0] < 0xf0 ? 3 : text[0] < 0xf5 ? 4 : 0;
     bool is_control = text[0] < 32 || text[0] == 127 || text[0] == '\\' || (text[0] == 0xc2 && text[1] < 0xa0);
@@ -134,7 +134,7 @@ static int byte_of(const char *text) {
     return low < 0 ? -1 : 16 * high + low;
 }
 
-/* Letters of Latin-1 in UTF-8 are two bytes, of which the first is 0xc2 or 0xc3. What is no letter of Latin-1 stays, and is no name of
+/* Letters of Latin-1 in UTF-8 are two bytes, the first 0xc2 or 0xc3. What is no letter of Latin-1 stays, and is no name of
  * an Amiga; so do digits for what separates names. */
 void escape_path(const char *path, char *escaped) {
     while (*path != '\0') {

@@ -64,7 +64,7 @@ static size_t fitting_blocks(const uint8_t *image, size_t length) {
     return 0;
 }
 
-/* Says how many bytes an image has, of which no more are read than the largest has, and one. */
+/* Says how many bytes an image has; at most one more than the largest volume has is read. */
 static void say_length(size_t length, uint64_t whole) {
     const size_t most = (size_t)BLOCK * MOST_BLOCKS;
     if (length > most && whole <= most)

@@ -266,7 +266,7 @@ class Date(NamedTuple):
 
     @classmethod
     def of(cls, text: str) -> Date:
-        """The date that `adf list` or a manifest writes so. ValueError where it is none."""
+        """The date that `adf list` or a manifest writes so. ValueError if the text is no date."""
         numbers, civil = STAMP.fullmatch(text), CIVIL.fullmatch(text)
         if numbers:
             date = cls(*map(int, numbers.groups()))
@@ -281,7 +281,7 @@ class Date(NamedTuple):
 
     @property
     def civil(self) -> datetime.datetime | None:
-        """The date as a datetime, or None where it is none up to the year 9999."""
+        """The date as a datetime, or None if it is not in the years up to 9999."""
         is_civil = 0 <= self.days <= LAST_DAY and 0 <= self.mins < 1440 and 0 <= self.ticks < 3000
         return EPOCH + datetime.timedelta(self.days, 60 * self.mins, 20_000 * self.ticks) if is_civil else None
 
@@ -631,7 +631,7 @@ class Survey(_ReadOnly):
         return self._remains(self._file(path))
 
     def owners(self) -> bytes:
-        """The role of each block by what is found there, a byte for each, as a place in ROLES: 0 where nothing is, and everywhere without
+        """The role of each block as the survey finds it, a byte for each, as a place in ROLES: 0 where nothing is, and everywhere without
         a root."""
         roles = ctypes.create_string_buffer(len(self.image) // BLOCK or 1)
         if _calls().adf_survey_owners(self._opened, len(self._opened), roles, len(roles)) != 0:

@@ -63,7 +63,7 @@ def _accept(number: int) -> None:
 
 
 def _changed(call: Any, image: adf.Image, *source: Any) -> bytes:
-    """An image of which a call changes a copy."""
+    """A copy of an image, changed by a call."""
     room = bytearray(_arguments.view(image))
     _change(call, room, *source)
     return bytes(room)
@@ -97,10 +97,10 @@ def with_boot(image: adf.Image, boot: Union[Boot, adf.Image]) -> bytes:
 
 
 def with_standard_boot(image: adf.Image) -> bytes:
-    """The image with boot blocks that start AmigaDOS. BadBoot if it is none that can have them."""
+    """The image with boot blocks that start AmigaDOS. BadBoot if the image cannot have them."""
     return _changed(adf._calls().adf_boot_install, image)
 
 
 def without_boot(image: adf.Image) -> bytes:
-    """The image with zeros behind the type in its boot blocks. BadBoot if it is none that can have them."""
+    """The image with zeros behind the type in its boot blocks. BadBoot if the image cannot have them."""
     return _changed(adf._calls().adf_boot_clear, image)

@@ -1,4 +1,4 @@
-"""What to do with an image, by what the library says of it: the groups of the first page of a catalogue."""
+"""What to do with an image, from what the library says of it: the groups of the first page of a catalogue."""
 
 from __future__ import annotations
 

@@ -63,7 +63,7 @@ class FileContent(Content):
         yield from (memoryview(self.read(at, adf.PART)) for at in range(0, self.size, adf.PART))
 
     def disk(self) -> Optional[adf.Disk]:
-        """The hard disk, of which the tables alone are read: behind them is a hole in a file of this program's own."""
+        """The hard disk; only its tables are read: behind them is a hole in a file of this program's own."""
         with tempfile.TemporaryFile() as tables:
             tables.write(self.read(0, adf.MOST_TABLES))
             tables.truncate(self.size)

@@ -94,7 +94,7 @@ def given(words: argparse.Namespace) -> Given:
 
 
 def bytes_text(image: bytes, size: Optional[int]) -> str:
-    """How many bytes an image has, of which no more are read than a volume has and one."""
+    """How many bytes an image has; at most one more than the largest volume has is read."""
     if len(image) <= adf.MOST_BYTES:
         return f"{len(image)} bytes"
     return f"more than {adf.MOST_BYTES} bytes" if size is None else f"{size} bytes"

@@ -1,4 +1,4 @@
-"""The page of an image, by what the database of a catalogue says of it."""
+"""The page of an image, from what the database of a catalogue says of it."""
 
 from __future__ import annotations
 
@@ -146,7 +146,7 @@ class ImagePage:
         return f"--blocks {self.image['fits']} " if self.image["fits"] else ""
 
     def roles(self) -> bytes:
-        """The role of each block, of which there are no more than the largest volume has."""
+        """The role of each block; there are no more blocks than the largest volume has."""
         try:
             return zlib.decompressobj().decompress(self.image["roles"] or b"", adf.MOST_BYTES // adf.BLOCK)
         except zlib.error:

@@ -1,4 +1,4 @@
-"""adf-map: draws a volume as SVG, a square for each block, coloured by what the block is, or a whole hard disk (docs/adf-map.1)."""
+"""adf-map: draws a volume as SVG, a square for each block, coloured by its role, or a whole hard disk (docs/adf-map.1)."""
 
 from __future__ import annotations
 
@@ -35,7 +35,7 @@ def meant(image: bytes, blocks: Optional[int]) -> Tuple[bytes, range]:
 
 
 def draw_volume(name: str, image: bytes, blocks: Optional[int] = None, size: Optional[int] = None) -> int:
-    """Draws a volume, or a refused image, of which so many blocks are meant; its file may have more bytes than the image."""
+    """Draws a volume, or a refused image, read as if it had so many blocks; its file may have more bytes than the image."""
     (whole, missing), status = meant(image, blocks), 0
     told = f", {len(missing)} missing" if missing else ""
     try:

@@ -137,7 +137,7 @@ def rows_of(part: sqlite3.Connection, image: int, columns: Dict[str, Any]) -> Re
 
 
 def files_of(parts: Sequence[OpenPart]) -> List[Row]:
-    """The files of all parts by their paths, each of which is in one of them."""
+    """The files of all parts by their paths; each path is in one part."""
     files: Dict[str, Row] = {}
     for part in parts:
         with told(part.path):

@@ -152,7 +152,7 @@ def date(text: str) -> adf.Date:
 
 
 def blocks_in(size: str) -> int:
-    """The blocks of a size, as 880K or 100M. ValueError if it is none."""
+    """The blocks of a size, as 880K or 100M. ValueError if the text is no size."""
     found = re.fullmatch(r"([0-9]{1,12})([KMG]?)", size)
     if not found or int(found[1]) * UNITS[found[2]] % adf.BLOCK:
         raise ValueError(f"not a size in blocks of 512 bytes, as 880K or 100M: {size!r}")

@@ -1,4 +1,4 @@
-"""A picture of a volume as SVG: a square for each block, coloured by what the block is; and one of a whole hard disk, a square for
+"""A picture of a volume as SVG: a square for each block, coloured by its role; and one of a whole hard disk, a square for
 each of its partitions' parts. adf-map and adf-catalogue draw them."""
 
 from __future__ import annotations
@@ -56,7 +56,7 @@ def roles_of_refused(survey: adf.Survey) -> bytes:
 
 
 def without(roles: bytes, missing: range) -> bytes:
-    """The roles of a volume of which these blocks, the last ones, are missing."""
+    """The roles of a volume whose last blocks, these, are missing."""
     return roles[: missing.start] + bytes([MISSING]) * len(missing) if missing else roles
 
 

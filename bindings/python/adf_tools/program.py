@@ -262,7 +262,7 @@ def certain(content: bytes) -> int:
 
 
 def lines_of(content: bytes, more: int) -> Iterator[str]:
-    """The lines of bytes, of which the run at the front has so many more."""
+    """The lines of bytes; the run at the front has so many more."""
     at = 0
     for fill in [*FILL.finditer(content), None]:
         end = fill.start() if fill else len(content)
@@ -273,7 +273,7 @@ def lines_of(content: bytes, more: int) -> Iterator[str]:
 
 
 def manifest_of(lines: Iterable[str]) -> bytes:
-    """The bytes of a manifest, of which no more is made than `adf build` takes."""
+    """The bytes of a manifest; no more is made than `adf build` takes."""
     manifest = bytearray()
     for line in lines:
         manifest += line.encode("ascii") + b"\n"

@@ -175,7 +175,7 @@ def image_record(image: bytes, columns: Columns, has_texts: bool) -> Record:
 
 
 def disk_of(content: adf.Image) -> Optional[adf.Disk]:
-    """The hard disk of an image, if it is one. What begins as a volume is none, whatever else stands in it."""
+    """The hard disk of an image, if it is one. What begins as a volume is not, whatever else stands in it."""
     if bytes(memoryview(content)[: len(DOS)]) == DOS:
         return None
     disk = adf.Disk(content)

@@ -63,7 +63,7 @@ class Structs(unittest.TestCase):
 
 
 class Words(unittest.TestCase):
-    """What stands in memory that is called words but is none, and rooms that are too small."""
+    """Memory that is called words but holds no text, and rooms that are too small."""
 
     def setUp(self):
         self.library, self.image = adf.load(adf.library_path()), built(MANIFEST)

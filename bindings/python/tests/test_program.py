@@ -76,7 +76,7 @@ class Ends(Folder):
 
 
 class Streams(Folder):
-    """Standard streams that are closed or full, and files that are none."""
+    """Standard streams that are closed or full, and names that lead to no regular file."""
 
     def test_may_be_closed(self):
         written("a.adf", image_of())

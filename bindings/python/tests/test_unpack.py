@@ -111,7 +111,7 @@ class Names(Folder):
 
 
 def renamed(image, raw):
-    """The image of a volume, of which the file `a` has these bytes as its name, and as its checksum what it was."""
+    """The image of a volume whose file `a` has these bytes as its name, and its old checksum."""
     copy, at = bytearray(image), 512 * (adf.Volume(image)["a"].header + 1) - 80
     copy[at : at + 1 + len(raw)] = bytes([len(raw)]) + raw
     return bytes(copy)

@@ -106,7 +106,7 @@ pub fn build(kind: Kind, blocks: Option<u32>, entries: &[Addition<'_>], label: &
     Ok(image)
 }
 
-/// The table of the entries, and the contents of all files. A path without its directory before it gets a number that is none.
+/// The table of the entries, and the contents of all files. A path without its directory before it gets a number that no entry has.
 fn table(entries: &[Addition<'_>]) -> (Vec<AdditionRecord>, Vec<u8>) {
     let (mut records, mut contents) = (Vec::new(), Vec::new());
     let mut numbers = HashMap::from([(Vec::new(), 0)]);

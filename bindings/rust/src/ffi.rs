@@ -1,7 +1,7 @@
 //! The calls of include/adf.h over slices. All that is `unsafe` in this crate stands here; above each block is the sentence of
 //! the header that allows it.
 //!
-//! Of what the header asks, a slice has by itself: its pointer is not null, leads to as many bytes as it says, and its length is
+//! A slice by itself meets some of the header's demands: its pointer is not null, leads to as many bytes as it says, and its length is
 //! at most PTRDIFF_MAX; nobody writes what is borrowed here, and what is borrowed mutably overlaps nothing.
 
 use crate::cause::{Cause, NotFound, Refused};
@@ -543,7 +543,7 @@ pub(crate) fn parts(image: &[u8]) -> Result<Vec<PartRecord>, Refused> {
     Ok(parts)
 }
 
-/// The number of the role of each block by what the survey of an image finds.
+/// The number of the role of each block, as the survey of an image finds it.
 pub(crate) fn found_owners(image: &[u8]) -> Result<Vec<u8>, Refused> {
     let mut roles = with_room(image.len() / 512)?;
     roles.resize(image.len() / 512, 0);

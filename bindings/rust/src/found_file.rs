@@ -15,7 +15,7 @@ impl<'image> Survey<'image> {
         Ok(Parts { image: self.subject().clone(), rows: ffi::parts(self.subject())? })
     }
 
-    /// The role of each block by what is found there, for which the image is surveyed again: `Role::Free` where nothing is, and
+    /// The role of each block, from a new survey of the image: `Role::Free` where nothing is, and
     /// everywhere without a root. An error is `Cause::NoMemory`.
     pub fn owners(&self) -> Result<Vec<Role>, Refused> {
         Ok(ffi::found_owners(self.subject())?.into_iter().map(Role::from).collect())
