@@ -6,8 +6,10 @@ from __future__ import annotations
 import ctypes
 import mmap
 import operator
+import os
 from typing import Any, Union
 
+Path = Union[str, bytes, "os.PathLike[str]", "os.PathLike[bytes]"]
 Image = Union[bytes, bytearray, memoryview, mmap.mmap]
 Buffer = Union[bytearray, memoryview, mmap.mmap]
 MOST_NUMBER = 2**32 - 1
@@ -26,6 +28,12 @@ def within(what: str, given: Any, most: int = MOST_NUMBER) -> int:
     if not 0 <= number <= most:
         raise ValueError(f"{what} is from 0 to {most}, and not {number}")
     return number
+
+
+def accept_path(given: object) -> None:
+    """TypeError if it is no path of an entry."""
+    if not isinstance(given, (str, bytes)):
+        raise TypeError(f"a path is a str or bytes, and not {type(given).__name__}; entries[n] is the entry n + 1")
 
 
 def raw(what: str, given: Any) -> bytes:

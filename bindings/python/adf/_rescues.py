@@ -6,13 +6,12 @@ import ctypes
 import enum
 from typing import Any, NamedTuple
 
-import adf
-from adf import _arguments, _texts
+from adf import _arguments, _sizes, _structs, _texts
+from adf._arguments import Image
+from adf._layout import BLOCK, FIRST_ROOM
+from adf._library import accept, calls
 
 FIRST_PATHS = 1 << 16
-_WORD, _BYTE, _SIZE = ctypes.c_uint32, ctypes.c_uint8, ctypes.c_size_t
-_LossRow = adf._struct(("path path_length", _SIZE), ("first last", _WORD), ("why", _BYTE))
-_RescueTold = adf._struct(("losses paths", _SIZE), ("blocks block", _WORD))
 
 
 class Reason(enum.IntEnum):
@@ -72,7 +71,7 @@ class LeftOut(_Loss):
 
     @property
     def _spelled(self) -> str:
-        return adf.escape(self.raw_path) if self._text is None else self._text
+        return _texts.escape(self.raw_path) if self._text is None else self._text
 
     def __str__(self) -> str:
         return f"{self.why}: {self.path}"
@@ -87,19 +86,19 @@ def _left_out(row: Any, paths: bytes) -> LeftOut:
     return left_out
 
 
-def rescue(image: adf.Image, blocks: int | None = None) -> tuple[bytes, list[LeftOut]]:
+def rescue(image: Image, blocks: int | None = None) -> tuple[bytes, list[LeftOut]]:
     """A new, sound volume of as many blocks with all that stands in an image, and what is left out; with a number of blocks as if the
     image had so many. Refused where nothing stands."""
-    blocks, told = adf._blocks(blocks), _RescueTold()
-    raw = adf._cut(_arguments.plain(image), blocks)
-    length = adf.BLOCK * blocks if blocks else len(raw)
+    blocks, told = _sizes.number_of_blocks(blocks), _structs.RescueTold()
+    raw = _sizes.cut(_arguments.plain(image), blocks)
+    length = BLOCK * blocks if blocks else len(raw)
     volume = ctypes.create_string_buffer(length or 1)
-    rooms, wanted = (0, 0), (adf.FIRST_ROOM, FIRST_PATHS)
+    rooms, wanted = (0, 0), (FIRST_ROOM, FIRST_PATHS)
     while rooms != wanted:
         rooms = wanted
-        losses, paths = (_LossRow * rooms[0])(), ctypes.create_string_buffer(rooms[1])
+        losses, paths = (_structs.Loss * rooms[0])(), ctypes.create_string_buffer(rooms[1])
         tables = volume, length, losses, rooms[0], paths, rooms[1], ctypes.byref(told)
-        adf._accept(adf._calls().adf_rescue(raw, len(raw), blocks or 0, *tables), told.block)
+        accept(calls().adf_rescue(raw, len(raw), blocks or 0, *tables), told.block)
         wanted = max(rooms[0], told.losses), max(rooms[1], told.paths)
     text = ctypes.string_at(paths, told.paths)
-    return ctypes.string_at(volume, adf.BLOCK * told.blocks), [_left_out(row, text) for row in losses[: told.losses]]
+    return ctypes.string_at(volume, BLOCK * told.blocks), [_left_out(row, text) for row in losses[: told.losses]]

@@ -5,17 +5,17 @@ from __future__ import annotations
 import ctypes
 from typing import Any, NamedTuple, Union
 
-import adf
-from adf import _arguments
+from adf import _arguments, _structs
+from adf._arguments import Buffer, Image
+from adf._layout import BLOCK
+from adf._library import calls
+from adf.errors import Error
 
-BYTES = 2 * adf.BLOCK
+BYTES = 2 * BLOCK
 REFUSALS = {1: "bad size", 2: "not dos", 3: "boot blocks: bad size", 4: "boot blocks: not dos"}
-_BootBlocks = adf._struct(
-    ("crc", ctypes.c_uint32), ("begins_with_dos volume_type has_right_sum is_bootable has_code", ctypes.c_uint8),
-)
 
 
-class BadBoot(adf.Error, ValueError):
+class BadBoot(Error, ValueError):
     """An image has no boot blocks, or gets none: `why` it is so, of the image, or of the `boot blocks` that are to be put into it."""
 
     def __init__(self, why: str) -> None:
@@ -36,10 +36,10 @@ class Boot(NamedTuple):
     has_code: bool
 
     @classmethod
-    def of(cls, image: adf.Image) -> Boot:
+    def of(cls, image: Image) -> Boot:
         """The boot blocks at the front of an image, or of a file of them. BadBoot if it is shorter."""
-        raw, told = bytes(_arguments.view(image)[:BYTES]), _BootBlocks()
-        _accept(adf._calls().adf_boot(raw, len(raw), ctypes.byref(told)))
+        raw, told = bytes(_arguments.view(image)[:BYTES]), _structs.BootBlocks()
+        _accept(calls().adf_boot(raw, len(raw), ctypes.byref(told)))
         marks = bool(told.has_right_sum), bool(told.is_bootable), bool(told.has_code)
         return cls(raw, told.crc, bool(told.begins_with_dos), told.volume_type, *marks)
 
@@ -62,45 +62,45 @@ def _accept(number: int) -> None:
         raise BadBoot(REFUSALS.get(number, str(number)))
 
 
-def _changed(call: Any, image: adf.Image, *source: Any) -> bytes:
+def _changed(call: Any, image: Image, *source: Any) -> bytes:
     """A copy of an image, changed by a call."""
     room = bytearray(_arguments.view(image))
     _change(call, room, *source)
     return bytes(room)
 
 
-def _change(call: Any, room: adf.Buffer, *source: Any) -> None:
+def _change(call: Any, room: Buffer, *source: Any) -> None:
     """Has a call change an image where it is."""
     _accept(call(*_arguments.to_write(room), *source))
 
 
-def _source(boot: Union[Boot, adf.Image]) -> bytes:
+def _source(boot: Union[Boot, Image]) -> bytes:
     return _arguments.plain(boot.raw if isinstance(boot, Boot) else boot)
 
 
-def copy_into(room: adf.Buffer, boot: Union[Boot, adf.Image]) -> None:
+def copy_into(room: Buffer, boot: Union[Boot, Image]) -> None:
     """Puts boot blocks into an image where it is, as with_boot."""
     source = _source(boot)
-    _change(adf._calls().adf_boot_copy, room, source, len(source))
+    _change(calls().adf_boot_copy, room, source, len(source))
 
 
-def install_into(room: adf.Buffer) -> None:
+def install_into(room: Buffer) -> None:
     """Puts standard boot blocks into an image where it is, as with_standard_boot."""
-    _change(adf._calls().adf_boot_install, room)
+    _change(calls().adf_boot_install, room)
 
 
-def with_boot(image: adf.Image, boot: Union[Boot, adf.Image]) -> bytes:
+def with_boot(image: Image, boot: Union[Boot, Image]) -> bytes:
     """The image with other boot blocks: those of a volume (volume.boot), of another image, or the bytes of a file of them. It keeps its
     type, and gets the checksum with which an Amiga starts it. BadBoot if there are none."""
     source = _source(boot)
-    return _changed(adf._calls().adf_boot_copy, image, source, len(source))
+    return _changed(calls().adf_boot_copy, image, source, len(source))
 
 
-def with_standard_boot(image: adf.Image) -> bytes:
+def with_standard_boot(image: Image) -> bytes:
     """The image with boot blocks that start AmigaDOS. BadBoot if the image cannot have them."""
-    return _changed(adf._calls().adf_boot_install, image)
+    return _changed(calls().adf_boot_install, image)
 
 
-def without_boot(image: adf.Image) -> bytes:
+def without_boot(image: Image) -> bytes:
     """The image with zeros behind the type in its boot blocks. BadBoot if the image cannot have them."""
-    return _changed(adf._calls().adf_boot_clear, image)
+    return _changed(calls().adf_boot_clear, image)

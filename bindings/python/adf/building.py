@@ -5,10 +5,16 @@ from __future__ import annotations
 import ctypes
 from typing import Any, Iterable, NamedTuple, Sequence
 
-import adf
-from adf import _arguments
+from adf import _arguments, _structs
+from adf._arguments import Image
+from adf._layout import BLOCK, CAPITALS, KINDS, MOST_BYTES
+from adf._library import NO_MEMORY, calls
+from adf._texts import escape
+from adf.dates import Date
+from adf.entries import Entry
+from adf.errors import Error, NoMemory
 
-NEVER = adf.Date(0, 0, 0)
+NEVER = Date(0, 0, 0)
 DONE, FULL = 0, 11
 MOST_SIZE = 2**63 - 1
 DATES = "root", "last change", "creation"
@@ -16,34 +22,25 @@ REFUSALS = {
     1: "no kind of volume", 2: "a label is longer than 30 bytes", 3: "bad size", 4: "the room is too small", 5: "no parent",
     6: "parent is file", 7: "no name of an Amiga", 8: "exists", 9: "a comment is longer than 79 bytes", 10: "past the contents",
 }
-_WORD, _BYTE, _SIZE = ctypes.c_uint32, ctypes.c_uint8, ctypes.c_size_t
-_Addition = adf._struct(
-    *(("parent begin size", _SIZE), ("protection", _WORD), ("date", adf._Date), ("is_file name_length", _BYTE)),
-    *(("name", _BYTE * 30), ("comment_length", _BYTE), ("comment", _BYTE * 79)),
-)
-_NewVolume = adf._struct(
-    *(("kind blocks", _WORD), ("root altered created", adf._Date), ("label_length", _BYTE), ("label", _BYTE * 30)),
-)
-_Built = adf._struct(("addition", _SIZE), ("need have", ctypes.c_uint64), ("blocks", _WORD))
 
 
 class Addition(NamedTuple):
     """A directory or file to build: its path, its bytes (None for a directory), comment, protection and date. Texts are in Latin-1."""
 
     path: str | bytes
-    content: adf.Image | None = None
+    content: Image | None = None
     comment: str | bytes = b""
     protection: int = 0
-    date: adf.Date = NEVER
+    date: Date = NEVER
 
     @classmethod
-    def of(cls, entry: adf.Entry) -> Addition:
+    def of(cls, entry: Entry) -> Addition:
         """What an entry of a volume is, to build it again."""
         content = entry.read() if entry.is_file else None
         return cls(entry.raw_path, content, entry.raw_comment, entry.protection, entry.date)
 
 
-class NotBuilt(adf.Error, ValueError):
+class NotBuilt(Error, ValueError):
     """No volume is built: why; the path of the addition that has the fault, and its number from 1 (`entry` is the addition itself);
     for a tree that does not fit the blocks that it needs and those that there are, without the two boot blocks."""
 
@@ -53,7 +50,7 @@ class NotBuilt(adf.Error, ValueError):
         self.entry: Addition | None = None
 
     def __str__(self) -> str:
-        return f"{adf.escape(self.path)}: {self.why}" if self.path else self.why
+        return f"{escape(self.path)}: {self.why}" if self.path else self.why
 
 
 def _filled(field: Any, raw: bytes) -> int:
@@ -62,11 +59,11 @@ def _filled(field: Any, raw: bytes) -> int:
     return min(len(raw), 255)
 
 
-def _stamp(what: str, date: adf.Date) -> Any:
+def _stamp(what: str, date: Date) -> Any:
     """A date as the library takes it."""
-    if not isinstance(date, (tuple, list)) or len(date) != len(adf.Date._fields):
+    if not isinstance(date, (tuple, list)) or len(date) != len(Date._fields):
         raise TypeError(f"{what} is an adf.Date, and not {date!r}")
-    return adf._Date(*(_arguments.within(f"{what}, {field}", number) for field, number in zip(adf.Date._fields, date)))
+    return _structs.Date(*(_arguments.within(f"{what}, {field}", number) for field, number in zip(Date._fields, date)))
 
 
 class Plan:
@@ -79,7 +76,7 @@ class Plan:
     def __len__(self) -> int:
         return len(self._rows)
 
-    def put(self, parent: int, name: bytes, size: int | None, comment: str | bytes, protection: int, date: adf.Date) -> int:
+    def put(self, parent: int, name: bytes, size: int | None, comment: str | bytes, protection: int, date: Date) -> int:
         """Adds a file of so many bytes, or a directory (None), to addition `parent`, 0 for the root. Where its bytes begin. TypeError or
         ValueError if the table has no room for one of them."""
         begin, count = self.size, 0 if size is None else _arguments.within("the size", size, MOST_SIZE)
@@ -100,7 +97,7 @@ class Plan:
 
     def table(self, is_shared: bool = False) -> Any:
         """The table for the library; if it is shared, the bytes of all files begin at the first one of the contents."""
-        table = (_Addition * max(len(self._rows), 1))()
+        table = (_structs.Addition * max(len(self._rows), 1))()
         for row, (parent, begin, size, protection, date, name, comment) in zip(table, self._rows):
             row.parent, row.begin, row.size, row.protection = parent, 0 if is_shared else begin, size or 0, protection
             row.date, row.is_file = date, size is not None
@@ -108,22 +105,22 @@ class Plan:
         return table
 
 
-def new_volume(kind: str, blocks: int, label: str | bytes = b"", dates: Sequence[adf.Date] = (NEVER, NEVER, NEVER)) -> Any:
+def new_volume(kind: str, blocks: int, label: str | bytes = b"", dates: Sequence[Date] = (NEVER, NEVER, NEVER)) -> Any:
     """A volume to build, as the library takes it."""
-    if kind not in adf.KINDS:
-        raise ValueError(f"a kind is one of {', '.join(adf.KINDS)}, and not {kind!r}")
+    if kind not in KINDS:
+        raise ValueError(f"a kind is one of {', '.join(KINDS)}, and not {kind!r}")
     if len(dates) != len(DATES):
         raise ValueError("the dates are three: of the root, of the last change, and of the creation")
     count = min(max(_arguments.whole("the number of blocks", blocks), 0), _arguments.MOST_NUMBER)
-    volume = _NewVolume(adf.KINDS.index(kind), count, *(_stamp(f"the date of the {name}", date) for name, date in zip(DATES, dates)))
+    volume = _structs.NewVolume(KINDS.index(kind), count, *(_stamp(f"the date of the {name}", date) for name, date in zip(DATES, dates)))
     volume.label_length = _filled(volume.label, _arguments.raw("the label", label))
     return volume
 
 
 def _done(number: int, told: Any, plan: Plan) -> int:
     """The number of blocks, or the error that a number means."""
-    if number == adf.NO_MEMORY:
-        raise adf.NoMemory
+    if number == NO_MEMORY:
+        raise NoMemory
     if number == FULL:
         raise NotBuilt(f"full: need {told.need}, have {told.have}", "", 0, told.need, told.have)
     if number != DONE:
@@ -133,16 +130,16 @@ def _done(number: int, told: Any, plan: Plan) -> int:
 
 def need_of(volume: Any, plan: Plan, contents: Any, is_shared: bool = False) -> int:
     """The fewest blocks of a volume in which a plan has room."""
-    told = _Built()
-    number = adf._calls().adf_need(
+    told = _structs.Built()
+    number = calls().adf_need(
         ctypes.byref(volume), plan.table(is_shared), len(plan), *_arguments.to_read(contents), ctypes.byref(told))
     return _done(number, told, plan)
 
 
 def build_into(room: Any, volume: Any, plan: Plan, contents: Any) -> None:
     """Builds a volume at the front of a room, of a plan and its contents."""
-    told, places = _Built(), (*_arguments.to_read(contents), *_arguments.to_write(room))
-    number = adf._calls().adf_build(ctypes.byref(volume), plan.table(), len(plan), *places, ctypes.byref(told))
+    told, places = _structs.Built(), (*_arguments.to_read(contents), *_arguments.to_write(room))
+    number = calls().adf_build(ctypes.byref(volume), plan.table(), len(plan), *places, ctypes.byref(told))
     _done(number, told, plan)
 
 
@@ -154,13 +151,13 @@ def _planned(entries: Sequence[Addition]) -> tuple[Plan, list[memoryview]]:
             path = _arguments.raw("the path", entry.path)
             above, slash, name = path.rpartition(b"/")
             content = None if entry.content is None else _arguments.view(entry.content)
-            parent = number if slash and not above else numbers.get(above.translate(adf.CAPITALS), number)
+            parent = number if slash and not above else numbers.get(above.translate(CAPITALS), number)
             plan.put(parent, name, None if content is None else len(content), entry.comment, entry.protection, entry.date)
         except (TypeError, ValueError) as error:
             kind = TypeError if isinstance(error, TypeError) else ValueError
             raise kind(f"{_shown(entry.path, number)}: {error}") from None
         parts += [] if content is None else [content]
-        numbers.setdefault(path.translate(adf.CAPITALS), number)
+        numbers.setdefault(path.translate(CAPITALS), number)
     return plan, parts
 
 
@@ -171,7 +168,7 @@ def _shown(path: object, number: int) -> str:
 
 def build(
     kind: str, blocks: int | None, entries: Iterable[Addition], label: str | bytes = b"",
-    dates: Sequence[adf.Date] = (NEVER, NEVER, NEVER),
+    dates: Sequence[Date] = (NEVER, NEVER, NEVER),
 ) -> bytes:
     """The image of a volume with these entries, each directory before what is in it: the kind "ofs" or "ffs", the blocks (None for the
     fewest), the label, and the dates of the root, of the last change and of the creation. NotBuilt if there is none."""
@@ -182,7 +179,7 @@ def build(
     try:
         if blocks is None:
             volume.blocks = need_of(volume, plan, contents)
-        room = bytearray(adf.BLOCK * volume.blocks if volume.blocks <= adf.MOST_BYTES // adf.BLOCK else 0)
+        room = bytearray(BLOCK * volume.blocks if volume.blocks <= MOST_BYTES // BLOCK else 0)
         build_into(room, volume, plan, contents)
     except NotBuilt as error:
         if error.number:

@@ -17,7 +17,7 @@ import unittest
 import unittest.mock
 
 import adf
-from adf import _arguments
+from adf import _arguments, _library, _structs, commands
 from tests.shared import HERE, LARGE, NAME_BYTES, TOP, Folder, built, changed, image_of, international, written
 
 
@@ -120,7 +120,8 @@ class Volumes(unittest.TestCase):
 
     def test_is_pickled_with_its_entries(self):
         entry = adf.Volume(image_of())["c/readme"]
-        for again in (pickle.loads(pickle.dumps(entry)), copy.deepcopy(entry)):
+        of_package = pickle.loads(re.sub(rb"\bcadf\.\w+\n", b"cadf\n", pickle.dumps(entry, 0)))
+        for again in (pickle.loads(pickle.dumps(entry)), of_package, copy.deepcopy(entry)):
             self.assertEqual((again.path, again.read(), again[1:]), ("c/readme", b"Hello\n", entry[1:]))
         survey = pickle.loads(pickle.dumps(adf.survey(changed(image_of(), 880, 440, 1))))
         self.assertEqual((survey.findings[0].cause, survey.entries[0].survey), ("bad sum", survey))
@@ -366,7 +367,7 @@ class Refusals(unittest.TestCase):
     def test_cuts_output_at_the_largest_room(self):
         manifest, image = b"volume ofs 80\n", built("volume ofs 80\n")
         for room, answer in ((80 * 512, (0, image, b"")), (80 * 512 - 1, (3, image[:-1], b"write fault\n"))):
-            with unittest.mock.patch.object(adf, "MOST_OUTPUT", room):
+            with unittest.mock.patch.object(commands, "MOST_OUTPUT", room):
                 status, output, errors = adf.run(["build"], manifest)
             self.assertEqual((status, errors), answer[::2])
             self.assertTrue(answer[1].startswith(output))
@@ -592,9 +593,9 @@ class Surveys(unittest.TestCase):
 def lines_of(word, image):
     """The lines of adf-survey for an image: those of its output without a word for `rescue`, whose output is a volume, and its errors."""
     words, image = b"adf-survey\0" + word.encode() + b"\0", bytes(image)
-    output, errors, moved = ctypes.create_string_buffer(1 << 16), ctypes.create_string_buffer(1 << 16), adf._Moved()
+    output, errors, moved = ctypes.create_string_buffer(1 << 16), ctypes.create_string_buffer(1 << 16), _structs.Moved()
     call = adf.load(adf.library_path()).adf_survey_run
-    call.argtypes = adf._CALLS["adf_run"][1:]
+    call.argtypes = _library.CALLS["adf_run"][1:]
     call(words, len(words), image, len(image), output, len(output), errors, len(errors), ctypes.byref(moved))
     told = (b"" if word == "rescue" else output.raw[: moved.output]) + errors.raw[: moved.errors]
     return told.decode("ascii").splitlines()

@@ -9,7 +9,7 @@ import tempfile
 import unittest
 
 import adf
-from adf import _rescues, boots, building
+from adf import _structs
 from tests.shared import TOP, built, changed
 
 MANIFEST = """volume ofs 1760
@@ -24,11 +24,7 @@ file 9000:1:2 00000000 large
 fill 80000 41
 """
 HEADER = os.path.join(TOP, "include", "adf.h")
-STRUCTS = {
-    **{name: getattr(adf, "_" + name.capitalize()) for name in "date verdict entry contents finding found surveyed part subject partition disk moved".split()},
-    **{"addition": building._Addition, "new_volume": building._NewVolume, "built": building._Built, "boot_blocks": boots._BootBlocks},
-    **{"loss": _rescues._LossRow, "rescue_told": _rescues._RescueTold},
-}
+STRUCTS = {name[4:]: struct for struct in vars(_structs).values() for name in [getattr(struct, "__name__", "")] if name.startswith("adf_")}
 
 
 def layout():
@@ -71,7 +67,7 @@ class Words(unittest.TestCase):
     def run_in(self, words, room, said=256):
         """A run with rooms of these sizes: its status, output and errors, and which room was full."""
         output, errors = ctypes.create_string_buffer(b"?" * (room + 1)), ctypes.create_string_buffer(b"?" * (said + 1))
-        moved = adf._Moved(7, 7, 7)
+        moved = _structs.Moved(7, 7, 7)
         status = self.library.adf_run(words, len(words), self.image, len(self.image), output, room, errors, said, ctypes.byref(moved))
         self.assertEqual((output.raw[room], errors.raw[said]), (ord("?"), ord("?")))
         return status, output.raw[: moved.output], errors.raw[: moved.errors], moved.output_full, moved.errors_full
@@ -110,7 +106,7 @@ class Subjects(unittest.TestCase):
         self.library, self.image = adf.load(adf.library_path()), built("volume ofs 16\nfile 0:0:0 00000000 a\nfill 1000 41\n")
 
     def subject(self, image, blocks, room):
-        told, place = adf._Subject(7, 7, 7, 7), ctypes.create_string_buffer(b"?" * (room + 1))
+        told, place = _structs.Subject(7, 7, 7, 7), ctypes.create_string_buffer(b"?" * (room + 1))
         number = self.library.adf_survey_subject(image, len(image), blocks, place, room, ctypes.byref(told))
         self.assertEqual(place.raw[room], ord("?"))
         return number, (told.length, told.held, told.is_begun, told.is_retyped), place.raw[:room]
@@ -151,7 +147,7 @@ class Tables(unittest.TestCase):
         """The cause, the contents, and the two tables with question marks behind them."""
         sizes = (144, self.count), (4, self.total)
         table, places = (ctypes.create_string_buffer(b"?" * size * (length + 2)) for size, length in sizes)
-        contents = adf._Contents()
+        contents = _structs.Contents()
         cause = self.library.adf_index(image, len(image), table, rooms[0], places, rooms[1], ctypes.byref(contents))
         return cause, contents, table.raw[:-1], places.raw[:-1]
 

@@ -1,5 +1,7 @@
 """Tests of the wheel, the sdist and the editable wheel. No network is asked."""
 
+import ast
+import glob
 import os
 import shutil
 import subprocess
@@ -9,6 +11,7 @@ import unittest
 import zipfile
 
 import adf
+from adf import _library
 from tests.shared import HERE, TOP, Folder, image_of, written
 
 SOURCE = os.path.dirname(HERE)
@@ -73,6 +76,19 @@ def has_venv():
     return subprocess.run([sys.executable, "-c", "import venv, ensurepip"], stderr=subprocess.DEVNULL).returncode == 0
 
 
+def names_imported(path):
+    """The modules of adf that a module imports when it runs; `__init__` is the package itself."""
+    with open(path, encoding="utf-8") as file:
+        body = ast.parse(file.read()).body
+    for node in body:
+        if isinstance(node, ast.Import):
+            yield from ("__init__" for name in node.names if name.name == "adf")
+        if isinstance(node, ast.ImportFrom) and node.module == "adf":
+            yield from (name.name for name in node.names)
+        elif isinstance(node, ast.ImportFrom) and node.module.startswith("adf."):
+            yield node.module[4:]
+
+
 class Packages(Folder):
     def setUp(self):
         super().setUp()
@@ -129,7 +145,7 @@ class Packages(Folder):
         words = [sys.executable, "-c", line]
         written("libadf.so", subprocess.run(words, cwd=SOURCE, env=environment, check=True, stdout=subprocess.PIPE).stdout)
         shown = subprocess.run(["nm", "-D", "--defined-only", "libadf.so"], check=True, stdout=subprocess.PIPE).stdout.decode().split()[2::3]
-        self.assertTrue(set(adf._CALLS) <= set(shown) and all(name.startswith("adf_") for name in shown), shown)
+        self.assertTrue(set(_library.CALLS) <= set(shown) and all(name.startswith("adf_") for name in shown), shown)
 
     @unittest.skipUnless(shutil.which("mypy"), "needs mypy")
     def test_is_typed_for_those_who_use_it(self):
@@ -142,6 +158,15 @@ class Packages(Folder):
         public = {name for name, value in vars(adf).items() if getattr(value, "__module__", "").startswith("adf") and not name.startswith("_")}
         self.assertEqual(public - set(adf.__all__), set())
         self.assertEqual([name for name in adf.__all__ if not hasattr(adf, name)], [])
+
+    def test_has_modules_that_stand_on_one_another_in_an_order(self):
+        stands_on = {os.path.basename(path)[:-3]: set(names_imported(path)) for path in glob.glob(os.path.join(SOURCE, "adf", "*.py"))}
+        self.assertIn("_library", stands_on["volumes"])
+        while stands_on:
+            lowest = [name for name, below in stands_on.items() if not below & set(stands_on)]
+            self.assertTrue(lowest, f"in a ring, or on one: {sorted(stands_on)}")
+            for name in lowest:
+                del stands_on[name]
 
     @unittest.skipUnless(has_venv(), "needs venv")
     def test_is_installed_by_pip(self):

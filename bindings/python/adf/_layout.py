@@ -1,0 +1,16 @@
+"""The numbers of images: sizes, types and roles."""
+
+from __future__ import annotations
+
+BLOCK, LEAST_CHUNK = 512, 488
+MOST_BYTES = BLOCK * 1_048_576
+MOST_PARTITIONS, MOST_TABLES = 1024, BLOCK * 65536
+KINDS = ("ofs", "ffs")
+TYPES = (*KINDS, "ofs-international", "ffs-international")
+LETTERS = ("ascii", "international")
+ROLES = ("free", "boot", "root", "page", "map extension", "header", "extension", "data")
+FILE_TYPE = b"\xff\xff\xff\xfd"
+LONGEST_NAME, LONGEST_COMMENT = 30, 79
+CAPITALS = bytes(byte - 32 if 97 <= byte <= 122 else byte for byte in range(256))
+PART = 1 << 20  # bytes of a file that are read at once
+FIRST_ROOM = 2048  # rows of a table for which memory is taken first

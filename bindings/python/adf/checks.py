@@ -1,0 +1,31 @@
+"""The numbers of a volume: adf.check and adf.Verdict."""
+
+from __future__ import annotations
+
+import ctypes
+from typing import NamedTuple
+
+from adf import _arguments, _structs
+from adf._arguments import Image
+from adf._layout import TYPES
+from adf._library import accept, calls
+
+
+class Verdict(NamedTuple):
+    """The numbers of a volume, as `adf check` writes them."""
+
+    kind: str
+    blocks: int
+    used: int
+    free: int
+    dirs: int
+    files: int
+
+
+def check(image: Image, international: bool = False) -> Verdict:
+    """The numbers of the volume that has this image; Refused where none has. If international letters are accepted too (types 2
+    and 3), the kind of a volume with them is one of TYPES, as `ffs-international`."""
+    image, verdict = _arguments.plain(image), _structs.Verdict()
+    call = calls().adf_check_types if international else calls().adf_check
+    accept(call(image, len(image), ctypes.byref(verdict)), verdict.block)
+    return Verdict(TYPES[verdict.kind], *(getattr(verdict, name) for name in Verdict._fields[1:]))

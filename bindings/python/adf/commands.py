@@ -1,0 +1,44 @@
+"""The command `adf`, run over memory: adf.run and adf.Answer."""
+
+from __future__ import annotations
+
+import ctypes
+from typing import Iterable, NamedTuple
+
+from adf import _arguments, _structs
+from adf._arguments import Image
+from adf._library import calls
+
+FIRST_OUTPUT, FIRST_ERRORS, MOST_OUTPUT = 4096, 4096, 1 << 32
+
+
+class Answer(NamedTuple):
+    """How a command ended: its status, and what it wrote to output and to errors."""
+
+    status: int
+    output: bytes
+    errors: bytes
+
+
+def run(words: Iterable[str], given: Image = b"") -> Answer:
+    """Runs the command `adf` with these words over the input. An output of more than 4 GiB is cut there, with status 3 and
+    `write fault` on errors."""
+    all_words, given = ("adf", *words), _arguments.plain(given)
+    if isinstance(words, (str, bytes)) or not all(isinstance(word, str) for word in all_words):
+        raise TypeError('words are a list of str, as ["cat", "c/list"]')
+    line = b"".join(word.encode() + b"\0" for word in all_words)
+    if line.count(b"\0") != len(all_words):
+        raise ValueError("a word has a zero byte")
+    moved, most_output, most_errors = _structs.Moved(), len(given) + FIRST_OUTPUT, FIRST_ERRORS
+    while True:
+        output, errors = ctypes.create_string_buffer(most_output), ctypes.create_string_buffer(most_errors)
+        rooms = (output, most_output, errors, most_errors, ctypes.byref(moved))
+        status = calls().adf_run(line, len(line), given, len(given), *rooms)
+        more_output = moved.output_full and most_output < MOST_OUTPUT
+        more_errors = moved.errors_full and most_errors < MOST_OUTPUT
+        if not more_output and not more_errors:
+            return Answer(status, ctypes.string_at(output, moved.output), ctypes.string_at(errors, moved.errors))
+        if more_output:
+            most_output = min(4 * most_output, MOST_OUTPUT)
+        if more_errors:
+            most_errors = min(4 * most_errors, MOST_OUTPUT)

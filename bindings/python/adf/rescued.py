@@ -1,0 +1,109 @@
+"""Volumes of what stands in a damaged image: adf.Rescued."""
+
+from __future__ import annotations
+
+import functools
+from typing import Any
+
+from adf import _arguments, _sizes
+from adf._arguments import Image, Path
+from adf._library import INTERNATIONAL
+from adf._rescues import LeftOut, rescue
+from adf.checks import check
+from adf.entries import Entry
+from adf.errors import Closed, Refused
+from adf.findings import Findings, Found
+from adf.surveys import Survey
+from adf.volumes import Volume
+
+
+def _own_fault(image: bytes, refused: Refused) -> Refused:
+    """The first fault of an image by the letters of its type, if it is refused for these."""
+    if refused.number == INTERNATIONAL:
+        try:
+            check(image, international=True)
+        except Refused as first:
+            return first
+    return refused
+
+
+class Rescued(Volume):
+    """The volume of what stands in an image that is refused: its rescue, in memory. `left_out` is what is not in it, and `findings` all
+    that is wrong with the image, by its `survey`; `refused` says why it is refused. Its blocks, and the headers of its entries, are
+    not those of the image. Refused if nothing stands."""
+
+    _given: tuple[bytes, Path | None, int | None] | None
+    _left_out: list[LeftOut]
+
+    def __init__(self, image: Image, filename: Path | None = None, blocks: int | None = None) -> None:
+        given, blocks = _arguments.plain(image), _sizes.number_of_blocks(blocks)
+        try:
+            new, left_out = rescue(given, blocks)
+        except Refused as refused:
+            first = _own_fault(_sizes.sized(given, blocks), refused)
+            raise Refused(first.cause, first.block, first.number, filename) from None
+        super().__init__(new, filename)
+        vars(self).update(_given=(given, filename, blocks), _left_out=left_out)
+
+    def __repr__(self) -> str:
+        return f"{super().__repr__()[:-1].replace('Volume', 'Rescued', 1)}, {len(self.left_out)} left out>"
+
+    def __reduce__(self) -> Any:
+        """Pickled as its image, which is rescued again."""
+        return Rescued, self._image_given
+
+    def close(self) -> None:
+        super().close()
+        vars(self).update(_given=None)
+        vars(self).pop("survey", None)
+
+    @property
+    def _image_given(self) -> tuple[bytes, Path | None, int | None]:
+        """The image that was rescued, its file, and its blocks; Closed if they are given back."""
+        given = self._given
+        if given is None:
+            raise Closed("the volume is closed")
+        return given
+
+    @property
+    def left_out(self) -> list[LeftOut]:
+        return list(self._left_out)
+
+    @functools.cached_property
+    def survey(self) -> Survey:
+        """The survey of the image, made when it is asked for first."""
+        image, _, blocks = self._image_given
+        return Survey(image, blocks)
+
+    def entry_of(self, found: Found) -> Entry | None:
+        """The entry of this volume that is an entry of `survey`; None if it is left out."""
+        self._accept_open()
+        return self._entry(self._places[found.number]) if found.number in self._places else None
+
+    @functools.cached_property
+    def _places(self) -> dict[int, int]:
+        """The numbers of entries, by those of the entries of the survey that they are. An entry whose name is not a name, or is used
+        already, is called lost- and its block."""
+        left_out = {each.first for each in self._left_out if each.is_entry}
+        named, places = {(entry.parent, entry.raw_name): entry.number for entry in self.entries}, {0: 0}
+        for found in self.survey.entries:
+            if found.parent in places and found.header not in left_out:
+                parent = places[found.parent]
+                name = found.raw_name if (parent, found.raw_name) in named else b"lost-%d" % found.header
+                if (parent, name) in named:
+                    places[found.number] = named.pop((parent, name))
+        return places
+
+    @property
+    def findings(self) -> Findings:
+        return self.survey.findings
+
+    @functools.cached_property
+    def refused(self) -> Refused | None:
+        """Why the image is refused; None if it is sound."""
+        image, filename, _ = self._image_given
+        try:
+            check(image, international=True)
+        except Refused as refused:
+            return Refused(refused.cause, refused.block, refused.number, filename)
+        return None

@@ -1,0 +1,189 @@
+"""Surveys: adf.survey and adf.Survey, all that is wrong with an image, and what is found in it."""
+
+from __future__ import annotations
+
+import ctypes
+import errno
+import functools
+import os
+from typing import Any, Iterator
+
+from adf import _arguments, _sizes, _structs, _texts
+from adf._arguments import Image
+from adf._layout import BLOCK, FIRST_ROOM, KINDS, LEAST_CHUNK
+from adf._library import NO_MEMORY, NOT_DOS, calls, cause_text
+from adf._read_only import ReadOnly
+from adf._texts import escape
+from adf.dates import Date, date_of
+from adf.errors import Damaged, NoMemory, NoSuchPath, NotAFile
+from adf.findings import Finding, Findings, Found
+
+OTHER_TYPE = 0  # of the finding that the type is FFS and the files are OFS, for which the library has no number
+NO_BLOCK = 2**32 - 1
+
+
+def survey(image: Image, blocks: int | None = None) -> Survey:
+    """All that is wrong with an image, and what is found in it all the same; with a number of blocks as if it had so many."""
+    return Survey(image, blocks)
+
+
+def _subject(image: bytes, blocks: int | None) -> tuple[bytes, Any]:
+    """The image that `adf-survey` surveys of one that is cut to so many blocks, and what is told of it."""
+    length, told = len(image) if blocks is None else BLOCK * blocks, _structs.Subject()
+    room = ctypes.create_string_buffer(length or 1)
+    if calls().adf_survey_subject(image, len(image), blocks or 0, room, length, ctypes.byref(told)) != 0:
+        raise NoMemory
+    is_given = length == len(image) and not told.is_begun and not told.is_retyped
+    return image if is_given else ctypes.string_at(room, length), told
+
+
+class Survey(ReadOnly):
+    """What is found in an image by `adf-survey`: findings and entries, in its order; label, raw_label, kind ("ofs" or "ffs") and
+    the three dates, as the root tells them (kind "" and an empty label where there is none); image, its bytes.
+
+    Where nothing but the boot block is lost, and where the type is one of FFS and the files say OFS, the image is surveyed as if it
+    began with the type that its files say: `is_begun`, or `is_retyped`, and then the first finding says so. Otherwise it has no
+    findings exactly where `check` takes the image, and the first of them is what `Refused` says.
+    """
+
+    image: bytes
+    entries: list[Found]
+    kind: str
+    date: Date
+    altered: Date
+    created: Date
+    raw_label: bytes
+    label: str
+    is_begun: bool
+    is_retyped: bool
+    _rows: Any
+    _given: tuple[bytes, int | None]
+    _opened: bytes
+    _held: int
+
+    def __init__(self, image: Image, blocks: int | None = None) -> None:
+        blocks = _sizes.number_of_blocks(blocks)
+        given = _sizes.cut(_arguments.plain(image), blocks)
+        raw, subject = _subject(given, blocks)
+        told = _structs.Surveyed()
+        rooms, wanted = (0, 0), (FIRST_ROOM, FIRST_ROOM)
+        while rooms != wanted:
+            rooms = wanted
+            tables = (_structs.Finding * rooms[0])(), rooms[0], (_structs.Found * rooms[1])(), rooms[1]
+            if calls().adf_survey_index(raw, len(raw), *tables, ctypes.byref(told)) != 0:
+                raise NoMemory
+            wanted = max(rooms[0], told.findings), max(rooms[1], told.entries)
+        label = bytes(told.label)[: told.label_length]
+        vars(self).update(
+            image=_sizes.sized(given, blocks) if subject.is_begun or subject.is_retyped else raw, kind=KINDS[told.kind] if told.blocks else "",
+            date=date_of(told.root), altered=date_of(told.altered), created=date_of(told.created),
+            raw_label=label, label=label.decode("latin-1"), is_begun=bool(subject.is_begun), is_retyped=bool(subject.is_retyped),
+            _given=(given, blocks), _opened=raw, _held=subject.held,
+        )
+        self._mark_missing(tables[2])
+        vars(self)["entries"] = [self._entry(place + 1, tables[2][place]) for place in range(told.entries)]
+        first = [_structs.Finding(cause=NOT_DOS)] * subject.is_begun + [_structs.Finding(cause=OTHER_TYPE)] * subject.is_retyped
+        rows, row = (_structs.Finding * (len(first) + told.findings))(*first), ctypes.sizeof(_structs.Finding)
+        ctypes.memmove(ctypes.byref(rows, row * len(first)), tables[0], row * told.findings)
+        vars(self)["_rows"] = rows
+
+    def __repr__(self) -> str:
+        return f"<adf.Survey {self.label!r}: {len(self.findings)} findings, {len(self.entries)} entries>"
+
+    def __reduce__(self) -> Any:
+        """Pickled as its image, which is surveyed again."""
+        return Survey, self._given
+
+    def _mark_missing(self, rows: Any) -> None:
+        """Marks files with data in blocks that the image does not have as damaged: the table has zeros there for data."""
+        if self._held < len(self._opened) // BLOCK:
+            for part in self._parts[self._held :]:
+                if part.node:
+                    rows[part.node - 1].is_sound = 0
+
+    @property
+    def findings(self) -> Findings:
+        return Findings(self)
+
+    @functools.cached_property
+    def _parts(self) -> Any:
+        """Which part of what is found each block is."""
+        rows = (_structs.Part * (len(self._opened) // BLOCK))()
+        if calls().adf_survey_parts(self._opened, len(self._opened), rows, len(rows)) != 0:
+            raise NoMemory
+        return rows
+
+    def _remains(self, found: Found) -> tuple[bytes, list[range]]:
+        """What is left of a file, by its number."""
+        image, parts = self._opened, self._parts
+        size = min(found.size, len(image))
+        most = size // LEAST_CHUNK + 1
+        blocks, content, gap = (_structs.WORD * most)(), bytearray(size), _structs.SIZE()
+        count = min(calls().adf_found_blocks(image, len(image), parts, len(parts), found.number, found.header, blocks, most), most)
+        for place in range(count):
+            if blocks[place] >= self._held:
+                blocks[place] = NO_BLOCK
+        lost, at = [], 0
+        while at < size:
+            room = (ctypes.c_char * (size - at)).from_buffer(content, at)
+            at += calls().adf_found_read(image, len(image), found.header, blocks, count, at, room, size - at, ctypes.byref(gap))
+            if not gap.value:
+                break
+            lost.append(range(at, at + gap.value))
+            at += gap.value
+        return bytes(content), lost
+
+    def ranges(self) -> Iterator[range]:
+        """The blocks of each finding, without paths, which can be very long."""
+        return (range(row.first, row.last + 1) for row in self._rows)
+
+    def _entry(self, number: int, row: Any) -> Found:
+        name, comment = bytes(row.name)[: row.name_length], bytes(row.comment)[: row.comment_length]
+        fields = row.parent, row.header, row.size, row.protection, date_of(row.date), bool(row.is_file), bool(row.is_sound)
+        return Found(self, number, *fields, name, comment)
+
+    def _finding(self, row: Any) -> Finding:
+        path = self.entries[row.node - 1].path if row.node else None
+        if row.is_within:
+            path = f"{path or ''}/"
+        cause = "type of ffs, files of ofs" if row.cause == OTHER_TYPE else cause_text(row.cause)
+        return Finding(row.first, row.last, cause, path, self.entries[row.owner - 1].path if row.owner else None)
+
+    def read(self, path: str | bytes) -> bytes:
+        """The bytes of a sound file, for which the image is surveyed again; of several with this path those of the first. The path is a
+        text in Latin-1, or as `adf-survey` spells it, or bytes, which mean themselves. NoSuchPath if nothing has it, as none has one
+        through a name that is not one; NotAFile if it is not a file, Damaged if it is damaged."""
+        found = self._file(path)
+        if not found.is_sound:
+            raise Damaged(errno.EIO, "damaged", path)
+        return self._remains(found)[0]
+
+    def remains(self, path: str | bytes) -> tuple[bytes, list[range]]:
+        """What is left of a file, sound or damaged, for which the image is surveyed again: its bytes, with zeros for those that are
+        lost, and the ranges of these; of several with this path those of the first. NoSuchPath and NotAFile as of `read`."""
+        return self._remains(self._file(path))
+
+    def owners(self) -> bytes:
+        """The role of each block as the survey finds it, a byte for each, as a place in ROLES: 0 where nothing is, and everywhere without
+        a root."""
+        roles = ctypes.create_string_buffer(len(self.image) // BLOCK or 1)
+        if calls().adf_survey_owners(self._opened, len(self._opened), roles, len(roles)) != 0:
+            raise NoMemory
+        return roles.raw[: len(self.image) // BLOCK]
+
+    def _file(self, path: str | bytes) -> Found:
+        """The file under a path, the first of several."""
+        _arguments.accept_path(path)
+        try:
+            text = (escape(path) if isinstance(path, bytes) else _texts.as_spelled(path)).encode("ascii")
+        except UnicodeEncodeError:
+            raise NoSuchPath(path) from None
+        node = _structs.SIZE()
+        answer = calls().adf_survey_find(self._opened, len(self._opened), text, len(text), ctypes.byref(node))
+        if answer == NO_MEMORY:
+            raise NoMemory
+        if answer != 0:
+            raise NoSuchPath(path)
+        if not node.value or not self.entries[node.value - 1]._has_bytes():
+            raise NotAFile(errno.EISDIR, os.strerror(errno.EISDIR), path)
+        return self.entries[node.value - 1]

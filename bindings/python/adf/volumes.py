@@ -1,0 +1,171 @@
+"""Volumes: adf.Volume."""
+
+from __future__ import annotations
+
+import bisect
+import ctypes
+import functools
+from typing import Any, Iterator, Sequence
+
+from adf import _arguments, _structs
+from adf._arguments import Image, Path
+from adf._layout import FIRST_ROOM, LETTERS, TYPES
+from adf._library import NO_MEMORY, accept, calls
+from adf._read_only import ReadOnly
+from adf._rescues import LeftOut
+from adf._texts import escape
+from adf.boots import Boot
+from adf.dates import Date, date_of
+from adf.entries import Entries, Entry
+from adf.errors import Closed, NoMemory, NoSuchPath
+from adf.findings import Finding
+
+
+class Volume(ReadOnly):
+    """The volume of an image in memory, which is checked here; Refused where it is that of none.
+
+    label, raw_label, kind (one of TYPES, as "ofs" or "ffs-international"), letters ("ascii": the case of a to z is ignored in names;
+    "international": that of all letters of Latin-1), blocks, used, free; date, altered and created, the dates of the root, of the
+    last change and of the creation; image, its bytes; entries, in the order of `adf list`: each directory before what is in it.
+    They can only be read. Once it is closed, its image is empty and nothing more is read of it: ValueError.
+    """
+
+    image: bytes
+    kind: str
+    letters: str
+    blocks: int
+    used: int
+    free: int
+    date: Date
+    altered: Date
+    created: Date
+    raw_label: bytes
+    label: str
+    _known_tables: Any
+
+    def __init__(self, image: Image, filename: Path | None = None) -> None:
+        raw, contents = _arguments.plain(image), _structs.Contents()
+        rooms, wanted = (0, 0), (FIRST_ROOM, FIRST_ROOM)
+        while rooms != wanted:
+            rooms = wanted
+            tables = (_structs.Entry * rooms[0])(), rooms[0], (_structs.WORD * rooms[1])(), rooms[1]
+            accept(calls().adf_index_types(raw, len(raw), *tables, ctypes.byref(contents)), contents.block, filename)
+            wanted = max(rooms[0], contents.entries), max(rooms[1], contents.data_blocks)
+        label = bytes(contents.label)[: contents.label_length]
+        vars(self).update(
+            image=raw, kind=TYPES[contents.kind], letters=LETTERS[contents.kind // 2],
+            blocks=contents.blocks, used=contents.used, free=contents.free,
+            date=date_of(contents.root), altered=date_of(contents.altered), created=date_of(contents.created),
+            raw_label=label, label=label.decode("latin-1"),
+            _known_tables=((raw, len(raw)), (tables[0], contents.entries), (tables[2], contents.data_blocks)),
+        )
+
+    def close(self) -> None:
+        """Gives the image and the tables back."""
+        vars(self).update(image=b"", _known_tables=None)
+
+    def __repr__(self) -> str:
+        told = f"{self.kind}, {self.blocks} blocks"
+        return f"<adf.Volume {self.label!r}: {told if self._known_tables else 'closed'}>"
+
+    def __reduce__(self) -> Any:
+        """Pickled as its image, which is checked again."""
+        return Volume, (self._tables[0][0],)
+
+    def __enter__(self) -> Volume:
+        self._accept_open()
+        return self
+
+    def __exit__(self, *_error: object) -> None:
+        self.close()
+
+    def _accept_open(self) -> None:
+        if self._known_tables is None:
+            raise Closed("the volume is closed")
+
+    @property
+    def _tables(self) -> Any:
+        known = self._known_tables
+        self._accept_open()
+        return known
+
+    @property
+    def _table(self) -> Any:
+        return self._tables[1][0]
+
+    @property
+    def entries(self) -> Entries:
+        return Entries(self)
+
+    @property
+    def boot(self) -> Boot:
+        """The boot blocks of its image: of a Rescued one those of the new volume, which are kept if the image begins with `DOS`."""
+        return Boot.of(self._tables[0][0])
+
+    @property
+    def left_out(self) -> list[LeftOut]:
+        """What is on the image and not in this volume: nothing, unless it is a Rescued one."""
+        return []
+
+    @property
+    def findings(self) -> Sequence[Finding]:
+        """What is wrong with the image: nothing, unless it is a Rescued one."""
+        return ()
+
+    def __getitem__(self, path: str | bytes) -> Entry:
+        """The entry under a path, a text or bytes: names with `/` between them. NoSuchPath if there is none."""
+        number = self._find(path)
+        if not number:
+            raise NoSuchPath(path)
+        return self._entry(number)
+
+    def __contains__(self, path: str | bytes) -> bool:
+        return bool(self._find(path))
+
+    def __iter__(self) -> Iterator[str]:
+        return (entry.path for entry in self.entries)
+
+    def walk(self, top: Any = "") -> Iterator[tuple[Any, list[Any], list[Any]]]:
+        """As os.walk: for each directory from `top` on its path, and the names of the directories and of the files in it.
+        What is taken out of the directories is not gone into. Bytes are told where bytes are given."""
+        is_raw, waiting = isinstance(top, bytes), [top]
+        while waiting:
+            path = waiting.pop()
+            number = self._find(path)
+            if number is None or number > 0 and self._table[number - 1].is_file:
+                raise NoSuchPath(path)
+            inside = self.entries[bisect.bisect_left(self._parents, number) : bisect.bisect_right(self._parents, number)]
+            names = [(entry.is_file, entry.raw_name if is_raw else entry.name) for entry in inside]
+            directories = [name for is_file, name in names if not is_file]
+            yield path, directories, [name for is_file, name in names if is_file]
+            slash = b"/" if is_raw else "/"
+            waiting += (path + slash + name if path else name for name in reversed(directories))
+
+    def owners(self) -> bytes:
+        """The role of each block, a byte for each, as a place in ROLES."""
+        image, roles = self._tables[0], ctypes.create_string_buffer(self.blocks)
+        accept(calls().adf_owners_types(*image, roles, self.blocks), 0)
+        return roles.raw
+
+    @functools.cached_property
+    def _parents(self) -> list[int]:
+        return [self._table[place].parent for place in range(len(self.entries))]
+
+    def _entry(self, number: int) -> Entry:
+        row = self._table[number - 1]
+        name, comment = bytes(row.name)[: row.name_length], bytes(row.comment)[: row.comment_length]
+        fields = row.parent, row.header, row.size, row.protection, date_of(row.date), bool(row.is_file)
+        return Entry(self, number, *fields, name, comment)
+
+    def _find(self, path: str | bytes) -> int | None:
+        """The number under a path, 0 for the empty one, None where nothing is there."""
+        _arguments.accept_path(path)
+        try:
+            text = escape(path).encode("ascii")
+        except UnicodeEncodeError:
+            return None
+        node = ctypes.c_size_t()
+        answer = calls().adf_find_types(TYPES.index(self.kind), *self._tables[1], text, len(text), ctypes.byref(node))
+        if answer == NO_MEMORY:
+            raise NoMemory
+        return node.value if answer == 0 else None
