@@ -30,8 +30,16 @@ from adf_tools.names import one_line
 SIGN = b"DOS"
 IMAGES, PACKED_IMAGES = (b".adf", b".hdf"), (b".adz", b".hdz", b".adf.gz", b".hdf.gz")
 GZIP, ZIP, DMS, LHA = "gzip", "zip", "DMS", "LHA"
-BEGINS = ((GZIP, rb"\x1f\x8b\x08"), (ZIP, rb"PK(\3\4|\5\6)"), (DMS, rb"DMS!"), (LHA, rb"..-l[hz][0-9a-z]-"))
+BEGINS = ((GZIP, rb"\x1f\x8b\x08"), (ZIP, rb"PK(\x03\x04|\x05\x06)"), (DMS, rb"DMS!"), (LHA, rb"..-l[hz][0-9a-z]-"))
 ENDINGS = {GZIP: (b".gz", b".adz", b".hdz"), ZIP: (b".zip",), DMS: (b".dms",), LHA: (b".lha", b".lzh")}
+LONGEST_BEGIN = 16
+OTHERS = (
+    (rb"SCP", "a flux image (SCP): adf reads sectors"),
+    (rb"HXC(PICFE|HFEV3)", "an image of tracks (HFE): adf reads sectors"),
+    (rb"CAPS\x00\x00\x00\x0c", "an image of tracks (IPF): adf reads sectors"),
+    (rb"UAE-[-1]ADF", "an image of tracks (extended ADF): adf reads sectors"),
+    (rb"OD[\x00-\x07]S", "the bytes are swapped in pairs: dd conv=swab swaps them back"),
+)
 METHODS = (zipfile.ZIP_STORED, zipfile.ZIP_DEFLATED)
 ENCRYPTED = 1
 MOST_IMAGES, MOST_UNPACKED = 4096, 4 << 30
@@ -85,6 +93,15 @@ def begins_as_volume(file: Stream) -> bool:
 def form_of(begin: bytes) -> str:
     """How an image is packed whose file begins so; an empty text if it is not."""
     return next((form for form, pattern in BEGINS if re.match(pattern, begin, re.DOTALL)), "")
+
+
+def foreign(image: bytes) -> str:
+    """What an image is that is refused, if its begin says so for certain; an empty text else."""
+    begin = bytes(image[:LONGEST_BEGIN])
+    form = form_of(begin)
+    if form:
+        return f"packed by {form} in an archive: unpack it first"
+    return next((text for pattern, text in OTHERS if re.match(pattern, begin)), "")
 
 
 def form_named(path: bytes) -> str:
@@ -243,7 +260,7 @@ def members_of_lha(file: IO[bytes]) -> Iterator[Member]:
     """All files of an LHA archive."""
     libarchive, warnings = libarchive_module(), Warnings()
     file.seek(0)
-    content = adf.read_image(file)  # type: ignore[arg-type]
+    content = begin_of(file)
     if len(content) > adf.MOST_BYTES:
         raise Unread(f"an archive of more than {adf.MOST_BYTES} bytes is not unpacked")
     fault, logger = libarchive.exception.ArchiveError, logging.getLogger("libarchive")
@@ -272,7 +289,7 @@ def limit_xdms() -> None:
 
 def run_xdms(folder: str) -> None:
     """Unpacks disk.dms of a folder to disk.adf, or says why not."""
-    line = ["xdms", "-q", "u", "disk.dms", "+disk.adf"]
+    line = ["xdms", "u", "disk.dms", "+disk.adf"]
     with open(os.path.join(folder, "errors"), "w+b") as errors:
         try:
             ran = subprocess.Popen(

@@ -2,19 +2,17 @@
 
 from __future__ import annotations
 
-import mmap
 import os
 import stat
 import sys
 from typing import BinaryIO, Container, Iterator
 
-import adf
 from adf_tools.archives import ENDINGS, FAULTS, IMAGES, NO_FILE, Image, begins_as_volume, fault_of, form_named, images_in_archive, unforeseen, unread
 from adf_tools.content import content_in
 from adf_tools.program import WORKING
 from adf_tools.trees import Identity
 
-__all__ = ["ARCHIVES", "Image", "content_of", "fault_of", "files_below", "images_in", "unforeseen", "unread"]
+__all__ = ["ARCHIVES", "Image", "fault_of", "files_below", "images_in", "unforeseen", "unread"]
 ARCHIVES = tuple(ending for endings in ENDINGS.values() for ending in endings)
 FILE = os.O_RDONLY | os.O_NONBLOCK | os.O_NOCTTY | os.O_CLOEXEC
 
@@ -91,8 +89,3 @@ def images_in(path: bytes, name: bytes) -> Iterator[Image]:
         if sys.flags.dev_mode and not isinstance(error, FAULTS):
             raise
         yield unread(name, fault_of(error))
-
-
-def content_of(file: BinaryIO, size: int) -> adf.Image:
-    """The bytes of an open file. Those of more than the largest volume has are not read into memory, but mapped."""
-    return adf.read_image(file) if size <= adf.MOST_BYTES else mmap.mmap(file.fileno(), 0, access=mmap.ACCESS_READ)
