@@ -284,7 +284,9 @@ def members_of_lha(file: IO[bytes]) -> Iterator[Member]:
 def limit_xdms() -> None:
     """What xdms may use, of what it writes, of memory and of a processor."""
     for what, most in ((resource.RLIMIT_FSIZE, MOST_DMS), (resource.RLIMIT_AS, MOST_MEMORY), (resource.RLIMIT_CPU, MOST_SECONDS)):
-        resource.setrlimit(what, (most, most))
+        _, own = resource.getrlimit(what)
+        least = most if own == resource.RLIM_INFINITY else min(most, own)
+        resource.setrlimit(what, (least, least))
 
 
 def run_xdms(folder: str) -> None:
