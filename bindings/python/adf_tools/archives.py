@@ -303,14 +303,14 @@ def run_xdms(folder: str) -> None:
         except subprocess.TimeoutExpired:
             raise Unread(f"xdms: stopped after {MOST_SECONDS} seconds") from None
         finally:
-            end(ran)
+            end_group(ran)
         if status:
             errors.seek(0)
             said = errors.read(MOST_LINE).decode("utf-8", "replace").strip().splitlines()
             raise Unread("xdms: " + (one_line(said[0]) if said else f"stopped by signal {-status}" if status < 0 else f"status {status}"))
 
 
-def end(ran: subprocess.Popen[bytes]) -> None:
+def end_group(ran: subprocess.Popen[bytes]) -> None:
     """Ends a program, and those that it started."""
     if ran.poll() is None:
         os.killpg(ran.pid, signal.SIGKILL)
