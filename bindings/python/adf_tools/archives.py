@@ -209,7 +209,7 @@ def members_of_zip(file: IO[bytes]) -> Iterator[Member]:
             fault = "encrypted" if member.flag_bits & ENCRYPTED else ""
             if not fault and member.compress_type not in METHODS:
                 fault = "packed by a method that is not read"
-            if not member.is_dir():
+            if not member.filename.endswith("/"):
                 yield Member(member.filename.encode("utf-8", "surrogateescape"), lambda which=member: archive.open(which), fault)  # type: ignore[misc]
 
 
