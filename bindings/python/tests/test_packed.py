@@ -74,7 +74,10 @@ class Packed(Folder):
 
     def test_are_read_at_each_door(self) -> None:
         want = self.recipe_of(given=SMALL)
-        packed = {"a.adz": gzip.compress(SMALL), "nameless": zipped(("", b"x"), ("a.adf", SMALL)), "a.zip": zipped(("read.me", b"x"), ("disks/a.adf", SMALL)), "other": zipped(("disk", SMALL))}
+        packed = {
+            **{"a.adz": gzip.compress(SMALL), "nameless": zipped(("", b"x"), ("a.adf", SMALL)), "other": zipped(("disk", SMALL))},
+            "a.zip": zipped(("read.me", b"x"), ("disks/a.adf", SMALL)),
+        }
         for name, content in packed.items():
             written(name, content)
             self.assertEqual(self.recipe_of(name), want)
