@@ -178,13 +178,23 @@ def bytes_of_a_file(chance):
 # Archives and collections
 
 
+def lha(name, content, method):
+    """An archive of LHA, whose checksum is that of no content."""
+    head = method + struct.pack("<IIIBBB", len(content), len(content), 0, 0x20, 0, len(name)) + name + bytes(2)
+    return bytes([len(head), sum(head) % 256]) + head + content + b"\0"
+
+
 def packed(chance):
     """A file that has images, or says so."""
-    given, way = image(chance), chance.randrange(6)
+    given, way = image(chance), chance.randrange(8)
     if way < 2:
         return given
     if way == 2:
         whole = gzip.compress(given, 1)
+    elif way == 3:
+        whole = b"DMS!" + chance.randbytes(chance.randint(0, 99)) + given
+    elif way == 4:
+        whole = lha(chance.choice(RAW_NAMES)[:60] + b".adf", given, chance.choice((b"-lh0-", b"-lh5-", b"-lzs-")))
     else:
         room = io.BytesIO()
         with warnings.catch_warnings(), zipfile.ZipFile(room, "w", zipfile.ZIP_DEFLATED) as archive:

@@ -7,10 +7,13 @@
  *
  *     kit=$(dirname "$(rt doc)")
  *     cc -o adf-mount *.c -I../../include ../../crates/adf_c/out/libadf_c.a "$kit/c/liblibc_c.a" $(pkg-config --cflags --libs fuse3)
+ *
+ * With -DADF_ZLIB and what pkg-config has for zlib, images that gzip packed are read too.
  */
 #define _GNU_SOURCE
 #define FUSE_USE_VERSION 31
 #include "disk.h"
+#include "packed.h"
 #include "volume.h"
 
 #include <dirent.h>
@@ -470,6 +473,8 @@ static int open_file_of(const char *path, const char *name) {
 /* Opens the image and reads its volumes: SOUND, or the status to end with, and why stands on standard error. */
 static int open_image(const char *path, const char *name, const char *wanted) {
     int status = open_file_of(path, name);
+    if (status == SOUND)
+        status = unpack_file(&shown.file, name);
     if (status != SOUND)
         return status;
     errno = 0;

@@ -2,6 +2,7 @@
 #include "volume.h"
 
 #include "names.h"
+#include "packed.h"
 #include "survey.h"
 
 #include <errno.h>
@@ -79,6 +80,11 @@ static int say_refused(const struct volume *volume, const char *name, uint8_t ca
     int length = (int)adf_cause_text(cause, text, sizeof text);
     if (name == NULL)
         return REFUSED;
+    const char *other = foreign(volume->image, volume->length);
+    if (other != NULL) {
+        fprintf(stderr, "adf-mount: %s: %s\n", name, other);
+        return REFUSED;
+    }
     fprintf(stderr, "adf-mount: %s: block %lu: %.*s", name, (unsigned long)volume->contents.block, length, (const char *)text);
     bool is_odd = cause == ADF_BAD_SIZE || volume->contents.block == volume->length / BLOCK / 2;
     size_t fits = is_odd ? fitting_blocks(volume->image, volume->length) : 0;

@@ -1,25 +1,34 @@
-"""The image that a program is given, as a file or on standard input, and what stands of it."""
+"""The image that a program is given, as a file, packed in one, or on standard input, and what stands of it."""
 
 from __future__ import annotations
 
 import argparse
 import contextlib
+import errno
+import io
+import itertools
+import mmap
 import os
 import re
 import stat
 import sys
 import warnings
-from typing import BinaryIO, Iterator, NamedTuple, Optional
+from typing import IO, BinaryIO, Iterator, List, NamedTuple, Optional, Tuple
 
 import adf
 from adf_tools.advice import length_that_fits
-from adf_tools.names import letters
-from adf_tools.program import REFUSED, host_text, open_input, stop, tell
+from adf_tools.archives import FAULTS, LONGEST_BEGIN, MOST_UNPACKED, Image, Member, begin_of, fault_of, foreign, form_of, is_image, members_of, unpacked
+from adf_tools.content import FileContent
+from adf_tools.names import host_letters, letters
+from adf_tools.program import FAILED, REFUSED, host_text, open_input, stop, tell
 from adf_tools.trees import named
 from adf_tools.volumes import disk_of
 
 STANDARD_INPUT = "-"
 MOST_BLOCKS = adf.MOST_BYTES // adf.BLOCK
+IS_IMAGE = "the image, also packed (.adz, .gz, .zip, .dms, .lha), or games.zip/disk1.adf; without it, or for -, standard input"
+MOST_MEMBERS, MOST_LISTED = 65536, 20  # of an archive; of those that are to be chosen from
+Content = Tuple[adf.Image, Optional[int]]  # the bytes of an image, and how many its file has, if that is known
 
 
 def number_of_blocks(text: str) -> int:
@@ -31,9 +40,10 @@ def number_of_blocks(text: str) -> int:
 
 def add_image(line: argparse.ArgumentParser, more: str = "") -> None:
     """Adds the word for the image, and the option for how many blocks it is meant to have."""
-    line.add_argument("image", metavar="IMAGE", nargs="?", default=STANDARD_INPUT, help=f"the image; without it, or for -, standard input{more}")
+    line.add_argument("image", metavar="IMAGE", nargs="?", default=STANDARD_INPUT, help=f"{IS_IMAGE}{more}")
     does = "read the image as if it had so many blocks; those that it lacks are lost"
     line.add_argument("--blocks", type=number_of_blocks, metavar="N", help=does)
+    line.set_defaults(program=line.prog)
 
 
 def add_strict(line: argparse.ArgumentParser) -> None:
@@ -60,7 +70,7 @@ class Given(NamedTuple):
             try:
                 return adf.open_image(self.content, strict=strict, blocks=self.blocks)
             except adf.Refused as refused:
-                stop(REFUSED, self.line(f"{refused}{help_of(self.content, refused, self.size)}"))
+                stop(REFUSED, self.line(foreign(self.content) or f"{refused}{help_of(self.content, refused, self.size)}"))
 
     def tell(self, program: str, volume: adf.Volume) -> int:
         """A line for all that is left out; the status to end with."""
@@ -70,9 +80,11 @@ class Given(NamedTuple):
 
 
 @contextlib.contextmanager
-def opened(path: str) -> Iterator[BinaryIO]:
-    """The file of an image, or standard input, which errors name."""
+def opened(path: str, program: str) -> Iterator[BinaryIO]:
+    """The file of an image, or standard input, which errors name. That a terminal is waited for is said."""
     if path == STANDARD_INPUT:
+        if sys.stdin.isatty():
+            tell(program, "reading an image from standard input; -h for help")
         with named("standard input"):
             yield sys.stdin.buffer
     else:
@@ -86,11 +98,95 @@ def size_of(file: BinaryIO) -> Optional[int]:
     return status.st_size if stat.S_ISREG(status.st_mode) else None
 
 
+def place_of(path: str) -> Tuple[str, bytes]:
+    """The file that a word names, and the name behind it of a member of that file, or none."""
+    file = path
+    while file and not os.path.lexists(file):
+        file = os.path.dirname(file)
+    member = os.fsencode(path[len(file) + 1 :])
+    return (file, member) if member and os.path.isfile(file) else (path, b"")
+
+
+def name_of(path: str) -> str:
+    return "standard input" if path == STANDARD_INPUT else host_text(path)
+
+
+def content_given(words: argparse.Namespace, is_whole: bool = False) -> Content:
+    """The bytes of the image that the words name, unpacked, as far as a volume has any; those of a whole hard disk if that is wanted."""
+    path, member = place_of(words.image)
+    with opened(path, words.program) as file:
+        size = size_of(file)
+        if size is None or path == STANDARD_INPUT:
+            content = adf.read_image(file)
+            form = form_of(content[:LONGEST_BEGIN])
+            return unpacked_from(in_memory(content, path), form, words.image, member, is_whole) if form else (content, size)
+        form = form_of(file.read(LONGEST_BEGIN))
+        file.seek(0)
+        if form:
+            return unpacked_from(file, form, words.image, member, is_whole)
+        if member:
+            stop(FAILED, f"{host_text(words.image)}: {os.strerror(errno.ENOTDIR)}")
+        return mapped(file) if is_whole and size > adf.MOST_BYTES else adf.read_image(file), size
+
+
+def in_memory(content: bytes, path: str) -> IO[bytes]:
+    """A packed file that was read whole."""
+    if len(content) > adf.MOST_BYTES:
+        stop(REFUSED, f"{name_of(path)}: packed, in more than {adf.MOST_BYTES} bytes: give it as a file")
+    return io.BytesIO(content)
+
+
+def mapped(file: IO[bytes]) -> mmap.mmap:
+    return mmap.mmap(file.fileno(), 0, access=mmap.ACCESS_READ)
+
+
+def unpacked_from(file: IO[bytes], form: str, path: str, wanted: bytes, is_whole: bool) -> Content:
+    """The bytes of the one image that is wanted of a packed file."""
+    name = name_of(path)
+    try:
+        place = chosen(list(itertools.islice(members_of(file, form), MOST_MEMBERS + 1)), wanted, name)
+        members = members_of(file, form)  # the archive is open as long as this is kept
+        member = next(itertools.islice(members, place, None))
+        if member.fault:
+            stop(FAILED, f"{name}: {member.fault}")
+        with member.open() as packed:
+            if is_whole:
+                return content_of(unpacked(packed, os.fsencode(path), 0, MOST_UNPACKED), name)
+            content = begin_of(packed)
+        return content, len(content) if len(content) <= adf.MOST_BYTES else None
+    except FAULTS as error:
+        stop(FAILED, f"{name}: {fault_of(error)}")
+
+
+def content_of(image: Image, name: str) -> Content:
+    """The bytes of an unpacked image; those of a large hard disk are mapped, in a file of this program's own."""
+    if image.fault:
+        stop(FAILED, f"{name}: {image.fault}")
+    return mapped(image.content.file) if isinstance(image.content, FileContent) else image.content.begin(), image.length
+
+
+def chosen(members: List[Member], wanted: bytes, name: str) -> int:
+    """Which member has the name that is wanted; without a name the one image that is there, or the one file."""
+    if len(members) > MOST_MEMBERS:
+        stop(REFUSED, f"{name}: more than {MOST_MEMBERS} files in it")
+    images = [place for place, member in enumerate(members) if is_image(member)] or list(range(len(members)))
+    fit = [place for place, member in enumerate(members) if member.name == wanted] if wanted else images
+    if len(fit) == 1:
+        return fit[0]
+    if wanted:
+        stop(REFUSED, f"{name}: {'more than one' if fit else 'no'} image has this name")
+    if not fit:
+        stop(REFUSED, f"{name}: no image in it")
+    listed = [host_letters(members[place].name) for place in fit[:MOST_LISTED]]
+    more = f" and {len(fit) - MOST_LISTED} more" if len(fit) > MOST_LISTED else ""
+    stop(REFUSED, f"{name}: {len(fit)} images in it, give one as FILE/NAME: {', '.join(listed)}{more}")
+
+
 def given(words: argparse.Namespace) -> Given:
     """The image that the words name."""
-    with opened(words.image) as file:
-        name = "" if words.image == STANDARD_INPUT else host_text(words.image)
-        return Given(name, adf.read_image(file), words.blocks, size_of(file))
+    content, size = content_given(words)
+    assert isinstance(content, bytes)
+    return Given("" if words.image == STANDARD_INPUT else host_text(words.image), content, words.blocks, size)
 
 
 def bytes_text(image: bytes, size: Optional[int]) -> str:

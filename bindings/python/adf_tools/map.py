@@ -9,8 +9,8 @@ import sys
 from typing import Optional, Tuple
 
 import adf
-from adf_tools.collection import content_of
-from adf_tools.given import STANDARD_INPUT, add_image, help_of, opened, size_of
+from adf_tools.archives import foreign
+from adf_tools.given import STANDARD_INPUT, add_image, content_given, help_of
 from adf_tools.names import letters
 from adf_tools.picture import Fault, disk_picture, picture, roles_of_refused, without
 from adf_tools.program import REFUSED, begin, command_line, host_text, stop, tell
@@ -44,7 +44,8 @@ def draw_volume(name: str, image: bytes, blocks: Optional[int] = None, size: Opt
     except adf.Refused as refused:
         roles = without(roles_of_refused(adf.survey(image, blocks)), missing)
         write(picture(f"{name}: refused, {refused}{told}", roles, Fault(refused.block, str(refused))))
-        status = refuse(name, f"{refused}{'' if missing else help_of(image, refused, size)}")
+        help_ = "" if missing else help_of(image, refused, size)
+        status = refuse(name, foreign(image) or f"{refused}{help_}")
     if missing:
         first, last = missing[0], missing[-1]
         status = refuse(name, f"block {first}: no data" if first == last else f"blocks {first} to {last}: no data")
@@ -75,9 +76,7 @@ def volume_in(name: str, disk: adf.Disk, wanted: str) -> Tuple[bytes, int]:
 
 def work(words: argparse.Namespace) -> int:
     name = "standard input" if words.image == STANDARD_INPUT else host_text(os.path.basename(words.image))
-    with opened(words.image) as file:
-        size = size_of(file)
-        content = adf.read_image(file) if size is None or words.image == STANDARD_INPUT else content_of(file, size)
+    content, size = content_given(words, is_whole=True)
     if words.partition is not None:
         volume, size = volume_in(name, adf.Disk(content), words.partition)
         return draw_volume(f"{name}: {host_text(words.partition)}", volume, words.blocks, size)

@@ -8,17 +8,18 @@ import os
 import re
 import stat
 import sys
-from typing import BinaryIO, Iterable, Iterator, NamedTuple
+from typing import BinaryIO, Iterable, Iterator, NamedTuple, Optional
 
 import adf
 from adf_tools.names import bytes_of
 from adf_tools.program import REFUSED, USAGE, add_escape, begin, command_line, host_text, manifest_of, run_lines, stop
 from adf_tools.trees import Place
-from adf_tools.uaem import ENDING, Kept, kept_in, name_in
+from adf_tools.uaem import ENDING, Kept, comment_of, flags_in, kept_in, name_in
 
 TICKS_TO_1978 = 2922 * 86400 * 50
 NEVER = adf.Date(0, 0, 0)
 LONGEST_SIDECAR, LONGEST_LINE = 4096, 100
+ATTRIBUTES = ("user.amiga.protection", "user.amiga.comment")
 UNITS = {"": 1, "K": 1 << 10, "M": 1 << 20, "G": 1 << 30}
 
 
@@ -65,13 +66,32 @@ def opened(place: Place, name: bytes) -> BinaryIO:
     return file
 
 
-def kept_beside(place: Place, name: bytes) -> Kept:
-    """What is kept in the file NAME.uaem beside a file or directory."""
+def latest_stamp() -> Optional[int]:
+    """The last date that a file may have here, in nanoseconds, if the environment has one: https://reproducible-builds.org/specs/."""
+    text = os.environ.get("SOURCE_DATE_EPOCH")
+    if text is not None and not re.fullmatch("[0-9]{1,12}", text):
+        stop(USAGE, f"SOURCE_DATE_EPOCH: a number of seconds since 1970: {host_text(text)}")
+    return None if text is None else int(text) * 10**9
+
+
+def kept_as_attributes(place: Place, name: bytes, own: Kept) -> Kept:
+    """What is kept of a file or directory in its attributes, as adf-mount shows them, in place of its own."""
+    flags, comment = (place.attribute(name, attribute) for attribute in ATTRIBUTES)
+    try:
+        protection = own.protection if flags is None else flags_in(flags.decode("latin-1"))
+        return own._replace(protection=protection, comment=own.comment if comment is None else comment_of(bytes_of(comment)))
+    except ValueError as error:
+        why = "a comment that is not in UTF-8 or Latin-1" if isinstance(error, UnicodeError) else error
+        stop(REFUSED, f"{host_text(place.path_of(name))}: attribute user.amiga: {why}")
+
+
+def kept_beside(place: Place, name: bytes, own: Kept) -> Kept:
+    """What is kept in the file NAME.uaem beside a file or directory; its own where that does not say."""
     beside = name + os.fsencode(ENDING)
     with opened(place, beside) as file:
         content = file.read(LONGEST_SIDECAR + 1)
     try:
-        return kept_in(content)
+        return kept_in(content, own)
     except ValueError as error:
         stop(REFUSED, f"{host_text(place.path_of(beside))}: {error}")
 
@@ -87,7 +107,7 @@ class Packer:
     may have before the volume is full."""
 
     def __init__(self, words: argparse.Namespace) -> None:
-        self.is_escaped, self.reads_uaem = words.escape, not words.no_uaem
+        self.is_escaped, self.reads_uaem, self.latest = words.escape, not words.no_uaem, latest_stamp()
         self.blocks, self.left = words.blocks, adf.BLOCK * (words.blocks or 0)
 
     def names(self, place: Place) -> Iterator[tuple[bytes, bool]]:
@@ -124,6 +144,12 @@ class Packer:
                     yield from entry_lines("dir", text, item.kept)
                     above.append(text + "/")
 
+    def kept(self, place: Place, name: bytes, is_beside: bool, changed: int) -> Kept:
+        """What is kept of a file or directory: beside it, in its attributes, and when it was changed."""
+        stamp = stamp_of(changed if self.latest is None else min(changed, self.latest))
+        own = kept_as_attributes(place, name, Kept(0, stamp, b""))
+        return kept_beside(place, name, own) if is_beside else own
+
     def items(self, place: Place) -> Iterator[Item]:
         """All that is in a folder, by names, each folder before what is in it; the place is where an item is, as it comes."""
         waiting = [self.names(place)]
@@ -136,10 +162,10 @@ class Packer:
                 continue
             path, found = place.path_of(name), place.status(name)
             raw = amiga_name(name, path, self.is_escaped, is_kept)
-            kept = kept_beside(place, name) if is_kept else Kept(0, stamp_of(found.st_mtime_ns), b"")
             is_file = stat.S_ISREG(found.st_mode)
             if not is_file and not stat.S_ISDIR(found.st_mode):
                 stop(REFUSED, f"{host_text(path)}: neither a file nor a directory")
+            kept = self.kept(place, name, is_kept, found.st_mtime_ns)
             yield Item(len(waiting) - 1, name, raw, found.st_size if is_file else 0, kept, is_file)
             if not is_file:
                 place.go_in(name)
@@ -147,16 +173,26 @@ class Packer:
 
 
 def date(text: str) -> adf.Date:
-    """A date as `adf list` writes it, with or without the time, or as a manifest does. ValueError if it is not one."""
-    return adf.Date.of(f"{text} 00:00:00.00" if re.fullmatch(r"[0-9-]+", text) else text)
+    """A date as `adf list` writes it, with or without the time, or as a manifest does."""
+    try:
+        return adf.Date.of(f"{text} 00:00:00.00" if re.fullmatch(r"[0-9-]+", text) else text)
+    except ValueError:
+        raise argparse.ArgumentTypeError(f"a date as 2026-11-25, '2026-11-25 06:56:04.10' or 17860:416:205, and not {text!r}") from None
 
 
 def blocks_in(size: str) -> int:
-    """The blocks of a size, as 880K or 100M. ValueError if the text is no size."""
+    """The blocks of a size, as 880K or 100M."""
     found = re.fullmatch(r"([0-9]{1,12})([KMG]?)", size)
     if not found or int(found[1]) * UNITS[found[2]] % adf.BLOCK:
-        raise ValueError(f"not a size in blocks of 512 bytes, as 880K or 100M: {size!r}")
+        raise argparse.ArgumentTypeError(f"a size as 880K, 100M or 1G, or a number of bytes that is a multiple of {adf.BLOCK}, and not {size!r}")
     return int(found[1]) * UNITS[found[2]] // adf.BLOCK
+
+
+def number(text: str) -> int:
+    """The number of blocks that a word is; of one that no volume has the library says so."""
+    if not re.fullmatch("-?[0-9]{1,20}", text):
+        raise argparse.ArgumentTypeError(f"a number of blocks of 512 bytes, as 1760, and not {text!r}")
+    return int(text)
 
 
 def shortened(line: str) -> str:
@@ -203,7 +239,7 @@ def main() -> None:
     line = command_line("adf-pack", "Writes a manifest of a folder on standard output, of which adf build makes a volume, or an image.")
     line.add_argument("kind", metavar="KIND", nargs="?", choices=adf.KINDS, help="ofs or ffs; with --image it may be left out: ffs")
     line.add_argument(
-        "blocks", metavar="BLOCKS", nargs="?", type=int, help="blocks of 512 bytes; a floppy of 880 KB has 1760; not with --size")
+        "blocks", metavar="BLOCKS", nargs="?", type=number, help="blocks of 512 bytes; a floppy of 880 KB has 1760; not with --size")
     line.add_argument("folder", metavar="FOLDER")
     line.add_argument("--image", metavar="FILE", help="write the image itself, into a new file")
     line.add_argument("--size", metavar="SIZE", type=blocks_in, help="the size of the image, as 880K or 100M; without it as small as may be")

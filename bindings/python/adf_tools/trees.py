@@ -5,11 +5,12 @@ from __future__ import annotations
 import contextlib
 import errno
 import os
-from typing import BinaryIO, Iterator, Tuple
+from typing import BinaryIO, Iterator, Optional, Tuple
 
 FOLDER = os.O_RDONLY | os.O_DIRECTORY | os.O_CLOEXEC
 FILE = os.O_RDONLY | os.O_NOFOLLOW | os.O_NONBLOCK | os.O_NOCTTY | os.O_CLOEXEC
 NEW_FILE = os.O_WRONLY | os.O_CREAT | os.O_EXCL | os.O_NOFOLLOW | os.O_CLOEXEC
+NO_ATTRIBUTE = (errno.ENODATA, errno.ENOTSUP) if hasattr(errno, "ENODATA") else (errno.ENOTSUP,)
 Identity = Tuple[int, int]
 
 
@@ -68,6 +69,21 @@ class Place:
         """A file here, to be read. A link is not followed, and a pipe not waited for."""
         with named(self.path_of(name)):
             return os.fdopen(os.open(name, FILE, dir_fd=self.fd), "rb")
+
+    def attribute(self, name: bytes, attribute: str) -> Optional[bytes]:
+        """An extended attribute of a file or folder here, if it has that; a link is not followed."""
+        if not hasattr(os, "getxattr"):
+            return None
+        with named(self.path_of(name)):
+            fd = os.open(name, FILE, dir_fd=self.fd)
+            try:
+                return os.getxattr(fd, attribute)
+            except OSError as error:
+                if error.errno in NO_ATTRIBUTE:
+                    return None
+                raise
+            finally:
+                os.close(fd)
 
     def create(self, name: bytes) -> BinaryIO:
         """A new file here, to be written."""

@@ -1,6 +1,6 @@
 """Files NAME.uaem, in which FS-UAE and WinUAE keep beside a file what a host has no room for: protection, date and comment.
 
-A line: `----rwed 2026-11-25 06:56:04.10 comment`, with hundredths of a second. In the comment % and two hexadecimal digits stand for
+A line: `----rwed 2026-11-25 06:56:04.10 comment`, with hundredths of a second, or its flags alone. In the comment % and two hexadecimal digits stand for
 a byte: 0 to 31, 128 to 255, each of "%*/<>?\\|, and a dot or space at the end. Every other byte stands for itself.
 
 A name that has such a file is in UTF-8, with % and digits for bytes that have no letter, for these bytes, for the last letter of
@@ -19,7 +19,8 @@ import adf
 from adf_tools.protection import protection_of, protection_text
 
 ENDING = ".uaem"
-LINE = re.compile(r"([h-][s-][p-][a-][r-][w-][e-][d-]) ([\d-]{10} [\d:]{8})\.(\d\d)(?: (.*))?")
+FLAGS = "[h-][s-][p-][a-][r-][w-][e-][d-]"
+LINE = re.compile(rf"({FLAGS}) ([\d-]{{10}} [\d:]{{8}})\.(\d\d)(?: (.*))?")
 NOT_PLAIN = re.compile(rb'[^ -\x7f]|["%*/<>?\\|]|[. ]\Z')
 DIGITS = re.compile(rb"%([0-9a-fA-F]{2})")
 CIVIL = "%Y-%m-%d %H:%M:%S"
@@ -56,9 +57,27 @@ def line_of(entry: adf.Entry) -> bytes:
     return front.encode("ascii") + with_digits(NOT_PLAIN, entry.raw_comment) + b"\n"
 
 
-def kept_in(content: bytes) -> Kept:
-    """What is kept in the bytes of such a file. ValueError if they are not such a line."""
-    found = LINE.fullmatch(content.decode("latin-1").rstrip("\r\n"))
+def flags_in(text: str) -> int:
+    """The protection that these letters are. ValueError if they are not."""
+    if not re.fullmatch(FLAGS, text):
+        raise ValueError("not as in: ----rwed")
+    return protection_of(text)
+
+
+def comment_of(raw: bytes) -> bytes:
+    """A comment that an Amiga can have. ValueError if it is too long."""
+    if len(raw) > adf.LONGEST_COMMENT:
+        raise ValueError(f"a comment of {len(raw)} bytes, and an Amiga has at most {adf.LONGEST_COMMENT}")
+    return raw
+
+
+def kept_in(content: bytes, own: Kept = Kept(0, "0:0:0", b"")) -> Kept:
+    """What is kept in the bytes of such a file; where it has the flags alone, the date and the comment are the file's own. ValueError if
+    they are not such a line."""
+    line = content.decode("latin-1").rstrip("\r\n")
+    if re.fullmatch(FLAGS, line):
+        return own._replace(protection=flags_in(line))
+    found = LINE.fullmatch(line)
     if not found:
         raise ValueError("not as in: ----rwed 2026-11-25 06:56:04.10 comment")
     letters, civil, hundredths, comment = found.groups()
@@ -66,7 +85,4 @@ def kept_in(content: bytes) -> Kept:
     if past.days < 0:
         raise ValueError("a date before 1978")
     stamp = f"{past.days}:{past.seconds // 60}:{past.seconds % 60 * 50 + int(hundredths) // 2}"
-    raw = without_digits((comment or "").encode("latin-1"))
-    if len(raw) > adf.LONGEST_COMMENT:
-        raise ValueError(f"a comment of {len(raw)} bytes, and an Amiga has at most {adf.LONGEST_COMMENT}")
-    return Kept(protection_of(letters), stamp, raw)
+    return Kept(flags_in(letters), stamp, comment_of(without_digits((comment or "").encode("latin-1"))))

@@ -207,11 +207,11 @@ class Bounds(Catalogues):
             for number in range(9):
                 archive.writestr(f"{number}.adf", SMALLEST)
         for limit, read, told in (
-            ("collection.MOST_IMAGES = 4", 4, "5 of 9 images in it are left out"),
-            (f"collection.MOST_UNPACKED = {len(SMALLEST) * 5 - 1}", 5, "4 of 9 images in it are left out"),
+            ("archives.MOST_IMAGES = 4", 4, "5 of 9 images in it are left out"),
+            (f"archives.MOST_UNPACKED = {len(SMALLEST) * 5 - 1}", 5, "4 of 9 images in it are left out"),
             ("reader.MOST_WRITTEN = 250", 0, "further images in it are left out"),
         ):
-            line = f"from adf_tools import catalogue, collection, reader; {limit}; catalogue.main()"
+            line = f"from adf_tools import archives, catalogue, collection, reader; {limit}; catalogue.main()"
             ran = self.run_python("-c", line, "disks", "out", "--tsv")
             self.assertEqual(ran.returncode, 3)
             verdicts = self.verdicts("out")

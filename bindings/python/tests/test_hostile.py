@@ -320,7 +320,7 @@ class Templates(unittest.TestCase):
 class Disks(Catalogues):
     """Hard disks that are larger than the largest volume, which is a small one here."""
 
-    SMALL = "import adf, os; adf.MOST_BYTES = 1 << 20; from adf_tools import catalogue, collection; {}; catalogue.main()"
+    SMALL = "import adf, os; adf.MOST_BYTES = 1 << 20; from adf_tools import archives, catalogue, collection; {}; catalogue.main()"
 
     def setUp(self):
         super().setUp()
@@ -346,7 +346,7 @@ class Disks(Catalogues):
 
     def test_are_not_read_if_they_are_too_large(self):
         written("disks/b.hdf.gz", gzip.compress(self.disk))
-        ran = self.run_python("-c", self.SMALL.format("collection.MOST_UNPACKED = 1500000"), "disks", "out")
+        ran = self.run_python("-c", self.SMALL.format("archives.MOST_UNPACKED = 1500000"), "disks", "out")
         self.assertEqual(ran.returncode, 3)
         self.assertEqual(self.rows(), [("b.hdf.gz", None, "read fault: a hard disk of more than 1500000 bytes is not unpacked", None)])
 

@@ -1,6 +1,7 @@
 """Tests of adf-mount's words, and of what it takes for a volume; trials/mount tries what it shows."""
 
 import glob
+import gzip
 import os
 import shlex
 import shutil
@@ -35,12 +36,18 @@ def table(words):
     return struct.pack(">128I", *block)
 
 
+def zlib_flags():
+    """What the compiler is told of zlib; nothing if it is not there."""
+    ran = subprocess.run(["pkg-config", "--cflags", "--libs", "zlib"], stdout=subprocess.PIPE, stderr=subprocess.DEVNULL)
+    return ["-DADF_ZLIB", *shlex.split(ran.stdout.decode())] if ran.returncode == 0 else []
+
+
 @unittest.skipUnless(flags(), "needs cc, libfuse 3, fusermount3 and /dev/fuse")
 class Mounts(Folder):
     def setUp(self):
         super().setUp()
         shutil.copy(adf.library_path(), adf.SONAME)
-        line = ["cc", "-std=c11", "-o", "adf-mount", "-I", os.path.join(TOP, "include"), *SOURCES, os.path.abspath(adf.SONAME), *flags()]
+        line = ["cc", "-std=c11", "-o", "adf-mount", "-I", os.path.join(TOP, "include"), *SOURCES, os.path.abspath(adf.SONAME), *flags(), *zlib_flags()]
         subprocess.run([*line, f"-Wl,-rpath,{os.getcwd()}"], check=True)
         os.mkdir("seen")
         self.addCleanup(subprocess.run, ["fusermount3", "-u", "-q", os.path.abspath("seen")], stderr=subprocess.DEVNULL)
@@ -61,6 +68,29 @@ class Mounts(Folder):
         self.assertEqual(os.listdir("seen"), ["a"])
         subprocess.run(["fusermount3", "-u", "seen"], check=True)
         self.assertEqual(self.mount("saved.adf", "seen", "--partition", "DH0"), (1, "", "adf-mount: saved.adf: block 0: not dos\n"))
+
+    def test_reads_what_gzip_packed(self):
+        packed = gzip.compress(image_of())
+        bomb = gzip.compress(bytes(1 << 29)) + gzip.compress(b"x") if zlib_flags() else b""
+        for content, status, told in (
+            *((packed, 0, ""), (packed[:-9], 3, "damaged archive"), (packed[:99], 3, "damaged archive"), (packed[:-8] + bytes(8), 3, "damaged archive")),
+            (bomb, 1, "packed by gzip: more than 536870912 bytes are not unpacked"),
+        ):
+            if not zlib_flags():
+                status, told = 3, "packed by gzip, and adf-mount is built without zlib (Debian's zlib1g-dev)"
+            written("packed", content)
+            self.assertEqual(self.mount("packed", "seen"), (status, "", f"adf-mount: packed: {told}\n" if told else ""))
+            if status == 0:
+                self.assertEqual(sorted(os.listdir("seen")), ["c", "empty", "large", "none"])
+                subprocess.run(["fusermount3", "-u", "seen"], check=True)
+
+    def test_names_what_is_no_image_of_sectors(self):
+        for begin, told in (
+            *((b"PK\3\4", "packed by zip: adf-unpack reads it"), (b"DMS!", "packed by DMS: adf-unpack reads it")),
+            *((b"SCP", "a flux image (SCP): adf reads sectors"), (b"CAPS\0\0\0\x0c", "an image of tracks (IPF): adf reads sectors")),
+        ):
+            written("other", begin.ljust(901120, b"\1"))
+            self.assertEqual(self.mount("other", "seen"), (1, "", f"adf-mount: other: {told}\n"))
 
     def test_ends_at_2_for_words_that_it_does_not_take(self):
         for words in (("a.adf", "seen", "-o", "frobnicate"), ("a.adf", "seen", "--frobnicate"), ("a.adf",), (), ("a.adf", "seen", "more"), ("a.adf", "nix")):

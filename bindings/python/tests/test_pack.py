@@ -3,6 +3,7 @@
 import os
 import re
 import time
+from unittest import mock
 
 import adf
 from adf_tools import trees
@@ -162,13 +163,81 @@ class Sidecars(Folder):
             written("a.uaem", line)
             self.refused(1, "./a.uaem: ", "pack", "ofs", "1760", ".")
 
+    def test_may_have_flags_alone(self):
+        written("a")
+        os.utime("a", (946684800 + 60, 946684800 + 60))
+        written("a.uaem", b"-s--r--d\n")
+        (entry,) = adf.Volume(self.pack("ofs", "1760", ".")).entries
+        self.assertEqual((entry.protection, entry.date, entry.comment), (0x46, (8035, 1, 0), ""))
+
     def test_keeps_digits_of_comments(self):
         written("a")
         written("a.uaem", b"----rwed 2000-01-01 00:00:00.00 B%fccher %2Fx%2541 C:\\x41 \xe4\n")
         self.assertEqual(adf.Volume(self.pack("ofs", "1760", "."))["a"].comment, "Bücher /x%41 C:\\x41 ä")
 
 
+class Attributes(Folder):
+    """What adf-mount shows of an entry beside its bytes."""
+
+    def put(self, name, **values):
+        try:
+            for attribute, value in values.items():
+                os.setxattr(name, f"user.amiga.{attribute}", value)
+        except OSError as error:
+            self.skipTest(str(error))
+
+    def test_are_taken(self):
+        os.makedirs("f/c")
+        for name in ("f/a", "f/b", "f/d"):
+            written(name)
+            os.utime(name, (946684800, 946684800))
+        self.put("f/a", protection=b"hs--r-e-", comment="Bücher \\x5c\\x01".encode())
+        self.put("f/b", protection=b"--------", comment=b"no")
+        self.put("f/c", comment=b"folder")
+        self.put("f/d", protection=b"--------", comment=b"kept")
+        written("f/b.uaem", b"----rwed 2000-01-01 00:00:00.00 yes\n")
+        written("f/d.uaem", b"----rwed")
+        entries = adf.Volume(self.pack("ofs", "1760", "f"))
+        self.assertEqual([(entries[name].protection, entries[name].raw_comment) for name in "abcd"], [
+            (0xC5, b"B\xfccher \\\1"), (0, b"yes"), (0, b"folder"), (0, b"kept"),
+        ])  # fmt: skip
+
+    def test_are_refused_in_one_line(self):
+        written("a")
+        for values, told in (
+            *(({"protection": b"rwed\n"}, "not as in: ----rwed"), ({"protection": b"----rwed", "comment": b"x" * 80}, "a comment of 80 bytes")),
+            ({"protection": b"----rwed", "comment": b"\xff"}, "a comment that is not in UTF-8 or Latin-1"),
+        ):
+            self.put("a", **values)
+            self.refused(1, f"./a: attribute user.amiga: {told}", "pack", "ofs", "1760", ".")
+
+
 class Dates(Folder):
+    def test_are_no_later_than_the_environment_says(self):
+        os.mkdir("f")
+        for name, seconds in (("f/old", 946684800), ("f/new", 2**33)):
+            written(name)
+            os.utime(name, (seconds, seconds))
+        written("f/said")
+        written("f/said.uaem", b"----rwed 2026-11-25 06:56:04.10 x")
+        with mock.patch.dict(os.environ, {"SOURCE_DATE_EPOCH": "1000000000"}):
+            volume = adf.Volume(self.pack("ofs", "1760", "f"))
+        self.assertEqual([str(volume[name].date)[:19] for name in ("old", "new", "said")], [
+            "2000-01-01 00:00:00", "2001-09-09 01:46:40", "2026-11-25 06:56:04",
+        ])  # fmt: skip
+        for text in ("", "x", "-1", "1.5", "1\n"):
+            with mock.patch.dict(os.environ, {"SOURCE_DATE_EPOCH": text}):
+                self.refused(2, "SOURCE_DATE_EPOCH: a number of seconds since 1970", "pack", "ofs", "1760", "f")
+
+    def test_words_say_what_is_wanted(self):
+        for words, told in (
+            (("--image", "new", "--size", "880k", "f"), b"--size: a size as 880K, 100M or 1G, or a number of bytes that is a multiple of 512, and not '880k'"),
+            (("--date", "x", "ofs", "1760", "f"), b"argument --date: a date as 2026-11-25"),
+            (("ofs", "x", "f"), b"argument BLOCKS: a number of blocks of 512 bytes"),
+        ):
+            ran = self.run_tool("pack", *words)
+            self.assertEqual((ran.returncode, told in ran.stderr), (2, True), ran.stderr)
+
     def test_takes_dates(self):
         os.mkdir("f")
         volume = adf.Volume(self.pack("--date", "2026-11-25 06:56:04.05", "--altered", "2026-11-25", "--created", "1:2:3", "ofs", "1760", "f"))

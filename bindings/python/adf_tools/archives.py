@@ -1,0 +1,334 @@
+"""Packed images: those of gzip and zip are unpacked by Python's own libraries, those of LHA by libarchive, and those of DMS by xdms, in a
+temporary folder. A hard disk that is larger than the largest volume is unpacked into a temporary file, which has no name.
+
+What an archive says of itself is not relied on: of each image that is no hard disk at most one byte more is unpacked than the largest
+volume has, and of an archive so many images and bytes as MOST_IMAGES and MOST_UNPACKED say; the rest is told in one line.
+"""
+
+from __future__ import annotations
+
+import errno
+import gzip
+import importlib
+import io
+import logging
+import os
+import re
+import resource
+import signal
+import struct
+import subprocess
+import tempfile
+import zipfile
+import zlib
+from typing import IO, Any, Callable, Iterator, NamedTuple, Union
+
+import adf
+from adf_tools.content import CHANGED, Content, FileContent
+from adf_tools.names import one_line
+
+SIGN = b"DOS"
+IMAGES, PACKED_IMAGES = (b".adf", b".hdf"), (b".adz", b".hdz", b".adf.gz", b".hdf.gz")
+GZIP, ZIP, DMS, LHA = "gzip", "zip", "DMS", "LHA"
+BEGINS = ((GZIP, rb"\x1f\x8b\x08"), (ZIP, rb"PK(\x03\x04|\x05\x06)"), (DMS, rb"DMS!"), (LHA, rb"..-l[hz][0-9a-z]-"))
+ENDINGS = {GZIP: (b".gz", b".adz", b".hdz"), ZIP: (b".zip",), DMS: (b".dms",), LHA: (b".lha", b".lzh")}
+LONGEST_BEGIN = 16
+OTHERS = (
+    (rb"SCP", "a flux image (SCP): adf reads sectors"),
+    (rb"HXC(PICFE|HFEV3)", "an image of tracks (HFE): adf reads sectors"),
+    (rb"CAPS\x00\x00\x00\x0c", "an image of tracks (IPF): adf reads sectors"),
+    (rb"UAE-[-1]ADF", "an image of tracks (extended ADF): adf reads sectors"),
+    (rb"OD[\x00-\x07]S", "the bytes are swapped in pairs: dd conv=swab swaps them back"),
+)
+METHODS = (zipfile.ZIP_STORED, zipfile.ZIP_DEFLATED)
+ENCRYPTED = 1
+MOST_IMAGES, MOST_UNPACKED = 4096, 4 << 30
+MOST_DMS, MOST_SECONDS, MOST_MEMORY, MOST_LINE = 16 << 20, 60, 1 << 30, 200  # of a disk of DMS, and of xdms; of a line that it writes
+NO_FILE, DAMAGED = "not a file", "damaged archive"
+FAULTS = (OSError, EOFError, ValueError, RuntimeError, MemoryError, struct.error, zlib.error, zipfile.BadZipFile)
+
+Stream = Union[IO[bytes], gzip.GzipFile]
+
+
+class Unread(ValueError):
+    """Why what is packed cannot be read, in the words that are told."""
+
+
+class Image(NamedTuple):
+    """An image: the name of its file, and behind that its name in an archive; which it is of those with this name; its bytes, of an
+    archive at most one more than the largest volume has, if it is no hard disk; how many there are, if that is known; why it cannot be
+    read, else an empty text; its name in an archive, if it is in one."""
+
+    name: bytes
+    number: int
+    content: Content
+    length: int | None
+    fault: str
+    member: bytes | None = None
+
+
+class Member(NamedTuple):
+    """What is packed in a file: its name there, or an empty one if there is none; what it is unpacked from, which is to be opened before the
+    next one is asked for; why it cannot be, else an empty text."""
+
+    name: bytes
+    open: Callable[[], Stream]
+    fault: str = ""
+
+
+def unread(name: bytes, fault: str, number: int = 0, member: bytes | None = None) -> Image:
+    return Image(name, number, Content(b""), None, fault, member)
+
+
+def begins_as_volume(file: Stream) -> bool:
+    """Whether an open file begins as a volume does; it is read from its begin again."""
+    try:
+        begin = file.read(len(SIGN))
+        file.seek(0)
+        return begin == SIGN
+    except FAULTS:
+        return False
+
+
+def form_of(begin: bytes) -> str:
+    """How an image is packed whose file begins so; an empty text if it is not."""
+    return next((form for form, pattern in BEGINS if re.match(pattern, begin, re.DOTALL)), "")
+
+
+def foreign(image: bytes) -> str:
+    """What an image is that is refused, if its begin says so for certain; an empty text else."""
+    begin = bytes(image[:LONGEST_BEGIN])
+    form = form_of(begin)
+    if form:
+        return f"packed by {form} in an archive: unpack it first"
+    return next((text for pattern, text in OTHERS if re.match(pattern, begin)), "")
+
+
+def form_named(path: bytes) -> str:
+    """How an image is packed, by the end of its name; an empty text if it is not."""
+    return next((form for form, endings in ENDINGS.items() if path.lower().endswith(endings)), "")
+
+
+def members_of(file: IO[bytes], form: str) -> Iterator[Member]:
+    """All that is packed in an open file of this form."""
+    if form == GZIP:
+        return iter([Member(b"", lambda: gzip.GzipFile(fileobj=file))])
+    if form == DMS:
+        return iter([Member(b"", lambda: disk_of_dms(file))])
+    return members_of_zip(file) if form == ZIP else members_of_lha(file)
+
+
+def images_in_archive(file: IO[bytes], name: bytes, form: str) -> Iterator[Image]:
+    """The images in a file of this form, by their names there; one without a name if it is named as an image, or begins as a volume does."""
+    if form in (GZIP, DMS):
+        (member,) = members_of(file, form)
+        if form == DMS or name.lower().endswith(PACKED_IMAGES) or begins_as_volume(gzip.GzipFile(fileobj=file)):
+            file.seek(0)
+            yield unpacked_member(member, name, 0, MOST_UNPACKED)
+        return
+    whole = sum(is_image(member) for member in members_of(file, form))
+    seen: dict[bytes, int] = {}
+    left = MOST_UNPACKED
+    for place, member in enumerate(filter(is_image, members_of(file, form))):
+        if place == MOST_IMAGES or left <= 0:
+            yield unread(name, f"{whole - place} of {whole} images in it are left out")
+            return
+        seen[member.name] = seen.get(member.name, -1) + 1
+        image = unpacked_member(member, name + b"/" + member.name, seen[member.name], left)._replace(member=member.name)
+        left -= image.content.size
+        yield image
+
+
+def is_image(member: Member) -> bool:
+    return member.name.lower().endswith(IMAGES)
+
+
+def unpacked_member(member: Member, name: bytes, number: int, most: int) -> Image:
+    """The image of a member, which is called so."""
+    if member.fault:
+        return unread(name, member.fault, number)
+    try:
+        with member.open() as packed:
+            return unpacked(packed, name, number, most)
+    except FAULTS as error:
+        return unread(name, fault_of(error), number)
+
+
+def begin_of(packed: Stream) -> bytes:
+    """What is unpacked of a stream: at most one byte more than the largest volume has."""
+    room = io.BytesIO()
+    while part := packed.read(min(adf.MOST_BYTES + 1 - room.tell(), adf.PART)):
+        room.write(part)
+    return room.getvalue()
+
+
+def unpacked(packed: Stream, name: bytes, number: int, most: int) -> Image:
+    """The image in an open archive. How long one is that is too long is not known; of a hard disk at most so many bytes are unpacked."""
+    content = begin_of(packed)
+    if len(content) <= adf.MOST_BYTES:
+        return Image(name, number, Content(content), len(content), "")
+    image = Image(name, number, Content(content), None, "")
+    return image if image.content.disk() is None else unpacked_disk(packed, image, most)
+
+
+def unpacked_disk(packed: Stream, image: Image, most: int) -> Image:
+    """A hard disk, of which the begin is unpacked already, in a temporary file."""
+    file = tempfile.TemporaryFile()
+    size = file.write(image.content.begin())
+    while part := packed.read(adf.PART):
+        if size + len(part) > most:
+            file.close()
+            return unread(image.name, f"a hard disk of more than {most} bytes is not unpacked", image.number)
+        size += file.write(part)
+    file.flush()
+    return image._replace(content=FileContent(file, size), length=size)
+
+
+def unforeseen(error: BaseException) -> str:
+    return f"an error that nobody foresaw: {type(error).__name__}"
+
+
+def fault_of(error: BaseException) -> str:
+    """Why a file cannot be read: what the system says, else that the archive is damaged, which may lead nowhere."""
+    if isinstance(error, MemoryError):
+        return "no memory"
+    if isinstance(error, OSError) and error.errno not in (None, errno.EINVAL):
+        return error.strerror
+    if not isinstance(error, FAULTS):
+        return unforeseen(error)
+    return str(error) if isinstance(error, Unread) or str(error) in (NO_FILE, CHANGED) else DAMAGED
+
+
+# Zip
+
+
+def members_of_zip(file: IO[bytes]) -> Iterator[Member]:
+    """All files of a zip archive. Only methods that unpack step by step are used."""
+    with zipfile.ZipFile(file) as archive:
+        for member in archive.infolist():
+            fault = "encrypted" if member.flag_bits & ENCRYPTED else ""
+            if not fault and member.compress_type not in METHODS:
+                fault = "packed by a method that is not read"
+            if not member.filename.endswith("/"):
+                yield Member(member.filename.encode("utf-8", "surrogateescape"), lambda which=member: archive.open(which), fault)  # type: ignore[misc]
+
+
+# LHA
+
+
+class Warnings(logging.Handler):
+    """Keeps what libarchive warns of, which it would write to standard error: a wrong checksum is among it."""
+
+    def __init__(self) -> None:
+        super().__init__()
+        self.said: list[str] = []
+
+    def emit(self, record: logging.LogRecord) -> None:
+        self.said.append(record.getMessage())
+
+
+class Blocks(io.RawIOBase):
+    """A file of blocks, which come one after the other. What is warned of ends it."""
+
+    def __init__(self, blocks: Iterator[bytes], warnings: Warnings, fault: type[Exception]) -> None:
+        self.blocks, self.warnings, self.fault, self.block = blocks, warnings, fault, b""
+        self.warnings.said.clear()
+
+    def readable(self) -> bool:
+        return True
+
+    def readinto(self, room: Any) -> int:
+        try:
+            self.block = self.block or next(self.blocks, b"")
+        except self.fault:
+            raise Unread(DAMAGED) from None
+        if self.warnings.said:
+            raise Unread(DAMAGED)
+        count = min(len(room), len(self.block))
+        room[:count], self.block = self.block[:count], self.block[count:]
+        return count
+
+
+def libarchive_module() -> Any:
+    try:
+        return importlib.import_module("libarchive")
+    except (ImportError, AttributeError, OSError, TypeError):  # the last three, if the library itself is missing
+        raise Unread("packed by LHA: python3-libarchive-c (Debian's) is needed to read it") from None
+
+
+def members_of_lha(file: IO[bytes]) -> Iterator[Member]:
+    """All files of an LHA archive."""
+    libarchive, warnings = libarchive_module(), Warnings()
+    file.seek(0)
+    content = begin_of(file)
+    if len(content) > adf.MOST_BYTES:
+        raise Unread(f"an archive of more than {adf.MOST_BYTES} bytes is not unpacked")
+    fault, logger = libarchive.exception.ArchiveError, logging.getLogger("libarchive")
+    logger.addHandler(warnings)
+    try:
+        with libarchive.memory_reader(content, format_name="lha") as archive:
+            for entry in archive:
+                if entry.isfile:
+                    name = entry.pathname or b""
+                    raw = name if isinstance(name, bytes) else name.encode("utf-8", "surrogateescape")
+                    yield Member(raw, lambda each=entry: io.BufferedReader(Blocks(each.get_blocks(), warnings, fault)))  # type: ignore[misc]
+    except fault:
+        raise Unread(DAMAGED) from None
+    finally:
+        logger.removeHandler(warnings)
+
+
+# DMS
+
+
+def limit_xdms() -> None:
+    """What xdms may use, of what it writes, of memory and of a processor."""
+    for what, most in ((resource.RLIMIT_FSIZE, MOST_DMS), (resource.RLIMIT_AS, MOST_MEMORY), (resource.RLIMIT_CPU, MOST_SECONDS)):
+        _, own = resource.getrlimit(what)
+        least = most if own == resource.RLIM_INFINITY else min(most, own)
+        resource.setrlimit(what, (least, least))
+
+
+def run_xdms(folder: str) -> None:
+    """Unpacks disk.dms of a folder to disk.adf, or says why not."""
+    line = ["xdms", "u", "disk.dms", "+disk.adf"]
+    with open(os.path.join(folder, "errors"), "w+b") as errors:
+        try:
+            ran = subprocess.Popen(
+                line, cwd=folder, stdin=subprocess.DEVNULL, stdout=subprocess.DEVNULL, stderr=errors, start_new_session=True, preexec_fn=limit_xdms)
+        except (FileNotFoundError, PermissionError):
+            raise Unread("packed by DMS: xdms (Debian's) is needed to read it") from None
+        try:
+            status = ran.wait(MOST_SECONDS)
+        except subprocess.TimeoutExpired:
+            raise Unread(f"xdms: stopped after {MOST_SECONDS} seconds") from None
+        finally:
+            end_group(ran)
+        if status:
+            errors.seek(0)
+            said = errors.read(MOST_LINE).decode("utf-8", "replace").strip().splitlines()
+            raise Unread("xdms: " + (one_line(said[0]) if said else f"stopped by signal {-status}" if status < 0 else f"status {status}"))
+
+
+def end_group(ran: subprocess.Popen[bytes]) -> None:
+    """Ends a program, and those that it started."""
+    if ran.poll() is None:
+        os.killpg(ran.pid, signal.SIGKILL)
+        ran.wait()
+
+
+def disk_of_dms(file: IO[bytes]) -> Stream:
+    """The disk in a file of DMS, which xdms unpacks in a temporary folder."""
+    file.seek(0)
+    content = file.read(MOST_DMS + 1)
+    if len(content) > MOST_DMS:
+        raise Unread(f"DMS of more than {MOST_DMS} bytes is not unpacked")
+    with tempfile.TemporaryDirectory() as folder:
+        with open(os.path.join(folder, "disk.dms"), "xb") as packed:
+            packed.write(content)
+        run_xdms(folder)
+        try:
+            with open(os.open(os.path.join(folder, "disk.adf"), os.O_RDONLY | os.O_NOFOLLOW | os.O_NONBLOCK | os.O_CLOEXEC), "rb") as disk:
+                return io.BytesIO(disk.read(MOST_DMS))
+        except FileNotFoundError:
+            raise Unread("xdms: it wrote no disk") from None
