@@ -172,7 +172,7 @@ def unpacked(packed: Stream, name: bytes, number: int, most: int) -> Image:
 
 
 def unpacked_disk(packed: Stream, image: Image, most: int) -> Image:
-    """A hard disk, of which the begin is unpacked already, in a temporary file."""
+    """A hard disk in a temporary file; its beginning is unpacked already."""
     file = tempfile.TemporaryFile()
     size = file.write(image.content.begin())
     while part := packed.read(adf.PART):
