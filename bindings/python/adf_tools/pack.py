@@ -245,7 +245,7 @@ def main() -> None:
     line.add_argument("--size", metavar="SIZE", type=blocks_in, help="the size of the image, as 880K or 100M; without it as small as may be")
     boot = line.add_mutually_exclusive_group()
     boot.add_argument("--bootable", action="store_true", help="with --image: write the standard boot blocks, which start AmigaDOS")
-    boot.add_argument("--boot", metavar="FILE", help="with --image: write the boot blocks of a file, of 1,024 bytes or another disk")
+    boot.add_argument("--boot", metavar="FILE", help="with --image: write the boot blocks at the front of a file, 1,024 bytes, or of another disk")
     line.add_argument("--label", metavar="TEXT", help="the name of the volume")
     for option, what in (("--date", "the root"), ("--altered", "the last change of the volume"), ("--created", "its creation")):
         line.add_argument(option, metavar="DATE", type=date, default=NEVER, help=f"the date of {what}, as 2026-11-25 06:56:04.10")
