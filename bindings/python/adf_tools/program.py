@@ -121,6 +121,8 @@ def begin(line: argparse.ArgumentParser, work: Callable[[argparse.Namespace], in
         fill_streams()
         status = status_of(line, work)
         sys.stdout.flush()
+        for number in heard:
+            signal.signal(number, signal.SIG_DFL)
     except BaseException as error:
         status, text = why(error)
         if sys.flags.dev_mode and not isinstance(error, (adf.Error, Stop, OSError, MemoryError, KeyboardInterrupt)):
@@ -128,8 +130,6 @@ def begin(line: argparse.ArgumentParser, work: Callable[[argparse.Namespace], in
         if text:
             tell(line.prog.split()[0], text)
         os._exit(status)
-    for number in heard:
-        signal.signal(number, signal.SIG_DFL)
     sys.exit(status)
 
 

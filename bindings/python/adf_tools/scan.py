@@ -26,7 +26,7 @@ from adf_tools.trees import Identity
 from adf_tools.volumes import Record
 
 HERE = os.path.dirname(os.path.abspath(__file__))
-READING = ("advice", "collection", "icons", "names", "picture", "reader", "sums", "volumes")  # the modules by which files are read
+READING = ("advice", "archives", "collection", "content", "icons", "names", "picture", "reader", "sums", "volumes")  # the modules by which files are read
 LEAST_MEMORY, IMAGE_COPIES, PACKED = 256 << 20, 6, 8  # what a process takes, how often it has an image, how small an archive packs one
 FILES, WEIGHT, SECONDS = 100, 16 << 20, 2.0  # of a transaction
 
@@ -70,7 +70,8 @@ def sum_of(path: str) -> str:
 def reader_of(options: Options) -> str:
     """What reads the files: the version of the module, its files, the library, and the options."""
     own = [path for path in sorted(glob.glob(os.path.join(HERE, "*.py"))) if os.path.basename(path)[:-3] in READING]
-    return json.dumps([adf.__version__, *map(sum_of, (adf.library_path(), adf.__file__, *own)), options.rescues, options.has_texts])
+    module = sorted(glob.glob(os.path.join(os.path.dirname(adf.__file__), "*.py")))
+    return json.dumps([adf.__version__, *map(sum_of, (adf.library_path(), *module, *own)), options.rescues, options.has_texts])
 
 
 def links_of(records: List[Record]) -> List[str]:
