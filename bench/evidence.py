@@ -143,16 +143,13 @@ class Walk:
         self.doubted: Set[int] = set()  # directories whose sum is wrong
         self.breaks: List[Tuple[int, int, int, int, int, str]] = []
         self.queue: List[Tuple[int, str]] = []
+        if not image.is_root(image.root):
+            self.doubted.add(image.root)
+        self.enter(image.root, REACHED)
 
     def home_of(self, b: int) -> Home:
         """Where a header says that it is."""
         return self.image.word(b, 125), slot(self.image.text(b, 432, 79), self.international)
-
-    def begin(self, is_sound: bool) -> None:
-        r = self.image.root
-        if not is_sound:
-            self.doubted.add(r)
-        self.enter(r, REACHED)
 
     def enter(self, p: int, how: str) -> None:
         """Follows each chain of a directory, and of those that are found so."""
@@ -202,21 +199,12 @@ class Walk:
             self.follow(p, s, self.image.word(b, 124), how)
 
     def kind(self, b: int) -> int:
-        """What a header is; where its sum is wrong, by those that name it."""
+        """What a header is; where its sum is wrong, a directory if its table leads to a header that names it, or if one bit is wrong."""
         said = self.image.word(b, 127)
-        if b in self.home or said == FILE:
+        if b in self.home or said in (FILE, DIR):
             return said
-        if any(home[0] == b for home in self.parents().get(b, ())):
-            return DIR
-        return said if said == DIR else FILE
-
-    def parents(self) -> Dict[int, List[Home]]:
-        """The homes that headers name, by their directories."""
-        if not hasattr(self, "named"):
-            self.named: Dict[int, List[Home]] = {}
-            for home in self.home.values():
-                self.named.setdefault(home[0], []).append(home)
-        return self.named
+        leads = any(self.home.get(self.image.word(b, 6 + s)) == (b, s) for s in range(SLOTS))
+        return DIR if leads or bin(said ^ DIR).count("1") == 1 and said not in LINKS else FILE
 
     def is_open(self, p: int, s: int) -> bool:
         """The way to a header of this slot may be broken."""
@@ -234,14 +222,12 @@ class Table(NamedTuple):
 class Reading:
     """A volume read as one kind, with these letters."""
 
-    def __init__(self, image: Image, is_ffs: bool, international: bool) -> None:
-        self.image, self.is_ffs, self.chunk, self.international = image, is_ffs, 512 if is_ffs else 488, international
-        self.bitmap = Bitmap(image)
-        self.walk = Walk(image, international)
+    def __init__(self, walk: Walk, is_ffs: bool) -> None:
+        self.image, self.walk, self.is_ffs, self.chunk = walk.image, walk, is_ffs, 512 if is_ffs else 488
+        self.bitmap = Bitmap(walk.image)
         self.tables: Dict[int, Table] = {}
-        self.parts: Set[int] = {page for page in (image.root if self.bitmap.is_like else None, *self.bitmap.pages, *self.bitmap.maps) if page}
+        self.parts: Set[int] = {page for page in (self.image.root if self.bitmap.is_like else None, *self.bitmap.pages, *self.bitmap.maps) if page}
         self.claims: Dict[int, List[Tuple[int, int]]] = {}
-        self.walk.begin(self.bitmap.has_root)
         self.know(list(self.walk.members))
         self.contradicted = [b for b in self.walk.members if self.is_said_free(b)]
         self.trusted = self.bitmap.is_valid and not self.contradicted
@@ -323,9 +309,10 @@ class Reading:
             return None
         if self.trusted and self.is_said_free(h):
             return None
-        if self.bitmap.free(h) is False:
-            return LOST if self.trusted else PERHAPS
-        return PERHAPS if self.walk.is_open(*self.walk.home[h]) else None
+        is_open, is_used = self.walk.is_open(*self.walk.home[h]), self.bitmap.free(h) is False
+        if is_open and is_used and self.trusted:
+            return LOST
+        return PERHAPS if is_open or is_used else None
 
     def hang(self) -> None:
         """Gives lost headers back in the directories that they name, each directory before what is in it."""
@@ -375,22 +362,34 @@ class Reading:
         return b"" if made else self.image.text(h, 432, 79)
 
     def place(self) -> None:
-        """Gives each member its path: by its name, or by its block where that is no name or is used."""
+        """Gives each member its path: by its name, or by its block where that is no name or is used; what is not given back uses none."""
         self.path: Dict[int, Path] = {self.image.root: ()}
-        used: Set[Tuple[int, bytes]] = set()
         self.crowded: List[int] = []
-        for h in sorted(self.walk.members, key=lambda h: self.rank(h)):
-            p = self.walk.members[h].parent
-            for name in (self.name(h), b"lost-%d" % h):
-                if 1 <= len(name) <= 30 and not {47, 58} & set(name) and (p, upper(name, False)) not in used:
-                    used.add((p, upper(name, False)))
-                    self.path[h] = (name,)
-                    break
+        used: Set[Tuple[int, bytes]] = set()
+        self.given = {h: self.content(h) for h in self.walk.members if self.is_given(h)}
+        for h in sorted(self.walk.members, key=lambda h: (h not in self.given, self.rank(h), *self.age(h))):
+            p, is_given = self.walk.members[h].parent, h in self.given
+            names = [name for name in (self.name(h), b"lost-%d" % h) if 1 <= len(name) <= 30 and not {47, 58} & set(name)]
+            names = [name for name in names if not is_given or (p, upper(name, False)) not in used]
+            if names:
+                self.path[h] = (names[0],)
+                used.add((p, upper(names[0], False)))
             else:
                 self.crowded.append(h)
         for h in self.walk.members:
             if h in self.path:
                 self.path[h] = self.full(h)
+
+    def is_given(self, h: int) -> bool:
+        """A directory, or a whole file."""
+        return self.walk.members[h].how == MADE or self.walk.kind(h) == DIR or h in self.tables and self.is_whole(h)
+
+    def content(self, h: int) -> Optional[bytes]:
+        return self.remains(h)[0] if h in self.tables else None
+
+    def age(self, h: int) -> Tuple[int, ...]:
+        """Of what was perhaps deleted the latest comes first; else as it was found."""
+        return tuple(-self.image.word(h, 105 + i) for i in range(3)) if self.walk.members[h].how == PERHAPS else (0, 0, 0)
 
     def full(self, h: int) -> Path:
         names: List[bytes] = []
@@ -405,15 +404,22 @@ class Reading:
         w = self.image.words(h)
         return Back(content, self.image.text(h, 328, 79), w[80], (w[105], w[106], w[107]))
 
+    def held(self, h: int, k: int, many: int) -> int:
+        """How many bytes of the file a data block holds: an OFS one says so itself."""
+        return many if self.is_ffs else min(many, self.image.word(self.tables[h].datas[k - 1], 3))
+
     def remains(self, h: int) -> Tuple[bytes, List[range]]:
         """What is left of a file, with zeros where a data block is not its own, and the ranges of these."""
         size, out, gaps = min(self.image.word(h, 81), len(self.image.bytes)), bytearray(), []
         for k in range(1, -(-size // self.chunk) + 1):
             many = min(self.chunk, size - self.chunk * (k - 1))
-            if k <= len(self.tables[h].datas) and self.is_good(h, k):
+            held = self.held(h, k, many) if k <= len(self.tables[h].datas) and self.is_good(h, k) else 0
+            if held:
                 start = 512 * self.tables[h].datas[k - 1] + 512 - self.chunk
-                out += self.image.bytes[start : start + many]
+                out += self.image.bytes[start : start + held]
+            if held == many:
                 continue
+            many -= held
             if gaps and gaps[-1].stop == len(out):
                 gaps[-1] = range(gaps[-1].start, len(out) + many)
             else:
@@ -423,17 +429,13 @@ class Reading:
 
     def things(self) -> Iterator[Tuple[int, Optional[bytes]]]:
         """The members that are given back: directories, and whole files with their bytes."""
-        for h in self.walk.members:
-            if h in self.path:
-                if self.walk.members[h].how == MADE or self.walk.kind(h) == DIR:
-                    yield h, None
-                elif h in self.tables and self.is_whole(h):
-                    yield h, self.remains(h)[0]
+        return ((h, content) for h, content in self.given.items() if h in self.path)
 
     def is_sure(self, h: int) -> bool:
-        """Its sum is right, and it is not perhaps deleted."""
+        """Its sum is right, and it was not deleted by anything that is whole."""
         member = self.walk.members[h]
-        return member.is_sound and member.how != PERHAPS and h not in self.contradicted
+        sure = member.how in (REACHED, MADE) or member.how == LOST and self.bitmap.has_root
+        return member.is_sound and sure and h not in self.contradicted
 
     # Lines
 
@@ -484,12 +486,6 @@ class Reading:
     def is_cache(self, b: int) -> bool:
         return self.image.word(b, 0) == CACHE and self.image.word(b, 1) == b
 
-    def score(self) -> Tuple[int, int]:
-        """How much is whole: files that are reached or lost, then those that are perhaps deleted."""
-        files = [h for h, content in self.things() if content]
-        sure = sum(self.walk.members[h].how in (REACHED, LOST) for h in files)
-        return sure - len(self.walk.open), len(files) - sure
-
 
 # Which reading
 
@@ -513,17 +509,45 @@ def named(image: Image, r: int) -> int:
     return sum(image.is_head(b) and image.word(b, 125) == r for b in range(2, image.blocks))
 
 
+def walked(image: Image, stated: bool) -> Walk:
+    """The walk by the letters that the type states, unless those of the other kind of type lead to more."""
+    walk = Walk(image, stated)
+    accented = any(max(image.text(b, 432, 30), default=0) >= 0xE0 for b in walk.heads)
+    other = Walk(image, not stated) if accented and walk.open else walk
+    return other if len(other.members) > len(walk.members) else walk
+
+
+def says_kind(walk: Walk, h: int) -> Optional[int]:
+    """What a file says of the kind: 0 is OFS and 1 is FFS, by its data blocks or by how many its table names; 2 where it may be either."""
+    image, size = walk.image, walk.image.word(h, 81)
+    numbers = [image.word(h, 77 - k) for k in range(POINTERS)]
+    if size == 0 or not numbers[0]:
+        return None
+    if any(image.is_data(d, h, k + 1) for k, d in enumerate(numbers)):
+        return 0
+    counts, count = [min(POINTERS, -(-size // chunk)) for chunk in (488, 512)], POINTERS - numbers.count(0)
+    return 2 if counts[0] == counts[1] or count not in counts else counts.index(count)
+
+
+def is_ffs(walk: Walk, stated: Optional[int]) -> bool:
+    """The kind that most files say that are reached; where none is, the newest that there are, since what an older volume left is older."""
+    files = [h for h, member in walk.members.items() if member.is_sound and walk.kind(h) == FILE]
+    said = [kind for kind in (says_kind(walk, h) for h in files) if kind is not None]
+    if not said:
+        heads = sorted((h for h in walk.heads if walk.kind(h) == FILE), key=lambda h: [walk.image.word(h, 105 + i) for i in range(3)], reverse=True)
+        said = [kind for kind in (says_kind(walk, h) for h in heads) if kind is not None][:5]
+    ofs = 2 * said.count(0) + 3 * (stated == 0)
+    ffs = 2 * said.count(1) + said.count(2) * (said.count(0) == 0 or stated is None) + 3 * (stated == 1)
+    return ffs > ofs or ffs == ofs and stated == 1
+
+
 def chosen(image: Image, given: bytes) -> Tuple[Reading, List[Line]]:
-    """The reading that the type states, unless more is whole under another."""
+    """The reading that the type states, unless the files say another."""
     is_stated = given[:3] == b"DOS" and given[3] <= 5
-    kind = given[3] % 4 if is_stated and given[3] < 4 else given[3] - 2 if is_stated else 0
-    stated = Reading(image, kind % 2 == 1, kind >= 2)
-    if is_stated and not any(line.text.startswith(("lost", "damaged", "perhaps", "root")) for line in stated.lines()):
-        return stated, []
-    others = [Reading(image, other % 2 == 1, other >= 2) for other in range(4) if other != kind]
-    best = max([stated, *others], key=Reading.score)
-    changed = not is_stated or best is not stated
-    return best, [Line("block 0: type", None, None, range(0, 1))] * changed
+    walk = walked(image, is_stated and given[3] >= 2)
+    reading = Reading(walk, is_ffs(walk, given[3] % 2 if is_stated else None))
+    changed = not is_stated or (reading.is_ffs, walk.international) != (given[3] % 2 == 1, given[3] >= 2)
+    return reading, [Line("block 0: type", None, None, range(0, 1))] * changed
 
 
 def read(given: bytes, blocks: Optional[int] = None) -> Answer:
@@ -550,7 +574,8 @@ def listed(reading: Reading) -> Iterator[Listed]:
             is_file = h in reading.tables
             left, gaps = reading.remains(h) if is_file else (b"", [])
             is_sound = reading.is_sure(h) and (not is_file or reading.is_whole(h))
-            yield Listed(reading.path[h], reading.back(h, left if is_file else None), is_sound, left, gaps)
+            is_told = bool(gaps) or not reading.walk.members[h].is_sound
+            yield Listed(reading.path[h], reading.back(h, left if is_file else None), is_sound, left, gaps, is_told)
 
 
 def main() -> None:

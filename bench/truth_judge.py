@@ -3,10 +3,11 @@
 from __future__ import annotations
 
 from collections import Counter
+from struct import unpack_from
 from typing import Dict, Iterator, List, NamedTuple, Optional, Set, Tuple
 
 from truth_damage import Damaged
-from truth_volumes import Date, Ghost, History, Path, Thing
+from truth_volumes import POINTERS, Date, Ghost, History, Path, Thing, slot
 
 COLUMNS = ("cases", "untouched", "back", "not back", "wrong", "risen", "silent", "told", "unseen", "survey", "cat", "left")
 FAILURES = ("not back", "wrong", "risen", "silent", "survey", "cat", "left")
@@ -31,13 +32,15 @@ class Line(NamedTuple):
 
 
 class Listed(NamedTuple):
-    """An entry of a survey: what is copied of it if it is sound, and what is left of it with the ranges of bytes that are lost."""
+    """An entry of a survey: what is copied of it if it is sound, and what is left of it with the ranges of bytes that are lost; whether
+    `cat --damaged` ends with status 1."""
 
     path: Path
     back: Back
     is_sound: bool
     left: bytes
     gaps: List[range]
+    is_told: bool
 
 
 class Answer(NamedTuple):
@@ -63,6 +66,7 @@ class Judge:
         self.named = [path for path in map(self.canonical, (line.path for line in answer.lines)) if path is not None]
         self.within = {path for path in map(self.canonical, (line.directory for line in answer.lines)) if path is not None}
         self.told = [line.blocks for line in answer.lines if line.blocks]
+        self.relinked = set() if self.has_bitmap else self.chains_that_lie()
         self.amiss = {path for path, thing in history.live.items() if not self.is_as_it_was(path, thing)}
         self.judge_root()
         for path, thing in history.live.items():
@@ -118,7 +122,21 @@ class Judge:
         while above:
             own.add(above.header)
             above = above.parent
-        return not own & self.damaged.touched
+        return not own & self.damaged.touched and not self.is_claimed(thing) and not self.is_retyped()
+
+    def is_claimed(self, thing: Thing) -> bool:
+        """Let off: an FFS block that two tables with right sums name, of which one was made to lie."""
+        image, own = self.damaged.image, set(thing.datas)
+        if self.history.volume.chunk == 488 or not own:
+            return False
+        liars = [h for h in self.damaged.touched if sealed(image, h) and word(image, h, 0) == 2]
+        return any(word(image, h, i) in own for h in liars for i in (*range(6, 78), 124))
+
+    def is_retyped(self) -> bool:
+        """Let off: the type is another one, and the data of fewer than three files says what it was."""
+        if 0 not in self.damaged.touched or self.damaged.image[:4] == self.history.image[:4]:
+            return False
+        return sum(any(d not in self.damaged.touched for d in thing.datas) for thing in self.history.live.values()) < 3
 
     def is_as_it_was(self, path: Path, thing: Thing) -> bool:
         back = self.answer.things.get(path)
@@ -127,13 +145,37 @@ class Judge:
         return self.same_bytes(thing, back.content)
 
     def same_bytes(self, thing: Thing, content: Optional[bytes]) -> bool:
-        """The bytes are those of the file. Let off: FFS data that was changed in place, which nothing tells."""
+        """The bytes are those of the file, but for what nothing tells."""
         if thing.content == content:
             return True
-        if thing.content is None or content is None or len(content) != len(thing.content) or self.history.volume.chunk == 488:
+        if thing.content is None or content is None or len(content) != len(thing.content):
             return False
-        places = [k for k, d in enumerate(thing.datas) if d not in self.damaged.touched]
-        return all(content[512 * k : 512 * k + 512] == thing.content[512 * k : 512 * k + 512] for k in places)
+        places = [k for k in range(len(thing.datas)) if not self.is_unseen(thing, k)]
+        chunk = self.history.volume.chunk
+        return all(content[chunk * k : chunk * k + chunk] == thing.content[chunk * k : chunk * k + chunk] for k in places)
+
+    def is_unseen(self, thing: Thing, k: int) -> bool:
+        """Let off: FFS data that was changed in place; and an FFS table that names another block, with its sum made right, unless that
+        block is another file's, a header by its own words (of which a last piece of three bytes may be a part), or free by the bitmap."""
+        if self.history.volume.chunk == 488:
+            return False
+        if thing.datas[k] in self.damaged.touched:
+            return True
+        image, owner = self.damaged.image, self.history.owner
+        d = word(image, thing.header, 77 - k) if k < POINTERS else thing.datas[k]
+        if d == thing.datas[k] or not sealed(image, thing.header):
+            return False
+        says_head = sealed(image, d) and (word(image, d, 0), word(image, d, 1)) == (2, d)
+        if says_head:
+            known = d in owner and self.is_untouched(self.history.live[owner[d]]) or self.has_bitmap and d not in self.history.volume.used
+            return len(thing.content or b"") - 512 * k <= 3 and not known
+        return d not in owner or d in self.damaged.touched
+
+    @property
+    def has_bitmap(self) -> bool:
+        """The bitmap is valid, right and whole."""
+        v = self.history.volume
+        return self.history.state in ("valid", "foreign") and not self.damaged.touched & {v.root, *v.pages, *v.maps}
 
     def judge_thing(self, path: Path, thing: Thing) -> None:
         untouched = self.is_untouched(thing)
@@ -143,33 +185,54 @@ class Judge:
             self.counts["back"] += untouched
             self.counts["unseen"] += back is not None and back.content != thing.content
             return
-        if untouched:
+        if untouched and not self.is_past(thing):
             self.fail("not back", f"{path} untouched; {self.answer.lines}")
         told = not self.is_zero and self.covers(path, set(thing.blocks()), self.amiss)
         if back is None:
-            if not told:
+            if not told and not self.is_past(thing):
                 self.fail("silent", f"{path} is missing; {self.answer.lines}")
         elif not self.same_bytes(thing, back.content):
-            if not self.stands_in(path, back):
+            if not self.stands_in(path, back) and not self.is_retyped():
                 self.fail("wrong", f"{path} has other bytes; {self.answer.lines}")
         elif not told:
             self.fail("wrong", f"{path}: {back[1:]} for {(thing.comment, thing.protection, thing.date)}; {self.answer.lines}")
 
+    def chains_that_lie(self) -> Set[Tuple[int, int]]:
+        """Let off: chains, by directory and slot, of which a word was made to lead past members or to a deleted one, with its sum made
+        right, so that it is a chain; where no bitmap tells."""
+        image, letters = self.damaged.image, self.history.volume.international
+        lies = set()
+        for h in self.damaged.touched:
+            if sealed(image, h) and word(image, h, 0) == 2:
+                for b in [word(image, h, i) for i in (*range(6, 78), 124) if word(image, h, i) != word(self.history.image, h, i)]:
+                    if sealed(image, b) and (word(image, b, 0), word(image, b, 1)) == (2, b):
+                        lies.add((word(image, b, 125), slot(name_at(image, b), letters)))
+        return lies
+
+    def is_relinked(self, header: int) -> bool:
+        image = self.history.image
+        return (word(image, header, 125), slot(name_at(image, header), self.history.volume.international)) in self.relinked
+
+    def is_past(self, thing: Thing) -> bool:
+        """It, or a directory above it, is in a chain that lies."""
+        return thing.parent is not None and (self.is_relinked(thing.header) or self.is_past(thing.parent))
+
     def stands_in(self, path: Path, back: Back) -> bool:
         """Let off: where no bitmap tells, what was deleted under the same path, or not linked yet, stands for what is lost, by a line that
         names it."""
-        v, touched = self.history.volume, self.damaged.touched
-        blind = self.history.state != "valid" or touched & {v.root, *v.pages, *v.maps}
-        dead = any(self.is_ghost(ghost, path, back) for ghost in (*v.ghosts, *v.limbo))
-        return bool(blind) and dead and path in self.named
+        v = self.history.volume
+        dead = [ghost for ghost in (*v.ghosts, *v.limbo) if self.is_ghost(ghost, path, back)]
+        return bool(dead) and path in self.named and (not self.has_bitmap or any(map(self.let_off, dead)))
 
     # What was not there
 
-    @staticmethod
-    def is_ghost(ghost: Ghost, path: Path, back: Back) -> bool:
-        if (ghost.content is None) != (back.content is None):
+    def is_ghost(self, ghost: Ghost, path: Path, back: Back) -> bool:
+        if (ghost.content is None) != (back.content is None) or path[-1] not in (ghost.path[-1], b"lost-%d" % ghost.header):
             return False
-        return (path[-1] == ghost.path[-1] or path[-1] == b"lost-%d" % ghost.header) and ghost.content == back.content
+        if ghost.content == back.content or ghost.content is None or back.content is None:
+            return True
+        hit = any(d in self.damaged.touched for d in ghost.datas)
+        return hit and len(ghost.content) == len(back.content) and self.history.volume.chunk == 512
 
     def is_moved(self, path: Path, back: Back) -> bool:
         """It is something live that is not in its place."""
@@ -199,7 +262,9 @@ class Judge:
             self.fail("wrong", f"{path} was never there; {self.answer.lines}")
 
     def let_off(self, ghost: Ghost) -> bool:
-        """Let off: an empty file that a foreign program removed, whose header it left in use."""
+        """Let off: an empty file that a foreign program removed, whose header it left in use; and what a chain that lies leads to."""
+        if self.is_relinked(ghost.header):
+            return True
         return self.history.state == "foreign" and ghost.content == b"" and ghost.header in self.history.volume.used
 
     # The survey
@@ -209,7 +274,7 @@ class Judge:
         found = {each.path for each in answer.listed}
         if not answer.has_findings and found != set(history.live):
             self.fail("survey", f"no findings, {sorted(set(history.live) ^ found)[:3]}")
-        for each in answer.listed:
+        for each in [] if self.is_retyped() else answer.listed:
             thing = history.live.get(each.path)
             if each.back.content is None or thing is not None and thing.is_dir:
                 continue
@@ -217,28 +282,58 @@ class Judge:
                 if self.is_deleted(each):
                     self.fail("cat", f"{each.path} was deleted")
                 continue
-            if each.is_sound and not (self.same_bytes(thing, each.left) and each.back[1:] == (thing.comment, thing.protection, thing.date)):
+            same = self.same_bytes(thing, each.left) and each.back[1:] == (thing.comment, thing.protection, thing.date)
+            if each.is_sound and not same and not self.stands_in(each.path, each.back._replace(content=each.left)):
                 self.fail("cat", f"{each.path} is sound, and another")
-            elif not self.is_left(thing, each):
+            elif not self.is_left(thing, each) and not self.is_left_of_ghost(each):
                 self.fail("left", f"{each.path}: other bytes outside of {each.gaps}")
 
     def is_deleted(self, each: Listed) -> bool:
-        dead = any(self.is_ghost(ghost, each.path, each.back._replace(content=each.left)) for ghost in self.history.volume.ghosts)
-        return each.is_sound and dead and not self.is_moved(each.path, each.back._replace(content=each.left))
+        """It is called sound, and was deleted. Let off: a bitmap that says that it is valid has it in use."""
+        back = each.back._replace(content=each.left)
+        ghosts = [ghost for ghost in self.history.volume.ghosts if self.is_ghost(ghost, each.path, back)]
+        believed = self.history.state in ("stale", "foreign") and any(self.history.says_used(ghost.header) for ghost in ghosts)
+        believed = believed or any(self.is_relinked(ghost.header) for ghost in ghosts)
+        return each.is_sound and bool(ghosts) and not believed and not self.is_moved(each.path, back)
+
+    def is_left_of_ghost(self, each: Listed) -> bool:
+        """Let off, as in `stands_in`: what is left of a file that was deleted under the same path, by a line that names it."""
+        v, back = self.history.volume, each.back._replace(content=each.left)
+        dead = [ghost for ghost in (*v.ghosts, *v.limbo) if ghost.path[-1] == each.path[-1] and ghost.content]
+        agreed = any(self.is_ghost(ghost, each.path, back) for ghost in dead) or any(
+            ghost.content and all(each.left[a:z] == ghost.content[a:z] for a, z in found_runs(each)) for ghost in dead
+        )
+        return not self.has_bitmap and each.path in self.named and agreed
 
     def is_left(self, thing: Thing, each: Listed) -> bool:
-        """The bytes outside of the gaps are those of the file; the length that the header says may be another."""
+        """The bytes outside of the gaps are those of the file. Let off: those that the table of an FFS file names, where a sum of the
+        table is wrong, at status 1."""
         content = thing.content or b""
         chunk = self.history.volume.chunk
+        if chunk == 512 and each.is_told and {thing.header, *thing.exts} & self.damaged.touched:
+            return True
         for first, past in found_runs(each):
             if each.left[first:past] == content[first:past] and past <= len(content):
                 continue
             for k in range(first // chunk, -(-past // chunk)):
                 a, z = max(first, chunk * k), min(past, chunk * (k + 1))
-                unseen = chunk == 512 and k < len(thing.datas) and thing.datas[k] in self.damaged.touched
+                unseen = k < len(thing.datas) and self.is_unseen(thing, k)
                 if each.left[a:z] != content[a:z] and not unseen:
                     return False
         return True
+
+
+def word(image: bytes, b: int, i: int) -> int:
+    return int.from_bytes(image[512 * b + 4 * i : 512 * b + 4 * i + 4], "big")
+
+
+def name_at(image: bytes, b: int) -> bytes:
+    return image[512 * b + 433 : 512 * b + 433 + min(image[512 * b + 432], 30)]
+
+
+def sealed(image: bytes, b: int) -> bool:
+    """The sum is right."""
+    return 512 * b + 512 <= len(image) and sum(unpack_from(">128I", image, 512 * b)) % 2**32 == 0
 
 
 def found_runs(each: Listed) -> Iterator[Tuple[int, int]]:

@@ -46,7 +46,7 @@ def listed_of(found: adf.Found, path: Path) -> Listed:
     is_file = found._has_bytes()
     left, gaps = found.remains() if is_file else (b"", [])
     back = Back(left if is_file else None, found.raw_comment, found.protection, date_of(found.date))
-    return Listed(path, back, found.is_sound and (is_file or not found.is_file), left, gaps)
+    return Listed(path, back, found.is_sound and (is_file or not found.is_file), left, gaps, bool(gaps))
 
 
 def survey_of(image: bytes, blocks: Optional[int]) -> Tuple[bool, List[Listed]]:

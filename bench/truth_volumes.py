@@ -60,7 +60,7 @@ class Ghost:
 
     def __init__(self, thing: Thing) -> None:
         self.path, self.content, self.header = thing.path(), thing.content, thing.header
-        self.blocks = thing.blocks()
+        self.blocks, self.datas = thing.blocks(), list(thing.datas)
 
 
 class Volume:
@@ -399,6 +399,11 @@ class History:
         self.live = {thing.path(): thing for thing in v.tree.below()}
         self.owner = {b: path for path, thing in self.live.items() for b in thing.blocks()}
         self.dates, self.label, self.root = v.dates(), v.label, v.root
+
+    def says_used(self, b: int) -> bool:
+        """The bitmap of the whole image has the block in use."""
+        bit = (b - 2) % PAGE_BITS
+        return not self.volume.word(self.volume.pages[(b - 2) // PAGE_BITS], 1 + bit // 32) >> bit % 32 & 1
 
     def dirs(self) -> List[Thing]:
         return [self.volume.tree, *(thing for thing in self.volume.tree.below() if thing.is_dir)]
