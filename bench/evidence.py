@@ -388,8 +388,8 @@ class Reading:
         return self.remains(h)[0] if h in self.tables else None
 
     def age(self, h: int) -> Tuple[int, ...]:
-        """Of what was perhaps deleted the latest comes first; else as it was found."""
-        return tuple(-self.image.word(h, 105 + i) for i in range(3)) if self.walk.members[h].how == PERHAPS else (0, 0, 0)
+        """Of what nothing led to the latest comes first; else as it was found."""
+        return (0, 0, 0) if self.walk.members[h].how in (REACHED, MADE) else tuple(-self.image.word(h, 105 + i) for i in range(3))
 
     def full(self, h: int) -> Path:
         names: List[bytes] = []

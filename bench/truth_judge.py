@@ -133,10 +133,11 @@ class Judge:
         return any(word(image, h, i) in own for h in liars for i in (*range(6, 78), 124))
 
     def is_retyped(self) -> bool:
-        """Let off: the type is another one, and the data of fewer than three files says what it was."""
-        if 0 not in self.damaged.touched or self.damaged.image[:4] == self.history.image[:4]:
+        """Let off: the type is another one, or the root is gone, and the data of fewer than four files says what the kind was."""
+        image, history = self.damaged.image, self.history
+        if image[:4] == history.image[:4] and history.root not in self.damaged.touched:
             return False
-        return sum(any(d not in self.damaged.touched for d in thing.datas) for thing in self.history.live.values()) < 3
+        return sum(any(d not in self.damaged.touched for d in thing.datas) for thing in history.live.values()) < 4
 
     def is_as_it_was(self, path: Path, thing: Thing) -> bool:
         back = self.answer.things.get(path)
@@ -262,10 +263,11 @@ class Judge:
             self.fail("wrong", f"{path} was never there; {self.answer.lines}")
 
     def let_off(self, ghost: Ghost) -> bool:
-        """Let off: an empty file that a foreign program removed, whose header it left in use; and what a chain that lies leads to."""
+        """Let off: a file that a foreign program removed, whose header it left in use, without data that is free; and what a chain that
+        lies leads to."""
         if self.is_relinked(ghost.header):
             return True
-        return self.history.state == "foreign" and ghost.content == b"" and ghost.header in self.history.volume.used
+        return self.history.state == "foreign" and {ghost.header, *ghost.datas} <= self.history.volume.used
 
     # The survey
 
