@@ -230,7 +230,7 @@ class Reading:
         self.claims: Dict[int, List[Tuple[int, int]]] = {}
         self.know(list(self.walk.members))
         self.contradicted = [b for b in self.walk.members if self.is_said_free(b)]
-        self.trusted = self.bitmap.is_valid and not self.contradicted
+        self.trusted = self.bitmap.is_valid and not any(self.bitmap.free(b) for b in self.walk.members)
         self.hang()
         self.place()
 
@@ -533,11 +533,11 @@ def is_ffs(walk: Walk, stated: Optional[int]) -> bool:
     """The kind that most files say that are reached; where none is, the newest that there are, since what an older volume left is older."""
     files = [h for h, member in walk.members.items() if member.is_sound and walk.kind(h) == FILE]
     said = [kind for kind in (says_kind(walk, h) for h in files) if kind is not None]
-    if not said:
+    if len(said) < (2 if stated is None else 1):
         heads = sorted((h for h in walk.heads if walk.kind(h) == FILE), key=lambda h: [walk.image.word(h, 105 + i) for i in range(3)], reverse=True)
         said = [kind for kind in (says_kind(walk, h) for h in heads) if kind is not None][:5]
-    ofs = 2 * said.count(0) + 3 * (stated == 0)
-    ffs = 2 * said.count(1) + said.count(2) * (said.count(0) == 0 or stated is None) + 3 * (stated == 1)
+    ofs = 4 * said.count(0) + 3 * (stated == 0)
+    ffs = 4 * said.count(1) + said.count(2) * (1 if stated == 0 else 2) + 3 * (stated == 1)
     return ffs > ofs or ffs == ofs and stated == 1
 
 

@@ -9,7 +9,7 @@ from typing import Dict, Iterator, List, NamedTuple, Optional, Set, Tuple
 from truth_damage import Damaged
 from truth_volumes import POINTERS, Date, Ghost, History, Path, Thing, slot
 
-COLUMNS = ("cases", "untouched", "back", "not back", "wrong", "risen", "silent", "told", "unseen", "survey", "cat", "left")
+COLUMNS = ("cases", "live", "kept", "untouched", "back", "not back", "wrong", "risen", "silent", "told", "unseen", "survey", "cat", "left")
 FAILURES = ("not back", "wrong", "risen", "silent", "survey", "cat", "left")
 
 
@@ -63,8 +63,9 @@ class Judge:
         self.counts: Counter[str] = Counter(cases=1)
         self.failures: List[Tuple[str, str]] = []
         self.by_header = {thing.header: path for path, thing in history.live.items()}
-        self.named = [path for path in map(self.canonical, (line.path for line in answer.lines)) if path is not None]
-        self.within = {path for path in map(self.canonical, (line.directory for line in answer.lines)) if path is not None}
+        named, within = {line.path for line in answer.lines}, {line.directory for line in answer.lines}
+        self.named = [path for path in {*named, *map(self.canonical, named)} if path is not None]
+        self.within = {path for path in {*within, *map(self.canonical, within)} if path is not None}
         self.told = [line.blocks for line in answer.lines if line.blocks]
         self.relinked = set() if self.has_bitmap else self.chains_that_lie()
         self.amiss = {path for path, thing in history.live.items() if not self.is_as_it_was(path, thing)}
@@ -124,6 +125,10 @@ class Judge:
             above = above.parent
         return not own & self.damaged.touched and not self.is_claimed(thing) and not self.is_retyped()
 
+    def is_below(self, thing: Thing) -> bool:
+        """A fault touched the header of the directory, or of one above it, but the root."""
+        return thing.parent is not None and (thing.header in self.damaged.touched or self.is_below(thing.parent))
+
     def is_claimed(self, thing: Thing) -> bool:
         """Let off: an FFS block that two tables with right sums name, of which one was made to lie."""
         image, own = self.damaged.image, set(thing.datas)
@@ -133,10 +138,12 @@ class Judge:
         return any(word(image, h, i) in own for h in liars for i in (*range(6, 78), 124))
 
     def is_retyped(self) -> bool:
-        """Let off: the type is another one, or the root is gone, and the data of fewer than four files says what the kind was."""
+        """Let off: the type is another one, or the root is gone, and the data of fewer than four files says what the kind was; of fewer
+        than eight where anything else is gone, which may lead to some of them."""
         image, history = self.damaged.image, self.history
         if image[:4] == history.image[:4] and history.root not in self.damaged.touched:
             return False
+        reached = [thing for thing in history.live.values() if thing.parent and not self.is_below(thing.parent)]
         return sum(any(d not in self.damaged.touched for d in thing.datas) for thing in history.live.values()) < 4
 
     def is_as_it_was(self, path: Path, thing: Thing) -> bool:
@@ -179,14 +186,16 @@ class Judge:
         return self.history.state in ("valid", "foreign") and not self.damaged.touched & {v.root, *v.pages, *v.maps}
 
     def judge_thing(self, path: Path, thing: Thing) -> None:
-        untouched = self.is_untouched(thing)
+        untouched = self.is_untouched(thing) and not self.is_past(thing)
         self.counts["untouched"] += untouched
+        self.counts["live"] += 1
+        self.counts["kept"] += path not in self.amiss
         back = self.answer.things.get(path)
         if path not in self.amiss:
             self.counts["back"] += untouched
             self.counts["unseen"] += back is not None and back.content != thing.content
             return
-        if untouched and not self.is_past(thing):
+        if untouched:
             self.fail("not back", f"{path} untouched; {self.answer.lines}")
         told = not self.is_zero and self.covers(path, set(thing.blocks()), self.amiss)
         if back is None:
@@ -232,8 +241,7 @@ class Judge:
             return False
         if ghost.content == back.content or ghost.content is None or back.content is None:
             return True
-        hit = any(d in self.damaged.touched for d in ghost.datas)
-        return hit and len(ghost.content) == len(back.content) and self.history.volume.chunk == 512
+        return len(ghost.content) == len(back.content) and self.history.volume.chunk == 512
 
     def is_moved(self, path: Path, back: Back) -> bool:
         """It is something live that is not in its place."""
@@ -305,7 +313,7 @@ class Judge:
         agreed = any(self.is_ghost(ghost, each.path, back) for ghost in dead) or any(
             ghost.content and all(each.left[a:z] == ghost.content[a:z] for a, z in found_runs(each)) for ghost in dead
         )
-        return not self.has_bitmap and each.path in self.named and agreed
+        return each.path in self.named and agreed and (not self.has_bitmap or any(map(self.let_off, dead)))
 
     def is_left(self, thing: Thing, each: Listed) -> bool:
         """The bytes outside of the gaps are those of the file. Let off: those that the table of an FFS file names, where a sum of the
