@@ -171,11 +171,12 @@ FAULTS: Dict[str, Fault] = {
 
 
 def cut(dice: random.Random, damaged: Damaged, blocks: int) -> Damaged:
-    """The image without its end, read as if it had all blocks."""
+    """The image without its end, read as if it had all blocks; of floppies also as it is."""
     held = dice.randrange(max(3, blocks // 3), blocks)
     length = 512 * held + dice.choice([0, 0, 100])
     touched = {*damaged.touched, *range(held, blocks)}
-    return Damaged(damaged.image[:length], blocks, touched, damaged.kind, f"{damaged.told}; cut after {held} blocks")
+    stated = None if blocks in (1760, 3520) and held > blocks // 2 and dice.random() < 0.4 else blocks
+    return Damaged(damaged.image[:length], stated, touched, damaged.kind, f"{damaged.told}; cut after {held} blocks")
 
 
 def longer(dice: random.Random, damaged: Damaged, blocks: int) -> Damaged:

@@ -9,7 +9,7 @@ from typing import Dict, Iterator, List, NamedTuple, Optional, Set, Tuple
 from truth_damage import Damaged
 from truth_volumes import POINTERS, Date, Ghost, History, Path, Thing, slot
 
-COLUMNS = ("cases", "live", "kept", "untouched", "back", "not back", "wrong", "risen", "silent", "told", "unseen", "survey", "cat", "left")
+COLUMNS = ("cases", "live", "kept", "untouched", "back", "not back", "wrong", "risen", "silent", "told", "unseen", "alarm", "survey", "cat", "left")
 FAILURES = ("not back", "wrong", "risen", "silent", "survey", "cat", "left")
 
 
@@ -75,6 +75,8 @@ class Judge:
         for path, back in answer.things.items():
             if path not in history.live:
                 self.judge_extra(path, back)
+        whole = not self.amiss and answer.things.keys() == history.live.keys()
+        self.counts["alarm"] += whole and not self.is_zero
         self.judge_survey()
 
     def fail(self, column: str, text: str) -> None:

@@ -1,0 +1,155 @@
+"""Which headers are given back, by the witnesses of bench/evidence_image.py: what chains lead to, and what nothing leads to but was lost.
+
+A header with a right sum has one home: the directory and the slot that it says itself. So chains say whether it is live, not where it is,
+and the order in which chains are followed changes nothing.
+"""
+
+from __future__ import annotations
+
+from typing import Dict, List, NamedTuple, Optional, Set, Tuple
+
+from evidence_image import KINDS, LINKS, Bitmap, Image
+from truth_volumes import DIR, FILE, POINTERS, SHORT, SLOTS, slot
+
+Home = Tuple[int, int]
+REACHED, LOST, MADE, PERHAPS = "reached", "lost", "made", "perhaps"
+
+
+class Member(NamedTuple):
+    """A header that is given back: its directory, whether its sum is right, and why: a chain leads to it, it was lost, it stands for a
+    directory that was lost, or it may have been deleted."""
+
+    parent: int
+    is_sound: bool
+    why: str
+
+
+class Walk:
+    """What chains lead to, from the root on, and from each directory that is given back."""
+
+    def __init__(self, image: Image, international: bool) -> None:
+        self.image, self.international = image, international
+        self.home = {b: self.home_of(b) for b in range(2, image.blocks) if b != image.root and image.is_head(b)}
+        self.members: Dict[int, Member] = {}
+        self.broken: Set[Home] = set()  # chains that lead to what is no member of theirs
+        self.doubted: Set[int] = set()  # directories whose own words are in doubt: all their chains may be broken
+        self.led: Set[int] = set()  # blocks that broken chains lead to
+        if not image.is_root(image.root):
+            self.doubted.add(image.root)
+        self.enter(image.root, REACHED)
+
+    def home_of(self, b: int) -> Home:
+        return self.image.word(b, 125), slot(self.image.text(b, 432, 79), self.international)
+
+    def enter(self, p: int, why: str) -> None:
+        """Takes what the chains of a directory lead to, and those of the directories found so; sound headers before all others."""
+        directories, weak = [p], []
+        while directories or weak:
+            if directories:
+                p = directories.pop(0)
+                chains = [(p, s, self.image.word(p, 6 + s)) for s in range(SLOTS)]
+            else:
+                p, s, b = weak.pop(0)
+                chains = [(p, s, self.image.word(b, 124))] if b not in self.members else []
+                if chains:
+                    directories += self.take(b, p, why)
+            for p, s, b in chains:
+                while b and b not in self.members and self.home.get(b) == (p, s):
+                    directories += self.take(b, p, why)
+                    b = self.image.word(b, 124)
+                if b and self.breaks(p, s, b):
+                    weak.append((p, s, b))
+
+    def take(self, b: int, p: int, why: str) -> List[int]:
+        """The header is a member; answers it if it is a directory."""
+        self.members[b] = Member(p, b in self.home, why)
+        if b not in self.home:
+            self.doubted.add(b)
+        return [b] if self.kind(b) == DIR else []
+
+    def breaks(self, p: int, s: int, b: int) -> bool:
+        """The chain leads to what is no member of it; whether that may be one with wrong words."""
+        self.broken.add((p, s))
+        if not self.image.has(b) or b == self.image.root or b in self.members:
+            return False
+        self.led.add(b)
+        return self.is_like_member(p, s, b)
+
+    def is_like_member(self, p: int, s: int, b: int) -> bool:
+        """Four of the five words of a header in this chain are there, or three with its directory; of a sound one all but its slot."""
+        w, here = self.image.words(b), self.image.word(b, 125) == p
+        if b in self.home:
+            return here
+        voices = (w[0] == SHORT) + (w[1] == b) + (w[127] in KINDS) + here + (self.home_of(b)[1] == s)
+        return voices >= (3 if here else 4)
+
+    def kind(self, b: int) -> int:
+        """What a header is; where its sum is wrong, a directory if its table leads to a header that names it, or if one bit is wrong."""
+        said = self.image.word(b, 127)
+        if b in self.home or said in (FILE, DIR):
+            return said
+        leads = any(self.home.get(self.image.word(b, 6 + s)) == (b, s) for s in range(SLOTS))
+        return DIR if leads or bin(said ^ DIR).count("1") == 1 and said not in LINKS else FILE
+
+    def is_open(self, home: Home) -> bool:
+        """The way to a header with this home may be broken."""
+        return home[0] in self.doubted or home in self.broken
+
+
+class Finding:
+    """What nothing leads to, and is given back: lost headers in the directories that they name, and directories made for those of which
+    nothing is left."""
+
+    def __init__(self, walk: Walk, bitmap: Bitmap, firm: Set[int], chunk: int) -> None:
+        self.walk, self.bitmap, self.image, self.chunk = walk, bitmap, walk.image, chunk
+        self.firm = firm  # the blocks of all parts that are reached
+        self.trusted = bitmap.is_valid and not any(bitmap.free(b) for b in walk.members)
+        self.waiting: Dict[int, List[int]] = {}
+        for h, (p, _) in walk.home.items():
+            if h not in walk.members:
+                self.waiting.setdefault(p, []).append(h)
+        self.hang([self.image.root, *walk.members])
+        for p in sorted(self.waiting):
+            if self.may_be_made(p) and any(map(self.verdict, self.waiting[p])):
+                walk.members[p] = Member(self.image.root, True, MADE)
+                walk.doubted.add(p)
+                self.hang([p])
+
+    def own(self, h: int) -> List[int]:
+        """A header and the blocks that its own table names."""
+        if self.walk.kind(h) != FILE:
+            return [h]
+        count = min(-(-self.image.word(h, 81) // self.chunk), POINTERS)
+        return [h, *(self.image.word(h, 77 - k) for k in range(count))]
+
+    def verdict(self, h: int) -> Optional[str]:
+        """Why a header that nothing leads to is given back; None if it was deleted."""
+        own = self.own(h)
+        if not self.firm.isdisjoint(own) or self.trusted and any(map(self.bitmap.free, own)):
+            return None
+        is_open, is_used = self.walk.is_open(self.walk.home[h]), self.bitmap.free(h) is False
+        if is_open and is_used and self.trusted:
+            return LOST
+        return PERHAPS if is_open or is_used else None
+
+    def hang(self, directories: List[int]) -> None:
+        """Gives back what waits for these directories, and for those that are found so."""
+        while directories:
+            p = directories.pop(0)
+            is_dir = p == self.image.root or self.walk.members[p].why == MADE or self.walk.kind(p) == DIR
+            for h in self.waiting.pop(p, []) if is_dir else []:
+                why = None if h in self.walk.members else self.verdict(h)
+                if why:
+                    before = len(self.walk.members)
+                    self.walk.members[h] = Member(p, True, why)
+                    if self.walk.kind(h) == DIR:
+                        self.walk.enter(h, why)
+                    directories += list(self.walk.members)[before:]
+
+    def may_be_made(self, p: int) -> bool:
+        """Headers name it as their directory; it is no header any more and no part that is reached, and a broken chain led to it."""
+        if not self.image.has(p) or p in self.walk.home or p in self.firm or p in self.walk.members:
+            return False
+        if self.trusted and self.bitmap.free(p) is not None:
+            return self.bitmap.free(p) is False
+        return p in self.walk.led or bool(self.walk.broken or self.walk.doubted)
