@@ -20,7 +20,7 @@ sys.dont_write_bytecode = True
 from evidence_image import LINKS, Bitmap, Image
 from evidence_walk import LOST, MADE, PERHAPS, REACHED, Finding, Walk
 from truth_judge import Answer, Back, Line, Listed
-from truth_volumes import DIR, FILE, POINTERS, Path, upper
+from truth_volumes import FILE, POINTERS, Path, upper
 
 RANK = {REACHED: 0, MADE: 0, LOST: 1, PERHAPS: 2}
 DOUBTED = 3
@@ -42,7 +42,7 @@ class Files:
         self.walk, self.image, self.bitmap = walk, walk.image, bitmap
         self.is_ffs, self.chunk = is_ffs, 512 if is_ffs else 488
         self.tables: Dict[int, Table] = {}
-        self.claims: Dict[int, List[Tuple[int, int]]] = {}
+        self.claims: Dict[int, Tuple[int, int, bool]] = {}  # of each data block the best rank, the first with it, and whether it is alone
         self.parts: Set[int] = {page for page in bitmap.pages if page} | set(bitmap.maps) | ({self.image.root} if bitmap.is_like_root else set())
 
     def know(self) -> None:
@@ -53,16 +53,22 @@ class Files:
                 self.tables[h] = self.table(h)
                 self.parts.update(self.tables[h].exts)
                 for d in self.tables[h].datas:
-                    self.claims.setdefault(d, []).append((self.rank(h), h))
+                    self.claim(d, self.rank(h), h)
+
+    def claim(self, d: int, rank: int, h: int) -> None:
+        best, first, _ = self.claims.get(d, (rank + 1, 0, False))
+        if rank <= best:
+            self.claims[d] = rank, h if rank < best else first, rank < best
 
     def table(self, h: int) -> Table:
         count = -(-self.image.word(h, 81) // self.chunk)
-        needed, exts, at = min(count, self.image.blocks), [], h
+        needed, at = min(count, self.image.blocks), h
+        exts: List[int] = []
         numbers: List[int] = []
         while True:
             numbers += [self.image.word(at, 77 - k) for k in range(min(POINTERS, needed - len(numbers)))]
             at = self.image.word(at, 126)
-            if len(numbers) == needed or at in exts or not self.image.is_ext(at, h):
+            if len(numbers) == needed or not self.image.is_ext(at, h):
                 return Table(exts, numbers + [0] * (needed - len(numbers)), len(numbers) == count)
             exts.append(at)
 
@@ -72,7 +78,7 @@ class Files:
 
     def firm(self) -> Set[int]:
         """The blocks of what is reached: those that parts are in, and the data that files with right sums claim."""
-        return self.parts | {d for d, claims in self.claims.items() if min(claims)[0] == 0 and self.is_ffs}
+        return self.parts | {d for d, (rank, _, _) in self.claims.items() if rank == 0 and self.is_ffs}
 
     def is_good(self, h: int, k: int) -> bool:
         """The block that the table names for data block k, from 1 on, is the file's own."""
@@ -81,9 +87,7 @@ class Files:
             return False
         if not self.is_ffs:
             return self.image.is_data(d, h, k)
-        ranks = [rank for rank, _ in self.claims[d]]
-        is_first = min(self.claims[d]) == (self.rank(h), h) and ranks.count(min(ranks)) == 1
-        return is_first and d not in self.parts and not self.image.is_data(d, h, k) and not self.is_header(h, k, d)
+        return self.claims[d] == (self.rank(h), h, True) and d not in self.parts and not self.image.is_data(d, h, k) and not self.is_header(h, k, d)
 
     def is_header(self, h: int, k: int, d: int) -> bool:
         """The block is a header by its own words. A last piece of three bytes or fewer may have left an old one as it was."""
@@ -103,7 +107,8 @@ class Files:
 
     def remains(self, h: int) -> Tuple[bytes, List[range]]:
         """What is left of a file, with zeros for what is not in a block of its own, and the ranges of these."""
-        size, out, gaps = min(self.image.word(h, 81), len(self.image.bytes)), bytearray(), []
+        size, out = min(self.image.word(h, 81), len(self.image.bytes)), bytearray()
+        gaps: List[range] = []
         for k in range(1, -(-size // self.chunk) + 1):
             many = min(self.chunk, size - self.chunk * (k - 1))
             held = self.held(h, k, many)
@@ -131,15 +136,12 @@ class Reading:
         self.given = {h: self.content(h) for h in walk.members if self.is_given(h)}
         self.place()
 
-    def is_dir(self, h: int) -> bool:
-        return self.walk.members[h].why == MADE or self.walk.kind(h) == DIR
-
     def is_given(self, h: int) -> bool:
         """A directory, or a whole file."""
-        return self.is_dir(h) or h in self.files.tables and self.files.is_whole(h)
+        return self.walk.is_dir(h) or h in self.files.tables and self.files.is_whole(h)
 
     def content(self, h: int) -> Optional[bytes]:
-        return None if self.is_dir(h) else self.files.remains(h)[0]
+        return None if self.walk.is_dir(h) else self.files.remains(h)[0]
 
     # Names
 

@@ -6,7 +6,8 @@ and the order in which chains are followed changes nothing.
 
 from __future__ import annotations
 
-from typing import Dict, List, NamedTuple, Optional, Set, Tuple
+from collections import deque
+from typing import Deque, Dict, List, NamedTuple, Optional, Set, Tuple
 
 from evidence_image import KINDS, LINKS, Bitmap, Image
 from truth_volumes import DIR, FILE, POINTERS, SHORT, SLOTS, slot
@@ -31,41 +32,43 @@ class Walk:
         self.image, self.international = image, international
         self.home = {b: self.home_of(b) for b in range(2, image.blocks) if b != image.root and image.is_head(b)}
         self.members: Dict[int, Member] = {}
+        self.order = [image.root]  # the root and the members, each behind its directory
         self.broken: Set[Home] = set()  # chains that lead to what is no member of theirs
         self.doubted: Set[int] = set()  # directories whose own words are in doubt: all their chains may be broken
         self.led: Set[int] = set()  # blocks that broken chains lead to
         if not image.is_root(image.root):
             self.doubted.add(image.root)
-        self.enter(image.root, REACHED)
+        self.enter(0, REACHED)
 
     def home_of(self, b: int) -> Home:
         return self.image.word(b, 125), slot(self.image.text(b, 432, 79), self.international)
 
-    def enter(self, p: int, why: str) -> None:
-        """Takes what the chains of a directory lead to, and those of the directories found so; sound headers before all others."""
-        directories, weak = [p], []
-        while directories or weak:
-            if directories:
-                p = directories.pop(0)
-                chains = [(p, s, self.image.word(p, 6 + s)) for s in range(SLOTS)]
+    def enter(self, at: int, why: str) -> None:
+        """Takes what leads on from the members from a place in their order on; sound headers before all others."""
+        weak: Deque[Tuple[int, int, int]] = deque()
+        while at < len(self.order) or weak:
+            if at < len(self.order):
+                p, at = self.order[at], at + 1
+                chains = [(p, s, self.image.word(p, 6 + s)) for s in range(SLOTS)] if self.is_dir(p) else []
             else:
-                p, s, b = weak.pop(0)
-                chains = [(p, s, self.image.word(b, 124))] if b not in self.members else []
-                if chains:
-                    directories += self.take(b, p, why)
+                p, s, b = weak.popleft()
+                chains = [] if b in self.members else [(p, s, self.taken(b, Member(p, b in self.home, why)))]
             for p, s, b in chains:
                 while b and b not in self.members and self.home.get(b) == (p, s):
-                    directories += self.take(b, p, why)
-                    b = self.image.word(b, 124)
+                    b = self.taken(b, Member(p, True, why))
                 if b and self.breaks(p, s, b):
                     weak.append((p, s, b))
 
-    def take(self, b: int, p: int, why: str) -> List[int]:
-        """The header is a member; answers it if it is a directory."""
-        self.members[b] = Member(p, b in self.home, why)
-        if b not in self.home:
+    def taken(self, b: int, member: Member) -> int:
+        """The header is a member; answers the next one of its chain."""
+        self.members[b] = member
+        self.order.append(b)
+        if not member.is_sound:
             self.doubted.add(b)
-        return [b] if self.kind(b) == DIR else []
+        return self.image.word(b, 124)
+
+    def is_dir(self, b: int) -> bool:
+        return b == self.image.root or self.members[b].why == MADE or self.kind(b) == DIR
 
     def breaks(self, p: int, s: int, b: int) -> bool:
         """The chain leads to what is no member of it; whether that may be one with wrong words."""
@@ -108,12 +111,13 @@ class Finding:
         for h, (p, _) in walk.home.items():
             if h not in walk.members:
                 self.waiting.setdefault(p, []).append(h)
-        self.hang([self.image.root, *walk.members])
+        self.done = 0
+        self.hang()
         for p in sorted(self.waiting):
             if self.may_be_made(p) and any(map(self.verdict, self.waiting[p])):
-                walk.members[p] = Member(self.image.root, True, MADE)
+                walk.taken(p, Member(self.image.root, True, MADE))
                 walk.doubted.add(p)
-                self.hang([p])
+                self.hang()
 
     def own(self, h: int) -> List[int]:
         """A header and the blocks that its own table names."""
@@ -132,19 +136,16 @@ class Finding:
             return LOST
         return PERHAPS if is_open or is_used else None
 
-    def hang(self, directories: List[int]) -> None:
-        """Gives back what waits for these directories, and for those that are found so."""
-        while directories:
-            p = directories.pop(0)
-            is_dir = p == self.image.root or self.walk.members[p].why == MADE or self.walk.kind(p) == DIR
-            for h in self.waiting.pop(p, []) if is_dir else []:
+    def hang(self) -> None:
+        """Gives back what waits for the directories that are given back, each directory before what is in it."""
+        while self.done < len(self.walk.order):
+            p, self.done = self.walk.order[self.done], self.done + 1
+            for h in self.waiting.pop(p, []) if self.walk.is_dir(p) else []:
                 why = None if h in self.walk.members else self.verdict(h)
                 if why:
-                    before = len(self.walk.members)
-                    self.walk.members[h] = Member(p, True, why)
-                    if self.walk.kind(h) == DIR:
-                        self.walk.enter(h, why)
-                    directories += list(self.walk.members)[before:]
+                    at = len(self.walk.order)
+                    self.walk.taken(h, Member(p, True, why))
+                    self.walk.enter(at, why)
 
     def may_be_made(self, p: int) -> bool:
         """Headers name it as their directory; it is no header any more and no part that is reached, and a broken chain led to it."""

@@ -75,7 +75,7 @@ class Judge:
         for path, back in answer.things.items():
             if path not in history.live:
                 self.judge_extra(path, back)
-        whole = not self.amiss and answer.things.keys() == history.live.keys()
+        whole = not self.amiss and (set(answer.things), answer.label, answer.dates) == (set(history.live), history.label, history.dates)
         self.counts["alarm"] += whole and not self.is_zero
         self.judge_survey()
 
@@ -146,7 +146,7 @@ class Judge:
         if image[:4] == history.image[:4] and history.root not in self.damaged.touched:
             return False
         reached = [thing for thing in history.live.values() if thing.parent and not self.is_below(thing.parent)]
-        return sum(any(d not in self.damaged.touched for d in thing.datas) for thing in history.live.values()) < 4
+        return sum(any(d not in self.damaged.touched for d in thing.datas) for thing in reached) < (4 if len(self.damaged.touched) == 1 else 8)
 
     def is_as_it_was(self, path: Path, thing: Thing) -> bool:
         back = self.answer.things.get(path)

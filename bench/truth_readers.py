@@ -2,13 +2,14 @@
 
 from __future__ import annotations
 
+import os
+import re
+import subprocess
 import warnings
 from typing import Dict, List, Optional, Tuple
 
-try:
-    import adf
-except ImportError:
-    pass
+import adf
+from adf._rescues import LeftOut, rescue
 from truth_judge import Answer, Back, Line, Listed
 from truth_volumes import Path
 
@@ -34,7 +35,7 @@ def tree_of(image: bytes) -> Tuple[Dict[Path, Back], bytes, Tuple[Tuple[int, int
     return things, volume.raw_label, tuple(map(date_of, (volume.date, volume.altered, volume.created)))
 
 
-def line_of(left: adf.LeftOut) -> Line:
+def line_of(left: LeftOut) -> Line:
     if left.directory is not None:
         return Line(str(left), None, path_of(left.raw_path))
     if left.is_entry:
@@ -62,11 +63,36 @@ def programs(image: bytes, blocks: Optional[int]) -> Answer:
     """By the library, which does what the programs do."""
     has_findings, listed = survey_of(image, blocks)
     try:
-        new, left_out = adf.rescue(image, blocks)
+        new, left_out = rescue(image, blocks)
     except adf.Refused:
         return Answer({}, [], b"", (), True, listed, True)
     things, label, dates = tree_of(new)
     return Answer(things, [line_of(each) for each in left_out], label, dates, has_findings, listed)
+
+
+def line_told(text: str) -> Line:
+    """A line of `adf-survey rescue`, by its text alone."""
+    why, _, rest = text.partition(": ")
+    plain = re.sub(r"\\x([0-9a-f]{2})", lambda found: chr(int(found[1], 16)), rest).encode("latin-1")
+    blocks = re.fullmatch(r"blocks? (\d+)(?: to (\d+))?", rest)
+    if why == "lost" and blocks:
+        return Line(text, None, None, range(int(blocks[1]), int(blocks[2] or blocks[1]) + 1))
+    if why == "lost" and rest.startswith("in "):
+        return Line(text, None, path_of(plain[3:-1]))
+    return Line(text, path_of(plain))
+
+
+def commands(image: bytes, blocks: Optional[int]) -> Answer:
+    """By the program that ADF_SURVEY names; its survey by the library."""
+    has_findings, listed = survey_of(image, blocks)
+    words = [os.environ["ADF_SURVEY"], *([] if blocks is None else ["--blocks", str(blocks)]), "rescue"]
+    done = subprocess.run(words, input=image, capture_output=True)
+    lines = [line_told(line[len("adf-survey: ") :]) for line in done.stderr.decode().splitlines()]
+    if not done.stdout:
+        return Answer({}, [], b"", (), True, listed, True)
+    things, label, dates = tree_of(done.stdout)
+    assert done.returncode == bool(lines)
+    return Answer(things, lines, label, dates, has_findings, listed)
 
 
 def evidence(image: bytes, blocks: Optional[int]) -> Answer:

@@ -117,13 +117,19 @@ class Volume:
         self.chunk = 512 if kind % 2 else 488
         pages = -(-(self.blocks - 2) // PAGE_BITS)
         maps = max(0, -(-(pages - ROOT_PAGES) // MAP_PAGES))
-        self.pages = [self.root + 1 + i for i in range(pages)]
-        self.maps = [self.root + 1 + pages + i for i in range(maps)]
+        places = self.places(pages + maps)
+        self.pages, self.maps = places[:pages], places[pages:]
         self.used: Set[int] = {self.root, *self.pages, *self.maps}
         self.rover, self.tree = self.root, Thing(b"", None, self.root)
         self.image[:1024] = b"DOS" + bytes([kind]) + bytes(1020)
         self.write_root()
         self.sync()
+
+    def places(self, count: int) -> List[int]:
+        """Where the bitmap is: behind the root as a rule."""
+        if self.dice.random() < 0.9:
+            return [self.root + 1 + i for i in range(count)]
+        return self.dice.sample([b for b in range(2, self.blocks) if b != self.root], count)
 
     def write_root(self) -> None:
         r = self.root
