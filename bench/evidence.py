@@ -87,12 +87,7 @@ class Files:
             return False
         if not self.is_ffs:
             return self.image.is_data(d, h, k)
-        return self.claims[d] == (self.rank(h), h, True) and d not in self.parts and not self.image.is_data(d, h, k) and not self.is_header(h, k, d)
-
-    def is_header(self, h: int, k: int, d: int) -> bool:
-        """The block is a header by its own words. A last piece of three bytes or fewer may have left an old one as it was."""
-        left = self.image.word(h, 81) - self.chunk * (k - 1)
-        return d in self.walk.home and (left > 3 or bool(self.bitmap.free(d)))
+        return self.claims[d] == (self.rank(h), h, True) and d not in self.parts and not self.image.is_data(d, h, k) and d not in self.walk.home
 
     def is_whole(self, h: int) -> bool:
         """Each block of the file is its own, and its header's sum is right."""
@@ -259,11 +254,11 @@ def lengths(given: bytes, blocks: Optional[int]) -> Tuple[int, List[Line]]:
 
 
 def walked(image: Image, stated: bool) -> Walk:
-    """The walk by the letters that the type states, unless those of the other kind of type lead to more."""
+    """The walk by the letters that the type states, unless those of the other types lead to more, or to as much with fewer broken chains."""
     walk = Walk(image, stated)
     accented = any(max(image.text(b, 432, 30), default=0) >= 0xE0 for b in walk.home)
     other = Walk(image, not stated) if accented and walk.broken else walk
-    return other if len(other.members) > len(walk.members) else walk
+    return max(walk, other, key=lambda walk: (len(walk.members), -len(walk.broken)))
 
 
 def says_kind(walk: Walk, h: int) -> Optional[int]:
@@ -284,8 +279,9 @@ def is_ffs(walk: Walk, stated: Optional[int]) -> bool:
     if len(said) < (2 if stated is None else 1):
         newest = sorted(walk.home, key=walk.image.date, reverse=True)
         said = [kind for kind in (says_kind(walk, h) for h in newest) if kind is not None][:5]
+    silent = 1 if stated == 0 and any(says_kind(walk, h) == 0 for h in walk.home) else 2
     ofs = 4 * said.count(0) + 3 * (stated == 0)
-    ffs = 4 * said.count(1) + said.count(2) * (1 if stated == 0 else 2) + 3 * (stated == 1)
+    ffs = 4 * said.count(1) + silent * said.count(2) + 3 * (stated == 1)
     return ffs > ofs or ffs == ofs and stated == 1
 
 

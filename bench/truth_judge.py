@@ -166,20 +166,17 @@ class Judge:
 
     def is_unseen(self, thing: Thing, k: int) -> bool:
         """Let off: FFS data that was changed in place; and an FFS table that names another block, with its sum made right, unless that
-        block is another file's, a header by its own words (of which a last piece of three bytes may be a part), or free by the bitmap."""
+        block is another file's, or a header by its own words."""
         if self.history.volume.chunk == 488:
             return False
         if thing.datas[k] in self.damaged.touched:
             return True
-        image, owner = self.damaged.image, self.history.owner
+        image, owned = self.damaged.image, self.history.owner
         d = word(image, thing.header, 77 - k) if k < POINTERS else thing.datas[k]
         if d == thing.datas[k] or not sealed(image, thing.header):
             return False
         says_head = sealed(image, d) and (word(image, d, 0), word(image, d, 1)) == (2, d)
-        if says_head:
-            known = d in owner and self.is_untouched(self.history.live[owner[d]]) or self.has_bitmap and d not in self.history.volume.used
-            return len(thing.content or b"") - 512 * k <= 3 and not known
-        return d not in owner or d in self.damaged.touched
+        return not says_head and (d not in owned or not self.is_untouched(self.history.live[owned[d]]))
 
     @property
     def has_bitmap(self) -> bool:

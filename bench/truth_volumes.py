@@ -299,10 +299,11 @@ class Volume:
             self.seal(at)
 
     def write_data(self, thing: Thing, k: int, piece: bytes) -> None:
-        """Data block k; what stood in the block behind the piece stays there."""
+        """Data block k; behind a short piece zeros, or what a buffer held of another block."""
         d, after = thing.datas[k], thing.datas[k + 1] if k + 1 < len(thing.datas) else 0
-        start = 512 * d + 512 - self.chunk
-        self.image[start : start + len(piece)] = piece
+        start, buffer = 512 * d + 512 - self.chunk, 512 * self.dice.choice([thing.header, self.root, 0]) + 512 - self.chunk
+        rest = bytes(self.image[buffer : buffer + self.chunk]) if self.dice.random() < 0.3 else bytes(self.chunk)
+        self.image[start : start + self.chunk] = piece + rest[len(piece) :]
         if self.chunk == 488:
             pack_into(">5I", self.image, 512 * d, DATA, thing.header, k + 1, len(piece), after)
             self.seal(d)
