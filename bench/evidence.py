@@ -279,9 +279,8 @@ def is_ffs(walk: Walk, stated: Optional[int]) -> bool:
     if len(said) < (2 if stated is None else 1):
         newest = sorted(walk.home, key=walk.image.date, reverse=True)
         said = [kind for kind in (says_kind(walk, h) for h in newest) if kind is not None][:5]
-    silent = 1 if stated == 0 and any(says_kind(walk, h) == 0 for h in walk.home) else 2
     ofs = 4 * said.count(0) + 3 * (stated == 0)
-    ffs = 4 * said.count(1) + silent * said.count(2) + 3 * (stated == 1)
+    ffs = 4 * said.count(1) + said.count(2) * (1 if stated == 0 else 2) + 3 * (stated == 1)
     return ffs > ofs or ffs == ofs and stated == 1
 
 

@@ -67,7 +67,8 @@ class Judge:
         self.named = [path for path in {*named, *map(self.canonical, named)} if path is not None]
         self.within = {path for path in {*within, *map(self.canonical, within)} if path is not None}
         self.told = [line.blocks for line in answer.lines if line.blocks]
-        self.relinked = set() if self.has_bitmap else self.chains_that_lie()
+        self.relinked = set() if self.has_bitmap else self.chains_that_lie(True)
+        self.misled = set() if self.has_bitmap else self.chains_that_lie(False)
         self.amiss = {path for path, thing in history.live.items() if not self.is_as_it_was(path, thing)}
         self.judge_root()
         for path, thing in history.live.items():
@@ -206,21 +207,24 @@ class Judge:
         elif not told:
             self.fail("wrong", f"{path}: {back[1:]} for {(thing.comment, thing.protection, thing.date)}; {self.answer.lines}")
 
-    def chains_that_lie(self) -> Set[Tuple[int, int]]:
+    def chains_that_lie(self, by_sum: bool) -> Set[Tuple[int, int]]:
         """Let off: chains, by directory and slot, of which a word was made to lead past members or to a deleted one, with its sum made
-        right, so that it is a chain; where no bitmap tells."""
+        right, so that it is a chain; where no bitmap tells. For `cat` also where the sum is wrong, since a line says so of the directory."""
         image, letters = self.damaged.image, self.history.volume.international
         lies = set()
         for h in self.damaged.touched:
-            if sealed(image, h) and word(image, h, 0) == 2:
+            if 512 * h < len(image) and (sealed(image, h) or not by_sum) and word(image, h, 0) == 2:
                 for b in [word(image, h, i) for i in (*range(6, 78), 124) if word(image, h, i) != word(self.history.image, h, i)]:
                     if sealed(image, b) and (word(image, b, 0), word(image, b, 1)) == (2, b):
                         lies.add((word(image, b, 125), slot(name_at(image, b), letters)))
         return lies
 
     def is_relinked(self, header: int) -> bool:
+        return self.home_of(header) in self.relinked
+
+    def home_of(self, header: int) -> Tuple[int, int]:
         image = self.history.image
-        return (word(image, header, 125), slot(name_at(image, header), self.history.volume.international)) in self.relinked
+        return word(image, header, 125), slot(name_at(image, header), self.history.volume.international)
 
     def is_past(self, thing: Thing) -> bool:
         """It, or a directory above it, is in a chain that lies."""
@@ -302,7 +306,7 @@ class Judge:
         back = each.back._replace(content=each.left)
         ghosts = [ghost for ghost in self.history.volume.ghosts if self.is_ghost(ghost, each.path, back)]
         believed = self.history.state in ("stale", "foreign") and any(self.history.says_used(ghost.header) for ghost in ghosts)
-        believed = believed or any(self.is_relinked(ghost.header) for ghost in ghosts)
+        believed = believed or any(self.home_of(ghost.header) in self.misled for ghost in ghosts)
         return each.is_sound and bool(ghosts) and not believed and not self.is_moved(each.path, back)
 
     def is_left_of_ghost(self, each: Listed) -> bool:
