@@ -87,7 +87,7 @@ class Files:
             return False
         if not self.is_ffs:
             return self.image.is_data(d, h, k)
-        return self.claims[d] == (self.rank(h), h, True) and d not in self.parts and not self.image.is_data(d, h, k) and d not in self.walk.home
+        return self.claims[d] == (self.rank(h), h, True) and d not in self.parts and d not in self.walk.home
 
     def is_whole(self, h: int) -> bool:
         """Each block of the file is its own, and its header's sum is right."""
@@ -261,27 +261,18 @@ def walked(image: Image, stated: bool) -> Walk:
     return max(walk, other, key=lambda walk: (len(walk.members), -len(walk.broken)))
 
 
-def says_kind(walk: Walk, h: int) -> Optional[int]:
-    """What a file with bytes says of the kind: 0 is OFS and 1 is FFS, by its data blocks or by how many its table names; 2 if neither."""
-    image, size = walk.image, walk.image.word(h, 81)
-    numbers = [image.word(h, 77 - k) for k in range(POINTERS)]
-    if walk.kind(h) != FILE or size == 0 or not numbers[0]:
-        return None
-    if any(image.is_data(d, h, k + 1) for k, d in enumerate(numbers)):
-        return 0
-    counts, count = [min(POINTERS, -(-size // chunk)) for chunk in (488, 512)], POINTERS - numbers.count(0)
-    return 2 if counts[0] == counts[1] or count not in counts else counts.index(count)
+def says_ofs(walk: Walk, h: int) -> bool:
+    """One of the data blocks that the header of a file names says that it is an OFS one of that file."""
+    return any(walk.image.is_data(walk.image.word(h, 77 - k), h, k + 1) for k in range(POINTERS))
 
 
 def is_ffs(walk: Walk, stated: Optional[int]) -> bool:
-    """The kind that most files say that are reached; where none is, the newest that there are, since what an older volume left is older."""
-    said = [kind for h, member in walk.members.items() if member.is_sound for kind in [says_kind(walk, h)] if kind is not None]
-    if len(said) < (2 if stated is None else 1):
-        newest = sorted(walk.home, key=walk.image.date, reverse=True)
-        said = [kind for kind in (says_kind(walk, h) for h in newest) if kind is not None][:5]
-    ofs = 4 * said.count(0) + 3 * (stated == 0)
-    ffs = 4 * said.count(1) + said.count(2) * (1 if stated == 0 else 2) + 3 * (stated == 1)
-    return ffs > ofs or ffs == ofs and stated == 1
+    """The kind: FFS unless most files with bytes say OFS; where OFS is stated, FFS only if there are four or more and none says OFS. Asked
+    are the files that are reached; if none is, the five newest, since what an older volume left is older."""
+    full = [h for h in walk.home if walk.kind(h) == FILE and walk.image.word(h, 81)]
+    asked = [h for h in full if h in walk.members] or sorted(full, key=walk.image.date, reverse=True)[:5]
+    ofs = sum(says_ofs(walk, h) for h in asked)
+    return len(asked) >= 4 and ofs == 0 if stated == 0 else 2 * ofs <= len(asked)
 
 
 def chosen(image: Image, given: bytes) -> Tuple[Reading, List[Line]]:

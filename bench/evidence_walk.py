@@ -6,8 +6,7 @@ and the order in which chains are followed changes nothing.
 
 from __future__ import annotations
 
-from collections import deque
-from typing import Deque, Dict, List, NamedTuple, Optional, Set, Tuple
+from typing import Dict, List, NamedTuple, Optional, Set, Tuple
 
 from evidence_image import KINDS, LINKS, Bitmap, Image
 from truth_volumes import DIR, FILE, POINTERS, SHORT, SLOTS, slot
@@ -44,20 +43,23 @@ class Walk:
         return self.image.word(b, 125), slot(self.image.text(b, 432, 79), self.international)
 
     def enter(self, at: int, why: str) -> None:
-        """Takes what leads on from the members from a place in their order on; sound headers before all others."""
-        weak: Deque[Tuple[int, int, int]] = deque()
-        while at < len(self.order) or weak:
-            if at < len(self.order):
-                p, at = self.order[at], at + 1
-                chains = [(p, s, self.image.word(p, 6 + s)) for s in range(SLOTS)] if self.is_dir(p) else []
-            else:
-                p, s, b = weak.popleft()
-                chains = [] if b in self.members else [(p, s, self.taken(b, Member(p, b in self.home, why)))]
-            for p, s, b in chains:
-                while b and b not in self.members and self.home.get(b) == (p, s):
-                    b = self.taken(b, Member(p, True, why))
-                if b and self.breaks(p, s, b):
-                    weak.append((p, s, b))
+        """Takes what the chains lead to of the directories from a place in their order on, and of those that are found so."""
+        while at < len(self.order):
+            p, at = self.order[at], at + 1
+            for s in range(SLOTS) if self.is_dir(p) else ():
+                b = self.image.word(p, 6 + s)
+                while b and self.is_next(p, s, b):
+                    b = self.taken(b, Member(p, b in self.home, why))
+
+    def is_next(self, p: int, s: int, b: int) -> bool:
+        """The block that a chain leads to is a member of it; where it is not wholly one, the chain is broken there."""
+        if self.home.get(b) == (p, s) and b not in self.members:
+            return True
+        self.broken.add((p, s))
+        if not self.image.has(b) or b == self.image.root or b in self.members:
+            return False
+        self.led.add(b)
+        return self.is_like_member(p, s, b)
 
     def taken(self, b: int, member: Member) -> int:
         """The header is a member; answers the next one of its chain."""
@@ -70,21 +72,13 @@ class Walk:
     def is_dir(self, b: int) -> bool:
         return b == self.image.root or self.members[b].why == MADE or self.kind(b) == DIR
 
-    def breaks(self, p: int, s: int, b: int) -> bool:
-        """The chain leads to what is no member of it; whether that may be one with wrong words."""
-        self.broken.add((p, s))
-        if not self.image.has(b) or b == self.image.root or b in self.members:
-            return False
-        self.led.add(b)
-        return self.is_like_member(p, s, b)
-
     def is_like_member(self, p: int, s: int, b: int) -> bool:
-        """Four of the five words of a header in this chain are there, or three with its directory; of a sound one all but its slot."""
+        """Four of the five words of a header in this chain are there; of one with a right sum all but its slot."""
         w, here = self.image.words(b), self.image.word(b, 125) == p
         if b in self.home:
             return here
         voices = (w[0] == SHORT) + (w[1] == b) + (w[127] in KINDS) + here + (self.home_of(b)[1] == s)
-        return voices >= (3 if here else 4)
+        return voices >= 4
 
     def kind(self, b: int) -> int:
         """What a header is; where its sum is wrong, a directory if its table leads to a header that names it, or if one bit is wrong."""

@@ -9,7 +9,7 @@ from typing import Dict, Iterator, List, NamedTuple, Optional, Set, Tuple
 from truth_damage import Damaged
 from truth_volumes import POINTERS, Date, Ghost, History, Path, Thing, slot
 
-COLUMNS = ("cases", "live", "kept", "untouched", "back", "not back", "wrong", "risen", "silent", "told", "unseen", "alarm", "survey", "cat", "left")
+COLUMNS = ("cases", "live", "kept", "moved", "untouched", "back", "not back", "wrong", "risen", "silent", "told", "unseen", "alarm", "survey", "cat", "left")
 FAILURES = ("not back", "wrong", "risen", "silent", "survey", "cat", "left")
 
 
@@ -257,7 +257,10 @@ class Judge:
 
     def judge_extra(self, path: Path, back: Back) -> None:
         v = self.history.volume
-        if self.is_moved(path, back) or any(self.is_ghost(ghost, path, back) for ghost in v.limbo):
+        if self.is_moved(path, back):
+            self.counts["moved"] += 1
+            return
+        if any(self.is_ghost(ghost, path, back) for ghost in v.limbo):
             return
         extra = {p for p in self.answer.things if p not in self.history.live}
         ghosts = [ghost for ghost in v.ghosts if self.is_ghost(ghost, path, back)]
