@@ -28,7 +28,7 @@ USUAL = (1760, 3520)
 
 
 class Table(NamedTuple):
-    """The table of a file: its extension blocks, and for each data block that its size asks for the number, 0 where none is told."""
+    """The table of a file: its extension blocks, the numbers of its data blocks as far as they are told, and whether all are."""
 
     exts: List[int]
     datas: List[int]
@@ -36,7 +36,7 @@ class Table(NamedTuple):
 
 
 class Files:
-    """Which blocks are whose."""
+    """Which blocks are whose: each block is claimed by one word of one table, or by none."""
 
     def __init__(self, walk: Walk, bitmap: Bitmap, is_ffs: bool) -> None:
         self.walk, self.image, self.bitmap = walk, walk.image, bitmap
@@ -61,16 +61,15 @@ class Files:
             self.claims[d] = rank, h if rank < best else first, rank < best
 
     def table(self, h: int) -> Table:
-        count = -(-self.image.word(h, 81) // self.chunk)
-        needed, at = min(count, self.image.blocks), h
-        exts: List[int] = []
+        count, at = -(-self.image.word(h, 81) // self.chunk), h
+        exts: Dict[int, None] = {}
         numbers: List[int] = []
         while True:
-            numbers += [self.image.word(at, 77 - k) for k in range(min(POINTERS, needed - len(numbers)))]
+            numbers += [self.image.word(at, 77 - k) for k in range(min(POINTERS, count - len(numbers)))]
             at = self.image.word(at, 126)
-            if len(numbers) == needed or not self.image.is_ext(at, h):
-                return Table(exts, numbers + [0] * (needed - len(numbers)), len(numbers) == count)
-            exts.append(at)
+            if len(numbers) == count or at in exts or not self.image.is_ext(at, h):
+                return Table(list(exts), numbers, len(numbers) == count)
+            exts[at] = None
 
     def rank(self, h: int) -> int:
         member = self.walk.members[h]
