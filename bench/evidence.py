@@ -77,7 +77,7 @@ class Files:
 
     def firm(self) -> Set[int]:
         """The blocks of what is reached: those that parts are in, and the data that files with right sums claim."""
-        return self.parts | {d for d, (rank, _, _) in self.claims.items() if rank == 0 and self.is_ffs}
+        return self.parts | {d for d, (rank, _, _) in self.claims.items() if rank == 0}
 
     def is_good(self, h: int, k: int) -> bool:
         """The block that the table names for data block k, from 1 on, is the file's own."""

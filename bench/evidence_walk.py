@@ -122,11 +122,11 @@ class Finding:
 
     def verdict(self, h: int) -> Optional[str]:
         """Why a header that nothing leads to is given back; None if it was deleted."""
-        own, is_free = self.own(h), self.bitmap.free(h)
-        if not self.firm.isdisjoint(own) or self.trusted and is_free:
+        own = self.own(h)
+        if not self.firm.isdisjoint(own) or self.trusted and any(map(self.bitmap.free, own[:2])):
             return None
         is_open = self.walk.is_open(self.walk.home[h])
-        is_used = is_free is False and not any(map(self.bitmap.free, own))
+        is_used = self.bitmap.free(h) is False and not any(map(self.bitmap.free, own))
         if is_open and is_used and self.trusted:
             return LOST
         return PERHAPS if is_open or is_used else None
