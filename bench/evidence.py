@@ -241,7 +241,7 @@ def lengths(given: bytes, blocks: Optional[int]) -> Tuple[int, List[Line]]:
     """How many blocks the volume has: another usual length where the middle is no root, and that one's is, or more headers name it."""
     stated = len(given) // 512 if blocks is None else blocks
     image = Image(given, stated)
-    if stated % 2 == 0 and stated >= 4 and image.is_root(image.root):
+    if stated % 2 == 0 and stated >= 4 and (image.is_root(image.root) or image.is_like_root(image.root)):
         return stated, []
     others = [usual for usual in USUAL if usual != stated and usual // 2 < image.held and image.is_root(usual // 2)]
     if not others:
