@@ -6,7 +6,8 @@ import random
 from struct import pack_into, unpack_from
 from typing import Callable, Dict, List, NamedTuple, Optional, Set, Tuple
 
-from truth_volumes import SLOTS, History
+from truth_histories import History
+from truth_volumes import SLOTS
 
 Fault = Callable[[random.Random, History, bytearray], Set[int]]
 WEIGHTY = (0, 1, 4, 5, 77, 78, 79, 81, 108, 124, 125, 126, 127)

@@ -7,7 +7,8 @@ from struct import unpack_from
 from typing import Dict, Iterator, List, NamedTuple, Optional, Set, Tuple
 
 from truth_damage import Damaged
-from truth_volumes import POINTERS, Date, Ghost, History, Path, Thing, slot
+from truth_histories import History
+from truth_volumes import POINTERS, Date, Ghost, Path, Thing, slot
 
 COLUMNS = ("cases", "live", "kept", "moved", "untouched", "back", "not back", "wrong", "risen", "silent", "told", "unseen", "alarm", "survey", "cat", "left")
 FAILURES = ("not back", "wrong", "risen", "silent", "survey", "cat", "left")
