@@ -108,10 +108,13 @@ class Finding:
         self.done = 0
         self.hang()
         for p in sorted(self.waiting):
-            if self.may_be_made(p) and any(map(self.verdict, self.waiting[p])):
-                walk.taken(p, Member(self.image.root, True, MADE))
+            if self.may_be_made(p):
                 walk.doubted.add(p)
-                self.hang()
+                if any(map(self.verdict, self.waiting[p])):
+                    walk.taken(p, Member(self.image.root, True, MADE))
+                    self.hang()
+                else:
+                    walk.doubted.discard(p)
 
     def own(self, h: int) -> List[int]:
         """A header and the blocks that its own table names."""
