@@ -203,7 +203,7 @@ class Judge:
             if not told and not self.is_past(thing):
                 self.fail("silent", f"{path} is missing; {self.answer.lines}")
         elif not self.same_bytes(thing, back.content):
-            if not self.stands_in(path, back) and not self.is_retyped():
+            if not self.stands_in(path, back) and not self.is_retyped() and not self.is_past(thing):
                 self.fail("wrong", f"{path} has other bytes; {self.answer.lines}")
         elif not told:
             self.fail("wrong", f"{path}: {back[1:]} for {(thing.comment, thing.protection, thing.date)}; {self.answer.lines}")
@@ -289,7 +289,7 @@ class Judge:
     def judge_survey(self) -> None:
         history, answer = self.history, self.answer
         found = {each.path for each in answer.listed}
-        if not answer.has_findings and found != set(history.live):
+        if not answer.has_findings and found != set(history.live) and not self.relinked:
             self.fail("survey", f"no findings, {sorted(set(history.live) ^ found)[:3]}")
         for each in [] if self.is_retyped() else answer.listed:
             thing = history.live.get(each.path)
@@ -300,7 +300,8 @@ class Judge:
                     self.fail("cat", f"{each.path} was deleted")
                 continue
             same = self.same_bytes(thing, each.left) and each.back[1:] == (thing.comment, thing.protection, thing.date)
-            if each.is_sound and not same and not self.stands_in(each.path, each.back._replace(content=each.left)):
+            let_off = self.is_past(thing) or self.stands_in(each.path, each.back._replace(content=each.left))
+            if each.is_sound and not same and not let_off:
                 self.fail("cat", f"{each.path} is sound, and another")
             elif not self.is_left(thing, each) and not self.is_left_of_ghost(each):
                 self.fail("left", f"{each.path}: other bytes outside of {each.gaps}")
