@@ -303,7 +303,7 @@ class Judge:
             let_off = self.is_past(thing) or self.stands_in(each.path, each.back._replace(content=each.left))
             if each.is_sound and not same and not let_off:
                 self.fail("cat", f"{each.path} is sound, and another")
-            elif not self.is_left(thing, each) and not self.is_left_of_ghost(each):
+            elif not self.is_left(thing, each) and not let_off and not self.is_left_of_ghost(each):
                 self.fail("left", f"{each.path}: other bytes outside of {each.gaps}")
 
     def is_deleted(self, each: Listed) -> bool:
