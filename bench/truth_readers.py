@@ -1,0 +1,105 @@
+"""What is judged: the programs, by the calls of the library; and the definitions of bench/evidence.py."""
+
+from __future__ import annotations
+
+import os
+import re
+import subprocess
+import warnings
+from typing import Dict, List, Optional, Tuple
+
+import adf
+from adf._rescues import LeftOut, rescue
+from truth_judge import Answer, Back, Line, Listed
+from truth_volumes import Path
+
+BEHIND_TYPE = ("international", "directory cache")
+
+
+def path_of(raw: bytes) -> Path:
+    return tuple(raw.split(b"/")) if raw else ()
+
+
+def date_of(date: object) -> Tuple[int, int, int]:
+    return tuple(date)[:3]  # type: ignore
+
+
+def tree_of(image: bytes) -> Tuple[Dict[Path, Back], bytes, Tuple[Tuple[int, int, int], ...]]:
+    """The tree of a sound volume, its label and its dates."""
+    volume, paths, things = adf.Volume(image), {0: ()}, {}
+    for entry in volume.entries:
+        path: Path = (*paths[entry.parent], entry.raw_name)
+        paths[entry.number] = path  # type: ignore
+        content = entry.read() if entry.is_file else None
+        things[path] = Back(content, entry.raw_comment, entry.protection, date_of(entry.date))
+    return things, volume.raw_label, tuple(map(date_of, (volume.date, volume.altered, volume.created)))
+
+
+def line_of(left: LeftOut) -> Line:
+    if left.directory is not None:
+        return Line(str(left), None, path_of(left.raw_path))
+    if left.is_entry:
+        return Line(str(left), path_of(left.raw_path), None, range(left.first, left.last + 1))
+    return Line(str(left), None, None, left.blocks)
+
+
+def listed_of(found: adf.Found, path: Path) -> Listed:
+    is_file = found._has_bytes()
+    left, gaps = found.remains() if is_file else (b"", [])
+    back = Back(left if is_file else None, found.raw_comment, found.protection, date_of(found.date))
+    return Listed(path, back, found.is_sound and (is_file or not found.is_file), left, gaps, bool(gaps))
+
+
+def survey_of(image: bytes, blocks: Optional[int]) -> Tuple[bool, List[Listed]]:
+    survey, paths, listed = adf.survey(image, blocks), {0: ()}, []
+    for found in survey.entries:
+        path: Path = (*paths[found.parent], found.raw_name)
+        paths[found.number] = path  # type: ignore
+        listed.append(listed_of(found, path))
+    return any(finding.cause not in BEHIND_TYPE for finding in survey.findings), listed
+
+
+def programs(image: bytes, blocks: Optional[int]) -> Answer:
+    """By the library, which does what the programs do."""
+    has_findings, listed = survey_of(image, blocks)
+    try:
+        new, left_out = rescue(image, blocks)
+    except adf.Refused:
+        return Answer({}, [], b"", (), True, listed, True)
+    things, label, dates = tree_of(new)
+    return Answer(things, [line_of(each) for each in left_out], label, dates, has_findings, listed)
+
+
+def line_told(text: str) -> Line:
+    """A line of `adf-survey rescue`, by its text alone."""
+    why, _, rest = text.partition(": ")
+    plain = re.sub(r"\\x([0-9a-f]{2})", lambda found: chr(int(found[1], 16)), rest).encode("latin-1")
+    blocks = re.fullmatch(r"blocks? (\d+)(?: to (\d+))?", rest)
+    if why == "lost" and blocks:
+        return Line(text, None, None, range(int(blocks[1]), int(blocks[2] or blocks[1]) + 1))
+    if why == "lost" and rest.startswith("in "):
+        return Line(text, None, path_of(plain[3:-1]))
+    return Line(text, path_of(plain))
+
+
+def commands(image: bytes, blocks: Optional[int]) -> Answer:
+    """By the program that ADF_SURVEY names; its survey by the library."""
+    has_findings, listed = survey_of(image, blocks)
+    words = [os.environ["ADF_SURVEY"], *([] if blocks is None else ["--blocks", str(blocks)]), "rescue"]
+    done = subprocess.run(words, input=image, capture_output=True)
+    lines = [line_told(line[len("adf-survey: ") :]) for line in done.stderr.decode().splitlines()]
+    if not done.stdout:
+        return Answer({}, [], b"", (), True, listed, True)
+    things, label, dates = tree_of(done.stdout)
+    assert done.returncode == bool(lines)
+    return Answer(things, lines, label, dates, has_findings, listed)
+
+
+def evidence(image: bytes, blocks: Optional[int]) -> Answer:
+    """By the definitions in Python."""
+    from evidence import read
+
+    return read(image, blocks)
+
+
+warnings.simplefilter("ignore")
