@@ -393,7 +393,7 @@ struct adf_found {
     uint8_t is_file;        /* 1 for a file or a link, 0 for a directory */
     uint8_t is_sound;       /* 1 if the entry is sound, otherwise 0; 0 too for an FFS file with data that says it is OFS */
     uint8_t name_length;    /* 0 to 79: the name may be one that no volume can have */
-    uint8_t name[79];       /* in no particular encoding, padded with zeros */
+    uint8_t name[79];       /* any bytes, padded with zeros: also `/` and `:`, or `..`, so it is no name for a file of the host */
     uint8_t comment_length; /* 0 to 79 */
     uint8_t comment[79];    /* padded with zeros */
 };
@@ -558,7 +558,8 @@ uint8_t adf_rescue(const uint8_t *image, size_t length, uint32_t blocks, uint8_t
                    size_t losses_room, uint8_t *paths, size_t paths_room, struct adf_rescue_told *told);
 
 /* Writes the escape form of a name to the front of the room, as far as it fits, and returns the length of the whole text, at most
- * four times that of the name: a byte outside 32 to 126, and the backslash, is \xHH, as in the paths of adf_find. The text has no
+ * four times that of the name: a byte outside 32 to 126, and the backslash, is \xHH, as in the paths of adf_find. A `/` or `:`, which
+ * only a name that is found may have, stays as it is: adf-survey writes \x2f and \x3a, and \x for a name without bytes. The text has no
  * zero at the end. A name of 2^61 bytes or more has none: then the call returns 0, and the room is unchanged.
  */
 size_t adf_escape(const uint8_t *name, size_t name_length, uint8_t *room, size_t room_length);
