@@ -170,10 +170,10 @@ class OwnNames:
         self.names: Set[str] = {row[0] for row in connection.execute("SELECT name FROM written") if is_own(row[0])}
 
     def note(self, names: Iterable[str]) -> None:
-        """Notes what is to be written. At the top of the folder nothing may have such a name that is not noted."""
+        """Notes what is to be written. Nothing may have such a name that is not noted."""
         new = [name for name in names if name not in self.names]
         for name in new:
-            if "/" not in name.rstrip("/") and self.out.status(name.rstrip("/")) is not None:
+            if self.out.status(name.rstrip("/")) is not None:
                 stop(FAILED, f"{host_text(self.out.path_of(name.rstrip('/')))}: {os.strerror(errno.EEXIST)}, and it is not of this catalogue")
         if new:
             with transaction(self.connection):

@@ -16,6 +16,7 @@ import zipfile
 import zlib
 
 from adf_tools import content, database, image_pages, markup, program
+from adf_tools.reader import page_name
 from tests.samples import BAD, OFS, disk, icon, volume
 from tests.shared import HERE, written
 from tests.test_catalogue import Catalogues, Page, trees_of
@@ -68,6 +69,16 @@ class Links(Catalogues):
         self.unharmed()
         self.assertFalse(os.path.islink("out/index.html"))
         self.assertTrue(os.path.islink("out/.adf-x"))
+
+    def test_leaves_a_file_of_others_that_has_the_name_of_a_page(self):
+        self.catalogue("disks", "out")
+        written("disks/b.adf", OFS)
+        page = "out/" + page_name(b"b.adf", 0)
+        written(page, b"mine")
+        self.refused(3, "and it is not of this catalogue", "catalogue", "disks", "out")
+        self.assertEqual(read(page), b"mine")
+        os.remove(page)
+        self.catalogue("disks", "out")
 
     def test_refuses_links_in_place_of_its_own_folders(self):
         self.catalogue("disks", "out")
