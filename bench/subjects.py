@@ -3,7 +3,7 @@
 import sys
 
 sys.dont_write_bytecode = True
-from rescue import is_name, is_root, says_data, sealed
+from rescue import KIND_TEXTS, is_name, is_root, length_of, says_data, sealed, states_type, typed
 from survey import FILE, Survey, data, spelled, upper
 
 
@@ -13,10 +13,10 @@ def begun(image):
 
 
 def lacks_boot(image):
-    """The image has the length of a volume and a whole root, but does not begin with `DOS`."""
+    """The image has the length of a volume and a whole root, but does not state a type."""
     blocks = len(image) // 512
     allowed = len(image) % 1024 == 0 and 4 <= blocks <= 1048576
-    return allowed and image[:3] != b"DOS" and is_root(image, blocks // 2) and sealed(image, blocks // 2)
+    return allowed and not states_type(image) and is_root(image, blocks // 2) and sealed(image, blocks // 2)
 
 
 class Subject:
@@ -24,17 +24,20 @@ class Subject:
     how many of its blocks the input holds."""
 
     def __init__(self, given, blocks=None):
-        image = given if blocks is None else given[: 512 * blocks] + bytes(max(0, 512 * blocks - len(given)))
+        stated, count = len(given) // 512 if blocks is None else blocks, length_of(given, blocks)
+        image = given if blocks is None and count == stated else given[: 512 * count] + bytes(max(0, 512 * count - len(given)))
         self.held, self.front = min(len(given), len(image)) // 512, []
-        if blocks is not None and self.held < blocks:
-            self.front.append(run_text(self.held, blocks - 1) + ": no data")
+        if self.held < len(image) // 512:
+            self.front.append(run_text(self.held, len(image) // 512 - 1) + ": no data")
+        if count < stated:
+            self.front.append(run_text(count, stated - 1) + ": behind the volume")
         if lacks_boot(image):
             image = begun(image)
             self.front.append("block 0: not dos")
+        image, is_retyped = typed(image)
+        if is_retyped:
+            self.front.append(f"block 0: files of {KIND_TEXTS[image[3]]}")
         self.survey = Survey(image)
-        if self.survey.is_mistyped():
-            self.survey = Survey(image[:3] + bytes([image[3] & 254]) + image[4:])
-            self.front.append("block 0: type of ffs, files of ofs")
 
     def findings(self):
         return [*self.front, *self.survey.found()]
