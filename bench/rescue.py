@@ -94,7 +94,7 @@ def told_type(image):
         is_other = sum(says) > len(says) - sum(says)
     else:
         is_other = not says and len(full) >= 4
-    names = [(role[3], sv.text(b, 432)) for b, role in sv.owner.items() if role[1] == "head"]
+    names = [(role[3], sv.text(b, 432)) for b, role in sv.owner.items() if role[1] == "head" and is_name(sv.text(b, 432))]
     fits = [sum(slot(name, international) == s for s, name in names) for international in (False, True)]
     letters = fits[1] >= fits[0] if stated >= 2 else fits[1] > fits[0]
     kind = stated % 2 ^ is_other
