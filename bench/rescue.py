@@ -178,6 +178,35 @@ def opened(image):
     return bytes(new), True
 
 
+# Headers in doubt
+
+
+def claims(image, b, first):
+    """The block says by its first word and its own key that it is such a part."""
+    return 2 <= b < len(image) // 512 and words(image, b)[:2] == (first, b)
+
+
+def is_child(image, b, t):
+    return claims(image, t, 2) and words(image, t)[125] == b and sealed(image, t)
+
+
+def pruned(image):
+    """The image in which each header with a wrong sum leads only to what says that it is such a part, and is a directory if it leads to a
+    header that names it."""
+    new, blocks = bytearray(image), len(image) // 512
+    for b in range(2, blocks):
+        if not claims(new, b, 2) or b == blocks // 2 or sealed(new, b):
+            continue
+        if words(new, b)[127] != DIR and any(is_child(new, b, t) for t in words(new, b)[6:78]):
+            pack_into(">I", new, 512 * b + 4 * 127, DIR)
+        is_directory = words(new, b)[127] == DIR
+        for i in (*range(6, 78), 124, 126):
+            leads = claims(new, words(new, b)[i], 16 if i == 126 else 2) and (is_directory or i >= 124)
+            if not leads:
+                pack_into(">I", new, 512 * b + 4 * i, 0)
+    return bytes(new)
+
+
 # Lost headers
 
 
@@ -318,6 +347,9 @@ class Rescue:
         self.front = [(count, stated - 1)] if count < stated else []
         self.front += [(0, 0)] if is_retyped or not states_type(image) else []
         survey = Survey(self.given)
+        if survey.findings or self.mended:
+            self.given = pruned(self.given)
+            survey = Survey(self.given)
         self.findings, self.refused, self.left_out, self.losses = survey.findings, None, [], []
         if not survey.nodes:
             self.refused = "block %d: %s" % self.findings[0][1:]
