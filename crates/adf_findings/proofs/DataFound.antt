@@ -1,7 +1,7 @@
 -- The data blocks that a table names and that are taken as these are those of the walk.
 -- Letters: w the walk of a survey, fs its findings; v a result; n a file's node, h the block of its header; k the number of a
 -- data block, from 0; b its block; r, q roles.
-use Rattle.std.specs.Prelude.{◌&&◌, Bool, true, cond, nat_lt, Option, Some, None}
+use Rattle.std.specs.Prelude.{◌&&◌, Bool, true, false, cond, nat_lt, Option, Some, None}
 use Rattle.std.proofs.Common.{◌≡◌, ℕ, suc, zero, List, ◌==◌, ◌+◌, ◌≤◌, ◌<◌, refl, sym, ap, subst, ◌∙◌, add-one, arith}
 use Rattle.std.proofs.lemmas.Bool.{eqb-true, eq-eqb, Decides.eqb_tells, Decides.nat_tests}
 use Rattle.std.proofs.lemmas.Grind.{common_steps}
@@ -10,14 +10,17 @@ use Rattle.adf_volume.specs.Walk.{Has, FileAt, node_block, Walk, Role.Data}
 use Rattle.adf_volume.proofs.Gathered.{head_block}
 use Rattle.adf_volume.proofs.Roles.{has_role, same_refl}
 use Rattle.adf_findings.specs.Files.{named_from}
+use Rattle.adf_findings.specs.Concerned.{is_contested, number_alone}
 use Rattle.adf_findings.specs.Members.{at_role, number_at, owning_entry}
-use Rattle.adf_findings.specs.Remains.{below, blocks_stated, bytes_left, data_below, data_found, data_named, gaps_left, named_below, size_stated}
+use Rattle.adf_findings.specs.Remains.{below, blocks_stated, bytes_left, data_alone, data_found, data_named, gaps_left, left_below, named_below, own_data, size_stated}
+use Rattle.adf_findings.specs.Remains.{unless_contested}
 use Rattle.adf_findings.specs.Survey.{FindingValue, IsSurvey, IsSurvey.read, IsSurvey.unread}
 use Rattle.adf_walk.specs.Owners.{owner_at}
-use Rattle.adf_findings.specs.WalkOwners.{data_number_of}
 use Rattle.adf_volume.specs.Parts.{entry_of}
-use Rattle.adf_findings.specs.SurveyResult.{SurveyValue, TellsOf}
+use Rattle.adf_findings.specs.SurveyResult.{SurveyValue, TellsOf, alone_in}
+use Rattle.adf_volume.specs.Image.{kind_of}
 use Rattle.adf_findings.proofs.BlockOwners.{first_with, held_data}
+use Rattle.adf_findings.proofs.Contested.{alone_number, kept_alone}
 use Rattle.adf_findings.proofs.FileBlocks.{data_is}
 use Rattle.adf_findings.proofs.Lookups.{file_between}
 use Rattle.adf_findings.proofs.RoleBlocks.{at_has, lacks_at}
@@ -54,45 +57,57 @@ some_kept : (m n : ℕ) → 1 ≤ n → m ≡ n → cond (m == 0) None (Some m) 
 some_kept m n lo e = grind (arith, common_steps, eqb_tells)
 
 module _ {v : SurveyValue} {w : Walk} {fs : List FindingValue} (t : TellsOf v w fs) (n h : ℕ) (file : FileAt v.image w n h) where
-  -- the block that is named as a data block, if it is taken as that, is the one that is found
-  pub named_is : (k : ℕ) → data_named v.image v n h k ≡ data_found w n k
+  -- the block that is named as a data block, if it is taken as that and no other part asks for it, is the one that is found
+  pub named_is : (k : ℕ) → data_named v.image v n h k ≡ data_alone w fs n k
   named_is k = go (data_found w n k) refl
     where
       b : ℕ
       b = named_from v.image h k
 
-      go : (o : Option ℕ) → data_found w n k ≡ o → data_named v.image v n h k ≡ o
+      go : (o : Option ℕ) → data_found w n k ≡ o → data_named v.image v n h k ≡ unless_contested fs o
       go None e =
-          not_all (nat_lt b (blocks v.image)) (entry_of (owner_at v.owners b) == n) (data_number_of (owner_at v.owners b) == k + 1) (Some b) None
+          not_all (nat_lt b (blocks v.image)) (entry_of (owner_at v.owners b) == n) (alone_in v b == k + 1) (Some b) None
           (λ inside own number.
           let lo = (file_between v.image w fs t.survey n h file).0 in
           let whose : owning_entry w b ≡ Some n = sym (t.owner b) ∙ some_kept (entry_of (owner_at v.owners b)) n lo (eqb-true _ _ own) in
-          let which : number_at w b ≡ suc k = sym (t.number b) ∙ (eqb-true _ _ number ∙ add-one k) in
+          let alone : number_alone w fs b ≡ suc k = sym (kept_alone t b) ∙ (eqb-true _ _ number ∙ add-one k) in
+          let which : number_at w b ≡ suc k = alone_number (is_contested fs b) (number_at w b) k alone in
           lacks_at w (Data n (suc k)) e (Data n (suc k)) b (held_has w b n k whose which) (same_refl (Data n (suc k))))
       go (Some c) e =
           let has : Has w (Data n (suc k)) c = has_data w n (suc k) c e in
           let named = found_named v.image w fs t.survey n h file k c has in
           let at = first_with w (Data n (suc k)) c has (λ q g. one_part v.image w fs t.survey q (Data n (suc k)) c g has) in
+          let kept : alone_in v b ≡ number_alone w fs c = kept_alone t b ∙ ap (number_alone w fs) named.0 in
           let own : entry_of (owner_at v.owners b) ≡ n =
           ap (λ b. entry_of (owner_at v.owners b)) named.0 ∙ kept_some (entry_of (owner_at v.owners c)) n (t.owner c ∙ at.0) in
-          let number : data_number_of (owner_at v.owners b) ≡ k + 1 =
-          ap (λ b. data_number_of (owner_at v.owners b)) named.0 ∙ (t.number c ∙ (at.1 ∙ sym (add-one k))) in
           let lt : b < blocks v.image = subst (λ c. c < blocks v.image) (sym named.0) named.1 in
-          all_true (nat_lt b (blocks v.image)) (entry_of (owner_at v.owners b) == n) (data_number_of (owner_at v.owners b) == k + 1) (Some b)
-          None (grind (arith, nat_tests)) (eq-eqb _ _ own) (eq-eqb _ _ number)
-          ∙ ap Some named.0
+          let is_lt : nat_lt b (blocks v.image) ≡ true = grind (arith, nat_tests) in
+          ask (is_contested fs c) c refl named.0 kept own is_lt at.1
+        where
+          ask : (p : Bool) (c : ℕ) → is_contested fs c ≡ p → b ≡ c → alone_in v b ≡ number_alone w fs c → entry_of (owner_at v.owners b) ≡ n
+              → nat_lt b (blocks v.image) ≡ true → number_at w c ≡ suc k → data_named v.image v n h k ≡ cond p None (Some c)
+          ask true c is named kept own lt number =
+              not_all (nat_lt b (blocks v.image)) (entry_of (owner_at v.owners b) == n) (alone_in v b == k + 1) (Some b) None
+              (λ inside own number.
+              let none : alone_in v b ≡ 0 = kept ∙ ap (λ p. cond p 0 (number_at w c)) is in
+              let clash : 0 ≡ suc k = sym none ∙ (eqb-true _ _ number ∙ add-one k) in cc)
+          ask false c is named kept own lt number =
+              let alone : alone_in v b ≡ k + 1 = kept ∙ (ap (λ p. cond p 0 (number_at w c)) is ∙ (number ∙ sym (add-one k))) in
+              all_true (nat_lt b (blocks v.image)) (entry_of (owner_at v.owners b) == n) (alone_in v b == k + 1) (Some b)
+              None lt (eq-eqb _ _ own) (eq-eqb _ _ alone)
+              ∙ ap Some named
 
   -- what is left by the blocks that are named is what is left by those that are found
-  below_is : (end : ℕ) → named_below end v.image v n h ≡ data_below end w n
-  below_is end = λ i k. below end (named_is k i)
+  below_is : (end : ℕ) → named_below end v.image v n h ≡ left_below end v.image w fs n h
+  below_is end = λ i k. below end (own_data (kind_of v.image) v.image h k (named_is k i))
 
   pub left_is : (end : ℕ) {image : List ℕ} {head : ℕ} → image ≡ v.image → head ≡ h
       → (bytes_left image (size_stated image head) (named_below end image v n head) (blocks_stated image head)
-      ≡ bytes_left v.image (size_stated v.image h) (data_below end w n) (blocks_stated v.image h))
+      ≡ bytes_left v.image (size_stated v.image h) (left_below end v.image w fs n h) (blocks_stated v.image h))
       × (gaps_left image (size_stated image head) (named_below end image v n head) (blocks_stated image head)
-      ≡ gaps_left v.image (size_stated v.image h) (data_below end w n) (blocks_stated v.image h))
+      ≡ gaps_left v.image (size_stated v.image h) (left_below end v.image w fs n h) (blocks_stated v.image h))
   left_is end {image = image} {head = head} e g =
-      let found : named_below end image v n head ≡ data_below end w n = (λ i. named_below end (e i) v n (g i)) ∙ below_is end in (
+      let found : named_below end image v n head ≡ left_below end v.image w fs n h = (λ i. named_below end (e i) v n (g i)) ∙ below_is end in (
         (λ i. bytes_left (e i) (size_stated (e i) (g i)) (found i) (blocks_stated (e i) (g i))),
         (λ i. gaps_left (e i) (size_stated (e i) (g i)) (found i) (blocks_stated (e i) (g i))),
       )
