@@ -77,7 +77,7 @@ found_below end o b e lt = ap (below end) e ∙ grind (arith, common_steps, nat_
 says_by : (p q r s x y : Bool) → p ≡ true → q ≡ true → (r && s && x && y) ≡ true → (q && r && s && p) ≡ true
 says_by p q r s x y a b c = grind (arith, common_steps)
 
--- a data block of a file with all of its blocks is left
+-- a data block of a file with all of its blocks is left, by its survey and by its course
 data_is_left : (image : List ℕ) {s : Course} → IsCourse image s → IsDone image s → (bits : List FindingValue)
     → BitsTell image s 2 (blocks image - 2) bits → (gs : List FindingValue) (n h : ℕ) → IsSound image s.walk gs n h → FileAt image s.walk n h
     → FileHolds image s.walk n h → (k b : ℕ) → Has s.walk (Data n (suc k)) b → data_left image s.walk (s.findings ++ bits) n h k ≡ Some b
@@ -87,7 +87,7 @@ data_is_left image {s = s} v d bits t gs n h sound file holds k b has = go (kind
     go Ofs e =
         let (next, after, form) = holds.datas k b has in
         let clauses = subst (λ kind. AllHold (data_demands image kind b h (suc k) (held (kind_of image) (word_in image h SIZE) (suc k)) next)) e form in
-        let said : says_data_of image h (suc k) b ≡ true = says_by _ _ _ _ _ _ clauses.0 clauses.1 clauses.2 in
+        let said : says_data_of image h (suc k) b ≡ true = says_by _ _ _ _ _ _ clauses.0 clauses.1.0 clauses.1.1.0 in
         let named : named_from image h k ≡ b = (found_named image s.walk (s.findings ++ bits) (read v d t) n h file k b has).0 in
         (λ i. cond (says_data_of image h (add-one k i) (named i)) (Some (named i)) None) ∙ ap (λ p. cond p (Some b) None) said
     go Ffs e =
@@ -96,6 +96,15 @@ data_is_left image {s = s} v d bits t gs n h sound file holds k b has = go (kind
         ap (λ o. own_data Ffs image h k (unless_contested (s.findings ++ bits) o)) found
         ∙ (ap (λ p. own_data Ffs image h k (cond p None (Some b))) alone
         ∙ ((λ i. cond (says_data_of image h (add-one k i) b) None (Some b)) ∙ ap (λ p. cond p None (Some b)) (sound.own e (suc k) b has)))
+
+pub sound_left : (image : List ℕ) (w : Walk) (fs : List FindingValue) (c : Bool) (n : ℕ) → IsSurvey image w fs
+    → IsSoundFile image w (counting c fs) n → (k b : ℕ) → Has w (Data n (suc k)) b → data_left image w fs n (node_block w n) k ≡ Some b
+sound_left image w fs c n (unread f) sound k b has = absurd has
+sound_left image w fs c n (read {s = s} {bits = bits} v d t) sound k b has =
+    let h : ℕ = node_block s.walk n in
+    let file : FileAt image s.walk n h = record { header = sound.0.header; type = sound.1 } in
+    data_is_left image v d bits t (counting c (s.findings ++ bits)) n h sound.0 file
+    (whole_file image s.walk (s.findings ++ bits) c n h (read v d t) sound.0 file) k b has
 
 -- what is left of a sound file is its content, and nothing is made up
 pub left_of_sound : (image : List ℕ) (w : Walk) (fs : List FindingValue) (c : Bool) (n end : ℕ) → IsSurvey image w fs
@@ -109,11 +118,9 @@ left_of_sound image w fs c n end (read {s = s} {bits = bits} v d t) sound before
     let datas : List ℕ = datas_in s.walk n in
     let has = (file_told image s.walk (s.findings ++ bits) c n survey sound.0 sound.1).1 in
     let listed = whole_listed image s.walk (s.findings ++ bits) c n h survey sound.0 in
-    let file : FileAt image s.walk n h = record { header = sound.0.header; type = sound.1 } in
-    let holds = whole_file image s.walk (s.findings ++ bits) c n h survey sound.0 file in
     let found : (k b : ℕ) → At datas k b → left_below end image s.walk (s.findings ++ bits) n h k ≡ Some b = λ k b g.
     let has = listed.from k b g in
-    found_below end (data_left image s.walk (s.findings ++ bits) n h k) b (data_is_left image v d bits t (counting c (s.findings ++ bits)) n h sound.0 file holds k b has)
+    found_below end (data_left image s.walk (s.findings ++ bits) n h k) b (sound_left image s.walk (s.findings ++ bits) c n survey sound k b has)
     (before (suc k) b has) in
     let parts = few_parts image v in
     let few : data_count image h ≤ blocks image = (

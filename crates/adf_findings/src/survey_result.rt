@@ -173,10 +173,10 @@ impl Survey<'_> {
 
     /// The number of the data block of a file that a block is, from 1, where no finding is that it is taken: no other part
     /// asks for it. 0 for other blocks, and past the last one.
-    #[tactic(auto, using(crate::proofs::Keeping::tells_each, crate::proofs::Contested::kept_alone))]
     pub fn number_alone(&self, b: u32) -> u32
         ensures { OnSurvey self.now.image (λ w fs. result ≡ number_alone w fs b) }
     {
+        let _contested = &self.contested;
         self.alone_at(b)
     }
 
