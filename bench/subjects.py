@@ -4,7 +4,7 @@ import sys
 
 sys.dont_write_bytecode = True
 from rescue import KIND_TEXTS, is_name, is_root, length_of, says_data, sealed, states_type, typed
-from survey import FILE, Survey, data, spelled, upper
+from survey import FILE, POINTERS, Survey, data, spelled, upper
 
 
 def begun(image):
@@ -38,6 +38,7 @@ class Subject:
         if is_retyped:
             self.front.append(f"block 0: files of {KIND_TEXTS[image[3]]}")
         self.survey = Survey(image)
+        self.contested = {at for _, at, cause in self.survey.findings if cause == "taken"}
 
     def findings(self):
         return [*self.front, *self.survey.found()]
@@ -62,13 +63,31 @@ class Subject:
             return []
         return [n for n in entries if survey.word(survey.block_of(n), 127) == FILE and all(map(is_name, known[n]))]
 
+    def named(self, n, k):
+        """The block that the table of a file names as data block k, from 0 on; 0 behind a block that the image does not have."""
+        survey, member = self.survey, self.survey.block_of(n)
+        for _ in range(k // POINTERS):
+            member = survey.word(member, 126) if member < survey.blocks else 0
+        return survey.word(member, 77 - k % POINTERS) if member < survey.blocks else 0
+
+    def own_data(self, n, k):
+        """The block of data block k of a file, from 0 on: of OFS the one that is named, if it says so itself; of FFS the one that is found,
+        if no finding is that it is taken, and it does not say that it is an OFS one."""
+        survey = self.survey
+        if survey.offset:
+            b = self.named(n, k)
+            return b if b < survey.blocks and survey.says_data_of(n, k + 1, b) else None
+        b = survey.walk.get(data(n, k + 1)[0])
+        is_own = b is not None and b not in self.contested and not survey.says_data_of(n, k + 1, b)
+        return b if is_own else None
+
     def left(self, n):
-        """The bytes of a file, with zeros where no data block is found that the input holds, and a line for each run of these."""
+        """The bytes of a file, with zeros where no data block is left that the input holds, and a line for each run of these."""
         survey = self.survey
         size = min(survey.size(n), len(survey.image))
         content, gaps = b"", []
         for k in range(-(-size // survey.chunk)):
-            b = survey.walk.get(data(n, k + 1)[0])
+            b = self.own_data(n, k)
             many = min(survey.chunk, size - survey.chunk * k)
             if b is not None and b < self.held:
                 content += survey.image[512 * b + survey.offset : 512 * b + survey.offset + many]
