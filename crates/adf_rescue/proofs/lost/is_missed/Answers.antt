@@ -11,9 +11,9 @@ returns-else-has_mark c = λ w fs survey s evidence.
     let image = c.args.survey.now.image in
     let opens = c.args.evidence.now.opens.items in
     let p = c.word_in-p.result in
-    let is : Some c.in-Some.n ≡ directory_at image w p = grind (arith, common_steps) in
+    let is : Some c.n.inside.0 ≡ directory_at image w p = grind (arith, common_steps) in
     let unmarked = sym c.if-has_mark.false ∙ c.has_mark.ensures in
     let parent : p ≡ word_in image c.args.b PARENT = grind (arith, common_steps) in
     c.is_used.ensures w fs survey
     ∙ (ap (λ t. t || is_used image w c.args.b) unmarked
-    ∙ missed_by_directory image w s c.args.b p c.in-Some.n opens evidence.marks parent is)
+    ∙ missed_by_directory image w s c.args.b p c.n.inside.0 opens evidence.marks parent is)
