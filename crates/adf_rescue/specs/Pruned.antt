@@ -1,6 +1,6 @@
 -- The pruned image: a header whose sum is wrong leads only to what says of itself that it is such a part.
 -- Letters: b, t blocks; i a word; s a slot; k a number of slots or blocks.
-use Rattle.std.specs.Prelude.{ℕ, ◌+◌, ◌==◌, ◌&&◌, ◌||◌, not, nat_le, nat_lt, Bool, false, cond, List, length}
+use Rattle.std.specs.Prelude.{ℕ, ◌+◌, ◌==◌, ◌&&◌, ◌||◌, ◌≡◌, ◌<◌, ◌⊎◌, not, nat_le, nat_lt, Bool, true, false, cond, List, length}
 use Rattle.std.proofs.Common.{zero, suc}
 use Rattle.adf_base.specs.Words.{block, long_sum}
 use Rattle.adf_blocks.specs.declared.layout.TheConstants.{EXTENSION, FIRST_SLOT, NEXT_IN_CHAIN, OWN_KEY, PARENT, SECONDARY_TYPE, SLOTS, ST_DIR}
@@ -47,23 +47,34 @@ directory_typed image b = cond (not (has_directory_type image b) && leads_to_chi
 unfoldable pub cleared_unless : Bool → List ℕ → ℕ → ℕ → List ℕ
 cleared_unless keeps image b i = cond keeps image (put_in image b i 0)
 
--- the image with slot s of block b made 0, unless b is a directory and the slot names what claims to be a header
+-- slot s of block b leads to what claims to be a header, and b is a directory
+abbrev pub slot_leads : List ℕ → ℕ → ℕ → Bool
+slot_leads image b s = has_directory_type image b && claims_header image (word_in image b (FIRST_SLOT + s))
+
+-- the next in the chain of block b claims to be a header
+abbrev pub chain_leads : List ℕ → ℕ → Bool
+chain_leads image b = claims_header image (word_in image b NEXT_IN_CHAIN)
+
+-- the extension block of block b claims to be one
+abbrev pub extension_leads : List ℕ → ℕ → Bool
+extension_leads image b = claims_extension image (word_in image b EXTENSION)
+
+-- the image with slot s of block b made 0, unless it leads so
 abbrev pub slot_pruned : List ℕ → ℕ → ℕ → List ℕ
-slot_pruned image b s =
-    cleared_unless (has_directory_type image b && claims_header image (word_in image b (FIRST_SLOT + s))) image b (FIRST_SLOT + s)
+slot_pruned image b s = cleared_unless (slot_leads image b s) image b (FIRST_SLOT + s)
 
 -- the same of the first k slots
 unfoldable pub slots_pruned : List ℕ → ℕ → ℕ → List ℕ
 slots_pruned image b zero = image
 slots_pruned image b (suc k) = slot_pruned (slots_pruned image b k) b k
 
--- the image in which block b has no next one in its chain, unless it names what claims to be a header
+-- the image in which block b has no next one in its chain, unless that leads so
 abbrev pub chain_pruned : List ℕ → ℕ → List ℕ
-chain_pruned image b = cleared_unless (claims_header image (word_in image b NEXT_IN_CHAIN)) image b NEXT_IN_CHAIN
+chain_pruned image b = cleared_unless (chain_leads image b) image b NEXT_IN_CHAIN
 
--- the image in which block b has no extension block, unless it names what claims to be one
+-- the image in which block b has no extension block, unless that leads so
 abbrev pub extension_pruned : List ℕ → ℕ → List ℕ
-extension_pruned image b = cleared_unless (claims_extension image (word_in image b EXTENSION)) image b EXTENSION
+extension_pruned image b = cleared_unless (extension_leads image b) image b EXTENSION
 
 -- the image with header b pruned: its type, its slots, its chain and its extension block
 unfoldable pub header_pruned : List ℕ → ℕ → List ℕ
@@ -89,3 +100,9 @@ pruned image = cond (is_image_len (length image)) (pruned_first image (blocks im
 abbrev pub may_be_pruned : ℕ → Bool
 may_be_pruned i =
     nat_le FIRST_SLOT i && nat_lt i (FIRST_SLOT + SLOTS) || (i == NEXT_IN_CHAIN) || (i == EXTENSION) || (i == SECONDARY_TYPE)
+
+-- each word of block b that may lead on is 0, or leads to what claims to be such a part
+pub record LeadsToParts (image : List ℕ) (b : ℕ) : Type 0 where
+  pub slots : (s : ℕ) → s < SLOTS → (word_in image b (FIRST_SLOT + s) ≡ 0) ⊎ (slot_leads image b s ≡ true)
+  pub chain : (word_in image b NEXT_IN_CHAIN ≡ 0) ⊎ (chain_leads image b ≡ true)
+  pub extension : (word_in image b EXTENSION ≡ 0) ⊎ (extension_leads image b ≡ true)

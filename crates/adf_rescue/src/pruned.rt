@@ -6,7 +6,8 @@ ghost use Rattle.adf_blocks.specs.Sizes.{blocks};
 ghost use Rattle.adf_blocks.specs.declared.layout.TheConstants.{SLOTS};
 ghost use Rattle.adf_volume.specs.Image.{root_of, word_in};
 ghost use Rattle.adf_volume.specs.Start.{is_image_len};
-ghost use Rattle.adf_rescue.specs.Pruned.{chain_pruned, claims_extension, claims_header, claims_type, cleared_unless, directory_typed};
+ghost use Rattle.adf_rescue.specs.Pruned.{LeadsToParts, chain_pruned, claims_extension, claims_header, claims_type};
+ghost use Rattle.adf_rescue.specs.Pruned.{cleared_unless, directory_typed};
 ghost use Rattle.adf_rescue.specs.Pruned.{extension_pruned, has_directory_type, header_pruned, is_child_of, is_in_doubt};
 ghost use Rattle.adf_rescue.specs.Pruned.{leads_to_child, may_be_pruned, pruned, pruned_at, slot_pruned, slots_pruned};
 
@@ -185,7 +186,8 @@ pub fn prune(image: &mut [u8])
 }
 
 /// A pruned image has as many bytes. Each block stays that is no header in doubt, so the boot block and the root, and all of
-/// an image without such a header. Of each block only words 6 to 77, 124, 126 and 127 change, so no checksum does.
+/// an image without such a header. In a volume each word of a header in doubt that leads on is then 0, or leads to what claims
+/// to be such a part. Of each block only words 6 to 77, 124, 126 and 127 change, so no checksum does.
 pub fn pruned_keeps()
     ensures length { (image : List ℕ) → length (pruned image) ≡ length image }
     ensures odd { (image : List ℕ) → is_image_len (length image) ≡ false → pruned image ≡ image }
@@ -193,5 +195,7 @@ pub fn pruned_keeps()
     ensures boot { (image : List ℕ) → block (pruned image) 0 ≡ block image 0 }
     ensures root { (image : List ℕ) → block (pruned image) (root_of image) ≡ block image (root_of image) }
     ensures same { (image : List ℕ) → ((b : ℕ) → is_in_doubt image b ≡ false) → pruned image ≡ image }
+    ensures links { (image : List ℕ) → is_image_len (length image) ≡ true → (b : ℕ) → is_in_doubt image b ≡ true
+        → LeadsToParts (pruned image) b }
     ensures words { (image : List ℕ) (b i : ℕ) → may_be_pruned i ≡ false → word_in (pruned image) b i ≡ word_in image b i }
 {}
