@@ -9,6 +9,7 @@ mod losses;
 mod lost;
 mod made_root;
 mod opened;
+mod pruned;
 mod rescues;
 mod rooms;
 mod salvage;
@@ -23,4 +24,5 @@ pub use crate::left_out::{LeftOut, Why};
 pub use crate::opened::{
     begin as begin_image, is_mended, lacks_boot, open as open_image, opened_keeps,
 };
+pub use crate::pruned::{prune as prune_image, pruned_keeps};
 pub use crate::rescues::{Rescued, Terms, lay, rescue};
