@@ -435,7 +435,7 @@ class Surveys(unittest.TestCase):
     def test_surveys_what_adf_survey_opens(self):
         # Both boot blocks are lost; then the type is that of FFS, and the files say OFS.
         sound = built("volume ofs 16\nfile 0:0:0 00000000 a\nfill 1000 41\n")
-        for image, cause in ((bytes(1024) + sound[1024:], "not dos"), (changed(sound, 0, 3, 1), "type of ffs, files of ofs")):
+        for image, cause in ((bytes(1024) + sound[1024:], "not dos"), (changed(sound, 0, 3, 1), "files of ofs")):
             survey = pickle.loads(pickle.dumps(adf.survey(image)))
             self.assertEqual((survey.findings, list(survey.ranges())), ([adf.Finding(0, 0, cause, None, None)], [range(1)]))
             self.assertEqual((survey.is_begun, survey.is_retyped, survey.kind, survey.image), (cause == "not dos", cause != "not dos", "ofs", image))
@@ -443,6 +443,12 @@ class Surveys(unittest.TestCase):
             self.assertEqual([adf.ROLES[role] for role in survey.owners()[2:6]], ["header", "data", "data", "data"])
             rescued = adf.Rescued(image)
             self.assertEqual(rescued.entry_of(rescued.survey.entries[0]).read(), b"A" * 1000)
+        # The name 0xE9 is in the slot that it has by international letters: so is the type.
+        for kind in adf.KINDS:
+            image = changed(international(kind), 0, 3, 2)
+            survey = adf.survey(image)
+            self.assertEqual((survey.findings, survey.is_retyped, survey.kind), ([adf.Finding(0, 0, f"files of {kind}-international", None, None)], True, kind))
+            self.assertEqual((survey.image, survey.read(b"\xc9"), [entry.is_sound for entry in survey.entries]), (image, b"A", [True, True]))
         cut = adf.survey((bytes(4) + sound[4:])[: 512 * 9], 16)
         self.assertEqual((cut.is_begun, len(cut.image), cut.entries[0].is_sound), (True, 8192, True))
         self.assertEqual(adf.survey((bytes(4) + sound[4:])[: 512 * 4], 16).findings[0].cause, "not dos")
@@ -572,11 +578,12 @@ class Surveys(unittest.TestCase):
         cut = adf.survey(sound[:5120], 16)
         self.assertEqual(cut.findings, [])
         self.assertEqual(cut.read("a"), b"A" * 489)
-        self.assertEqual(adf.rescue(sound[:5120], 16), (sound, []))
-        # Without its root the file is found by its header, which names the root's block as its directory.
+        self.assertEqual(adf.rescue(sound[:5120], 16), (sound, [adf.LeftOut(adf.Reason.BLOCKS, b"", 10, 15)]))
+        # Without its root the file is found by its header, which names the root's block as its directory. Block 5 is the new root.
         new, left_out = adf.rescue(sound[:5120])
         self.assertEqual([entry.path for entry in adf.Volume(new).entries], ["lost-8", "lost-8/a"])
-        self.assertEqual((adf.Volume(new)["lost-8/a"].read(), left_out), (b"A" * 489, []))
+        lines = ["made: lost-8", "perhaps deleted: lost-8/a", "lost: in /", "lost: block 5"]
+        self.assertEqual((adf.Volume(new)["lost-8/a"].read(), [str(each) for each in left_out]), (b"A" * 489, lines))
         for blocks in (-1, 1 << 20 | 1):
             with self.assertRaises(ValueError):
                 adf.survey(sound, blocks)
@@ -587,7 +594,8 @@ class Surveys(unittest.TestCase):
         for block in range(2, 303):
             image = changed(image, block, 323, 1)
         _, left_out = adf.rescue(image)
-        self.assertEqual(sorted(entry.path for entry in left_out), names)
+        self.assertEqual(sorted(entry.path for entry in left_out), [*names, "c"])
+        self.assertEqual([entry.path for entry in left_out if entry.is_kept], ["c"])
 
 
 def lines_of(word, image):
