@@ -487,10 +487,16 @@ class Surveys(unittest.TestCase):
         self.assertEqual([entry.read() for entry in survey.entries[2:]], [b"1", b"2"])
 
     def test_compares_names_by_the_type_of_the_image(self):
-        # Of types 0 and 1 the names differ, of types 2 and 3 they are the same.
+        # Of types 0 and 1 the names differ, of types 2 and 3 they are the same: both headers are then in the slot of 0xC4. Block 8 is the root.
         sound = built("volume ofs 16\nfile 0:0:0 00000000 \\xe4\ndata 31\nfile 0:0:0 00000000 \\xc4\ndata 32\n")
         self.assertEqual({entry.read() for entry in adf.survey(sound).entries}, {b"1", b"2"})
-        first, second = adf.survey(changed(sound, 0, 3, 2)).entries
+        small, capital = (adf.Volume(sound)[name].header.to_bytes(4, "big") for name in (b"\xe4", b"\xc4"))
+        image, own, place = bytearray(sound), sound.index(small, 512 * 8 + 24), sound.index(capital, 512 * 8 + 24)
+        image[own : own + 4], image[place : place + 4], image[3] = bytes(4), small, 2
+        image[512 * small[3] + 496 : 512 * small[3] + 500] = capital
+        survey = adf.survey(image)
+        self.assertEqual((survey.is_retyped, len(survey.entries)), (False, 2))
+        first, second = survey.entries
         self.assertEqual([entry.remains()[0] for entry in (first, second)], [b"1", b"2"] if first.raw_name == b"\xe4" else [b"2", b"1"])
 
     def test_reads_a_file_that_no_path_leads_to(self):

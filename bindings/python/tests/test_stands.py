@@ -90,7 +90,8 @@ class Stands(Folder):
         for reason, path, first, last, text in (
             (1, b"c/\xfc", 5, 5, r"damaged: c/\xfc"), (2, b"a", 5, 5, "link: a"), (3, b"a", 5, 5, "no room: a"), (4, b"", 0, 0, "lost: in /"),
             (4, b"c/d", 7, 7, "lost: in c/d/"), (5, b"", 44, 44, "lost: block 44"), (5, b"", 44, 65, "lost: blocks 44 to 65"), (6, b"c", 5, 5, "in doubt: c"),
-            (7, b"a", 5, 5, "perhaps deleted: a"), (8, b"a/b", 5, 5, "found again: a/b"), (9, b"lost-8", 8, 8, "made: lost-8"), (10, b"a", 5, 5, "reason 10: a"),
+            (7, b"a", 5, 5, "perhaps deleted: a"), (8, b"a/b", 5, 5, "found again: a/b"), (9, b"lost-8", 8, 8, "made: lost-8"),
+            (10, b"a", 5, 5, "reason 10: a"),
         ):  # fmt: skip
             told = adf.LeftOut(reason, path, first, last)
             self.assertEqual((str(told), told.is_kept, told.is_entry), (text, 6 <= reason <= 9, reason not in (4, 5)))
@@ -117,8 +118,9 @@ class Stands(Folder):
     def test_reads_floppies_with_tracks_behind_them_and_without_their_end(self):
         sound = image_of()
         for image, first, last, cause in (
-            (sound + bytes(512 * 44), 1760, 1803, "behind the volume"), (sound[: 512 * 1700], 1700, 1759, "no data"), (sound[: 512 * 882], 882, 1759, "no data"),
-        ):  # fmt: skip
+            (sound + bytes(512 * 44), 1760, 1803, "behind the volume"),
+            *((sound[: 512 * held], held, 1759, "no data") for held in (1700, 882)),
+        ):
             volume = adf.Rescued(image)
             self.assertEqual(volume.left_out, [adf.LeftOut(adf.Reason.BLOCKS, b"", first, last)])
             self.assertEqual((volume.blocks, volume["c/readme"].read(), volume.findings[0]), (1760, b"Hello\n", adf.Finding(first, last, cause, None, None)))
