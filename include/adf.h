@@ -358,8 +358,8 @@ struct adf_subject {
  *
  *     struct adf_subject subject;
  *     uint8_t answer = adf_survey_subject(image, length, 0, room, room_length, &subject);
- *     if (answer == ADF_SUBJECT_SMALL_ROOM)
- *         again with a room of subject.length bytes
+ *     if (answer == ADF_SUBJECT_SMALL_ROOM && grow(&room, subject.length))
+ *         answer = adf_survey_subject(image, length, 0, room, subject.length, &subject);
  *     if (answer == ADF_ACCEPTED)
  *         adf_survey_index(room, subject.length, findings, findings_room, entries, entries_room, &surveyed);
  *
@@ -448,7 +448,7 @@ uint8_t adf_survey_index(const uint8_t *image, size_t length, struct adf_finding
 /* What a survey has at a block. Block b is at index b of the table. */
 struct adf_part {
     size_t node;     /* the entry that has the block; 0 for the root, the bitmap, and a block that nothing found has */
-    uint32_t number; /* the number of the data block of a file that it is, from 1; otherwise 0 */
+    uint32_t number; /* the number of the data block of a file that it is, from 1, if no other part asks for it; otherwise 0 */
 };
 
 /* The number that stands for no block in the table of a file. */
@@ -483,11 +483,12 @@ uint8_t adf_survey_owners(const uint8_t *image, size_t length, uint8_t *roles, s
 uint8_t adf_survey_find(const uint8_t *image, size_t length, const uint8_t *path, size_t path_length, size_t *node);
 
 /* Fills the table of a file that is found, by its number and the block of its header: its data blocks in order, as far as there is
- * room, with ADF_NO_BLOCK for each that is not found. Returns how many its size asks for, whatever the room: at most
+ * room, with ADF_NO_BLOCK for each that is not found. On OFS a block is the file's that says so and has a right sum; on FFS one that no
+ * other part asks for, and that does not say that it is one of OFS. Returns how many its size asks for, whatever the room: at most
  * length / 488 + 1, and 0 for a directory, an empty file, and a block that is no file's header. The rest of the room is unchanged.
  *
- * With other rows than those of the image's survey it is the same table by these rows: a block is in it only if the image has it,
- * and its row has the node and the number. It allocates nothing. A budget, by reading the code and not proved: the work is
+ * With other rows than those of the image's survey it is the same table by these rows: a block is in it only if the image has it, and
+ * on FFS its row has the node and the number. It allocates nothing. A budget, by reading the code and not proved: the work is
  * proportional to the number that is returned.
  */
 size_t adf_found_blocks(const uint8_t *image, size_t length, const struct adf_part *parts, size_t parts_count, size_t node,
@@ -501,7 +502,7 @@ size_t adf_found_blocks(const uint8_t *image, size_t length, const struct adf_pa
  * The size is the one that the header says, but no more than the image has. With any table the same is read: at most these bytes,
  * of the data areas of the blocks that the table names, where a number that the image does not have stands for a block that is
  * not found. What is behind a table that is cut is neither read nor lost. On an image that adf_check accepts the bytes are those
- * that adf_read gives, and none are lost.
+ * that adf_read gives, and none are lost, unless a data block of FFS says that it is one of OFS.
  *
  * It allocates nothing. A budget, by reading the code and not proved: the work is proportional to the bytes that are copied, and
  * to the data blocks that are lost behind them.
