@@ -205,6 +205,11 @@ class Programs(Folder):
             self.assertEqual(self.ends(1, [f"a.adf: {why}"], name, "--strict", *words), b"")
         self.leaves("a.adf", "b.adf")
 
+    def test_tell_what_is_in_doubt(self):
+        written("c.adf", changed(built("volume ofs 16\ndir 0:0:0 00000000 c\n"), 2, 323, 1))
+        self.ends(1, ["c.adf: in doubt: c"], "unpack", "c.adf", "new")
+        self.assertEqual(os.listdir("new"), ["c"])
+
     def test_recipe_writes_what_stands(self):
         rescued = adf.Rescued(DAMAGED)
         self.assertEqual(built(self.ends(1, ["a.adf: damaged: a"], "recipe", "a.adf").decode()), rescued.image)
