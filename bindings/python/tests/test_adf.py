@@ -447,7 +447,8 @@ class Surveys(unittest.TestCase):
         for kind in adf.KINDS:
             image = changed(international(kind), 0, 3, 2)
             survey = adf.survey(image)
-            self.assertEqual((survey.findings, survey.is_retyped, survey.kind), ([adf.Finding(0, 0, f"files of {kind}-international", None, None)], True, kind))
+            found = [adf.Finding(0, 0, cause, None, None) for cause in (f"files of {kind}-international", "international")]
+            self.assertEqual((survey.findings, survey.is_retyped, survey.kind), (found, True, kind))
             self.assertEqual((survey.image, survey.read(b"\xc9"), [entry.is_sound for entry in survey.entries]), (image, b"A", [True, True]))
         cut = adf.survey((bytes(4) + sound[4:])[: 512 * 9], 16)
         self.assertEqual((cut.is_begun, len(cut.image), cut.entries[0].is_sound), (True, 8192, True))

@@ -393,6 +393,16 @@ fn what_adf_survey_opens_is_surveyed() {
 }
 
 #[test]
+fn the_type_has_the_letters_of_the_names() {
+    let mut image = international();
+    image[3] = 1;
+    let survey = Survey::of(&image).unwrap();
+    assert_eq!((survey.is_retyped(), survey.kind()), (true, Some(Kind::Ffs)));
+    assert_eq!(survey.findings().map(|finding| finding.cause()).collect::<Vec<_>>(), [Cause::International]);
+    assert!(survey.entries().all(|found| found.is_sound()));
+}
+
+#[test]
 fn a_floppy_has_its_blocks() {
     // There are 44 blocks behind the volume, or 60 are missing, which are free.
     let sound = image("ofs");
