@@ -447,8 +447,9 @@ uint8_t adf_survey_index(const uint8_t *image, size_t length, struct adf_finding
 
 /* What a survey has at a block. Block b is at index b of the table. */
 struct adf_part {
-    size_t node;     /* the entry that has the block; 0 for the root, the bitmap, and a block that nothing found has */
-    uint32_t number; /* the number of the data block of a file that it is, from 1, if nothing else asks for the block; otherwise 0 */
+    size_t node; /* the entry that has the block; 0 for the root, the bitmap, and a block that nothing found has */
+    uint32_t
+        number; /* the number of the data block of a file that it is, from 1, if nothing else asks for the block; otherwise 0 */
 };
 
 /* The number that stands for no block in the table of a file. */
