@@ -17,6 +17,7 @@ sys.dont_write_bytecode = True
 from survey import DIR, FILE, LINKS, PAGE_BITS, POINTERS, ROOT_PAGES, SLOTS, Survey, page, slot, spelled
 
 KIND_TEXTS = ("ofs", "ffs", "ofs-international", "ffs-international")
+PRUNES = False  # whether headers in doubt are pruned, as `prune` of adf_rescue does, which no program calls
 HARMLESS = {"bad name", "bad comment", "wrong slot", "bad first", "same name"}
 
 
@@ -347,7 +348,7 @@ class Rescue:
         self.front = [(count, stated - 1)] if count < stated else []
         self.front += [(0, 0)] if is_retyped or not states_type(image) else []
         survey = Survey(self.given)
-        if survey.findings or self.mended:
+        if PRUNES and (survey.findings or self.mended):
             self.given = pruned(self.given)
             survey = Survey(self.given)
         self.findings, self.refused, self.left_out, self.losses = survey.findings, None, [], []
