@@ -52,8 +52,8 @@ pub fn says_directory(image: &[u8], b: u32) -> bool
     block.word(TYPE) == T_SHORT && block.word(OWN_KEY) == b && block.word(SECONDARY_TYPE) == ST_DIR
 }
 
-// Whether block `b` says that it is a header.
-fn says_header(image: &[u8], b: u32) -> bool
+/// Whether block `b` says that it is a header.
+pub fn says_header(image: &[u8], b: u32) -> bool
     requires { b < blocks image.now }
     ensures { result ≡ says_header image.now b }
 {
@@ -78,8 +78,8 @@ pub fn is_stated_free(survey: &Survey<'_>, b: u32) -> bool
     bit_stated(survey, b).unwrap_or(false)
 }
 
-// Whether the bitmap tells that a block is in use.
-fn is_stated_used(survey: &Survey<'_>, b: u32) -> bool
+/// Whether the bitmap tells that a block is in use.
+pub fn is_stated_used(survey: &Survey<'_>, b: u32) -> bool
     ensures { OnSurvey survey.now.image (λ w _. result ≡ is_stated_used survey.now.image w b) }
 {
     !bit_stated(survey, b).unwrap_or(true)
