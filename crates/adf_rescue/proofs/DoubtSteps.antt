@@ -26,7 +26,7 @@ module _ (doubt : ℕ → Option Doubt) where
       ap (cons_option (kept_in_doubt n (doubt n) (is_added v))) more
       ∙ (cons_append (kept_in_doubt n (doubt n) (is_added v)) (doubts_from doubt (suc n) (take k vs)) _
       ∙ ap (λ i. cons_option (kept_in_doubt n (doubt n) (is_added v)) (doubts_from doubt (suc n) (take k vs))
-        ++ cons_option (kept_in_doubt i (doubt i) (has_mark (map is_added vs) k)) []) at)
+      ++ cons_option (kept_in_doubt i (doubt i) (has_mark (map is_added vs) k)) []) at)
 
   -- the doubts of the first entries, and of one more
   pub one_doubt : (vs : List Verdict) (k : ℕ) (kept : List Bool) (o : Option Doubt) (x : Option Doubtful) (xs ys : List Doubtful)

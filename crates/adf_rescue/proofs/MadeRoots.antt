@@ -4,17 +4,17 @@ use Rattle.std.proofs.Common.{◌≡◌, ◌<◌, ◌≤◌, ℕ, ◌+◌, ◌*�
 use Rattle.std.proofs.Common.{sym, ◌-◌, ◌==◌, ◌&&◌, ◌≢◌, slice_range}
 use Rattle.std.specs.List.{range_with_len}
 use Rattle.std.proofs.lemmas.Bool.{cond-false, cond-true, cond_both, Decides.nat_tests}
-use Rattle.std.proofs.lemmas.List.{drop-drop, get_or-drop, length-take, Edits.fill_by_more, FromFn.get_or-map-range_with_len, FromFn.length-map-range_with_len}
+use Rattle.std.proofs.lemmas.List.{drop-drop, get_or-drop, length-take, take_all, Edits.fill_by_more, FromFn.get_or-map-range_with_len, FromFn.length-map-range_with_len}
 use Rattle.std.proofs.lemmas.Grind.{common_steps}
 use Rattle.adf_base.specs.Words.{block, checksum, long_sum, sealed, with_block, with_word, word}
 use Rattle.adf_base.proofs.WordLaws.{block_written, drop-with_bytes_above, front-with_bytes, length-big_bytes, length-with_bytes, length-with_word}
-use Rattle.adf_base.proofs.WordLaws.{long_sum-sealed, range-with_bytes_below, with_bytes-with_bytes, word-with_word_other}
+use Rattle.adf_base.proofs.WordLaws.{long_sum-sealed, range-with_bytes_below, with_bytes-with_bytes, word-with_word_other, word-with_word_same}
 use Rattle.adf_names.specs.Meta.{AreStamps}
-use Rattle.adf_blocks.specs.declared.layout.TheConstants.{BITMAP_FLAG, CHECKSUM, FIRST_SLOT, MOST_BLOCKS, NAME, SECONDARY_TYPE, SLOTS, TYPE}
+use Rattle.adf_blocks.specs.declared.layout.TheConstants.{BITMAP_FLAG, CHECKSUM, FIRST_MAP_EXT, FIRST_SLOT, MOST_BLOCKS, NAME, SECONDARY_TYPE, SLOTS, TYPE}
 use Rattle.adf_blocks.specs.Forms.{text_at}
 use Rattle.adf_blocks.specs.RootBlock.{FitsRoot, RootFields, label_stated, root_block, stamps_at}
 use Rattle.adf_blocks.specs.Sizes.{blocks}
-use Rattle.adf_blocks.proofs.RootLaws.{length_root_block, root_block-secondary, root_block-slot, root_block-stamps, root_block-sum, root_block-text}
+use Rattle.adf_blocks.proofs.RootLaws.{length_root_block, root_block-map_ext, root_block-secondary, root_block-slot, root_block-stamps, root_block-sum, root_block-text}
 use Rattle.adf_blocks.proofs.RootLaws.{root_block-type}
 use Rattle.adf_volume.specs.Image.{root_of}
 use Rattle.adf_volume.specs.Start.{is_image_len}
@@ -63,6 +63,9 @@ same_text bs cs at e =
     let rest : drop (at + 1) bs ≡ drop (at + 1) cs = grind (arith, drop-drop 1 at bs, drop-drop 1 at cs, ap (drop 1) e) in
     λ i. take (at + 1 + size i - (at + 1)) (rest i)
 
+take_twice : (n : ℕ) (bs : List ℕ) → take n (take n bs) ≡ take n bs
+take_twice n bs = take_all n (take n bs) (omega (arith, length-take n bs))
+
 nothing_dated : AreStamps NO_STAMPS
 nothing_dated = grind (arith, common_steps)
 
@@ -96,7 +99,7 @@ module _ (image : List ℕ) where
       drop-with_bytes_above bs (4 * CHECKSUM) _ NAME (omega (arith, length_flagged))
       (omega (arith, length-big_bytes 4 (checksum CHECKSUM bs)))
       ∙ drop-with_bytes_above (root_block (made_root image)) (4 * BITMAP_FLAG) _ NAME
-        (omega (arith, length_written)) (omega (arith, length-big_bytes 4 (flag_in (middle_block image))))
+      (omega (arith, length_written)) (omega (arith, length-big_bytes 4 (flag_in (middle_block image))))
 
   made_text : text_at (made_block image) NAME ≡ label_in (middle_block image)
   made_text = same_text (made_block image) (root_block (made_root image)) NAME made_end ∙ root_block-text (made_root image) (made_fits image)
@@ -129,6 +132,31 @@ module _ (image : List ℕ) where
 
   pub undated : is_like_root (middle_block image) ≡ false → stamps_at (made_block image) ≡ NO_STAMPS
   undated h = grind (arith, common_steps, cond-false, made_stamps, root_block-stamps, made_fits, nothing_dated)
+
+  -- if the middle block is like a root, it has what stands there
+  module _ (like : is_like_root (middle_block image) ≡ true) where
+    pub named : label_stated (made_block image) ≡ label_stated (middle_block image)
+    named = ap (take 30) (made_text ∙ cond-true (is_like_root (middle_block image)) _ _ like) ∙ take_twice 30 (text_at (middle_block image) NAME)
+
+    pub dated : AreStamps (stamps_at (middle_block image)) → stamps_at (made_block image) ≡ stamps_at (middle_block image)
+    dated fit =
+        let same : stamps_in (middle_block image) ≡ stamps_at (middle_block image) = cond-true (is_like_root (middle_block image)) _ _ like in
+        made_stamps ∙ (root_block-stamps (made_root image) (made_fits image) (subst AreStamps (sym same) fit) ∙ same)
+
+    pub flagged : word (middle_block image) BITMAP_FLAG < 2 ^ 32 → word (made_block image) BITMAP_FLAG ≡ word (middle_block image) BITMAP_FLAG
+    flagged small =
+        let bs : List ℕ = with_word (root_block (made_root image)) BITMAP_FLAG (flag_in (middle_block image)) in
+        let same : flag_in (middle_block image) ≡ word (middle_block image) BITMAP_FLAG = cond-true (is_like_root (middle_block image)) _ _ like in
+        word-with_word_other bs CHECKSUM (checksum CHECKSUM bs) BITMAP_FLAG (omega (arith, length_flagged)) (omega arith)
+        ∙ (word-with_word_same (root_block (made_root image)) BITMAP_FLAG (flag_in (middle_block image)) (omega (arith, length_written))
+        (omega (arith, same, small)) ∙ same)
+
+    pub extended : word (middle_block image) FIRST_MAP_EXT < 2 ^ 32
+        → word (made_block image) FIRST_MAP_EXT ≡ word (middle_block image) FIRST_MAP_EXT
+    extended small =
+        let same : map_ext_in (middle_block image) ≡ word (middle_block image) FIRST_MAP_EXT = cond-true (is_like_root (middle_block image)) _ _ like in
+        made_word FIRST_MAP_EXT (omega arith) (omega arith)
+        ∙ (root_block-map_ext (made_root image) (made_fits image) (omega (arith, same, small)) ∙ same)
 
 -- the image around it stays
 
@@ -180,7 +208,7 @@ module _ (image : List ℕ) (b i v k : ℕ) (bs one two three : List ℕ) (room 
       third ∙ (ap (λ l. with_block l b (sealed k (block l b))) then_word
       ∙ (ap (λ l. with_block (with_block image b (with_word bs i v)) b (sealed k l)) (block_written image b (with_word bs i v) room long_changed)
       ∙ written_twice image b (with_word bs i v) (sealed k (with_word bs i v)) room long_changed
-        (length-with_word (with_word bs i v) k (checksum k (with_word bs i v)) (omega (arith, long_changed)) ∙ long_changed)))
+      (length-with_word (with_word bs i v) k (checksum k (with_word bs i v)) (omega (arith, long_changed)) ∙ long_changed)))
 
 -- the root that is made, from its parts
 
@@ -203,6 +231,6 @@ made_anew image at flag one two three r none len place f fields first second thi
     let w = root_within image len in
     let long : length (root_block r) ≡ 512 = ap (λ x. length (root_block x)) fields ∙ length_written image in
     let all = then_sum image at BITMAP_FLAG flag CHECKSUM (root_block r) one two three (omega (arith, place, w.whole)) long (omega arith) (omega arith)
-        first second third in
+    first second third in
     all ∙ ((λ i. with_block image (place i) (sealed CHECKSUM (with_word (root_block (fields i)) BITMAP_FLAG (f i))))
     ∙ sym (cond-false (has_root image) image _ none))

@@ -9,7 +9,7 @@ use Rattle.std.proofs.lemmas.Grind.{common_steps}
 use Rattle.adf_base.specs.Words.{block, long_sum, with_bytes, word}
 use Rattle.adf_base.specs.declared.hash.Letters.{Letters}
 use Rattle.adf_tree.specs.Tree.{Tree}
-use Rattle.adf_blocks.specs.declared.layout.TheConstants.{FIRST_SLOT, SECONDARY_TYPE, SLOTS, ST_ROOT, TYPE, T_SHORT}
+use Rattle.adf_blocks.specs.declared.layout.TheConstants.{BITMAP_FLAG, FIRST_MAP_EXT, FIRST_SLOT, SECONDARY_TYPE, SLOTS, ST_ROOT, TYPE, T_SHORT}
 use Rattle.adf_blocks.specs.RootBlock.{label_stated, stamps_at}
 use Rattle.adf_blocks.specs.Sizes.{blocks, middle}
 use Rattle.adf_volume.specs.Fits.{FitsBy}
@@ -18,10 +18,12 @@ use Rattle.adf_volume.specs.Layout.{Layout}
 use Rattle.adf_volume.specs.Start.{is_image_len}
 use Rattle.adf_findings.specs.Opening.{opening_in}
 use Rattle.adf_findings.specs.Start.{has_root_type}
+use Rattle.adf_names.specs.Meta.{AreStamps}
 use Rattle.adf_names.specs.declared.meta.TheConstants.{NO_STAMPS}
 use Rattle.adf_rescue.specs.MadeRoot.{has_root, is_like_root, made_block, middle_block, rooted}
 use Rattle.adf_rescue.specs.Opened.{IsOpened, with_boot_type, has_data, is_mended, opened, says_data, states_type, type_byte}
-use Rattle.adf_rescue.proofs.MadeRoots.{before_rooted, behind_rooted, front_rooted, length_rooted, made_is_whole, made_rooted, made_slot}
+use Rattle.adf_rescue.proofs.MadeRoots.{before_rooted, behind_rooted, dated, extended, flagged, front_rooted, length_rooted, made_is_whole, made_rooted}
+use Rattle.adf_rescue.proofs.MadeRoots.{made_slot, named}
 use Rattle.adf_rescue.proofs.MadeRoots.{root_within, sized, undated, unnamed, whole_rooted}
 
 -- block 0 of the part of an image that is block b
@@ -217,6 +219,51 @@ module _ (image : List ℕ) (len : is_image_len (length image) ≡ true) (none :
 
   pub undated_opened : (opening_in (opened image)).stamps ≡ NO_STAMPS
   undated_opened = ap stamps_at made_opened ∙ undated (with_boot_type image) still_none
+
+-- where the middle block is like a root, what it says stays
+
+middle_either : (image : List ℕ) (P : List ℕ → Type 0) → P (middle_block image) → (is_image_len (length image) ≡ true → P (made_block (with_boot_type image)))
+    → P (middle_block (opened image))
+middle_either image P same made = elim (cases_Bool (is_mended image)) [
+  | inr kept ↦ subst (λ l. P (middle_block l)) (sym (opened_kept image kept)) same
+  | inl mended ↦
+      let len = mended_len image mended in
+      let at : middle_block (opened image) ≡ block (rooted (with_boot_type image)) (root_of image) =
+      middle_opened image ∙ ap (λ l. block l (root_of image)) (opened_mended image mended) in
+      elim (cases_Bool (has_root image)) [
+        | inl whole ↦ subst P (sym (at ∙ kept_middle image len whole)) same
+        | inr none ↦ subst P (sym (at ∙ made_middle image len none)) (made len)
+      ]
+]
+
+module _ (image : List ℕ) (like : is_like_root (middle_block image) ≡ true) where
+  still_like : is_image_len (length image) ≡ true → is_like_root (middle_block (with_boot_type image)) ≡ true
+  still_like len = ap is_like_root (same_middle image len) ∙ like
+
+  pub named_opened : label_stated (middle_block (opened image)) ≡ label_stated (middle_block image)
+  named_opened =
+      middle_either image (λ b. label_stated b ≡ label_stated (middle_block image)) refl
+      (λ len. named (with_boot_type image) (still_like len) ∙ ap label_stated (same_middle image len))
+
+  pub dated_opened : AreStamps (stamps_at (middle_block image)) → stamps_at (middle_block (opened image)) ≡ stamps_at (middle_block image)
+  dated_opened fit =
+      middle_either image (λ b. stamps_at b ≡ stamps_at (middle_block image)) refl
+      (λ len. dated (with_boot_type image) (still_like len) (subst (λ b. AreStamps (stamps_at b)) (sym (same_middle image len)) fit)
+      ∙ ap stamps_at (same_middle image len))
+
+  pub flagged_opened : word (middle_block image) BITMAP_FLAG < 2 ^ 32
+      → word (middle_block (opened image)) BITMAP_FLAG ≡ word (middle_block image) BITMAP_FLAG
+  flagged_opened small =
+      middle_either image (λ b. word b BITMAP_FLAG ≡ word (middle_block image) BITMAP_FLAG) refl
+      (λ len. flagged (with_boot_type image) (still_like len) (subst (λ b. word b BITMAP_FLAG < 2 ^ 32) (sym (same_middle image len)) small)
+      ∙ ap (λ b. word b BITMAP_FLAG) (same_middle image len))
+
+  pub extended_opened : word (middle_block image) FIRST_MAP_EXT < 2 ^ 32
+      → word (middle_block (opened image)) FIRST_MAP_EXT ≡ word (middle_block image) FIRST_MAP_EXT
+  extended_opened small =
+      middle_either image (λ b. word b FIRST_MAP_EXT ≡ word (middle_block image) FIRST_MAP_EXT) refl
+      (λ len. extended (with_boot_type image) (still_like len) (subst (λ b. word b FIRST_MAP_EXT < 2 ^ 32) (sym (same_middle image len)) small)
+      ∙ ap (λ b. word b FIRST_MAP_EXT) (same_middle image len))
 
 -- it begins as a volume
 

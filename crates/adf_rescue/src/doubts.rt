@@ -100,7 +100,10 @@ pub fn first_doubts(
     for before in 0..survey.len() {
         let n = Node(before + 1);
         let doubt = first_doubt(survey, n);
-        push_some(&mut doubts, kept_in_doubt(n, doubt, has_mark(kept, n.0)))?;
+        push_some(
+            &mut doubts,
+            kept_in_doubt(n, doubt, has_mark(kept, before + 1)),
+        )?;
     }
     Ok(doubts)
 }
@@ -119,7 +122,10 @@ fn doubts_of_second(
     for before in 0..second.len() {
         let n = Node(before + 1);
         let doubt = second_doubt(survey, second, n);
-        push_some(&mut doubts, kept_in_doubt(n, doubt, has_mark(kept, n.0)))?;
+        push_some(
+            &mut doubts,
+            kept_in_doubt(n, doubt, has_mark(kept, before + 1)),
+        )?;
     }
     Ok(doubts)
 }

@@ -1,11 +1,14 @@
 // Images whose boot block or root was overwritten.
 
 ghost use Rattle.std.specs.Prelude.{◌≡◌, ◌<◌, ◌≤◌, ◌+◌, ◌*◌, ◌^◌, ◌∷◌, [], ℕ, List, IfOk, drop, false, length, slice_range, true};
-ghost use Rattle.adf_blocks.specs.declared.layout.TheConstants.{FIRST_SLOT, SLOTS};
+ghost use Rattle.adf_base.specs.Words.{word};
+ghost use Rattle.adf_blocks.specs.declared.layout.TheConstants.{BITMAP_FLAG, FIRST_MAP_EXT, FIRST_SLOT, SLOTS};
+ghost use Rattle.adf_blocks.specs.RootBlock.{label_stated, stamps_at};
 ghost use Rattle.adf_blocks.specs.Sizes.{blocks};
 ghost use Rattle.adf_volume.specs.Image.{root_of, word_in};
 ghost use Rattle.adf_volume.specs.Start.{is_image_len};
 ghost use Rattle.adf_findings.specs.Opening.{opening_in};
+ghost use Rattle.adf_names.specs.Meta.{AreStamps};
 ghost use Rattle.adf_names.specs.declared.meta.TheConstants.{NO_STAMPS};
 ghost use Rattle.adf_rescue.specs.MadeRoot.{has_root, is_like_root, middle_block};
 ghost use Rattle.adf_rescue.specs.Opened.{has_data, is_mended, lacks_boot, lacks_root, opened, says_data, says_file};
@@ -164,4 +167,14 @@ pub fn opened_keeps()
         → is_like_root (middle_block image) ≡ false → (opening_in (opened image)).label ≡ [] }
     ensures stamps { (image : List ℕ) → is_image_len (length image) ≡ true
         → is_like_root (middle_block image) ≡ false → (opening_in (opened image)).stamps ≡ NO_STAMPS }
+    ensures named { (image : List ℕ) → is_like_root (middle_block image) ≡ true
+        → (opening_in (opened image)).label ≡ label_stated (middle_block image) }
+    ensures dated { (image : List ℕ) → is_like_root (middle_block image) ≡ true
+        → AreStamps (stamps_at (middle_block image)) → (opening_in (opened image)).stamps ≡ stamps_at (middle_block image) }
+    ensures flag { (image : List ℕ) → is_like_root (middle_block image) ≡ true
+        → word (middle_block image) BITMAP_FLAG < 2 ^ 32
+        → word (middle_block (opened image)) BITMAP_FLAG ≡ word (middle_block image) BITMAP_FLAG }
+    ensures extension { (image : List ℕ) → is_like_root (middle_block image) ≡ true
+        → word (middle_block image) FIRST_MAP_EXT < 2 ^ 32
+        → word (middle_block (opened image)) FIRST_MAP_EXT ≡ word (middle_block image) FIRST_MAP_EXT }
 {}
