@@ -44,8 +44,8 @@ fn is_page_block(block: &Block<'_>) -> bool
     block.long_sum() == 0 && !is_other_type(block.word(TYPE))
 }
 
-// Whether a block of an image, behind the boot blocks, says so.
-fn says_page(image: &[u8], b: u32) -> bool
+/// Whether a block of an image, behind the boot blocks, says so.
+pub fn says_page(image: &[u8], b: u32) -> bool
     ensures { result ≡ says_page image.now b }
 {
     let b = b as usize;
