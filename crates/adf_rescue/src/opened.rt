@@ -22,8 +22,8 @@ use adf_boot_blocks::begins_with_dos;
 use adf_volume::is_image_len;
 use std::alloc::Global;
 
-/// Whether block `b` says that it is a file's header.
-pub fn says_file(image: &[u8], b: usize) -> bool
+// Whether block `b` says that it is a file's header.
+fn says_file(image: &[u8], b: usize) -> bool
     requires { b < blocks image.now }
     ensures { result ≡ says_file image.now b }
 {
