@@ -4,7 +4,8 @@ use Rattle.std.proofs.Common.{◌≡◌, ◌<◌, ◌≤◌, ℕ, ◌+◌, ◌*�
 use Rattle.std.proofs.Common.{sym, ◌-◌, ◌==◌, ◌&&◌, ◌≢◌, slice_range}
 use Rattle.std.specs.List.{range_with_len}
 use Rattle.std.proofs.lemmas.Bool.{cond-false, cond-true, cond_both, Decides.nat_tests}
-use Rattle.std.proofs.lemmas.List.{drop-drop, get_or-drop, length-take, take_all, Edits.fill_by_more, FromFn.get_or-map-range_with_len, FromFn.length-map-range_with_len}
+use Rattle.std.proofs.lemmas.List.{drop-drop, get_or-drop, length-take, take_all, Edits.fill_by_more}
+use Rattle.std.proofs.lemmas.List.{FromFn.get_or-map-range_with_len, FromFn.length-map-range_with_len}
 use Rattle.std.proofs.lemmas.Grind.{common_steps}
 use Rattle.adf_base.specs.Words.{block, checksum, long_sum, sealed, with_block, with_word, word}
 use Rattle.adf_base.proofs.WordLaws.{block_written, drop-with_bytes_above, front-with_bytes, length-big_bytes, length-with_bytes, length-with_word}
@@ -14,7 +15,7 @@ use Rattle.adf_blocks.specs.declared.layout.TheConstants.{BITMAP_FLAG, CHECKSUM,
 use Rattle.adf_blocks.specs.Forms.{text_at}
 use Rattle.adf_blocks.specs.RootBlock.{FitsRoot, RootFields, label_stated, root_block, stamps_at}
 use Rattle.adf_blocks.specs.Sizes.{blocks}
-use Rattle.adf_blocks.proofs.RootLaws.{length_root_block, root_block-map_ext, root_block-secondary, root_block-slot, root_block-stamps, root_block-sum, root_block-text}
+use Rattle.adf_blocks.proofs.RootLaws.{length_root_block, root_block-map_ext, root_block-secondary, root_block-slot, root_block-stamps, root_block-text}
 use Rattle.adf_blocks.proofs.RootLaws.{root_block-type}
 use Rattle.adf_volume.specs.Image.{root_of}
 use Rattle.adf_volume.specs.Start.{is_image_len}

@@ -86,8 +86,8 @@ fn kept_in_doubt(entry: Node, doubt: Option<Doubt>, is_kept: bool) -> Option<Dou
     }
 }
 
-/// The entries of a survey that are kept in doubt, in the order of the walk, by the marks of those that are kept. `NoMemory` if an
-/// allocation fails.
+/// The entries of a survey that are kept in doubt, in the order of the walk, by the marks of those that are kept. `NoMemory` if
+/// an allocation fails.
 pub fn first_doubts(
     alloc: Global,
     survey: &Survey<'_>,
@@ -130,8 +130,8 @@ fn doubts_of_second(
     Ok(doubts)
 }
 
-/// The entries of the second survey that are kept in doubt, in the order of the walk, by the marks of those that are kept. `NoMemory`
-/// if an allocation fails.
+/// The entries of the second survey that are kept in doubt, in the order of the walk, by the marks of those that are kept.
+/// `NoMemory` if an allocation fails.
 pub fn second_doubts(
     alloc: Global,
     survey: &Survey<'_>,
