@@ -82,8 +82,8 @@ fn made_place(alloc: Global, made: bool) -> Result<Vec<Node>, NoMemory>
     Ok(places)
 }
 
-/// The directories of the survey in which headers are lost: the root, if it was made, and for each header that was skipped the one
-/// in which it was, in the order of the findings. `NoMemory` if an allocation fails.
+/// The directories of the survey in which headers are lost: the root, if it was made, and for each header that was skipped
+/// the one in which it was, in the order of the findings. `NoMemory` if an allocation fails.
 pub fn lost_headers(alloc: Global, survey: &Survey<'_>, made: bool) -> Result<Vec<Node>, NoMemory>
     ensures { OnSurvey survey.now.image (λ w fs. IfOk result (λ v. v.items ≡ lost_headers made w fs)) }
 {

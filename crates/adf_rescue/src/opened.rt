@@ -127,13 +127,14 @@ fn mend(image: &mut [u8])
     make_root(image);
 }
 
-/// Makes an image the one that a rescue reads. Where it does not begin with `DOS` and a byte of at most 5, it begins with `DOS`
-/// and a type: OFS (0) if some OFS data block names a file's header that says that it is one, else FFS (1). Where its middle block
-/// is not a whole root, by words 0 and 127 and the checksum, it has one: with words 6 to 77 as they stand, and the bitmap pages
-/// that say that they are pages. If two of the words 0, 3 and 127 of the middle block are those of a root, the label, the dates,
-/// the bitmap flag (word 78) and the first bitmap extension block (word 104) are those that stand there; otherwise there is no
-/// label, no date and no extension block, and the flag is that of a valid bitmap. An image that begins with `DOS` and a byte of at
-/// most 5 and has a whole root stays as it is, and so does one of a length that no volume has.
+/// Makes an image the one that a rescue reads. Where it does not begin with `DOS` and a byte of at most 5, it begins with
+/// `DOS` and a type: OFS (0) if some OFS data block names a file's header that says that it is one, else FFS (1). Where its
+/// middle block is not a whole root, by words 0 and 127 and the checksum, it has one: with words 6 to 77 as they stand, and
+/// the bitmap pages that say that they are pages. If two of the words 0, 3 and 127 of the middle block are those of a root,
+/// the label, the dates, the bitmap flag (word 78) and the first bitmap extension block (word 104) are those that stand
+/// there; otherwise there is no label, no date and no extension block, and the flag is that of a valid bitmap. An image that
+/// begins with `DOS` and a byte of at most 5 and has a whole root stays as it is, and so does one of a length that no volume
+/// has.
 #[tactic(auto, using(crate::proofs::OpenedImages::opened_kept))]
 pub fn open(image: &mut [u8])
     ensures { image.new ≡ opened image.old }
