@@ -6,6 +6,7 @@ pub mod Opened
 pub mod Pruned
 pub mod Rescue
 pub mod Losses
+pub mod Doubts
 pub mod Rescued
 -- The states of what adds entry after entry.
 pub mod Salvage

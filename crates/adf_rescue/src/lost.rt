@@ -445,11 +445,7 @@ fn is_lost(survey: &Survey<'_>, evidence: &Evidence, b: u32) -> bool
 
 /// Whether each block is a lost header.
 #[tactic(auto, using(crate::proofs::LostHeaders::lost_more, crate::proofs::LostHeaders::lost_marked))]
-pub fn lost(
-    alloc: Global,
-    survey: &Survey<'_>,
-    evidence: &Evidence,
-) -> Result<Vec<bool>, NoMemory>
+pub fn lost(alloc: Global, survey: &Survey<'_>, evidence: &Evidence) -> Result<Vec<bool>, NoMemory>
     requires { is_image_len (length survey.now.image) ≡ true }
     ensures { OnSurvey survey.now.image (λ w _. (s : ℕ → Bool) → IsEvidence survey.now.image w s evidence.now
         → IfOk result (λ v. AreLost survey.now.image w s v.items)) }
