@@ -24,7 +24,7 @@ use Rattle.adf_findings.specs.SurveyResult.{IsBitStated}
 use Rattle.adf_findings.proofs.BitSteps.{has_page}
 use Rattle.adf_findings.proofs.BitsStated.{one_page}
 use Rattle.adf_rescue.specs.Lost.{AreOpen, AreSkipping, IsEvidence, bit_in, bit_stated, directory_at, directory_by, has_found_data_among}
-use Rattle.adf_rescue.specs.Lost.{has_free_data_among, has_free_header, has_open, has_skipped, has_valid_flag, is_lost, is_missed, is_missing, is_open}
+use Rattle.adf_rescue.specs.Lost.{has_free_data_among, has_free_header, has_open, has_skipped, has_valid_flag, is_lost, is_missed, is_open}
 use Rattle.adf_rescue.specs.Lost.{is_set_in, is_stated_free, is_in_use, is_skip_in}
 use Rattle.adf_rescue.specs.MadeRoot.{says_page}
 

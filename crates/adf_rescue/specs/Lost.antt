@@ -162,17 +162,17 @@ is_freed image w b = is_trusted image w && (is_stated_free image w b || has_free
 abbrev pub is_gone : List ℕ → Walk → ℕ → Bool
 is_gone image w b = owns w b || has_found_data image w b || is_freed image w b
 
--- header b may be missing in the directory in block p: if that is a directory of the survey, it is open or b is in use; otherwise a
--- directory may be made there, or the block says that it is one and is no part of the survey
-abbrev pub is_missing : List ℕ → Walk → (ℕ → Bool) → ℕ → ℕ → Option ℕ → Bool
-is_missing image w s b p (Some n) = s n || is_in_use image w b
-is_missing image w s b p None = is_vacant image w s p || is_no_part image w p && says_directory image p
+-- the directory in block p misses header b: one of the survey, if it is open or b is in use; otherwise, if a directory may be made there, or the
+-- block says that it is one and is no part of the survey
+abbrev pub misses : List ℕ → Walk → (ℕ → Bool) → ℕ → ℕ → Option ℕ → Bool
+misses image w s b p (Some n) = s n || is_in_use image w b
+misses image w s b p None = is_vacant image w s p || is_no_part image w p && says_directory image p
 
--- header b may be missing in the directory that it names
+-- the directory that header b names misses it
 abbrev pub is_missed : List ℕ → Walk → (ℕ → Bool) → ℕ → Bool
-is_missed image w s b = is_missing image w s b (word_in image b PARENT) (directory_at image w (word_in image b PARENT))
+is_missed image w s b = misses image w s b (word_in image b PARENT) (directory_at image w (word_in image b PARENT))
 
--- block b is a lost header: it says that it is one, is not the root, is not gone, and may be missing in its directory
+-- block b is a lost header: it says that it is one, is not the root and not gone, and its directory misses it
 unfoldable pub is_lost : List ℕ → Walk → (ℕ → Bool) → ℕ → Bool
 is_lost image w s b =
     in_range image b && not (b == root_of image) && says_header image b && not (is_gone image w b) && is_missed image w s b

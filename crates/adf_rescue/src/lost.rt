@@ -410,7 +410,7 @@ fn is_gone(survey: &Survey<'_>, evidence: &Evidence, b: u32) -> bool
     survey.has_part(b) || has_found_data(survey, b) || is_freed(survey, evidence, b)
 }
 
-// Whether header `b` may be missing in the directory that it names.
+// Whether the directory that header `b` names misses it.
 #[tactic(auto, using(crate::proofs::LostHeaders::missed_by_directory, std::proofs::lemmas::Grind::common_steps))]
 fn is_missed(survey: &Survey<'_>, evidence: &Evidence, b: u32) -> bool
     requires sized { is_image_len (length survey.now.image) ≡ true }
