@@ -23,9 +23,9 @@ use Rattle.adf_findings.specs.Survey.{FindingValue, IsSurvey, IsValidated}
 use Rattle.adf_findings.specs.SurveyResult.{IsBitStated}
 use Rattle.adf_findings.proofs.BitSteps.{has_page}
 use Rattle.adf_findings.proofs.BitsStated.{one_page}
-use Rattle.adf_rescue.specs.Lost.{AreOpen, AreSkipped, IsEvidence, bit_in, bit_stated, directory_at, directory_by, has_found_data_among}
-use Rattle.adf_rescue.specs.Lost.{has_free_data_among, has_free_header, has_open, has_skipped, has_valid_flag, is_lost, is_missed, is_missing, is_open}
-use Rattle.adf_rescue.specs.Lost.{is_set_in, is_stated_free, is_used, is_within}
+use Rattle.adf_rescue.specs.Lost.{AreOpen, AreSkipping, IsEvidence, bit_in, bit_stated, directory_at, directory_by, has_found_data_among}
+use Rattle.adf_rescue.specs.Lost.{has_free_data_among, has_free_header, has_open, has_skipped, has_valid_flag, is_lost, is_missed, is_open}
+use Rattle.adf_rescue.specs.Lost.{is_set_in, is_stated_free, is_in_use, is_skip_in}
 use Rattle.adf_rescue.specs.MadeRoot.{says_page}
 
 -- what the bitmap tells of a block
@@ -194,18 +194,15 @@ module _ (image : List ℕ) (w : Walk) (p : ℕ) where
 -- the marks of those that are open
 
 pub skipped_first : (w : Walk) (fs : List FindingValue) (marks : List Bool) → length marks ≡ suc (heads w)
-    → ((n : ℕ) → has_mark marks n ≡ false) → AreSkipped w fs 0 marks
+    → ((n : ℕ) → has_mark marks n ≡ false) → AreSkipping w fs 0 marks
 unfolding has_skipped
 skipped_first w fs marks len none = record { length = len; skipped = λ n le. none n }
 
-pub skipped_more : {w : Walk} {fs : List FindingValue} {k : ℕ} {marks more : List Bool} → AreSkipped w fs k marks
-    → ((m : ℕ) → m < length marks → has_mark more m ≡ (has_mark marks m || is_within m (concern_of_nth w fs k)))
-    → length more ≡ length marks → AreSkipped w fs (k + 1) more
+pub skipped_more : {w : Walk} {fs : List FindingValue} {k : ℕ} {marks more : List Bool} → AreSkipping w fs k marks
+    → ((m : ℕ) → m < length marks → has_mark more m ≡ (has_mark marks m || is_skip_in m (concern_of_nth w fs k)))
+    → length more ≡ length marks → AreSkipping w fs (k + 1) more
 unfolding has_skipped
 skipped_more are put len = grind (arith, common_steps, add-one)
-
-pub or_cond : (a b : Bool) → cond b true a ≡ (a || b)
-or_cond a b = grind (arith, common_steps, or-true)
 
 -- one answer more in a list of answers
 mapped_more : (f : ℕ → Bool) (n : ℕ) (marks more : List Bool) (t : Bool) → marks ≡ map f (range_with_len 0 n) → t ≡ f n → more ≡ marks ++ t ∷ []
@@ -274,7 +271,7 @@ module _ (image : List ℕ) (w : Walk) (s : ℕ → Bool) where
 
   -- what a directory of the survey misses
   pub missed_by_directory : (b p n : ℕ) (marks : List Bool) → AreOpen w s marks → p ≡ word_in image b PARENT
-      → Some n ≡ directory_at image w p → (has_mark marks n || is_used image w b) ≡ is_missed image w s b
+      → Some n ≡ directory_at image w p → (has_mark marks n || is_in_use image w b) ≡ is_missed image w s b
   missed_by_directory b p n marks are parent is = grind (arith, common_steps, directory_known)
 
   -- one mark more
