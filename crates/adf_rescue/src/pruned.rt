@@ -1,9 +1,9 @@
 // Headers whose checksums are wrong, pruned of what does not say of itself that it is their part.
 
-ghost use Rattle.std.specs.Prelude.{◌≡◌, ◌<◌, ◌+◌, ℕ, Bool, List, length, true, false};
+ghost use Rattle.std.specs.Prelude.{◌≡◌, ◌<◌, ◌+◌, ◌⊎◌, ℕ, Bool, List, length, true, false};
 ghost use Rattle.adf_base.specs.Words.{block};
 ghost use Rattle.adf_blocks.specs.Sizes.{blocks};
-ghost use Rattle.adf_blocks.specs.declared.layout.TheConstants.{SLOTS};
+ghost use Rattle.adf_blocks.specs.declared.layout.TheConstants.{SECONDARY_TYPE, SLOTS, ST_DIR};
 ghost use Rattle.adf_volume.specs.Image.{root_of, word_in};
 ghost use Rattle.adf_volume.specs.Start.{is_image_len};
 ghost use Rattle.adf_rescue.specs.Pruned.{LeadsToParts, chain_pruned, claims_extension, claims_header, claims_type};
@@ -187,7 +187,8 @@ pub fn prune(image: &mut [u8])
 
 /// A pruned image has as many bytes. Each block stays that is no header in doubt, so the boot block and the root, and all of
 /// an image without such a header. In a volume each word of a header in doubt that leads on is then 0, or leads to what claims
-/// to be such a part. Of each block only words 6 to 77, 124, 126 and 127 change, so no checksum does.
+/// to be such a part. Of each block only words 6 to 77, 124, 126 and 127 change, so no checksum does; and the last of them only
+/// to that of a directory.
 pub fn pruned_keeps()
     ensures length { (image : List ℕ) → length (pruned image) ≡ length image }
     ensures odd { (image : List ℕ) → is_image_len (length image) ≡ false → pruned image ≡ image }
@@ -198,4 +199,6 @@ pub fn pruned_keeps()
     ensures links { (image : List ℕ) → is_image_len (length image) ≡ true → (b : ℕ) → is_in_doubt image b ≡ true
         → LeadsToParts (pruned image) b }
     ensures words { (image : List ℕ) (b i : ℕ) → may_be_pruned i ≡ false → word_in (pruned image) b i ≡ word_in image b i }
+    ensures types { (image : List ℕ) (b : ℕ) → (word_in (pruned image) b SECONDARY_TYPE ≡ word_in image b SECONDARY_TYPE)
+        ⊎ (word_in (pruned image) b SECONDARY_TYPE ≡ ST_DIR) }
 {}
