@@ -74,7 +74,8 @@ put_prunes x b i v inside lt may type =
 cleared_prunes : (keeps : Bool) (x : List ℕ) (b i : ℕ) → b < blocks x → i < SECONDARY_TYPE → may_be_pruned i ≡ true → Prunes b x (cleared_unless keeps x b i)
 unfolding cleared_unless
 cleared_prunes true x b i inside lt may = prunes_none b x
-cleared_prunes false x b i inside lt may = put_prunes x b i 0 inside (omega arith) may (inl (word_other x b i 0 SECONDARY_TYPE inside (omega arith) (omega arith)))
+cleared_prunes false x b i inside lt may =
+    put_prunes x b i 0 inside (omega arith) may (inl (word_other x b i 0 SECONDARY_TYPE inside (omega arith) (omega arith)))
 
 slot_may : (k : ℕ) → k < SLOTS → may_be_pruned (FIRST_SLOT + k) ≡ true
 slot_may k lt = grind (arith, common_steps, nat_tests)
@@ -91,7 +92,8 @@ typed_prunes : (x : List ℕ) (b : ℕ) → b < blocks x → Prunes b x (directo
 unfolding directory_typed
 typed_prunes x b inside =
     cond_both (not (has_directory_type x b) && leads_to_child x b SLOTS) (put_in x b SECONDARY_TYPE ST_DIR) x (Prunes b x)
-    (λ leads. put_prunes x b SECONDARY_TYPE ST_DIR inside (omega arith) refl (inr (word_same x b SECONDARY_TYPE ST_DIR inside (omega arith) (omega arith)))) (λ none. prunes_none b x)
+    (λ leads. put_prunes x b SECONDARY_TYPE ST_DIR inside (omega arith) refl
+    (inr (word_same x b SECONDARY_TYPE ST_DIR inside (omega arith) (omega arith)))) (λ none. prunes_none b x)
 
 header_prunes : (x : List ℕ) (b : ℕ) → b < blocks x → Prunes b x (header_pruned x b)
 unfolding header_pruned
@@ -241,7 +243,14 @@ record PrunesFirst (k : ℕ) (x y : List ℕ) : Type 0 where
   type : (b : ℕ) → KeepsType x y b
 
 none_prunes : (x : List ℕ) → PrunesFirst 0 x x
-none_prunes x = record { length = refl; sound = λ b sound. refl; ahead = λ b le. refl; words = λ b i kept. refl; leads = λ b lt. absurd (omega arith); type = λ b. inl refl }
+none_prunes x = record {
+  length = refl;
+  sound = λ b sound. refl;
+  ahead = λ b le. refl;
+  words = λ b i kept. refl;
+  leads = λ b lt. absurd (omega arith);
+  type = λ b. inl refl;
+}
 
 more_prunes : (k : ℕ) (x y : List ℕ) → k < blocks x → PrunesFirst k x y → PrunesFirst (suc k) x (pruned_at y k)
 more_prunes k x y inside h =
