@@ -1,6 +1,6 @@
 -- What stays in a pruned image.
 -- Letters: b, c blocks; i, j words; k a number of slots or blocks; x, y, z images.
-use Rattle.std.proofs.Common.{◌==◌, ◌&&◌, not, ◌≡◌, ◌≢◌, ◌≤◌, ◌<◌, ℕ, zero, suc, ◌+◌, ◌*◌, Bool, true, false, List, length, ◌∙◌, ap, arith}
+use Rattle.std.proofs.Common.{◌==◌, ◌&&◌, not, ◌≡◌, ◌≢◌, ◌≤◌, ◌<◌, ℕ, zero, suc, ◌+◌, ◌*◌, ◌^◌, Bool, true, false, List, length, ◌∙◌, ap, arith}
 use Rattle.std.proofs.Common.{◌⊎◌, inl, inr, refl, subst, sym}
 use Rattle.std.proofs.lemmas.Bool.{and_left, and_parts, and_right, cases_Bool, cases_lt, cond-false, cond-true, cond_both, eq-eqb, eqb-true, not_from_true}
 use Rattle.std.proofs.lemmas.Bool.Decides.{nat_tests}
@@ -17,21 +17,29 @@ use Rattle.adf_rescue.specs.Pruned.{chain_leads, extension_leads, slot_leads, Le
 use Rattle.adf_rescue.specs.Pruned.{header_pruned, is_in_doubt, leads_to_child, may_be_pruned, pruned, pruned_at, pruned_first, slots_pruned}
 use Rattle.adf_rescue.proofs.PrunedImages.{all_pruned}
 
--- only words of block b that may be pruned change
+-- the secondary type of block b stays, or is that of a directory
+abbrev pub KeepsType : List ℕ → List ℕ → ℕ → Type 0
+KeepsType x y b = (word_in y b SECONDARY_TYPE ≡ word_in x b SECONDARY_TYPE) ⊎ (word_in y b SECONDARY_TYPE ≡ ST_DIR)
 
+type_more : (x y z : List ℕ) (b : ℕ) → KeepsType x y b → KeepsType y z b → KeepsType x z b
+type_more x y z b h g = grind (arith, common_steps)
+
+-- only words of block b that may be pruned change
 record Prunes (b : ℕ) (x y : List ℕ) : Type 0 where
   length : length y ≡ length x
   others : (c : ℕ) → c ≢ b → block y c ≡ block x c
   words : (i : ℕ) → may_be_pruned i ≡ false → word_in y b i ≡ word_in x b i
+  type : KeepsType x y b
 
 prunes_none : (b : ℕ) (x : List ℕ) → Prunes b x x
-prunes_none b x = record { length = refl; others = λ c other. refl; words = λ i kept. refl }
+prunes_none b x = record { length = refl; others = λ c other. refl; words = λ i kept. refl; type = inl refl }
 
 prunes_more : {b : ℕ} {x y z : List ℕ} → Prunes b x y → Prunes b y z → Prunes b x z
-prunes_more h g = record {
+prunes_more {b} {x} {y} {z} h g = record {
   length = g.length ∙ h.length;
   others = λ c other. g.others c other ∙ h.others c other;
   words = λ i kept. g.words i kept ∙ h.words i kept;
+  type = type_more x y z b h.type g.type;
 }
 
 whole : (x : List ℕ) (b : ℕ) → b < blocks x → b * 512 + 512 ≤ length x
@@ -44,8 +52,13 @@ still x y b e inside = omega (arith, e, inside)
 word_other : (x : List ℕ) (b i v j : ℕ) → b < blocks x → i < 128 → j ≢ i → word_in (put_in x b i v) b j ≡ word_in x b j
 word_other x b i v j inside lt other = grind (arith, common_steps, length-block, whole, length-with_word, block_written, word-with_word_other)
 
-put_prunes : (x : List ℕ) (b i v : ℕ) → b < blocks x → i < 128 → may_be_pruned i ≡ true → Prunes b x (put_in x b i v)
-put_prunes x b i v inside lt may =
+-- the word is the one that is put there
+word_same : (x : List ℕ) (b i v : ℕ) → b < blocks x → i < 128 → v < 2 ^ 32 → word_in (put_in x b i v) b i ≡ v
+word_same x b i v inside lt small = grind (arith, common_steps, length-block, whole, length-with_word, block_written, word-with_word_same)
+
+-- a word that is put in
+put_prunes : (x : List ℕ) (b i v : ℕ) → b < blocks x → i < 128 → may_be_pruned i ≡ true → KeepsType x (put_in x b i v) b → Prunes b x (put_in x b i v)
+put_prunes x b i v inside lt may type =
     let room = whole x b inside in
     let len = length-block x b room in
     let long = length-with_word (block x b) i v (omega (arith, len, lt)) ∙ len in
@@ -55,12 +68,14 @@ put_prunes x b i v inside lt may =
       words = λ j kept.
           let ne : j ≢ i = λ at. let yes = subst (λ k. may_be_pruned k ≡ false) at kept in cc in
           word_other x b i v j inside lt ne;
+      type = type;
     }
 
-cleared_prunes : (keeps : Bool) (x : List ℕ) (b i : ℕ) → b < blocks x → i < 128 → may_be_pruned i ≡ true → Prunes b x (cleared_unless keeps x b i)
+cleared_prunes : (keeps : Bool) (x : List ℕ) (b i : ℕ) → b < blocks x → i < SECONDARY_TYPE → may_be_pruned i ≡ true → Prunes b x (cleared_unless keeps x b i)
 unfolding cleared_unless
 cleared_prunes true x b i inside lt may = prunes_none b x
-cleared_prunes false x b i inside lt may = put_prunes x b i 0 inside lt may
+cleared_prunes false x b i inside lt may =
+    put_prunes x b i 0 inside (omega arith) may (inl (word_other x b i 0 SECONDARY_TYPE inside (omega arith) (omega arith)))
 
 slot_may : (k : ℕ) → k < SLOTS → may_be_pruned (FIRST_SLOT + k) ≡ true
 slot_may k lt = grind (arith, common_steps, nat_tests)
@@ -77,7 +92,8 @@ typed_prunes : (x : List ℕ) (b : ℕ) → b < blocks x → Prunes b x (directo
 unfolding directory_typed
 typed_prunes x b inside =
     cond_both (not (has_directory_type x b) && leads_to_child x b SLOTS) (put_in x b SECONDARY_TYPE ST_DIR) x (Prunes b x)
-    (λ leads. put_prunes x b SECONDARY_TYPE ST_DIR inside (omega arith) refl) (λ none. prunes_none b x)
+    (λ leads. put_prunes x b SECONDARY_TYPE ST_DIR inside (omega arith) refl
+    (inr (word_same x b SECONDARY_TYPE ST_DIR inside (omega arith) (omega arith)))) (λ none. prunes_none b x)
 
 header_prunes : (x : List ℕ) (b : ℕ) → b < blocks x → Prunes b x (header_pruned x b)
 unfolding header_pruned
@@ -108,12 +124,7 @@ word_leads : (keeps : Bool) (x : List ℕ) (b i : ℕ) → b < blocks x → i < 
     → (word_in (cleared_unless keeps x b i) b i ≡ 0) ⊎ ((keeps ≡ true) × (cleared_unless keeps x b i ≡ x))
 unfolding cleared_unless
 word_leads true x b i inside lt = inr (refl, refl)
-word_leads false x b i inside lt =
-    let room = whole x b inside in
-    let len = length-block x b room in
-    let long = length-with_word (block x b) i 0 (omega (arith, len, lt)) ∙ len in
-    inl (ap (λ bs. word bs i) (block_written x b (with_word (block x b) i 0) room long)
-    ∙ word-with_word_same (block x b) i 0 (omega (arith, len, lt)) (omega arith))
+word_leads false x b i inside lt = inl (word_same x b i 0 inside lt (omega arith))
 
 word_stays : (keeps : Bool) (x : List ℕ) (b i j : ℕ) → b < blocks x → i < 128 → j ≢ i → word_in (cleared_unless keeps x b i) b j ≡ word_in x b j
 unfolding cleared_unless
@@ -162,7 +173,7 @@ slots_lead x b (suc k) inside le s lt =
     let small : i < 128 = omega arith in
     elim (cases_lt s k) [
       | inl before ↦
-          slot_moves (cleared_prunes keeps y b i here small (slot_may k (omega arith))) b s
+          slot_moves (cleared_prunes keeps y b i here (omega arith) (slot_may k (omega arith))) b s
           (word_stays keeps y b i SECONDARY_TYPE here small (omega arith))
           (word_stays keeps y b i (FIRST_SLOT + s) here small (omega arith)) (slots_lead x b k inside (omega arith) s before)
       | inr from ↦
@@ -229,9 +240,17 @@ record PrunesFirst (k : ℕ) (x y : List ℕ) : Type 0 where
   ahead : (b : ℕ) → k ≤ b → block y b ≡ block x b
   words : (b i : ℕ) → may_be_pruned i ≡ false → word_in y b i ≡ word_in x b i
   leads : (b : ℕ) → b < k → is_in_doubt x b ≡ true → LeadsToParts y b
+  type : (b : ℕ) → KeepsType x y b
 
 none_prunes : (x : List ℕ) → PrunesFirst 0 x x
-none_prunes x = record { length = refl; sound = λ b sound. refl; ahead = λ b le. refl; words = λ b i kept. refl; leads = λ b lt. absurd (omega arith) }
+none_prunes x = record {
+  length = refl;
+  sound = λ b sound. refl;
+  ahead = λ b le. refl;
+  words = λ b i kept. refl;
+  leads = λ b lt. absurd (omega arith);
+  type = λ b. inl refl;
+}
 
 more_prunes : (k : ℕ) (x y : List ℕ) → k < blocks x → PrunesFirst k x y → PrunesFirst (suc k) x (pruned_at y k)
 more_prunes k x y inside h =
@@ -254,6 +273,10 @@ more_prunes k x y inside h =
             let here = same_doubt x y k h.length (h.ahead k (omega arith)) ∙ subst (λ c. is_in_doubt x c ≡ true) (sym last) doubt in
             subst (λ c. LeadsToParts (pruned_at y k) c) last (at_leads y k (still x y k h.length inside) here)
       ];
+      type = λ b. type_more x y (pruned_at y k) b (h.type b) (elim (cases_Bool (b == k)) [
+        | inl here ↦ subst (λ c. KeepsType y (pruned_at y k) c) (sym (eqb-true b k here)) t.type
+        | inr other ↦ inl (ap (λ bs. word bs SECONDARY_TYPE) (t.others b (λ at. let yes = eq-eqb b k at in cc)))
+      ]);
     }
 
 first_prunes : (k : ℕ) (x : List ℕ) → k ≤ blocks x → PrunesFirst k x (pruned_first x k)
@@ -281,6 +304,9 @@ pub links_kept : (x : List ℕ) → is_image_len (length x) ≡ true → (b : �
 links_kept x len b doubt =
     let inside : b < blocks x = grind (arith, common_steps, and_parts, nat_tests) in
     subst (λ y. LeadsToParts y b) (sym (all_pruned x len)) ((first_prunes (blocks x) x (omega arith)).leads b inside doubt)
+
+pub type_kept : (x : List ℕ) (b : ℕ) → KeepsType x (pruned x) b
+type_kept x b = either x (λ y. KeepsType x y b) (λ len. (first_prunes (blocks x) x (omega arith)).type b) (inl refl)
 
 boot_sound : (x : List ℕ) → is_in_doubt x 0 ≡ false
 boot_sound x = refl

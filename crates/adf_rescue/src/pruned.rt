@@ -1,15 +1,15 @@
 // Headers whose checksums are wrong, pruned of what does not say of itself that it is their part.
 
-ghost use Rattle.std.specs.Prelude.{◌≡◌, ◌<◌, ◌+◌, ℕ, Bool, List, length, true, false};
+ghost use Rattle.std.specs.Prelude.{◌≡◌, ◌<◌, ◌+◌, ◌⊎◌, ℕ, Bool, List, length, true, false};
 ghost use Rattle.adf_base.specs.Words.{block};
 ghost use Rattle.adf_blocks.specs.Sizes.{blocks};
-ghost use Rattle.adf_blocks.specs.declared.layout.TheConstants.{SLOTS};
+ghost use Rattle.adf_blocks.specs.declared.layout.TheConstants.{SECONDARY_TYPE, SLOTS, ST_DIR};
 ghost use Rattle.adf_volume.specs.Image.{root_of, word_in};
 ghost use Rattle.adf_volume.specs.Start.{is_image_len};
 ghost use Rattle.adf_rescue.specs.Pruned.{LeadsToParts, chain_pruned, claims_extension, claims_header, claims_type};
-ghost use Rattle.adf_rescue.specs.Pruned.{cleared_unless, directory_typed};
-ghost use Rattle.adf_rescue.specs.Pruned.{extension_pruned, has_directory_type, header_pruned, is_child_of, is_in_doubt};
-ghost use Rattle.adf_rescue.specs.Pruned.{leads_to_child, may_be_pruned, pruned, pruned_at, slot_pruned, slots_pruned};
+ghost use Rattle.adf_rescue.specs.Pruned.{cleared_unless, directory_typed, extension_pruned, has_directory_type, header_pruned};
+ghost use Rattle.adf_rescue.specs.Pruned.{is_child_of, is_in_doubt, leads_to_child, may_be_pruned, pruned, pruned_at};
+ghost use Rattle.adf_rescue.specs.Pruned.{slot_pruned, slots_pruned};
 
 use crate::image::{block_count, block_in, root_of};
 use crate::lost::{in_range, word_in};
@@ -171,8 +171,8 @@ fn prune_at(image: &mut [u8], b: u32)
 /// they are headers. One that has a sound header in it, which words 6 to 77 lead to and which names it as its directory, is
 /// made a directory, by word 127. In a directory each of words 6 to 77 becomes 0 unless it leads to what says by words 0 and 1
 /// that it is a header, and in others all of them; likewise word 124, the next in the chain, and word 126 unless it leads to
-/// what says that it is an extension block. Nothing else changes, so the checksums stay wrong. An image of a length that no
-/// volume has stays as it is.
+/// what says that it is an extension block. Nothing else changes, nor is a checksum made right. The headers are pruned in
+/// ascending order, each by the image as it stands then. An image of a length that no volume has stays as it is.
 #[tactic(auto, using(crate::proofs::PrunedImages::pruned_steps))]
 pub fn prune(image: &mut [u8])
     ensures { image.new ≡ pruned image.old }
@@ -187,7 +187,8 @@ pub fn prune(image: &mut [u8])
 
 /// A pruned image has as many bytes. Each block stays that is no header in doubt, so the boot block and the root, and all of
 /// an image without such a header. In a volume each word of a header in doubt that leads on is then 0, or leads to what claims
-/// to be such a part. Of each block only words 6 to 77, 124, 126 and 127 change, so no checksum does.
+/// to be such a part. Of each block only words 6 to 77, 124, 126 and 127 change, so no checksum does; and the last of them only
+/// to that of a directory.
 pub fn pruned_keeps()
     ensures length { (image : List ℕ) → length (pruned image) ≡ length image }
     ensures odd { (image : List ℕ) → is_image_len (length image) ≡ false → pruned image ≡ image }
@@ -198,4 +199,6 @@ pub fn pruned_keeps()
     ensures links { (image : List ℕ) → is_image_len (length image) ≡ true → (b : ℕ) → is_in_doubt image b ≡ true
         → LeadsToParts (pruned image) b }
     ensures words { (image : List ℕ) (b i : ℕ) → may_be_pruned i ≡ false → word_in (pruned image) b i ≡ word_in image b i }
+    ensures types { (image : List ℕ) (b : ℕ) → (word_in (pruned image) b SECONDARY_TYPE ≡ word_in image b SECONDARY_TYPE)
+        ⊎ (word_in (pruned image) b SECONDARY_TYPE ≡ ST_DIR) }
 {}
