@@ -127,7 +127,8 @@ module _ (image : List ℕ) where
     | inl k ↦ taken_skipped v f k e
     | inr k ↦ elim k [
       | inl z ↦
-          let taken : c ≡ Taken = ap (λ f. f.cause) z ∙ e in absurd (itself_not r (demands_in image s.walk r a (word_in image a i)) at c g.0 g.1 (ap (is_kept r) taken ∙ taken_skips r))
+          let taken : c ≡ Taken = ap (λ f. f.cause) z ∙ e in
+          absurd (itself_not r (demands_in image s.walk r a (word_in image a i)) at c g.0 g.1 (ap (is_kept r) taken ∙ taken_skips r))
       | inr k ↦ absurd k
     ]
   ]

@@ -13,8 +13,8 @@ use Rattle.adf_volume.proofs.Roles.{has_role, same_refl}
 use Rattle.adf_findings.specs.Files.{named_from}
 use Rattle.adf_findings.specs.Concerned.{is_contested, number_alone}
 use Rattle.adf_findings.specs.Members.{at_role, number_at, owning_entry}
-use Rattle.adf_findings.specs.Remains.{below, blocks_stated, bytes_left, data_alone, data_found, data_left, data_named, gaps_left, left_below, named_below, own_data, size_stated}
-use Rattle.adf_findings.specs.Remains.{unless_contested}
+use Rattle.adf_findings.specs.Remains.{below, blocks_stated, bytes_left, data_alone, data_found, data_left, data_named, gaps_left, left_below}
+use Rattle.adf_findings.specs.Remains.{named_below, own_data, size_stated, unless_contested}
 use Rattle.adf_findings.specs.Sound.{says_data_of}
 use Rattle.adf_findings.specs.Survey.{FindingValue, IsSurvey, IsSurvey.read, IsSurvey.unread}
 use Rattle.adf_walk.specs.Owners.{owner_at}

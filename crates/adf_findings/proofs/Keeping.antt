@@ -77,7 +77,8 @@ clear_marks image f xs base marks undoubted struck m = grind (arith, common_step
 -- of an image whose course is done, with its bits compared; xs are its findings, and ys those but the light ones
 pub read_kept : (image : List ℕ) (f : Found) (xs ys : List Finding) (concerned : List (Option Concern)) (contested sound whole : List Bool)
     → IsCompleted image f (map finding_value xs) → concerned ≡ map (λ x. blamed f x.part) xs
-    → ((b : ℕ) → has_mark contested b ≡ is_contested (map finding_value xs) b) → ((m : ℕ) → has_mark sound m ≡ is_clear image f xs m) → ys ≡ filter (λ x. not (is_light (finding_value x))) xs
+    → ((b : ℕ) → has_mark contested b ≡ is_contested (map finding_value xs) b)
+    → ((m : ℕ) → has_mark sound m ≡ is_clear image f xs m) → ys ≡ filter (λ x. not (is_light (finding_value x))) xs
     → ((m : ℕ) → has_mark whole m ≡ is_clear image f ys m)
     → IsOfSurvey (record {
       image = image;

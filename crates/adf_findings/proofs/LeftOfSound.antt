@@ -19,8 +19,8 @@ use Rattle.adf_volume.specs.Demands.{AllHold, data_demands}
 use Rattle.adf_volume.specs.Walk.{Has, FileAt, data_count, node_block, Walk, Role.Data}
 use Rattle.adf_volume.proofs.Lists.{at_some}
 use Rattle.adf_findings.specs.Files.{IsSoundFile, counting, file_content, file_in, named_from}
-use Rattle.adf_findings.specs.Remains.{below, blocks_stated, bytes_in, bytes_left, data_alone, data_found, data_left, gaps_left, gaps_of, left_below, left_of, own_data}
-use Rattle.adf_findings.specs.Remains.{size_stated, unless_contested, with_lost}
+use Rattle.adf_findings.specs.Remains.{below, blocks_stated, bytes_in, bytes_left, data_alone, data_found, data_left, gaps_left, gaps_of}
+use Rattle.adf_findings.specs.Remains.{left_below, left_of, own_data, size_stated, unless_contested, with_lost}
 use Rattle.adf_findings.specs.Concerned.{is_contested}
 use Rattle.adf_findings.specs.Sound.{FileHolds, IsSound, says_data_of}
 use Rattle.adf_findings.specs.Survey.{BitsTell, Course, FindingValue, IsCourse, IsDone, IsSurvey, IsSurvey.read, IsSurvey.unread}
@@ -139,5 +139,6 @@ left_of_sound image w fs c n end (read {s = s} {bits = bits} v d t) sound before
           (λ i b g. let e : 0 + i ≡ i = omega arith in ap (left_below end image s.walk (s.findings ++ bits) n h) e ∙ found i b g)
           ∙ joined_content (file_in image s.walk n) has)),
       (λ i. gaps_left image (told i) (left_below end image s.walk (s.findings ++ bits) n h) (many i))
-          ∙ no_gaps image size (left_below end image s.walk (s.findings ++ bits) n h) (length datas) (λ k lt. let x = at_some datas k lt in (x.0, found k x.0 x.1)),
+          ∙ no_gaps image size (left_below end image s.walk (s.findings ++ bits) n h) (length datas)
+          (λ k lt. let x = at_some datas k lt in (x.0, found k x.0 x.1)),
     )

@@ -1,5 +1,6 @@
 -- The table of a file by the rows of a survey is that of what the survey has of the file.
--- Letters: t, p, q tests; w the walk of a survey, fs its findings; n a file's node, h the block of its header; k the number of a data block, from 0; b its block.
+-- Letters: t, p, q tests; w the walk of a survey, fs its findings; n a file's node, h the block of its header; k the number of a data block, from 0;
+-- b its block.
 use Rattle.std.specs.Prelude.{◌&&◌, Bool, true, false, cond, nat_lt, Option, Some, None, slice_get}
 use Rattle.std.specs.List.{range_with_len}
 use Rattle.std.specs.Option.{unwrap_or}

@@ -174,17 +174,20 @@ module _ (image : List ℕ) (w : Walk) (fs : List FindingValue) (survey : IsSurv
         ∙ none_behind (kind_of image) (file_size image head) from
 
   -- the same of an entry by its node
-  pub blocks_as_laid : (t : Tree) (l : Layout) → Fits image t l → IsOfItsKind image w → (n : ℕ) (e : Entry) (bytes : List ℕ) → EntryAt t n e → e.body ≡ File bytes
+  pub blocks_as_laid : (t : Tree) (l : Layout) → Fits image t l → IsOfItsKind image w → (n : ℕ) (e : Entry) (bytes : List ℕ)
+      → EntryAt t n e → e.body ≡ File bytes
       → found_blocks image w fs n (at_node image l n) ≡ datas_of l n
   blocks_as_laid t l fit own zero e bytes at body = absurd at
   blocks_as_laid t l fit own (suc i) e bytes at body = blocks_found t l fit own i e bytes at body
 
-  pub bytes_as_laid : (t : Tree) (l : Layout) → Fits image t l → IsOfItsKind image w → (n : ℕ) (e : Entry) (bytes : List ℕ) → EntryAt t n e → e.body ≡ File bytes
+  pub bytes_as_laid : (t : Tree) (l : Layout) → Fits image t l → IsOfItsKind image w → (n : ℕ) (e : Entry) (bytes : List ℕ)
+      → EntryAt t n e → e.body ≡ File bytes
       → (from : ℕ) → found_from image (at_node image l n) (found_blocks image w fs n (at_node image l n)) from ≡ drop from (bytes_at t n)
   bytes_as_laid t l fit own zero e bytes at body from = absurd at
   bytes_as_laid t l fit own (suc i) e bytes at body from = bytes_found t l fit own i e bytes at body from
 
-  pub none_lost_of : (t : Tree) (l : Layout) → Fits image t l → IsOfItsKind image w → (n : ℕ) (e : Entry) (bytes : List ℕ) → EntryAt t n e → e.body ≡ File bytes
+  pub none_lost_of : (t : Tree) (l : Layout) → Fits image t l → IsOfItsKind image w → (n : ℕ) (e : Entry) (bytes : List ℕ)
+      → EntryAt t n e → e.body ≡ File bytes
       → (from : ℕ) → lost_from image (at_node image l n) (found_blocks image w fs n (at_node image l n)) from ≡ 0
   none_lost_of t l fit own zero e bytes at body from = absurd at
   none_lost_of t l fit own (suc i) e bytes at body from = none_lost t l fit own i e bytes at body from

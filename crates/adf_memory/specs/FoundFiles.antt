@@ -1,5 +1,6 @@
 -- The parts that a survey has at blocks, and what is read of a file by them.
--- Letters: w the walk of a survey, fs its findings; b a block; n a file's node, h the block of its header; k the number of a data block, from 0; at a place in the file.
+-- Letters: w the walk of a survey, fs its findings; b a block; n a file's node, h the block of its header; k the number of a data block, from 0;
+-- at a place in the file.
 use Rattle.std.specs.Prelude.{◌+◌, ◌-◌, ◌*◌, ◌/◌, ◌==◌, ◌&&◌, ℕ, Bool, false, List, [], ◌∷◌, Option, Some, None, cond, drop, length, map, min, nat_lt}
 use Rattle.std.specs.Prelude.{slice_get, take}
 use Rattle.std.specs.List.{range_with_len}

@@ -33,8 +33,8 @@ pub fn found_files_are_what_is_left()
         × (at + lost_from image h (found_blocks image w fs n h) at ≡ g.last + 1) }
 {}
 
-/// Of a volume, where no data block of FFS says that it is an OFS one, the table of a file has its data blocks, its bytes are read,
-/// and none are lost; and the role of a block by the survey is the number of its owner.
+/// Of a volume, where no data block of FFS says that it is an OFS one, the table of a file has its data blocks, its bytes
+/// are read, and none are lost; and the role of a block by the survey is the number of its owner.
 pub fn found_files_are_those_of_the_tree()
     ensures blocks { (image : List ℕ) (t : Tree) (l : Layout) (w : Walk) (fs : List FindingValue)
         (n : ℕ) (e : Entry) (bytes : List ℕ) → Fits image t l → IsSurvey image w fs

@@ -1,5 +1,6 @@
 -- What `cat --damaged` answers of a file.
--- Letters: s what is surveyed; w the walk of its image's survey, fs its findings; n an entry's node, h the block of its header; g a run of bytes that are no data.
+-- Letters: s what is surveyed; w the walk of its image's survey, fs its findings; n an entry's node, h the block of its header;
+-- g a run of bytes that are no data.
 use Rattle.std.specs.Prelude.{◌≡◌, ℕ, List, [], ◌∷◌, ◌++◌, codes}
 use Rattle.std.specs.Fmt.{decimal}
 use Rattle.std.specs.List.{flat_map}

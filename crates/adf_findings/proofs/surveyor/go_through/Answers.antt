@@ -59,7 +59,8 @@ invariant_of-result c =
     (sym c.bytes.ensures)
     (read_kept image f xs ys entries contested sound whole c.in_ok-compare.ensures
     (c.in_ok-concerned.ensures ∙ ap (map (λ (x : Finding). blamed f x.part)) c.deref.ensures.value)
-    (subst (λ (xs : List Finding). (b : ℕ) → has_mark contested b ≡ is_contested (map finding_value xs) b) c.deref-2.ensures.value c.in_ok-contested.ensures)
+    (subst (λ (xs : List Finding). (b : ℕ) → has_mark contested b ≡ is_contested (map finding_value xs) b) c.deref-2.ensures.value
+    c.in_ok-contested.ensures)
     (clear_marks image f xs base sound c.in_ok-sound.ensures struck)
     (c.in_ok-graves.ensures ∙ ap (filter (λ (x : Finding). not (is_light (finding_value x)))) c.deref-4.ensures.value)
     (clear_marks image f ys copy whole undoubted struck_whole))
