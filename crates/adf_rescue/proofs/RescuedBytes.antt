@@ -1,7 +1,7 @@
 -- The images that a rescue makes of bytes are bytes.
 -- Letters: given the image of a survey, w its walk, s whether each directory is settled; b, p, e blocks; i the number of a word;
 -- k a number of blocks.
-use Rattle.std.proofs.Common.{◌<◌, ◌≤◌, ◌*◌, ◌^◌, ◌++◌, ◌&&◌, ℕ, zero, suc, Bool, List, [], ◌∷◌, arith, codes, decimal, drop, length, length-append, replicate}
+use Rattle.std.proofs.Common.{◌<◌, ◌≤◌, ◌*◌, ◌^◌, ◌++◌, ℕ, zero, suc, Bool, List, [], ◌∷◌, arith, codes, decimal, drop, length, length-append, replicate}
 use Rattle.std.proofs.lemmas.Bool.{cond_both}
 use Rattle.std.proofs.lemmas.Fmt.{decimal_is_IsNumeral, length-decimal-le}
 use Rattle.std.proofs.lemmas.List.Elements.{All-append, All-cons, All-drop, All-from_get_or, All-from_recursion, All-nil, All-replicate, All-take}
