@@ -1,8 +1,13 @@
 -- What is surveyed of an image, in the memory of a caller.
--- Letters: s, t, u what is surveyed; w, v walks of its survey, fs, gs the findings; n the number of blocks that is asked for, 0 for those that the image has.
+-- Letters: s, t, u what is surveyed; w, v walks of its survey, fs, gs the findings; n the number of blocks that is asked for, 0 for those that the image
+-- has; k, read numbers of blocks.
 use Rattle.std.proofs.Common.{◌≡◌, ◌≤◌, ◌<◌, ◌∙◌, ◌-◌, ◌==◌, ◌&&◌, ◌++◌, ℕ, Bool, true, false, List, [], None, Some, ap, append-nil, arith, codes, cond, drop}
-use Rattle.std.proofs.Common.{length, nat_lt, not, refl, slice_index, subst, sym, take}
-use Rattle.std.proofs.lemmas.Bool.{and_parts, cond_both, cond-false, Decides.nat_tests}
+use Rattle.std.proofs.Common.{◌≢◌, ◌*◌, ◌/◌, Option, ap₂, length, min, nat_lt, not, refl, slice_index, subst, sym, take}
+use Rattle.std.specs.Prelude.{IfSome}
+use Rattle.std.specs.Option.{option_or}
+use Rattle.adf_blocks.specs.Sizes.{blocks}
+use Rattle.adf_blocks.specs.declared.layout.TheConstants.{MOST_BLOCKS}
+use Rattle.std.proofs.lemmas.Bool.{and_parts, cond_both, cond-false, cond-true, Decides.nat_tests}
 use Rattle.std.proofs.lemmas.List.{drop-set-lt, length-append, length-set}
 use Rattle.adf_volume.specs.Start.{is_image_len}
 use Rattle.adf_volume.specs.Walk.{Walk}
@@ -15,12 +20,16 @@ use Rattle.adf_rescue.proofs.MadeRoots.{sized as sized_as}
 use Rattle.adf_rescue.proofs.OpenedImages.{length_begun}
 use Rattle.adf_runs.specs.Commands.{Reply}
 use Rattle.adf_survey_cmd.specs.Hints.{Hinted}
-use Rattle.adf_survey_cmd.specs.Subject.{IsTyped, OfTyped, SubjectValue, begun_subject, changed, meant, missing_text, subject, type_line, typed_subject}
+use Rattle.adf_survey_cmd.specs.Lengths.{blocks_read, other_length, stated_length}
+use Rattle.adf_survey_cmd.specs.Subject.{IsTyped, OfTyped, SubjectValue, as_long, begun_subject, behind_loss, behind_text, changed, held_end, meant}
+use Rattle.adf_survey_cmd.specs.Subject.{missing_text, sized, subject, subject_read, type_line, typed_subject}
 use Rattle.adf_memory.specs.FoundTables.{mark_number}
 use Rattle.adf_memory.specs.Rescuing.{asked_blocks}
-use Rattle.adf_memory.specs.Subjects.{HasSubject, IsRetyped, front_lines, surveyed_subject, subject_in}
+use Rattle.adf_memory.specs.Subjects.{HasSubject, IsRetyped, blocks_lost, front_lines, of_read, surveyed_subject, subject_in}
 use Rattle.adf_memory.specs.declared.subjects.SubjectTold.{SubjectTold}
-use Rattle.adf_memory.proofs.RescueReplies.{meant_image}
+use Rattle.adf_survey_cmd.proofs.ReadLengths.{read_anew}
+use Rattle.adf_survey_cmd.proofs.SizedImages.{length_sized}
+use Rattle.adf_survey_cmd.proofs.Subjects.{meant_image}
 use Rattle.adf_memory.proofs.TableNames.{text_there}
 
 -- a mark that is 0 is not set
@@ -127,11 +136,75 @@ surveyed_front s w =
     ∙ ap (λ (l : List ℕ). l ++ retyped_line (is_mistyped (begun_subject s).image w))
     (changed_front (lacks_boot s.image) s (with_boot_type s.image) (codes "block 0: not dos\n"))
 
--- those in front of what is meant
-meant_front : (as_it_is : Bool) (n : ℕ) (input : List ℕ)
-    → (subject (cond as_it_is None (Some n)) input).front ≡ cond as_it_is [] (missing_text (subject (cond as_it_is None (Some n)) input).end n)
-meant_front true n input = refl
-meant_front false n input = refl
+-- the losses of blocks
+
+changed_lost : (is : Bool) (s : SubjectValue) (image line : List ℕ) → (cond is (changed s image line) s).lost ≡ s.lost
+changed_lost true s image line = refl
+changed_lost false s image line = refl
+
+surveyed_lost : (s : SubjectValue) (w : Walk) → (surveyed_subject s w).lost ≡ s.lost
+surveyed_lost s w =
+    changed_lost (is_mistyped (begun_subject s).image w) (begun_subject s) (retyped (begun_subject s).image) type_line
+    ∙ changed_lost (lacks_boot s.image) s (with_boot_type s.image) (codes "block 0: not dos\n")
+
+-- the length that is read
+
+pub meant_as_it_is : (asked : Option ℕ) (input : List ℕ) → blocks_read asked input ≡ None → length input ≡ length (meant asked input)
+meant_as_it_is asked input e = ap (λ (o : Option ℕ). length (as_long o input)) (sym e)
+
+pub meant_of_blocks : (asked : Option ℕ) (input : List ℕ) (n : ℕ) → blocks_read asked input ≡ Some n → n * 512 ≡ length (meant asked input)
+meant_of_blocks asked input n e =
+    let size : n * 512 ≡ length (sized n input) = omega (arith, length_sized n input) in
+    size ∙ ap (λ (o : Option ℕ). length (as_long o input)) (sym e)
+
+-- what is told of it tells what holds of the blocks that are held and read
+module _ {X : Type 0} (nothing : X) (holds : (end read : ℕ) → X) (input : List ℕ) (told : SubjectTold) where
+  abbrev by_read : Option ℕ → X
+  by_read None = nothing
+  by_read (Some k) = holds (held_end k input) k
+
+  abbrev tells : ℕ → Option ℕ → Type 0
+  tells stated read =
+      let s : SubjectValue = subject_read stated read input in (told.length ≡ length s.image) × (told.held ≡ s.end)
+
+  of_sized : (stated k : ℕ) → tells stated (Some k) → holds (held_end k input) k ≡ holds told.held (told.length / 512)
+  of_sized stated k (long, held) =
+      let size : told.length / 512 ≡ k = omega (arith, long, length_sized k input) in ap₂ holds (sym held) (sym size)
+
+  as_given : (stated : ℕ) (read : Option ℕ) → IfSome read (λ k. k ≢ blocks input) → tells stated read
+      → by_read read ≡ cond (told.length / 512 == blocks input) nothing (holds told.held (told.length / 512))
+  as_given stated None differs (long, held) =
+      let same : (told.length / 512 == blocks input) ≡ true = grind (arith, nat_tests, long) in sym (cond-true _ nothing _ same)
+  as_given stated (Some k) differs (long, held) =
+      let size : told.length / 512 ≡ k = omega (arith, long, length_sized k input) in
+      let other : (told.length / 512 == blocks input) ≡ false = grind (arith, nat_tests, size, differs) in
+      of_sized stated k (long, held) ∙ sym (cond-false _ nothing _ other)
+
+  as_asked : (n stated : ℕ) (other : Option ℕ) → tells stated (option_or other (Some n))
+      → by_read (option_or other (Some n)) ≡ holds told.held (told.length / 512)
+  as_asked n stated None is = of_sized stated n is
+  as_asked n stated (Some k) is = of_sized stated k is
+
+  read_told : (as_it_is : Bool) (n : ℕ) → tells (stated_length (cond as_it_is None (Some n)) input) (blocks_read (cond as_it_is None (Some n)) input)
+      → by_read (blocks_read (cond as_it_is None (Some n)) input)
+      ≡ cond (as_it_is && (told.length / 512 == blocks input)) nothing (holds told.held (told.length / 512))
+  read_told true n is = as_given (stated_length None input) (blocks_read None input) (read_anew input) is
+  read_told false n is = as_asked n n (other_length (Some n) input) is
+
+front_read : (stated : ℕ) (read : Option ℕ) (input : List ℕ) (told : SubjectTold)
+    → (subject_read stated read input).front ≡ by_read [] (λ end k. missing_text end k ++ behind_text k stated) input told read
+front_read stated None input told = refl
+front_read stated (Some k) input told = refl
+
+lost_read : (stated : ℕ) (read : Option ℕ) (input : List ℕ) (told : SubjectTold)
+    → (subject_read stated read input).lost ≡ by_read [] (λ end k. behind_loss k stated) input told read
+lost_read stated None input told = refl
+lost_read stated (Some k) input told = refl
+
+stated_is : (as_it_is : Bool) (n : ℕ) (input : List ℕ) → stated_length (cond as_it_is None (Some n)) input
+    ≡ cond as_it_is (min MOST_BLOCKS (blocks input)) n
+stated_is true n input = refl
+stated_is false n input = refl
 
 -- what a room begins with
 
@@ -163,26 +236,47 @@ module _ (s : SubjectValue) (old new : List ℕ) (told : SubjectTold) (has : Has
       e ∙ ap (typed_subject (begun_subject s)) (one_survey (begun_subject s).image v has.walk gs has.findings survey has.survey).0
 
 module _ (n : ℕ) (input old new : List ℕ) (told : SubjectTold) (has : HasSubject (subject (asked_blocks n) input) old new told) where
-  told_front : front_lines n told ≡ (surveyed_subject (subject (asked_blocks n) input) has.walk).front
+  abbrev s : SubjectValue
+  s = subject (asked_blocks n) input
+
+  told_end : told.held ≡ s.end
+  told_end = ap (λ (x : SubjectTold). x.held) has.tells ∙ surveyed_end s has.walk
+
+  told_is : tells [] (λ end k. []) input told (stated_length (asked_blocks n) input) (blocks_read (asked_blocks n) input)
+  told_is = (has_length s old new told has, told_end)
+
+  told_front : front_lines n (blocks input) told ≡ (surveyed_subject s has.walk).front
   told_front =
-      let s : SubjectValue = subject (asked_blocks n) input in
       let begins = begun_line (lacks_boot s.image) in
       let types = retyped_line (is_mistyped (begun_subject s).image has.walk) in
-      ap (front_lines n) has.tells
-      ∙ ap (λ (end : ℕ). (cond (n == 0) [] (missing_text end n) ++ begins) ++ types) (surveyed_end s has.walk)
-      ∙ ap (λ (l : List ℕ). (l ++ begins) ++ types) (sym (meant_front (n == 0) n input))
+      let front = λ (stated : ℕ) (end k : ℕ). missing_text end k ++ behind_text k stated in
+      let read =
+      front_read (stated_length (asked_blocks n) input) (blocks_read (asked_blocks n) input) input told
+      ∙ read_told [] (front (stated_length (asked_blocks n) input)) input told (n == 0) n told_is
+      ∙ ap (λ (stated : ℕ). of_read [] (front stated) n (blocks input) told) (stated_is (n == 0) n input) in
+      let marks = has.tells in
+      (λ i. (sym read i ++ cond ((marks i).is_begun == 1) (codes "block 0: not dos\n") []) ++ cond ((marks i).is_retyped == 1) type_line [])
       ∙ sym (surveyed_front s has.walk)
 
-  subject_is : surveyed_subject (subject (asked_blocks n) input) has.walk ≡ subject_in n new told
+  told_lost : blocks_lost n (blocks input) told ≡ (surveyed_subject s has.walk).lost
+  told_lost =
+      let lost = λ (stated : ℕ) (end k : ℕ). behind_loss k stated in
+      sym (lost_read (stated_length (asked_blocks n) input) (blocks_read (asked_blocks n) input) input told
+      ∙ read_told [] (lost (stated_length (asked_blocks n) input)) input told (n == 0) n told_is
+      ∙ ap (λ (stated : ℕ). of_read [] (lost stated) n (blocks input) told) (stated_is (n == 0) n input))
+      ∙ sym (surveyed_lost s has.walk)
+
+  subject_is : surveyed_subject s has.walk ≡ subject_in n (blocks input) new told
   subject_is =
-      let image = sym (room_image (subject (asked_blocks n) input) old new told has) in
+      let image = sym (room_image s old new told has) in
       let end = sym (ap (λ (x : SubjectTold). x.held) has.tells) in
       let front = sym told_front in
-      λ i. record { image = image i; end = end i; front = front i }
+      let lost = sym told_lost in
+      λ i. record { image = image i; end = end i; front = front i; lost = lost i }
 
   -- what is answered is that of the room
   pub answers_agree : (answers : SubjectValue → Reply → Type 0) (reply : Reply)
-      → Hinted input (OfTyped (subject (asked_blocks n) input) answers) reply → Hinted input (answers (subject_in n new told)) reply
+      → Hinted input (OfTyped (subject (asked_blocks n) input) answers) reply → Hinted input (answers (subject_in n (blocks input) new told)) reply
   answers_agree answers reply (r, (t, typed, answer), e) = (
     r,
     subst (λ (u : SubjectValue). answers u r) (one_surveyed (subject (asked_blocks n) input) old new told has t typed ∙ subject_is) answer,

@@ -1,6 +1,7 @@
 // The laws of what is surveyed of an image. Each is the contract of a function that does nothing.
 
 ghost use Rattle.std.specs.Prelude.{◌≡◌, ℕ, Bool, List, drop, length, take, true};
+ghost use Rattle.adf_blocks.specs.Sizes.{blocks};
 ghost use Rattle.adf_boot_blocks.specs.BootBlocks.{begins_with_dos};
 ghost use Rattle.adf_names.specs.PathTexts.{IsPathText};
 ghost use Rattle.adf_runs.specs.Commands.{Reply};
@@ -18,15 +19,15 @@ ghost use Rattle.adf_memory.specs.declared.subjects.SubjectTold.{SubjectTold};
 pub fn surveys_agree()
     ensures findings { (n : ℕ) (image old new : List ℕ) (told : SubjectTold) (reply : Reply)
         → HasSubject (subject (asked_blocks n) image) old new told
-        → SurveyAnswer (asked (asked_blocks n) report) image reply → Hinted image (Surveys (subject_in n new told)) reply }
+        → SurveyAnswer (asked (asked_blocks n) report) image reply → Hinted image (Surveys (subject_in n (blocks image) new told)) reply }
     ensures list { (n : ℕ) (image old new : List ℕ) (told : SubjectTold) (reply : Reply)
         → HasSubject (subject (asked_blocks n) image) old new told
-        → SurveyAnswer (asked (asked_blocks n) list) image reply → Hinted image (ListsSurvey (subject_in n new told)) reply }
+        → SurveyAnswer (asked (asked_blocks n) list) image reply → Hinted image (ListsSurvey (subject_in n (blocks image) new told)) reply }
     ensures cat { (n : ℕ) (image old new path : List ℕ) (damaged : Bool) (told : SubjectTold) (reply : Reply)
         → HasSubject (subject (asked_blocks n) image) old new told
         → (names : List (List ℕ)) → IsPathText path names
         → SurveyAnswer (asked (asked_blocks n) (cat damaged path)) image reply
-        → Hinted image (CopiesFromSurvey damaged path (subject_in n new told)) reply }
+        → Hinted image (CopiesFromSurvey damaged path (subject_in n (blocks image) new told)) reply }
 {}
 
 /// What is surveyed is the image that is meant, as long, and the same but for its first four bytes; and these too, if neither

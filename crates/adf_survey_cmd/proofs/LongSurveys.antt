@@ -26,11 +26,14 @@ use Rattle.adf_rescue.proofs.MadeRoots.{sized as sized_len}
 use Rattle.adf_cmd.proofs.LongInputs.{long_fault, too_large}
 use Rattle.adf_survey_cmd.specs.Answers.{CopiesFound, CopiesFromSurvey, ListsSurvey, QuestionAnswer, SurveyAnswer, Surveys, TellsFound, told_status, types_kept}
 use Rattle.adf_survey_cmd.specs.Hints.{disk_hint}
-use Rattle.adf_survey_cmd.specs.Subject.{IsTyped, OfTyped, SubjectValue, begun_subject, held_end, missing_text, sized, subject, subject_text}
+use Rattle.adf_survey_cmd.specs.Lengths.{blocks_read, stated_length}
+use Rattle.adf_survey_cmd.specs.Subject.{IsTyped, OfTyped, SubjectValue, begun_subject, behind_loss, behind_text, held_end, missing_text, sized}
+use Rattle.adf_survey_cmd.specs.Subject.{subject, subject_read, subject_text}
 use Rattle.adf_file_words.specs.SurveyLine.{AreFew, InquiryValue, QuestionValue, cat, list, report, rescue}
 use Rattle.adf_survey_cmd.specs.Lines.{findings_text, runs_from}
 use Rattle.adf_survey_cmd.specs.Rescues.{RescueValue, Rescues, RescuesBoth, RescuesFound, second_image}
 use Rattle.adf_survey_cmd.proofs.HintedAnswers.{same_disk}
+use Rattle.adf_survey_cmd.proofs.ReadLengths.{few_read, same_read, same_stated}
 use Rattle.adf_survey_cmd.proofs.RescueAnswers.{none_hung}
 
 -- an input of a bad size has this finding
@@ -162,15 +165,32 @@ same_end : (n : ℕ) (image bytes : List ℕ) → n ≤ MOST_BLOCKS → 512 * MO
     → held_end n image ≡ held_end n bytes
 same_end n image bytes few a b = min-eq_left (omega arith) ∙ sym (min-eq_left (omega arith))
 
-long_meant : (meant : Option ℕ) (q : QuestionValue) (image bytes : List ℕ) → AreFew meant → image ≡ take (512 * MOST_BLOCKS + 1) bytes
-    → 512 * MOST_BLOCKS < length image → 512 * MOST_BLOCKS < length bytes → (reply : Reply) → QuestionAnswer q (subject meant image) reply
-    → QuestionAnswer q (subject meant bytes) reply
-long_meant None q image bytes few e a b reply h = long_questions q (subject None image) (subject None bytes) refl a b reply h
-long_meant (Some n) q image bytes few e a b reply h =
+long_read : (stated : ℕ) (read : Option ℕ) (q : QuestionValue) (image bytes : List ℕ) → AreFew read → image ≡ take (512 * MOST_BLOCKS + 1) bytes
+    → 512 * MOST_BLOCKS < length image → 512 * MOST_BLOCKS < length bytes → (reply : Reply) → QuestionAnswer q (subject_read stated read image) reply
+    → QuestionAnswer q (subject_read stated read bytes) reply
+long_read stated None q image bytes few e a b reply h =
+    long_questions q (subject_read stated None image) (subject_read stated None bytes) refl a b reply h
+long_read stated (Some n) q image bytes few e a b reply h =
     let end = same_end n image bytes few a b in
-    let same : subject (Some n) image ≡ subject (Some n) bytes =
-    λ i. record { image = same_sized n image bytes few e a b i; end = end i; front = missing_text (end i) n } in
+    let same : subject_read stated (Some n) image ≡ subject_read stated (Some n) bytes =
+    λ i. record {
+      image = same_sized n image bytes few e a b i;
+      end = end i;
+      front = missing_text (end i) n ++ behind_text n stated;
+      lost = behind_loss n stated;
+    } in
     subst (λ s. QuestionAnswer q s reply) same h
+
+long_meant : (asked : Option ℕ) (q : QuestionValue) (image bytes : List ℕ) → AreFew asked → image ≡ take (512 * MOST_BLOCKS + 1) bytes
+    → 512 * MOST_BLOCKS < length image → 512 * MOST_BLOCKS < length bytes → (reply : Reply) → QuestionAnswer q (subject asked image) reply
+    → QuestionAnswer q (subject asked bytes) reply
+long_meant asked q image bytes few e a b reply h =
+    let stated = same_stated image bytes e a b asked in
+    let read = same_read image bytes e a b asked few in
+    let more = few_read asked bytes few in
+    let same : subject asked image ≡ subject_read (stated_length asked bytes) (blocks_read asked bytes) image =
+    ap₂ (λ (n : ℕ) (o : Option ℕ). subject_read n o image) stated read in
+    long_read (stated_length asked bytes) (blocks_read asked bytes) q image bytes more e a b reply (subst (λ s. QuestionAnswer q s reply) same h)
 
 pub long_answers : (r : InquiryValue) (image bytes : List ℕ) → AreFew r.blocks → image ≡ take (512 * MOST_BLOCKS + 1) bytes
     → 512 * MOST_BLOCKS < length image → 512 * MOST_BLOCKS < length bytes → (reply : Reply) → SurveyAnswer r image reply → SurveyAnswer r bytes reply

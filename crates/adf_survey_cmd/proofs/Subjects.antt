@@ -1,6 +1,6 @@
 -- What is surveyed of an input.
--- Letters: s, t what is surveyed; w the walk of a survey, fs its findings.
-use Rattle.std.proofs.Common.{◌≡◌, ◌++◌, ◌∙◌, ℕ, List, true, false, ap, sym}
+-- Letters: s, t what is surveyed; w the walk of a survey, fs its findings; asked, read the number of blocks that is asked for, that is read.
+use Rattle.std.proofs.Common.{◌≡◌, ◌++◌, ◌∙◌, ℕ, List, Option, None, Some, true, false, ap, refl, sym}
 use Rattle.std.proofs.lemmas.Bool.{cond-false, cond-true}
 use Rattle.adf_names.specs.declared.kind.Kind.TheVariants.{Ofs}
 use Rattle.adf_blocks.specs.Sizes.{blocks}
@@ -8,7 +8,17 @@ use Rattle.adf_volume.specs.Image.{kind_of}
 use Rattle.adf_volume.specs.Walk.{Walk}
 use Rattle.adf_findings.specs.OwnKind.{is_mistyped, is_other_kind, retyped, tally}
 use Rattle.adf_findings.specs.Survey.{FindingValue, IsSurvey}
-use Rattle.adf_survey_cmd.specs.Subject.{IsTyped, SubjectValue, changed, type_line}
+use Rattle.adf_survey_cmd.specs.Lengths.{blocks_read, stated_length}
+use Rattle.adf_survey_cmd.specs.Subject.{IsTyped, SubjectValue, as_long, changed, meant, subject, subject_read, type_line}
+
+-- its image is the one that is meant
+
+image_read : (stated : ℕ) (read : Option ℕ) (input : List ℕ) → (subject_read stated read input).image ≡ as_long read input
+image_read stated None input = refl
+image_read stated (Some n) input = refl
+
+pub meant_image : (asked : Option ℕ) (input : List ℕ) → (subject asked input).image ≡ meant asked input
+meant_image asked input = image_read (stated_length asked input) (blocks_read asked input) input
 
 -- what has the type that its files say is surveyed as it is
 pub typed_same : (s : SubjectValue) (w : Walk) (fs : List FindingValue) → IsSurvey s.image w fs → is_mistyped s.image w ≡ false

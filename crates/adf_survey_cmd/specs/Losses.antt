@@ -1,6 +1,6 @@
 -- What of an image is not in the volume of its rescue, and the lines of that.
 -- Letters: w the walk of a survey, fs its findings; a a survey, b the second one, if there is one; x an entry that is left out; n, p the node of
--- an entry, of a directory; ps nodes of directories; k a block, ks blocks; l a loss, ls losses; held the number of blocks that the input holds
+-- an entry, of a directory; ps nodes of directories; k a block, ks blocks; rs runs of blocks; l a loss, ls losses; held the number of blocks that the input holds
 -- whole.
 use Rattle.std.specs.Prelude.{◌+◌, ℕ, ◌&&◌, ◌==◌, Bool, false, List, [], ◌∷◌, ◌++◌, Option, None, Some, codes, cond, map, nat_le}
 use Rattle.std.specs.List.{flat_map}
@@ -14,6 +14,7 @@ use Rattle.adf_rescue.specs.declared.left_out.LeftOut.{LeftOut}
 use Rattle.adf_rescue.specs.declared.left_out.Why.{Why, TheVariants.Damaged, TheVariants.Link, TheVariants.NoRoom}
 use Rattle.adf_texts.specs.Names.{names_text}
 use Rattle.adf_survey_cmd.specs.Lines.{blocks_text}
+use Rattle.adf_survey_cmd.specs.declared.losses.BlockRun.{BlockRun}
 use Rattle.adf_survey_cmd.specs.declared.losses.Loss.{Loss}
 
 -- a loss: the number that says why, its first and its last block, and the text of its path
@@ -63,6 +64,10 @@ header_losses image w (p ∷ ps) = cond (begins_with p ps) (header_losses image 
 -- the loss of a run of blocks
 abbrev pub run_loss : ℕ → ℕ → LossValue
 run_loss first last = record { why = 5; first = first; last = last; path = [] }
+
+-- the losses of runs of blocks
+abbrev pub runs_lost : List BlockRun → List LossValue
+runs_lost rs = map (λ r. run_loss r.first r.last) rs
 
 -- the losses of a run of blocks and of those behind it
 abbrev pub run_losses : ℕ → ℕ → List ℕ → List LossValue

@@ -5,6 +5,7 @@ mod copying;
 mod found_lines;
 mod hints;
 mod laws;
+mod lengths;
 mod listing;
 mod loss_lines;
 mod losses;
@@ -17,7 +18,8 @@ mod subject;
 mod work;
 
 pub use crate::laws::rescued_volumes;
-pub use crate::losses::Loss;
+pub use crate::lengths::{blocks_read, stated_length};
+pub use crate::losses::{BlockRun, Loss};
 pub use crate::preparing::{Prepared, Scope, Unrescued, prepare};
 pub use crate::runner::{one_answer, run_files};
 pub use crate::runs::{Run, run_from};

@@ -26,6 +26,13 @@ pub struct Loss {
     pub path: Vec<u8>,
 }
 
+/// Blocks that are lost, from the first to the last.
+#[derive(Clone, Copy)]
+pub struct BlockRun {
+    pub first: u32,
+    pub last: u32,
+}
+
 // The number that says why an entry is left out.
 fn why_number(why: Why) -> u8
     ensures { result ≡ why_number why }

@@ -1,12 +1,15 @@
 // What is surveyed of an input.
 
-ghost use Rattle.std.specs.Prelude.{◌≡◌, ◌≤◌, ◌++◌, IfOk, OnOk, length};
+ghost use Rattle.std.specs.Prelude.{◌≡◌, ◌≤◌, ◌++◌, ℕ, IfOk, OnOk, length};
 ghost use Rattle.adf_blocks.specs.declared.layout.TheConstants.{MOST_BLOCKS};
 ghost use Rattle.adf_findings.specs.OwnKind.{is_mistyped, retyped};
 ghost use Rattle.adf_findings.specs.Survey.{OnSurvey};
-ghost use Rattle.adf_survey_cmd.specs.Subject.{IsTyped, begun_subject, changed, held_end, missing_text, sized, subject};
-ghost use Rattle.adf_survey_cmd.specs.Subject.{subject_value, type_line};
+ghost use Rattle.adf_survey_cmd.specs.Losses.{runs_lost};
+ghost use Rattle.adf_survey_cmd.specs.Subject.{IsTyped, begun_subject, behind_loss, behind_text, changed, held_end, missing_text};
+ghost use Rattle.adf_survey_cmd.specs.Subject.{sized, subject, subject_read, subject_value, type_line};
 
+use crate::lengths::{blocks_read, stated_length};
+use crate::losses::BlockRun;
 use crate::runs::push_blocks;
 use adf_base::{BLOCK_LEN, NoMemory};
 use adf_blocks::MOST_BLOCKS;
@@ -17,13 +20,14 @@ use adf_tree::Kind;
 use adf_volume::kind_in;
 use std::alloc::{AllocError, Global};
 
-/// What is surveyed of an input: an image, the first block of it that the input does not hold, and the lines in front of those
-/// of the findings.
+/// What is surveyed of an input: an image, the first block of it that the input does not hold, the lines in front of those
+/// of the findings, and the blocks that were stated and it does not have.
 #[derive(Drop)]
 pub struct Subject {
     pub image: Vec<u8>,
     pub end: u32,
     pub front: Vec<u8>,
+    pub lost: Vec<BlockRun>,
 }
 
 // The image of so many blocks that begins with these bytes, with zeros for what is not there.
@@ -64,6 +68,31 @@ fn missing_line(alloc: Global, end: u32, blocks: u32) -> Result<Vec<u8>, AllocEr
     Ok(text)
 }
 
+// Appends the line of the blocks that are stated behind so many, if there are any.
+fn push_behind(text: &mut Vec<u8>, blocks: u32, stated: u32) -> Result<(), AllocError>
+    ensures { OnOk result (text.new.items ≡ text.old.items ++ behind_text blocks stated) }
+{
+    if stated <= blocks {
+        return Ok(());
+    }
+    push_blocks(text, blocks, stated - 1, b':')?;
+    text.extend_from_slice(b" behind the volume\n")
+}
+
+// These blocks.
+fn behind_run(alloc: Global, blocks: u32, stated: u32) -> Result<Vec<BlockRun>, AllocError>
+    ensures { IfOk result (λ runs. runs_lost runs.items ≡ behind_loss blocks stated) }
+{
+    let mut runs = Vec::new(alloc);
+    if blocks < stated {
+        runs.push(BlockRun {
+            first: blocks,
+            last: stated - 1,
+        })?;
+    }
+    Ok(runs)
+}
+
 // Appends the line of a volume whose type is not what its files say.
 #[tactic(auto, unfolding(crate::specs::Subject::type_line))]
 fn push_type_line(text: &mut Vec<u8>) -> Result<(), AllocError>
@@ -86,26 +115,29 @@ fn is_mistyped(alloc: Global, image: &[u8]) -> Result<bool, NoMemory>
 impl Subject {
     // An input as it is.
     fn whole(alloc: Global, bytes: Vec<u8>) -> Subject
-        ensures { subject_value result ≡ subject None bytes.items }
+        ensures { (stated : ℕ) → subject_value result ≡ subject_read stated None bytes.items }
     {
         let end = held_end(MOST_BLOCKS, &bytes);
         Subject {
             image: bytes,
             end,
             front: Vec::new(alloc),
+            lost: Vec::new(alloc),
         }
     }
 
-    // An input as if it had so many blocks.
-    fn sized(alloc: Global, bytes: &[u8], blocks: u32) -> Result<Subject, AllocError>
-        ensures { IfOk result (λ s. subject_value s ≡ subject (Some blocks) bytes.now) }
+    // So many blocks of an input, in place of those that are stated.
+    fn sized(alloc: Global, bytes: &[u8], blocks: u32, stated: u32) -> Result<Subject, AllocError>
+        ensures { IfOk result (λ s. subject_value s ≡ subject_read stated (Some blocks) bytes.now) }
     {
         let end = held_end(blocks, bytes);
-        let front = missing_line(alloc, end, blocks)?;
+        let mut front = missing_line(alloc, end, blocks)?;
+        push_behind(&mut front, blocks, stated)?;
         Ok(Subject {
             image: sized(alloc, bytes, blocks)?,
             end,
             front,
+            lost: behind_run(alloc, blocks, stated)?,
         })
     }
 
@@ -113,23 +145,23 @@ impl Subject {
     pub fn of_read(
         alloc: Global,
         bytes: Vec<u8>,
-        blocks: Option<u32>,
+        asked: Option<u32>,
     ) -> Result<Subject, AllocError>
-        ensures { IfOk result (λ s. subject_value s ≡ subject blocks bytes.items) }
+        ensures { IfOk result (λ s. subject_value s ≡ subject asked bytes.items) }
     {
-        match blocks {
+        match blocks_read(asked, &bytes) {
             None => Ok(Subject::whole(alloc, bytes)),
-            Some(blocks) => Subject::sized(alloc, &bytes, blocks),
+            Some(blocks) => Subject::sized(alloc, &bytes, blocks, stated_length(asked, &bytes)),
         }
     }
 
     /// The same of bytes that stay.
-    pub fn of(alloc: Global, bytes: &[u8], blocks: Option<u32>) -> Result<Subject, AllocError>
-        ensures { IfOk result (λ s. subject_value s ≡ subject blocks bytes.now) }
+    pub fn of(alloc: Global, bytes: &[u8], asked: Option<u32>) -> Result<Subject, AllocError>
+        ensures { IfOk result (λ s. subject_value s ≡ subject asked bytes.now) }
     {
-        match blocks {
+        match blocks_read(asked, bytes) {
             None => Ok(Subject::whole(alloc, bytes.to_vec(alloc)?)),
-            Some(blocks) => Subject::sized(alloc, bytes, blocks),
+            Some(blocks) => Subject::sized(alloc, bytes, blocks, stated_length(asked, bytes)),
         }
     }
 
