@@ -37,8 +37,8 @@ none_owned {owners = owners} new = new_owned 2 (omega arith) (record { owners = 
 -- of an image of which nothing is taken the findings are kept alone
 pub unread_kept : (v : SurveyValue) → UnreadTells v.image (map finding_value v.findings) → v.concerned ≡ [] → v.owners ≡ Boot ∷ Boot ∷ []
     → v.pages ≡ [] → v.nodes ≡ []
-    → v.parents ≡ [] → v.sound ≡ [] → v.whole ≡ [] → IsOfSurvey v
-unread_kept v told concerned owners pages nodes parents sound whole = (
+    → v.parents ≡ [] → v.places ≡ [] → v.sound ≡ [] → v.whole ≡ [] → IsOfSurvey v
+unread_kept v told concerned owners pages nodes parents places sound whole = (
   [],
   map finding_value v.findings,
   record {
@@ -52,6 +52,7 @@ unread_kept v told concerned owners pages nodes parents sound whole = (
     page = (λ i. ap (λ es. block_at es i) pages);
     node = (λ n. ap (λ ns. slice_index ns n) nodes);
     parent = (λ n. ap (λ ps. slice_index ps n) parents);
+    places = places;
     count = (ap (λ ns. length ns - 1) nodes);
     sound = (λ n lo. ((λ t. (let clash : false ≡ true = sym (ap (λ ms. has_mark ms n) sound) ∙ t in cc)), (λ s. absurd s.header.has)));
     whole = (λ n lo. ((λ t. (let clash : false ≡ true = sym (ap (λ ms. has_mark ms n) whole) ∙ t in cc)), (λ s. absurd s.header.has)));
@@ -83,6 +84,7 @@ pub read_kept : (image : List ℕ) (f : Found) (xs ys : List Finding) (concerned
       pages = f.pages.entries;
       nodes = f.nodes.items;
       parents = f.parents.items;
+      places = f.places.items;
       sound = sound;
       whole = whole;
     })
@@ -101,6 +103,7 @@ read_kept image f xs ys concerned sound whole (s, bits, all, bits_tell) entries 
     page = all.stands.pages;
     node = all.stands.node;
     parent = all.stands.parent;
+    places = all.stands.places;
     count = (let e = all.stands.count in omega arith);
     sound = (λ m lo.
         let x = clear_is_sound image f all.course all.done bits bits_tell (s.findings ++ bits) (λ g i. i) xs (sym all.told) all.stands m lo in

@@ -1,9 +1,9 @@
--- What the data blocks of a survey say of the kind of their volume.
--- Letters: w the walk of a survey; v a result; t, u tallies; k a number of blocks, or of a data block; r a role.
+-- What the entries of a survey tell of the type of their volume.
+-- Letters: w the walk of a survey; v a result; t, u tallies; k a number of blocks, or of a data block; n that of an entry; r a role.
 use Rattle.std.specs.Prelude.{Bool, false, true, cond, nat_lt, Option, Some, None, slice_index}
 use Rattle.std.specs.Option.{unwrap_or}
-use Rattle.std.proofs.Common.{◌≡◌, ℕ, zero, suc, List, [], ◌==◌, ◌+◌, ◌≤◌, inl, inr, add-one, ap, refl, sym, ◌∙◌, arith}
-use Rattle.std.proofs.lemmas.Bool.Decides.{eqb_tells, nat_tests}
+use Rattle.std.proofs.Common.{◌≡◌, ℕ, zero, suc, List, [], ◌==◌, ◌+◌, ◌≤◌, inl, inr, add-one, ap, refl, subst, sym, ◌<◌, ◌∙◌, arith}
+use Rattle.std.proofs.lemmas.Bool.{cases_lt, Decides.eqb_tells, Decides.nat_tests}
 use Rattle.std.proofs.lemmas.Grind.{common_steps}
 use Rattle.adf_names.specs.declared.kind.Kind.{Kind, TheVariants.Ofs, TheVariants.Ffs}
 use Rattle.adf_blocks.specs.Sizes.{blocks}
@@ -12,7 +12,8 @@ use Rattle.adf_volume.specs.Walk.{Has, heads, node_block, Walk, Role.Data}
 use Rattle.adf_volume.proofs.Gathered.{number_of}
 use Rattle.adf_findings.specs.declared.own_kind.Tally.{Tally}
 use Rattle.adf_findings.specs.Members.{number_at, owning_entry}
-use Rattle.adf_findings.specs.OwnKind.{is_mistyped, is_other_kind, said_at, said_in, tallied, tally}
+use Rattle.adf_findings.specs.OwnKind.{has_other_kind, is_full_file, is_mistyped, is_other_kind, passing, said_at, said_in, tallied, tally}
+use Rattle.adf_findings.specs.OwnKind.{told_type}
 use Rattle.adf_findings.specs.Sound.{IsSound, says_data_of}
 use Rattle.adf_findings.specs.Survey.{FindingValue, IsSurvey, IsSurvey.read, IsSurvey.unread}
 use Rattle.adf_walk.specs.Owners.{owner_at}
@@ -90,17 +91,19 @@ module _ (image : List ℕ) (w : Walk) (fs gs : List FindingValue) (v : IsSurvey
   none_say zero = refl
   none_say (suc k) = says_same (tally image w k) (said_at image w k) (none_said k) ∙ none_say k
 
-none_more : (t : Tally) → t.says ≡ 0 → false ≡ is_other_kind Ffs t
+none_more : (t : Tally) → t.says ≡ 0 → false ≡ nat_lt t.others t.says
 none_more t e = let none : nat_lt t.others t.says ≡ false = grind (arith, nat_tests) in sym none
 
--- so the type is right
-pub sound_typed : (image : List ℕ) (w : Walk) (fs gs : List FindingValue) → IsSurvey image w fs
-    → ((n : ℕ) → 1 ≤ n → n ≤ heads w → IsSound image w gs n (node_block w n)) → false ≡ is_mistyped image w
-sound_typed image w fs gs v sound = go (kind_of image) refl
-  where
-    go : (kind : Kind) → kind_of image ≡ kind → false ≡ is_other_kind kind (tally image w (blocks image))
-    go Ofs e = refl
-    go Ffs e = none_more (tally image w (blocks image)) (none_say image w fs gs v e sound (blocks image))
+-- so a volume of FFS is of its kind
+pub sound_kind : (image : List ℕ) (w : Walk) (fs gs : List FindingValue) → IsSurvey image w fs
+    → ((n : ℕ) → 1 ≤ n → n ≤ heads w → IsSound image w gs n (node_block w n)) → kind_of image ≡ Ffs → false ≡ has_other_kind image w
+sound_kind image w fs gs v sound e =
+    none_more (tally image w (blocks image)) (none_say image w fs gs v e sound (blocks image))
+    ∙ ap (λ kind. is_other_kind kind (tally image w (blocks image)) (passing (is_full_file image w) (heads w))) (sym e)
+
+-- how many data blocks are counted
+unfoldable pub counted : Tally → ℕ
+counted t = t.says + t.others
 
 -- where nothing is found nothing is counted
 no_tally : (image : List ℕ) (k : ℕ) → tally image [] k ≡ record { says = 0; others = 0 }
@@ -108,5 +111,74 @@ unfolding tally
 no_tally image zero = refl
 no_tally image (suc k) = no_tally image k
 
+-- a data block is counted
+one_counted : (image : List ℕ) (w : Walk) (k : ℕ) → (number_at w k == 0) ≡ false → 1 ≤ counted (tally image w (k + 1))
+unfolding counted
+one_counted image w k e = grind (arith, common_steps, tally_more)
+
+-- and stays counted
+stays_counted : (t : Tally) (o : Option Bool) → counted t ≤ counted (tallied t o)
+unfolding counted
+stays_counted t o = grind (arith, common_steps)
+
+pub some_counted : (image : List ℕ) (w : Walk) (b k : ℕ) → b < k → (number_at w b == 0) ≡ false → 1 ≤ counted (tally image w k)
+some_counted image w b zero lt e = absurd (omega arith)
+some_counted image w b (suc k) lt e = elim (cases_lt b k) [
+  | inl below ↦
+      let before = some_counted image w b k below e in
+      let more = stays_counted (tally image w k) (said_at image w k) in
+      let next : counted (tally image w (suc k)) ≡ counted (tallied (tally image w k) (said_at image w k)) =
+      ap (λ (i : ℕ). counted (tally image w i)) (sym (add-one k)) ∙ ap counted (tally_more image w k) in
+      omega arith
+  | inr not ↦
+      let same : k ≡ b = omega arith in
+      let one = one_counted image w b e in
+      let next : counted (tally image w (suc k)) ≡ counted (tally image w (b + 1)) =
+      ap (λ (i : ℕ). counted (tally image w (suc i))) same ∙ ap (λ (i : ℕ). counted (tally image w i)) (sym (add-one b)) in
+      omega arith
+]
+
+-- so the tally tells that there is one
+pub some_found : {v : SurveyValue} {w : Walk} {fs : List FindingValue} → TellsOf v w fs → (image : List ℕ) (b k : ℕ) → b < k
+    → (data_number_of (owner_at v.owners b) == 0) ≡ false → false ≡ ((tally image w k).says + (tally image w k).others == 0)
+unfolding counted
+some_found {v = v} {w = w} t image b k lt e =
+    let some : 1 ≤ counted (tally image w k) = some_counted image w b k lt (ap (λ n. n == 0) (sym (t.number b)) ∙ e) in
+    let not : ((tally image w k).says + (tally image w k).others == 0) ≡ false = grind (arith, nat_tests) in sym not
+
+-- and that there is none
+pub none_found : {v : SurveyValue} {w : Walk} {fs : List FindingValue} → TellsOf v w fs → (image : List ℕ) (k : ℕ)
+    → data_number_of (owner_at v.owners k) ≡ 0 → tally image w k ≡ record { says = 0; others = 0 }
+    → tally image w (k + 1) ≡ record { says = 0; others = 0 }
+none_found {v = v} {w = w} t image k e none =
+    let zero_is : number_at w k ≡ 0 = sym (t.number k) ∙ e in
+    let said : said_at image w k ≡ None =
+    ap (λ n. cond (n == 0) None (Some (says_data_of image (node_block w (unwrap_or (owning_entry w k) 0)) n k))) zero_is in
+    tally_more image w k ∙ ap (tallied (tally image w k)) said ∙ none
+
+pub passing_none : (test : ℕ → Bool) → passing test 0 ≡ 0
+unfolding passing
+passing_none test = refl
+
+pub passing_more : (test : ℕ → Bool) (n : ℕ) → passing test (n + 1) ≡ passing test n + cond (test (n + 1)) 1 0
+unfolding passing
+passing_more test n = rw add-one refl
+
+pub few_pass : (test : ℕ → Bool) (n : ℕ) → passing test n ≤ n
+unfolding passing
+few_pass test zero = omega arith
+few_pass test (suc n) = let few = few_pass test n in grind (arith, common_steps)
+
+none_other : (image : List ℕ) (kind : Kind) → is_other_kind kind (tally image [] (blocks image)) (passing (is_full_file image []) 0) ≡ false
+none_other image Ofs = grind (arith, common_steps, no_tally, passing_none)
+none_other image Ffs = grind (arith, common_steps, no_tally)
+
+-- where nothing is found the type is the one stated
+pub none_told : (image : List ℕ) (w : Walk) → w ≡ [] → slice_index image 3 ≡ told_type image w
+none_told image w e =
+    let kind : has_other_kind image [] ≡ false = none_other image (kind_of image) in
+    let same : slice_index image 3 ≡ told_type image [] = grind (arith, common_steps, passing_none) in
+    same ∙ ap (told_type image) (sym e)
+
 pub none_mistyped : (image : List ℕ) (w : Walk) → w ≡ [] → false ≡ is_mistyped image w
-none_mistyped image w e = grind (arith, common_steps, no_tally)
+none_mistyped image w e = grind (arith, common_steps, none_told, nat_tests)

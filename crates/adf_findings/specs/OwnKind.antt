@@ -1,16 +1,25 @@
--- What the data blocks of a survey say of the kind of their volume.
--- Letters: w the walk of a survey; v a result; b the number of a block; k a number of blocks; t a tally.
-use Rattle.std.specs.Prelude.{ℕ, ◌+◌, ◌-◌, ◌==◌, Bool, true, false, cond, nat_lt, List, Option, Some, None, set, slice_index}
+-- What the entries of a survey tell of the type of their volume.
+-- Letters: w the walk of a survey; v a result; b the number of a block; n that of an entry; k a number of blocks; t a tally.
+use Rattle.std.specs.Prelude.{ℕ, ◌+◌, ◌-◌, ◌==◌, ◌&&◌, ◌||◌, Bool, true, false, cond, nat_le, nat_lt, not, List, Option, Some, None, set, slice_get}
+use Rattle.std.specs.Prelude.{slice_index}
 use Rattle.std.specs.Option.{unwrap_or}
 use Rattle.std.proofs.Common.{zero, suc}
+use Rattle.adf_base.specs.Hash.{slot_by}
+use Rattle.adf_base.specs.declared.hash.Letters.{Letters, TheVariants.Ascii, TheVariants.International}
+use Rattle.adf_names.specs.Texts.{is_name}
+use Rattle.adf_names.specs.VolumeTypes.{type_number}
 use Rattle.adf_names.specs.declared.kind.Kind.{Kind, TheVariants.Ofs, TheVariants.Ffs}
 use Rattle.adf_blocks.specs.Sizes.{blocks}
-use Rattle.adf_volume.specs.Image.{kind_of}
-use Rattle.adf_volume.specs.Walk.{node_block, Walk}
+use Rattle.adf_blocks.specs.declared.layout.TheConstants.{SECONDARY_TYPE, SIZE, ST_FILE}
+use Rattle.adf_volume.specs.Image.{kind_of, letters_of, name_of, word_in}
+use Rattle.adf_volume.specs.Walk.{heads, node_block, Walk}
 use Rattle.adf_walk.specs.Owners.{owner_at}
 use Rattle.adf_findings.specs.WalkOwners.{data_number_of}
 use Rattle.adf_volume.specs.Parts.{entry_of}
+use Rattle.adf_findings.specs.declared.found.ChainPlace.{ChainPlace}
 use Rattle.adf_findings.specs.declared.own_kind.Tally.{Tally}
+use Rattle.adf_findings.specs.declared.own_kind.TheConstants.{FILES_THAT_TELL}
+use Rattle.adf_findings.specs.Found.{places_of}
 use Rattle.adf_findings.specs.Members.{number_at, owning_entry}
 use Rattle.adf_findings.specs.Sound.{says_data_of}
 use Rattle.adf_findings.specs.SurveyResult.{SurveyValue}
@@ -37,15 +46,69 @@ unfoldable pub tally : List ℕ → Walk → ℕ → Tally
 tally image w zero = record { says = 0; others = 0 }
 tally image w (suc k) = tallied (tally image w k) (said_at image w k)
 
--- whether a volume of a kind is not what such a tally says: more data blocks of FFS say that they are OFS ones than do not
-abbrev pub is_other_kind : Kind → Tally → Bool
-is_other_kind Ofs t = false
-is_other_kind Ffs t = nat_lt t.others t.says
+-- how many of the entries 1 to n pass a test
+unfoldable pub passing : (ℕ → Bool) → ℕ → ℕ
+passing test zero = 0
+passing test (suc n) = passing test n + cond (test (suc n)) 1 0
 
--- the type is one of FFS, but more data blocks of the walk say that they are OFS ones than do not
+-- entry n is a file whose size is not 0
+abbrev pub is_full_file : List ℕ → Walk → ℕ → Bool
+is_full_file image w n = (word_in image (node_block w n) SECONDARY_TYPE == ST_FILE) && not (word_in image (node_block w n) SIZE == 0)
+
+-- the slot of a position, if there is one
+abbrev pub slot_in : Option ChainPlace → ℕ
+slot_in None = 0
+slot_in (Some c) = c.slot
+
+-- the slot that the header of entry n is in
+abbrev pub slot_of_entry : Walk → ℕ → ℕ
+slot_of_entry w n = slot_in (slice_get (places_of w) (n - 1))
+
+-- the name of entry n is valid, and by these letters its slot is the one that its header is in
+abbrev pub is_in_slot : Letters → List ℕ → Walk → ℕ → Bool
+is_in_slot letters image w n =
+    is_name (name_of image (node_block w n)) && (slot_by letters (name_of image (node_block w n)) == slot_of_entry w n)
+
+-- whether a volume of a kind is of the other one, by the tally of its data blocks and the number of files that are not empty:
+-- one of FFS, if more say that they are OFS ones than do not; one of OFS, if there are FILES_THAT_TELL files or more, but no data block
+abbrev pub is_other_kind : Kind → Tally → ℕ → Bool
+is_other_kind Ofs t files = (t.says + t.others == 0) && nat_le FILES_THAT_TELL files
+is_other_kind Ffs t files = nat_lt t.others t.says
+
+-- the same of the entries of a walk
+abbrev pub has_other_kind : List ℕ → Walk → Bool
+has_other_kind image w = is_other_kind (kind_of image) (tally image w (blocks image)) (passing (is_full_file image w) (heads w))
+
+-- the other kind
+abbrev pub other_kind : Kind → Kind
+other_kind Ofs = Ffs
+other_kind Ffs = Ofs
+
+-- the other letters
+abbrev pub other_letters : Letters → Letters
+other_letters Ascii = International
+other_letters International = Ascii
+
+-- more entries of the walk are in the slots of their names by the other letters than by those of the type
+abbrev pub has_other_letters : List ℕ → Walk → Bool
+has_other_letters image w =
+    nat_lt (passing (is_in_slot (letters_of image) image w) (heads w)) (passing (is_in_slot (other_letters (letters_of image)) image w) (heads w))
+
+-- the type of an image; if its kind or its letters are others, the one of 0 to 3 that has these
+abbrev pub type_with : List ℕ → (kind letters : Bool) → ℕ
+type_with image kind letters =
+    cond (kind || letters)
+    (type_number (cond letters (other_letters (letters_of image)) (letters_of image)) (cond kind (other_kind (kind_of image)) (kind_of image)))
+    (slice_index image 3)
+
+-- the type that the entries of the walk tell
+abbrev pub told_type : List ℕ → Walk → ℕ
+told_type image w = type_with image (has_other_kind image w) (has_other_letters image w)
+
+-- the type is not the one that the entries of the walk tell
 abbrev pub is_mistyped : List ℕ → Walk → Bool
-is_mistyped image w = is_other_kind (kind_of image) (tally image w (blocks image))
+is_mistyped image w = not (told_type image w == slice_index image 3)
 
--- the image with the type that is one less: of OFS, where it was one of FFS
-abbrev pub retyped : List ℕ → List ℕ
-retyped image = set image 3 (slice_index image 3 - 1)
+-- the image with this type
+abbrev pub retyped : List ℕ → ℕ → List ℕ
+retyped image type = set image 3 type

@@ -13,15 +13,17 @@ use Rattle.adf_volume.specs.Parts.{entry_of}
 use Rattle.adf_volume.specs.Walk.{Has, heads, node_block, Walk, Role.Page}
 use Rattle.adf_findings.specs.declared.concern.Concern.{Concern}
 use Rattle.adf_findings.specs.declared.finding.Finding.{Finding}
+use Rattle.adf_findings.specs.declared.found.ChainPlace.{ChainPlace}
 use Rattle.adf_findings.specs.Concerned.{concern_of_nth, is_taken}
 use Rattle.adf_findings.specs.Files.{grave}
+use Rattle.adf_findings.specs.Found.{places_of}
 use Rattle.adf_findings.specs.Members.{at_role, number_at, owning_entry, owns, parent_node, has_mark}
 use Rattle.adf_findings.specs.Parts.{finding_value}
 use Rattle.adf_findings.specs.Sound.{IsSound}
 use Rattle.adf_findings.specs.Survey.{FindingValue, IsSurvey, IsValidated}
 
 -- the result: the findings and what they concern; the owner of each block; the blocks of pages, by number;
--- for each node its block, its parent, whether it is sound, and whether it is but for harmless findings of headers
+-- for each node its block, its parent, from node 1 on its position, whether it is sound, and whether it is but for harmless findings of headers
 pub record SurveyValue : Type 0 where
   pub image : List ℕ
   pub findings : List Finding
@@ -30,6 +32,7 @@ pub record SurveyValue : Type 0 where
   pub pages : List (ℕ × ℕ)
   pub nodes : List ℕ
   pub parents : List ℕ
+  pub places : List ChainPlace
   pub sound : List Bool
   pub whole : List Bool
 
@@ -56,6 +59,7 @@ pub record TellsOf (v : SurveyValue) (w : Walk) (fs : List FindingValue) : Type 
   pub page : (i : ℕ) → block_at v.pages i ≡ at_role w (Page i)
   pub node : (n : ℕ) → slice_index v.nodes n ≡ node_block w n
   pub parent : (n : ℕ) → slice_index v.parents n ≡ parent_node w n
+  pub places : v.places ≡ places_of w
   pub count : length v.nodes - 1 ≡ heads w
   pub sound : (n : ℕ) → 1 ≤ n → (has_mark v.sound n ≡ true) ↔ IsSound v.image w fs n (node_block w n)
   pub whole : (n : ℕ) → 1 ≤ n → (has_mark v.whole n ≡ true) ↔ IsSound v.image w (grave fs) n (node_block w n)

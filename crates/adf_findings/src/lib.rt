@@ -35,7 +35,7 @@ pub use crate::laws::{
     paths_of_directories, some_marks, some_survey, sound_entries,
 };
 pub use crate::opening::Opening;
-pub use crate::own_kind::{Tally, retype};
+pub use crate::own_kind::{FILES_THAT_TELL, Tally, retype};
 pub use crate::remains::{Gap, Remains};
 pub use crate::survey_result::{Survey, has_mark};
 pub use crate::surveyor::survey;

@@ -1,18 +1,27 @@
-// What the data blocks of a survey say of the kind of their volume.
+// What the entries of a survey tell of the type of their volume.
 
-ghost use Rattle.std.specs.Prelude.{◌≡◌, ◌≤◌, ◌<◌, ℕ, List, IsTrue};
+ghost use Rattle.std.specs.Prelude.{◌≡◌, ◌≤◌, ◌<◌, ◌+◌, ◌-◌, ◌==◌, ℕ, List, IsTrue, slice_get, slice_index};
 ghost use Rattle.adf_blocks.specs.Sizes.{blocks};
 ghost use Rattle.adf_volume.specs.Walk.{Role, heads, node_block};
 ghost use Rattle.adf_findings.specs.Files.{grave};
 ghost use Rattle.adf_findings.specs.Sound.{IsSound};
-ghost use Rattle.adf_findings.specs.OwnKind.{is_mistyped, is_other_kind, retyped, said_in, tallied, tally};
+ghost use Rattle.adf_findings.specs.OwnKind.{has_other_kind, has_other_letters, is_full_file, is_in_slot, is_mistyped, is_other_kind};
+ghost use Rattle.adf_findings.specs.OwnKind.{other_kind, other_letters, passing, retyped, said_in, slot_in, tallied, tally, told_type};
+ghost use Rattle.adf_findings.specs.OwnKind.{type_with};
 ghost use Rattle.adf_findings.specs.Survey.{OnSurvey};
 
+use crate::found::ChainPlace;
 use crate::image::SizedImage;
 use crate::owners::{data_number_of, entry_of};
 use crate::start::start;
 use crate::survey_result::{Survey, number_at};
-use adf_tree::{Kind, Node};
+use adf_base::{Letters, slot_by};
+use adf_blocks::{SECONDARY_TYPE, SIZE, ST_FILE};
+use adf_names::type_number;
+use adf_tree::{Kind, Name, Node};
+
+/// How many files that are not empty show, without a data block, that an OFS volume is one of FFS.
+pub const FILES_THAT_TELL: usize = 4;
 
 /// How many data blocks say that they are OFS ones, and how many do not.
 #[derive(Clone, Copy, PartialEq, Eq, Drop)]
@@ -40,15 +49,60 @@ impl Tally {
             },
         }
     }
+}
 
-    // Whether a volume of a kind is not what the tally says.
-    fn is_other_kind(self, kind: Kind) -> bool
-        ensures { result ≡ is_other_kind kind self }
-    {
-        match kind {
-            Kind::Ofs => false,
-            Kind::Ffs => self.others < self.says,
-        }
+// The other kind.
+fn other_kind(kind: Kind) -> Kind
+    ensures { result ≡ other_kind kind }
+{
+    match kind {
+        Kind::Ofs => Kind::Ffs,
+        Kind::Ffs => Kind::Ofs,
+    }
+}
+
+// The other letters.
+fn other_letters(letters: Letters) -> Letters
+    ensures { result ≡ other_letters letters }
+{
+    match letters {
+        Letters::Ascii => Letters::International,
+        Letters::International => Letters::Ascii,
+    }
+}
+
+// The byte of an image behind `DOS`; 0 if it has none.
+fn type_byte(image: &[u8]) -> u8
+    ensures { result ≡ slice_index image.now 3 }
+{
+    image.get(3).copied().unwrap_or(0)
+}
+
+// The type of an image; if its kind or its letters are others, the one of 0 to 3 that has these.
+fn type_with(image: &SizedImage<'_>, has_other_kind: bool, has_other_letters: bool) -> u8
+    ensures { result ≡ type_with image.now has_other_kind has_other_letters }
+{
+    if !has_other_kind && !has_other_letters {
+        return type_byte(image.bytes());
+    }
+    let mut kind = image.kind();
+    if has_other_kind {
+        kind = other_kind(kind);
+    }
+    let mut letters = image.letters();
+    if has_other_letters {
+        letters = other_letters(letters);
+    }
+    type_number(letters, kind)
+}
+
+// The slot of an entry, by the positions of headers from entry 1 on; 0 past the last.
+fn slot_at(places: &Vec<ChainPlace>, n: usize) -> u8
+    ensures { result ≡ slot_in (slice_get places.now.items (n - 1)) }
+{
+    match places.get(n.saturating_sub(1)) {
+        Some(place) => place.slot,
+        None => 0,
     }
 }
 
@@ -78,6 +132,69 @@ impl Survey<'_> {
         tally
     }
 
+    // Whether no data block is found.
+    fn has_no_data(&self, image: &SizedImage<'_>) -> bool
+        ensures { OnSurvey self.now.image (λ w _. result ≡ ((tally image.now w (blocks image.now)).says
+            + (tally image.now w (blocks image.now)).others == 0)) }
+    {
+        let _owners = &self.owners;
+        for b in 0..image.blocks() {
+            if data_number_of(&self.owners.at(b)) != 0 {
+                return false;
+            }
+        }
+        true
+    }
+
+    // Whether an entry is a file whose size is not 0.
+    #[tactic(auto, using(crate::proofs::Keeping::tells_each))]
+    fn is_full_file(&self, image: &SizedImage<'_>, n: Node) -> bool
+        ensures { OnSurvey self.now.image (λ w _. result ≡ is_full_file image.now w n) }
+    {
+        let head = number_at(&self.nodes, n.0);
+        image.word(head, SECONDARY_TYPE) == ST_FILE && image.word(head, SIZE) != 0
+    }
+
+    // How many files are found whose size is not 0.
+    #[tactic(auto, using(crate::proofs::OwnKinds::passing_none, crate::proofs::OwnKinds::passing_more))]
+    fn full_files(&self, image: &SizedImage<'_>) -> usize
+        ensures { OnSurvey self.now.image (λ w _. result ≡ passing (is_full_file image.now w) (heads w)) }
+    {
+        let mut count = 0;
+        for n in 0..self.len() {
+            if self.is_full_file(image, Node(n + 1)) {
+                count += 1;
+            }
+        }
+        count
+    }
+
+    // Whether the name of an entry is valid, and by these letters its slot is the one that its header is in.
+    #[tactic(auto, using(crate::proofs::Keeping::tells_each))]
+    fn is_in_slot(&self, letters: Letters, n: Node) -> bool
+        ensures { OnSurvey self.now.image (λ w _. 1 ≤ n → n ≤ heads w
+            → result ≡ is_in_slot letters self.now.image w n) }
+    {
+        let Some(name) = self.name(n) else {
+            return false;
+        };
+        Name::is_name(name) && slot_by(letters, name) == slot_at(&self.places, n.0)
+    }
+
+    // How many headers are in the slots of their names by these letters.
+    #[tactic(auto, using(crate::proofs::OwnKinds::passing_none, crate::proofs::OwnKinds::passing_more))]
+    fn in_slots(&self, letters: Letters) -> usize
+        ensures { OnSurvey self.now.image (λ w _. result ≡ passing (is_in_slot letters self.now.image w) (heads w)) }
+    {
+        let mut count = 0;
+        for n in 0..self.len() {
+            if self.is_in_slot(letters, Node(n + 1)) {
+                count += 1;
+            }
+        }
+        count
+    }
+
     // Whether each entry is sound by the grave findings.
     fn are_whole(&self) -> bool
         ensures { OnSurvey self.now.image (λ w fs. IsTrue result
@@ -91,30 +208,65 @@ impl Survey<'_> {
         true
     }
 
-    /// Whether the type is one of FFS, but more of the data blocks that are found say that they are OFS ones of their files than
-    /// do not.
-    #[tactic(auto, using(crate::proofs::OwnKinds::none_mistyped, crate::proofs::Openings::unbegun_walk))]
+    // Whether the entries are of the other kind.
+    #[tactic(auto, using(crate::proofs::OwnKinds::sound_kind))]
+    fn has_other_kind(&self, image: &SizedImage<'_>) -> bool
+        requires { image.now ≡ self.now.image }
+        ensures { OnSurvey self.now.image (λ w _. result ≡ has_other_kind self.now.image w) }
+    {
+        match image.kind() {
+            Kind::Ofs => self.full_files(image) >= FILES_THAT_TELL && self.has_no_data(image),
+            Kind::Ffs => {
+                if self.are_whole() {
+                    return false;
+                }
+                let tally = self.tally(image);
+                tally.others < tally.says
+            }
+        }
+    }
+
+    // Whether more headers are in the slots of their names by the other letters than by those of the type.
+    #[tactic(auto, using(crate::proofs::OwnKinds::few_pass))]
+    fn has_other_letters(&self) -> bool
+        ensures { OnSurvey self.now.image (λ w _. result ≡ has_other_letters self.now.image w) }
+    {
+        let letters = self.letters();
+        let count = self.in_slots(letters);
+        count < self.len() && count < self.in_slots(other_letters(letters))
+    }
+
+    /// The type that the entries tell, 0 to 5: the one stated, unless their kind or their letters are others. Of FFS they are
+    /// OFS, if more of the data blocks that are found say that they are OFS ones of their files than do not; of OFS they are
+    /// FFS, if no data block is found, but `FILES_THAT_TELL` files that are not empty, or more. The letters are others, if by
+    /// these more headers are in the slots of their names.
+    #[tactic(auto, using(crate::proofs::OwnKinds::none_told, crate::proofs::Openings::unbegun_walk))]
+    pub fn told_type(&self) -> u8
+        ensures { OnSurvey self.now.image (λ w _. result ≡ told_type self.now.image w) }
+    {
+        match start(self.image) {
+            Ok(started) => {
+                let has_other_kind = self.has_other_kind(&started.image);
+                type_with(&started.image, has_other_kind, self.has_other_letters())
+            }
+            Err(_) => type_byte(self.image),
+        }
+    }
+
+    /// Whether the type is not the one that the entries tell.
     pub fn is_mistyped(&self) -> bool
         ensures { OnSurvey self.now.image (λ w _. result ≡ is_mistyped self.now.image w) }
     {
-        if self.are_whole() {
-            return false;
-        }
-        match start(self.image) {
-            Ok(started) => self
-                .tally(&started.image)
-                .is_other_kind(started.image.kind()),
-            Err(_) => false,
-        }
+        self.told_type() != type_byte(self.image)
     }
 }
 
-/// Makes the type of an image one less: one of FFS becomes that of OFS.
+/// Makes `type_told` the type of an image.
 #[tactic(auto, using(std::proofs::lemmas::List::set_past))]
-pub fn retype(image: &mut [u8])
-    ensures { image.new ≡ retyped image.old }
+pub fn retype(image: &mut [u8], type_told: u8)
+    ensures { image.new ≡ retyped image.old type_told }
 {
     if image.len() > 3 {
-        image[3] = image[3].saturating_sub(1);
+        image[3] = type_told;
     }
 }

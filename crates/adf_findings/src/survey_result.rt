@@ -20,6 +20,7 @@ ghost use Rattle.adf_findings.specs.Survey.{OnSurvey};
 use crate::concern::Concern;
 use crate::file::SoundFile;
 use crate::finding::Finding;
+use crate::found::ChainPlace;
 use crate::header_name::name_in;
 use crate::opening::Opening;
 use crate::owners::{data_number_of, entry_at, owner_nth};
@@ -43,6 +44,7 @@ pub struct Survey<'i> {
     pub(crate) pages: BTreeMap<u32, u32>,
     pub(crate) nodes: Vec<u32>,
     pub(crate) parents: Vec<u32>,
+    pub(crate) places: Vec<ChainPlace>,
     pub(crate) sound: Vec<bool>,
     pub(crate) whole: Vec<bool>,
 }
@@ -60,6 +62,7 @@ impl<'i> Model for Survey<'i> {
       pages = v.pages.entries;
       nodes = v.nodes.items;
       parents = v.parents.items;
+      places = v.places.items;
       sound = v.sound.items;
       whole = v.whole.items;
     } };
@@ -72,6 +75,7 @@ impl<'i> Model for Survey<'i> {
       pages = v.pages.entries;
       nodes = v.nodes.items;
       parents = v.parents.items;
+      places = v.places.items;
       sound = v.sound.items;
       whole = v.whole.items;
     }) };

@@ -62,6 +62,7 @@ fn only<'i>(alloc: Global, image: &'i [u8], unread: Unread) -> Result<Survey<'i>
         pages: BTreeMap::new(alloc),
         nodes: Vec::new(alloc),
         parents: Vec::new(alloc),
+        places: Vec::new(alloc),
         sound: Vec::new(alloc),
         whole: Vec::new(alloc),
     })
@@ -118,6 +119,7 @@ fn go_through<'i>(alloc: Global, started: &Started<'i>) -> Result<Survey<'i>, No
         pages: found.pages,
         nodes: found.nodes,
         parents: found.parents,
+        places: found.places,
         sound,
         whole,
     })

@@ -49,6 +49,7 @@ invariant_of-result c =
       pages = f.pages.entries;
       nodes = f.nodes.items;
       parents = f.parents.items;
+      places = f.places.items;
       sound = sound;
       whole = whole;
     }))

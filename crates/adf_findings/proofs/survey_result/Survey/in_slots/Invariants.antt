@@ -1,0 +1,10 @@
+use Rattle.std.specs.Prelude.{◌≡◌, ◌≤◌}
+use Rattle.adf_findings.specs.OwnKind.{is_in_slot, passing}
+use Rattle.adf_findings.specs.Survey.{OnSurvey}
+use Rattle.adf_findings.proofs.survey_result.Survey.in_slots.Given as goal
+
+abbrev pub invariant-loop-n : goal.invariant-loop-n
+invariant-loop-n l = record {
+  few : l.count ≤ l.n;
+  so_far : OnSurvey l.self.image (λ w fs. l.count ≡ passing (is_in_slot l.letters l.self.image w) l.n);
+}
