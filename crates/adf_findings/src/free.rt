@@ -1,7 +1,9 @@
 // The pages of the bitmap, and what it tells of blocks.
 
-ghost use Rattle.std.specs.Prelude.{◌≡◌, ◌↔◌, ℕ, IfSome, IsSome, IsTrue, Some};
+ghost use Rattle.std.specs.Prelude.{◌≡◌, ◌≤◌, ◌-◌, ◌/◌, ◌↔◌, ℕ, IfSome, IsSome, IsTrue, Some};
+ghost use Rattle.adf_blocks.specs.declared.layout.TheConstants.{PAGE_BITS};
 ghost use Rattle.adf_volume.specs.Walk.{Has, IsFreeIn, Role.Page};
+ghost use Rattle.adf_findings.specs.Members.{at_role};
 ghost use Rattle.adf_findings.specs.Survey.{OnSurvey};
 ghost use Rattle.adf_findings.specs.SurveyResult.{IsBitStated};
 
@@ -38,6 +40,15 @@ impl Survey<'_> {
         }
         let (page, bit) = place_of(b);
         bit_of(&started.image, &self.pages, page, bit)
+    }
+
+    /// The block of the page that tells of a block behind the boot blocks; `None` if it is not found.
+    #[tactic(auto, using(crate::proofs::Keeping::tells_each))]
+    pub fn page_of(&self, b: u32) -> Option<u32>
+        requires { 2 ≤ b }
+        ensures { OnSurvey self.now.image (λ w _. result ≡ at_role w (Page ((b - 2) / PAGE_BITS))) }
+    {
+        page_at(&self.pages, place_of(b).0)
     }
 
     /// Whether a block is a page of the bitmap that is found.

@@ -1,5 +1,5 @@
 -- Hung images: the directories that are made, the steps, and what stays.
--- Letters: given the image of a survey, w its walk, s whether each directory is settled; b, p blocks; k, n numbers of blocks;
+-- Letters: given the image of a survey, w its walk, s whether each directory is open; b, p blocks; k, n numbers of blocks;
 -- e an end; v, m, l, t answers of tests.
 use Rattle.std.proofs.Common.{◌==◌, ◌&&◌, ◌||◌, slice_index, slice_index_or, cond, replicate, Some, None, codes, decimal, ◌≡◌, ◌≤◌, ◌<◌, ℕ, zero, suc, ◌+◌, ◌^◌}
 use Rattle.std.proofs.Common.{Bool, true, false, List, [], ◌∷◌, length, add-one, ◌∙◌, ap, arith, inl, inr, refl, subst, sym, length-append}
@@ -14,8 +14,8 @@ use Rattle.adf_volume.specs.Image.{word_in}
 use Rattle.adf_volume.specs.Walk.{heads, Walk}
 use Rattle.adf_findings.specs.Members.{has_mark, owns, parent_node}
 use Rattle.adf_rescue.specs.Hung.{AreEnds, AreMade, directory_end, hung_at, hung_in, slot_word, last_open, open_end, hung_first, hung_loose, is_made}
-use Rattle.adf_rescue.specs.Hung.{has_lost_child, is_vacant, readied, ready_in}
-use Rattle.adf_rescue.specs.Lost.{directory_at, is_lost, lost_among}
+use Rattle.adf_rescue.specs.Hung.{has_lost_child, readied, ready_in}
+use Rattle.adf_rescue.specs.Lost.{directory_at, is_lost, is_vacant, lost_among}
 use Rattle.adf_rescue.specs.Rescue.{lost_name}
 use Rattle.std.specs.Option.{unwrap_or}
 use Rattle.adf_rescue.proofs.LostHeaders.{number_known}
@@ -146,7 +146,7 @@ module _ {given : List ℕ} {w : Walk} {s : ℕ → Bool} {k : ℕ} {marks : Lis
 
 vacant_inside : (given : List ℕ) (w : Walk) (s : ℕ → Bool) (p : ℕ) → blocks given ≤ p → is_vacant given w s p ≡ false
 unfolding is_vacant
-vacant_inside given w s p out = and_left _ _ (and_left _ _ (and_left (in_range given p) _ (grind (arith, nat_tests))))
+vacant_inside given w s p out = and_left _ _ (and_left _ _ (and_left _ _ (and_left (in_range given p) _ (grind (arith, nat_tests)))))
 
 pub made_marked : (given : List ℕ) (w : Walk) (s : ℕ → Bool) (marks : List Bool) → AreMade given w s (blocks given) marks
     → (p : ℕ) → has_mark marks p ≡ is_made given w s p

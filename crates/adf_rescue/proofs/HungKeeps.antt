@@ -1,8 +1,8 @@
 -- What stays in a hung image.
--- Letters: given the image of a survey, w its walk, s whether each directory is settled; b, c, d, p, e blocks; n, m nodes; i the number of a
+-- Letters: given the image of a survey, w its walk, s whether each directory is open; b, c, d, p, e blocks; n, m nodes; i the number of a
 -- word; k that of one too, or a number of blocks or nodes;
 -- x, y, z images.
-use Rattle.std.proofs.Common.{◌==◌, ◌&&◌, ◌||◌, ◌%◌, ◌/◌, None, cond, is_some, replicate, slice_index, ◌≡◌, ◌≢◌, ◌≤◌, ◌<◌, ℕ, zero, suc, ◌*◌, ◌+◌, ◌^◌, Bool}
+use Rattle.std.proofs.Common.{◌==◌, ◌&&◌, ◌||◌, ◌%◌, ◌/◌, None, Some, cond, is_some, option_map, Option, replicate, slice_index, ◌≡◌, ◌≢◌, ◌≤◌, ◌<◌, ℕ, zero, suc, ◌*◌, ◌+◌, ◌^◌, Bool}
 use Rattle.std.proofs.Common.{true, false, List, [], ◌∷◌, length, ◌∙◌, ap, arith, inl, inr, refl, subst, sym, ◌⊎◌}
 use Rattle.std.specs.Prelude.{nat_le, nat_lt}
 use Rattle.std.specs.Option.{unwrap_or}
@@ -22,9 +22,9 @@ use Rattle.adf_volume.specs.Image.{kind_of, root_of, word_in}
 use Rattle.adf_volume.specs.Start.{is_image_len}
 use Rattle.adf_volume.specs.Walk.{heads, node_block, Walk}
 use Rattle.adf_findings.specs.Members.{role_entry, owning_entry, owns}
-use Rattle.adf_rescue.specs.Hung.{directory_end, home, hung, hung_at, hung_behind, hung_first, hung_in, hung_loose, is_container, is_hung, is_made, is_vacant}
+use Rattle.adf_rescue.specs.Hung.{directory_end, home, hung, hung_at, hung_behind, hung_first, hung_in, hung_loose, is_container, is_loose, is_made}
 use Rattle.adf_rescue.specs.Hung.{last_open, made_header, put_in, readied, ready_in, sealed_in, slot_word}
-use Rattle.adf_rescue.specs.Lost.{directory_at, is_lost, says_directory}
+use Rattle.adf_rescue.specs.Lost.{directory_at, is_lost, is_vacant, says_directory}
 use Rattle.adf_rescue.proofs.HungImages.{name_is_valid}
 use Rattle.adf_rescue.proofs.LostHeaders.{root_at}
 use Rattle.adf_rescue.proofs.MadeRoots.{root_within, sized}
@@ -115,6 +115,12 @@ owner_owns (x ∷ w) b e = elim (cases_Bool (x.1 == b)) [
 slot_small : (b : ℕ) → slot_word b < 128
 slot_small b = omega arith
 
+-- what a choice of two gives is one of them
+one_of_two : (m l : Bool) (r q p : ℕ) → cond m (Some r) (cond l (Some q) None) ≡ Some p → ((m ≡ true) × (p ≡ r)) ⊎ ((l ≡ true) × (p ≡ q))
+one_of_two true l r q p e = inl (refl, cc)
+one_of_two false true r q p e = inr (refl, cc)
+one_of_two false false r q p e = absurd cc
+
 -- the laws, of an image with the length of a volume
 
 module _ (given : List ℕ) (w : Walk) (s : ℕ → Bool) (len : is_image_len (length given) ≡ true) where
@@ -126,7 +132,7 @@ module _ (given : List ℕ) (w : Walk) (s : ℕ → Bool) (len : is_image_len (l
 
   owned_not_made : (b : ℕ) → owns w b ≡ true → is_made given w s b ≡ false
   unfolding is_vacant
-  owned_not_made b e = and_left _ _ (and_left _ _ (and_right _ _ (not_from_true (owns w b) e)))
+  owned_not_made b e = and_left _ _ (and_left _ _ (and_left _ _ (and_right _ _ (not_from_true (owns w b) e))))
 
   boot_not_lost : is_lost given w s 0 ≡ false
   unfolding is_lost
@@ -142,14 +148,14 @@ module _ (given : List ℕ) (w : Walk) (s : ℕ → Bool) (len : is_image_len (l
   root_small : root_of given < 2 ^ 32
   root_small = let r = root_within given len in omega (arith, r.small)
 
-  -- what is not hung stays
+  -- what is not loose stays
   abbrev Keeps : List ℕ → List ℕ → Type 0
-  Keeps x y = (length y ≡ length x) × ((c : ℕ) → is_hung given w s c ≡ false → block y c ≡ block x c)
+  Keeps x y = (length y ≡ length x) × ((c : ℕ) → is_loose given w s c ≡ false → block y c ≡ block x c)
 
-  keeps : {b : ℕ} {x y : List ℕ} → is_hung given w s b ≡ true → Touches b b x y → Keeps x y
+  keeps : {b : ℕ} {x y : List ℕ} → is_loose given w s b ≡ true → Touches b b x y → Keeps x y
   keeps h t = grind (arith, common_steps)
 
-  -- making ready changes what is hung alone
+  -- making ready changes what is loose alone
   ready_touches : (x : List ℕ) (b : ℕ) → length x ≡ length given → b < blocks given → Keeps x (ready_in given w s x b)
   unfolding ready_in
   ready_touches x b same inside =
@@ -174,41 +180,61 @@ module _ (given : List ℕ) (w : Walk) (s : ℕ → Bool) (len : is_image_len (l
       let t = ready_touches (readied given w s k) k h.0 (omega arith) in
       (t.0 ∙ h.0, λ c out. t.1 c out ∙ h.1 c out)
 
-  -- the home is in range
-  home_inside : (b : ℕ) → home given w s b < blocks given
+  -- a home is the root, for what is made, or a container, for what is lost
+  home_of : (b p : ℕ) → home given w s b ≡ Some p
+      → ((is_made given w s b ≡ true) × (p ≡ root_of given)) ⊎ ((is_lost given w s b ≡ true) × (is_container given w s p ≡ true))
   unfolding home
-  home_inside b = grind (arith, common_steps, cases_Bool, and_parts, nat_tests, cond-true, cond-false, root_within)
+  home_of b p e =
+      let q : ℕ = word_in given b PARENT in
+      elim (one_of_two (is_made given w s b) (is_lost given w s b && is_container given w s q) (root_of given) q p e) [
+        | inl made ↦ inl made
+        | inr named ↦
+            let both = and_parts (is_lost given w s b) (is_container given w s q) named.0 in
+            inr (both.0, subst (λ i. is_container given w s i ≡ true) (sym named.1) both.1)
+      ]
+
+  home_loose : (b p : ℕ) → home given w s b ≡ Some p → is_loose given w s b ≡ true
+  home_loose b p e = elim (home_of b p e) [
+    | inl made ↦ or_right (is_lost given w s b) _ made.0
+    | inr lost ↦ or_left (is_lost given w s b) _ lost.0
+  ]
+
+  -- a home is in range
+  home_inside : (b p : ℕ) → home given w s b ≡ Some p → p < blocks given
+  home_inside b p e = elim (home_of b p e) [
+    | inl made ↦ let root = root_within given len in omega (arith, made.1, root.within)
+    | inr lost ↦ let inside = (and_parts (in_range given p) _ lost.1).0 in grind (arith, nat_tests)
+  ]
 
   -- block c is neither a home of what is hung nor the end there
   abbrev IsApart : ℕ → Type 0
-  IsApart c = ((d : ℕ) → is_hung given w s d ≡ true → home given w s d ≢ c)
-      × ((d : ℕ) → is_hung given w s d ≡ true → in_range given (directory_end given w (home given w s d)) ≡ true
-      → directory_end given w (home given w s d) ≢ c)
+  IsApart c = ((d : ℕ) → home given w s d ≢ Some c)
+      × ((d p : ℕ) → home given w s d ≡ Some p → in_range given (directory_end given w p) ≡ true → directory_end given w p ≢ c)
 
-  -- hanging changes what is hung, the homes and the ends; and no word that leads to a part of the survey
+  -- hanging changes what is loose, the homes and the ends; and no word that leads to a part of the survey
   abbrev IsOwnedWord : ℕ → ℕ → Type 0
-  IsOwnedWord c i = (is_hung given w s c ≡ false) × (i < 128) × (i ≢ CHECKSUM) × (owns w (word_in given c i) ≡ true)
+  IsOwnedWord c i = (is_loose given w s c ≡ false) × (i < 128) × (i ≢ CHECKSUM) × (owns w (word_in given c i) ≡ true)
 
   record KeepsMore (x y : List ℕ) : Type 0 where
     length : length y ≡ length x
-    others : (c : ℕ) → is_hung given w s c ≡ false → IsApart c → block y c ≡ block x c
+    others : (c : ℕ) → is_loose given w s c ≡ false → IsApart c → block y c ≡ block x c
     words : ((c i : ℕ) → IsOwnedWord c i → word_in x c i ≡ word_in given c i) → (c i : ℕ) → IsOwnedWord c i → word_in y c i ≡ word_in x c i
 
   keeps_all : (x : List ℕ) → KeepsMore x x
   keeps_all x = record { length = refl; others = λ c out apart. refl; words = λ before c i owned. refl }
 
   -- where block b is hung at word i of block e, which leads to no part of the survey
-  module _ (x : List ℕ) (b : ℕ) (same : length x ≡ length given) (inside : b < blocks given) (is : is_hung given w s b ≡ true) (e i : ℕ)
+  module _ (x : List ℕ) (b p : ℕ) (same : length x ≡ length given) (inside : b < blocks given) (is : is_loose given w s b ≡ true) (e i : ℕ)
       (le : e < blocks given) (lt : i < 128) where
-    not_it : (c : ℕ) → is_hung given w s c ≡ false → c ≢ b
-    not_it c out at = let yes = subst (λ i. is_hung given w s i ≡ true) (sym at) is in cc
+    not_it : (c : ℕ) → is_loose given w s c ≡ false → c ≢ b
+    not_it c out at = let yes = subst (λ i. is_loose given w s i ≡ true) (sym at) is in cc
 
     at_keeps : ((c : ℕ) → IsApart c → c ≢ e) → (((c k : ℕ) → IsOwnedWord c k → word_in x c k ≡ word_in given c k) → IsOwnedWord e i → ⊥)
-        → KeepsMore x (hung_at x b (home given w s b) e i)
+        → KeepsMore x (hung_at x b p e i)
     at_keeps apart_from free =
         let lb = still given x b same inside in
         let lx = still given x e same le in
-        let t = hung_touches x b (home given w s b) e i lb lx lt in
+        let t = hung_touches x b p e i lb lx lt in
         record {
           length = t.length;
           others = λ c out apart. t.others c (not_it c out) (apart_from c apart);
@@ -217,8 +243,8 @@ module _ (given : List ℕ) (w : Walk) (s : ℕ → Bool) (len : is_image_len (l
                 let at = eqb-true c e y in
                 let here : IsOwnedWord e k = subst (λ c. IsOwnedWord c k) at owned in
                 let other : k ≢ i = λ at_word. free before (subst (λ k. IsOwnedWord e k) at_word here) in
-                subst (λ c. word_in (hung_at x b (home given w s b) e i) c k ≡ word_in x c k) (sym at)
-                (hung_word x b (home given w s b) e i lb lx lt k (not_it e here.0) other here.2 here.1)
+                subst (λ c. word_in (hung_at x b p e i) c k ≡ word_in x c k) (sym at)
+                (hung_word x b p e i lb lx lt k (not_it e here.0) other here.2 here.1)
             | inr n ↦ ap (λ bs. word bs k) (t.others c (not_it c owned.0) (λ at. let y = eq-eqb c e at in cc))
           ];
         }
@@ -229,13 +255,11 @@ module _ (given : List ℕ) (w : Walk) (s : ℕ → Bool) (len : is_image_len (l
   open_word n zero = inl refl
   open_word n (suc k) = grind (arith, common_steps, open_word n k, cases_Bool, cond-true, cond-false)
 
-  loose_touches : (x : List ℕ) (b : ℕ) → length x ≡ length given → b < blocks given → KeepsMore x (hung_loose given w s x b)
-  unfolding hung_loose hung_in
-  loose_touches x b same inside =
-      let p : ℕ = home given w s b in
+  in_touches : (x : List ℕ) (b p : ℕ) → length x ≡ length given → b < blocks given → home given w s b ≡ Some p → KeepsMore x (hung_in given w x b p)
+  unfolding hung_in
+  in_touches x b p same inside is =
       let e : ℕ = directory_end given w p in
-      cond_both (is_hung given w s b) (hung_in given w x b p) x (KeepsMore x)
-      (λ is.
+      let loose : is_loose given w s b ≡ true = home_loose b p is in
       cond_both (owns w (word_in x p (slot_word b))) (hung_behind x b p e) (hung_at x b p p (slot_word b)) (KeepsMore x)
       (λ full.
       cond_both (in_range x e) (hung_at x b p e NEXT_IN_CHAIN) x (KeepsMore x)
@@ -243,20 +267,28 @@ module _ (given : List ℕ) (w : Walk) (s : ℕ → Bool) (len : is_image_len (l
       let low : 2 ≤ e = grind (arith, nat_tests) in
       let high : e < blocks x = grind (arith, nat_tests) in
       let found : in_range given e ≡ true = sym (ap (λ l. nat_le 2 e && nat_lt e (l / 512)) same) ∙ there in
-      at_keeps x b same inside is e NEXT_IN_CHAIN (still x given e (sym same) high) (omega arith) (λ c apart at. apart.1 b is found (sym at))
+      at_keeps x b p same inside loose e NEXT_IN_CHAIN (still x given e (sym same) high) (omega arith) (λ c apart at. apart.1 b p is found (sym at))
       (λ before owned. elim (open_word (unwrap_or (directory_at given w p) 0) (heads w)) [
         | inl none ↦ omega (arith, low, none)
         | inr free ↦ let yes = owned.3 in cc
       ]))
       (λ out. keeps_all x))
       (λ free.
-      at_keeps x b same inside is p (slot_word b) (home_inside b) (slot_small b) (λ c apart at. apart.0 b is (sym at))
-      (λ before owned. let yes = subst (λ v. owns w v ≡ true) (sym (before p (slot_word b) owned)) owned.3 in cc)))
-      (λ none. keeps_all x)
+      at_keeps x b p same inside loose p (slot_word b) (home_inside b p is) (slot_small b) (λ c apart at. apart.0 b (is ∙ ap (λ q. Some q) (sym at)))
+      (λ before owned. let yes = subst (λ v. owns w v ≡ true) (sym (before p (slot_word b) owned)) owned.3 in cc))
+
+  home_touches : (x : List ℕ) (b : ℕ) (o : Option ℕ) → length x ≡ length given → b < blocks given → home given w s b ≡ o
+      → KeepsMore x (unwrap_or (option_map (hung_in given w x b) o) x)
+  home_touches x b None same inside is = keeps_all x
+  home_touches x b (Some p) same inside is = in_touches x b p same inside is
+
+  loose_touches : (x : List ℕ) (b : ℕ) → length x ≡ length given → b < blocks given → KeepsMore x (hung_loose given w s x b)
+  unfolding hung_loose
+  loose_touches x b same inside = home_touches x b (home given w s b) same inside refl
 
   record KeepsAll (y : List ℕ) : Type 0 where
     length : length y ≡ length given
-    others : (c : ℕ) → is_hung given w s c ≡ false → IsApart c → block y c ≡ block given c
+    others : (c : ℕ) → is_loose given w s c ≡ false → IsApart c → block y c ≡ block given c
     words : (c i : ℕ) → IsOwnedWord c i → word_in y c i ≡ word_in given c i
 
   first_touches : (k : ℕ) → k ≤ blocks given → KeepsAll (hung_first given w s k)
@@ -276,32 +308,25 @@ module _ (given : List ℕ) (w : Walk) (s : ℕ → Bool) (len : is_image_len (l
   pub length_kept : length (hung given w s) ≡ length given
   length_kept = (first_touches (blocks given) (omega arith)).length
 
-  apart_kept : (b : ℕ) → is_hung given w s b ≡ false → ((d : ℕ) → is_hung given w s d ≡ true → home given w s d ≢ b)
-      → ((d : ℕ) → is_hung given w s d ≡ true → in_range given (directory_end given w (home given w s d)) ≡ true
-      → directory_end given w (home given w s d) ≢ b)
+  apart_kept : (b : ℕ) → is_loose given w s b ≡ false → ((d : ℕ) → home given w s d ≢ Some b)
+      → ((d p : ℕ) → home given w s d ≡ Some p → in_range given (directory_end given w p) ≡ true → directory_end given w p ≢ b)
       → block (hung given w s) b ≡ block given b
   apart_kept b out no_home no_end = (first_touches (blocks given) (omega arith)).others b out (no_home, no_end)
 
-  pub blocks_kept : (b : ℕ) → is_hung given w s b ≡ false → ((d : ℕ) → is_hung given w s d ≡ true → home given w s d ≢ b)
-      → ((d : ℕ) → is_hung given w s d ≡ true → directory_end given w (home given w s d) ≢ b) → block (hung given w s) b ≡ block given b
-  blocks_kept b out no_home no_end = apart_kept b out no_home (λ d h inside. no_end d h)
+  pub blocks_kept : (b : ℕ) → is_loose given w s b ≡ false → ((d : ℕ) → home given w s d ≢ Some b)
+      → ((d p : ℕ) → home given w s d ≡ Some p → directory_end given w p ≢ b) → block (hung given w s) b ≡ block given b
+  blocks_kept b out no_home no_end = apart_kept b out no_home (λ d p h inside. no_end d p h)
 
-  pub words_kept : (b i : ℕ) → is_hung given w s b ≡ false → i < 128 → i ≢ CHECKSUM → owns w (word_in given b i) ≡ true
+  pub words_kept : (b i : ℕ) → is_loose given w s b ≡ false → i < 128 → i ≢ CHECKSUM → owns w (word_in given b i) ≡ true
       → word_in (hung given w s) b i ≡ word_in given b i
   words_kept b i out small sum owned = (first_touches (blocks given) (omega arith)).words b i (out, small, sum, owned)
 
   -- what is no directory is no home
-  no_home : (b d : ℕ) → (in_range given b && is_container given w s b) ≡ false → b ≢ root_of given → home given w s d ≢ b
-  unfolding home
-  no_home b d none ne e =
-      let p : ℕ = word_in given d PARENT in
-      cond_both (is_lost given w s d && in_range given p && is_container given w s p) p (root_of given) (λ h. h ≡ b → ⊥)
-      (λ named at.
-      let parts = and_parts (is_lost given w s d && in_range given p) (is_container given w s p) named in
-      let both : (in_range given p && is_container given w s p) ≡ true =
-      and_from (in_range given p) (is_container given w s p) (and_parts (is_lost given w s d) (in_range given p) parts.0).1 parts.1 in
-      let clash = subst (λ i. (in_range given i && is_container given w s i) ≡ true) at both in absurd cc)
-      (λ other at. ne (sym at)) e
+  no_home : (b d : ℕ) → is_container given w s b ≡ false → b ≢ root_of given → home given w s d ≢ Some b
+  no_home b d none ne e = elim (home_of d b e) [
+    | inl made ↦ ne made.1
+    | inr lost ↦ absurd cc
+  ]
 
   -- an end is a header
   end_is_header : (n k : ℕ) → (last_open given w n k ≡ 0) ⊎ ((m : ℕ) × (node_block w m ≡ last_open given w n k))
@@ -316,9 +341,10 @@ module _ (given : List ℕ) (w : Walk) (s : ℕ → Bool) (len : is_image_len (l
       let lost = owned_not_lost b (owner_owns w b owned) in
       let made = owned_not_made b (owner_owns w b owned) in
       let ne : b ≢ root_of given = λ e. let root = root_at given w b e in absurd cc in
-      let none : is_container given w s b ≡ false = λ i. is_some (no_directory i) || lost i && says_directory given b || made i in
-      apart_kept b (λ i. lost i || made i) (λ d h. no_home b d (and_right (in_range given b) _ none) ne)
-      (λ d h inside at. elim (end_is_header (unwrap_or (directory_at given w (home given w s d)) 0) (heads w)) [
+      let none : is_container given w s b ≡ false =
+      and_right (in_range given b) _ (λ i. is_some (no_directory i) || lost i && says_directory given b || made i) in
+      apart_kept b (λ i. lost i || made i) (λ d. no_home b d none ne)
+      (λ d p h inside at. elim (end_is_header (unwrap_or (directory_at given w p) 0) (heads w)) [
         | inl none ↦ let out : in_range given 0 ≡ true = subst (λ e. in_range given e ≡ true) none inside in cc
         | inr head ↦ no_head head.0 (head.1 ∙ at)
       ])
@@ -326,8 +352,8 @@ module _ (given : List ℕ) (w : Walk) (s : ℕ → Bool) (len : is_image_len (l
   -- the boot block
   pub boot_kept : block (hung given w s) 0 ≡ block given 0
   boot_kept =
-      apart_kept 0 (λ i. boot_not_lost i || boot_not_made i) (λ d h. no_home 0 d refl (let r = root_within given len in omega (arith, r.low)))
-      (λ d h inside at. let out : in_range given 0 ≡ true = subst (λ e. in_range given e ≡ true) at inside in cc)
+      apart_kept 0 (λ i. boot_not_lost i || boot_not_made i) (λ d. no_home 0 d refl (let r = root_within given len in omega (arith, r.low)))
+      (λ d p h inside at. let out : in_range given 0 ≡ true = subst (λ e. in_range given e ≡ true) at inside in cc)
 
   pub kind_kept : kind_of (hung given w s) ≡ kind_of given
   unfolding kind_of

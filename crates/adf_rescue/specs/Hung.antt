@@ -1,8 +1,8 @@
--- The hung image: each lost header hangs in the directory that it names, or in the root.
--- Letters: given the image of the survey, w its walk, s whether each of its directories is settled; b, p, e blocks; n a node; i a word; k a number
--- of blocks or nodes.
-use Rattle.std.specs.Prelude.{◌≡◌, ◌<◌, ◌≤◌, ℕ, ◌==◌, ◌&&◌, ◌||◌, not, ◌+◌, ◌*◌, ◌%◌, Bool, false, cond, List, [], length, replicate, Option, Some, None}
-use Rattle.std.specs.Prelude.{is_some, slice_index, unwrap_or}
+-- The hung image: each lost header hangs in the directory that it names, if that is found, lost itself or made.
+-- Letters: given the image of the survey, w its walk, fs its findings, made whether its root was made; s whether each of its directories is open;
+-- b, p, e blocks; n a node; i a word; k a number of blocks or nodes.
+use Rattle.std.specs.Prelude.{◌≡◌, ◌<◌, ◌≤◌, ℕ, ◌==◌, ◌&&◌, ◌||◌, ◌+◌, ◌*◌, ◌%◌, Bool, false, cond, List, [], length, replicate, Option, Some, None}
+use Rattle.std.specs.Prelude.{is_some, option_map, slice_index, unwrap_or}
 use Rattle.std.proofs.Common.{zero, suc}
 use Rattle.adf_base.specs.Words.{block, sealed, with_block, with_bytes, with_word}
 use Rattle.adf_names.specs.declared.meta.Meta.{Meta}
@@ -12,8 +12,9 @@ use Rattle.adf_blocks.specs.Sizes.{blocks, in_range}
 use Rattle.adf_volume.specs.Image.{root_of, word_in}
 use Rattle.adf_volume.specs.Walk.{heads, node_block, Walk}
 use Rattle.adf_findings.specs.Members.{owns, parent_node, has_mark}
+use Rattle.adf_findings.specs.Survey.{FindingValue}
 use Rattle.adf_rescue.specs.declared.hung.Loose.{Loose}
-use Rattle.adf_rescue.specs.Lost.{AreLost, directory_at, is_lost, says_directory}
+use Rattle.adf_rescue.specs.Lost.{AreLost, directory_at, has_lost, is_lost, is_open, is_vacant, says_directory}
 use Rattle.adf_rescue.specs.Rescue.{lost_name}
 
 -- the directories that things are hung in
@@ -23,27 +24,24 @@ unfoldable pub has_lost_child : List ℕ → Walk → (ℕ → Bool) → ℕ →
 has_lost_child given w s p zero = false
 has_lost_child given w s p (suc k) = has_lost_child given w s p k || is_lost given w s k && (word_in given k PARENT == p)
 
--- a directory may be made in block p: it is in range, not the root, no part of the survey, and not lost itself
-unfoldable pub is_vacant : List ℕ → Walk → (ℕ → Bool) → ℕ → Bool
-is_vacant given w s p = in_range given p && not (p == root_of given) && not (owns w p) && not (is_lost given w s p)
-
 -- a directory is made in block p: a lost header names it
 abbrev pub is_made : List ℕ → Walk → (ℕ → Bool) → ℕ → Bool
 is_made given w s p = is_vacant given w s p && has_lost_child given w s p (blocks given)
 
 -- block p is a directory that things can be hung in: of the survey, lost, or made
 abbrev pub is_container : List ℕ → Walk → (ℕ → Bool) → ℕ → Bool
-is_container given w s p = is_some (directory_at given w p) || is_lost given w s p && says_directory given p || is_made given w s p
+is_container given w s p =
+    in_range given p && (is_some (directory_at given w p) || is_lost given w s p && says_directory given p || is_made given w s p)
 
--- the home of a block that is hung: of a lost header the directory that it names, if there is one; otherwise the root
-unfoldable pub home : List ℕ → Walk → (ℕ → Bool) → ℕ → ℕ
+-- block b is loose: it is lost, or made
+abbrev pub is_loose : List ℕ → Walk → (ℕ → Bool) → ℕ → Bool
+is_loose given w s b = is_lost given w s b || is_made given w s b
+
+-- the home of block b, in which it is hung: of one that is made the root, of a lost header the directory that it names, if there is one
+unfoldable pub home : List ℕ → Walk → (ℕ → Bool) → ℕ → Option ℕ
 home given w s b =
     let p = word_in given b PARENT in
-    cond (is_lost given w s b && in_range given p && is_container given w s p) p (root_of given)
-
--- block b is to be hung: it is lost, or made
-abbrev pub is_hung : List ℕ → Walk → (ℕ → Bool) → ℕ → Bool
-is_hung given w s b = is_lost given w s b || is_made given w s b
+    cond (is_made given w s b) (Some (root_of given)) (cond (is_lost given w s b && is_container given w s p) (Some p) None)
 
 -- the changes of an image
 
@@ -110,9 +108,9 @@ unfoldable pub readied : List ℕ → Walk → (ℕ → Bool) → ℕ → List �
 readied given w s zero = given
 readied given w s (suc k) = ready_in given w s (readied given w s k) k
 
--- the image with block b hung in its home, if it is to be
+-- the image with block b hung in its home, if it has one
 unfoldable pub hung_loose : List ℕ → Walk → (ℕ → Bool) → List ℕ → ℕ → List ℕ
-hung_loose given w s image b = cond (is_hung given w s b) (hung_in given w image b (home given w s b)) image
+hung_loose given w s image b = unwrap_or (option_map (hung_in given w image b) (home given w s b)) image
 
 -- the image with all blocks made ready, and those of the first k blocks hung that are to be
 unfoldable pub hung_first : List ℕ → Walk → (ℕ → Bool) → ℕ → List ℕ
@@ -122,6 +120,10 @@ hung_first given w s (suc k) = hung_loose given w s (hung_first given w s k) k
 -- the hung image
 abbrev pub hung : List ℕ → Walk → (ℕ → Bool) → List ℕ
 hung given w s = hung_first given w s (blocks given)
+
+-- the image of the second survey: the hung image, if something is lost
+abbrev pub second_image : Bool → List ℕ → Walk → List FindingValue → Option (List ℕ)
+second_image made given w fs = cond (has_lost made given w fs) (Some (hung given w (is_open made given w fs))) None
 
 -- the marks of the blocks: whether a directory may be made in each, and one of the first k blocks is a lost header that names it
 pub record AreMade (given : List ℕ) (w : Walk) (s : ℕ → Bool) (k : ℕ) (marks : List Bool) : Type 0 where
@@ -133,7 +135,7 @@ pub record AreEnds (given : List ℕ) (w : Walk) (k : ℕ) (ends : List ℕ) : T
   pub length : length ends ≡ suc (heads w)
   pub end : (n : ℕ) → n ≤ heads w → slice_index ends n ≡ last_open given w n k
 
--- the marks of the blocks that are hung, and the ends of all directories
+-- the marks of the blocks that are loose, and the ends of all directories
 pub record AreLoose (given : List ℕ) (w : Walk) (s : ℕ → Bool) (x : Loose) : Type 0 where
   pub lost : AreLost given w s x.lost.items
   pub made : (b : ℕ) → has_mark x.made.items b ≡ is_made given w s b

@@ -1,7 +1,7 @@
-// The hung image: each lost header hangs in the directory that it names, or in the root.
+// The hung image: each lost header hangs in the directory that it names, if that is found, lost itself or made.
 
-ghost use Rattle.std.specs.Prelude.{◌≡◌, ◌≢◌, ◌<◌, ◌≤◌, ◌||◌, ◌&&◌, ◌==◌, ◌↔◌, ℕ, Bool, List, Some, None, true, false, cond};
-ghost use Rattle.std.specs.Prelude.{length, is_some, slice_index, IfOk, IfSome, IsNone, OnErr, OnOk};
+ghost use Rattle.std.specs.Prelude.{◌≡◌, ◌≢◌, ◌<◌, ◌≤◌, ◌||◌, ◌&&◌, ◌==◌, ℕ, Bool, List, Some, None, true, false, cond};
+ghost use Rattle.std.specs.Prelude.{length, is_some, option_map, slice_index, IfOk, IfSome, OnErr, OnOk};
 ghost use Rattle.adf_base.specs.Words.{block, with_block};
 ghost use Rattle.adf_blocks.specs.HeadBlock.{head_block};
 ghost use Rattle.adf_blocks.specs.declared.layout.TheConstants.{CHECKSUM, PARENT};
@@ -11,14 +11,16 @@ ghost use Rattle.adf_volume.specs.Start.{is_image_len};
 ghost use Rattle.adf_volume.specs.Walk.{heads, node_block, Walk};
 ghost use Rattle.adf_findings.specs.Members.{owning_entry, owns, has_mark};
 ghost use Rattle.adf_findings.specs.Survey.{OnSurvey};
-ghost use Rattle.adf_rescue.specs.Lost.{AreLost, directory_at, has_findings, has_lost, is_settled, lost_among};
+ghost use Rattle.adf_rescue.specs.Lost.{AreLost, IsEvidence, directory_at, has_findings, is_vacant, lost_among};
 ghost use Rattle.adf_rescue.specs.Rescue.{lost_name};
 ghost use Rattle.adf_rescue.specs.Hung.{AreEnds, AreLoose, directory_end, emptied, home, hung, hung_at, hung_in, hung_loose};
-ghost use Rattle.adf_rescue.specs.Hung.{is_container, is_hung, is_made, is_vacant, made_header, open_end, ready_in, readied};
-ghost use Rattle.adf_rescue.specs.Hung.{slot_word};
+ghost use Rattle.adf_rescue.specs.Hung.{is_container, is_loose, is_made, made_header, open_end, ready_in, readied};
+ghost use Rattle.adf_rescue.specs.Hung.{second_image, slot_word};
 
 use crate::image::{block_count, root_of};
-use crate::lost::{directory_at, in_range, lost, mark, says_directory, word_in};
+use crate::lost::{
+    Evidence, directory_at, gather, in_range, is_vacant, lost, mark, says_directory, word_in,
+};
 use crate::opened::copied;
 use crate::rooms::lost_name;
 use adf_base::{NO_STAMP, NoMemory, seal, set_bytes, set_word};
@@ -93,8 +95,8 @@ fn make(alloc: Global, image: &mut [u8], root: u32, p: u32) -> Result<(), NoMemo
     Ok(())
 }
 
-// The blocks that are hung: whether each is a lost header, and whether a directory is made in it. And of each node of the
-// survey the block behind which things are hung.
+// The loose blocks: whether each is a lost header, and whether a directory is made in it. And of each node of the survey the
+// block behind which things are hung.
 #[derive(Drop)]
 struct Loose {
     lost: Vec<bool>,
@@ -124,43 +126,38 @@ fn has_findings(survey: &Survey<'_>) -> bool
     !survey.findings().is_empty()
 }
 
-// Whether a directory may be made in block `p`.
-#[tactic(auto, unfolding(crate::specs::Hung::is_vacant))]
-fn is_vacant(survey: &Survey<'_>, lost: &Vec<bool>, p: u32) -> bool
-    requires { is_image_len (length survey.now.image) ≡ true }
-    ensures { OnSurvey survey.now.image (λ w _. (s : ℕ → Bool) → AreLost survey.now.image w s lost.now.items
-        → result ≡ is_vacant survey.now.image w s p) }
-{
-    let image = survey.image();
-    in_range(image, p) && p != root_of(image) && !survey.has_part(p) && !has_mark(lost, p as usize)
-}
-
 // Marks the block that header `b` names as its directory, if a directory may be made there.
-fn mark_parent(survey: &Survey<'_>, lost: &Vec<bool>, made: &mut Vec<bool>, b: u32)
+fn mark_parent(survey: &Survey<'_>, evidence: &Evidence, made: &mut Vec<bool>, b: u32)
     requires sized { is_image_len (length survey.now.image) ≡ true }
     requires inside { b < blocks survey.now.image }
-    ensures marks { OnSurvey survey.now.image (λ w _. (s : ℕ → Bool) → AreLost survey.now.image w s lost.now.items
+    ensures marks { OnSurvey survey.now.image (λ w _. (s : ℕ → Bool) → IsEvidence survey.now.image w s evidence.now
         → (p : ℕ) → p < length made.old.items → has_mark made.new.items p
         ≡ (has_mark made.old.items p || is_vacant survey.now.image w s p && (word_in survey.now.image b PARENT == p))) }
     ensures length { length made.new.items ≡ length made.old.items }
 {
     let p = word_in(survey.image(), b, PARENT);
-    if is_vacant(survey, lost, p) {
+    if is_vacant(survey, evidence, p) {
         mark(made, p as usize, true);
     }
 }
 
 // Whether a directory is made in each block.
-fn made(alloc: Global, survey: &Survey<'_>, lost: &Vec<bool>) -> Result<Vec<bool>, NoMemory>
+fn made_marks(
+    alloc: Global,
+    survey: &Survey<'_>,
+    evidence: &Evidence,
+    lost: &Vec<bool>,
+) -> Result<Vec<bool>, NoMemory>
     requires { is_image_len (length survey.now.image) ≡ true }
-    ensures { OnSurvey survey.now.image (λ w _. (s : ℕ → Bool) → AreLost survey.now.image w s lost.now.items
+    ensures { OnSurvey survey.now.image (λ w _. (s : ℕ → Bool) → IsEvidence survey.now.image w s evidence.now
+        → AreLost survey.now.image w s lost.now.items
         → IfOk result (λ v. (p : ℕ) → has_mark v.items p ≡ is_made survey.now.image w s p)) }
 {
     let blocks = block_count(survey.image());
     let mut marks = vec![in alloc; false; blocks as usize]?;
     for b in 0..blocks {
         if has_mark(lost, b as usize) {
-            mark_parent(survey, lost, &mut marks, b);
+            mark_parent(survey, evidence, &mut marks, b);
         }
     }
     Ok(marks)
@@ -210,31 +207,34 @@ fn ends(alloc: Global, survey: &Survey<'_>) -> Result<Vec<u32>, NoMemory>
 
 // Whether block `p` is a directory that things can be hung in: of the survey, lost, or made.
 fn is_container(survey: &Survey<'_>, loose: &Loose, p: u32) -> bool
-    requires sized { is_image_len (length survey.now.image) ≡ true }
-    requires inside { p < blocks survey.now.image }
+    requires { is_image_len (length survey.now.image) ≡ true }
     ensures { OnSurvey survey.now.image (λ w _. (s : ℕ → Bool) → AreLoose survey.now.image w s loose.now
         → result ≡ is_container survey.now.image w s p) }
 {
-    directory_at(survey, p).is_some()
-        || has_mark(&loose.lost, p as usize) && says_directory(survey.image(), p)
-        || has_mark(&loose.made, p as usize)
+    in_range(survey.image(), p)
+        && (directory_at(survey, p).is_some()
+            || has_mark(&loose.lost, p as usize) && says_directory(survey.image(), p)
+            || has_mark(&loose.made, p as usize))
 }
 
-// The home of a block that is hung.
+// The home of block `b`, in which it is hung.
 #[tactic(auto, unfolding(crate::specs::Hung::home))]
-fn home(survey: &Survey<'_>, loose: &Loose, b: u32) -> u32
+fn home(survey: &Survey<'_>, loose: &Loose, b: u32) -> Option<u32>
     requires sized { is_image_len (length survey.now.image) ≡ true }
     requires inside { b < blocks survey.now.image }
     ensures home { OnSurvey survey.now.image (λ w _. (s : ℕ → Bool) → AreLoose survey.now.image w s loose.now
         → result ≡ home survey.now.image w s b) }
-    ensures inside { result < blocks survey.now.image }
+    ensures inside { IfSome result (λ p. p < blocks survey.now.image) }
 {
     let image = survey.image();
+    if has_mark(&loose.made, b as usize) {
+        return Some(root_of(image));
+    }
     let p = word_in(image, b, PARENT);
-    if has_mark(&loose.lost, b as usize) && in_range(image, p) && is_container(survey, loose, p) {
-        p
+    if has_mark(&loose.lost, b as usize) && is_container(survey, loose, p) {
+        Some(p)
     } else {
-        root_of(image)
+        None
     }
 }
 
@@ -282,14 +282,6 @@ fn ready_all(
     Ok(())
 }
 
-// Whether block `b` is hung.
-fn is_hung(loose: &Loose, b: u32) -> bool
-    ensures { (given : List ℕ) (w : Walk) (s : ℕ → Bool) → AreLoose given w s loose.now
-        → result ≡ is_hung given w s b }
-{
-    has_mark(&loose.lost, b as usize) || has_mark(&loose.made, b as usize)
-}
-
 // The block behind which things are hung in the directory in block `p`; 0 if there is none.
 #[tactic(auto, using(crate::proofs::HungImages::end_found))]
 fn directory_end(survey: &Survey<'_>, loose: &Loose, p: u32) -> u32
@@ -322,7 +314,7 @@ fn hang_in(survey: &Survey<'_>, loose: &Loose, image: &mut [u8], b: u32, p: u32)
     }
 }
 
-// Hangs block `b` in its home, if it is to be.
+// Hangs block `b` in its home, if it has one.
 #[tactic(auto, unfolding(crate::specs::Hung::hung_loose))]
 fn hang_loose(survey: &Survey<'_>, loose: &Loose, image: &mut [u8], b: u32)
     requires sized { is_image_len (length survey.now.image) ≡ true }
@@ -331,12 +323,12 @@ fn hang_loose(survey: &Survey<'_>, loose: &Loose, image: &mut [u8], b: u32)
     ensures { OnSurvey survey.now.image (λ w _. (s : ℕ → Bool) → AreLoose survey.now.image w s loose.now
         → image.new ≡ hung_loose survey.now.image w s image.old b) }
 {
-    if is_hung(loose, b) {
-        hang_in(survey, loose, image, b, home(survey, loose, b));
+    if let Some(p) = home(survey, loose, b) {
+        hang_in(survey, loose, image, b, p);
     }
 }
 
-// Hangs all blocks that are to be.
+// Hangs all blocks that have a home.
 #[tactic(auto, using(crate::proofs::HungImages::hung_begun, crate::proofs::HungImages::hung_more))]
 fn hang_all(survey: &Survey<'_>, loose: &Loose, image: &mut [u8])
     requires sized { is_image_len (length survey.now.image) ≡ true }
@@ -378,17 +370,20 @@ fn changed(alloc: Global, survey: &Survey<'_>, loose: &Loose) -> Result<Vec<u8>,
     Ok(image)
 }
 
-/// The hung image of a survey: each lost header hangs in the directory that it names, or in the root; `None` if nothing
-/// is lost, or there is no finding. A header is lost if its block is no part of the survey, and it says that it is one, of a
-/// directory (words 0, 1 and 127) or of a file (these, and its checksum), and it is not deleted, as far as the bitmap or else
-/// its directory shows. If a lost header names a block that is nothing else, a directory `lost-` and its number is made there.
-/// No word that leads to a part of the survey is changed. `mended` is whether the image was: then the root does not show
-/// what was deleted. `NoMemory` if an allocation fails, which can happen only if there is a finding.
-pub fn hung(alloc: Global, survey: &Survey<'_>, mended: bool) -> Result<Option<Vec<u8>>, NoMemory>
-    ensures none { OnSurvey survey.now.image (λ w fs.
-        IfOk result (λ r. IsNone r ↔ (has_lost mended survey.now.image w fs ≡ false))) }
-    ensures hung { OnSurvey survey.now.image (λ w fs.
-        IfOk result (λ r. IfSome r (λ v. v.items ≡ hung survey.now.image w (is_settled mended w fs)))) }
+/// The hung image of a survey: each lost header hangs in the directory that it names; `None` if nothing is lost, or there is
+/// no finding. A header says that it is one, of a directory, a file or a link, by its types, its own key and its sum. It is
+/// lost if no part of the survey is its block or a data block that its table names; if a bitmap that is trusted, since it is
+/// valid and tells of no header of the survey that it is free, does not tell that it or its first data block is; and if
+/// it may be missing in its directory. Of the survey's directories that is so of one that is open: a header was skipped in it,
+/// its sum is wrong, or it is the root and `made`, whether that was made, is true; and of any of them, if the bitmap tells
+/// that the header is in use, and of none of its data blocks that it is free. It is so of a lost directory; and of a block that
+/// is neither a part nor a header, if the trusted bitmap tells that it is in use, or if nothing is told and a directory
+/// is open: there a directory `lost-` and its number is made, in the root. A lost header with no such directory is not hung. No
+/// word that leads to a part of the survey is changed. `NoMemory` if an allocation fails, which can happen only if there is
+/// a finding.
+pub fn hung(alloc: Global, survey: &Survey<'_>, made: bool) -> Result<Option<Vec<u8>>, NoMemory>
+    ensures image { OnSurvey survey.now.image (λ w fs.
+        IfOk result (λ r. option_map (λ v. v.items) r ≡ second_image made survey.now.image w fs)) }
 
     // Memory is wanted only if there is a finding.
     ensures begun { OnSurvey survey.now.image (λ _ fs. OnErr result (has_findings fs ≡ true)) }
@@ -399,32 +394,33 @@ pub fn hung(alloc: Global, survey: &Survey<'_>, mended: bool) -> Result<Option<V
     if !has_findings(survey) {
         return Ok(None);
     }
-    let lost = lost(alloc, survey, mended)?;
+    let evidence = gather(alloc, survey, made)?;
+    let lost = lost(alloc, survey, &evidence)?;
     if !has_lost(survey, &lost) {
         return Ok(None);
     }
-    let made = made(alloc, survey, &lost)?;
+    let made = made_marks(alloc, survey, &evidence, &lost)?;
     let ends = ends(alloc, survey)?;
     Ok(Some(changed(alloc, survey, &Loose { lost, made, ends })?))
 }
 
 /// What stays of the image of a survey in its hung image, if it has the length of a volume: the length; each block that
-/// is not hung, nor a home of what is, nor the end there; each block of an entry that is no header; the boot block, with the
-/// kind; and of each block that is not hung, the words but the sum that lead to a part of the survey.
+/// is not loose, nor a home of what is hung, nor the end there; each block of an entry that is no header; the boot block, with
+/// the kind; and of each block that is not loose, the words but the sum that lead to a part of the survey.
 pub fn hung_keeps()
     ensures length { (given : List ℕ) (w : Walk) (s : ℕ → Bool)
         → is_image_len (length given) ≡ true → length (hung given w s) ≡ length given }
     ensures blocks { (given : List ℕ) (w : Walk) (s : ℕ → Bool)
-        → is_image_len (length given) ≡ true → (b : ℕ) → is_hung given w s b ≡ false
-        → ((d : ℕ) → is_hung given w s d ≡ true → home given w s d ≢ b)
-        → ((d : ℕ) → is_hung given w s d ≡ true → directory_end given w (home given w s d) ≢ b)
+        → is_image_len (length given) ≡ true → (b : ℕ) → is_loose given w s b ≡ false
+        → ((d : ℕ) → home given w s d ≢ Some b)
+        → ((d p : ℕ) → home given w s d ≡ Some p → directory_end given w p ≢ b)
         → block (hung given w s) b ≡ block given b }
     ensures entries { (given : List ℕ) (w : Walk) (s : ℕ → Bool)
         → is_image_len (length given) ≡ true → (b : ℕ) → is_some (owning_entry w b) ≡ true
         → directory_at given w b ≡ None → ((n : ℕ) → node_block w n ≢ b)
         → block (hung given w s) b ≡ block given b }
     ensures words { (given : List ℕ) (w : Walk) (s : ℕ → Bool)
-        → is_image_len (length given) ≡ true → (b i : ℕ) → is_hung given w s b ≡ false → i < 128 → i ≢ CHECKSUM
+        → is_image_len (length given) ≡ true → (b i : ℕ) → is_loose given w s b ≡ false → i < 128 → i ≢ CHECKSUM
         → owns w (word_in given b i) ≡ true → word_in (hung given w s) b i ≡ word_in given b i }
     ensures boot { (given : List ℕ) (w : Walk) (s : ℕ → Bool)
         → is_image_len (length given) ≡ true → block (hung given w s) 0 ≡ block given 0 }

@@ -88,7 +88,7 @@ pub fn whole_is_kept()
         → IsOfItsKind image w → AreMarks image w (grave fs) sound
         → rescue_leaves_by (letters_for types image) held (record { image = image; walk = w; sound = sound }) ≡ [] }
     ensures lost { (image : List ℕ) (t : Tree) (l : Layout) (w : Walk) (fs : List FindingValue)
-        → Fits image t l → IsSurvey image w fs → (mended : Bool) → has_lost mended image w fs ≡ false }
+        → Fits image t l → IsSurvey image w fs → (made : Bool) → has_lost made image w fs ≡ false }
 {}
 
 /// A whole file is there: each data block, by its size, is in the walk, at the block in the file's table, and in the image; and

@@ -1,28 +1,30 @@
 // Lost headers: what no directory of a survey leads to any more.
 
-ghost use Rattle.std.specs.Prelude.{◌≡◌, ◌<◌, ◌≤◌, ◌+◌, ◌==◌, ◌&&◌, ◌||◌, ◌↔◌, ℕ, Bool, not, cond, true, length, IfOk};
-ghost use Rattle.std.specs.List.{list_any};
-ghost use Rattle.adf_blocks.specs.declared.layout.TheConstants.{POINTERS};
+ghost use Rattle.std.specs.Prelude.{◌≡◌, ◌<◌, ◌≤◌, ◌+◌, ◌==◌, ◌&&◌, ◌||◌, ℕ, Bool, not, cond, true, length, IfOk};
+ghost use Rattle.adf_base.specs.Words.{block, long_sum};
+ghost use Rattle.adf_blocks.specs.declared.layout.TheConstants.{POINTERS, SECONDARY_TYPE, ST_DIR};
+ghost use Rattle.adf_blocks.specs.HeadBlock.{is_entry, is_link};
 ghost use Rattle.adf_blocks.specs.Sizes.{blocks, in_range};
-ghost use Rattle.adf_volume.specs.Image.{word_in};
+ghost use Rattle.adf_volume.specs.Image.{root_of, word_in};
 ghost use Rattle.adf_volume.specs.Start.{is_image_len};
-ghost use Rattle.adf_volume.specs.Walk.{heads};
-ghost use Rattle.adf_findings.specs.Members.{parent_node, has_mark};
-ghost use Rattle.adf_findings.specs.Parts.{part_role};
+ghost use Rattle.adf_volume.specs.Walk.{heads, node_block};
+ghost use Rattle.adf_findings.specs.Concerned.{concern_of_nth};
+ghost use Rattle.adf_findings.specs.Members.{has_mark};
 ghost use Rattle.adf_findings.specs.Survey.{OnSurvey};
-ghost use Rattle.adf_rescue.specs.Lost.{AreEntered, AreLost, AreSettled, AreUnblamed, bit_stated, directory_at, directory_by};
-ghost use Rattle.adf_rescue.specs.Lost.{has_free_data, is_denied, is_directory_header, is_freed, is_lost, is_root};
-ghost use Rattle.adf_rescue.specs.Lost.{is_root_doubtful, is_settled, is_stated_free, is_stated_used, is_unfound, says_directory};
-ghost use Rattle.adf_rescue.specs.Lost.{says_header, table_count};
+ghost use Rattle.adf_rescue.specs.Lost.{AreLost, AreOpen, AreSkipped, IsEvidence, bit_stated, directory_at, directory_by};
+ghost use Rattle.adf_rescue.specs.Lost.{has_found_data, has_free_data, has_free_first, has_valid_flag, header_block};
+ghost use Rattle.adf_rescue.specs.Lost.{is_directory_header, is_freed, is_gone, is_lost, is_missed, is_no_part, is_open};
+ghost use Rattle.adf_rescue.specs.Lost.{is_stated_free, is_stated_used, is_trusted, is_used, is_vacant, is_within};
+ghost use Rattle.adf_rescue.specs.Lost.{may_have_been, may_lose, says_directory, says_header, table_count};
 
 use crate::image::{block_count, block_in, root_of};
-use crate::opened::says_file;
+use crate::made_root::says_page;
 use adf_base::{BLOCK_LEN, NoMemory};
 use adf_blocks::{
-    FIRST_POINTER, OWN_KEY, PARENT, POINTERS, SECONDARY_TYPE, SIZE, ST_DIR, T_SHORT, TYPE,
-    data_count,
+    BITMAP_FLAG, FIRST_POINTER, OWN_KEY, PARENT, POINTERS, SECONDARY_TYPE, SIZE, ST_DIR, ST_FILE,
+    ST_LINK_DIR, ST_LINK_FILE, ST_SOFT_LINK, T_SHORT, TYPE, VALID, data_count,
 };
-use adf_findings::{Finding, Part, Survey, has_mark};
+use adf_findings::{Concern, Survey, has_mark};
 use adf_tree::Node;
 use adf_volume::kind_in;
 use std::alloc::Global;
@@ -43,46 +45,97 @@ pub fn word_in(image: &[u8], b: u32, i: usize) -> u32
     block_in(image, b as usize).word(i)
 }
 
+// Whether a secondary type is that of a directory, a file or a link.
+fn is_header_type(t: u32) -> bool
+    ensures { result ≡ (is_entry t || is_link t) }
+{
+    t == ST_DIR || t == ST_FILE || t == ST_SOFT_LINK || t == ST_LINK_DIR || t == ST_LINK_FILE
+}
+
+/// Whether block `b` says that it is a header, of a directory, a file or a link: by its types, its own key and its sum.
+pub fn says_header(image: &[u8], b: u32) -> bool
+    requires { b < blocks image.now }
+    ensures { result ≡ says_header image.now b }
+{
+    let block = block_in(image, b as usize);
+    block.word(TYPE) == T_SHORT
+        && is_header_type(block.word(SECONDARY_TYPE))
+        && block.word(OWN_KEY) == b
+        && block.long_sum() == 0
+}
+
 /// Whether block `b` says that it is a directory's header.
 pub fn says_directory(image: &[u8], b: u32) -> bool
     requires { b < blocks image.now }
     ensures { result ≡ says_directory image.now b }
 {
-    let block = block_in(image, b as usize);
-    block.word(TYPE) == T_SHORT && block.word(OWN_KEY) == b && block.word(SECONDARY_TYPE) == ST_DIR
-}
-
-// Whether block `b` says that it is a header.
-fn says_header(image: &[u8], b: u32) -> bool
-    requires { b < blocks image.now }
-    ensures { result ≡ says_header image.now b }
-{
-    says_directory(image, b) || says_file(image, b as usize)
+    says_header(image, b) && word_in(image, b, SECONDARY_TYPE) == ST_DIR
 }
 
 // What the bitmap tells of a block: whether it is free.
-#[tactic(auto, using(crate::proofs::LostHeaders::none_told))]
+#[tactic(auto, using(crate::proofs::LostHeaders::untold))]
 fn bit_stated(survey: &Survey<'_>, b: u32) -> Option<bool>
     ensures { OnSurvey survey.now.image (λ w _. result ≡ bit_stated survey.now.image w b) }
 {
-    if !in_range(survey.image(), b) {
+    let image = survey.image();
+    if !in_range(image, b) {
+        return None;
+    }
+    let page = survey.page_of(b)?;
+    if !says_page(image, page) {
         return None;
     }
     survey.is_free(b)
 }
 
-/// Whether a block is free, as the bitmap shows.
+/// Whether a block is free, as the bitmap tells.
 pub fn is_stated_free(survey: &Survey<'_>, b: u32) -> bool
     ensures { OnSurvey survey.now.image (λ w _. result ≡ is_stated_free survey.now.image w b) }
 {
     bit_stated(survey, b).unwrap_or(false)
 }
 
-// Whether the bitmap tells that a block is in use.
-fn is_stated_used(survey: &Survey<'_>, b: u32) -> bool
+/// Whether a block is in use, as the bitmap tells.
+pub fn is_stated_used(survey: &Survey<'_>, b: u32) -> bool
     ensures { OnSurvey survey.now.image (λ w _. result ≡ is_stated_used survey.now.image w b) }
 {
     !bit_stated(survey, b).unwrap_or(true)
+}
+
+// Whether the root says that the bitmap is valid.
+fn has_valid_flag(image: &[u8]) -> bool
+    requires { is_image_len (length image.now) ≡ true }
+    ensures { result ≡ has_valid_flag image.now }
+{
+    word_in(image, root_of(image), BITMAP_FLAG) == VALID
+}
+
+// Whether the bitmap tells that the header of an entry is free.
+fn has_free_header(survey: &Survey<'_>, n: Node) -> bool
+    ensures { OnSurvey survey.now.image (λ w _. 1 ≤ n → n ≤ heads w
+        → result ≡ is_stated_free survey.now.image w (node_block w n)) }
+{
+    match survey.block_of(n) {
+        Some(block) => is_stated_free(survey, block),
+        None => false,
+    }
+}
+
+// Whether the bitmap is trusted.
+#[tactic(auto, using(crate::proofs::LostHeaders::trusted_steps))]
+fn is_trusted(survey: &Survey<'_>) -> bool
+    requires { is_image_len (length survey.now.image) ≡ true }
+    ensures { OnSurvey survey.now.image (λ w _. result ≡ is_trusted survey.now.image w) }
+{
+    if !has_valid_flag(survey.image()) {
+        return false;
+    }
+    for before in 0..survey.len() {
+        if has_free_header(survey, Node(before + 1)) {
+            return false;
+        }
+    }
+    true
 }
 
 // How many data blocks the table of a header names.
@@ -91,21 +144,45 @@ fn table_count(image: &[u8], b: u32) -> usize
     ensures exact { result ≡ table_count image.now b }
     ensures few { result ≤ POINTERS }
 {
+    if word_in(image, b, SECONDARY_TYPE) != ST_FILE {
+        return 0;
+    }
     data_count(kind_in(image), word_in(image, b, SIZE) as usize).min(POINTERS)
 }
 
-// Whether one of the data blocks that the table of a file's header names is free.
+// Whether one of the data blocks that the table of a header names is free.
 #[tactic(auto, using(crate::proofs::LostHeaders::none_free_first, crate::proofs::LostHeaders::none_free_more))]
 fn has_free_data(survey: &Survey<'_>, b: u32) -> bool
     requires { b < blocks survey.now.image }
     ensures { OnSurvey survey.now.image (λ w _. result ≡ has_free_data survey.now.image w b) }
 {
     let image = survey.image();
-    if word_in(image, b, SECONDARY_TYPE) == ST_DIR {
-        return false;
-    }
     for k in 0..table_count(image, b) {
         if is_stated_free(survey, word_in(image, b, FIRST_POINTER - k)) {
+            return true;
+        }
+    }
+    false
+}
+
+// Whether the first data block that the table of a header names is free.
+fn has_free_first(survey: &Survey<'_>, b: u32) -> bool
+    requires { b < blocks survey.now.image }
+    ensures { OnSurvey survey.now.image (λ w _. result ≡ has_free_first survey.now.image w b) }
+{
+    let image = survey.image();
+    0 < table_count(image, b) && is_stated_free(survey, word_in(image, b, FIRST_POINTER))
+}
+
+// Whether one of the data blocks that the table of a header names is a part of the survey.
+#[tactic(auto, using(crate::proofs::LostHeaders::none_found_first, crate::proofs::LostHeaders::none_found_more))]
+fn has_found_data(survey: &Survey<'_>, b: u32) -> bool
+    requires { b < blocks survey.now.image }
+    ensures { OnSurvey survey.now.image (λ w _. result ≡ has_found_data survey.now.image w b) }
+{
+    let image = survey.image();
+    for k in 0..table_count(image, b) {
+        if survey.has_part(word_in(image, b, FIRST_POINTER - k)) {
             return true;
         }
     }
@@ -159,136 +236,227 @@ pub fn mark(marks: &mut Vec<bool>, n: usize, is: bool)
     }
 }
 
-// The marks of the root and the directories that have entries.
-#[tactic(auto, using(crate::proofs::LostHeaders::entered_first, crate::proofs::LostHeaders::unmarked))]
-fn entered(alloc: Global, survey: &Survey<'_>) -> Result<Vec<bool>, NoMemory>
-    ensures { OnSurvey survey.now.image (λ w _.
-        IfOk result (λ v. AreEntered w (heads w) v.items)) }
-{
-    let entries = survey.len();
-    let mut marks = vec![in alloc; false; entries.saturating_add(1)]?;
-    for before in 0..entries {
-        mark(&mut marks, survey.directory_of(Node(before + 1)).0, true);
-    }
-    Ok(marks)
-}
-
-// Removes the marks of a node and its directory.
-fn strike(survey: &Survey<'_>, marks: &mut Vec<bool>, n: u32)
-    ensures marks { OnSurvey survey.now.image (λ w _. (m : ℕ) → m < length marks.old.items
-        → has_mark marks.new.items m ≡ (has_mark marks.old.items m && not ((n == m) || (parent_node w n == m)))) }
+// Marks the directory in which finding `k` tells that a header was skipped.
+fn mark_skipped(survey: &Survey<'_>, marks: &mut Vec<bool>, k: usize)
+    ensures marks { OnSurvey survey.now.image (λ w fs. (m : ℕ) → m < length marks.old.items
+        → has_mark marks.new.items m ≡ (has_mark marks.old.items m || is_within m (concern_of_nth w fs k))) }
     ensures length { length marks.new.items ≡ length marks.old.items }
 {
-    let n = n as usize;
-    mark(marks, n, false);
-    mark(marks, survey.directory_of(Node(n)).0, false);
+    if let Some(Concern::Within(n)) = survey.concern_of(k) {
+        mark(marks, n as usize, true);
+    }
 }
 
-// The marks of the root and the directories that have entries, and that no finding is of.
-fn unblamed(alloc: Global, survey: &Survey<'_>) -> Result<Vec<bool>, NoMemory>
+// The marks of the directories in which a header was skipped.
+#[tactic(auto, using(crate::proofs::LostHeaders::skipped_first, crate::proofs::LostHeaders::unmarked))]
+fn skipped(alloc: Global, survey: &Survey<'_>) -> Result<Vec<bool>, NoMemory>
     ensures { OnSurvey survey.now.image (λ w fs.
-        IfOk result (λ v. AreUnblamed w fs (length fs) v.items)) }
+        IfOk result (λ v. AreSkipped w fs (length fs) v.items)) }
 {
-    let mut marks = entered(alloc, survey)?;
+    let mut marks = vec![in alloc; false; survey.len().saturating_add(1)]?;
     for k in 0..survey.findings().len() {
-        if let Some(concern) = survey.concern_of(k) {
-            strike(survey, &mut marks, concern.node());
+        mark_skipped(survey, &mut marks, k);
+    }
+    Ok(marks)
+}
+
+// Whether the sum of the header of a node is right; of 0 that of the root.
+fn is_sealed(survey: &Survey<'_>, n: Node) -> bool
+    requires { is_image_len (length survey.now.image) ≡ true }
+    ensures { OnSurvey survey.now.image (λ w _. n ≤ heads w
+        → result ≡ (long_sum (block survey.now.image (header_block survey.now.image w n)) == 0)) }
+{
+    let image = survey.image();
+    match survey.header(n) {
+        Some(head) => head.long_sum() == 0,
+        None => block_in(image, root_of(image) as usize).long_sum() == 0,
+    }
+}
+
+// Whether directory `n` of the survey is open.
+fn is_open(survey: &Survey<'_>, made: bool, skipped: &Vec<bool>, n: Node) -> bool
+    requires { is_image_len (length survey.now.image) ≡ true }
+    ensures { OnSurvey survey.now.image (λ w fs. AreSkipped w fs (length fs) skipped.now.items → n ≤ heads w
+        → result ≡ is_open made survey.now.image w fs n) }
+{
+    has_mark(skipped, n.0) || !is_sealed(survey, n) || n.0 == 0 && made
+}
+
+// The marks of the directories that are open.
+#[tactic(auto, using(crate::proofs::LostHeaders::open_marked))]
+fn open_marks(alloc: Global, survey: &Survey<'_>, made: bool) -> Result<Vec<bool>, NoMemory>
+    requires { is_image_len (length survey.now.image) ≡ true }
+    ensures { OnSurvey survey.now.image (λ w fs.
+        IfOk result (λ v. AreOpen w (is_open made survey.now.image w fs) v.items)) }
+{
+    let skipped = skipped(alloc, survey)?;
+    let mut marks = Vec::with_capacity(alloc, skipped.len())?;
+    for n in 0..skipped.len() {
+        marks.push(is_open(survey, made, &skipped, Node(n)))?;
+    }
+    Ok(marks)
+}
+
+// Whether an entry is a directory that is open.
+fn is_open_directory(survey: &Survey<'_>, opens: &Vec<bool>, n: Node) -> bool
+    ensures { OnSurvey survey.now.image (λ w _. 1 ≤ n → n ≤ heads w → result
+        ≡ ((word_in survey.now.image (node_block w n) SECONDARY_TYPE == ST_DIR) && has_mark opens.now.items n)) }
+{
+    match survey.header(n) {
+        Some(head) => head.word(SECONDARY_TYPE) == ST_DIR && has_mark(opens, n.0),
+        None => false,
+    }
+}
+
+// Whether a directory of the survey is open.
+#[tactic(auto, using(crate::proofs::LostHeaders::open_steps))]
+fn may_lose(survey: &Survey<'_>, opens: &Vec<bool>) -> bool
+    ensures { OnSurvey survey.now.image (λ w _. (s : ℕ → Bool) → AreOpen w s opens.now.items
+        → result ≡ may_lose survey.now.image w s) }
+{
+    if has_mark(opens, 0) {
+        return true;
+    }
+    for before in 0..survey.len() {
+        if is_open_directory(survey, opens, Node(before + 1)) {
+            return true;
         }
     }
-    Ok(marks)
+    false
 }
 
-// Whether the part of a finding is the root.
-fn is_root(part: Option<Part>) -> bool
-    ensures { result ≡ is_root (part_role part) }
-{
-    matches!(part, Some(Part::Root))
+/// What a survey and its bitmap tell of what is lost: which directories are open, whether one is, and whether the bitmap is
+/// trusted.
+#[derive(Drop)]
+pub struct Evidence {
+    opens: Vec<bool>,
+    may_lose: bool,
+    is_trusted: bool,
 }
 
-// Whether a finding is of the root.
-fn blames_root(findings: &[Finding]) -> bool
-    ensures { result ≡ list_any (λ x. is_root (part_role x.part)) findings.now }
-{
-    findings.iter().any(|finding| is_root(finding.part))
-}
-
-// Whether the root is in doubt.
-#[tactic(auto, using(crate::proofs::LostHeaders::blamed_root))]
-fn is_root_doubtful(survey: &Survey<'_>, mended: bool) -> bool
-    ensures { OnSurvey survey.now.image (λ _ fs. result ≡ is_root_doubtful mended fs) }
-{
-    mended || blames_root(survey.findings())
-}
-
-/// The marks of the root and the directories that are settled.
-#[tactic(auto, using(crate::proofs::LostHeaders::settled_kept, crate::proofs::LostHeaders::settled_less))]
-pub fn settled(alloc: Global, survey: &Survey<'_>, mended: bool) -> Result<Vec<bool>, NoMemory>
+/// What a survey and its bitmap tell of what is lost; `made` is whether the root was made.
+pub fn gather(alloc: Global, survey: &Survey<'_>, made: bool) -> Result<Evidence, NoMemory>
+    requires { is_image_len (length survey.now.image) ≡ true }
     ensures { OnSurvey survey.now.image (λ w fs.
-        IfOk result (λ v. AreSettled w (is_settled mended w fs) v.items)) }
+        IfOk result (λ x. IsEvidence survey.now.image w (is_open made survey.now.image w fs) x)) }
 {
-    let mut marks = unblamed(alloc, survey)?;
-    if is_root_doubtful(survey, mended) {
-        mark(&mut marks, 0, false);
-    }
-    Ok(marks)
+    let opens = open_marks(alloc, survey, made)?;
+    let may_lose = may_lose(survey, &opens);
+    let is_trusted = is_trusted(survey);
+    Ok(Evidence {
+        opens,
+        may_lose,
+        is_trusted,
+    })
 }
 
-// Whether the directory that a header names does not have it.
-#[tactic(auto, using(crate::proofs::LostHeaders::denied_by_directory, std::proofs::lemmas::Grind::common_steps))]
-fn is_denied(survey: &Survey<'_>, settled: &Vec<bool>, b: u32) -> bool
+// Whether block `b` is in range, and neither the root nor a part of the survey.
+fn is_no_part(survey: &Survey<'_>, b: u32) -> bool
+    requires { is_image_len (length survey.now.image) ≡ true }
+    ensures { OnSurvey survey.now.image (λ w _. result ≡ is_no_part survey.now.image w b) }
+{
+    let image = survey.image();
+    in_range(image, b) && b != root_of(image) && !survey.has_part(b)
+}
+
+// Whether a directory may have been in block `p`.
+fn may_have_been(survey: &Survey<'_>, evidence: &Evidence, p: u32) -> bool
+    ensures { OnSurvey survey.now.image (λ w _. (s : ℕ → Bool) → IsEvidence survey.now.image w s evidence.now
+        → result ≡ may_have_been survey.now.image w s p) }
+{
+    if !evidence.is_trusted {
+        return evidence.may_lose;
+    }
+    match bit_stated(survey, p) {
+        Some(is_free) => !is_free,
+        None => evidence.may_lose,
+    }
+}
+
+/// Whether a directory may be made in block `p`.
+#[tactic(auto, unfolding(crate::specs::Lost::is_vacant))]
+pub fn is_vacant(survey: &Survey<'_>, evidence: &Evidence, p: u32) -> bool
+    requires { is_image_len (length survey.now.image) ≡ true }
+    ensures { OnSurvey survey.now.image (λ w _. (s : ℕ → Bool) → IsEvidence survey.now.image w s evidence.now
+        → result ≡ is_vacant survey.now.image w s p) }
+{
+    is_no_part(survey, p) && !says_header(survey.image(), p) && may_have_been(survey, evidence, p)
+}
+
+// Whether header `b` is in use.
+fn is_used(survey: &Survey<'_>, b: u32) -> bool
+    requires { b < blocks survey.now.image }
+    ensures { OnSurvey survey.now.image (λ w _. result ≡ is_used survey.now.image w b) }
+{
+    is_stated_used(survey, b) && !has_free_data(survey, b)
+}
+
+// Whether header `b` was deleted.
+fn is_freed(survey: &Survey<'_>, evidence: &Evidence, b: u32) -> bool
+    requires { b < blocks survey.now.image }
+    ensures { OnSurvey survey.now.image (λ w _. (s : ℕ → Bool) → IsEvidence survey.now.image w s evidence.now
+        → result ≡ is_freed survey.now.image w b) }
+{
+    evidence.is_trusted && (is_stated_free(survey, b) || has_free_first(survey, b))
+}
+
+// Whether header `b` is gone.
+fn is_gone(survey: &Survey<'_>, evidence: &Evidence, b: u32) -> bool
+    requires { b < blocks survey.now.image }
+    ensures { OnSurvey survey.now.image (λ w _. (s : ℕ → Bool) → IsEvidence survey.now.image w s evidence.now
+        → result ≡ is_gone survey.now.image w b) }
+{
+    survey.has_part(b) || has_found_data(survey, b) || is_freed(survey, evidence, b)
+}
+
+// Whether header `b` may be missing in the directory that it names.
+#[tactic(auto, using(crate::proofs::LostHeaders::missed_by_directory, std::proofs::lemmas::Grind::common_steps))]
+fn is_missed(survey: &Survey<'_>, evidence: &Evidence, b: u32) -> bool
     requires sized { is_image_len (length survey.now.image) ≡ true }
     requires inside { b < blocks survey.now.image }
-    ensures { OnSurvey survey.now.image (λ w _. (s : ℕ → Bool) → AreSettled w s settled.now.items
-        → result ≡ is_denied survey.now.image w s b) }
+    ensures { OnSurvey survey.now.image (λ w _. (s : ℕ → Bool) → IsEvidence survey.now.image w s evidence.now
+        → result ≡ is_missed survey.now.image w s b) }
 {
-    let p = word_in(survey.image(), b, PARENT);
+    let image = survey.image();
+    let p = word_in(image, b, PARENT);
     match directory_at(survey, p) {
-        Some(n) => has_mark(settled, n.0),
-        None => survey.has_part(p),
+        Some(n) => has_mark(&evidence.opens, n.0) || is_used(survey, b),
+        None => {
+            is_vacant(survey, evidence, p) || is_no_part(survey, p) && says_directory(image, p)
+        }
     }
-}
-
-// Whether block `b` says that it is a header, and is no part of the survey.
-fn is_unfound(survey: &Survey<'_>, b: u32) -> bool
-    requires { b < blocks survey.now.image }
-    ensures { OnSurvey survey.now.image (λ w _. result ≡ is_unfound survey.now.image w b) }
-{
-    says_header(survey.image(), b) && !survey.has_part(b)
-}
-
-// Whether the bitmap tells that header `b` is deleted.
-fn is_freed(survey: &Survey<'_>, b: u32) -> bool
-    requires { b < blocks survey.now.image }
-    ensures { OnSurvey survey.now.image (λ w _. result ≡ is_freed survey.now.image w b) }
-{
-    is_stated_free(survey, b) || has_free_data(survey, b)
 }
 
 // Whether block `b` is a lost header.
 #[tactic(auto, unfolding(crate::specs::Lost::is_lost))]
-fn is_lost(survey: &Survey<'_>, settled: &Vec<bool>, b: u32) -> bool
+fn is_lost(survey: &Survey<'_>, evidence: &Evidence, b: u32) -> bool
     requires { is_image_len (length survey.now.image) ≡ true }
-    ensures { OnSurvey survey.now.image (λ w _. (s : ℕ → Bool) → AreSettled w s settled.now.items
+    ensures { OnSurvey survey.now.image (λ w _. (s : ℕ → Bool) → IsEvidence survey.now.image w s evidence.now
         → result ≡ is_lost survey.now.image w s b) }
 {
-    in_range(survey.image(), b)
-        && is_unfound(survey, b)
-        && !is_freed(survey, b)
-        && (is_stated_used(survey, b) || !is_denied(survey, settled, b))
+    let image = survey.image();
+    in_range(image, b)
+        && b != root_of(image)
+        && says_header(image, b)
+        && !is_gone(survey, evidence, b)
+        && is_missed(survey, evidence, b)
 }
 
-/// Whether each block is a lost header. Of an image that was mended, the root is not settled.
+/// Whether each block is a lost header.
 #[tactic(auto, using(crate::proofs::LostHeaders::lost_more, crate::proofs::LostHeaders::lost_marked))]
-pub fn lost(alloc: Global, survey: &Survey<'_>, mended: bool) -> Result<Vec<bool>, NoMemory>
+pub fn lost(
+    alloc: Global,
+    survey: &Survey<'_>,
+    evidence: &Evidence,
+) -> Result<Vec<bool>, NoMemory>
     requires { is_image_len (length survey.now.image) ≡ true }
-    ensures { OnSurvey survey.now.image (λ w fs.
-        IfOk result (λ v. AreLost survey.now.image w (is_settled mended w fs) v.items)) }
+    ensures { OnSurvey survey.now.image (λ w _. (s : ℕ → Bool) → IsEvidence survey.now.image w s evidence.now
+        → IfOk result (λ v. AreLost survey.now.image w s v.items)) }
 {
-    let settled = settled(alloc, survey, mended)?;
     let blocks = block_count(survey.image());
     let mut marks = Vec::with_capacity(alloc, blocks as usize)?;
     for b in 0..blocks {
-        marks.push(is_lost(survey, &settled, b))?;
+        marks.push(is_lost(survey, evidence, b))?;
     }
     Ok(marks)
 }

@@ -31,8 +31,8 @@ fn is_page_block(block: &Block<'_>) -> bool
     block.long_sum() == 0 && !(first == 0 || first == T_SHORT || first == T_DATA || first == T_LIST)
 }
 
-// Whether a block of an image, behind the boot blocks, says so.
-fn says_page(image: &[u8], b: u32) -> bool
+/// Whether a block of an image, behind the boot blocks, says so.
+pub fn says_page(image: &[u8], b: u32) -> bool
     ensures { result ≡ says_page image.now b }
 {
     let b = b as usize;

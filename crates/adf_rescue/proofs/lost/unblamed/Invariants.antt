@@ -1,6 +1,0 @@
-use Rattle.adf_findings.specs.Survey.{OnSurvey}
-use Rattle.adf_rescue.specs.Lost.{AreUnblamed}
-use Rattle.adf_rescue.proofs.lost.unblamed.Given as goal
-
-abbrev pub invariant-loop-k : goal.invariant-loop-k
-invariant-loop-k l = OnSurvey l.survey.image (λ w fs. AreUnblamed w fs l.k l.marks.items)
