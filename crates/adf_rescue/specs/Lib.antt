@@ -5,6 +5,7 @@ pub mod MadeRoot
 pub mod Opened
 pub mod Rescue
 pub mod Losses
+pub mod Doubts
 pub mod Rescued
 -- The states of what adds entry after entry.
 pub mod Salvage

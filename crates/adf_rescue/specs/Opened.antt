@@ -1,6 +1,6 @@
 -- An image whose boot block or root was overwritten, as if these were those of a volume.
 -- Letters: b the number of a block; k a number of blocks.
-use Rattle.std.specs.Prelude.{ℕ, ◌≡◌, ◌==◌, ◌&&◌, ◌||◌, not, nat_lt, Bool, false, true, cond, Option, None, Some, List, ◌∷◌, ◌++◌, codes, drop, length}
+use Rattle.std.specs.Prelude.{ℕ, ◌≡◌, ◌==◌, ◌&&◌, ◌||◌, not, nat_le, nat_lt, Bool, false, true, cond, Option, None, Some, List, ◌∷◌, ◌++◌, codes, drop, length, slice_index}
 use Rattle.std.proofs.Common.{zero, suc}
 use Rattle.adf_base.specs.Words.{block, long_sum}
 use Rattle.adf_blocks.specs.declared.layout.TheConstants.{DATA_HEAD, OWN_KEY, SECONDARY_TYPE, ST_FILE, TYPE, T_DATA, T_SHORT}
@@ -35,17 +35,25 @@ has_data image (suc k) = has_data image k || says_data image k
 abbrev pub type_byte : List ℕ → ℕ
 type_byte image = cond (has_data image (blocks image)) 0 1
 
--- the image with `DOS` and a type in place of its first four bytes, if it does not begin with `DOS`
+-- the image states the type of a volume: it begins with `DOS` and a byte of at most 5
+abbrev pub states_type : List ℕ → Bool
+states_type image = begins_with_dos image && nat_le (slice_index image 3) 5
+
+-- the image with `DOS` and a type in place of its first four bytes, if it states no type
 abbrev pub with_boot_type : List ℕ → List ℕ
-with_boot_type image = cond (begins_with_dos image) image (codes "DOS" ++ type_byte image ∷ drop 4 image)
+with_boot_type image = cond (states_type image) image (codes "DOS" ++ type_byte image ∷ drop 4 image)
 
--- the image has the length of a volume and a whole root, but does not begin with `DOS`
+-- the image has the length of a volume and a whole root, but states no type
 abbrev pub lacks_boot : List ℕ → Bool
-lacks_boot image = is_image_len (length image) && (not (begins_with_dos image) && has_root image)
+lacks_boot image = is_image_len (length image) && (not (states_type image) && has_root image)
 
--- the image has the length of a volume, but does not begin with `DOS` or has no whole root
+-- the image has the length of a volume, but no whole root: one is made
+abbrev pub lacks_root : List ℕ → Bool
+lacks_root image = is_image_len (length image) && not (has_root image)
+
+-- the image has the length of a volume, but states no type or has no whole root
 abbrev pub is_mended : List ℕ → Bool
-is_mended image = is_image_len (length image) && not (begins_with_dos image && has_root image)
+is_mended image = is_image_len (length image) && not (states_type image && has_root image)
 
 -- the image as a rescue reads it: where it must be mended, with a beginning and a root
 abbrev pub opened : List ℕ → List ℕ

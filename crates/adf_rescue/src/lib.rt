@@ -1,6 +1,7 @@
 //! Rescues: the volume of all that stands on an image, and what is left out.
 #![tactic(auto)]
 
+mod doubts;
 mod hung;
 mod image;
 mod laws;
@@ -14,13 +15,15 @@ mod rooms;
 mod salvage;
 mod standing;
 
+pub use crate::doubts::{Doubt, Doubtful};
 pub use crate::hung::{hung as hung_image, hung_keeps};
 pub use crate::laws::{
     kept_files_are_whole, kept_files_lie_apart, one_rescue, rescued_additions_have_their_tree,
     rescues_are_laid, sound_files_stand, whole_files, whole_is_kept,
 };
 pub use crate::left_out::{LeftOut, Why};
+pub use crate::made_root::is_like_root;
 pub use crate::opened::{
-    begin as begin_image, is_mended, lacks_boot, open as open_image, opened_keeps,
+    begin as begin_image, is_mended, lacks_boot, lacks_root, open as open_image, opened_keeps, states_type,
 };
 pub use crate::rescues::{Rescued, Terms, lay, rescue};

@@ -3,16 +3,23 @@
 ghost use Rattle.std.specs.Prelude.{◌≡◌, ◌<◌, length, true};
 ghost use Rattle.adf_blocks.specs.declared.layout.TheConstants.{ROOT_PAGES};
 ghost use Rattle.adf_volume.specs.Start.{is_image_len};
-ghost use Rattle.adf_rescue.specs.MadeRoot.{has_root, is_page_block, label_in, page_found, root_pages, rooted, says_page};
-ghost use Rattle.adf_rescue.specs.MadeRoot.{slots_in, stamps_in};
+ghost use Rattle.adf_rescue.specs.MadeRoot.{flag_in, has_root, is_like_root, is_other_type, is_page_block, label_in};
+ghost use Rattle.adf_rescue.specs.MadeRoot.{map_ext_in, page_found, root_pages, rooted, says_page, slots_in, stamps_in};
 
 use crate::image::{block_in, root_of};
-use adf_base::{BLOCK_LEN, Block};
+use adf_base::{BLOCK_LEN, Block, seal, set_word};
 use adf_blocks::{
-    FIRST_PAGE, FIRST_SLOT, ROOT_PAGES, RootOut, SLOTS, T_DATA, T_LIST, T_SHORT, TYPE,
-    has_root_type, label_stated, stamps_stated, write_root,
+    BITMAP_FLAG, FIRST_MAP_EXT, FIRST_PAGE, FIRST_SLOT, ROOT_PAGES, RootOut, SECONDARY_TYPE, SLOTS,
+    ST_ROOT, T_DATA, T_DIR_CACHE, T_LIST, T_SHORT, TYPE, VALID, has_root_type, label_stated,
+    stamps_stated, write_root,
 };
 use adf_tree::{Label, NO_STAMPS, Stamps};
+
+// The word of the checksum of the root.
+const CHECKSUM: usize = 5;
+
+// The word of the root that holds the size of its table.
+const HASH_SIZE: usize = 3;
 
 /// Whether the middle block is a whole root: by its types and its sum.
 pub fn has_root(image: &[u8]) -> bool
@@ -23,12 +30,18 @@ pub fn has_root(image: &[u8]) -> bool
     has_root_type(&root) && root.long_sum() == 0
 }
 
+// Whether a primary type is that of a block that is no bitmap page.
+fn is_other_type(kind: u32) -> bool
+    ensures { result ≡ is_other_type kind }
+{
+    matches!(kind, 0 | T_SHORT | T_DATA | T_LIST | T_DIR_CACHE)
+}
+
 // Whether a block says that it is a bitmap page.
 fn is_page_block(block: &Block<'_>) -> bool
     ensures { result ≡ is_page_block block.now }
 {
-    let first = block.word(TYPE);
-    block.long_sum() == 0 && !(first == 0 || first == T_SHORT || first == T_DATA || first == T_LIST)
+    block.long_sum() == 0 && !is_other_type(block.word(TYPE))
 }
 
 /// Whether a block of an image, behind the boot blocks, says so.
@@ -80,30 +93,61 @@ fn slots_in(root: &Block<'_>) -> [u32; SLOTS as usize]
     slots
 }
 
-// The label of a block that says that it is a root; otherwise none.
-fn label_in(root: &Block<'_>) -> Label
-    ensures { result ≡ label_in root.now }
+/// Whether a block is like a root: two of words 0, 3 and 127 are those of a root.
+pub fn is_like_root(block: &Block<'_>) -> bool
+    ensures { result ≡ is_like_root block.now }
 {
-    if has_root_type(root) {
-        label_stated(root)
+    let is_short = block.word(TYPE) == T_SHORT;
+    let is_root = block.word(SECONDARY_TYPE) == ST_ROOT;
+    (is_short && is_root) || ((is_short || is_root) && block.word(HASH_SIZE) == SLOTS)
+}
+
+// The label of a block that is like a root; otherwise none.
+fn label_in(block: &Block<'_>) -> Label
+    ensures { result ≡ label_in block.now }
+{
+    if is_like_root(block) {
+        label_stated(block)
     } else {
         Label::new(b"").unwrap()
     }
 }
 
-// The dates of a block that says that it is a root; otherwise none.
-fn stamps_in(root: &Block<'_>) -> Stamps
-    ensures { result ≡ stamps_in root.now }
+// The dates of a block that is like a root; otherwise none.
+fn stamps_in(block: &Block<'_>) -> Stamps
+    ensures { result ≡ stamps_in block.now }
 {
-    if has_root_type(root) {
-        stamps_stated(root)
+    if is_like_root(block) {
+        stamps_stated(block)
     } else {
         NO_STAMPS
     }
 }
 
+// The bitmap flag of a block that is like a root; otherwise that of a valid bitmap.
+fn flag_in(block: &Block<'_>) -> u32
+    ensures { result ≡ flag_in block.now }
+{
+    if is_like_root(block) {
+        block.word(BITMAP_FLAG)
+    } else {
+        VALID
+    }
+}
+
+// The first bitmap extension block of a block that is like a root; otherwise none.
+fn map_ext_in(block: &Block<'_>) -> u32
+    ensures { result ≡ map_ext_in block.now }
+{
+    if is_like_root(block) {
+        block.word(FIRST_MAP_EXT)
+    } else {
+        0
+    }
+}
+
 /// Writes the root that is made into the middle of an image that has no whole root there.
-#[tactic(auto, using(crate::proofs::MadeRoots::whole_rooted, crate::proofs::MadeRoots::made_anew))]
+#[tactic(auto, using(crate::proofs::MadeRoots::whole_rooted))]
 pub fn make_root(image: &mut [u8])
     requires { is_image_len (length image.old) ≡ true }
     ensures { image.new ≡ rooted image.old }
@@ -113,16 +157,15 @@ pub fn make_root(image: &mut [u8])
     }
     let at = root_of(image);
     let root = block_in(image, at as usize);
-    let slots = slots_in(&root);
-    let label = label_in(&root);
-    let stamps = stamps_in(&root);
-    let pages = root_pages(image);
+    let flag = flag_in(&root);
     let made = RootOut {
-        slots,
-        pages: &pages,
-        map_ext: 0,
-        label: &label,
-        stamps,
+        slots: slots_in(&root),
+        pages: &root_pages(image),
+        map_ext: map_ext_in(&root),
+        label: &label_in(&root),
+        stamps: stamps_in(&root),
     };
     write_root(image, at, &made);
+    set_word(image, at, BITMAP_FLAG, flag);
+    seal(image, at, CHECKSUM);
 }

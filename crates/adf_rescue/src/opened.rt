@@ -6,12 +6,10 @@ ghost use Rattle.adf_blocks.specs.Sizes.{blocks};
 ghost use Rattle.adf_volume.specs.Image.{root_of, word_in};
 ghost use Rattle.adf_volume.specs.Start.{is_image_len};
 ghost use Rattle.adf_findings.specs.Opening.{opening_in};
-ghost use Rattle.adf_findings.specs.Start.{has_root_type};
 ghost use Rattle.adf_names.specs.declared.meta.TheConstants.{NO_STAMPS};
-ghost use Rattle.adf_rescue.specs.MadeRoot.{has_root, middle_block};
-ghost use Rattle.adf_boot_blocks.specs.BootBlocks.{begins_with_dos};
-ghost use Rattle.adf_rescue.specs.Opened.{has_data, is_mended, lacks_boot, opened, says_data, says_file, type_byte};
-ghost use Rattle.adf_rescue.specs.Opened.{with_boot_type};
+ghost use Rattle.adf_rescue.specs.MadeRoot.{has_root, is_like_root, middle_block};
+ghost use Rattle.adf_rescue.specs.Opened.{has_data, is_mended, lacks_boot, lacks_root, opened, says_data, says_file};
+ghost use Rattle.adf_rescue.specs.Opened.{states_type, type_byte, with_boot_type};
 
 use crate::image::block_in;
 use crate::made_root::{has_root, make_root};
@@ -66,32 +64,47 @@ fn type_byte(image: &[u8]) -> u8
     if has_data(image) { 0 } else { 1 }
 }
 
-/// Whether an image has the length of a volume and a whole root, but does not begin with `DOS`.
+/// Whether an image states the type of a volume: it begins with `DOS` and a byte of at most 5.
+pub fn states_type(image: &[u8]) -> bool
+    ensures { result ≡ states_type image.now }
+{
+    begins_with_dos(image) && image.get(3).copied().unwrap_or(0) <= 5
+}
+
+/// Whether an image has the length of a volume and a whole root, but states no type: it does not begin with `DOS` and a byte of
+/// at most 5.
 pub fn lacks_boot(image: &[u8]) -> bool
     ensures { result ≡ lacks_boot image.now }
 {
-    is_image_len(image.len()) && !begins_with_dos(image) && has_root(image)
+    is_image_len(image.len()) && !states_type(image) && has_root(image)
 }
 
-/// Writes `DOS` and a type in place of the first four bytes of an image, if it does not begin with `DOS`: OFS (0) if some OFS
-/// data block names a file's header that says that it is one, else FFS (1).
+/// Whether an image has the length of a volume, but no whole root.
+pub fn lacks_root(image: &[u8]) -> bool
+    ensures { result ≡ lacks_root image.now }
+{
+    is_image_len(image.len()) && !has_root(image)
+}
+
+/// Writes `DOS` and a type in place of the first four bytes of an image, if it does not begin with `DOS` and a byte of at most 5:
+/// OFS (0) if some OFS data block names a file's header that says that it is one, else FFS (1).
 #[tactic(auto, using(crate::proofs::OpenedImages::begun_anew, crate::proofs::OpenedImages::begun_same, crate::proofs::OpenedImages::begun_other))]
 pub fn begin(image: &mut [u8])
     requires { 4 ≤ length image.old }
     ensures { image.new ≡ with_boot_type image.old }
 {
-    if begins_with_dos(image) {
+    if states_type(image) {
         return;
     }
     let kind = type_byte(image);
     put_bytes(image, 0, &[b'D', b'O', b'S', kind]);
 }
 
-/// Whether an image has the length of a volume, but does not begin with `DOS` or has no whole root.
+/// Whether an image has the length of a volume, but does not begin with `DOS` and a byte of at most 5, or has no whole root.
 pub fn is_mended(image: &[u8]) -> bool
     ensures { result ≡ is_mended image.now }
 {
-    is_image_len(image.len()) && !(begins_with_dos(image) && has_root(image))
+    is_image_len(image.len()) && !(states_type(image) && has_root(image))
 }
 
 /// A copy of an image.
@@ -111,11 +124,13 @@ fn mend(image: &mut [u8])
     make_root(image);
 }
 
-/// Makes an image the one that a rescue reads. Where it does not begin with `DOS`, it begins with `DOS` and a type: OFS (0) if
-/// some OFS data block names a file's header that says that it is one, else FFS (1). Where its middle block is not a whole
-/// root, by words 0 and 127 and the checksum, it has one: with words 6 to 77 as they stand, the bitmap pages that say
-/// that they are pages, and the label and the dates only if words 0 and 127 are those of a root. An image that begins
-/// with `DOS` and has a whole root stays as it is, and so does one of a length that no volume has.
+/// Makes an image the one that a rescue reads. Where it does not begin with `DOS` and a byte of at most 5, it begins with `DOS` and
+/// a type: OFS (0) if some OFS data block names a file's header that says that it is one, else FFS (1). Where its middle block is
+/// not a whole root, by words 0 and 127 and the checksum, it has one: with words 6 to 77 as they stand, and the bitmap pages that
+/// say that they are pages. If two of the words 0, 3 and 127 of the middle block are those of a root, the label, the dates, the
+/// bitmap flag (word 78) and the first bitmap extension block (word 104) are those that stand there; otherwise there is no label,
+/// no date and no extension block, and the flag is that of a valid bitmap. An image that begins with `DOS` and a byte of at most 5
+/// and has a whole root stays as it is, and so does one of a length that no volume has.
 #[tactic(auto, using(crate::proofs::OpenedImages::opened_kept))]
 pub fn open(image: &mut [u8])
     ensures { image.new ≡ opened image.old }
@@ -125,12 +140,14 @@ pub fn open(image: &mut [u8])
     }
 }
 
-/// An image that begins with `DOS` and has a whole root is opened as it is, and so is one of another length. An opened
-/// image has as many bytes; only the first four and the middle block are changed, and of that not the table, words 6
-/// to 77. If the length is that of a volume, it begins with `DOS` and has a whole root, which has no label and no dates
-/// if the middle block does not say that it is one.
+/// An image that begins with `DOS` and a byte of at most 5 and has a whole root is opened as it is, and so is one of another length.
+/// An opened image has as many bytes; only the first four and the middle block are changed, and of that not the table, words 6
+/// to 77. If the length is that of a volume, it begins with `DOS` and a byte of at most 5 and has a whole root. If the middle block
+/// has no whole root, the root that is made has the label, the dates, the bitmap flag and the first bitmap extension block that
+/// stand there, if it is like a root (two of words 0, 3 and 127); otherwise no label, no dates, the flag of a valid bitmap and no
+/// extension block.
 pub fn opened_keeps()
-    ensures same { (image : List ℕ) → begins_with_dos image ≡ true → has_root image ≡ true → opened image ≡ image }
+    ensures same { (image : List ℕ) → states_type image ≡ true → has_root image ≡ true → opened image ≡ image }
     ensures odd { (image : List ℕ) → is_image_len (length image) ≡ false → opened image ≡ image }
     ensures length { (image : List ℕ) → length (opened image) ≡ length image }
     ensures before { (image : List ℕ)
@@ -141,11 +158,10 @@ pub fn opened_keeps()
         → word_in image (root_of image) (FIRST_SLOT + s) < 2 ^ 32
         → word_in (opened image) (root_of image) (FIRST_SLOT + s)
         ≡ word_in image (root_of image) (FIRST_SLOT + s) }
-    ensures begins { (image : List ℕ) → is_image_len (length image) ≡ true
-        → begins_with_dos (opened image) ≡ true }
+    ensures begins { (image : List ℕ) → is_image_len (length image) ≡ true → states_type (opened image) ≡ true }
     ensures root { (image : List ℕ) → is_image_len (length image) ≡ true → has_root (opened image) ≡ true }
     ensures label { (image : List ℕ) → is_image_len (length image) ≡ true
-        → has_root_type (middle_block image) ≡ false → (opening_in (opened image)).label ≡ [] }
+        → is_like_root (middle_block image) ≡ false → (opening_in (opened image)).label ≡ [] }
     ensures stamps { (image : List ℕ) → is_image_len (length image) ≡ true
-        → has_root_type (middle_block image) ≡ false → (opening_in (opened image)).stamps ≡ NO_STAMPS }
+        → is_like_root (middle_block image) ≡ false → (opening_in (opened image)).stamps ≡ NO_STAMPS }
 {}

@@ -15,6 +15,7 @@ ghost use Rattle.adf_rescue.specs.Rescue.{first_verdicts_by, second_verdicts_by}
 ghost use Rattle.adf_rescue.specs.Rescued.{IsRescued};
 ghost use Rattle.adf_rescue.specs.Salvage.{free_blocks as blocks_free, IsSalvage};
 
+use crate::doubts::{Doubtful, first_doubts, second_doubts};
 use crate::left_out::LeftOut;
 use crate::losses::{lost_blocks, lost_headers};
 use crate::salvage::Salvage;
@@ -29,8 +30,9 @@ use std::alloc::Global;
 
 /// A rescue: whether nothing stands; the draft of the new volume's tree, and the number of its blocks; the entries that are left
 /// out, in the order of the walk: those of the survey of the image, and those of the second survey that are not known from the
-/// first; and what the findings of the survey report and no entry has: for each header that was skipped its directory, and
-/// the blocks in use.
+/// first; the entries that are kept in doubt, in the same way; and what is lost by the survey of the image: the directories in
+/// which headers are lost, of which the root is the first if it was made, and then for each header that was skipped the one in
+/// which it was; and the blocks in use that no entry has.
 #[derive(Drop)]
 pub struct Rescued {
     pub stands_nothing: bool,
@@ -38,17 +40,20 @@ pub struct Rescued {
     pub blocks: u32,
     pub left_out: Vec<LeftOut>,
     pub second_left_out: Vec<LeftOut>,
+    pub doubts: Vec<Doubtful>,
+    pub second_doubts: Vec<Doubtful>,
     pub lost_headers: Vec<Node>,
     pub lost_blocks: Vec<u32>,
 }
 
-/// The terms of a rescue: the types that the new volume may have, the number of blocks that the input holds whole, and
-/// whether the image was mended.
+/// The terms of a rescue: the types that the new volume may have, the number of blocks that the input holds whole, whether
+/// the image was mended, and whether its root was made.
 #[derive(Clone, Copy)]
 pub struct Terms {
     pub types: Types,
     pub held: usize,
     pub mended: bool,
+    pub made: bool,
 }
 
 // What is kept of all entries of the survey of the image.
@@ -158,7 +163,9 @@ fn stands_nothing(survey: &Survey<'_>, salvage: &Salvage, terms: Terms) -> bool
 /// where `terms.types` are accepted; and what stands beside these by a second survey, if there is one, of the image with what
 /// was lost hung in it again: each entry whose header is not that of an entry of the first survey, but a file only if its data
 /// blocks are as they were given, of no entry that is kept, and not free by the bitmap. With it come the entries that are
-/// left out, and what the findings of the first survey report and no entry has. Nothing stands if there is a finding of the
+/// left out; those that are kept in doubt: of the first survey those whose header has a wrong checksum, or is free by the bitmap,
+/// and of the second one all; the directories in which headers are lost, as the findings of the first survey report, and the root
+/// if it was made (`terms.made`); and the blocks in use that no entry has. Nothing stands if there is a finding of the
 /// first survey that is a fault where these types are accepted, or the image was mended, and there is no addition. `None` if
 /// nothing of the image is surveyed. `NoMemory` if an allocation fails, which can happen only if something of the image is
 /// surveyed.
@@ -189,13 +196,17 @@ pub fn rescue(
         terms.held,
     )?;
     let salvage = salvaged_both(alloc, survey, second, begun)?;
+    let doubts = first_doubts(alloc, survey, &salvage.kept)?;
+    let second_doubts = second_doubts(alloc, survey, second, &salvage.added)?;
     Ok(Some(Rescued {
         stands_nothing: stands_nothing(survey, &salvage, terms),
         draft: salvage.draft,
         blocks,
         left_out: salvage.left_before,
         second_left_out: salvage.left_out,
-        lost_headers: lost_headers(alloc, survey, second)?,
+        doubts,
+        second_doubts,
+        lost_headers: lost_headers(alloc, survey, terms.made)?,
         lost_blocks: lost_blocks(alloc, survey, second)?,
     }))
 }
