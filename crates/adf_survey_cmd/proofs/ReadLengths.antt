@@ -14,7 +14,8 @@ use Rattle.adf_blocks.specs.declared.layout.TheConstants.{MOST_BLOCKS}
 use Rattle.adf_blocks.specs.Sizes.{blocks}
 use Rattle.adf_partitions.specs.Summed.{holds}
 use Rattle.adf_file_words.specs.SurveyLine.{AreFew}
-use Rattle.adf_survey_cmd.specs.Lengths.{are_asked, blocks_read, is_like_root, is_like_root_at, is_other_length, is_root_at, is_whole_root}
+use Rattle.adf_rescue.specs.MadeRoot.{is_like_root}
+use Rattle.adf_survey_cmd.specs.Lengths.{are_asked, blocks_read, is_like_root_at, is_other_length, is_root_at, is_whole_root}
 use Rattle.adf_survey_cmd.specs.Lengths.{other_length, stated_length, usual_length}
 use Rattle.adf_survey_cmd.specs.declared.lengths.TheConstants.{DD_BLOCKS, HD_BLOCKS}
 

@@ -1,21 +1,14 @@
 -- The number of blocks that is read of an input.
 -- Letters: asked the number that is asked for, if there is one; n a number of blocks; b the number of a block.
-use Rattle.std.specs.Prelude.{ℕ, ◌/◌, ◌==◌, ◌&&◌, ◌||◌, not, min, nat_le, Bool, true, cond, List, Option, None, Some, unwrap_or}
+use Rattle.std.specs.Prelude.{ℕ, ◌/◌, ◌==◌, ◌&&◌, not, min, nat_le, Bool, true, cond, List, Option, None, Some, unwrap_or}
 use Rattle.std.specs.Option.{option_or}
 use Rattle.adf_base.specs.Words.{block, long_sum, word}
-use Rattle.adf_blocks.specs.declared.layout.TheConstants.{HASH_SIZE, MOST_BLOCKS, SECONDARY_TYPE, SLOTS, ST_ROOT, TYPE, T_SHORT}
+use Rattle.adf_blocks.specs.declared.layout.TheConstants.{HASH_SIZE, MOST_BLOCKS, SLOTS}
 use Rattle.adf_blocks.specs.Sizes.{blocks}
 use Rattle.adf_findings.specs.Start.{has_root_type}
 use Rattle.adf_partitions.specs.Summed.{holds}
+use Rattle.adf_rescue.specs.MadeRoot.{is_like_root}
 use Rattle.adf_survey_cmd.specs.declared.lengths.TheConstants.{DD_BLOCKS, HD_BLOCKS}
-
--- the bytes of a block have two of the three words of a root
-abbrev pub is_like_root : List ℕ → Bool
-is_like_root b =
-    let first = word b TYPE == T_SHORT in
-    let table = word b HASH_SIZE == SLOTS in
-    let last = word b SECONDARY_TYPE == ST_ROOT in
-    (first && (table || last)) || (table && last)
 
 -- the input holds block b, and it is like a root
 abbrev pub is_like_root_at : List ℕ → ℕ → Bool

@@ -1,13 +1,14 @@
 // The number of blocks that is read of an input.
 
 ghost use Rattle.std.specs.Prelude.{◌≡◌, ◌/◌};
-ghost use Rattle.adf_survey_cmd.specs.Lengths.{are_asked, blocks_read, is_like_root, is_like_root_at, is_other_length, is_root_at};
+ghost use Rattle.adf_survey_cmd.specs.Lengths.{are_asked, blocks_read, is_like_root_at, is_other_length, is_root_at};
 ghost use Rattle.adf_survey_cmd.specs.Lengths.{is_whole_root, other_length, stated_length};
 
 use adf_base::{BLOCK_LEN, Block};
-use adf_blocks::{MOST_BLOCKS, SECONDARY_TYPE, SLOTS, ST_ROOT, T_SHORT, TYPE, has_root_type};
+use adf_blocks::{MOST_BLOCKS, SLOTS, has_root_type};
+use adf_rescue::is_like_root;
 
-/// The word of a root with the number of its slots.
+/// The word of the root that holds the size of its table.
 const HASH_SIZE: usize = 3;
 
 /// The blocks of a floppy of double density.
@@ -15,16 +16,6 @@ const DD_BLOCKS: u32 = 1_760;
 
 /// The blocks of a floppy of high density.
 const HD_BLOCKS: u32 = 3_520;
-
-// Whether a block has two of the three words of a root.
-fn is_like_root(block: &Block<'_>) -> bool
-    ensures { result ≡ is_like_root block.now }
-{
-    let first = block.word(TYPE) == T_SHORT;
-    let table = block.word(HASH_SIZE) == SLOTS;
-    let last = block.word(SECONDARY_TYPE) == ST_ROOT;
-    (first && (table || last)) || (table && last)
-}
 
 // Whether the input holds a block that is like a root.
 fn is_like_root_at(input: &[u8], b: u32) -> bool

@@ -19,8 +19,8 @@ mod work;
 
 pub use crate::laws::rescued_volumes;
 pub use crate::lengths::{blocks_read, stated_length};
-pub use crate::losses::{BlockRun, Loss};
-pub use crate::preparing::{Prepared, Scope, Unrescued, prepare};
+pub use crate::losses::{BlockRun, Loss, Reason};
+pub use crate::preparing::{Prepared, Unrescued, prepare};
 pub use crate::runner::{one_answer, run_files};
 pub use crate::runs::{Run, run_from};
 pub use crate::subject::Subject;

@@ -15,7 +15,6 @@ ghost use Rattle.adf_survey_cmd.specs.Work.{Answers, Meets, Shows};
 use crate::copying::{Asked, copy_found};
 use crate::hints::{hinted, is_hard_disk};
 use crate::listing::write_list;
-use crate::preparing::Scope;
 use crate::reporting::write_findings;
 use crate::rescuing::rescue_image;
 use crate::subject::Subject;
@@ -191,13 +190,7 @@ fn rescue_subject<W: Sink>(
         return Outcome::NoMemory;
     };
     match subject.be_typed(alloc) {
-        Ok(()) => {
-            let scope = Scope {
-                types,
-                held: subject.end as usize,
-            };
-            rescue_image(alloc, subject.image, &boot, scope, output)
-        }
+        Ok(()) => rescue_image(alloc, subject, types, &boot, output),
         Err(_) => Outcome::NoMemory,
     }
 }
