@@ -18,7 +18,7 @@ use Rattle.adf_survey_cmd.specs.Subject.{SubjectValue, meant, sized, subject}
 use Rattle.adf_survey_cmd.proofs.KeptBoots.{laid_long, typed_length}
 use Rattle.adf_survey_cmd.proofs.OneAnswer.{one_answer}
 use Rattle.adf_survey_cmd.proofs.SizedImages.{length_sized}
-use Rattle.adf_survey_cmd.proofs.Subjects.{meant_image}
+use Rattle.adf_survey_cmd.proofs.ReadLengths.{meant_image}
 use Rattle.adf_memory.specs.Rescuing.{ExplainsRescue, RescueOf}
 use Rattle.adf_memory.specs.declared.rescuing.RescueRefusal.TheVariants.{SmallRoom}
 

@@ -27,9 +27,8 @@ use Rattle.adf_memory.specs.FoundTables.{mark_number}
 use Rattle.adf_memory.specs.Rescuing.{asked_blocks}
 use Rattle.adf_memory.specs.Subjects.{HasSubject, IsRetyped, blocks_lost, front_lines, of_read, surveyed_subject, subject_in}
 use Rattle.adf_memory.specs.declared.subjects.SubjectTold.{SubjectTold}
-use Rattle.adf_survey_cmd.proofs.ReadLengths.{read_anew}
+use Rattle.adf_survey_cmd.proofs.ReadLengths.{meant_image, read_anew}
 use Rattle.adf_survey_cmd.proofs.SizedImages.{length_sized}
-use Rattle.adf_survey_cmd.proofs.Subjects.{meant_image}
 use Rattle.adf_memory.proofs.TableNames.{text_there}
 
 -- a mark that is 0 is not set

@@ -99,7 +99,7 @@ fn put_surveyed(
 }
 
 // Writes what is surveyed of an image to the front of such a room.
-#[tactic(auto, using(adf_survey_cmd::proofs::Subjects::meant_image))]
+#[tactic(auto, using(adf_survey_cmd::proofs::ReadLengths::meant_image))]
 fn put_meant(
     alloc: Global,
     image: &[u8],

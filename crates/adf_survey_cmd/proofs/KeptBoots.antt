@@ -2,8 +2,8 @@
 -- Letters: s, t what is surveyed; a the survey of an image, b the second one, if there is one, fs findings; r what a rescue gives;
 -- held the blocks that are held.
 use Rattle.std.proofs.Common.{◌≡◌, ◌≢◌, ◌∙◌, ◌++◌, ◌-◌, ◌/◌, ◌≤◌, ℕ, List, [], Option, true, inl, inr, ap, refl, subst, sym, length, replicate, take}
-use Rattle.std.proofs.Common.{append-nil, arith, slice_index}
-use Rattle.std.proofs.lemmas.Bool.{and_parts, cond_both, leb-true}
+use Rattle.std.proofs.Common.{append-nil, arith}
+use Rattle.std.proofs.lemmas.Bool.{and_parts, leb-true}
 use Rattle.std.proofs.lemmas.Grind.{common_steps}
 use Rattle.std.proofs.lemmas.List.{length-set}
 use Rattle.adf_base.specs.declared.hash.Letters.{Letters}
@@ -22,13 +22,14 @@ use Rattle.adf_build.specs.Laid.{IsLaid}
 use Rattle.adf_build.specs.Plan.{planned}
 use Rattle.adf_build.proofs.LaidFits.{laid_fits}
 use Rattle.adf_findings.specs.Survey.{FindingValue}
-use Rattle.adf_findings.specs.OwnKind.{is_mistyped, retyped}
+use Rattle.adf_rescue.specs.Opened.{with_boot_type}
 use Rattle.adf_rescue.specs.Rescue.{Basis, rescued_tree_by}
-use Rattle.adf_rescue.proofs.OpenedImages.{length_opened}
+use Rattle.adf_rescue.proofs.OpenedImages.{length_begun, length_opened}
 use Rattle.adf_survey_cmd.specs.Answers.{RescuesTyped}
 use Rattle.adf_survey_cmd.specs.Rescues.{GivesVolume, RescueValue, rescue_reply}
-use Rattle.adf_survey_cmd.specs.Subject.{IsTyped, SubjectValue, changed, sized, type_line}
+use Rattle.adf_survey_cmd.specs.Subject.{IsTyped, SubjectValue, sized}
 use Rattle.adf_survey_cmd.proofs.SizedImages.{length_sized}
+use Rattle.adf_survey_cmd.proofs.Subjects.{typed_either}
 
 -- a volume has four blocks or more
 long_enough : (image : List ℕ) (n : ℕ) → is_allowed (blocks image) ≡ true → blocks image ≡ n / 512 → BOOT_LEN ≤ n
@@ -62,8 +63,8 @@ two_blocks image long =
 pub typed_length : (s t : SubjectValue) → IsTyped s t → length t.image ≡ length s.image
 typed_length s t (w, fs, h, e) =
     ap (λ (u : SubjectValue). length u.image) e
-    ∙ cond_both (is_mistyped s.image w) (changed s (retyped s.image) type_line) s (λ (u : SubjectValue). length u.image ≡ length s.image)
-    (λ mistyped. length-set s.image 3 (slice_index s.image 3 - 1)) (λ typed. refl)
+    ∙ typed_either s w fs h (λ (u : SubjectValue). length u.image ≡ length s.image) refl
+    (λ type small long. length-set (with_boot_type s.image) 3 type ∙ length_begun s.image long)
 
 -- a volume that is laid for a rescue, with the boot blocks of what was surveyed
 put_boots : (s : SubjectValue) (volume : List ℕ) (tree : Tree) → IsLaid volume tree → BOOT_LEN ≤ length s.image

@@ -27,8 +27,8 @@ use Rattle.adf_cmd.proofs.LongInputs.{long_fault, too_large}
 use Rattle.adf_survey_cmd.specs.Answers.{CopiesFound, CopiesFromSurvey, ListsSurvey, QuestionAnswer, SurveyAnswer, Surveys, TellsFound, told_status, types_kept}
 use Rattle.adf_survey_cmd.specs.Hints.{disk_hint}
 use Rattle.adf_survey_cmd.specs.Lengths.{blocks_read, stated_length}
-use Rattle.adf_survey_cmd.specs.Subject.{IsTyped, OfTyped, SubjectValue, begun_subject, behind_loss, behind_text, held_end, missing_text, sized}
-use Rattle.adf_survey_cmd.specs.Subject.{subject, subject_read, subject_text}
+use Rattle.adf_survey_cmd.specs.Subject.{IsTyped, OfTyped, SubjectValue, begun_subject, behind_loss, behind_text, held_end, missing_text, other_type}
+use Rattle.adf_survey_cmd.specs.Subject.{sized, subject, subject_read, subject_text, typed_by, typed_subject}
 use Rattle.adf_file_words.specs.SurveyLine.{AreFew, InquiryValue, QuestionValue, cat, list, report, rescue}
 use Rattle.adf_survey_cmd.specs.Lines.{findings_text, runs_from}
 use Rattle.adf_survey_cmd.specs.Rescues.{RescueValue, Rescues, RescuesBoth, RescuesFound, second_image}
@@ -105,13 +105,23 @@ of_long image w fs holds long s h =
 long_begun : (s : SubjectValue) → 512 * MOST_BLOCKS < length s.image → begun_subject s ≡ s
 long_begun s long = cond-false (lacks_boot s.image) _ s (not_begun s.image long)
 
+-- nothing of it tells another type
+none_other : (image : List ℕ) → other_type image [] ≡ None
+none_other image = let none = none_mistyped image [] refl in cond-false (is_mistyped image []) _ None (sym none)
+
+long_same : (s : SubjectValue) (w : Walk) (fs : List FindingValue) → 512 * MOST_BLOCKS < length s.image → IsSurvey (opened s.image) w fs
+    → typed_subject s w ≡ s
+long_same s w fs long h =
+    let none : w ≡ [] = (one_survey (opened s.image) w [] fs bad_size h (long_survey (opened s.image) (long_opened s.image long))).0 in
+    ap (typed_subject s) none ∙ ap (typed_by s) (none_other (opened s.image))
+
 typed_so : (s t : SubjectValue) → 512 * MOST_BLOCKS < length s.image → IsTyped s t → t ≡ s
-typed_so s t long (w, fs, h, e) =
-    let none : w ≡ [] = (one_survey s.image w [] fs bad_size h (long_survey s.image long)).0 in
-    e ∙ cond-false (is_mistyped s.image w) _ s (sym (none_mistyped s.image w none))
+typed_so s t long (w, fs, h, e) = e ∙ long_same s w fs long h
 
 is_typed : (s : SubjectValue) → 512 * MOST_BLOCKS < length s.image → IsTyped s s
-is_typed s long = ([], bad_size, long_survey s.image long, sym (cond-false (is_mistyped s.image []) _ s (sym (none_mistyped s.image [] refl))))
+is_typed s long =
+    let survey = long_survey (opened s.image) (long_opened s.image long) in
+    ([], bad_size, survey, sym (long_same s [] bad_size long survey))
 
 same_typed : (s t : SubjectValue) → 512 * MOST_BLOCKS < length s.image → IsTyped (begun_subject s) t → t ≡ s
 same_typed s t long is = typed_so s t long (subst (λ (u : SubjectValue). IsTyped u t) (long_begun s long) is)

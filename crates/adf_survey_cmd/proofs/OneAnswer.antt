@@ -95,7 +95,7 @@ copied_once damaged path s a b (names, text, w, fs, h, x) (others, also, u, gs, 
 
 -- an input is surveyed as one thing
 one_typed : (s t u : SubjectValue) → IsTyped s t → IsTyped s u → t ≡ u
-one_typed s t u (w, fs, h, x) (v, gs, g, y) = x ∙ (ap (typed_subject s) (one_survey s.image w v fs gs h g).0 ∙ sym y)
+one_typed s t u (w, fs, h, x) (v, gs, g, y) = x ∙ (ap (typed_subject s) (one_survey (opened s.image) w v fs gs h g).0 ∙ sym y)
 
 -- so what has one answer of that has one of the input
 typed_once : (s : SubjectValue) (answers : SubjectValue → Reply → Type 0)

@@ -17,6 +17,7 @@ use Rattle.adf_file_words.specs.SurveyLine.{AreFew}
 use Rattle.adf_rescue.specs.MadeRoot.{is_like_root}
 use Rattle.adf_survey_cmd.specs.Lengths.{are_asked, blocks_read, is_like_root_at, is_other_length, is_root_at, is_whole_root}
 use Rattle.adf_survey_cmd.specs.Lengths.{other_length, stated_length, usual_length}
+use Rattle.adf_survey_cmd.specs.Subject.{as_long, meant, subject, subject_read}
 use Rattle.adf_survey_cmd.specs.declared.lengths.TheConstants.{DD_BLOCKS, HD_BLOCKS}
 
 -- no more blocks are read than a volume may have
@@ -117,3 +118,12 @@ module _ (image bytes : List ℕ) (e : image ≡ take (512 * MOST_BLOCKS + 1) by
 
   pub same_read : (asked : Option ℕ) → AreFew asked → blocks_read asked image ≡ blocks_read asked bytes
   same_read asked few = ap (λ (o : Option ℕ). option_or o asked) (same_other asked few)
+
+-- what is surveyed is the image that is meant
+
+image_read : (stated : ℕ) (read : Option ℕ) (input : List ℕ) → (subject_read stated read input).image ≡ as_long read input
+image_read stated None input = refl
+image_read stated (Some n) input = refl
+
+pub meant_image : (asked : Option ℕ) (input : List ℕ) → (subject asked input).image ≡ meant asked input
+meant_image asked input = image_read (stated_length asked input) (blocks_read asked input) input

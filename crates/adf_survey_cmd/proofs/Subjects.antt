@@ -1,35 +1,61 @@
 -- What is surveyed of an input.
--- Letters: s, t what is surveyed; w the walk of a survey, fs its findings; asked, read the number of blocks that is asked for, that is read.
-use Rattle.std.proofs.Common.{◌≡◌, ◌++◌, ◌∙◌, ℕ, List, Option, None, Some, true, false, ap, refl, sym}
-use Rattle.std.proofs.lemmas.Bool.{cond-false, cond-true}
-use Rattle.adf_names.specs.declared.kind.Kind.TheVariants.{Ofs}
+-- Letters: s, u what is surveyed; w the walk of a survey, fs its findings; t a type; o one, if there is one.
+use Rattle.std.proofs.Common.{◌≡◌, ◌≤◌, ◌<◌, ◌++◌, ◌==◌, ◌∙◌, ℕ, Bool, List, Option, None, Some, true, false, not, ap, refl, subst, sym, slice_index, length, arith}
+use Rattle.std.proofs.lemmas.Bool.{and_parts, Decides.nat_tests, leb-true}
+use Rattle.std.proofs.lemmas.Grind.{common_steps}
 use Rattle.adf_blocks.specs.Sizes.{blocks}
-use Rattle.adf_volume.specs.Image.{kind_of}
 use Rattle.adf_volume.specs.Walk.{Walk}
-use Rattle.adf_findings.specs.OwnKind.{is_mistyped, is_other_kind, retyped, tally}
-use Rattle.adf_findings.specs.Survey.{FindingValue, IsSurvey}
-use Rattle.adf_survey_cmd.specs.Lengths.{blocks_read, stated_length}
-use Rattle.adf_survey_cmd.specs.Subject.{IsTyped, SubjectValue, as_long, changed, meant, subject, subject_read, type_line}
+use Rattle.adf_findings.specs.OwnKind.{is_mistyped, told_type, type_with}
+use Rattle.adf_findings.specs.Survey.{FindingValue, IsSurvey, IsSurvey.read, IsSurvey.unread}
+use Rattle.adf_findings.proofs.OwnKinds.{none_mistyped}
+use Rattle.adf_findings.proofs.Starts.{course_size}
+use Rattle.adf_rescue.specs.Opened.{is_mended, opened}
+use Rattle.adf_rescue.proofs.OpenedImages.{length_opened, opened_kept}
+use Rattle.adf_survey_cmd.specs.Subject.{IsTyped, SubjectValue, other_type, retyped_subject, typed_by, typed_subject}
 
--- its image is the one that is meant
+-- another type is one of 0 to 3
+other_small : (image : List ℕ) (kind letters : Bool) → not (type_with image kind letters == slice_index image 3) ≡ true
+    → type_with image kind letters ≤ 3
+other_small image kind letters e = grind (arith, common_steps, nat_tests)
 
-image_read : (stated : ℕ) (read : Option ℕ) (input : List ℕ) → (subject_read stated read input).image ≡ as_long read input
-image_read stated None input = refl
-image_read stated (Some n) input = refl
+-- what is another type than the image's own is told, and not by chance
+told_other : (image : List ℕ) (w : Walk) (t : ℕ) → other_type image w ≡ Some t → (is_mistyped image w ≡ true) × (told_type image w ≡ t)
+told_other image w t e = grind (arith, common_steps)
 
-pub meant_image : (asked : Option ℕ) (input : List ℕ) → (subject asked input).image ≡ meant asked input
-meant_image asked input = image_read (stated_length asked input) (blocks_read asked input) input
+small_other : (image : List ℕ) (w : Walk) (t : ℕ) → other_type image w ≡ Some t → t ≤ 3
+small_other image w t e = grind (arith, common_steps, other_small, told_other)
 
--- what has the type that its files say is surveyed as it is
-pub typed_same : (s : SubjectValue) (w : Walk) (fs : List FindingValue) → IsSurvey s.image w fs → is_mistyped s.image w ≡ false
-    → IsTyped s s
-typed_same s w fs h e = (w, fs, h, sym (cond-false (is_mistyped s.image w) _ s e))
+-- only an image of four blocks or more has another type
+pub other_long : (image : List ℕ) (w : Walk) (fs : List FindingValue) → IsSurvey image w fs → (t : ℕ) → other_type image w ≡ Some t
+    → 4 ≤ length image
+other_long image w fs (unread f) t e =
+    let clash : false ≡ true = none_mistyped image [] refl ∙ (told_other image [] t e).0 in cc
+other_long image w fs (read v d b) t e =
+    let size = course_size image v in
+    let low : 4 ≤ blocks image = grind (arith, common_steps, and_parts, leb-true) in
+    omega (arith, size.0)
 
--- and what has not with the other type
-pub typed_anew : (s t : SubjectValue) (w : Walk) (fs : List FindingValue) → IsSurvey s.image w fs → is_mistyped s.image w ≡ true
-    → t ≡ changed s (retyped s.image) type_line → IsTyped s t
-typed_anew s t w fs h e same = (w, fs, h, same ∙ sym (cond-true (is_mistyped s.image w) _ s e))
+-- what is typed is as it was, or has another type
+pub typed_either : (s : SubjectValue) (w : Walk) (fs : List FindingValue) → IsSurvey (opened s.image) w fs → (holds : SubjectValue → Type 0) → holds s
+    → ((t : ℕ) → t ≤ 3 → 4 ≤ length s.image → holds (retyped_subject s t)) → holds (typed_subject s w)
+typed_either s w fs h holds same other = go (other_type (opened s.image) w) refl
+  where
+    go : (o : Option ℕ) → other_type (opened s.image) w ≡ o → holds (typed_by s o)
+    go None e = same
+    go (Some t) e =
+        let long = other_long (opened s.image) w fs h t e in
+        other t (small_other (opened s.image) w t e) (omega (arith, length_opened s.image))
 
--- a volume of OFS has the type that its files say
-pub ofs_is_typed : (image : List ℕ) (w : Walk) → kind_of image ≡ Ofs → is_mistyped image w ≡ false
-ofs_is_typed image w e = ap (λ kind. is_other_kind kind (tally image w (blocks image))) e
+-- what must not be mended is surveyed as it is: where it has the type that its entries tell, it stays
+pub typed_same : (s : SubjectValue) (w : Walk) (fs : List FindingValue) → is_mended s.image ≡ false → IsSurvey s.image w fs
+    → other_type s.image w ≡ None → IsTyped s s
+typed_same s w fs whole h e =
+    let same = opened_kept s.image whole in
+    (w, fs, subst (λ image. IsSurvey image w fs) (sym same) h, sym (ap (typed_by s) (ap (λ image. other_type image w) same ∙ e)))
+
+-- otherwise it has another one
+pub typed_anew : (s u : SubjectValue) (w : Walk) (fs : List FindingValue) (t : ℕ) → is_mended s.image ≡ false → IsSurvey s.image w fs
+    → other_type s.image w ≡ Some t → u ≡ retyped_subject s t → IsTyped s u
+typed_anew s u w fs t whole h e is =
+    let same = opened_kept s.image whole in
+    (w, fs, subst (λ image. IsSurvey image w fs) (sym same) h, is ∙ sym (ap (typed_by s) (ap (λ image. other_type image w) same ∙ e)))

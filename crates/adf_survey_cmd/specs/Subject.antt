@@ -1,13 +1,15 @@
 -- What is surveyed of an input.
 -- Letters: s, t what is surveyed; w the walk of a survey; n a number of blocks; stated the number that is stated, asked the one that is asked for;
 -- end a block.
-use Rattle.std.specs.Prelude.{◌≡◌, ◌*◌, ◌-◌, ◌++◌, ◌∷◌, ℕ, List, [], Option, None, Some, codes, cond, length, min, nat_lt, replicate, take}
+use Rattle.std.specs.Prelude.{◌≡◌, ◌*◌, ◌-◌, ◌%◌, ◌==◌, ◌++◌, ◌∷◌, ℕ, List, [], Option, None, Some, codes, cond, length, min, nat_lt, replicate, take}
+use Rattle.adf_names.specs.VolumeTypes.{kind_text_by, letters_of_type}
+use Rattle.adf_names.specs.declared.kind.Kind.{Kind, TheVariants.Ofs, TheVariants.Ffs}
 use Rattle.adf_blocks.specs.declared.layout.TheConstants.{MOST_BLOCKS}
 use Rattle.adf_blocks.specs.Sizes.{blocks}
 use Rattle.adf_volume.specs.Walk.{Walk}
-use Rattle.adf_findings.specs.OwnKind.{is_mistyped, retyped}
+use Rattle.adf_findings.specs.OwnKind.{is_mistyped, retyped, told_type}
 use Rattle.adf_findings.specs.Survey.{FindingValue, IsSurvey}
-use Rattle.adf_rescue.specs.Opened.{with_boot_type, lacks_boot}
+use Rattle.adf_rescue.specs.Opened.{lacks_boot, opened, with_boot_type}
 use Rattle.adf_runs.specs.Commands.{Reply}
 use Rattle.adf_survey_cmd.specs.Lengths.{blocks_read, stated_length}
 use Rattle.adf_survey_cmd.specs.Lines.{blocks_text, findings_text}
@@ -81,17 +83,43 @@ changed s image line = record { image = image; end = s.end; front = s.front ++ l
 abbrev pub begun_subject : SubjectValue → SubjectValue
 begun_subject s = cond (lacks_boot s.image) (changed s (with_boot_type s.image) (codes "block 0: not dos\n")) s
 
--- the line of a volume whose type is not what its files say
-unfoldable pub type_line : List ℕ
-type_line = codes "block 0: type of ffs, files of ofs\n"
+-- the kind of a volume of this type: FFS if it is odd
+abbrev pub kind_of_type : ℕ → Kind
+kind_of_type type = cond (type % 2 == 0) Ofs Ffs
 
--- with the type of OFS, where the data blocks of its walk say so
+-- the word for the kind and the letters of a volume of this type, 0 to 3
+abbrev pub type_text : ℕ → List ℕ
+type_text type = kind_text_by (letters_of_type type) (kind_of_type type)
+
+-- the line of a volume whose type is not the one that its files tell
+unfoldable pub type_line : ℕ → List ℕ
+type_line type = codes "block 0: files of " ++ (type_text type ++ codes "\n")
+
+-- the type that the entries of an image tell, by the walk of its survey; none if it is the image's own
+abbrev pub other_type : List ℕ → Walk → Option ℕ
+other_type image w = cond (is_mistyped image w) (Some (told_type image w)) None
+
+-- with `DOS` and this type in place of the first four bytes: so block 0 is lost
+abbrev pub retyped_subject : SubjectValue → ℕ → SubjectValue
+retyped_subject s type = record {
+  image = retyped (with_boot_type s.image) type;
+  end = s.end;
+  front = s.front ++ type_line type;
+  lost = s.lost ++ run_loss 0 0 ∷ [];
+}
+
+-- with another type, if there is one
+abbrev pub typed_by : SubjectValue → Option ℕ → SubjectValue
+typed_by s None = s
+typed_by s (Some type) = retyped_subject s type
+
+-- with the type that its entries tell, by the walk of the survey of its image, once that is opened
 abbrev pub typed_subject : SubjectValue → Walk → SubjectValue
-typed_subject s w = cond (is_mistyped s.image w) (changed s (retyped s.image) type_line) s
+typed_subject s w = typed_by s (other_type (opened s.image) w)
 
--- that is t, by the survey of its image
+-- that is t, by the survey of its image, once that is opened
 abbrev pub IsTyped : SubjectValue → SubjectValue → Type 0
-IsTyped s t = (w : Walk) × (fs : List FindingValue) × IsSurvey s.image w fs × (t ≡ typed_subject s w)
+IsTyped s t = (w : Walk) × (fs : List FindingValue) × IsSurvey (opened s.image) w fs × (t ≡ typed_subject s w)
 
 -- the answer is that of what is surveyed in the end, begun and with the type that its files say
 abbrev pub OfTyped : SubjectValue → (SubjectValue → Reply → Type 0) → Reply → Type 0

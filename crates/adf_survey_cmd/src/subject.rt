@@ -2,11 +2,12 @@
 
 ghost use Rattle.std.specs.Prelude.{◌≡◌, ◌≤◌, ◌++◌, ℕ, IfOk, OnOk, length};
 ghost use Rattle.adf_blocks.specs.declared.layout.TheConstants.{MOST_BLOCKS};
-ghost use Rattle.adf_findings.specs.OwnKind.{is_mistyped, retyped};
 ghost use Rattle.adf_findings.specs.Survey.{OnSurvey};
+ghost use Rattle.adf_rescue.specs.Opened.{opened};
 ghost use Rattle.adf_survey_cmd.specs.Losses.{runs_lost};
 ghost use Rattle.adf_survey_cmd.specs.Subject.{IsTyped, begun_subject, behind_loss, behind_text, changed, held_end, missing_text};
-ghost use Rattle.adf_survey_cmd.specs.Subject.{sized, subject, subject_read, subject_value, type_line};
+ghost use Rattle.adf_survey_cmd.specs.Subject.{other_type, retyped_subject, sized, subject, subject_read, subject_value};
+ghost use Rattle.adf_survey_cmd.specs.Subject.{type_line, type_text};
 
 use crate::lengths::{blocks_read, stated_length};
 use crate::losses::BlockRun;
@@ -14,10 +15,10 @@ use crate::runs::push_blocks;
 use adf_base::{BLOCK_LEN, NoMemory};
 use adf_blocks::MOST_BLOCKS;
 use adf_boot_blocks::BOOT_LEN;
-use adf_findings::{retype, some_survey, survey};
-use adf_rescue::{begin_image, lacks_boot};
+use adf_findings::{Survey, retype, some_survey, survey};
+use adf_names::{kind_text_by, letters_of_type};
+use adf_rescue::{begin_image, is_mended, lacks_boot, open_image};
 use adf_tree::Kind;
-use adf_volume::kind_in;
 use std::alloc::{AllocError, Global};
 
 /// What is surveyed of an input: an image, the first block of it that the input does not hold, the lines in front of those
@@ -93,23 +94,57 @@ fn behind_run(alloc: Global, blocks: u32, stated: u32) -> Result<Vec<BlockRun>, 
     Ok(runs)
 }
 
-// Appends the line of a volume whose type is not what its files say.
-#[tactic(auto, unfolding(crate::specs::Subject::type_line))]
-fn push_type_line(text: &mut Vec<u8>) -> Result<(), AllocError>
-    ensures { OnOk result (text.new.items ≡ text.old.items ++ type_line) }
+// The word for the kind and the letters of a volume of a type, 0 to 3.
+fn type_text(number: u8) -> &'static str
+    ensures { result.now ≡ type_text number }
 {
-    text.extend_from_slice(b"block 0: type of ffs, files of ofs\n")
+    let kind = if number % 2 == 0 {
+        Kind::Ofs
+    } else {
+        Kind::Ffs
+    };
+    kind_text_by(letters_of_type(u32::from(number)), kind)
 }
 
-// Whether the type of an image is one of FFS, but its files say OFS.
-#[tactic(auto, using(crate::proofs::Subjects::ofs_is_typed))]
-fn is_mistyped(alloc: Global, image: &[u8]) -> Result<bool, NoMemory>
-    ensures { OnSurvey image.now (λ w _. IfOk result (λ mistyped. mistyped ≡ is_mistyped image.now w)) }
+// Appends the line of a volume whose type is not the one that its files tell.
+#[tactic(auto, unfolding(crate::specs::Subject::type_line))]
+fn push_type_line(text: &mut Vec<u8>, type_told: u8) -> Result<(), AllocError>
+    ensures { OnOk result (text.new.items ≡ text.old.items ++ type_line type_told) }
 {
-    if BLOCK_LEN <= image.len() && kind_in(image) == Kind::Ofs {
-        return Ok(false);
+    text.extend_from_slice(b"block 0: files of ")?;
+    text.extend_from_slice(type_text(type_told).as_bytes())?;
+    text.extend_from_slice(b"\n")
+}
+
+/// The type that the entries of a survey tell, if it is another than that of the image.
+pub fn other_type(survey: &Survey<'_>) -> Option<u8>
+    ensures { OnSurvey survey.now.image (λ w _. result ≡ other_type survey.now.image w) }
+{
+    if survey.is_mistyped() {
+        Some(survey.told_type())
+    } else {
+        None
     }
-    Ok(survey(alloc, image)?.is_mistyped())
+}
+
+// The same of the survey of an image.
+fn type_in(alloc: Global, image: &[u8]) -> Result<Option<u8>, NoMemory>
+    ensures { OnSurvey image.now (λ w _. IfOk result (λ told. told ≡ other_type image.now w)) }
+{
+    let survey = survey(alloc, image)?;
+    Ok(other_type(&survey))
+}
+
+// The same of an image, once it is opened.
+fn type_opened(alloc: Global, image: &[u8]) -> Result<Option<u8>, NoMemory>
+    ensures { OnSurvey (opened image.now) (λ w _. IfOk result (λ told. told ≡ other_type (opened image.now) w)) }
+{
+    if !is_mended(image) {
+        return type_in(alloc, image);
+    }
+    let mut copy = image.to_vec(alloc)?;
+    open_image(&mut copy);
+    type_in(alloc, &copy)
 }
 
 impl Subject {
@@ -191,24 +226,27 @@ impl Subject {
         Ok(())
     }
 
-    /// Makes the type of the image that of OFS, and says so.
-    pub fn retype(&mut self) -> Result<(), AllocError>
-        ensures { OnOk result (subject_value self.new ≡ changed (subject_value self.old) (retyped self.old.image.items)
-            type_line) }
+    /// Begins the image with `DOS` and a type, and says so: block 0 is lost.
+    pub fn retype(&mut self, type_told: u8) -> Result<(), AllocError>
+        requires { 4 ≤ length self.old.image.items }
+        ensures { OnOk result (subject_value self.new ≡ retyped_subject (subject_value self.old) type_told) }
     {
-        push_type_line(&mut self.front)?;
-        retype(&mut self.image);
+        push_type_line(&mut self.front, type_told)?;
+        self.lost.push(BlockRun::one(0))?;
+        begin_image(&mut self.image);
+        retype(&mut self.image, type_told);
         Ok(())
     }
 
-    /// Makes the type of the image what its files say, and then says so. `NoMemory` if an allocation fails; then the image stays.
+    /// Makes the type of the image the one that its entries tell, and then says so. `NoMemory` if an allocation fails; then
+    /// the image stays.
     pub fn be_typed(&mut self, alloc: Global) -> Result<(), NoMemory>
         ensures { OnOk result (IsTyped (subject_value self.old) (subject_value self.new)) }
     {
         some_survey();
-        if !is_mistyped(alloc, &self.image)? {
-            return Ok(());
+        if let Some(type_told) = type_opened(alloc, &self.image)? {
+            self.retype(type_told)?;
         }
-        Ok(self.retype()?)
+        Ok(())
     }
 }

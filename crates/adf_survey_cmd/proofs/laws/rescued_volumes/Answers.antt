@@ -12,7 +12,7 @@ use Rattle.adf_survey_cmd.specs.Lengths.{blocks_read}
 use Rattle.adf_survey_cmd.specs.Subject.{as_long, subject}
 use Rattle.adf_survey_cmd.proofs.HintedAnswers.{hinted_output}
 use Rattle.adf_survey_cmd.proofs.KeptBoots.{keeps_boot, written_fits}
-use Rattle.adf_survey_cmd.proofs.Subjects.{meant_image}
+use Rattle.adf_survey_cmd.proofs.ReadLengths.{meant_image}
 use Rattle.adf_survey_cmd.proofs.laws.rescued_volumes.Goals as goal
 
 -- the image that is meant is bytes
