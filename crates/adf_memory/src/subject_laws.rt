@@ -2,8 +2,8 @@
 
 ghost use Rattle.std.specs.Prelude.{◌≡◌, ℕ, Bool, List, drop, length, take, true};
 ghost use Rattle.adf_blocks.specs.Sizes.{blocks};
-ghost use Rattle.adf_boot_blocks.specs.BootBlocks.{begins_with_dos};
 ghost use Rattle.adf_names.specs.PathTexts.{IsPathText};
+ghost use Rattle.adf_rescue.specs.Opened.{states_type};
 ghost use Rattle.adf_runs.specs.Commands.{Reply};
 ghost use Rattle.adf_file_words.specs.SurveyLine.{asked, cat, list, report};
 ghost use Rattle.adf_survey_cmd.specs.Answers.{CopiesFromSurvey, ListsSurvey, SurveyAnswer, Surveys};
@@ -31,7 +31,8 @@ pub fn surveys_agree()
 {}
 
 /// What is surveyed is the image that is meant, as long, and the same but for its first four bytes; and these too, if neither
-/// its boot block nor its type is told to be changed. An image that begins with `DOS` has not lost its boot block.
+/// its boot block nor its type is told to be changed. An image that begins with `DOS` and a type up to 5 has not lost its boot
+/// block.
 pub fn subjects_keep_the_image()
     ensures length { (n : ℕ) (image old new : List ℕ) (told : SubjectTold)
         → HasSubject (subject (asked_blocks n) image) old new told → told.length ≡ length (meant (asked_blocks n) image) }
@@ -41,7 +42,7 @@ pub fn subjects_keep_the_image()
     ensures same { (n : ℕ) (image old new : List ℕ) (told : SubjectTold)
         → HasSubject (subject (asked_blocks n) image) old new told → told.is_begun ≡ 0 → told.is_retyped ≡ 0
         → take told.length new ≡ meant (asked_blocks n) image }
-    ensures dos { (n : ℕ) (image old new : List ℕ) (told : SubjectTold)
-        → HasSubject (subject (asked_blocks n) image) old new told → begins_with_dos (meant (asked_blocks n) image) ≡ true
+    ensures states { (n : ℕ) (image old new : List ℕ) (told : SubjectTold)
+        → HasSubject (subject (asked_blocks n) image) old new told → states_type (meant (asked_blocks n) image) ≡ true
         → told.is_begun ≡ 0 }
 {}

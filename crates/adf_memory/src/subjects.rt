@@ -28,7 +28,7 @@ pub struct SubjectTold {
     pub held: u32,
     /// 1 if only the boot block is lost, and `DOS` and a type stand in its place, otherwise 0.
     pub is_begun: u8,
-    /// 1 if the type is that of OFS, as the files say, in place of one of FFS, otherwise 0.
+    /// 1 if the type is the one that the entries tell, in place of another, otherwise 0.
     pub is_retyped: u8,
 }
 
@@ -65,7 +65,7 @@ fn begin(subject: &mut Subject) -> Result<bool, AllocError>
     Ok(is_begun)
 }
 
-// Makes the type of the image what its files say, and says whether it was another: then there is one more line.
+// Makes the type of the image the one that its entries tell, and says whether it was another: then there is one more line.
 fn retype(alloc: Global, subject: &mut Subject) -> Result<bool, NoMemory>
     ensures { IfOk result (IsRetyped (subject_value subject.old) (subject_value subject.new)) }
 {
@@ -75,7 +75,7 @@ fn retype(alloc: Global, subject: &mut Subject) -> Result<bool, NoMemory>
 }
 
 // Writes what is surveyed of an input to the front of a room that has as many bytes, once it is begun and has the type
-// that its files say.
+// that its entries tell.
 fn put_surveyed(
     alloc: Global,
     mut subject: Subject,
@@ -119,7 +119,7 @@ fn put_meant(
 /// Writes the image that `adf-survey` surveys in place of an image to the front of the room, and tells what is changed in
 /// it. It is the image as it is, or if `blocks` is not 0, as if it had so many blocks; or of as many blocks as the one usual
 /// length of a floppy whose root is found, if the middle of those is not like a root: with `DOS` and a type, if only the boot
-/// block is lost, and with the type that its files say. Returns 0; or 24 if the room is smaller, or the number of
+/// block is lost, and with the type that its entries tell. Returns 0; or 24 if the room is smaller, or the number of
 /// `NoMemory` if memory ran out.
 pub fn put_subject(
     alloc: Global,

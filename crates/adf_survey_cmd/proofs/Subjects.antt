@@ -8,6 +8,7 @@ use Rattle.adf_volume.specs.Walk.{Walk}
 use Rattle.adf_findings.specs.OwnKind.{is_mistyped, told_type, type_with}
 use Rattle.adf_findings.specs.Survey.{FindingValue, IsSurvey, IsSurvey.read, IsSurvey.unread}
 use Rattle.adf_findings.proofs.OwnKinds.{none_mistyped}
+use Rattle.adf_findings.proofs.SomeSurvey.{some_survey}
 use Rattle.adf_findings.proofs.Starts.{course_size}
 use Rattle.adf_rescue.specs.Opened.{is_mended, opened}
 use Rattle.adf_rescue.proofs.OpenedImages.{length_opened, opened_kept}
@@ -59,3 +60,7 @@ pub typed_anew : (s u : SubjectValue) (w : Walk) (fs : List FindingValue) (t : �
 typed_anew s u w fs t whole h e is =
     let same = opened_kept s.image whole in
     (w, fs, subst (λ image. IsSurvey image w fs) (sym same) h, is ∙ sym (ap (typed_by s) (ap (λ image. other_type image w) same ∙ e)))
+
+-- what is surveyed has a type that its entries tell
+pub some_typed : (s : SubjectValue) → (t : SubjectValue) × IsTyped s t
+some_typed s = let (w, fs, survey) = some_survey (opened s.image) in (typed_subject s w, (w, fs, survey, refl))
