@@ -33,7 +33,7 @@ use Rattle.adf_runs.specs.declared.outcome.Outcome.{Outcome, TheVariants.LeftOut
 use Rattle.adf_runs.proofs.PendingText.{appends_nil}
 use Rattle.adf_survey_cmd.specs.Losses.{LossValue, ToldValue, front_losses, input_losses, loss_values, losses_of, rescue_losses, runs_lost, told_by}
 use Rattle.adf_survey_cmd.specs.Losses.{told_value}
-use Rattle.adf_survey_cmd.specs.Prepared.{IsBegun, IsNoVolume, IsToldRefusal, LaysFor, Prepares, RefusesFor, WritesPrepared}
+use Rattle.adf_survey_cmd.specs.Prepared.{IsBegunInput, IsNoVolume, IsToldRefusal, LaysFor, Prepares, RefusesFor, WritesPrepared}
 use Rattle.adf_survey_cmd.specs.Rescues.{Replies, RescueValue, RescueValue.written, Rescues, RescuesBoth, RescuesBy, RescuesIn}
 use Rattle.adf_survey_cmd.specs.declared.preparing.Begun.{Begun}
 use Rattle.adf_survey_cmd.specs.declared.preparing.Prepared.{Prepared}
@@ -88,7 +88,7 @@ same_told terms a b fs made r same is =
     }
 
 -- the same blocks are lost in front
-pub same_front : (lost : List LossValue) (held n : ℕ) (input image : List ℕ) (types : Types) (b : Begun) → IsBegun types lost input image b
+pub same_front : (lost : List LossValue) (held n : ℕ) (input image : List ℕ) (types : Types) (b : Begun) → IsBegunInput types lost input image b
     → image ≡ opened input → n ≡ blocks image → front_losses (runs_lost b.lost.items) b.states_type b.made_root held n ≡ input_losses lost held input
 same_front lost held n input image types b is same size =
     let count : n ≡ blocks input = size ∙ ap (λ (l : List ℕ). length l / 512) same ∙ ap (λ (k : ℕ). k / 512) (length_opened input) in

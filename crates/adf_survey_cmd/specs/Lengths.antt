@@ -45,10 +45,6 @@ abbrev pub other_length : Option ℕ → List ℕ → Option ℕ
 other_length asked input =
     cond (is_like_root_at input (stated_length asked input / 2)) None (usual_length (is_other_length asked input))
 
--- the number of blocks that is read
-abbrev pub length_read : Option ℕ → List ℕ → ℕ
-length_read asked input = unwrap_or (other_length asked input) (stated_length asked input)
-
 -- the number of blocks that the image is made to have: another length, or what is asked for; none if the input is read as it is
 abbrev pub blocks_read : Option ℕ → List ℕ → Option ℕ
 blocks_read asked input = option_or (other_length asked input) asked

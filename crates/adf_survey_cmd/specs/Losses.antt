@@ -189,8 +189,8 @@ number_text why =
     (cond (why == 7) (codes "perhaps deleted: ") (cond (why == 8) (codes "found again: ") (codes "made: "))))))
 
 -- the line of an entry
-abbrev pub entry_line : LossValue → List ℕ
-entry_line l = number_text l.why ++ (l.path ++ codes "\n")
+abbrev pub path_line : LossValue → List ℕ
+path_line l = number_text l.why ++ (l.path ++ codes "\n")
 
 -- the line of headers in a directory
 abbrev pub headers_line : LossValue → List ℕ
@@ -199,7 +199,7 @@ headers_line l = codes "lost: in " ++ (l.path ++ codes "/\n")
 -- the line of a loss: of blocks, of headers in a directory, or of an entry
 abbrev pub loss_line : LossValue → List ℕ
 loss_line l =
-    cond (l.why == 5) (codes "lost: " ++ (blocks_text l.first l.last ++ codes "\n")) (cond (l.why == 4) (headers_line l) (entry_line l))
+    cond (l.why == 5) (codes "lost: " ++ (blocks_text l.first l.last ++ codes "\n")) (cond (l.why == 4) (headers_line l) (path_line l))
 
 -- the lines of losses
 abbrev pub losses_text : List LossValue → List ℕ

@@ -33,7 +33,7 @@ IsFirstFault types image f = FirstFaultBy (letters_for types image) image f.bloc
 
 -- what is told of an input before it is opened as the image: its first fault, if it must be mended; whether it states a type; whether a root is
 -- made; and these losses of blocks
-pub record IsBegun (types : Types) (lost : List LossValue) (input image : List ℕ) (b : Begun) : Type 0 where
+pub record IsBegunInput (types : Types) (lost : List LossValue) (input image : List ℕ) (b : Begun) : Type 0 where
   pub opened : IsOpened (IsFirstFault types input) input image b.fault
   pub states : b.states_type ≡ states_type input
   pub made : b.made_root ≡ lacks_root input

@@ -1,7 +1,7 @@
 // The lines of what is not in the volume of a rescue, or in doubt there.
 
 ghost use Rattle.std.specs.Prelude.{◌≡◌, ◌++◌, OnOk};
-ghost use Rattle.adf_survey_cmd.specs.Losses.{entry_line, headers_line, loss_line, loss_value, loss_values, losses_text};
+ghost use Rattle.adf_survey_cmd.specs.Losses.{path_line, headers_line, loss_line, loss_value, loss_values, losses_text};
 ghost use Rattle.adf_survey_cmd.specs.Losses.{number_text, reason_number};
 
 use crate::losses::{Loss, Reason};
@@ -25,7 +25,7 @@ fn push_word(text: &mut Vec<u8>, why: Reason) -> Result<(), AllocError>
 
 // Appends the line of an entry.
 fn push_entry(text: &mut Vec<u8>, loss: &Loss) -> Result<(), AllocError>
-    ensures { OnOk result (text.new.items ≡ text.old.items ++ entry_line (loss_value loss.now)) }
+    ensures { OnOk result (text.new.items ≡ text.old.items ++ path_line (loss_value loss.now)) }
 {
     push_word(text, loss.why)?;
     text.extend_from_slice(&loss.path)?;

@@ -4,7 +4,7 @@ ghost use Rattle.std.specs.Prelude.{◌≡◌, ℕ, List, Option, Some, IfOk, fa
 ghost use Rattle.adf_rescue.specs.Opened.{IsOpened, opened};
 ghost use Rattle.adf_rescue.specs.Rescue.{IsSecond, Basis, OnBasis, OnSecond};
 ghost use Rattle.adf_survey_cmd.specs.Losses.{LossValue, front_losses, runs_lost};
-ghost use Rattle.adf_survey_cmd.specs.Prepared.{IsBegun, IsFirstFault, IsNoVolume, Prepares};
+ghost use Rattle.adf_survey_cmd.specs.Prepared.{IsBegunInput, IsFirstFault, IsNoVolume, Prepares};
 ghost use Rattle.adf_survey_cmd.specs.Rescues.{Rescues, RescuesBoth, RescuesBy};
 
 use crate::losses::{BlockRun, Loss, rescue_losses};
@@ -143,7 +143,7 @@ fn prepare_found(
     begun: &Begun,
 ) -> Result<Prepared, Unrescued>
     requires { (b : Option Basis) × IsSecond (option_map (λ s. s.now.image) second) b }
-    ensures { (lost : List LossValue) (input : List ℕ) → IsBegun scope.types lost input found.now.image begun.now
+    ensures { (lost : List LossValue) (input : List ℕ) → IsBegunInput scope.types lost input found.now.image begun.now
         → OnBasis found.now.image (λ a fs. OnSecond (option_map (λ s. s.now.image) second.entry) (λ b.
         Prepares (RescuesBy scope.types scope.held lost input a b fs) result)) }
 {
@@ -180,7 +180,7 @@ fn prepare_hung(
     scope: Scope,
     begun: &Begun,
 ) -> Result<Prepared, Unrescued>
-    ensures { (lost : List LossValue) (input : List ℕ) → IsBegun scope.types lost input found.now.image begun.now
+    ensures { (lost : List LossValue) (input : List ℕ) → IsBegunInput scope.types lost input found.now.image begun.now
         → OnBasis found.now.image (λ a fs. Prepares (RescuesBoth scope.types scope.held lost input a (Some hung.now) fs) result) }
 {
     let second = survey(alloc, hung)?;
@@ -195,7 +195,7 @@ fn prepare_opened(
     scope: Scope,
     begun: &Begun,
 ) -> Result<Prepared, Unrescued>
-    ensures { (lost : List LossValue) (input : List ℕ) → IsBegun scope.types lost input image.now begun.now
+    ensures { (lost : List LossValue) (input : List ℕ) → IsBegunInput scope.types lost input image.now begun.now
         → Prepares (Rescues scope.types scope.held lost input) result }
 {
     let found = survey(alloc, image)?;

@@ -6,7 +6,7 @@ use Rattle.adf_rescue.specs.Hung.{second_image}
 use Rattle.adf_rescue.specs.Opened.{lacks_root}
 use Rattle.adf_rescue.proofs.OpenedImages.{opened_so}
 use Rattle.adf_rescue.specs.Rescue.{Basis}
-use Rattle.adf_survey_cmd.specs.Prepared.{IsBegun}
+use Rattle.adf_survey_cmd.specs.Prepared.{IsBegunInput}
 use Rattle.adf_survey_cmd.specs.Rescues.{Rescues, RescuesBoth, RescuesBy}
 use Rattle.adf_survey_cmd.proofs.RescueAnswers.{found_gives, none_prepared, prepares_weaker, second_is, second_none}
 use Rattle.adf_survey_cmd.proofs.preparing.prepare_opened.Goals as goal
@@ -32,7 +32,7 @@ returns-in-Some c = λ lost input begun.
     (λ boot r by. found_gives c.args.scope.types c.args.scope.held lost input v.image w fs sound (Some hung) boot r
     (same ∙ opened_so _ input _ _ begun.opened) here marks second by)
     (c.prepare_hung.ensures lost input
-    (subst (λ (image : List ℕ). IsBegun c.args.scope.types lost input image c.args.begun.now) (sym same) begun) w fs sound here marks)
+    (subst (λ (image : List ℕ). IsBegunInput c.args.scope.types lost input image c.args.begun.now) (sym same) begun) w fs sound here marks)
 
 pub returns : goal.returns
 returns c = λ lost input begun.
@@ -51,7 +51,7 @@ returns c = λ lost input begun.
     (λ boot r by. found_gives c.args.scope.types c.args.scope.held lost input v.image w fs sound None boot r
     (same ∙ opened_so _ input _ _ begun.opened) here marks none (None, tt, by))
     (c.prepare_found.ensures lost input
-    (subst (λ (image : List ℕ). IsBegun c.args.scope.types lost input image c.args.begun.now) (sym same) begun) w fs sound here marks None tt)
+    (subst (λ (image : List ℕ). IsBegunInput c.args.scope.types lost input image c.args.begun.now) (sym same) begun) w fs sound here marks None tt)
 
 pub returns-in_err-found : goal.returns-in_err-found
 returns-in_err-found c = λ lost input begun.
