@@ -111,7 +111,7 @@ some_copy blocks damaged path input = copied_by blocks damaged path input (path_
 some_rescue : (blocks : Option ℕ) (keep_type : Bool) (input : List ℕ) → AreBytes input → IsAnswered (rescue keep_type) (subject blocks input)
 some_rescue blocks keep_type input are =
     let (t, typed) = some_typed (subject blocks input) in
-    let (r, told) = rescue_given (types_kept keep_type) t.end t.image (sized 2 (subject blocks input).image)
+    let (r, told) = rescue_given (types_kept keep_type) t.end t.lost t.image (sized 2 (subject blocks input).image)
     (typed_bytes (subject blocks input) t typed (subject_bytes blocks input are)) in
     (rescue_reply r, (r, (t, typed, told), refl))
 

@@ -4,6 +4,8 @@ pub mod TreeBlocks
 pub mod Steps
 -- the losses of one more finding
 pub mod LossSteps
+-- the entries kept in doubt, with one more verdict
+pub mod DoubtSteps
 -- data blocks that were given
 pub mod GivenBlocks
 -- the tree of the additions

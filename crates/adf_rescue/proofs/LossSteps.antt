@@ -3,10 +3,11 @@
 use Rattle.std.specs.List.{cons_option, filter_map}
 use Rattle.std.specs.Option.{option_and_then}
 use Rattle.std.specs.Prelude.{slice_get}
-use Rattle.std.proofs.Common.{◌≡◌, ◌≤◌, ◌∙◌, ◌+◌, ℕ, zero, suc, List, [], ◌∷◌, ◌++◌, Option, Some, None, add-one, ap, length, refl, take, take_all, arith}
+use Rattle.std.proofs.Common.{◌≡◌, ◌≤◌, ◌∙◌, ◌+◌, ℕ, zero, suc, List, [], ◌∷◌, ◌++◌, Option, Some, None}
+use Rattle.std.proofs.Common.{add-one, ap, append_assoc, length, refl, take, take_all, arith}
 use Rattle.std.proofs.lemmas.Grind.{common_steps}
 
-cons_append : {Y : Type 0} (o : Option Y) (xs ys : List Y) → cons_option o (xs ++ ys) ≡ cons_option o xs ++ ys
+pub cons_append : {Y : Type 0} (o : Option Y) (xs ys : List Y) → cons_option o (xs ++ ys) ≡ cons_option o xs ++ ys
 cons_append None xs ys = refl
 cons_append (Some y) xs ys = refl
 
@@ -26,3 +27,14 @@ one_more h fs k o xs ys before one more = grind (arith, common_steps, told_more,
 pub all_told : {X Y : Type 0} (h : X → Option Y) (fs : List X) (k : ℕ) (xs : List Y) → xs ≡ filter_map h (take k fs) → length fs ≤ k
     → xs ≡ filter_map h fs
 all_told h fs k xs told all = told ∙ ap (filter_map h) (take_all k fs all)
+
+-- the same behind what comes first
+pub one_behind : {X Y : Type 0} (h : X → Option Y) (fs : List X) (k : ℕ) (o : Option Y) (first xs ys : List Y) → xs ≡ first ++ filter_map h (take k fs)
+    → o ≡ option_and_then h (slice_get fs k) → ys ≡ xs ++ cons_option o [] → ys ≡ first ++ filter_map h (take (k + 1) fs)
+one_behind h fs k o first xs ys before one more =
+    let step = one_more h fs k o (filter_map h (take k fs)) (filter_map h (take k fs) ++ cons_option o []) refl one refl in
+    more ∙ (ap (λ l. l ++ cons_option o []) before ∙ (append_assoc first (filter_map h (take k fs)) (cons_option o []) ∙ ap (λ l. first ++ l) step))
+
+pub all_behind : {X Y : Type 0} (h : X → Option Y) (fs : List X) (k : ℕ) (first xs : List Y) → xs ≡ first ++ filter_map h (take k fs) → length fs ≤ k
+    → xs ≡ first ++ filter_map h fs
+all_behind h fs k first xs told all = told ∙ ap (λ l. first ++ filter_map h l) (take_all k fs all)

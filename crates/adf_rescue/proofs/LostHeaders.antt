@@ -59,7 +59,8 @@ module _ (image : List ℕ) (w : Walk) (b : ℕ) where
       → bit_stated image w b ≡ cond (has_valid_flag image) (Some (is_set_in image page ((b - 2) % PAGE_BITS))) None
   unfolding bit_stated
   stated_by_flag page inside is says =
-      λ i. cond (inside i && has_valid_flag image) (option_and_then (λ page. bit_in image b page) (sym is i)) None
+      (λ i. cond (inside i && has_valid_flag image) (option_and_then (bit_in image b) (sym is i)) None)
+      ∙ ap (λ o. cond (has_valid_flag image) o None) (cond-true (says_page image page) (Some (is_set_in image page ((b - 2) % PAGE_BITS))) None says)
 
   pub told_is : (fs : List FindingValue) (page : ℕ) (r : Option Bool) → in_range image b ≡ true → Some page ≡ at_role w (Page (page_of b))
       → says_page image page ≡ true → IsSurvey image w fs → (IsSome r ↔ IsBitStated image w b)
@@ -77,17 +78,17 @@ module _ (image : List ℕ) (w : Walk) (b : ℕ) where
   ]
 
   -- of a block that is not in range the bitmap tells nothing
-  untold_outside : in_range image b ≡ false → bit_stated image w b ≡ None
+  pub untold_outside : in_range image b ≡ false → bit_stated image w b ≡ None
   unfolding bit_stated
   untold_outside out = grind (arith, common_steps, and_left)
 
   -- nor where its page is not found
-  untold_without : None ≡ at_role w (Page (page_of b)) → bit_stated image w b ≡ None
+  pub untold_without : None ≡ at_role w (Page (page_of b)) → bit_stated image w b ≡ None
   unfolding bit_stated
   untold_without none = same_cond (in_range image b && has_valid_flag image) _ None (ap (option_and_then (bit_in image b)) (sym none))
 
   -- nor where that says that it is something else
-  untold_by : (page : ℕ) → Some page ≡ at_role w (Page (page_of b)) → says_page image page ≡ false → bit_stated image w b ≡ None
+  pub untold_by : (page : ℕ) → Some page ≡ at_role w (Page (page_of b)) → says_page image page ≡ false → bit_stated image w b ≡ None
   unfolding bit_stated
   untold_by page is says =
       same_cond (in_range image b && has_valid_flag image) _ None
@@ -98,11 +99,11 @@ pub ruleset untold = (untold_outside, untold_without, untold_by)
 -- the headers of entries that are free
 
 module _ (image : List ℕ) (w : Walk) where
-  no_free_first : has_free_header image w 0 ≡ false
+  pub no_free_first : has_free_header image w 0 ≡ false
   unfolding has_free_header
   no_free_first = refl
 
-  no_free_more : (k : ℕ) → has_free_header image w k ≡ false → is_stated_free image w (node_block w (k + 1)) ≡ false
+  pub no_free_more : (k : ℕ) → has_free_header image w k ≡ false → is_stated_free image w (node_block w (k + 1)) ≡ false
       → has_free_header image w (k + 1) ≡ false
   unfolding has_free_header
   no_free_more k before here = grind (arith, common_steps, add-one, or_from)
@@ -206,23 +207,33 @@ skipped_more are put len = grind (arith, common_steps, add-one)
 pub or_cond : (a b : Bool) → cond b true a ≡ (a || b)
 or_cond a b = grind (arith, common_steps, or-true)
 
+-- one answer more in a list of answers
+mapped_more : (f : ℕ → Bool) (n : ℕ) (marks more : List Bool) (t : Bool) → marks ≡ map f (range_with_len 0 n) → t ≡ f n → more ≡ marks ++ t ∷ []
+    → more ≡ map f (range_with_len 0 (n + 1))
+mapped_more f n marks more t before is put = grind (arith, common_steps, map-range_with_len_more)
+
+pub open_more : (made : Bool) (image : List ℕ) (w : Walk) (fs : List FindingValue) (n : ℕ) (marks more : List Bool) (t : Bool)
+    → marks ≡ map (is_open made image w fs) (range_with_len 0 n) → t ≡ is_open made image w fs n → more ≡ marks ++ t ∷ []
+    → more ≡ map (is_open made image w fs) (range_with_len 0 (n + 1))
+open_more made image w fs = mapped_more (is_open made image w fs)
+
 pub open_marked : (made : Bool) (image : List ℕ) (w : Walk) (fs : List FindingValue) (marks : List Bool)
     → marks ≡ map (is_open made image w fs) (range_with_len 0 (suc (heads w))) → AreOpen w (is_open made image w fs) marks
 open_marked made image w fs marks e = grind (arith, common_steps, get_or-map-range_with_len, length-map-range_with_len)
 
 module _ (image : List ℕ) (w : Walk) (s : ℕ → Bool) where
-  none_open_first : s 0 ≡ false → has_open image w s 0 ≡ false
+  pub none_open_first : s 0 ≡ false → has_open image w s 0 ≡ false
   unfolding has_open
   none_open_first e = e
 
-  abbrev is_open_entry : ℕ → Bool
+  abbrev pub is_open_entry : ℕ → Bool
   is_open_entry n = (word_in image (node_block w n) SECONDARY_TYPE == ST_DIR) && s n
 
-  none_open_more : (k : ℕ) → has_open image w s k ≡ false → is_open_entry (k + 1) ≡ false → has_open image w s (k + 1) ≡ false
+  pub none_open_more : (k : ℕ) → has_open image w s k ≡ false → is_open_entry (k + 1) ≡ false → has_open image w s (k + 1) ≡ false
   unfolding has_open
   none_open_more k before here = grind (arith, common_steps, add-one, or_from)
 
-  open_root : (n : ℕ) → s 0 ≡ true → has_open image w s n ≡ true
+  pub open_root : (n : ℕ) → s 0 ≡ true → has_open image w s n ≡ true
   unfolding has_open
   open_root zero e = e
   open_root (suc n) e = or_left (has_open image w s n) _ (open_root n e)
@@ -236,6 +247,13 @@ module _ (image : List ℕ) (w : Walk) (s : ℕ → Bool) where
         let last : k ≡ n = omega arith in
         or_right (has_open image w s n) _ (subst (λ i. is_open_entry (suc i) ≡ true) last here)
   ]
+
+  pub open_seen : (opens : List Bool) → AreOpen w s opens → (k : ℕ) → k < heads w
+      → ((word_in image (node_block w (k + 1)) SECONDARY_TYPE == ST_DIR) && has_mark opens (k + 1)) ≡ true → has_open image w s (heads w) ≡ true
+  open_seen opens are k lt here =
+      let there = subst (λ m. ((word_in image (node_block w m) SECONDARY_TYPE == ST_DIR) && has_mark opens m) ≡ true) (add-one k) here in
+      one_open k (heads w) lt
+      (ap (λ t. (word_in image (node_block w (suc k)) SECONDARY_TYPE == ST_DIR) && t) (sym (are.opens (suc k) (omega arith))) ∙ there)
 
 pub ruleset open_steps = (none_open_first, none_open_more, open_root, one_open)
 
@@ -262,4 +280,4 @@ module _ (image : List ℕ) (w : Walk) (s : ℕ → Bool) where
   -- one mark more
   pub lost_more : (b : ℕ) (marks more : List Bool) (t : Bool) → marks ≡ map (is_lost image w s) (range_with_len 0 b)
       → t ≡ is_lost image w s b → more ≡ marks ++ t ∷ [] → more ≡ map (is_lost image w s) (range_with_len 0 (b + 1))
-  lost_more b marks more t before is put = grind (arith, common_steps, map-range_with_len_more)
+  lost_more = mapped_more (is_lost image w s)

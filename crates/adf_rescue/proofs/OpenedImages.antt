@@ -1,28 +1,29 @@
 -- Images that are opened: their blocks, and what stays of their bytes.
 -- Letters: b the number of a block; r the root's; n, m, k numbers of bytes or blocks; l a list of bytes.
 use Rattle.std.proofs.Common.{◌≡◌, ◌<◌, ◌≤◌, ℕ, zero, suc, ◌+◌, ◌-◌, ◌*◌, ◌/◌, ◌^◌, Bool, true, false, Option, None, Some, is_some, List, [], ◌∷◌, ◌++◌, length}
-use Rattle.std.proofs.Common.{take, drop, ◌∙◌, add-one, ap, arith, codes, inl, inr, length-drop, refl, subst, sym, ◌==◌, ◌&&◌, slice_range}
+use Rattle.std.proofs.Common.{take, drop, ◌∙◌, add-one, ap, arith, codes, inl, inr, length-drop, refl, subst, sym, ◌==◌, ◌&&◌, ◌||◌, nat_le, not, slice_range}
 use Rattle.std.proofs.lemmas.Bool.{and_from, and_left, and_parts, and_right, cases_Bool, cases_lt, cond-false, cond-true, cond_both, not_from_false}
 use Rattle.std.proofs.lemmas.Bool.{not_from_true, or_from, or_left, or_right}
 use Rattle.std.proofs.lemmas.List.{drop-drop, get_or-take, length-take, take_all}
 use Rattle.std.proofs.lemmas.Grind.{common_steps}
-use Rattle.adf_base.specs.Words.{block, long_sum, with_bytes}
+use Rattle.adf_base.specs.Words.{block, long_sum, with_bytes, word}
 use Rattle.adf_base.specs.declared.hash.Letters.{Letters}
 use Rattle.adf_tree.specs.Tree.{Tree}
-use Rattle.adf_blocks.specs.declared.layout.TheConstants.{FIRST_SLOT, SLOTS}
-use Rattle.adf_blocks.specs.RootBlock.{label_stated, root_block, stamps_at}
-use Rattle.adf_blocks.specs.Sizes.{middle}
+use Rattle.adf_blocks.specs.declared.layout.TheConstants.{BITMAP_FLAG, FIRST_MAP_EXT, FIRST_SLOT, SECONDARY_TYPE, SLOTS, ST_ROOT, TYPE, T_SHORT}
+use Rattle.adf_blocks.specs.RootBlock.{label_stated, stamps_at}
+use Rattle.adf_blocks.specs.Sizes.{blocks, middle}
 use Rattle.adf_volume.specs.Fits.{FitsBy}
 use Rattle.adf_volume.specs.Image.{root_of, word_in}
 use Rattle.adf_volume.specs.Layout.{Layout}
 use Rattle.adf_volume.specs.Start.{is_image_len}
 use Rattle.adf_findings.specs.Opening.{opening_in}
 use Rattle.adf_findings.specs.Start.{has_root_type}
+use Rattle.adf_names.specs.Meta.{AreStamps}
 use Rattle.adf_names.specs.declared.meta.TheConstants.{NO_STAMPS}
-use Rattle.adf_rescue.specs.MadeRoot.{has_root, made_root, middle_block, rooted}
-use Rattle.adf_boot_blocks.specs.BootBlocks.{begins_with_dos}
-use Rattle.adf_rescue.specs.Opened.{IsOpened, with_boot_type, has_data, is_mended, opened, says_data, type_byte}
-use Rattle.adf_rescue.proofs.MadeRoots.{before_rooted, behind_rooted, front_rooted, length_rooted, made_fits, made_rooted, made_slot, root_is_whole}
+use Rattle.adf_rescue.specs.MadeRoot.{has_root, is_like_root, made_block, middle_block, rooted}
+use Rattle.adf_rescue.specs.Opened.{IsOpened, with_boot_type, has_data, is_mended, opened, says_data, states_type, type_byte}
+use Rattle.adf_rescue.proofs.MadeRoots.{before_rooted, behind_rooted, dated, extended, flagged, front_rooted, length_rooted, made_is_whole, made_rooted}
+use Rattle.adf_rescue.proofs.MadeRoots.{made_slot, named}
 use Rattle.adf_rescue.proofs.MadeRoots.{root_within, sized, undated, unnamed, whole_rooted}
 
 -- block 0 of the part of an image that is block b
@@ -59,20 +60,23 @@ begun_anew bs t = refl
 
 -- an image that begins as a volume, or is made to
 
-pub begun_same : (image : List ℕ) → begins_with_dos image ≡ true → with_boot_type image ≡ image
-begun_same image h = cond-true (begins_with_dos image) image _ h
+pub begun_same : (image : List ℕ) → states_type image ≡ true → with_boot_type image ≡ image
+begun_same image h = cond-true (states_type image) image _ h
 
-pub begun_other : (image : List ℕ) → begins_with_dos image ≡ false → with_boot_type image ≡ codes "DOS" ++ type_byte image ∷ drop 4 image
-begun_other image h = cond-false (begins_with_dos image) image _ h
+pub begun_other : (image : List ℕ) → states_type image ≡ false → with_boot_type image ≡ codes "DOS" ++ type_byte image ∷ drop 4 image
+begun_other image h = cond-false (states_type image) image _ h
 
 pub length_begun : (image : List ℕ) → 4 ≤ length image → length (with_boot_type image) ≡ length image
 length_begun image long = grind (arith, common_steps, cond_both, length-drop)
 
 rest_begun : (image : List ℕ) → drop 4 (with_boot_type image) ≡ drop 4 image
-rest_begun image = cond_both (begins_with_dos image) image _ (λ l. drop 4 l ≡ drop 4 image) (λ e. refl) (λ e. refl)
+rest_begun image = cond_both (states_type image) image _ (λ l. drop 4 l ≡ drop 4 image) (λ e. refl) (λ e. refl)
 
-dos_begun : (image : List ℕ) → begins_with_dos (with_boot_type image) ≡ true
-dos_begun image = cond_both (begins_with_dos image) image _ (λ l. begins_with_dos l ≡ true) (λ e. e) (λ e. refl)
+small_type : (image : List ℕ) → nat_le (type_byte image) 5 ≡ true
+small_type image = cond_both (has_data image (blocks image)) 0 1 (λ t. nat_le t 5 ≡ true) (λ e. refl) (λ e. refl)
+
+type_begun : (image : List ℕ) → states_type (with_boot_type image) ≡ true
+type_begun image = cond_both (states_type image) image _ (λ l. states_type l ≡ true) (λ e. e) (λ e. small_type image)
 
 -- bytes that are the same from a place on
 past : (xs ys : List ℕ) (n m : ℕ) → drop n xs ≡ drop n ys → n ≤ m → drop m xs ≡ drop m ys
@@ -118,7 +122,7 @@ module _ (image : List ℕ) (len : is_image_len (length image) ≡ true) where
   kept_middle : has_root image ≡ true → block (rooted (with_boot_type image)) (root_of image) ≡ middle_block image
   kept_middle h = grind (arith, common_steps, whole_rooted, same_has, block_begun, root_within)
 
-  made_middle : has_root image ≡ false → block (rooted (with_boot_type image)) (root_of image) ≡ root_block (made_root (with_boot_type image))
+  made_middle : has_root image ≡ false → block (rooted (with_boot_type image)) (root_of image) ≡ made_block (with_boot_type image)
   made_middle h = grind (arith, common_steps, same_root, made_rooted, room, same_has)
 
   same_table : (s : ℕ) → s < SLOTS → word_in image (root_of image) (FIRST_SLOT + s) < 2 ^ 32
@@ -128,8 +132,7 @@ module _ (image : List ℕ) (len : is_image_len (length image) ≡ true) where
   middle_is_whole : (let b = block (rooted (with_boot_type image)) (root_of image) in has_root_type b && (long_sum b == 0)) ≡ true
   middle_is_whole = elim (cases_Bool (has_root image)) [
     | inl whole ↦ ap (λ b. has_root_type b && (long_sum b == 0)) (kept_middle whole) ∙ whole
-    | inr none ↦ ap (λ b. has_root_type b && (long_sum b == 0)) (made_middle none)
-        ∙ root_is_whole (made_root (with_boot_type image)) (made_fits (with_boot_type image))
+    | inr none ↦ ap (λ b. has_root_type b && (long_sum b == 0)) (made_middle none) ∙ made_is_whole (with_boot_type image)
   ]
 
 -- an image that is opened as it is, or with a beginning and a root
@@ -158,7 +161,7 @@ mended_long image h = long image (mended_len image h)
 pub begun_len : (image : List ℕ) → is_mended image ≡ true → is_image_len (length (with_boot_type image)) ≡ true
 begun_len image h = ap is_image_len (same_length image (mended_len image h)) ∙ mended_len image h
 
-pub same_opened : (image : List ℕ) → begins_with_dos image ≡ true → has_root image ≡ true → opened image ≡ image
+pub same_opened : (image : List ℕ) → states_type image ≡ true → has_root image ≡ true → opened image ≡ image
 same_opened image dos root = grind (arith, common_steps, opened_kept, and_right, not_from_true, and_from)
 
 pub odd_opened : (image : List ℕ) → is_image_len (length image) ≡ false → opened image ≡ image
@@ -194,14 +197,22 @@ no_root_mended image len none = grind (arith, common_steps, and_from, not_from_f
 pub root_opened : (image : List ℕ) → is_image_len (length image) ≡ true → has_root (opened image) ≡ true
 root_opened image len = grind (arith, cases_Bool, middle_opened, opened_mended, middle_is_whole, opened_kept, no_root_mended)
 
--- a root of which the middle block says nothing has no label and no dates
+-- a root that is made where nothing is like one has no label and no dates
 
-module _ (image : List ℕ) (len : is_image_len (length image) ≡ true) (none : has_root_type (middle_block image) ≡ false) where
-  made_opened : middle_block (opened image) ≡ root_block (made_root (with_boot_type image))
-  made_opened = grind (arith, common_steps, and_left, middle_opened, opened_mended, no_root_mended, made_middle)
+not_root : (a b c : Bool) → ((a && b) || ((a || b) && c)) ≡ false → (a && b) ≡ false
+not_root true true c h = absurd cc
+not_root true false c h = refl
+not_root false b c h = refl
 
-  still_none : has_root_type (middle_block (with_boot_type image)) ≡ false
-  still_none = ap has_root_type (same_middle image len) ∙ none
+module _ (image : List ℕ) (len : is_image_len (length image) ≡ true) (none : is_like_root (middle_block image) ≡ false) where
+  no_type : has_root_type (middle_block image) ≡ false
+  no_type = not_root (word (middle_block image) TYPE == T_SHORT) (word (middle_block image) SECONDARY_TYPE == ST_ROOT) _ none
+
+  made_opened : middle_block (opened image) ≡ made_block (with_boot_type image)
+  made_opened = let type = no_type in grind (arith, common_steps, and_left, middle_opened, opened_mended, no_root_mended, made_middle)
+
+  still_none : is_like_root (middle_block (with_boot_type image)) ≡ false
+  still_none = ap is_like_root (same_middle image len) ∙ none
 
   pub unnamed_opened : (opening_in (opened image)).label ≡ []
   unnamed_opened = ap label_stated made_opened ∙ unnamed (with_boot_type image) still_none
@@ -209,30 +220,83 @@ module _ (image : List ℕ) (len : is_image_len (length image) ≡ true) (none :
   pub undated_opened : (opening_in (opened image)).stamps ≡ NO_STAMPS
   undated_opened = ap stamps_at made_opened ∙ undated (with_boot_type image) still_none
 
+-- where the middle block is like a root, what it says stays
+
+middle_either : (image : List ℕ) (P : List ℕ → Type 0) → P (middle_block image) → (is_image_len (length image) ≡ true → P (made_block (with_boot_type image)))
+    → P (middle_block (opened image))
+middle_either image P same made = elim (cases_Bool (is_mended image)) [
+  | inr kept ↦ subst (λ l. P (middle_block l)) (sym (opened_kept image kept)) same
+  | inl mended ↦
+      let len = mended_len image mended in
+      let at : middle_block (opened image) ≡ block (rooted (with_boot_type image)) (root_of image) =
+      middle_opened image ∙ ap (λ l. block l (root_of image)) (opened_mended image mended) in
+      elim (cases_Bool (has_root image)) [
+        | inl whole ↦ subst P (sym (at ∙ kept_middle image len whole)) same
+        | inr none ↦ subst P (sym (at ∙ made_middle image len none)) (made len)
+      ]
+]
+
+module _ (image : List ℕ) (like : is_like_root (middle_block image) ≡ true) where
+  still_like : is_image_len (length image) ≡ true → is_like_root (middle_block (with_boot_type image)) ≡ true
+  still_like len = ap is_like_root (same_middle image len) ∙ like
+
+  pub named_opened : label_stated (middle_block (opened image)) ≡ label_stated (middle_block image)
+  named_opened =
+      middle_either image (λ b. label_stated b ≡ label_stated (middle_block image)) refl
+      (λ len. named (with_boot_type image) (still_like len) ∙ ap label_stated (same_middle image len))
+
+  pub dated_opened : AreStamps (stamps_at (middle_block image)) → stamps_at (middle_block (opened image)) ≡ stamps_at (middle_block image)
+  dated_opened fit =
+      middle_either image (λ b. stamps_at b ≡ stamps_at (middle_block image)) refl
+      (λ len. dated (with_boot_type image) (still_like len) (subst (λ b. AreStamps (stamps_at b)) (sym (same_middle image len)) fit)
+      ∙ ap stamps_at (same_middle image len))
+
+  pub flagged_opened : word (middle_block image) BITMAP_FLAG < 2 ^ 32
+      → word (middle_block (opened image)) BITMAP_FLAG ≡ word (middle_block image) BITMAP_FLAG
+  flagged_opened small =
+      middle_either image (λ b. word b BITMAP_FLAG ≡ word (middle_block image) BITMAP_FLAG) refl
+      (λ len. flagged (with_boot_type image) (still_like len) (subst (λ b. word b BITMAP_FLAG < 2 ^ 32) (sym (same_middle image len)) small)
+      ∙ ap (λ b. word b BITMAP_FLAG) (same_middle image len))
+
+  pub extended_opened : word (middle_block image) FIRST_MAP_EXT < 2 ^ 32
+      → word (middle_block (opened image)) FIRST_MAP_EXT ≡ word (middle_block image) FIRST_MAP_EXT
+  extended_opened small =
+      middle_either image (λ b. word b FIRST_MAP_EXT ≡ word (middle_block image) FIRST_MAP_EXT) refl
+      (λ len. extended (with_boot_type image) (still_like len) (subst (λ b. word b FIRST_MAP_EXT < 2 ^ 32) (sym (same_middle image len)) small)
+      ∙ ap (λ b. word b FIRST_MAP_EXT) (same_middle image len))
+
 -- it begins as a volume
 
-first_bytes : (image : List ℕ) (n : ℕ) → 3 ≤ n → begins_with_dos (take n image) ≡ begins_with_dos image
+first_bytes : (image : List ℕ) (n : ℕ) → 4 ≤ n → states_type (take n image) ≡ states_type image
 first_bytes image n h = grind (arith, common_steps, get_or-take)
 
-dos_rooted : (image : List ℕ) → is_image_len (length image) ≡ true → begins_with_dos (rooted (with_boot_type image)) ≡ true
-dos_rooted image len =
+type_rooted : (image : List ℕ) → is_image_len (length image) ≡ true → states_type (rooted (with_boot_type image)) ≡ true
+type_rooted image len =
     let w = root_within image len in
     let n : ℕ = root_of (with_boot_type image) * 512 in
-    let far : 3 ≤ n = omega (arith, same_root image len, w.low) in
-    sym (first_bytes (rooted (with_boot_type image)) n far) ∙ (ap begins_with_dos (before_rooted (with_boot_type image) (room image len))
-    ∙ (first_bytes (with_boot_type image) n far ∙ dos_begun image))
+    let far : 4 ≤ n = omega (arith, same_root image len, w.low) in
+    sym (first_bytes (rooted (with_boot_type image)) n far) ∙ (ap states_type (before_rooted (with_boot_type image) (room image len))
+    ∙ (first_bytes (with_boot_type image) n far ∙ type_begun image))
 
-pub dos_opened : (image : List ℕ) → is_image_len (length image) ≡ true → begins_with_dos (opened image) ≡ true
-dos_opened image len = grind (arith, common_steps, cases_Bool, opened_mended, dos_rooted, opened_kept, and_from, not_from_false, and_left)
+kept_type : (a b c : Bool) → (a && not (b && c)) ≡ false → a ≡ true → b ≡ true
+kept_type true true c h e = refl
+kept_type true false c h e = absurd cc
+kept_type false b c h e = absurd cc
+
+pub type_opened : (image : List ℕ) → is_image_len (length image) ≡ true → states_type (opened image) ≡ true
+type_opened image len = elim (cases_Bool (is_mended image)) [
+  | inl mended ↦ ap states_type (opened_mended image mended) ∙ type_rooted image len
+  | inr kept ↦ ap states_type (opened_kept image kept) ∙ kept_type (is_image_len (length image)) (states_type image) (has_root image) kept len
+]
 
 -- an image that a tree fits is not mended
 
-front_tests : (a b c d : Bool) → (a && b && c && d) ≡ true → (a && b && c) ≡ true
-front_tests a b c d h = grind (arith, common_steps, and_parts, and_from)
+type_tests : (a b c d : Bool) → (a && b && c && d) ≡ true → ((a && b && c) && d) ≡ true
+type_tests a b c d h = grind (arith, common_steps, and_parts, and_from)
 
-first_block : (image : List ℕ) → begins_with_dos (block image 0) ≡ begins_with_dos image
+first_block : (image : List ℕ) → states_type (block image 0) ≡ states_type image
 unfolding block
 first_block image = first_bytes image 512 (omega arith)
 
 pub volumes_are_kept : (letters : Letters) (image : List ℕ) (t : Tree) (l : Layout) → FitsBy letters image t l → is_mended image ≡ false
-volumes_are_kept letters image t l fits = grind (arith, common_steps, first_block, front_tests, and_from, and_right, not_from_true)
+volumes_are_kept letters image t l fits = grind (arith, common_steps, first_block, type_tests, and_from, and_right, not_from_true)

@@ -21,12 +21,12 @@ abbrev pub has_root : List ℕ → Bool
 has_root image = has_root_type (middle_block image) && (long_sum (middle_block image) == 0)
 
 -- the primary type of a block that is no bitmap page
-abbrev pub is_other_type : ℕ → Bool
-is_other_type t = (t == 0) || (t == T_SHORT) || (t == T_DATA) || (t == T_LIST) || (t == T_DIR_CACHE)
+abbrev pub is_no_page_type : ℕ → Bool
+is_no_page_type t = (t == 0) || (t == T_SHORT) || (t == T_DATA) || (t == T_LIST) || (t == T_DIR_CACHE)
 
 -- a block says that it is a bitmap page: its sum is right, and its first word is not that of another kind of block
 abbrev pub is_page_block : List ℕ → Bool
-is_page_block b = (long_sum b == 0) && not (is_other_type (word b TYPE))
+is_page_block b = (long_sum b == 0) && not (is_no_page_type (word b TYPE))
 
 -- block b of an image, behind the boot blocks, says so
 abbrev pub says_page : List ℕ → ℕ → Bool

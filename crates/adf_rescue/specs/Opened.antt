@@ -1,6 +1,7 @@
 -- An image whose boot block or root was overwritten, as if these were those of a volume.
 -- Letters: b the number of a block; k a number of blocks.
-use Rattle.std.specs.Prelude.{ℕ, ◌≡◌, ◌==◌, ◌&&◌, ◌||◌, not, nat_le, nat_lt, Bool, false, true, cond, Option, None, Some, List, ◌∷◌, ◌++◌, codes, drop, length, slice_index}
+use Rattle.std.specs.Prelude.{ℕ, ◌≡◌, ◌==◌, ◌&&◌, ◌||◌, not, nat_le, nat_lt, Bool, false, true, cond, Option, None, Some, List, ◌∷◌, ◌++◌}
+use Rattle.std.specs.Prelude.{codes, drop, length, slice_index}
 use Rattle.std.proofs.Common.{zero, suc}
 use Rattle.adf_base.specs.Words.{block, long_sum}
 use Rattle.adf_blocks.specs.declared.layout.TheConstants.{DATA_HEAD, OWN_KEY, SECONDARY_TYPE, ST_FILE, TYPE, T_DATA, T_SHORT}

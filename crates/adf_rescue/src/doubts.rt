@@ -86,8 +86,8 @@ fn kept_in_doubt(entry: Node, doubt: Option<Doubt>, is_kept: bool) -> Option<Dou
     }
 }
 
-/// The entries of a survey that are kept in doubt, in the order of the walk, by the marks of those that are kept. `NoMemory` if an
-/// allocation fails.
+/// The entries of a survey that are kept in doubt, in the order of the walk, by the marks of those that are kept. `NoMemory` if
+/// an allocation fails.
 pub fn first_doubts(
     alloc: Global,
     survey: &Survey<'_>,
@@ -100,7 +100,10 @@ pub fn first_doubts(
     for before in 0..survey.len() {
         let n = Node(before + 1);
         let doubt = first_doubt(survey, n);
-        push_some(&mut doubts, kept_in_doubt(n, doubt, has_mark(kept, n.0)))?;
+        push_some(
+            &mut doubts,
+            kept_in_doubt(n, doubt, has_mark(kept, before + 1)),
+        )?;
     }
     Ok(doubts)
 }
@@ -119,13 +122,16 @@ fn doubts_of_second(
     for before in 0..second.len() {
         let n = Node(before + 1);
         let doubt = second_doubt(survey, second, n);
-        push_some(&mut doubts, kept_in_doubt(n, doubt, has_mark(kept, n.0)))?;
+        push_some(
+            &mut doubts,
+            kept_in_doubt(n, doubt, has_mark(kept, before + 1)),
+        )?;
     }
     Ok(doubts)
 }
 
-/// The entries of the second survey that are kept in doubt, in the order of the walk, by the marks of those that are kept. `NoMemory`
-/// if an allocation fails.
+/// The entries of the second survey that are kept in doubt, in the order of the walk, by the marks of those that are kept.
+/// `NoMemory` if an allocation fails.
 pub fn second_doubts(
     alloc: Global,
     survey: &Survey<'_>,

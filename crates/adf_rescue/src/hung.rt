@@ -208,8 +208,9 @@ fn ends(alloc: Global, survey: &Survey<'_>) -> Result<Vec<u32>, NoMemory>
 // Whether block `p` is a directory that things can be hung in: of the survey, lost, or made.
 fn is_container(survey: &Survey<'_>, loose: &Loose, p: u32) -> bool
     requires { is_image_len (length survey.now.image) ≡ true }
-    ensures { OnSurvey survey.now.image (λ w _. (s : ℕ → Bool) → AreLoose survey.now.image w s loose.now
+    ensures is { OnSurvey survey.now.image (λ w _. (s : ℕ → Bool) → AreLoose survey.now.image w s loose.now
         → result ≡ is_container survey.now.image w s p) }
+    ensures inside { result ≡ true → p < blocks survey.now.image }
 {
     in_range(survey.image(), p)
         && (directory_at(survey, p).is_some()

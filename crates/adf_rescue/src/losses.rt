@@ -4,7 +4,8 @@ ghost use Rattle.std.specs.List.{cons_option};
 ghost use Rattle.std.specs.Prelude.{◌≡◌, ◌++◌, ◌∷◌, [], IfOk, OnOk, cond, option_map, slice_get};
 ghost use Rattle.std.specs.Option.{option_and_then};
 ghost use Rattle.adf_findings.specs.Survey.{OnSurvey};
-ghost use Rattle.adf_rescue.specs.Losses.{is_second_block, is_unowned, lost_block, lost_blocks, lost_header, lost_headers, skipped_in};
+ghost use Rattle.adf_rescue.specs.Losses.{is_second_block, is_unowned, lost_block, lost_blocks, lost_header, lost_headers};
+ghost use Rattle.adf_rescue.specs.Losses.{skipped_in};
 ghost use Rattle.adf_rescue.specs.Rescue.{OnSecond};
 
 use adf_base::NoMemory;
@@ -81,8 +82,8 @@ fn made_place(alloc: Global, made: bool) -> Result<Vec<Node>, NoMemory>
     Ok(places)
 }
 
-/// The directories of the survey in which headers are lost: the root, if it was made, and for each header that was skipped the one in
-/// which it was, in the order of the findings. `NoMemory` if an allocation fails.
+/// The directories of the survey in which headers are lost: the root, if it was made, and for each header that was skipped
+/// the one in which it was, in the order of the findings. `NoMemory` if an allocation fails.
 pub fn lost_headers(alloc: Global, survey: &Survey<'_>, made: bool) -> Result<Vec<Node>, NoMemory>
     ensures { OnSurvey survey.now.image (λ w fs. IfOk result (λ v. v.items ≡ lost_headers made w fs)) }
 {

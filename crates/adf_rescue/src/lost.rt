@@ -248,12 +248,12 @@ fn mark_skipped(survey: &Survey<'_>, marks: &mut Vec<bool>, k: usize)
 }
 
 // The marks of the directories in which a header was skipped.
-#[tactic(auto, using(crate::proofs::LostHeaders::skipped_first, crate::proofs::LostHeaders::unmarked))]
 fn skipped(alloc: Global, survey: &Survey<'_>) -> Result<Vec<bool>, NoMemory>
     ensures { OnSurvey survey.now.image (λ w fs.
         IfOk result (λ v. AreSkipped w fs (length fs) v.items)) }
 {
-    let mut marks = vec![in alloc; false; survey.len().saturating_add(1)]?;
+    let entries = survey.len();
+    let mut marks = vec![in alloc; false; entries.saturating_add(1)]?;
     for k in 0..survey.findings().len() {
         mark_skipped(survey, &mut marks, k);
     }
@@ -283,7 +283,7 @@ fn is_open(survey: &Survey<'_>, made: bool, skipped: &Vec<bool>, n: Node) -> boo
 }
 
 // The marks of the directories that are open.
-#[tactic(auto, using(crate::proofs::LostHeaders::open_marked))]
+#[tactic(auto, using(crate::proofs::LostHeaders::open_more))]
 fn open_marks(alloc: Global, survey: &Survey<'_>, made: bool) -> Result<Vec<bool>, NoMemory>
     requires { is_image_len (length survey.now.image) ≡ true }
     ensures { OnSurvey survey.now.image (λ w fs.
@@ -353,7 +353,8 @@ pub fn gather(alloc: Global, survey: &Survey<'_>, made: bool) -> Result<Evidence
 // Whether block `b` is in range, and neither the root nor a part of the survey.
 fn is_no_part(survey: &Survey<'_>, b: u32) -> bool
     requires { is_image_len (length survey.now.image) ≡ true }
-    ensures { OnSurvey survey.now.image (λ w _. result ≡ is_no_part survey.now.image w b) }
+    ensures is { OnSurvey survey.now.image (λ w _. result ≡ is_no_part survey.now.image w b) }
+    ensures inside { result ≡ true → b < blocks survey.now.image }
 {
     let image = survey.image();
     in_range(image, b) && b != root_of(image) && !survey.has_part(b)
@@ -444,11 +445,7 @@ fn is_lost(survey: &Survey<'_>, evidence: &Evidence, b: u32) -> bool
 
 /// Whether each block is a lost header.
 #[tactic(auto, using(crate::proofs::LostHeaders::lost_more, crate::proofs::LostHeaders::lost_marked))]
-pub fn lost(
-    alloc: Global,
-    survey: &Survey<'_>,
-    evidence: &Evidence,
-) -> Result<Vec<bool>, NoMemory>
+pub fn lost(alloc: Global, survey: &Survey<'_>, evidence: &Evidence) -> Result<Vec<bool>, NoMemory>
     requires { is_image_len (length survey.now.image) ≡ true }
     ensures { OnSurvey survey.now.image (λ w _. (s : ℕ → Bool) → IsEvidence survey.now.image w s evidence.now
         → IfOk result (λ v. AreLost survey.now.image w s v.items)) }

@@ -3,7 +3,7 @@
 ghost use Rattle.std.specs.Prelude.{◌≡◌, ◌<◌, length, true};
 ghost use Rattle.adf_blocks.specs.declared.layout.TheConstants.{ROOT_PAGES};
 ghost use Rattle.adf_volume.specs.Start.{is_image_len};
-ghost use Rattle.adf_rescue.specs.MadeRoot.{flag_in, has_root, is_like_root, is_other_type, is_page_block, label_in};
+ghost use Rattle.adf_rescue.specs.MadeRoot.{flag_in, has_root, is_like_root, is_no_page_type, is_page_block, label_in};
 ghost use Rattle.adf_rescue.specs.MadeRoot.{map_ext_in, page_found, root_pages, rooted, says_page, slots_in, stamps_in};
 
 use crate::image::{block_in, root_of};
@@ -31,8 +31,8 @@ pub fn has_root(image: &[u8]) -> bool
 }
 
 // Whether a primary type is that of a block that is no bitmap page.
-fn is_other_type(kind: u32) -> bool
-    ensures { result ≡ is_other_type kind }
+fn is_no_page_type(kind: u32) -> bool
+    ensures { result ≡ is_no_page_type kind }
 {
     matches!(kind, 0 | T_SHORT | T_DATA | T_LIST | T_DIR_CACHE)
 }
@@ -41,7 +41,7 @@ fn is_other_type(kind: u32) -> bool
 fn is_page_block(block: &Block<'_>) -> bool
     ensures { result ≡ is_page_block block.now }
 {
-    block.long_sum() == 0 && !is_other_type(block.word(TYPE))
+    block.long_sum() == 0 && !is_no_page_type(block.word(TYPE))
 }
 
 /// Whether a block of an image, behind the boot blocks, says so.

@@ -1,11 +1,14 @@
 // Images whose boot block or root was overwritten.
 
 ghost use Rattle.std.specs.Prelude.{◌≡◌, ◌<◌, ◌≤◌, ◌+◌, ◌*◌, ◌^◌, ◌∷◌, [], ℕ, List, IfOk, drop, false, length, slice_range, true};
-ghost use Rattle.adf_blocks.specs.declared.layout.TheConstants.{FIRST_SLOT, SLOTS};
+ghost use Rattle.adf_base.specs.Words.{word};
+ghost use Rattle.adf_blocks.specs.declared.layout.TheConstants.{BITMAP_FLAG, FIRST_MAP_EXT, FIRST_SLOT, SLOTS};
+ghost use Rattle.adf_blocks.specs.RootBlock.{label_stated, stamps_at};
 ghost use Rattle.adf_blocks.specs.Sizes.{blocks};
 ghost use Rattle.adf_volume.specs.Image.{root_of, word_in};
 ghost use Rattle.adf_volume.specs.Start.{is_image_len};
 ghost use Rattle.adf_findings.specs.Opening.{opening_in};
+ghost use Rattle.adf_names.specs.Meta.{AreStamps};
 ghost use Rattle.adf_names.specs.declared.meta.TheConstants.{NO_STAMPS};
 ghost use Rattle.adf_rescue.specs.MadeRoot.{has_root, is_like_root, middle_block};
 ghost use Rattle.adf_rescue.specs.Opened.{has_data, is_mended, lacks_boot, lacks_root, opened, says_data, says_file};
@@ -19,8 +22,8 @@ use adf_boot_blocks::begins_with_dos;
 use adf_volume::is_image_len;
 use std::alloc::Global;
 
-/// Whether block `b` says that it is a file's header.
-pub fn says_file(image: &[u8], b: usize) -> bool
+// Whether block `b` says that it is a file's header.
+fn says_file(image: &[u8], b: usize) -> bool
     requires { b < blocks image.now }
     ensures { result ≡ says_file image.now b }
 {
@@ -124,13 +127,14 @@ fn mend(image: &mut [u8])
     make_root(image);
 }
 
-/// Makes an image the one that a rescue reads. Where it does not begin with `DOS` and a byte of at most 5, it begins with `DOS` and
-/// a type: OFS (0) if some OFS data block names a file's header that says that it is one, else FFS (1). Where its middle block is
-/// not a whole root, by words 0 and 127 and the checksum, it has one: with words 6 to 77 as they stand, and the bitmap pages that
-/// say that they are pages. If two of the words 0, 3 and 127 of the middle block are those of a root, the label, the dates, the
-/// bitmap flag (word 78) and the first bitmap extension block (word 104) are those that stand there; otherwise there is no label,
-/// no date and no extension block, and the flag is that of a valid bitmap. An image that begins with `DOS` and a byte of at most 5
-/// and has a whole root stays as it is, and so does one of a length that no volume has.
+/// Makes an image the one that a rescue reads. Where it does not begin with `DOS` and a byte of at most 5, it begins with
+/// `DOS` and a type: OFS (0) if some OFS data block names a file's header that says that it is one, else FFS (1). Where its
+/// middle block is not a whole root, by words 0 and 127 and the checksum, it has one: with words 6 to 77 as they stand, and
+/// the bitmap pages that say that they are pages. If two of the words 0, 3 and 127 of the middle block are those of a root,
+/// the label, the dates, the bitmap flag (word 78) and the first bitmap extension block (word 104) are those that stand
+/// there; otherwise there is no label, no date and no extension block, and the flag is that of a valid bitmap. An image that
+/// begins with `DOS` and a byte of at most 5 and has a whole root stays as it is, and so does one of a length that no volume
+/// has.
 #[tactic(auto, using(crate::proofs::OpenedImages::opened_kept))]
 pub fn open(image: &mut [u8])
     ensures { image.new ≡ opened image.old }
@@ -140,12 +144,11 @@ pub fn open(image: &mut [u8])
     }
 }
 
-/// An image that begins with `DOS` and a byte of at most 5 and has a whole root is opened as it is, and so is one of another length.
-/// An opened image has as many bytes; only the first four and the middle block are changed, and of that not the table, words 6
-/// to 77. If the length is that of a volume, it begins with `DOS` and a byte of at most 5 and has a whole root. If the middle block
-/// has no whole root, the root that is made has the label, the dates, the bitmap flag and the first bitmap extension block that
-/// stand there, if it is like a root (two of words 0, 3 and 127); otherwise no label, no dates, the flag of a valid bitmap and no
-/// extension block.
+/// An image that begins with `DOS` and a byte of at most 5 and has a whole root is opened as it is, and so is one of another
+/// length. An opened image has as many bytes; only the first four and the middle block are changed, and of that not the table,
+/// words 6 to 77. If the length is that of a volume, it begins with `DOS` and a byte of at most 5 and has a whole root. Where the
+/// middle block is like a root (two of words 0, 3 and 127), the label, the dates, the bitmap flag and the first bitmap extension
+/// block stay; where it is not, there is no label and no date.
 pub fn opened_keeps()
     ensures same { (image : List ℕ) → states_type image ≡ true → has_root image ≡ true → opened image ≡ image }
     ensures odd { (image : List ℕ) → is_image_len (length image) ≡ false → opened image ≡ image }
@@ -164,4 +167,14 @@ pub fn opened_keeps()
         → is_like_root (middle_block image) ≡ false → (opening_in (opened image)).label ≡ [] }
     ensures stamps { (image : List ℕ) → is_image_len (length image) ≡ true
         → is_like_root (middle_block image) ≡ false → (opening_in (opened image)).stamps ≡ NO_STAMPS }
+    ensures named { (image : List ℕ) → is_like_root (middle_block image) ≡ true
+        → (opening_in (opened image)).label ≡ label_stated (middle_block image) }
+    ensures dated { (image : List ℕ) → is_like_root (middle_block image) ≡ true
+        → AreStamps (stamps_at (middle_block image)) → (opening_in (opened image)).stamps ≡ stamps_at (middle_block image) }
+    ensures flag { (image : List ℕ) → is_like_root (middle_block image) ≡ true
+        → word (middle_block image) BITMAP_FLAG < 2 ^ 32
+        → word (middle_block (opened image)) BITMAP_FLAG ≡ word (middle_block image) BITMAP_FLAG }
+    ensures extension { (image : List ℕ) → is_like_root (middle_block image) ≡ true
+        → word (middle_block image) FIRST_MAP_EXT < 2 ^ 32
+        → word (middle_block (opened image)) FIRST_MAP_EXT ≡ word (middle_block image) FIRST_MAP_EXT }
 {}

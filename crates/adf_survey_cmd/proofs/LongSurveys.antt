@@ -1,5 +1,6 @@
 -- What is answered to the front of an input that is longer than the largest image is answered to the whole of it.
--- Letters: s, t what is surveyed; w the walk of a survey, fs its findings; n an entry's node.
+-- Letters: s, t what is surveyed; w the walk of a survey, fs its findings; n an entry's node; lost, ls losses of
+-- blocks.
 use Rattle.std.proofs.Common.{◌≡◌, ◌<◌, ◌≤◌, ◌+◌, ◌-◌, ◌*◌, ◌∙◌, ◌++◌, true, false, inl, inr, ℕ, Bool, List, [], ◌∷◌, Option, None, Some, refl, ap, ap₂, arith}
 use Rattle.std.proofs.Common.{subst, sym, ◌==◌, ◌&&◌, cond, length, replicate, take}
 use Rattle.std.proofs.lemmas.Bool.{and_left, cond-false, false_from_ne_true}
@@ -19,7 +20,10 @@ use Rattle.adf_findings.specs.OwnKind.{is_mistyped}
 use Rattle.adf_findings.proofs.OneSurvey.{one_survey}
 use Rattle.adf_findings.proofs.OwnKinds.{none_mistyped}
 use Rattle.adf_runs.specs.Commands.{Reply, on_output}
-use Rattle.adf_rescue.specs.Opened.{is_mended, lacks_boot, opened}
+use Rattle.adf_volume.specs.Start.{is_image_len}
+use Rattle.adf_rescue.specs.Hung.{hung, second_image}
+use Rattle.adf_rescue.specs.Lost.{has_lost, is_open}
+use Rattle.adf_rescue.specs.Opened.{lacks_boot, lacks_root, opened}
 use Rattle.adf_rescue.specs.Rescue.{Basis}
 use Rattle.adf_rescue.proofs.OpenedImages.{length_opened}
 use Rattle.adf_rescue.proofs.MadeRoots.{sized as sized_len}
@@ -31,10 +35,10 @@ use Rattle.adf_survey_cmd.specs.Subject.{IsTyped, OfTyped, SubjectValue, begun_s
 use Rattle.adf_survey_cmd.specs.Subject.{sized, subject, subject_read, subject_text, typed_by, typed_subject}
 use Rattle.adf_file_words.specs.SurveyLine.{AreFew, InquiryValue, QuestionValue, cat, list, report, rescue}
 use Rattle.adf_survey_cmd.specs.Lines.{findings_text, runs_from}
-use Rattle.adf_survey_cmd.specs.Rescues.{RescueValue, Rescues, RescuesBoth, RescuesFound, second_image}
+use Rattle.adf_survey_cmd.specs.Losses.{LossValue}
+use Rattle.adf_survey_cmd.specs.Rescues.{RescueValue, Rescues, RescuesBoth, RescuesFound}
 use Rattle.adf_survey_cmd.proofs.HintedAnswers.{same_disk}
 use Rattle.adf_survey_cmd.proofs.ReadLengths.{few_read, same_read, same_stated}
-use Rattle.adf_survey_cmd.proofs.RescueAnswers.{none_hung}
 
 -- an input of a bad size has this finding
 bad_size : List FindingValue
@@ -69,22 +73,27 @@ same_found false s t names reply (inr (n, leads, inr (inl (file, damage, e)))) =
 same_found false s t names reply (inr (n, leads, inr (inr (sound, e)))) = absurd sound.0.0.header.has
 
 -- no volume has this length, so nothing is hung
-none_second : (mended : Bool) (image : List ℕ) (w : Walk) (fs : List FindingValue) → 512 * MOST_BLOCKS < length image
-    → second_image mended image w fs ≡ None
-none_second mended image w fs long = grind (arith, common_steps, false_from_ne_true, sized_len, none_hung, and_left)
+no_volume : (image : List ℕ) → 512 * MOST_BLOCKS < length image → is_image_len (length image) ≡ false
+no_volume image long = grind (arith, common_steps, false_from_ne_true, sized_len)
+
+none_second : (made : Bool) (image : List ℕ) (w : Walk) (fs : List FindingValue) → 512 * MOST_BLOCKS < length image
+    → second_image made image w fs ≡ None
+none_second made image w fs long =
+    let none : has_lost made image w fs ≡ false = and_left (is_image_len (length image)) _ (no_volume image long) in
+    cond-false (has_lost made image w fs) (Some (hung image w (is_open made image w fs))) None none
 
 -- nothing stands, and the first fault is told
-same_rescue : (types : Types) (held h : ℕ) (image bytes opened_image opened_bytes boot other : List ℕ) (r : RescueValue) → 512 * MOST_BLOCKS < length image
-    → 512 * MOST_BLOCKS < length bytes → 512 * MOST_BLOCKS < length opened_bytes → RescuesFound types held image opened_image [] bad_size boot r
-    → RescuesFound types h bytes opened_bytes [] bad_size other r
-same_rescue types held h image bytes opened_image opened_bytes boot other r a b c (sound, marks, (two, second, inl (none, (f, first, e)))) =
+same_rescue : (types : Types) (held h : ℕ) (lost ls : List LossValue) (image bytes opened_image opened_bytes boot other : List ℕ) (r : RescueValue) → 512 * MOST_BLOCKS < length image
+    → 512 * MOST_BLOCKS < length bytes → 512 * MOST_BLOCKS < length opened_bytes → RescuesFound types held lost image opened_image [] bad_size boot r
+    → RescuesFound types h ls bytes opened_bytes [] bad_size other r
+same_rescue types held h lost ls image bytes opened_image opened_bytes boot other r a b c (sound, marks, (two, second, inl (none, (f, first, e)))) =
     let basis : Basis = record { image = opened_bytes; walk = []; sound = λ n. false } in (
       (λ n. false),
       no_marks opened_bytes (grave bad_size),
-      subst (λ o. RescuesBoth types h bytes basis o bad_size other r) (sym (none_second (is_mended bytes) opened_bytes [] bad_size c))
+      subst (λ o. RescuesBoth types h ls bytes basis o bad_size other r) (sym (none_second (lacks_root bytes) opened_bytes [] bad_size c))
           (None, tt, inl (refl, (f, long_fault (letters_for types image) (letters_for types bytes) image bytes f a b first, e))),
     )
-same_rescue types held h image bytes opened_image opened_bytes boot other r a b c (sound, marks, (two, second, inr (some, e))) = absurd (some refl)
+same_rescue types held h lost ls image bytes opened_image opened_bytes boot other r a b c (sound, marks, (two, second, inr (some, e))) = absurd (some refl)
 
 -- and nothing is begun
 not_begun : (image : List ℕ) → 512 * MOST_BLOCKS < length image → lacks_boot image ≡ false
@@ -135,13 +144,13 @@ of_typed : (s t : SubjectValue) (answers : SubjectValue → Reply → Type 0) �
 of_typed s t answers a b reply same (u, is, x) = (t, long_typed t b, same (subst (λ u. answers u reply) (same_typed s u a is) x))
 
 long_rescue : (types : Types) (s t : SubjectValue) (boot other : List ℕ) → 512 * MOST_BLOCKS < length s.image → 512 * MOST_BLOCKS < length t.image
-    → (r : RescueValue) → Rescues types s.end s.image boot r → Rescues types t.end t.image other r
+    → (r : RescueValue) → Rescues types s.end s.lost s.image boot r → Rescues types t.end t.lost t.image other r
 long_rescue types s t boot other a b r (w, fs, h, found) = (
   [],
   bad_size,
   long_survey (opened t.image) (long_opened t.image b),
-  same_rescue types s.end t.end s.image t.image (opened s.image) (opened t.image) boot other r a b (long_opened t.image b)
-      (of_long (opened s.image) w fs (λ u gs. RescuesFound types s.end s.image (opened s.image) u gs boot r) (long_opened s.image a) h found),
+  same_rescue types s.end t.end s.lost t.lost s.image t.image (opened s.image) (opened t.image) boot other r a b (long_opened t.image b)
+      (of_long (opened s.image) w fs (λ u gs. RescuesFound types s.end s.lost s.image (opened s.image) u gs boot r) (long_opened s.image a) h found),
 )
 
 long_questions : (q : QuestionValue) (s t : SubjectValue) → s.front ≡ t.front → 512 * MOST_BLOCKS < length s.image
@@ -158,7 +167,7 @@ long_questions (cat damaged path) s t front a b reply (inr told) = inr (of_typed
     let found = of_long s.image x.2 x.3 (λ u gs. CopiesFound damaged s u gs x.0 reply) a x.4 x.5 in
     (x.0, x.1, [], bad_size, long_survey t.image b, same_found damaged s t x.0 reply found)) told)
 long_questions (rescue keep_type) s t front a b reply (r, (u, is, told), same) =
-    let rescues = subst (λ (u : SubjectValue). Rescues (types_kept keep_type) u.end u.image (sized 2 s.image) r) (typed_so s u a is) told in
+    let rescues = subst (λ (u : SubjectValue). Rescues (types_kept keep_type) u.end u.lost u.image (sized 2 s.image) r) (typed_so s u a is) told in
     (r, (t, is_typed t b, long_rescue (types_kept keep_type) s t (sized 2 s.image) (sized 2 t.image) a b r rescues), same)
 
 -- an image of n blocks is made of the front alone

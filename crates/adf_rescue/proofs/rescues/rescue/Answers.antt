@@ -2,7 +2,9 @@ use Rattle.std.proofs.Common.{◌≡◌, ◌∙◌, ap, arith}
 use Rattle.std.proofs.lemmas.Grind.{common_steps}
 use Rattle.adf_base.proofs.Results.{on_err}
 use Rattle.adf_volume.specs.Types.{letters_for}
-use Rattle.adf_rescue.proofs.Steps.{buildable}
+use Rattle.adf_volume.specs.Walk.{heads}
+use Rattle.adf_rescue.specs.Rescue.{Basis, first_verdicts_by}
+use Rattle.adf_rescue.proofs.Steps.{buildable, verdicts_count}
 use Rattle.adf_rescue.proofs.rescues.rescue.Goals as goal
 
 pub returns-in_default-clause-none : goal.returns-in_default-clause-none
@@ -13,6 +15,7 @@ returns-clause-fits c = grind (arith, common_steps, buildable)
 
 pub returns-clause-rescued : goal.returns-clause-rescued
 returns-clause-rescued c = λ w fs sound survey marks b is.
+    let a : Basis = record { image = c.args.survey.now.image; walk = w; sound = sound } in
     let letters = letters_for c.args.terms.types c.args.survey.now.image in
     let own : c.letters_for.result ≡ letters = c.letters_for.ensures ∙ ap (letters_for c.args.terms.types) c.image.ensures in
     let kept = c.in_ok-salvage.ensures.state letters c.args.terms.held (c.in_ok-begun.ensures.letters ∙ own) c.in_ok-begun.ensures.held
@@ -22,7 +25,9 @@ returns-clause-rescued c = λ w fs sound survey marks b is.
       tree = kept.tree;
       left_out = kept.left_before;
       second_left_out = kept.left_out;
-      lost_headers = c.in_ok-lost_headers.ensures w fs survey b is;
+      doubts = c.in_ok-doubts.ensures w fs survey (first_verdicts_by letters c.args.terms.held a) (verdicts_count _ _ (heads w)) kept.kept;
+      second_doubts = c.in_ok-second_doubts.ensures w fs sound survey marks b is letters c.args.terms.held kept.added;
+      lost_headers = c.in_ok-lost_headers.ensures w fs survey;
       lost_blocks = c.in_ok-lost_blocks.ensures w fs survey b is;
     }
 
@@ -35,3 +40,6 @@ returns-in_err-salvage-clause-begun c = grind (arith, on_err)
 
 pub returns-in_err-begun-clause-begun : goal.returns-in_err-begun-clause-begun
 returns-in_err-begun-clause-begun c = grind (arith, on_err)
+
+pub returns-in_err-doubts-clause-begun : goal.returns-in_err-doubts-clause-begun
+returns-in_err-doubts-clause-begun c = grind (arith, on_err)
