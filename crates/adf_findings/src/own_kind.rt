@@ -5,9 +5,9 @@ ghost use Rattle.adf_blocks.specs.Sizes.{blocks};
 ghost use Rattle.adf_volume.specs.Walk.{Role, heads, node_block};
 ghost use Rattle.adf_findings.specs.Files.{grave};
 ghost use Rattle.adf_findings.specs.Sound.{IsSound};
-ghost use Rattle.adf_findings.specs.OwnKind.{has_other_kind, has_other_letters, is_full_file, is_in_slot, is_mistyped, is_other_kind};
-ghost use Rattle.adf_findings.specs.OwnKind.{other_kind, other_letters, passing, retyped, said_in, slot_in, tallied, tally, told_type};
-ghost use Rattle.adf_findings.specs.OwnKind.{type_with};
+ghost use Rattle.adf_findings.specs.OwnKind.{has_other_kind, has_other_letters, is_full_file, is_in_slot, is_mistyped};
+ghost use Rattle.adf_findings.specs.OwnKind.{is_other_kind, other_kind, other_letters, passing, retyped, said_in, slot_in};
+ghost use Rattle.adf_findings.specs.OwnKind.{tallied, tally, told_type, type_with};
 ghost use Rattle.adf_findings.specs.Survey.{OnSurvey};
 
 use crate::found::ChainPlace;
