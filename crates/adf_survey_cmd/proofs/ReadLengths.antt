@@ -71,6 +71,7 @@ read_anew input = others_than (other_length None input) input (other_few None in
 -- a block of the front
 
 block_of_front : (bytes : List ℕ) (m b : ℕ) → b * 512 + 512 ≤ m → block (take m bytes) b ≡ block bytes b
+unfolding block
 block_of_front bytes m b low =
     let parts : m ≡ b * 512 + (m - b * 512) = omega arith in
     let cut : drop (b * 512) (take m bytes) ≡ take (m - b * 512) (drop (b * 512) bytes) =
