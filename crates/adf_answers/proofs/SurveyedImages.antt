@@ -21,21 +21,19 @@ use Rattle.adf_runs.specs.Commands.{Reply, bad_path, on_errors, on_output}
 use Rattle.adf_file_words.specs.SurveyLine.{QuestionValue, asked, cat, list, report, rescue}
 use Rattle.adf_survey_cmd.proofs.SomeRescues.{some_rescue as rescue_given}
 use Rattle.adf_survey_cmd.proofs.SubjectBytes.{subject_bytes, typed_bytes}
+use Rattle.adf_survey_cmd.proofs.Subjects.{some_typed}
 use Rattle.adf_survey_cmd.specs.Answers.{CopiesEntry, CopiesFound, CopiesFromSurvey, IsWholeFile, ListsSurvey, QuestionAnswer, Surveys, no_path_line}
 use Rattle.adf_survey_cmd.specs.Answers.{told_status, types_kept}
 use Rattle.adf_survey_cmd.specs.FoundLines.{has_its_data, listing_text}
 use Rattle.adf_survey_cmd.specs.Hints.{hinted}
 use Rattle.adf_survey_cmd.specs.Remains.{remains_reply}
 use Rattle.adf_survey_cmd.specs.Rescues.{rescue_reply}
-use Rattle.adf_survey_cmd.specs.Subject.{IsTyped, OfTyped, SubjectValue, begun_subject, sized, subject, subject_text, typed_subject}
+use Rattle.adf_survey_cmd.specs.Subject.{OfTyped, SubjectValue, begun_subject, sized, subject, subject_text}
 use Rattle.adf_answers.specs.Answered.{HasSurveyAnswer}
 
 -- a question has an answer, to which the hint comes
 abbrev IsAnswered : QuestionValue → SubjectValue → Type 0
 IsAnswered q s = (reply : Reply) × QuestionAnswer q s reply
-
-some_typed : (s : SubjectValue) → (t : SubjectValue) × IsTyped s t
-some_typed s = let (w, fs, survey) = some_survey s.image in (typed_subject s w, (w, fs, survey, refl))
 
 of_typed : (s : SubjectValue) (answers : SubjectValue → Reply → Type 0) → ((t : SubjectValue) → (reply : Reply) × answers t reply)
     → (reply : Reply) × OfTyped s answers reply
@@ -113,7 +111,7 @@ some_copy blocks damaged path input = copied_by blocks damaged path input (path_
 some_rescue : (blocks : Option ℕ) (keep_type : Bool) (input : List ℕ) → AreBytes input → IsAnswered (rescue keep_type) (subject blocks input)
 some_rescue blocks keep_type input are =
     let (t, typed) = some_typed (subject blocks input) in
-    let (r, told) = rescue_given (types_kept keep_type) t.end t.image (sized 2 (subject blocks input).image)
+    let (r, told) = rescue_given (types_kept keep_type) t.end t.lost t.image (sized 2 (subject blocks input).image)
     (typed_bytes (subject blocks input) t typed (subject_bytes blocks input are)) in
     (rescue_reply r, (r, (t, typed, told), refl))
 

@@ -2,7 +2,7 @@
 -- Letters: w the walk of a survey; v a result; t, u tallies; k a number of blocks, or of a data block; n that of an entry; r a role.
 use Rattle.std.specs.Prelude.{Bool, false, true, cond, nat_lt, Option, Some, None, slice_index}
 use Rattle.std.specs.Option.{unwrap_or}
-use Rattle.std.proofs.Common.{◌≡◌, ℕ, zero, suc, List, [], ◌==◌, ◌+◌, ◌≤◌, inl, inr, add-one, ap, refl, subst, sym, ◌<◌, ◌∙◌, arith}
+use Rattle.std.proofs.Common.{◌≡◌, ℕ, zero, suc, List, [], ◌==◌, ◌+◌, ◌≤◌, inl, inr, add-one, ap, refl, sym, ◌<◌, ◌∙◌, arith}
 use Rattle.std.proofs.lemmas.Bool.{cases_lt, Decides.eqb_tells, Decides.nat_tests}
 use Rattle.std.proofs.lemmas.Grind.{common_steps}
 use Rattle.adf_names.specs.declared.kind.Kind.{Kind, TheVariants.Ofs, TheVariants.Ffs}

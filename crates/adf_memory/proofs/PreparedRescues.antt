@@ -67,12 +67,12 @@ room_explained gives x room (Err refusal.NoMemory) ready h = tt
 -- what is prepared of an image with the type that its files say is that of what is surveyed
 
 pub lays_typed : (s t : SubjectValue) (p : Prepared) (boot : List ℕ) → IsTyped s t → boot ≡ sized 2 s.image
-    → Prepares (Rescues Plain t.end t.image) (Ok p) → LaysFor (RescueOf s) p boot
+    → Prepares (Rescues Plain t.end t.lost t.image) (Ok p) → LaysFor (RescueOf s) p boot
 lays_typed s t p boot typed is h =
     let (room, gives) = h (sized 2 s.image) in
     subst (λ (b : List ℕ). LaysFor (RescueOf s) p b) (sym is) (room, λ volume laid long. (t, typed, gives volume laid long))
 
-pub refuses_typed : (s t : SubjectValue) (u : Unrescued) → IsTyped s t → Prepares (Rescues Plain t.end t.image) (Err u) → RefusesFor (RescueOf s) u
+pub refuses_typed : (s t : SubjectValue) (u : Unrescued) → IsTyped s t → Prepares (Rescues Plain t.end t.lost t.image) (Err u) → RefusesFor (RescueOf s) u
 refuses_typed s t (Refused f ls) typed h = (t, typed, h (sized 2 s.image))
 refuses_typed s t NoMemory typed h = tt
 

@@ -18,6 +18,7 @@ use Rattle.adf_survey_cmd.specs.Subject.{SubjectValue, meant, sized, subject}
 use Rattle.adf_survey_cmd.proofs.KeptBoots.{laid_long, typed_length}
 use Rattle.adf_survey_cmd.proofs.OneAnswer.{one_answer}
 use Rattle.adf_survey_cmd.proofs.SizedImages.{length_sized}
+use Rattle.adf_survey_cmd.proofs.ReadLengths.{meant_image}
 use Rattle.adf_memory.specs.Rescuing.{ExplainsRescue, RescueOf}
 use Rattle.adf_memory.specs.declared.rescuing.RescueRefusal.TheVariants.{SmallRoom}
 
@@ -45,10 +46,6 @@ given_blocks s r (t, typed, (w, fs, survey, (sound, marks, (b, second, inr (read
 given_blocks s r (t, typed, (w, fs, survey, (sound, marks, (b, second, inr (read, inr (stands, (volume, laid, size, e))))))) =
     subst (IsOfBlocks (blocks s.image)) (sym e)
     (ap (λ n. n / 512) (length_restored volume s.image _ laid) ∙ size ∙ ap (λ n. n / 512) (length_opened t.image ∙ typed_length s t typed))
-
-pub meant_image : (n : Option ℕ) (input : List ℕ) → (subject n input).image ≡ meant n input
-meant_image None input = refl
-meant_image (Some n) input = refl
 
 pub meant_blocks : (n : Option ℕ) (input volume : List ℕ) (losses : List LossValue) → RescueOf (subject n input) (written volume losses)
     → blocks volume ≡ blocks (meant n input)

@@ -1,26 +1,36 @@
 -- What is surveyed of an image, in the memory of a caller.
--- Letters: s, t, u what is surveyed; w, v walks of its survey, fs, gs the findings; n the number of blocks that is asked for, 0 for those that the image has.
-use Rattle.std.proofs.Common.{◌≡◌, ◌≤◌, ◌<◌, ◌∙◌, ◌-◌, ◌==◌, ◌&&◌, ◌++◌, ℕ, Bool, true, false, List, [], None, Some, ap, append-nil, arith, codes, cond, drop}
-use Rattle.std.proofs.Common.{length, nat_lt, not, refl, slice_index, subst, sym, take}
-use Rattle.std.proofs.lemmas.Bool.{and_parts, cond_both, cond-false, Decides.nat_tests}
-use Rattle.std.proofs.lemmas.List.{drop-set-lt, length-append, length-set}
+-- Letters: s, t, u what is surveyed; w, v walks of its survey, fs, gs the findings; n the number of blocks that is asked for, 0 for those that the image
+-- has; k, read numbers of blocks.
+use Rattle.std.proofs.Common.{◌≡◌, ◌≤◌, ◌<◌, ◌∙◌, ◌==◌, ◌&&◌, ◌∷◌, ◌++◌, ℕ, Bool, true, false, List, [], None, Some, ap, append-nil, arith, codes, cond, drop}
+use Rattle.std.proofs.Common.{◌≢◌, ◌*◌, ◌/◌, Option, ap₂, length, min, nat_lt, not, refl, slice_index, subst, sym, take}
+use Rattle.std.specs.Prelude.{IfSome}
+use Rattle.std.specs.Option.{option_or}
+use Rattle.adf_blocks.specs.Sizes.{blocks}
+use Rattle.adf_blocks.specs.declared.layout.TheConstants.{MOST_BLOCKS}
+use Rattle.std.proofs.lemmas.Bool.{and_parts, cond_both, cond-false, cond-true, Decides.nat_tests}
+use Rattle.std.proofs.lemmas.List.{drop-set-lt, get_or-set_same, length-append, length-set}
 use Rattle.adf_volume.specs.Start.{is_image_len}
 use Rattle.adf_volume.specs.Walk.{Walk}
-use Rattle.adf_boot_blocks.specs.BootBlocks.{begins_with_dos}
-use Rattle.adf_findings.specs.OwnKind.{is_mistyped, retyped}
+use Rattle.adf_findings.specs.OwnKind.{is_mistyped, retyped, told_type}
+use Rattle.adf_findings.specs.Survey.{FindingValue, IsSurvey}
 use Rattle.adf_findings.proofs.OneSurvey.{one_survey}
 use Rattle.adf_rescue.specs.MadeRoot.{has_root}
-use Rattle.adf_rescue.specs.Opened.{with_boot_type, lacks_boot}
+use Rattle.adf_rescue.specs.Opened.{lacks_boot, opened, states_type, with_boot_type}
 use Rattle.adf_rescue.proofs.MadeRoots.{sized as sized_as}
-use Rattle.adf_rescue.proofs.OpenedImages.{length_begun}
+use Rattle.adf_rescue.proofs.OpenedImages.{length_begun, length_opened}
 use Rattle.adf_runs.specs.Commands.{Reply}
 use Rattle.adf_survey_cmd.specs.Hints.{Hinted}
-use Rattle.adf_survey_cmd.specs.Subject.{IsTyped, OfTyped, SubjectValue, begun_subject, changed, meant, missing_text, subject, type_line, typed_subject}
+use Rattle.adf_survey_cmd.specs.Lengths.{blocks_read, other_length, stated_length}
+use Rattle.adf_survey_cmd.specs.Subject.{IsTyped, OfTyped, SubjectValue, as_long, begun_subject, behind_loss, behind_text, changed, held_end, meant}
+use Rattle.adf_survey_cmd.specs.Subject.{missing_text, sized, subject, subject_read, type_line, type_text, typed_by, typed_subject}
+use Rattle.adf_survey_cmd.specs.Losses.{LossValue, run_loss}
+use Rattle.adf_survey_cmd.proofs.Subjects.{other_long, typed_either}
 use Rattle.adf_memory.specs.FoundTables.{mark_number}
 use Rattle.adf_memory.specs.Rescuing.{asked_blocks}
-use Rattle.adf_memory.specs.Subjects.{HasSubject, IsRetyped, front_lines, surveyed_subject, subject_in}
+use Rattle.adf_memory.specs.Subjects.{HasSubject, IsRetyped, blocks_lost, front_lines, of_read, surveyed_subject, subject_in}
 use Rattle.adf_memory.specs.declared.subjects.SubjectTold.{SubjectTold}
-use Rattle.adf_memory.proofs.RescueReplies.{meant_image}
+use Rattle.adf_survey_cmd.proofs.ReadLengths.{meant_image, read_anew}
+use Rattle.adf_survey_cmd.proofs.SizedImages.{length_sized}
 use Rattle.adf_memory.proofs.TableNames.{text_there}
 
 -- a mark that is 0 is not set
@@ -39,16 +49,15 @@ changed_end : (is : Bool) (s : SubjectValue) (image line : List ℕ) → (cond i
 changed_end true s image line = refl
 changed_end false s image line = refl
 
--- the line of the type is one
-type_line_some : 0 < length type_line
+-- the line of a type is one
+type_line_some : (t : ℕ) → 0 < length (type_line t)
 unfolding type_line
-type_line_some = omega arith
+type_line_some t = omega (arith, length-append (codes "block 0: files of ") (type_text t ++ codes "\n"))
 
 -- so there is one more line if and only if the type is changed
-longer : (is : Bool) (s : SubjectValue) (image : List ℕ)
-    → nat_lt (length s.front) (length (cond is (changed s image type_line) s).front) ≡ is
-longer true s image = grind (arith, nat_tests, length-append s.front type_line, type_line_some)
-longer false s image = grind (arith, nat_tests)
+longer : (is : Bool) (s : SubjectValue) (t : ℕ) → nat_lt (length s.front) (length (typed_by s (cond is (Some t) None)).front) ≡ is
+longer true s t = grind (arith, nat_tests, length-append s.front (type_line t), type_line_some t)
+longer false s t = grind (arith, nat_tests)
 
 pub retyped_told : (s t : SubjectValue) (is : Bool) → IsTyped s t → is ≡ nat_lt (length s.front) (length t.front) → IsRetyped s t is
 retyped_told s t is (w, fs, survey, e) tells = (
@@ -56,7 +65,8 @@ retyped_told s t is (w, fs, survey, e) tells = (
   fs,
   survey,
   e,
-  tells ∙ ap (λ (u : SubjectValue). nat_lt (length s.front) (length u.front)) e ∙ longer (is_mistyped s.image w) s (retyped s.image),
+  tells ∙ ap (λ (u : SubjectValue). nat_lt (length s.front) (length u.front)) e
+      ∙ longer (is_mistyped (opened s.image) w) s (told_type (opened s.image) w),
 )
 
 -- the image of what is surveyed in the end
@@ -70,36 +80,43 @@ begun_length s =
     cond_both (lacks_boot s.image) (changed s (with_boot_type s.image) (codes "block 0: not dos\n")) s
     (λ (t : SubjectValue). length t.image ≡ length s.image) (λ lacks. length_begun s.image (lacks_long s.image lacks)) (λ e. refl)
 
+-- but for its first four bytes it stays
+boot_rest : (image : List ℕ) → drop 4 (with_boot_type image) ≡ drop 4 image
+boot_rest image = cond_both (states_type image) image _ (λ (l : List ℕ). drop 4 l ≡ drop 4 image) (λ e. refl) (λ e. refl)
+
 begun_rest : (s : SubjectValue) → drop 4 (begun_subject s).image ≡ drop 4 s.image
 begun_rest s =
     cond_both (lacks_boot s.image) (changed s (with_boot_type s.image) (codes "block 0: not dos\n")) s
-    (λ (t : SubjectValue). drop 4 t.image ≡ drop 4 s.image)
-    (λ lacks. cond_both (begins_with_dos s.image) s.image _ (λ (l : List ℕ). drop 4 l ≡ drop 4 s.image) (λ e. refl) (λ e. refl)) (λ e. refl)
+    (λ (t : SubjectValue). drop 4 t.image ≡ drop 4 s.image) (λ lacks. boot_rest s.image) (λ e. refl)
 
-typed_either : (s : SubjectValue) (w : Walk) (holds : List ℕ → Type 0) → holds (retyped s.image) → holds s.image → holds (typed_subject s w).image
-typed_either s w holds other same =
-    cond_both (is_mistyped s.image w) (changed s (retyped s.image) type_line) s (λ (t : SubjectValue). holds t.image) (λ e. other) (λ e. same)
+-- the survey of an image that is begun and opened
+abbrev IsOpenedSurvey : SubjectValue → Walk → List FindingValue → Type 0
+IsOpenedSurvey s w fs = IsSurvey (opened (begun_subject s).image) w fs
 
-pub surveyed_length : (s : SubjectValue) (w : Walk) → length (surveyed_subject s w).image ≡ length s.image
-surveyed_length s w =
+pub surveyed_length : (s : SubjectValue) (w : Walk) (fs : List FindingValue) → IsOpenedSurvey s w fs
+    → length (surveyed_subject s w).image ≡ length s.image
+surveyed_length s w fs h =
     let image : List ℕ = (begun_subject s).image in
-    typed_either (begun_subject s) w (λ (l : List ℕ). length l ≡ length image) (length-set image 3 (slice_index image 3 - 1)) refl ∙ begun_length s
+    typed_either (begun_subject s) w fs h (λ (u : SubjectValue). length u.image ≡ length image) refl
+    (λ t small long. length-set (with_boot_type image) 3 t ∙ length_begun image long)
+    ∙ begun_length s
 
-surveyed_rest : (s : SubjectValue) (w : Walk) → drop 4 (surveyed_subject s w).image ≡ drop 4 s.image
-surveyed_rest s w =
+surveyed_rest : (s : SubjectValue) (w : Walk) (fs : List FindingValue) → IsOpenedSurvey s w fs → drop 4 (surveyed_subject s w).image ≡ drop 4 s.image
+surveyed_rest s w fs h =
     let image : List ℕ = (begun_subject s).image in
-    typed_either (begun_subject s) w (λ (l : List ℕ). drop 4 l ≡ drop 4 image)
-    (drop-set-lt 4 image 3 (slice_index image 3 - 1) (omega arith)) refl
+    typed_either (begun_subject s) w fs h (λ (u : SubjectValue). drop 4 u.image ≡ drop 4 image) refl
+    (λ t small long. drop-set-lt 4 (with_boot_type image) 3 t (omega arith) ∙ boot_rest image)
     ∙ begun_rest s
 
-surveyed_same : (s : SubjectValue) (w : Walk) → lacks_boot s.image ≡ false → is_mistyped (begun_subject s).image w ≡ false
+surveyed_same : (s : SubjectValue) (w : Walk) → lacks_boot s.image ≡ false → is_mistyped (opened (begun_subject s).image) w ≡ false
     → (surveyed_subject s w).image ≡ s.image
 surveyed_same s w has typed =
-    ap (λ (t : SubjectValue). t.image) (cond-false (is_mistyped (begun_subject s).image w) _ (begun_subject s) typed
-    ∙ cond-false (lacks_boot s.image) _ s has)
+    let u : SubjectValue = begun_subject s in
+    ap (λ (t : SubjectValue). t.image)
+    (ap (λ (is : Bool). typed_by u (cond is (Some (told_type (opened u.image) w)) None)) typed ∙ cond-false (lacks_boot s.image) _ s has)
 
-dos_has : (image : List ℕ) → begins_with_dos image ≡ true → lacks_boot image ≡ false
-dos_has image dos = none (is_image_len (length image)) (begins_with_dos image) (has_root image) dos
+type_has : (image : List ℕ) → states_type image ≡ true → lacks_boot image ≡ false
+type_has image states = none (is_image_len (length image)) (states_type image) (has_root image) states
   where
     none : (len begins root : Bool) → begins ≡ true → (len && (not begins && root)) ≡ false
     none true true root e = refl
@@ -108,30 +125,126 @@ dos_has image dos = none (is_image_len (length image)) (begins_with_dos image) (
 
 -- its end, and the lines in front
 
+typed_end : (is : Bool) (s : SubjectValue) (t : ℕ) → (typed_by s (cond is (Some t) None)).end ≡ s.end
+typed_end true s t = refl
+typed_end false s t = refl
+
 surveyed_end : (s : SubjectValue) (w : Walk) → (surveyed_subject s w).end ≡ s.end
 surveyed_end s w =
-    changed_end (is_mistyped (begun_subject s).image w) (begun_subject s) (retyped (begun_subject s).image) type_line
+    let u : SubjectValue = begun_subject s in
+    typed_end (is_mistyped (opened u.image) w) u (told_type (opened u.image) w)
     ∙ changed_end (lacks_boot s.image) s (with_boot_type s.image) (codes "block 0: not dos\n")
 
 -- the lines of what is told
 abbrev begun_line : Bool → List ℕ
 begun_line is = cond (mark_number is == 1) (codes "block 0: not dos\n") []
 
-abbrev retyped_line : Bool → List ℕ
-retyped_line is = cond (mark_number is == 1) type_line []
+-- that of a type, which the image has
+abbrev retyped_line : Bool → List ℕ → List ℕ
+retyped_line is image = cond (mark_number is == 1) (type_line (slice_index image 3)) []
 
-surveyed_front : (s : SubjectValue) (w : Walk) → (surveyed_subject s w).front
-    ≡ (s.front ++ begun_line (lacks_boot s.image)) ++ retyped_line (is_mistyped (begun_subject s).image w)
-surveyed_front s w =
-    changed_front (is_mistyped (begun_subject s).image w) (begun_subject s) (retyped (begun_subject s).image) type_line
-    ∙ ap (λ (l : List ℕ). l ++ retyped_line (is_mistyped (begun_subject s).image w))
+type_there : (image : List ℕ) (t : ℕ) → 4 ≤ length image → slice_index (retyped (with_boot_type image) t) 3 ≡ t
+type_there image t long = get_or-set_same (with_boot_type image) 3 t 0 (omega (arith, length_begun image long))
+
+typed_front : (s : SubjectValue) (w : Walk) (fs : List FindingValue) → IsSurvey (opened s.image) w fs
+    → (typed_subject s w).front ≡ s.front ++ retyped_line (is_mistyped (opened s.image) w) (typed_subject s w).image
+typed_front s w fs h = go (is_mistyped (opened s.image) w) refl
+  where
+    told : ℕ
+    told = told_type (opened s.image) w
+
+    go : (is : Bool) → is_mistyped (opened s.image) w ≡ is
+        → (typed_by s (cond is (Some told) None)).front ≡ s.front ++ retyped_line is (typed_by s (cond is (Some told) None)).image
+    go true e =
+        let long : 4 ≤ length s.image =
+        omega (arith, other_long (opened s.image) w fs h told (ap (λ (is : Bool). cond is (Some told) None) e), length_opened s.image) in
+        ap (λ (t : ℕ). s.front ++ type_line t) (sym (type_there s.image told long))
+    go false e = sym (append-nil s.front)
+
+surveyed_front : (s : SubjectValue) (w : Walk) (fs : List FindingValue) → IsOpenedSurvey s w fs → (surveyed_subject s w).front
+    ≡ (s.front ++ begun_line (lacks_boot s.image)) ++ retyped_line (is_mistyped (opened (begun_subject s).image) w) (surveyed_subject s w).image
+surveyed_front s w fs h =
+    typed_front (begun_subject s) w fs h
+    ∙ ap (λ (l : List ℕ). l ++ retyped_line (is_mistyped (opened (begun_subject s).image) w) (surveyed_subject s w).image)
     (changed_front (lacks_boot s.image) s (with_boot_type s.image) (codes "block 0: not dos\n"))
 
--- those in front of what is meant
-meant_front : (as_it_is : Bool) (n : ℕ) (input : List ℕ)
-    → (subject (cond as_it_is None (Some n)) input).front ≡ cond as_it_is [] (missing_text (subject (cond as_it_is None (Some n)) input).end n)
-meant_front true n input = refl
-meant_front false n input = refl
+-- the losses of blocks
+
+changed_lost : (is : Bool) (s : SubjectValue) (image line : List ℕ) → (cond is (changed s image line) s).lost ≡ s.lost
+changed_lost true s image line = refl
+changed_lost false s image line = refl
+
+typed_lost : (is : Bool) (s : SubjectValue) (t : ℕ)
+    → (typed_by s (cond is (Some t) None)).lost ≡ s.lost ++ cond (mark_number is == 1) (run_loss 0 0 ∷ []) []
+typed_lost true s t = refl
+typed_lost false s t = sym (append-nil s.lost)
+
+surveyed_lost : (s : SubjectValue) (w : Walk) → (surveyed_subject s w).lost
+    ≡ s.lost ++ cond (mark_number (is_mistyped (opened (begun_subject s).image) w) == 1) (run_loss 0 0 ∷ []) []
+surveyed_lost s w =
+    let u : SubjectValue = begun_subject s in
+    typed_lost (is_mistyped (opened u.image) w) u (told_type (opened u.image) w)
+    ∙ ap (λ (ls : List LossValue). ls ++ cond (mark_number (is_mistyped (opened u.image) w) == 1) (run_loss 0 0 ∷ []) [])
+    (changed_lost (lacks_boot s.image) s (with_boot_type s.image) (codes "block 0: not dos\n"))
+
+-- the length that is read
+
+pub meant_as_it_is : (asked : Option ℕ) (input : List ℕ) → blocks_read asked input ≡ None → length input ≡ length (meant asked input)
+meant_as_it_is asked input e = ap (λ (o : Option ℕ). length (as_long o input)) (sym e)
+
+pub meant_of_blocks : (asked : Option ℕ) (input : List ℕ) (n : ℕ) → blocks_read asked input ≡ Some n → n * 512 ≡ length (meant asked input)
+meant_of_blocks asked input n e =
+    let size : n * 512 ≡ length (sized n input) = omega (arith, length_sized n input) in
+    size ∙ ap (λ (o : Option ℕ). length (as_long o input)) (sym e)
+
+-- what is told of it tells what holds of the blocks that are held and read
+module _ {X : Type 0} (nothing : X) (holds : (end read : ℕ) → X) (input : List ℕ) (told : SubjectTold) where
+  abbrev by_read : Option ℕ → X
+  by_read None = nothing
+  by_read (Some k) = holds (held_end k input) k
+
+  abbrev tells : ℕ → Option ℕ → Type 0
+  tells stated read =
+      let s : SubjectValue = subject_read stated read input in (told.length ≡ length s.image) × (told.held ≡ s.end)
+
+  of_sized : (stated k : ℕ) → tells stated (Some k) → holds (held_end k input) k ≡ holds told.held (told.length / 512)
+  of_sized stated k (long, held) =
+      let size : told.length / 512 ≡ k = omega (arith, long, length_sized k input) in ap₂ holds (sym held) (sym size)
+
+  as_given : (stated : ℕ) (read : Option ℕ) → IfSome read (λ k. k ≢ blocks input) → tells stated read
+      → by_read read ≡ cond (told.length / 512 == blocks input) nothing (holds told.held (told.length / 512))
+  as_given stated None differs (long, held) =
+      let same : (told.length / 512 == blocks input) ≡ true = grind (arith, nat_tests, long) in sym (cond-true _ nothing _ same)
+  as_given stated (Some k) differs (long, held) =
+      let size : told.length / 512 ≡ k = omega (arith, long, length_sized k input) in
+      let other : (told.length / 512 == blocks input) ≡ false = grind (arith, nat_tests, size, differs) in
+      of_sized stated k (long, held) ∙ sym (cond-false _ nothing _ other)
+
+  as_asked : (n stated : ℕ) (other : Option ℕ) → tells stated (option_or other (Some n))
+      → by_read (option_or other (Some n)) ≡ holds told.held (told.length / 512)
+  as_asked n stated None is = of_sized stated n is
+  as_asked n stated (Some k) is = of_sized stated k is
+
+  read_told : (as_it_is : Bool) (n : ℕ) → tells (stated_length (cond as_it_is None (Some n)) input) (blocks_read (cond as_it_is None (Some n)) input)
+      → by_read (blocks_read (cond as_it_is None (Some n)) input)
+      ≡ cond (as_it_is && (told.length / 512 == blocks input)) nothing (holds told.held (told.length / 512))
+  read_told true n is = as_given (stated_length None input) (blocks_read None input) (read_anew input) is
+  read_told false n is = as_asked n n (other_length (Some n) input) is
+
+front_read : (stated : ℕ) (read : Option ℕ) (input : List ℕ) (told : SubjectTold)
+    → (subject_read stated read input).front ≡ by_read [] (λ end k. missing_text end k ++ behind_text k stated) input told read
+front_read stated None input told = refl
+front_read stated (Some k) input told = refl
+
+lost_read : (stated : ℕ) (read : Option ℕ) (input : List ℕ) (told : SubjectTold)
+    → (subject_read stated read input).lost ≡ by_read [] (λ end k. behind_loss k stated) input told read
+lost_read stated None input told = refl
+lost_read stated (Some k) input told = refl
+
+stated_is : (as_it_is : Bool) (n : ℕ) (input : List ℕ) → stated_length (cond as_it_is None (Some n)) input
+    ≡ cond as_it_is (min MOST_BLOCKS (blocks input)) n
+stated_is true n input = refl
+stated_is false n input = refl
 
 -- what a room begins with
 
@@ -145,44 +258,68 @@ module _ (s : SubjectValue) (old new : List ℕ) (told : SubjectTold) (has : Has
       (λ i. take (told_length i) (has.room i)) ∙ text_there image old (subst (λ (k : ℕ). k ≤ length old) told_length has.fits)
 
   pub has_length : told.length ≡ length s.image
-  has_length = told_length ∙ surveyed_length s has.walk
+  has_length = told_length ∙ surveyed_length s has.walk has.findings has.survey
 
   pub has_rest : drop 4 (take told.length new) ≡ drop 4 s.image
-  has_rest = ap (drop 4) room_image ∙ surveyed_rest s has.walk
+  has_rest = ap (drop 4) room_image ∙ surveyed_rest s has.walk has.findings has.survey
 
   pub has_same : told.is_begun ≡ 0 → told.is_retyped ≡ 0 → take told.length new ≡ s.image
   has_same begun typed =
       room_image ∙ surveyed_same s has.walk (unset (lacks_boot s.image) (sym (ap (λ (x : SubjectTold). x.is_begun) has.tells) ∙ begun))
-      (unset (is_mistyped (begun_subject s).image has.walk) (sym (ap (λ (x : SubjectTold). x.is_retyped) has.tells) ∙ typed))
+      (unset (is_mistyped (opened (begun_subject s).image) has.walk) (sym (ap (λ (x : SubjectTold). x.is_retyped) has.tells) ∙ typed))
 
-  pub has_dos : begins_with_dos s.image ≡ true → told.is_begun ≡ 0
-  has_dos dos = ap (λ (x : SubjectTold). x.is_begun) has.tells ∙ ap mark_number (dos_has s.image dos)
+  pub has_type : states_type s.image ≡ true → told.is_begun ≡ 0
+  has_type states = ap (λ (x : SubjectTold). x.is_begun) has.tells ∙ ap mark_number (type_has s.image states)
 
   one_surveyed : (t : SubjectValue) → IsTyped (begun_subject s) t → t ≡ surveyed_subject s has.walk
   one_surveyed t (v, gs, survey, e) =
-      e ∙ ap (typed_subject (begun_subject s)) (one_survey (begun_subject s).image v has.walk gs has.findings survey has.survey).0
+      e ∙ ap (typed_subject (begun_subject s)) (one_survey (opened (begun_subject s).image) v has.walk gs has.findings survey has.survey).0
 
 module _ (n : ℕ) (input old new : List ℕ) (told : SubjectTold) (has : HasSubject (subject (asked_blocks n) input) old new told) where
-  told_front : front_lines n told ≡ (surveyed_subject (subject (asked_blocks n) input) has.walk).front
-  told_front =
-      let s : SubjectValue = subject (asked_blocks n) input in
-      let begins = begun_line (lacks_boot s.image) in
-      let types = retyped_line (is_mistyped (begun_subject s).image has.walk) in
-      ap (front_lines n) has.tells
-      ∙ ap (λ (end : ℕ). (cond (n == 0) [] (missing_text end n) ++ begins) ++ types) (surveyed_end s has.walk)
-      ∙ ap (λ (l : List ℕ). (l ++ begins) ++ types) (sym (meant_front (n == 0) n input))
-      ∙ sym (surveyed_front s has.walk)
+  abbrev s : SubjectValue
+  s = subject (asked_blocks n) input
 
-  subject_is : surveyed_subject (subject (asked_blocks n) input) has.walk ≡ subject_in n new told
+  told_end : told.held ≡ s.end
+  told_end = ap (λ (x : SubjectTold). x.held) has.tells ∙ surveyed_end s has.walk
+
+  told_is : tells [] (λ end k. []) input told (stated_length (asked_blocks n) input) (blocks_read (asked_blocks n) input)
+  told_is = (has_length s old new told has, told_end)
+
+  told_front : front_lines n (blocks input) (take told.length new) told ≡ (surveyed_subject s has.walk).front
+  told_front =
+      let front = λ (stated : ℕ) (end k : ℕ). missing_text end k ++ behind_text k stated in
+      let read =
+      front_read (stated_length (asked_blocks n) input) (blocks_read (asked_blocks n) input) input told
+      ∙ read_told [] (front (stated_length (asked_blocks n) input)) input told (n == 0) n told_is
+      ∙ ap (λ (stated : ℕ). of_read [] (front stated) n (blocks input) told) (stated_is (n == 0) n input) in
+      let marks = has.tells in
+      let image = room_image s old new told has in
+      (λ i.
+          (sym read i ++ cond ((marks i).is_begun == 1) (codes "block 0: not dos\n") [])
+          ++ cond ((marks i).is_retyped == 1) (type_line (slice_index (image i) 3)) [])
+      ∙ sym (surveyed_front s has.walk has.findings has.survey)
+
+  told_lost : blocks_lost n (blocks input) told ≡ (surveyed_subject s has.walk).lost
+  told_lost =
+      let lost = λ (stated : ℕ) (end k : ℕ). behind_loss k stated in
+      let read =
+      lost_read (stated_length (asked_blocks n) input) (blocks_read (asked_blocks n) input) input told
+      ∙ read_told [] (lost (stated_length (asked_blocks n) input)) input told (n == 0) n told_is
+      ∙ ap (λ (stated : ℕ). of_read [] (lost stated) n (blocks input) told) (stated_is (n == 0) n input) in
+      let marks = has.tells in
+      (λ i. sym read i ++ cond ((marks i).is_retyped == 1) (run_loss 0 0 ∷ []) []) ∙ sym (surveyed_lost s has.walk)
+
+  subject_is : surveyed_subject s has.walk ≡ subject_in n (blocks input) new told
   subject_is =
-      let image = sym (room_image (subject (asked_blocks n) input) old new told has) in
+      let image = sym (room_image s old new told has) in
       let end = sym (ap (λ (x : SubjectTold). x.held) has.tells) in
       let front = sym told_front in
-      λ i. record { image = image i; end = end i; front = front i }
+      let lost = sym told_lost in
+      λ i. record { image = image i; end = end i; front = front i; lost = lost i }
 
   -- what is answered is that of the room
   pub answers_agree : (answers : SubjectValue → Reply → Type 0) (reply : Reply)
-      → Hinted input (OfTyped (subject (asked_blocks n) input) answers) reply → Hinted input (answers (subject_in n new told)) reply
+      → Hinted input (OfTyped (subject (asked_blocks n) input) answers) reply → Hinted input (answers (subject_in n (blocks input) new told)) reply
   answers_agree answers reply (r, (t, typed, answer), e) = (
     r,
     subst (λ (u : SubjectValue). answers u r) (one_surveyed (subject (asked_blocks n) input) old new told has t typed ∙ subject_is) answer,
@@ -201,5 +338,5 @@ module _ (n : ℕ) (input old new : List ℕ) (told : SubjectTold) (has : HasSub
   pub subject_same : told.is_begun ≡ 0 → told.is_retyped ≡ 0 → take told.length new ≡ meant (asked_blocks n) input
   subject_same begun typed = has_same (subject (asked_blocks n) input) old new told has begun typed ∙ meant_is
 
-  pub subject_dos : begins_with_dos (meant (asked_blocks n) input) ≡ true → told.is_begun ≡ 0
-  subject_dos dos = has_dos (subject (asked_blocks n) input) old new told has (ap begins_with_dos meant_is ∙ dos)
+  pub subject_type : states_type (meant (asked_blocks n) input) ≡ true → told.is_begun ≡ 0
+  subject_type states = has_type (subject (asked_blocks n) input) old new told has (ap states_type meant_is ∙ states)

@@ -7,7 +7,7 @@ ghost use Rattle.adf_memory.specs.Losses.{loss_table, table_of_losses, with_loss
 use adf_survey_cmd::Loss;
 use std::alloc::{AllocError, Global};
 
-/// Something of an image that is not in the volume of its rescue.
+/// Something of an image that is not in the volume of its rescue, or in doubt there.
 #[repr(C)]
 #[derive(Clone, Copy)]
 pub struct TableLoss {
@@ -21,7 +21,8 @@ pub struct TableLoss {
     /// The same header; or the last block that is lost.
     pub last: u32,
     /// 1 for a damaged entry, 2 for a link, 3 for an entry without room, 4 for headers in a directory, 5
-    /// for blocks.
+    /// for blocks; and of entries that are kept 6 for one in doubt, 7 for one that may have been deleted,
+    /// 8 for one that no directory led to, 9 for a directory that was made.
     pub why: u8,
 }
 
@@ -41,7 +42,7 @@ fn push_loss(table: &mut LossTable, loss: &Loss) -> Result<(), AllocError>
         path_length: loss.path.len(),
         first: loss.first,
         last: loss.last,
-        why: loss.why,
+        why: loss.why.number(),
     })?;
     table.paths.extend_from_slice(&loss.path)
 }

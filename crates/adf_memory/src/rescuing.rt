@@ -13,7 +13,7 @@ use adf_base::{BLOCK_LEN, NoMemory};
 use adf_boot_blocks::restore;
 use adf_build::build_into;
 use adf_drafts::Draft;
-use adf_survey_cmd::{Prepared, Scope, Subject, Unrescued, prepare};
+use adf_survey_cmd::{Prepared, Subject, Unrescued, prepare};
 use adf_tree::Tree;
 use adf_volume::{Fault, Types};
 use std::alloc::Global;
@@ -97,11 +97,7 @@ fn ready_subject(alloc: Global, mut subject: Subject) -> Result<Ready, Unrescued
 {
     let boot = subject.boot(alloc)?;
     subject.be_typed(alloc)?;
-    let scope = Scope {
-        types: Types::Plain,
-        held: subject.end as usize,
-    };
-    match prepare(alloc, subject.image, scope) {
+    match prepare(alloc, subject, Types::Plain) {
         Ok(prepared) => Ok(Ready { prepared, boot }),
         Err(unrescued) => Err(unrescued),
     }
@@ -199,7 +195,7 @@ pub fn put_bytes(room: &mut [u8], bytes: &[u8])
     room[..count].copy_from_slice(&bytes[..count]);
 }
 
-// Lays the volume of a rescue at the front of a room, and then fills the table of what is not in it.
+// Lays the volume of a rescue at the front of a room, and then fills the table of what is not in it, or in doubt there.
 fn put_rescue(
     alloc: Global,
     ready: Ready,
@@ -264,8 +260,8 @@ fn rescue_into(
 }
 
 /// Rescues an image as it is, or if `blocks` is not 0, as if it had so many blocks: writes the new volume
-/// of all that stands on it to the front of the room, and fills a table of what is not in that, and the
-/// text of all paths, as far as there is room. Returns 0; or the number of the first fault of the image, if
+/// of all that stands on it to the front of the room, and fills a table of what is not in that, or in doubt
+/// there, and the text of all paths, as far as there is room. Returns 0; or the number of the first fault of the image, if
 /// nothing stands; or 24 if the volume is larger than its room, or that of `NoMemory` if memory ran out.
 pub fn rescue_volume(
     alloc: Global,
@@ -276,7 +272,7 @@ pub fn rescue_volume(
     paths: &mut [u8],
     told: &mut RescueTold,
 ) -> u8
-    // At 0 the room begins with the volume that the rescue gives, and the tables have what is not in it.
+    // At 0 the room begins with the volume that the rescue gives, and the tables have what is not in it, or in doubt there.
     ensures volume { result ≡ 0 → HasRescue (RescueOf (subject (asked_blocks blocks) image.now))
         room.old room.new losses.old losses.new paths.old paths.new told.new }
 

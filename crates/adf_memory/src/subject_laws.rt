@@ -1,8 +1,9 @@
 // The laws of what is surveyed of an image. Each is the contract of a function that does nothing.
 
 ghost use Rattle.std.specs.Prelude.{◌≡◌, ℕ, Bool, List, drop, length, take, true};
-ghost use Rattle.adf_boot_blocks.specs.BootBlocks.{begins_with_dos};
+ghost use Rattle.adf_blocks.specs.Sizes.{blocks};
 ghost use Rattle.adf_names.specs.PathTexts.{IsPathText};
+ghost use Rattle.adf_rescue.specs.Opened.{states_type};
 ghost use Rattle.adf_runs.specs.Commands.{Reply};
 ghost use Rattle.adf_file_words.specs.SurveyLine.{asked, cat, list, report};
 ghost use Rattle.adf_survey_cmd.specs.Answers.{CopiesFromSurvey, ListsSurvey, SurveyAnswer, Surveys};
@@ -18,19 +19,20 @@ ghost use Rattle.adf_memory.specs.declared.subjects.SubjectTold.{SubjectTold};
 pub fn surveys_agree()
     ensures findings { (n : ℕ) (image old new : List ℕ) (told : SubjectTold) (reply : Reply)
         → HasSubject (subject (asked_blocks n) image) old new told
-        → SurveyAnswer (asked (asked_blocks n) report) image reply → Hinted image (Surveys (subject_in n new told)) reply }
+        → SurveyAnswer (asked (asked_blocks n) report) image reply → Hinted image (Surveys (subject_in n (blocks image) new told)) reply }
     ensures list { (n : ℕ) (image old new : List ℕ) (told : SubjectTold) (reply : Reply)
         → HasSubject (subject (asked_blocks n) image) old new told
-        → SurveyAnswer (asked (asked_blocks n) list) image reply → Hinted image (ListsSurvey (subject_in n new told)) reply }
+        → SurveyAnswer (asked (asked_blocks n) list) image reply → Hinted image (ListsSurvey (subject_in n (blocks image) new told)) reply }
     ensures cat { (n : ℕ) (image old new path : List ℕ) (damaged : Bool) (told : SubjectTold) (reply : Reply)
         → HasSubject (subject (asked_blocks n) image) old new told
         → (names : List (List ℕ)) → IsPathText path names
         → SurveyAnswer (asked (asked_blocks n) (cat damaged path)) image reply
-        → Hinted image (CopiesFromSurvey damaged path (subject_in n new told)) reply }
+        → Hinted image (CopiesFromSurvey damaged path (subject_in n (blocks image) new told)) reply }
 {}
 
 /// What is surveyed is the image that is meant, as long, and the same but for its first four bytes; and these too, if neither
-/// its boot block nor its type is told to be changed. An image that begins with `DOS` has not lost its boot block.
+/// its boot block nor its type is told to be changed. An image that begins with `DOS` and a type up to 5 has not lost its boot
+/// block.
 pub fn subjects_keep_the_image()
     ensures length { (n : ℕ) (image old new : List ℕ) (told : SubjectTold)
         → HasSubject (subject (asked_blocks n) image) old new told → told.length ≡ length (meant (asked_blocks n) image) }
@@ -40,7 +42,7 @@ pub fn subjects_keep_the_image()
     ensures same { (n : ℕ) (image old new : List ℕ) (told : SubjectTold)
         → HasSubject (subject (asked_blocks n) image) old new told → told.is_begun ≡ 0 → told.is_retyped ≡ 0
         → take told.length new ≡ meant (asked_blocks n) image }
-    ensures dos { (n : ℕ) (image old new : List ℕ) (told : SubjectTold)
-        → HasSubject (subject (asked_blocks n) image) old new told → begins_with_dos (meant (asked_blocks n) image) ≡ true
+    ensures states { (n : ℕ) (image old new : List ℕ) (told : SubjectTold)
+        → HasSubject (subject (asked_blocks n) image) old new told → states_type (meant (asked_blocks n) image) ≡ true
         → told.is_begun ≡ 0 }
 {}

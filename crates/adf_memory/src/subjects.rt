@@ -4,7 +4,7 @@ ghost use Rattle.std.specs.Prelude.{◌≡◌, ◌≤◌, ◌<◌, ◌⊎◌, If
 ghost use Rattle.adf_rescue.specs.Opened.{lacks_boot};
 ghost use Rattle.adf_survey_cmd.specs.Subject.{begun_subject, meant, subject, subject_value};
 ghost use Rattle.adf_memory.specs.Rescuing.{asked_blocks};
-ghost use Rattle.adf_memory.specs.Subjects.{HasSubject, IsRetyped, meant_len, untold};
+ghost use Rattle.adf_memory.specs.Subjects.{HasSubject, IsRetyped, untold};
 ghost use Rattle.adf_memory.specs.Verdicts.{WantsMemory};
 
 use crate::found_tables::mark_number;
@@ -12,7 +12,7 @@ use crate::rescuing::{asked_blocks, put_bytes};
 use adf_base::{BLOCK_LEN, NoMemory};
 use adf_blocks::Cause;
 use adf_rescue::lacks_boot;
-use adf_survey_cmd::Subject;
+use adf_survey_cmd::{Subject, blocks_read};
 use std::alloc::{AllocError, Global};
 
 /// The number of a room that is smaller than the image that is surveyed.
@@ -28,7 +28,7 @@ pub struct SubjectTold {
     pub held: u32,
     /// 1 if only the boot block is lost, and `DOS` and a type stand in its place, otherwise 0.
     pub is_begun: u8,
-    /// 1 if the type is that of OFS, as the files say, in place of one of FFS, otherwise 0.
+    /// 1 if the type is the one that the entries tell, in place of another, otherwise 0.
     pub is_retyped: u8,
 }
 
@@ -44,11 +44,12 @@ fn untold(length: usize) -> SubjectTold
     }
 }
 
-// The bytes of an image that is meant: as it is, or of so many blocks.
+// The bytes of an image that is meant: as it is, or of as many blocks as are read.
+#[tactic(auto, using(crate::proofs::SurveyedImages::meant_as_it_is, crate::proofs::SurveyedImages::meant_of_blocks))]
 fn meant_len(image: &[u8], blocks: u32) -> usize
-    ensures { result ≡ meant_len (asked_blocks blocks) image.now }
+    ensures { result ≡ length (meant (asked_blocks blocks) image.now) }
 {
-    match asked_blocks(blocks) {
+    match blocks_read(asked_blocks(blocks), image) {
         None => image.len(),
         Some(blocks) => blocks as usize * BLOCK_LEN,
     }
@@ -64,7 +65,7 @@ fn begin(subject: &mut Subject) -> Result<bool, AllocError>
     Ok(is_begun)
 }
 
-// Makes the type of the image what its files say, and says whether it was another: then there is one more line.
+// Makes the type of the image the one that its entries tell, and says whether it was another: then there is one more line.
 fn retype(alloc: Global, subject: &mut Subject) -> Result<bool, NoMemory>
     ensures { IfOk result (IsRetyped (subject_value subject.old) (subject_value subject.new)) }
 {
@@ -74,7 +75,7 @@ fn retype(alloc: Global, subject: &mut Subject) -> Result<bool, NoMemory>
 }
 
 // Writes what is surveyed of an input to the front of a room that has as many bytes, once it is begun and has the type
-// that its files say.
+// that its entries tell.
 fn put_surveyed(
     alloc: Global,
     mut subject: Subject,
@@ -98,6 +99,7 @@ fn put_surveyed(
 }
 
 // Writes what is surveyed of an image to the front of such a room.
+#[tactic(auto, using(adf_survey_cmd::proofs::ReadLengths::meant_image))]
 fn put_meant(
     alloc: Global,
     image: &[u8],
@@ -115,8 +117,9 @@ fn put_meant(
 }
 
 /// Writes the image that `adf-survey` surveys in place of an image to the front of the room, and tells what is changed in
-/// it. It is the image as it is, or if `blocks` is not 0, as if it had so many blocks: with `DOS` and a type, if only the
-/// boot block is lost, and with the type that its files say. Returns 0; or 24 if the room is smaller, or the number of
+/// it. It is the image as it is, or if `blocks` is not 0, as if it had so many blocks; or of as many blocks as the one usual
+/// length of a floppy whose root is found, if the middle of those is not like a root: with `DOS` and a type, if only the boot
+/// block is lost, and with the type that its entries tell. Returns 0; or 24 if the room is smaller, or the number of
 /// `NoMemory` if memory ran out.
 pub fn put_subject(
     alloc: Global,

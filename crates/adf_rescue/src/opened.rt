@@ -67,8 +67,8 @@ fn type_byte(image: &[u8]) -> u8
     if has_data(image) { 0 } else { 1 }
 }
 
-// Whether an image states the type of a volume.
-fn states_type(image: &[u8]) -> bool
+/// Whether an image states the type of a volume: it begins with `DOS` and a byte of at most 5.
+pub fn states_type(image: &[u8]) -> bool
     ensures { result ≡ states_type image.now }
 {
     begins_with_dos(image) && image.get(3).copied().unwrap_or(0) <= 5

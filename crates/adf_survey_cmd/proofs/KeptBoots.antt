@@ -1,9 +1,9 @@
 -- Volumes of rescues, with the boot blocks that are put into them.
--- Letters: s, t what is surveyed; a the survey of an image, b the second one, if there is one, fs findings; r what a rescue gives;
+-- Letters: s, t what is surveyed; a the survey of an image, b the second one, if there is one; ls losses; r what a rescue gives;
 -- held the blocks that are held.
 use Rattle.std.proofs.Common.{◌≡◌, ◌≢◌, ◌∙◌, ◌++◌, ◌-◌, ◌/◌, ◌≤◌, ℕ, List, [], Option, true, inl, inr, ap, refl, subst, sym, length, replicate, take}
-use Rattle.std.proofs.Common.{append-nil, arith, slice_index}
-use Rattle.std.proofs.lemmas.Bool.{and_parts, cond_both, leb-true}
+use Rattle.std.proofs.Common.{append-nil, arith}
+use Rattle.std.proofs.lemmas.Bool.{and_parts, leb-true}
 use Rattle.std.proofs.lemmas.Grind.{common_steps}
 use Rattle.std.proofs.lemmas.List.{length-set}
 use Rattle.adf_base.specs.declared.hash.Letters.{Letters}
@@ -21,14 +21,15 @@ use Rattle.adf_boot_blocks.proofs.Restored.{front_are_bytes, front_begins, has_f
 use Rattle.adf_build.specs.Laid.{IsLaid}
 use Rattle.adf_build.specs.Plan.{planned}
 use Rattle.adf_build.proofs.LaidFits.{laid_fits}
-use Rattle.adf_findings.specs.Survey.{FindingValue}
-use Rattle.adf_findings.specs.OwnKind.{is_mistyped, retyped}
+use Rattle.adf_rescue.specs.Opened.{with_boot_type}
 use Rattle.adf_rescue.specs.Rescue.{Basis, rescued_tree_by}
-use Rattle.adf_rescue.proofs.OpenedImages.{length_opened}
+use Rattle.adf_rescue.proofs.OpenedImages.{length_begun, length_opened}
 use Rattle.adf_survey_cmd.specs.Answers.{RescuesTyped}
+use Rattle.adf_survey_cmd.specs.Losses.{LossValue}
 use Rattle.adf_survey_cmd.specs.Rescues.{GivesVolume, RescueValue, rescue_reply}
-use Rattle.adf_survey_cmd.specs.Subject.{IsTyped, SubjectValue, changed, sized, type_line}
+use Rattle.adf_survey_cmd.specs.Subject.{IsTyped, SubjectValue, sized}
 use Rattle.adf_survey_cmd.proofs.SizedImages.{length_sized}
+use Rattle.adf_survey_cmd.proofs.Subjects.{typed_either}
 
 -- a volume has four blocks or more
 long_enough : (image : List ℕ) (n : ℕ) → is_allowed (blocks image) ≡ true → blocks image ≡ n / 512 → BOOT_LEN ≤ n
@@ -40,10 +41,10 @@ pub laid_long : (image : List ℕ) (t : Tree) → IsLaid image t → BOOT_LEN �
 laid_long image t laid = long_enough image (length image) laid.size refl
 
 -- what is written fits the tree of the rescue
-pub written_fits : (types : Types) (held : ℕ) (a : Basis) (b : Option Basis) (fs : List FindingValue) (boot : List ℕ) (r : RescueValue) → BOOT_LEN ≤ length boot
-    → GivesVolume types held a b fs boot r → (l : Layout) × FitsBy (letters_for types a.image) (rescue_reply r).output
+pub written_fits : (ls : List LossValue) (types : Types) (held : ℕ) (a : Basis) (b : Option Basis) (boot : List ℕ) (r : RescueValue)
+    → BOOT_LEN ≤ length boot → GivesVolume ls types held a b boot r → (l : Layout) × FitsBy (letters_for types a.image) (rescue_reply r).output
     (rescued_tree_by (letters_for types a.image) held a b) l
-written_fits types held a b fs boot r whole (volume, laid, size, e) =
+written_fits ls types held a b boot r whole (volume, laid, size, e) =
     let letters : Letters = letters_for types a.image in
     let t : Tree = rescued_tree_by letters held a b in
     let l : Layout = planned t (blocks volume) in (
@@ -62,8 +63,8 @@ two_blocks image long =
 pub typed_length : (s t : SubjectValue) → IsTyped s t → length t.image ≡ length s.image
 typed_length s t (w, fs, h, e) =
     ap (λ (u : SubjectValue). length u.image) e
-    ∙ cond_both (is_mistyped s.image w) (changed s (retyped s.image) type_line) s (λ (u : SubjectValue). length u.image ≡ length s.image)
-    (λ mistyped. length-set s.image 3 (slice_index s.image 3 - 1)) (λ typed. refl)
+    ∙ typed_either s w fs h (λ (u : SubjectValue). length u.image ≡ length s.image) refl
+    (λ type small long. length-set (with_boot_type s.image) 3 type ∙ length_begun s.image long)
 
 -- a volume that is laid for a rescue, with the boot blocks of what was surveyed
 put_boots : (s : SubjectValue) (volume : List ℕ) (tree : Tree) → IsLaid volume tree → BOOT_LEN ≤ length s.image

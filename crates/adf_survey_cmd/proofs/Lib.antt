@@ -5,6 +5,7 @@ pub mod RunLines
 pub mod PendingLines
 pub mod FindingStatus
 pub mod FoundTexts
+pub mod ReadLengths
 pub mod LongSurveys
 pub mod OneAnswer
 pub mod RescueAnswers

@@ -1,5 +1,6 @@
 -- What is answered to the front of an input that is longer than the largest image is answered to the whole of it.
--- Letters: s, t what is surveyed; w the walk of a survey, fs its findings; n an entry's node.
+-- Letters: s, t what is surveyed; w the walk of a survey, fs its findings; n an entry's node; lost, ls losses of
+-- blocks.
 use Rattle.std.proofs.Common.{◌≡◌, ◌<◌, ◌≤◌, ◌+◌, ◌-◌, ◌*◌, ◌∙◌, ◌++◌, true, false, inl, inr, ℕ, Bool, List, [], ◌∷◌, Option, None, Some, refl, ap, ap₂, arith}
 use Rattle.std.proofs.Common.{subst, sym, ◌==◌, ◌&&◌, cond, length, replicate, take}
 use Rattle.std.proofs.lemmas.Bool.{and_left, cond-false, false_from_ne_true}
@@ -19,19 +20,25 @@ use Rattle.adf_findings.specs.OwnKind.{is_mistyped}
 use Rattle.adf_findings.proofs.OneSurvey.{one_survey}
 use Rattle.adf_findings.proofs.OwnKinds.{none_mistyped}
 use Rattle.adf_runs.specs.Commands.{Reply, on_output}
-use Rattle.adf_rescue.specs.Opened.{is_mended, lacks_boot, opened}
+use Rattle.adf_volume.specs.Start.{is_image_len}
+use Rattle.adf_rescue.specs.Hung.{hung, second_image}
+use Rattle.adf_rescue.specs.Lost.{has_lost, is_open}
+use Rattle.adf_rescue.specs.Opened.{lacks_boot, lacks_root, opened}
 use Rattle.adf_rescue.specs.Rescue.{Basis}
 use Rattle.adf_rescue.proofs.OpenedImages.{length_opened}
 use Rattle.adf_rescue.proofs.MadeRoots.{sized as sized_len}
 use Rattle.adf_cmd.proofs.LongInputs.{long_fault, too_large}
 use Rattle.adf_survey_cmd.specs.Answers.{CopiesFound, CopiesFromSurvey, ListsSurvey, QuestionAnswer, SurveyAnswer, Surveys, TellsFound, told_status, types_kept}
 use Rattle.adf_survey_cmd.specs.Hints.{disk_hint}
-use Rattle.adf_survey_cmd.specs.Subject.{IsTyped, OfTyped, SubjectValue, begun_subject, held_end, missing_text, sized, subject, subject_text}
+use Rattle.adf_survey_cmd.specs.Lengths.{blocks_read, stated_length}
+use Rattle.adf_survey_cmd.specs.Subject.{IsTyped, OfTyped, SubjectValue, begun_subject, behind_loss, behind_text, held_end, missing_text, other_type}
+use Rattle.adf_survey_cmd.specs.Subject.{sized, subject, subject_read, subject_text, typed_by, typed_subject}
 use Rattle.adf_file_words.specs.SurveyLine.{AreFew, InquiryValue, QuestionValue, cat, list, report, rescue}
 use Rattle.adf_survey_cmd.specs.Lines.{findings_text, runs_from}
-use Rattle.adf_survey_cmd.specs.Rescues.{RescueValue, Rescues, RescuesBoth, RescuesFound, second_image}
+use Rattle.adf_survey_cmd.specs.Losses.{LossValue}
+use Rattle.adf_survey_cmd.specs.Rescues.{RescueValue, Rescues, RescuesBoth, RescuesFound}
 use Rattle.adf_survey_cmd.proofs.HintedAnswers.{same_disk}
-use Rattle.adf_survey_cmd.proofs.RescueAnswers.{none_hung}
+use Rattle.adf_survey_cmd.proofs.ReadLengths.{few_read, same_read, same_stated}
 
 -- an input of a bad size has this finding
 bad_size : List FindingValue
@@ -66,22 +73,27 @@ same_found false s t names reply (inr (n, leads, inr (inl (file, damage, e)))) =
 same_found false s t names reply (inr (n, leads, inr (inr (sound, e)))) = absurd sound.0.0.header.has
 
 -- no volume has this length, so nothing is hung
-none_second : (mended : Bool) (image : List ℕ) (w : Walk) (fs : List FindingValue) → 512 * MOST_BLOCKS < length image
-    → second_image mended image w fs ≡ None
-none_second mended image w fs long = grind (arith, common_steps, false_from_ne_true, sized_len, none_hung, and_left)
+no_volume : (image : List ℕ) → 512 * MOST_BLOCKS < length image → is_image_len (length image) ≡ false
+no_volume image long = grind (arith, common_steps, false_from_ne_true, sized_len)
+
+none_second : (made : Bool) (image : List ℕ) (w : Walk) (fs : List FindingValue) → 512 * MOST_BLOCKS < length image
+    → second_image made image w fs ≡ None
+none_second made image w fs long =
+    let none : has_lost made image w fs ≡ false = and_left (is_image_len (length image)) _ (no_volume image long) in
+    cond-false (has_lost made image w fs) (Some (hung image w (is_open made image w fs))) None none
 
 -- nothing stands, and the first fault is told
-same_rescue : (types : Types) (held h : ℕ) (image bytes opened_image opened_bytes boot other : List ℕ) (r : RescueValue) → 512 * MOST_BLOCKS < length image
-    → 512 * MOST_BLOCKS < length bytes → 512 * MOST_BLOCKS < length opened_bytes → RescuesFound types held image opened_image [] bad_size boot r
-    → RescuesFound types h bytes opened_bytes [] bad_size other r
-same_rescue types held h image bytes opened_image opened_bytes boot other r a b c (sound, marks, (two, second, inl (none, (f, first, e)))) =
+same_rescue : (types : Types) (held h : ℕ) (lost ls : List LossValue) (image bytes opened_image opened_bytes boot other : List ℕ) (r : RescueValue) → 512 * MOST_BLOCKS < length image
+    → 512 * MOST_BLOCKS < length bytes → 512 * MOST_BLOCKS < length opened_bytes → RescuesFound types held lost image opened_image [] bad_size boot r
+    → RescuesFound types h ls bytes opened_bytes [] bad_size other r
+same_rescue types held h lost ls image bytes opened_image opened_bytes boot other r a b c (sound, marks, (two, second, inl (none, (f, first, e)))) =
     let basis : Basis = record { image = opened_bytes; walk = []; sound = λ n. false } in (
       (λ n. false),
       no_marks opened_bytes (grave bad_size),
-      subst (λ o. RescuesBoth types h bytes basis o bad_size other r) (sym (none_second (is_mended bytes) opened_bytes [] bad_size c))
+      subst (λ o. RescuesBoth types h ls bytes basis o bad_size other r) (sym (none_second (lacks_root bytes) opened_bytes [] bad_size c))
           (None, tt, inl (refl, (f, long_fault (letters_for types image) (letters_for types bytes) image bytes f a b first, e))),
     )
-same_rescue types held h image bytes opened_image opened_bytes boot other r a b c (sound, marks, (two, second, inr (some, e))) = absurd (some refl)
+same_rescue types held h lost ls image bytes opened_image opened_bytes boot other r a b c (sound, marks, (two, second, inr (some, e))) = absurd (some refl)
 
 -- and nothing is begun
 not_begun : (image : List ℕ) → 512 * MOST_BLOCKS < length image → lacks_boot image ≡ false
@@ -102,13 +114,23 @@ of_long image w fs holds long s h =
 long_begun : (s : SubjectValue) → 512 * MOST_BLOCKS < length s.image → begun_subject s ≡ s
 long_begun s long = cond-false (lacks_boot s.image) _ s (not_begun s.image long)
 
+-- nothing of it tells another type
+none_other : (image : List ℕ) → other_type image [] ≡ None
+none_other image = let none = none_mistyped image [] refl in cond-false (is_mistyped image []) _ None (sym none)
+
+long_same : (s : SubjectValue) (w : Walk) (fs : List FindingValue) → 512 * MOST_BLOCKS < length s.image → IsSurvey (opened s.image) w fs
+    → typed_subject s w ≡ s
+long_same s w fs long h =
+    let none : w ≡ [] = (one_survey (opened s.image) w [] fs bad_size h (long_survey (opened s.image) (long_opened s.image long))).0 in
+    ap (typed_subject s) none ∙ ap (typed_by s) (none_other (opened s.image))
+
 typed_so : (s t : SubjectValue) → 512 * MOST_BLOCKS < length s.image → IsTyped s t → t ≡ s
-typed_so s t long (w, fs, h, e) =
-    let none : w ≡ [] = (one_survey s.image w [] fs bad_size h (long_survey s.image long)).0 in
-    e ∙ cond-false (is_mistyped s.image w) _ s (sym (none_mistyped s.image w none))
+typed_so s t long (w, fs, h, e) = e ∙ long_same s w fs long h
 
 is_typed : (s : SubjectValue) → 512 * MOST_BLOCKS < length s.image → IsTyped s s
-is_typed s long = ([], bad_size, long_survey s.image long, sym (cond-false (is_mistyped s.image []) _ s (sym (none_mistyped s.image [] refl))))
+is_typed s long =
+    let survey = long_survey (opened s.image) (long_opened s.image long) in
+    ([], bad_size, survey, sym (long_same s [] bad_size long survey))
 
 same_typed : (s t : SubjectValue) → 512 * MOST_BLOCKS < length s.image → IsTyped (begun_subject s) t → t ≡ s
 same_typed s t long is = typed_so s t long (subst (λ (u : SubjectValue). IsTyped u t) (long_begun s long) is)
@@ -122,13 +144,13 @@ of_typed : (s t : SubjectValue) (answers : SubjectValue → Reply → Type 0) �
 of_typed s t answers a b reply same (u, is, x) = (t, long_typed t b, same (subst (λ u. answers u reply) (same_typed s u a is) x))
 
 long_rescue : (types : Types) (s t : SubjectValue) (boot other : List ℕ) → 512 * MOST_BLOCKS < length s.image → 512 * MOST_BLOCKS < length t.image
-    → (r : RescueValue) → Rescues types s.end s.image boot r → Rescues types t.end t.image other r
+    → (r : RescueValue) → Rescues types s.end s.lost s.image boot r → Rescues types t.end t.lost t.image other r
 long_rescue types s t boot other a b r (w, fs, h, found) = (
   [],
   bad_size,
   long_survey (opened t.image) (long_opened t.image b),
-  same_rescue types s.end t.end s.image t.image (opened s.image) (opened t.image) boot other r a b (long_opened t.image b)
-      (of_long (opened s.image) w fs (λ u gs. RescuesFound types s.end s.image (opened s.image) u gs boot r) (long_opened s.image a) h found),
+  same_rescue types s.end t.end s.lost t.lost s.image t.image (opened s.image) (opened t.image) boot other r a b (long_opened t.image b)
+      (of_long (opened s.image) w fs (λ u gs. RescuesFound types s.end s.lost s.image (opened s.image) u gs boot r) (long_opened s.image a) h found),
 )
 
 long_questions : (q : QuestionValue) (s t : SubjectValue) → s.front ≡ t.front → 512 * MOST_BLOCKS < length s.image
@@ -145,7 +167,7 @@ long_questions (cat damaged path) s t front a b reply (inr told) = inr (of_typed
     let found = of_long s.image x.2 x.3 (λ u gs. CopiesFound damaged s u gs x.0 reply) a x.4 x.5 in
     (x.0, x.1, [], bad_size, long_survey t.image b, same_found damaged s t x.0 reply found)) told)
 long_questions (rescue keep_type) s t front a b reply (r, (u, is, told), same) =
-    let rescues = subst (λ (u : SubjectValue). Rescues (types_kept keep_type) u.end u.image (sized 2 s.image) r) (typed_so s u a is) told in
+    let rescues = subst (λ (u : SubjectValue). Rescues (types_kept keep_type) u.end u.lost u.image (sized 2 s.image) r) (typed_so s u a is) told in
     (r, (t, is_typed t b, long_rescue (types_kept keep_type) s t (sized 2 s.image) (sized 2 t.image) a b r rescues), same)
 
 -- an image of n blocks is made of the front alone
@@ -162,15 +184,32 @@ same_end : (n : ℕ) (image bytes : List ℕ) → n ≤ MOST_BLOCKS → 512 * MO
     → held_end n image ≡ held_end n bytes
 same_end n image bytes few a b = min-eq_left (omega arith) ∙ sym (min-eq_left (omega arith))
 
-long_meant : (meant : Option ℕ) (q : QuestionValue) (image bytes : List ℕ) → AreFew meant → image ≡ take (512 * MOST_BLOCKS + 1) bytes
-    → 512 * MOST_BLOCKS < length image → 512 * MOST_BLOCKS < length bytes → (reply : Reply) → QuestionAnswer q (subject meant image) reply
-    → QuestionAnswer q (subject meant bytes) reply
-long_meant None q image bytes few e a b reply h = long_questions q (subject None image) (subject None bytes) refl a b reply h
-long_meant (Some n) q image bytes few e a b reply h =
+long_read : (stated : ℕ) (read : Option ℕ) (q : QuestionValue) (image bytes : List ℕ) → AreFew read → image ≡ take (512 * MOST_BLOCKS + 1) bytes
+    → 512 * MOST_BLOCKS < length image → 512 * MOST_BLOCKS < length bytes → (reply : Reply) → QuestionAnswer q (subject_read stated read image) reply
+    → QuestionAnswer q (subject_read stated read bytes) reply
+long_read stated None q image bytes few e a b reply h =
+    long_questions q (subject_read stated None image) (subject_read stated None bytes) refl a b reply h
+long_read stated (Some n) q image bytes few e a b reply h =
     let end = same_end n image bytes few a b in
-    let same : subject (Some n) image ≡ subject (Some n) bytes =
-    λ i. record { image = same_sized n image bytes few e a b i; end = end i; front = missing_text (end i) n } in
+    let same : subject_read stated (Some n) image ≡ subject_read stated (Some n) bytes =
+    λ i. record {
+      image = same_sized n image bytes few e a b i;
+      end = end i;
+      front = missing_text (end i) n ++ behind_text n stated;
+      lost = behind_loss n stated;
+    } in
     subst (λ s. QuestionAnswer q s reply) same h
+
+long_meant : (asked : Option ℕ) (q : QuestionValue) (image bytes : List ℕ) → AreFew asked → image ≡ take (512 * MOST_BLOCKS + 1) bytes
+    → 512 * MOST_BLOCKS < length image → 512 * MOST_BLOCKS < length bytes → (reply : Reply) → QuestionAnswer q (subject asked image) reply
+    → QuestionAnswer q (subject asked bytes) reply
+long_meant asked q image bytes few e a b reply h =
+    let stated = same_stated image bytes e a b asked in
+    let read = same_read image bytes e a b asked few in
+    let more = few_read asked bytes few in
+    let same : subject asked image ≡ subject_read (stated_length asked bytes) (blocks_read asked bytes) image =
+    ap₂ (λ (n : ℕ) (o : Option ℕ). subject_read n o image) stated read in
+    long_read (stated_length asked bytes) (blocks_read asked bytes) q image bytes more e a b reply (subst (λ s. QuestionAnswer q s reply) same h)
 
 pub long_answers : (r : InquiryValue) (image bytes : List ℕ) → AreFew r.blocks → image ≡ take (512 * MOST_BLOCKS + 1) bytes
     → 512 * MOST_BLOCKS < length image → 512 * MOST_BLOCKS < length bytes → (reply : Reply) → SurveyAnswer r image reply → SurveyAnswer r bytes reply

@@ -1,11 +1,10 @@
 -- What a rescue is prepared to give, and which images are no volumes.
 -- Letters: w the walk of a survey, fs its findings; a a survey, b the second one, if there is one; r what a rescue gives; p a prepared rescue; u why
--- there is none.
-use Rattle.std.proofs.Common.{◌≡◌, ◌≢◌, ◌∙◌, ℕ, Bool, true, false, List, [], ap, sym, Option, None, Some, IfSome, inl, inr, subst, arith}
+-- there is none; lost, front losses of blocks.
+use Rattle.std.proofs.Common.{◌≡◌, ◌≢◌, ◌∙◌, ◌/◌, ℕ, Bool, true, false, List, [], ap, sym, Option, None, Some, IfSome, inl, inr, option_map, length, subst, arith}
 use Rattle.std.specs.Prelude.{Result, Ok, Err}
 use Rattle.std.specs.Result.{IsErrAnd}
-use Rattle.std.proofs.lemmas.Bool.{cond-false, cond-true}
-use Rattle.std.proofs.lemmas.Grind.{common_steps}
+use Rattle.adf_base.specs.declared.hash.Letters.{Letters}
 use Rattle.adf_tree.specs.Tree.{Tree}
 use Rattle.adf_blocks.specs.Sizes.{blocks}
 use Rattle.adf_boot_blocks.specs.Writing.{restored}
@@ -20,19 +19,23 @@ use Rattle.adf_findings.specs.Survey.{FindingValue, IsSurvey}
 use Rattle.adf_findings.specs.Types.{passed}
 use Rattle.adf_findings.proofs.FirstFindings.{finds_none}
 use Rattle.adf_findings.proofs.TypesRead.{types_read}
-use Rattle.adf_rescue.specs.declared.left_out.LeftOut.{LeftOut}
-use Rattle.adf_rescue.specs.Hung.{hung}
-use Rattle.adf_rescue.specs.Lost.{has_lost, is_settled}
-use Rattle.adf_rescue.specs.Opened.{is_mended, opened}
+use Rattle.adf_rescue.specs.declared.rescues.Rescued.{Rescued}
+use Rattle.adf_rescue.specs.declared.rescues.Terms.{Terms}
+use Rattle.adf_rescue.specs.Hung.{second_image}
+use Rattle.adf_rescue.specs.Losses.{lost_headers}
+use Rattle.adf_rescue.specs.Opened.{is_mended, lacks_root, opened}
 use Rattle.adf_rescue.specs.Rescue.{IsFaulty, Basis, StandsNothingBy, rescued_tree_by}
-use Rattle.adf_rescue.proofs.OpenedImages.{volumes_are_kept}
+use Rattle.adf_rescue.specs.Rescued.{IsRescued}
+use Rattle.adf_rescue.proofs.OpenedImages.{length_opened, volumes_are_kept}
 use Rattle.adf_runs.specs.Commands.{Reply, on_errors}
 use Rattle.adf_runs.specs.Outcomes.{EndsBy}
 use Rattle.adf_runs.specs.declared.outcome.Outcome.{Outcome, TheVariants.LeftOut as Tells, TheVariants.NoMemory as OutOfMemory}
 use Rattle.adf_runs.proofs.PendingText.{appends_nil}
-use Rattle.adf_survey_cmd.specs.Losses.{loss_values, losses_of, rescue_losses}
-use Rattle.adf_survey_cmd.specs.Prepared.{IsNoVolume, IsToldRefusal, LaysFor, Prepares, RefusesFor, WritesPrepared}
-use Rattle.adf_survey_cmd.specs.Rescues.{Replies, RescueValue, RescueValue.written, Rescues, RescuesBoth, RescuesBy, RescuesIn, second_image}
+use Rattle.adf_survey_cmd.specs.Losses.{LossValue, ToldValue, front_losses, input_losses, loss_values, losses_of, rescue_losses, runs_lost, told_by}
+use Rattle.adf_survey_cmd.specs.Losses.{told_value}
+use Rattle.adf_survey_cmd.specs.Prepared.{IsBegunInput, IsNoVolume, IsToldRefusal, LaysFor, Prepares, RefusesFor, WritesPrepared}
+use Rattle.adf_survey_cmd.specs.Rescues.{Replies, RescueValue, RescueValue.written, Rescues, RescuesBoth, RescuesBy, RescuesIn}
+use Rattle.adf_survey_cmd.specs.declared.preparing.Begun.{Begun}
 use Rattle.adf_survey_cmd.specs.declared.preparing.Prepared.{Prepared}
 use Rattle.adf_survey_cmd.specs.declared.preparing.Unrescued.{Unrescued, TheVariants.NoMemory, TheVariants.Refused}
 
@@ -41,24 +44,23 @@ pub if_some : {X : Type 0} (o : Option X) (x : X) (P : X → Type 0) → o ≡ S
 if_some o x P e h = subst (λ o. IfSome o P) e h
 
 -- what is given by the survey of an opened image, and by that of a second one, if there is one
-pub found_gives : (types : Types) (held : ℕ) (input image : List ℕ) (w : Walk) (fs : List FindingValue) (sound : ℕ → Bool)
+pub found_gives : (types : Types) (held : ℕ) (lost : List LossValue) (input image : List ℕ) (w : Walk) (fs : List FindingValue) (sound : ℕ → Bool)
     (second : Option (List ℕ)) (boot : List ℕ) (r : RescueValue)
-    → image ≡ opened input → IsSurvey image w fs → AreMarks image w (grave fs) sound → second_image (is_mended input) image w fs ≡ second
-    → RescuesBoth types held input (record { image = image; walk = w; sound = sound }) second fs boot r → Rescues types held input boot r
-found_gives types held input image w fs sound second boot r same survey marks is by =
+    → image ≡ opened input → IsSurvey image w fs → AreMarks image w (grave fs) sound → second_image (lacks_root input) image w fs ≡ second
+    → RescuesBoth types held lost input (record { image = image; walk = w; sound = sound }) second fs boot r → Rescues types held lost input boot r
+found_gives types held lost input image w fs sound second boot r same survey marks is by =
     let a : Basis = record { image = image; walk = w; sound = sound } in
-    subst (λ (l : List ℕ). RescuesIn types held input l boot r) same
-    (w, fs, survey, (sound, marks, subst (λ (o : Option (List ℕ)). RescuesBoth types held input a o fs boot r) (sym is) by))
+    subst (λ (l : List ℕ). RescuesIn types held lost input l boot r) same
+    (w, fs, survey, (sound, marks, subst (λ (o : Option (List ℕ)). RescuesBoth types held lost input a o fs boot r) (sym is) by))
 
--- the hung image is surveyed where something is lost, and only there
+-- a second image is surveyed if there is one
 
-pub none_hung : (mended : Bool) (image : List ℕ) (w : Walk) (fs : List FindingValue) → has_lost mended image w fs ≡ false
-    → second_image mended image w fs ≡ None
-none_hung mended image w fs none = cond-false (has_lost mended image w fs) (Some (hung image w (is_settled mended w fs))) None none
+pub second_is : {X : Type 0} (items : X → List ℕ) (o : Option X) (x : X) (image : List ℕ) (second : Option (List ℕ)) → option_map items o ≡ second
+    → o ≡ Some x → image ≡ items x → second ≡ Some image
+second_is items o x image second told is same = sym told ∙ ap (option_map items) is ∙ ap (λ (l : List ℕ). Some l) (sym same)
 
-pub one_hung : (mended : Bool) (image : List ℕ) (w : Walk) (fs : List FindingValue) (v : List ℕ) → has_lost mended image w fs ≡ true
-    → v ≡ hung image w (is_settled mended w fs) → second_image mended image w fs ≡ Some v
-one_hung mended image w fs v some is = grind (arith, common_steps, cond-true)
+pub second_none : {X : Type 0} (items : X → List ℕ) (o : Option X) (second : Option (List ℕ)) → option_map items o ≡ second → o ≡ None → second ≡ None
+second_none items o second told is = sym told ∙ ap (option_map items) is
 
 -- an image that has a fault as it is, is no volume
 pub none_fits_it : (types : Types) (image : List ℕ) (w : Walk) (fs : List FindingValue) (mended : Bool) → mended ≡ false → IsSurvey image w fs
@@ -71,18 +73,41 @@ none_fits_it types image w fs mended kept survey (inr some) t l fits =
 pub none_fits_mended : (types : Types) (image : List ℕ) → is_mended image ≡ true → IsNoVolume types image
 none_fits_mended types image mended t l fits = let kept = volumes_are_kept (letters_for types image) image t l fits in absurd cc
 
--- the same is not in the volume
-pub same_losses : (image : List ℕ) (w : Walk) (b : Option Basis) (xs us ys vs : List LeftOut) (ps qs ns ms : List ℕ)
-    → xs ≡ us → ys ≡ vs → ps ≡ qs → ns ≡ ms → losses_of image w b xs ys ps ns ≡ losses_of image w b us vs qs ms
-same_losses image w b xs us ys vs ps qs ns ms d e f g = λ i. losses_of image w b (d i) (e i) (f i) (g i)
+-- the same is told
+pub same_told : (terms : Terms) (a : Basis) (b : Option Basis) (fs : List FindingValue) (made : Bool) (r : Rescued) → terms.made ≡ made
+    → IsRescued terms a b fs r → told_value r ≡ told_by (letters_for terms.types a.image) terms.held made a b fs
+same_told terms a b fs made r same is =
+    let heads = is.lost_headers ∙ ap (λ (made : Bool). lost_headers made a.walk fs) same in
+    λ i. record {
+      left_out = is.left_out i;
+      second_left_out = is.second_left_out i;
+      doubts = is.doubts i;
+      second_doubts = is.second_doubts i;
+      lost_headers = heads i;
+      lost_blocks = is.lost_blocks i;
+    }
+
+-- the same blocks are lost in front
+pub same_front : (lost : List LossValue) (held n : ℕ) (input image : List ℕ) (types : Types) (b : Begun) → IsBegunInput types lost input image b
+    → image ≡ opened input → n ≡ blocks image → front_losses (runs_lost b.lost.items) b.states_type b.made_root held n ≡ input_losses lost held input
+same_front lost held n input image types b is same size =
+    let count : n ≡ blocks input = size ∙ ap (λ (l : List ℕ). length l / 512) same ∙ ap (λ (k : ℕ). k / 512) (length_opened input) in
+    λ i. front_losses (is.lost i) (is.states i) (is.made i) held (count i)
+
+-- so all losses are
+pub same_losses : (letters : Letters) (held : ℕ) (lost front : List LossValue) (input : List ℕ) (a : Basis) (b : Option Basis) (fs : List FindingValue)
+    (t : ToldValue) → t ≡ told_by letters held (lacks_root input) a b fs → front ≡ input_losses lost held input
+    → losses_of a.image a.walk b t front ≡ rescue_losses letters held lost input a b fs
+same_losses letters held lost front input a b fs t told runs = λ i. losses_of a.image a.walk b (told i) (runs i)
 
 -- what stands is prepared as a volume
-pub volume_prepared : (types : Types) (held : ℕ) (input : List ℕ) (a : Basis) (b : Option Basis) (fs : List FindingValue) (p : Prepared)
+pub volume_prepared : (types : Types) (held : ℕ) (lost : List LossValue) (input : List ℕ) (a : Basis) (b : Option Basis) (fs : List FindingValue)
+    (p : Prepared)
     → IsBuildable p.draft.tree p.blocks → p.draft.tree ≡ rescued_tree_by (letters_for types a.image) held a b → p.blocks ≡ blocks a.image
-    → loss_values p.losses.items ≡ rescue_losses (letters_for types a.image) held a b fs → a.walk ≢ []
+    → loss_values p.losses.items ≡ rescue_losses (letters_for types a.image) held lost input a b fs → a.walk ≢ []
     → ¬ StandsNothingBy types held a b fs (is_mended input)
-    → Prepares (RescuesBy types held input a b fs) (Ok p)
-volume_prepared types held input a b fs p room tree size told read some = λ boot. (
+    → Prepares (RescuesBy types held lost input a b fs) (Ok p)
+volume_prepared types held lost input a b fs p room tree size told read some = λ boot. (
   room,
   λ volume laid long. inr (
     read,

@@ -1,6 +1,6 @@
 -- A rescue of bytes gives something.
 -- Letters: w the walk of a survey, fs its findings; a the survey of an image, second the second one, if there is one; held the number of blocks
--- that the input holds whole; ls losses; r what a rescue gives.
+-- that the input holds whole; ls, lost losses; r what a rescue gives.
 use Rattle.std.proofs.Common.{◌≡◌, ◌≢◌, ◌≤◌, ◌^◌, ℕ, Bool, true, false, List, [], ◌∷◌, Option, None, Some, inl, inr, length, refl, subst, arith}
 use Rattle.std.specs.Prelude.{IfSome}
 use Rattle.std.proofs.lemmas.Bool.{and_parts, cases_lt, cond_both}
@@ -27,14 +27,14 @@ use Rattle.adf_rescue.proofs.OpenedImages.{opened_kept}
 use Rattle.adf_rescue.proofs.PassedFindings.{no_fault, some_fault, unread_fault}
 use Rattle.adf_rescue.proofs.RescuedBytes.{hung_bytes, opened_bytes}
 use Rattle.adf_rescue.proofs.RescuedVolumes.{AreSecondBytes, rescue_laid}
-use Rattle.adf_rescue.specs.Hung.{hung}
-use Rattle.adf_rescue.specs.Lost.{has_lost, is_settled}
-use Rattle.adf_rescue.specs.Opened.{is_mended, opened}
+use Rattle.adf_rescue.specs.Hung.{hung, second_image}
+use Rattle.adf_rescue.specs.Lost.{has_lost, is_open}
+use Rattle.adf_rescue.specs.Opened.{is_mended, lacks_root, opened}
 use Rattle.adf_rescue.specs.Rescue.{Basis, IsFaulty, IsSecond, rescued_additions_by}
 use Rattle.adf_survey_cmd.proofs.RescueAnswers.{none_fits_it, none_fits_mended}
 use Rattle.adf_survey_cmd.specs.Prepared.{IsNoVolume}
 use Rattle.adf_survey_cmd.specs.Losses.{LossValue, rescue_losses}
-use Rattle.adf_survey_cmd.specs.Rescues.{GivesFault, RescueValue, Rescues, RescuesBy, RescuesFound, RescuesSome, second_image}
+use Rattle.adf_survey_cmd.specs.Rescues.{GivesFault, RescueValue, Rescues, RescuesBy, RescuesFound, RescuesSome}
 
 -- the second survey
 
@@ -45,18 +45,18 @@ second_of (Some image) are =
     let (sound, marks) = some_marks image w fs survey (grave fs) in
     (Some (record { image = image; walk = w; sound = sound }), record { of = refl; findings = fs; survey = survey; marks = marks }, are)
 
-lost_len : (mended : Bool) (image : List ℕ) (w : Walk) (fs : List FindingValue) → has_lost mended image w fs ≡ true
+lost_len : (made : Bool) (image : List ℕ) (w : Walk) (fs : List FindingValue) → has_lost made image w fs ≡ true
     → blocks image ≤ 2 ^ 32
-lost_len mended image w fs some =
+lost_len made image w fs some =
     let len = (and_parts (is_image_len (length image)) _ some).0 in
     let high = (sized (length image) len).high in
     omega arith
 
-second_bytes : (mended : Bool) (image : List ℕ) (w : Walk) (fs : List FindingValue) → AreBytes image
-    → IfSome (second_image mended image w fs) AreBytes
-second_bytes mended image w fs are =
-    cond_both (has_lost mended image w fs) (Some (hung image w (is_settled mended w fs))) None (λ o. IfSome o AreBytes)
-    (λ some. hung_bytes image w (is_settled mended w fs) are (lost_len mended image w fs some)) (λ none. tt)
+second_bytes : (made : Bool) (image : List ℕ) (w : Walk) (fs : List FindingValue) → AreBytes image
+    → IfSome (second_image made image w fs) AreBytes
+second_bytes made image w fs are =
+    cond_both (has_lost made image w fs) (Some (hung image w (is_open made image w fs))) None (λ o. IfSome o AreBytes)
+    (λ some. hung_bytes image w (is_open made image w fs) are (lost_len made image w fs some)) (λ none. tt)
 
 -- the first fault
 
@@ -104,41 +104,42 @@ allowed_size : (image : List ℕ) (w : Walk) (fs : List FindingValue) → IsSurv
 allowed_size image w fs (unread f) some = absurd (some refl)
 allowed_size image w fs (read v d t) some = (course_size image v).1
 
-module _ (types : Types) (held : ℕ) (input : List ℕ) (w : Walk) (fs : List FindingValue) (survey : IsSurvey (opened input) w fs) (sound : ℕ → Bool)
+module _ (types : Types) (held : ℕ) (lost : List LossValue) (input : List ℕ) (w : Walk) (fs : List FindingValue) (survey : IsSurvey (opened input) w fs) (sound : ℕ → Bool)
     (are : AreBytes (opened input)) (second : Option Basis) (more : AreSecondBytes second) (boot : List ℕ) where
   abbrev first : Basis
   first = record { image = opened input; walk = w; sound = sound }
 
-  some_rescued : w ≢ [] → (r : RescueValue) × RescuesSome types held input first second fs boot r
+  some_rescued : w ≢ [] → (r : RescueValue) × RescuesSome types held lost input first second fs boot r
   some_rescued some =
       let letters : Letters = letters_for types (opened input) in
       let fault = dec_fault types (opened input) w fs (is_mended input) survey in
       elim (dec_and fault (dec_nil (rescued_additions_by letters held first second))) [
         | yes nothing ↦
-            let (r, refuses) = fault_given (rescue_losses letters held first second fs) types input
+            let (r, refuses) = fault_given (rescue_losses letters held lost input first second fs) types input
             (none_fits_fault types input w fs (is_mended input) refl survey nothing.0) (fits_or_fault_by types input) in (r, inl (nothing, refuses))
         | no stands ↦
             let (image, laid, size) = rescue_laid letters held first second (allowed_size (opened input) w fs survey some) are more in
             (_, inr (stands, (image, laid, size, refl)))
       ]
 
-  rescued_by : Dec (w ≡ []) → (r : RescueValue) × RescuesBy types held input first second fs boot r
+  rescued_by : Dec (w ≡ []) → (r : RescueValue) × RescuesBy types held lost input first second fs boot r
   rescued_by (yes none) =
       let (r, refuses) = fault_given [] types input (none_fits_unread types input w fs survey none) (fits_or_fault_by types input) in
       (r, inl (none, refuses))
   rescued_by (no some) = let (r, told) = some_rescued some in (r, inr (some, told))
 
-rescued_found : (types : Types) (held : ℕ) (input : List ℕ) (w : Walk) (fs : List FindingValue) → IsSurvey (opened input) w fs → AreBytes (opened input)
-    → (boot : List ℕ) → (r : RescueValue) × RescuesFound types held input (opened input) w fs boot r
-rescued_found types held input w fs survey are boot =
+rescued_found : (types : Types) (held : ℕ) (lost : List LossValue) (input : List ℕ) (w : Walk) (fs : List FindingValue) → IsSurvey (opened input) w fs
+    → AreBytes (opened input) → (boot : List ℕ) → (r : RescueValue) × RescuesFound types held lost input (opened input) w fs boot r
+rescued_found types held lost input w fs survey are boot =
     let (sound, marks) = some_marks (opened input) w fs survey (grave fs) in
-    let bytes = second_bytes (is_mended input) (opened input) w fs are in
-    let (second, is, more) = second_of (second_image (is_mended input) (opened input) w fs) bytes in
-    let (r, told) = rescued_by types held input w fs survey sound are second more boot (dec_nil w) in
+    let bytes = second_bytes (lacks_root input) (opened input) w fs are in
+    let (second, is, more) = second_of (second_image (lacks_root input) (opened input) w fs) bytes in
+    let (r, told) = rescued_by types held lost input w fs survey sound are second more boot (dec_nil w) in
     (r, (sound, marks, (second, is, told)))
 
-pub some_rescue : (types : Types) (held : ℕ) (input boot : List ℕ) → AreBytes input → (r : RescueValue) × Rescues types held input boot r
-some_rescue types held input boot are =
+pub some_rescue : (types : Types) (held : ℕ) (lost : List LossValue) (input boot : List ℕ) → AreBytes input
+    → (r : RescueValue) × Rescues types held lost input boot r
+some_rescue types held lost input boot are =
     let (w, fs, survey) = some_survey (opened input) in
-    let (r, told) = rescued_found types held input w fs survey (opened_bytes input are) boot in
+    let (r, told) = rescued_found types held lost input w fs survey (opened_bytes input are) boot in
     (r, (w, fs, survey, told))

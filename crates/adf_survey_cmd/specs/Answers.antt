@@ -96,7 +96,7 @@ types_kept false = Plain
 
 -- `rescue` of what is surveyed, once it has the type that its files say: with its two boot blocks as they were before
 abbrev pub RescuesTyped : Types → SubjectValue → RescueValue → Type 0
-RescuesTyped types s r = (t : SubjectValue) × IsTyped s t × Rescues types t.end t.image (sized 2 s.image) r
+RescuesTyped types s r = (t : SubjectValue) × IsTyped s t × Rescues types t.end t.lost t.image (sized 2 s.image) r
 
 -- the answer to a question of what is surveyed: once it is begun, and has the type that its files say
 abbrev pub QuestionAnswer : QuestionValue → SubjectValue → Reply → Type 0

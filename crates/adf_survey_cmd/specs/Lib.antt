@@ -1,4 +1,5 @@
 -- The promise: the lines, and what the command answers.
+pub mod Lengths
 pub mod Lines
 pub mod Subject
 pub mod FoundLines

@@ -1,5 +1,5 @@
 -- Rescues of which only the new volume is to be laid.
--- Letters: p a prepared rescue; u why there is none; w how a work ends; f a fault; ls losses; boot the boot blocks of the input; types those that
+-- Letters: b what is told of an input; p a prepared rescue; u why there is none; w how a work ends; f a fault; ls losses; boot the boot blocks of the input; types those that
 -- the new volume may have.
 use Rattle.std.specs.Prelude.{◌≡◌, ◌++◌, ℕ, List, Result, Ok, Err}
 use Rattle.adf_tree.specs.Tree.{Tree}
@@ -13,11 +13,13 @@ use Rattle.adf_volume.specs.Walk.{FirstFaultBy}
 use Rattle.adf_boot_blocks.specs.Writing.{restored}
 use Rattle.adf_build.specs.Building.{IsBuildable}
 use Rattle.adf_build.specs.Laid.{IsLaid}
+use Rattle.adf_rescue.specs.Opened.{IsOpened, lacks_root, states_type}
 use Rattle.adf_texts.specs.Lines.{fault_line}
 use Rattle.adf_runs.specs.Commands.{Reply}
 use Rattle.adf_runs.specs.declared.outcome.Outcome.{Outcome, TheVariants.LeftOut, TheVariants.NoMemory as OutOfMemory}
-use Rattle.adf_survey_cmd.specs.Losses.{loss_values, losses_text}
+use Rattle.adf_survey_cmd.specs.Losses.{LossValue, loss_values, losses_text, runs_lost}
 use Rattle.adf_survey_cmd.specs.Rescues.{RescueValue, RescueValue.refused, RescueValue.written, rescue_reply}
+use Rattle.adf_survey_cmd.specs.declared.preparing.Begun.{Begun}
 use Rattle.adf_survey_cmd.specs.declared.preparing.Prepared.{Prepared}
 use Rattle.adf_survey_cmd.specs.declared.preparing.Unrescued.{Unrescued, TheVariants.NoMemory, TheVariants.Refused}
 
@@ -28,6 +30,14 @@ IsNoVolume types image = (t : Tree) (l : Layout) → FitsBy (letters_for types i
 -- the fault is the first one of an image where these types are accepted
 abbrev pub IsFirstFault : Types → List ℕ → Fault → Type 0
 IsFirstFault types image f = FirstFaultBy (letters_for types image) image f.block f.cause
+
+-- what is told of an input before it is opened as the image: its first fault, if it must be mended; whether it states a type; whether a root is
+-- made; and these losses of blocks
+pub record IsBegunInput (types : Types) (lost : List LossValue) (input image : List ℕ) (b : Begun) : Type 0 where
+  pub opened : IsOpened (IsFirstFault types input) input image b.fault
+  pub states : b.states_type ≡ states_type input
+  pub made : b.made_root ≡ lacks_root input
+  pub lost : runs_lost b.lost.items ≡ lost
 
 -- the tree fits, and each volume that is laid for it, with the boot blocks put back into it, is what the rescue gives
 abbrev pub LaysFor : (RescueValue → Type 0) → Prepared → (boot : List ℕ) → Type 0

@@ -1,7 +1,8 @@
 -- What a rescue gives.
 -- Letters: a the survey of an image, w its walk, fs its findings; b the second survey, if there is one; ls losses; f a fault; r what a rescue gives;
--- types those that the new volume may have; held the number of blocks that the input holds whole; boot the boot blocks of the input.
-use Rattle.std.specs.Prelude.{◌≡◌, ◌≢◌, ◌⊎◌, ℕ, Bool, List, [], ◌∷◌, ◌++◌, Option, None, Some, cond}
+-- types those that the new volume may have; held the number of blocks that the input holds whole; lost the losses of blocks that are not read at
+-- all; boot the boot blocks of the input.
+use Rattle.std.specs.Prelude.{◌≡◌, ◌≢◌, ◌⊎◌, ℕ, Bool, List, [], ◌∷◌, ◌++◌, Option}
 use Rattle.adf_blocks.specs.Sizes.{blocks}
 use Rattle.adf_boot_blocks.specs.Writing.{restored}
 use Rattle.adf_volume.specs.Types.{letters_for}
@@ -12,9 +13,8 @@ use Rattle.adf_findings.specs.Files.{grave}
 use Rattle.adf_findings.specs.SoundMarks.{AreMarks}
 use Rattle.adf_findings.specs.Survey.{FindingValue, IsSurvey}
 use Rattle.adf_build.specs.Laid.{IsLaid}
-use Rattle.adf_rescue.specs.Hung.{hung}
-use Rattle.adf_rescue.specs.Lost.{has_lost, is_settled}
-use Rattle.adf_rescue.specs.Opened.{is_mended, opened}
+use Rattle.adf_rescue.specs.Hung.{second_image}
+use Rattle.adf_rescue.specs.Opened.{is_mended, lacks_root, opened}
 use Rattle.adf_rescue.specs.Rescue.{IsSecond, Basis, StandsNothingBy, rescued_tree_by}
 use Rattle.adf_texts.specs.Lines.{fault_line}
 use Rattle.adf_runs.specs.Commands.{Reply, on_errors}
@@ -25,7 +25,7 @@ abbrev pub text_status : List ℕ → ℕ
 text_status [] = 0
 text_status (c ∷ text) = 1
 
--- what a rescue gives: a volume, and all that is not in it; or the first fault of the input, and all that is lost
+-- what a rescue gives: a volume, and all that is not in it or in doubt there; or the first fault of the input, and all that is lost
 pub data RescueValue : Type 0 where
   written : (volume : List ℕ) (losses : List LossValue) → RescueValue
   refused : (fault : Fault) (losses : List LossValue) → RescueValue
@@ -39,48 +39,44 @@ rescue_reply (refused f ls) = on_errors 1 (fault_line f ++ losses_text ls)
 abbrev pub Replies : (RescueValue → Type 0) → Reply → Type 0
 Replies gives reply = (r : RescueValue) × gives r × (reply ≡ rescue_reply r)
 
--- the volume that is laid for the tree of all that stands, in as many blocks, with the boot blocks put back into it
-abbrev pub GivesVolume : Types → (held : ℕ) → Basis → Option Basis → List FindingValue → (boot : List ℕ) → RescueValue → Type 0
-GivesVolume types held a b fs boot r =
-    let letters = letters_for types a.image in
-    (volume : List ℕ) × IsLaid volume (rescued_tree_by letters held a b) × (blocks volume ≡ blocks a.image)
-    × (r ≡ written (restored volume boot) (rescue_losses letters held a b fs))
+-- the volume that is laid for the tree of all that stands, in as many blocks, with the boot blocks put back into it, with these losses
+abbrev pub GivesVolume : List LossValue → Types → (held : ℕ) → Basis → Option Basis → (boot : List ℕ) → RescueValue → Type 0
+GivesVolume ls types held a b boot r =
+    (volume : List ℕ) × IsLaid volume (rescued_tree_by (letters_for types a.image) held a b) × (blocks volume ≡ blocks a.image)
+    × (r ≡ written (restored volume boot) ls)
 
 -- the first fault of the input where these types are accepted, with these losses
 abbrev pub GivesFault : List LossValue → Types → List ℕ → RescueValue → Type 0
 GivesFault ls types input r = (f : Fault) × FirstFaultBy (letters_for types input) input f.block f.cause × (r ≡ refused f ls)
 
 -- the rescue of an input of which something is surveyed: the volume, or where nothing stands the first fault
-abbrev pub RescuesSome : Types → (held : ℕ) → List ℕ → Basis → Option Basis → List FindingValue → (boot : List ℕ) → RescueValue → Type 0
-RescuesSome types held input a b fs boot r =
-    (StandsNothingBy types held a b fs (is_mended input) × GivesFault (rescue_losses (letters_for types a.image) held a b fs) types input r)
-    ⊎ ((¬ StandsNothingBy types held a b fs (is_mended input)) × GivesVolume types held a b fs boot r)
+abbrev pub RescuesSome : Types → (held : ℕ) → List LossValue → List ℕ → Basis → Option Basis → List FindingValue → (boot : List ℕ) → RescueValue → Type 0
+RescuesSome types held lost input a b fs boot r =
+    let ls = rescue_losses (letters_for types a.image) held lost input a b fs in
+    (StandsNothingBy types held a b fs (is_mended input) × GivesFault ls types input r)
+    ⊎ ((¬ StandsNothingBy types held a b fs (is_mended input)) × GivesVolume ls types held a b boot r)
 
 -- the rescue of an input by the surveys; where nothing is surveyed it is refused
-abbrev pub RescuesBy : Types → (held : ℕ) → List ℕ → Basis → Option Basis → List FindingValue → (boot : List ℕ) → RescueValue → Type 0
-RescuesBy types held input a b fs boot r =
-    ((a.walk ≡ []) × GivesFault [] types input r) ⊎ ((a.walk ≢ []) × RescuesSome types held input a b fs boot r)
-
--- the second image that is surveyed: the hung one, if something is lost; mended tells whether the first one was
-abbrev pub second_image : Bool → List ℕ → Walk → List FindingValue → Option (List ℕ)
-second_image mended image w fs = cond (has_lost mended image w fs) (Some (hung image w (is_settled mended w fs))) None
+abbrev pub RescuesBy : Types → (held : ℕ) → List LossValue → List ℕ → Basis → Option Basis → List FindingValue → (boot : List ℕ) → RescueValue → Type 0
+RescuesBy types held lost input a b fs boot r =
+    ((a.walk ≡ []) × GivesFault [] types input r) ⊎ ((a.walk ≢ []) × RescuesSome types held lost input a b fs boot r)
 
 -- the rescue of an input by the survey of its image, and by that of a second image, if there is one
-abbrev pub RescuesBoth : Types → (held : ℕ) → List ℕ → Basis → Option (List ℕ) → List FindingValue → (boot : List ℕ) → RescueValue → Type 0
-RescuesBoth types held input a image fs boot r = (b : Option Basis) × IsSecond image b × RescuesBy types held input a b fs boot r
+abbrev pub RescuesBoth : Types → (held : ℕ) → List LossValue → List ℕ → Basis → Option (List ℕ) → List FindingValue → (boot : List ℕ) → RescueValue → Type 0
+RescuesBoth types held lost input a image fs boot r = (b : Option Basis) × IsSecond image b × RescuesBy types held lost input a b fs boot r
 
--- the rescue of an input by what is found in an image
-abbrev pub RescuesFound : Types → (held : ℕ) → List ℕ → List ℕ → Walk → List FindingValue → (boot : List ℕ) → RescueValue → Type 0
-RescuesFound types held input image w fs boot r =
+-- the rescue of an input by what is found in an image, and in that with what is lost hung in it
+abbrev pub RescuesFound : Types → (held : ℕ) → List LossValue → List ℕ → List ℕ → Walk → List FindingValue → (boot : List ℕ) → RescueValue → Type 0
+RescuesFound types held lost input image w fs boot r =
     (sound : ℕ → Bool) × AreMarks image w (grave fs) sound
-    × RescuesBoth types held input (record { image = image; walk = w; sound = sound }) (second_image (is_mended input) image w fs) fs boot r
+    × RescuesBoth types held lost input (record { image = image; walk = w; sound = sound }) (second_image (lacks_root input) image w fs) fs boot r
 
 -- the rescue of an input by the survey of an image
-abbrev pub RescuesIn : Types → (held : ℕ) → List ℕ → List ℕ → (boot : List ℕ) → RescueValue → Type 0
-RescuesIn types held input image boot r =
-    (w : Walk) × (fs : List FindingValue) × IsSurvey image w fs × RescuesFound types held input image w fs boot r
+abbrev pub RescuesIn : Types → (held : ℕ) → List LossValue → List ℕ → List ℕ → (boot : List ℕ) → RescueValue → Type 0
+RescuesIn types held lost input image boot r =
+    (w : Walk) × (fs : List FindingValue) × IsSurvey image w fs × RescuesFound types held lost input image w fs boot r
 
--- the rescue of an image, whose boot block and root may be overwritten, and of which the input holds the first `held` blocks, with these boot
--- blocks put into the volume. Names have the letters of the image as far as these types have them
-abbrev pub Rescues : Types → (held : ℕ) → List ℕ → (boot : List ℕ) → RescueValue → Type 0
-Rescues types held input boot r = RescuesIn types held input (opened input) boot r
+-- the rescue of an image, whose boot block and root may be overwritten, of which the input holds the first `held` blocks, and beside which these
+-- blocks are lost, with these boot blocks put into the volume. Names have the letters of the image as far as these types have them
+abbrev pub Rescues : Types → (held : ℕ) → (lost : List LossValue) → List ℕ → (boot : List ℕ) → RescueValue → Type 0
+Rescues types held lost input boot r = RescuesIn types held lost input (opened input) boot r

@@ -1,38 +1,48 @@
 -- What is surveyed of an input.
--- Letters: s, t what is surveyed; w the walk of a survey; n a number of blocks; end a block.
-use Rattle.std.specs.Prelude.{◌≡◌, ◌*◌, ◌-◌, ◌++◌, ℕ, List, [], Option, None, Some, codes, cond, length, min, nat_lt, replicate, take}
+-- Letters: s, t what is surveyed; w the walk of a survey; n a number of blocks; stated the number that is stated, asked the one that is asked for;
+-- end a block.
+use Rattle.std.specs.Prelude.{◌≡◌, ◌*◌, ◌-◌, ◌%◌, ◌==◌, ◌++◌, ◌∷◌, ℕ, List, [], Option, None, Some, codes, cond, length, min, nat_lt, replicate, take}
+use Rattle.adf_names.specs.VolumeTypes.{kind_text_by, letters_of_type}
+use Rattle.adf_names.specs.declared.kind.Kind.{Kind, TheVariants.Ofs, TheVariants.Ffs}
 use Rattle.adf_blocks.specs.declared.layout.TheConstants.{MOST_BLOCKS}
 use Rattle.adf_blocks.specs.Sizes.{blocks}
 use Rattle.adf_volume.specs.Walk.{Walk}
-use Rattle.adf_findings.specs.OwnKind.{is_mistyped, retyped}
+use Rattle.adf_findings.specs.OwnKind.{is_mistyped, retyped, told_type}
 use Rattle.adf_findings.specs.Survey.{FindingValue, IsSurvey}
-use Rattle.adf_rescue.specs.Opened.{with_boot_type, lacks_boot}
+use Rattle.adf_rescue.specs.Opened.{lacks_boot, opened, with_boot_type}
 use Rattle.adf_runs.specs.Commands.{Reply}
+use Rattle.adf_survey_cmd.specs.Lengths.{blocks_read, stated_length}
 use Rattle.adf_survey_cmd.specs.Lines.{blocks_text, findings_text}
+use Rattle.adf_survey_cmd.specs.Losses.{LossValue, run_loss, runs_lost}
 use Rattle.adf_survey_cmd.specs.declared.subject.Subject.{Subject}
 
--- an image; the first block that the input does not hold; the lines in front of those of the findings
+-- an image; the first block that the input does not hold; the lines in front of those of the findings; the losses of the blocks that it has not
 pub record SubjectValue : Type 0 where
   pub image : List ℕ
   pub end : ℕ
   pub front : List ℕ
+  pub lost : List LossValue
 
 -- the value of a subject
 abbrev pub subject_value : Subject → SubjectValue
-subject_value s = record { image = s.image.items; end = s.end; front = s.front.items }
+subject_value s = record { image = s.image.items; end = s.end; front = s.front.items; lost = runs_lost s.lost.items }
 
 -- the same of a survey of its image
 abbrev pub surveyed_as : List ℕ → Subject → SubjectValue
-surveyed_as image s = record { image = image; end = s.end; front = s.front.items }
+surveyed_as image s = record { image = image; end = s.end; front = s.front.items; lost = runs_lost s.lost.items }
 
 -- the image of n blocks that begins with the bytes of the input, as many as it holds, and has zeros for what is not there
 abbrev pub sized : ℕ → List ℕ → List ℕ
 sized n input = take (512 * n) input ++ replicate (512 * n - length input) 0
 
--- the image that is meant: the input, or one of so many blocks
+-- the input, or the image of so many blocks
+abbrev pub as_long : Option ℕ → List ℕ → List ℕ
+as_long None input = input
+as_long (Some n) input = sized n input
+
+-- the image that is meant: of as many blocks as are read
 abbrev pub meant : Option ℕ → List ℕ → List ℕ
-meant None input = input
-meant (Some n) input = sized n input
+meant asked input = as_long (blocks_read asked input) input
 
 -- the first of n blocks that the input does not hold whole; n if it holds all
 abbrev pub held_end : ℕ → List ℕ → ℕ
@@ -42,10 +52,24 @@ held_end n input = min n (blocks input)
 abbrev pub missing_text : ℕ → ℕ → List ℕ
 missing_text end n = cond (nat_lt end n) (blocks_text end (n - 1) ++ codes ": no data\n") []
 
--- what is surveyed of an input, as it is or as if it had so many blocks
+-- the line of the blocks that are stated and not read, if there are any
+abbrev pub behind_text : ℕ → ℕ → List ℕ
+behind_text n stated = cond (nat_lt n stated) (blocks_text n (stated - 1) ++ codes ": behind the volume\n") []
+
+-- the loss of these blocks
+abbrev pub behind_loss : ℕ → ℕ → List LossValue
+behind_loss n stated = cond (nat_lt n stated) (run_loss n (stated - 1) ∷ []) []
+
+-- what is surveyed of an input: as it is, or n blocks of it in place of those that are stated
+abbrev pub subject_read : (stated : ℕ) → Option ℕ → List ℕ → SubjectValue
+subject_read stated None input = record { image = input; end = held_end MOST_BLOCKS input; front = []; lost = [] }
+subject_read stated (Some n) input =
+    let end = held_end n input in
+    record { image = sized n input; end = end; front = missing_text end n ++ behind_text n stated; lost = behind_loss n stated }
+
+-- what is surveyed of an input, as it is or as if it had so many blocks: of as many as are read
 abbrev pub subject : Option ℕ → List ℕ → SubjectValue
-subject None input = record { image = input; end = held_end MOST_BLOCKS input; front = [] }
-subject (Some n) input = record { image = sized n input; end = held_end n input; front = missing_text (held_end n input) n }
+subject asked input = subject_read (stated_length asked input) (blocks_read asked input) input
 
 -- the lines of the findings, with those in front
 abbrev pub subject_text : SubjectValue → Walk → List FindingValue → List ℕ
@@ -53,23 +77,49 @@ subject_text s w fs = s.front ++ findings_text s.image w fs
 
 -- another image in its place, and one more line
 abbrev pub changed : SubjectValue → List ℕ → List ℕ → SubjectValue
-changed s image line = record { image = image; end = s.end; front = s.front ++ line }
+changed s image line = record { image = image; end = s.end; front = s.front ++ line; lost = s.lost }
 
 -- with `DOS` and a type, where only the boot block is lost
 abbrev pub begun_subject : SubjectValue → SubjectValue
 begun_subject s = cond (lacks_boot s.image) (changed s (with_boot_type s.image) (codes "block 0: not dos\n")) s
 
--- the line of a volume whose type is not what its files say
-unfoldable pub type_line : List ℕ
-type_line = codes "block 0: type of ffs, files of ofs\n"
+-- the kind of a volume of this type: FFS if it is odd
+abbrev pub kind_of_type : ℕ → Kind
+kind_of_type type = cond (type % 2 == 0) Ofs Ffs
 
--- with the type of OFS, where the data blocks of its walk say so
+-- the word for the kind and the letters of a volume of this type, 0 to 3
+abbrev pub type_text : ℕ → List ℕ
+type_text type = kind_text_by (letters_of_type type) (kind_of_type type)
+
+-- the line of a volume whose type is not the one that its files tell
+unfoldable pub type_line : ℕ → List ℕ
+type_line type = codes "block 0: files of " ++ (type_text type ++ codes "\n")
+
+-- the type that the entries of an image tell, by the walk of its survey; none if it is the image's own
+abbrev pub other_type : List ℕ → Walk → Option ℕ
+other_type image w = cond (is_mistyped image w) (Some (told_type image w)) None
+
+-- with `DOS` and this type in place of the first four bytes: so block 0 is lost
+abbrev pub retyped_subject : SubjectValue → ℕ → SubjectValue
+retyped_subject s type = record {
+  image = retyped (with_boot_type s.image) type;
+  end = s.end;
+  front = s.front ++ type_line type;
+  lost = s.lost ++ run_loss 0 0 ∷ [];
+}
+
+-- with another type, if there is one
+abbrev pub typed_by : SubjectValue → Option ℕ → SubjectValue
+typed_by s None = s
+typed_by s (Some type) = retyped_subject s type
+
+-- with the type that its entries tell, by the walk of the survey of its image, once that is opened
 abbrev pub typed_subject : SubjectValue → Walk → SubjectValue
-typed_subject s w = cond (is_mistyped s.image w) (changed s (retyped s.image) type_line) s
+typed_subject s w = typed_by s (other_type (opened s.image) w)
 
--- that is t, by the survey of its image
+-- that is t, by the survey of its image, once that is opened
 abbrev pub IsTyped : SubjectValue → SubjectValue → Type 0
-IsTyped s t = (w : Walk) × (fs : List FindingValue) × IsSurvey s.image w fs × (t ≡ typed_subject s w)
+IsTyped s t = (w : Walk) × (fs : List FindingValue) × IsSurvey (opened s.image) w fs × (t ≡ typed_subject s w)
 
 -- the answer is that of what is surveyed in the end, begun and with the type that its files say
 abbrev pub OfTyped : SubjectValue → (SubjectValue → Reply → Type 0) → Reply → Type 0

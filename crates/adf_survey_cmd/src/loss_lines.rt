@@ -1,39 +1,58 @@
-// The lines of what is not in the volume of a rescue.
+// The lines of what is not in the volume of a rescue, or in doubt there.
 
 ghost use Rattle.std.specs.Prelude.{◌≡◌, ◌++◌, OnOk};
-ghost use Rattle.adf_survey_cmd.specs.Losses.{loss_line, loss_value, loss_values, losses_text, number_text};
+ghost use Rattle.adf_survey_cmd.specs.Losses.{path_line, headers_line, loss_line, loss_value, loss_values, losses_text};
+ghost use Rattle.adf_survey_cmd.specs.Losses.{number_text, reason_number};
 
-use crate::losses::Loss;
+use crate::losses::{Loss, Reason};
 use crate::runs::push_blocks;
 use std::alloc::AllocError;
 
-// Appends why an entry is left out, by the number.
-fn push_why(text: &mut Vec<u8>, why: u8) -> Result<(), AllocError>
-    ensures { OnOk result (text.new.items ≡ text.old.items ++ number_text why) }
+// Appends the word of a reason that stands in front of a path.
+fn push_word(text: &mut Vec<u8>, why: Reason) -> Result<(), AllocError>
+    ensures { OnOk result (text.new.items ≡ text.old.items ++ number_text (reason_number why)) }
 {
     match why {
-        1 => text.extend_from_slice(b"damaged: "),
-        2 => text.extend_from_slice(b"link: "),
-        _ => text.extend_from_slice(b"no room: "),
+        Reason::Damaged => text.extend_from_slice(b"damaged: "),
+        Reason::Link => text.extend_from_slice(b"link: "),
+        Reason::NoRoom => text.extend_from_slice(b"no room: "),
+        Reason::InDoubt => text.extend_from_slice(b"in doubt: "),
+        Reason::PerhapsDeleted => text.extend_from_slice(b"perhaps deleted: "),
+        Reason::FoundAgain => text.extend_from_slice(b"found again: "),
+        _ => text.extend_from_slice(b"made: "),
     }
+}
+
+// Appends the line of an entry.
+fn push_entry(text: &mut Vec<u8>, loss: &Loss) -> Result<(), AllocError>
+    ensures { OnOk result (text.new.items ≡ text.old.items ++ path_line (loss_value loss.now)) }
+{
+    push_word(text, loss.why)?;
+    text.extend_from_slice(&loss.path)?;
+    text.extend_from_slice(b"\n")
+}
+
+// Appends the line of headers in a directory.
+fn push_headers(text: &mut Vec<u8>, loss: &Loss) -> Result<(), AllocError>
+    ensures { OnOk result (text.new.items ≡ text.old.items ++ headers_line (loss_value loss.now)) }
+{
+    text.extend_from_slice(b"lost: in ")?;
+    text.extend_from_slice(&loss.path)?;
+    text.extend_from_slice(b"/\n")
 }
 
 // Appends the line of a loss.
 fn push_line(text: &mut Vec<u8>, loss: &Loss) -> Result<(), AllocError>
     ensures { OnOk result (text.new.items ≡ text.old.items ++ loss_line (loss_value loss.now)) }
 {
-    if loss.why == 5 {
-        text.extend_from_slice(b"lost: ")?;
-        return push_blocks(text, loss.first, loss.last, b'\n');
+    match loss.why {
+        Reason::Blocks => {
+            text.extend_from_slice(b"lost: ")?;
+            push_blocks(text, loss.first, loss.last, b'\n')
+        }
+        Reason::Headers => push_headers(text, loss),
+        _ => push_entry(text, loss),
     }
-    if loss.why == 4 {
-        text.extend_from_slice(b"lost: in ")?;
-        text.extend_from_slice(&loss.path)?;
-        return text.extend_from_slice(b"/\n");
-    }
-    push_why(text, loss.why)?;
-    text.extend_from_slice(&loss.path)?;
-    text.extend_from_slice(b"\n")
 }
 
 /// Appends the lines of losses.

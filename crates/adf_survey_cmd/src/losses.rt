@@ -1,23 +1,46 @@
-// What of an image is not in the volume of its rescue.
+// What of an image is not in the volume of its rescue, or in doubt there.
 
 ghost use Rattle.std.specs.Prelude.{◌≡◌, ◌+◌, ◌<◌, ◌++◌, ◌∷◌, [], IfOk, OnOk, Option, drop, length, not, option_map};
 ghost use Rattle.std.specs.Prelude.{slice_index};
 ghost use Rattle.adf_findings.specs.Survey.{OnSurvey};
 ghost use Rattle.adf_rescue.specs.Rescue.{OnSecond};
-ghost use Rattle.adf_survey_cmd.specs.Losses.{begins_with, block_losses, header_losses, header_of, left_out_losses, loss_values};
-ghost use Rattle.adf_survey_cmd.specs.Losses.{losses_of, path_loss, run_loss, second_losses, why_number};
+ghost use Rattle.adf_survey_cmd.specs.Losses.{begins_with, block_losses, doubt_losses, doubt_reason, header_losses, header_of};
+ghost use Rattle.adf_survey_cmd.specs.Losses.{left_out_losses, left_out_reason, loss_values, losses_of, of_second, path_loss};
+ghost use Rattle.adf_survey_cmd.specs.Losses.{reason_number, run_loss, runs_lost, told_value};
 
 use crate::runs::push_path;
 use adf_findings::Survey;
-use adf_rescue::{LeftOut, Rescued, Why};
+use adf_rescue::{Doubt, Doubtful, LeftOut, Rescued, Why};
 use adf_tree::Node;
 use std::alloc::{AllocError, Global};
 
-/// Something of an image that is not in the volume of its rescue.
+/// Why something of an image is not in the volume of its rescue, or in doubt there.
+#[derive(Clone, Copy, Debug, PartialEq, Eq)]
+pub enum Reason {
+    /// The entry is a file that is not sound.
+    Damaged = 1,
+    /// The entry is a link.
+    Link,
+    /// There is no room for the entry.
+    NoRoom,
+    /// Headers are lost in the directory.
+    Headers,
+    /// The blocks are lost.
+    Blocks,
+    /// The entry is kept, but the checksum of its header is wrong.
+    InDoubt,
+    /// The entry is kept, but may have been deleted.
+    PerhapsDeleted,
+    /// The entry is kept, but no directory led to it.
+    FoundAgain,
+    /// The directory was made, of what names its block.
+    Made,
+}
+
+/// Something of an image that is not in the volume of its rescue, or in doubt there.
 #[derive(Drop)]
 pub struct Loss {
-    /// 1 for a damaged entry, 2 for a link, 3 for an entry without room, 4 for headers in a directory, 5 for blocks.
-    pub why: u8,
+    pub why: Reason,
     /// The header of the entry, or of the directory in which headers are lost, 0 for the root; or the first block that is lost.
     pub first: u32,
     /// The same header; or the last block that is lost.
@@ -26,14 +49,54 @@ pub struct Loss {
     pub path: Vec<u8>,
 }
 
-// The number that says why an entry is left out.
-fn why_number(why: Why) -> u8
-    ensures { result ≡ why_number why }
-{
-    match why {
-        Why::Damaged => 1,
-        Why::Link => 2,
-        Why::NoRoom => 3,
+/// Blocks that are lost, from the first to the last.
+#[derive(Clone, Copy)]
+pub struct BlockRun {
+    pub first: u32,
+    pub last: u32,
+}
+
+impl Reason {
+    /// Its number, from 1 to 9.
+    pub fn number(self) -> u8
+        ensures { result ≡ reason_number self }
+    {
+        self as u8
+    }
+
+    // That of an entry that is left out.
+    fn of_left_out(why: Why) -> Reason
+        ensures { result ≡ left_out_reason why }
+    {
+        match why {
+            Why::Damaged => Reason::Damaged,
+            Why::Link => Reason::Link,
+            Why::NoRoom => Reason::NoRoom,
+        }
+    }
+
+    // That of an entry that is in doubt.
+    fn of_doubt(doubt: Doubt) -> Reason
+        ensures { result ≡ doubt_reason doubt }
+    {
+        match doubt {
+            Doubt::InDoubt => Reason::InDoubt,
+            Doubt::PerhapsDeleted => Reason::PerhapsDeleted,
+            Doubt::FoundAgain => Reason::FoundAgain,
+            Doubt::Made => Reason::Made,
+        }
+    }
+}
+
+impl BlockRun {
+    /// One block.
+    pub fn one(block: u32) -> BlockRun
+        ensures { result ≡ record { first = block; last = block } }
+    {
+        BlockRun {
+            first: block,
+            last: block,
+        }
     }
 }
 
@@ -48,7 +111,7 @@ fn header_of(survey: &Survey<'_>, n: Node) -> u32
 fn push_path_loss(
     alloc: Global,
     survey: &Survey<'_>,
-    why: u8,
+    why: Reason,
     n: Node,
     losses: &mut Vec<Loss>,
 ) -> Result<(), AllocError>
@@ -79,12 +142,29 @@ fn push_left_out(
 {
     for i in 0..left_out.len() {
         let x = left_out[i];
-        push_path_loss(alloc, survey, why_number(x.why), x.entry, losses)?;
+        push_path_loss(alloc, survey, Reason::of_left_out(x.why), x.entry, losses)?;
     }
     Ok(())
 }
 
-// Appends the losses of those of the second survey, if there is one.
+// Appends the losses of the entries that are in doubt.
+fn push_doubts(
+    alloc: Global,
+    survey: &Survey<'_>,
+    doubts: &[Doubtful],
+    losses: &mut Vec<Loss>,
+) -> Result<(), AllocError>
+    ensures { OnSurvey survey.now.image (λ w _. OnOk result (loss_values losses.new.items
+        ≡ loss_values losses.old.items ++ doubt_losses survey.now.image w doubts.now)) }
+{
+    for i in 0..doubts.len() {
+        let x = doubts[i];
+        push_path_loss(alloc, survey, Reason::of_doubt(x.why), x.entry, losses)?;
+    }
+    Ok(())
+}
+
+// Appends the losses of the entries of the second survey that are left out, if there is one.
 fn push_second(
     alloc: Global,
     second: Option<&Survey<'_>>,
@@ -92,10 +172,26 @@ fn push_second(
     losses: &mut Vec<Loss>,
 ) -> Result<(), AllocError>
     ensures { OnSecond (option_map (λ s. s.now.image) second.entry) (λ b. OnOk result
-        (loss_values losses.new.items ≡ loss_values losses.old.items ++ second_losses b left_out.now)) }
+        (loss_values losses.new.items ≡ loss_values losses.old.items ++ of_second left_out_losses b left_out.now)) }
 {
     match second {
         Some(second) => push_left_out(alloc, second, left_out, losses),
+        None => Ok(()),
+    }
+}
+
+// Appends the losses of those that are in doubt.
+fn push_second_doubts(
+    alloc: Global,
+    second: Option<&Survey<'_>>,
+    doubts: &[Doubtful],
+    losses: &mut Vec<Loss>,
+) -> Result<(), AllocError>
+    ensures { OnSecond (option_map (λ s. s.now.image) second.entry) (λ b. OnOk result
+        (loss_values losses.new.items ≡ loss_values losses.old.items ++ of_second doubt_losses b doubts.now)) }
+{
+    match second {
+        Some(second) => push_doubts(alloc, second, doubts, losses),
         None => Ok(()),
     }
 }
@@ -124,7 +220,7 @@ fn push_headers(
 {
     for i in 0..directories.len() {
         if is_last(directories, i) {
-            push_path_loss(alloc, survey, 4, directories[i], losses)?;
+            push_path_loss(alloc, survey, Reason::Headers, directories[i], losses)?;
         }
     }
     Ok(())
@@ -135,11 +231,21 @@ fn push_run(alloc: Global, losses: &mut Vec<Loss>, first: u32, last: u32) -> Res
     ensures { OnOk result (loss_values losses.new.items ≡ loss_values losses.old.items ++ run_loss first last ∷ []) }
 {
     losses.push(Loss {
-        why: 5,
+        why: Reason::Blocks,
         first,
         last,
         path: Vec::new(alloc),
     })?;
+    Ok(())
+}
+
+// Appends the losses of runs of blocks.
+fn push_runs(alloc: Global, runs: &[BlockRun], losses: &mut Vec<Loss>) -> Result<(), AllocError>
+    ensures { OnOk result (loss_values losses.new.items ≡ loss_values losses.old.items ++ runs_lost runs.now) }
+{
+    for i in 0..runs.len() {
+        push_run(alloc, losses, runs[i].first, runs[i].last)?;
+    }
     Ok(())
 }
 
@@ -163,21 +269,26 @@ fn push_lost_blocks(alloc: Global, blocks: &[u32], losses: &mut Vec<Loss>) -> Re
     push_run(alloc, losses, first, last)
 }
 
-/// All that is not in the volume of a rescue. `AllocError` if an allocation fails.
+/// All that is not in the volume of a rescue, or in doubt there; those of blocks begin with the runs in front. `AllocError` if an
+/// allocation fails.
 pub fn rescue_losses(
     alloc: Global,
     survey: &Survey<'_>,
     second: Option<&Survey<'_>>,
     rescued: &Rescued,
+    front: &[BlockRun],
 ) -> Result<Vec<Loss>, AllocError>
     ensures { OnSurvey survey.now.image (λ w _. OnSecond (option_map (λ s. s.now.image) second.entry) (λ b.
-        IfOk result (λ losses. loss_values losses.items ≡ losses_of survey.now.image w b rescued.now.left_out.items
-        rescued.now.second_left_out.items rescued.now.lost_headers.items rescued.now.lost_blocks.items))) }
+        IfOk result (λ losses. loss_values losses.items
+        ≡ losses_of survey.now.image w b (told_value rescued.now) (runs_lost front.now)))) }
 {
     let mut losses = Vec::new(alloc);
     push_left_out(alloc, survey, &rescued.left_out, &mut losses)?;
     push_second(alloc, second, &rescued.second_left_out, &mut losses)?;
+    push_doubts(alloc, survey, &rescued.doubts, &mut losses)?;
+    push_second_doubts(alloc, second, &rescued.second_doubts, &mut losses)?;
     push_headers(alloc, survey, &rescued.lost_headers, &mut losses)?;
+    push_runs(alloc, front, &mut losses)?;
     push_lost_blocks(alloc, &rescued.lost_blocks, &mut losses)?;
     Ok(losses)
 }

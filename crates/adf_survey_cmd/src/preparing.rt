@@ -1,17 +1,19 @@
 // Rescues of which only the new volume is to be laid.
 
-ghost use Rattle.std.specs.Prelude.{◌≡◌, ℕ, List, Option, Some, IfOk, false, is_some, option_map, true};
-ghost use Rattle.adf_rescue.specs.Opened.{IsOpened, is_mended};
+ghost use Rattle.std.specs.Prelude.{◌≡◌, ℕ, List, Option, Some, IfOk, false, is_some, option_map};
+ghost use Rattle.adf_rescue.specs.Opened.{IsOpened, opened};
 ghost use Rattle.adf_rescue.specs.Rescue.{IsSecond, Basis, OnBasis, OnSecond};
-ghost use Rattle.adf_survey_cmd.specs.Prepared.{IsFirstFault, IsNoVolume, Prepares};
+ghost use Rattle.adf_survey_cmd.specs.Losses.{LossValue, front_losses, runs_lost};
+ghost use Rattle.adf_survey_cmd.specs.Prepared.{IsBegunInput, IsFirstFault, IsNoVolume, Prepares};
 ghost use Rattle.adf_survey_cmd.specs.Rescues.{Rescues, RescuesBoth, RescuesBy};
 
-use crate::losses::{Loss, rescue_losses};
+use crate::losses::{BlockRun, Loss, rescue_losses};
+use crate::subject::Subject;
 use adf_base::NoMemory;
 use adf_cmd::checked;
 use adf_drafts::Draft;
 use adf_findings::{Survey, some_survey, survey};
-use adf_rescue::{Terms, hung_image, is_mended, open_image, rescue};
+use adf_rescue::{Terms, hung_image, is_mended, lacks_root, open_image, rescue, states_type};
 use adf_volume::{Fault, Types};
 use std::alloc::{AllocError, Global};
 
@@ -53,11 +55,45 @@ impl From<NoMemory> for Unrescued {
     }
 }
 
-/// The types that the new volume of a rescue may have, and the number of blocks that the input holds whole.
+// The types that the new volume of a rescue may have, and the number of blocks that the input holds whole.
 #[derive(Clone, Copy)]
-pub struct Scope {
-    pub types: Types,
-    pub held: usize,
+struct Scope {
+    types: Types,
+    held: usize,
+}
+
+// What is told of an input before it is opened: its first fault, if it must be mended; whether it states a type; whether a root
+// is made; and the blocks of it that are not read at all.
+#[derive(Drop)]
+struct Begun {
+    fault: Option<Fault>,
+    states_type: bool,
+    made_root: bool,
+    lost: Vec<BlockRun>,
+}
+
+impl Begun {
+    // The blocks of an image of so many blocks that are not as they were: those that are not read at all; block 0, if no type is
+    // stated; the block of a root that is made; and those that the input does not hold.
+    fn runs(&self, alloc: Global, held: usize, blocks: u32) -> Result<Vec<BlockRun>, AllocError>
+        ensures { IfOk result (λ runs. runs_lost runs.items
+            ≡ front_losses (runs_lost self.now.lost.items) self.now.states_type self.now.made_root held blocks) }
+    {
+        let mut runs = self.lost.to_vec(alloc)?;
+        if !self.states_type {
+            runs.push(BlockRun::one(0))?;
+        }
+        if self.made_root {
+            runs.push(BlockRun::one(blocks / 2))?;
+        }
+        if held < blocks as usize {
+            runs.push(BlockRun {
+                first: held as u32,
+                last: blocks - 1,
+            })?;
+        }
+        Ok(runs)
+    }
 }
 
 // The first fault of an image that is no volume of these types.
@@ -88,34 +124,45 @@ fn fault_of(
     }
 }
 
-// Prepares a rescue by what is found in the image that an input is opened as, and in a second one, if there is one. An input
-// that was mended comes with its first fault.
+// The first fault of an input that must be mended.
+fn mended_fault(alloc: Global, types: Types, image: &[u8]) -> Result<Option<Fault>, AllocError>
+    ensures { IfOk result (IsOpened (IsFirstFault types image.now) image.now (opened image.now)) }
+{
+    if !is_mended(image) {
+        return Ok(None);
+    }
+    Ok(Some(first_fault(alloc, types, image)?))
+}
+
+// Prepares a rescue by what is found in the image that an input is opened as, and in a second one, if there is one.
 fn prepare_found(
     alloc: Global,
     found: &Survey<'_>,
     second: Option<&Survey<'_>>,
     scope: Scope,
-    fault: Option<Fault>,
+    begun: &Begun,
 ) -> Result<Prepared, Unrescued>
     requires { (b : Option Basis) × IsSecond (option_map (λ s. s.now.image) second) b }
-    ensures { (input : List ℕ) → IsOpened (IsFirstFault scope.types input) input found.now.image fault
+    ensures { (lost : List LossValue) (input : List ℕ) → IsBegunInput scope.types lost input found.now.image begun.now
         → OnBasis found.now.image (λ a fs. OnSecond (option_map (λ s. s.now.image) second.entry) (λ b.
-        Prepares (RescuesBy scope.types scope.held input a b fs) result)) }
+        Prepares (RescuesBy scope.types scope.held lost input a b fs) result)) }
 {
     found.whole_marks();
     some_survey();
     let terms = Terms {
         types: scope.types,
         held: scope.held,
-        mended: fault.is_some(),
+        mended: begun.fault.is_some(),
+        made: begun.made_root,
     };
     let Some(rescued) = rescue(alloc, found, second, terms)? else {
-        let first = fault_of(alloc, scope.types, found.image(), fault)?;
+        let first = fault_of(alloc, scope.types, found.image(), begun.fault)?;
         return Err(Unrescued::Refused(first, Vec::new(alloc)));
     };
-    let losses = rescue_losses(alloc, found, second, &rescued)?;
+    let front = begun.runs(alloc, scope.held, rescued.blocks)?;
+    let losses = rescue_losses(alloc, found, second, &rescued, &front)?;
     if rescued.stands_nothing {
-        let first = fault_of(alloc, scope.types, found.image(), fault)?;
+        let first = fault_of(alloc, scope.types, found.image(), begun.fault)?;
         return Err(Unrescued::Refused(first, losses));
     }
     Ok(Prepared {
@@ -131,14 +178,14 @@ fn prepare_hung(
     found: &Survey<'_>,
     hung: &[u8],
     scope: Scope,
-    fault: Option<Fault>,
+    begun: &Begun,
 ) -> Result<Prepared, Unrescued>
-    ensures { (input : List ℕ) → IsOpened (IsFirstFault scope.types input) input found.now.image fault
-        → OnBasis found.now.image (λ a fs. Prepares (RescuesBoth scope.types scope.held input a (Some hung.now) fs) result) }
+    ensures { (lost : List LossValue) (input : List ℕ) → IsBegunInput scope.types lost input found.now.image begun.now
+        → OnBasis found.now.image (λ a fs. Prepares (RescuesBoth scope.types scope.held lost input a (Some hung.now) fs) result) }
 {
     let second = survey(alloc, hung)?;
     second.whole_marks();
-    prepare_found(alloc, found, Some(&second), scope, fault)
+    prepare_found(alloc, found, Some(&second), scope, begun)
 }
 
 // Prepares a rescue by the image that an input is opened as.
@@ -146,37 +193,35 @@ fn prepare_opened(
     alloc: Global,
     image: &[u8],
     scope: Scope,
-    fault: Option<Fault>,
+    begun: &Begun,
 ) -> Result<Prepared, Unrescued>
-    ensures { (input : List ℕ) → IsOpened (IsFirstFault scope.types input) input image.now fault
-        → Prepares (Rescues scope.types scope.held input) result }
+    ensures { (lost : List LossValue) (input : List ℕ) → IsBegunInput scope.types lost input image.now begun.now
+        → Prepares (Rescues scope.types scope.held lost input) result }
 {
     let found = survey(alloc, image)?;
     found.whole_marks();
-    match hung_image(alloc, &found, fault.is_some())? {
-        Some(hung) => prepare_hung(alloc, &found, &hung, scope, fault),
-        None => prepare_found(alloc, &found, None, scope, fault),
+    match hung_image(alloc, &found, begun.made_root)? {
+        Some(hung) => prepare_hung(alloc, &found, &hung, scope, begun),
+        None => prepare_found(alloc, &found, None, scope, begun),
     }
 }
 
-// Mends an input, and prepares its rescue.
-fn prepare_mended(alloc: Global, image: &mut [u8], scope: Scope) -> Result<Prepared, Unrescued>
-    requires { is_mended image.old ≡ true }
-    ensures { Prepares (Rescues scope.types scope.held image.old) result }
+/// Prepares the rescue of what is surveyed of an input, and lets that go. `Refused` if nothing stands on it, and its image is no
+/// valid volume of these types. `NoMemory` if an allocation fails.
+pub fn prepare(alloc: Global, subject: Subject, types: Types) -> Result<Prepared, Unrescued>
+    ensures { Prepares (Rescues types subject.end (runs_lost subject.lost.items) subject.image.items) result }
 {
-    let fault = first_fault(alloc, scope.types, image)?;
-    open_image(image);
-    prepare_opened(alloc, image, scope, Some(fault))
-}
-
-/// Prepares the rescue of an input, and lets it go. `Refused` if nothing stands on it, and it is no valid volume of
-/// `scope.types`. `NoMemory` if an allocation fails.
-pub fn prepare(alloc: Global, input: Vec<u8>, scope: Scope) -> Result<Prepared, Unrescued>
-    ensures { Prepares (Rescues scope.types scope.held input.items) result }
-{
-    if !is_mended(&input) {
-        return prepare_opened(alloc, &input, scope, None);
-    }
-    let mut image = input;
-    prepare_mended(alloc, &mut image, scope)
+    let mut image = subject.image;
+    let begun = Begun {
+        fault: mended_fault(alloc, types, &image)?,
+        states_type: states_type(&image),
+        made_root: lacks_root(&image),
+        lost: subject.lost,
+    };
+    open_image(&mut image);
+    let scope = Scope {
+        types,
+        held: subject.end as usize,
+    };
+    prepare_opened(alloc, &image, scope, &begun)
 }

@@ -6,7 +6,7 @@ ghost use Rattle.adf_boot_blocks.specs.Writing.{restored};
 ghost use Rattle.adf_build.specs.Building.{IsBuildable};
 ghost use Rattle.adf_build.specs.Laid.{IsLaid};
 ghost use Rattle.adf_runs.specs.Outcomes.{Blames, Does, outcome_text, status_of};
-ghost use Rattle.adf_survey_cmd.specs.Losses.{loss_values, losses_text};
+ghost use Rattle.adf_survey_cmd.specs.Losses.{loss_values, losses_text, runs_lost};
 ghost use Rattle.adf_survey_cmd.specs.Prepared.{IsToldRefusal, WritesPrepared};
 ghost use Rattle.adf_survey_cmd.specs.Rescues.{Replies, Rescues, text_status};
 ghost use Rattle.adf_texts.specs.Lines.{fault_line};
@@ -14,14 +14,15 @@ ghost use Rattle.adf_runs.specs.Streams.{seen};
 
 use crate::loss_lines::push_losses;
 use crate::losses::Loss;
-use crate::preparing::{Prepared, Scope, Unrescued, prepare};
+use crate::preparing::{Prepared, Unrescued, prepare};
+use crate::subject::Subject;
 use adf_base::NoMemory;
 use adf_boot_blocks::{BOOT_LEN, restore};
 use adf_cmd::refused_line;
 use adf_drafts::Draft;
 use adf_rescue::lay;
 use adf_runs::{Outcome, Sink, write_all};
-use adf_volume::Fault;
+use adf_volume::{Fault, Types};
 use std::alloc::{AllocError, Global};
 
 // The outcome of a rescue that is written, by its lines.
@@ -109,23 +110,23 @@ fn refused(alloc: Global, unrescued: Unrescued) -> Outcome
     }
 }
 
-/// Writes the new volume of all that stands on an image, whose boot block and root may be overwritten, and of which the first
-/// `scope.held` blocks were there whole, with what no directory leads to any more; errors get the lines of what is not in it. If
-/// nothing stands, and the input is no valid volume of `scope.types`, errors get the line of its first fault, then these lines.
-/// The new volume gets the boot blocks. The input is let go before it is laid.
+/// Writes the new volume of all that stands on what is surveyed of an input, whose boot block and root may be overwritten, and of
+/// which the first blocks were there whole, with what no directory leads to any more; errors get the lines of what is not in
+/// it, or in doubt there. If nothing stands, and the image is no valid volume of these types, errors get the line of its first
+/// fault, then these lines. The new volume gets the boot blocks. The image is let go before it is laid.
 pub fn rescue_image<W: Sink>(
     alloc: Global,
-    input: Vec<u8>,
+    subject: Subject,
+    types: Types,
     boot: &[u8],
-    scope: Scope,
     output: &mut W,
 ) -> Outcome
     requires works { W.has_failed output.old ≡ false }
     requires boot { BOOT_LEN ≤ length boot.now }
-    ensures { Does (Replies (Rescues scope.types scope.held input.items boot.now)) result
+    ensures { Does (Replies (Rescues types subject.end (runs_lost subject.lost.items) subject.image.items boot.now)) result
         (seen W.held W.has_failed output.old output.new) }
 {
-    match prepare(alloc, input, scope) {
+    match prepare(alloc, subject, types) {
         Ok(prepared) => write_prepared(alloc, prepared, boot, output),
         Err(unrescued) => refused(alloc, unrescued),
     }

@@ -1,29 +1,34 @@
 // What is surveyed of an input.
 
-ghost use Rattle.std.specs.Prelude.{◌≡◌, ◌≤◌, ◌++◌, IfOk, OnOk, length};
+ghost use Rattle.std.specs.Prelude.{◌≡◌, ◌≤◌, ◌++◌, ℕ, IfOk, OnOk, length};
 ghost use Rattle.adf_blocks.specs.declared.layout.TheConstants.{MOST_BLOCKS};
-ghost use Rattle.adf_findings.specs.OwnKind.{is_mistyped, retyped};
 ghost use Rattle.adf_findings.specs.Survey.{OnSurvey};
-ghost use Rattle.adf_survey_cmd.specs.Subject.{IsTyped, begun_subject, changed, held_end, missing_text, sized, subject};
-ghost use Rattle.adf_survey_cmd.specs.Subject.{subject_value, type_line};
+ghost use Rattle.adf_rescue.specs.Opened.{opened};
+ghost use Rattle.adf_survey_cmd.specs.Losses.{runs_lost};
+ghost use Rattle.adf_survey_cmd.specs.Subject.{IsTyped, begun_subject, behind_loss, behind_text, changed, held_end, missing_text};
+ghost use Rattle.adf_survey_cmd.specs.Subject.{other_type, retyped_subject, sized, subject, subject_read, subject_value};
+ghost use Rattle.adf_survey_cmd.specs.Subject.{type_line, type_text};
 
+use crate::lengths::{blocks_read, stated_length};
+use crate::losses::BlockRun;
 use crate::runs::push_blocks;
 use adf_base::{BLOCK_LEN, NoMemory};
 use adf_blocks::MOST_BLOCKS;
 use adf_boot_blocks::BOOT_LEN;
-use adf_findings::{retype, some_survey, survey};
-use adf_rescue::{begin_image, lacks_boot};
+use adf_findings::{Survey, retype, some_survey, survey};
+use adf_names::{kind_text_by, letters_of_type};
+use adf_rescue::{begin_image, is_mended, lacks_boot, open_image};
 use adf_tree::Kind;
-use adf_volume::kind_in;
 use std::alloc::{AllocError, Global};
 
-/// What is surveyed of an input: an image, the first block of it that the input does not hold, and the lines in front of those
-/// of the findings.
+/// What is surveyed of an input: an image, the first block of it that the input does not hold, the lines in front of those
+/// of the findings, and the blocks that were stated and it does not have.
 #[derive(Drop)]
 pub struct Subject {
     pub image: Vec<u8>,
     pub end: u32,
     pub front: Vec<u8>,
+    pub lost: Vec<BlockRun>,
 }
 
 // The image of so many blocks that begins with these bytes, with zeros for what is not there.
@@ -64,48 +69,110 @@ fn missing_line(alloc: Global, end: u32, blocks: u32) -> Result<Vec<u8>, AllocEr
     Ok(text)
 }
 
-// Appends the line of a volume whose type is not what its files say.
-#[tactic(auto, unfolding(crate::specs::Subject::type_line))]
-fn push_type_line(text: &mut Vec<u8>) -> Result<(), AllocError>
-    ensures { OnOk result (text.new.items ≡ text.old.items ++ type_line) }
+// Appends the line of the blocks that are stated behind so many, if there are any.
+fn push_behind(text: &mut Vec<u8>, blocks: u32, stated: u32) -> Result<(), AllocError>
+    ensures { OnOk result (text.new.items ≡ text.old.items ++ behind_text blocks stated) }
 {
-    text.extend_from_slice(b"block 0: type of ffs, files of ofs\n")
+    if stated <= blocks {
+        return Ok(());
+    }
+    push_blocks(text, blocks, stated - 1, b':')?;
+    text.extend_from_slice(b" behind the volume\n")
 }
 
-// Whether the type of an image is one of FFS, but its files say OFS.
-#[tactic(auto, using(crate::proofs::Subjects::ofs_is_typed))]
-fn is_mistyped(alloc: Global, image: &[u8]) -> Result<bool, NoMemory>
-    ensures { OnSurvey image.now (λ w _. IfOk result (λ mistyped. mistyped ≡ is_mistyped image.now w)) }
+// These blocks.
+fn behind_run(alloc: Global, blocks: u32, stated: u32) -> Result<Vec<BlockRun>, AllocError>
+    ensures { IfOk result (λ runs. runs_lost runs.items ≡ behind_loss blocks stated) }
 {
-    if BLOCK_LEN <= image.len() && kind_in(image) == Kind::Ofs {
-        return Ok(false);
+    let mut runs = Vec::new(alloc);
+    if blocks < stated {
+        runs.push(BlockRun {
+            first: blocks,
+            last: stated - 1,
+        })?;
     }
-    Ok(survey(alloc, image)?.is_mistyped())
+    Ok(runs)
+}
+
+// The word for the kind and the letters of a volume of a type, 0 to 3.
+fn type_text(number: u8) -> &'static str
+    ensures { result.now ≡ type_text number }
+{
+    let kind = if number % 2 == 0 {
+        Kind::Ofs
+    } else {
+        Kind::Ffs
+    };
+    kind_text_by(letters_of_type(u32::from(number)), kind)
+}
+
+// Appends the line of a volume whose type is not the one that its files tell.
+#[tactic(auto, unfolding(crate::specs::Subject::type_line))]
+fn push_type_line(text: &mut Vec<u8>, type_told: u8) -> Result<(), AllocError>
+    ensures { OnOk result (text.new.items ≡ text.old.items ++ type_line type_told) }
+{
+    text.extend_from_slice(b"block 0: files of ")?;
+    text.extend_from_slice(type_text(type_told).as_bytes())?;
+    text.extend_from_slice(b"\n")
+}
+
+/// The type that the entries of a survey tell, if it is another than that of the image.
+pub fn other_type(survey: &Survey<'_>) -> Option<u8>
+    ensures { OnSurvey survey.now.image (λ w _. result ≡ other_type survey.now.image w) }
+{
+    if survey.is_mistyped() {
+        Some(survey.told_type())
+    } else {
+        None
+    }
+}
+
+// The same of the survey of an image.
+fn type_in(alloc: Global, image: &[u8]) -> Result<Option<u8>, NoMemory>
+    ensures { OnSurvey image.now (λ w _. IfOk result (λ told. told ≡ other_type image.now w)) }
+{
+    let survey = survey(alloc, image)?;
+    Ok(other_type(&survey))
+}
+
+// The same of an image, once it is opened.
+fn type_opened(alloc: Global, image: &[u8]) -> Result<Option<u8>, NoMemory>
+    ensures { OnSurvey (opened image.now) (λ w _. IfOk result (λ told. told ≡ other_type (opened image.now) w)) }
+{
+    if !is_mended(image) {
+        return type_in(alloc, image);
+    }
+    let mut copy = image.to_vec(alloc)?;
+    open_image(&mut copy);
+    type_in(alloc, &copy)
 }
 
 impl Subject {
     // An input as it is.
     fn whole(alloc: Global, bytes: Vec<u8>) -> Subject
-        ensures { subject_value result ≡ subject None bytes.items }
+        ensures { (stated : ℕ) → subject_value result ≡ subject_read stated None bytes.items }
     {
         let end = held_end(MOST_BLOCKS, &bytes);
         Subject {
             image: bytes,
             end,
             front: Vec::new(alloc),
+            lost: Vec::new(alloc),
         }
     }
 
-    // An input as if it had so many blocks.
-    fn sized(alloc: Global, bytes: &[u8], blocks: u32) -> Result<Subject, AllocError>
-        ensures { IfOk result (λ s. subject_value s ≡ subject (Some blocks) bytes.now) }
+    // So many blocks of an input, in place of those that are stated.
+    fn sized(alloc: Global, bytes: &[u8], blocks: u32, stated: u32) -> Result<Subject, AllocError>
+        ensures { IfOk result (λ s. subject_value s ≡ subject_read stated (Some blocks) bytes.now) }
     {
         let end = held_end(blocks, bytes);
-        let front = missing_line(alloc, end, blocks)?;
+        let mut front = missing_line(alloc, end, blocks)?;
+        push_behind(&mut front, blocks, stated)?;
         Ok(Subject {
             image: sized(alloc, bytes, blocks)?,
             end,
             front,
+            lost: behind_run(alloc, blocks, stated)?,
         })
     }
 
@@ -113,23 +180,23 @@ impl Subject {
     pub fn of_read(
         alloc: Global,
         bytes: Vec<u8>,
-        blocks: Option<u32>,
+        asked: Option<u32>,
     ) -> Result<Subject, AllocError>
-        ensures { IfOk result (λ s. subject_value s ≡ subject blocks bytes.items) }
+        ensures { IfOk result (λ s. subject_value s ≡ subject asked bytes.items) }
     {
-        match blocks {
+        match blocks_read(asked, &bytes) {
             None => Ok(Subject::whole(alloc, bytes)),
-            Some(blocks) => Subject::sized(alloc, &bytes, blocks),
+            Some(blocks) => Subject::sized(alloc, &bytes, blocks, stated_length(asked, &bytes)),
         }
     }
 
     /// The same of bytes that stay.
-    pub fn of(alloc: Global, bytes: &[u8], blocks: Option<u32>) -> Result<Subject, AllocError>
-        ensures { IfOk result (λ s. subject_value s ≡ subject blocks bytes.now) }
+    pub fn of(alloc: Global, bytes: &[u8], asked: Option<u32>) -> Result<Subject, AllocError>
+        ensures { IfOk result (λ s. subject_value s ≡ subject asked bytes.now) }
     {
-        match blocks {
+        match blocks_read(asked, bytes) {
             None => Ok(Subject::whole(alloc, bytes.to_vec(alloc)?)),
-            Some(blocks) => Subject::sized(alloc, bytes, blocks),
+            Some(blocks) => Subject::sized(alloc, bytes, blocks, stated_length(asked, bytes)),
         }
     }
 
@@ -159,24 +226,27 @@ impl Subject {
         Ok(())
     }
 
-    /// Makes the type of the image that of OFS, and says so.
-    pub fn retype(&mut self) -> Result<(), AllocError>
-        ensures { OnOk result (subject_value self.new ≡ changed (subject_value self.old) (retyped self.old.image.items)
-            type_line) }
+    /// Begins the image with `DOS` and a type, and says so: block 0 is lost.
+    pub fn retype(&mut self, type_told: u8) -> Result<(), AllocError>
+        requires { 4 ≤ length self.old.image.items }
+        ensures { OnOk result (subject_value self.new ≡ retyped_subject (subject_value self.old) type_told) }
     {
-        push_type_line(&mut self.front)?;
-        retype(&mut self.image);
+        push_type_line(&mut self.front, type_told)?;
+        self.lost.push(BlockRun::one(0))?;
+        begin_image(&mut self.image);
+        retype(&mut self.image, type_told);
         Ok(())
     }
 
-    /// Makes the type of the image what its files say, and then says so. `NoMemory` if an allocation fails; then the image stays.
+    /// Makes the type of the image the one that its entries tell, and then says so. `NoMemory` if an allocation fails; then
+    /// the image stays.
     pub fn be_typed(&mut self, alloc: Global) -> Result<(), NoMemory>
         ensures { OnOk result (IsTyped (subject_value self.old) (subject_value self.new)) }
     {
         some_survey();
-        if !is_mistyped(alloc, &self.image)? {
-            return Ok(());
+        if let Some(type_told) = type_opened(alloc, &self.image)? {
+            self.retype(type_told)?;
         }
-        Ok(self.retype()?)
+        Ok(())
     }
 }

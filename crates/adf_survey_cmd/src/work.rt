@@ -1,28 +1,28 @@
 // What is done for words, once they and their path are read.
 
-ghost use Rattle.std.specs.Prelude.{◌≡◌, List, false, true, IfErr, IfNone, IfOk, IfSome};
-ghost use Rattle.adf_findings.specs.OwnKind.{is_mistyped};
+ghost use Rattle.std.specs.Prelude.{◌≡◌, List, Some, false, IfErr, IfOk};
 ghost use Rattle.adf_findings.specs.Survey.{OnSurvey};
+ghost use Rattle.adf_rescue.specs.Opened.{is_mended};
 ghost use Rattle.adf_runs.specs.Outcomes.{Blames, Does, EndsBy};
 ghost use Rattle.adf_runs.specs.WorkFaults.{IsNoWork};
 ghost use Rattle.adf_runs.specs.Streams.{seen};
 ghost use Rattle.adf_survey_cmd.specs.Answers.{HasBadSurveyPath, QuestionAnswer, RescuesTyped, SurveyAnswer, types_kept};
 ghost use Rattle.adf_file_words.specs.SurveyLine.{InquiryValue, QuestionValue, question_value};
 ghost use Rattle.adf_survey_cmd.specs.Rescues.{Replies};
-ghost use Rattle.adf_survey_cmd.specs.Subject.{IsTyped, SubjectValue, begun_subject, subject_value};
+ghost use Rattle.adf_survey_cmd.specs.Subject.{IsTyped, SubjectValue, begun_subject, other_type, subject_value};
 ghost use Rattle.adf_survey_cmd.specs.Work.{Answers, Meets, Shows};
 
 use crate::copying::{Asked, copy_found};
 use crate::hints::{hinted, is_hard_disk};
 use crate::listing::write_list;
-use crate::preparing::Scope;
 use crate::reporting::write_findings;
 use crate::rescuing::rescue_image;
-use crate::subject::Subject;
+use crate::subject::{Subject, other_type};
 use adf_cmd::MOST_IMAGE_BYTES;
 use adf_file_runs::FileProgram;
 use adf_file_words::{Question, SURVEY_USAGE as USAGE, parse_survey, survey_file};
 use adf_findings::{Survey, some_survey, survey};
+use adf_rescue::is_mended;
 use adf_runs::{Outcome, Program, Sink, Source, WorkFault, read_input};
 use adf_tree::{Name, read_path};
 use adf_volume::Types;
@@ -124,35 +124,61 @@ impl View {
         }
     }
 
-    // Shows this of what is surveyed of an input, where the type of its image is what its files say. `None` if it is not.
-    fn of_begun<W: Sink>(&self, alloc: Global, subject: &Subject, output: &mut W) -> Option<Outcome>
-        requires { W.has_failed output.old ≡ false }
+    // Shows this of what is surveyed of an input, if the type of its image is the one that its entries tell; otherwise tells
+    // that type.
+    #[tactic(auto, using(crate::proofs::Subjects::typed_same))]
+    fn of_begun<W: Sink>(&self, alloc: Global, subject: &Subject, output: &mut W) -> Result<Outcome, u8>
+        requires works { W.has_failed output.old ≡ false }
+        requires whole { is_mended subject.now.image.items ≡ false }
         ensures ends { (s : SubjectValue) (q : QuestionValue) → subject_value subject.now ≡ begun_subject s
             → Shows self.now q
-            → IfSome result (λ outcome. EndsBy (QuestionAnswer q s) outcome (W.held output.old) (W.held output.new)) }
-        ensures blames { IfSome result (λ outcome. Blames outcome false (W.has_failed output.new)) }
-        ensures mistyped { IfNone result (OnSurvey subject.now.image.items (λ w _.
-            is_mistyped subject.now.image.items w ≡ true)) }
-        ensures unwritten { IfNone result (output.new ≡ output.old) }
+            → IfOk result (λ outcome. EndsBy (QuestionAnswer q s) outcome (W.held output.old) (W.held output.new)) }
+        ensures blames { IfOk result (λ outcome. Blames outcome false (W.has_failed output.new)) }
+        ensures other { IfErr result (λ told. OnSurvey subject.now.image.items (λ w _.
+            other_type subject.now.image.items w ≡ Some told)) }
+        ensures unwritten { IfErr result (λ _. output.new ≡ output.old) }
     {
-        match survey(alloc, &subject.image) {
-            Ok(survey) if survey.is_mistyped() => None,
-            Ok(survey) => Some(self.of_survey(alloc, subject, &survey, output)),
-            Err(_) => Some(Outcome::NoMemory),
+        let Ok(survey) = survey(alloc, &subject.image) else {
+            return Ok(Outcome::NoMemory);
+        };
+        match other_type(&survey) {
+            None => Ok(self.of_survey(alloc, subject, &survey, output)),
+            Some(type_told) => Err(type_told),
         }
     }
 
-    // Shows this of what is surveyed of an input, whose image gets the type that its files say.
-    fn of_retyped<W: Sink>(&self, alloc: Global, mut subject: Subject, output: &mut W) -> Outcome
+    // Shows this of what is surveyed of an input, whose image gets the type that its entries tell.
+    fn of_retyped<W: Sink>(
+        &self,
+        alloc: Global,
+        mut subject: Subject,
+        type_told: u8,
+        output: &mut W,
+    ) -> Outcome
         requires works { W.has_failed output.old ≡ false }
-        requires mistyped { OnSurvey subject.image.items (λ w _. is_mistyped subject.image.items w ≡ true) }
+        requires whole { is_mended subject.image.items ≡ false }
+        requires other { OnSurvey subject.image.items (λ w _. other_type subject.image.items w ≡ Some type_told) }
         ensures ends { (s : SubjectValue) (q : QuestionValue) → subject_value subject ≡ begun_subject s
             → Shows self.now q
             → EndsBy (QuestionAnswer q s) result (W.held output.old) (W.held output.new) }
         ensures blames { Blames result false (W.has_failed output.new) }
     {
         some_survey();
-        match subject.retype() {
+        match subject.retype(type_told) {
+            Ok(()) => self.of_image(alloc, &subject, output),
+            Err(_) => Outcome::NoMemory,
+        }
+    }
+
+    // Shows this of what is surveyed of an input, whose boot block or root must be mended before its entries are found.
+    fn of_mended<W: Sink>(&self, alloc: Global, mut subject: Subject, output: &mut W) -> Outcome
+        requires { W.has_failed output.old ≡ false }
+        ensures ends { (s : SubjectValue) (q : QuestionValue) → subject_value subject ≡ begun_subject s
+            → Shows self.now q
+            → EndsBy (QuestionAnswer q s) result (W.held output.old) (W.held output.new) }
+        ensures blames { Blames result false (W.has_failed output.new) }
+    {
+        match subject.be_typed(alloc) {
             Ok(()) => self.of_image(alloc, &subject, output),
             Err(_) => Outcome::NoMemory,
         }
@@ -169,9 +195,12 @@ impl View {
         let Ok(()) = subject.begin() else {
             return Outcome::NoMemory;
         };
+        if is_mended(&subject.image) {
+            return self.of_mended(alloc, subject, output);
+        }
         match self.of_begun(alloc, &subject, output) {
-            Some(outcome) => outcome,
-            None => self.of_retyped(alloc, subject, output),
+            Ok(outcome) => outcome,
+            Err(type_told) => self.of_retyped(alloc, subject, type_told, output),
         }
     }
 }
@@ -191,13 +220,7 @@ fn rescue_subject<W: Sink>(
         return Outcome::NoMemory;
     };
     match subject.be_typed(alloc) {
-        Ok(()) => {
-            let scope = Scope {
-                types,
-                held: subject.end as usize,
-            };
-            rescue_image(alloc, subject.image, &boot, scope, output)
-        }
+        Ok(()) => rescue_image(alloc, subject, types, &boot, output),
         Err(_) => Outcome::NoMemory,
     }
 }

@@ -1,4 +1,4 @@
-use Rattle.adf_memory.proofs.SurveyedImages.{subject_dos, subject_length, subject_rest, subject_same}
+use Rattle.adf_memory.proofs.SurveyedImages.{subject_length, subject_rest, subject_same, subject_type}
 use Rattle.adf_memory.proofs.subject_laws.subjects_keep_the_image.Goals as goal
 
 pub returns-clause-length : goal.returns-clause-length
@@ -10,5 +10,5 @@ returns-clause-rest c = λ n image old new told has. subject_rest n image old ne
 pub returns-clause-same : goal.returns-clause-same
 returns-clause-same c = λ n image old new told has. subject_same n image old new told has
 
-pub returns-clause-dos : goal.returns-clause-dos
-returns-clause-dos c = λ n image old new told has. subject_dos n image old new told has
+pub returns-clause-states : goal.returns-clause-states
+returns-clause-states c = λ n image old new told has. subject_type n image old new told has

@@ -8,15 +8,18 @@ use Rattle.adf_runs.specs.Commands.{Reply}
 use Rattle.adf_file_words.specs.SurveyLine.{asked, rescue}
 use Rattle.adf_survey_cmd.specs.Answers.{SurveyAnswer, types_kept}
 use Rattle.adf_survey_cmd.specs.Rescues.{rescue_reply}
-use Rattle.adf_survey_cmd.specs.Subject.{meant, subject}
+use Rattle.adf_survey_cmd.specs.Lengths.{blocks_read}
+use Rattle.adf_survey_cmd.specs.Subject.{as_long, subject}
 use Rattle.adf_survey_cmd.proofs.HintedAnswers.{hinted_output}
 use Rattle.adf_survey_cmd.proofs.KeptBoots.{keeps_boot, written_fits}
+use Rattle.adf_survey_cmd.proofs.ReadLengths.{meant_image}
 use Rattle.adf_survey_cmd.proofs.laws.rescued_volumes.Goals as goal
 
 -- the image that is meant is bytes
-meant_bytes : (blocks : Option ℕ) (input : List ℕ) → All (λ byte. byte < 256) input → All (λ byte. byte < 256) (meant blocks input)
-meant_bytes None input all = all
-meant_bytes (Some n) input all =
+
+long_bytes : (read : Option ℕ) (input : List ℕ) → All (λ byte. byte < 256) input → All (λ byte. byte < 256) (as_long read input)
+long_bytes None input all = all
+long_bytes (Some n) input all =
     All-append (λ byte. byte < 256) (take (512 * n) input) (replicate (512 * n - length input) 0) (All-take (λ byte. byte < 256) (512 * n) input all)
     (All-replicate (λ byte. byte < 256) (512 * n - length input) 0 (omega arith))
 
@@ -37,6 +40,8 @@ boot_kept blocks keep_type input reply (told, (r, answer, so), is) some all begi
     subst (HasBootOf s.image) (sym same) (keeps_boot (types_kept keep_type) s r answer (λ none. some (same ∙ none)) (are_bytes s.image all) begins)
 
 pub returns-clause-boot : goal.returns-clause-boot
-returns-clause-boot c None keep_type input reply answer some all begins = boot_kept None keep_type input reply answer some all begins
-returns-clause-boot c (Some n) keep_type input reply answer some all begins =
-    boot_kept (Some n) keep_type input reply answer some (meant_bytes (Some n) input all) begins
+returns-clause-boot c asked keep_type input reply answer some all begins =
+    let same = meant_image asked input in
+    let bytes = long_bytes (blocks_read asked input) input all in
+    subst (λ (image : List ℕ). HasBootOf image reply.output) same
+    (boot_kept asked keep_type input reply answer some (subst (All (λ byte. byte < 256)) (sym same) bytes) (ap begins_with_dos same ∙ begins))

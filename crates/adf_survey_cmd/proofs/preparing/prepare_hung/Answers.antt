@@ -18,7 +18,7 @@ prepare_found-requires c =
     (Some b, is)
 
 pub returns : goal.returns
-returns c = λ input opened u gs sound found marks.
+returns c = λ lost input begun u gs sound found marks.
     let hung : List ℕ = c.args.hung.now in
     let v = c.in_ok-second.second in
     let (w, survey) = c.in_ok-second.ensures.findings in
@@ -28,11 +28,11 @@ returns c = λ input opened u gs sound found marks.
     let b : Basis = record { image = v.image; walk = w; sound = whole_in v } in
     let is : IsBasis v.image b = record { of = refl; findings = fs; survey = here; marks = c.whole_marks.ensures w fs here } in
     let whole = subst (λ (image : List ℕ). IsBasis image b) c.in_ok-second.ensures.image is in
-    prepares_weaker (RescuesBy c.args.scope.types c.args.scope.held input a (Some b) gs)
-    (RescuesBoth c.args.scope.types c.args.scope.held input a (Some hung) gs) _ (λ boot r by. (Some b, whole, by))
-    (c.prepare_found.ensures input opened u gs sound found marks (Some b) is)
+    prepares_weaker (RescuesBy c.args.scope.types c.args.scope.held lost input a (Some b) gs)
+    (RescuesBoth c.args.scope.types c.args.scope.held lost input a (Some hung) gs) _ (λ boot r by. (Some b, whole, by))
+    (c.prepare_found.ensures lost input begun u gs sound found marks (Some b) is)
 
 pub returns-in_err-second : goal.returns-in_err-second
-returns-in_err-second c = λ input opened u gs sound found marks.
+returns-in_err-second c = λ lost input begun u gs sound found marks.
     let a : Basis = record { image = c.args.found.now.image; walk = u; sound = sound } in
-    none_prepared (RescuesBoth c.args.scope.types c.args.scope.held input a (Some c.args.hung.now) gs) c.from_residual.result c.from_residual.ensures.1
+    none_prepared (RescuesBoth c.args.scope.types c.args.scope.held lost input a (Some c.args.hung.now) gs) c.from_residual.result c.from_residual.ensures.1

@@ -1,6 +1,7 @@
 use Rattle.std.proofs.Common.{arith}
 use Rattle.std.proofs.lemmas.Grind.{common_steps}
 use Rattle.adf_runs.proofs.Endings.{does_weaker}
+use Rattle.adf_survey_cmd.specs.Losses.{runs_lost}
 use Rattle.adf_survey_cmd.specs.Prepared.{WritesPrepared}
 use Rattle.adf_survey_cmd.specs.Rescues.{Replies, Rescues}
 use Rattle.adf_survey_cmd.proofs.RescueAnswers.{refusal_ends, written_replies}
@@ -9,7 +10,7 @@ use Rattle.adf_survey_cmd.proofs.rescuing.rescue_image.Goals as goal
 pub returns-in-Ok : goal.returns-in-Ok
 returns-in-Ok g c =
     let boot = c.args.boot.now in
-    let gives = Rescues c.args.scope.types c.args.scope.held c.args.input.items boot in
+    let gives = Rescues c.args.types c.args.subject.end (runs_lost c.args.subject.lost.items) c.args.subject.image.items boot in
     does_weaker (WritesPrepared c.in-Ok.prepared boot) (Replies gives)
     (λ reply written. written_replies gives c.in-Ok.prepared boot reply (c.in-Ok.ensures boot) written) c.write_prepared.ensures
 
@@ -17,7 +18,7 @@ pub returns-in-Err : goal.returns-in-Err
 returns-in-Err g c =
     let boot = c.args.boot.now in
     record {
-      ends = refusal_ends (Rescues c.args.scope.types c.args.scope.held c.args.input.items boot) c.in-Err.unrescued c.refused.result _
+      ends = refusal_ends (Rescues c.args.types c.args.subject.end (runs_lost c.args.subject.lost.items) c.args.subject.image.items boot) c.in-Err.unrescued c.refused.result _
           (c.in-Err.ensures boot) c.refused.ensures;
       read = grind (arith, common_steps);
       written = grind (arith, common_steps);
