@@ -22,7 +22,7 @@ use Rattle.adf_runs.specs.Commands.{Reply}
 use Rattle.adf_survey_cmd.specs.Hints.{Hinted}
 use Rattle.adf_survey_cmd.specs.Lengths.{blocks_read, other_length, stated_length}
 use Rattle.adf_survey_cmd.specs.Subject.{IsTyped, OfTyped, SubjectValue, as_long, begun_subject, behind_loss, behind_text, changed, held_end, meant}
-use Rattle.adf_survey_cmd.specs.Subject.{missing_text, sized, subject, subject_read, type_line, type_text, typed_by, typed_subject}
+use Rattle.adf_survey_cmd.specs.Subject.{missing_text, sized, subject, subject_read, type_line, type_word, typed_by, typed_subject}
 use Rattle.adf_survey_cmd.specs.Losses.{LossValue, run_loss}
 use Rattle.adf_survey_cmd.proofs.Subjects.{other_long, typed_either}
 use Rattle.adf_memory.specs.FoundTables.{mark_number}
@@ -52,7 +52,7 @@ changed_end false s image line = refl
 -- the line of a type is one
 type_line_some : (t : ℕ) → 0 < length (type_line t)
 unfolding type_line
-type_line_some t = omega (arith, length-append (codes "block 0: files of ") (type_text t ++ codes "\n"))
+type_line_some t = omega (arith, length-append (codes "block 0: files of ") (type_word t ++ codes "\n"))
 
 -- so there is one more line if and only if the type is changed
 longer : (is : Bool) (s : SubjectValue) (t : ℕ) → nat_lt (length s.front) (length (typed_by s (cond is (Some t) None)).front) ≡ is
