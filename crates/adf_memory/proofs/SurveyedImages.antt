@@ -282,7 +282,7 @@ module _ (n : ℕ) (input old new : List ℕ) (told : SubjectTold) (has : HasSub
   told_end : told.held ≡ s.end
   told_end = ap (λ (x : SubjectTold). x.held) has.tells ∙ surveyed_end s has.walk
 
-  told_is : tells [] (λ end k. []) input told (stated_length (asked_blocks n) input) (blocks_read (asked_blocks n) input)
+  told_is : tells {X = List ℕ} [] (λ end k. []) input told (stated_length (asked_blocks n) input) (blocks_read (asked_blocks n) input)
   told_is = (has_length s old new told has, told_end)
 
   told_front : front_lines n (blocks input) (take told.length new) told ≡ (surveyed_subject s has.walk).front
