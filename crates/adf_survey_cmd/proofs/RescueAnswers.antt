@@ -92,7 +92,7 @@ pub same_front : (lost : List LossValue) (held n : ℕ) (input image : List ℕ)
     → image ≡ opened input → n ≡ blocks image → front_losses (runs_lost b.lost.items) b.states_type b.made_root held n ≡ input_losses lost held input
 same_front lost held n input image types b is same size =
     let count : n ≡ blocks input = size ∙ ap (λ (l : List ℕ). length l / 512) same ∙ ap (λ (k : ℕ). k / 512) (length_opened input) in
-    λ i. front_losses (is.lost i) (is.states i) (is.made i) held (count i)
+    λ i. front_losses (is.runs i) (is.states i) (is.made i) held (count i)
 
 -- so all losses are
 pub same_losses : (letters : Letters) (held : ℕ) (lost front : List LossValue) (input : List ℕ) (a : Basis) (b : Option Basis) (fs : List FindingValue)

@@ -37,7 +37,7 @@ pub record IsBegunInput (types : Types) (lost : List LossValue) (input image : L
   pub opened : IsOpened (IsFirstFault types input) input image b.fault
   pub states : b.states_type ≡ states_type input
   pub made : b.made_root ≡ lacks_root input
-  pub lost : runs_lost b.lost.items ≡ lost
+  pub runs : runs_lost b.lost.items ≡ lost
 
 -- the tree fits, and each volume that is laid for it, with the boot blocks put back into it, is what the rescue gives
 abbrev pub LaysFor : (RescueValue → Type 0) → Prepared → (boot : List ℕ) → Type 0
