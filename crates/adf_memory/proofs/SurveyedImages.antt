@@ -295,8 +295,8 @@ module _ (n : ℕ) (input old new : List ℕ) (told : SubjectTold) (has : HasSub
       let marks = has.tells in
       let image = room_image s old new told has in
       (λ i.
-          (sym read i ++ cond ((marks i).is_begun == 1) (codes "block 0: not dos\n") [])
-          ++ cond ((marks i).is_retyped == 1) (type_line (slice_index (image i) 3)) [])
+      (sym read i ++ cond ((marks i).is_begun == 1) (codes "block 0: not dos\n") [])
+      ++ cond ((marks i).is_retyped == 1) (type_line (slice_index (image i) 3)) [])
       ∙ sym (surveyed_front s has.walk has.findings has.survey)
 
   told_lost : blocks_lost n (blocks input) told ≡ (surveyed_subject s has.walk).lost

@@ -177,11 +177,7 @@ impl Subject {
     }
 
     /// What is surveyed of bytes that were read, which are let go: as they are, or as if they had so many blocks.
-    pub fn of_read(
-        alloc: Global,
-        bytes: Vec<u8>,
-        asked: Option<u32>,
-    ) -> Result<Subject, AllocError>
+    pub fn of_read(alloc: Global, bytes: Vec<u8>, asked: Option<u32>) -> Result<Subject, AllocError>
         ensures { IfOk result (λ s. subject_value s ≡ subject asked bytes.items) }
     {
         match blocks_read(asked, &bytes) {
