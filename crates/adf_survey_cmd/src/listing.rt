@@ -1,6 +1,6 @@
 // The lines of all findings, and of what is found.
 
-ghost use Rattle.std.specs.Prelude.{◌≡◌, OnErr, OnOk, false};
+ghost use Rattle.std.specs.Prelude.{◌≡◌, [], OnErr, OnOk, false};
 ghost use Rattle.std.specs.Io.KnownBytes.{Appends};
 ghost use Rattle.adf_findings.specs.Survey.{OnSurvey};
 ghost use Rattle.adf_runs.specs.Streams.{AppendsPart, is_device};
@@ -29,12 +29,12 @@ fn write_both<W: Sink>(
     ensures ok { OnSurvey survey.now.image (λ w fs.
         InAnyTexts survey.now.image w fs (λ date sound. OnOk result (Appends
         (W.held output.old) (W.held output.new) (listing_text date sound
-        (record { image = survey.now.image; end = end; front = front.items }) w fs)))) }
+        (record { image = survey.now.image; end = end; front = front.items; lost = [] }) w fs)))) }
     ensures err { OnSurvey survey.now.image (λ w fs.
         InAnyTexts survey.now.image w fs (λ date sound. OnErr result (AppendsPart
         (W.has_failed output.new) (W.held output.old) (W.held output.new)
         (listing_text date sound
-        (record { image = survey.now.image; end = end; front = front.items }) w fs)))) }
+        (record { image = survey.now.image; end = end; front = front.items; lost = [] }) w fs)))) }
     ensures failed { W.has_failed output.new ≡ is_device result }
 {
     write_runs(alloc, survey, front, output)?;
