@@ -11,10 +11,13 @@ lost, of the image with these hung where they say that they belong.
 
 import sys
 from struct import pack_into, unpack_from
+from typing import NamedTuple
 
 sys.dont_write_bytecode = True
-from survey import DIR, FILE, LINKS, PAGE_BITS, POINTERS, ROOT_PAGES, SLOTS, Survey, page, spelled
+from survey import DIR, FILE, LINKS, PAGE_BITS, POINTERS, ROOT_PAGES, SLOTS, Survey, page, slot, spelled
 
+KIND_TEXTS = ("ofs", "ffs", "ofs-international", "ffs-international")
+PRUNES = False  # whether headers in doubt are pruned, as `prune` of adf_rescue does, which no program calls
 HARMLESS = {"bad name", "bad comment", "wrong slot", "bad first", "same name"}
 
 
@@ -65,13 +68,48 @@ def restored(image, boot):
     return bytes(new)
 
 
-# The image as it is opened
+# The volume that is meant
+
+USUAL = (1760, 3520)
+
+
+def length_of(given, blocks):
+    """The blocks that are read: those that are stated; but if the middle of these is not like a root, and the middle of just one usual
+    length is a whole root, that length."""
+    stated = len(given) // 512 if blocks is None else blocks
+    held = min(stated, len(given) // 512)
+    if stated // 2 < held and is_like_root(given, stated // 2):
+        return stated
+    others = [n for n in USUAL if n != stated and n // 2 < held and is_like_root(given, n // 2) == 3 and sealed(given, n // 2)]
+    return others[0] if len(others) == 1 and (blocks is None or others[0] <= blocks) else stated
+
+
+def told_type(image):
+    """The type that the entries of the survey of an opened image tell."""
+    sv, stated = Survey(image), image[3]
+    if not sv.nodes:
+        return stated
+    says = [sv.says_data_of(*role[2:], b) for b, role in sv.owner.items() if role[1] == "data"]
+    full = [n for n in range(1, len(sv.nodes)) if sv.word(sv.block_of(n), 127) == FILE and sv.size(n)]
+    if stated % 2:
+        is_other = sum(says) > len(says) - sum(says)
+    else:
+        is_other = not says and len(full) >= 4
+    names = [(role[3], sv.text(b, 432)) for b, role in sv.owner.items() if role[1] == "head" and is_name(sv.text(b, 432))]
+    fits = [sum(slot(name, international) == s for s, name in names) for international in (False, True)]
+    letters = fits[1] >= fits[0] if stated >= 2 else fits[1] > fits[0]
+    kind = stated % 2 ^ is_other
+    return stated if (kind, letters) == (stated % 2, stated >= 2) else 2 * letters + kind
 
 
 def typed(image):
-    """The image with the type that its files say."""
-    survey = Survey(image)
-    return image[:3] + bytes([image[3] & 254]) + image[4:] if survey.nodes and survey.is_mistyped() else image
+    """The image with the type that its entries tell, and whether that is another one than is stated."""
+    new = opened(image)[0]
+    told = told_type(new) if len(image) % 1024 == 0 and 4 <= len(image) // 512 <= 1048576 else None
+    return (image, False) if told is None or told == new[3] else (b"DOS" + bytes([told]) + image[4:], True)
+
+
+# The image as it is opened
 
 
 def is_root(image, b):
@@ -79,23 +117,38 @@ def is_root(image, b):
     return w[0] == 2 and w[127] == 1
 
 
-def says_file(image, b):
+def is_like_root(image, b):
+    """How many of the three words of a root are there, if that is more than one."""
     w = words(image, b)
-    return w[0] == 2 and w[1] == b and w[127] == FILE and sealed(image, b)
+    count = (w[0] == 2) + (w[3] == SLOTS) + (w[127] == 1)
+    return count if count >= 2 else 0
+
+
+def says_header(image, b):
+    w = words(image, b)
+    return w[0] == 2 and w[1] == b and w[127] in (DIR, FILE, *LINKS) and sealed(image, b)
 
 
 def says_dir(image, b):
-    w = words(image, b)
-    return w[0] == 2 and w[1] == b and w[127] == DIR
+    return says_header(image, b) and words(image, b)[127] == DIR
 
 
 def says_data(image, b):
     w = words(image, b)
-    return w[0] == 8 and sealed(image, b) and w[1] < len(image) // 512 and says_file(image, w[1])
+    return w[0] == 8 and sealed(image, b) and w[1] < len(image) // 512 and says_header(image, w[1]) and words(image, w[1])[127] == FILE
 
 
 def says_page(image, b):
-    return 2 <= b < len(image) // 512 and sealed(image, b) and words(image, b)[0] not in (0, 2, 8, 16)
+    return 2 <= b < len(image) // 512 and sealed(image, b) and words(image, b)[0] not in (0, 2, 8, 16, 33)
+
+
+def states_type(image):
+    return image[:3] == b"DOS" and image[3] <= 5
+
+
+def lacks_root(image):
+    r = len(image) // 1024
+    return not (is_root(image, r) and sealed(image, r))
 
 
 def opened(image):
@@ -104,20 +157,19 @@ def opened(image):
     if len(image) % 1024 or not 4 <= blocks <= 1048576:
         return image, False
     r = blocks // 2
-    has_root = is_root(image, r) and sealed(image, r)
-    if image[:3] == b"DOS" and has_root:
+    if states_type(image) and not lacks_root(image):
         return image, False
     new = bytearray(image)
-    if image[:3] != b"DOS":
+    if not states_type(image):
         new[:4] = b"DOS" + bytes([0 if any(says_data(image, b) for b in range(blocks)) else 1])
-    if not has_root:
-        w, root = words(new, r), bytearray(512)
-        for i, value in ((0, 2), (3, SLOTS), (78, 2**32 - 1), (127, 1)):
+    if lacks_root(image):
+        w, root, is_like = words(new, r), bytearray(512), is_like_root(image, r)
+        for i, value in ((0, 2), (3, SLOTS), (78, w[78] if is_like else 2**32 - 1), (104, w[104] if is_like else 0), (127, 1)):
             pack_into(">I", root, 4 * i, value)
         root[24:312] = new[512 * r + 24 : 512 * r + 312]
         for i in range(ROOT_PAGES):
             pack_into(">I", root, 316 + 4 * i, next((b for b in (w[79 + i], r + 1 + i) if says_page(new, b)), 0))
-        if is_root(new, r):
+        if is_like:
             size = min(new[512 * r + 432], 30)
             root[432 : 433 + size] = bytes([size]) + new[512 * r + 433 : 512 * r + 433 + size]
             for i in (105, 118, 121):
@@ -127,55 +179,91 @@ def opened(image):
     return bytes(new), True
 
 
+# Headers in doubt
+
+
+def claims(image, b, first):
+    """The block says by its first word and its own key that it is such a part."""
+    return 2 <= b < len(image) // 512 and words(image, b)[:2] == (first, b)
+
+
+def is_child(image, b, t):
+    return claims(image, t, 2) and words(image, t)[125] == b and sealed(image, t)
+
+
+def pruned(image):
+    """The image in which each header with a wrong sum leads only to what says that it is such a part, and is a directory if it leads to a
+    header that names it."""
+    new, blocks = bytearray(image), len(image) // 512
+    for b in range(2, blocks):
+        if not claims(new, b, 2) or b == blocks // 2 or sealed(new, b):
+            continue
+        if words(new, b)[127] != DIR and any(is_child(new, b, t) for t in words(new, b)[6:78]):
+            pack_into(">I", new, 512 * b + 4 * 127, DIR)
+        is_directory = words(new, b)[127] == DIR
+        for i in (*range(6, 78), 124, 126):
+            leads = claims(new, words(new, b)[i], 16 if i == 126 else 2) and (is_directory or i >= 124)
+            if not leads:
+                pack_into(">I", new, 512 * b + 4 * i, 0)
+    return bytes(new)
+
+
 # Lost headers
 
 
 class Lost:
     """The headers of a survey that nothing leads to, and where they are hung."""
 
-    def __init__(self, survey, mended):
-        self.sv, self.image, self.blocks = survey, survey.image, survey.blocks
+    def __init__(self, survey, root_made):
+        self.sv, self.image, self.blocks, self.root_made = survey, survey.image, survey.blocks, root_made
         self.heads = {survey.block_of(n): n for n in range(len(survey.nodes))}
-        self.unsettled = {0} if mended or any(role and role[1] == "root" for role, _, _ in survey.findings) else set()
-        for role, _, _ in survey.findings:
-            n = survey.node_of(role)
-            if n is None and role and role[1] == "head":
-                n = role[2]
-            if n is not None:
-                self.unsettled |= {n, survey.nodes[n][2] if n else 0}
+        self.skipping = {role[2] for role, _, _ in survey.findings if role and role[1] == "head" and survey.node_of(role) is None}
+        self.is_valid = survey.word(survey.root, 78) == 2**32 - 1
+        self.trusted = self.is_valid and not any(self.is_free(b) for b, n in self.heads.items() if n)
+        self.may_lose = any(map(self.is_open, [p for p in self.heads if self.is_directory(p)]))
         self.lost = [b for b in range(self.blocks) if self.is_lost(b)]
 
     def is_free(self, b):
         """What the bitmap tells of a block; None where nothing does."""
-        at = self.sv.walk.get(page((b - 2) // PAGE_BITS)[0]) if 2 <= b < self.blocks and self.sv.word(self.sv.root, 78) == 2**32 - 1 else None
+        at = self.sv.walk.get(page((b - 2) // PAGE_BITS)[0]) if 2 <= b < self.blocks and self.is_valid else None
         bit = (b - 2) % PAGE_BITS
-        return None if at is None else self.sv.word(at, 1 + bit // 32) >> bit % 32 & 1
+        return None if at is None or not says_page(self.image, at) else self.sv.word(at, 1 + bit // 32) >> bit % 32 & 1
 
     def is_directory(self, p):
         n = self.heads.get(p)
         return n is not None and (n == 0 or self.sv.word(p, 127) == DIR)
 
-    def denies(self, p):
-        if not self.is_directory(p):
-            return p in self.sv.owner
-        n = self.heads[p]
-        return n not in self.unsettled and any(role[2] == n for role in self.sv.nodes[1:])
+    def is_open(self, p):
+        """Something of the directory may not be found: a header in it was skipped, its own sum is wrong, or it is a root that was made."""
+        return self.heads[p] in self.skipping or not sealed(self.image, p) or p == self.sv.root and self.root_made
 
-    def is_freed(self, b):
-        """The bitmap tells that the header is free, or a data block that its table names."""
+    def datas(self, b):
+        """The data blocks that the table of a file's header names."""
         w = words(self.image, b)
-        datas = 0 if w[127] == DIR else min(-(-w[81] // self.sv.chunk), POINTERS)
-        return any(self.is_free(c) for c in (b, *(w[77 - k] for k in range(datas))))
+        return [w[77 - k] for k in range(min(-(-w[81] // self.sv.chunk), POINTERS))] if w[127] == FILE else []
+
+    def is_used(self, b):
+        """The bitmap tells that the header is in use, and that none of these data blocks is free."""
+        return self.is_free(b) == 0 and not any(map(self.is_free, self.datas(b)))
+
+    def is_gone(self, b):
+        """Something of the survey has a block of it, or a bitmap that is trusted tells that it, or its first data block, is free."""
+        own = [b, *self.datas(b)]
+        return any(c in self.sv.owner for c in own) or self.trusted and any(map(self.is_free, own[:2]))
+
+    def is_vacant(self, p):
+        """A directory may be made in the block."""
+        if not 2 <= p < self.blocks or p in self.sv.owner or says_header(self.image, p):
+            return False
+        return not self.is_free(p) if self.trusted and self.is_free(p) is not None else self.may_lose
 
     def is_lost(self, b):
-        """The block says that it is a header, is no part of the survey, and is not deleted, by the bitmap or else its directory."""
-        if b in self.sv.owner or not (says_file(self.image, b) or says_dir(self.image, b)) or self.is_freed(b):
+        if not 2 <= b < self.blocks or b == self.sv.root or not says_header(self.image, b) or self.is_gone(b):
             return False
-        return self.is_free(b) == 0 or not self.denies(words(self.image, b)[125])
-
-    def is_made(self, p):
-        """A directory is made of a block that lost headers name, if it is no part of the survey and no lost header."""
-        return 2 <= p < self.blocks and p not in self.sv.owner and p not in self.lost
+        p = words(self.image, b)[125]
+        if self.is_directory(p):
+            return self.is_open(p) or self.is_used(b)
+        return self.is_vacant(p) or 2 <= p < self.blocks and p not in self.sv.owner and p != self.sv.root and says_dir(self.image, p)
 
     def hung(self):
         image, r, lost = bytearray(self.image), self.sv.root, set(self.lost)
@@ -185,7 +273,7 @@ class Lost:
                 for s in range(SLOTS):
                     pack_into(">I", image, 512 * b + 24 + 4 * s, 0)
                 put(image, b, 5, 0)
-        made = sorted({p for p in named if self.is_made(p)})
+        made = sorted({p for p in named if self.is_vacant(p)})
         for p in made:
             head, name = bytearray(512), b"lost-%d" % p
             pack_into(">2I", head, 0, 2, p)
@@ -199,8 +287,8 @@ class Lost:
                 ends[self.sv.block_of(self.sv.nodes[n][2])] = h
         for b in sorted({*made, *lost}):
             p = words(self.image, b)[125] if b in lost else r
-            is_home = self.is_directory(p) or p in made or p in lost and says_dir(self.image, p)
-            self.hang(image, b, p if is_home else r, ends)
+            if b in made or self.is_directory(p) or p in made or p in lost and says_dir(self.image, p):
+                self.hang(image, b, p, ends)
         return bytes(image)
 
     def hang(self, image, b, home, ends):
@@ -216,6 +304,28 @@ class Lost:
         put(image, at, i, b)
 
 
+# What is told of a rescue
+
+
+class Row(NamedTuple):
+    """Why something is not in the new volume, or is in doubt there; its header, or the first and the last of blocks; and its path."""
+
+    why: str
+    first: int
+    last: int
+    path: list
+
+    def __str__(self):
+        if self.why == "blocks":
+            return f"lost: block {self.first}" if self.first == self.last else f"lost: blocks {self.first} to {self.last}"
+        return f"lost: in {spelled(self.path)}/" if self.why == "headers" else f"{self.why}: {spelled(self.path)}"
+
+
+def row_of(survey, why, n):
+    """The row of an entry, or of headers in a directory."""
+    return Row(why, survey.block_of(n) if n else 0, survey.block_of(n) if n else 0, survey.path(n))
+
+
 # The tree of all that stands
 
 
@@ -226,12 +336,21 @@ class Node:
 
 class Rescue:
     def __init__(self, image, blocks=None):
+        stated = len(image) // 512 if blocks is None else blocks
         self.held = len(image) // 512  # the blocks that the input holds whole; what is filled up behind them is no data
-        if blocks is not None:
-            image = (image + bytes(max(0, 512 * blocks - len(image))))[: 512 * blocks]
-        self.boot, image = bytes(image[:1024]), typed(bytes(image))
+        count = length_of(image, blocks)
+        if blocks is not None or count != stated:
+            image = (image + bytes(max(0, 512 * count - len(image))))[: 512 * count]
+        self.boot = bytes(image[:1024])
+        image, is_retyped = typed(bytes(image))
         self.given, self.mended = opened(image)
+        self.root_made = self.mended and lacks_root(image)
+        self.front = [(count, stated - 1)] if count < stated else []
+        self.front += [(0, 0)] if is_retyped or not states_type(image) else []
         survey = Survey(self.given)
+        if PRUNES and (survey.findings or self.mended):
+            self.given = pruned(self.given)
+            survey = Survey(self.given)
         self.findings, self.refused, self.left_out, self.losses = survey.findings, None, [], []
         if not survey.nodes:
             self.refused = "block %d: %s" % self.findings[0][1:]
@@ -239,31 +358,44 @@ class Rescue:
         self.survey, self.blocks = survey, survey.blocks
         pages = -(-(self.blocks - 2) // PAGE_BITS)
         self.left = self.blocks - 2 - 1 - pages - max(0, -(-(pages - 25) // 127))
-        self.root, self.added, self.kept = Node((), None, None), [], set()
+        self.root, self.added, self.kept, self.kept_heads = Node((), None, None), [], set(), {True: set(), False: set()}
         places = self.take(survey, {survey.root: self.root})
         known = {survey.block_of(n): places.get(survey.block_of(n)) for n in range(len(survey.nodes))}
-        self.first = Lost(survey, self.mended)
+        self.first = Lost(survey, self.root_made)
         self.lost = self.first.lost
         surveys = [survey]
         if self.lost and self.findings:
             surveys.append(Survey(self.first.hung()))
             self.take(surveys[1], known)
-        self.losses = [*self.lost_headers(surveys), *self.lost_blocks(surveys)]
+        self.losses = [*self.doubts(surveys), *self.lost_headers(), *self.lost_blocks(surveys)]
         if not self.added and (self.mended or self.findings):
             self.refused = "block %d: %s" % (Survey(image).findings or self.findings)[0][1:]
 
-    def lost_headers(self, surveys):
-        """A line for each directory of the first survey in which a header was skipped that is that of no entry."""
-        found = {survey.block_of(n) for survey in surveys for n in range(1, len(survey.nodes))}
-        places = []
-        for role, at, cause in self.findings:
-            skipped = role and role[1] == "head" and surveys[0].node_of(role) is None
-            if skipped and (cause == "out of range" or at not in found) and role[2] not in places:
-                places.append(role[2])
-        return [f"lost: in {spelled(surveys[0].path(p))}/" for p in places]
+    def doubts(self, surveys):
+        """A row for each entry that is kept and may be another, or deleted, or that no directory leads to."""
+        for survey in surveys:
+            for n in range(1, len(survey.nodes)):
+                h = survey.block_of(n)
+                why = self.doubt(h, survey is self.survey)
+                if h in self.kept_heads[survey is self.survey] and why:
+                    yield row_of(survey, why, n)
+
+    def doubt(self, h, is_first):
+        if is_first:
+            return "in doubt" if not sealed(self.given, h) else "perhaps deleted" if self.first.is_free(h) else None
+        if not says_header(self.given, h):
+            return "made"
+        return "found again" if self.first.is_free(h) == 0 else "perhaps deleted"
+
+    def lost_headers(self):
+        """A row for each directory in which a header was skipped, and for a root that was made."""
+        places = [role[2] for role, _, _ in self.findings if role and role[1] == "head" and self.survey.node_of(role) is None]
+        places = [0] * self.root_made + places
+        return [row_of(self.survey, "headers", p) for k, p in enumerate(places) if places[k + 1 : k + 2] != [p]]
 
     def lost_blocks(self, surveys):
-        """A line for each run of blocks in use that no entry has."""
+        """A row for each range of blocks that is not read as it is or missing, and for each run of blocks in use that no entry has."""
+        told = [*self.front, *[(self.survey.root,) * 2] * self.root_made, *[(self.held, self.blocks - 1)] * (self.held < self.blocks)]
         found = {b for survey in surveys for b, role in survey.owner.items() if role[1] in ("head", "ext", "data")}
         runs = []
         for _, at, cause in self.findings:
@@ -272,7 +404,7 @@ class Rescue:
                     runs[-1][1] = at
                 else:
                     runs.append([at, at])
-        return [f"lost: block {first}" if first == last else f"lost: blocks {first} to {last}" for first, last in runs]
+        return [Row("blocks", *run, []) for run in (*told, *runs)]
 
     def take(self, survey, known):
         """Adds what stands of a survey; answers the places of its directories, by their blocks. Known blocks are passed by."""
@@ -289,12 +421,13 @@ class Rescue:
             elif kind == FILE and n not in bad and all(self.is_given(survey, b) for b in self.data_blocks(survey, n)):
                 content = self.content(survey, n)
             else:
-                self.left_out.append(("link" if kind in LINKS else "damaged", survey.path(n)))
+                self.left_out.append(row_of(survey, "link" if kind in LINKS else "damaged", n))
                 continue
             node = parent and self.add(survey, h, parent, content)
             if node is None:
-                self.left_out.append(("no room", survey.path(n)))
+                self.left_out.append(row_of(survey, "no room", n))
                 continue
+            self.kept_heads[survey is self.survey].add(h)
             kept |= self.parts(survey, n)
             if kind == DIR:
                 places[h] = node
@@ -375,7 +508,10 @@ class Rescue:
         return restored(built, self.boot)
 
     def lines(self):
-        return [*(f"{why}: {spelled(path)}" for why, path in self.left_out), *self.losses]
+        return [str(row) for row in self.rows()]
+
+    def rows(self):
+        return [*self.left_out, *self.losses]
 
 
 def escaped(text):

@@ -3,8 +3,8 @@
 import sys
 
 sys.dont_write_bytecode = True
-from rescue import is_name, is_root, says_data, sealed
-from survey import FILE, Survey, data, spelled, upper
+from rescue import KIND_TEXTS, is_name, is_root, length_of, says_data, sealed, states_type, typed
+from survey import FILE, POINTERS, Survey, data, spelled, upper
 
 
 def begun(image):
@@ -13,10 +13,10 @@ def begun(image):
 
 
 def lacks_boot(image):
-    """The image has the length of a volume and a whole root, but does not begin with `DOS`."""
+    """The image has the length of a volume and a whole root, but does not state a type."""
     blocks = len(image) // 512
     allowed = len(image) % 1024 == 0 and 4 <= blocks <= 1048576
-    return allowed and image[:3] != b"DOS" and is_root(image, blocks // 2) and sealed(image, blocks // 2)
+    return allowed and not states_type(image) and is_root(image, blocks // 2) and sealed(image, blocks // 2)
 
 
 class Subject:
@@ -24,17 +24,21 @@ class Subject:
     how many of its blocks the input holds."""
 
     def __init__(self, given, blocks=None):
-        image = given if blocks is None else given[: 512 * blocks] + bytes(max(0, 512 * blocks - len(given)))
+        stated, count = len(given) // 512 if blocks is None else blocks, length_of(given, blocks)
+        image = given if blocks is None and count == stated else given[: 512 * count] + bytes(max(0, 512 * count - len(given)))
         self.held, self.front = min(len(given), len(image)) // 512, []
-        if blocks is not None and self.held < blocks:
-            self.front.append(run_text(self.held, blocks - 1) + ": no data")
+        if self.held < len(image) // 512:
+            self.front.append(run_text(self.held, len(image) // 512 - 1) + ": no data")
+        if count < stated:
+            self.front.append(run_text(count, stated - 1) + ": behind the volume")
         if lacks_boot(image):
             image = begun(image)
             self.front.append("block 0: not dos")
+        image, is_retyped = typed(image)
+        if is_retyped:
+            self.front.append(f"block 0: files of {KIND_TEXTS[image[3]]}")
         self.survey = Survey(image)
-        if self.survey.is_mistyped():
-            self.survey = Survey(image[:3] + bytes([image[3] & 254]) + image[4:])
-            self.front.append("block 0: type of ffs, files of ofs")
+        self.contested = {at for _, at, cause in self.survey.findings if cause == "taken"}
 
     def findings(self):
         return [*self.front, *self.survey.found()]
@@ -59,13 +63,31 @@ class Subject:
             return []
         return [n for n in entries if survey.word(survey.block_of(n), 127) == FILE and all(map(is_name, known[n]))]
 
+    def named(self, n, k):
+        """The block that the table of a file names as data block k, from 0 on; 0 behind a block that the image does not have."""
+        survey, member = self.survey, self.survey.block_of(n)
+        for _ in range(k // POINTERS):
+            member = survey.word(member, 126) if member < survey.blocks else 0
+        return survey.word(member, 77 - k % POINTERS) if member < survey.blocks else 0
+
+    def own_data(self, n, k):
+        """The block of data block k of a file, from 0 on: of OFS the one that is named, if it says so itself; of FFS the one that is found,
+        if no finding is that it is taken, and it does not say that it is an OFS one."""
+        survey = self.survey
+        if survey.offset:
+            b = self.named(n, k)
+            return b if b < survey.blocks and survey.says_data_of(n, k + 1, b) else None
+        b = survey.walk.get(data(n, k + 1)[0])
+        is_own = b is not None and b not in self.contested and not survey.says_data_of(n, k + 1, b)
+        return b if is_own else None
+
     def left(self, n):
-        """The bytes of a file, with zeros where no data block is found that the input holds, and a line for each run of these."""
+        """The bytes of a file, with zeros where no data block is left that the input holds, and a line for each run of these."""
         survey = self.survey
         size = min(survey.size(n), len(survey.image))
         content, gaps = b"", []
         for k in range(-(-size // survey.chunk)):
-            b = survey.walk.get(data(n, k + 1)[0])
+            b = self.own_data(n, k)
             many = min(survey.chunk, size - survey.chunk * k)
             if b is not None and b < self.held:
                 content += survey.image[512 * b + survey.offset : 512 * b + survey.offset + many]

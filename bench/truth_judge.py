@@ -99,12 +99,14 @@ class Judge:
         return real
 
     def covers(self, path: Path, blocks: Set[int], amiss: Set[Path]) -> bool:
-        """A line names the path, a directory above it, or a block of its own; or a directory in which it, or what it is in, is amiss."""
+        """A line names the path, a directory above it by its path or its header, or a block of its own; or a directory in which it, or what
+        it is in, is amiss."""
+        above = [self.history.live[path[:k]].header for k in range(1, len(path)) if path[:k] in self.history.live]
         if self.answer.refused or any(path[: len(named)] == named for named in self.named):
             return True
         if any(path[:k] in self.within and path[: k + 1] in amiss for k in range(len(path))):
             return True
-        return any(b in told for told in self.told for b in blocks)
+        return any(b in told for told in self.told for b in (*blocks, *above))
 
     @property
     def is_zero(self) -> bool:

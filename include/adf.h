@@ -343,19 +343,24 @@ struct adf_subject {
     size_t length;      /* its bytes */
     uint32_t held;      /* how many of its first 1,048,576 blocks the given image holds whole: zeros behind them are no data */
     uint8_t is_begun;   /* 1 if only the boot block is lost, and `DOS` and a type stand in its place, otherwise 0 */
-    uint8_t is_retyped; /* 1 if the files say OFS, and the type says so in place of FFS, otherwise 0 */
+    uint8_t is_retyped; /* 1 if the type, in byte 3, is the one that the files say in place of another, otherwise 0 */
 };
 
 /* The number of a subject that is larger than its room: no adf_cause has it. */
 #define ADF_SUBJECT_SMALL_ROOM 24
 
 /* Writes the image that adf-survey surveys, of a given image of this length, for the calls below: as it is, or if blocks is not 0,
- * as if it had so many blocks, with zeros for what is not there. Where nothing but the boot block is lost, it begins with `DOS` and
- * a type; and where the type is one of FFS and the files say OFS, it is that of OFS. All but its first four bytes are those of the
- * image that is meant, and so are these where neither is so.
+ * as if it had so many blocks, with zeros for what is not there. Where no root is in the middle of these blocks, and one is in that of
+ * 1,760 or 3,520 blocks, those of a floppy, it has so many: then the given image is cut, or has tracks behind the volume. If blocks is
+ * not 0, it has no more than these. Where nothing but the boot block is lost, it begins with `DOS` and a type; and where the files say
+ * another type, it has that one, 0 to 3. All but its first four bytes are those of the image that is meant, and so are these where
+ * neither is so.
  *
  *     struct adf_subject subject;
- *     if (adf_survey_subject(image, length, 0, room, length, &subject) == ADF_ACCEPTED)
+ *     uint8_t answer = adf_survey_subject(image, length, 0, room, room_length, &subject);
+ *     if (answer == ADF_SUBJECT_SMALL_ROOM && grow(&room, subject.length))
+ *         answer = adf_survey_subject(image, length, 0, room, subject.length, &subject);
+ *     if (answer == ADF_ACCEPTED)
  *         adf_survey_index(room, subject.length, findings, findings_room, entries, entries_room, &surveyed);
  *
  * Returns:
@@ -363,8 +368,8 @@ struct adf_subject {
  * 0: the room begins with the image that is surveyed, of subject->length bytes, and the rest of it is unchanged. The tables of its
  *    survey are what adf-survey tells of the given image, whose lines for the fields of `subject` come first; it marks a file as
  *    damaged too if one of its data blocks is not below subject->held.
- * ADF_SUBJECT_SMALL_ROOM: the room has fewer than subject->length bytes: those of the given image, or if blocks is not 0,
- *    blocks * 512.
+ * ADF_SUBJECT_SMALL_ROOM: the room has fewer than subject->length bytes, which may be more than those of the given image. A room of as
+ *    many bytes is not refused so.
  * ADF_NO_MEMORY: an allocation failed. All fields are 0.
  *
  * Whatever is returned but 0, the room is unchanged.
@@ -442,8 +447,9 @@ uint8_t adf_survey_index(const uint8_t *image, size_t length, struct adf_finding
 
 /* What a survey has at a block. Block b is at index b of the table. */
 struct adf_part {
-    size_t node;     /* the entry that has the block; 0 for the root, the bitmap, and a block that nothing found has */
-    uint32_t number; /* the number of the data block of a file that it is, from 1; otherwise 0 */
+    size_t node; /* the entry that has the block; 0 for the root, the bitmap, and a block that nothing found has */
+    uint32_t
+        number; /* the number of the data block of a file that it is, from 1, if nothing else asks for the block; otherwise 0 */
 };
 
 /* The number that stands for no block in the table of a file. */
@@ -478,11 +484,13 @@ uint8_t adf_survey_owners(const uint8_t *image, size_t length, uint8_t *roles, s
 uint8_t adf_survey_find(const uint8_t *image, size_t length, const uint8_t *path, size_t path_length, size_t *node);
 
 /* Fills the table of a file that is found, by its number and the block of its header: its data blocks in order, as far as there is
- * room, with ADF_NO_BLOCK for each that is not found. Returns how many its size asks for, whatever the room: at most
- * length / 488 + 1, and 0 for a directory, an empty file, and a block that is no file's header. The rest of the room is unchanged.
+ * room, with ADF_NO_BLOCK for each that is not left. On OFS a block is the file's own that says so itself, with a right sum; on FFS
+ * one that nothing else asks for, and that does not say that it is an OFS one. Returns how many its size asks for, whatever the
+ * room: at most length / 488 + 1, and 0 for a directory, an empty file, and a block that is no file's header. The rest of the room
+ * is unchanged.
  *
- * With other rows than those of the image's survey it is the same table by these rows: a block is in it only if the image has it,
- * and its row has the node and the number. It allocates nothing. A budget, by reading the code and not proved: the work is
+ * With other rows than those of the image's survey it is the same table by these rows: a block of an FFS file is in it only if the
+ * image has it, and its row has the node and the number. It allocates nothing. A budget, by reading the code and not proved: the work is
  * proportional to the number that is returned.
  */
 size_t adf_found_blocks(const uint8_t *image, size_t length, const struct adf_part *parts, size_t parts_count, size_t node,
@@ -496,7 +504,7 @@ size_t adf_found_blocks(const uint8_t *image, size_t length, const struct adf_pa
  * The size is the one that the header says, but no more than the image has. With any table the same is read: at most these bytes,
  * of the data areas of the blocks that the table names, where a number that the image does not have stands for a block that is
  * not found. What is behind a table that is cut is neither read nor lost. On an image that adf_check accepts the bytes are those
- * that adf_read gives, and none are lost.
+ * that adf_read gives, and none are lost, but for an FFS data block that says that it is an OFS one of its file.
  *
  * It allocates nothing. A budget, by reading the code and not proved: the work is proportional to the bytes that are copied, and
  * to the data blocks that are lost behind them.
@@ -510,16 +518,21 @@ size_t adf_found_read(const uint8_t *image, size_t length, uint32_t header, cons
  * to any more. adf-survey(1) says what stands.
  */
 
-/* Why something is not in the volume of a rescue. */
+/* Why something is not in the volume of a rescue: 1 to 5; or why an entry is in doubt that is in it: 6 to 9. A later version may have
+ * more of them. */
 enum adf_loss_why {
-    ADF_LOSS_DAMAGED = 1, /* An entry is a file that is not whole. */
-    ADF_LOSS_LINK = 2,    /* An entry is a link. */
-    ADF_LOSS_NO_ROOM = 3, /* An entry has no room: its directory is left out, its name is taken, or the blocks do not suffice. */
-    ADF_LOSS_HEADERS = 4, /* Headers are lost in a directory. */
-    ADF_LOSS_BLOCKS = 5   /* Blocks in use are lost. */
+    ADF_LOSS_DAMAGED = 1,         /* An entry is a file that is not whole. */
+    ADF_LOSS_LINK = 2,            /* An entry is a link. */
+    ADF_LOSS_NO_ROOM = 3,         /* Its directory is left out, its name is taken, or the blocks do not suffice. */
+    ADF_LOSS_HEADERS = 4,         /* A header was skipped in a directory; what it led to may be found again. */
+    ADF_LOSS_BLOCKS = 5,          /* Blocks in use are lost, not in the image, behind the volume, or made anew. */
+    ADF_LOSS_IN_DOUBT = 6,        /* The checksum of its header is wrong: its name may be too, and a directory may lack things. */
+    ADF_LOSS_PERHAPS_DELETED = 7, /* The bitmap has its header free, or nothing tells whether it was deleted. */
+    ADF_LOSS_FOUND_AGAIN = 8,     /* No directory leads to it: it was found by what its header says. */
+    ADF_LOSS_MADE = 9             /* The rescue made the directory, for what names a lost one. */
 };
 
-/* Something of an image that is not in the volume of its rescue. */
+/* Something of an image that is not in the volume of its rescue, or an entry that is in it in doubt. */
 struct adf_loss {
     size_t path;        /* where its path begins in the text of all paths */
     size_t path_length; /* 0 for the root, and for blocks */
@@ -541,15 +554,17 @@ struct adf_rescue_told {
 
 /* Rescues an image of this length, as `adf-survey rescue` does: as it is, or if blocks is not 0, as if it had so many blocks, with
  * zeros for what is not there; a number that no volume has is ADF_BAD_SIZE, and memory for so many blocks is taken all the same. The
- * losses come in the order of the lines of that command, and their paths are spelled as there. Returns:
+ * losses come in the order of the lines of that command, and their paths are spelled as there: also of what is in the volume they are
+ * those of the image, so a name may be another one in the volume. Returns:
  *
- * 0: the room begins with the volume, of told->blocks * 512 bytes, which adf_check accepts, and the tables have what is not in it.
+ * 0: the room begins with the volume, of told->blocks * 512 bytes, which adf_check accepts, and the tables have what is not in it, and
+ *    what is in it in doubt.
  *    told->losses and told->paths are the whole numbers: a table that is smaller has the front part. The rest of each room is
  *    unchanged.
  * An adf_cause: nothing stands. It is the first fault of the image, at told->block; where adf_survey_subject would change the type,
  *    of the image with that type.
- * ADF_RESCUE_SMALL_ROOM: the volume has told->blocks blocks, and the room has fewer bytes. A volume has as many blocks as the image;
- *    if blocks is not 0, it has so many. A room of as many blocks is not refused so.
+ * ADF_RESCUE_SMALL_ROOM: the volume has told->blocks blocks, and the room has fewer bytes. A volume has as many blocks as what
+ *    adf_survey_subject writes, which may be more than the image has. A room of as many blocks is not refused so.
  * ADF_NO_MEMORY: an allocation failed. All fields are 0.
  *
  * Whatever is returned but 0, the three rooms are unchanged.
@@ -713,16 +728,17 @@ uint8_t adf_run(const uint8_t *words, size_t words_length, const uint8_t *input,
 
 /* Runs the command `adf-survey` with these arguments over an image, and returns its status. The words are as for adf_run: so
  * `adf-survey cat c/readme` is "adf-survey\0cat\0c/readme\0", 24 bytes; with `rescue` the output is a volume of as many blocks as
- * are read, those of the image, or N with `--blocks N`. adf-survey(1) has what it writes.
+ * are read: those of the image, or N with `--blocks N`, or those of a floppy, as for adf_survey_subject. adf-survey(1) has what it writes.
  *
  * 0: there is no finding, and output is empty; for `cat`, output has the bytes of the file, which is sound, or with `--damaged`
- *    has lost none; for `rescue`, it has the new volume, and nothing that is found is left out. Errors are empty.
+ *    has lost none; for `rescue`, it has the new volume, and nothing is left out or in doubt. Errors are empty.
  * 1: output has the lines of the findings; for `cat`, it is empty, and errors say `no such path: PATH`, `not a file` or
  *    `damaged`.
  *    For `cat --damaged`, output has what is left of the file, and errors a line for each range of bytes that are lost, and zeros.
  *    With `--list` the lines of what is found follow those of the findings, at status 0 too.
- *    For `rescue`, output has the new volume, and errors a line for each entry that it leaves out and for what is lost; or output
- *    is empty, and errors have the line of the first finding, and these lines behind it. If errors_full is set, call again with more room for them.
+ *    For `rescue`, output has the new volume, and errors a line for each entry that it leaves out or keeps in doubt, and for what is
+ *    lost; or output is empty, and errors have the line of the first finding, and these lines behind it. If errors_full is set, call
+ *    again with more room for them.
  *    If the image does not begin with `DOS`, and one of its blocks 0 to 15 begins with `RDSK`, the last line of errors says that it is a
  *    hard disk, for adf_disk_index.
  * 2, 3: as for adf_run. The image is `input`, and no file is opened: arguments that name a file are refused, at status 2.

@@ -4,7 +4,8 @@
  *
  * The image is read as if it had so many blocks, 0 for those that it has. NEW gets the new volume; standard output of each of its files
  * `PATH SIZE` in a line, with the path in the escape form, and its bytes; standard error a line for each loss, as that of `adf-survey
- * rescue`. The status is 1 if there is a loss, 2 if nothing stands: then standard error has the first fault, and NEW is not written.
+ * rescue`. The status is 1 if there is a loss or an entry in doubt, 2 if nothing stands: then standard error has the first fault, and NEW
+ * is not written.
  */
 #include "adf.h"
 
@@ -32,17 +33,24 @@ static uint8_t rescue(size_t length, uint32_t count, struct adf_rescue_told *tol
     return adf_rescue(given, length, count, rescued, size, losses, told->losses, paths, told->paths, told);
 }
 
+/* What stands before the path of an entry. */
+static const char *const REASONS[] = {
+    [ADF_LOSS_DAMAGED] = "damaged",
+    [ADF_LOSS_LINK] = "link",
+    [ADF_LOSS_NO_ROOM] = "no room",
+    [ADF_LOSS_IN_DOUBT] = "in doubt",
+    [ADF_LOSS_PERHAPS_DELETED] = "perhaps deleted",
+    [ADF_LOSS_FOUND_AGAIN] = "found again",
+    [ADF_LOSS_MADE] = "made",
+};
+
 static void tell(const struct adf_loss *loss) {
     int length = (int)loss->path_length;
     const char *path = (const char *)paths + loss->path;
     if (loss->why == ADF_LOSS_HEADERS)
         fprintf(stderr, "lost: in %.*s/\n", length, path);
     else if (loss->why != ADF_LOSS_BLOCKS)
-        fprintf(stderr, "%s: %.*s\n",
-                loss->why == ADF_LOSS_DAMAGED ? "damaged"
-                : loss->why == ADF_LOSS_LINK  ? "link"
-                                              : "no room",
-                length, path);
+        fprintf(stderr, "%s: %.*s\n", REASONS[loss->why], length, path);
     else if (loss->first == loss->last)
         fprintf(stderr, "lost: block %lu\n", (unsigned long)loss->first);
     else

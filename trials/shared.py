@@ -23,6 +23,7 @@ HIGH_NAME = ("file 5000:600:0 00000000 \\xe0\\xe9\\xf7\\xff\\xc5\\xd7\\xdf\\xfe"
 LOWER = bytes((*range(0x61, 0x7B), *range(0xE0, 0xF7), *range(0xF8, 0xFF)))
 UPPER = bytes(byte - 32 for byte in LOWER)
 OTHER_CASE = bytes.maketrans(LOWER + UPPER, UPPER + LOWER)
+CAPITALS = bytes.maketrans(LOWER, UPPER)
 IDLE = "SYS:copy SYS:none SYS:none\n"  # copies nothing, and waits, since AROS writes late
 SCRIPT = "SECTIONS { . = 0; .text : { *(.text.start) *(.text*) *(.rodata*) *(.data*) *(.bss*) } /DISCARD/ : { *(*) } }"
 OPTIONS = "--amiga-model=A1200 --kickstart-file=internal --cpu=68020 --uae-cpu-speed=max --warp-mode=1 --floppy-drive-count=4"
@@ -71,7 +72,7 @@ def tree(chance, letters=NAME_LETTERS):
 
 
 def built(kind, blocks, lines=()):
-    """The image that adf builds of these lines; of international letters, what adf-survey rescues of it with the other type."""
+    """The image that adf builds of these lines; of international letters, with the other type, and its headers in the slots of these."""
     plain, *letters = kind.split("-")
     manifest = "".join(f"{line}\n" for line in (f"volume {plain} {blocks}", "label Peer", *lines) if line != "data ")
     status, image, errors = adf.run(["build"], manifest.encode())
@@ -80,11 +81,38 @@ def built(kind, blocks, lines=()):
     return international(image) if letters else image
 
 
+def slot(name):
+    """The slot of a name by international letters."""
+    number = len(name)
+    for byte in name.translate(CAPITALS):
+        number = (13 * number + byte) & 0x7FF
+    return number % 72
+
+
+def sealed(block):
+    """A header whose checksum is right."""
+    words = list(struct.unpack(">128I", block))
+    words[5] = 0
+    words[5] = -sum(words) % 2**32
+    return struct.pack(">128I", *words)
+
+
 def international(image):
-    """A volume of the tree of this image, of the type with international letters."""
-    given = image[:3] + bytes([image[3] + 2]) + image[4:]
-    new = said("adf-survey", "rescue", "--keep-type", status=0, input=given)
-    return new if everything(adf.Volume(new)) == everything(adf.Volume(image)) else sys.exit("adf-survey rescues another tree")
+    """A volume of the tree of this image, of the type with international letters: each chain has its headers in their order."""
+    volume = adf.Volume(image)
+    headers = [volume.blocks // 2, *(entry.header for entry in volume.entries)]
+    blocks = {header: bytearray(image[512 * header : 512 * header + 512]) for header in headers}
+    for number in {0, *(entry.number for entry in volume.entries if not entry.is_file)}:
+        blocks[headers[number]][24:312] = bytes(288)
+    for entry in sorted(volume.entries, key=lambda entry: -entry.header):
+        above, place = blocks[headers[entry.parent]], 24 + 4 * slot(entry.raw_name)
+        blocks[entry.header][496:500] = above[place : place + 4]
+        above[place : place + 4] = entry.header.to_bytes(4, "big")
+    new = bytearray(image)
+    new[3] += 2
+    for header, block in blocks.items():
+        new[512 * header : 512 * header + 512] = sealed(block)
+    return bytes(new) if everything(adf.Volume(new)) == everything(volume) else sys.exit("another tree by international letters")
 
 
 def contents(volume):

@@ -120,17 +120,13 @@ static bool make_places(struct left *left) {
     return name_places(left);
 }
 
-struct left *left_of(uint8_t *image, size_t length, size_t blocks) {
+struct left *left_of(uint8_t *image, size_t blocks, size_t given) {
     struct left *left = calloc(1, sizeof *left);
-    uint8_t *whole = blocks * BLOCK <= length ? image : realloc(image, blocks * BLOCK);
-    if (left == NULL || whole == NULL) {
-        free(left);
-        free(whole == NULL ? image : whole);
+    if (left == NULL) {
+        free(image);
         return NULL;
     }
-    *left = (struct left){.image = whole, .blocks = blocks == 0 ? length / BLOCK : blocks, .given = length / BLOCK};
-    if (blocks * BLOCK > length)
-        memset(whole + length, 0, blocks * BLOCK - length);
+    *left = (struct left){.image = image, .blocks = blocks, .given = given};
     if (survey(left) && make_places(left))
         return left;
     free_left(left);

@@ -9,8 +9,9 @@ struct left;
 /* An open file: its bytes, and which of them are lost. */
 struct remains;
 
-/* Takes over the bytes of an image, which is read as if it had so many blocks (0: as many as it has). NULL if memory ran out. */
-struct left *left_of(uint8_t *image, size_t length, size_t blocks);
+/* Takes over the bytes of an image of so many blocks, of which so many were given: zeros behind them are no data. NULL if memory ran
+ * out. */
+struct left *left_of(uint8_t *image, size_t blocks, size_t given);
 
 void free_left(struct left *left);
 

@@ -508,6 +508,7 @@ struct words {
     int version;
 };
 
+/* Each option is also one behind -o, which is all that mount and /etc/fstab give. */
 static const struct fuse_opt OPTIONS[] = {
     {"-h", offsetof(struct words, help), 1},
     {"--help", offsetof(struct words, help), 1},
@@ -515,11 +516,15 @@ static const struct fuse_opt OPTIONS[] = {
     {"--version", offsetof(struct words, version), 1},
     {"--partition %s", offsetof(struct words, partition), 0},
     {"--partition=%s", offsetof(struct words, partition), 0},
+    {"partition=%s", offsetof(struct words, partition), 0},
     {"--damaged %s", offsetof(struct words, damaged), 0},
     {"--damaged=%s", offsetof(struct words, damaged), 0},
+    {"damaged=%s", offsetof(struct words, damaged), 0},
     {"--blocks %s", offsetof(struct words, blocks), 0},
     {"--blocks=%s", offsetof(struct words, blocks), 0},
+    {"blocks=%s", offsetof(struct words, blocks), 0},
     {"--strict", offsetof(struct words, strict), 1},
+    {"strict", offsetof(struct words, strict), 1},
     {"nonempty", offsetof(struct words, nonempty), 1},
     {"escape", offsetof(struct words, escape), 1},
     FUSE_OPT_END,

@@ -5,35 +5,43 @@
 
 enum { FIRST_LOSSES = 1024, BLOCK = 512 };
 
-/* Rescues an image into the room of a rescue, and counts what is not in it by a table of `count` losses; `count` becomes the number of
- * all of them. An adf_cause. */
-static uint8_t rescue_with(const uint8_t *image, size_t length, uint32_t blocks, struct rescue *rescue, size_t *count) {
-    struct adf_loss *losses = malloc(*count * sizeof *losses);
-    struct adf_rescue_told told = {0};
-    uint8_t path;
-    if (losses == NULL)
-        return ADF_NO_MEMORY;
-    uint8_t cause = adf_rescue(image, length, blocks, rescue->volume, rescue->length, losses, *count, &path, 0, &told);
-    for (size_t i = 0; i < told.losses && i < *count; i++) {
+/* Counts the losses of a rescue, of which the table has so many. */
+static void count_losses(struct rescue *rescue, const struct adf_loss *losses, size_t count) {
+    for (size_t i = 0; i < count; i++) {
         bool is_lost = losses[i].why == ADF_LOSS_HEADERS || losses[i].why == ADF_LOSS_BLOCKS;
-        *(is_lost ? &rescue->lost : &rescue->left_out) += 1;
+        bool is_kept = losses[i].why >= ADF_LOSS_IN_DOUBT && losses[i].why <= ADF_LOSS_MADE;
+        *(is_lost ? &rescue->lost : is_kept ? &rescue->in_doubt : &rescue->left_out) += 1;
     }
-    rescue->block = told.block;
-    *count = told.losses;
+}
+
+/* Rescues an image into a room of rescue->length bytes, with a table of so many losses. An adf_cause, or ADF_RESCUE_SMALL_ROOM: with it
+ * rescue->length is the room that is wanted, and at 0 that of the volume. */
+static uint8_t rescue_with(const uint8_t *image, size_t length, size_t blocks, struct rescue *rescue, size_t count) {
+    size_t room = rescue->length;
+    struct adf_rescue_told told = {0};
+    struct adf_loss *losses = malloc(count * sizeof *losses);
+    uint8_t path, cause = ADF_NO_MEMORY;
+    free(rescue->volume);
+    *rescue = (struct rescue){.volume = malloc(room + 1)};
+    if (rescue->volume != NULL && losses != NULL)
+        cause = adf_rescue(image, length, (uint32_t)blocks, rescue->volume, room, losses, count, &path, 0, &told);
+    if (cause == ADF_ACCEPTED)
+        count_losses(rescue, losses, told.losses < count ? told.losses : count);
     free(losses);
+    rescue->length = (size_t)told.blocks * BLOCK;
+    rescue->losses = told.losses;
+    rescue->block = told.block;
     return cause;
 }
 
 uint8_t rescue_image(const uint8_t *image, size_t length, size_t blocks, struct rescue *rescue) {
-    size_t room = blocks == 0 ? length : blocks * BLOCK, count = FIRST_LOSSES;
-    uint8_t cause = ADF_NO_MEMORY;
-    *rescue = (struct rescue){.volume = malloc(room + 1), .length = room};
-    if (rescue->volume != NULL)
-        cause = rescue_with(image, length, (uint32_t)blocks, rescue, &count);
-    if (cause == ADF_ACCEPTED && count > FIRST_LOSSES) {
-        rescue->left_out = rescue->lost = 0;
-        cause = rescue_with(image, length, (uint32_t)blocks, rescue, &count);
-    }
+    size_t room = blocks == 0 ? length : blocks * BLOCK;
+    *rescue = (struct rescue){.length = room};
+    uint8_t cause = rescue_with(image, length, blocks, rescue, FIRST_LOSSES);
+    if (cause == ADF_RESCUE_SMALL_ROOM && rescue->length > room)
+        cause = rescue_with(image, length, blocks, rescue, FIRST_LOSSES);
+    if (cause == ADF_ACCEPTED && rescue->losses > FIRST_LOSSES)
+        cause = rescue_with(image, length, blocks, rescue, rescue->losses);
     if (cause != ADF_ACCEPTED) {
         free(rescue->volume);
         rescue->volume = NULL;
@@ -41,16 +49,36 @@ uint8_t rescue_image(const uint8_t *image, size_t length, size_t blocks, struct 
     return cause;
 }
 
-uint8_t survey_image(const uint8_t *image, size_t length, size_t blocks, struct adf_found *found, size_t room,
-                     struct adf_surveyed *surveyed) {
+uint8_t subject_of(const uint8_t *image, size_t length, size_t blocks, struct subject *subject) {
+    size_t room, wanted = blocks == 0 ? length : blocks * BLOCK, stated = wanted / BLOCK;
+    uint8_t answer;
+    *subject = (struct subject){0};
+    do {
+        room = wanted;
+        free(subject->image);
+        subject->image = malloc(room + 1);
+        if (subject->image == NULL)
+            return ADF_NO_MEMORY;
+        answer = adf_survey_subject(image, length, (uint32_t)blocks, subject->image, room, &subject->told);
+        wanted = subject->told.length;
+    } while (answer == ADF_SUBJECT_SMALL_ROOM && wanted > room);
+    subject->front = subject->told.is_begun + subject->told.is_retyped + (wanted / BLOCK != stated);
+    if (answer != ADF_ACCEPTED) {
+        free(subject->image);
+        subject->image = NULL;
+    }
+    return answer;
+}
+
+bool has_root(const uint8_t *image, size_t length, size_t blocks) {
+    struct adf_surveyed surveyed = {0};
     struct adf_finding finding;
-    if (blocks == 0 || length >= blocks * BLOCK)
-        return adf_survey_index(image, blocks == 0 ? length : blocks * BLOCK, &finding, 1, found, room, surveyed);
-    uint8_t *whole = calloc(blocks, BLOCK);
-    if (whole == NULL)
-        return ADF_NO_MEMORY;
-    memcpy(whole, image, length);
-    uint8_t cause = adf_survey_index(whole, blocks * BLOCK, &finding, 1, found, room, surveyed);
+    struct adf_found found;
+    uint8_t *whole = calloc(blocks, BLOCK), cause = ADF_NO_MEMORY;
+    if (whole != NULL) {
+        memcpy(whole, image, length < blocks * BLOCK ? length : blocks * BLOCK);
+        cause = adf_survey_index(whole, blocks * BLOCK, &finding, 1, &found, 1, &surveyed);
+    }
     free(whole);
-    return cause;
+    return cause == ADF_ACCEPTED && surveyed.blocks != 0 && (surveyed.entries != 0 || surveyed.label_length != 0);
 }

@@ -7,11 +7,13 @@
 #include <stddef.h>
 #include <stdint.h>
 
-/* A rescue: the volume of what stands of an image, in memory that the caller frees, and how much is not in it. */
+/* A rescue: the volume of what stands of an image, in memory that the caller frees, and how much is not in it, or in it in doubt. */
 struct rescue {
     uint8_t *volume;
     size_t length;
+    size_t losses;
     size_t left_out; /* entries */
+    size_t in_doubt; /* entries of the volume */
     size_t lost;     /* directories in which headers are lost, and runs of blocks */
     uint32_t block;  /* the block of the first fault, where nothing stands */
 };
@@ -20,9 +22,18 @@ struct rescue {
  * ADF_NO_MEMORY. */
 uint8_t rescue_image(const uint8_t *image, size_t length, size_t blocks, struct rescue *rescue);
 
-/* Surveys an image, read as if it had so many blocks (0: as many as it has), and fills a table of what is found, as far as it has room.
- * An adf_cause: 0, or ADF_NO_MEMORY. */
-uint8_t survey_image(const uint8_t *image, size_t length, size_t blocks, struct adf_found *found, size_t room,
-                     struct adf_surveyed *surveyed);
+/* The image that adf-survey surveys, in memory that the caller frees, and how many lines it has in front of its findings. */
+struct subject {
+    uint8_t *image;
+    struct adf_subject told;
+    size_t front;
+};
+
+/* Makes the image that adf-survey surveys of an image, read as if it had so many blocks (0: as many as it has). An adf_cause: 0, or
+ * ADF_NO_MEMORY. */
+uint8_t subject_of(const uint8_t *image, size_t length, size_t blocks, struct subject *subject);
+
+/* Whether the survey finds a root where an image is read as if it had so many blocks. */
+bool has_root(const uint8_t *image, size_t length, size_t blocks);
 
 #endif

@@ -10,7 +10,7 @@
 #include <stdlib.h>
 #include <string.h>
 
-enum { BLOCK = 512, MOST_BLOCKS = 1048576, FLOPPY = 1760, HIGH_DENSITY = 3520 };
+enum { BLOCK = 512, MOST_BLOCKS = 1048576, FLOPPY = 1760, HIGH_DENSITY = 3520, MOST_TYPE = 5 };
 
 /* A table with no more room than it needs, or as it is where that cannot be had. */
 static void *shrunk(void *table, size_t size) {
@@ -44,14 +44,6 @@ static int say_no_memory(const char *name) {
     if (name != NULL)
         fprintf(stderr, "adf-mount: %s: no memory\n", name);
     return FAILED;
-}
-
-/* Whether the survey finds a root where an image is read as if it had so many blocks. */
-static bool has_root(const uint8_t *image, size_t length, size_t blocks) {
-    struct adf_surveyed surveyed = {0};
-    struct adf_found found;
-    return survey_image(image, length, blocks, &found, 1, &surveyed) == ADF_ACCEPTED && surveyed.blocks != 0 &&
-           (surveyed.entries != 0 || surveyed.label_length != 0);
 }
 
 /* The blocks that an image of a wrong length may be meant to have, the nearest first; 0 where no root is found at any. */
@@ -96,34 +88,41 @@ static int say_refused(const struct volume *volume, const char *name, uint8_t ca
     return REFUSED;
 }
 
-/* Says how much of an image is not in the volume of what stands. */
+/* Says how much of an image is not in the volume of what stands, or in it in doubt. */
 static void say_left_out(const char *name, size_t findings, const struct rescue *rescue) {
     fprintf(stderr, "adf-mount: %s: %zu finding%s, %zu file%s left out", name, findings, findings == 1 ? "" : "s", rescue->left_out,
             rescue->left_out == 1 ? "" : "s");
+    if (rescue->in_doubt != 0)
+        fprintf(stderr, ", %zu in doubt", rescue->in_doubt);
     if (rescue->lost != 0)
         fprintf(stderr, ", %zu part%s lost", rescue->lost, rescue->lost == 1 ? "" : "s");
     fputs("; man adf-survey\n", stderr);
 }
 
-/* Says how much is left out of what stands of an image. Surveys the image for the number of its findings: false if memory ran out. */
-static bool tell(const struct volume *volume, const char *name, const struct taking *taking, const struct rescue *rescue) {
+/* Says how much is left out of what stands of an image, by the image that is surveyed. Surveys it for the number of its findings:
+ * false if memory ran out. */
+static bool tell(const struct subject *subject, const char *name, const struct rescue *rescue) {
     struct adf_surveyed surveyed = {0};
+    struct adf_finding finding;
     struct adf_found found;
-    bool is_surveyed =
-        name == NULL || survey_image(volume->image, volume->length, taking->blocks, &found, 1, &surveyed) == ADF_ACCEPTED;
-    if (name != NULL && is_surveyed)
-        say_left_out(name, surveyed.findings, rescue);
-    return is_surveyed;
+    if (name == NULL)
+        return true;
+    if (adf_survey_index(subject->image, subject->told.length, &finding, 1, &found, 1, &surveyed) != ADF_ACCEPTED)
+        return false;
+    say_left_out(name, subject->front + surveyed.findings, rescue);
+    return true;
 }
 
-/* Keeps what is left of the damaged files of an image, whose bytes it takes over. It is read as the rescue reads it: as a volume of
- * the same kind, also where its first bytes say otherwise. False if memory ran out. */
-static bool keep_left(struct volume *volume, uint8_t *image, size_t length, size_t blocks) {
-    if (length > 3 && (memcmp(image, "DOS", 3) != 0 || image[3] % 2 != volume->contents.kind)) {
+/* Keeps what is left of the damaged files of the image that is surveyed, which it takes over. It is read as the rescue reads it: as a
+ * volume of the same kind, also where its first bytes tell of no volume. False if memory ran out. */
+static bool keep_left(struct volume *volume, struct subject *subject) {
+    uint8_t *image = subject->image;
+    subject->image = NULL;
+    if (subject->told.length > 3 && (memcmp(image, "DOS", 3) != 0 || image[3] > MOST_TYPE)) {
         memcpy(image, "DOS", 3);
         image[3] = (uint8_t)volume->contents.kind;
     }
-    volume->left = left_of(image, length, blocks);
+    volume->left = left_of(image, subject->told.length / BLOCK, subject->told.held);
     if (volume->left != NULL && damaged_of(volume->left) == 0) {
         free_left(volume->left);
         volume->left = NULL;
@@ -134,9 +133,9 @@ static bool keep_left(struct volume *volume, uint8_t *image, size_t length, size
 
 /* Puts what stands of the image in its place. Where nothing stands on a volume of type 2 or 3, the fault is that of its check. */
 static int take_rescue(struct volume *volume, uint8_t fault, const char *name, const struct taking *taking) {
-    struct volume given = *volume;
     struct rescue rescue;
-    uint8_t cause = rescue_image(given.image, given.length, taking->blocks, &rescue);
+    struct subject subject = {0};
+    uint8_t cause = rescue_image(volume->image, volume->length, taking->blocks, &rescue);
     if (cause == ADF_NO_MEMORY)
         return say_no_memory(name);
     if (cause == ADF_INTERNATIONAL && fault != ADF_ACCEPTED)
@@ -145,17 +144,13 @@ static int take_rescue(struct volume *volume, uint8_t fault, const char *name, c
         volume->contents.block = rescue.block;
         return say_refused(volume, name, cause, taking->whole);
     }
-    if (!tell(volume, name, taking, &rescue)) {
-        free(rescue.volume);
-        return say_no_memory(name);
-    }
+    if (name != NULL || taking->wants_left)
+        cause = subject_of(volume->image, volume->length, taking->blocks, &subject);
+    free_volume(volume);
     *volume = (struct volume){.image = rescue.volume, .length = rescue.length};
-    bool is_kept = make_tables(volume) == ADF_ACCEPTED;
-    if (is_kept && taking->wants_left) {
-        is_kept = keep_left(volume, given.image, given.length, taking->blocks);
-        given.image = NULL;
-    }
-    free_volume(&given);
+    bool is_kept = cause == ADF_ACCEPTED && tell(&subject, name, &rescue) && make_tables(volume) == ADF_ACCEPTED &&
+                   (!taking->wants_left || keep_left(volume, &subject));
+    free(subject.image);
     return is_kept ? SOUND : say_no_memory(name);
 }
 

@@ -26,8 +26,8 @@ struct volume {
     struct left *left; /* NULL where nothing is wanted, or nothing is damaged */
 };
 
-/* Makes the volume of an image, whose bytes it takes over, and says what is left out: SOUND, or the status to end with, and why
- * stands on standard error. The name stands before each line; without one nothing is said. */
+/* Makes the volume of an image, whose bytes it takes over, and says what is left out or in doubt: SOUND, or the status to end with, and
+ * why stands on standard error. The name stands before each line; without one nothing is said. */
 int take_volume(struct volume *volume, uint8_t *image, size_t length, const char *name, const struct taking *taking);
 
 void free_volume(struct volume *volume);

@@ -1,4 +1,4 @@
-# Completion of adf and the programs whose names begin with adf- for bash.
+# Completion of adf, the programs whose names begin with adf-, fsck.affs and mkfs.affs for bash.
 
 _adf() {
     local word=${COMP_WORDS[COMP_CWORD]} first=${COMP_WORDS[1]}
@@ -60,6 +60,9 @@ _adf_files() {
         adf-unpack:-*) COMPREPLY=($(compgen -W "--blocks --strict --damaged --boot --uaem --escape -h --help --version" -- "$2")) ;;
         adf-map:-*) COMPREPLY=($(compgen -W "--partition --blocks -h --help --version" -- "$2")) ;;
         adf-recipe:-*) COMPREPLY=($(compgen -W "--blocks --strict -h --help --version" -- "$2")) ;;
+        fsck.affs:-*) COMPREPLY=($(compgen -W "-a -f -n -p -v -y --help --version" -- "$2")) ;;
+        mkfs.affs:-*) COMPREPLY=($(compgen -W "-L -n -t -v -h --help --version" -- "$2")) ;;
+        mkfs.affs:*) [[ $3 != -t ]] || COMPREPLY=($(compgen -W "ofs ffs" -- "$2")) ;;
         *:-*) COMPREPLY=($(compgen -W "-h --help --version" -- "$2")) ;;
         adf-pack:*) ((COMP_CWORD > 1)) || COMPREPLY=($(compgen -W "ofs ffs" -- "$2")) ;;
     esac
@@ -69,4 +72,4 @@ complete -F _adf adf
 complete -F _adf_survey adf-survey
 complete -F _adf_disk adf-disk
 complete -o default -F _adf_boot adf-boot
-complete -o default -F _adf_files adf-catalogue adf-edit adf-map adf-mount adf-pack adf-recipe adf-shelf adf-unpack
+complete -o default -F _adf_files adf-catalogue adf-edit adf-map adf-mount adf-pack adf-recipe adf-shelf adf-unpack fsck.affs mkfs.affs

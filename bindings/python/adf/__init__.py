@@ -4,7 +4,7 @@
 
     volume = adf.open("games.adf")                  # of a damaged image what stands of it; adf.Refused if nothing does
     print(adf.escape(volume.label), volume.kind, volume.free, volume.created)
-    for each in volume.left_out:                    # what is not in it: nothing for a sound image, else as `damaged: c/list`
+    for each in volume.left_out:                    # what is not in it, or in doubt: nothing for a sound image, else as `damaged: c/list`
         print(each)
     volume = adf.open("games.adf", strict=True)     # or adf.Refused: .filename, .block and .cause, as "bad sum"
     for entry in volume.entries:
@@ -19,7 +19,7 @@
     found = adf.survey(image)                       # of a damaged image: found.findings, found.entries, found.read("c/list")
     left, lost = found.remains("c/list")            # what is left of a damaged file, and the ranges of its bytes that are lost
     pieces = found.entries[0].pieces()              # the same by number: each run of bytes that is found, with its place in the file
-    new, left_out = adf.rescue(image)               # a sound volume of all that stands, and the entries that it leaves out
+    new, left_out = adf.rescue(image)               # a sound volume of all that stands; what it leaves out, and what it keeps in doubt
     image = adf.build("ffs", None, [adf.Addition("c"), adf.Addition("c/list", b"..")], "Work")  # a new volume, here as small as may be
     image = adf.with_boot(image, volume.boot)       # with the boot blocks of another: .is_bootable, .has_code, .crc
     disk = adf.Disk(image)                          # of a whole hard disk: disk.partitions, and adf.Volume(disk.volume("DH0"))

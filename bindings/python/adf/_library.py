@@ -13,6 +13,7 @@ from adf.errors import NoLibrary, NoMemory, Refused
 
 SONAME = "libadf.so.1"
 NOT_DOS, INTERNATIONAL, NO_MEMORY = 2, 3, 23  # of enum adf_cause
+SMALL_ROOM = 24  # what adf_rescue and adf_survey_subject answer, if more room is wanted than was given
 LONGEST_TEXT = 64
 POINTER = ctypes.c_void_p
 # The type of what each call returns, and those of its arguments.

@@ -4,28 +4,34 @@ from __future__ import annotations
 
 import ctypes
 import enum
-from typing import Any, NamedTuple
+from typing import Any, NamedTuple, Sequence
 
 from adf import _arguments, _sizes, _structs, _texts
 from adf._arguments import Image
 from adf._layout import BLOCK, FIRST_ROOM
-from adf._library import accept, calls
+from adf._library import SMALL_ROOM, accept, calls
 
 FIRST_PATHS = 1 << 16
 
 
 class Reason(enum.IntEnum):
     """Why something is not in the volume of a rescue, by the numbers of `enum adf_loss_why`: an entry is damaged, is a link, or has no
-    room; headers are lost in a directory, or blocks in use are."""
+    room; headers are lost in a directory, or blocks are. And why an entry that is in the volume is in doubt: the checksum of its header
+    is wrong, it is perhaps a deleted one, no directory leads to it, or the rescue made it for what names a lost directory."""
 
     DAMAGED = 1
     LINK = 2
     NO_ROOM = 3
     HEADERS = 4
     BLOCKS = 5
+    IN_DOUBT = 6
+    PERHAPS_DELETED = 7
+    FOUND_AGAIN = 8
+    MADE = 9
 
 
-WHY = {Reason.DAMAGED: "damaged", Reason.LINK: "link", Reason.NO_ROOM: "no room", Reason.HEADERS: "lost", Reason.BLOCKS: "lost"}
+KEPT = (Reason.IN_DOUBT, Reason.PERHAPS_DELETED, Reason.FOUND_AGAIN, Reason.MADE)
+WHY = {**{reason: reason.name.lower().replace("_", " ") for reason in Reason}, Reason.HEADERS: "lost", Reason.BLOCKS: "lost"}
 
 
 class _Loss(NamedTuple):
@@ -36,15 +42,17 @@ class _Loss(NamedTuple):
 
 
 class LeftOut(_Loss):
-    """What a rescue leaves out: the bytes of the path of an entry, or of the directory in which headers are lost, and the block of its
-    header twice (0 for the root); or the first and the last of the blocks that are lost. A reason of a newer library is its number. As a
-    text it is the line of `adf-survey rescue`. A name in the bytes may have any, as `/`, or be `..`, which leads out of a folder."""
+    """What a rescue leaves out, and what it keeps in doubt: the bytes of the path of an entry, or of the directory in which headers are
+    lost, and the block of its header twice (0 for the root); or the first and the last of the blocks that are lost. A reason of a newer
+    library is its number. As a text it is the line of `adf-survey rescue`. A name in the bytes may have any, as `/`, or be `..`, which
+    leads out of a folder; the entry may have another name in the new volume."""
 
     _text: str | None = None
 
     @property
     def why(self) -> str:
-        """The reason as a text: `damaged`, `link` or `no room` of an entry, or `lost`."""
+        """The reason as a text: `damaged`, `link` or `no room` of an entry that is left out; `in doubt`, `perhaps deleted`, `found again` or
+        `made` of one that is kept; or `lost`."""
         return next((text for reason, text in WHY.items() if reason == self.reason), f"reason {self.reason}")
 
     @property
@@ -60,8 +68,13 @@ class LeftOut(_Loss):
         return self.reason not in (Reason.HEADERS, Reason.BLOCKS)
 
     @property
+    def is_kept(self) -> bool:
+        """Whether it is an entry that is in the new volume, in doubt."""
+        return self.reason in KEPT
+
+    @property
     def blocks(self) -> range:
-        """The blocks in use that no entry has, if they are what is lost."""
+        """The blocks that are lost, if they are what is lost: in use and of no entry, not in the image, behind the volume, or made anew."""
         return range(self.first, self.last + 1) if self.reason == Reason.BLOCKS else range(0)
 
     @property
@@ -86,19 +99,28 @@ def _left_out(row: Any, paths: bytes) -> LeftOut:
     return left_out
 
 
+def counts(left_out: Sequence[LeftOut]) -> str:
+    """How many are left out, and how many are kept in doubt, if there are any."""
+    kept = sum(each.is_kept for each in left_out)
+    return f"{len(left_out) - kept} left out" + (f", {kept} in doubt" if kept else "")
+
+
 def rescue(image: Image, blocks: int | None = None) -> tuple[bytes, list[LeftOut]]:
-    """A new, sound volume of as many blocks with all that stands in an image, and what is left out; with a number of blocks as if the
-    image had so many. Refused where nothing stands."""
+    """A new, sound volume with all that stands in an image, what is left out, and what is kept in doubt; with a number of blocks as if the
+    image had so many. It has as many blocks, or those of a floppy where the image is cut, or has tracks behind the volume. Refused where
+    nothing stands."""
     blocks, told = _sizes.number_of_blocks(blocks), _structs.RescueTold()
     raw = _sizes.cut(_arguments.plain(image), blocks)
-    length = BLOCK * blocks if blocks else len(raw)
-    volume = ctypes.create_string_buffer(length or 1)
-    rooms, wanted = (0, 0), (FIRST_ROOM, FIRST_PATHS)
+    rooms, wanted = (-1, -1, -1), (BLOCK * blocks if blocks else len(raw), FIRST_ROOM, FIRST_PATHS)
     while rooms != wanted:
+        if wanted[0] != rooms[0]:
+            volume = ctypes.create_string_buffer(wanted[0] or 1)
         rooms = wanted
-        losses, paths = (_structs.Loss * rooms[0])(), ctypes.create_string_buffer(rooms[1])
-        tables = volume, length, losses, rooms[0], paths, rooms[1], ctypes.byref(told)
-        accept(calls().adf_rescue(raw, len(raw), blocks or 0, *tables), told.block)
-        wanted = max(rooms[0], told.losses), max(rooms[1], told.paths)
+        losses, paths = (_structs.Loss * rooms[1])(), ctypes.create_string_buffer(rooms[2])
+        tables = volume, rooms[0], losses, rooms[1], paths, rooms[2], ctypes.byref(told)
+        number = calls().adf_rescue(raw, len(raw), blocks or 0, *tables)
+        wanted = max(rooms[0], BLOCK * told.blocks), max(rooms[1], told.losses), max(rooms[2], told.paths)
+        if number != SMALL_ROOM or wanted == rooms:
+            accept(number, told.block)
     text = ctypes.string_at(paths, told.paths)
     return ctypes.string_at(volume, BLOCK * told.blocks), [_left_out(row, text) for row in losses[: told.losses]]

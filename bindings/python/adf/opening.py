@@ -10,6 +10,7 @@ from typing import BinaryIO
 from adf import _arguments, _sizes
 from adf._arguments import Image, Path
 from adf._layout import BLOCK, MOST_BYTES, PART
+from adf._rescues import counts
 from adf.errors import DamagedWarning, Refused, shown
 from adf.rescued import Rescued
 from adf.volumes import Volume
@@ -35,9 +36,9 @@ def open(path: Path, *, strict: bool = False, blocks: int | None = None) -> Volu
 
 
 def open_image(image: Image, filename: Path | None = None, *, strict: bool = False, blocks: int | None = None) -> Volume:
-    """The volume of an image of type 0 to 3. If the image is refused, a DamagedWarning says so, and the volume is a Rescued one, that of what stands:
-    `left_out` is what is not in it. Refused if nothing stands, or with `strict` if the image is not a volume. With a number of blocks
-    it is read as if it had so many; those that it does not have are lost."""
+    """The volume of an image of type 0 to 3. If the image is refused, a DamagedWarning says so, and the volume is a Rescued one, that of
+    what stands: `left_out` is what is not in it, and what is in it in doubt. Refused if nothing stands, or with `strict` if the image is
+    not a volume. With a number of blocks it is read as if it had so many; those that it does not have are lost."""
     return _opened(_arguments.plain(image), filename, strict, blocks)
 
 
@@ -53,5 +54,5 @@ def _opened(image: bytes, filename: Path | None, strict: bool, blocks: int | Non
                 raise
     volume = Rescued(given, filename, blocks)
     why = volume.refused or f"{'image' if filename is None else shown(filename)}: it has {len(given)} bytes"
-    warnings.warn(f"{why}: {len(volume.left_out)} left out (volume.left_out)", DamagedWarning, stacklevel=3)
+    warnings.warn(f"{why}: {counts(volume.left_out)} (volume.left_out)", DamagedWarning, stacklevel=3)
     return volume

@@ -8,7 +8,7 @@ from typing import Any
 from adf import _arguments, _sizes
 from adf._arguments import Image, Path
 from adf._library import INTERNATIONAL
-from adf._rescues import LeftOut, rescue
+from adf._rescues import LeftOut, counts, rescue
 from adf.checks import check
 from adf.entries import Entry
 from adf.errors import Closed, Refused
@@ -17,20 +17,20 @@ from adf.surveys import Survey
 from adf.volumes import Volume
 
 
-def _own_fault(image: bytes, refused: Refused) -> Refused:
-    """The first fault of an image by the letters of its type, if it is refused for these."""
+def _own_fault(image: bytes, blocks: int | None, refused: Refused) -> Refused:
+    """The first fault of what is surveyed of an image, by the letters of its type, if it is refused for these."""
     if refused.number == INTERNATIONAL:
         try:
-            check(image, international=True)
+            check(Survey(image, blocks)._opened, international=True)
         except Refused as first:
             return first
     return refused
 
 
 class Rescued(Volume):
-    """The volume of what stands in an image that is refused: its rescue, in memory. `left_out` is what is not in it, and `findings` all
-    that is wrong with the image, by its `survey`; `refused` says why it is refused. Its blocks, and the headers of its entries, are
-    not those of the image. Refused if nothing stands."""
+    """The volume of what stands in an image that is refused: its rescue, in memory. `left_out` is what is not in it, and what is in it in
+    doubt, and `findings` all that is wrong with the image, by its `survey`; `refused` says why it is refused. Its blocks, and the headers
+    of its entries, are not those of the image. Refused if nothing stands."""
 
     _given: tuple[bytes, Path | None, int | None] | None
     _left_out: list[LeftOut]
@@ -40,13 +40,13 @@ class Rescued(Volume):
         try:
             new, left_out = rescue(given, blocks)
         except Refused as refused:
-            first = _own_fault(_sizes.sized(given, blocks), refused)
+            first = _own_fault(given, blocks, refused)
             raise Refused(first.cause, first.block, first.number, filename) from None
         super().__init__(new, filename)
         vars(self).update(_given=(given, filename, blocks), _left_out=left_out)
 
     def __repr__(self) -> str:
-        return f"{super().__repr__()[:-1].replace('Volume', 'Rescued', 1)}, {len(self.left_out)} left out>"
+        return f"{super().__repr__()[:-1].replace('Volume', 'Rescued', 1)}, {counts(self.left_out)}>"
 
     def __reduce__(self) -> Any:
         """Pickled as its image, which is rescued again."""
@@ -84,7 +84,7 @@ class Rescued(Volume):
     def _places(self) -> dict[int, int]:
         """The numbers of entries, by those of the entries of the survey that they are. An entry whose name is not a name, or is used
         already, is called lost- and its block."""
-        left_out = {each.first for each in self._left_out if each.is_entry}
+        left_out = {each.first for each in self._left_out if each.is_entry and not each.is_kept}
         named, places = {(entry.parent, entry.raw_name): entry.number for entry in self.entries}, {0: 0}
         for found in self.survey.entries:
             if found.parent in places and found.header not in left_out:

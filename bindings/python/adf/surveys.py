@@ -10,15 +10,15 @@ from typing import Any, Iterator
 
 from adf import _arguments, _sizes, _structs, _texts
 from adf._arguments import Image
-from adf._layout import BLOCK, FIRST_ROOM, KINDS, LEAST_CHUNK
-from adf._library import NO_MEMORY, NOT_DOS, calls, cause_text
+from adf._layout import BLOCK, FIRST_ROOM, KINDS, LEAST_CHUNK, TYPES
+from adf._library import NO_MEMORY, NOT_DOS, SMALL_ROOM, calls, cause_text
 from adf._read_only import ReadOnly
 from adf._texts import escape
 from adf.dates import Date, date_of
 from adf.errors import Damaged, NoMemory, NoSuchPath, NotAFile
 from adf.findings import Finding, Findings, Found
 
-OTHER_TYPE = 0  # of the finding that the type is FFS and the files are OFS, for which the library has no number
+OWN = 0  # of findings for which the library has no number: `owner` is then the place of their text
 NO_BLOCK = 2**32 - 1
 
 
@@ -29,21 +29,38 @@ def survey(image: Image, blocks: int | None = None) -> Survey:
 
 def _subject(image: bytes, blocks: int | None) -> tuple[bytes, Any]:
     """The image that `adf-survey` surveys of one that is cut to so many blocks, and what is told of it."""
-    length, told = len(image) if blocks is None else BLOCK * blocks, _structs.Subject()
-    room = ctypes.create_string_buffer(length or 1)
-    if calls().adf_survey_subject(image, len(image), blocks or 0, room, length, ctypes.byref(told)) != 0:
-        raise NoMemory
-    is_given = length == len(image) and not told.is_begun and not told.is_retyped
-    return image if is_given else ctypes.string_at(room, length), told
+    told, length, wanted = _structs.Subject(), -1, len(image) if blocks is None else BLOCK * blocks
+    while length != wanted:
+        length, room = wanted, ctypes.create_string_buffer(wanted or 1)
+        number = calls().adf_survey_subject(image, len(image), blocks or 0, room, length, ctypes.byref(told))
+        wanted = max(length, told.length)
+        if number != 0 and (number != SMALL_ROOM or wanted == length):
+            raise NoMemory
+    is_given = told.length == len(image) and not told.is_begun and not told.is_retyped
+    return image if is_given else ctypes.string_at(room, told.length), told
+
+
+def _front(image: bytes, told: Any, stated: int) -> Iterator[tuple[int, int, str]]:
+    """The findings in front of those of the image that is surveyed, where so many blocks were stated: the first and the last block, and
+    the cause."""
+    taken = told.length // BLOCK
+    if taken != stated:
+        yield min(taken, stated), max(taken, stated) - 1, "behind the volume" if taken < stated else "no data"
+    if told.is_begun:
+        yield 0, 0, cause_text(NOT_DOS)
+    if told.is_retyped:
+        yield 0, 0, f"files of {TYPES[image[3]]}"
 
 
 class Survey(ReadOnly):
     """What is found in an image by `adf-survey`: findings and entries, in its order; label, raw_label, kind ("ofs" or "ffs") and
     the three dates, as the root tells them (kind "" and an empty label where there is none); image, its bytes.
 
-    Where nothing but the boot block is lost, and where the type is one of FFS and the files say OFS, the image is surveyed as if it
-    began with the type that its files say: `is_begun`, or `is_retyped`, and then the first finding says so. Otherwise it has no
-    findings exactly where `check` takes the image, and the first of them is what `Refused` says.
+    Where nothing but the boot block is lost, and where the files say another type, the image is surveyed as if it began with the type
+    that its files say: `is_begun`, or `is_retyped`. Where it is a floppy that is cut, or has tracks behind the volume, it is surveyed, and
+    `image` is told, with the blocks of that floppy. Then the first findings say so: `not dos`, `files of ffs` (or another of TYPES) at
+    block 0, `no data` of the blocks that are cut off, `behind the volume` of those that are too many. Otherwise it has no findings exactly
+    where `check` takes the image, and the first of them is what `Refused` says.
     """
 
     image: bytes
@@ -60,6 +77,7 @@ class Survey(ReadOnly):
     _given: tuple[bytes, int | None]
     _opened: bytes
     _held: int
+    _own_causes: list[str]
 
     def __init__(self, image: Image, blocks: int | None = None) -> None:
         blocks = _sizes.number_of_blocks(blocks)
@@ -75,17 +93,18 @@ class Survey(ReadOnly):
             wanted = max(rooms[0], told.findings), max(rooms[1], told.entries)
         label = bytes(told.label)[: told.label_length]
         vars(self).update(
-            image=_sizes.sized(given, blocks) if subject.is_begun or subject.is_retyped else raw, kind=KINDS[told.kind] if told.blocks else "",
+            image=given[:4] + raw[4:] if subject.is_begun or subject.is_retyped else raw, kind=KINDS[told.kind] if told.blocks else "",
             date=date_of(told.root), altered=date_of(told.altered), created=date_of(told.created),
             raw_label=label, label=label.decode("latin-1"), is_begun=bool(subject.is_begun), is_retyped=bool(subject.is_retyped),
             _given=(given, blocks), _opened=raw, _held=subject.held,
         )
         self._mark_missing(tables[2])
         vars(self)["entries"] = [self._entry(place + 1, tables[2][place]) for place in range(told.entries)]
-        first = [_structs.Finding(cause=NOT_DOS)] * subject.is_begun + [_structs.Finding(cause=OTHER_TYPE)] * subject.is_retyped
+        front = list(_front(raw, subject, len(given) // BLOCK if blocks is None else blocks))
+        first = [_structs.Finding(*blocks, owner=place, cause=OWN) for place, (*blocks, _) in enumerate(front)]
         rows, row = (_structs.Finding * (len(first) + told.findings))(*first), ctypes.sizeof(_structs.Finding)
         ctypes.memmove(ctypes.byref(rows, row * len(first)), tables[0], row * told.findings)
-        vars(self)["_rows"] = rows
+        vars(self).update(_rows=rows, _own_causes=[cause for *_, cause in front])
 
     def __repr__(self) -> str:
         return f"<adf.Survey {self.label!r}: {len(self.findings)} findings, {len(self.entries)} entries>"
@@ -143,11 +162,12 @@ class Survey(ReadOnly):
         return Found(self, number, *fields, name, comment)
 
     def _finding(self, row: Any) -> Finding:
+        if row.cause == OWN:
+            return Finding(row.first, row.last, self._own_causes[row.owner], None, None)
         path = self.entries[row.node - 1].path if row.node else None
         if row.is_within:
             path = f"{path or ''}/"
-        cause = "type of ffs, files of ofs" if row.cause == OTHER_TYPE else cause_text(row.cause)
-        return Finding(row.first, row.last, cause, path, self.entries[row.owner - 1].path if row.owner else None)
+        return Finding(row.first, row.last, cause_text(row.cause), path, self.entries[row.owner - 1].path if row.owner else None)
 
     def read(self, path: str | bytes) -> bytes:
         """The bytes of a sound file, for which the image is surveyed again; of several with this path those of the first. The path is a

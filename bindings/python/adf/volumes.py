@@ -104,7 +104,7 @@ class Volume(ReadOnly):
 
     @property
     def left_out(self) -> list[LeftOut]:
-        """What is on the image and not in this volume: nothing, unless it is a Rescued one."""
+        """What is on the image and not in this volume, and what is in it in doubt: nothing, unless it is a Rescued one."""
         return []
 
     @property

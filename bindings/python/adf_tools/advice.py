@@ -49,7 +49,7 @@ def length_that_fits(image: bytes, refused: adf.Refused) -> Optional[int]:
 
 def has_root(image: bytes, blocks: int) -> bool:
     survey = adf.survey(image, blocks)
-    return bool(survey.kind and (survey.entries or survey.label))
+    return len(survey.image) == adf.BLOCK * blocks and bool(survey.kind and (survey.entries or survey.label))
 
 
 def passed(survey: adf.Survey) -> int:

@@ -93,9 +93,17 @@ def opened(path: str, program: str) -> Iterator[BinaryIO]:
 
 
 def size_of(file: BinaryIO) -> Optional[int]:
-    """How many bytes a file has, if that is known before it is read."""
-    status = os.fstat(file.fileno())
-    return status.st_size if stat.S_ISREG(status.st_mode) else None
+    """How many bytes a file or a block device has, if that is known before it is read."""
+    kind = stat.S_IFMT(os.fstat(file.fileno()).st_mode)
+    return end_of(file) if kind in (stat.S_IFREG, stat.S_IFBLK) else None
+
+
+def end_of(file: IO[bytes]) -> int:
+    """Where a file ends; a block device has no other size. The place in it stays."""
+    at = file.tell()
+    end = file.seek(0, os.SEEK_END)
+    file.seek(at)
+    return end
 
 
 def place_of(path: str) -> Tuple[str, bytes]:
@@ -137,7 +145,7 @@ def in_memory(content: bytes, path: str) -> IO[bytes]:
 
 
 def mapped(file: IO[bytes]) -> mmap.mmap:
-    return mmap.mmap(file.fileno(), 0, access=mmap.ACCESS_READ)
+    return mmap.mmap(file.fileno(), end_of(file), access=mmap.ACCESS_READ)
 
 
 def unpacked_from(file: IO[bytes], form: str, path: str, wanted: bytes, is_whole: bool) -> Content:

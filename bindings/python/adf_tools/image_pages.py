@@ -29,6 +29,7 @@ BOOTS = {
     "bootable": "bootable", "no-code": "not bootable, without code", "bad-sum": "not bootable, their checksum is wrong",
     "not-dos": "not bootable, they do not begin with DOS",
 }
+KEPT = {each.why for each in (adf.LeftOut(reason, b"", 0, 0) for reason in adf.Reason) if each.is_kept}  # entries that are in doubt
 MOST_BOOTS = 100  # disks with the same boot blocks that are counted for a page
 MOST_DRAWN, MOST_RUNS = 1 << 19, 100_000  # letters of all icons of a page; runs of equal blocks of a picture
 INDEX = "../index.html"
@@ -240,14 +241,17 @@ class ImagePage:
         return long_table("Findings", FINDING_HEADS, rows, self.image["faults"] or 0, f"adf-survey {self.option()}< IMAGE")
 
     def rescue_part(self) -> Html:
-        """The link to the new volume of a refused image, and what it leaves out."""
+        """The link to the new volume of a refused image, what it leaves out, and what it keeps in doubt."""
         if not is_page(self.image["rescued"]):
             return html("")
-        rows = [row_of(row["why"], row["path"]) for row in self.rows("SELECT * FROM left_out WHERE image = :image ORDER BY id")]
-        form = '<p><a href="{name}" download>A new, sound volume</a> of all that stands, {counts} left out.</p>\n'
-        told = html(form, name=address(os.path.basename(self.image["rescued"])), counts=count_of(len(rows), "entry", "entries"))
-        command = f"adf-survey {self.option()}rescue < IMAGE"
-        return joined((told, long_table("Left out", ("Why", "Path"), rows, len(rows), command) if rows else html("")))
+        found = list(self.rows("SELECT * FROM left_out WHERE image = :image ORDER BY id"))
+        kept = sum(row["why"] in KEPT for row in found)
+        counts = f"{count_of(len(found) - kept, 'entry', 'entries')} left out" + (f", {kept} in doubt" if kept else "")
+        form = '<p><a href="{name}" download>A new, sound volume</a> of all that stands, {counts}.</p>\n'
+        told = html(form, name=address(os.path.basename(self.image["rescued"])), counts=counts)
+        rows = [row_of(row["why"], row["path"]) for row in found]
+        head, command = "Left out or in doubt" if kept else "Left out", f"adf-survey {self.option()}rescue < IMAGE"
+        return joined((told, long_table(head, ("Why", "Path"), rows, len(rows), command) if rows else html("")))
 
 
 def icon_in(row: Row) -> Optional[Icon]:

@@ -111,9 +111,9 @@ def status_of(line: argparse.ArgumentParser, work: Callable[[argparse.Namespace]
         return int(end.code or 0)
 
 
-def begin(line: argparse.ArgumentParser, work: Callable[[argparse.Namespace], int]) -> NoReturn:
-    """Runs a program: does the work that the words ask for, and ends with the status that it returns. An error is one line, and what
-    waits for standard output is not written then; PYTHONDEVMODE=1 shows where an error comes from that nobody foresaw."""
+def begin(line: argparse.ArgumentParser, work: Callable[[argparse.Namespace], int], failed: int = FAILED) -> NoReturn:
+    """Runs a program: does the work that the words ask for, and ends with the status that it returns, or that of what failed. An error is
+    one line, and what waits for standard output is not written then; PYTHONDEVMODE=1 shows where an error comes from that nobody foresaw."""
     heard = [number for number in INTERRUPTS if signal.getsignal(number) != signal.SIG_IGN]
     try:
         for number in heard:
@@ -129,7 +129,7 @@ def begin(line: argparse.ArgumentParser, work: Callable[[argparse.Namespace], in
             raise
         if text:
             tell(line.prog.split()[0], text)
-        os._exit(status)
+        os._exit(failed if status == FAILED else status)
     sys.exit(status)
 
 

@@ -435,7 +435,7 @@ class Surveys(unittest.TestCase):
     def test_surveys_what_adf_survey_opens(self):
         # Both boot blocks are lost; then the type is that of FFS, and the files say OFS.
         sound = built("volume ofs 16\nfile 0:0:0 00000000 a\nfill 1000 41\n")
-        for image, cause in ((bytes(1024) + sound[1024:], "not dos"), (changed(sound, 0, 3, 1), "type of ffs, files of ofs")):
+        for image, cause in ((bytes(1024) + sound[1024:], "not dos"), (changed(sound, 0, 3, 1), "files of ofs")):
             survey = pickle.loads(pickle.dumps(adf.survey(image)))
             self.assertEqual((survey.findings, list(survey.ranges())), ([adf.Finding(0, 0, cause, None, None)], [range(1)]))
             self.assertEqual((survey.is_begun, survey.is_retyped, survey.kind, survey.image), (cause == "not dos", cause != "not dos", "ofs", image))
@@ -443,6 +443,13 @@ class Surveys(unittest.TestCase):
             self.assertEqual([adf.ROLES[role] for role in survey.owners()[2:6]], ["header", "data", "data", "data"])
             rescued = adf.Rescued(image)
             self.assertEqual(rescued.entry_of(rescued.survey.entries[0]).read(), b"A" * 1000)
+        # The name 0xE9 is in the slot that it has by international letters: so is the type.
+        for kind in adf.KINDS:
+            image = changed(international(kind), 0, 3, 2)
+            survey = adf.survey(image)
+            found = [adf.Finding(0, 0, cause, None, None) for cause in (f"files of {kind}-international", "international")]
+            self.assertEqual((survey.findings, survey.is_retyped, survey.kind), (found, True, kind))
+            self.assertEqual((survey.image, survey.read(b"\xc9"), [entry.is_sound for entry in survey.entries]), (image, b"A", [True, True]))
         cut = adf.survey((bytes(4) + sound[4:])[: 512 * 9], 16)
         self.assertEqual((cut.is_begun, len(cut.image), cut.entries[0].is_sound), (True, 8192, True))
         self.assertEqual(adf.survey((bytes(4) + sound[4:])[: 512 * 4], 16).findings[0].cause, "not dos")
@@ -481,10 +488,16 @@ class Surveys(unittest.TestCase):
         self.assertEqual([entry.read() for entry in survey.entries[2:]], [b"1", b"2"])
 
     def test_compares_names_by_the_type_of_the_image(self):
-        # Of types 0 and 1 the names differ, of types 2 and 3 they are the same.
+        # Of types 0 and 1 the names differ, of types 2 and 3 they are the same: both headers are then in the slot of 0xC4. Block 8 is the root.
         sound = built("volume ofs 16\nfile 0:0:0 00000000 \\xe4\ndata 31\nfile 0:0:0 00000000 \\xc4\ndata 32\n")
         self.assertEqual({entry.read() for entry in adf.survey(sound).entries}, {b"1", b"2"})
-        first, second = adf.survey(changed(sound, 0, 3, 2)).entries
+        small, capital = (adf.Volume(sound)[name].header.to_bytes(4, "big") for name in (b"\xe4", b"\xc4"))
+        image, own, place = bytearray(sound), sound.index(small, 512 * 8 + 24), sound.index(capital, 512 * 8 + 24)
+        image[own : own + 4], image[place : place + 4], image[3] = bytes(4), small, 2
+        image[512 * small[3] + 496 : 512 * small[3] + 500] = capital
+        survey = adf.survey(image)
+        self.assertEqual((survey.is_retyped, len(survey.entries)), (False, 2))
+        first, second = survey.entries
         self.assertEqual([entry.remains()[0] for entry in (first, second)], [b"1", b"2"] if first.raw_name == b"\xe4" else [b"2", b"1"])
 
     def test_reads_a_file_that_no_path_leads_to(self):
@@ -572,11 +585,12 @@ class Surveys(unittest.TestCase):
         cut = adf.survey(sound[:5120], 16)
         self.assertEqual(cut.findings, [])
         self.assertEqual(cut.read("a"), b"A" * 489)
-        self.assertEqual(adf.rescue(sound[:5120], 16), (sound, []))
-        # Without its root the file is found by its header, which names the root's block as its directory.
+        self.assertEqual(adf.rescue(sound[:5120], 16), (sound, [adf.LeftOut(adf.Reason.BLOCKS, b"", 10, 15)]))
+        # Without its root the file is found by its header, which names the root's block as its directory. Block 5 is the new root.
         new, left_out = adf.rescue(sound[:5120])
         self.assertEqual([entry.path for entry in adf.Volume(new).entries], ["lost-8", "lost-8/a"])
-        self.assertEqual((adf.Volume(new)["lost-8/a"].read(), left_out), (b"A" * 489, []))
+        lines = ["made: lost-8", "perhaps deleted: lost-8/a", "lost: in /", "lost: block 5"]
+        self.assertEqual((adf.Volume(new)["lost-8/a"].read(), [str(each) for each in left_out]), (b"A" * 489, lines))
         for blocks in (-1, 1 << 20 | 1):
             with self.assertRaises(ValueError):
                 adf.survey(sound, blocks)
@@ -587,7 +601,8 @@ class Surveys(unittest.TestCase):
         for block in range(2, 303):
             image = changed(image, block, 323, 1)
         _, left_out = adf.rescue(image)
-        self.assertEqual(sorted(entry.path for entry in left_out), names)
+        self.assertEqual(sorted(entry.path for entry in left_out), [*names, "c"])
+        self.assertEqual([entry.path for entry in left_out if entry.is_kept], ["c"])
 
 
 def lines_of(word, image):

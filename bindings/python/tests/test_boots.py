@@ -131,7 +131,7 @@ class Packed(Folder):
             self.assertEqual(file.read(), AMIGA)
         self.assertEqual(sorted(os.listdir("new")), ["c", "empty", "large", "none"])
         damaged = changed(adf.with_boot(OFS, AMIGA), 880, 440, 1)
-        self.tool("unpack", "--boot", "damaged", "what", given=damaged)
+        self.assertEqual(self.run_tool("unpack", "--boot", "damaged", "what", given=damaged).returncode, 1)
         with open("damaged", "rb") as file:
             self.assertEqual(file.read(), AMIGA)
 

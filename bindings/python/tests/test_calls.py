@@ -127,6 +127,16 @@ class Subjects(unittest.TestCase):
                 self.assertEqual(self.subject(image, blocks, room), (24, (len(whole), 0, 0, 0), b"?" * room))
         self.assertEqual(self.subject(sound, 2**32 - 1, 9), (24, (512 * (2**32 - 1), 0, 0, 0), b"?" * 9))
 
+    def test_take_the_length_of_a_floppy(self):
+        # The image of 1,760 blocks and 44 more, and its first 1,700; and these as if it had 1,804 and 1,700.
+        whole, long, cut = built(MANIFEST), built(MANIFEST) + bytes(512 * 44), built(MANIFEST)[: 512 * 1700]
+        for image, blocks, wanted, told in (
+            (long, 0, whole, (901120, 1760, 0, 0)), (long, 1804, whole, (901120, 1760, 0, 0)), (cut, 0, cut + bytes(512 * 60), (901120, 1700, 0, 0)),
+            (cut, 1700, cut, (512 * 1700, 1700, 0, 0)), (cut, 1804, cut + bytes(512 * 60), (901120, 1700, 0, 0)),
+        ):  # fmt: skip
+            self.assertEqual(self.subject(image, blocks, len(wanted) + 9), (0, told, wanted + b"?" * 9))
+            self.assertEqual(self.subject(image, blocks, len(wanted) - 1), (24, (len(wanted), 0, 0, 0), b"?" * (len(wanted) - 1)))
+
     def test_are_searched_for_any_text(self):
         for text, answer in ((b"A", (0, 1)), (b"", (0, 0)), (b"b", (1, 7)), (b"a/b", (1, 7)), (b"a//b", (2, 7)), (b"\\x4", (2, 7)), (b"\xe4", (2, 7))):
             node = ctypes.c_size_t(7)

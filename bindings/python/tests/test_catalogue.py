@@ -130,7 +130,7 @@ class Pages(Catalogues):
         self.catalogue("disks", "out", "--rescue", status=1)
         bad, good = (page.text for page in pages_of("out"))
         self.assertIn("1 line; 0 of 1 entry sound", bad)
-        self.assertIn("0 entries left out", bad)
+        self.assertIn("0 entries left out, 1 in doubt", bad)  # the checksum of the directory is wrong
         self.assertIn("1 directory, 0 files", good)
         self.assertIn("2 images, 1 sound", Page("out/index.html").text)
 

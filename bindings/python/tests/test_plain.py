@@ -5,11 +5,13 @@ from __future__ import annotations
 import argparse
 import array
 import contextlib
+import ctypes
 import io
 import unittest
+from unittest import mock
 
 import adf
-from adf import _arguments, _texts
+from adf import _arguments, _library, _structs, _texts, surveys
 from adf_tools.given import number_of_blocks
 from adf_tools.markup import Html, html, joined, link
 from adf_tools.program import command_line
@@ -34,6 +36,58 @@ class Arguments(unittest.TestCase):
         self.assertEqual((number_of_blocks("1"), number_of_blocks("1048576")), (1, 1048576))
         for text in ("0", "-1", "1048577", "1e3", "", " 1", "\u0661", "9" * 30):
             self.assertRaises(argparse.ArgumentTypeError, number_of_blocks, text)
+
+
+class Library:
+    """A library that wants a room of so many blocks, for a volume of a byte `V` each, and for so many losses."""
+
+    def __init__(self, blocks: int, losses: int) -> None:
+        self.blocks, self.losses, self.rooms = blocks, losses, []
+
+    def adf_survey_subject(self, image, length, blocks, room, room_length, subject):
+        self.rooms.append(room_length)
+        subject._obj.length = 512 * self.blocks
+        if room_length < 512 * self.blocks:
+            return 24
+        ctypes.memset(room, ord("V"), 512 * self.blocks)
+        return 0
+
+    def adf_rescue(self, image, length, blocks, room, room_length, losses, losses_room, paths, paths_room, told):
+        told._obj.losses = told._obj.paths = 0
+        number = self.adf_survey_subject(image, length, blocks, room, room_length, ctypes.byref(_structs.Subject()))
+        told._obj.blocks = self.blocks
+        if number == 0:
+            told._obj.losses = self.losses
+            for place in range(min(self.losses, losses_room)):
+                losses[place] = _structs.Loss(first=place, last=place, why=5 + place % 5)
+        return number
+
+    def adf_cause_text(self, number, room, length):
+        return 0
+
+
+class Rooms(unittest.TestCase):
+    def test_grow_until_all_is_in_them(self):
+        for blocks, losses, rooms in ((1760, 3, [870400, 901120]), (1700, 3, [870400]), (4, 3, [870400]), (1760, 9000, [870400, 901120, 901120])):
+            library = Library(blocks, losses)
+            with mock.patch.object(_library, "_loaded", library):
+                volume, left_out = adf.rescue(bytes(870400))
+            self.assertEqual((volume, len(left_out), library.rooms), (b"V" * 512 * blocks, losses, rooms))
+            self.assertEqual([str(each) for each in left_out[:3]], ["lost: block 0", "in doubt: ", "perhaps deleted: "])
+
+    def test_grow_for_what_is_surveyed(self):
+        for blocks, rooms in ((1760, [870400, 901120]), (1700, [870400]), (4, [870400])):
+            library = Library(blocks, 0)
+            with mock.patch.object(_library, "_loaded", library):
+                subject, told = surveys._subject(b"V" * 870400, None)
+            self.assertEqual((subject, told.length, library.rooms), (b"V" * 512 * blocks, 512 * blocks, rooms))
+
+    def test_are_not_asked_for_without_end(self):
+        library = Library(1760, 0)
+        library.adf_rescue = library.adf_survey_subject = lambda *_: 24
+        with mock.patch.object(_library, "_loaded", library):
+            self.assertRaises(adf.Refused, adf.rescue, bytes(512))
+            self.assertRaises(adf.NoMemory, surveys._subject, bytes(512), None)
 
 
 class Texts(unittest.TestCase):

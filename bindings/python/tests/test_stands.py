@@ -59,7 +59,7 @@ class Stands(Folder):
     def test_takes_no_hint_to_a_hard_disk_for_what_is_left_out(self):
         image = bytearray(DAMAGED)
         image[:4], image[12 * 512 : 12 * 512 + 4] = bytes(4), b"RDSK"  # the boot block, and a free block
-        self.assertEqual(opened(bytes(image))[0].left_out, [FAULT])
+        self.assertEqual(opened(bytes(image))[0].left_out, [FAULT, adf.LeftOut(adf.Reason.BLOCKS, b"", 0, 0)])
         self.assertRaises(adf.Damaged, adf.survey(bytes(image)).read, "a")
 
     def test_can_be_closed_and_pickled(self):
@@ -89,26 +89,61 @@ class Stands(Folder):
     def test_tells_each_reason_as_a_text(self):
         for reason, path, first, last, text in (
             (1, b"c/\xfc", 5, 5, r"damaged: c/\xfc"), (2, b"a", 5, 5, "link: a"), (3, b"a", 5, 5, "no room: a"), (4, b"", 0, 0, "lost: in /"),
-            (4, b"c/d", 7, 7, "lost: in c/d/"), (5, b"", 44, 44, "lost: block 44"), (5, b"", 44, 65, "lost: blocks 44 to 65"), (9, b"a", 5, 5, "reason 9: a"),
+            (4, b"c/d", 7, 7, "lost: in c/d/"), (5, b"", 44, 44, "lost: block 44"), (5, b"", 44, 65, "lost: blocks 44 to 65"), (6, b"c", 5, 5, "in doubt: c"),
+            (7, b"a", 5, 5, "perhaps deleted: a"), (8, b"a/b", 5, 5, "found again: a/b"), (9, b"lost-8", 8, 8, "made: lost-8"),
+            (10, b"a", 5, 5, "reason 10: a"),
         ):  # fmt: skip
-            self.assertEqual(str(adf.LeftOut(reason, path, first, last)), text)
+            told = adf.LeftOut(reason, path, first, last)
+            self.assertEqual((str(told), told.is_kept, told.is_entry), (text, 6 <= reason <= 9, reason not in (4, 5)))
+
+    def test_tells_what_is_in_the_volume_in_doubt(self):
+        # Block 2 is `c`, 3 is `c/a`, 4 its data. The checksum of `c` is wrong, so its date may be, and it may lack things.
+        sound = built("volume ofs 16\ndir 0:0:0 00000000 c\nfile 0:0:0 00000000 c/a\ndata 41\n")
+        volume, told = opened(changed(sound, 2, 323, 1))
+        self.assertEqual(volume.left_out, [adf.LeftOut(adf.Reason.IN_DOUBT, b"c", 2, 2)])
+        self.assertEqual([volume.entry_of(found) for found in volume.survey.entries], [volume["c"], volume["c/a"]])
+        self.assertEqual([text for _, text, _ in told], ["block 2: bad sum: 0 left out, 1 in doubt (volume.left_out)"])
+        self.assertEqual(repr(volume), "<adf.Rescued '': ofs, 16 blocks, 0 left out, 1 in doubt>")
+
+    def test_tells_what_is_found_again(self):
+        # The root, block 8, does not lead to `c` any more: the word of its slot is 0, and its checksum wrong.
+        image = bytearray(built("volume ofs 16\nlabel Kept\ndir 0:0:0 00000000 c\nfile 0:0:0 00000000 c/a\ndata 41\n"))
+        place = image.index(bytes([0, 0, 0, 2]), 512 * 8 + 24)
+        image[place : place + 4] = bytes(4)
+        volume = adf.Rescued(image)
+        lines = ["found again: c", "found again: c/a", "lost: in /", "lost: block 8"]
+        self.assertEqual(([str(each) for each in volume.left_out], volume["c/a"].read(), volume.label), (lines, b"A", "Kept"))
+        self.assertEqual([(each.reason, each.first, each.is_kept) for each in volume.left_out], [(8, 2, True), (8, 3, True), (4, 0, False), (5, 8, False)])
+
+    def test_reads_floppies_with_tracks_behind_them_and_without_their_end(self):
+        sound = image_of()
+        for image, first, last, cause in (
+            (sound + bytes(512 * 44), 1760, 1803, "behind the volume"),
+            *((sound[: 512 * held], held, 1759, "no data") for held in (1700, 882)),
+        ):
+            volume = adf.Rescued(image)
+            self.assertEqual(volume.left_out, [adf.LeftOut(adf.Reason.BLOCKS, b"", first, last)])
+            self.assertEqual((volume.blocks, volume["c/readme"].read(), volume.findings[0]), (1760, b"Hello\n", adf.Finding(first, last, cause, None, None)))
+            self.assertEqual((len(volume.survey.image), len(volume.survey.owners())), (901120, 1760))
+            self.assertEqual({found.path for found in volume.survey.entries if found.is_sound}, set(adf.Volume(sound)))
+            self.assertEqual(pickle.loads(pickle.dumps(volume.survey)).findings, volume.survey.findings)
 
     def test_reads_a_floppy_whose_end_is_missing(self):
         for kind in adf.KINDS:
             manifest = f"volume {kind} 1760\n" + "".join(f"file 0:0:0 00000000 {name}\nfill 300000 {name}1\n" for name in "ab")
             sound = built(manifest)
             cut, header = sound[: 512 * 900], adf.Volume(sound)["b"].header
-            damaged = adf.LeftOut(adf.Reason.DAMAGED, b"b", header, header)
+            told_of_b = [adf.LeftOut(adf.Reason.DAMAGED, b"b", header, header), adf.LeftOut(adf.Reason.BLOCKS, b"", 900, 1759)]
             volume, told = opened(cut, "cut.adf", blocks=1760)
             self.assertEqual(len(told), 1)
-            self.assertEqual(([entry.path for entry in volume.entries], volume.left_out), (["a"], [damaged]))
+            self.assertEqual(([entry.path for entry in volume.entries], volume.left_out), (["a"], told_of_b))
             self.assertEqual(volume["a"].read(), b"\xa1" * 300000)
             survey = adf.survey(cut, 1760)
             self.assertEqual([(found.path, found.is_sound) for found in survey.entries], [("a", True), ("b", False)])
             self.assertRaises(adf.Damaged, survey.read, "b")
             left, lost = survey.entries[1].remains()
             self.assertEqual((len(left), len(lost), left.rstrip(b"\0")), (300000, 1, b"\xb1" * lost[0].start))
-            self.assertEqual(adf.rescue(cut, 1760)[1], [damaged])
+            self.assertEqual((adf.rescue(cut, 1760)[1], adf.rescue(cut)), (told_of_b, adf.rescue(cut, 1760)))
             self.assertRaises(adf.Refused, adf.open_image, cut, blocks=1760, strict=True)
         longer = image_of() + bytes(1024)
         self.assertEqual(opened(longer, blocks=1760)[0].image, image_of())
@@ -170,6 +205,11 @@ class Programs(Folder):
             self.assertEqual(self.ends(1, [f"a.adf: {why}"], name, "--strict", *words), b"")
         self.leaves("a.adf", "b.adf")
 
+    def test_tell_what_is_in_doubt(self):
+        written("c.adf", changed(built("volume ofs 16\ndir 0:0:0 00000000 c\n"), 2, 323, 1))
+        self.ends(1, ["c.adf: in doubt: c"], "unpack", "c.adf", "new")
+        self.assertEqual(os.listdir("new"), ["c"])
+
     def test_recipe_writes_what_stands(self):
         rescued = adf.Rescued(DAMAGED)
         self.assertEqual(built(self.ends(1, ["a.adf: damaged: a"], "recipe", "a.adf").decode()), rescued.image)
@@ -187,11 +227,12 @@ class Programs(Folder):
         written("short.hdf", disk(image_of(), image_of("ffs"))[: 512 * 64])
         short = "short.hdf: block 0: not dos; a hard disk without a volume that can be read: adf-disk survey < IMAGE tells why"
         for name, words in (("unpack", ["new"]), ("recipe", [])):
-            self.ends(1, [fits], name, "cut.adf", *words)
+            self.ends(1, [fits], name, "--strict", "cut.adf", *words)
             self.ends(1, [cut_out], name, "disk.hdf", *words)
             self.ends(1, [short], name, "short.hdf", *words)
             self.ends(1, ["block 0: bad size; it has 5 bytes"], name, *words, given=b"DOS\0\0")
-        self.tool("unpack", "--blocks", "1760", "cut.adf", "new")
+        for number, options in enumerate(([], ["--blocks", "1760"])):
+            self.ends(1, ["cut.adf: lost: block 1759"], "unpack", *options, "cut.adf", f"new{number}")
         self.assertEqual(self.run_tool("map", "cut.adf").stderr.decode(), f"adf-map: {fits}\n")
 
 

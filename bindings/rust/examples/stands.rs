@@ -1,5 +1,5 @@
 //! Writes the files of what stands of an image: of each `PATH SIZE` in a line, with the path in the escape form, and its bytes.
-//! Standard error gets a line for all that is left out, and the status is then 1; it is 2 if nothing stands.
+//! Standard error gets a line for all that is left out or in doubt, and the status is then 1; it is 2 if nothing stands.
 
 use std::io::Write;
 use std::process::ExitCode;

@@ -38,6 +38,9 @@ pub struct Date {
     pub ticks: u32,
 }
 
+/// What `adf_rescue` and `adf_survey_subject` answer, if more room is wanted than was given.
+const SMALL_ROOM: u8 = 24;
+
 /// A vector with room for so many, if there is memory.
 fn with_room<T>(count: usize) -> Result<Vec<T>, Refused> {
     let mut room = Vec::new();

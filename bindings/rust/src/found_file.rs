@@ -12,7 +12,7 @@ pub struct Parts<'image> {
 impl<'image> Survey<'image> {
     /// Surveys the image once more for what is at each block. An error is `Cause::NoMemory`.
     pub fn parts(&self) -> Result<Parts<'image>, Refused> {
-        Ok(Parts { image: self.subject().clone(), rows: ffi::parts(self.subject())? })
+        Ok(Parts { image: self.subject().clone(), rows: self.subject().parts()?.0 })
     }
 
     /// The role of each block, from a new survey of the image: `Role::Free` where nothing is, and

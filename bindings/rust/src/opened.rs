@@ -7,7 +7,7 @@ pub struct Opened<'image> {
     pub volume: Volume<'image>,
     /// Why the image is refused, if it is.
     pub refused: Option<Refused>,
-    /// What is on the image and not in the volume; nothing if the image is sound.
+    /// What is on the image and not in the volume, and what is in it in doubt; nothing if the image is sound.
     pub left_out: Vec<LeftOut>,
 }
 

@@ -51,7 +51,7 @@ pub(crate) fn remains_of_found(found: &Found) -> Result<Remains, Failed> {
         return Err(Failed::with(1, "not a file"));
     }
     let image = found.subject();
-    let rows = ffi::parts(image).map_err(failed)?;
+    let (rows, _) = image.parts().map_err(failed)?;
     let blocks = ffi::found_blocks(image, &rows, found.number(), found.header()).map_err(failed)?;
     let (mut bytes, mut lost, mut at) = (vec![0; image.len().min(found.size() as usize)], Vec::new(), 0);
     while at < bytes.len() {

@@ -4,20 +4,23 @@ use crate::text::unspelled;
 use crate::Refused;
 use std::fmt;
 
-/// A new, sound volume of all that stands in a damaged image, and what it leaves out.
+/// A new, sound volume of all that stands in a damaged image.
 #[derive(Clone, Debug, PartialEq, Eq)]
 pub struct Rescue {
-    /// The image of the new volume.
+    /// The image of the new volume. It has as many blocks as the given one, or those of a floppy, if that is cut, or has tracks behind
+    /// its volume.
     pub image: Vec<u8>,
+    /// What the rescue leaves out, and what it keeps in doubt.
     pub left_out: Vec<LeftOut>,
 }
 
-/// Something of an image that is not in the volume of its rescue. Shown as the line of `adf-survey rescue`, such as `damaged: c/list`.
+/// Something of an image that is not in the volume of its rescue, or an entry that is in it in doubt (`is_kept`). Shown as the line of
+/// `adf-survey rescue`, such as `damaged: c/list`.
 #[derive(Clone, Debug, PartialEq, Eq)]
 pub struct LeftOut {
     pub reason: Reason,
     /// The path of an entry, or of the directory in which headers are lost, as `adf-survey` spells it (`Found::path`); empty for the root
-    /// and for blocks.
+    /// and for blocks. An entry that is kept may have another name in the new volume.
     pub path: String,
     /// The header of the entry or of the directory, 0 for the root; or the first of the blocks.
     pub first: u32,
@@ -26,7 +29,7 @@ pub struct LeftOut {
 }
 
 numbered! {
-    /// Why something is left out. The numbers are those of `enum adf_loss_why` in include/adf.h.
+    /// Why something is left out, or in doubt. The numbers are those of `enum adf_loss_why` in include/adf.h.
     Reason(u8):
     /// A file that is not whole.
     Damaged = 1,
@@ -35,11 +38,24 @@ numbered! {
     NoRoom = 3,
     /// Headers are lost in a directory.
     Headers = 4,
-    /// Blocks in use are lost.
+    /// Blocks are lost: in use and of no entry, not in the image, behind the volume, or made anew.
     Blocks = 5,
+    /// The checksum of the header is wrong: what it says may be wrong, and a directory may lack things.
+    InDoubt = 6,
+    /// The bitmap has the header free, or nothing tells whether the entry was deleted.
+    PerhapsDeleted = 7,
+    /// No directory leads to the entry: it was found by what its header says.
+    FoundAgain = 8,
+    /// A directory that the rescue made, for what names a lost one.
+    Made = 9,
 }
 
 impl LeftOut {
+    /// Whether it is an entry that is in the new volume, in doubt.
+    pub fn is_kept(&self) -> bool {
+        matches!(self.reason, Reason::InDoubt | Reason::PerhapsDeleted | Reason::FoundAgain | Reason::Made)
+    }
+
     /// The bytes of the path. A name of a damaged entry may have any, as `/`, or be `..`, which leads out of a folder.
     pub fn path_bytes(&self) -> Vec<u8> {
         unspelled(&self.path).unwrap_or_default()
@@ -56,6 +72,10 @@ impl fmt::Display for LeftOut {
             Reason::Headers => write!(f, "lost: in {path}/"),
             Reason::Blocks if first == last => write!(f, "lost: block {first}"),
             Reason::Blocks => write!(f, "lost: blocks {first} to {last}"),
+            Reason::InDoubt => write!(f, "in doubt: {path}"),
+            Reason::PerhapsDeleted => write!(f, "perhaps deleted: {path}"),
+            Reason::FoundAgain => write!(f, "found again: {path}"),
+            Reason::Made => write!(f, "made: {path}"),
             Reason::Unknown(number) => write!(f, "unknown reason {number}: {path}"),
         }
     }

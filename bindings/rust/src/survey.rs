@@ -4,8 +4,8 @@ use crate::{remains, text, Cause, Failed, Kind, NotFound, Refused, Remains, Text
 use std::fmt;
 
 /// What is found in an image by `adf-survey`: everything that is wrong, and the entries that can still be reached. Where nothing but the
-/// boot block is lost, and where the type is one of FFS and the files say OFS, the image is surveyed as if it began with the type that
-/// its files say.
+/// boot block is lost, and where the files say another type, the image is surveyed as if it began with the type that its files say; a
+/// floppy that is cut, or has tracks behind its volume, as if it had its blocks.
 pub struct Survey<'image> {
     subject: Subject<'image>,
     told: SubjectTold,
@@ -17,6 +17,12 @@ impl<'image> Survey<'image> {
     pub fn of(image: &'image [u8]) -> Result<Survey<'image>, Refused> {
         let (subject, told) = Subject::of(image)?;
         let mut tables = ffi::survey(&subject)?;
+        let cut = if subject.is_whole() { Vec::new() } else { subject.parts()?.1 };
+        for node in cut {
+            if let Some(entry) = tables.entries.get_mut(node - 1) {
+                entry.is_sound = 0;
+            }
+        }
         if told.is_begun == 1 {
             tables.findings.try_reserve(1).map_err(|_| Refused { cause: Cause::NoMemory, block: 0 })?;
             let (first, last, node, owner, cause, is_within) = (0, 0, 0, 0, Cause::NotDos.number(), 0);
@@ -50,12 +56,19 @@ impl<'image> Survey<'image> {
         self.told.is_begun == 1
     }
 
-    /// Whether the type is one of FFS and the files say OFS. There is no finding for it.
+    /// Whether the type is not the one that the files say. There is no finding for it.
     pub fn is_retyped(&self) -> bool {
         self.told.is_retyped == 1
     }
 
-    /// What is wrong, in the order of the survey, unless `is_retyped`: nothing, if and only if `Volume::check` accepts the image.
+    /// The blocks that are surveyed: those of the image, or those of a floppy, if the image is cut, or has tracks behind the volume. There
+    /// is no finding for it.
+    pub fn blocks(&self) -> usize {
+        self.subject.len() / 512
+    }
+
+    /// What is wrong, in the order of the survey, unless `is_retyped` or `blocks` are not those of the image: nothing, if and only if
+    /// `Volume::check` accepts the image.
     pub fn findings(&self) -> impl ExactSizeIterator<Item = Finding<'_>> + DoubleEndedIterator {
         (0..self.tables.findings.len()).map(|place| Finding { survey: self, place })
     }
@@ -210,7 +223,7 @@ impl<'survey> Found<'survey> {
         remains::remains_of_found(self)
     }
 
-    pub(crate) fn subject(&self) -> &'survey [u8] {
+    pub(crate) fn subject(&self) -> &'survey Subject<'survey> {
         &self.survey.subject
     }
 }

@@ -150,11 +150,16 @@ extern "C" fn adf_version() -> u32 {
     20_001
 }
 
-/// Answers the image that is given.
+/// Answers the image that is given; in place of one of three blocks one of four, which its room has to hold.
 #[no_mangle]
-extern "C" fn adf_survey_subject(_: *const u8, length: usize, _: u32, _: *mut u8, _: usize, subject: *mut Subject) -> u8 {
-    unsafe { *subject = Subject { length, held: 0, marks: [0; 2] } };
-    0
+extern "C" fn adf_survey_subject(_: *const u8, length: usize, _: u32, _: *mut u8, room: usize, subject: *mut Subject) -> u8 {
+    let taken = if length == 3 * 512 { 4 * 512 } else { length };
+    unsafe { *subject = Subject { length: taken, held: 4, marks: [0; 2] } };
+    if room < taken {
+        NEW
+    } else {
+        0
+    }
 }
 
 #[no_mangle]
@@ -236,7 +241,8 @@ extern "C" fn adf_disk_index(
     0
 }
 
-/// Refuses an image of no bytes at its block 3, and of any other leaves an entry out for a new reason.
+/// Refuses an image of no bytes at its block 3, and of any other leaves an entry out for a new reason. One of three blocks has a volume
+/// of four, and one of two blocks never has enough room.
 #[no_mangle]
 #[allow(clippy::too_many_arguments)]
 extern "C" fn adf_rescue(
@@ -244,7 +250,7 @@ extern "C" fn adf_rescue(
     length: usize,
     _: u32,
     room: *mut u8,
-    _: usize,
+    room_length: usize,
     losses: *mut Loss,
     _: usize,
     paths: *mut u8,
@@ -255,11 +261,16 @@ extern "C" fn adf_rescue(
         unsafe { *told = RescueTold { rows: [0; 2], blocks: [0, 3] } };
         return NEW + 1;
     }
+    let blocks = if length == 3 * 512 { 4 } else { 1 };
+    if room_length < 512 * blocks || length == 2 * 512 {
+        unsafe { *told = RescueTold { rows: [0; 2], blocks: [blocks as u32, 0] } };
+        return NEW;
+    }
     unsafe {
-        room.write_bytes(b'A', 512);
+        room.write_bytes(b'A', 512 * blocks);
         *losses = Loss { path: [0, 3], blocks: [7; 2], why: NEW };
         paths.copy_from(b"a/b".as_ptr(), 3);
-        *told = RescueTold { rows: [1, 3], blocks: [1, 0] };
+        *told = RescueTold { rows: [1, 3], blocks: [blocks as u32, 0] };
     }
     0
 }
@@ -366,6 +377,13 @@ fn what_is_new_is_not_taken_for_what_is_known() {
     assert_eq!(PartitionFault::from(NEW + 1).to_string(), "new");
     assert_eq!(disk.partitions().next().unwrap().place(), Err(PartitionFault::Unknown(NEW)));
     assert_eq!(adf::run(&[], b"").into_output().unwrap_err().to_string(), "status 24");
+}
+
+#[test]
+fn a_volume_may_be_longer_than_its_image() {
+    assert_eq!(adf::rescue(&[0; 3 * 512]).unwrap().image, [b'A'; 4 * 512]);
+    assert_eq!(adf::rescue(&[0; 2 * 512]).unwrap_err(), Refused { cause: Cause::Unknown(NEW), block: 0 });
+    assert_eq!(Survey::of(&[0; 3 * 512]).unwrap().blocks(), 4);
 }
 
 #[test]

@@ -393,6 +393,44 @@ fn what_adf_survey_opens_is_surveyed() {
 }
 
 #[test]
+fn the_type_has_the_letters_of_the_names() {
+    let mut image = international();
+    image[3] = 1;
+    let survey = Survey::of(&image).unwrap();
+    assert_eq!((survey.is_retyped(), survey.kind()), (true, Some(Kind::Ffs)));
+    assert_eq!(survey.findings().map(|finding| finding.cause()).collect::<Vec<_>>(), [Cause::International]);
+    assert!(survey.entries().all(|found| found.is_sound()));
+}
+
+#[test]
+fn a_floppy_has_its_blocks() {
+    // There are 44 blocks behind the volume, or 60 are missing, which are free.
+    let sound = image("ofs");
+    for (image, lost) in [([&sound[..], &[0; 512 * 44]].concat(), (1760, 1803)), (sound[..512 * 1700].to_vec(), (1700, 1759))] {
+        let opened = open(&image).unwrap();
+        let blocks = LeftOut { reason: Reason::Blocks, path: String::new(), first: lost.0, last: lost.1 };
+        assert_eq!((opened.left_out, opened.volume.blocks(), opened.volume.image().len()), (vec![blocks], 1760, 901_120));
+        assert_eq!(opened.volume.find("large").unwrap().read(), Volume::check(&sound).unwrap().find("large").unwrap().read());
+        let survey = Survey::of(&image).unwrap();
+        assert_eq!((survey.blocks(), survey.findings().count(), survey.entries().all(|found| found.is_sound())), (1760, 0, true));
+    }
+}
+
+#[test]
+fn a_floppy_that_is_cut_in_a_file_has_it_damaged() {
+    // `a` has 1,213 data blocks: its header is block 2, then come 16 extension blocks, and from 19 on data, around the root, 880, and its
+    // page, 881.
+    let sound = built("volume ofs 1760\nfile 0:0:0 00000000 a\nfill 591944 41\n");
+    let survey = Survey::of(&sound[..512 * 900]).unwrap();
+    let found = survey.entries().next().unwrap();
+    let left = 488 * (880 - 19 + 900 - 882);
+    let lost = found.remains().unwrap().lost;
+    assert_eq!((found.is_sound(), lost.len(), lost[0].start, lost[0].end), (false, 1, left, 591_944));
+    let mut room = vec![0; 591_944];
+    assert_eq!(survey.parts().unwrap().file(found).unwrap().read_at(0, &mut room), (left, 591_944 - left));
+}
+
+#[test]
 fn a_path_that_two_files_have_is_refused() {
     // The header of `a` is block 2, that of `b` block 4, each with one data block behind it. `b` becomes a second `a`, in the slot
     // of `b`, so that it is found, and its slot is wrong.
@@ -467,6 +505,34 @@ fn a_rescue_tells_what_is_lost() {
     let blocks = LeftOut { reason: Reason::Blocks, path: String::new(), first: 4, last: 5 };
     assert_eq!(left_out, [headers, blocks]);
     assert_eq!(left_out.iter().map(LeftOut::to_string).collect::<Vec<_>>(), ["lost: in c/", "lost: blocks 4 to 5"]);
+}
+
+#[test]
+fn a_rescue_tells_what_is_in_doubt() {
+    // Block 2 is `c`, 3 is `c/a`, 4 its data, 8 the root. The checksum of `c` is wrong; then the root does not lead to it any more.
+    let sound = built("volume ofs 16\ndir 0:0:0 00000000 c\nfile 0:0:0 00000000 c/a\ndata 41\n");
+    let (mut doubted, mut lost) = (sound.clone(), sound);
+    doubted[512 * 2 + 323] ^= 1;
+    let place = (512 * 8 + 24..).step_by(4).find(|place| lost[*place..][..4] == [0, 0, 0, 2]).unwrap();
+    lost[place + 3] = 0;
+    for (image, lines) in [
+        (doubted, &[("in doubt: c", true)][..]),
+        (lost, &[("found again: c", true), ("found again: c/a", true), ("lost: in /", false), ("lost: block 8", false)]),
+    ] {
+        let opened = open(&image).unwrap();
+        let told: Vec<_> = opened.left_out.iter().map(|each| (each.to_string(), each.is_kept())).collect();
+        assert_eq!(told.iter().map(|(text, is_kept)| (&text[..], *is_kept)).collect::<Vec<_>>(), lines);
+        assert_eq!(opened.volume.find("c/a").unwrap().read(), b"A");
+    }
+}
+
+#[test]
+fn reasons_of_kept_entries_have_texts() {
+    let texts = [(7, "perhaps deleted: a"), (9, "made: a")];
+    for (number, text) in texts {
+        let told = LeftOut { reason: Reason::from(number), path: "a".to_owned(), first: 2, last: 2 };
+        assert_eq!((told.to_string(), told.is_kept()), (text.to_owned(), true));
+    }
 }
 
 #[test]

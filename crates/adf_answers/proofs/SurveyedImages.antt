@@ -70,7 +70,7 @@ module _ (s : SubjectValue) (w : Walk) (fs : List FindingValue) (survey : IsSurv
       (dec_true (has_its_data s.end s.image w n))
 
   copy_of_file : (damaged : Bool) (n : ℕ) → ((h : ℕ) × FileAt s.image w n h) → (reply : Reply) × CopiesEntry damaged s w fs n reply
-  copy_of_file true n file = (remains_reply (left_of s.image w s.end n) (gaps_of s.image w s.end n), inr (file, refl))
+  copy_of_file true n file = (remains_reply (left_of s.image w fs s.end n) (gaps_of s.image w fs s.end n), inr (file, refl))
   copy_of_file false n file = elim (dec_whole n) [
     | yes whole ↦ (on_output 0 (file_content (file_in s.image w n)), inr (inr (whole, refl)))
     | no damage ↦ (on_errors 1 (codes "damaged\n"), inr (inl (file, damage, refl)))

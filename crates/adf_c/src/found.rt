@@ -20,7 +20,7 @@ pub extern "C" fn adf_survey_parts(alloc: Global, image: &[u8], parts: &mut [Fou
     ensures number { (result ≡ 0) ⊎ WantsMemory result }
 
     // The table is that of the image's one survey.
-    ensures parts { result ≡ 0 → OnSurvey image.now (λ w _. parts.new ≡ filled (found_part_table image.now w) parts.old) }
+    ensures parts { result ≡ 0 → OnSurvey image.now (λ w fs. parts.new ≡ filled (found_part_table image.now w fs) parts.old) }
 
     // If memory ran out, the table is unchanged.
     ensures unchanged { WantsMemory result → parts.new ≡ parts.old }
@@ -59,8 +59,9 @@ pub extern "C" fn adf_found_blocks(
     table: &mut [u32],
 ) -> usize
     // If the rows are those of the image's survey, the table is that of what its walk has of the file.
-    ensures blocks { OnSurvey image.now (λ w _. FileAt image.now w node header → parts.now ≡ found_part_table image.now w
-        → table.new ≡ filled (found_blocks image.now w node header) table.old) }
+    ensures blocks { OnSurvey image.now (λ w fs. FileAt image.now w node header
+        → parts.now ≡ found_part_table image.now w fs
+        → table.new ≡ filled (found_blocks image.now w fs node header) table.old) }
 
     // For any rows it is that of what the header and its extension blocks name.
     ensures count { result ≡ file_block_count image.now header }

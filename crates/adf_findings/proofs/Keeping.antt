@@ -12,6 +12,7 @@ use Rattle.adf_volume.specs.declared.owner.Owner.{Owner, TheVariants.Boot}
 use Rattle.adf_findings.proofs.Begun.{new_owned}
 use Rattle.adf_findings.proofs.WalkOwners.{entry_is, number_is, owned_is}
 use Rattle.adf_findings.specs.Found.{AreOwned, IsCompleted}
+use Rattle.adf_findings.specs.Concerned.{is_contested}
 use Rattle.adf_findings.specs.Members.{parent_node, has_mark}
 use Rattle.adf_findings.specs.declared.found.Found.{Found}
 use Rattle.adf_findings.specs.declared.finding.Finding.{Finding}
@@ -36,9 +37,10 @@ none_owned {owners = owners} new = new_owned 2 (omega arith) (record { owners = 
 
 -- of an image of which nothing is taken the findings are kept alone
 pub unread_kept : (v : SurveyValue) → UnreadTells v.image (map finding_value v.findings) → v.concerned ≡ [] → v.owners ≡ Boot ∷ Boot ∷ []
+    → ((b : ℕ) → has_mark v.contested b ≡ is_contested (map finding_value v.findings) b)
     → v.pages ≡ [] → v.nodes ≡ []
     → v.parents ≡ [] → v.places ≡ [] → v.sound ≡ [] → v.whole ≡ [] → IsOfSurvey v
-unread_kept v told concerned owners pages nodes parents places sound whole = (
+unread_kept v told concerned owners contested pages nodes parents places sound whole = (
   [],
   map finding_value v.findings,
   record {
@@ -48,6 +50,7 @@ unread_kept v told concerned owners pages nodes parents places sound whole = (
         ap (λ os. option_flatten (slice_get os k)) concerned ∙ sym (no_concern_nth [] (map finding_value v.findings) k (unread_none v.image told)));
     owner = (λ b. ap (λ n. cond (n == 0) None (Some n)) (entry_is (none_owned owners) b));
     number = number_is (none_owned owners);
+    contested = contested;
     part = owned_is (none_owned owners);
     page = (λ i. ap (λ es. block_at es i) pages);
     node = (λ n. ap (λ ns. slice_index ns n) nodes);
@@ -72,8 +75,9 @@ pub clear_marks : (image : List ℕ) (f : Found) (xs : List Finding) (base marks
 clear_marks image f xs base marks undoubted struck m = grind (arith, common_steps)
 
 -- of an image whose course is done, with its bits compared; xs are its findings, and ys those but the light ones
-pub read_kept : (image : List ℕ) (f : Found) (xs ys : List Finding) (concerned : List (Option Concern)) (sound whole : List Bool)
+pub read_kept : (image : List ℕ) (f : Found) (xs ys : List Finding) (concerned : List (Option Concern)) (contested sound whole : List Bool)
     → IsCompleted image f (map finding_value xs) → concerned ≡ map (λ x. blamed f x.part) xs
+    → ((b : ℕ) → has_mark contested b ≡ is_contested (map finding_value xs) b)
     → ((m : ℕ) → has_mark sound m ≡ is_clear image f xs m) → ys ≡ filter (λ x. not (is_light (finding_value x))) xs
     → ((m : ℕ) → has_mark whole m ≡ is_clear image f ys m)
     → IsOfSurvey (record {
@@ -81,6 +85,7 @@ pub read_kept : (image : List ℕ) (f : Found) (xs ys : List Finding) (concerned
       findings = xs;
       concerned = concerned;
       owners = f.owners.owners;
+      contested = contested;
       pages = f.pages.entries;
       nodes = f.nodes.items;
       parents = f.parents.items;
@@ -88,7 +93,7 @@ pub read_kept : (image : List ℕ) (f : Found) (xs ys : List Finding) (concerned
       sound = sound;
       whole = whole;
     })
-read_kept image f xs ys concerned sound whole (s, bits, all, bits_tell) entries marks graves whole_marks = (
+read_kept image f xs ys concerned contested sound whole (s, bits, all, bits_tell) entries disputes marks graves whole_marks = (
   s.walk,
   s.findings ++ bits,
   record {
@@ -99,6 +104,7 @@ read_kept image f xs ys concerned sound whole (s, bits, all, bits_tell) entries 
         ∙ concerned_kept image f all.course bits bits_tell all.stands xs (sym all.told) k);
     owner = owner_is image (gathered image all.course) f.owners.owners (entry_is all.stands.owners);
     number = number_is all.stands.owners;
+    contested = (λ b. disputes b ∙ ap (λ fs. is_contested fs b) (sym all.told));
     part = owned_is all.stands.owners;
     page = all.stands.pages;
     node = all.stands.node;

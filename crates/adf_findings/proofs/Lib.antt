@@ -54,6 +54,8 @@ pub mod Concerning
 -- the entries that hold the blocks of findings
 pub mod BlockOwners
 pub mod Keeping
+-- the blocks that more than one part asks for
+pub mod Contested
 -- what is left of files
 pub mod Gaps
 pub mod DataFound

@@ -1,12 +1,12 @@
 -- What findings concern, and the entries that hold their blocks.
--- Letters: w the walk of a survey, fs its findings, f one of them, at index k; r a role; n, p nodes;
+-- Letters: w the walk of a survey, fs its findings, f one of them, at index k; r a role; n, p nodes; b a block;
 -- s, j the slot and the position of a header in its chain.
-use Rattle.std.specs.Prelude.{ℕ, Bool, true, false, cond, List, Option, Some, None, is_some, slice_get}
+use Rattle.std.specs.Prelude.{◌==◌, ◌&&◌, ◌||◌, ℕ, Bool, true, false, cond, List, [], ◌∷◌, Option, Some, None, is_some, slice_get}
 use Rattle.std.specs.Option.{option_and_then}
 use Rattle.adf_blocks.specs.declared.cause.Cause.{Cause, TheVariants.Taken}
 use Rattle.adf_volume.specs.Walk.{Role, Walk, Role.Head, Role.Ext, Role.Data}
 use Rattle.adf_findings.specs.declared.concern.Concern.{Concern, TheVariants.Entry, TheVariants.Within}
-use Rattle.adf_findings.specs.Members.{at_role, owning_entry}
+use Rattle.adf_findings.specs.Members.{at_role, number_at, owning_entry}
 use Rattle.adf_findings.specs.Survey.{FindingValue}
 
 -- the entry or the directory that is concerned
@@ -41,3 +41,12 @@ taker_of w f = cond (is_taken f.cause) (owning_entry w f.block) None
 -- the entry that holds the block of the finding at an index, nothing past the last
 abbrev pub taker_of_nth : Walk → List FindingValue → ℕ → Option ℕ
 taker_of_nth w fs k = option_and_then (taker_of w) (slice_get fs k)
+
+-- whether a finding is that block b is taken: a part of the walk has it, and another one asks for it
+abbrev pub is_contested : List FindingValue → ℕ → Bool
+is_contested [] b = false
+is_contested (f ∷ fs) b = (is_taken f.cause && (f.block == b)) || is_contested fs b
+
+-- the number of the data block that a block is, from 1, where no other part asks for it; otherwise 0
+abbrev pub number_alone : Walk → List FindingValue → ℕ → ℕ
+number_alone w fs b = cond (is_contested fs b) 0 (number_at w b)

@@ -56,13 +56,13 @@ abbrev pub is_full_file : List ℕ → Walk → ℕ → Bool
 is_full_file image w n = (word_in image (node_block w n) SECONDARY_TYPE == ST_FILE) && not (word_in image (node_block w n) SIZE == 0)
 
 -- the slot of a position, if there is one
-abbrev pub slot_in : Option ChainPlace → ℕ
-slot_in None = 0
-slot_in (Some c) = c.slot
+abbrev pub slot_of_place : Option ChainPlace → ℕ
+slot_of_place None = 0
+slot_of_place (Some c) = c.slot
 
 -- the slot that the header of entry n is in
 abbrev pub slot_of_entry : Walk → ℕ → ℕ
-slot_of_entry w n = slot_in (slice_get (places_of w) (n - 1))
+slot_of_entry w n = slot_of_place (slice_get (places_of w) (n - 1))
 
 -- the name of entry n is valid, and by these letters its slot is the one that its header is in
 abbrev pub is_in_slot : Letters → List ℕ → Walk → ℕ → Bool

@@ -1,24 +1,47 @@
 -- What is left of a file that may be damaged.
--- Letters: w the walk of a survey; n a file's node, h the block of its header; k the number of a data block, from 0; b its block;
+-- Letters: w the walk of a survey, fs its findings; n a file's node, h the block of its header; k the number of a data block, from 0; b its block;
 -- size how many bytes are stated; found the block of each data block, if any; end a block.
 use Rattle.std.specs.Prelude.{ℕ, ◌+◌, ◌-◌, ◌*◌, ◌==◌, ◌&&◌, nat_lt, List, [], ◌∷◌, ◌++◌, Option, Some, None, cond, length, min, replicate}
 use Rattle.std.proofs.Common.{suc, zero}
 use Rattle.adf_base.specs.Words.{block}
+use Rattle.adf_names.specs.declared.kind.Kind.{Kind, TheVariants.Ofs, TheVariants.Ffs}
 use Rattle.adf_blocks.specs.declared.layout.TheConstants.{SIZE}
 use Rattle.adf_blocks.specs.Sizes.{blocks, chunk, count}
 use Rattle.adf_volume.specs.Image.{held, kind_of, piece, word_in}
 use Rattle.adf_volume.specs.Walk.{node_block, Walk, Role.Data}
 use Rattle.adf_walk.specs.Owners.{owner_at}
-use Rattle.adf_findings.specs.WalkOwners.{data_number_of}
 use Rattle.adf_volume.specs.Parts.{entry_of}
 use Rattle.adf_findings.specs.declared.remains.Gap.{Gap}
+use Rattle.adf_findings.specs.Concerned.{is_contested}
 use Rattle.adf_findings.specs.Members.{at_role}
 use Rattle.adf_findings.specs.Files.{named_from}
-use Rattle.adf_findings.specs.SurveyResult.{SurveyValue}
+use Rattle.adf_findings.specs.Sound.{says_data_of}
+use Rattle.adf_findings.specs.Survey.{FindingValue}
+use Rattle.adf_findings.specs.SurveyResult.{SurveyValue, alone_in}
 
 -- the block that is taken as data block k of file n
 abbrev pub data_found : Walk → ℕ → ℕ → Option ℕ
 data_found w n k = at_role w (Data n (suc k))
+
+-- a block, where no finding is that it is taken
+abbrev pub unless_contested : List FindingValue → Option ℕ → Option ℕ
+unless_contested fs None = None
+unless_contested fs (Some b) = cond (is_contested fs b) None (Some b)
+
+-- the same block, if no other part asks for it
+abbrev pub data_alone : Walk → List FindingValue → ℕ → ℕ → Option ℕ
+data_alone w fs n k = unless_contested fs (data_found w n k)
+
+-- Data block k of a file, by its kind and by the block that is found, if any.
+-- An OFS one is the block that the table names, if it says so itself; an FFS one is the block found, unless it says that it is an OFS one.
+abbrev pub own_data : Kind → List ℕ → ℕ → ℕ → Option ℕ → Option ℕ
+own_data Ofs image h k found = let b = named_from image h k in cond (says_data_of image h (k + 1) b) (Some b) None
+own_data Ffs image h k None = None
+own_data Ffs image h k (Some b) = cond (says_data_of image h (k + 1) b) None (Some b)
+
+-- the block of data block k of file n that is left
+abbrev pub data_left : List ℕ → Walk → List FindingValue → ℕ → ℕ → ℕ → Option ℕ
+data_left image w fs n h k = own_data (kind_of image) image h k (data_alone w fs n k)
 
 -- how many bytes are stated: as many as the header says, but no more than the image has
 abbrev pub size_stated : List ℕ → ℕ → ℕ
@@ -28,7 +51,7 @@ size_stated image h = min (word_in image h SIZE) (length image)
 abbrev pub blocks_stated : List ℕ → ℕ → ℕ
 blocks_stated image h = count (kind_of image) (size_stated image h)
 
--- the bytes of data block k: those in its block, or as many zeros where none is found
+-- the bytes of data block k: those in its block, or as many zeros where none is left
 abbrev pub bytes_in : List ℕ → ℕ → ℕ → Option ℕ → List ℕ
 bytes_in image size k None = replicate (held (kind_of image) size (k + 1)) 0
 bytes_in image size k (Some b) = piece (kind_of image) size (k + 1) (block image b)
@@ -53,7 +76,7 @@ with_gap [] g = g ∷ []
 with_gap (x ∷ []) g = joined_gaps x g
 with_gap (x ∷ y ∷ xs) g = x ∷ with_gap (y ∷ xs) g
 
--- gaps, with that of data block k behind them where none is found
+-- gaps, with that of data block k behind them where no block is left
 abbrev pub with_lost : List ℕ → ℕ → List Gap → ℕ → Option ℕ → List Gap
 with_lost image size gs k None = with_gap gs (gap_at image size k)
 with_lost image size gs k (Some b) = gs
@@ -68,27 +91,28 @@ abbrev pub below : ℕ → Option ℕ → Option ℕ
 below end None = None
 below end (Some b) = cond (nat_lt b end) (Some b) None
 
--- the block that is taken as data block k of file n, if it is before block `end`
-abbrev pub data_below : ℕ → Walk → ℕ → ℕ → Option ℕ
-data_below end w n k = below end (data_found w n k)
+-- the block of data block k of file n that is left, if it is before block `end`
+abbrev pub left_below : ℕ → List ℕ → Walk → List FindingValue → ℕ → ℕ → ℕ → Option ℕ
+left_below end image w fs n h k = below end (data_left image w fs n h k)
 
--- the bytes of file n: those of the data blocks that are found before block `end`, and zeros for the others
-abbrev pub left_of : List ℕ → Walk → ℕ → ℕ → List ℕ
-left_of image w end n = let h = node_block w n in bytes_left image (size_stated image h) (data_below end w n) (blocks_stated image h)
+-- the bytes of file n: those of the data blocks that are left before block `end`, and zeros for the others
+abbrev pub left_of : List ℕ → Walk → List FindingValue → ℕ → ℕ → List ℕ
+left_of image w fs end n =
+    let h = node_block w n in bytes_left image (size_stated image h) (left_below end image w fs n h) (blocks_stated image h)
 
 -- the runs of these zeros
-abbrev pub gaps_of : List ℕ → Walk → ℕ → ℕ → List Gap
-gaps_of image w end n = let h = node_block w n in gaps_left image (size_stated image h) (data_below end w n) (blocks_stated image h)
+abbrev pub gaps_of : List ℕ → Walk → List FindingValue → ℕ → ℕ → List Gap
+gaps_of image w fs end n =
+    let h = node_block w n in gaps_left image (size_stated image h) (left_below end image w fs n h) (blocks_stated image h)
 
--- block b, if it is taken as data block k of entry n by the entries and the numbers kept of blocks
+-- block b, if it is taken as data block k of entry n, and no other part asks for it, by what is kept of blocks
 abbrev pub data_at : List ℕ → SurveyValue → ℕ → ℕ → ℕ → Option ℕ
-data_at image v n k b =
-    cond (nat_lt b (blocks image) && ((entry_of (owner_at v.owners b) == n) && (data_number_of (owner_at v.owners b) == k + 1))) (Some b) None
+data_at image v n k b = cond (nat_lt b (blocks image) && ((entry_of (owner_at v.owners b) == n) && (alone_in v b == k + 1))) (Some b) None
 
 -- the block that the table of a file names as data block k, if it is taken as that
 abbrev pub data_named : List ℕ → SurveyValue → ℕ → ℕ → ℕ → Option ℕ
 data_named image v n h k = data_at image v n k (named_from image h k)
 
--- the same, if it is before block `end`
+-- the block of data block k that is left by these, if it is before block `end`
 abbrev pub named_below : ℕ → List ℕ → SurveyValue → ℕ → ℕ → ℕ → Option ℕ
-named_below end image v n h k = below end (data_named image v n h k)
+named_below end image v n h k = below end (own_data (kind_of image) image h k (data_named image v n h k))

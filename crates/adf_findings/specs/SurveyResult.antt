@@ -14,7 +14,7 @@ use Rattle.adf_volume.specs.Walk.{Has, heads, node_block, Walk, Role.Page}
 use Rattle.adf_findings.specs.declared.concern.Concern.{Concern}
 use Rattle.adf_findings.specs.declared.finding.Finding.{Finding}
 use Rattle.adf_findings.specs.declared.found.ChainPlace.{ChainPlace}
-use Rattle.adf_findings.specs.Concerned.{concern_of_nth, is_taken}
+use Rattle.adf_findings.specs.Concerned.{concern_of_nth, is_contested, is_taken}
 use Rattle.adf_findings.specs.Files.{grave}
 use Rattle.adf_findings.specs.Found.{places_of}
 use Rattle.adf_findings.specs.Members.{at_role, number_at, owning_entry, owns, parent_node, has_mark}
@@ -22,13 +22,14 @@ use Rattle.adf_findings.specs.Parts.{finding_value}
 use Rattle.adf_findings.specs.Sound.{IsSound}
 use Rattle.adf_findings.specs.Survey.{FindingValue, IsSurvey, IsValidated}
 
--- the result: the findings and what they concern; the owner of each block; the blocks of pages, by number;
+-- the result: the findings and what they concern; the owner of each block; whether findings say that it is taken; the blocks of pages, by number;
 -- for each node its block, its parent, from node 1 on its position, whether it is sound, and whether it is but for harmless findings of headers
 pub record SurveyValue : Type 0 where
   pub image : List ℕ
   pub findings : List Finding
   pub concerned : List (Option Concern)
   pub owners : List Owner
+  pub contested : List Bool
   pub pages : List (ℕ × ℕ)
   pub nodes : List ℕ
   pub parents : List ℕ
@@ -48,6 +49,10 @@ entry_at owners b = cond (entry_of (owner_at owners b) == 0) None (Some (entry_o
 abbrev pub owner_for : List Owner → Finding → Option ℕ
 owner_for owners f = cond (is_taken f.cause) (entry_at owners f.block) None
 
+-- the number of the data block that a block is, from 1, where no other part asks for it; otherwise 0
+abbrev pub alone_in : SurveyValue → ℕ → ℕ
+alone_in v b = cond (has_mark v.contested b) 0 (data_number_of (owner_at v.owners b))
+
 -- the result is that of this walk and these findings
 pub record TellsOf (v : SurveyValue) (w : Walk) (fs : List FindingValue) : Type 0 where
   pub survey : IsSurvey v.image w fs
@@ -55,6 +60,7 @@ pub record TellsOf (v : SurveyValue) (w : Walk) (fs : List FindingValue) : Type 
   pub concerned : (k : ℕ) → option_flatten (slice_get v.concerned k) ≡ concern_of_nth w fs k
   pub owner : (b : ℕ) → entry_at v.owners b ≡ owning_entry w b
   pub number : (b : ℕ) → data_number_of (owner_at v.owners b) ≡ number_at w b
+  pub contested : (b : ℕ) → has_mark v.contested b ≡ is_contested fs b
   pub part : (b : ℕ) → is_part (owner_at v.owners b) ≡ owns w b
   pub page : (i : ℕ) → block_at v.pages i ≡ at_role w (Page i)
   pub node : (n : ℕ) → slice_index v.nodes n ≡ node_block w n

@@ -1,6 +1,6 @@
 // An image under survey.
 
-ghost use Rattle.std.specs.Prelude.{◌≡◌, ◌<◌, ◌≤◌, ◌^◌, length, nat_le, slice_index, true};
+ghost use Rattle.std.specs.Prelude.{◌≡◌, ◌<◌, ◌≤◌, ◌*◌, ◌^◌, IsTrue, length, nat_le, slice_index, true};
 ghost use Rattle.adf_base.specs.Words.{block};
 ghost use Rattle.adf_blocks.specs.Sizes.{blocks, is_allowed};
 ghost use Rattle.adf_volume.specs.Demands.{IsSize};
@@ -131,18 +131,29 @@ impl<'a> SizedImage<'a> {
     }
 
     /// Whether a block says of itself that it is OFS data block `number` of the file with its header at block `head`.
-    #[tactic(auto, using(adf_volume::proofs::WordsPast::past_word))]
     pub fn says_data_of(&self, head: u32, number: u32, b: u32) -> bool
-        ensures { result ≡ says_data_of self.now head number b }
+        ensures said { result ≡ says_data_of self.now head number b }
+        ensures inside { IsTrue result → b < blocks self.now }
     {
-        match Block::at(self.bytes, b) {
-            Some(block) => {
-                block.word(TYPE) == T_DATA
-                    && block.word(DATA_HEAD) == head
-                    && block.word(DATA_NUMBER) == number
-                    && block.long_sum() == 0
-            }
-            None => false,
+        says_data_of(self.bytes, head, number, b)
+    }
+}
+
+/// Whether a block of an image of whole blocks says of itself that it is OFS data block `number` of the file with its header at
+/// block `head`.
+#[tactic(auto, using(adf_volume::proofs::WordsPast::past_word))]
+pub fn says_data_of(image: &[u8], head: u32, number: u32, b: u32) -> bool
+    requires { length image.now ≡ 512 * blocks image.now }
+    ensures said { result ≡ says_data_of image.now head number b }
+    ensures inside { IsTrue result → b < blocks image.now }
+{
+    match Block::at(image, b) {
+        Some(block) => {
+            block.word(TYPE) == T_DATA
+                && block.word(DATA_HEAD) == head
+                && block.word(DATA_NUMBER) == number
+                && block.long_sum() == 0
         }
+        None => false,
     }
 }

@@ -151,7 +151,7 @@ pub fn found_as_in_the_tree()
 pub fn left_of_sound()
     ensures { (image : List ℕ) (w : Walk) (fs : List FindingValue) (n end : ℕ)
         → IsSurvey image w fs → IsSoundFile image w fs n → ((k b : ℕ) → Has w (Data n k) b → b < end)
-        → (left_of image w end n ≡ file_content (file_in image w n)) × (gaps_of image w end n ≡ []) }
+        → (left_of image w fs end n ≡ file_content (file_in image w n)) × (gaps_of image w fs end n ≡ []) }
 {}
 
 /// A data block that is found of a file is the one that the table of the file names.

@@ -1,11 +1,12 @@
 // The marks of sound entries.
 
-ghost use Rattle.std.specs.Prelude.{◌≡◌, ◌≤◌, ◌<◌, ◌==◌, ◌&&◌, ◌||◌, ℕ, Bool, IfOk, IsTrue, None, false, map, not};
-ghost use Rattle.std.specs.Prelude.{slice_index_or};
+ghost use Rattle.std.specs.Prelude.{◌≡◌, ◌≤◌, ◌<◌, ◌^◌, ◌==◌, ◌&&◌, ◌||◌, ℕ, Bool, IfOk, IsTrue, None, false, map, not};
+ghost use Rattle.std.specs.Prelude.{OnOk, slice_index_or};
 ghost use Rattle.std.specs.List.{filter};
 ghost use Rattle.adf_blocks.specs.declared.layout.TheConstants.{TYPE, T_DATA};
 ghost use Rattle.adf_blocks.specs.Sizes.{blocks};
 ghost use Rattle.adf_volume.specs.Image.{word_in};
+ghost use Rattle.adf_findings.specs.Concerned.{is_contested, is_taken};
 ghost use Rattle.adf_findings.specs.Files.{is_harmless, is_light};
 ghost use Rattle.adf_findings.specs.Parts.{finding_value};
 ghost use Rattle.adf_findings.specs.Marks.{blamed, doubted, is_blamed, is_doubted, is_header, is_node, is_undoubted};
@@ -15,13 +16,13 @@ use crate::concern::Concern;
 use crate::finding::Finding;
 use crate::found::Found;
 use crate::image::SizedImage;
-use crate::owners::{data_number_of, entry_of};
+use crate::owners::{data_number_of, entry_of, is_taken};
 use crate::survey_result::number_at;
 use adf_base::NoMemory;
 use adf_blocks::{Cause, T_DATA, TYPE};
 use adf_tree::Kind;
 use adf_volume::Part;
-use std::alloc::Global;
+use std::alloc::{AllocError, Global};
 
 // How many blocks are asked at once whether a file is in doubt by them.
 const CHUNK: u32 = 256;
@@ -227,6 +228,32 @@ pub fn grave(alloc: Global, findings: &[Finding]) -> Result<Vec<Finding>, NoMemo
         graves.push(*finding)?;
     }
     Ok(graves)
+}
+
+// Marks a block, with no marks for those between the last and it.
+fn mark(marks: &mut Vec<bool>, b: usize) -> Result<(), AllocError>
+    requires { b < 2 ^ 32 }
+    ensures { OnOk result ((m : ℕ) → has_mark marks.new.items m ≡ ((b == m) || has_mark marks.old.items m)) }
+{
+    if b >= marks.len() {
+        marks.resize(b + 1, false)?;
+    }
+    marks[b] = true;
+    Ok(())
+}
+
+/// The marks of the blocks of which findings say that they are taken: a part has each, and another one asks for it. There are
+/// none if no finding says so.
+pub fn contested(alloc: Global, findings: &[Finding]) -> Result<Vec<bool>, NoMemory>
+    ensures { IfOk result (λ v. (b : ℕ) → has_mark v.items b ≡ is_contested (map finding_value findings.now) b) }
+{
+    let mut marks = Vec::new(alloc);
+    for finding in findings {
+        if is_taken(finding.cause) {
+            mark(&mut marks, finding.block as usize)?;
+        }
+    }
+    Ok(marks)
 }
 
 /// The marks of the nodes: true but for FFS files with a data block that was also skipped, or says that it is an OFS one.

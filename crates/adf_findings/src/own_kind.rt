@@ -6,8 +6,8 @@ ghost use Rattle.adf_volume.specs.Walk.{Role, heads, node_block};
 ghost use Rattle.adf_findings.specs.Files.{grave};
 ghost use Rattle.adf_findings.specs.Sound.{IsSound};
 ghost use Rattle.adf_findings.specs.OwnKind.{has_other_kind, has_other_letters, is_full_file, is_in_slot, is_mistyped};
-ghost use Rattle.adf_findings.specs.OwnKind.{is_other_kind, other_kind, other_letters, passing, retyped, said_in, slot_in};
-ghost use Rattle.adf_findings.specs.OwnKind.{tallied, tally, told_type, type_with};
+ghost use Rattle.adf_findings.specs.OwnKind.{is_other_kind, other_kind, other_letters, passing, retyped, said_in};
+ghost use Rattle.adf_findings.specs.OwnKind.{slot_of_place, tallied, tally, told_type, type_with};
 ghost use Rattle.adf_findings.specs.Survey.{OnSurvey};
 
 use crate::found::ChainPlace;
@@ -98,7 +98,7 @@ fn type_with(image: &SizedImage<'_>, has_other_kind: bool, has_other_letters: bo
 
 // The slot of an entry, by the positions of headers from entry 1 on; 0 past the last.
 fn slot_at(places: &Vec<ChainPlace>, n: usize) -> u8
-    ensures { result ≡ slot_in (slice_get places.now.items (n - 1)) }
+    ensures { result ≡ slot_of_place (slice_get places.now.items (n - 1)) }
 {
     match places.get(n.saturating_sub(1)) {
         Some(place) => place.slot,

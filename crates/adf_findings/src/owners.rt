@@ -33,8 +33,8 @@ pub fn data_number_of(owner: &Owner) -> u32
     }
 }
 
-// Whether the cause is that another part has the block.
-fn is_taken(cause: Cause) -> bool
+/// Whether the cause is that another part has the block.
+pub fn is_taken(cause: Cause) -> bool
     ensures { result ≡ is_taken cause }
 {
     matches!(cause, Cause::Taken)

@@ -6,12 +6,13 @@ ghost use Rattle.adf_blocks.specs.Sizes.{blocks, count};
 ghost use Rattle.adf_base.specs.Words.{block};
 ghost use Rattle.adf_volume.specs.Image.{kind_of, piece};
 ghost use Rattle.adf_volume.specs.Walk.{FileAt, node_block};
+ghost use Rattle.adf_findings.specs.Files.{named_from};
 ghost use Rattle.adf_findings.specs.Remains.{below, blocks_stated, bytes_in, bytes_left, data_at, gap_at, gaps_left, gaps_of};
-ghost use Rattle.adf_findings.specs.Remains.{joined_gaps, left_of, named_below, size_stated, with_gap, with_lost};
+ghost use Rattle.adf_findings.specs.Remains.{joined_gaps, left_of, named_below, own_data, size_stated, with_gap, with_lost};
 ghost use Rattle.adf_findings.specs.Survey.{OnSurvey};
 
 use crate::image::SizedImage;
-use crate::owners::{data_number_of, entry_of};
+use crate::owners::entry_of;
 use crate::start::start;
 use crate::survey_result::{Survey, number_at};
 use adf_base::NoMemory;
@@ -27,7 +28,7 @@ pub struct Gap {
     pub last: u32,
 }
 
-/// What is left of a file: its bytes, with zeros for each data block that is not found, and the runs of these zeros.
+/// What is left of a file: its bytes, with zeros for each data block that is not left, and the runs of these zeros.
 #[derive(Drop)]
 pub struct Remains {
     pub bytes: Vec<u8>,
@@ -156,14 +157,14 @@ fn below(end: u32, found: Option<u32>) -> Option<u32>
 }
 
 impl<'i> Survey<'i> {
-    // A block, if it is taken as data block `k`, counted from 0, of an entry.
+    // A block, if it is taken as data block `k`, counted from 0, of an entry, and no other part asks for it.
     fn data_at(&self, image: &SizedImage<'_>, n: Node, k: u32, b: u32) -> Option<u32>
         requires { k < 2 ^ 21 }
         ensures data { result ≡ data_at image.now self.now n k b }
         ensures inside { IfSome result (λ b. b < blocks image.now) }
     {
         let owner = self.owners.at(b);
-        let is_own = entry_of(&owner) == n.0 && data_number_of(&owner) == k + 1;
+        let is_own = entry_of(&owner) == n.0 && self.alone_at(b) == k + 1;
         if b < image.blocks() && is_own {
             Some(b)
         } else {
@@ -171,7 +172,23 @@ impl<'i> Survey<'i> {
         }
     }
 
-    // What is left of a file, of the data blocks that are found before block `end`.
+    // The block of data block `k`, counted from 0, of a file that is left, where its table names a block as this one.
+    fn own_at(&self, image: &SizedImage<'_>, n: Node, k: u32, b: u32) -> Option<u32>
+        requires small { k < 2 ^ 21 }
+        requires named { b ≡ named_from image.now (slice_index self.now.nodes n) k }
+        ensures own { result ≡ own_data (kind_of image.now) image.now (slice_index self.now.nodes n) k
+            (data_at image.now self.now n k b) }
+        ensures inside { IfSome result (λ b. b < blocks image.now) }
+    {
+        let is_said = image.says_data_of(number_at(&self.nodes, n.0), k + 1, b);
+        match image.kind() {
+            Kind::Ofs if is_said => Some(b),
+            Kind::Ffs if !is_said => self.data_at(image, n, k, b),
+            _ => None,
+        }
+    }
+
+    // What is left of a file before block `end`.
     fn left_of(
         &self,
         alloc: Global,
@@ -196,8 +213,8 @@ impl<'i> Survey<'i> {
         let mut member = head;
         for k in 0..count_stated(image.kind(), size) {
             let b = image.word(member, FIRST_POINTER - k as usize % POINTERS);
-            let found = below(end, self.data_at(image, n, k, b));
-            remains.add(image, size, k, found)?;
+            let left = below(end, self.own_at(image, n, k, b));
+            remains.add(image, size, k, left)?;
             if (k as usize + 1) % POINTERS == 0 {
                 member = image.word(member, EXTENSION);
             }
@@ -205,17 +222,18 @@ impl<'i> Survey<'i> {
         Ok(remains)
     }
 
-    /// What is left of a file, whether sound or not: the bytes of each data block that is found as the file's own before block
-    /// `end`, and zeros for the others; as many as its header says, but no more than the image has. `None` for what is no
-    /// file. `NoMemory` if an allocation fails; never if there is no file, or it is empty.
+    /// What is left of a file, whether sound or not: the bytes of each data block before block `end` that is its own, and zeros
+    /// for the others; as many as its header says, but no more than the image has. On OFS a block is its own that says so and
+    /// has a right sum; on FFS one that no other part asks for, and that does not say that it is an OFS one. `None` for what is
+    /// no file. `NoMemory` if an allocation fails; never if there is no file, or it is empty.
     #[tactic(auto, using(crate::proofs::Keeping::tells_each))]
     pub fn remains(&self, alloc: Global, n: Node, end: u32) -> Result<Option<Remains>, NoMemory>
         ensures some { OnSurvey self.now.image (λ w _.
             IfOk result (λ x. IsSome x ↔ ((h : ℕ) × FileAt self.now.image w n h))) }
-        ensures bytes { OnSurvey self.now.image (λ w _.
-            IfOk result (λ x. IfSome x (λ r. r.bytes.items ≡ left_of self.now.image w end n))) }
-        ensures gaps { OnSurvey self.now.image (λ w _.
-            IfOk result (λ x. IfSome x (λ r. r.gaps.items ≡ gaps_of self.now.image w end n))) }
+        ensures bytes { OnSurvey self.now.image (λ w fs.
+            IfOk result (λ x. IfSome x (λ r. r.bytes.items ≡ left_of self.now.image w fs end n))) }
+        ensures gaps { OnSurvey self.now.image (λ w fs.
+            IfOk result (λ x. IfSome x (λ r. r.gaps.items ≡ gaps_of self.now.image w fs end n))) }
         ensures none { OnSurvey self.now.image (λ w _.
             ((h : ℕ) → FileAt self.now.image w n h → ⊥) → IsOk result) }
         ensures empty { OnSurvey self.now.image (λ w _.

@@ -8,10 +8,11 @@ ghost use Rattle.adf_blocks.specs.Sizes.{is_allowed};
 ghost use Rattle.adf_base.specs.Words.{block};
 ghost use Rattle.adf_volume.specs.Image.{letters_of, name_of};
 ghost use Rattle.adf_volume.specs.Walk.{FileAt, Has, heads, node_block, Role.Head};
-ghost use Rattle.adf_findings.specs.Concerned.{concern_of_nth, taker_of_nth};
+ghost use Rattle.adf_findings.specs.Concerned.{concern_of_nth, number_alone, taker_of_nth};
 ghost use Rattle.adf_findings.specs.Files.{IsSoundFile, counting, file_in, grave};
 ghost use Rattle.adf_findings.specs.Members.{number_at as number_of, owning_entry, owns, parent_node, has_mark};
 ghost use Rattle.adf_findings.specs.SoundMarks.{AreMarks, mark_in, whole_in};
+ghost use Rattle.adf_findings.specs.SurveyResult.{alone_in};
 ghost use Rattle.adf_findings.specs.Opening.{opening_in};
 ghost use Rattle.adf_findings.specs.Parts.{finding_value};
 ghost use Rattle.adf_findings.specs.Sound.{IsSound};
@@ -41,6 +42,7 @@ pub struct Survey<'i> {
     pub(crate) findings: Vec<Finding>,
     pub(crate) concerned: Vec<Option<Concern>>,
     pub(crate) owners: WalkOwners,
+    pub(crate) contested: Vec<bool>,
     pub(crate) pages: BTreeMap<u32, u32>,
     pub(crate) nodes: Vec<u32>,
     pub(crate) parents: Vec<u32>,
@@ -59,6 +61,7 @@ impl<'i> Model for Survey<'i> {
       findings = v.findings.items;
       concerned = v.concerned.items;
       owners = v.owners.owners;
+      contested = v.contested.items;
       pages = v.pages.entries;
       nodes = v.nodes.items;
       parents = v.parents.items;
@@ -72,6 +75,7 @@ impl<'i> Model for Survey<'i> {
       findings = v.findings.items;
       concerned = v.concerned.items;
       owners = v.owners.owners;
+      contested = v.contested.items;
       pages = v.pages.entries;
       nodes = v.nodes.items;
       parents = v.parents.items;
@@ -159,6 +163,25 @@ impl Survey<'_> {
         ensures { OnSurvey self.now.image (λ w _. result ≡ number_of w b) }
     {
         data_number_of(&self.owners.at(b))
+    }
+
+    // The number of the data block of a file that a block is, from 1, where no other part asks for it; otherwise 0.
+    pub(crate) fn alone_at(&self, b: u32) -> u32
+        ensures { result ≡ alone_in self.now b }
+    {
+        if has_mark(&self.contested, b as usize) {
+            return 0;
+        }
+        data_number_of(&self.owners.at(b))
+    }
+
+    /// The number of the data block of a file that a block is, from 1, where no finding is that it is taken: no other part
+    /// asks for it. 0 for other blocks, and past the last one.
+    pub fn number_alone(&self, b: u32) -> u32
+        ensures { OnSurvey self.now.image (λ w fs. result ≡ number_alone w fs b) }
+    {
+        let _contested = &self.contested;
+        self.alone_at(b)
     }
 
     /// Whether a block is a part of what is found: the root, a block of the bitmap, or a block of an entry.

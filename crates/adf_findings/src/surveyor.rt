@@ -11,7 +11,7 @@ use crate::course::run;
 use crate::finding::Finding;
 use crate::found::Found;
 use crate::image::SizedImage;
-use crate::marks::{concerned, grave, strike_blamed, undoubted_marks};
+use crate::marks::{concerned, contested, grave, strike_blamed, undoubted_marks};
 use crate::progress::{Progress, note};
 use crate::start::{Started, Unread, start};
 use crate::survey_result::Survey;
@@ -54,11 +54,13 @@ fn only<'i>(alloc: Global, image: &'i [u8], unread: Unread) -> Result<Survey<'i>
         cause: unread.last.cause,
     };
     note(&mut findings, finding)?;
+    let contested = contested(alloc, &findings)?;
     Ok(Survey {
         image,
         findings,
         concerned: Vec::new(alloc),
         owners,
+        contested,
         pages: BTreeMap::new(alloc),
         nodes: Vec::new(alloc),
         parents: Vec::new(alloc),
@@ -106,6 +108,7 @@ fn go_through<'i>(alloc: Global, started: &Started<'i>) -> Result<Survey<'i>, No
     } = progress;
     compare(image, &found, &mut findings)?;
     let concerned = concerned(alloc, &found, &findings)?;
+    let contested = contested(alloc, &findings)?;
     let mut sound = undoubted_marks(alloc, image, &found)?;
     let mut whole = sound.clone()?;
     strike_blamed(&found, &findings, &mut sound);
@@ -116,6 +119,7 @@ fn go_through<'i>(alloc: Global, started: &Started<'i>) -> Result<Survey<'i>, No
         findings,
         concerned,
         owners: found.owners,
+        contested,
         pages: found.pages,
         nodes: found.nodes,
         parents: found.parents,

@@ -2,7 +2,7 @@
 -- Letters: w the walk of a survey, fs its findings; n a file's node, h the block of its header; k the number of a data block, from 0; b its block;
 -- at a place in the file.
 use Rattle.std.specs.Prelude.{◌&&◌, ◌==◌, Bool, true, cond, Option, Some, None}
-use Rattle.std.proofs.Common.{◌≡◌, ℕ, suc, List, [], ◌+◌, ◌*◌, ◌≤◌, ◌<◌, length, refl, sym, ap, subst, ◌∙◌, arith, eq-eqb}
+use Rattle.std.proofs.Common.{◌≡◌, ℕ, suc, List, [], ◌+◌, ◌++◌, ◌*◌, ◌≤◌, ◌<◌, length, refl, sym, ap, subst, ◌∙◌, arith, eq-eqb}
 use Rattle.std.proofs.lemmas.Bool.Decides.{nat_tests}
 use Rattle.adf_blocks.specs.declared.layout.TheConstants.{SECONDARY_TYPE, ST_FILE}
 use Rattle.adf_blocks.specs.Sizes.{blocks, count}
@@ -12,9 +12,9 @@ use Rattle.adf_volume.specs.Walk.{FileAt, node_block, Walk}
 use Rattle.adf_volume.proofs.Gathered.{head_block}
 use Rattle.adf_volume.proofs.Sizes.{size_high}
 use Rattle.adf_findings.specs.declared.remains.Gap.{Gap}
-use Rattle.adf_findings.specs.Remains.{below, bytes_left, data_below, data_found, gaps_left, size_stated}
+use Rattle.adf_findings.specs.Remains.{below, bytes_left, data_left, gaps_left, left_below, size_stated}
 use Rattle.adf_findings.specs.Survey.{FindingValue, IsSurvey, IsSurvey.read, IsSurvey.unread}
-use Rattle.adf_findings.proofs.DataFound.{found_named, has_data}
+use Rattle.adf_findings.proofs.DataFound.{left_inside}
 use Rattle.adf_findings.proofs.OneSurvey.{gathered}
 use Rattle.adf_findings.proofs.Starts.{course_size}
 use Rattle.adf_memory.specs.declared.found_files.TheConstants.{NO_BLOCK}
@@ -32,13 +32,14 @@ pub both : {A : Type 0} (p q : Bool) (x y : A) → p ≡ true → q ≡ true →
 both p q x y a b = λ i. cond (a i && b i) x y
 
 -- what a survey tells of a file
-record IsTold (image : List ℕ) (w : Walk) (n h : ℕ) : Type 0 where
+record IsTold (image : List ℕ) (w : Walk) (fs : List FindingValue) (n h : ℕ) : Type 0 where
   whole : length image ≡ 512 * blocks image
   few : blocks image ≤ NO_BLOCK
-  inside : (k b : ℕ) → data_found w n k ≡ Some b → b < blocks image
+  inside : (k b : ℕ) → data_left image w fs n h k ≡ Some b → b < blocks image
+  head : node_block w n ≡ h
   size : size_stated image (node_block w n) ≡ file_size image h
 
-told : (image : List ℕ) (w : Walk) (fs : List FindingValue) (n h : ℕ) → IsSurvey image w fs → FileAt image w n h → IsTold image w n h
+told : (image : List ℕ) (w : Walk) (fs : List FindingValue) (n h : ℕ) → IsSurvey image w fs → FileAt image w n h → IsTold image w fs n h
 told image w fs n h (unread f) file = absurd file.header.has
 told image w fs n h (read {s = s} {bits = bits} v d t) file =
     let is = course_size image v in
@@ -46,39 +47,43 @@ told image w fs n h (read {s = s} {bits = bits} v d t) file =
     record {
       whole = is.0;
       few = omega arith;
-      inside = (λ k b e. (found_named image s.walk fs (read v d t) n h file k b (has_data s.walk n (suc k) b e)).1);
+      inside = (λ k b e. left_inside image s.walk (s.findings ++ bits) n h (read v d t) file k b e);
+      head = head_block image (gathered image v) file.header;
       size = ap (size_stated image) (head_block image (gathered image v) file.header)
           ∙ sym (both (length image == 512 * blocks image) (word_in image h SECONDARY_TYPE == ST_FILE) (size_stated image h) 0
           (eq-eqb (length image) (512 * blocks image) is.0) (eq-eqb (word_in image h SECONDARY_TYPE) ST_FILE file.type));
     }
 
 module _ (image : List ℕ) (w : Walk) (fs : List FindingValue) (n h : ℕ) (survey : IsSurvey image w fs) (file : FileAt image w n h) where
-  is : IsTold image w n h
+  is : IsTold image w fs n h
   is = told image w fs n h survey file
 
-  found : data_below (blocks image) w n ≡ data_found w n
-  found = λ i k. is_below (blocks image) (data_found w n k) (is.inside k) i
+  left : ℕ → Option ℕ
+  left = data_left image w fs n h
 
-  left_is : left_in image w n ≡ bytes_left image (file_size image h) (data_found w n) (file_block_count image h)
+  found : left_below (blocks image) image w fs n (node_block w n) ≡ left
+  found = (λ i. left_below (blocks image) image w fs n (is.head i)) ∙ (λ i k. is_below (blocks image) (left k) (is.inside k) i)
+
+  left_is : left_in image w fs n ≡ bytes_left image (file_size image h) left (file_block_count image h)
   left_is = λ i. bytes_left image (is.size i) (found i) (count (kind_of image) (is.size i))
 
-  gaps_are : gaps_in image w n ≡ gaps_left image (file_size image h) (data_found w n) (file_block_count image h)
+  gaps_are : gaps_in image w fs n ≡ gaps_left image (file_size image h) left (file_block_count image h)
   gaps_are = λ i. gaps_left image (is.size i) (found i) (count (kind_of image) (is.size i))
 
   -- outside of gaps the bytes up to the next one are read
-  pub bytes_read : (at : ℕ) → (IsInGap (gaps_in image w n) at → ⊥)
-      → found_from image h (found_blocks image w n h) at ≡ up_to_gap (gaps_in image w n) (left_in image w n) at
+  pub bytes_read : (at : ℕ) → (IsInGap (gaps_in image w fs n) at → ⊥)
+      → found_from image h (found_blocks image w fs n h) at ≡ up_to_gap (gaps_in image w fs n) (left_in image w fs n) at
   bytes_read at out =
-      bytes_outside image is.whole (file_size image h) (data_found w n) is.few is.inside at (subst (λ gs. IsInGap gs at → ⊥) gaps_are out)
+      bytes_outside image is.whole (file_size image h) left is.few is.inside at (subst (λ gs. IsInGap gs at → ⊥) gaps_are out)
       ∙ (λ i. up_to_gap (sym gaps_are i) (sym left_is i) at)
 
   -- and none are lost there
-  pub none_lost : (at : ℕ) → (IsInGap (gaps_in image w n) at → ⊥) → lost_from image h (found_blocks image w n h) at ≡ 0
+  pub none_lost : (at : ℕ) → (IsInGap (gaps_in image w fs n) at → ⊥) → lost_from image h (found_blocks image w fs n h) at ≡ 0
   none_lost at out =
-      none_lost_outside image is.whole (file_size image h) (data_found w n) is.few is.inside at (subst (λ gs. IsInGap gs at → ⊥) gaps_are out)
+      none_lost_outside image is.whole (file_size image h) left is.few is.inside at (subst (λ gs. IsInGap gs at → ⊥) gaps_are out)
 
   -- in a gap nothing is read, and the rest of the gap is lost
-  pub gap_lost : (g : Gap) (at : ℕ) → In (gaps_in image w n) g → g.first ≤ at → at ≤ g.last
-      → (found_from image h (found_blocks image w n h) at ≡ []) × (at + lost_from image h (found_blocks image w n h) at ≡ g.last + 1)
+  pub gap_lost : (g : Gap) (at : ℕ) → In (gaps_in image w fs n) g → g.first ≤ at → at ≤ g.last
+      → (found_from image h (found_blocks image w fs n h) at ≡ []) × (at + lost_from image h (found_blocks image w fs n h) at ≡ g.last + 1)
   gap_lost g at inside lo hi =
-      inside_gap image is.whole (file_size image h) (data_found w n) is.few is.inside g at (subst (λ gs. In gs g) gaps_are inside) lo hi
+      inside_gap image is.whole (file_size image h) left is.few is.inside g at (subst (λ gs. In gs g) gaps_are inside) lo hi

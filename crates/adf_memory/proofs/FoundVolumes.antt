@@ -15,9 +15,11 @@ use Rattle.adf_build.specs.Plan.{data_blocks, entries_blocks}
 use Rattle.adf_build.proofs.FreeBlocks.{size_small}
 use Rattle.adf_walk.specs.OwnerClass.{class_number}
 use Rattle.adf_walk.specs.declared.owner_class.OwnerClass.TheVariants as class
-use Rattle.adf_findings.specs.Remains.{data_found, size_stated}
+use Rattle.adf_findings.specs.Remains.{data_left, size_stated}
+use Rattle.adf_findings.specs.Sound.{IsOfItsKind}
 use Rattle.adf_findings.specs.Survey.{FindingValue, IsSurvey}
-use Rattle.adf_findings.proofs.FoundPages.{found_at}
+use Rattle.adf_findings.proofs.LeftOfSound.{sound_left}
+use Rattle.adf_findings.proofs.TreeLookups.{files_as_in_tree}
 use Rattle.adf_findings.proofs.PlainFindings.{finds_none, shown}
 use Rattle.adf_names.specs.declared.kind.Kind.{Kind}
 use Rattle.adf_rescue.proofs.FitBlocks.{fit_room}
@@ -29,7 +31,7 @@ use Rattle.adf_volume.specs.Image.{kind_of, word_in}
 use Rattle.adf_volume.specs.Layout.{EntryAt, Layout, at_node, datas_of, head_at}
 use Rattle.adf_volume.specs.LayoutRoles.{LayoutHas, owner_of}
 use Rattle.adf_volume.specs.Lists.{At}
-use Rattle.adf_volume.specs.Walk.{Role, Has, Walk, Role.Data}
+use Rattle.adf_volume.specs.Walk.{Role, Has, node_block, Walk, Role.Data, Role.Head}
 use Rattle.adf_volume.proofs.FitWalks.{one_fit}
 use Rattle.adf_volume.proofs.LayoutRoles.{owned_part, part_owned, part_range}
 use Rattle.adf_volume.proofs.WalkAgreement.{agreement}
@@ -79,12 +81,8 @@ module _ (image : List ℕ) (w : Walk) (fs : List FindingValue) (survey : IsSurv
   is_part : (t : Tree) (l : Layout) → Fits image t l → (r : Role) (b : ℕ) → Has w r b → LayoutHas image t l r b
   is_part t l fit r b h = agreement image t l fit w r b (shown image (clean t l fit)).1 h
 
-  -- a data block of the layout is found
-  data_there : (t : Tree) (l : Layout) → Fits image t l → (n k b : ℕ) → At (datas_of l n) k b → data_found w n k ≡ Some b
-  data_there t l fit n k b at = found_at image w fs survey (Data n (suc k)) b (has_part t l fit (Data n (suc k)) b at)
-
-  module _ (t : Tree) (l : Layout) (fit : Fits image t l) (i : ℕ) (e : Entry) (bytes : List ℕ) (at : At t.entries i e)
-      (body : e.body ≡ File bytes) where
+  module _ (t : Tree) (l : Layout) (fit : Fits image t l) (own : IsOfItsKind image w) (i : ℕ) (e : Entry) (bytes : List ℕ)
+      (at : At t.entries i e) (body : e.body ≡ File bytes) where
     abbrev n : ℕ
     n = suc i
 
@@ -93,6 +91,16 @@ module _ (image : List ℕ) (w : Walk) (fs : List FindingValue) (survey : IsSurv
 
     abbrev ds : List ℕ
     ds = datas_of l n
+
+    -- a data block of the layout is left
+    data_there : (k b : ℕ) → At ds k b → data_left image w fs n head k ≡ Some b
+    data_there k b here =
+        let sound = files_as_in_tree image t l w fs fit survey own n e bytes ((entry_is_at t n e).0 at) body in
+        let header = sound.0.0.header in
+        let same : head ≡ node_block w n =
+        (is_part t l fit (Head n header.parent header.slot header.place) (node_block w n) header.has).1 in
+        subst (λ h. data_left image w fs n h k ≡ Some b) (sym same)
+        (sound_left image w fs false n survey sound.0 k b (has_part t l fit (Data n (suc k)) b here))
 
     many : length ds ≡ count (kind_of image) (length bytes)
     many = (fit.files n e bytes at body).datas ∙ ap (λ k. count k (length bytes)) fit.kind
@@ -124,13 +132,13 @@ module _ (image : List ℕ) (w : Walk) (fs : List FindingValue) (survey : IsSurv
         ∙ ap (λ s. min s (length image)) stated ∙ min-eq_left (omega arith)
 
     -- the table of the file has its data blocks
-    blocks_found : found_blocks image w n head ≡ ds
+    blocks_found : found_blocks image w fs n head ≡ ds
     blocks_found =
         let long : file_block_count image head ≡ length ds = ap (count (kind_of image)) size_is ∙ sym many in
-        ap (λ m. map (λ k. unwrap_or (data_found w n k) NO_BLOCK) (range_with_len 0 m)) long
-        ∙ listed ds (λ k. unwrap_or (data_found w n k) NO_BLOCK) 0
+        ap (λ m. map (λ k. unwrap_or (data_left image w fs n head k) NO_BLOCK) (range_with_len 0 m)) long
+        ∙ listed ds (λ k. unwrap_or (data_left image w fs n head k) NO_BLOCK) 0
         (λ k b here. let z : 0 + k ≡ k = omega arith in
-        ap (λ k. unwrap_or (data_found w n k) NO_BLOCK) z ∙ ap (λ o. unwrap_or o NO_BLOCK) (data_there t l fit n k b here))
+        ap (λ k. unwrap_or (data_left image w fs n head k) NO_BLOCK) z ∙ ap (λ o. unwrap_or o NO_BLOCK) (data_there k b here))
 
     abbrev row : TableEntry
     row = table_entry head 0 e
@@ -139,7 +147,7 @@ module _ (image : List ℕ) (w : Walk) (fs : List FindingValue) (survey : IsSurv
     length_is = ap (λ b. length (bytes_of_body b)) body
 
     -- and so its bytes
-    bytes_found : (from : ℕ) → found_from image head (found_blocks image w n head) from ≡ drop from (bytes_at t n)
+    bytes_found : (from : ℕ) → found_from image head (found_blocks image w fs n head) from ≡ drop from (bytes_at t n)
     bytes_found from =
         let told = told_read image t l i e fit at in
         let is : AreDatasOf image row ds ds = record {
@@ -155,31 +163,34 @@ module _ (image : List ℕ) (w : Walk) (fs : List FindingValue) (survey : IsSurv
         ∙ file_read image row ds ds from is ∙ ap (drop from) told.bytes
 
     -- of which none is lost
-    none_lost : (from : ℕ) → lost_from image head (found_blocks image w n head) from ≡ 0
+    none_lost : (from : ℕ) → lost_from image head (found_blocks image w fs n head) from ≡ 0
     none_lost from =
         let told = told_read image t l i e fit at in
         let size : ℕ = chunk (kind_of image) in
-        let none : missing image (drop (from / size) (found_blocks image w n head)) ≡ 0 =
+        let none : missing image (drop (from / size) (found_blocks image w fs n head)) ≡ 0 =
         ap (λ bs. missing image (drop (from / size) bs)) blocks_found
         ∙ none_missing image ds (from / size) (are_in told.datas.listed) in
         ap (λ m. min (file_size image head) (size * (from / size + m)) - from) none
         ∙ none_behind (kind_of image) (file_size image head) from
 
   -- the same of an entry by its node
-  pub blocks_as_laid : (t : Tree) (l : Layout) → Fits image t l → (n : ℕ) (e : Entry) (bytes : List ℕ) → EntryAt t n e → e.body ≡ File bytes
-      → found_blocks image w n (at_node image l n) ≡ datas_of l n
-  blocks_as_laid t l fit zero e bytes at body = absurd at
-  blocks_as_laid t l fit (suc i) e bytes at body = blocks_found t l fit i e bytes at body
+  pub blocks_as_laid : (t : Tree) (l : Layout) → Fits image t l → IsOfItsKind image w → (n : ℕ) (e : Entry) (bytes : List ℕ)
+      → EntryAt t n e → e.body ≡ File bytes
+      → found_blocks image w fs n (at_node image l n) ≡ datas_of l n
+  blocks_as_laid t l fit own zero e bytes at body = absurd at
+  blocks_as_laid t l fit own (suc i) e bytes at body = blocks_found t l fit own i e bytes at body
 
-  pub bytes_as_laid : (t : Tree) (l : Layout) → Fits image t l → (n : ℕ) (e : Entry) (bytes : List ℕ) → EntryAt t n e → e.body ≡ File bytes
-      → (from : ℕ) → found_from image (at_node image l n) (found_blocks image w n (at_node image l n)) from ≡ drop from (bytes_at t n)
-  bytes_as_laid t l fit zero e bytes at body from = absurd at
-  bytes_as_laid t l fit (suc i) e bytes at body from = bytes_found t l fit i e bytes at body from
+  pub bytes_as_laid : (t : Tree) (l : Layout) → Fits image t l → IsOfItsKind image w → (n : ℕ) (e : Entry) (bytes : List ℕ)
+      → EntryAt t n e → e.body ≡ File bytes
+      → (from : ℕ) → found_from image (at_node image l n) (found_blocks image w fs n (at_node image l n)) from ≡ drop from (bytes_at t n)
+  bytes_as_laid t l fit own zero e bytes at body from = absurd at
+  bytes_as_laid t l fit own (suc i) e bytes at body from = bytes_found t l fit own i e bytes at body from
 
-  pub none_lost_of : (t : Tree) (l : Layout) → Fits image t l → (n : ℕ) (e : Entry) (bytes : List ℕ) → EntryAt t n e → e.body ≡ File bytes
-      → (from : ℕ) → lost_from image (at_node image l n) (found_blocks image w n (at_node image l n)) from ≡ 0
-  none_lost_of t l fit zero e bytes at body from = absurd at
-  none_lost_of t l fit (suc i) e bytes at body from = none_lost t l fit i e bytes at body from
+  pub none_lost_of : (t : Tree) (l : Layout) → Fits image t l → IsOfItsKind image w → (n : ℕ) (e : Entry) (bytes : List ℕ)
+      → EntryAt t n e → e.body ≡ File bytes
+      → (from : ℕ) → lost_from image (at_node image l n) (found_blocks image w fs n (at_node image l n)) from ≡ 0
+  none_lost_of t l fit own zero e bytes at body from = absurd at
+  none_lost_of t l fit own (suc i) e bytes at body from = none_lost t l fit own i e bytes at body from
 
   -- what fits by other letters fits by these
   as_plain : (t : Tree) (l : Layout) → Fits image t l → (letters : Letters) (u : Tree) (m : Layout) → FitsBy letters image u m → Fits image u m

@@ -22,7 +22,7 @@ use Rattle.adf_runs.specs.Commands.{Reply}
 use Rattle.adf_survey_cmd.specs.Hints.{Hinted}
 use Rattle.adf_survey_cmd.specs.Lengths.{blocks_read, other_length, stated_length}
 use Rattle.adf_survey_cmd.specs.Subject.{IsTyped, OfTyped, SubjectValue, as_long, begun_subject, behind_loss, behind_text, changed, held_end, meant}
-use Rattle.adf_survey_cmd.specs.Subject.{missing_text, sized, subject, subject_read, type_line, type_text, typed_by, typed_subject}
+use Rattle.adf_survey_cmd.specs.Subject.{missing_text, sized, subject, subject_read, type_line, type_word, typed_by, typed_subject}
 use Rattle.adf_survey_cmd.specs.Losses.{LossValue, run_loss}
 use Rattle.adf_survey_cmd.proofs.Subjects.{other_long, typed_either}
 use Rattle.adf_memory.specs.FoundTables.{mark_number}
@@ -52,7 +52,7 @@ changed_end false s image line = refl
 -- the line of a type is one
 type_line_some : (t : ℕ) → 0 < length (type_line t)
 unfolding type_line
-type_line_some t = omega (arith, length-append (codes "block 0: files of ") (type_text t ++ codes "\n"))
+type_line_some t = omega (arith, length-append (codes "block 0: files of ") (type_word t ++ codes "\n"))
 
 -- so there is one more line if and only if the type is changed
 longer : (is : Bool) (s : SubjectValue) (t : ℕ) → nat_lt (length s.front) (length (typed_by s (cond is (Some t) None)).front) ≡ is
@@ -282,7 +282,7 @@ module _ (n : ℕ) (input old new : List ℕ) (told : SubjectTold) (has : HasSub
   told_end : told.held ≡ s.end
   told_end = ap (λ (x : SubjectTold). x.held) has.tells ∙ surveyed_end s has.walk
 
-  told_is : tells [] (λ end k. []) input told (stated_length (asked_blocks n) input) (blocks_read (asked_blocks n) input)
+  told_is : tells {X = List ℕ} [] (λ end k. []) input told (stated_length (asked_blocks n) input) (blocks_read (asked_blocks n) input)
   told_is = (has_length s old new told has, told_end)
 
   told_front : front_lines n (blocks input) (take told.length new) told ≡ (surveyed_subject s has.walk).front
@@ -295,8 +295,8 @@ module _ (n : ℕ) (input old new : List ℕ) (told : SubjectTold) (has : HasSub
       let marks = has.tells in
       let image = room_image s old new told has in
       (λ i.
-          (sym read i ++ cond ((marks i).is_begun == 1) (codes "block 0: not dos\n") [])
-          ++ cond ((marks i).is_retyped == 1) (type_line (slice_index (image i) 3)) [])
+      (sym read i ++ cond ((marks i).is_begun == 1) (codes "block 0: not dos\n") [])
+      ++ cond ((marks i).is_retyped == 1) (type_line (slice_index (image i) 3)) [])
       ∙ sym (surveyed_front s has.walk has.findings has.survey)
 
   told_lost : blocks_lost n (blocks input) told ≡ (surveyed_subject s has.walk).lost

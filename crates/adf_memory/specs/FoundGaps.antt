@@ -1,19 +1,20 @@
 -- What is left of a file by all blocks of the image, and where its gaps are.
--- Letters: w the walk of a survey; n a file's node; gs gaps, in order; bytes those of a file, with zeros in its gaps; at a place in the file.
+-- Letters: w the walk of a survey, fs its findings; n a file's node; gs gaps, in order; bytes those of a file, with zeros in its gaps; at a place in the file.
 use Rattle.std.specs.Prelude.{◌-◌, ◌≤◌, ℕ, List, [], ◌∷◌, cond, drop, length, nat_le, take}
 use Rattle.adf_blocks.specs.Sizes.{blocks}
 use Rattle.adf_volume.specs.Lists.{In}
 use Rattle.adf_volume.specs.Walk.{Walk}
 use Rattle.adf_findings.specs.declared.remains.Gap.{Gap}
 use Rattle.adf_findings.specs.Remains.{gaps_of, left_of}
+use Rattle.adf_findings.specs.Survey.{FindingValue}
 
 -- what is left of file n by all blocks of the image
-abbrev pub left_in : List ℕ → Walk → ℕ → List ℕ
-left_in image w n = left_of image w (blocks image) n
+abbrev pub left_in : List ℕ → Walk → List FindingValue → ℕ → List ℕ
+left_in image w fs n = left_of image w fs (blocks image) n
 
 -- the gaps in it
-abbrev pub gaps_in : List ℕ → Walk → ℕ → List Gap
-gaps_in image w n = gaps_of image w (blocks image) n
+abbrev pub gaps_in : List ℕ → Walk → List FindingValue → ℕ → List Gap
+gaps_in image w fs n = gaps_of image w fs (blocks image) n
 
 -- a place lies in a gap
 abbrev pub IsInGap : List Gap → ℕ → Type 0

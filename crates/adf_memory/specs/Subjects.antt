@@ -57,7 +57,7 @@ stated_blocks n given = cond (n == 0) (min MOST_BLOCKS given) n
 abbrev pub front_lines : (n given : ℕ) → List ℕ → SubjectTold → List ℕ
 front_lines n given image told =
     (of_read [] (λ end read. missing_text end read ++ behind_text read (stated_blocks n given)) n given told
-        ++ cond (told.is_begun == 1) (codes "block 0: not dos\n") [])
+    ++ cond (told.is_begun == 1) (codes "block 0: not dos\n") [])
     ++ cond (told.is_retyped == 1) (type_line (slice_index image 3)) []
 
 -- the losses of blocks that it has not, and of block 0, if the type was another

@@ -1,13 +1,16 @@
 // What is read of the files that a survey finds.
 
 ghost use Rattle.std.specs.Prelude.{◌≡◌, ◌≤◌, ◌<◌, ◌+◌, ◌*◌, ◌^◌, drop, length, map, min};
+ghost use Rattle.std.specs.Option.{unwrap_or};
 ghost use Rattle.std.specs.List.{range_with_len};
 ghost use Rattle.adf_blocks.specs.Sizes.{blocks as blocks_of};
-ghost use Rattle.adf_volume.specs.Image.{word_in};
+ghost use Rattle.adf_volume.specs.Image.{kind_of as kind_in, word_in};
 ghost use Rattle.adf_volume.specs.Walk.{FileAt};
+ghost use Rattle.adf_findings.specs.Files.{named_from};
+ghost use Rattle.adf_findings.specs.Remains.{own_data};
 ghost use Rattle.adf_findings.specs.Survey.{OnSurvey};
-ghost use Rattle.adf_memory.specs.FoundFiles.{block_if, file_block_count, file_size, found_blocks, found_from, found_part_table};
-ghost use Rattle.adf_memory.specs.FoundFiles.{is_data_row, lost_from, missing, named_block, named_blocks};
+ghost use Rattle.adf_memory.specs.FoundFiles.{file_block_count, file_size, found_blocks, found_from, found_part_table};
+ghost use Rattle.adf_memory.specs.FoundFiles.{is_data_row, lost_from, missing, named_block, named_blocks, row_data};
 ghost use Rattle.adf_memory.specs.Rooms.{filled};
 
 use crate::found_parts::FoundPart;
@@ -15,6 +18,8 @@ use crate::reading::{kind_of, put_bytes};
 use crate::tables::put;
 use adf_base::{BLOCK_LEN, Block};
 use adf_blocks::{EXTENSION, FIRST_POINTER, POINTERS, SECONDARY_TYPE, SIZE, ST_FILE, chunk_len};
+use adf_findings::says_data_of;
+use adf_tree::Kind;
 use adf_volume::count_of;
 
 /// The number that stands for no block in the table of a file.
@@ -52,6 +57,7 @@ fn file_size(image: &[u8], header: u32) -> u32
 // How many data blocks the size of a file asks for.
 fn file_block_count(image: &[u8], header: u32) -> u32
     ensures count { result ≡ file_block_count image.now header }
+    ensures some { 0 < result → 512 ≤ length image.now }
     ensures whole { 0 < result → length image.now ≡ 512 * blocks_of image.now }
 {
     let size = file_size(image, header);
@@ -72,16 +78,32 @@ fn is_data_row(node: usize, k: u32, part: Option<FoundPart>) -> bool
     }
 }
 
-// A block, if the image has it and its row is that of data block `k` of a file; else `NO_BLOCK`.
-fn block_if(image: &[u8], parts: &[FoundPart], node: usize, k: u32, b: u32) -> u32
+// A block, if the image has it and its row is that of data block `k` of a file.
+fn row_data(image: &[u8], parts: &[FoundPart], node: usize, k: u32, b: u32) -> Option<u32>
     requires { k + 1 < 2 ^ 32 }
-    ensures { result ≡ block_if image.now parts.now node k b }
+    ensures { result ≡ row_data image.now parts.now node k b }
 {
     let part = parts.get(b as usize).copied();
     if (b as usize) < image.len() / BLOCK_LEN && is_data_row(node, k, part) {
-        b
+        Some(b)
     } else {
-        NO_BLOCK
+        None
+    }
+}
+
+// The block of data block `k` of a file, by the block that its table names and by the one found, if it is the file's own; else
+// `NO_BLOCK`.
+fn own_block(image: &[u8], header: u32, k: u32, named: u32, found: Option<u32>) -> u32
+    requires small { k + 1 < 2 ^ 32 }
+    requires some { 512 ≤ length image.now }
+    requires whole { length image.now ≡ 512 * blocks_of image.now }
+    requires named { named ≡ named_from image.now header k }
+    ensures { result ≡ unwrap_or (own_data (kind_in image.now) image.now header k found) NO_BLOCK }
+{
+    match (kind_of(image), found) {
+        (Kind::Ofs, _) if says_data_of(image, header, k + 1, named) => named,
+        (Kind::Ffs, Some(b)) if !says_data_of(image, header, k + 1, b) => b,
+        _ => NO_BLOCK,
     }
 }
 
@@ -94,13 +116,15 @@ fn put_named(
     count: u32,
     table: &mut [u32],
 )
-    requires { 0 < count → length image.now ≡ 512 * blocks_of image.now }
+    requires some { 0 < count → 512 ≤ length image.now }
+    requires whole { 0 < count → length image.now ≡ 512 * blocks_of image.now }
     ensures { table.new ≡ filled (map (named_block image.now parts.now node header) (range_with_len 0 count)) table.old }
 {
     let mut member = header;
     for k in 0..count {
         let b = word_in(image, member, FIRST_POINTER - k as usize % POINTERS);
-        put(table, k as usize, block_if(image, parts, node, k, b));
+        let found = row_data(image, parts, node, k, b);
+        put(table, k as usize, own_block(image, header, k, b, found));
         if (k as usize + 1) % POINTERS == 0 {
             member = word_in(image, member, EXTENSION);
         }
@@ -108,7 +132,7 @@ fn put_named(
 }
 
 /// Fills the table of a file that a survey found, by the node of its entry and the block of its header, as far as it has room:
-/// its data blocks in order, with `NO_BLOCK` for each that is not found. Returns how many its size asks for; 0 for what is no
+/// its data blocks in order, with `NO_BLOCK` for each that is not left. Returns how many its size asks for; 0 for what is no
 /// file. It does not allocate.
 pub fn put_found_blocks(
     image: &[u8],
@@ -117,11 +141,12 @@ pub fn put_found_blocks(
     header: u32,
     table: &mut [u32],
 ) -> usize
-    // If the rows are those of the image's survey, the table is that of what its walk has of the file.
-    ensures blocks { OnSurvey image.now (λ w _. FileAt image.now w node header → parts.now ≡ found_part_table image.now w
-        → table.new ≡ filled (found_blocks image.now w node header) table.old) }
+    // If the rows are those of the image's survey, the table is that of what is left of the file.
+    ensures blocks { OnSurvey image.now (λ w fs. FileAt image.now w node header
+        → parts.now ≡ found_part_table image.now w fs
+        → table.new ≡ filled (found_blocks image.now w fs node header) table.old) }
 
-    // For any rows it is that of what the header and its extension blocks name.
+    // For any rows it is that of what the header and its extension blocks name, as far as it is the file's own.
     ensures count { result ≡ file_block_count image.now header }
     ensures any_blocks { table.new ≡ filled (named_blocks image.now parts.now node header) table.old }
 {
@@ -130,7 +155,7 @@ pub fn put_found_blocks(
     count as usize
 }
 
-// How many data blocks at the front of a table are not found.
+// How many data blocks at the front of a table are not left.
 fn missing(image: &[u8], table: &[u32]) -> usize
     ensures count { result ≡ missing image.now table.now }
     ensures few { result < 2 ^ 63 }
@@ -144,7 +169,7 @@ fn missing(image: &[u8], table: &[u32]) -> usize
     table.len()
 }
 
-// How many bytes of a file from a place on are in data blocks that are not found.
+// How many bytes of a file from a place on are in data blocks that are not left.
 fn lost_from(image: &[u8], header: u32, table: &[u32], at: usize) -> usize
     ensures { result ≡ lost_from image.now header table.now at }
 {

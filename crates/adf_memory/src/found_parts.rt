@@ -18,23 +18,23 @@ use std::alloc::Global;
 pub struct FoundPart {
     /// The number of the entry that has the block; 0 for a block of the root or the bitmap, and for one that no part has.
     pub node: usize,
-    /// The number of the data block of a file that it is, from 1; otherwise 0.
+    /// The number of the data block of a file that it is, from 1, where no other part asks for the block; otherwise 0.
     pub number: u32,
 }
 
 // The row of a block.
 fn part_at(survey: &Survey<'_>, b: u32) -> FoundPart
-    ensures { OnSurvey survey.now.image (λ w _. result ≡ part_at w b) }
+    ensures { OnSurvey survey.now.image (λ w fs. result ≡ part_at w fs b) }
 {
     FoundPart {
         node: owner_number(survey.entry_at(b)),
-        number: survey.data_number(b),
+        number: survey.number_alone(b),
     }
 }
 
 // Fills the table as far as there is room.
 fn put_parts(survey: &Survey<'_>, room: &mut [FoundPart])
-    ensures { OnSurvey survey.now.image (λ w _. room.new ≡ filled (found_part_table survey.now.image w) room.old) }
+    ensures { OnSurvey survey.now.image (λ w fs. room.new ≡ filled (found_part_table survey.now.image w fs) room.old) }
 {
     let Some(opening) = survey.opening() else {
         return;
@@ -50,7 +50,7 @@ pub fn put_found_parts(alloc: Global, image: &[u8], parts: &mut [FoundPart]) -> 
     ensures number { (result ≡ 0) ⊎ WantsMemory result }
 
     // The table is that of the image's one survey.
-    ensures parts { result ≡ 0 → OnSurvey image.now (λ w _. parts.new ≡ filled (found_part_table image.now w) parts.old) }
+    ensures parts { result ≡ 0 → OnSurvey image.now (λ w fs. parts.new ≡ filled (found_part_table image.now w fs) parts.old) }
 
     // If memory ran out, the table is unchanged.
     ensures unchanged { WantsMemory result → parts.new ≡ parts.old }

@@ -9,6 +9,7 @@ ghost use Rattle.adf_volume.specs.Layout.{EntryAt, Layout, at_node, datas_of};
 ghost use Rattle.adf_volume.specs.Lists.{In};
 ghost use Rattle.adf_volume.specs.Walk.{FileAt, Walk};
 ghost use Rattle.adf_findings.specs.declared.remains.Gap.{Gap};
+ghost use Rattle.adf_findings.specs.Sound.{IsOfItsKind};
 ghost use Rattle.adf_findings.specs.Survey.{FindingValue, IsSurvey};
 ghost use Rattle.adf_memory.specs.FoundFiles.{found_blocks, found_from, lost_from};
 ghost use Rattle.adf_memory.specs.FoundGaps.{IsInGap, gaps_in, left_in, up_to_gap};
@@ -20,34 +21,34 @@ ghost use Rattle.adf_memory.specs.Tables.{bytes_at};
 /// the next gap are read. From a place in a gap on, nothing is read, and all up to the end of the gap is lost.
 pub fn found_files_are_what_is_left()
     ensures bytes { (image : List ℕ) (w : Walk) (fs : List FindingValue) (n h at : ℕ)
-        → IsSurvey image w fs → FileAt image w n h → (IsInGap (gaps_in image w n) at → ⊥)
-        → found_from image h (found_blocks image w n h) at
-        ≡ up_to_gap (gaps_in image w n) (left_in image w n) at }
+        → IsSurvey image w fs → FileAt image w n h → (IsInGap (gaps_in image w fs n) at → ⊥)
+        → found_from image h (found_blocks image w fs n h) at
+        ≡ up_to_gap (gaps_in image w fs n) (left_in image w fs n) at }
     ensures none_lost { (image : List ℕ) (w : Walk) (fs : List FindingValue) (n h at : ℕ)
-        → IsSurvey image w fs → FileAt image w n h → (IsInGap (gaps_in image w n) at → ⊥)
-        → lost_from image h (found_blocks image w n h) at ≡ 0 }
+        → IsSurvey image w fs → FileAt image w n h → (IsInGap (gaps_in image w fs n) at → ⊥)
+        → lost_from image h (found_blocks image w fs n h) at ≡ 0 }
     ensures gaps { (image : List ℕ) (w : Walk) (fs : List FindingValue) (n h at : ℕ) (g : Gap)
-        → IsSurvey image w fs → FileAt image w n h → In (gaps_in image w n) g → g.first ≤ at → at ≤ g.last
-        → (found_from image h (found_blocks image w n h) at ≡ [])
-        × (at + lost_from image h (found_blocks image w n h) at ≡ g.last + 1) }
+        → IsSurvey image w fs → FileAt image w n h → In (gaps_in image w fs n) g → g.first ≤ at → at ≤ g.last
+        → (found_from image h (found_blocks image w fs n h) at ≡ [])
+        × (at + lost_from image h (found_blocks image w fs n h) at ≡ g.last + 1) }
 {}
 
-/// Of a volume, the table of a file has its data blocks, its bytes are read, and none are lost; and the role of a
-/// block by the survey is the number of its owner.
+/// Of a volume, where no data block of FFS says that it is an OFS one, the table of a file has its data blocks, its bytes
+/// are read, and none are lost; and the role of a block by the survey is the number of its owner.
 pub fn found_files_are_those_of_the_tree()
     ensures blocks { (image : List ℕ) (t : Tree) (l : Layout) (w : Walk) (fs : List FindingValue)
         (n : ℕ) (e : Entry) (bytes : List ℕ) → Fits image t l → IsSurvey image w fs
-        → EntryAt t n e → e.body ≡ File bytes
-        → found_blocks image w n (at_node image l n) ≡ datas_of l n }
+        → IsOfItsKind image w → EntryAt t n e → e.body ≡ File bytes
+        → found_blocks image w fs n (at_node image l n) ≡ datas_of l n }
     ensures bytes { (image : List ℕ) (t : Tree) (l : Layout) (w : Walk) (fs : List FindingValue)
         (n at : ℕ) (e : Entry) (bytes : List ℕ) → Fits image t l → IsSurvey image w fs
-        → EntryAt t n e → e.body ≡ File bytes
-        → found_from image (at_node image l n) (found_blocks image w n (at_node image l n)) at
+        → IsOfItsKind image w → EntryAt t n e → e.body ≡ File bytes
+        → found_from image (at_node image l n) (found_blocks image w fs n (at_node image l n)) at
         ≡ drop at (bytes_at t n) }
     ensures none_lost { (image : List ℕ) (t : Tree) (l : Layout) (w : Walk) (fs : List FindingValue)
         (n at : ℕ) (e : Entry) (bytes : List ℕ) → Fits image t l → IsSurvey image w fs
-        → EntryAt t n e → e.body ≡ File bytes
-        → lost_from image (at_node image l n) (found_blocks image w n (at_node image l n)) at ≡ 0 }
+        → IsOfItsKind image w → EntryAt t n e → e.body ≡ File bytes
+        → lost_from image (at_node image l n) (found_blocks image w fs n (at_node image l n)) at ≡ 0 }
     ensures roles { (image : List ℕ) (t : Tree) (l : Layout) (w : Walk) (fs : List FindingValue)
         (b r : ℕ) → Fits image t l → IsSurvey image w fs → IsFoundRole w b r → IsOwnerNumber image b r }
 {}

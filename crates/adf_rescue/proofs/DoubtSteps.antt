@@ -1,7 +1,7 @@
 -- The entries kept in doubt, with one more verdict.
 -- Letters: doubt the doubt about each node; vs verdicts; n the node of the first one; k a number of verdicts.
 use Rattle.std.specs.List.{cons_option}
-use Rattle.std.specs.Prelude.{Option, Some, None}
+use Rattle.std.specs.Prelude.{Option, None}
 use Rattle.std.proofs.Common.{◌≡◌, ◌≤◌, ◌∙◌, ◌+◌, ℕ, Bool, false, zero, suc, List, [], ◌∷◌, ◌++◌, add-one, ap, arith, length, map, refl, take, take_all}
 use Rattle.std.proofs.lemmas.Grind.{common_steps}
 use Rattle.adf_findings.specs.Members.{has_mark}

@@ -2,11 +2,11 @@
 -- Letters: given the image of a survey, w its walk, s whether each directory is open; b, c, d, p, e blocks; n, m nodes; i the number of a
 -- word; k that of one too, or a number of blocks or nodes;
 -- x, y, z images.
-use Rattle.std.proofs.Common.{◌==◌, ◌&&◌, ◌||◌, ◌%◌, ◌/◌, None, Some, cond, is_some, option_map, Option, replicate, slice_index, ◌≡◌, ◌≢◌, ◌≤◌, ◌<◌, ℕ, zero, suc, ◌*◌, ◌+◌, ◌^◌, Bool}
-use Rattle.std.proofs.Common.{true, false, List, [], ◌∷◌, length, ◌∙◌, ap, arith, inl, inr, refl, subst, sym, ◌⊎◌}
+use Rattle.std.proofs.Common.{◌==◌, ◌&&◌, ◌||◌, ◌%◌, ◌/◌, None, Some, cond, is_some, option_map, Option, replicate, slice_index, ◌≡◌, ◌≢◌, ◌≤◌, ◌<◌, ℕ}
+use Rattle.std.proofs.Common.{zero, suc, ◌*◌, ◌+◌, ◌^◌, Bool, true, false, List, [], ◌∷◌, length, ◌∙◌, ap, arith, inl, inr, refl, subst, sym, ◌⊎◌}
 use Rattle.std.specs.Prelude.{nat_le, nat_lt}
 use Rattle.std.specs.Option.{unwrap_or}
-use Rattle.std.proofs.lemmas.Bool.{and_from, and_left, and_parts, and_right, cases_Bool, cond-false, cond-true, cond_both, not_from_true, or_left, or_right}
+use Rattle.std.proofs.lemmas.Bool.{and_left, and_parts, and_right, cases_Bool, cond-false, cond-true, cond_both, not_from_true, or_left, or_right}
 use Rattle.std.proofs.lemmas.Bool.{eq-eqb, eqb-true}
 use Rattle.std.proofs.lemmas.Bool.Decides.{nat_tests}
 use Rattle.std.proofs.lemmas.List.{length-replicate}

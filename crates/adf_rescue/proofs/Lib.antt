@@ -32,6 +32,10 @@ pub mod LostHeaders
 pub mod HungImages
 -- what stays in a hung image
 pub mod HungKeeps
+-- pruned images
+pub mod PrunedImages
+-- what stays in a pruned image
+pub mod PrunedKeeps
 -- what is made of bytes is bytes
 pub mod RescuedBytes
 -- what stands fits in a volume, and is laid there

@@ -52,5 +52,5 @@ pub one_basis : (image : List ℕ) (l m : Basis) → IsBasis image l → IsBasis
 one_basis image l m x y = grind (arith, one_survey, same_basis)
 
 -- nothing is lost without a finding
-pub nothing_lost : (image : List ℕ) (w : Walk) (fs : List FindingValue) → fs ≡ [] → (mended : Bool) → has_lost mended image w fs ≡ false
+pub nothing_lost : (image : List ℕ) (w : Walk) (fs : List FindingValue) → fs ≡ [] → (made : Bool) → has_lost made image w fs ≡ false
 nothing_lost image w fs none = grind (arith, common_steps, and-false)

@@ -1,15 +1,15 @@
 -- The images that a rescue makes of bytes are bytes.
 -- Letters: given the image of a survey, w its walk, s whether each directory is settled; b, p, e blocks; i the number of a word;
 -- k a number of blocks.
-use Rattle.std.proofs.Common.{◌<◌, ◌≤◌, ◌*◌, ◌^◌, ◌++◌, ◌&&◌, ℕ, zero, suc, Bool, List, [], ◌∷◌, arith, codes, decimal, drop, length, length-append, replicate}
+use Rattle.std.proofs.Common.{◌<◌, ◌≤◌, ◌*◌, ◌^◌, ◌++◌, ℕ, zero, suc, Bool, List, [], ◌∷◌, arith, codes, decimal, drop, length, length-append, replicate}
 use Rattle.std.proofs.lemmas.Bool.{cond_both}
 use Rattle.std.proofs.lemmas.Fmt.{decimal_is_IsNumeral, length-decimal-le}
 use Rattle.std.proofs.lemmas.List.Elements.{All-append, All-cons, All-drop, All-from_get_or, All-from_recursion, All-nil, All-replicate, All-take}
 use Rattle.std.proofs.lemmas.Str.Parse.{digit_at}
 use Rattle.std.proofs.lemmas.Grind.{common_steps}
-use Rattle.adf_base.specs.Words.{block, with_bytes}
+use Rattle.adf_base.specs.Words.{block, with_bytes, with_word}
 use Rattle.adf_base.proofs.ByteLists.{AreBytes, IsByte, block_bytes, block_written_bytes, range_bytes, sealed_bytes, word_written, written_bytes}
-use Rattle.adf_blocks.specs.declared.layout.TheConstants.{CHECKSUM, FIRST_SLOT, NAME, SLOTS}
+use Rattle.adf_blocks.specs.declared.layout.TheConstants.{BITMAP_FLAG, CHECKSUM, FIRST_SLOT, NAME, SLOTS}
 use Rattle.adf_blocks.specs.Forms.{text_at}
 use Rattle.adf_blocks.specs.HeadBlock.{head_block}
 use Rattle.adf_blocks.specs.RootBlock.{label_stated, root_block}
@@ -17,12 +17,10 @@ use Rattle.adf_blocks.specs.Sizes.{blocks}
 use Rattle.adf_blocks.proofs.ByteBlocks.{head_bytes, root_bytes}
 use Rattle.adf_volume.specs.Image.{root_of}
 use Rattle.adf_volume.specs.Walk.{Walk}
-use Rattle.adf_findings.specs.Start.{has_root_type}
 use Rattle.adf_rescue.specs.Hung.{emptied, hung, hung_at, hung_behind, hung_first, hung_in, hung_loose, made_header}
 use Rattle.adf_rescue.specs.Hung.{put_in, readied, ready_in, sealed_in}
-use Rattle.adf_rescue.specs.MadeRoot.{has_root, label_in, made_root, middle_block, rooted}
-use Rattle.adf_boot_blocks.specs.BootBlocks.{begins_with_dos}
-use Rattle.adf_rescue.specs.Opened.{with_boot_type, has_data, is_mended, opened, type_byte}
+use Rattle.adf_rescue.specs.MadeRoot.{flag_in, has_root, is_like_root, label_in, made_block, made_root, middle_block, rooted}
+use Rattle.adf_rescue.specs.Opened.{with_boot_type, has_data, is_mended, opened, states_type, type_byte}
 use Rattle.adf_rescue.specs.Rescue.{lost_name}
 use Rattle.adf_rescue.proofs.MadeRoots.{made_fits}
 
@@ -36,7 +34,7 @@ dos_bytes = All-from_recursion IsByte (codes "DOS") (omega arith, (omega arith, 
 
 pub begun_bytes : (image : List ℕ) → AreBytes image → AreBytes (with_boot_type image)
 begun_bytes image are =
-    cond_both (begins_with_dos image) image (codes "DOS" ++ type_byte image ∷ drop 4 image) AreBytes (λ e. are)
+    cond_both (states_type image) image (codes "DOS" ++ type_byte image ∷ drop 4 image) AreBytes (λ e. are)
     (λ e. All-append IsByte (codes "DOS") (type_byte image ∷ drop 4 image) dos_bytes
     (All-cons IsByte (type_byte image) (drop 4 image) (type_small image) (All-drop IsByte 4 image are)))
 
@@ -44,15 +42,17 @@ stated_bytes : (b : List ℕ) → AreBytes b → AreBytes (label_stated b)
 stated_bytes b are = All-take IsByte 30 (text_at b NAME) (range_bytes b _ _ are)
 
 label_bytes : (b : List ℕ) → AreBytes b → AreBytes (label_in b)
-label_bytes b are = cond_both (has_root_type b) (label_stated b) [] AreBytes (λ e. stated_bytes b are) (λ e. All-nil IsByte)
+label_bytes b are = cond_both (is_like_root b) (label_stated b) [] AreBytes (λ e. stated_bytes b are) (λ e. All-nil IsByte)
 
 rooted_bytes : (image : List ℕ) → AreBytes image → AreBytes (rooted image)
 rooted_bytes image are =
     let fits = made_fits image in
     let label = label_bytes (middle_block image) (block_bytes image (root_of image) are) in
     cond_both (has_root image) image _ AreBytes (λ e. are)
-    (λ e. block_written_bytes image (root_of image) (root_block (made_root image)) are
-    (root_bytes (made_root image) (omega (arith, fits.label)) label))
+    (λ e. block_written_bytes image (root_of image) (made_block image) are
+    (sealed_bytes CHECKSUM (with_word (root_block (made_root image)) BITMAP_FLAG (flag_in (middle_block image)))
+    (word_written (root_block (made_root image)) BITMAP_FLAG (flag_in (middle_block image))
+    (root_bytes (made_root image) (omega (arith, fits.label)) label))))
 
 pub opened_bytes : (image : List ℕ) → AreBytes image → AreBytes (opened image)
 opened_bytes image are =

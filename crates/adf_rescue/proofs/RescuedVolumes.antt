@@ -2,8 +2,8 @@
 -- Letters: g what is taken before a survey, l the survey, vs the verdicts on its entries so far, v one more; n a number of blocks;
 -- k a number of entries; h the block of a header; m metadata; b the body of an entry, or why it is left out; o a path, if there is one;
 -- x, y additions; a the survey of the image, second the second one, if there is one.
-use Rattle.std.proofs.Common.{◌≡◌, ◌<◌, ◌≤◌, ◌+◌, ◌-◌, ◌^◌, ◌++◌, ◌∙◌, ◌==◌, ◌&&◌, ℕ, zero, suc, Bool, true, false, List, [], ◌∷◌, Option, Some, None, Result}
-use Rattle.std.proofs.Common.{Ok, Err, ap, arith, append-nil, cond, length, refl, subst, sym}
+use Rattle.std.proofs.Common.{◌≡◌, ◌<◌, ◌≤◌, ◌-◌, ◌^◌, ◌++◌, ℕ, zero, suc, Bool, true, false, List, [], ◌∷◌, Option, Some, None, Result}
+use Rattle.std.proofs.Common.{Ok, Err, arith, append-nil, cond, length, refl, subst, sym}
 use Rattle.std.specs.Prelude.{IfSome}
 use Rattle.std.specs.List.{All}
 use Rattle.std.proofs.lemmas.Bool.{and_parts, cond_both, Decides.nat_tests}

@@ -3,6 +3,7 @@ pub mod Hung
 pub mod Lost
 pub mod MadeRoot
 pub mod Opened
+pub mod Pruned
 pub mod Rescue
 pub mod Losses
 pub mod Doubts

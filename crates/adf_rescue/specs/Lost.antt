@@ -108,14 +108,14 @@ unfoldable pub directory_at : List ℕ → Walk → ℕ → Option ℕ
 directory_at image w p = cond (p == root_of image) (Some 0) (option_and_then (directory_by image w p) (owning_entry w p))
 
 -- what is concerned is directory n, in which a header was skipped
-abbrev pub is_within : ℕ → Option Concern → Bool
-is_within n (Some (Within p)) = p == n
-is_within n _ = false
+abbrev pub is_skip_in : ℕ → Option Concern → Bool
+is_skip_in n (Some (Within p)) = p == n
+is_skip_in n _ = false
 
 -- one of the first k findings is of a header that was skipped in directory n
 unfoldable pub has_skipped : Walk → List FindingValue → ℕ → ℕ → Bool
 has_skipped w fs n zero = false
-has_skipped w fs n (suc k) = has_skipped w fs n k || is_within n (concern_of_nth w fs k)
+has_skipped w fs n (suc k) = has_skipped w fs n k || is_skip_in n (concern_of_nth w fs k)
 
 -- the block of the header of node n; of 0 that of the root
 abbrev pub header_block : List ℕ → Walk → ℕ → ℕ
@@ -151,8 +151,8 @@ unfoldable pub is_vacant : List ℕ → Walk → (ℕ → Bool) → ℕ → Bool
 is_vacant image w s p = is_no_part image w p && not (says_header image p) && may_have_been image w s p
 
 -- header b is in use: the bitmap tells so, and of no data block that its table names that it is free
-abbrev pub is_used : List ℕ → Walk → ℕ → Bool
-is_used image w b = is_stated_used image w b && not (has_free_data image w b)
+abbrev pub is_in_use : List ℕ → Walk → ℕ → Bool
+is_in_use image w b = is_stated_used image w b && not (has_free_data image w b)
 
 -- header b was deleted: by a bitmap that is trusted it is free, or the first data block that its table names is
 abbrev pub is_freed : List ℕ → Walk → ℕ → Bool
@@ -162,17 +162,17 @@ is_freed image w b = is_trusted image w && (is_stated_free image w b || has_free
 abbrev pub is_gone : List ℕ → Walk → ℕ → Bool
 is_gone image w b = owns w b || has_found_data image w b || is_freed image w b
 
--- header b may be missing in the directory in block p: if that is a directory of the survey, it is open or b is in use; otherwise a
--- directory may be made there, or the block says that it is one and is no part of the survey
-abbrev pub is_missing : List ℕ → Walk → (ℕ → Bool) → ℕ → ℕ → Option ℕ → Bool
-is_missing image w s b p (Some n) = s n || is_used image w b
-is_missing image w s b p None = is_vacant image w s p || is_no_part image w p && says_directory image p
+-- the directory in block p misses header b: one of the survey, if it is open or b is in use; otherwise, if a directory may be made there, or the
+-- block says that it is one and is no part of the survey
+abbrev pub misses : List ℕ → Walk → (ℕ → Bool) → ℕ → ℕ → Option ℕ → Bool
+misses image w s b p (Some n) = s n || is_in_use image w b
+misses image w s b p None = is_vacant image w s p || is_no_part image w p && says_directory image p
 
--- header b may be missing in the directory that it names
+-- the directory that header b names misses it
 abbrev pub is_missed : List ℕ → Walk → (ℕ → Bool) → ℕ → Bool
-is_missed image w s b = is_missing image w s b (word_in image b PARENT) (directory_at image w (word_in image b PARENT))
+is_missed image w s b = misses image w s b (word_in image b PARENT) (directory_at image w (word_in image b PARENT))
 
--- block b is a lost header: it says that it is one, is not the root, is not gone, and may be missing in its directory
+-- block b is a lost header: it says that it is one, is not the root and not gone, and its directory misses it
 unfoldable pub is_lost : List ℕ → Walk → (ℕ → Bool) → ℕ → Bool
 is_lost image w s b =
     in_range image b && not (b == root_of image) && says_header image b && not (is_gone image w b) && is_missed image w s b
@@ -192,7 +192,7 @@ abbrev pub has_lost : Bool → List ℕ → Walk → List FindingValue → Bool
 has_lost made image w fs = is_image_len (length image) && (lost_among image w (is_open made image w fs) (blocks image) && has_findings fs)
 
 -- the marks of the root and the entries: whether one of the first k findings is of a header that was skipped in the node
-pub record AreSkipped (w : Walk) (fs : List FindingValue) (k : ℕ) (marks : List Bool) : Type 0 where
+pub record AreSkipping (w : Walk) (fs : List FindingValue) (k : ℕ) (marks : List Bool) : Type 0 where
   pub length : length marks ≡ suc (heads w)
   pub skipped : (n : ℕ) → n ≤ heads w → has_mark marks n ≡ has_skipped w fs n k
 

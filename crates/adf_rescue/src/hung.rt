@@ -372,16 +372,21 @@ fn changed(alloc: Global, survey: &Survey<'_>, loose: &Loose) -> Result<Vec<u8>,
 }
 
 /// The hung image of a survey: each lost header hangs in the directory that it names; `None` if nothing is lost, or there is
-/// no finding. A header says that it is one, of a directory, a file or a link, by its types, its own key and its sum. It is
-/// lost if no part of the survey is its block or a data block that its table names; if a bitmap that is trusted, since it is
-/// valid and tells of no header of the survey that it is free, does not tell that it or its first data block is; and if
-/// it may be missing in its directory. Of the survey's directories that is so of one that is open: a header was skipped in it,
-/// its sum is wrong, or it is the root and `made`, whether that was made, is true; and of any of them, if the bitmap tells
-/// that the header is in use, and of none of its data blocks that it is free. It is so of a lost directory; and of a block that
-/// is neither a part nor a header, if the trusted bitmap tells that it is in use, or if nothing is told and a directory
-/// is open: there a directory `lost-` and its number is made, in the root. A lost header with no such directory is not hung. No
-/// word that leads to a part of the survey is changed. `NoMemory` if an allocation fails, which can happen only if there is
-/// a finding.
+/// no finding. A block says that it is a header, of a directory, a file or a link, by its types, its own key and its sum. Such a
+/// header is lost if it is not gone, and the directory that it names misses it.
+///
+/// It is gone if it, or a data block that its table names, is a part of the survey; or if a bitmap that is trusted tells that it,
+/// or its first data block, is free. A bitmap is trusted if the root says that it is valid and it tells of no header of the
+/// survey that it is free.
+///
+/// A directory of the survey misses it if the directory is open; or if the bitmap tells that the header is in use, and of none
+/// of its data blocks that it is free. A directory is open if a header was skipped in it, its own sum is wrong, or it is a root
+/// that was `made`. Another directory misses it if it is a header too and no part of the survey. A block that is neither
+/// misses it if a trusted bitmap tells that it is in use, or, where none tells anything of it, if some directory is open: there a
+/// directory `lost-` and its number is made, in the root.
+///
+/// A lost header whose directory is neither found, nor lost, nor made is not hung. No word that leads to a part of the survey is
+/// changed. `NoMemory` if an allocation fails, which can happen only if there is a finding.
 pub fn hung(alloc: Global, survey: &Survey<'_>, made: bool) -> Result<Option<Vec<u8>>, NoMemory>
     ensures image { OnSurvey survey.now.image (λ w fs.
         IfOk result (λ r. option_map (λ v. v.items) r ≡ second_image made survey.now.image w fs)) }

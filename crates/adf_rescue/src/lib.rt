@@ -10,6 +10,7 @@ mod losses;
 mod lost;
 mod made_root;
 mod opened;
+mod pruned;
 mod rescues;
 mod rooms;
 mod salvage;
@@ -24,6 +25,8 @@ pub use crate::laws::{
 pub use crate::left_out::{LeftOut, Why};
 pub use crate::made_root::is_like_root;
 pub use crate::opened::{
-    begin as begin_image, is_mended, lacks_boot, lacks_root, open as open_image, opened_keeps, states_type,
+    begin as begin_image, is_mended, lacks_boot, lacks_root, open as open_image, opened_keeps,
+    states_type,
 };
+pub use crate::pruned::{prune as prune_image, pruned_keeps};
 pub use crate::rescues::{Rescued, Terms, lay, rescue};

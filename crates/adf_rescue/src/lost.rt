@@ -11,10 +11,10 @@ ghost use Rattle.adf_volume.specs.Walk.{heads, node_block};
 ghost use Rattle.adf_findings.specs.Concerned.{concern_of_nth};
 ghost use Rattle.adf_findings.specs.Members.{has_mark};
 ghost use Rattle.adf_findings.specs.Survey.{OnSurvey};
-ghost use Rattle.adf_rescue.specs.Lost.{AreLost, AreOpen, AreSkipped, IsEvidence, bit_stated, directory_at, directory_by};
+ghost use Rattle.adf_rescue.specs.Lost.{AreLost, AreOpen, AreSkipping, IsEvidence, bit_stated, directory_at, directory_by};
 ghost use Rattle.adf_rescue.specs.Lost.{has_found_data, has_free_data, has_free_first, has_valid_flag, header_block};
 ghost use Rattle.adf_rescue.specs.Lost.{is_directory_header, is_freed, is_gone, is_lost, is_missed, is_no_part, is_open};
-ghost use Rattle.adf_rescue.specs.Lost.{is_stated_free, is_stated_used, is_trusted, is_used, is_vacant, is_within};
+ghost use Rattle.adf_rescue.specs.Lost.{is_stated_free, is_stated_used, is_trusted, is_in_use, is_vacant, is_skip_in};
 ghost use Rattle.adf_rescue.specs.Lost.{may_have_been, may_lose, says_directory, says_header, table_count};
 
 use crate::image::{block_count, block_in, root_of};
@@ -239,7 +239,7 @@ pub fn mark(marks: &mut Vec<bool>, n: usize, is: bool)
 // Marks the directory in which finding `k` tells that a header was skipped.
 fn mark_skipped(survey: &Survey<'_>, marks: &mut Vec<bool>, k: usize)
     ensures marks { OnSurvey survey.now.image (λ w fs. (m : ℕ) → m < length marks.old.items
-        → has_mark marks.new.items m ≡ (has_mark marks.old.items m || is_within m (concern_of_nth w fs k))) }
+        → has_mark marks.new.items m ≡ (has_mark marks.old.items m || is_skip_in m (concern_of_nth w fs k))) }
     ensures length { length marks.new.items ≡ length marks.old.items }
 {
     if let Some(Concern::Within(n)) = survey.concern_of(k) {
@@ -250,7 +250,7 @@ fn mark_skipped(survey: &Survey<'_>, marks: &mut Vec<bool>, k: usize)
 // The marks of the directories in which a header was skipped.
 fn skipped(alloc: Global, survey: &Survey<'_>) -> Result<Vec<bool>, NoMemory>
     ensures { OnSurvey survey.now.image (λ w fs.
-        IfOk result (λ v. AreSkipped w fs (length fs) v.items)) }
+        IfOk result (λ v. AreSkipping w fs (length fs) v.items)) }
 {
     let entries = survey.len();
     let mut marks = vec![in alloc; false; entries.saturating_add(1)]?;
@@ -276,7 +276,7 @@ fn is_sealed(survey: &Survey<'_>, n: Node) -> bool
 // Whether directory `n` of the survey is open.
 fn is_open(survey: &Survey<'_>, made: bool, skipped: &Vec<bool>, n: Node) -> bool
     requires { is_image_len (length survey.now.image) ≡ true }
-    ensures { OnSurvey survey.now.image (λ w fs. AreSkipped w fs (length fs) skipped.now.items → n ≤ heads w
+    ensures { OnSurvey survey.now.image (λ w fs. AreSkipping w fs (length fs) skipped.now.items → n ≤ heads w
         → result ≡ is_open made survey.now.image w fs n) }
 {
     has_mark(skipped, n.0) || !is_sealed(survey, n) || n.0 == 0 && made
@@ -385,9 +385,9 @@ pub fn is_vacant(survey: &Survey<'_>, evidence: &Evidence, p: u32) -> bool
 }
 
 // Whether header `b` is in use.
-fn is_used(survey: &Survey<'_>, b: u32) -> bool
+fn is_in_use(survey: &Survey<'_>, b: u32) -> bool
     requires { b < blocks survey.now.image }
-    ensures { OnSurvey survey.now.image (λ w _. result ≡ is_used survey.now.image w b) }
+    ensures { OnSurvey survey.now.image (λ w _. result ≡ is_in_use survey.now.image w b) }
 {
     is_stated_used(survey, b) && !has_free_data(survey, b)
 }
@@ -410,7 +410,7 @@ fn is_gone(survey: &Survey<'_>, evidence: &Evidence, b: u32) -> bool
     survey.has_part(b) || has_found_data(survey, b) || is_freed(survey, evidence, b)
 }
 
-// Whether header `b` may be missing in the directory that it names.
+// Whether the directory that header `b` names misses it.
 #[tactic(auto, using(crate::proofs::LostHeaders::missed_by_directory, std::proofs::lemmas::Grind::common_steps))]
 fn is_missed(survey: &Survey<'_>, evidence: &Evidence, b: u32) -> bool
     requires sized { is_image_len (length survey.now.image) ≡ true }
@@ -421,7 +421,7 @@ fn is_missed(survey: &Survey<'_>, evidence: &Evidence, b: u32) -> bool
     let image = survey.image();
     let p = word_in(image, b, PARENT);
     match directory_at(survey, p) {
-        Some(n) => has_mark(&evidence.opens, n.0) || is_used(survey, b),
+        Some(n) => has_mark(&evidence.opens, n.0) || is_in_use(survey, b),
         None => {
             is_vacant(survey, evidence, p) || is_no_part(survey, p) && says_directory(image, p)
         }

@@ -68,7 +68,7 @@ CopiesSoundFile s w fs n reply = IsWholeFile s w fs n × (reply ≡ on_output 0 
 -- `cat` of an entry: of a sound file, or of one that may be damaged
 abbrev pub CopiesEntry : (damaged : Bool) → SubjectValue → Walk → List FindingValue → ℕ → Reply → Type 0
 CopiesEntry false s w fs n reply = FindsNoFile s w n reply ⊎ (FindsDamage s w fs n reply ⊎ CopiesSoundFile s w fs n reply)
-CopiesEntry true s w fs n reply = FindsNoFile s w n reply ⊎ WritesRemains s w n reply
+CopiesEntry true s w fs n reply = FindsNoFile s w n reply ⊎ WritesRemains s w fs n reply
 
 -- `cat` of what the names lead to
 abbrev pub CopiesFound : (damaged : Bool) → SubjectValue → Walk → List FindingValue → List (List ℕ) → Reply → Type 0

@@ -119,7 +119,7 @@ abbrev pub front_losses : (lost : List LossValue) → (states made : Bool) → (
 front_losses lost states made held n =
     lost
     ++ (cond states [] (run_loss 0 0 ∷ [])
-        ++ (cond made (run_loss (middle n) (middle n) ∷ []) [] ++ cond (nat_lt held n) (run_loss held (n - 1) ∷ []) []))
+    ++ (cond made (run_loss (middle n) (middle n) ∷ []) [] ++ cond (nat_lt held n) (run_loss held (n - 1) ∷ []) []))
 
 -- the same of an input
 abbrev pub input_losses : (lost : List LossValue) → (held : ℕ) → List ℕ → List LossValue
@@ -162,9 +162,9 @@ abbrev pub losses_of : List ℕ → Walk → Option Basis → ToldValue → (fro
 losses_of image w b t front =
     left_out_losses image w t.left_out
     ++ (of_second left_out_losses b t.second_left_out
-        ++ (doubt_losses image w t.doubts
-            ++ (of_second doubt_losses b t.second_doubts
-                ++ (header_losses image w t.lost_headers ++ (front ++ block_losses t.lost_blocks)))))
+    ++ (doubt_losses image w t.doubts
+    ++ (of_second doubt_losses b t.second_doubts
+    ++ (header_losses image w t.lost_headers ++ (front ++ block_losses t.lost_blocks)))))
 
 -- all that is not in the new volume, or in doubt there
 abbrev pub rescue_losses : Letters → (held : ℕ) → (lost : List LossValue) → List ℕ → Basis → Option Basis → List FindingValue → List LossValue

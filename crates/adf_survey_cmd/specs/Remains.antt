@@ -1,10 +1,12 @@
 -- What `cat --damaged` answers of a file.
--- Letters: s what is surveyed; w the walk of its image's survey; n an entry's node, h the block of its header; g a run of bytes that are no data.
+-- Letters: s what is surveyed; w the walk of its image's survey, fs its findings; n an entry's node, h the block of its header;
+-- g a run of bytes that are no data.
 use Rattle.std.specs.Prelude.{◌≡◌, ℕ, List, [], ◌∷◌, ◌++◌, codes}
 use Rattle.std.specs.Fmt.{decimal}
 use Rattle.std.specs.List.{flat_map}
 use Rattle.adf_volume.specs.Walk.{FileAt, Walk}
 use Rattle.adf_findings.specs.Remains.{gaps_of, left_of}
+use Rattle.adf_findings.specs.Survey.{FindingValue}
 use Rattle.adf_findings.specs.declared.remains.Gap.{Gap}
 use Rattle.adf_runs.specs.Commands.{Reply}
 use Rattle.adf_survey_cmd.specs.Subject.{SubjectValue}
@@ -23,6 +25,6 @@ abbrev pub remains_reply : List ℕ → List Gap → Reply
 remains_reply bytes gaps = record { status = gaps_status gaps; output = bytes; errors = flat_map gap_line gaps }
 
 -- the entry is a file, of which what is left is written
-abbrev pub WritesRemains : SubjectValue → Walk → ℕ → Reply → Type 0
-WritesRemains s w n reply =
-    ((h : ℕ) × FileAt s.image w n h) × (reply ≡ remains_reply (left_of s.image w s.end n) (gaps_of s.image w s.end n))
+abbrev pub WritesRemains : SubjectValue → Walk → List FindingValue → ℕ → Reply → Type 0
+WritesRemains s w fs n reply =
+    ((h : ℕ) × FileAt s.image w n h) × (reply ≡ remains_reply (left_of s.image w fs s.end n) (gaps_of s.image w fs s.end n))

@@ -88,12 +88,12 @@ abbrev pub kind_of_type : ℕ → Kind
 kind_of_type type = cond (type % 2 == 0) Ofs Ffs
 
 -- the word for the kind and the letters of a volume of this type, 0 to 3
-abbrev pub type_text : ℕ → List ℕ
-type_text type = kind_text_by (letters_of_type type) (kind_of_type type)
+abbrev pub type_word : ℕ → List ℕ
+type_word type = kind_text_by (letters_of_type type) (kind_of_type type)
 
 -- the line of a volume whose type is not the one that its files tell
 unfoldable pub type_line : ℕ → List ℕ
-type_line type = codes "block 0: files of " ++ (type_text type ++ codes "\n")
+type_line type = codes "block 0: files of " ++ (type_word type ++ codes "\n")
 
 -- the type that the entries of an image tell, by the walk of its survey; none if it is the image's own
 abbrev pub other_type : List ℕ → Walk → Option ℕ

@@ -70,7 +70,9 @@ fn are_asked(asked: Option<u32>, blocks: u32) -> bool
 fn is_other_length(asked: Option<u32>, input: &[u8], blocks: u32) -> bool
     ensures { result ≡ is_other_length asked input.now blocks }
 {
-    blocks != stated_length(asked, input) && are_asked(asked, blocks) && is_root_at(input, blocks / 2)
+    blocks != stated_length(asked, input)
+        && are_asked(asked, blocks)
+        && is_root_at(input, blocks / 2)
 }
 
 // The number of blocks that is read in place of the stated one: where the middle of that is not like a root, the one usual

@@ -7,7 +7,7 @@ ghost use Rattle.adf_rescue.specs.Opened.{opened};
 ghost use Rattle.adf_survey_cmd.specs.Losses.{runs_lost};
 ghost use Rattle.adf_survey_cmd.specs.Subject.{IsTyped, begun_subject, behind_loss, behind_text, changed, held_end, missing_text};
 ghost use Rattle.adf_survey_cmd.specs.Subject.{other_type, retyped_subject, sized, subject, subject_read, subject_value};
-ghost use Rattle.adf_survey_cmd.specs.Subject.{type_line, type_text};
+ghost use Rattle.adf_survey_cmd.specs.Subject.{type_line, type_word};
 
 use crate::lengths::{blocks_read, stated_length};
 use crate::losses::BlockRun;
@@ -95,8 +95,8 @@ fn behind_run(alloc: Global, blocks: u32, stated: u32) -> Result<Vec<BlockRun>, 
 }
 
 // The word for the kind and the letters of a volume of a type, 0 to 3.
-fn type_text(number: u8) -> &'static str
-    ensures { result.now ≡ type_text number }
+fn type_word(number: u8) -> &'static str
+    ensures { result.now ≡ type_word number }
 {
     let kind = if number % 2 == 0 {
         Kind::Ofs
@@ -112,7 +112,7 @@ fn push_type_line(text: &mut Vec<u8>, type_told: u8) -> Result<(), AllocError>
     ensures { OnOk result (text.new.items ≡ text.old.items ++ type_line type_told) }
 {
     text.extend_from_slice(b"block 0: files of ")?;
-    text.extend_from_slice(type_text(type_told).as_bytes())?;
+    text.extend_from_slice(type_word(type_told).as_bytes())?;
     text.extend_from_slice(b"\n")
 }
 
@@ -177,11 +177,7 @@ impl Subject {
     }
 
     /// What is surveyed of bytes that were read, which are let go: as they are, or as if they had so many blocks.
-    pub fn of_read(
-        alloc: Global,
-        bytes: Vec<u8>,
-        asked: Option<u32>,
-    ) -> Result<Subject, AllocError>
+    pub fn of_read(alloc: Global, bytes: Vec<u8>, asked: Option<u32>) -> Result<Subject, AllocError>
         ensures { IfOk result (λ s. subject_value s ≡ subject asked bytes.items) }
     {
         match blocks_read(asked, &bytes) {

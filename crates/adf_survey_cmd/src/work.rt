@@ -127,7 +127,12 @@ impl View {
     // Shows this of what is surveyed of an input, if the type of its image is the one that its entries tell; otherwise tells
     // that type.
     #[tactic(auto, using(crate::proofs::Subjects::typed_same))]
-    fn of_begun<W: Sink>(&self, alloc: Global, subject: &Subject, output: &mut W) -> Result<Outcome, u8>
+    fn of_begun<W: Sink>(
+        &self,
+        alloc: Global,
+        subject: &Subject,
+        output: &mut W,
+    ) -> Result<Outcome, u8>
         requires works { W.has_failed output.old ≡ false }
         requires whole { is_mended subject.now.image.items ≡ false }
         ensures ends { (s : SubjectValue) (q : QuestionValue) → subject_value subject.now ≡ begun_subject s

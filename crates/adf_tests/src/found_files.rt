@@ -12,6 +12,10 @@ use std::mem::size_of;
 const MANIFEST: &[u8] =
     b"volume ofs 16\nfile 0:0:0 00000000 long\nfill 977 41\nfile 0:0:0 00000000 none\n";
 
+// The same files on an FFS volume: the data blocks of `long`, 1025 bytes, are those of the OFS volume.
+const FAST: &[u8] =
+    b"volume ffs 16\nfile 0:0:0 00000000 long\nfill 1025 41\nfile 0:0:0 00000000 none\n";
+
 const PART: FoundPart = FoundPart { node: 9, number: 9 };
 
 // The image in which these blocks have no type.
@@ -154,13 +158,30 @@ fn cut_bytes_have_no_files(rt: HostRuntime) {
     assert!(rt; finds_nothing(rt.alloc(), &[0; 8191]));
 }
 
-// Rows that are cut: what they do not have is lost. Those of another file have nothing of it.
+// Rows that are cut: on FFS what they do not have is lost. Those of another file have nothing of it.
 #[test]
 fn other_rows(rt: HostRuntime) {
-    let image = built(rt.alloc(), MANIFEST);
+    let image = built(rt.alloc(), FAST);
     let parts = parts_of(rt.alloc(), &image);
     assert!(rt; table_by(&image, &parts[..5], 1, 4) == (3, [3, 4, NO_BLOCK, 9]));
     assert!(rt; table_by(&image, &parts[..5], 2, 1) == (3, [NO_BLOCK, 9, 9, 9]));
+}
+
+// OFS data blocks say themselves whose they are.
+#[test]
+fn blocks_without_rows(rt: HostRuntime) {
+    let image = built(rt.alloc(), MANIFEST);
+    assert!(rt; table_by(&image, &[], 1, 4) == (3, [3, 4, 5, 9]));
+}
+
+// An FFS block that the table names as data blocks 1 and 2 is neither: its row has the file and no number.
+#[test]
+fn a_block_that_is_named_twice(rt: HostRuntime) {
+    let mut image = built(rt.alloc(), FAST);
+    image[2 * 512 + 4 * 76 + 3] = 3;
+    let parts = parts_of(rt.alloc(), &image);
+    assert!(rt; (parts[3].node, parts[3].number, parts[5].number) == (1, 0, 3));
+    assert!(rt; table_by(&image, &parts[..16], 1, 4) == (3, [NO_BLOCK, NO_BLOCK, 5, 9]));
 }
 
 // A table that is shorter than the file, a place in the file, and what is read from there on; then one with a block that the

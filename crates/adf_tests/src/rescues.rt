@@ -119,16 +119,21 @@ fn refused_rescues(rt: HostRuntime) {
 // `\xc9`.
 const LETTERED: &[u8] = b"volume ffs 16\nfile 0:0:0 00000000 \\xe9\n";
 
-// What these words of `adf-survey` make of it as a volume of this type, whose name is then in a wrong slot by other letters.
-fn rescued_by(alloc: Global, words: &[u8], dos_type: u8) -> (u8, Image) {
-    let image = with_bytes(&built(alloc, LETTERED), &[(3, dos_type)]);
+// The same as a volume of this type, with the header, block 2, in the slot of its name by international letters, 70 in place of 30.
+fn lettered(alloc: Global, dos_type: u8) -> Image {
+    let moved = [(3, dos_type), (4_096 + 147, 0), (4_096 + 307, 2)];
+    with_bytes(&built(alloc, LETTERED), &moved)
+}
+
+// What these words of `adf-survey` make of an image.
+fn rescued_by(alloc: Global, words: &[u8], image: &Image) -> (u8, Image) {
     let mut volume = [9; 8192];
     let mut errors = [0; 80];
     let mut moved = NOT_MOVED;
     let status = run_in_memory::<WithoutFiles<adf_survey_cmd::Work>>(
         alloc,
         words,
-        &image,
+        image,
         &mut volume,
         &mut errors,
         &mut moved,
@@ -160,20 +165,25 @@ fn typed(alloc: Global, volume: &Image) -> (u8, u32, usize) {
     (cause, verdict.kind, verdict.files)
 }
 
-// A rescue of a volume of type 3 or 5 is one of type 1; with `--keep-type` it is one of type 3, with its letters.
+// A rescue of a volume of type 3 or 5 is one of type 1; with `--keep-type` it is one of type 3, with its letters. One whose name lies
+// in the slot of the other letters is of these.
 #[test]
 fn letters_are_kept(rt: HostRuntime) {
+    let words = b"adf-survey\0rescue\0--keep-type\0";
     for dos_type in [3, 5] {
-        let (status, plain) = rescued_by(rt.alloc(), b"adf-survey\0rescue\0", dos_type);
+        let image = lettered(rt.alloc(), dos_type);
+        let (status, plain) = rescued_by(rt.alloc(), b"adf-survey\0rescue\0", &image);
         assert!(rt; (status, slots(&plain)) == (0, (1, true, false)));
         assert!(rt; typed(rt.alloc(), &plain) == (0, 1, 1));
-        let words = b"adf-survey\0rescue\0--keep-type\0";
-        let (status, kept) = rescued_by(rt.alloc(), words, dos_type);
+        let (status, kept) = rescued_by(rt.alloc(), words, &image);
         assert!(rt; (status, slots(&kept)) == (0, (3, false, true)));
         assert!(rt; typed(rt.alloc(), &kept) == (0, 3, 1));
     }
-    let (status, same) = rescued_by(rt.alloc(), b"adf-survey\0rescue\0--keep-type\0", 1);
+    let sound = built(rt.alloc(), LETTERED);
+    let (status, same) = rescued_by(rt.alloc(), words, &sound);
     assert!(rt; (status, slots(&same)) == (0, (1, true, false)));
+    let (status, told) = rescued_by(rt.alloc(), words, &lettered(rt.alloc(), 1));
+    assert!(rt; (status, slots(&told)) == (1, (3, false, true)));
 }
 
 // The structs are as long as those of include/adf.h on a machine of 64 bits.

@@ -1,6 +1,6 @@
 //! Rescues.
 
-use super::{accepted, with_room};
+use super::{accepted, with_room, SMALL_ROOM};
 use crate::cause::Refused;
 
 /// `struct adf_loss`.
@@ -47,9 +47,28 @@ pub(crate) struct RescueTables {
     pub paths: Vec<u8>,
 }
 
-/// Rescues an image, and fills tables with room for so many losses and bytes of paths, and answers them with the whole numbers.
-fn rescue_into(image: &[u8], losses_room: usize, paths_room: usize) -> Result<RescueTables, Refused> {
-    let (mut volume, mut losses, mut paths) = (with_room(image.len())?, with_room(losses_room)?, with_room(paths_room)?);
+/// How much room is given for the volume, for losses, and for the bytes of their paths.
+#[derive(Clone, Copy, PartialEq)]
+struct Rooms {
+    volume: usize,
+    losses: usize,
+    paths: usize,
+}
+
+impl Rooms {
+    /// As much room, and no less than what is told asks for.
+    fn with_all(self, told: &RescueTold) -> Rooms {
+        Rooms {
+            volume: self.volume.max((told.blocks as usize).saturating_mul(512)),
+            losses: self.losses.max(told.losses),
+            paths: self.paths.max(told.paths),
+        }
+    }
+}
+
+/// Rescues an image, and fills tables with so much room: what the call answers, and the tables with the whole numbers.
+fn rescue_into(image: &[u8], rooms: Rooms) -> Result<(u8, RescueTables), Refused> {
+    let (mut volume, mut losses, mut paths) = (with_room(rooms.volume)?, with_room(rooms.losses)?, with_room(rooms.paths)?);
     let (volume_room, losses_room, paths_room) = (volume.capacity(), losses.capacity(), paths.capacity());
     let mut told = RescueTold::default();
     // "A pointer to bytes has as many bytes as its length or room says", and "buffers and structs need not be initialised".
@@ -67,25 +86,28 @@ fn rescue_into(image: &[u8], losses_room: usize, paths_room: usize) -> Result<Re
             &mut told,
         )
     };
-    accepted(answer).map_err(|cause| Refused { cause, block: told.block })?;
-    // "the room begins with the volume, of told->blocks * 512 bytes"; "told->losses and told->paths are the whole numbers": so many
-    // were written, and no more than there is room for.
-    unsafe {
-        volume.set_len((512 * told.blocks as usize).min(volume_room));
-        losses.set_len(told.losses.min(losses_room));
-        paths.set_len(told.paths.min(paths_room));
+    if answer == 0 {
+        // "the room begins with the volume, of told->blocks * 512 bytes"; "told->losses and told->paths are the whole numbers": so
+        // many were written, and no more than there is room for.
+        unsafe {
+            volume.set_len((told.blocks as usize).saturating_mul(512).min(volume_room));
+            losses.set_len(told.losses.min(losses_room));
+            paths.set_len(told.paths.min(paths_room));
+        }
     }
-    Ok(RescueTables { told, volume, losses, paths })
+    Ok((answer, RescueTables { told, volume, losses, paths }))
 }
 
-/// Rescues an image: its volume, which is no longer than the image, and whole tables.
+/// Rescues an image: its volume, which may be longer than the image, and whole tables.
 pub(crate) fn rescue(image: &[u8]) -> Result<RescueTables, Refused> {
-    const FIRST_LOSSES: usize = 1024;
-    const FIRST_PATHS: usize = 1 << 16;
-    let first = rescue_into(image, FIRST_LOSSES, FIRST_PATHS)?;
-    let RescueTold { losses, paths, .. } = first.told;
-    if first.losses.len() == losses && first.paths.len() == paths {
-        return Ok(first);
+    let mut rooms = Rooms { volume: image.len(), losses: 1024, paths: 1 << 16 };
+    loop {
+        let (answer, tables) = rescue_into(image, rooms)?;
+        let wanted = rooms.with_all(&tables.told);
+        if wanted == rooms || (answer != 0 && answer != SMALL_ROOM) {
+            let block = tables.told.block;
+            return accepted(answer).map(|()| tables).map_err(|cause| Refused { cause, block });
+        }
+        rooms = wanted;
     }
-    rescue_into(image, losses, paths)
 }

@@ -1,6 +1,6 @@
 //! Surveys: what is wrong with an image, and what is found in it.
 
-use super::{accepted, looked_up, with_room, Date};
+use super::{accepted, looked_up, with_room, Date, SMALL_ROOM};
 use crate::cause::{NotFound, Refused};
 
 /// `struct adf_subject`.
@@ -80,14 +80,20 @@ extern "C" {
 
 /// The image that `adf-survey` surveys of an image, and what is told of it.
 pub(crate) fn subject(image: &[u8]) -> Result<(Vec<u8>, SubjectTold), Refused> {
-    let mut subject = with_room(image.len())?;
-    subject.resize(image.len(), 0);
-    let mut told = SubjectTold::default();
-    // "A pointer to bytes has as many bytes as its length or room says".
-    let answer = unsafe { adf_survey_subject(image.as_ptr(), image.len(), 0, subject.as_mut_ptr(), subject.len(), &mut told) };
-    accepted(answer).map_err(|cause| Refused { cause, block: 0 })?;
-    subject.truncate(told.length);
-    Ok((subject, told))
+    let mut room = image.len();
+    loop {
+        let mut subject = with_room(room)?;
+        subject.resize(room, 0);
+        let mut told = SubjectTold::default();
+        // "A pointer to bytes has as many bytes as its length or room says".
+        let answer = unsafe { adf_survey_subject(image.as_ptr(), image.len(), 0, subject.as_mut_ptr(), room, &mut told) };
+        if answer != SMALL_ROOM || told.length <= room {
+            accepted(answer).map_err(|cause| Refused { cause, block: 0 })?;
+            subject.truncate(told.length);
+            return Ok((subject, told));
+        }
+        room = told.length;
+    }
 }
 
 /// The tables of a survey, as `adf_survey_index` makes them.

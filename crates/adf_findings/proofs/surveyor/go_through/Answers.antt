@@ -1,6 +1,7 @@
 use Rattle.std.proofs.Common.{Bool, map, not, ◌≡◌, ◌&&◌, ◌++◌, ◌∙◌, ℕ, List, ap, sym, subst}
 use Rattle.std.specs.List.{filter}
 use Rattle.adf_findings.specs.declared.finding.Finding.{Finding}
+use Rattle.adf_findings.specs.Concerned.{is_contested}
 use Rattle.adf_findings.specs.Files.{is_light}
 use Rattle.adf_findings.specs.Marks.{blamed, is_blamed, is_undoubted}
 use Rattle.adf_findings.specs.Members.{has_mark}
@@ -29,6 +30,7 @@ invariant_of-result c =
     let xs : List Finding = c.compare.new.findings.items in
     let ys : List Finding = c.in_ok-graves.graves.items in
     let entries = c.in_ok-concerned.concerned.items in
+    let contested = c.in_ok-contested.contested.items in
     let base = c.in_ok-sound.sound.items in
     let copy = c.in_ok-whole.whole.items in
     let sound = c.strike_blamed.new.marks.items in
@@ -36,16 +38,17 @@ invariant_of-result c =
     let same : copy ≡ base = copied _ (λ x y h. h) base copy c.in_ok-whole.ensures.cases.0 in
     let undoubted = subst (λ (marks : List Bool). (m : ℕ) → has_mark marks m ≡ is_undoubted image f m) (sym same) c.in_ok-sound.ensures in
     let struck =
-    subst (λ (xs : List Finding). (m : ℕ) → has_mark sound m ≡ (has_mark base m && not (is_blamed f xs m))) c.deref-2.ensures.value
+    subst (λ (xs : List Finding). (m : ℕ) → has_mark sound m ≡ (has_mark base m && not (is_blamed f xs m))) c.deref-3.ensures.value
     c.strike_blamed.ensures in
     let struck_whole =
-    subst (λ (xs : List Finding). (m : ℕ) → has_mark whole m ≡ (has_mark copy m && not (is_blamed f xs m))) c.deref-4.ensures.value
+    subst (λ (xs : List Finding). (m : ℕ) → has_mark whole m ≡ (has_mark copy m && not (is_blamed f xs m))) c.deref-5.ensures.value
     c.strike_blamed-2.ensures in
     subst (λ (image : List ℕ). IsOfSurvey (record {
       image = image;
       findings = xs;
       concerned = entries;
       owners = f.owners.owners;
+      contested = contested;
       pages = f.pages.entries;
       nodes = f.nodes.items;
       parents = f.parents.items;
@@ -54,10 +57,12 @@ invariant_of-result c =
       whole = whole;
     }))
     (sym c.bytes.ensures)
-    (read_kept image f xs ys entries sound whole c.in_ok-compare.ensures
+    (read_kept image f xs ys entries contested sound whole c.in_ok-compare.ensures
     (c.in_ok-concerned.ensures ∙ ap (map (λ (x : Finding). blamed f x.part)) c.deref.ensures.value)
+    (subst (λ (xs : List Finding). (b : ℕ) → has_mark contested b ≡ is_contested (map finding_value xs) b) c.deref-2.ensures.value
+    c.in_ok-contested.ensures)
     (clear_marks image f xs base sound c.in_ok-sound.ensures struck)
-    (c.in_ok-graves.ensures ∙ ap (filter (λ (x : Finding). not (is_light (finding_value x)))) c.deref-3.ensures.value)
+    (c.in_ok-graves.ensures ∙ ap (filter (λ (x : Finding). not (is_light (finding_value x)))) c.deref-4.ensures.value)
     (clear_marks image f ys copy whole undoubted struck_whole))
 
 pub returns-clause-findings : goal.returns-clause-findings

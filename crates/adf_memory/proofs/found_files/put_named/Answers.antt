@@ -4,7 +4,11 @@ use Rattle.std.proofs.lemmas.List.FromFn.{length-map-range_with_len, map-range_w
 use Rattle.adf_blocks.specs.declared.layout.TheConstants.{EXTENSION, POINTERS}
 use Rattle.adf_volume.specs.Image.{table_word, word_in}
 use Rattle.adf_findings.specs.Files.{member_from}
-use Rattle.adf_memory.specs.FoundFiles.{block_if, named_block}
+use Rattle.std.specs.Option.{unwrap_or}
+use Rattle.adf_volume.specs.Image.{kind_of}
+use Rattle.adf_findings.specs.Remains.{own_data}
+use Rattle.adf_memory.specs.declared.found_files.TheConstants.{NO_BLOCK}
+use Rattle.adf_memory.specs.FoundFiles.{named_block, row_data}
 use Rattle.adf_memory.specs.Rooms.{filled}
 use Rattle.adf_memory.proofs.found_files.put_named.Goals as goal
 use Rattle.adf_memory.proofs.found_files.put_named.Goals.{then-k-eq0, else-k-eq0}
@@ -16,8 +20,9 @@ loop-k-preserved c =
     let n = c.args.node in
     let head = c.args.header in
     let k = c.loop-k.k in
-    let row : c.block_if.result ≡ named_block image parts n head k =
-    c.block_if.ensures ∙ ap (block_if image parts n k) (c.word_in-b.ensures ∙ ap (λ m. word_in image m (table_word k)) c.loop-k.invariant.member) in
+    let row : c.own_block.result ≡ named_block image parts n head k =
+    c.own_block.ensures ∙ ap (λ o. unwrap_or (own_data (kind_of image) image head k o) NO_BLOCK) (c.row_data-found.ensures
+    ∙ ap (row_data image parts n k) (c.word_in-b.ensures ∙ ap (λ m. word_in image m (table_word k)) c.loop-k.invariant.member)) in
     let put = c.put.ensures (map (named_block image parts n head) (range_with_len 0 k)) c.args.table.now
     (sym (length-map-range_with_len (named_block image parts n head) 0 k)) c.loop-k.invariant.rows in
     let more = map-range_with_len_more (named_block image parts n head) 0 k k (omega arith) in

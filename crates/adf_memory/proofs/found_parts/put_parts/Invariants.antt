@@ -7,5 +7,5 @@ use Rattle.adf_memory.proofs.found_parts.put_parts.Given as goal
 
 abbrev pub invariant-loop-b : goal.invariant-loop-b
 invariant-loop-b l = record {
-  rows : OnSurvey l.survey.image (λ w _. l.room ≡ filled (map (part_at w) (range_with_len 0 l.b)) l.initial.room);
+  rows : OnSurvey l.survey.image (λ w fs. l.room ≡ filled (map (part_at w fs) (range_with_len 0 l.b)) l.initial.room);
 }

@@ -1,4 +1,4 @@
-use Rattle.std.proofs.Common.{◌≡◌, ◌∙◌, ◌+◌, ap, arith}
+use Rattle.std.proofs.Common.{◌∙◌, ◌+◌, ap, arith}
 use Rattle.adf_rescue.specs.Doubts.{first_doubt, kept_in_doubt}
 use Rattle.adf_rescue.proofs.DoubtSteps.{all_doubts, one_doubt}
 use Rattle.adf_rescue.proofs.doubts.first_doubts.Goals as goal

@@ -1,4 +1,4 @@
-use Rattle.std.proofs.Common.{◌≡◌, ap, arith, length}
+use Rattle.std.proofs.Common.{ap, arith, length}
 use Rattle.std.proofs.lemmas.List.{length-map}
 use Rattle.adf_findings.specs.Parts.{finding_value}
 use Rattle.adf_rescue.specs.Losses.{lost_header}

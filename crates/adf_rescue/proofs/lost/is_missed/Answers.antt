@@ -2,7 +2,7 @@ use Rattle.std.proofs.Common.{◌≡◌, ◌∙◌, ◌||◌, Some, ap, arith, s
 use Rattle.std.proofs.lemmas.Grind.{common_steps}
 use Rattle.adf_blocks.specs.declared.layout.TheConstants.{PARENT}
 use Rattle.adf_volume.specs.Image.{word_in}
-use Rattle.adf_rescue.specs.Lost.{directory_at, is_used}
+use Rattle.adf_rescue.specs.Lost.{directory_at, is_in_use}
 use Rattle.adf_rescue.proofs.LostHeaders.{missed_by_directory}
 use Rattle.adf_rescue.proofs.lost.is_missed.Goals as goal
 
@@ -14,6 +14,6 @@ returns-else-has_mark c = λ w fs survey s evidence.
     let is : Some c.n.inside.0 ≡ directory_at image w p = grind (arith, common_steps) in
     let unmarked = sym c.if-has_mark.false ∙ c.has_mark.ensures in
     let parent : p ≡ word_in image c.args.b PARENT = grind (arith, common_steps) in
-    c.is_used.ensures w fs survey
-    ∙ (ap (λ t. t || is_used image w c.args.b) unmarked
+    c.is_in_use.ensures w fs survey
+    ∙ (ap (λ t. t || is_in_use image w c.args.b) unmarked
     ∙ missed_by_directory image w s c.args.b p c.n.inside.0 opens evidence.marks parent is)

@@ -3,7 +3,7 @@ use Rattle.std.proofs.lemmas.Grind.{common_steps}
 use Rattle.adf_base.proofs.Results.{on_err}
 use Rattle.adf_volume.specs.Types.{letters_for}
 use Rattle.adf_volume.specs.Walk.{heads}
-use Rattle.adf_rescue.specs.Rescue.{Basis, first_verdicts_by}
+use Rattle.adf_rescue.specs.Rescue.{Basis, before_first_by, first_verdicts_by}
 use Rattle.adf_rescue.proofs.Steps.{buildable, verdicts_count}
 use Rattle.adf_rescue.proofs.rescues.rescue.Goals as goal
 
@@ -25,7 +25,8 @@ returns-clause-rescued c = λ w fs sound survey marks b is.
       tree = kept.tree;
       left_out = kept.left_before;
       second_left_out = kept.left_out;
-      doubts = c.in_ok-doubts.ensures w fs survey (first_verdicts_by letters c.args.terms.held a) (verdicts_count _ _ (heads w)) kept.kept;
+      doubts = c.in_ok-doubts.ensures w fs survey (first_verdicts_by letters c.args.terms.held a)
+          (verdicts_count (before_first_by letters c.args.terms.held a.image) a (heads w)) kept.kept;
       second_doubts = c.in_ok-second_doubts.ensures w fs sound survey marks b is letters c.args.terms.held kept.added;
       lost_headers = c.in_ok-lost_headers.ensures w fs survey;
       lost_blocks = c.in_ok-lost_blocks.ensures w fs survey b is;

@@ -1,0 +1,66 @@
+-- Pruned images: the steps, and what stays.
+-- Letters: b, c blocks; i, j words; k, n numbers of slots or blocks; x, y images.
+use Rattle.std.proofs.Common.{◌≡◌, ◌<◌, ℕ, zero, suc, ◌+◌, true, false, List, length, add-one, ◌∙◌, ap, arith}
+use Rattle.std.proofs.Common.{inl, inr, refl, subst}
+use Rattle.std.proofs.lemmas.Bool.{cases_lt, cond-false, cond-true, or_from, or_left, or_right}
+use Rattle.adf_blocks.specs.declared.layout.TheConstants.{FIRST_SLOT}
+use Rattle.adf_blocks.specs.Sizes.{blocks}
+use Rattle.adf_volume.specs.Image.{word_in}
+use Rattle.adf_volume.specs.Start.{is_image_len}
+use Rattle.adf_rescue.specs.Pruned.{is_child_of}
+use Rattle.adf_rescue.specs.Pruned.{leads_to_child, pruned, pruned_at, pruned_first, slot_pruned, slots_pruned}
+
+-- the steps
+
+module _ (image : List ℕ) (b : ℕ) where
+  pub no_child_first : leads_to_child image b 0 ≡ false
+  unfolding leads_to_child
+  no_child_first = refl
+
+  pub no_child_more : (k : ℕ) → leads_to_child image b k ≡ false → is_child_of image b (word_in image b (FIRST_SLOT + k)) ≡ false
+      → leads_to_child image b (k + 1) ≡ false
+  unfolding leads_to_child
+  no_child_more k before here = rw add-one (or_from (leads_to_child image b k) (is_child_of image b (word_in image b (FIRST_SLOT + k))) before here)
+
+  pub one_child : (k n : ℕ) → k < n → is_child_of image b (word_in image b (FIRST_SLOT + k)) ≡ true → leads_to_child image b n ≡ true
+  unfolding leads_to_child
+  one_child k zero inside here = absurd (omega arith)
+  one_child k (suc n) inside here = elim (cases_lt k n) [
+    | inl before ↦ or_left (leads_to_child image b n) _ (one_child k n before here)
+    | inr from ↦
+        let last : k ≡ n = omega arith in
+        or_right (leads_to_child image b n) _ (subst (λ s. is_child_of image b (word_in image b (FIRST_SLOT + s)) ≡ true) last here)
+  ]
+
+  pub slots_first : slots_pruned image b 0 ≡ image
+  unfolding slots_pruned
+  slots_first = refl
+
+  pub slots_more : (k : ℕ) (old new : List ℕ) → old ≡ slots_pruned image b k → new ≡ slot_pruned old b k → new ≡ slots_pruned image b (k + 1)
+  unfolding slots_pruned
+  slots_more k old new before step = step ∙ (ap (λ l. slot_pruned l b k) before ∙ rw add-one refl)
+
+-- what a loop over the slots that lead to a child needs
+pub ruleset child_steps = (no_child_first, no_child_more, one_child)
+
+-- what a loop that prunes the slots needs
+pub ruleset slots_steps = (slots_first, slots_more)
+
+pub none_pruned : (image : List ℕ) → pruned_first image 0 ≡ image
+unfolding pruned_first
+none_pruned image = refl
+
+pub pruned_more : (image : List ℕ) (k : ℕ) (old new : List ℕ) → old ≡ pruned_first image k → new ≡ pruned_at old k → new ≡ pruned_first image (k + 1)
+unfolding pruned_first
+pruned_more image k old new before step = step ∙ (ap (λ l. pruned_at l k) before ∙ rw add-one refl)
+
+pub all_pruned : (image : List ℕ) → is_image_len (length image) ≡ true → pruned image ≡ pruned_first image (blocks image)
+unfolding pruned
+all_pruned image len = cond-true (is_image_len (length image)) _ image len
+
+pub odd_kept : (image : List ℕ) → is_image_len (length image) ≡ false → pruned image ≡ image
+unfolding pruned
+odd_kept image odd = cond-false (is_image_len (length image)) _ image odd
+
+-- what a loop that prunes the blocks needs
+pub ruleset pruned_steps = (none_pruned, pruned_more, all_pruned, odd_kept)

@@ -1,0 +1,204 @@
+// Headers whose checksums are wrong, pruned of what does not say of itself that it is their part.
+
+ghost use Rattle.std.specs.Prelude.{◌≡◌, ◌<◌, ◌+◌, ◌⊎◌, ℕ, Bool, List, length, true, false};
+ghost use Rattle.adf_base.specs.Words.{block};
+ghost use Rattle.adf_blocks.specs.Sizes.{blocks};
+ghost use Rattle.adf_blocks.specs.declared.layout.TheConstants.{SECONDARY_TYPE, SLOTS, ST_DIR};
+ghost use Rattle.adf_volume.specs.Image.{root_of, word_in};
+ghost use Rattle.adf_volume.specs.Start.{is_image_len};
+ghost use Rattle.adf_rescue.specs.Pruned.{LeadsToParts, chain_pruned, claims_extension, claims_header, claims_type};
+ghost use Rattle.adf_rescue.specs.Pruned.{cleared_unless, directory_typed, extension_pruned, has_directory_type, header_pruned};
+ghost use Rattle.adf_rescue.specs.Pruned.{is_child_of, is_in_doubt, leads_to_child, may_be_pruned, pruned, pruned_at};
+ghost use Rattle.adf_rescue.specs.Pruned.{slot_pruned, slots_pruned};
+
+use crate::image::{block_count, block_in, root_of};
+use crate::lost::{in_range, word_in};
+use adf_base::set_word;
+use adf_blocks::{
+    EXTENSION, FIRST_SLOT, NEXT_IN_CHAIN, OWN_KEY, PARENT, SECONDARY_TYPE, SLOTS, ST_DIR, T_LIST,
+    T_SHORT, TYPE,
+};
+use adf_volume::is_image_len;
+
+// Whether block `t` claims to be of a primary type.
+fn claims_type(image: &[u8], primary: u32, t: u32) -> bool
+    ensures { result ≡ claims_type image.now primary t }
+{
+    in_range(image, t) && word_in(image, t, TYPE) == primary && word_in(image, t, OWN_KEY) == t
+}
+
+// Whether block `t` claims to be a header.
+fn claims_header(image: &[u8], t: u32) -> bool
+    ensures { result ≡ claims_header image.now t }
+{
+    claims_type(image, T_SHORT, t)
+}
+
+// Whether block `t` claims to be an extension block.
+fn claims_extension(image: &[u8], t: u32) -> bool
+    ensures { result ≡ claims_extension image.now t }
+{
+    claims_type(image, T_LIST, t)
+}
+
+// Whether block `b` is a header in doubt.
+fn is_in_doubt(image: &[u8], b: u32) -> bool
+    requires { is_image_len (length image.now) ≡ true }
+    ensures { result ≡ is_in_doubt image.now b }
+{
+    claims_header(image, b) && b != root_of(image) && block_in(image, b as usize).long_sum() != 0
+}
+
+// Whether block `t` is a child of block `b`.
+fn is_child_of(image: &[u8], b: u32, t: u32) -> bool
+    ensures { result ≡ is_child_of image.now b t }
+{
+    claims_header(image, t)
+        && word_in(image, t, PARENT) == b
+        && block_in(image, t as usize).long_sum() == 0
+}
+
+// Whether one of the slots of block `b` leads to a child.
+#[tactic(auto, using(crate::proofs::PrunedImages::child_steps))]
+fn leads_to_child(image: &[u8], b: u32) -> bool
+    requires { b < blocks image.now }
+    ensures { result ≡ leads_to_child image.now b SLOTS }
+{
+    for s in 0..SLOTS as usize {
+        if is_child_of(image, b, word_in(image, b, FIRST_SLOT + s)) {
+            return true;
+        }
+    }
+    false
+}
+
+// Whether block `b` is a directory, by its secondary type.
+fn has_directory_type(image: &[u8], b: u32) -> bool
+    requires { b < blocks image.now }
+    ensures { result ≡ has_directory_type image.now b }
+{
+    word_in(image, b, SECONDARY_TYPE) == ST_DIR
+}
+
+// Makes block `b` a directory, if it leads to a child.
+#[tactic(auto, unfolding(crate::specs::Pruned::directory_typed))]
+fn type_directory(image: &mut [u8], b: u32)
+    requires { b < blocks image.old }
+    ensures { image.new ≡ directory_typed image.old b }
+{
+    if !has_directory_type(image, b) && leads_to_child(image, b) {
+        set_word(image, b, SECONDARY_TYPE, ST_DIR);
+    }
+}
+
+// Makes word `i` of block `b` 0, unless it is to be kept.
+#[tactic(auto, unfolding(crate::specs::Pruned::cleared_unless))]
+fn clear_unless(image: &mut [u8], keeps: bool, b: u32, i: usize)
+    requires inside { b < blocks image.old }
+    requires word { i < 128 }
+    ensures { image.new ≡ cleared_unless keeps image.old b i }
+{
+    if !keeps {
+        set_word(image, b, i, 0);
+    }
+}
+
+// Prunes slot `s` of block `b`.
+fn prune_slot(image: &mut [u8], b: u32, s: usize)
+    requires inside { b < blocks image.old }
+    requires slot { s < SLOTS }
+    ensures { image.new ≡ slot_pruned image.old b s }
+{
+    let i = FIRST_SLOT + s;
+    let keeps = has_directory_type(image, b) && claims_header(image, word_in(image, b, i));
+    clear_unless(image, keeps, b, i);
+}
+
+// Prunes the slots of block `b`.
+#[tactic(auto, using(crate::proofs::PrunedImages::slots_steps))]
+fn prune_slots(image: &mut [u8], b: u32)
+    requires { b < blocks image.old }
+    ensures { image.new ≡ slots_pruned image.old b SLOTS }
+{
+    for s in 0..SLOTS as usize {
+        prune_slot(image, b, s);
+    }
+}
+
+// Prunes the next in the chain of block `b`.
+fn prune_chain(image: &mut [u8], b: u32)
+    requires { b < blocks image.old }
+    ensures { image.new ≡ chain_pruned image.old b }
+{
+    let keeps = claims_header(image, word_in(image, b, NEXT_IN_CHAIN));
+    clear_unless(image, keeps, b, NEXT_IN_CHAIN);
+}
+
+// Prunes the extension block of block `b`.
+fn prune_extension(image: &mut [u8], b: u32)
+    requires { b < blocks image.old }
+    ensures { image.new ≡ extension_pruned image.old b }
+{
+    let keeps = claims_extension(image, word_in(image, b, EXTENSION));
+    clear_unless(image, keeps, b, EXTENSION);
+}
+
+// Prunes header `b`.
+#[tactic(auto, unfolding(crate::specs::Pruned::header_pruned))]
+fn prune_header(image: &mut [u8], b: u32)
+    requires { b < blocks image.old }
+    ensures { image.new ≡ header_pruned image.old b }
+{
+    type_directory(image, b);
+    prune_slots(image, b);
+    prune_chain(image, b);
+    prune_extension(image, b);
+}
+
+// Prunes block `b`, if it is a header in doubt.
+#[tactic(auto, unfolding(crate::specs::Pruned::pruned_at))]
+fn prune_at(image: &mut [u8], b: u32)
+    requires sized { is_image_len (length image.old) ≡ true }
+    requires inside { b < blocks image.old }
+    ensures { image.new ≡ pruned_at image.old b }
+{
+    if is_in_doubt(image, b) {
+        prune_header(image, b);
+    }
+}
+
+/// Prunes the headers of an image whose checksums are wrong, but for the root: those of blocks that say by words 0 and 1 that
+/// they are headers. One that has a sound header in it, which words 6 to 77 lead to and which names it as its directory, is
+/// made a directory, by word 127. In a directory each of words 6 to 77 becomes 0 unless it leads to what says by words 0 and 1
+/// that it is a header, and in others all of them; likewise word 124, the next in the chain, and word 126 unless it leads to
+/// what says that it is an extension block. Nothing else changes, nor is a checksum made right. The headers are pruned in
+/// ascending order, each by the image as it stands then. An image of a length that no volume has stays as it is.
+#[tactic(auto, using(crate::proofs::PrunedImages::pruned_steps))]
+pub fn prune(image: &mut [u8])
+    ensures { image.new ≡ pruned image.old }
+{
+    if !is_image_len(image.len()) {
+        return;
+    }
+    for b in 0..block_count(image) {
+        prune_at(image, b);
+    }
+}
+
+/// A pruned image has as many bytes. Each block stays that is no header in doubt, so the boot block and the root, and all of
+/// an image without such a header. In a volume each word of a header in doubt that leads on is then 0, or leads to what claims
+/// to be such a part. Of each block only words 6 to 77, 124, 126 and 127 change, so no checksum does; and the last of them only
+/// to that of a directory.
+pub fn pruned_keeps()
+    ensures length { (image : List ℕ) → length (pruned image) ≡ length image }
+    ensures odd { (image : List ℕ) → is_image_len (length image) ≡ false → pruned image ≡ image }
+    ensures blocks { (image : List ℕ) (b : ℕ) → is_in_doubt image b ≡ false → block (pruned image) b ≡ block image b }
+    ensures boot { (image : List ℕ) → block (pruned image) 0 ≡ block image 0 }
+    ensures root { (image : List ℕ) → block (pruned image) (root_of image) ≡ block image (root_of image) }
+    ensures same { (image : List ℕ) → ((b : ℕ) → is_in_doubt image b ≡ false) → pruned image ≡ image }
+    ensures links { (image : List ℕ) → is_image_len (length image) ≡ true → (b : ℕ) → is_in_doubt image b ≡ true
+        → LeadsToParts (pruned image) b }
+    ensures words { (image : List ℕ) (b i : ℕ) → may_be_pruned i ≡ false → word_in (pruned image) b i ≡ word_in image b i }
+    ensures types { (image : List ℕ) (b : ℕ) → (word_in (pruned image) b SECONDARY_TYPE ≡ word_in image b SECONDARY_TYPE)
+        ⊎ (word_in (pruned image) b SECONDARY_TYPE ≡ ST_DIR) }
+{}
