@@ -1,7 +1,7 @@
 -- Images that are taken as if they had so many blocks.
-use Rattle.std.proofs.Common.{◌≡◌, ◌-◌, ◌*◌, ◌++◌, ℕ, List, ap₂, arith, length, replicate, take, min, length-append, length-take}
+use Rattle.std.proofs.Common.{◌≡◌, ◌≤◌, ◌-◌, ◌*◌, ◌++◌, ℕ, List, ap₂, arith, drop, length, replicate, take, min, length-append, length-take}
 use Rattle.std.proofs.lemmas.Bool.{cases_lt}
-use Rattle.std.proofs.lemmas.List.{length-replicate, take_all}
+use Rattle.std.proofs.lemmas.List.{length-replicate, take-append-le, take_all}
 use Rattle.std.proofs.lemmas.Grind.{common_steps}
 use Rattle.adf_survey_cmd.specs.Subject.{sized}
 
@@ -12,3 +12,7 @@ sized_is bytes n long kept whole is = grind (arith, common_steps, cases_lt, ap�
 
 pub length_sized : (n : ℕ) (bytes : List ℕ) → length (sized n bytes) ≡ 512 * n
 length_sized n bytes = grind (arith, common_steps, cases_lt, length-append, length-replicate, length-take)
+
+-- a list that is written over one as long
+pub written_over : (new old : List ℕ) (n : ℕ) → length new ≡ length old → n ≡ length old → take n (new ++ drop (length new) old) ≡ new
+written_over new old n same is = let short : n ≤ length new = omega arith in rw take-append-le (take_all n new (omega arith))

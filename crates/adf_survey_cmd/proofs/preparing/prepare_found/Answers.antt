@@ -77,10 +77,10 @@ returns-then-rescued c = λ lost input begun w fs sound here marks b second boot
     let told = same_told _ a b fs (lacks_root input) c.in-Some.rescued begun.made gives in
     let size = if_some _ _ _ is kept.size in
     let opens = opened_so _ input _ _ begun.opened in
-    let front = c.in_ok-front.ensures
+    let front = ap runs_lost c.deref.ensures.value ∙ c.in_ok-front.ensures
     ∙ same_front lost c.args.scope.held _ input c.args.found.now.image c.args.scope.types c.args.begun.now begun opens size in
     let losses = c.in_ok-losses.ensures w fs here b second
-    ∙ same_losses letters c.args.scope.held lost (runs_lost c.in_ok-front.front.items) input a b fs (told_value c.in-Some.rescued) told front in
+    ∙ same_losses letters c.args.scope.held lost (runs_lost c.deref.result.now) input a b fs (told_value c.in-Some.rescued) told front in
     let stands = subst (StandsNothingBy c.args.scope.types c.args.scope.held a b fs) same (gives.nothing.0 c.if-rescued.true) in
     let f = c.in_ok-first-2.first in
     let first = c.in_ok-first-2.ensures input (subst (λ (i : List ℕ). IsOpened (IsFirstFault c.args.scope.types input) input i c.args.begun.now.fault)
@@ -99,10 +99,10 @@ returns c = λ lost input begun w fs sound here marks b second.
     let told = same_told _ a b fs (lacks_root input) c.in-Some.rescued begun.made gives in
     let size = if_some _ _ _ is kept.size in
     let opens = opened_so _ input _ _ begun.opened in
-    let front = c.in_ok-front.ensures
+    let front = ap runs_lost c.deref.ensures.value ∙ c.in_ok-front.ensures
     ∙ same_front lost c.args.scope.held _ input c.args.found.now.image c.args.scope.types c.args.begun.now begun opens size in
     let losses = c.in_ok-losses.ensures w fs here b second
-    ∙ same_losses letters c.args.scope.held lost (runs_lost c.in_ok-front.front.items) input a b fs (told_value c.in-Some.rescued) told front in
+    ∙ same_losses letters c.args.scope.held lost (runs_lost c.deref.result.now) input a b fs (told_value c.in-Some.rescued) told front in
     let some : ¬ StandsNothingBy c.args.scope.types c.args.scope.held a b fs (is_mended input) = λ stands.
     let told = gives.nothing.1 (subst (StandsNothingBy c.args.scope.types c.args.scope.held a b fs) (sym same) stands) in
     let not = c.if-rescued.false in absurd cc in
