@@ -62,6 +62,7 @@ module _ (image : List ℕ) (w : Walk) (fs : List FindingValue) (n h : ℕ) (sur
   left = data_left image w fs n h
 
   found : left_below (blocks image) image w fs n (node_block w n) ≡ left
+  unfolding left kind_of
   found = (λ i. left_below (blocks image) image w fs n (is.head i)) ∙ (λ i k. is_below (blocks image) (left k) (is.inside k) i)
 
   left_is : left_in image w fs n ≡ bytes_left image (file_size image h) left (file_block_count image h)
@@ -73,17 +74,20 @@ module _ (image : List ℕ) (w : Walk) (fs : List FindingValue) (n h : ℕ) (sur
   -- outside of gaps the bytes up to the next one are read
   pub bytes_read : (at : ℕ) → (IsInGap (gaps_in image w fs n) at → ⊥)
       → found_from image h (found_blocks image w fs n h) at ≡ up_to_gap (gaps_in image w fs n) (left_in image w fs n) at
+  unfolding left kind_of
   bytes_read at out =
       bytes_outside image is.whole (file_size image h) left is.few is.inside at (subst (λ gs. IsInGap gs at → ⊥) gaps_are out)
       ∙ (λ i. up_to_gap (sym gaps_are i) (sym left_is i) at)
 
   -- and none are lost there
   pub none_lost : (at : ℕ) → (IsInGap (gaps_in image w fs n) at → ⊥) → lost_from image h (found_blocks image w fs n h) at ≡ 0
+  unfolding left kind_of
   none_lost at out =
       none_lost_outside image is.whole (file_size image h) left is.few is.inside at (subst (λ gs. IsInGap gs at → ⊥) gaps_are out)
 
   -- in a gap nothing is read, and the rest of the gap is lost
   pub gap_lost : (g : Gap) (at : ℕ) → In (gaps_in image w fs n) g → g.first ≤ at → at ≤ g.last
       → (found_from image h (found_blocks image w fs n h) at ≡ []) × (at + lost_from image h (found_blocks image w fs n h) at ≡ g.last + 1)
+  unfolding left kind_of
   gap_lost g at inside lo hi =
       inside_gap image is.whole (file_size image h) left is.few is.inside g at (subst (λ gs. In gs g) gaps_are inside) lo hi

@@ -32,6 +32,7 @@ use Rattle.adf_volume.specs.Layout.{EntryAt, Layout, at_node, datas_of, head_at}
 use Rattle.adf_volume.specs.LayoutRoles.{LayoutHas, owner_of}
 use Rattle.adf_volume.specs.Lists.{At}
 use Rattle.adf_volume.specs.Walk.{Role, Has, node_block, Walk, Role.Data, Role.Head}
+use Rattle.adf_volume.proofs.Chains.{entry_is_at}
 use Rattle.adf_volume.proofs.FitWalks.{one_fit}
 use Rattle.adf_volume.proofs.LayoutRoles.{owned_part, part_owned, part_range}
 use Rattle.adf_volume.proofs.WalkAgreement.{agreement}

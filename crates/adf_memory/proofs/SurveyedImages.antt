@@ -27,6 +27,7 @@ use Rattle.adf_survey_cmd.specs.Losses.{LossValue, run_loss}
 use Rattle.adf_survey_cmd.proofs.Subjects.{other_long, typed_either}
 use Rattle.adf_memory.specs.FoundTables.{mark_number}
 use Rattle.adf_memory.specs.Rescuing.{asked_blocks}
+use Rattle.adf_memory.specs.Rooms.{filled}
 use Rattle.adf_memory.specs.Subjects.{HasSubject, IsRetyped, blocks_lost, front_lines, of_read, surveyed_subject, subject_in}
 use Rattle.adf_memory.specs.declared.subjects.SubjectTold.{SubjectTold}
 use Rattle.adf_survey_cmd.proofs.ReadLengths.{meant_image, read_anew}
@@ -186,6 +187,29 @@ surveyed_lost s w =
     typed_lost (is_mistyped (opened u.image) w) u (told_type (opened u.image) w)
     ∙ ap (λ (ls : List LossValue). ls ++ cond (mark_number (is_mistyped (opened u.image) w) == 1) (run_loss 0 0 ∷ []) [])
     (changed_lost (lacks_boot s.image) s (with_boot_type s.image) (codes "block 0: not dos\n"))
+
+-- what is told of what is begun and retyped, by its numbers
+pub subject_put : (s t u : SubjectValue) (old new : List ℕ) (begun changed : Bool) (k b r : ℕ) → t ≡ begun_subject s → IsRetyped t u changed
+    → begun ≡ lacks_boot s.image → k ≡ length u.image → b ≡ mark_number begun → r ≡ mark_number changed → new ≡ filled u.image old
+    → length s.image ≤ length old → HasSubject s old new (record { length = k; held = u.end; is_begun = b; is_retyped = r })
+subject_put s t u old new begun changed k b r e (w, fs, survey, typed, tells) lacks count one two room fits =
+    let same : u ≡ surveyed_subject s w = typed ∙ ap (λ (t : SubjectValue). typed_subject t w) e in
+    let opens : IsSurvey (opened (begun_subject s).image) w fs = subst (λ (t : SubjectValue). IsSurvey (opened t.image) w fs) e survey in
+    let long : k ≡ length (surveyed_subject s w).image = count ∙ ap (λ (u : SubjectValue). length u.image) same in
+    let is : changed ≡ is_mistyped (opened (begun_subject s).image) w = tells ∙ ap (λ (t : SubjectValue). is_mistyped (opened t.image) w) e in
+    record {
+      walk = w;
+      findings = fs;
+      survey = opens;
+      room = room ∙ ap (λ (u : SubjectValue). filled u.image old) same;
+      tells = λ i. record {
+        length = long i;
+        held = (same i).end;
+        is_begun = (one ∙ ap mark_number lacks) i;
+        is_retyped = (two ∙ ap mark_number is) i;
+      };
+      fits = subst (λ (n : ℕ). n ≤ length old) (sym (long ∙ surveyed_length s w fs opens)) fits;
+    }
 
 -- the length that is read
 

@@ -12,6 +12,6 @@ returns-in-Ok c =
           c.in_ok-be_typed.ensures c.in_ok-boot.ensures.boot c.in-Ok.ensures,
     )
 
-pub returns : goal.returns
-returns c =
+pub returns-in-Err : goal.returns-in-Err
+returns-in-Err c =
     refuses_typed (subject_value c.args.subject) (subject_value c.be_typed.new.self) c.in-Err.unrescued c.in_ok-be_typed.ensures c.in-Err.ensures
