@@ -5,7 +5,7 @@ use Rattle.std.specs.Prelude.{◌==◌, min, Some}
 use Rattle.std.specs.List.{range_with_len}
 use Rattle.std.specs.Option.{unwrap_or}
 use Rattle.std.proofs.Common.{◌≡◌, ℕ, zero, suc, List, [], ◌∷◌, ◌+◌, ◌-◌, ◌*◌, ◌/◌, ◌≤◌, ◌<◌, length, take, drop, map, refl, sym, ap, subst, ◌∙◌, arith}
-use Rattle.std.proofs.Common.{take_all}
+use Rattle.std.proofs.Common.{false, take_all}
 use Rattle.std.proofs.lemmas.Bool.{cond_above, cond_below, eq-eqb}
 use Rattle.std.proofs.Math.Nat.{min-eq_left}
 use Rattle.adf_base.specs.declared.hash.Letters.{Letters, TheVariants.Ascii}
