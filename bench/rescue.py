@@ -80,8 +80,9 @@ def length_of(given, blocks):
     held = min(stated, len(given) // 512)
     if stated // 2 < held and is_like_root(given, stated // 2):
         return stated
-    others = [n for n in USUAL if n != stated and n // 2 < held and is_like_root(given, n // 2) == 3 and sealed(given, n // 2)]
-    return others[0] if len(others) == 1 and (blocks is None or others[0] <= blocks) else stated
+    allowed = [n for n in USUAL if n != stated and n // 2 < held and (blocks is None or n <= blocks)]
+    others = [n for n in allowed if is_like_root(given, n // 2) == 3 and sealed(given, n // 2)]
+    return others[0] if len(others) == 1 else stated
 
 
 def told_type(image):
