@@ -17,7 +17,6 @@ sys.dont_write_bytecode = True
 from survey import DIR, FILE, LINKS, PAGE_BITS, POINTERS, ROOT_PAGES, SLOTS, Survey, page, slot, spelled
 
 KIND_TEXTS = ("ofs", "ffs", "ofs-international", "ffs-international")
-PRUNES = False  # whether headers in doubt are pruned, as `prune` of adf_rescue does, which no program calls
 HARMLESS = {"bad name", "bad comment", "wrong slot", "bad first", "same name"}
 
 
@@ -105,7 +104,7 @@ def told_type(image):
 
 def typed(image):
     """The image with the type that its entries tell, and whether that is another one than is stated."""
-    new = opened(image)[0]
+    new = opened(image)
     told = told_type(new) if len(image) % 1024 == 0 and 4 <= len(image) // 512 <= 1048576 else None
     return (image, False) if told is None or told == new[3] else (b"DOS" + bytes([told]) + image[4:], True)
 
@@ -153,13 +152,13 @@ def lacks_root(image):
 
 
 def opened(image):
-    """The image, and whether it was mended."""
+    """The image with the beginning of a volume and a root, made where they are not there."""
     blocks = len(image) // 512
     if len(image) % 1024 or not 4 <= blocks <= 1048576:
-        return image, False
+        return image
     r = blocks // 2
     if states_type(image) and not lacks_root(image):
-        return image, False
+        return image
     new = bytearray(image)
     if not states_type(image):
         new[:4] = b"DOS" + bytes([0 if any(says_data(image, b) for b in range(blocks)) else 1])
@@ -177,7 +176,7 @@ def opened(image):
                 root[4 * i : 4 * i + 12] = new[512 * r + 4 * i : 512 * r + 4 * i + 12]
         new[512 * r : 512 * r + 512] = root
         put(new, r, 5, 0)
-    return bytes(new), True
+    return bytes(new)
 
 
 # Headers in doubt
@@ -193,8 +192,8 @@ def is_child(image, b, t):
 
 
 def pruned(image):
-    """The image in which each header with a wrong sum leads only to what says that it is such a part, and is a directory if it leads to a
-    header that names it."""
+    """The image in which each header with a wrong sum leads only to what says that it is such a part, or else its chain is broken; and is
+    a directory if it leads to a header that names it."""
     new, blocks = bytearray(image), len(image) // 512
     for b in range(2, blocks):
         if not claims(new, b, 2) or b == blocks // 2 or sealed(new, b):
@@ -205,7 +204,7 @@ def pruned(image):
         for i in (*range(6, 78), 124, 126):
             leads = claims(new, words(new, b)[i], 16 if i == 126 else 2) and (is_directory or i >= 124)
             if not leads:
-                pack_into(">I", new, 512 * b + 4 * i, 0)
+                pack_into(">I", new, 512 * b + 4 * i, int(i == 124 and words(new, b)[124] != 0))
     return bytes(new)
 
 
@@ -344,17 +343,16 @@ class Rescue:
             image = (image + bytes(max(0, 512 * count - len(image))))[: 512 * count]
         self.boot = bytes(image[:1024])
         image, is_retyped = typed(bytes(image))
-        self.given, self.mended = opened(image)
-        self.root_made = self.mended and lacks_root(image)
+        faults = Survey(image).findings
+        self.is_refused = bool(faults)
+        self.given = pruned(opened(image)) if faults else image
+        self.root_made = len(image) % 1024 == 0 and 4 <= len(image) // 512 <= 1048576 and lacks_root(image)
         self.front = [(count, stated - 1)] if count < stated else []
         self.front += [(0, 0)] if is_retyped or not states_type(image) else []
         survey = Survey(self.given)
-        if PRUNES and (survey.findings or self.mended):
-            self.given = pruned(self.given)
-            survey = Survey(self.given)
         self.findings, self.refused, self.left_out, self.losses = survey.findings, None, [], []
         if not survey.nodes:
-            self.refused = "block %d: %s" % self.findings[0][1:]
+            self.refused = "block %d: %s" % faults[0][1:]
             return
         self.survey, self.blocks = survey, survey.blocks
         pages = -(-(self.blocks - 2) // PAGE_BITS)
@@ -369,8 +367,8 @@ class Rescue:
             surveys.append(Survey(self.first.hung()))
             self.take(surveys[1], known)
         self.losses = [*self.doubts(surveys), *self.lost_headers(), *self.lost_blocks(surveys)]
-        if not self.added and (self.mended or self.findings):
-            self.refused = "block %d: %s" % (Survey(image).findings or self.findings)[0][1:]
+        if not self.added and faults:
+            self.refused = "block %d: %s" % faults[0][1:]
 
     def doubts(self, surveys):
         """A row for each entry that is kept and may be another, or deleted, or that no directory leads to."""
@@ -436,10 +434,11 @@ class Rescue:
         return places
 
     def is_given(self, survey, b):
-        """A data block is held. Of a second survey it is also the same in the image that is rescued; and there it is of no entry that
-        is kept, and not free by the bitmap."""
-        if b >= self.held or survey is self.survey:
-            return b < self.held
+        """A data block is held, and of an input that is refused it does not claim to be a header. Of a second survey it is also the same
+        in the image that is rescued; and there it is of no entry that is kept, and not free by the bitmap."""
+        is_data = b < self.held and not (self.is_refused and claims(self.given, b, 2))
+        if not is_data or survey is self.survey:
+            return is_data
         place = slice(512 * b, 512 * b + 512)
         return self.given[place] == survey.image[place] and b not in self.kept and not self.first.is_free(b)
 

@@ -30,6 +30,7 @@ use Rattle.adf_rescue.specs.Rescue.{Basis, Ground, Verdict, added_marks, are_giv
 use Rattle.adf_rescue.specs.Rescue.{first_verdicts_by, is_added, is_given, is_of_kept_entry, second_verdicts_by}
 use Rattle.adf_rescue.specs.Rescue.{unless_known, verdict, verdicts}
 use Rattle.adf_rescue.specs.Rescue.Verdict.{adds}
+use Rattle.adf_rescue.specs.declared.standing.Input.{Input}
 use Rattle.adf_rescue.proofs.RescuedTrees.{fitting_is}
 use Rattle.adf_rescue.proofs.Steps.{verdicts_count}
 
@@ -128,14 +129,14 @@ marked [] i x at = absurd cc
 marked (v ∷ vs) zero x at = let is : v ≡ adds x = cc in ap is_added is
 marked (v ∷ vs) (suc i) x at = marked vs i x at
 
-pub kept_apart : (letters : Letters) (held : ℕ) (a b : Basis) (i j k n : ℕ) (x y : Addition) (bytes : List ℕ)
-    → slice_get (first_verdicts_by letters held a) i ≡ Some (adds x)
-    → slice_get (second_verdicts_by letters held a (Some b)) j ≡ Some (adds y) → y.body ≡ File bytes → owning_entry a.walk n ≡ Some (suc i)
+pub kept_apart : (letters : Letters) (input : Input) (a b : Basis) (i j k n : ℕ) (x y : Addition) (bytes : List ℕ)
+    → slice_get (first_verdicts_by letters input a) i ≡ Some (adds x)
+    → slice_get (second_verdicts_by letters input a (Some b)) j ≡ Some (adds y) → y.body ≡ File bytes → owning_entry a.walk n ≡ Some (suc i)
     → At (datas_in b.walk (suc j)) k n → ⊥
-kept_apart letters held a b i j k n x y bytes first second file own at =
-    let g : Ground = before_second_by letters held a in
+kept_apart letters input a b i j k n x y bytes first second file own at =
+    let g : Ground = before_second_by letters input a in
     let given = given_at g b.image (datas_in b.walk (suc j)) k n (kept_given g b j y bytes second file) at in
     let not = not_kept g b.image n given in
     let is = ap (λ (o : Option ℕ). has_mark (added_marks g.verdicts) (unwrap_or o 0)) own in
-    let mark = marked (first_verdicts_by letters held a) i x first in
+    let mark = marked (first_verdicts_by letters input a) i x first in
     let clash : false ≡ true = sym not ∙ (is ∙ mark) in cc

@@ -1,6 +1,6 @@
 -- Images that are opened: their blocks, and what stays of their bytes.
 -- Letters: b the number of a block; r the root's; n, m, k numbers of bytes or blocks; l a list of bytes.
-use Rattle.std.proofs.Common.{◌≡◌, ◌<◌, ◌≤◌, ℕ, zero, suc, ◌+◌, ◌-◌, ◌*◌, ◌/◌, ◌^◌, Bool, true, false, Option, None, Some, is_some, List, [], ◌∷◌, ◌++◌, length}
+use Rattle.std.proofs.Common.{◌≡◌, ◌<◌, ◌≤◌, ℕ, zero, suc, ◌+◌, ◌-◌, ◌*◌, ◌/◌, ◌^◌, Bool, true, false, List, [], ◌∷◌, ◌++◌, length}
 use Rattle.std.proofs.Common.{take, drop, ◌∙◌, add-one, ap, arith, codes, inl, inr, length-drop, refl, subst, sym, ◌==◌, ◌&&◌, ◌||◌, nat_le, not, slice_range}
 use Rattle.std.proofs.lemmas.Bool.{and_from, and_left, and_parts, and_right, cases_Bool, cases_lt, cond-false, cond-true, cond_both, not_from_false}
 use Rattle.std.proofs.lemmas.Bool.{not_from_true, or_from, or_left, or_right}
@@ -21,7 +21,7 @@ use Rattle.adf_findings.specs.Start.{has_root_type}
 use Rattle.adf_names.specs.Meta.{AreStamps}
 use Rattle.adf_names.specs.declared.meta.TheConstants.{NO_STAMPS}
 use Rattle.adf_rescue.specs.MadeRoot.{has_root, is_like_root, made_block, middle_block, rooted}
-use Rattle.adf_rescue.specs.Opened.{IsOpened, with_boot_type, has_data, is_mended, opened, says_data, states_type, type_byte}
+use Rattle.adf_rescue.specs.Opened.{with_boot_type, has_data, is_mended, opened, says_data, states_type, type_byte}
 use Rattle.adf_rescue.proofs.MadeRoots.{before_rooted, behind_rooted, dated, extended, flagged, front_rooted, length_rooted, made_is_whole, made_rooted}
 use Rattle.adf_rescue.proofs.MadeRoots.{made_slot, named}
 use Rattle.adf_rescue.proofs.MadeRoots.{root_within, sized, undated, unnamed, whole_rooted}
@@ -139,15 +139,6 @@ module _ (image : List ℕ) (len : is_image_len (length image) ≡ true) where
 
 pub opened_kept : (image : List ℕ) → is_mended image ≡ false → opened image ≡ image
 opened_kept image h = cond-false (is_mended image) _ image h
-
--- an input is opened as the image that a rescue reads
-pub opened_so : {A : Type 0} (refuses : A → Type 0) (input image : List ℕ) (o : Option A) → IsOpened refuses input image o → image ≡ opened input
-opened_so refuses input image None h = h.1 ∙ sym (opened_kept input h.0)
-opened_so refuses input image (Some x) h = h.1
-
-pub mended_so : {A : Type 0} (refuses : A → Type 0) (input image : List ℕ) (o : Option A) → IsOpened refuses input image o → is_some o ≡ is_mended input
-mended_so refuses input image None h = sym h.0
-mended_so refuses input image (Some x) h = sym h.0
 
 pub opened_mended : (image : List ℕ) → is_mended image ≡ true → opened image ≡ rooted (with_boot_type image)
 opened_mended image h = cond-true (is_mended image) _ image h

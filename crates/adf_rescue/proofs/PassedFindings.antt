@@ -1,11 +1,6 @@
--- Surveys with no finding but that of an accepted type, which concerns no part: each entry is sound. And whether there are others.
+-- Surveys with no finding but that of an accepted type, which concerns no part: each entry is sound. And where there are others.
 -- Letters: w the walk of the survey, fs its findings; f a finding; r, q roles; n a node, h the block of its header; c a cause.
-use Rattle.std.proofs.Common.{◌≡◌, ◌≢◌, ◌<◌, ◌≤◌, ℕ, List, [], ◌∷◌, ◌++◌, refl, sym, ap, subst, ◌∙◌, Bool, true, false, cond, Option, Some, None}
-use Rattle.std.proofs.Common.{append-nil, arith, length, length-append}
-use Rattle.std.specs.Prelude.{◌↔◌}
-use Rattle.std.proofs.Math.Dec.{ltb}
-use Rattle.std.proofs.lemmas.Bool.{cases_lt, lt-ltb, ltb-true}
-use Rattle.std.proofs.lemmas.List.{nil_from_length}
+use Rattle.std.proofs.Common.{◌≡◌, ◌≢◌, ℕ, List, [], ◌∷◌, ◌++◌, arith, refl, sym, ap, subst, ◌∙◌, Bool, true, false, cond, Option, Some, None}
 use Rattle.std.proofs.lemmas.Grind.{common_steps}
 use Rattle.adf_base.specs.declared.hash.Letters.{Letters}
 use Rattle.adf_blocks.specs.declared.cause.Cause.{Cause}
@@ -22,12 +17,11 @@ use Rattle.adf_findings.specs.Members.{owns}
 use Rattle.adf_findings.specs.Sound.{IsOfItsKind, IsSound, says_data_of}
 use Rattle.adf_findings.specs.Survey.{FindingValue, IsSurvey, finding, IsSurvey.read, IsSurvey.unread}
 use Rattle.adf_findings.specs.Types.{is_international, passed, passed_of}
-use Rattle.adf_findings.proofs.FirstFindings.{shown, shows_none}
+use Rattle.adf_findings.proofs.FirstFindings.{shows_none}
 use Rattle.adf_findings.proofs.OneSurvey.{gathered}
 use Rattle.adf_findings.proofs.SoundEntries.{skipped_reported}
 use Rattle.adf_findings.proofs.SoundMarks.{is_alone}
 use Rattle.adf_findings.proofs.TypesRead.{types_read}
-use Rattle.adf_rescue.specs.Rescue.{IsFaulty}
 use Rattle.adf_findings.proofs.AllSound.{none_over}
 
 -- the finding of a type concerns no part, and is grave
@@ -79,30 +73,15 @@ typed_sound types image w fs n h (read {s = s} {bits = bits} v d t) clean own g 
       own = (λ ffs k b has. ap (λ h. says_data_of image h k b) (sym (head_block image (gathered image v) g)) ∙ own ffs n k b has);
     }
 
--- whether there are others
+-- where there are others
 
 -- a walk is not empty
 some_walk : {letters : Letters} {image : List ℕ} (w : Walk) → IsWalkBy letters image w → w ≡ [] → ⊥
 some_walk w walk_start e = cc
 some_walk w (walk_step v d is clean) e = cc
 
-module _ (types : Types) (image : List ℕ) (w : Walk) (fs : List FindingValue) (survey : IsSurvey image w fs) where
-  pub some_fault : length (passed types image) < length fs → fs ≢ passed types image
-  some_fault lt e = absurd (omega (arith, ap length e))
-
-  pub no_fault : length fs ≤ length (passed types image) → fs ≡ passed types image
-  no_fault few =
-      let (rest, is, k) = shown image (letters_for types image) (passed types image) (types_read image types) survey in
-      let none : rest ≡ [] = nil_from_length rest (omega (arith, ap length is, length-append (passed types image) rest)) in
-      is ∙ ap (λ gs. passed types image ++ gs) none ∙ append-nil (passed types image)
-
-  -- there is one where more are found than are passed
-  pub fault_told : (few many : ℕ) (mended : Bool) → few ≡ length (passed types image) → many ≡ length fs → mended ≡ false
-      → (ltb few many ≡ true) ↔ IsFaulty types image mended fs
-  fault_told few many mended known found kept = grind (arith, common_steps, cases_lt, some_fault, lt-ltb, ltb-true, no_fault)
-
-  -- of an image of which nothing is surveyed there is a finding that is a fault
-  pub unread_fault : w ≡ [] → fs ≢ passed types image
-  unread_fault none is =
-      let alone = subst (IsSurvey image w) is survey in
-      some_walk w (shows_none image (letters_for types image) (passed types image) (types_read image types) w alone).1 none
+-- of an image of which nothing is surveyed there is a finding that is a fault
+pub unread_fault : (types : Types) (image : List ℕ) (w : Walk) (fs : List FindingValue) → IsSurvey image w fs → w ≡ [] → fs ≢ passed types image
+unread_fault types image w fs survey none is =
+    let alone = subst (IsSurvey image w) is survey in
+    some_walk w (shows_none image (letters_for types image) (passed types image) (types_read image types) w alone).1 none

@@ -1,6 +1,6 @@
 -- What stays in a pruned image.
 -- Letters: b, c blocks; i, j words; k a number of slots or blocks; x, y, z images.
-use Rattle.std.proofs.Common.{◌==◌, ◌&&◌, not, ◌≡◌, ◌≢◌, ◌≤◌, ◌<◌, ℕ, zero, suc, ◌+◌, ◌*◌, ◌^◌, Bool, true, false, List, length, ◌∙◌, ap, arith}
+use Rattle.std.proofs.Common.{◌==◌, ◌&&◌, ◌||◌, not, ◌≡◌, ◌≢◌, ◌≤◌, ◌<◌, ℕ, zero, suc, ◌+◌, ◌*◌, ◌^◌, Bool, true, false, List, length, ◌∙◌, ap, arith}
 use Rattle.std.proofs.Common.{◌⊎◌, inl, inr, refl, subst, sym}
 use Rattle.std.proofs.lemmas.Bool.{and_left, and_parts, and_right, cases_Bool, cases_lt, cond-false, cond-true, cond_both, eq-eqb, eqb-true, not_from_true}
 use Rattle.std.proofs.lemmas.Bool.Decides.{nat_tests}
@@ -12,9 +12,12 @@ use Rattle.adf_blocks.specs.Sizes.{blocks}
 use Rattle.adf_volume.specs.Image.{root_of, word_in}
 use Rattle.adf_volume.specs.Start.{is_image_len}
 use Rattle.adf_rescue.specs.Hung.{put_in}
-use Rattle.adf_rescue.specs.Pruned.{chain_pruned, cleared_unless, directory_typed, has_directory_type, claims_header, claims_type}
-use Rattle.adf_rescue.specs.Pruned.{chain_leads, extension_leads, slot_leads, LeadsToParts}
-use Rattle.adf_rescue.specs.Pruned.{header_pruned, is_in_doubt, leads_to_child, may_be_pruned, pruned, pruned_at, pruned_first, slots_pruned}
+use Rattle.adf_rescue.specs.Claims.{claims_header, claims_type}
+use Rattle.adf_rescue.specs.Pruned.{chain_pruned, directory_typed, has_directory_type}
+use Rattle.adf_rescue.specs.Pruned.{chain_leads, extension_leads, extension_pruned, put_unless, slot_leads, LeadsToParts}
+use Rattle.adf_rescue.specs.Opened.{opened}
+use Rattle.adf_rescue.specs.Pruned.{header_pruned, image_read, is_in_doubt, leads_to_child, may_be_pruned, pruned, pruned_at, pruned_first, slots_pruned}
+use Rattle.adf_rescue.proofs.OpenedImages.{length_opened}
 use Rattle.adf_rescue.proofs.PrunedImages.{all_pruned}
 
 -- the secondary type of block b stays, or is that of a directory
@@ -71,11 +74,11 @@ put_prunes x b i v inside lt may type =
       type = type;
     }
 
-cleared_prunes : (keeps : Bool) (x : List ℕ) (b i : ℕ) → b < blocks x → i < SECONDARY_TYPE → may_be_pruned i ≡ true → Prunes b x (cleared_unless keeps x b i)
-unfolding cleared_unless
-cleared_prunes true x b i inside lt may = prunes_none b x
-cleared_prunes false x b i inside lt may =
-    put_prunes x b i 0 inside (omega arith) may (inl (word_other x b i 0 SECONDARY_TYPE inside (omega arith) (omega arith)))
+unless_prunes : (keeps : Bool) (x : List ℕ) (b i v : ℕ) → b < blocks x → i < SECONDARY_TYPE → may_be_pruned i ≡ true → Prunes b x (put_unless keeps x b i v)
+unfolding put_unless
+unless_prunes true x b i v inside lt may = prunes_none b x
+unless_prunes false x b i v inside lt may =
+    put_prunes x b i v inside (omega arith) may (inl (word_other x b i v SECONDARY_TYPE inside (omega arith) (omega arith)))
 
 slot_may : (k : ℕ) → k < SLOTS → may_be_pruned (FIRST_SLOT + k) ≡ true
 slot_may k lt = grind (arith, common_steps, nat_tests)
@@ -85,7 +88,7 @@ unfolding slots_pruned
 slots_prunes x b zero inside le = prunes_none b x
 slots_prunes x b (suc k) inside le =
     let before = slots_prunes x b k inside (omega arith) in
-    prunes_more before (cleared_prunes _ (slots_pruned x b k) b (FIRST_SLOT + k) (still x (slots_pruned x b k) b before.length inside) (omega arith)
+    prunes_more before (unless_prunes _ (slots_pruned x b k) b (FIRST_SLOT + k) 0 (still x (slots_pruned x b k) b before.length inside) (omega arith)
     (slot_may k (omega arith)))
 
 typed_prunes : (x : List ℕ) (b : ℕ) → b < blocks x → Prunes b x (directory_typed x b)
@@ -103,9 +106,9 @@ header_prunes x b inside =
     let chain : List ℕ = chain_pruned slots b in
     let h1 = typed_prunes x b inside in
     let h2 = prunes_more h1 (slots_prunes typed b SLOTS (still x typed b h1.length inside) (omega arith)) in
-    let h3 = prunes_more h2 (cleared_prunes (chain_leads slots b) slots b NEXT_IN_CHAIN
+    let h3 = prunes_more h2 (unless_prunes (chain_leads slots b) slots b NEXT_IN_CHAIN 1
     (still x slots b h2.length inside) (omega arith) refl) in
-    prunes_more h3 (cleared_prunes (extension_leads chain b) chain b EXTENSION
+    prunes_more h3 (unless_prunes (extension_leads chain b) chain b EXTENSION 0
     (still x chain b h3.length inside) (omega arith) refl)
 
 -- what block t claims to be stays
@@ -118,18 +121,18 @@ all_words {b} {x} {y} h t i kept = elim (cases_Bool (t == b)) [
 same_claim : {b : ℕ} {x y : List ℕ} → Prunes b x y → (type t : ℕ) → claims_type y type t ≡ claims_type x type t
 same_claim h type t = let primary = all_words h t TYPE refl in let own = all_words h t OWN_KEY refl in let len = h.length in cc
 
--- a word that is pruned leads to nothing, or stays; and another word stays
+-- a word that is pruned is what is put there, or stays; and another word stays
 
-word_leads : (keeps : Bool) (x : List ℕ) (b i : ℕ) → b < blocks x → i < 128
-    → (word_in (cleared_unless keeps x b i) b i ≡ 0) ⊎ ((keeps ≡ true) × (cleared_unless keeps x b i ≡ x))
-unfolding cleared_unless
-word_leads true x b i inside lt = inr (refl, refl)
-word_leads false x b i inside lt = inl (word_same x b i 0 inside lt (omega arith))
+word_leads : (keeps : Bool) (x : List ℕ) (b i v : ℕ) → b < blocks x → i < 128 → v < 2 ^ 32
+    → (word_in (put_unless keeps x b i v) b i ≡ v) ⊎ ((keeps ≡ true) × (put_unless keeps x b i v ≡ x))
+unfolding put_unless
+word_leads true x b i v inside lt small = inr (refl, refl)
+word_leads false x b i v inside lt small = inl (word_same x b i v inside lt small)
 
-word_stays : (keeps : Bool) (x : List ℕ) (b i j : ℕ) → b < blocks x → i < 128 → j ≢ i → word_in (cleared_unless keeps x b i) b j ≡ word_in x b j
-unfolding cleared_unless
-word_stays true x b i j inside lt ne = refl
-word_stays false x b i j inside lt ne = word_other x b i 0 j inside lt ne
+word_stays : (keeps : Bool) (x : List ℕ) (b i v j : ℕ) → b < blocks x → i < 128 → j ≢ i → word_in (put_unless keeps x b i v) b j ≡ word_in x b j
+unfolding put_unless
+word_stays true x b i v j inside lt ne = refl
+word_stays false x b i v j inside lt ne = word_other x b i v j inside lt ne
 
 -- what leads to parts still does, where the words of a block stay
 
@@ -151,12 +154,22 @@ module _ {c : ℕ} {x y : List ℕ} (h : Prunes c x y) (b : ℕ) where
     | inr is ↦ inr (same_claim h type (word_in y b i) ∙ (ap (claims_type x type) same ∙ is))
   ]
 
+  chain_moves : word_in y b NEXT_IN_CHAIN ≡ word_in x b NEXT_IN_CHAIN → (word_in x b NEXT_IN_CHAIN ≡ 1) ⊎ (chain_leads x b ≡ true)
+      → (word_in y b NEXT_IN_CHAIN ≡ 1) ⊎ (chain_leads y b ≡ true)
+  chain_moves same leads =
+      let claim = same_claim h T_SHORT (word_in y b NEXT_IN_CHAIN) ∙ ap (claims_header x) same in
+      elim leads [
+        | inl broken ↦ inl (same ∙ broken)
+        | inr is ↦ inr (ap (λ d. (d == 0) || claims_header y (word_in y b NEXT_IN_CHAIN)) same
+            ∙ (ap (λ d. (word_in x b NEXT_IN_CHAIN == 0) || d) claim ∙ is))
+      ]
+
   parts_move : b ≢ c → LeadsToParts x b → LeadsToParts y b
   parts_move other leads =
       let same = h.others b other in
       record {
         slots = λ s lt. slot_moves s (ap (λ bs. word bs SECONDARY_TYPE) same) (ap (λ bs. word bs (FIRST_SLOT + s)) same) (leads.slots s lt);
-        chain = word_moves T_SHORT NEXT_IN_CHAIN (ap (λ bs. word bs NEXT_IN_CHAIN) same) leads.chain;
+        chain = chain_moves (ap (λ bs. word bs NEXT_IN_CHAIN) same) leads.chain;
         extension = word_moves T_LIST EXTENSION (ap (λ bs. word bs EXTENSION) same) leads.extension;
       }
 
@@ -173,25 +186,29 @@ slots_lead x b (suc k) inside le s lt =
     let small : i < 128 = omega arith in
     elim (cases_lt s k) [
       | inl before ↦
-          slot_moves (cleared_prunes keeps y b i here (omega arith) (slot_may k (omega arith))) b s
-          (word_stays keeps y b i SECONDARY_TYPE here small (omega arith))
-          (word_stays keeps y b i (FIRST_SLOT + s) here small (omega arith)) (slots_lead x b k inside (omega arith) s before)
+          slot_moves (unless_prunes keeps y b i 0 here (omega arith) (slot_may k (omega arith))) b s
+          (word_stays keeps y b i 0 SECONDARY_TYPE here small (omega arith))
+          (word_stays keeps y b i 0 (FIRST_SLOT + s) here small (omega arith)) (slots_lead x b k inside (omega arith) s before)
       | inr from ↦
           let last : k ≡ s = omega arith in
-          let P : ℕ → Type 0 = λ t. (word_in (cleared_unless keeps y b i) b (FIRST_SLOT + t) ≡ 0) ⊎ (slot_leads (cleared_unless keeps y b i) b t ≡ true) in
-          subst P last (elim (word_leads keeps y b i here small) [
+          let P : ℕ → Type 0 = λ t. (word_in (put_unless keeps y b i 0) b (FIRST_SLOT + t) ≡ 0) ⊎ (slot_leads (put_unless keeps y b i 0) b t ≡ true) in
+          subst P last (elim (word_leads keeps y b i 0 here small (omega arith)) [
             | inl none ↦ inl none
             | inr stays ↦ inr (ap (λ l. slot_leads l b k) stays.1 ∙ stays.0)
           ])
     ]
 
-word_is_led : (type : ℕ) (x : List ℕ) (b i : ℕ) → b < blocks x → i < 128
-    → (word_in (cleared_unless (claims_type x type (word_in x b i)) x b i) b i ≡ 0)
-    ⊎ (claims_type (cleared_unless (claims_type x type (word_in x b i)) x b i) type
-    (word_in (cleared_unless (claims_type x type (word_in x b i)) x b i) b i) ≡ true)
-word_is_led type x b i inside lt = elim (word_leads (claims_type x type (word_in x b i)) x b i inside lt) [
+extension_is_led : (x : List ℕ) (b : ℕ) → b < blocks x
+    → (word_in (extension_pruned x b) b EXTENSION ≡ 0) ⊎ (extension_leads (extension_pruned x b) b ≡ true)
+extension_is_led x b inside = elim (word_leads (extension_leads x b) x b EXTENSION 0 inside (omega arith) (omega arith)) [
   | inl none ↦ inl none
-  | inr stays ↦ inr (ap (λ l. claims_type l type (word_in l b i)) stays.1 ∙ stays.0)
+  | inr stays ↦ inr (ap (λ l. extension_leads l b) stays.1 ∙ stays.0)
+]
+
+chain_is_led : (x : List ℕ) (b : ℕ) → b < blocks x → (word_in (chain_pruned x b) b NEXT_IN_CHAIN ≡ 1) ⊎ (chain_leads (chain_pruned x b) b ≡ true)
+chain_is_led x b inside = elim (word_leads (chain_leads x b) x b NEXT_IN_CHAIN 1 inside (omega arith) (omega arith)) [
+  | inl broken ↦ inl broken
+  | inr stays ↦ inr (ap (λ l. chain_leads l b) stays.1 ∙ stays.0)
 ]
 
 header_leads : (x : List ℕ) (b : ℕ) → b < blocks x → LeadsToParts (header_pruned x b) b
@@ -204,16 +221,16 @@ header_leads x b inside =
     let in1 = still x typed b h1.length inside in
     let h2 = slots_prunes typed b SLOTS in1 (omega arith) in
     let in2 = still typed slots b h2.length in1 in
-    let h3 = cleared_prunes (chain_leads slots b) slots b NEXT_IN_CHAIN in2 (omega arith) refl in
+    let h3 = unless_prunes (chain_leads slots b) slots b NEXT_IN_CHAIN 1 in2 (omega arith) refl in
     let in3 = still slots chain b h3.length in2 in
-    let h4 = cleared_prunes (extension_leads chain b) chain b EXTENSION in3 (omega arith) refl in
-    let s3 = λ (j : ℕ) (ne : j ≢ NEXT_IN_CHAIN). word_stays (chain_leads slots b) slots b NEXT_IN_CHAIN j in2 (omega arith) ne in
-    let s4 = λ (j : ℕ) (ne : j ≢ EXTENSION). word_stays (extension_leads chain b) chain b EXTENSION j in3 (omega arith) ne in
+    let h4 = unless_prunes (extension_leads chain b) chain b EXTENSION 0 in3 (omega arith) refl in
+    let s3 = λ (j : ℕ) (ne : j ≢ NEXT_IN_CHAIN). word_stays (chain_leads slots b) slots b NEXT_IN_CHAIN 1 j in2 (omega arith) ne in
+    let s4 = λ (j : ℕ) (ne : j ≢ EXTENSION). word_stays (extension_leads chain b) chain b EXTENSION 0 j in3 (omega arith) ne in
     record {
       slots = λ s lt. slot_moves h4 b s (s4 SECONDARY_TYPE (omega arith)) (s4 (FIRST_SLOT + s) (omega arith))
           (slot_moves h3 b s (s3 SECONDARY_TYPE (omega arith)) (s3 (FIRST_SLOT + s) (omega arith)) (slots_lead typed b SLOTS in1 (omega arith) s lt));
-      chain = word_moves h4 b T_SHORT NEXT_IN_CHAIN (s4 NEXT_IN_CHAIN (omega arith)) (word_is_led T_SHORT slots b NEXT_IN_CHAIN in2 (omega arith));
-      extension = word_is_led T_LIST chain b EXTENSION in3 (omega arith);
+      chain = chain_moves h4 b (s4 NEXT_IN_CHAIN (omega arith)) (chain_is_led slots b in2);
+      extension = extension_is_led chain b in3;
     }
 
 at_leads : (x : List ℕ) (b : ℕ) → b < blocks x → is_in_doubt x b ≡ true → LeadsToParts (pruned_at x b) b
@@ -293,6 +310,11 @@ either x P all none = cond_both (is_image_len (length x)) (pruned_first x (block
 
 pub length_kept : (x : List ℕ) → length (pruned x) ≡ length x
 length_kept x = either x (λ y. length y ≡ length x) (λ len. (first_prunes (blocks x) x (omega arith)).length) refl
+
+-- the image that is read is as long as the input
+pub length_read : (refused : Bool) (input : List ℕ) → length (image_read refused input) ≡ length input
+length_read true input = length_kept (opened input) ∙ length_opened input
+length_read false input = refl
 
 pub sound_kept : (x : List ℕ) (b : ℕ) → is_in_doubt x b ≡ false → block (pruned x) b ≡ block x b
 sound_kept x b sound = either x (λ y. block y b ≡ block x b) (λ len. (first_prunes (blocks x) x (omega arith)).sound b sound) refl

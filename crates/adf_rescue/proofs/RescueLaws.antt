@@ -19,28 +19,29 @@ use Rattle.adf_findings.specs.Survey.{FindingValue, IsSurvey}
 use Rattle.adf_findings.proofs.OneSurvey.{one_survey}
 use Rattle.adf_findings.proofs.SoundFiles.{file_told}
 use Rattle.adf_rescue.specs.Lost.{has_lost}
-use Rattle.adf_rescue.specs.Salvage.{are_held}
+use Rattle.adf_rescue.specs.Salvage.{are_data}
 use Rattle.adf_rescue.proofs.GivenBlocks.{first_given_all}
 use Rattle.adf_rescue.specs.Rescue.{IsBasis, Basis, Verdict, as_given, at_path, before_first_by, by_body, body_of, path_by, new_path, verdict_tree, verdict}
+use Rattle.adf_rescue.specs.declared.standing.Input.{Input}
 
--- a sound file stands with its content, if its data is held
-pub sound_stands : (letters : Letters) (held : ℕ) (l : Basis) (fs : List FindingValue) (n : ℕ) → IsSurvey l.image l.walk fs
+-- a sound file stands with its content, if its blocks may be data
+pub sound_stands : (letters : Letters) (input : Input) (l : Basis) (fs : List FindingValue) (n : ℕ) → IsSurvey l.image l.walk fs
     → AreMarks l.image l.walk (grave fs) l.sound
-    → IsSoundFile l.image l.walk (grave fs) n → are_held held (datas_in l.walk n) ≡ true
-    → body_of (as_given (before_first_by letters held l.image) l) n ≡ Ok (File (file_content (file_in l.image l.walk n)))
-sound_stands letters held l fs n survey marks is all =
-    let given = first_given_all letters held (file_in l.image l.walk n) (file_told l.image l.walk fs true n survey is.0 is.1).1 in
+    → IsSoundFile l.image l.walk (grave fs) n → are_data input l.image (datas_in l.walk n) ≡ true
+    → body_of (as_given (before_first_by letters input l.image) l) n ≡ Ok (File (file_content (file_in l.image l.walk n)))
+sound_stands letters input l fs n survey marks is all =
+    let given = first_given_all letters input (file_in l.image l.walk n) (file_told l.image l.walk fs true n survey is.0 is.1).1 in
     grind (arith, common_steps, and_from, eq-eqb)
 
 -- so the verdict on it is that of its path
-pub sound_verdict : (letters : Letters) (held : ℕ) (a : Basis) (fs : List FindingValue) (n : ℕ) (vs : List Verdict) → IsSurvey a.image a.walk fs
-    → AreMarks a.image a.walk (grave fs) a.sound → IsSoundFile a.image a.walk (grave fs) n → are_held held (datas_in a.walk n) ≡ true
-    → (let t = verdict_tree (before_first_by letters held a.image) vs in verdict (before_first_by letters held a.image) a vs n
+pub sound_verdict : (letters : Letters) (input : Input) (a : Basis) (fs : List FindingValue) (n : ℕ) (vs : List Verdict) → IsSurvey a.image a.walk fs
+    → AreMarks a.image a.walk (grave fs) a.sound → IsSoundFile a.image a.walk (grave fs) n → are_data input a.image (datas_in a.walk n) ≡ true
+    → (let t = verdict_tree (before_first_by letters input a.image) vs in verdict (before_first_by letters input a.image) a vs n
     ≡ at_path t (blocks a.image) (meta_stated (block a.image (node_block a.walk n))) (File (file_content (file_in a.image a.walk n)))
     (path_by t (new_path vs (parent_node a.walk n)) (name_of a.image (node_block a.walk n)) (node_block a.walk n)))
-sound_verdict letters held a fs n vs survey marks is all =
-    let t : Tree = verdict_tree (before_first_by letters held a.image) vs in
-    ap (by_body a.image (blocks a.image) t (new_path vs (parent_node a.walk n)) (node_block a.walk n)) (sound_stands letters held a fs n survey marks is all)
+sound_verdict letters input a fs n vs survey marks is all =
+    let t : Tree = verdict_tree (before_first_by letters input a.image) vs in
+    ap (by_body a.image (blocks a.image) t (new_path vs (parent_node a.walk n)) (node_block a.walk n)) (sound_stands letters input a fs n survey marks is all)
 
 -- the marks of a survey are one function, so there is one list of verdicts
 pub same_basis : (image : List ℕ) (w : Walk) (fs : List FindingValue) (s t : ℕ → Bool) → AreMarks image w fs s → AreMarks image w fs t

@@ -1,7 +1,7 @@
 -- The images that a rescue makes of bytes are bytes.
 -- Letters: given the image of a survey, w its walk, s whether each directory is settled; b, p, e blocks; i the number of a word;
 -- k a number of blocks.
-use Rattle.std.proofs.Common.{◌<◌, ◌≤◌, ◌*◌, ◌^◌, ◌++◌, ℕ, zero, suc, Bool, List, [], ◌∷◌, arith, codes, decimal, drop, length, length-append, replicate}
+use Rattle.std.proofs.Common.{◌<◌, ◌≤◌, ◌+◌, ◌*◌, ◌^◌, ◌++◌, ◌&&◌, not, ℕ, zero, suc, Bool, true, false, List, [], ◌∷◌, arith, codes, decimal, drop, length, length-append, replicate}
 use Rattle.std.proofs.lemmas.Bool.{cond_both}
 use Rattle.std.proofs.lemmas.Fmt.{decimal_is_IsNumeral, length-decimal-le}
 use Rattle.std.proofs.lemmas.List.Elements.{All-append, All-cons, All-drop, All-from_get_or, All-from_recursion, All-nil, All-replicate, All-take}
@@ -9,18 +9,21 @@ use Rattle.std.proofs.lemmas.Str.Parse.{digit_at}
 use Rattle.std.proofs.lemmas.Grind.{common_steps}
 use Rattle.adf_base.specs.Words.{block, with_bytes, with_word}
 use Rattle.adf_base.proofs.ByteLists.{AreBytes, IsByte, block_bytes, block_written_bytes, range_bytes, sealed_bytes, word_written, written_bytes}
-use Rattle.adf_blocks.specs.declared.layout.TheConstants.{BITMAP_FLAG, CHECKSUM, FIRST_SLOT, NAME, SLOTS}
+use Rattle.adf_blocks.specs.declared.layout.TheConstants.{BITMAP_FLAG, CHECKSUM, EXTENSION, FIRST_SLOT, NAME, NEXT_IN_CHAIN, SECONDARY_TYPE, SLOTS, ST_DIR}
 use Rattle.adf_blocks.specs.Forms.{text_at}
 use Rattle.adf_blocks.specs.HeadBlock.{head_block}
 use Rattle.adf_blocks.specs.RootBlock.{label_stated, root_block}
 use Rattle.adf_blocks.specs.Sizes.{blocks}
 use Rattle.adf_blocks.proofs.ByteBlocks.{head_bytes, root_bytes}
 use Rattle.adf_volume.specs.Image.{root_of}
+use Rattle.adf_volume.specs.Start.{is_image_len}
 use Rattle.adf_volume.specs.Walk.{Walk}
 use Rattle.adf_rescue.specs.Hung.{emptied, hung, hung_at, hung_behind, hung_first, hung_in, hung_loose, made_header}
 use Rattle.adf_rescue.specs.Hung.{put_in, readied, ready_in, sealed_in}
 use Rattle.adf_rescue.specs.MadeRoot.{flag_in, has_root, is_like_root, label_in, made_block, made_root, middle_block, rooted}
 use Rattle.adf_rescue.specs.Opened.{with_boot_type, has_data, is_mended, opened, states_type, type_byte}
+use Rattle.adf_rescue.specs.Pruned.{chain_leads, chain_pruned, directory_typed, extension_leads, has_directory_type, header_pruned, image_read}
+use Rattle.adf_rescue.specs.Pruned.{is_in_doubt, leads_to_child, pruned, pruned_at, pruned_first, put_unless, slot_leads, slots_pruned}
 use Rattle.adf_rescue.specs.Rescue.{lost_name}
 use Rattle.adf_rescue.proofs.MadeRoots.{made_fits}
 
@@ -123,3 +126,50 @@ module _ (given : List ℕ) (w : Walk) (s : ℕ → Bool) where
 
   pub hung_bytes : AreBytes given → blocks given ≤ 2 ^ 32 → AreBytes (hung given w s)
   hung_bytes are small = first_bytes are small (blocks given)
+
+-- an image that is pruned
+
+unless_bytes : (keeps : Bool) (image : List ℕ) (b i v : ℕ) → AreBytes image → AreBytes (put_unless keeps image b i v)
+unfolding put_unless
+unless_bytes true image b i v are = are
+unless_bytes false image b i v are = put_bytes image b i v are
+
+slots_bytes : (image : List ℕ) (b k : ℕ) → AreBytes image → AreBytes (slots_pruned image b k)
+unfolding slots_pruned
+slots_bytes image b zero are = are
+slots_bytes image b (suc k) are =
+    let before : List ℕ = slots_pruned image b k in
+    unless_bytes (slot_leads before b k) before b (FIRST_SLOT + k) 0 (slots_bytes image b k are)
+
+directory_bytes : (image : List ℕ) (b : ℕ) → AreBytes image → AreBytes (directory_typed image b)
+unfolding directory_typed
+directory_bytes image b are =
+    cond_both (not (has_directory_type image b) && leads_to_child image b SLOTS) (put_in image b SECONDARY_TYPE ST_DIR) image AreBytes
+    (λ e. put_bytes image b SECONDARY_TYPE ST_DIR are) (λ e. are)
+
+header_pruned_bytes : (image : List ℕ) (b : ℕ) → AreBytes image → AreBytes (header_pruned image b)
+unfolding header_pruned
+header_pruned_bytes image b are =
+    let slots : List ℕ = slots_pruned (directory_typed image b) b SLOTS in
+    let chain : List ℕ = chain_pruned slots b in
+    unless_bytes (extension_leads chain b) chain b EXTENSION 0
+    (unless_bytes (chain_leads slots b) slots b NEXT_IN_CHAIN 1 (slots_bytes (directory_typed image b) b SLOTS (directory_bytes image b are)))
+
+at_bytes : (image : List ℕ) (b : ℕ) → AreBytes image → AreBytes (pruned_at image b)
+unfolding pruned_at
+at_bytes image b are = cond_both (is_in_doubt image b) (header_pruned image b) image AreBytes (λ e. header_pruned_bytes image b are) (λ e. are)
+
+first_pruned_bytes : (image : List ℕ) (k : ℕ) → AreBytes image → AreBytes (pruned_first image k)
+unfolding pruned_first
+first_pruned_bytes image zero are = are
+first_pruned_bytes image (suc k) are = at_bytes (pruned_first image k) k (first_pruned_bytes image k are)
+
+pruned_bytes : (image : List ℕ) → AreBytes image → AreBytes (pruned image)
+unfolding pruned
+pruned_bytes image are =
+    cond_both (is_image_len (length image)) (pruned_first image (blocks image)) image AreBytes (λ e. first_pruned_bytes image (blocks image) are) (λ e. are)
+
+-- the image that is read is bytes
+pub read_bytes : (refused : Bool) (input : List ℕ) → AreBytes input → AreBytes (image_read refused input)
+read_bytes true input are = pruned_bytes (opened input) (opened_bytes input are)
+read_bytes false input are = are

@@ -19,6 +19,7 @@ use Rattle.adf_rescue.specs.Rescue.{Ground, Basis, Verdict, verdict_addition, ve
 use Rattle.adf_rescue.specs.Rescue.{entry_headed, path_by, path_with_room, rescued_additions_by, rescued_tree_by, verdict_tree, unless_known, verdict}
 use Rattle.adf_rescue.specs.Rescue.{verdict_anew, verdicts}
 use Rattle.adf_rescue.specs.Rescue.Verdict.{adds, knows, leaves}
+use Rattle.adf_rescue.specs.declared.standing.Input.{Input}
 use Rattle.adf_rescue.proofs.Steps.{additions_more, tree_more}
 
 -- a path that an entry gets has room
@@ -103,10 +104,10 @@ tree_of_verdicts : (g : Ground) (l : Basis) (k : ℕ) → IsTreeOfBy g.letters (
 tree_of_verdicts g l zero h = nothing_yet g h
 tree_of_verdicts g l (suc k) h = search (arith, grown_by, room_of_verdict, tree_of_verdicts g l k h)
 
-pub tree_of_rescue : (letters : Letters) (held : ℕ) (a : Basis) (b : Option Basis)
-    → IsTreeOfBy letters (rescued_tree_by letters held a b).entries (rescued_additions_by letters held a b)
-tree_of_rescue letters held a None =
-    nothing_yet (before_second_by letters held a) (tree_of_verdicts (before_first_by letters held a.image) a (heads a.walk) (nothing_added_by letters))
-tree_of_rescue letters held a (Some b) =
-    tree_of_verdicts (before_second_by letters held a) b (heads b.walk)
-    (tree_of_verdicts (before_first_by letters held a.image) a (heads a.walk) (nothing_added_by letters))
+pub tree_of_rescue : (letters : Letters) (input : Input) (a : Basis) (b : Option Basis)
+    → IsTreeOfBy letters (rescued_tree_by letters input a b).entries (rescued_additions_by letters input a b)
+tree_of_rescue letters input a None =
+    nothing_yet (before_second_by letters input a) (tree_of_verdicts (before_first_by letters input a.image) a (heads a.walk) (nothing_added_by letters))
+tree_of_rescue letters input a (Some b) =
+    tree_of_verdicts (before_second_by letters input a) b (heads b.walk)
+    (tree_of_verdicts (before_first_by letters input a.image) a (heads a.walk) (nothing_added_by letters))

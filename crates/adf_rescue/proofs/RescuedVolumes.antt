@@ -41,6 +41,7 @@ use Rattle.adf_rescue.specs.Rescue.{Basis, Ground, Verdict, verdict_addition, ve
 use Rattle.adf_rescue.specs.Rescue.{body_of_type, by_body, first_verdicts_by, lost_name, path_by, path_with_room, new_path, rescued_additions_by}
 use Rattle.adf_rescue.specs.Rescue.{rescued_tree_by, second_verdicts_by, verdict_tree, verdict, verdicts}
 use Rattle.adf_rescue.specs.Rescue.Verdict.{adds, knows, leaves}
+use Rattle.adf_rescue.specs.declared.standing.Input.{Input}
 use Rattle.adf_rescue.proofs.RescuedTrees.{fitting_is, or_else, tree_of_rescue}
 use Rattle.adf_rescue.proofs.Steps.{additions_more, tree_more}
 use Rattle.adf_rescue.proofs.KeptFiles.{unless_adds}
@@ -135,14 +136,14 @@ module _ (g : Ground) (l : Basis) (are : AreBytes l.image) where
 abbrev pub AreSecondBytes : Option Basis → Type 0
 AreSecondBytes second = IfSome second (λ b. AreBytes b.image)
 
-second_bounded : (letters : Letters) (held : ℕ) (a : Basis) (second : Option Basis) → AreSecondBytes second
-    → All IsBoundedAddition (verdict_additions (second_verdicts_by letters held a second))
-second_bounded letters held a None are = All-nil IsBoundedAddition
-second_bounded letters held a (Some b) are = verdicts_bounded (before_second_by letters held a) b are (heads b.walk)
+second_bounded : (letters : Letters) (input : Input) (a : Basis) (second : Option Basis) → AreSecondBytes second
+    → All IsBoundedAddition (verdict_additions (second_verdicts_by letters input a second))
+second_bounded letters input a None are = All-nil IsBoundedAddition
+second_bounded letters input a (Some b) are = verdicts_bounded (before_second_by letters input a) b are (heads b.walk)
 
-rescue_bounded : (letters : Letters) (held : ℕ) (a : Basis) (second : Option Basis) → AreBytes a.image → AreSecondBytes second
-    → IsBounded (rescued_tree_by letters held a second)
-rescue_bounded letters held a second are more =
+rescue_bounded : (letters : Letters) (input : Input) (a : Basis) (second : Option Basis) → AreBytes a.image → AreSecondBytes second
+    → IsBounded (rescued_tree_by letters input a second)
+rescue_bounded letters input a second are more =
     let root : List ℕ = block a.image (root_of a.image) in
     let bytes = block_bytes a.image (root_of a.image) are in
     record {
@@ -152,9 +153,9 @@ rescue_bounded letters held a second are more =
         altered = stamp_small root ALTERED bytes;
         created = stamp_small root CREATED bytes;
       };
-      entries = bounded_additions_by letters (rescued_additions_by letters held a second)
-          (All-append IsBoundedAddition (verdict_additions (first_verdicts_by letters held a)) (verdict_additions (second_verdicts_by letters held a second))
-          (verdicts_bounded (before_first_by letters held a.image) a are (heads a.walk)) (second_bounded letters held a second more));
+      entries = bounded_additions_by letters (rescued_additions_by letters input a second)
+          (All-append IsBoundedAddition (verdict_additions (first_verdicts_by letters input a)) (verdict_additions (second_verdicts_by letters input a second))
+          (verdicts_bounded (before_first_by letters input a.image) a are (heads a.walk)) (second_bounded letters input a second more));
     }
 
 -- the room for it
@@ -162,9 +163,9 @@ rescue_bounded letters held a second are more =
 abbrev FitsIn : ℕ → Tree → Type 0
 FitsIn n t = blocks_needed t n ≤ n - 2
 
-nothing_fits : (letters : Letters) (held : ℕ) (image : List ℕ) → is_allowed (blocks image) ≡ true
-    → FitsIn (blocks image) (verdict_tree (before_first_by letters held image) [])
-nothing_fits letters held image allowed = grind (arith, common_steps, size_low, reserved_below)
+nothing_fits : (letters : Letters) (input : Input) (image : List ℕ) → is_allowed (blocks image) ≡ true
+    → FitsIn (blocks image) (verdict_tree (before_first_by letters input image) [])
+nothing_fits letters input image allowed = grind (arith, common_steps, size_low, reserved_below)
 
 same_tree : (g : Ground) (vs : List Verdict) (v : Verdict) → verdict_addition v ≡ [] → verdict_tree g (vs ++ v ∷ []) ≡ verdict_tree g vs
 same_tree g vs v none = grind (arith, common_steps, additions_more, append-nil)
@@ -179,31 +180,31 @@ verdicts_fit g l begun (suc k) =
     let vs : List Verdict = verdicts g l k in
     fits_on g vs (verdict g l vs (suc k)) (blocks g.given) (verdicts_fit g l begun k) (λ x is. (added_so g l vs (suc k) x is).fits)
 
-second_begun : (letters : Letters) (held : ℕ) (a : Basis)
-    → verdict_tree (before_first_by letters held a.image) (first_verdicts_by letters held a) ≡ verdict_tree (before_second_by letters held a) []
-second_begun letters held a = let same = append-nil (verdict_additions (first_verdicts_by letters held a)) in rw same refl
+second_begun : (letters : Letters) (input : Input) (a : Basis)
+    → verdict_tree (before_first_by letters input a.image) (first_verdicts_by letters input a) ≡ verdict_tree (before_second_by letters input a) []
+second_begun letters input a = let same = append-nil (verdict_additions (first_verdicts_by letters input a)) in rw same refl
 
-first_fits : (letters : Letters) (held : ℕ) (a : Basis) → is_allowed (blocks a.image) ≡ true
-    → FitsIn (blocks a.image) (verdict_tree (before_second_by letters held a) [])
-first_fits letters held a allowed =
-    subst (FitsIn (blocks a.image)) (second_begun letters held a)
-    (verdicts_fit (before_first_by letters held a.image) a (nothing_fits letters held a.image allowed) (heads a.walk))
+first_fits : (letters : Letters) (input : Input) (a : Basis) → is_allowed (blocks a.image) ≡ true
+    → FitsIn (blocks a.image) (verdict_tree (before_second_by letters input a) [])
+first_fits letters input a allowed =
+    subst (FitsIn (blocks a.image)) (second_begun letters input a)
+    (verdicts_fit (before_first_by letters input a.image) a (nothing_fits letters input a.image allowed) (heads a.walk))
 
-rescue_fits : (letters : Letters) (held : ℕ) (a : Basis) (second : Option Basis) → is_allowed (blocks a.image) ≡ true
-    → FitsIn (blocks a.image) (rescued_tree_by letters held a second)
-rescue_fits letters held a None allowed = first_fits letters held a allowed
-rescue_fits letters held a (Some b) allowed = verdicts_fit (before_second_by letters held a) b (first_fits letters held a allowed) (heads b.walk)
+rescue_fits : (letters : Letters) (input : Input) (a : Basis) (second : Option Basis) → is_allowed (blocks a.image) ≡ true
+    → FitsIn (blocks a.image) (rescued_tree_by letters input a second)
+rescue_fits letters input a None allowed = first_fits letters input a allowed
+rescue_fits letters input a (Some b) allowed = verdicts_fit (before_second_by letters input a) b (first_fits letters input a allowed) (heads b.walk)
 
 -- so its volume is laid
-pub rescue_laid : (letters : Letters) (held : ℕ) (a : Basis) (second : Option Basis) → is_allowed (blocks a.image) ≡ true → AreBytes a.image
+pub rescue_laid : (letters : Letters) (input : Input) (a : Basis) (second : Option Basis) → is_allowed (blocks a.image) ≡ true → AreBytes a.image
     → AreSecondBytes second
-    → (image : List ℕ) × IsLaid image (rescued_tree_by letters held a second) × (blocks image ≡ blocks a.image)
-rescue_laid letters held a second allowed are more =
-    let t : Tree = rescued_tree_by letters held a second in
+    → (image : List ℕ) × IsLaid image (rescued_tree_by letters input a second) × (blocks image ≡ blocks a.image)
+rescue_laid letters input a second allowed are more =
+    let t : Tree = rescued_tree_by letters input a second in
     let n : ℕ = blocks a.image in
     let can : CanHold t n = record {
-      sound = record { tree = (tree_of_rescue letters held a second).tree; bounds = rescue_bounded letters held a second are more };
+      sound = record { tree = (tree_of_rescue letters input a second).tree; bounds = rescue_bounded letters input a second are more };
       allowed = allowed;
-      room = rescue_fits letters held a second allowed;
+      room = rescue_fits letters input a second allowed;
     } in
     (volume t n, volume_laid can, volume_blocks can)

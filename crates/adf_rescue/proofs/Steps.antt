@@ -29,6 +29,7 @@ use Rattle.adf_rescue.specs.Rescue.{before_second_by, body_of, by_body, director
 use Rattle.adf_rescue.specs.Rescue.{path_for, new_path, second_verdicts_by, verdict_tree, unless_known, verdict, verdict_anew, verdicts}
 use Rattle.adf_rescue.specs.Rescue.Verdict.{adds, leaves}
 use Rattle.adf_rescue.specs.Salvage.{ComesNext, IsPlace, IsRoomOf, IsSalvage, entry_cost, free_blocks}
+use Rattle.adf_rescue.specs.declared.standing.Input.{Input}
 use Rattle.adf_rescue.proofs.TreeBlocks.{added_blocks}
 use Rattle.adf_tree.proofs.Lists.{get_last}
 
@@ -119,7 +120,7 @@ new_place d path meta (File bytes) m place is dir = rw is tt
 -- an entry adds nothing
 pub none_more : (g : Ground) (vs : List Verdict) (r s : Salvage) (n : ℕ) (v : Verdict) (place : Option ℕ) → IsSalvage g vs r → n ≡ length vs + 1
     → verdict_addition v ≡ [] → is_added v ≡ false → IsPlace r.draft (directory_path v) place
-    → s.draft ≡ r.draft → s.kind ≡ r.kind → s.held ≡ r.held → s.known ≡ r.known → s.kept ≡ r.kept → s.left ≡ r.left
+    → s.draft ≡ r.draft → s.kind ≡ r.kind → s.input ≡ r.input → s.known ≡ r.known → s.kept ≡ r.kept → s.left ≡ r.left
     → s.left_before ≡ r.left_before → s.places.items ≡ r.places.items ++ place ∷ [] → s.added.items ≡ r.added.items ++ false ∷ []
     → s.left_out.items ≡ r.left_out.items ++ left_out_by n v
     → IsSalvage g (vs ++ v ∷ []) s
@@ -174,7 +175,7 @@ module _ (g : Ground) (vs : List Verdict) (r : Salvage) (x : Addition) (is : IsS
         → s.draft.tree ≡ with_entry_by r.draft.tree.letters r.draft.tree x.path x.meta x.body → length s.draft.nodes ≡ length r.draft.nodes + 1
         → ((dir : List (List ℕ)) (m : ℕ) → IsDirectoryOf r.draft dir m → IsDirectoryOf s.draft dir m)
         → IsPlace s.draft (directory_path (adds x)) place
-        → s.kind ≡ r.kind → s.held ≡ r.held → s.left ≡ r.left - cost → s.places.items ≡ r.places.items ++ place ∷ []
+        → s.kind ≡ r.kind → s.input ≡ r.input → s.left ≡ r.left - cost → s.places.items ≡ r.places.items ++ place ∷ []
         → s.added.items ≡ r.added.items ++ true ∷ [] → s.left_out.items ≡ r.left_out.items
         → s.known ≡ r.known → s.kept ≡ r.kept → s.left_before ≡ r.left_before
         → IsSalvage g (vs ++ fitting before (blocks g.given) x ∷ []) s
@@ -184,7 +185,7 @@ module _ (g : Ground) (vs : List Verdict) (r : Salvage) (x : Addition) (is : IsS
         rw (fits small le) (record {
           tree = grown ∙ sym (tree_more g vs x);
           kind = k ∙ is.kind;
-          held = hd ∙ is.held;
+          input = hd ∙ is.input;
           kept = ap (λ m. m.items) kp ∙ is.kept;
           added = ad ∙ (ap (λ bs. bs ++ true ∷ []) is.added ∙ sym (marks_more vs v));
           count = rw ps (omega (arith, is.count, length_push r.places.items place, length_push vs v));
@@ -220,16 +221,16 @@ pub none_added : (g : Ground) (vs : List Verdict) (r : Salvage) → IsSalvage g 
     → verdict_additions g.verdicts ++ verdict_additions vs ≡ []
 none_added g vs r is none = nil_from_length (verdict_additions g.verdicts ++ verdict_additions vs) (sym is.nodes ∙ none)
 
--- the state before a second survey has its letters, and its number of blocks that are held
-pub own_terms : (letters : Letters) (held : ℕ) (a : Basis) (r : Salvage) → IsSalvage (before_second_by letters held a) [] r
-    → IsSalvage (before_second_by r.draft.tree.letters r.held a) [] r
-own_terms letters held a r is = grind (arith, common_steps)
+-- the state before a second survey has its letters, and what is known of its input
+pub own_terms : (letters : Letters) (input : Input) (a : Basis) (r : Salvage) → IsSalvage (before_second_by letters input a) [] r
+    → IsSalvage (before_second_by r.draft.tree.letters r.input a) [] r
+own_terms letters input a r is = grind (arith, common_steps)
 
--- a state behind a second survey, by letters and a number of blocks that are its own
-pub with_terms : (own letters : Letters) (mine held : ℕ) (a : Basis) (b : Option Basis) (r : Salvage) → own ≡ letters → mine ≡ held
+-- a state behind a second survey, by letters and an input that are its own
+pub with_terms : (own letters : Letters) (mine input : Input) (a : Basis) (b : Option Basis) (r : Salvage) → own ≡ letters → mine ≡ input
     → IsSalvage (before_second_by own mine a) (second_verdicts_by own mine a b) r
-    → IsSalvage (before_second_by letters held a) (second_verdicts_by letters held a b) r
-with_terms own letters mine held a b r same all is = grind (arith, common_steps)
+    → IsSalvage (before_second_by letters input a) (second_verdicts_by letters input a b) r
+with_terms own letters mine input a b r same all is = grind (arith, common_steps)
 
 -- the tree of the additions fits
 pub buildable : (t : Tree) (left n m : ℕ) → m ≡ n → is_allowed m ≡ true → 1 + reserved m ≤ m - 2

@@ -36,9 +36,10 @@ use Rattle.adf_findings.specs.Types.{passed}
 use Rattle.adf_findings.proofs.FirstFindings.{finds_none, none_found, shows_none}
 use Rattle.adf_findings.proofs.TypesRead.{types_read}
 use Rattle.adf_build.specs.Plan.{blocks_needed, entries_blocks, reserved}
-use Rattle.adf_rescue.specs.Rescue.{Ground, Basis, Verdict, verdict_additions, before_first_by, before_second_by, directory_path, first_verdicts_by, fitting}
+use Rattle.adf_rescue.specs.Rescue.{accepted, Ground, Basis, Verdict, verdict_additions, before_first_by, before_second_by, directory_path, first_verdicts_by, fitting}
 use Rattle.adf_rescue.specs.Rescue.{left_out_from, path_by, path_for, new_path, rescue_leaves_by, rescued_tree_by, verdict_tree, verdict, verdicts}
 use Rattle.adf_rescue.specs.Rescue.Verdict.{adds}
+use Rattle.adf_rescue.specs.declared.standing.Input.{Input}
 use Rattle.adf_rescue.proofs.FitBlocks.{fit_room, front_blocks}
 use Rattle.adf_drafts.proofs.NextEntries.{directory_stays, has_room, new_is, new_leads}
 use Rattle.adf_rescue.proofs.PassedFindings.{passed_grave}
@@ -132,19 +133,19 @@ enough : (t : Tree) (n : ℕ) (x : Addition) → blocks_needed (with_entry_by t.
 enough t n x le = grind (arith, common_steps, le-leb)
 
 -- the tree of the first entries
-abbrev tree_so_far : Letters → ℕ → Basis → List Verdict → Tree
-tree_so_far ls held a vs = verdict_tree (before_first_by ls held a.image) vs
+abbrev tree_so_far : Letters → Input → Basis → List Verdict → Tree
+tree_so_far ls input a vs = verdict_tree (before_first_by ls input a.image) vs
 
-module _ (ls : Letters) (held : ℕ) (a : Basis) (vs : List Verdict) (n : ℕ) (e : Entry) (is : IsToldAs ls held a n e) (dir : List (List ℕ))
+module _ (ls : Letters) (input : Input) (a : Basis) (vs : List Verdict) (n : ℕ) (e : Entry) (is : IsToldAs ls input a n e) (dir : List (List ℕ))
     (at : new_path vs e.parent ≡ Some dir) where
-  entry_path : room_for_by ls (tree_so_far ls held a vs).entries (dir ++ e.name ∷ []) ≡ Ok e.parent
-      → path_by (tree_so_far ls held a vs) (new_path vs (parent_node a.walk n)) (name_of a.image (node_block a.walk n)) (node_block a.walk n)
+  entry_path : room_for_by ls (tree_so_far ls input a vs).entries (dir ++ e.name ∷ []) ≡ Ok e.parent
+      → path_by (tree_so_far ls input a vs) (new_path vs (parent_node a.walk n)) (name_of a.image (node_block a.walk n)) (node_block a.walk n)
       ≡ Some (dir ++ e.name ∷ [])
   entry_path room = grind (arith, common_steps, tree_so_far, own_path)
 
-  entry_stands : room_for_by ls (tree_so_far ls held a vs).entries (dir ++ e.name ∷ []) ≡ Ok e.parent
-      → blocks_needed (with_entry_by ls (tree_so_far ls held a vs) (dir ++ e.name ∷ []) e.meta e.body) (blocks a.image) ≤ blocks a.image - 2
-      → verdict (before_first_by ls held a.image) a vs n ≡ adds (addition dir e)
+  entry_stands : room_for_by ls (tree_so_far ls input a vs).entries (dir ++ e.name ∷ []) ≡ Ok e.parent
+      → blocks_needed (with_entry_by ls (tree_so_far ls input a vs) (dir ++ e.name ∷ []) e.meta e.body) (blocks a.image) ≤ blocks a.image - 2
+      → verdict (before_first_by ls input a.image) a vs n ≡ adds (addition dir e)
   entry_stands room le = grind (arith, common_steps, verdict_at, entry_path, enough, tree_so_far, addition)
 
 -- so all entries of a tree that fits are added
@@ -167,7 +168,7 @@ module _ (types : Types) (held : ℕ) (image : List ℕ) (w : Walk) (fs : List F
   front_room k = search (arith, fit_room, front_blocks)
 
   next_front : (k : ℕ) (vs : List Verdict) → k < heads w → IsFront ls all k vs
-      → IsFront ls all (suc k) (vs ++ verdict (before_first_by ls held image) basis vs (suc k) ∷ [])
+      → IsFront ls all (suc k) (vs ++ verdict (before_first_by ls (accepted held) image) basis vs (suc k) ∷ [])
   next_front k vs lt f =
       let x = told types held image w fs sound le survey clean own marks v k lt in
       let e : Entry = x.0 in
@@ -185,13 +186,13 @@ module _ (types : Types) (held : ℕ) (image : List ℕ) (w : Walk) (fs : List F
       let fits : 1 + reserved (blocks image) + entries_blocks (kind_of image) (with_addition_by ls before (addition dir e)) ≤ blocks image - 2 =
       subst (λ (us : List Entry). 1 + reserved (blocks image) + entries_blocks (kind_of image) us ≤ blocks image - 2)
       (sym added_one) (front_room (k + 1)) in
-      let is = entry_stands ls held basis vs (suc k) e x.2 dir place.1 room fits in
-      subst (λ m. IsFront ls all m (vs ++ verdict (before_first_by ls held image) basis vs (suc k) ∷ [])) (add-one k)
+      let is = entry_stands ls (accepted held) basis vs (suc k) e x.2 dir place.1 room fits in
+      subst (λ m. IsFront ls all m (vs ++ verdict (before_first_by ls (accepted held) image) basis vs (suc k) ∷ [])) (add-one k)
       (subst (λ (u : Verdict). IsFront ls all (k + 1) (vs ++ u ∷ [])) (sym is) (front_more ls all k vs e fit.tree within here f dir place.2))
 
-  front : (k : ℕ) → k ≤ heads w → IsFront ls all k (verdicts (before_first_by ls held image) basis k)
+  front : (k : ℕ) → k ≤ heads w → IsFront ls all k (verdicts (before_first_by ls (accepted held) image) basis k)
   front zero le = nothing_yet ls all
-  front (suc k) le = next_front k (verdicts (before_first_by ls held image) basis k) (omega arith) (front k (omega arith))
+  front (suc k) le = next_front k (verdicts (before_first_by ls (accepted held) image) basis k) (omega arith) (front k (omega arith))
 
 -- the tree of the additions is that of the walk
 same_tree : (image : List ℕ) (w : Walk) (g : Ground) (vs : List Verdict) → g.given ≡ image → AllHold (root_demands image (root_of image))
@@ -225,17 +226,17 @@ module _ (types : Types) (held : ℕ) (image : List ℕ) (t : Tree) (l : Layout)
   walk : IsWalkBy of_types image w
   walk = (shows_none image of_types (passed types image) (types_read image types) w unreported).1
 
-  whole : IsFront of_types (entries_in image w w) (heads w) (first_verdicts_by of_types held whole_basis)
+  whole : IsFront of_types (entries_in image w w) (heads w) (first_verdicts_by of_types (accepted held) whole_basis)
   whole = front types held image w fs sound le survey clean own all_marks walk made (heads w) (omega arith)
 
-  pub tree_kept : rescued_tree_by of_types held whole_basis None ≡ t
+  pub tree_kept : rescued_tree_by of_types (accepted held) whole_basis None ≡ t
   tree_kept =
-      let xs : List Addition = verdict_additions (first_verdicts_by of_types held whole_basis) in
+      let xs : List Addition = verdict_additions (first_verdicts_by of_types (accepted held) whole_basis) in
       let all : entries_of_additions_by of_types (xs ++ []) ≡ entries_in image w w =
       ap (entries_of_additions_by of_types) (append-nil xs)
       ∙ (whole.entries ∙ take_all (heads w) (entries_in image w w) (omega (arith, entries_length image w w))) in
-      same_tree image w (before_second_by of_types held whole_basis) [] refl made.root all
+      same_tree image w (before_second_by of_types (accepted held) whole_basis) [] refl made.root all
       ∙ sym (one_fit image t (tree_in_by of_types image w) l (layout_in w) fit made).0
 
-  pub none_left : rescue_leaves_by of_types held whole_basis ≡ []
+  pub none_left : rescue_leaves_by of_types (accepted held) whole_basis ≡ []
   none_left = whole.none

@@ -1,6 +1,6 @@
 -- The entries that a rescue keeps in doubt.
 -- Letters: a the survey of the image, b the second one, if there is one; n the node of an entry, h the block of its header; doubt the doubt about
--- each node, if there is one; v, vs verdicts; held the number of blocks that the input holds whole.
+-- each node, if there is one; v, vs verdicts; input what is known of the input.
 use Rattle.std.specs.Prelude.{◌==◌, ◌&&◌, ℕ, Bool, not, cond, List, [], ◌∷◌, Option, Some, None, option_map}
 use Rattle.std.specs.List.{cons_option}
 use Rattle.std.proofs.Common.{suc}
@@ -12,6 +12,7 @@ use Rattle.adf_rescue.specs.Lost.{is_stated_free, is_stated_used, says_header}
 use Rattle.adf_rescue.specs.Rescue.{Basis, Verdict, first_verdicts_by, is_added, second_verdicts_by}
 use Rattle.adf_rescue.specs.declared.doubts.Doubt.{Doubt, TheVariants.FoundAgain, TheVariants.InDoubt, TheVariants.Made, TheVariants.PerhapsDeleted}
 use Rattle.adf_rescue.specs.declared.doubts.Doubtful.{Doubtful}
+use Rattle.adf_rescue.specs.declared.standing.Input.{Input}
 
 -- the doubt about an entry of the survey, by its header: its sum is wrong, or the bitmap tells that it is free
 abbrev pub first_doubt : List ℕ → Walk → ℕ → Option Doubt
@@ -38,10 +39,10 @@ doubts_from doubt n [] = []
 doubts_from doubt n (v ∷ vs) = cons_option (kept_in_doubt n (doubt n) (is_added v)) (doubts_from doubt (suc n) vs)
 
 -- the entries of the survey of the image that the rescue keeps in doubt
-abbrev pub first_doubts_by : Letters → (held : ℕ) → Basis → List Doubtful
-first_doubts_by letters held a = doubts_from (first_doubt a.image a.walk) 1 (first_verdicts_by letters held a)
+abbrev pub first_doubts_by : Letters → Input → Basis → List Doubtful
+first_doubts_by letters input a = doubts_from (first_doubt a.image a.walk) 1 (first_verdicts_by letters input a)
 
 -- the entries of the second survey that it keeps: each is in doubt
-abbrev pub second_doubts_by : Letters → (held : ℕ) → Basis → Option Basis → List Doubtful
-second_doubts_by letters held a None = []
-second_doubts_by letters held a (Some b) = doubts_from (second_doubt a.image a.walk b.walk) 1 (second_verdicts_by letters held a (Some b))
+abbrev pub second_doubts_by : Letters → Input → Basis → Option Basis → List Doubtful
+second_doubts_by letters input a None = []
+second_doubts_by letters input a (Some b) = doubts_from (second_doubt a.image a.walk b.walk) 1 (second_verdicts_by letters input a (Some b))

@@ -1,6 +1,6 @@
 -- An image whose boot block or root was overwritten, as if these were those of a volume.
 -- Letters: b the number of a block; k a number of blocks.
-use Rattle.std.specs.Prelude.{ℕ, ◌≡◌, ◌==◌, ◌&&◌, ◌||◌, not, nat_le, nat_lt, Bool, false, true, cond, Option, None, Some, List, ◌∷◌, ◌++◌}
+use Rattle.std.specs.Prelude.{ℕ, ◌==◌, ◌&&◌, ◌||◌, not, nat_le, nat_lt, Bool, false, cond, List, ◌∷◌, ◌++◌}
 use Rattle.std.specs.Prelude.{codes, drop, length, slice_index}
 use Rattle.std.proofs.Common.{zero, suc}
 use Rattle.adf_base.specs.Words.{block, long_sum}
@@ -59,8 +59,3 @@ is_mended image = is_image_len (length image) && not (states_type image && has_r
 -- the image as a rescue reads it: where it must be mended, with a beginning and a root
 abbrev pub opened : List ℕ → List ℕ
 opened image = cond (is_mended image) (rooted (with_boot_type image)) image
-
--- an input is opened as an image: as it is, or mended, and then it is refused so
-abbrev pub IsOpened : {A : Type 0} → (refuses : A → Type 0) → (input image : List ℕ) → Option A → Type 0
-IsOpened refuses input image None = (is_mended input ≡ false) × (image ≡ input)
-IsOpened refuses input image (Some x) = (is_mended input ≡ true) × (image ≡ opened input) × refuses x

@@ -3,24 +3,13 @@
 use Rattle.std.specs.Prelude.{ℕ, ◌+◌, ◌==◌, ◌&&◌, ◌||◌, ◌≡◌, ◌<◌, ◌⊎◌, not, nat_le, nat_lt, Bool, true, false, cond, List, length}
 use Rattle.std.proofs.Common.{zero, suc}
 use Rattle.adf_base.specs.Words.{block, long_sum}
-use Rattle.adf_blocks.specs.declared.layout.TheConstants.{EXTENSION, FIRST_SLOT, NEXT_IN_CHAIN, OWN_KEY, PARENT, SECONDARY_TYPE, SLOTS, ST_DIR}
-use Rattle.adf_blocks.specs.declared.layout.TheConstants.{TYPE, T_LIST, T_SHORT}
-use Rattle.adf_blocks.specs.Sizes.{blocks, in_range}
+use Rattle.adf_blocks.specs.declared.layout.TheConstants.{EXTENSION, FIRST_SLOT, NEXT_IN_CHAIN, PARENT, SECONDARY_TYPE, SLOTS, ST_DIR}
+use Rattle.adf_blocks.specs.Sizes.{blocks}
 use Rattle.adf_volume.specs.Image.{root_of, word_in}
 use Rattle.adf_volume.specs.Start.{is_image_len}
+use Rattle.adf_rescue.specs.Claims.{claims_extension, claims_header}
 use Rattle.adf_rescue.specs.Hung.{put_in}
-
--- block t claims to be of this primary type: it is in range, and has that type and its own key; its sum is not asked for
-abbrev pub claims_type : List ℕ → ℕ → ℕ → Bool
-claims_type image type t = in_range image t && (word_in image t TYPE == type) && (word_in image t OWN_KEY == t)
-
--- block t claims to be a header
-abbrev pub claims_header : List ℕ → ℕ → Bool
-claims_header image t = claims_type image T_SHORT t
-
--- block t claims to be an extension block
-abbrev pub claims_extension : List ℕ → ℕ → Bool
-claims_extension image t = claims_type image T_LIST t
+use Rattle.adf_rescue.specs.Opened.{opened}
 
 -- block b is a header in doubt: it claims to be a header, is not the root, and its sum is wrong
 abbrev pub is_in_doubt : List ℕ → ℕ → Bool
@@ -43,17 +32,17 @@ has_directory_type image b = word_in image b SECONDARY_TYPE == ST_DIR
 unfoldable pub directory_typed : List ℕ → ℕ → List ℕ
 directory_typed image b = cond (not (has_directory_type image b) && leads_to_child image b SLOTS) (put_in image b SECONDARY_TYPE ST_DIR) image
 
--- the image with word i of block b made 0, unless it is to be kept
-unfoldable pub cleared_unless : Bool → List ℕ → ℕ → ℕ → List ℕ
-cleared_unless keeps image b i = cond keeps image (put_in image b i 0)
+-- the image with word i of block b made v, unless it is to be kept
+unfoldable pub put_unless : Bool → List ℕ → ℕ → ℕ → ℕ → List ℕ
+put_unless keeps image b i v = cond keeps image (put_in image b i v)
 
 -- slot s of block b leads to what claims to be a header, and b is a directory
 abbrev pub slot_leads : List ℕ → ℕ → ℕ → Bool
 slot_leads image b s = has_directory_type image b && claims_header image (word_in image b (FIRST_SLOT + s))
 
--- the next in the chain of block b claims to be a header
+-- block b is the last of its chain, or the next in it claims to be a header
 abbrev pub chain_leads : List ℕ → ℕ → Bool
-chain_leads image b = claims_header image (word_in image b NEXT_IN_CHAIN)
+chain_leads image b = (word_in image b NEXT_IN_CHAIN == 0) || claims_header image (word_in image b NEXT_IN_CHAIN)
 
 -- the extension block of block b claims to be one
 abbrev pub extension_leads : List ℕ → ℕ → Bool
@@ -61,20 +50,20 @@ extension_leads image b = claims_extension image (word_in image b EXTENSION)
 
 -- the image with slot s of block b made 0, unless it leads so
 abbrev pub slot_pruned : List ℕ → ℕ → ℕ → List ℕ
-slot_pruned image b s = cleared_unless (slot_leads image b s) image b (FIRST_SLOT + s)
+slot_pruned image b s = put_unless (slot_leads image b s) image b (FIRST_SLOT + s) 0
 
 -- the same of the first k slots
 unfoldable pub slots_pruned : List ℕ → ℕ → ℕ → List ℕ
 slots_pruned image b zero = image
 slots_pruned image b (suc k) = slot_pruned (slots_pruned image b k) b k
 
--- the image in which block b has no next one in its chain, unless that leads so
+-- the image in which the chain of block b is broken, unless it leads so: block 1, a boot block, is next in it
 abbrev pub chain_pruned : List ℕ → ℕ → List ℕ
-chain_pruned image b = cleared_unless (chain_leads image b) image b NEXT_IN_CHAIN
+chain_pruned image b = put_unless (chain_leads image b) image b NEXT_IN_CHAIN 1
 
 -- the image in which block b has no extension block, unless that leads so
 abbrev pub extension_pruned : List ℕ → ℕ → List ℕ
-extension_pruned image b = cleared_unless (extension_leads image b) image b EXTENSION
+extension_pruned image b = put_unless (extension_leads image b) image b EXTENSION 0
 
 -- the image with header b pruned: its type, its slots, its chain and its extension block
 unfoldable pub header_pruned : List ℕ → ℕ → List ℕ
@@ -96,13 +85,17 @@ pruned_first image (suc k) = pruned_at (pruned_first image k) k
 unfoldable pub pruned : List ℕ → List ℕ
 pruned image = cond (is_image_len (length image)) (pruned_first image (blocks image)) image
 
+-- the image that a rescue reads of an input: the input itself; but of one that is refused the opened image, pruned
+abbrev pub image_read : (refused : Bool) → List ℕ → List ℕ
+image_read refused input = cond refused (pruned (opened input)) input
+
 -- word i of a header is one that may be pruned: a slot, the next in the chain, the extension block, or the secondary type
 abbrev pub may_be_pruned : ℕ → Bool
 may_be_pruned i =
     nat_le FIRST_SLOT i && nat_lt i (FIRST_SLOT + SLOTS) || (i == NEXT_IN_CHAIN) || (i == EXTENSION) || (i == SECONDARY_TYPE)
 
--- each word of block b that may lead on is 0, or leads to what claims to be such a part
+-- each word of block b that may lead on is 0, or leads to what claims to be such a part; but the chain is broken otherwise
 pub record LeadsToParts (image : List ℕ) (b : ℕ) : Type 0 where
   pub slots : (s : ℕ) → s < SLOTS → (word_in image b (FIRST_SLOT + s) ≡ 0) ⊎ (slot_leads image b s ≡ true)
-  pub chain : (word_in image b NEXT_IN_CHAIN ≡ 0) ⊎ (chain_leads image b ≡ true)
+  pub chain : (word_in image b NEXT_IN_CHAIN ≡ 1) ⊎ (chain_leads image b ≡ true)
   pub extension : (word_in image b EXTENSION ≡ 0) ⊎ (extension_leads image b ≡ true)

@@ -2,9 +2,9 @@
 -- Then the entries of a second survey, of the image with what was lost hung in it again, are taken in the same way.
 -- Letters: a the survey of the image, b the second one, if there is one, l either; n the node of an entry, h the block of its header;
 -- g what is taken before a survey; vs the verdicts on the entries before, t the tree with their additions; dir the path of a directory in it;
--- held the number of blocks that the input holds whole: data behind these is made up. What depends on the letters of the new tree, whose case
--- is ignored in its names, takes them first; what depends on the types that the new volume may have takes these first.
-use Rattle.std.specs.Prelude.{◌≡◌, ◌≢◌, ◌==◌, ◌&&◌, ◌⊎◌, ◌-◌, ◌+◌, ◌*◌, ℕ, Bool, true, false, not, nat_le, nat_lt, cond, List, [], ◌∷◌, ◌++◌, codes, decimal}
+-- input what is known of the input. What depends on the letters of the new tree, whose case is ignored in its names, takes them first; what
+-- depends on the types that the new volume may have takes these first.
+use Rattle.std.specs.Prelude.{◌≡◌, ◌==◌, ◌&&◌, ◌-◌, ◌+◌, ◌*◌, ℕ, Bool, true, false, not, nat_le, nat_lt, cond, List, [], ◌∷◌, ◌++◌, codes, decimal}
 use Rattle.std.specs.Prelude.{length, map, slice_get, Option, Some, None, Result, Ok, Err, is_ok}
 use Rattle.std.specs.List.{flat_map}
 use Rattle.std.specs.Option.{option_and_then, unwrap_or}
@@ -30,11 +30,12 @@ use Rattle.adf_findings.specs.Members.{owning_entry, parent_node, has_mark}
 use Rattle.adf_findings.specs.SoundMarks.{AreMarks}
 use Rattle.adf_findings.specs.Opening.{opening_in}
 use Rattle.adf_findings.specs.Survey.{FindingValue, IsSurvey}
-use Rattle.adf_findings.specs.Types.{passed}
 use Rattle.adf_build.specs.Plan.{blocks_needed}
+use Rattle.adf_rescue.specs.Claims.{claims_header}
 use Rattle.adf_rescue.specs.Lost.{is_stated_free}
 use Rattle.adf_rescue.specs.declared.left_out.LeftOut.{LeftOut}
 use Rattle.adf_rescue.specs.declared.left_out.Why.{Why, TheVariants.Damaged, TheVariants.Link, TheVariants.NoRoom}
+use Rattle.adf_rescue.specs.declared.standing.Input.{Input}
 
 -- a survey as a rescue takes it: its image and walk, and whether an entry is whole
 pub record Basis : Type 0 where
@@ -71,12 +72,12 @@ pub data Verdict : Type 0 where
   leaves : (why : Why) → Verdict
   knows : (place : Option (List (List ℕ))) → Verdict
 
--- what is taken before a survey: the image that is rescued and how many blocks of it are held, the letters of the new tree, the walk of the
--- survey before, and the verdicts on its entries
+-- what is taken before a survey: the image that is rescued and what is known of the input, the letters of the new tree, the walk of the survey
+-- before, and the verdicts on its entries
 pub record Ground : Type 0 where
   pub given : List ℕ
   pub letters : Letters
-  pub held : ℕ
+  pub input : Input
   pub walk : Walk
   pub verdicts : List Verdict
 
@@ -173,10 +174,18 @@ added_marks vs = false ∷ map is_added vs
 abbrev pub is_of_kept_entry : Ground → ℕ → Bool
 is_of_kept_entry g b = has_mark (added_marks g.verdicts) (unwrap_or (owning_entry g.walk b) 0)
 
--- data block b of an image was given: it is held, and the same in the image that is rescued; and there neither an entry that is kept
+-- what is known of an input that is accepted, which holds so many blocks whole
+abbrev pub accepted : ℕ → Input
+accepted held = record { held = held; is_refused = false }
+
+-- block b of an image may be data: the input holds it; and if the input is refused, the block does not claim to be a header
+abbrev pub is_data : Input → List ℕ → ℕ → Bool
+is_data input image b = nat_lt b input.held && not (input.is_refused && claims_header image b)
+
+-- data block b of an image was given: in the image that is rescued it may be data, and is the same; and there neither an entry that is kept
 -- has it, nor does the bitmap tell that it is free
 abbrev pub is_given : Ground → List ℕ → ℕ → Bool
-is_given g image b = nat_lt b g.held && (is_same_block g.given image b && (not (is_of_kept_entry g b) && not (is_stated_free g.given g.walk b)))
+is_given g image b = is_data g.input g.given b && (is_same_block g.given image b && (not (is_of_kept_entry g b) && not (is_stated_free g.given g.walk b)))
 
 -- so were these blocks
 abbrev pub are_given : Ground → List ℕ → List ℕ → Bool
@@ -219,30 +228,30 @@ verdicts g l zero = []
 verdicts g l (suc k) = let vs = verdicts g l k in vs ++ verdict g l vs (suc k) ∷ []
 
 -- nothing is taken before the survey of the image
-abbrev pub before_first_by : Letters → (held : ℕ) → List ℕ → Ground
-before_first_by letters held image = record { given = image; letters = letters; held = held; walk = []; verdicts = [] }
+abbrev pub before_first_by : Letters → Input → List ℕ → Ground
+before_first_by letters input image = record { given = image; letters = letters; input = input; walk = []; verdicts = [] }
 
 -- the verdicts on its entries
-abbrev pub first_verdicts_by : Letters → (held : ℕ) → Basis → List Verdict
-first_verdicts_by letters held a = verdicts (before_first_by letters held a.image) a (heads a.walk)
+abbrev pub first_verdicts_by : Letters → Input → Basis → List Verdict
+first_verdicts_by letters input a = verdicts (before_first_by letters input a.image) a (heads a.walk)
 
 -- they are taken before the second survey
-abbrev pub before_second_by : Letters → (held : ℕ) → Basis → Ground
-before_second_by letters held a =
-    record { given = a.image; letters = letters; held = held; walk = a.walk; verdicts = first_verdicts_by letters held a }
+abbrev pub before_second_by : Letters → Input → Basis → Ground
+before_second_by letters input a =
+    record { given = a.image; letters = letters; input = input; walk = a.walk; verdicts = first_verdicts_by letters input a }
 
 -- the verdicts on the entries of the second survey
-abbrev pub second_verdicts_by : Letters → (held : ℕ) → Basis → Option Basis → List Verdict
-second_verdicts_by letters held a None = []
-second_verdicts_by letters held a (Some b) = verdicts (before_second_by letters held a) b (heads b.walk)
+abbrev pub second_verdicts_by : Letters → Input → Basis → Option Basis → List Verdict
+second_verdicts_by letters input a None = []
+second_verdicts_by letters input a (Some b) = verdicts (before_second_by letters input a) b (heads b.walk)
 
 -- the additions of a rescue
-abbrev pub rescued_additions_by : Letters → (held : ℕ) → Basis → Option Basis → List Addition
-rescued_additions_by letters held a b = verdict_additions (first_verdicts_by letters held a) ++ verdict_additions (second_verdicts_by letters held a b)
+abbrev pub rescued_additions_by : Letters → Input → Basis → Option Basis → List Addition
+rescued_additions_by letters input a b = verdict_additions (first_verdicts_by letters input a) ++ verdict_additions (second_verdicts_by letters input a b)
 
 -- the tree of the new volume
-abbrev pub rescued_tree_by : Letters → (held : ℕ) → Basis → Option Basis → Tree
-rescued_tree_by letters held a b = verdict_tree (before_second_by letters held a) (second_verdicts_by letters held a b)
+abbrev pub rescued_tree_by : Letters → Input → Basis → Option Basis → Tree
+rescued_tree_by letters input a b = verdict_tree (before_second_by letters input a) (second_verdicts_by letters input a b)
 
 -- entry n, if the verdict leaves it out
 abbrev pub left_out_by : ℕ → Verdict → List LeftOut
@@ -256,18 +265,13 @@ left_out_from n [] = []
 left_out_from n (v ∷ vs) = left_out_by n v ++ left_out_from (suc n) vs
 
 -- the entries of the survey of the image that the rescue leaves out
-abbrev pub rescue_leaves_by : Letters → (held : ℕ) → Basis → List LeftOut
-rescue_leaves_by letters held a = left_out_from 1 (first_verdicts_by letters held a)
+abbrev pub rescue_leaves_by : Letters → Input → Basis → List LeftOut
+rescue_leaves_by letters input a = left_out_from 1 (first_verdicts_by letters input a)
 
 -- the entries of the second survey that it leaves out
-abbrev pub second_leaves_by : Letters → (held : ℕ) → Basis → Option Basis → List LeftOut
-second_leaves_by letters held a b = left_out_from 1 (second_verdicts_by letters held a b)
+abbrev pub second_leaves_by : Letters → Input → Basis → Option Basis → List LeftOut
+second_leaves_by letters input a b = left_out_from 1 (second_verdicts_by letters input a b)
 
--- the image was mended, or there is a finding that is a fault where these types are accepted
-abbrev pub IsFaulty : Types → List ℕ → Bool → List FindingValue → Type 0
-IsFaulty types image mended fs = (mended ≡ true) ⊎ (fs ≢ passed types image)
-
--- there is a fault, and no entry stands in a new volume of these types
-abbrev pub StandsNothingBy : Types → (held : ℕ) → Basis → Option Basis → List FindingValue → Bool → Type 0
-StandsNothingBy types held a b fs mended =
-    IsFaulty types a.image mended fs × (rescued_additions_by (letters_for types a.image) held a b ≡ [])
+-- the input is refused, and no entry stands in a new volume of these types
+abbrev pub StandsNothingBy : Types → Input → Basis → Option Basis → Type 0
+StandsNothingBy types input a b = (input.is_refused ≡ true) × (rescued_additions_by (letters_for types a.image) input a b ≡ [])

@@ -1,7 +1,7 @@
 -- The state of a rescue.
 -- Letters: d the draft of the tree so far; r the state; g what is taken before the survey, vs the verdicts on its entries so far;
 -- m the number of an addition in the draft, or a node of the survey before.
-use Rattle.std.specs.Prelude.{◌≡◌, ◌≤◌, ◌+◌, ◌-◌, ◌++◌, ◌∷◌, ◌&&◌, ℕ, Bool, true, nat_lt, List, [], Option, Some, None, length, slice_index_or}
+use Rattle.std.specs.Prelude.{◌≡◌, ◌≤◌, ◌+◌, ◌-◌, ◌++◌, ◌∷◌, ◌&&◌, ℕ, Bool, true, List, [], Option, Some, None, length, slice_index_or}
 use Rattle.adf_drafts.specs.declared.draft.Room.{Room}
 use Rattle.adf_tree.specs.declared.entry.Body.{Body}
 use Rattle.adf_names.specs.declared.kind.Kind.{Kind}
@@ -12,7 +12,8 @@ use Rattle.adf_volume.specs.Walk.{heads, Walk}
 use Rattle.adf_findings.specs.Survey.{FindingValue, IsSurvey}
 use Rattle.adf_build.specs.Plan.{data_blocks, entries_blocks, exts_needed, reserved}
 use Rattle.adf_rescue.specs.declared.salvage.Salvage.{Salvage}
-use Rattle.adf_rescue.specs.Rescue.{Ground, Verdict, added_marks, verdict_additions, left_out_from, new_path, verdict_tree}
+use Rattle.adf_rescue.specs.declared.standing.Input.{Input}
+use Rattle.adf_rescue.specs.Rescue.{Ground, Verdict, added_marks, is_data, verdict_additions, left_out_from, new_path, verdict_tree}
 
 -- a room is that of a path; there is none without a path
 abbrev pub IsRoomOf : DraftValue → Option (List (List ℕ)) → Option Room → Type 0
@@ -34,16 +35,16 @@ free_blocks n = n - 2 - (1 + reserved n)
 abbrev pub entry_cost : Kind → Body → ℕ
 entry_cost kind body = 1 + exts_needed (data_blocks kind body) + data_blocks kind body
 
--- these blocks are held: the input has them whole
-abbrev pub are_held : (held : ℕ) → List ℕ → Bool
-are_held held [] = true
-are_held held (b ∷ bs) = nat_lt b held && are_held held bs
+-- these blocks of an image may be data
+abbrev pub are_data : Input → List ℕ → List ℕ → Bool
+are_data input image [] = true
+are_data input image (b ∷ bs) = is_data input image b && are_data input image bs
 
 -- the state after these verdicts
 pub record IsSalvage (g : Ground) (vs : List Verdict) (r : Salvage) : Type 0 where
   pub tree : r.draft.tree ≡ verdict_tree g vs
   pub kind : r.kind ≡ kind_of g.given
-  pub held : r.held ≡ g.held
+  pub input : r.input ≡ g.input
   pub count : length r.places.items ≡ length vs + 1
   pub nodes : length r.draft.nodes ≡ length (verdict_additions g.verdicts ++ verdict_additions vs)
   pub known : (m : ℕ) → IsPlace r.draft (new_path g.verdicts m) (slice_index_or r.known.items m None)

@@ -6,6 +6,7 @@ ghost use Rattle.adf_volume.specs.Walk.{heads};
 ghost use Rattle.adf_findings.specs.Survey.{OnSurvey};
 ghost use Rattle.adf_rescue.specs.Doubts.{kept_in_doubt, doubts_from, first_doubt, headed_doubt, second_doubt, second_doubts_by};
 ghost use Rattle.adf_rescue.specs.Rescue.{OnBasis, OnSecond, Verdict, added_marks, second_verdicts_by};
+ghost use Rattle.adf_rescue.specs.declared.standing.Input.{Input};
 
 use crate::losses::push_some;
 use crate::lost::{in_range, is_stated_free, is_stated_used, says_header};
@@ -139,8 +140,8 @@ pub fn second_doubts(
     kept: &Vec<bool>,
 ) -> Result<Vec<Doubtful>, NoMemory>
     ensures { OnBasis survey.now.image (λ a _. OnSecond (option_map (λ s. s.now.image) second.entry) (λ b.
-        (letters : Letters) (held : ℕ) → kept.now.items ≡ added_marks (second_verdicts_by letters held a b)
-        → IfOk result (λ r. r.items ≡ second_doubts_by letters held a b))) }
+        (letters : Letters) (input : Input) → kept.now.items ≡ added_marks (second_verdicts_by letters input a b)
+        → IfOk result (λ r. r.items ≡ second_doubts_by letters input a b))) }
 {
     match second {
         Some(second) => doubts_of_second(alloc, survey, second, kept),

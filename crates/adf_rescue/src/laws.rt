@@ -25,54 +25,55 @@ ghost use Rattle.adf_volume.specs.declared.types.Types.{Types};
 ghost use Rattle.adf_volume.specs.Walk.{FileAt, node_block, Walk};
 ghost use Rattle.adf_build.specs.Laid.{IsLaid};
 ghost use Rattle.adf_rescue.specs.Lost.{has_lost};
-ghost use Rattle.adf_rescue.specs.Rescue.{Basis, Verdict, at_path, before_first_by, first_verdicts_by, path_by};
+ghost use Rattle.adf_rescue.specs.Rescue.{Basis, Verdict, accepted, at_path, before_first_by, first_verdicts_by, path_by};
 ghost use Rattle.adf_rescue.specs.Rescue.{verdict_additions, new_path, rescue_leaves_by, rescued_additions_by, rescued_tree_by};
 ghost use Rattle.adf_rescue.specs.Rescue.{second_verdicts_by, verdict_tree, verdict};
 ghost use Rattle.adf_rescue.specs.Rescue.Verdict.{adds};
-ghost use Rattle.adf_rescue.specs.Salvage.{are_held};
+ghost use Rattle.adf_rescue.specs.Salvage.{are_data};
+ghost use Rattle.adf_rescue.specs.declared.standing.Input.{Input};
 
 /// The tree of a rescue is that of its additions.
 pub fn rescued_additions_have_their_tree()
-    ensures { (letters : Letters) (held : ℕ) (a : Basis) (b : Option Basis)
-        → IsTreeOfBy letters (rescued_tree_by letters held a b).entries (rescued_additions_by letters held a b) }
+    ensures { (letters : Letters) (input : Input) (a : Basis) (b : Option Basis)
+        → IsTreeOfBy letters (rescued_tree_by letters input a b).entries (rescued_additions_by letters input a b) }
 {}
 
 /// The tree of a rescue of bytes has room in as many blocks as its image has, and is laid there.
 pub fn rescues_are_laid()
-    ensures { (letters : Letters) (held : ℕ) (a : Basis) (b : Option Basis) → is_allowed (blocks a.image) ≡ true
+    ensures { (letters : Letters) (input : Input) (a : Basis) (b : Option Basis) → is_allowed (blocks a.image) ≡ true
         → All (λ c. c < 256) a.image → IfSome b (λ l. All (λ c. c < 256) l.image)
-        → (volume : List ℕ) × IsLaid volume (rescued_tree_by letters held a b) × (blocks volume ≡ blocks a.image) }
+        → (volume : List ℕ) × IsLaid volume (rescued_tree_by letters input a b) × (blocks volume ≡ blocks a.image) }
 {}
 
-/// A sound file is whole, and a whole file of which the input holds each data block stands: the verdict on it is that of its
+/// A sound file is whole, and a whole file of which each data block may be data stands: the verdict on it is that of its
 /// path, with its content and what its header says of it. So it is kept in the place of its directory, by its name or else by
 /// `lost-` and its block, or has no room. What a second survey adds comes after all that the first one adds.
 pub fn sound_files_stand()
     ensures whole { (image : List ℕ) (w : Walk) (fs : List FindingValue) (n : ℕ)
         → IsSoundFile image w fs n → IsSoundFile image w (grave fs) n }
-    ensures stand { (letters : Letters) (held : ℕ) (a : Basis) (fs : List FindingValue) (n : ℕ) (vs : List Verdict)
+    ensures stand { (letters : Letters) (input : Input) (a : Basis) (fs : List FindingValue) (n : ℕ) (vs : List Verdict)
         → IsSurvey a.image a.walk fs → AreMarks a.image a.walk (grave fs) a.sound
-        → IsSoundFile a.image a.walk (grave fs) n → are_held held (datas_in a.walk n) ≡ true
-        → verdict (before_first_by letters held a.image) a vs n
-        ≡ at_path (verdict_tree (before_first_by letters held a.image) vs) (blocks a.image)
+        → IsSoundFile a.image a.walk (grave fs) n → are_data input a.image (datas_in a.walk n) ≡ true
+        → verdict (before_first_by letters input a.image) a vs n
+        ≡ at_path (verdict_tree (before_first_by letters input a.image) vs) (blocks a.image)
         (meta_stated (block a.image (node_block a.walk n)))
         (File (file_content (file_in a.image a.walk n)))
-        (path_by (verdict_tree (before_first_by letters held a.image) vs) (new_path vs (parent_node a.walk n))
+        (path_by (verdict_tree (before_first_by letters input a.image) vs) (new_path vs (parent_node a.walk n))
         (name_of a.image (node_block a.walk n)) (node_block a.walk n)) }
-    ensures front { (letters : Letters) (held : ℕ) (a : Basis) (b : Option Basis) → rescued_additions_by letters held a b
-        ≡ verdict_additions (first_verdicts_by letters held a) ++ verdict_additions (second_verdicts_by letters held a b) }
+    ensures front { (letters : Letters) (input : Input) (a : Basis) (b : Option Basis) → rescued_additions_by letters input a b
+        ≡ verdict_additions (first_verdicts_by letters input a) ++ verdict_additions (second_verdicts_by letters input a b) }
 {}
 
 /// A survey has one list of verdicts.
 pub fn one_rescue()
-    ensures first { (letters : Letters) (held : ℕ) (image : List ℕ) (w : Walk) (fs : List FindingValue) (s t : ℕ → Bool)
+    ensures first { (letters : Letters) (input : Input) (image : List ℕ) (w : Walk) (fs : List FindingValue) (s t : ℕ → Bool)
         → AreMarks image w (grave fs) s → AreMarks image w (grave fs) t
-        → first_verdicts_by letters held (record { image = image; walk = w; sound = s })
-        ≡ first_verdicts_by letters held (record { image = image; walk = w; sound = t }) }
-    ensures second { (letters : Letters) (held : ℕ) (a : Basis) (image : List ℕ) (w : Walk) (fs : List FindingValue)
+        → first_verdicts_by letters input (record { image = image; walk = w; sound = s })
+        ≡ first_verdicts_by letters input (record { image = image; walk = w; sound = t }) }
+    ensures second { (letters : Letters) (input : Input) (a : Basis) (image : List ℕ) (w : Walk) (fs : List FindingValue)
         (s t : ℕ → Bool) → AreMarks image w (grave fs) s → AreMarks image w (grave fs) t
-        → second_verdicts_by letters held a (Some (record { image = image; walk = w; sound = s }))
-        ≡ second_verdicts_by letters held a (Some (record { image = image; walk = w; sound = t })) }
+        → second_verdicts_by letters input a (Some (record { image = image; walk = w; sound = s }))
+        ≡ second_verdicts_by letters input a (Some (record { image = image; walk = w; sound = t })) }
 {}
 
 /// Where a tree and a layout fit an image that is held whole, by the letters of the types that are accepted, and no data block
@@ -82,11 +83,11 @@ pub fn whole_is_kept()
     ensures tree { (types : Types) (held : ℕ) (image : List ℕ) (t : Tree) (l : Layout) (w : Walk) (fs : List FindingValue)
         (sound : ℕ → Bool) → blocks image ≤ held → FitsBy (letters_for types image) image t l → IsSurvey image w fs
         → IsOfItsKind image w → AreMarks image w (grave fs) sound
-        → rescued_tree_by (letters_for types image) held (record { image = image; walk = w; sound = sound }) None ≡ t }
+        → rescued_tree_by (letters_for types image) (accepted held) (record { image = image; walk = w; sound = sound }) None ≡ t }
     ensures all { (types : Types) (held : ℕ) (image : List ℕ) (t : Tree) (l : Layout) (w : Walk) (fs : List FindingValue)
         (sound : ℕ → Bool) → blocks image ≤ held → FitsBy (letters_for types image) image t l → IsSurvey image w fs
         → IsOfItsKind image w → AreMarks image w (grave fs) sound
-        → rescue_leaves_by (letters_for types image) held (record { image = image; walk = w; sound = sound }) ≡ [] }
+        → rescue_leaves_by (letters_for types image) (accepted held) (record { image = image; walk = w; sound = sound }) ≡ [] }
     ensures lost { (image : List ℕ) (t : Tree) (l : Layout) (w : Walk) (fs : List FindingValue)
         → Fits image t l → IsSurvey image w fs → (made : Bool) → has_lost made image w fs ≡ false }
 {}
@@ -102,20 +103,20 @@ pub fn whole_files()
 
 /// Each file that a rescue adds is a whole file of the survey that adds it, with its content.
 pub fn kept_files_are_whole()
-    ensures first { (letters : Letters) (held : ℕ) (a : Basis) (fs : List FindingValue) (i : ℕ) (x : Addition) (bytes : List ℕ)
-        → AreMarks a.image a.walk (grave fs) a.sound → slice_get (first_verdicts_by letters held a) i ≡ Some (adds x)
+    ensures first { (letters : Letters) (input : Input) (a : Basis) (fs : List FindingValue) (i : ℕ) (x : Addition) (bytes : List ℕ)
+        → AreMarks a.image a.walk (grave fs) a.sound → slice_get (first_verdicts_by letters input a) i ≡ Some (adds x)
         → x.body ≡ File bytes
         → IsSoundFile a.image a.walk (grave fs) (suc i) × (bytes ≡ file_content (file_in a.image a.walk (suc i))) }
-    ensures second { (letters : Letters) (held : ℕ) (a b : Basis) (fs : List FindingValue) (i : ℕ) (x : Addition) (bytes : List ℕ)
-        → AreMarks b.image b.walk (grave fs) b.sound → slice_get (second_verdicts_by letters held a (Some b)) i ≡ Some (adds x)
+    ensures second { (letters : Letters) (input : Input) (a b : Basis) (fs : List FindingValue) (i : ℕ) (x : Addition) (bytes : List ℕ)
+        → AreMarks b.image b.walk (grave fs) b.sound → slice_get (second_verdicts_by letters input a (Some b)) i ≡ Some (adds x)
         → x.body ≡ File bytes
         → IsSoundFile b.image b.walk (grave fs) (suc i) × (bytes ≡ file_content (file_in b.image b.walk (suc i))) }
 {}
 
 /// No data block of a file that the second survey adds is of an entry that the first one adds.
 pub fn kept_files_lie_apart()
-    ensures { (letters : Letters) (held : ℕ) (a b : Basis) (i j k n : ℕ) (x y : Addition) (bytes : List ℕ)
-        → slice_get (first_verdicts_by letters held a) i ≡ Some (adds x)
-        → slice_get (second_verdicts_by letters held a (Some b)) j ≡ Some (adds y)
+    ensures { (letters : Letters) (input : Input) (a b : Basis) (i j k n : ℕ) (x y : Addition) (bytes : List ℕ)
+        → slice_get (first_verdicts_by letters input a) i ≡ Some (adds x)
+        → slice_get (second_verdicts_by letters input a (Some b)) j ≡ Some (adds y)
         → y.body ≡ File bytes → owning_entry a.walk n ≡ Some (suc i) → At (datas_in b.walk (suc j)) k n → ⊥ }
 {}

@@ -1,6 +1,7 @@
 //! Rescues: the volume of all that stands on an image, and what is left out.
 #![tactic(auto)]
 
+mod claims;
 mod doubts;
 mod hung;
 mod image;
@@ -30,3 +31,4 @@ pub use crate::opened::{
 };
 pub use crate::pruned::{prune as prune_image, pruned_keeps};
 pub use crate::rescues::{Rescued, Terms, lay, rescue};
+pub use crate::standing::Input;

@@ -6,40 +6,16 @@ ghost use Rattle.adf_blocks.specs.Sizes.{blocks};
 ghost use Rattle.adf_blocks.specs.declared.layout.TheConstants.{SECONDARY_TYPE, SLOTS, ST_DIR};
 ghost use Rattle.adf_volume.specs.Image.{root_of, word_in};
 ghost use Rattle.adf_volume.specs.Start.{is_image_len};
-ghost use Rattle.adf_rescue.specs.Pruned.{LeadsToParts, chain_pruned, claims_extension, claims_header, claims_type};
-ghost use Rattle.adf_rescue.specs.Pruned.{cleared_unless, directory_typed, extension_pruned, has_directory_type, header_pruned};
+ghost use Rattle.adf_rescue.specs.Pruned.{LeadsToParts, chain_leads, chain_pruned, directory_typed, extension_pruned, has_directory_type, header_pruned};
 ghost use Rattle.adf_rescue.specs.Pruned.{is_child_of, is_in_doubt, leads_to_child, may_be_pruned, pruned, pruned_at};
-ghost use Rattle.adf_rescue.specs.Pruned.{slot_pruned, slots_pruned};
+ghost use Rattle.adf_rescue.specs.Pruned.{put_unless, slot_pruned, slots_pruned};
 
+use crate::claims::{claims_extension, claims_header};
 use crate::image::{block_count, block_in, root_of};
-use crate::lost::{in_range, word_in};
+use crate::lost::word_in;
 use adf_base::set_word;
-use adf_blocks::{
-    EXTENSION, FIRST_SLOT, NEXT_IN_CHAIN, OWN_KEY, PARENT, SECONDARY_TYPE, SLOTS, ST_DIR, T_LIST,
-    T_SHORT, TYPE,
-};
+use adf_blocks::{EXTENSION, FIRST_SLOT, NEXT_IN_CHAIN, PARENT, SECONDARY_TYPE, SLOTS, ST_DIR};
 use adf_volume::is_image_len;
-
-// Whether block `t` claims to be of a primary type.
-fn claims_type(image: &[u8], primary: u32, t: u32) -> bool
-    ensures { result ≡ claims_type image.now primary t }
-{
-    in_range(image, t) && word_in(image, t, TYPE) == primary && word_in(image, t, OWN_KEY) == t
-}
-
-// Whether block `t` claims to be a header.
-fn claims_header(image: &[u8], t: u32) -> bool
-    ensures { result ≡ claims_header image.now t }
-{
-    claims_type(image, T_SHORT, t)
-}
-
-// Whether block `t` claims to be an extension block.
-fn claims_extension(image: &[u8], t: u32) -> bool
-    ensures { result ≡ claims_extension image.now t }
-{
-    claims_type(image, T_LIST, t)
-}
 
 // Whether block `b` is a header in doubt.
 fn is_in_doubt(image: &[u8], b: u32) -> bool
@@ -91,15 +67,15 @@ fn type_directory(image: &mut [u8], b: u32)
     }
 }
 
-// Makes word `i` of block `b` 0, unless it is to be kept.
-#[tactic(auto, unfolding(crate::specs::Pruned::cleared_unless))]
-fn clear_unless(image: &mut [u8], keeps: bool, b: u32, i: usize)
+// Makes word `i` of block `b` this value, unless it is to be kept.
+#[tactic(auto, unfolding(crate::specs::Pruned::put_unless))]
+fn put_unless(image: &mut [u8], keeps: bool, b: u32, i: usize, value: u32)
     requires inside { b < blocks image.old }
     requires word { i < 128 }
-    ensures { image.new ≡ cleared_unless keeps image.old b i }
+    ensures { image.new ≡ put_unless keeps image.old b i value }
 {
     if !keeps {
-        set_word(image, b, i, 0);
+        set_word(image, b, i, value);
     }
 }
 
@@ -111,7 +87,7 @@ fn prune_slot(image: &mut [u8], b: u32, s: usize)
 {
     let i = FIRST_SLOT + s;
     let keeps = has_directory_type(image, b) && claims_header(image, word_in(image, b, i));
-    clear_unless(image, keeps, b, i);
+    put_unless(image, keeps, b, i, 0);
 }
 
 // Prunes the slots of block `b`.
@@ -125,13 +101,22 @@ fn prune_slots(image: &mut [u8], b: u32)
     }
 }
 
+// Whether block `b` is the last of its chain, or the next in it claims to be a header.
+fn chain_leads(image: &[u8], b: u32) -> bool
+    requires { b < blocks image.now }
+    ensures { result ≡ chain_leads image.now b }
+{
+    let next = word_in(image, b, NEXT_IN_CHAIN);
+    next == 0 || claims_header(image, next)
+}
+
 // Prunes the next in the chain of block `b`.
 fn prune_chain(image: &mut [u8], b: u32)
     requires { b < blocks image.old }
     ensures { image.new ≡ chain_pruned image.old b }
 {
-    let keeps = claims_header(image, word_in(image, b, NEXT_IN_CHAIN));
-    clear_unless(image, keeps, b, NEXT_IN_CHAIN);
+    let keeps = chain_leads(image, b);
+    put_unless(image, keeps, b, NEXT_IN_CHAIN, 1);
 }
 
 // Prunes the extension block of block `b`.
@@ -140,7 +125,7 @@ fn prune_extension(image: &mut [u8], b: u32)
     ensures { image.new ≡ extension_pruned image.old b }
 {
     let keeps = claims_extension(image, word_in(image, b, EXTENSION));
-    clear_unless(image, keeps, b, EXTENSION);
+    put_unless(image, keeps, b, EXTENSION, 0);
 }
 
 // Prunes header `b`.
@@ -170,8 +155,9 @@ fn prune_at(image: &mut [u8], b: u32)
 /// Prunes the headers of an image whose checksums are wrong, but for the root: those of blocks that say by words 0 and 1 that
 /// they are headers. One that has a sound header in it, which words 6 to 77 lead to and which names it as its directory, is
 /// made a directory, by word 127. In a directory each of words 6 to 77 becomes 0 unless it leads to what says by words 0 and 1
-/// that it is a header, and in others all of them; likewise word 124, the next in the chain, and word 126 unless it leads to
-/// what says that it is an extension block. Nothing else changes, nor is a checksum made right. The headers are pruned in
+/// that it is a header, and in others all of them; likewise word 126 unless it leads to what says that it is an extension
+/// block. Word 124, the next in the chain, becomes 1, which is no header's block, unless it is 0 or leads to what says that it
+/// is a header. Nothing else changes, nor is a checksum made right. The headers are pruned in
 /// ascending order, each by the image as it stands then. An image of a length that no volume has stays as it is.
 #[tactic(auto, using(crate::proofs::PrunedImages::pruned_steps))]
 pub fn prune(image: &mut [u8])
@@ -187,7 +173,7 @@ pub fn prune(image: &mut [u8])
 
 /// A pruned image has as many bytes. Each block stays that is no header in doubt, so the boot block and the root, and all of
 /// an image without such a header. In a volume each word of a header in doubt that leads on is then 0, or leads to what claims
-/// to be such a part. Of each block only words 6 to 77, 124, 126 and 127 change, so no checksum does; and the last of them only
+/// to be such a part; but where a chain led elsewhere its word is 1. Of each block only words 6 to 77, 124, 126 and 127 change, so no checksum does; and the last of them only
 /// to that of a directory.
 pub fn pruned_keeps()
     ensures length { (image : List ℕ) → length (pruned image) ≡ length image }

@@ -6,26 +6,26 @@ ghost use Rattle.adf_base.specs.declared.hash.Letters.{Letters};
 ghost use Rattle.adf_blocks.specs.Sizes.{blocks as blocks_in};
 ghost use Rattle.adf_volume.specs.Types.{letters_for};
 ghost use Rattle.adf_findings.specs.Survey.{OnSurvey};
-ghost use Rattle.adf_findings.specs.Types.{passed};
 ghost use Rattle.adf_build.specs.Laid.{IsLaid};
 ghost use Rattle.adf_build.specs.Building.{IsBuildable};
 ghost use Rattle.adf_build.specs.Plan.{entries_blocks};
-ghost use Rattle.adf_rescue.specs.Rescue.{IsFaulty, Basis, OnBasis, OnSecond, StandsNothingBy, before_first_by, before_second_by};
+ghost use Rattle.adf_rescue.specs.Rescue.{Basis, OnBasis, OnSecond, StandsNothingBy, before_first_by, before_second_by};
 ghost use Rattle.adf_rescue.specs.Rescue.{first_verdicts_by, second_verdicts_by};
 ghost use Rattle.adf_rescue.specs.Rescued.{IsRescued};
 ghost use Rattle.adf_rescue.specs.Salvage.{free_blocks as blocks_free, IsSalvage};
+ghost use Rattle.adf_rescue.specs.declared.standing.Input.{Input};
 
 use crate::doubts::{Doubtful, first_doubts, second_doubts};
 use crate::left_out::LeftOut;
 use crate::losses::{lost_blocks, lost_headers};
 use crate::salvage::Salvage;
+use crate::standing::Input;
 use adf_base::NoMemory;
-use adf_blocks::Cause;
 use adf_build::{build, free_blocks};
 use adf_drafts::Draft;
 use adf_findings::{Survey, some_survey};
 use adf_tree::Node;
-use adf_volume::{Types, boot_cause};
+use adf_volume::Types;
 use std::alloc::Global;
 
 /// A rescue: whether nothing stands; the draft of the new volume's tree, and the number of its blocks; the entries that are left
@@ -46,22 +46,20 @@ pub struct Rescued {
     pub lost_blocks: Vec<u32>,
 }
 
-/// The terms of a rescue: the types that the new volume may have, the number of blocks that the input holds whole, whether
-/// the image was mended, and whether its root was made.
+/// The terms of a rescue: the types that the new volume may have, what is known of the input, and whether its root was made.
 #[derive(Clone, Copy)]
 pub struct Terms {
     pub types: Types,
-    pub held: usize,
-    pub mended: bool,
+    pub input: Input,
     pub made: bool,
 }
 
 // What is kept of all entries of the survey of the image.
 fn salvaged(alloc: Global, survey: &Survey<'_>, begun: Salvage) -> Result<Salvage, NoMemory>
-    requires { IsSalvage (before_first_by begun.draft.tree.letters begun.held survey.now.image) [] begun }
+    requires { IsSalvage (before_first_by begun.draft.tree.letters begun.input survey.now.image) [] begun }
     ensures { OnBasis survey.now.image (λ a _. IfOk result (IsSalvage
-        (before_first_by begun.draft.tree.letters begun.held a.image)
-        (first_verdicts_by begun.draft.tree.letters begun.held a))) }
+        (before_first_by begun.draft.tree.letters begun.input a.image)
+        (first_verdicts_by begun.draft.tree.letters begun.input a))) }
 {
     survey.whole_marks();
     some_survey();
@@ -80,10 +78,10 @@ fn take_second(
     salvage: &mut Salvage,
 ) -> Result<(), NoMemory>
     requires { OnBasis survey.now.image (λ a _.
-        IsSalvage (before_second_by salvage.old.draft.tree.letters salvage.old.held a) [] salvage.old) }
+        IsSalvage (before_second_by salvage.old.draft.tree.letters salvage.old.input a) [] salvage.old) }
     ensures { OnBasis survey.now.image (λ a _. OnBasis second.now.image (λ b _.
-        OnOk result (IsSalvage (before_second_by salvage.old.draft.tree.letters salvage.old.held a)
-        (second_verdicts_by salvage.old.draft.tree.letters salvage.old.held a (Some b)) salvage.new))) }
+        OnOk result (IsSalvage (before_second_by salvage.old.draft.tree.letters salvage.old.input a)
+        (second_verdicts_by salvage.old.draft.tree.letters salvage.old.input a (Some b)) salvage.new))) }
 {
     survey.whole_marks();
     second.whole_marks();
@@ -101,10 +99,10 @@ fn salvaged_both(
     second: Option<&Survey<'_>>,
     begun: Salvage,
 ) -> Result<Salvage, NoMemory>
-    requires { IsSalvage (before_first_by begun.draft.tree.letters begun.held survey.now.image) [] begun }
-    ensures state { (letters : Letters) (held : ℕ) → begun.draft.tree.letters ≡ letters → begun.held ≡ held
+    requires { IsSalvage (before_first_by begun.draft.tree.letters begun.input survey.now.image) [] begun }
+    ensures state { (letters : Letters) (input : Input) → begun.draft.tree.letters ≡ letters → begun.input ≡ input
         → OnBasis survey.now.image (λ a _. OnSecond (option_map (λ s. s.now.image) second.entry)
-        (λ b. IfOk result (IsSalvage (before_second_by letters held a) (second_verdicts_by letters held a b)))) }
+        (λ b. IfOk result (IsSalvage (before_second_by letters input a) (second_verdicts_by letters input a b)))) }
     ensures blocks { IfOk result (λ r. r.left + entries_blocks r.draft.tree.kind r.draft.tree.entries
         ≡ blocks_free (blocks_in survey.now.image)) }
 {
@@ -122,53 +120,26 @@ fn salvaged_both(
     }
 }
 
-// The number of findings that are no fault where these types are accepted.
-fn count_passed(types: Types, image: &[u8]) -> usize
-    ensures { result ≡ length (passed types image.now) }
+// Whether the input is refused, and no entry stands.
+fn stands_nothing(salvage: &Salvage, terms: Terms) -> bool
+    ensures { (a : Basis) (b : Option Basis)
+        → IsSalvage (before_second_by (letters_for terms.types a.image) terms.input a)
+        (second_verdicts_by (letters_for terms.types a.image) terms.input a b) salvage.now
+        → IsTrue result ↔ StandsNothingBy terms.types terms.input a b }
 {
-    match types {
-        Types::Plain => 0,
-        Types::WithInternational => match boot_cause(image) {
-            Some(Cause::International) => 1,
-            _ => 0,
-        },
-    }
+    terms.input.is_refused && salvage.draft.len() == 0
 }
 
-// Whether the image was mended, or there is a finding that is a fault where these types are accepted.
-fn has_fault(survey: &Survey<'_>, types: Types, mended: bool) -> bool
-    ensures { OnSurvey survey.now.image (λ _ fs. IsTrue result ↔ IsFaulty types survey.now.image mended fs) }
-{
-    if mended {
-        return true;
-    }
-    survey.findings().len() > count_passed(types, survey.image())
-}
-
-// Whether there is a fault, and no entry stands.
-fn stands_nothing(survey: &Survey<'_>, salvage: &Salvage, terms: Terms) -> bool
-    ensures { OnBasis survey.now.image (λ a fs. (b : Option Basis)
-        → IsSalvage (before_second_by (letters_for terms.types a.image) terms.held a)
-        (second_verdicts_by (letters_for terms.types a.image) terms.held a b) salvage.now
-        → IsTrue result ↔ StandsNothingBy terms.types terms.held a b fs terms.mended) }
-{
-    if !has_fault(survey, terms.types, terms.mended) {
-        return false;
-    }
-    salvage.draft.len() == 0
-}
-
-/// What stands on a surveyed image, of which the input holds the first `terms.held` blocks: its whole files with all data in
-/// these, and its directories, as the draft of a tree that fits in as many blocks, with the letters by which the image is read
-/// where `terms.types` are accepted; and what stands beside these by a second survey, if there is one, of the image with what
-/// was lost hung in it again: each entry whose header is not that of an entry of the first survey, but a file only if its data
-/// blocks are as they were given, of no entry that is kept, and not free by the bitmap. With it come the entries that are
-/// left out; those that are kept in doubt: of the first survey those whose header has a wrong checksum, or is free by the bitmap,
+/// What stands on a surveyed image: its whole files with all data in blocks that the input holds, and that, if it is refused, do
+/// not claim to be headers; and its directories, as the draft of a tree that fits in as many blocks, with the letters by which
+/// the image is read where `terms.types` are accepted; and what stands beside these by a second survey, if there is one, of the
+/// image with what was lost hung in it again: each entry whose header is not that of an entry of the first survey, but a file
+/// only if its data blocks are also as they were given, of no entry that is kept, and not free by the bitmap. With it come the
+/// entries that are left out; those that are kept in doubt: of the first survey those whose header has a wrong checksum, or is free by the bitmap,
 /// and of the second one all; the directories in which headers are lost, as the findings of the first survey report, and the root
-/// if it was made (`terms.made`); and the blocks in use that no entry has. Nothing stands if there is a finding of the
-/// first survey that is a fault where these types are accepted, or the image was mended, and there is no addition. `None` if
-/// nothing of the image is surveyed. `NoMemory` if an allocation fails, which can happen only if something of the image is
-/// surveyed.
+/// if it was made (`terms.made`); and the blocks in use that no entry has. Nothing stands if the
+/// input is refused, and there is no addition. `None` if nothing of the image is surveyed. `NoMemory` if an allocation fails,
+/// which can happen only if something of the image is surveyed.
 pub fn rescue(
     alloc: Global,
     survey: &Survey<'_>,
@@ -193,13 +164,13 @@ pub fn rescue(
         opening,
         terms.types.letters_for(survey.image()),
         free_blocks(blocks),
-        terms.held,
+        terms.input,
     )?;
     let salvage = salvaged_both(alloc, survey, second, begun)?;
     let doubts = first_doubts(alloc, survey, &salvage.kept)?;
     let second_doubts = second_doubts(alloc, survey, second, &salvage.added)?;
     Ok(Some(Rescued {
-        stands_nothing: stands_nothing(survey, &salvage, terms),
+        stands_nothing: stands_nothing(&salvage, terms),
         draft: salvage.draft,
         blocks,
         left_out: salvage.left_before,

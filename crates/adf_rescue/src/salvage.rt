@@ -15,10 +15,11 @@ ghost use Rattle.adf_rescue.specs.Rescue.{Ground, Basis, OnBasis, Verdict, added
 ghost use Rattle.adf_rescue.specs.Rescue.{entry_headed, fitting, path_by, new_path, verdict_tree, verdict};
 ghost use Rattle.adf_rescue.specs.Rescue.Verdict.{leaves, knows};
 ghost use Rattle.adf_rescue.specs.Salvage.{GoesOn, ComesNext, IsRoomOf, IsSalvage, entry_cost, free_blocks};
+ghost use Rattle.adf_rescue.specs.declared.standing.Input.{Input};
 
 use crate::left_out::{LeftOut, Why};
 use crate::rooms::room_of;
-use crate::standing::{are_given, body_of, bytes_of, entry_at, other_body};
+use crate::standing::{Input, are_given, body_of, bytes_of, entry_at, other_body};
 use adf_base::{Letters, NoMemory};
 use adf_build::{data_blocks, ext_count};
 use adf_drafts::{Draft, Room};
@@ -26,13 +27,13 @@ use adf_findings::{Opening, Survey};
 use adf_tree::{Body, Kind, Meta, Node};
 use std::alloc::Global;
 
-/// What is kept so far: the number of blocks that the input holds whole; the draft of the new tree; for each node of the survey
+/// What is kept so far: what is known of the input; the draft of the new tree; for each node of the survey
 /// before, and of this one, from the root on, its directory in the draft, if it is one that is kept, and whether it is added;
 /// the number of free blocks that are left; and the entries of the survey before, and of this one, that are left out.
 #[derive(Drop)]
 pub struct Salvage {
     pub kind: Kind,
-    pub held: usize,
+    pub input: Input,
     pub draft: Draft,
     pub known: Vec<Option<Node>>,
     pub places: Vec<Option<Node>>,
@@ -100,23 +101,22 @@ fn known_as(before: &Survey<'_>, survey: &Survey<'_>, n: Node) -> Option<Node>
 }
 
 impl Salvage {
-    /// The state with no entry, of these letters, on a volume with this many free blocks, and of an image of which the input
-    /// holds so many.
+    /// The state with no entry, of these letters, on a volume with this many free blocks, and of what is known of the input.
     pub fn begin(
         alloc: Global,
         opening: Opening,
         letters: Letters,
         free: u32,
-        held: usize,
+        input: Input,
     ) -> Result<Salvage, NoMemory>
         ensures state { (image : List ℕ) → opening ≡ opening_in image → free ≡ free_blocks (blocks image)
-            → IfOk result (IsSalvage (before_first_by letters held image) []) }
-        ensures held { IfOk result (λ r. r.held ≡ held) }
+            → IfOk result (IsSalvage (before_first_by letters input image) []) }
+        ensures input { IfOk result (λ r. r.input ≡ input) }
         ensures letters { IfOk result (λ r. r.draft.tree.letters ≡ letters) }
     {
         Ok(Salvage {
             kind: opening.kind,
-            held,
+            input,
             draft: Draft::with_letters(alloc, opening.kind, letters, opening.label, opening.stamps),
             known: root_place(alloc)?,
             places: root_place(alloc)?,
@@ -130,13 +130,13 @@ impl Salvage {
 
     /// The state before a second survey, with what is kept of the first one.
     pub fn go_on(self, alloc: Global) -> Result<Salvage, NoMemory>
-        ensures { (letters : Letters) (held : ℕ) (image : List ℕ) (w : Walk) (vs : List Verdict)
-            → IsSalvage (before_first_by letters held image) vs self
-            → IfOk result (IsSalvage (record { given = image; letters = letters; held = held; walk = w; verdicts = vs }) []) }
+        ensures { (letters : Letters) (input : Input) (image : List ℕ) (w : Walk) (vs : List Verdict)
+            → IsSalvage (before_first_by letters input image) vs self
+            → IfOk result (IsSalvage (record { given = image; letters = letters; input = input; walk = w; verdicts = vs }) []) }
     {
         let Salvage {
             kind,
-            held,
+            input,
             draft,
             places,
             added,
@@ -146,7 +146,7 @@ impl Salvage {
         } = self;
         Ok(Salvage {
             kind,
-            held,
+            input,
             draft,
             known: places,
             places: root_place(alloc)?,
@@ -283,12 +283,12 @@ impl Salvage {
     /// state is of no use.
     pub fn take(&mut self, alloc: Global, survey: &Survey<'_>, n: Node) -> Result<(), NoMemory>
         requires { GoesOn survey.now.image n self.old }
-        ensures { OnBasis survey.now.image (λ a _. (letters : Letters) (held : ℕ) (vs : List Verdict)
-            → IsSalvage (before_first_by letters held a.image) vs self.old → ComesNext a.walk vs n
-            → OnOk result (IsSalvage (before_first_by letters held a.image)
-            (vs ++ verdict (before_first_by letters held a.image) a vs n ∷ []) self.new)) }
+        ensures { OnBasis survey.now.image (λ a _. (letters : Letters) (input : Input) (vs : List Verdict)
+            → IsSalvage (before_first_by letters input a.image) vs self.old → ComesNext a.walk vs n
+            → OnOk result (IsSalvage (before_first_by letters input a.image)
+            (vs ++ verdict (before_first_by letters input a.image) a vs n ∷ []) self.new)) }
     {
-        let standing = body_of(alloc, self.held, survey, n)?;
+        let standing = body_of(alloc, self.input, survey, n)?;
         self.keep(alloc, survey, n, standing)
     }
 
@@ -301,11 +301,11 @@ impl Salvage {
         n: Node,
     ) -> Result<Result<Body, Why>, NoMemory>
         ensures { OnBasis survey.now.image (λ b _. (g : Ground) (fs : List FindingValue) → g.given ≡ before.now.image
-            → IsSurvey g.given g.walk fs → self.now.held ≡ g.held → self.now.kept.items ≡ added_marks g.verdicts
+            → IsSurvey g.given g.walk fs → self.now.input ≡ g.input → self.now.kept.items ≡ added_marks g.verdicts
             → 1 ≤ n → n ≤ heads b.walk → IfOk result (λ r. r ≡ body_of (as_given g b) n)) }
     {
         if let Some(file) = survey.whole_file(alloc, n)? {
-            if are_given(before, &self.kept, self.held, survey.image(), file.blocks()) {
+            if are_given(before, &self.kept, self.input, survey.image(), file.blocks()) {
                 return Ok(Ok(bytes_of(alloc, &file)?));
             }
         }

@@ -9,9 +9,11 @@ ghost use Rattle.adf_volume.specs.Walk.{heads, node_block};
 ghost use Rattle.adf_findings.specs.Files.{file_content};
 ghost use Rattle.adf_findings.specs.Survey.{FindingValue, IsSurvey, OnSurvey};
 ghost use Rattle.adf_rescue.specs.Rescue.{Ground, OnBasis, added_marks, are_given, as_given, before_first_by, body_of};
-ghost use Rattle.adf_rescue.specs.Rescue.{body_of_type, entry_headed, entry_by, is_given, is_of_kept_entry, is_same_block};
-ghost use Rattle.adf_rescue.specs.Salvage.{are_held};
+ghost use Rattle.adf_rescue.specs.Rescue.{body_of_type, entry_headed, entry_by, is_data, is_given, is_of_kept_entry};
+ghost use Rattle.adf_rescue.specs.Rescue.{is_same_block};
+ghost use Rattle.adf_rescue.specs.Salvage.{are_data};
 
+use crate::claims::claims_header;
 use crate::left_out::Why;
 use crate::lost::is_stated_free;
 use adf_base::{BLOCK_LEN, Block, NoMemory};
@@ -19,6 +21,13 @@ use adf_blocks::{SECONDARY_TYPE, ST_DIR, ST_LINK_DIR, ST_LINK_FILE, ST_SOFT_LINK
 use adf_findings::{SoundFile, Survey, has_mark};
 use adf_tree::{Body, Bytes, Node};
 use std::alloc::Global;
+
+/// What is known of the input of a rescue: the number of blocks that it holds whole, and whether it is refused as a volume.
+#[derive(Clone, Copy)]
+pub struct Input {
+    pub held: usize,
+    pub is_refused: bool,
+}
 
 // The body of an entry that is no whole file, by its secondary type: only a directory stands.
 fn body_of_type(secondary: u32) -> Result<Body, Why>
@@ -90,63 +99,70 @@ fn is_of_kept_entry(before: &Survey<'_>, kept: &Vec<bool>, b: u32) -> bool
     }
 }
 
-// Whether a data block was given, by the survey before and the marks of its entries.
-fn is_given(before: &Survey<'_>, kept: &Vec<bool>, held: usize, image: &[u8], b: u32) -> bool
-    ensures { (g : Ground) (fs : List FindingValue) → g.given ≡ before.now.image → IsSurvey g.given g.walk fs
-        → held ≡ g.held → kept.now.items ≡ added_marks g.verdicts → result ≡ is_given g image.now b }
+// Whether a block may be data.
+fn is_data(input: Input, image: &[u8], b: u32) -> bool
+    ensures { result ≡ is_data input image.now b }
 {
-    (b as usize) < held
+    (b as usize) < input.held && !(input.is_refused && claims_header(image, b))
+}
+
+// Whether a data block was given, by the survey before and the marks of its entries.
+fn is_given(before: &Survey<'_>, kept: &Vec<bool>, input: Input, image: &[u8], b: u32) -> bool
+    ensures { (g : Ground) (fs : List FindingValue) → g.given ≡ before.now.image → IsSurvey g.given g.walk fs
+        → input ≡ g.input → kept.now.items ≡ added_marks g.verdicts → result ≡ is_given g image.now b }
+{
+    is_data(input, before.image(), b)
         && is_same_block(before.image(), image, b)
         && !is_of_kept_entry(before, kept, b)
         && !is_stated_free(before, b)
 }
 
-/// Whether data blocks were given: the input holds them, they are the same in the image of the survey before, and there neither
-/// an entry that is kept has them, nor does the bitmap show them as free.
+/// Whether data blocks were given: in the image of the survey before they may be data and are the same, and there neither an
+/// entry that is kept has them, nor does the bitmap show them as free.
 pub fn are_given(
     before: &Survey<'_>,
     kept: &Vec<bool>,
-    held: usize,
+    input: Input,
     image: &[u8],
     blocks: &[u32],
 ) -> bool
     ensures { (g : Ground) (fs : List FindingValue) → g.given ≡ before.now.image → IsSurvey g.given g.walk fs
-        → held ≡ g.held → kept.now.items ≡ added_marks g.verdicts → result ≡ are_given g image.now blocks.now }
+        → input ≡ g.input → kept.now.items ≡ added_marks g.verdicts → result ≡ are_given g image.now blocks.now }
 {
     for k in 0..blocks.len() {
-        if !is_given(before, kept, held, image, blocks[k]) {
+        if !is_given(before, kept, input, image, blocks[k]) {
             return false;
         }
     }
     true
 }
 
-// Whether the input holds these blocks.
-fn are_held(held: usize, blocks: &[u32]) -> bool
-    ensures { result ≡ are_held held blocks.now }
+// Whether these blocks may be data.
+fn are_data(input: Input, image: &[u8], blocks: &[u32]) -> bool
+    ensures { result ≡ are_data input image.now blocks.now }
 {
     for k in 0..blocks.len() {
-        if blocks[k] as usize >= held {
+        if !is_data(input, image, blocks[k]) {
             return false;
         }
     }
     true
 }
 
-/// The body of an entry of the first survey that stands: the bytes of a whole file of which the input holds each data block, or a
+/// The body of an entry of the first survey that stands: the bytes of a whole file of which each data block may be data, or a
 /// directory, sound or not; else why it is left out. `NoMemory` if an allocation fails.
 #[tactic(auto, using(crate::proofs::GivenBlocks::first_given_all))]
 pub fn body_of(
     alloc: Global,
-    held: usize,
+    input: Input,
     survey: &Survey<'_>,
     n: Node,
 ) -> Result<Result<Body, Why>, NoMemory>
     ensures { OnBasis survey.now.image (λ a _. (letters : Letters) → 1 ≤ n → n ≤ heads a.walk
-        → IfOk result (λ r. r ≡ body_of (as_given (before_first_by letters held a.image) a) n)) }
+        → IfOk result (λ r. r ≡ body_of (as_given (before_first_by letters input a.image) a) n)) }
 {
     if let Some(file) = survey.whole_file(alloc, n)? {
-        if are_held(held, file.blocks()) {
+        if are_data(input, survey.image(), file.blocks()) {
             return Ok(Ok(bytes_of(alloc, &file)?));
         }
     }

@@ -23,7 +23,9 @@ use Rattle.adf_build.specs.Plan.{planned}
 use Rattle.adf_build.proofs.LaidFits.{laid_fits}
 use Rattle.adf_rescue.specs.Opened.{with_boot_type}
 use Rattle.adf_rescue.specs.Rescue.{Basis, rescued_tree_by}
-use Rattle.adf_rescue.proofs.OpenedImages.{length_begun, length_opened}
+use Rattle.adf_rescue.specs.declared.standing.Input.{Input}
+use Rattle.adf_rescue.proofs.OpenedImages.{length_begun}
+use Rattle.adf_rescue.proofs.PrunedKeeps.{length_read}
 use Rattle.adf_survey_cmd.specs.Answers.{RescuesTyped}
 use Rattle.adf_survey_cmd.specs.Losses.{LossValue}
 use Rattle.adf_survey_cmd.specs.Rescues.{GivesVolume, RescueValue, rescue_reply}
@@ -41,12 +43,12 @@ pub laid_long : (image : List ℕ) (t : Tree) → IsLaid image t → BOOT_LEN �
 laid_long image t laid = long_enough image (length image) laid.size refl
 
 -- what is written fits the tree of the rescue
-pub written_fits : (ls : List LossValue) (types : Types) (held : ℕ) (a : Basis) (b : Option Basis) (boot : List ℕ) (r : RescueValue)
-    → BOOT_LEN ≤ length boot → GivesVolume ls types held a b boot r → (l : Layout) × FitsBy (letters_for types a.image) (rescue_reply r).output
-    (rescued_tree_by (letters_for types a.image) held a b) l
-written_fits ls types held a b boot r whole (volume, laid, size, e) =
+pub written_fits : (ls : List LossValue) (types : Types) (known : Input) (a : Basis) (b : Option Basis) (boot : List ℕ) (r : RescueValue)
+    → BOOT_LEN ≤ length boot → GivesVolume ls types known a b boot r → (l : Layout) × FitsBy (letters_for types a.image) (rescue_reply r).output
+    (rescued_tree_by (letters_for types a.image) known a b) l
+written_fits ls types known a b boot r whole (volume, laid, size, e) =
     let letters : Letters = letters_for types a.image in
-    let t : Tree = rescued_tree_by letters held a b in
+    let t : Tree = rescued_tree_by letters known a b in
     let l : Layout = planned t (blocks volume) in (
       l,
       subst (λ (image : List ℕ). FitsBy letters image t l) (sym (ap (λ (r : RescueValue). (rescue_reply r).output) e))
@@ -81,11 +83,11 @@ put_boots s volume tree laid long bytes begins =
 
 pub keeps_boot : (types : Types) (s : SubjectValue) (r : RescueValue) → RescuesTyped types s r → (rescue_reply r).output ≢ [] → AreBytes s.image
     → begins_with_dos s.image ≡ true → HasBootOf s.image (rescue_reply r).output
-keeps_boot types s r (t, typed, (w, fs, survey, (sound, marks, (b, second, inl (none, (f, first, e)))))) some bytes begins =
+keeps_boot types s r (t, typed, (refused, is, (w, fs, survey, (sound, marks, (b, second, inl (none, (f, first, e))))))) some bytes begins =
     absurd (some (ap (λ (r : RescueValue). (rescue_reply r).output) e))
-keeps_boot types s r (t, typed, (w, fs, survey, (sound, marks, (b, second, inr (read, inl (nothing, (f, first, e))))))) some bytes begins =
+keeps_boot types s r (t, typed, (refused, is, (w, fs, survey, (sound, marks, (b, second, inr (read, inl (nothing, (f, first, e)))))))) some bytes begins =
     absurd (some (ap (λ (r : RescueValue). (rescue_reply r).output) e))
-keeps_boot types s r (t, typed, (w, fs, survey, (sound, marks, (b, second, inr (read, inr (stands, (volume, laid, size, e))))))) some bytes begins =
+keeps_boot types s r (t, typed, (refused, is, (w, fs, survey, (sound, marks, (b, second, inr (read, inr (stands, (volume, laid, size, e)))))))) some bytes begins =
     let long : BOOT_LEN ≤ length s.image =
-    omega (arith, long_enough volume (length s.image) laid.size (size ∙ ap (λ n. n / 512) (length_opened t.image ∙ typed_length s t typed))) in
+    omega (arith, long_enough volume (length s.image) laid.size (size ∙ ap (λ n. n / 512) (length_read refused t.image ∙ typed_length s t typed))) in
     subst (HasBootOf s.image) (sym (ap (λ (r : RescueValue). (rescue_reply r).output) e)) (put_boots s volume _ laid long bytes begins)

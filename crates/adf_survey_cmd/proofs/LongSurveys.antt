@@ -24,8 +24,12 @@ use Rattle.adf_volume.specs.Start.{is_image_len}
 use Rattle.adf_rescue.specs.Hung.{hung, second_image}
 use Rattle.adf_rescue.specs.Lost.{has_lost, is_open}
 use Rattle.adf_rescue.specs.Opened.{lacks_boot, lacks_root, opened}
+use Rattle.adf_rescue.specs.Pruned.{image_read}
 use Rattle.adf_rescue.specs.Rescue.{Basis}
+use Rattle.adf_rescue.specs.declared.standing.Input.{Input}
 use Rattle.adf_rescue.proofs.OpenedImages.{length_opened}
+use Rattle.adf_rescue.proofs.PassedFindings.{unread_fault}
+use Rattle.adf_rescue.proofs.PrunedKeeps.{length_read}
 use Rattle.adf_rescue.proofs.MadeRoots.{sized as sized_len}
 use Rattle.adf_cmd.proofs.LongInputs.{long_fault, too_large}
 use Rattle.adf_survey_cmd.specs.Answers.{CopiesFound, CopiesFromSurvey, ListsSurvey, QuestionAnswer, SurveyAnswer, Surveys, TellsFound, told_status, types_kept}
@@ -36,8 +40,9 @@ use Rattle.adf_survey_cmd.specs.Subject.{sized, subject, subject_read, subject_t
 use Rattle.adf_file_words.specs.SurveyLine.{AreFew, InquiryValue, QuestionValue, cat, list, report, rescue}
 use Rattle.adf_survey_cmd.specs.Lines.{findings_text, runs_from}
 use Rattle.adf_survey_cmd.specs.Losses.{LossValue}
-use Rattle.adf_survey_cmd.specs.Rescues.{RescueValue, Rescues, RescuesBoth, RescuesFound}
+use Rattle.adf_survey_cmd.specs.Rescues.{IsNoVolume, RescueValue, Rescues, RescuesBoth, RescuesFound}
 use Rattle.adf_survey_cmd.proofs.HintedAnswers.{same_disk}
+use Rattle.adf_survey_cmd.proofs.RescueAnswers.{none_fits_it}
 use Rattle.adf_survey_cmd.proofs.ReadLengths.{few_read, same_read, same_stated}
 
 -- an input of a bad size has this finding
@@ -83,17 +88,22 @@ none_second made image w fs long =
     cond-false (has_lost made image w fs) (Some (hung image w (is_open made image w fs))) None none
 
 -- nothing stands, and the first fault is told
-same_rescue : (types : Types) (held h : ℕ) (lost ls : List LossValue) (image bytes opened_image opened_bytes boot other : List ℕ) (r : RescueValue) → 512 * MOST_BLOCKS < length image
-    → 512 * MOST_BLOCKS < length bytes → 512 * MOST_BLOCKS < length opened_bytes → RescuesFound types held lost image opened_image [] bad_size boot r
-    → RescuesFound types h ls bytes opened_bytes [] bad_size other r
-same_rescue types held h lost ls image bytes opened_image opened_bytes boot other r a b c (sound, marks, (two, second, inl (none, (f, first, e)))) =
-    let basis : Basis = record { image = opened_bytes; walk = []; sound = λ n. false } in (
+same_rescue : (types : Types) (known other : Input) (lost ls : List LossValue) (image bytes read_image read_bytes boot more : List ℕ) (r : RescueValue)
+    → 512 * MOST_BLOCKS < length image → 512 * MOST_BLOCKS < length bytes → 512 * MOST_BLOCKS < length read_bytes
+    → RescuesFound types known lost image read_image [] bad_size boot r → RescuesFound types other ls bytes read_bytes [] bad_size more r
+same_rescue types known other lost ls image bytes read_image read_bytes boot more r a b c (sound, marks, (two, second, inl (none, (f, first, e)))) =
+    let basis : Basis = record { image = read_bytes; walk = []; sound = λ n. false } in (
       (λ n. false),
-      no_marks opened_bytes (grave bad_size),
-      subst (λ o. RescuesBoth types h ls bytes basis o bad_size other r) (sym (none_second (lacks_root bytes) opened_bytes [] bad_size c))
+      no_marks read_bytes (grave bad_size),
+      subst (λ o. RescuesBoth types other ls bytes basis o bad_size more r) (sym (none_second (lacks_root bytes) read_bytes [] bad_size c))
           (None, tt, inl (refl, (f, long_fault (letters_for types image) (letters_for types bytes) image bytes f a b first, e))),
     )
-same_rescue types held h lost ls image bytes opened_image opened_bytes boot other r a b c (sound, marks, (two, second, inr (some, e))) = absurd (some refl)
+same_rescue types known other lost ls image bytes read_image read_bytes boot more r a b c (sound, marks, (two, second, inr (some, e))) = absurd (some refl)
+
+-- no volume has this length, so it is refused
+long_refused : (types : Types) (image : List ℕ) → 512 * MOST_BLOCKS < length image → IsNoVolume types image
+long_refused types image long =
+    let survey = long_survey image long in none_fits_it types image [] bad_size survey (unread_fault types image [] bad_size survey refl)
 
 -- and nothing is begun
 not_begun : (image : List ℕ) → 512 * MOST_BLOCKS < length image → lacks_boot image ≡ false
@@ -102,6 +112,10 @@ not_begun image long = grind (arith, common_steps, false_from_ne_true, sized_len
 -- an image that is opened is as long
 long_opened : (image : List ℕ) → 512 * MOST_BLOCKS < length image → 512 * MOST_BLOCKS < length (opened image)
 long_opened image h = omega (arith, h, length_opened image)
+
+-- and so is one that is read
+long_image : (refused : Bool) (image : List ℕ) → 512 * MOST_BLOCKS < length image → 512 * MOST_BLOCKS < length (image_read refused image)
+long_image refused image h = omega (arith, h, length_read refused image)
 
 -- of an input of a bad size, whatever holds of its walk and its findings holds of these
 of_long : (image : List ℕ) (w : Walk) (fs : List FindingValue) (holds : Walk → List FindingValue → Type 0)
@@ -145,13 +159,22 @@ of_typed s t answers a b reply same (u, is, x) = (t, long_typed t b, same (subst
 
 long_rescue : (types : Types) (s t : SubjectValue) (boot other : List ℕ) → 512 * MOST_BLOCKS < length s.image → 512 * MOST_BLOCKS < length t.image
     → (r : RescueValue) → Rescues types s.end s.lost s.image boot r → Rescues types t.end t.lost t.image other r
-long_rescue types s t boot other a b r (w, fs, h, found) = (
-  [],
-  bad_size,
-  long_survey (opened t.image) (long_opened t.image b),
-  same_rescue types s.end t.end s.lost t.lost s.image t.image (opened s.image) (opened t.image) boot other r a b (long_opened t.image b)
-      (of_long (opened s.image) w fs (λ u gs. RescuesFound types s.end s.lost s.image (opened s.image) u gs boot r) (long_opened s.image a) h found),
-)
+long_rescue types s t boot other a b r (refused, is, (w, fs, h, found)) =
+    let known : Input = record { held = s.end; is_refused = refused } in
+    let more : Input = record { held = t.end; is_refused = true } in
+    let read : List ℕ = image_read refused s.image in
+    let long = long_image refused s.image a in
+    let here = long_image true t.image b in (
+      true,
+      long_refused types t.image b,
+      (
+        [],
+        bad_size,
+        long_survey (image_read true t.image) here,
+        same_rescue types known more s.lost t.lost s.image t.image read (image_read true t.image) boot other r a b here
+            (of_long read w fs (λ u gs. RescuesFound types known s.lost s.image read u gs boot r) long h found),
+      ),
+    )
 
 long_questions : (q : QuestionValue) (s t : SubjectValue) → s.front ≡ t.front → 512 * MOST_BLOCKS < length s.image
     → 512 * MOST_BLOCKS < length t.image → (reply : Reply) → QuestionAnswer q s reply → QuestionAnswer q t reply

@@ -14,7 +14,9 @@ use Rattle.adf_findings.specs.Survey.{FindingValue}
 use Rattle.adf_findings.proofs.OneSurvey.{one_survey}
 use Rattle.adf_rescue.specs.Hung.{second_image}
 use Rattle.adf_rescue.specs.Opened.{lacks_root, opened}
+use Rattle.adf_rescue.specs.Pruned.{image_read}
 use Rattle.adf_rescue.specs.Rescue.{IsSecond, Basis}
+use Rattle.adf_rescue.specs.declared.standing.Input.{Input}
 use Rattle.adf_rescue.proofs.RescueLaws.{one_basis}
 use Rattle.adf_findings.proofs.Lookups.{one_first}
 use Rattle.adf_texts.specs.Lines.{fault_line}
@@ -25,7 +27,8 @@ use Rattle.adf_survey_cmd.specs.Answers.{Surveys, TellsFound, told_status, types
 use Rattle.adf_survey_cmd.specs.Hints.{hinted}
 use Rattle.adf_survey_cmd.specs.Subject.{IsTyped, OfTyped, SubjectValue, begun_subject, sized, subject, typed_subject}
 use Rattle.adf_survey_cmd.specs.Losses.{LossValue, losses_text}
-use Rattle.adf_survey_cmd.specs.Rescues.{GivesFault, Replies, RescueValue, Rescues, RescuesBy, RescuesFound, RescuesIn, RescuesSome, rescue_reply}
+use Rattle.adf_survey_cmd.specs.Rescues.{GivesFault, IsJudged, Replies, RescueValue, Rescues, RescuesBy, RescuesFound, RescuesIn, RescuesJudged}
+use Rattle.adf_survey_cmd.specs.Rescues.{RescuesSome, rescue_reply}
 use Rattle.adf_file_words.specs.SurveyLine.{AsksSurvey, InquiryValue, QuestionValue, cat, list, report, rescue}
 use Rattle.adf_survey_cmd.specs.FoundLines.{listing_text}
 use Rattle.adf_survey_cmd.proofs.FoundTexts.{same_tests}
@@ -118,21 +121,21 @@ refused_once : (types : Types) (input : List ℕ) (ls : List LossValue) (r q : R
 refused_once types input ls r q (f, first, x) (g, fault, y) =
     ap rescue_reply x ∙ ap (λ line. on_errors 1 (line ++ losses_text ls)) (one_fault_line types input f g first fault) ∙ sym (ap rescue_reply y)
 
-some_once : (types : Types) (held : ℕ) (lost : List LossValue) (input : List ℕ) (l : Basis) (m : Option Basis) (fs : List FindingValue) (boot : List ℕ)
-    (r q : RescueValue) → RescuesSome types held lost input l m fs boot r → RescuesSome types held lost input l m fs boot q
+some_once : (types : Types) (known : Input) (lost : List LossValue) (input : List ℕ) (l : Basis) (m : Option Basis) (fs : List FindingValue) (boot : List ℕ)
+    (r q : RescueValue) → RescuesSome types known lost input l m fs boot r → RescuesSome types known lost input l m fs boot q
     → rescue_reply r ≡ rescue_reply q
-some_once types held lost input l m fs boot r q (inl (none, x)) (inl (also, y)) = refused_once types input _ r q x y
-some_once types held lost input l m fs boot r q (inl (none, x)) (inr (some, y)) = absurd (some none)
-some_once types held lost input l m fs boot r q (inr (some, x)) (inl (none, y)) = absurd (some none)
-some_once types held lost input l m fs boot r q (inr (some, (one, laid, size, x))) (inr (also, (other, too, long, y))) = grind (arith, common_steps)
+some_once types known lost input l m fs boot r q (inl (none, x)) (inl (also, y)) = refused_once types input _ r q x y
+some_once types known lost input l m fs boot r q (inl (none, x)) (inr (some, y)) = absurd (some none)
+some_once types known lost input l m fs boot r q (inr (some, x)) (inl (none, y)) = absurd (some none)
+some_once types known lost input l m fs boot r q (inr (some, (one, laid, size, x))) (inr (also, (other, too, long, y))) = grind (arith, common_steps)
 
-by_surveys_once : (types : Types) (held : ℕ) (lost : List LossValue) (input : List ℕ) (l : Basis) (m : Option Basis) (fs : List FindingValue)
-    (boot : List ℕ) (r q : RescueValue) → RescuesBy types held lost input l m fs boot r → RescuesBy types held lost input l m fs boot q
+by_surveys_once : (types : Types) (known : Input) (lost : List LossValue) (input : List ℕ) (l : Basis) (m : Option Basis) (fs : List FindingValue)
+    (boot : List ℕ) (r q : RescueValue) → RescuesBy types known lost input l m fs boot r → RescuesBy types known lost input l m fs boot q
     → rescue_reply r ≡ rescue_reply q
-by_surveys_once types held lost input l m fs boot r q (inl (none, x)) (inl (also, y)) = refused_once types input [] r q x y
-by_surveys_once types held lost input l m fs boot r q (inl (none, x)) (inr (some, y)) = absurd (some none)
-by_surveys_once types held lost input l m fs boot r q (inr (some, x)) (inl (none, y)) = absurd (some none)
-by_surveys_once types held lost input l m fs boot r q (inr (some, x)) (inr (also, y)) = some_once types held lost input l m fs boot r q x y
+by_surveys_once types known lost input l m fs boot r q (inl (none, x)) (inl (also, y)) = refused_once types input [] r q x y
+by_surveys_once types known lost input l m fs boot r q (inl (none, x)) (inr (some, y)) = absurd (some none)
+by_surveys_once types known lost input l m fs boot r q (inr (some, x)) (inl (none, y)) = absurd (some none)
+by_surveys_once types known lost input l m fs boot r q (inr (some, x)) (inr (also, y)) = some_once types known lost input l m fs boot r q x y
 
 one_second : (image : Option (List ℕ)) (l m : Option Basis) → IsSecond image l → IsSecond image m → l ≡ m
 one_second None None None x y = refl
@@ -145,26 +148,41 @@ one_second (Some image) (Some l) (Some m) x y = ap some (one_basis image l m x y
     some : Basis → Option Basis
     some k = Some k
 
-found_rescued_once : (types : Types) (held : ℕ) (lost : List LossValue) (input image : List ℕ) (w : Walk) (fs : List FindingValue) (boot : List ℕ)
-    (r q : RescueValue) → RescuesFound types held lost input image w fs boot r → RescuesFound types held lost input image w fs boot q
+found_rescued_once : (types : Types) (known : Input) (lost : List LossValue) (input image : List ℕ) (w : Walk) (fs : List FindingValue) (boot : List ℕ)
+    (r q : RescueValue) → RescuesFound types known lost input image w fs boot r → RescuesFound types known lost input image w fs boot q
     → rescue_reply r ≡ rescue_reply q
-found_rescued_once types held lost input image w fs boot r q (sound, marks, (l, second, x)) (others, also, (m, twice, y)) =
+found_rescued_once types known lost input image w fs boot r q (sound, marks, (l, second, x)) (others, also, (m, twice, y)) =
     let by : (ℕ → Bool) → Basis = λ s. record { image = image; walk = w; sound = s } in
-    by_surveys_once types held lost input (by others) m fs boot r q
-    (subst (λ o. RescuesBy types held lost input (by others) o fs boot r) (one_second (second_image (lacks_root input) image w fs) l m second twice)
-    (subst (λ s. RescuesBy types held lost input (by s) l fs boot r) (one_marks image w (grave fs) sound others marks also) x)) y
+    by_surveys_once types known lost input (by others) m fs boot r q
+    (subst (λ o. RescuesBy types known lost input (by others) o fs boot r) (one_second (second_image (lacks_root input) image w fs) l m second twice)
+    (subst (λ s. RescuesBy types known lost input (by s) l fs boot r) (one_marks image w (grave fs) sound others marks also) x)) y
 
-rescued_once : (types : Types) (held : ℕ) (lost : List LossValue) (input image boot : List ℕ) (r q : RescueValue)
-    → RescuesIn types held lost input image boot r → RescuesIn types held lost input image boot q → rescue_reply r ≡ rescue_reply q
-rescued_once types held lost input image boot r q (w, fs, s, x) (u, gs, t, y) =
+rescued_once : (types : Types) (known : Input) (lost : List LossValue) (input image boot : List ℕ) (r q : RescueValue)
+    → RescuesIn types known lost input image boot r → RescuesIn types known lost input image boot q → rescue_reply r ≡ rescue_reply q
+rescued_once types known lost input image boot r q (w, fs, s, x) (u, gs, t, y) =
     let same = one_survey image w u fs gs s t in
-    let moved = subst (λ v. RescuesFound types held lost input image v fs boot r) same.0 x in
-    found_rescued_once types held lost input image u gs boot r q
-    (subst (λ hs. RescuesFound types held lost input image u hs boot r) same.1 moved) y
+    let moved = subst (λ v. RescuesFound types known lost input image v fs boot r) same.0 x in
+    found_rescued_once types known lost input image u gs boot r q
+    (subst (λ hs. RescuesFound types known lost input image u hs boot r) same.1 moved) y
+
+-- an input is accepted, or refused
+one_judged : (types : Types) (input : List ℕ) (x y : Bool) → IsJudged types input x → IsJudged types input y → x ≡ y
+one_judged types input true true a b = refl
+one_judged types input false false a b = refl
+one_judged types input true false none (t, l, fits) = absurd (none t l fits)
+one_judged types input false true (t, l, fits) none = absurd (none t l fits)
+
+-- so its rescue has one reply
+judged_once : (types : Types) (held : ℕ) (lost : List LossValue) (input boot : List ℕ) (r q : RescueValue) → Rescues types held lost input boot r
+    → Rescues types held lost input boot q → rescue_reply r ≡ rescue_reply q
+judged_once types held lost input boot r q (refused, is, x) (other, also, y) =
+    let known : Bool → Input = λ b. record { held = held; is_refused = b } in
+    rescued_once types (known other) lost input (image_read other input) boot r q
+    (subst (λ b. RescuesJudged types (known b) lost input boot r) (one_judged types input refused other is also) x) y
 
 typed_rescued_once : (types : Types) (s : SubjectValue) (a b : Reply) → Replies (RescuesTyped types s) a → Replies (RescuesTyped types s) b → a ≡ b
 typed_rescued_once types s a b (r, (t, is, x), e) (q, (u, also, y), f) =
-    e ∙ rescued_once types u.end u.lost u.image (opened u.image) (sized 2 s.image) r q
+    e ∙ judged_once types u.end u.lost u.image (sized 2 s.image) r q
     (subst (λ (t : SubjectValue). Rescues types t.end t.lost t.image (sized 2 s.image) r) (one_typed s t u is also) x) y ∙ sym f
 
 one_question : (q : QuestionValue) (s : SubjectValue) (a b : Reply) → QuestionAnswer q s a → QuestionAnswer q s b → a ≡ b

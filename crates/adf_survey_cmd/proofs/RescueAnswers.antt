@@ -1,7 +1,7 @@
 -- What a rescue is prepared to give, and which images are no volumes.
 -- Letters: w the walk of a survey, fs its findings; a a survey, b the second one, if there is one; r what a rescue gives; p a prepared rescue; u why
 -- there is none; lost, front losses of blocks.
-use Rattle.std.proofs.Common.{◌≡◌, ◌≢◌, ◌∙◌, ◌/◌, ℕ, Bool, true, false, List, [], ap, sym, Option, None, Some, IfSome, inl, inr, option_map, length, subst, arith}
+use Rattle.std.proofs.Common.{◌≡◌, ◌≢◌, ◌∙◌, ◌/◌, ℕ, Bool, List, [], ap, sym, Option, None, Some, IfSome, inr, is_some, option_map, length, subst, arith}
 use Rattle.std.specs.Prelude.{Result, Ok, Err}
 use Rattle.std.specs.Result.{IsErrAnd}
 use Rattle.adf_base.specs.declared.hash.Letters.{Letters}
@@ -11,8 +11,10 @@ use Rattle.adf_boot_blocks.specs.Writing.{restored}
 use Rattle.adf_build.specs.Building.{IsBuildable}
 use Rattle.adf_build.specs.Laid.{IsLaid}
 use Rattle.adf_volume.specs.Types.{letters_for}
+use Rattle.adf_volume.specs.declared.fault.Fault.{Fault}
 use Rattle.adf_volume.specs.declared.types.Types.{Types}
 use Rattle.adf_volume.specs.Walk.{Walk}
+use Rattle.adf_volume.proofs.NoneFits.{none_fits}
 use Rattle.adf_findings.specs.Files.{grave}
 use Rattle.adf_findings.specs.SoundMarks.{AreMarks}
 use Rattle.adf_findings.specs.Survey.{FindingValue, IsSurvey}
@@ -23,18 +25,20 @@ use Rattle.adf_rescue.specs.declared.rescues.Rescued.{Rescued}
 use Rattle.adf_rescue.specs.declared.rescues.Terms.{Terms}
 use Rattle.adf_rescue.specs.Hung.{second_image}
 use Rattle.adf_rescue.specs.Losses.{lost_headers}
-use Rattle.adf_rescue.specs.Opened.{is_mended, lacks_root, opened}
-use Rattle.adf_rescue.specs.Rescue.{IsFaulty, Basis, StandsNothingBy, rescued_tree_by}
+use Rattle.adf_rescue.specs.Opened.{lacks_root}
+use Rattle.adf_rescue.specs.Pruned.{image_read}
+use Rattle.adf_rescue.specs.Rescue.{Basis, StandsNothingBy, rescued_tree_by}
+use Rattle.adf_rescue.specs.declared.standing.Input.{Input}
 use Rattle.adf_rescue.specs.Rescued.{IsRescued}
-use Rattle.adf_rescue.proofs.OpenedImages.{length_opened, volumes_are_kept}
+use Rattle.adf_rescue.proofs.PrunedKeeps.{length_read}
 use Rattle.adf_runs.specs.Commands.{Reply, on_errors}
 use Rattle.adf_runs.specs.Outcomes.{EndsBy}
 use Rattle.adf_runs.specs.declared.outcome.Outcome.{Outcome, TheVariants.LeftOut as Tells, TheVariants.NoMemory as OutOfMemory}
 use Rattle.adf_runs.proofs.PendingText.{appends_nil}
 use Rattle.adf_survey_cmd.specs.Losses.{LossValue, ToldValue, front_losses, input_losses, loss_values, losses_of, rescue_losses, runs_lost, told_by}
 use Rattle.adf_survey_cmd.specs.Losses.{told_value}
-use Rattle.adf_survey_cmd.specs.Prepared.{IsBegunInput, IsNoVolume, IsToldRefusal, LaysFor, Prepares, RefusesFor, WritesPrepared}
-use Rattle.adf_survey_cmd.specs.Rescues.{Replies, RescueValue, RescueValue.written, Rescues, RescuesBoth, RescuesBy, RescuesIn}
+use Rattle.adf_survey_cmd.specs.Prepared.{IsBegunInput, IsFault, IsToldRefusal, LaysFor, Prepares, RefusesFor, WritesPrepared, known_of}
+use Rattle.adf_survey_cmd.specs.Rescues.{IsJudged, IsNoVolume, Replies, RescueValue, RescueValue.written, Rescues, RescuesBoth, RescuesBy, RescuesIn}
 use Rattle.adf_survey_cmd.specs.declared.preparing.Begun.{Begun}
 use Rattle.adf_survey_cmd.specs.declared.preparing.Prepared.{Prepared}
 use Rattle.adf_survey_cmd.specs.declared.preparing.Unrescued.{Unrescued, TheVariants.NoMemory, TheVariants.Refused}
@@ -43,15 +47,24 @@ use Rattle.adf_survey_cmd.specs.declared.preparing.Unrescued.{Unrescued, TheVari
 pub if_some : {X : Type 0} (o : Option X) (x : X) (P : X → Type 0) → o ≡ Some x → IfSome o P → P x
 if_some o x P e h = subst (λ o. IfSome o P) e h
 
--- what is given by the survey of an opened image, and by that of a second one, if there is one
-pub found_gives : (types : Types) (held : ℕ) (lost : List LossValue) (input image : List ℕ) (w : Walk) (fs : List FindingValue) (sound : ℕ → Bool)
+-- what is given by the survey of an image that is read, and by that of a second one, if there is one
+pub found_gives : (types : Types) (known : Input) (lost : List LossValue) (input image : List ℕ) (w : Walk) (fs : List FindingValue) (sound : ℕ → Bool)
     (second : Option (List ℕ)) (boot : List ℕ) (r : RescueValue)
-    → image ≡ opened input → IsSurvey image w fs → AreMarks image w (grave fs) sound → second_image (lacks_root input) image w fs ≡ second
-    → RescuesBoth types held lost input (record { image = image; walk = w; sound = sound }) second fs boot r → Rescues types held lost input boot r
-found_gives types held lost input image w fs sound second boot r same survey marks is by =
-    let a : Basis = record { image = image; walk = w; sound = sound } in
-    subst (λ (l : List ℕ). RescuesIn types held lost input l boot r) same
-    (w, fs, survey, (sound, marks, subst (λ (o : Option (List ℕ)). RescuesBoth types held lost input a o fs boot r) (sym is) by))
+    → IsJudged types input known.is_refused → image ≡ image_read known.is_refused input
+    → IsSurvey image w fs → AreMarks image w (grave fs) sound → second_image (lacks_root input) image w fs ≡ second
+    → RescuesBoth types known lost input (record { image = image; walk = w; sound = sound }) second fs boot r → Rescues types known.held lost input boot r
+found_gives types known lost input image w fs sound second boot r judged same survey marks is by =
+    let a : Basis = record { image = image; walk = w; sound = sound } in (
+      known.is_refused,
+      judged,
+      subst (λ (l : List ℕ). RescuesIn types known lost input l boot r) same
+          (w, fs, survey, (sound, marks, subst (λ (o : Option (List ℕ)). RescuesBoth types known lost input a o fs boot r) (sym is) by)),
+    )
+
+-- an input that has no fault is accepted, and one that has one is refused
+pub judged_by : (types : Types) (input : List ℕ) (fault : Option Fault) → IsFault types input fault → IsJudged types input (is_some fault)
+judged_by types input None is = is
+judged_by types input (Some f) first = λ t l fits. none_fits input f.block f.cause t l first fits
 
 -- a second image is surveyed if there is one
 
@@ -62,20 +75,27 @@ second_is items o x image second told is same = sym told ∙ ap (option_map item
 pub second_none : {X : Type 0} (items : X → List ℕ) (o : Option X) (second : Option (List ℕ)) → option_map items o ≡ second → o ≡ None → second ≡ None
 second_none items o second told is = sym told ∙ ap (option_map items) is
 
--- an image that has a fault as it is, is no volume
-pub none_fits_it : (types : Types) (image : List ℕ) (w : Walk) (fs : List FindingValue) (mended : Bool) → mended ≡ false → IsSurvey image w fs
-    → IsFaulty types image mended fs → IsNoVolume types image
-none_fits_it types image w fs mended kept survey (inl is) t l fits = absurd cc
-none_fits_it types image w fs mended kept survey (inr some) t l fits =
+-- an image that has a finding other than those that are passed is no volume
+pub none_fits_it : (types : Types) (image : List ℕ) (w : Walk) (fs : List FindingValue) → IsSurvey image w fs → fs ≢ passed types image
+    → IsNoVolume types image
+none_fits_it types image w fs survey some t l fits =
     some (finds_none image (letters_for types image) (passed types image) (types_read image types) t l w fs fits survey)
 
--- nor is one that must be mended
-pub none_fits_mended : (types : Types) (image : List ℕ) → is_mended image ≡ true → IsNoVolume types image
-none_fits_mended types image mended t l fits = let kept = volumes_are_kept (letters_for types image) image t l fits in absurd cc
+-- the terms of a rescue by what is told of its input
+abbrev pub terms_of : Types → (held : ℕ) → Begun → Terms
+terms_of types held b = record { types = types; input = known_of held b; made = b.made_root }
+
+-- what is known by a test is known
+pub on_terms : (types : Types) (held : ℕ) (begun : Begun) (refused : Bool) (a : Basis) (b : Option Basis) (fs : List FindingValue) (r : Rescued)
+    → refused ≡ is_some begun.fault
+    → IsRescued (record { types = types; input = record { held = held; is_refused = refused }; made = begun.made_root }) a b fs r
+    → IsRescued (terms_of types held begun) a b fs r
+on_terms types held begun refused a b fs r same is =
+    subst (λ (k : Bool). IsRescued (record { types = types; input = record { held = held; is_refused = k }; made = begun.made_root }) a b fs r) same is
 
 -- the same is told
 pub same_told : (terms : Terms) (a : Basis) (b : Option Basis) (fs : List FindingValue) (made : Bool) (r : Rescued) → terms.made ≡ made
-    → IsRescued terms a b fs r → told_value r ≡ told_by (letters_for terms.types a.image) terms.held made a b fs
+    → IsRescued terms a b fs r → told_value r ≡ told_by (letters_for terms.types a.image) terms.input made a b fs
 same_told terms a b fs made r same is =
     let heads = is.lost_headers ∙ ap (λ (made : Bool). lost_headers made a.walk fs) same in
     λ i. record {
@@ -89,25 +109,24 @@ same_told terms a b fs made r same is =
 
 -- the same blocks are lost in front
 pub same_front : (lost : List LossValue) (held n : ℕ) (input image : List ℕ) (types : Types) (b : Begun) → IsBegunInput types lost input image b
-    → image ≡ opened input → n ≡ blocks image → front_losses (runs_lost b.lost.items) b.states_type b.made_root held n ≡ input_losses lost held input
-same_front lost held n input image types b is same size =
-    let count : n ≡ blocks input = size ∙ ap (λ (l : List ℕ). length l / 512) same ∙ ap (λ (k : ℕ). k / 512) (length_opened input) in
+    → n ≡ blocks image → front_losses (runs_lost b.lost.items) b.states_type b.made_root held n ≡ input_losses lost held input
+same_front lost held n input image types b is size =
+    let count : n ≡ blocks input = size ∙ ap (λ (l : List ℕ). length l / 512) is.image ∙ ap (λ (k : ℕ). k / 512) (length_read (is_some b.fault) input) in
     λ i. front_losses (is.runs i) (is.states i) (is.made i) held (count i)
 
 -- so all losses are
-pub same_losses : (letters : Letters) (held : ℕ) (lost front : List LossValue) (input : List ℕ) (a : Basis) (b : Option Basis) (fs : List FindingValue)
-    (t : ToldValue) → t ≡ told_by letters held (lacks_root input) a b fs → front ≡ input_losses lost held input
-    → losses_of a.image a.walk b t front ≡ rescue_losses letters held lost input a b fs
-same_losses letters held lost front input a b fs t told runs = λ i. losses_of a.image a.walk b (told i) (runs i)
+pub same_losses : (letters : Letters) (known : Input) (lost front : List LossValue) (input : List ℕ) (a : Basis) (b : Option Basis) (fs : List FindingValue)
+    (t : ToldValue) → t ≡ told_by letters known (lacks_root input) a b fs → front ≡ input_losses lost known.held input
+    → losses_of a.image a.walk b t front ≡ rescue_losses letters known lost input a b fs
+same_losses letters known lost front input a b fs t told runs = λ i. losses_of a.image a.walk b (told i) (runs i)
 
 -- what stands is prepared as a volume
-pub volume_prepared : (types : Types) (held : ℕ) (lost : List LossValue) (input : List ℕ) (a : Basis) (b : Option Basis) (fs : List FindingValue)
+pub volume_prepared : (types : Types) (known : Input) (lost : List LossValue) (input : List ℕ) (a : Basis) (b : Option Basis) (fs : List FindingValue)
     (p : Prepared)
-    → IsBuildable p.draft.tree p.blocks → p.draft.tree ≡ rescued_tree_by (letters_for types a.image) held a b → p.blocks ≡ blocks a.image
-    → loss_values p.losses.items ≡ rescue_losses (letters_for types a.image) held lost input a b fs → a.walk ≢ []
-    → ¬ StandsNothingBy types held a b fs (is_mended input)
-    → Prepares (RescuesBy types held lost input a b fs) (Ok p)
-volume_prepared types held lost input a b fs p room tree size told read some = λ boot. (
+    → IsBuildable p.draft.tree p.blocks → p.draft.tree ≡ rescued_tree_by (letters_for types a.image) known a b → p.blocks ≡ blocks a.image
+    → loss_values p.losses.items ≡ rescue_losses (letters_for types a.image) known lost input a b fs → a.walk ≢ []
+    → ¬ StandsNothingBy types known a b → Prepares (RescuesBy types known lost input a b fs) (Ok p)
+volume_prepared types known lost input a b fs p room tree size told read some = λ boot. (
   room,
   λ volume laid long. inr (
     read,

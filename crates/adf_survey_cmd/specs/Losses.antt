@@ -1,7 +1,7 @@
 -- What of an image is not in the volume of its rescue or in doubt there, and the lines of that.
 -- Letters: w the walk of a survey, fs its findings; a a survey, b the second one, if there is one; x an entry that is left out or in doubt; n, p the
 -- node of an entry, of a directory; ps nodes of directories; k a block, ks blocks; rs runs of blocks; t what a rescue tells; l a loss, ls losses;
--- held the number of blocks that the input holds whole; lost the losses of blocks that are not read at all.
+-- held the number of blocks that the input holds whole, known what else is known of it; lost the losses of blocks that are not read at all.
 use Rattle.std.specs.Prelude.{◌+◌, ◌-◌, ℕ, ◌&&◌, ◌==◌, Bool, false, List, [], ◌∷◌, ◌++◌, Option, None, Some, codes, cond, map, nat_le, nat_lt}
 use Rattle.std.specs.List.{flat_map}
 use Rattle.adf_base.specs.declared.hash.Letters.{Letters}
@@ -20,6 +20,7 @@ use Rattle.adf_rescue.specs.declared.doubts.Doubt.{Doubt}
 use Rattle.adf_rescue.specs.declared.doubts.Doubt.TheVariants as doubt
 use Rattle.adf_rescue.specs.declared.doubts.Doubtful.{Doubtful}
 use Rattle.adf_rescue.specs.declared.rescues.Rescued.{Rescued}
+use Rattle.adf_rescue.specs.declared.standing.Input.{Input}
 use Rattle.adf_texts.specs.Names.{names_text}
 use Rattle.adf_survey_cmd.specs.Lines.{blocks_text}
 use Rattle.adf_survey_cmd.specs.declared.losses.BlockRun.{BlockRun}
@@ -147,12 +148,12 @@ told_value r = record {
 }
 
 -- what it tells by the surveys; made says whether the root was
-abbrev pub told_by : Letters → (held : ℕ) → (made : Bool) → Basis → Option Basis → List FindingValue → ToldValue
-told_by letters held made a b fs = record {
-  left_out = rescue_leaves_by letters held a;
-  second_left_out = second_leaves_by letters held a b;
-  doubts = first_doubts_by letters held a;
-  second_doubts = second_doubts_by letters held a b;
+abbrev pub told_by : Letters → Input → (made : Bool) → Basis → Option Basis → List FindingValue → ToldValue
+told_by letters known made a b fs = record {
+  left_out = rescue_leaves_by letters known a;
+  second_left_out = second_leaves_by letters known a b;
+  doubts = first_doubts_by letters known a;
+  second_doubts = second_doubts_by letters known a b;
   lost_headers = lost_headers made a.walk fs;
   lost_blocks = lost_blocks b fs;
 }
@@ -167,9 +168,9 @@ losses_of image w b t front =
     ++ (header_losses image w t.lost_headers ++ (front ++ block_losses t.lost_blocks)))))
 
 -- all that is not in the new volume, or in doubt there
-abbrev pub rescue_losses : Letters → (held : ℕ) → (lost : List LossValue) → List ℕ → Basis → Option Basis → List FindingValue → List LossValue
-rescue_losses letters held lost input a b fs =
-    losses_of a.image a.walk b (told_by letters held (lacks_root input) a b fs) (input_losses lost held input)
+abbrev pub rescue_losses : Letters → Input → (lost : List LossValue) → List ℕ → Basis → Option Basis → List FindingValue → List LossValue
+rescue_losses letters known lost input a b fs =
+    losses_of a.image a.walk b (told_by letters known (lacks_root input) a b fs) (input_losses lost known.held input)
 
 -- the value of a loss
 abbrev pub loss_value : Loss → LossValue

@@ -1,11 +1,8 @@
 -- Rescues of which only the new volume is to be laid.
 -- Letters: b what is told of an input; p a prepared rescue; u why there is none; w how a work ends; f a fault; ls losses; boot the boot blocks of the input; types those that
 -- the new volume may have.
-use Rattle.std.specs.Prelude.{◌≡◌, ◌++◌, ℕ, List, Result, Ok, Err}
-use Rattle.adf_tree.specs.Tree.{Tree}
+use Rattle.std.specs.Prelude.{◌≡◌, ◌++◌, ℕ, false, List, Option, None, Some, is_some, Result, Ok, Err}
 use Rattle.adf_blocks.specs.Sizes.{blocks}
-use Rattle.adf_volume.specs.Fits.{FitsBy}
-use Rattle.adf_volume.specs.Layout.{Layout}
 use Rattle.adf_volume.specs.Types.{letters_for}
 use Rattle.adf_volume.specs.declared.fault.Fault.{Fault}
 use Rattle.adf_volume.specs.declared.types.Types.{Types}
@@ -13,31 +10,39 @@ use Rattle.adf_volume.specs.Walk.{FirstFaultBy}
 use Rattle.adf_boot_blocks.specs.Writing.{restored}
 use Rattle.adf_build.specs.Building.{IsBuildable}
 use Rattle.adf_build.specs.Laid.{IsLaid}
-use Rattle.adf_rescue.specs.Opened.{IsOpened, lacks_root, states_type}
+use Rattle.adf_rescue.specs.Opened.{lacks_root, states_type}
+use Rattle.adf_rescue.specs.Pruned.{image_read}
+use Rattle.adf_rescue.specs.declared.standing.Input.{Input}
 use Rattle.adf_texts.specs.Lines.{fault_line}
 use Rattle.adf_runs.specs.Commands.{Reply}
 use Rattle.adf_runs.specs.declared.outcome.Outcome.{Outcome, TheVariants.LeftOut, TheVariants.NoMemory as OutOfMemory}
 use Rattle.adf_survey_cmd.specs.Losses.{LossValue, loss_values, losses_text, runs_lost}
-use Rattle.adf_survey_cmd.specs.Rescues.{RescueValue, RescueValue.refused, RescueValue.written, rescue_reply}
+use Rattle.adf_survey_cmd.specs.Rescues.{IsJudged, RescueValue, RescueValue.refused, RescueValue.written, rescue_reply}
 use Rattle.adf_survey_cmd.specs.declared.preparing.Begun.{Begun}
 use Rattle.adf_survey_cmd.specs.declared.preparing.Prepared.{Prepared}
 use Rattle.adf_survey_cmd.specs.declared.preparing.Unrescued.{Unrescued, TheVariants.NoMemory, TheVariants.Refused}
-
--- no tree and layout fit an image where these types are accepted
-abbrev pub IsNoVolume : Types → List ℕ → Type 0
-IsNoVolume types image = (t : Tree) (l : Layout) → FitsBy (letters_for types image) image t l → ⊥
 
 -- the fault is the first one of an image where these types are accepted
 abbrev pub IsFirstFault : Types → List ℕ → Fault → Type 0
 IsFirstFault types image f = FirstFaultBy (letters_for types image) image f.block f.cause
 
--- what is told of an input before it is opened as the image: its first fault, if it must be mended; whether it states a type; whether a root is
--- made; and these losses of blocks
+-- an image is accepted where these types are, or has this first fault
+abbrev pub IsFault : Types → List ℕ → Option Fault → Type 0
+IsFault types image None = IsJudged types image false
+IsFault types image (Some f) = IsFirstFault types image f
+
+-- what is told of an input before an image is read of it: its first fault, if it is refused; whether it states a type; whether a root is made; and
+-- these losses of blocks
 pub record IsBegunInput (types : Types) (lost : List LossValue) (input image : List ℕ) (b : Begun) : Type 0 where
-  pub opened : IsOpened (IsFirstFault types input) input image b.fault
+  pub fault : IsFault types input b.fault
+  pub image : image ≡ image_read (is_some b.fault) input
   pub states : b.states_type ≡ states_type input
   pub made : b.made_root ≡ lacks_root input
   pub runs : runs_lost b.lost.items ≡ lost
+
+-- what is known of such an input, which holds so many blocks whole
+abbrev pub known_of : (held : ℕ) → Begun → Input
+known_of held b = record { held = held; is_refused = is_some b.fault }
 
 -- the tree fits, and each volume that is laid for it, with the boot blocks put back into it, is what the rescue gives
 abbrev pub LaysFor : (RescueValue → Type 0) → Prepared → (boot : List ℕ) → Type 0

@@ -1,10 +1,13 @@
 -- What a rescue gives.
 -- Letters: a the survey of an image, w its walk, fs its findings; b the second survey, if there is one; ls losses; f a fault; r what a rescue gives;
--- types those that the new volume may have; held the number of blocks that the input holds whole; lost the losses of blocks that are not read at
+-- types those that the new volume may have; known what is known of the input, held the number of blocks that it holds whole; lost the losses of blocks that are not read at
 -- all; boot the boot blocks of the input.
-use Rattle.std.specs.Prelude.{◌≡◌, ◌≢◌, ◌⊎◌, ℕ, Bool, List, [], ◌∷◌, ◌++◌, Option}
+use Rattle.std.specs.Prelude.{◌≡◌, ◌≢◌, ◌⊎◌, ℕ, Bool, true, false, List, [], ◌∷◌, ◌++◌, Option}
+use Rattle.adf_tree.specs.Tree.{Tree}
 use Rattle.adf_blocks.specs.Sizes.{blocks}
 use Rattle.adf_boot_blocks.specs.Writing.{restored}
+use Rattle.adf_volume.specs.Fits.{FitsBy}
+use Rattle.adf_volume.specs.Layout.{Layout}
 use Rattle.adf_volume.specs.Types.{letters_for}
 use Rattle.adf_volume.specs.declared.fault.Fault.{Fault}
 use Rattle.adf_volume.specs.declared.types.Types.{Types}
@@ -14,11 +17,17 @@ use Rattle.adf_findings.specs.SoundMarks.{AreMarks}
 use Rattle.adf_findings.specs.Survey.{FindingValue, IsSurvey}
 use Rattle.adf_build.specs.Laid.{IsLaid}
 use Rattle.adf_rescue.specs.Hung.{second_image}
-use Rattle.adf_rescue.specs.Opened.{is_mended, lacks_root, opened}
+use Rattle.adf_rescue.specs.Opened.{lacks_root}
+use Rattle.adf_rescue.specs.Pruned.{image_read}
 use Rattle.adf_rescue.specs.Rescue.{IsSecond, Basis, StandsNothingBy, rescued_tree_by}
+use Rattle.adf_rescue.specs.declared.standing.Input.{Input}
 use Rattle.adf_texts.specs.Lines.{fault_line}
 use Rattle.adf_runs.specs.Commands.{Reply, on_errors}
 use Rattle.adf_survey_cmd.specs.Losses.{LossValue, losses_text, rescue_losses}
+
+-- no tree and layout fit an image where these types are accepted
+abbrev pub IsNoVolume : Types → List ℕ → Type 0
+IsNoVolume types image = (t : Tree) (l : Layout) → FitsBy (letters_for types image) image t l → ⊥
 
 -- the status of a rescue: 0 where there is no line
 abbrev pub text_status : List ℕ → ℕ
@@ -40,9 +49,9 @@ abbrev pub Replies : (RescueValue → Type 0) → Reply → Type 0
 Replies gives reply = (r : RescueValue) × gives r × (reply ≡ rescue_reply r)
 
 -- the volume that is laid for the tree of all that stands, in as many blocks, with the boot blocks put back into it, with these losses
-abbrev pub GivesVolume : List LossValue → Types → (held : ℕ) → Basis → Option Basis → (boot : List ℕ) → RescueValue → Type 0
-GivesVolume ls types held a b boot r =
-    (volume : List ℕ) × IsLaid volume (rescued_tree_by (letters_for types a.image) held a b) × (blocks volume ≡ blocks a.image)
+abbrev pub GivesVolume : List LossValue → Types → Input → Basis → Option Basis → (boot : List ℕ) → RescueValue → Type 0
+GivesVolume ls types known a b boot r =
+    (volume : List ℕ) × IsLaid volume (rescued_tree_by (letters_for types a.image) known a b) × (blocks volume ≡ blocks a.image)
     × (r ≡ written (restored volume boot) ls)
 
 -- the first fault of the input where these types are accepted, with these losses
@@ -50,33 +59,42 @@ abbrev pub GivesFault : List LossValue → Types → List ℕ → RescueValue �
 GivesFault ls types input r = (f : Fault) × FirstFaultBy (letters_for types input) input f.block f.cause × (r ≡ refused f ls)
 
 -- the rescue of an input of which something is surveyed: the volume, or where nothing stands the first fault
-abbrev pub RescuesSome : Types → (held : ℕ) → List LossValue → List ℕ → Basis → Option Basis → List FindingValue → (boot : List ℕ) → RescueValue → Type 0
-RescuesSome types held lost input a b fs boot r =
-    let ls = rescue_losses (letters_for types a.image) held lost input a b fs in
-    (StandsNothingBy types held a b fs (is_mended input) × GivesFault ls types input r)
-    ⊎ ((¬ StandsNothingBy types held a b fs (is_mended input)) × GivesVolume ls types held a b boot r)
+abbrev pub RescuesSome : Types → Input → List LossValue → List ℕ → Basis → Option Basis → List FindingValue → (boot : List ℕ) → RescueValue → Type 0
+RescuesSome types known lost input a b fs boot r =
+    let ls = rescue_losses (letters_for types a.image) known lost input a b fs in
+    (StandsNothingBy types known a b × GivesFault ls types input r) ⊎ ((¬ StandsNothingBy types known a b) × GivesVolume ls types known a b boot r)
 
 -- the rescue of an input by the surveys; where nothing is surveyed it is refused
-abbrev pub RescuesBy : Types → (held : ℕ) → List LossValue → List ℕ → Basis → Option Basis → List FindingValue → (boot : List ℕ) → RescueValue → Type 0
-RescuesBy types held lost input a b fs boot r =
-    ((a.walk ≡ []) × GivesFault [] types input r) ⊎ ((a.walk ≢ []) × RescuesSome types held lost input a b fs boot r)
+abbrev pub RescuesBy : Types → Input → List LossValue → List ℕ → Basis → Option Basis → List FindingValue → (boot : List ℕ) → RescueValue → Type 0
+RescuesBy types known lost input a b fs boot r =
+    ((a.walk ≡ []) × GivesFault [] types input r) ⊎ ((a.walk ≢ []) × RescuesSome types known lost input a b fs boot r)
 
 -- the rescue of an input by the survey of its image, and by that of a second image, if there is one
-abbrev pub RescuesBoth : Types → (held : ℕ) → List LossValue → List ℕ → Basis → Option (List ℕ) → List FindingValue → (boot : List ℕ) → RescueValue → Type 0
-RescuesBoth types held lost input a image fs boot r = (b : Option Basis) × IsSecond image b × RescuesBy types held lost input a b fs boot r
+abbrev pub RescuesBoth : Types → Input → List LossValue → List ℕ → Basis → Option (List ℕ) → List FindingValue → (boot : List ℕ) → RescueValue → Type 0
+RescuesBoth types known lost input a image fs boot r = (b : Option Basis) × IsSecond image b × RescuesBy types known lost input a b fs boot r
 
 -- the rescue of an input by what is found in an image, and in that with what is lost hung in it
-abbrev pub RescuesFound : Types → (held : ℕ) → List LossValue → List ℕ → List ℕ → Walk → List FindingValue → (boot : List ℕ) → RescueValue → Type 0
-RescuesFound types held lost input image w fs boot r =
+abbrev pub RescuesFound : Types → Input → List LossValue → List ℕ → List ℕ → Walk → List FindingValue → (boot : List ℕ) → RescueValue → Type 0
+RescuesFound types known lost input image w fs boot r =
     (sound : ℕ → Bool) × AreMarks image w (grave fs) sound
-    × RescuesBoth types held lost input (record { image = image; walk = w; sound = sound }) (second_image (lacks_root input) image w fs) fs boot r
+    × RescuesBoth types known lost input (record { image = image; walk = w; sound = sound }) (second_image (lacks_root input) image w fs) fs boot r
 
 -- the rescue of an input by the survey of an image
-abbrev pub RescuesIn : Types → (held : ℕ) → List LossValue → List ℕ → List ℕ → (boot : List ℕ) → RescueValue → Type 0
-RescuesIn types held lost input image boot r =
-    (w : Walk) × (fs : List FindingValue) × IsSurvey image w fs × RescuesFound types held lost input image w fs boot r
+abbrev pub RescuesIn : Types → Input → List LossValue → List ℕ → List ℕ → (boot : List ℕ) → RescueValue → Type 0
+RescuesIn types known lost input image boot r =
+    (w : Walk) × (fs : List FindingValue) × IsSurvey image w fs × RescuesFound types known lost input image w fs boot r
 
--- the rescue of an image, whose boot block and root may be overwritten, of which the input holds the first `held` blocks, and beside which these
--- blocks are lost, with these boot blocks put into the volume. Names have the letters of the image as far as these types have them
+-- an input is refused where these types are accepted: no tree and layout fit it; or it is accepted
+abbrev pub IsJudged : Types → List ℕ → (refused : Bool) → Type 0
+IsJudged types input true = IsNoVolume types input
+IsJudged types input false = (t : Tree) × (l : Layout) × FitsBy (letters_for types input) input t l
+
+-- the rescue of an input that is accepted or refused, by the image that is read of it
+abbrev pub RescuesJudged : Types → Input → (lost : List LossValue) → List ℕ → (boot : List ℕ) → RescueValue → Type 0
+RescuesJudged types known lost input boot r = RescuesIn types known lost input (image_read known.is_refused input) boot r
+
+-- the rescue of an input, whose boot block and root may be overwritten, of which the first `held` blocks are there, and beside which these blocks
+-- are lost, with these boot blocks put into the volume. Names have the letters of the image as far as these types have them
 abbrev pub Rescues : Types → (held : ℕ) → (lost : List LossValue) → List ℕ → (boot : List ℕ) → RescueValue → Type 0
-Rescues types held lost input boot r = RescuesIn types held lost input (opened input) boot r
+Rescues types held lost input boot r =
+    (refused : Bool) × IsJudged types input refused × RescuesJudged types (record { held = held; is_refused = refused }) lost input boot r

@@ -10,6 +10,7 @@ ghost use Rattle.adf_boot_blocks.specs.BootBlocks.{begins_with_dos};
 ghost use Rattle.adf_boot_blocks.specs.Writing.{HasBootOf};
 ghost use Rattle.adf_boot_blocks.specs.declared.boot.TheConstants.{BOOT_LEN};
 ghost use Rattle.adf_rescue.specs.Rescue.{Basis, rescued_tree_by};
+ghost use Rattle.adf_rescue.specs.declared.standing.Input.{Input};
 ghost use Rattle.adf_runs.specs.Commands.{Reply};
 ghost use Rattle.adf_file_words.specs.SurveyLine.{asked, rescue};
 ghost use Rattle.adf_survey_cmd.specs.Answers.{SurveyAnswer};
@@ -21,10 +22,10 @@ ghost use Rattle.adf_survey_cmd.specs.Subject.{meant};
 /// begins with `DOS`: the bytes behind the checksum, the checksum unless it is right for another type, and it is bootable if
 /// the image is.
 pub fn rescued_volumes()
-    ensures fits { (ls : List LossValue) (types : Types) (held : ℕ) (a : Basis) (b : Option Basis) (boot : List ℕ)
-        (r : RescueValue) → BOOT_LEN ≤ length boot → GivesVolume ls types held a b boot r
+    ensures fits { (ls : List LossValue) (types : Types) (known : Input) (a : Basis) (b : Option Basis) (boot : List ℕ)
+        (r : RescueValue) → BOOT_LEN ≤ length boot → GivesVolume ls types known a b boot r
         → (l : Layout) × FitsBy (letters_for types a.image) (rescue_reply r).output
-        (rescued_tree_by (letters_for types a.image) held a b) l }
+        (rescued_tree_by (letters_for types a.image) known a b) l }
     ensures boot { (blocks : Option ℕ) (keep_type : Bool) (input : List ℕ) (reply : Reply)
         → SurveyAnswer (asked blocks (rescue keep_type)) input reply → reply.output ≢ []
         → All (λ byte. byte < 256) input → begins_with_dos (meant blocks input) ≡ true

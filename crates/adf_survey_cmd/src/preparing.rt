@@ -1,11 +1,11 @@
 // Rescues of which only the new volume is to be laid.
 
 ghost use Rattle.std.specs.Prelude.{◌≡◌, ℕ, List, Option, Some, IfOk, false, is_some, option_map};
-ghost use Rattle.adf_rescue.specs.Opened.{IsOpened, opened};
+ghost use Rattle.adf_rescue.specs.Pruned.{image_read};
 ghost use Rattle.adf_rescue.specs.Rescue.{IsSecond, Basis, OnBasis, OnSecond};
 ghost use Rattle.adf_survey_cmd.specs.Losses.{LossValue, front_losses, runs_lost};
-ghost use Rattle.adf_survey_cmd.specs.Prepared.{IsBegunInput, IsFirstFault, IsNoVolume, Prepares};
-ghost use Rattle.adf_survey_cmd.specs.Rescues.{Rescues, RescuesBoth, RescuesBy};
+ghost use Rattle.adf_survey_cmd.specs.Prepared.{IsBegunInput, IsFault, IsFirstFault, Prepares, known_of};
+ghost use Rattle.adf_survey_cmd.specs.Rescues.{IsNoVolume, Rescues, RescuesBoth, RescuesBy};
 
 use crate::losses::{BlockRun, Loss, rescue_losses};
 use crate::subject::Subject;
@@ -13,7 +13,9 @@ use adf_base::NoMemory;
 use adf_cmd::checked;
 use adf_drafts::Draft;
 use adf_findings::{Survey, some_survey, survey};
-use adf_rescue::{Terms, hung_image, is_mended, lacks_root, open_image, rescue, states_type};
+use adf_rescue::{
+    Input, Terms, hung_image, lacks_root, open_image, prune_image, rescue, states_type,
+};
 use adf_volume::{Fault, Types};
 use std::alloc::{AllocError, Global};
 
@@ -62,8 +64,8 @@ struct Scope {
     held: usize,
 }
 
-// What is told of an input before it is opened: its first fault, if it must be mended; whether it states a type; whether a root
-// is made; and the blocks of it that are not read at all.
+// What is told of an input before an image is read of it: its first fault, if it is refused; whether it states a type; whether a
+// root is made; and the blocks of it that are not read at all.
 #[derive(Drop)]
 struct Begun {
     fault: Option<Fault>,
@@ -107,7 +109,7 @@ fn first_fault(alloc: Global, types: Types, image: &[u8]) -> Result<Fault, Alloc
     }
 }
 
-// The first fault of an input of which nothing is surveyed or stands: it is known already, if the input was mended.
+// The first fault of an input of which nothing is surveyed or stands.
 fn fault_of(
     alloc: Global,
     types: Types,
@@ -115,7 +117,7 @@ fn fault_of(
     fault: Option<Fault>,
 ) -> Result<Fault, AllocError>
     requires { is_some fault ≡ false → IsNoVolume types image.now }
-    ensures { (input : List ℕ) → IsOpened (IsFirstFault types input) input image.now fault
+    ensures { (input : List ℕ) → IsFault types input fault → image.now ≡ image_read (is_some fault) input
         → IfOk result (IsFirstFault types input) }
 {
     match fault {
@@ -124,17 +126,27 @@ fn fault_of(
     }
 }
 
-// The first fault of an input that must be mended.
-fn mended_fault(alloc: Global, types: Types, image: &[u8]) -> Result<Option<Fault>, AllocError>
-    ensures { IfOk result (IsOpened (IsFirstFault types image.now) image.now (opened image.now)) }
+// The first fault of an input, if it is refused.
+fn fault_in(alloc: Global, types: Types, image: &[u8]) -> Result<Option<Fault>, AllocError>
+    ensures { IfOk result (IsFault types image.now) }
 {
-    if !is_mended(image) {
-        return Ok(None);
+    match checked(alloc, types, image)? {
+        Ok(_) => Ok(None),
+        Err(fault) => Ok(Some(fault)),
     }
-    Ok(Some(first_fault(alloc, types, image)?))
 }
 
-// Prepares a rescue by what is found in the image that an input is opened as, and in a second one, if there is one.
+// Makes an input the image that a rescue reads of it.
+fn read_input(image: &mut [u8], is_refused: bool)
+    ensures { image.new ≡ image_read is_refused image.old }
+{
+    if is_refused {
+        open_image(image);
+        prune_image(image);
+    }
+}
+
+// Prepares a rescue by what is found in the image that is read of an input, and in a second one, if there is one.
 fn prepare_found(
     alloc: Global,
     found: &Survey<'_>,
@@ -145,14 +157,16 @@ fn prepare_found(
     requires { (b : Option Basis) × IsSecond (option_map (λ s. s.now.image) second) b }
     ensures { (lost : List LossValue) (input : List ℕ) → IsBegunInput scope.types lost input found.now.image begun.now
         → OnBasis found.now.image (λ a fs. OnSecond (option_map (λ s. s.now.image) second.entry) (λ b.
-        Prepares (RescuesBy scope.types scope.held lost input a b fs) result)) }
+        Prepares (RescuesBy scope.types (known_of scope.held begun.now) lost input a b fs) result)) }
 {
     found.whole_marks();
     some_survey();
     let terms = Terms {
         types: scope.types,
-        held: scope.held,
-        mended: begun.fault.is_some(),
+        input: Input {
+            held: scope.held,
+            is_refused: begun.fault.is_some(),
+        },
         made: begun.made_root,
     };
     let Some(rescued) = rescue(alloc, found, second, terms)? else {
@@ -172,7 +186,7 @@ fn prepare_found(
     })
 }
 
-// Prepares a rescue by what is found in the image that an input is opened as, and in the hung one.
+// Prepares a rescue by what is found in the image that is read of an input, and in the hung one.
 fn prepare_hung(
     alloc: Global,
     found: &Survey<'_>,
@@ -181,15 +195,16 @@ fn prepare_hung(
     begun: &Begun,
 ) -> Result<Prepared, Unrescued>
     ensures { (lost : List LossValue) (input : List ℕ) → IsBegunInput scope.types lost input found.now.image begun.now
-        → OnBasis found.now.image (λ a fs. Prepares (RescuesBoth scope.types scope.held lost input a (Some hung.now) fs) result) }
+        → OnBasis found.now.image (λ a fs.
+        Prepares (RescuesBoth scope.types (known_of scope.held begun.now) lost input a (Some hung.now) fs) result) }
 {
     let second = survey(alloc, hung)?;
     second.whole_marks();
     prepare_found(alloc, found, Some(&second), scope, begun)
 }
 
-// Prepares a rescue by the image that an input is opened as.
-fn prepare_opened(
+// Prepares a rescue by the image that is read of an input.
+fn prepare_read(
     alloc: Global,
     image: &[u8],
     scope: Scope,
@@ -213,15 +228,15 @@ pub fn prepare(alloc: Global, subject: Subject, types: Types) -> Result<Prepared
 {
     let mut image = subject.image;
     let begun = Begun {
-        fault: mended_fault(alloc, types, &image)?,
+        fault: fault_in(alloc, types, &image)?,
         states_type: states_type(&image),
         made_root: lacks_root(&image),
         lost: subject.lost,
     };
-    open_image(&mut image);
+    read_input(&mut image, begun.fault.is_some());
     let scope = Scope {
         types,
         held: subject.end as usize,
     };
-    prepare_opened(alloc, &image, scope, &begun)
+    prepare_read(alloc, &image, scope, &begun)
 }

@@ -6,6 +6,6 @@ use Rattle.adf_rescue.proofs.laws.one_rescue.Goals as goal
 
 pub returns : goal.returns
 returns c = record {
-  first = λ letters held image w fs s t x y. ap (first_verdicts_by letters held) (same_basis image w (grave fs) s t x y);
-  second = λ letters held a image w fs s t x y. ap (λ (b : Basis). second_verdicts_by letters held a (Some b)) (same_basis image w (grave fs) s t x y);
+  first = λ letters input image w fs s t x y. ap (first_verdicts_by letters input) (same_basis image w (grave fs) s t x y);
+  second = λ letters input a image w fs s t x y. ap (λ (b : Basis). second_verdicts_by letters input a (Some b)) (same_basis image w (grave fs) s t x y);
 }

@@ -10,4 +10,4 @@ pub returns-clause-stand : goal.returns-clause-stand
 returns-clause-stand c = sound_verdict
 
 pub returns-clause-front : goal.returns-clause-front
-returns-clause-front c = λ letters held a b. refl
+returns-clause-front c = λ letters input a b. refl

@@ -18,16 +18,16 @@ returns-clause-rescued c = λ w fs sound survey marks b is.
     let a : Basis = record { image = c.args.survey.now.image; walk = w; sound = sound } in
     let letters = letters_for c.args.terms.types c.args.survey.now.image in
     let own : c.letters_for.result ≡ letters = c.letters_for.ensures ∙ ap (letters_for c.args.terms.types) c.image.ensures in
-    let kept = c.in_ok-salvage.ensures.state letters c.args.terms.held (c.in_ok-begun.ensures.letters ∙ own) c.in_ok-begun.ensures.held
+    let kept = c.in_ok-salvage.ensures.state letters c.args.terms.input (c.in_ok-begun.ensures.letters ∙ own) c.in_ok-begun.ensures.input
     w fs sound survey marks b is in
     record {
-      nothing = c.stands_nothing.ensures w fs sound survey marks b kept;
+      nothing = c.stands_nothing.ensures a b kept;
       tree = kept.tree;
       left_out = kept.left_before;
       second_left_out = kept.left_out;
-      doubts = c.in_ok-doubts.ensures w fs survey (first_verdicts_by letters c.args.terms.held a)
-          (verdicts_count (before_first_by letters c.args.terms.held a.image) a (heads w)) kept.kept;
-      second_doubts = c.in_ok-second_doubts.ensures w fs sound survey marks b is letters c.args.terms.held kept.added;
+      doubts = c.in_ok-doubts.ensures w fs survey (first_verdicts_by letters c.args.terms.input a)
+          (verdicts_count (before_first_by letters c.args.terms.input a.image) a (heads w)) kept.kept;
+      second_doubts = c.in_ok-second_doubts.ensures w fs sound survey marks b is letters c.args.terms.input kept.added;
       lost_headers = c.in_ok-lost_headers.ensures w fs survey;
       lost_blocks = c.in_ok-lost_blocks.ensures w fs survey b is;
     }

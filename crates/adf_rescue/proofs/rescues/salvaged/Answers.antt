@@ -14,7 +14,7 @@ take-requires c =
     let some = c.some_survey.ensures image in
     let marks = c.whole_marks.ensures some.0 some.1 some.2 in
     let all = c.len-before-end.ensures some.0 some.1 some.2 in
-    let g : Ground = before_first_by c.args.begun.draft.tree.letters c.args.begun.held image in
+    let g : Ground = before_first_by c.args.begun.draft.tree.letters c.args.begun.input image in
     let a : Basis = record { image = image; walk = some.0; sound = whole_in c.args.survey.now } in
     record {
       ground = g;
@@ -31,8 +31,8 @@ loop-before-preserved c = λ w fs sound survey marks.
     let image = c.args.survey.now.image in
     let all = c.len-before-end.ensures w fs survey in
     let a : Basis = record { image = image; walk = w; sound = sound } in
-    let next = next_is (before_first_by c.args.begun.draft.tree.letters c.args.begun.held image) a c.loop-before.before (omega (arith, all)) in
-    rw verdicts_more (c.in_ok-take.ensures w fs sound survey marks c.args.begun.draft.tree.letters c.args.begun.held _
+    let next = next_is (before_first_by c.args.begun.draft.tree.letters c.args.begun.input image) a c.loop-before.before (omega (arith, all)) in
+    rw verdicts_more (c.in_ok-take.ensures w fs sound survey marks c.args.begun.draft.tree.letters c.args.begun.input _
     (c.loop-before.invariant w fs sound survey marks) next)
 
 pub returns : goal.returns

@@ -4,5 +4,5 @@ use Rattle.adf_rescue.proofs.rescues.salvaged.Given as goal
 
 abbrev pub invariant-loop-before : goal.invariant-loop-before
 invariant-loop-before l = OnBasis l.survey.image (λ a _.
-    let g : Ground = before_first_by l.fn.begun.draft.tree.letters l.fn.begun.held a.image in
+    let g : Ground = before_first_by l.fn.begun.draft.tree.letters l.fn.begun.input a.image in
     IsSalvage g (verdicts g a l.before) l.salvage)

@@ -11,19 +11,19 @@ pub take_second-requires : goal.take_second-requires
 take_second-requires c = λ w fs sound survey marks.
     let a : Basis = record { image = c.args.survey.now.image; walk = w; sound = sound } in
     let letters : Letters = c.args.begun.draft.tree.letters in
-    own_terms letters c.args.begun.held a c.in_ok-salvage.salvage
-    (c.in_ok-salvage.ensures letters c.args.begun.held c.args.survey.now.image w (first_verdicts_by letters c.args.begun.held a)
+    own_terms letters c.args.begun.input a c.in_ok-salvage.salvage
+    (c.in_ok-salvage.ensures letters c.args.begun.input c.args.survey.now.image w (first_verdicts_by letters c.args.begun.input a)
     (c.in_ok-first.ensures w fs sound survey marks))
 
 pub returns-in-None-clause-state : goal.returns-in-None-clause-state
-returns-in-None-clause-state c = λ letters held same_letters same w fs sound survey marks b is.
+returns-in-None-clause-state c = λ letters input same_letters same w fs sound survey marks b is.
     let a : Basis = record { image = c.args.survey.now.image; walk = w; sound = sound } in
     let own : Letters = c.args.begun.draft.tree.letters in
-    with_terms own letters c.args.begun.held held a b c.in_ok-salvage.salvage same_letters same
+    with_terms own letters c.args.begun.input input a b c.in_ok-salvage.salvage same_letters same
     (let none = rw c.in-None.is at is in
     elim b as (λ b. IsSecond None b
-    → IsSalvage (before_second_by own c.args.begun.held a) (second_verdicts_by own c.args.begun.held a b) c.in_ok-salvage.salvage) [
-      | None ↦ λ x. c.in_ok-salvage.ensures own c.args.begun.held c.args.survey.now.image w (first_verdicts_by own c.args.begun.held a)
+    → IsSalvage (before_second_by own c.args.begun.input a) (second_verdicts_by own c.args.begun.input a b) c.in_ok-salvage.salvage) [
+      | None ↦ λ x. c.in_ok-salvage.ensures own c.args.begun.input c.args.survey.now.image w (first_verdicts_by own c.args.begun.input a)
           (c.in_ok-first.ensures w fs sound survey marks)
       | Some l ↦ λ x. absurd x
     ] none)
@@ -34,21 +34,21 @@ returns-in-None-clause-blocks c =
     let sound : ℕ → Bool = whole_in c.args.survey.now in
     let a : Basis = record { image = c.args.survey.now.image; walk = one.0; sound = sound } in
     let letters : Letters = c.args.begun.draft.tree.letters in
-    (c.in_ok-salvage.ensures letters c.args.begun.held c.args.survey.now.image one.0 (first_verdicts_by letters c.args.begun.held a)
+    (c.in_ok-salvage.ensures letters c.args.begun.input c.args.survey.now.image one.0 (first_verdicts_by letters c.args.begun.input a)
     (c.in_ok-first.ensures one.0 one.1 sound one.2 (c.whole_marks.ensures one.0 one.1 one.2))).left
 
 pub returns-in_ok-take_second-in-Some-clause-state : goal.returns-in_ok-take_second-in-Some-clause-state
-returns-in_ok-take_second-in-Some-clause-state c = λ letters held same_letters same w fs sound survey marks b is.
+returns-in_ok-take_second-in-Some-clause-state c = λ letters input same_letters same w fs sound survey marks b is.
     let a : Basis = record { image = c.args.survey.now.image; walk = w; sound = sound } in
     let own : Letters = c.args.begun.draft.tree.letters in
     let before = c.in_ok-salvage.salvage in
-    let begun = c.in_ok-salvage.ensures own c.args.begun.held c.args.survey.now.image w (first_verdicts_by own c.args.begun.held a)
+    let begun = c.in_ok-salvage.ensures own c.args.begun.input c.args.survey.now.image w (first_verdicts_by own c.args.begun.input a)
     (c.in_ok-first.ensures w fs sound survey marks) in
-    with_terms before.draft.tree.letters letters before.held held a b c.take_second.new.salvage
-    (ap (λ (t : Tree). t.letters) begun.tree ∙ same_letters) (begun.held ∙ same)
+    with_terms before.draft.tree.letters letters before.input input a b c.take_second.new.salvage
+    (ap (λ (t : Tree). t.letters) begun.tree ∙ same_letters) (begun.input ∙ same)
     (second_some c.in-Some.second.now.image
-    (λ (x : Option Basis). IsSalvage (before_second_by before.draft.tree.letters before.held a)
-    (second_verdicts_by before.draft.tree.letters before.held a x) c.take_second.new.salvage)
+    (λ (x : Option Basis). IsSalvage (before_second_by before.draft.tree.letters before.input a)
+    (second_verdicts_by before.draft.tree.letters before.input a x) c.take_second.new.salvage)
     (c.in_ok-take_second-in-Some.ensures w fs sound survey marks) b (rw c.in-Some.is at is))
 
 pub returns-in_ok-take_second-in-Some-clause-blocks : goal.returns-in_ok-take_second-in-Some-clause-blocks

@@ -17,7 +17,7 @@ take_second-requires c =
     let all = c.len-before-end.ensures other.0 other.1 other.2 in
     let a : Basis = record { image = c.args.survey.now.image; walk = one.0; sound = whole_in c.args.survey.now } in
     let b : Basis = record { image = c.args.second.now.image; walk = other.0; sound = whole_in c.args.second.now } in
-    let g : Ground = before_second_by c.args.salvage.now.draft.tree.letters c.args.salvage.now.held a in
+    let g : Ground = before_second_by c.args.salvage.now.draft.tree.letters c.args.salvage.now.input a in
     record {
       ground = g;
       walk = other.0;
@@ -33,7 +33,7 @@ loop-before-preserved c = λ v gs before first marks w fs sound survey whole.
     let all = c.len-before-end.ensures w fs survey in
     let a : Basis = record { image = c.args.survey.now.image; walk = v; sound = before } in
     let b : Basis = record { image = c.args.second.now.image; walk = w; sound = sound } in
-    let g : Ground = before_second_by c.args.salvage.now.draft.tree.letters c.args.salvage.now.held a in
+    let g : Ground = before_second_by c.args.salvage.now.draft.tree.letters c.args.salvage.now.input a in
     let next = next_is g b c.loop-before.before (omega (arith, all)) in
     rw verdicts_more (c.in_ok-take_second.ensures w fs sound survey whole g gs _ refl first
     (c.loop-before.invariant v gs before first marks w fs sound survey whole) next)

@@ -11,6 +11,6 @@ returns c = λ g vs is.
     let new = rw (← c.place_before-place.ensures) at (is.known c.args.m) in
     on_ok_weaker c.keep_place.result (λ done.
     none_more g vs c.args.self.now _ (length vs + 1) (knows (new_path g.verdicts c.args.m)) place is refl refl refl new
-    (ap (λ r. r.draft) rest) (ap (λ r. r.kind) rest) (ap (λ r. r.held) rest) (ap (λ r. r.known) rest) (ap (λ r. r.kept) rest)
+    (ap (λ r. r.draft) rest) (ap (λ r. r.kind) rest) (ap (λ r. r.input) rest) (ap (λ r. r.known) rest) (ap (λ r. r.kept) rest)
     (ap (λ r. r.left) rest) (ap (λ r. r.left_before) rest) done.0 done.1
     (ap (λ r. r.left_out.items) rest ∙ sym (append-nil c.args.self.now.left_out.items))) c.keep_place.ensures.kept

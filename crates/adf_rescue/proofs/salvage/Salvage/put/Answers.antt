@@ -31,5 +31,5 @@ returns c = λ g vs path is room at.
     (ap (λ r. r.draft.tree) rest ∙ c.in_ok-put.ensures.tree path room)
     (ap (λ r. length r.draft.nodes) rest ∙ count)
     dirs (new_place c.keep_place.new.self.draft path c.args.meta c.args.body c.len.result c.place_if-place.result place fresh)
-    (ap (λ r. r.kind) rest) (ap (λ r. r.held) rest) (ap (λ r. r.left) rest) done.0 done.1 (ap (λ r. r.left_out.items) rest)
+    (ap (λ r. r.kind) rest) (ap (λ r. r.input) rest) (ap (λ r. r.left) rest) done.0 done.1 (ap (λ r. r.left_out.items) rest)
     (ap (λ r. r.known) rest) (ap (λ r. r.kept) rest) (ap (λ r. r.left_before) rest)) c.keep_place.ensures.kept

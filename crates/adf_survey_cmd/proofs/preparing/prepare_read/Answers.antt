@@ -4,12 +4,11 @@ use Rattle.adf_findings.specs.Parts.{finding_value}
 use Rattle.adf_findings.specs.Survey.{FindingValue, IsSurvey}
 use Rattle.adf_rescue.specs.Hung.{second_image}
 use Rattle.adf_rescue.specs.Opened.{lacks_root}
-use Rattle.adf_rescue.proofs.OpenedImages.{opened_so}
 use Rattle.adf_rescue.specs.Rescue.{Basis}
-use Rattle.adf_survey_cmd.specs.Prepared.{IsBegunInput}
+use Rattle.adf_survey_cmd.specs.Prepared.{IsBegunInput, known_of}
 use Rattle.adf_survey_cmd.specs.Rescues.{Rescues, RescuesBoth, RescuesBy}
-use Rattle.adf_survey_cmd.proofs.RescueAnswers.{found_gives, none_prepared, prepares_weaker, second_is, second_none}
-use Rattle.adf_survey_cmd.proofs.preparing.prepare_opened.Goals as goal
+use Rattle.adf_survey_cmd.proofs.RescueAnswers.{found_gives, judged_by, none_prepared, prepares_weaker, second_is, second_none}
+use Rattle.adf_survey_cmd.proofs.preparing.prepare_read.Goals as goal
 
 pub prepare_found-requires : goal.prepare_found-requires
 prepare_found-requires c = (None, tt)
@@ -27,10 +26,10 @@ returns-in-Some c = λ lost input begun.
     let hung : List ℕ = c.deref.result.now in
     let told = second_is _ _ _ hung _ (c.in_ok-hung.ensures.image w fs here) c.in-Some.is c.deref.ensures.value in
     let second : second_image (lacks_root input) v.image w fs ≡ Some hung = ap (λ (made : Bool). second_image made v.image w fs) (sym begun.made) ∙ told in
-    prepares_weaker (RescuesBoth c.args.scope.types c.args.scope.held lost input a (Some hung) fs)
+    prepares_weaker (RescuesBoth c.args.scope.types (known_of c.args.scope.held c.args.begun.now) lost input a (Some hung) fs)
     (Rescues c.args.scope.types c.args.scope.held lost input) _
-    (λ boot r by. found_gives c.args.scope.types c.args.scope.held lost input v.image w fs sound (Some hung) boot r
-    (same ∙ opened_so _ input _ _ begun.opened) here marks second by)
+    (λ boot r by. found_gives c.args.scope.types (known_of c.args.scope.held c.args.begun.now) lost input v.image w fs sound (Some hung) boot r
+    (judged_by c.args.scope.types input c.args.begun.now.fault begun.fault) (same ∙ begun.image) here marks second by)
     (c.prepare_hung.ensures lost input
     (subst (λ (image : List ℕ). IsBegunInput c.args.scope.types lost input image c.args.begun.now) (sym same) begun) w fs sound here marks)
 
@@ -46,10 +45,10 @@ returns c = λ lost input begun.
     let a : Basis = record { image = v.image; walk = w; sound = sound } in
     let told = second_none _ _ _ (c.in_ok-hung.ensures.image w fs here) c.in-None.is in
     let none : second_image (lacks_root input) v.image w fs ≡ None = ap (λ (made : Bool). second_image made v.image w fs) (sym begun.made) ∙ told in
-    prepares_weaker (RescuesBy c.args.scope.types c.args.scope.held lost input a None fs)
+    prepares_weaker (RescuesBy c.args.scope.types (known_of c.args.scope.held c.args.begun.now) lost input a None fs)
     (Rescues c.args.scope.types c.args.scope.held lost input) _
-    (λ boot r by. found_gives c.args.scope.types c.args.scope.held lost input v.image w fs sound None boot r
-    (same ∙ opened_so _ input _ _ begun.opened) here marks none (None, tt, by))
+    (λ boot r by. found_gives c.args.scope.types (known_of c.args.scope.held c.args.begun.now) lost input v.image w fs sound None boot r
+    (judged_by c.args.scope.types input c.args.begun.now.fault begun.fault) (same ∙ begun.image) here marks none (None, tt, by))
     (c.prepare_found.ensures lost input
     (subst (λ (image : List ℕ). IsBegunInput c.args.scope.types lost input image c.args.begun.now) (sym same) begun) w fs sound here marks None tt)
 
