@@ -1,7 +1,7 @@
 -- What a rescue is prepared to give, and which images are no volumes.
 -- Letters: w the walk of a survey, fs its findings; a a survey, b the second one, if there is one; r what a rescue gives; p a prepared rescue; u why
 -- there is none; lost, front losses of blocks.
-use Rattle.std.proofs.Common.{◌≡◌, ◌≢◌, ◌∙◌, ◌/◌, ℕ, Bool, List, [], ap, sym, Option, None, Some, IfSome, inr, is_some, option_map, length, subst, arith}
+use Rattle.std.proofs.Common.{◌≡◌, ◌≢◌, ◌∙◌, ◌/◌, ℕ, Bool, List, [], ap, sym, Option, None, Some, IfSome, inl, inr, is_some, option_map, length, subst, arith}
 use Rattle.std.specs.Prelude.{Result, Ok, Err}
 use Rattle.std.specs.Result.{IsErrAnd}
 use Rattle.adf_base.specs.declared.hash.Letters.{Letters}
@@ -111,7 +111,7 @@ same_told terms a b fs made r same is =
 pub same_front : (lost : List LossValue) (held n : ℕ) (input image : List ℕ) (types : Types) (b : Begun) → IsBegunInput types lost input image b
     → n ≡ blocks image → front_losses (runs_lost b.lost.items) b.states_type b.made_root held n ≡ input_losses lost held input
 same_front lost held n input image types b is size =
-    let count : n ≡ blocks input = size ∙ ap (λ (l : List ℕ). length l / 512) is.image ∙ ap (λ (k : ℕ). k / 512) (length_read (is_some b.fault) input) in
+    let count : n ≡ blocks input = size ∙ ap (λ (l : List ℕ). length l / 512) is.reads ∙ ap (λ (k : ℕ). k / 512) (length_read (is_some b.fault) input) in
     λ i. front_losses (is.runs i) (is.states i) (is.made i) held (count i)
 
 -- so all losses are

@@ -35,7 +35,7 @@ IsFault types image (Some f) = IsFirstFault types image f
 -- these losses of blocks
 pub record IsBegunInput (types : Types) (lost : List LossValue) (input image : List ℕ) (b : Begun) : Type 0 where
   pub fault : IsFault types input b.fault
-  pub image : image ≡ image_read (is_some b.fault) input
+  pub reads : image ≡ image_read (is_some b.fault) input
   pub states : b.states_type ≡ states_type input
   pub made : b.made_root ≡ lacks_root input
   pub runs : runs_lost b.lost.items ≡ lost

@@ -40,7 +40,7 @@ returns-in_err-first c = λ lost input begun w fs sound here marks b second.
 pub returns-in_default : goal.returns-in_default
 returns-in_default c = λ lost input begun w fs sound here marks b second boot.
     let nothing : w ≡ [] = grind (arith, common_steps) in
-    let first = c.in_ok-first.ensures input begun.fault (c.image.ensures ∙ begun.image) in
+    let first = c.in_ok-first.ensures input begun.fault (c.image.ensures ∙ begun.reads) in
     inl (nothing, (c.in_ok-first.first, first, ap (λ (ls : List Loss). refused c.in_ok-first.first (map loss_value ls)) c.new.ensures.items))
 
 pub returns-in_err-losses : goal.returns-in_err-losses
@@ -85,7 +85,7 @@ returns-then-rescued c = λ lost input begun w fs sound here marks b second boot
     ∙ same_losses letters known lost (runs_lost c.deref.result.now) input a b fs (told_value c.in-Some.rescued) told front in
     let stands : StandsNothingBy types known a b = gives.nothing.0 c.if-rescued.true in
     let f = c.in_ok-first-2.first in
-    let first = c.in_ok-first-2.ensures input begun.fault (c.image-then-rescued.ensures ∙ begun.image) in
+    let first = c.in_ok-first-2.ensures input begun.fault (c.image-then-rescued.ensures ∙ begun.reads) in
     inr (read, inl (stands, (f, first, ap (refused f) losses)))
 
 pub returns : goal.returns

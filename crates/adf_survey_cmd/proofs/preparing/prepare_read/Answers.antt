@@ -29,7 +29,7 @@ returns-in-Some c = λ lost input begun.
     prepares_weaker (RescuesBoth c.args.scope.types (known_of c.args.scope.held c.args.begun.now) lost input a (Some hung) fs)
     (Rescues c.args.scope.types c.args.scope.held lost input) _
     (λ boot r by. found_gives c.args.scope.types (known_of c.args.scope.held c.args.begun.now) lost input v.image w fs sound (Some hung) boot r
-    (judged_by c.args.scope.types input c.args.begun.now.fault begun.fault) (same ∙ begun.image) here marks second by)
+    (judged_by c.args.scope.types input c.args.begun.now.fault begun.fault) (same ∙ begun.reads) here marks second by)
     (c.prepare_hung.ensures lost input
     (subst (λ (image : List ℕ). IsBegunInput c.args.scope.types lost input image c.args.begun.now) (sym same) begun) w fs sound here marks)
 
@@ -48,7 +48,7 @@ returns c = λ lost input begun.
     prepares_weaker (RescuesBy c.args.scope.types (known_of c.args.scope.held c.args.begun.now) lost input a None fs)
     (Rescues c.args.scope.types c.args.scope.held lost input) _
     (λ boot r by. found_gives c.args.scope.types (known_of c.args.scope.held c.args.begun.now) lost input v.image w fs sound None boot r
-    (judged_by c.args.scope.types input c.args.begun.now.fault begun.fault) (same ∙ begun.image) here marks none (None, tt, by))
+    (judged_by c.args.scope.types input c.args.begun.now.fault begun.fault) (same ∙ begun.reads) here marks none (None, tt, by))
     (c.prepare_found.ensures lost input
     (subst (λ (image : List ℕ). IsBegunInput c.args.scope.types lost input image c.args.begun.now) (sym same) begun) w fs sound here marks None tt)
 
