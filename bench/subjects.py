@@ -72,14 +72,13 @@ class Subject:
 
     def own_data(self, n, k):
         """The block of data block k of a file, from 0 on: of OFS the one that is named, if it says so itself; of FFS the one that is found,
-        if no finding is that it is taken, and it does not say that it is an OFS one."""
+        if no finding is that it is taken."""
         survey = self.survey
         if survey.offset:
             b = self.named(n, k)
             return b if b < survey.blocks and survey.says_data_of(n, k + 1, b) else None
         b = survey.walk.get(data(n, k + 1)[0])
-        is_own = b is not None and b not in self.contested and not survey.says_data_of(n, k + 1, b)
-        return b if is_own else None
+        return None if b in self.contested else b
 
     def left(self, n):
         """The bytes of a file, with zeros where no data block is left that the input holds, and a line for each run of these."""

@@ -485,9 +485,8 @@ uint8_t adf_survey_find(const uint8_t *image, size_t length, const uint8_t *path
 
 /* Fills the table of a file that is found, by its number and the block of its header: its data blocks in order, as far as there is
  * room, with ADF_NO_BLOCK for each that is not left. On OFS a block is the file's own that says so itself, with a right sum; on FFS
- * one that nothing else asks for, and that does not say that it is an OFS one. Returns how many its size asks for, whatever the
- * room: at most length / 488 + 1, and 0 for a directory, an empty file, and a block that is no file's header. The rest of the room
- * is unchanged.
+ * one that nothing else asks for. Returns how many its size asks for, whatever the room: at most length / 488 + 1, and 0 for a
+ * directory, an empty file, and a block that is no file's header. The rest of the room is unchanged.
  *
  * With other rows than those of the image's survey it is the same table by these rows: a block of an FFS file is in it only if the
  * image has it, and its row has the node and the number. It allocates nothing. A budget, by reading the code and not proved: the work is
@@ -504,7 +503,7 @@ size_t adf_found_blocks(const uint8_t *image, size_t length, const struct adf_pa
  * The size is the one that the header says, but no more than the image has. With any table the same is read: at most these bytes,
  * of the data areas of the blocks that the table names, where a number that the image does not have stands for a block that is
  * not found. What is behind a table that is cut is neither read nor lost. On an image that adf_check accepts the bytes are those
- * that adf_read gives, and none are lost, but for an FFS data block that says that it is an OFS one of its file.
+ * that adf_read gives, and none are lost.
  *
  * It allocates nothing. A budget, by reading the code and not proved: the work is proportional to the bytes that are copied, and
  * to the data blocks that are lost behind them.

@@ -1,8 +1,8 @@
 -- Blocks that more than one part asks for, and data blocks that say whose they are.
 -- Letters: w the walk of a survey, s its course, fs its findings, f one of them; v a result; r, q roles; a, b, c blocks; at the block of a cause;
 -- n a file's node, h the block of its header; k the number of a data block; xs, ys demands; p, x, y, z tests.
-use Rattle.std.specs.Prelude.{Bool, true, false, cond, ◌==◌, ◌&&◌, ◌||◌, Some, None}
-use Rattle.std.proofs.Common.{◌≡◌, ℕ, zero, suc, List, [], ◌∷◌, ◌++◌, length, ◌+◌, ◌*◌, ◌<◌, inl, inr, refl, sym, subst, ap, ◌∙◌, arith}
+use Rattle.std.specs.Prelude.{Bool, true, false, cond, ◌==◌, ◌&&◌, Some}
+use Rattle.std.proofs.Common.{◌≡◌, ℕ, suc, List, [], ◌∷◌, ◌++◌, length, ◌*◌, ◌<◌, inl, inr, refl, sym, subst, ap, ◌∙◌, arith}
 use Rattle.std.proofs.lemmas.Bool.{and_parts, cases_Bool, cases_lt, eq-eqb, eqb-true, or_cases}
 use Rattle.std.proofs.lemmas.Grind.{common_steps}
 use Rattle.adf_names.specs.declared.kind.Kind.{Kind, TheVariants.Ofs, TheVariants.Ffs}
@@ -154,7 +154,7 @@ module _ (image : List ℕ) where
   contested_by (f ∷ fs) b e = elim (or_cases (is_taken f.cause && (f.block == b)) (is_contested fs b) e) [
     | inl t ↦
         let x = and_parts (is_taken f.cause) (f.block == b) t in (f, inl refl, taken_is f.cause x.0, eqb-true f.block b x.1)
-    | inr t ↦ let y = contested_by fs b t in (y.0, inr y.1, y.2, y.3)
+    | inr t ↦ let (g, found, taken, named) = contested_by fs b t in (g, inr found, taken, named)
   ]
 
   -- a data block that no other part asks for is not contested
@@ -163,10 +163,10 @@ module _ (image : List ℕ) where
       → is_contested (s.findings ++ bits) c ≡ false
   not_contested {s = s} v done bits tells n k c has alone = elim (cases_Bool (is_contested (s.findings ++ bits) c)) [
     | inl t ↦
-        let x = contested_by (s.findings ++ bits) c t in
-        elim (in_cases s.findings bits x.0 x.1) [
-          | inl i ↦ absurd (not_alone image v done n k c has (ap (owns s.skipped) (sym x.3) ∙ taken_skipped v x.0 i x.2) alone)
-          | inr i ↦ absurd (bits_untaken tells x.0 i x.2)
+        let (f, found, taken, named) = contested_by (s.findings ++ bits) c t in
+        elim (in_cases s.findings bits f found) [
+          | inl i ↦ absurd (not_alone image v done n k c has (ap (owns s.skipped) (sym named) ∙ taken_skipped v f i taken) alone)
+          | inr i ↦ absurd (bits_untaken tells f i taken)
         ]
     | inr e ↦ e
   ]

@@ -114,16 +114,15 @@ left_inside image w fs n h (read {s = s} {bits = bits} v d t) file k b e = go (k
     said true c is same = let e : c ≡ b = cc in subst (λ c. c < blocks image) e (said_inside image h (k + 1) c (course_size image v).0 is)
     said false c is same = cc
 
-    found : (o : Option ℕ) → data_found s.walk n k ≡ o → own_data Ffs image h k (unless_contested all o) ≡ Some b → b < blocks image
+    found : (o : Option ℕ) → data_found s.walk n k ≡ o → unless_contested all o ≡ Some b → b < blocks image
     found None is same = cc
     found (Some c) is same =
-        let e : c ≡ b = kept_one (is_contested all c) (says_data_of image h (k + 1) c) c refl same in
+        let e : c ≡ b = kept_one (is_contested all c) c same in
         subst (λ c. c < blocks image) e (found_named image s.walk all (read v d t) n h file k c (has_data s.walk n (suc k) c is)).1
       where
-        kept_one : (p q : Bool) (c : ℕ) → says_data_of image h (k + 1) c ≡ q → own_data Ffs image h k (cond p None (Some c)) ≡ Some b → c ≡ b
-        kept_one true q c is same = cc
-        kept_one false true c is same = let clash : None ≡ Some b = ap (λ q. cond q None (Some c)) (sym is) ∙ same in cc
-        kept_one false false c is same = let e : Some c ≡ Some b = ap (λ q. cond q None (Some c)) (sym is) ∙ same in cc
+        kept_one : (p : Bool) (c : ℕ) → cond p None (Some c) ≡ Some b → c ≡ b
+        kept_one true c same = cc
+        kept_one false c same = cc
 
     go : (kind : Kind) → own_data kind image h k (data_alone s.walk all n k) ≡ Some b → b < blocks image
     go Ofs same = said (says_data_of image h (k + 1) (named_from image h k)) (named_from image h k) refl same

@@ -227,9 +227,9 @@ module _ (image : List ℕ) (letters : Letters) where
 
     pub none_found : (w : Walk) → IsSurvey image w past → FitsBy letters image (tree_in_by letters image w) (layout_in w)
     none_found w v =
-        let k : Shows w [] = shows_none w v in
-        let b = all_split (boot_demands_by letters image) (root_demands image (root_of image)) k.0 in
-        fits image w k.1 k.2 b.0 b.1 k.3
+        let (begun, walk, whole, bits) = shows_none w v in
+        let (boot, root) = all_split (boot_demands_by letters image) (root_demands image (root_of image)) begun in
+        fits image w walk whole boot root bits
 
     -- where a tree and a layout fit, a survey has no other finding
     pub finds_none : (t : Tree) (l : Layout) (w : Walk) (fs : List FindingValue) → FitsBy letters image t l

@@ -29,9 +29,9 @@ module _ (image : List ℕ) (f : Progress) (x : Reference) (part : Part) (facts 
       (context : facts.context ≡ x.due.context) where
     judged_in : (s : Course) → Holds image f (position_of (role_of x.due.part)) s → IsNextReference image s x → role_of part ≡ role_asked s x.due.part
         → Judged (role_of part) (demands_in image s.walk (role_of part) x.holder x.block) (by_name (new_in image s.walk part x.block))
-    judged_in s h n is =
+    judged_in s h (i, next, word, said) is =
         judged image s.walk part x.holder x.block facts (new_in image s.walk part x.block)
-        (known (record { holds = h; asked = n.1.asked; said = n.3 }) facts is enough absent context) (new_is image f.found s h.stands part x.block)
+        (known (record { holds = h; asked = next.asked; said = said }) facts is enough absent context) (new_is image f.found s h.stands part x.block)
 
     -- another cause than that of the name
     pub judged_else : (j : Judgement) → judgement_value j ≡ by_name true → (judgement_value j ≡ clean → ⊥) → IsJudged image f x part j
@@ -48,8 +48,9 @@ module _ (image : List ℕ) (f : Progress) (x : Reference) (part : Part) (facts 
         → new ≡ new_in image w part x.block)
         → (j : Judgement) → cond new clean (reported x.block SameName) ≡ judgement_value j → IsJudged image f x part j
     judged_named new e tells j is_j = λ s h n is.
+        let (i, next, word, said) = n in
         let form = form_of image part x.block facts.context in
-        let named : IsNamed image f x.due x.holder n.0 s = record { holds = h; asked = n.1.asked; said = n.3 } in
+        let named : IsNamed image f x.due x.holder i s = record { holds = h; asked = next.asked; said = said } in
         let valid = valid_name image part x.block facts.context
         (no_cause x.holder x.block facts.is_enough (in_range image x.block) facts.is_absent (keeps image part x.block facts)
         (first_cause form) (sym e)) in

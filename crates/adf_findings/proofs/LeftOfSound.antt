@@ -1,7 +1,7 @@
 -- What is left of a sound file is its content.
 -- Letters: w the walk of a survey, fs its findings; p, q, r, s, t tests; c whether the grave findings alone count; n a file's node, h the block of its
 -- header; k, j numbers of data blocks, from 0; b a block, bs blocks; found the block of each data block, if any.
-use Rattle.std.specs.Prelude.{◌&&◌, ◌==◌, Bool, true, false, cond, None, Option, Some}
+use Rattle.std.specs.Prelude.{◌&&◌, Bool, true, false, cond, None, Option, Some}
 use Rattle.std.proofs.Common.{◌≡◌, ℕ, suc, zero, List, [], ◌∷◌, ◌++◌, length, ◌+◌, ◌-◌, ◌*◌, ◌<◌, ◌≤◌, refl, sym, ap, subst, add-one, ◌∙◌, arith}
 use Rattle.std.specs.List.{concat}
 use Rattle.std.proofs.lemmas.List.{append_assoc, append-nil}
@@ -21,9 +21,9 @@ use Rattle.adf_volume.proofs.Lists.{at_some}
 use Rattle.adf_findings.specs.Files.{IsSoundFile, counting, file_content, file_in, named_from}
 use Rattle.adf_findings.specs.Remains.{below, blocks_stated, bytes_in, bytes_left, data_alone, data_found, data_left, gaps_left, gaps_of}
 use Rattle.adf_findings.specs.Remains.{left_below, left_of, own_data, size_stated, unless_contested, with_lost}
-use Rattle.adf_findings.specs.Concerned.{is_contested}
 use Rattle.adf_findings.specs.Sound.{FileHolds, IsSound, says_data_of}
 use Rattle.adf_findings.specs.Survey.{BitsTell, Course, FindingValue, IsCourse, IsDone, IsSurvey, IsSurvey.read, IsSurvey.unread}
+use Rattle.adf_findings.proofs.AllSound.{all_sound}
 use Rattle.adf_findings.proofs.RoleBlocks.{taken_at}
 use Rattle.adf_findings.proofs.OneSurvey.{gathered}
 use Rattle.adf_findings.proofs.OwnedWalks.{few_parts}
@@ -93,9 +93,7 @@ data_is_left image {s = s} v d bits t gs n h sound file holds k b has = go (kind
     go Ffs e =
         let found : data_found s.walk n k ≡ Some b = is_found image v n k b has in
         let alone = not_contested image v d bits t n (suc k) b has (sound.alone e (suc k) b has) in
-        ap (λ o. own_data Ffs image h k (unless_contested (s.findings ++ bits) o)) found
-        ∙ (ap (λ p. own_data Ffs image h k (cond p None (Some b))) alone
-        ∙ ((λ i. cond (says_data_of image h (add-one k i) b) None (Some b)) ∙ ap (λ p. cond p None (Some b)) (sound.own e (suc k) b has)))
+        ap (unless_contested (s.findings ++ bits)) found ∙ ap (λ p. cond p None (Some b)) alone
 
 pub sound_left : (image : List ℕ) (w : Walk) (fs : List FindingValue) (c : Bool) (n : ℕ) → IsSurvey image w fs
     → IsSoundFile image w (counting c fs) n → (k b : ℕ) → Has w (Data n (suc k)) b → data_left image w fs n (node_block w n) k ≡ Some b
@@ -105,6 +103,23 @@ sound_left image w fs c n (read {s = s} {bits = bits} v d t) sound k b has =
     let file : FileAt image s.walk n h = record { header = sound.0.header; type = sound.1 } in
     data_is_left image v d bits t (counting c (s.findings ++ bits)) n h sound.0 file
     (whole_file image s.walk (s.findings ++ bits) c n h (read v d t) sound.0 file) k b has
+
+-- where a survey has no finding, each data block in the walk is left
+pub clean_left : (image : List ℕ) (w : Walk) (fs : List FindingValue) (n h : ℕ) → IsSurvey image w fs → fs ≡ [] → FileAt image w n h
+    → (k b : ℕ) → Has w (Data n (suc k)) b → data_left image w fs n h k ≡ Some b
+clean_left image w fs n h (unread f) none file k b has = absurd has
+clean_left image w fs n h (read {s = s} {bits = bits} v d t) none file k b has = go (kind_of image) refl
+  where
+    survey : IsSurvey image s.walk (s.findings ++ bits)
+    survey = read v d t
+
+    go : (kind : Kind) → kind_of image ≡ kind → own_data kind image h k (data_alone s.walk (s.findings ++ bits) n k) ≡ Some b
+    go Ofs e =
+        let sound = all_sound image s.walk (s.findings ++ bits) n h survey none (λ ffs. let clash : Ofs ≡ Ffs = sym e ∙ ffs in cc) file.header in
+        let holds = whole_file image s.walk (s.findings ++ bits) false n h survey sound file in
+        ap (λ kind. own_data kind image h k (data_alone s.walk (s.findings ++ bits) n k)) (sym e)
+        ∙ data_is_left image v d bits t (s.findings ++ bits) n h sound file holds k b has
+    go Ffs e = ap (λ fs. unless_contested fs (data_found s.walk n k)) none ∙ ap (unless_contested []) (is_found image v n k b has)
 
 -- what is left of a sound file is its content, and nothing is made up
 pub left_of_sound : (image : List ℕ) (w : Walk) (fs : List FindingValue) (c : Bool) (n end : ℕ) → IsSurvey image w fs

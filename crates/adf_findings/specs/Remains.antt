@@ -33,11 +33,10 @@ abbrev pub data_alone : Walk → List FindingValue → ℕ → ℕ → Option �
 data_alone w fs n k = unless_contested fs (data_found w n k)
 
 -- Data block k of a file, by its kind and by the block that is found, if any.
--- An OFS one is the block that the table names, if it says so itself; an FFS one is the block found, unless it says that it is an OFS one.
+-- An OFS one is the block that the table names, if it says so itself; an FFS one is the block found.
 abbrev pub own_data : Kind → List ℕ → ℕ → ℕ → Option ℕ → Option ℕ
 own_data Ofs image h k found = let b = named_from image h k in cond (says_data_of image h (k + 1) b) (Some b) None
-own_data Ffs image h k None = None
-own_data Ffs image h k (Some b) = cond (says_data_of image h (k + 1) b) None (Some b)
+own_data Ffs image h k found = found
 
 -- the block of data block k of file n that is left
 abbrev pub data_left : List ℕ → Walk → List FindingValue → ℕ → ℕ → ℕ → Option ℕ

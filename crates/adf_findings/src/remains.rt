@@ -180,11 +180,10 @@ impl<'i> Survey<'i> {
             (data_at image.now self.now n k b) }
         ensures inside { IfSome result (λ b. b < blocks image.now) }
     {
-        let is_said = image.says_data_of(number_at(&self.nodes, n.0), k + 1, b);
         match image.kind() {
-            Kind::Ofs if is_said => Some(b),
-            Kind::Ffs if !is_said => self.data_at(image, n, k, b),
-            _ => None,
+            Kind::Ofs if image.says_data_of(number_at(&self.nodes, n.0), k + 1, b) => Some(b),
+            Kind::Ofs => None,
+            Kind::Ffs => self.data_at(image, n, k, b),
         }
     }
 
@@ -224,8 +223,8 @@ impl<'i> Survey<'i> {
 
     /// What is left of a file, whether sound or not: the bytes of each data block before block `end` that is its own, and zeros
     /// for the others; as many as its header says, but no more than the image has. On OFS a block is its own that says so and
-    /// has a right sum; on FFS one that no other part asks for, and that does not say that it is an OFS one. `None` for what is
-    /// no file. `NoMemory` if an allocation fails; never if there is no file, or it is empty.
+    /// has a right sum; on FFS one that no other part asks for. `None` for what is no file. `NoMemory` if an allocation fails;
+    /// never if there is no file, or it is empty.
     #[tactic(auto, using(crate::proofs::Keeping::tells_each))]
     pub fn remains(&self, alloc: Global, n: Node, end: u32) -> Result<Option<Remains>, NoMemory>
         ensures some { OnSurvey self.now.image (λ w _.

@@ -5,9 +5,10 @@ use Rattle.std.specs.Prelude.{◌==◌, min, Some}
 use Rattle.std.specs.List.{range_with_len}
 use Rattle.std.specs.Option.{unwrap_or}
 use Rattle.std.proofs.Common.{◌≡◌, ℕ, zero, suc, List, [], ◌∷◌, ◌+◌, ◌-◌, ◌*◌, ◌/◌, ◌≤◌, ◌<◌, length, take, drop, map, refl, sym, ap, subst, ◌∙◌, arith}
-use Rattle.std.proofs.Common.{false, take_all}
+use Rattle.std.proofs.Common.{take_all}
 use Rattle.std.proofs.lemmas.Bool.{cond_above, cond_below, eq-eqb}
 use Rattle.std.proofs.Math.Nat.{min-eq_left}
+use Rattle.adf_base.specs.Hash.{slot_by}
 use Rattle.adf_base.specs.declared.hash.Letters.{Letters, TheVariants.Ascii}
 use Rattle.adf_blocks.specs.declared.layout.TheConstants.{SECONDARY_TYPE, SIZE, ST_FILE}
 use Rattle.adf_blocks.specs.Sizes.{blocks, chunk, count}
@@ -16,10 +17,8 @@ use Rattle.adf_build.proofs.FreeBlocks.{size_small}
 use Rattle.adf_walk.specs.OwnerClass.{class_number}
 use Rattle.adf_walk.specs.declared.owner_class.OwnerClass.TheVariants as class
 use Rattle.adf_findings.specs.Remains.{data_left, size_stated}
-use Rattle.adf_findings.specs.Sound.{IsOfItsKind}
 use Rattle.adf_findings.specs.Survey.{FindingValue, IsSurvey}
-use Rattle.adf_findings.proofs.LeftOfSound.{sound_left}
-use Rattle.adf_findings.proofs.TreeLookups.{files_as_in_tree}
+use Rattle.adf_findings.proofs.LeftOfSound.{clean_left}
 use Rattle.adf_findings.proofs.PlainFindings.{finds_none, shown}
 use Rattle.adf_names.specs.declared.kind.Kind.{Kind}
 use Rattle.adf_rescue.proofs.FitBlocks.{fit_room}
@@ -31,8 +30,8 @@ use Rattle.adf_volume.specs.Image.{kind_of, word_in}
 use Rattle.adf_volume.specs.Layout.{EntryAt, Layout, at_node, datas_of, head_at}
 use Rattle.adf_volume.specs.LayoutRoles.{LayoutHas, owner_of}
 use Rattle.adf_volume.specs.Lists.{At}
-use Rattle.adf_volume.specs.Walk.{Role, Has, node_block, Walk, Role.Data, Role.Head}
-use Rattle.adf_volume.proofs.Chains.{entry_is_at}
+use Rattle.adf_volume.specs.Walk.{Role, Has, HeadAt, Walk, Role.Data, Role.Head}
+use Rattle.adf_volume.proofs.Chains.{place_at}
 use Rattle.adf_volume.proofs.FitWalks.{one_fit}
 use Rattle.adf_volume.proofs.LayoutRoles.{owned_part, part_owned, part_range}
 use Rattle.adf_volume.proofs.WalkAgreement.{agreement}
@@ -82,7 +81,7 @@ module _ (image : List ℕ) (w : Walk) (fs : List FindingValue) (survey : IsSurv
   is_part : (t : Tree) (l : Layout) → Fits image t l → (r : Role) (b : ℕ) → Has w r b → LayoutHas image t l r b
   is_part t l fit r b h = agreement image t l fit w r b (shown image (clean t l fit)).1 h
 
-  module _ (t : Tree) (l : Layout) (fit : Fits image t l) (own : IsOfItsKind image w) (i : ℕ) (e : Entry) (bytes : List ℕ)
+  module _ (t : Tree) (l : Layout) (fit : Fits image t l) (i : ℕ) (e : Entry) (bytes : List ℕ)
       (at : At t.entries i e) (body : e.body ≡ File bytes) where
     abbrev n : ℕ
     n = suc i
@@ -92,16 +91,6 @@ module _ (image : List ℕ) (w : Walk) (fs : List FindingValue) (survey : IsSurv
 
     abbrev ds : List ℕ
     ds = datas_of l n
-
-    -- a data block of the layout is left
-    data_there : (k b : ℕ) → At ds k b → data_left image w fs n head k ≡ Some b
-    data_there k b here =
-        let sound = files_as_in_tree image t l w fs fit survey own n e bytes ((entry_is_at t n e).0 at) body in
-        let header = sound.0.0.header in
-        let same : head ≡ node_block w n =
-        (is_part t l fit (Head n header.parent header.slot header.place) (node_block w n) header.has).1 in
-        subst (λ h. data_left image w fs n h k ≡ Some b) (sym same)
-        (sound_left image w fs false n survey sound.0 k b (has_part t l fit (Data n (suc k)) b here))
 
     many : length ds ≡ count (kind_of image) (length bytes)
     many = (fit.files n e bytes at body).datas ∙ ap (λ k. count k (length bytes)) fit.kind
@@ -120,6 +109,23 @@ module _ (image : List ℕ) (w : Walk) (fs : List FindingValue) (survey : IsSurv
         is_type : (b : Body) → b ≡ File bytes → BodyFits image t.kind l n head b → word_in image head SECONDARY_TYPE ≡ ST_FILE
         is_type Dir e f = cc
         is_type (File xs) e f = f.0
+
+    -- the survey has its header
+    header : HeadAt w n head
+    header =
+        let place = place_at Ascii t n e at in
+        let slot : ℕ = slot_by Ascii e.name in record {
+          parent = e.parent;
+          slot = slot;
+          place = place.0;
+          has = has_part t l fit (Head n e.parent slot place.0) head (place.1, refl);
+        }
+
+    -- a data block of the layout is left
+    data_there : (k b : ℕ) → At ds k b → data_left image w fs n head k ≡ Some b
+    data_there k b here =
+        clean_left image w fs n head survey (finds_none image t l w fs fit survey) (record { header = header; type = type }) k b
+        (has_part t l fit (Data n (suc k)) b here)
 
     size_is : file_size image head ≡ length bytes
     size_is =
@@ -175,23 +181,20 @@ module _ (image : List ℕ) (w : Walk) (fs : List FindingValue) (survey : IsSurv
         ∙ none_behind (kind_of image) (file_size image head) from
 
   -- the same of an entry by its node
-  pub blocks_as_laid : (t : Tree) (l : Layout) → Fits image t l → IsOfItsKind image w → (n : ℕ) (e : Entry) (bytes : List ℕ)
-      → EntryAt t n e → e.body ≡ File bytes
+  pub blocks_as_laid : (t : Tree) (l : Layout) → Fits image t l → (n : ℕ) (e : Entry) (bytes : List ℕ) → EntryAt t n e → e.body ≡ File bytes
       → found_blocks image w fs n (at_node image l n) ≡ datas_of l n
-  blocks_as_laid t l fit own zero e bytes at body = absurd at
-  blocks_as_laid t l fit own (suc i) e bytes at body = blocks_found t l fit own i e bytes at body
+  blocks_as_laid t l fit zero e bytes at body = absurd at
+  blocks_as_laid t l fit (suc i) e bytes at body = blocks_found t l fit i e bytes at body
 
-  pub bytes_as_laid : (t : Tree) (l : Layout) → Fits image t l → IsOfItsKind image w → (n : ℕ) (e : Entry) (bytes : List ℕ)
-      → EntryAt t n e → e.body ≡ File bytes
+  pub bytes_as_laid : (t : Tree) (l : Layout) → Fits image t l → (n : ℕ) (e : Entry) (bytes : List ℕ) → EntryAt t n e → e.body ≡ File bytes
       → (from : ℕ) → found_from image (at_node image l n) (found_blocks image w fs n (at_node image l n)) from ≡ drop from (bytes_at t n)
-  bytes_as_laid t l fit own zero e bytes at body from = absurd at
-  bytes_as_laid t l fit own (suc i) e bytes at body from = bytes_found t l fit own i e bytes at body from
+  bytes_as_laid t l fit zero e bytes at body from = absurd at
+  bytes_as_laid t l fit (suc i) e bytes at body from = bytes_found t l fit i e bytes at body from
 
-  pub none_lost_of : (t : Tree) (l : Layout) → Fits image t l → IsOfItsKind image w → (n : ℕ) (e : Entry) (bytes : List ℕ)
-      → EntryAt t n e → e.body ≡ File bytes
+  pub none_lost_of : (t : Tree) (l : Layout) → Fits image t l → (n : ℕ) (e : Entry) (bytes : List ℕ) → EntryAt t n e → e.body ≡ File bytes
       → (from : ℕ) → lost_from image (at_node image l n) (found_blocks image w fs n (at_node image l n)) from ≡ 0
-  none_lost_of t l fit own zero e bytes at body from = absurd at
-  none_lost_of t l fit own (suc i) e bytes at body from = none_lost t l fit own i e bytes at body from
+  none_lost_of t l fit zero e bytes at body from = absurd at
+  none_lost_of t l fit (suc i) e bytes at body from = none_lost t l fit i e bytes at body from
 
   -- what fits by other letters fits by these
   as_plain : (t : Tree) (l : Layout) → Fits image t l → (letters : Letters) (u : Tree) (m : Layout) → FitsBy letters image u m → Fits image u m

@@ -100,10 +100,10 @@ fn own_block(image: &[u8], header: u32, k: u32, named: u32, found: Option<u32>) 
     requires named { named ≡ named_from image.now header k }
     ensures { result ≡ unwrap_or (own_data (kind_in image.now) image.now header k found) NO_BLOCK }
 {
-    match (kind_of(image), found) {
-        (Kind::Ofs, _) if says_data_of(image, header, k + 1, named) => named,
-        (Kind::Ffs, Some(b)) if !says_data_of(image, header, k + 1, b) => b,
-        _ => NO_BLOCK,
+    match kind_of(image) {
+        Kind::Ofs if says_data_of(image, header, k + 1, named) => named,
+        Kind::Ofs => NO_BLOCK,
+        Kind::Ffs => found.unwrap_or(NO_BLOCK),
     }
 }
 

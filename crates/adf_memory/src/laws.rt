@@ -9,7 +9,6 @@ ghost use Rattle.adf_volume.specs.Layout.{EntryAt, Layout, at_node, datas_of};
 ghost use Rattle.adf_volume.specs.Lists.{In};
 ghost use Rattle.adf_volume.specs.Walk.{FileAt, Walk};
 ghost use Rattle.adf_findings.specs.declared.remains.Gap.{Gap};
-ghost use Rattle.adf_findings.specs.Sound.{IsOfItsKind};
 ghost use Rattle.adf_findings.specs.Survey.{FindingValue, IsSurvey};
 ghost use Rattle.adf_memory.specs.FoundFiles.{found_blocks, found_from, lost_from};
 ghost use Rattle.adf_memory.specs.FoundGaps.{IsInGap, gaps_in, left_in, up_to_gap};
@@ -33,21 +32,21 @@ pub fn found_files_are_what_is_left()
         × (at + lost_from image h (found_blocks image w fs n h) at ≡ g.last + 1) }
 {}
 
-/// Of a volume, where no data block of FFS says that it is an OFS one, the table of a file has its data blocks, its bytes
-/// are read, and none are lost; and the role of a block by the survey is the number of its owner.
+/// Of a volume, the table of a file has its data blocks, its bytes are read, and none are lost; and the role of a block by the
+/// survey is the number of its owner.
 pub fn found_files_are_those_of_the_tree()
     ensures blocks { (image : List ℕ) (t : Tree) (l : Layout) (w : Walk) (fs : List FindingValue)
         (n : ℕ) (e : Entry) (bytes : List ℕ) → Fits image t l → IsSurvey image w fs
-        → IsOfItsKind image w → EntryAt t n e → e.body ≡ File bytes
+        → EntryAt t n e → e.body ≡ File bytes
         → found_blocks image w fs n (at_node image l n) ≡ datas_of l n }
     ensures bytes { (image : List ℕ) (t : Tree) (l : Layout) (w : Walk) (fs : List FindingValue)
         (n at : ℕ) (e : Entry) (bytes : List ℕ) → Fits image t l → IsSurvey image w fs
-        → IsOfItsKind image w → EntryAt t n e → e.body ≡ File bytes
+        → EntryAt t n e → e.body ≡ File bytes
         → found_from image (at_node image l n) (found_blocks image w fs n (at_node image l n)) at
         ≡ drop at (bytes_at t n) }
     ensures none_lost { (image : List ℕ) (t : Tree) (l : Layout) (w : Walk) (fs : List FindingValue)
         (n at : ℕ) (e : Entry) (bytes : List ℕ) → Fits image t l → IsSurvey image w fs
-        → IsOfItsKind image w → EntryAt t n e → e.body ≡ File bytes
+        → EntryAt t n e → e.body ≡ File bytes
         → lost_from image (at_node image l n) (found_blocks image w fs n (at_node image l n)) at ≡ 0 }
     ensures roles { (image : List ℕ) (t : Tree) (l : Layout) (w : Walk) (fs : List FindingValue)
         (b r : ℕ) → Fits image t l → IsSurvey image w fs → IsFoundRole w b r → IsOwnerNumber image b r }
