@@ -1,6 +1,7 @@
 //! Rescues: the volume of all that stands on an image, and what is left out.
 #![tactic(auto)]
 
+mod broken;
 mod doubts;
 mod hung;
 mod image;
