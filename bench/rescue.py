@@ -395,7 +395,7 @@ class Rescue:
         return "found again" if self.first.is_free(h) == 0 else "perhaps deleted"
 
     def lost_headers(self):
-        """A row for each directory of which a chain is broken, and for a root that was made."""
+        """A row for each directory with a broken chain, and for a root that was made."""
         places = [0] * self.root_made + broken_chains(self.survey)
         return [row_of(self.survey, "headers", p) for k, p in enumerate(places) if places[k + 1 : k + 2] != [p]]
 

@@ -35,7 +35,7 @@ page_of b = (b - 2) / PAGE_BITS
 not_zero : (n : ℕ) → n ≢ 0 → not (n == 0) ≡ true
 not_zero n ne = ap not (ne_eqb n 0 ne)
 
-is_zero : (n : ℕ) → not (n == 0) ≡ true → n ≢ 0
+pub is_zero : (n : ℕ) → not (n == 0) ≡ true → n ≢ 0
 is_zero n e z = let clash : not (n == 0) ≡ false = ap not (eq-eqb n 0 z) in cc
 
 told_some : (image : List ℕ) (w : Walk) (b page : ℕ) (r : Option Bool) → ((a : ℕ) → Has w (Page (page_of b)) a → a ≡ page)

@@ -1,4 +1,4 @@
--- The directories of a survey of which a chain is broken.
+-- The directories of a survey with a broken chain.
 -- Letters: w the walk of the survey, c the cause of a finding, f a finding; n, p nodes.
 use Rattle.std.specs.Prelude.{ℕ, Bool, true, false, cond, Option, Some, None}
 use Rattle.adf_blocks.specs.declared.cause.Cause.{Cause, TheVariants.WrongSlot}
@@ -13,8 +13,8 @@ abbrev pub is_stray : Cause → Bool
 is_stray WrongSlot = true
 is_stray _ = false
 
--- the directory of which a chain is broken, by a cause and what it concerns: the one in which a header was skipped, or in which one hangs in
--- another slot than that of its name
+-- the directory with a broken chain, by a cause and what it concerns: a header in it was skipped, or hangs in another slot than that of its
+-- name
 abbrev pub broken_with : Walk → Cause → Option Concern → Option ℕ
 broken_with w c (Some (Within p)) = Some p
 broken_with w c (Some (Entry n)) = cond (is_stray c) (Some (parent_node w n)) None

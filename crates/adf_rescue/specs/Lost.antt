@@ -106,7 +106,7 @@ directory_by image w p n = cond (is_directory_header image w n p) (Some n) None
 unfoldable pub directory_at : List ℕ → Walk → ℕ → Option ℕ
 directory_at image w p = cond (p == root_of image) (Some 0) (option_and_then (directory_by image w p) (owning_entry w p))
 
--- the directory of which a chain is broken, if there is one, is n
+-- the directory with a broken chain, if there is one, is n
 abbrev pub is_break_in : ℕ → Option ℕ → Bool
 is_break_in n (Some p) = p == n
 is_break_in n None = false

@@ -1,4 +1,4 @@
-// The directories of a survey of which a chain is broken.
+// The directories of a survey with a broken chain.
 
 ghost use Rattle.std.specs.Prelude.{◌≡◌, slice_get};
 ghost use Rattle.std.specs.Option.{option_and_then};
@@ -16,7 +16,7 @@ fn is_stray(cause: Cause) -> bool
     matches!(cause, Cause::WrongSlot)
 }
 
-// The directory of which a chain is broken, by a cause and what it concerns.
+// The directory with a broken chain, by a cause and what it concerns.
 fn broken_with(survey: &Survey<'_>, cause: Cause, concern: Option<Concern>) -> Option<Node>
     ensures { OnSurvey survey.now.image (λ w _. result ≡ broken_with w cause concern) }
 {
@@ -27,8 +27,8 @@ fn broken_with(survey: &Survey<'_>, cause: Cause, concern: Option<Concern>) -> O
     }
 }
 
-/// The directory of which finding `k` tells that a chain is broken: a header in it was skipped, or hangs in another slot than
-/// that of its name. `None` past the last finding.
+/// The directory with a broken chain, by finding `k`: a header in it was skipped, or hangs in another slot than that of its
+/// name. `None` for other findings, and past the last.
 pub fn broken_by(survey: &Survey<'_>, k: usize) -> Option<Node>
     ensures { OnSurvey survey.now.image (λ w fs. result ≡ option_and_then (broken_by w) (slice_get fs k)) }
 {

@@ -238,7 +238,7 @@ pub fn mark(marks: &mut Vec<bool>, n: usize, is: bool)
     }
 }
 
-// Marks the directory of which finding `k` tells that a chain is broken.
+// Marks the directory with a broken chain, by finding `k`.
 fn mark_broken(survey: &Survey<'_>, marks: &mut Vec<bool>, k: usize)
     ensures marks { OnSurvey survey.now.image (λ w fs. (m : ℕ) → m < length marks.old.items → has_mark marks.new.items m
         ≡ (has_mark marks.old.items m || is_break_in m (option_and_then (broken_by w) (slice_get fs k)))) }
@@ -249,7 +249,7 @@ fn mark_broken(survey: &Survey<'_>, marks: &mut Vec<bool>, k: usize)
     }
 }
 
-// The marks of the directories of which a chain is broken.
+// The marks of the directories with a broken chain.
 fn broken(alloc: Global, survey: &Survey<'_>) -> Result<Vec<bool>, NoMemory>
     ensures { OnSurvey survey.now.image (λ w fs.
         IfOk result (λ v. AreBroken w fs (length fs) v.items)) }
