@@ -211,13 +211,19 @@ def pruned(image):
 # Lost headers
 
 
+def broken_chains(survey):
+    """The directory of each finding that a chain of it is broken: a header was skipped, or hangs in another slot than that of its name."""
+    heads = [(role, cause) for role, _, cause in survey.findings if role and role[1] == "head"]
+    return [role[2] for role, cause in heads if survey.node_of(role) is None or cause == "wrong slot"]
+
+
 class Lost:
     """The headers of a survey that nothing leads to, and where they are hung."""
 
     def __init__(self, survey, root_made):
         self.sv, self.image, self.blocks, self.root_made = survey, survey.image, survey.blocks, root_made
         self.heads = {survey.block_of(n): n for n in range(len(survey.nodes))}
-        self.skipping = {role[2] for role, _, _ in survey.findings if role and role[1] == "head" and survey.node_of(role) is None}
+        self.broken = set(broken_chains(survey))
         self.is_valid = survey.word(survey.root, 78) == 2**32 - 1
         self.trusted = self.is_valid and not any(self.is_free(b) for b, n in self.heads.items() if n)
         self.may_lose = any(map(self.is_open, [p for p in self.heads if self.is_directory(p)]))
@@ -234,8 +240,8 @@ class Lost:
         return n is not None and (n == 0 or self.sv.word(p, 127) == DIR)
 
     def is_open(self, p):
-        """Something of the directory may not be found: a header in it was skipped, its own sum is wrong, or it is a root that was made."""
-        return self.heads[p] in self.skipping or not sealed(self.image, p) or p == self.sv.root and self.root_made
+        """Something of the directory may not be found: a chain of it is broken, its own sum is wrong, or it is a root that was made."""
+        return self.heads[p] in self.broken or not sealed(self.image, p) or p == self.sv.root and self.root_made
 
     def datas(self, b):
         """The data blocks that the table of a file's header names."""
@@ -387,9 +393,8 @@ class Rescue:
         return "found again" if self.first.is_free(h) == 0 else "perhaps deleted"
 
     def lost_headers(self):
-        """A row for each directory in which a header was skipped, and for a root that was made."""
-        places = [role[2] for role, _, _ in self.findings if role and role[1] == "head" and self.survey.node_of(role) is None]
-        places = [0] * self.root_made + places
+        """A row for each directory with a broken chain, and for a root that was made."""
+        places = [0] * self.root_made + broken_chains(self.survey)
         return [row_of(self.survey, "headers", p) for k, p in enumerate(places) if places[k + 1 : k + 2] != [p]]
 
     def lost_blocks(self, surveys):

@@ -523,7 +523,7 @@ enum adf_loss_why {
     ADF_LOSS_DAMAGED = 1,         /* An entry is a file that is not whole. */
     ADF_LOSS_LINK = 2,            /* An entry is a link. */
     ADF_LOSS_NO_ROOM = 3,         /* Its directory is left out, its name is taken, or the blocks do not suffice. */
-    ADF_LOSS_HEADERS = 4,         /* A header was skipped in a directory; what it led to may be found again. */
+    ADF_LOSS_HEADERS = 4,         /* A chain of a directory is broken; what it led to may be found again. */
     ADF_LOSS_BLOCKS = 5,          /* Blocks in use are lost, not in the image, behind the volume, or made anew. */
     ADF_LOSS_IN_DOUBT = 6,        /* The checksum of its header is wrong: its name may be too, and a directory may lack things. */
     ADF_LOSS_PERHAPS_DELETED = 7, /* The bitmap has its header free, or nothing tells whether it was deleted. */

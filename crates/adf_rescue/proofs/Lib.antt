@@ -22,6 +22,8 @@ pub mod PassedFindings
 pub mod SoundHeaders
 -- the rescue of a volume that a tree fits
 pub mod WholeVolumes
+-- volumes that a tree fits have no doubts and no losses
+pub mod PlainVolumes
 -- the root that is made
 pub mod MadeRoots
 -- images that are opened

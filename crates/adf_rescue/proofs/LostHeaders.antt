@@ -2,7 +2,7 @@
 -- Letters: image the image of a survey, w its walk, fs its findings; s whether each directory is open; b, p, h blocks; n, m nodes; k, t numbers of
 -- entries, findings or blocks; page the block of a page; made whether the root was made; r an answer.
 use Rattle.std.specs.Prelude.{◌==◌, ◌&&◌, ◌||◌, ◌↔◌, not, Option, Some, None, IfSome, IsSome, IsTrue, option_and_then, unwrap_or, cond, map}
-use Rattle.std.specs.Prelude.{replicate}
+use Rattle.std.specs.Prelude.{replicate, slice_get}
 use Rattle.std.proofs.Common.{◌≡◌, ◌≢◌, ◌≤◌, ◌<◌, ℕ, suc, ◌+◌, ◌-◌, ◌/◌, ◌%◌, Bool, true, false, List, [], ◌∷◌, ◌++◌, length, add-one, ◌∙◌, ap, arith, inl, inr}
 use Rattle.std.proofs.Common.{refl, subst, sym, zero}
 use Rattle.std.specs.List.{range_with_len}
@@ -15,15 +15,15 @@ use Rattle.adf_blocks.specs.declared.layout.TheConstants.{FIRST_POINTER, PAGE_BI
 use Rattle.adf_blocks.specs.Sizes.{blocks, in_range}
 use Rattle.adf_volume.specs.Image.{root_of, word_in}
 use Rattle.adf_volume.specs.Walk.{Has, IsFreeIn, heads, node_block, Walk, Role.Page}
-use Rattle.adf_findings.specs.Concerned.{concern_of_nth}
 use Rattle.adf_findings.specs.Members.{at_role, owning_entry, owns, has_mark}
 use Rattle.adf_findings.specs.Survey.{FindingValue, IsSurvey, IsValidated}
 use Rattle.adf_findings.specs.SurveyResult.{IsBitStated}
 use Rattle.adf_findings.proofs.BitSteps.{has_page}
 use Rattle.adf_findings.proofs.BitsStated.{one_page}
-use Rattle.adf_rescue.specs.Lost.{AreOpen, AreSkipping, bit_in, bit_stated, directory_at, directory_by, has_found_data_among}
-use Rattle.adf_rescue.specs.Lost.{has_free_data_among, has_free_header, has_open, has_skipped, has_valid_flag, is_lost, is_missed, is_open}
-use Rattle.adf_rescue.specs.Lost.{is_set_in, is_stated_free, is_in_use, is_skip_in}
+use Rattle.adf_rescue.specs.Broken.{broken_by}
+use Rattle.adf_rescue.specs.Lost.{AreBroken, AreOpen, bit_in, bit_stated, directory_at, directory_by, has_found_data_among}
+use Rattle.adf_rescue.specs.Lost.{has_free_data_among, has_broken, has_free_header, has_open, has_valid_flag, is_lost, is_missed, is_open}
+use Rattle.adf_rescue.specs.Lost.{is_set_in, is_stated_free, is_in_use, is_break_in}
 use Rattle.adf_rescue.specs.MadeRoot.{says_page}
 
 -- what the bitmap tells of a block
@@ -35,7 +35,7 @@ page_of b = (b - 2) / PAGE_BITS
 not_zero : (n : ℕ) → n ≢ 0 → not (n == 0) ≡ true
 not_zero n ne = ap not (ne_eqb n 0 ne)
 
-is_zero : (n : ℕ) → not (n == 0) ≡ true → n ≢ 0
+pub is_zero : (n : ℕ) → not (n == 0) ≡ true → n ≢ 0
 is_zero n e z = let clash : not (n == 0) ≡ false = ap not (eq-eqb n 0 z) in cc
 
 told_some : (image : List ℕ) (w : Walk) (b page : ℕ) (r : Option Bool) → ((a : ℕ) → Has w (Page (page_of b)) a → a ≡ page)
@@ -191,16 +191,17 @@ module _ (image : List ℕ) (w : Walk) (p : ℕ) where
 
 -- the marks of those that are open
 
-pub skipped_first : (w : Walk) (fs : List FindingValue) (marks : List Bool) → length marks ≡ suc (heads w)
-    → ((n : ℕ) → has_mark marks n ≡ false) → AreSkipping w fs 0 marks
-unfolding has_skipped
-skipped_first w fs marks len none = record { length = len; skipped = λ n le. none n }
+pub broken_first : (w : Walk) (fs : List FindingValue) (marks : List Bool) → length marks ≡ suc (heads w)
+    → ((n : ℕ) → has_mark marks n ≡ false) → AreBroken w fs 0 marks
+unfolding has_broken
+broken_first w fs marks len none = record { length = len; broken = λ n le. none n }
 
-pub skipped_more : {w : Walk} {fs : List FindingValue} {k : ℕ} {marks more : List Bool} → AreSkipping w fs k marks
-    → ((m : ℕ) → m < length marks → has_mark more m ≡ (has_mark marks m || is_skip_in m (concern_of_nth w fs k)))
-    → length more ≡ length marks → AreSkipping w fs (k + 1) more
-unfolding has_skipped
-skipped_more are put len = grind (arith, common_steps, add-one)
+pub broken_more : {w : Walk} {fs : List FindingValue} {k : ℕ} {marks more : List Bool} → AreBroken w fs k marks
+    → ((m : ℕ) → m < length marks
+    → has_mark more m ≡ (has_mark marks m || is_break_in m (option_and_then (broken_by w) (slice_get fs k))))
+    → length more ≡ length marks → AreBroken w fs (k + 1) more
+unfolding has_broken
+broken_more are put len = grind (arith, common_steps, add-one)
 
 -- one answer more in a list of answers
 mapped_more : (f : ℕ → Bool) (n : ℕ) (marks more : List Bool) (t : Bool) → marks ≡ map f (range_with_len 0 n) → t ≡ f n → more ≡ marks ++ t ∷ []

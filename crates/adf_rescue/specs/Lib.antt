@@ -1,4 +1,5 @@
 -- The promise: what is opened, hung in again and kept of a damaged image.
+pub mod Broken
 pub mod Claims
 pub mod Hung
 pub mod Lost

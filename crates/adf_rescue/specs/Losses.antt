@@ -1,14 +1,13 @@
--- What the survey of an image tells to be there: headers that were skipped, and blocks in use that no survey has.
+-- What the survey of an image tells to be there: headers behind a chain that is broken, and blocks in use that no survey has.
 -- Letters: w the walk of the survey, fs its findings, f one of them; made whether the root was made; b the second survey, if there is one; h a
--- block, p the node of a directory.
+-- block.
 use Rattle.std.specs.Prelude.{◌&&◌, ◌∷◌, ◌++◌, [], not, ℕ, Bool, true, false, cond, List, Option, Some, None, is_some}
 use Rattle.std.specs.List.{filter_map}
 use Rattle.adf_blocks.specs.declared.cause.Cause.{Cause, TheVariants.LostBlock}
 use Rattle.adf_volume.specs.Walk.{Walk}
-use Rattle.adf_findings.specs.declared.concern.Concern.{Concern, TheVariants.Within}
-use Rattle.adf_findings.specs.Concerned.{concern_of}
 use Rattle.adf_findings.specs.Members.{owning_entry}
 use Rattle.adf_findings.specs.Survey.{FindingValue}
+use Rattle.adf_rescue.specs.Broken.{broken_by}
 use Rattle.adf_rescue.specs.Rescue.{Basis}
 
 -- the cause is that nothing has a block in use
@@ -21,18 +20,9 @@ abbrev pub is_second_block : Option Basis → ℕ → Bool
 is_second_block None h = false
 is_second_block (Some b) h = is_some (owning_entry b.walk h)
 
--- the directory in which a header was skipped, by what its finding concerns
-abbrev pub skipped_in : Option Concern → Option ℕ
-skipped_in (Some (Within p)) = Some p
-skipped_in _ = None
-
--- the same by the finding
-abbrev pub lost_header : Walk → FindingValue → Option ℕ
-lost_header w f = skipped_in (concern_of w f)
-
--- the directories in which headers are lost: the root, if it was made, and for each header that was skipped the one that it was skipped in
+-- the directories in which headers are lost: the root, if it was made, and for each finding that a chain is broken its directory
 abbrev pub lost_headers : (made : Bool) → Walk → List FindingValue → List ℕ
-lost_headers made w fs = cond made (0 ∷ []) [] ++ filter_map (lost_header w) fs
+lost_headers made w fs = cond made (0 ∷ []) [] ++ filter_map (broken_by w) fs
 
 -- the block that is lost, by its finding: it is in use, and no entry has it
 abbrev pub lost_block : Option Basis → FindingValue → Option ℕ

@@ -2,7 +2,7 @@
 -- Letters: w the walk of the survey, fs its findings, f one of them; b, p blocks, h that of a header; n a node; k a number of nodes, findings
 -- or blocks; made whether the root was made by the rescue; s whether each directory is open.
 use Rattle.std.specs.Prelude.{◌≡◌, ◌≤◌, ℕ, ◌+◌, ◌-◌, ◌/◌, ◌%◌, ◌^◌, ◌==◌, ◌&&◌, ◌||◌, not, nat_le, nat_lt, min, bit_and, Bool, true, false, cond}
-use Rattle.std.specs.Prelude.{List, [], ◌∷◌, length, Option, Some, None, is_some, option_and_then, unwrap_or}
+use Rattle.std.specs.Prelude.{List, [], ◌∷◌, length, Option, Some, None, is_some, option_and_then, slice_get, unwrap_or}
 use Rattle.std.proofs.Common.{zero, suc}
 use Rattle.adf_base.specs.Words.{block, long_sum}
 use Rattle.adf_blocks.specs.declared.layout.TheConstants.{BITMAP_FLAG, FIRST_POINTER, OWN_KEY, PAGE_BITS, PAGE_FIRST, PARENT, POINTERS, SECONDARY_TYPE, ST_DIR}
@@ -12,11 +12,10 @@ use Rattle.adf_blocks.specs.Sizes.{blocks, in_range}
 use Rattle.adf_volume.specs.Image.{root_of, word_in}
 use Rattle.adf_volume.specs.Start.{is_image_len}
 use Rattle.adf_volume.specs.Walk.{data_count, heads, node_block, Walk, Role.Page}
-use Rattle.adf_findings.specs.Concerned.{concern_of_nth}
-use Rattle.adf_findings.specs.declared.concern.Concern.{Concern, TheVariants.Within}
 use Rattle.adf_findings.specs.Members.{at_role, owning_entry, owns, has_mark}
 use Rattle.adf_findings.specs.Survey.{FindingValue}
 use Rattle.adf_rescue.specs.declared.lost.Evidence.{Evidence}
+use Rattle.adf_rescue.specs.Broken.{broken_by}
 use Rattle.adf_rescue.specs.MadeRoot.{says_page}
 
 -- block b says that it is a header, of a directory, a file or a link: by its types, its own key and its sum
@@ -107,24 +106,24 @@ directory_by image w p n = cond (is_directory_header image w n p) (Some n) None
 unfoldable pub directory_at : List ℕ → Walk → ℕ → Option ℕ
 directory_at image w p = cond (p == root_of image) (Some 0) (option_and_then (directory_by image w p) (owning_entry w p))
 
--- what is concerned is directory n, in which a header was skipped
-abbrev pub is_skip_in : ℕ → Option Concern → Bool
-is_skip_in n (Some (Within p)) = p == n
-is_skip_in n _ = false
+-- the directory with a broken chain, if there is one, is n
+abbrev pub is_break_in : ℕ → Option ℕ → Bool
+is_break_in n (Some p) = p == n
+is_break_in n None = false
 
--- one of the first k findings is of a header that was skipped in directory n
-unfoldable pub has_skipped : Walk → List FindingValue → ℕ → ℕ → Bool
-has_skipped w fs n zero = false
-has_skipped w fs n (suc k) = has_skipped w fs n k || is_skip_in n (concern_of_nth w fs k)
+-- one of the first k findings is that a chain of directory n is broken
+unfoldable pub has_broken : Walk → List FindingValue → ℕ → ℕ → Bool
+has_broken w fs n zero = false
+has_broken w fs n (suc k) = has_broken w fs n k || is_break_in n (option_and_then (broken_by w) (slice_get fs k))
 
 -- the block of the header of node n; of 0 that of the root
 abbrev pub header_block : List ℕ → Walk → ℕ → ℕ
 header_block image w n = cond (n == 0) (root_of image) (node_block w n)
 
--- directory n is open: a header was skipped in it, the sum of its own header is wrong, or it is a root that was made. So something that
--- was in it may not be found
+-- directory n is open: a chain of it is broken, the sum of its own header is wrong, or it is a root that was made. So something that was in
+-- it may not be found
 abbrev pub is_open : Bool → List ℕ → Walk → List FindingValue → ℕ → Bool
-is_open made image w fs n = has_skipped w fs n (length fs) || not (long_sum (block image (header_block image w n)) == 0) || (n == 0) && made
+is_open made image w fs n = has_broken w fs n (length fs) || not (long_sum (block image (header_block image w n)) == 0) || (n == 0) && made
 
 -- the root or one of the first k entries is an open directory
 unfoldable pub has_open : List ℕ → Walk → (ℕ → Bool) → ℕ → Bool
@@ -191,10 +190,10 @@ has_findings (f ∷ fs) = true
 abbrev pub has_lost : Bool → List ℕ → Walk → List FindingValue → Bool
 has_lost made image w fs = is_image_len (length image) && (lost_among image w (is_open made image w fs) (blocks image) && has_findings fs)
 
--- the marks of the root and the entries: whether one of the first k findings is of a header that was skipped in the node
-pub record AreSkipping (w : Walk) (fs : List FindingValue) (k : ℕ) (marks : List Bool) : Type 0 where
+-- the marks of the root and the entries: whether one of the first k findings is that a chain of the node is broken
+pub record AreBroken (w : Walk) (fs : List FindingValue) (k : ℕ) (marks : List Bool) : Type 0 where
   pub length : length marks ≡ suc (heads w)
-  pub skipped : (n : ℕ) → n ≤ heads w → has_mark marks n ≡ has_skipped w fs n k
+  pub broken : (n : ℕ) → n ≤ heads w → has_mark marks n ≡ has_broken w fs n k
 
 -- the marks of the root and the entries: whether each is open
 pub record AreOpen (w : Walk) (s : ℕ → Bool) (marks : List Bool) : Type 0 where

@@ -380,10 +380,10 @@ fn changed(alloc: Global, survey: &Survey<'_>, loose: &Loose) -> Result<Vec<u8>,
 /// survey that it is free.
 ///
 /// A directory of the survey misses it if the directory is open; or if the bitmap tells that the header is in use, and of none
-/// of its data blocks that it is free. A directory is open if a header was skipped in it, its own sum is wrong, or it is a root
-/// that was `made`. Another directory misses it if it is a header too and no part of the survey. A block that is neither
-/// misses it if a trusted bitmap tells that it is in use, or, where none tells anything of it, if some directory is open: there a
-/// directory `lost-` and its number is made, in the root.
+/// of its data blocks that it is free. A directory is open if a header was skipped in it, or hangs in another slot than that of
+/// its name, if its own sum is wrong, or if it is a root that was `made`. Another directory misses it if it is a header too and
+/// no part of the survey. A block that is neither misses it if a trusted bitmap tells that it is in use, or, where none tells
+/// anything of it, if some directory is open: there a directory `lost-` and its number is made, in the root.
 ///
 /// A lost header whose directory is neither found, nor lost, nor made is not hung. No word that leads to a part of the survey is
 /// changed. `NoMemory` if an allocation fails, which can happen only if there is a finding.

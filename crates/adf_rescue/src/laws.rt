@@ -24,6 +24,8 @@ ghost use Rattle.adf_volume.specs.Types.{letters_for};
 ghost use Rattle.adf_volume.specs.declared.types.Types.{Types};
 ghost use Rattle.adf_volume.specs.Walk.{FileAt, node_block, Walk};
 ghost use Rattle.adf_build.specs.Laid.{IsLaid};
+ghost use Rattle.adf_rescue.specs.Doubts.{first_doubts_by};
+ghost use Rattle.adf_rescue.specs.Losses.{lost_blocks, lost_headers};
 ghost use Rattle.adf_rescue.specs.Lost.{has_lost};
 ghost use Rattle.adf_rescue.specs.Rescue.{Basis, Verdict, accepted, at_path, before_first_by, first_verdicts_by, path_by};
 ghost use Rattle.adf_rescue.specs.Rescue.{verdict_additions, new_path, rescue_leaves_by, rescued_additions_by, rescued_tree_by};
@@ -119,4 +121,16 @@ pub fn kept_files_lie_apart()
         → slice_get (first_verdicts_by letters input a) i ≡ Some (adds x)
         → slice_get (second_verdicts_by letters input a (Some b)) j ≡ Some (adds y)
         → y.body ≡ File bytes → owning_entry a.walk n ≡ Some (suc i) → At (datas_in b.walk (suc j)) k n → ⊥ }
+{}
+
+/// Where a tree and a layout fit an image, by the letters of the types that are accepted, the rescue by its survey tells nothing:
+/// no entry is in doubt, and unless the root was made, no header and no block is lost.
+pub fn whole_tells_nothing()
+    ensures doubts { (types : Types) (letters : Letters) (input : Input) (image : List ℕ) (t : Tree) (l : Layout) (w : Walk)
+        (fs : List FindingValue) (sound : ℕ → Bool) → FitsBy (letters_for types image) image t l → IsSurvey image w fs
+        → first_doubts_by letters input (record { image = image; walk = w; sound = sound }) ≡ [] }
+    ensures headers { (types : Types) (image : List ℕ) (t : Tree) (l : Layout) (w : Walk) (fs : List FindingValue)
+        → FitsBy (letters_for types image) image t l → IsSurvey image w fs → lost_headers false w fs ≡ [] }
+    ensures blocks { (types : Types) (image : List ℕ) (t : Tree) (l : Layout) (w : Walk) (fs : List FindingValue)
+        → FitsBy (letters_for types image) image t l → IsSurvey image w fs → lost_blocks None fs ≡ [] }
 {}

@@ -1,6 +1,7 @@
 //! Rescues: the volume of all that stands on an image, and what is left out.
 #![tactic(auto)]
 
+mod broken;
 mod claims;
 mod doubts;
 mod hung;
@@ -21,7 +22,7 @@ pub use crate::doubts::{Doubt, Doubtful};
 pub use crate::hung::{hung as hung_image, hung_keeps};
 pub use crate::laws::{
     kept_files_are_whole, kept_files_lie_apart, one_rescue, rescued_additions_have_their_tree,
-    rescues_are_laid, sound_files_stand, whole_files, whole_is_kept,
+    rescues_are_laid, sound_files_stand, whole_files, whole_is_kept, whole_tells_nothing,
 };
 pub use crate::left_out::{LeftOut, Why};
 pub use crate::made_root::is_like_root;

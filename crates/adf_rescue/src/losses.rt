@@ -1,16 +1,16 @@
-// What the survey of an image tells to be there: headers that were skipped, and blocks in use that no survey has.
+// What the survey of an image tells to be there: headers behind a chain that is broken, and blocks in use that no survey has.
 
 ghost use Rattle.std.specs.List.{cons_option};
 ghost use Rattle.std.specs.Prelude.{◌≡◌, ◌++◌, ◌∷◌, [], IfOk, OnOk, cond, option_map, slice_get};
 ghost use Rattle.std.specs.Option.{option_and_then};
 ghost use Rattle.adf_findings.specs.Survey.{OnSurvey};
-ghost use Rattle.adf_rescue.specs.Losses.{is_second_block, is_unowned, lost_block, lost_blocks, lost_header, lost_headers};
-ghost use Rattle.adf_rescue.specs.Losses.{skipped_in};
+ghost use Rattle.adf_rescue.specs.Losses.{is_second_block, is_unowned, lost_block, lost_blocks, lost_headers};
 ghost use Rattle.adf_rescue.specs.Rescue.{OnSecond};
 
+use crate::broken::broken_by;
 use adf_base::NoMemory;
 use adf_blocks::Cause;
-use adf_findings::{Concern, Survey};
+use adf_findings::Survey;
 use adf_tree::Node;
 use std::alloc::Global;
 
@@ -29,23 +29,6 @@ fn is_second_block(second: Option<&Survey<'_>>, block: u32) -> bool
         Some(second) => second.entry_at(block).is_some(),
         None => false,
     }
-}
-
-// The directory in which a header was skipped, by what its finding concerns.
-fn skipped_in(concern: Option<Concern>) -> Option<Node>
-    ensures { result ≡ skipped_in concern }
-{
-    match concern {
-        Some(Concern::Within(p)) => Some(Node(p as usize)),
-        _ => None,
-    }
-}
-
-// The directory in which finding `k` tells that a header was skipped; `None` past the last.
-fn lost_header(survey: &Survey<'_>, k: usize) -> Option<Node>
-    ensures { OnSurvey survey.now.image (λ w fs. result ≡ option_and_then (lost_header w) (slice_get fs k)) }
-{
-    skipped_in(survey.concern_of(k))
 }
 
 // The block that finding `k` tells to be in use, if no entry has it; `None` past the last.
@@ -82,14 +65,14 @@ fn made_place(alloc: Global, made: bool) -> Result<Vec<Node>, NoMemory>
     Ok(places)
 }
 
-/// The directories of the survey in which headers are lost: the root, if it was made, and for each header that was skipped
-/// the one in which it was, in the order of the findings. `NoMemory` if an allocation fails.
+/// The directories of the survey in which headers are lost: the root, if it was made, and for each finding that a chain is
+/// broken its directory, in the order of the findings. `NoMemory` if an allocation fails.
 pub fn lost_headers(alloc: Global, survey: &Survey<'_>, made: bool) -> Result<Vec<Node>, NoMemory>
     ensures { OnSurvey survey.now.image (λ w fs. IfOk result (λ v. v.items ≡ lost_headers made w fs)) }
 {
     let mut lost = made_place(alloc, made)?;
     for k in 0..survey.findings().len() {
-        push_some(&mut lost, lost_header(survey, k))?;
+        push_some(&mut lost, broken_by(survey, k))?;
     }
     Ok(lost)
 }

@@ -1,6 +1,7 @@
 // Lost headers: what no directory of a survey leads to any more.
 
-ghost use Rattle.std.specs.Prelude.{◌≡◌, ◌<◌, ◌≤◌, ◌+◌, ◌==◌, ◌&&◌, ◌||◌, ℕ, Bool, not, cond, true, length, IfOk};
+ghost use Rattle.std.specs.Prelude.{◌≡◌, ◌<◌, ◌≤◌, ◌+◌, ◌==◌, ◌&&◌, ◌||◌, ℕ, Bool, not, cond, true, length, slice_get, IfOk};
+ghost use Rattle.std.specs.Option.{option_and_then};
 ghost use Rattle.adf_base.specs.Words.{block, long_sum};
 ghost use Rattle.adf_blocks.specs.declared.layout.TheConstants.{POINTERS, SECONDARY_TYPE, ST_DIR};
 ghost use Rattle.adf_blocks.specs.HeadBlock.{is_entry, is_link};
@@ -8,15 +9,16 @@ ghost use Rattle.adf_blocks.specs.Sizes.{blocks, in_range};
 ghost use Rattle.adf_volume.specs.Image.{root_of, word_in};
 ghost use Rattle.adf_volume.specs.Start.{is_image_len};
 ghost use Rattle.adf_volume.specs.Walk.{heads, node_block};
-ghost use Rattle.adf_findings.specs.Concerned.{concern_of_nth};
 ghost use Rattle.adf_findings.specs.Members.{has_mark};
 ghost use Rattle.adf_findings.specs.Survey.{OnSurvey};
-ghost use Rattle.adf_rescue.specs.Lost.{AreLost, AreOpen, AreSkipping, IsEvidence, bit_stated, directory_at, directory_by};
+ghost use Rattle.adf_rescue.specs.Broken.{broken_by};
+ghost use Rattle.adf_rescue.specs.Lost.{AreBroken, AreLost, AreOpen, IsEvidence, bit_stated, directory_at, directory_by};
 ghost use Rattle.adf_rescue.specs.Lost.{has_found_data, has_free_data, has_free_first, has_valid_flag, header_block};
 ghost use Rattle.adf_rescue.specs.Lost.{is_directory_header, is_freed, is_gone, is_lost, is_missed, is_no_part, is_open};
-ghost use Rattle.adf_rescue.specs.Lost.{is_stated_free, is_stated_used, is_trusted, is_in_use, is_vacant, is_skip_in};
+ghost use Rattle.adf_rescue.specs.Lost.{is_stated_free, is_stated_used, is_trusted, is_in_use, is_vacant, is_break_in};
 ghost use Rattle.adf_rescue.specs.Lost.{may_have_been, may_lose, says_directory, says_header, table_count};
 
+use crate::broken::broken_by;
 use crate::image::{block_count, block_in, root_of};
 use crate::made_root::says_page;
 use adf_base::{BLOCK_LEN, NoMemory};
@@ -24,7 +26,7 @@ use adf_blocks::{
     BITMAP_FLAG, FIRST_POINTER, OWN_KEY, PARENT, POINTERS, SECONDARY_TYPE, SIZE, ST_DIR, ST_FILE,
     ST_LINK_DIR, ST_LINK_FILE, ST_SOFT_LINK, T_SHORT, TYPE, VALID, data_count,
 };
-use adf_findings::{Concern, Survey, has_mark};
+use adf_findings::{Survey, has_mark};
 use adf_tree::Node;
 use adf_volume::kind_in;
 use std::alloc::Global;
@@ -236,26 +238,26 @@ pub fn mark(marks: &mut Vec<bool>, n: usize, is: bool)
     }
 }
 
-// Marks the directory in which finding `k` tells that a header was skipped.
-fn mark_skipped(survey: &Survey<'_>, marks: &mut Vec<bool>, k: usize)
-    ensures marks { OnSurvey survey.now.image (λ w fs. (m : ℕ) → m < length marks.old.items
-        → has_mark marks.new.items m ≡ (has_mark marks.old.items m || is_skip_in m (concern_of_nth w fs k))) }
+// Marks the directory with a broken chain, by finding `k`.
+fn mark_broken(survey: &Survey<'_>, marks: &mut Vec<bool>, k: usize)
+    ensures marks { OnSurvey survey.now.image (λ w fs. (m : ℕ) → m < length marks.old.items → has_mark marks.new.items m
+        ≡ (has_mark marks.old.items m || is_break_in m (option_and_then (broken_by w) (slice_get fs k)))) }
     ensures length { length marks.new.items ≡ length marks.old.items }
 {
-    if let Some(Concern::Within(n)) = survey.concern_of(k) {
-        mark(marks, n as usize, true);
+    if let Some(n) = broken_by(survey, k) {
+        mark(marks, n.0, true);
     }
 }
 
-// The marks of the directories in which a header was skipped.
-fn skipped(alloc: Global, survey: &Survey<'_>) -> Result<Vec<bool>, NoMemory>
+// The marks of the directories with a broken chain.
+fn broken(alloc: Global, survey: &Survey<'_>) -> Result<Vec<bool>, NoMemory>
     ensures { OnSurvey survey.now.image (λ w fs.
-        IfOk result (λ v. AreSkipping w fs (length fs) v.items)) }
+        IfOk result (λ v. AreBroken w fs (length fs) v.items)) }
 {
     let entries = survey.len();
     let mut marks = vec![in alloc; false; entries.saturating_add(1)]?;
     for k in 0..survey.findings().len() {
-        mark_skipped(survey, &mut marks, k);
+        mark_broken(survey, &mut marks, k);
     }
     Ok(marks)
 }
@@ -274,12 +276,12 @@ fn is_sealed(survey: &Survey<'_>, n: Node) -> bool
 }
 
 // Whether directory `n` of the survey is open.
-fn is_open(survey: &Survey<'_>, made: bool, skipped: &Vec<bool>, n: Node) -> bool
+fn is_open(survey: &Survey<'_>, made: bool, broken: &Vec<bool>, n: Node) -> bool
     requires { is_image_len (length survey.now.image) ≡ true }
-    ensures { OnSurvey survey.now.image (λ w fs. AreSkipping w fs (length fs) skipped.now.items → n ≤ heads w
+    ensures { OnSurvey survey.now.image (λ w fs. AreBroken w fs (length fs) broken.now.items → n ≤ heads w
         → result ≡ is_open made survey.now.image w fs n) }
 {
-    has_mark(skipped, n.0) || !is_sealed(survey, n) || n.0 == 0 && made
+    has_mark(broken, n.0) || !is_sealed(survey, n) || n.0 == 0 && made
 }
 
 // The marks of the directories that are open.
@@ -289,10 +291,10 @@ fn open_marks(alloc: Global, survey: &Survey<'_>, made: bool) -> Result<Vec<bool
     ensures { OnSurvey survey.now.image (λ w fs.
         IfOk result (λ v. AreOpen w (is_open made survey.now.image w fs) v.items)) }
 {
-    let skipped = skipped(alloc, survey)?;
-    let mut marks = Vec::with_capacity(alloc, skipped.len())?;
-    for n in 0..skipped.len() {
-        marks.push(is_open(survey, made, &skipped, Node(n)))?;
+    let broken = broken(alloc, survey)?;
+    let mut marks = Vec::with_capacity(alloc, broken.len())?;
+    for n in 0..broken.len() {
+        marks.push(is_open(survey, made, &broken, Node(n)))?;
     }
     Ok(marks)
 }

@@ -31,8 +31,8 @@ use std::alloc::Global;
 /// A rescue: whether nothing stands; the draft of the new volume's tree, and the number of its blocks; the entries that are left
 /// out, in the order of the walk: those of the survey of the image, and those of the second survey that are not known from the
 /// first; the entries that are kept in doubt, in the same way; and what is lost by the survey of the image: the directories in
-/// which headers are lost, of which the root is the first if it was made, and then for each header that was skipped the one in
-/// which it was; and the blocks in use that no entry has.
+/// which headers are lost, of which the root is the first if it was made, and then for each header that was skipped, or hangs in
+/// another slot than that of its name, the one in which it is; and the blocks in use that no entry has.
 #[derive(Drop)]
 pub struct Rescued {
     pub stands_nothing: bool,

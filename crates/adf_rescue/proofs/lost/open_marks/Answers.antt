@@ -10,7 +10,7 @@ pub returns : goal.returns
 returns c = λ w fs survey.
     let image = c.args.survey.now.image in
     let marks = c.loop-n.marks.items in
-    let skipped = c.in_ok-skipped.ensures w fs survey in
+    let broken = c.in_ok-broken.ensures w fs survey in
     let end : c.loop-n.n ≡ suc (heads w) = grind (arith, common_steps) in
     open_marked c.args.made image w fs marks
     (subst (λ k. marks ≡ map (is_open c.args.made image w fs) (range_with_len 0 k)) end (c.loop-n.invariant w fs survey))
