@@ -305,7 +305,13 @@ impl Salvage {
             → 1 ≤ n → n ≤ heads b.walk → IfOk result (λ r. r ≡ body_of (as_given g b) n)) }
     {
         if let Some(file) = survey.whole_file(alloc, n)? {
-            if are_given(before, &self.kept, self.input, survey.image(), file.blocks()) {
+            if are_given(
+                before,
+                &self.kept,
+                self.input,
+                survey.image(),
+                file.blocks(),
+            ) {
                 return Ok(Ok(bytes_of(alloc, &file)?));
             }
         }

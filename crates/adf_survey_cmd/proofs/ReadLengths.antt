@@ -2,7 +2,7 @@
 -- Letters: image the front of an input, bytes all of it; asked the number of blocks that is asked for; n, k numbers of blocks; b the number of a block;
 -- m a number of bytes.
 use Rattle.std.proofs.Common.{◌≡◌, ◌≢◌, ◌<◌, ◌≤◌, ◌+◌, ◌-◌, ◌*◌, ◌/◌, ◌∙◌, ◌==◌, ◌&&◌, true, ℕ, Bool, List, Option, None, Some, ap, ap₂, arith, cond, drop, length}
-use Rattle.std.proofs.Common.{min, nat_le, not, refl, sym, take}
+use Rattle.std.proofs.Common.{min, not, refl, sym, take}
 use Rattle.std.specs.Prelude.{IfSome}
 use Rattle.std.proofs.lemmas.Bool.{and_parts, cond_both, leb-true, Decides.nat_tests}
 use Rattle.std.proofs.lemmas.Grind.{common_steps}

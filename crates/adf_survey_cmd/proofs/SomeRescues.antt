@@ -1,7 +1,7 @@
 -- A rescue of bytes gives something.
 -- Letters: w the walk of a survey, fs its findings; a the survey of an image, second the second one, if there is one; held the number of blocks
 -- that the input holds whole, known what is known of it; ls, lost losses; r what a rescue gives.
-use Rattle.std.proofs.Common.{◌≡◌, ◌≢◌, ◌≤◌, ◌⊎◌, ◌^◌, ℕ, Bool, true, false, List, [], ◌∷◌, Option, None, Some, inl, inr, length, refl, subst, arith}
+use Rattle.std.proofs.Common.{◌≡◌, ◌≢◌, ◌≤◌, ◌⊎◌, ◌^◌, ℕ, Bool, true, false, List, [], ◌∷◌, Option, None, Some, inl, inr, length, refl, arith}
 use Rattle.std.specs.Prelude.{IfSome}
 use Rattle.std.proofs.lemmas.Bool.{and_parts, cond_both}
 use mathlib.Core.Logic.Dec.{and as dec_and}

@@ -1,6 +1,6 @@
 -- What is surveyed of an input.
 -- Letters: s, u what is surveyed; w the walk of a survey, fs its findings; t a type, o one, if there is one; n, k numbers.
-use Rattle.std.proofs.Common.{◌≡◌, ◌≤◌, ◌*◌, ◌==◌, ◌||◌, ◌∙◌, ℕ, Bool, List, Option, None, Some, [], true, false, cond, not, ap, refl, subst, sym}
+use Rattle.std.proofs.Common.{◌≡◌, ◌≤◌, ◌==◌, ◌||◌, ◌∙◌, ℕ, Bool, List, Option, None, Some, [], true, false, cond, not, ap, refl, subst, sym}
 use Rattle.std.proofs.Common.{slice_index, length, arith}
 use Rattle.std.proofs.lemmas.Bool.{and_parts, eq-eqb, leb-true}
 use Rattle.std.proofs.lemmas.Grind.{common_steps}

@@ -1,4 +1,4 @@
-use Rattle.std.proofs.Common.{◌≡◌, ℕ, Option, Some, IfOk}
+use Rattle.std.proofs.Common.{◌≡◌, Option, Some, IfOk}
 use Rattle.adf_base.specs.declared.hash.Letters.{Letters}
 use Rattle.adf_volume.specs.Walk.{heads}
 use Rattle.adf_rescue.specs.Doubts.{second_doubts_by}

@@ -1,4 +1,4 @@
-use Rattle.std.proofs.Common.{◌≡◌, ◌∙◌, ℕ, Bool, List, ap, arith, is_some, length, refl, subst, sym}
+use Rattle.std.proofs.Common.{◌≡◌, ◌∙◌, ℕ, Bool, List, ap, arith, is_some, length, refl, subst}
 use Rattle.adf_rescue.specs.Opened.{lacks_root, states_type}
 use Rattle.adf_rescue.specs.Pruned.{image_read}
 use Rattle.adf_rescue.proofs.PrunedKeeps.{length_read}
