@@ -14,7 +14,7 @@ use Rattle.adf_volume.specs.Image.{root_of, word_in}
 use Rattle.adf_volume.specs.Lists.{At}
 use Rattle.adf_findings.specs.Files.{FileValue, HasItsBlocks}
 use Rattle.adf_rescue.specs.Lost.{bit_stated, is_stated_free}
-use Rattle.adf_rescue.specs.Rescue.{accepted, are_given, before_first_by, is_data, is_given, is_same_block}
+use Rattle.adf_rescue.specs.Rescue.{as_accepted, are_given, before_first_by, is_data, is_given, is_same_block}
 use Rattle.adf_rescue.specs.Salvage.{are_data}
 use Rattle.adf_rescue.specs.declared.standing.Input.{Input}
 
@@ -48,9 +48,9 @@ pub first_given_all : (letters : Letters) (input : Input) (f : FileValue) → Ha
 first_given_all letters input f has = firsts_given letters input f.image f.blocks has.whole has.inside
 
 -- all blocks of an image that is accepted and held may be
-pub all_data : (held n : ℕ) (image bs : List ℕ) → n ≤ held → ((k b : ℕ) → At bs k b → b < n) → are_data (accepted held) image bs ≡ true
+pub all_data : (held n : ℕ) (image bs : List ℕ) → n ≤ held → ((k b : ℕ) → At bs k b → b < n) → are_data (as_accepted held) image bs ≡ true
 all_data held n image [] le inside = refl
 all_data held n image (b ∷ bs) le inside =
     let lt : b < n = inside 0 b refl in
-    and_from (nat_lt b held && true) (are_data (accepted held) image bs) (and_from (nat_lt b held) true (lt-ltb b held (omega arith)) refl)
+    and_from (nat_lt b held && true) (are_data (as_accepted held) image bs) (and_from (nat_lt b held) true (lt-ltb b held (omega arith)) refl)
     (all_data held n image bs le (λ k c at. inside (suc k) c at))

@@ -37,7 +37,7 @@ use Rattle.adf_findings.proofs.Keeping.{parent_is}
 use Rattle.adf_findings.proofs.Lookups.{header_at}
 use Rattle.adf_findings.proofs.SoundFiles.{file_told}
 use Rattle.adf_rescue.specs.declared.left_out.Why.{Why, TheVariants.Damaged, TheVariants.Link}
-use Rattle.adf_rescue.specs.Rescue.{Basis, accepted, are_given, as_given, before_first_by, body_of, body_of_type}
+use Rattle.adf_rescue.specs.Rescue.{Basis, as_accepted, are_given, as_given, before_first_by, body_of, body_of_type}
 use Rattle.adf_rescue.specs.declared.standing.Input.{Input}
 use Rattle.adf_rescue.proofs.PassedFindings.{typed_sound}
 use Rattle.adf_rescue.proofs.GivenBlocks.{all_data, first_given_all}
@@ -75,10 +75,10 @@ body_stands l n (inr one) s = let is = s one in grind (arith, common_steps, eq-e
 -- each data block of a sound file is given, where the image is accepted and held
 file_given : (letters : Letters) (held : ℕ) (image : List ℕ) (w : Walk) (fs : List FindingValue) (n : ℕ) → blocks image ≤ held → IsSurvey image w fs
     → IsSound image w fs n (node_block w n) → word_in image (node_block w n) SECONDARY_TYPE ≡ ST_FILE
-    → are_given (before_first_by letters (accepted held) image) image (datas_in w n) ≡ true
+    → are_given (before_first_by letters (as_accepted held) image) image (datas_in w n) ≡ true
 file_given letters held image w fs n le survey is type =
     let has = (file_told image w fs false n survey is type).1 in
-    first_given_all letters (accepted held) (file_in image w n) has ∙ all_data held (blocks image) image (datas_in w n) le has.inside
+    first_given_all letters (as_accepted held) (file_in image w n) has ∙ all_data held (blocks image) image (datas_in w n) le has.inside
 
 -- what a survey tells of node n is this entry
 pub record IsToldAs (letters : Letters) (input : Input) (a : Basis) (n : ℕ) (e : Entry) : Type 0 where
@@ -92,7 +92,7 @@ pub told : (types : Types) (held : ℕ) (image : List ℕ) (w : Walk) (fs : List
     → IsSurvey image w fs → fs ≡ passed types image → IsOfItsKind image w
     → AreMarks image w fs sound → IsWalkBy (letters_for types image) image w → (i : ℕ) → i < heads w
     → (e : Entry) × At (entries_in image w w) i e
-    × IsToldAs (letters_for types image) (accepted held) (record { image = image; walk = w; sound = sound }) (suc i) e
+    × IsToldAs (letters_for types image) (as_accepted held) (record { image = image; walk = w; sound = sound }) (suc i) e
 told types held image w fs sound le survey clean own marks v i lt =
     let letters : Letters = letters_for types image in
     let b : ℕ = node_block w (suc i) in
@@ -109,7 +109,7 @@ told types held image w fs sound le survey clean own marks v i lt =
         name = refl;
         valid = name_valid letters image (kind_of image) b up.0 h.slot form;
         meta = meta_whole letters image (kind_of image) b up.0 h.slot form;
-        body = body_stands (as_given (before_first_by letters (accepted held) image) a) (suc i) (head_type letters image (kind_of image) b up.0 h.slot form)
+        body = body_stands (as_given (before_first_by letters (as_accepted held) image) a) (suc i) (head_type letters image (kind_of image) b up.0 h.slot form)
             (λ type. and_from (sound (suc i)) _ is (file_given letters held image w fs (suc i) le survey whole type));
       },
     )

@@ -36,7 +36,7 @@ use Rattle.adf_findings.specs.Types.{passed}
 use Rattle.adf_findings.proofs.FirstFindings.{finds_none, none_found, shows_none}
 use Rattle.adf_findings.proofs.TypesRead.{types_read}
 use Rattle.adf_build.specs.Plan.{blocks_needed, entries_blocks, reserved}
-use Rattle.adf_rescue.specs.Rescue.{accepted, Ground, Basis, Verdict, verdict_additions, before_first_by, before_second_by, directory_path, first_verdicts_by, fitting}
+use Rattle.adf_rescue.specs.Rescue.{as_accepted, Ground, Basis, Verdict, verdict_additions, before_first_by, before_second_by, directory_path, first_verdicts_by, fitting}
 use Rattle.adf_rescue.specs.Rescue.{left_out_from, path_by, path_for, new_path, rescue_leaves_by, rescued_tree_by, verdict_tree, verdict, verdicts}
 use Rattle.adf_rescue.specs.Rescue.Verdict.{adds}
 use Rattle.adf_rescue.specs.declared.standing.Input.{Input}
@@ -168,7 +168,7 @@ module _ (types : Types) (held : ℕ) (image : List ℕ) (w : Walk) (fs : List F
   front_room k = search (arith, fit_room, front_blocks)
 
   next_front : (k : ℕ) (vs : List Verdict) → k < heads w → IsFront ls all k vs
-      → IsFront ls all (suc k) (vs ++ verdict (before_first_by ls (accepted held) image) basis vs (suc k) ∷ [])
+      → IsFront ls all (suc k) (vs ++ verdict (before_first_by ls (as_accepted held) image) basis vs (suc k) ∷ [])
   next_front k vs lt f =
       let x = told types held image w fs sound le survey clean own marks v k lt in
       let e : Entry = x.0 in
@@ -186,13 +186,13 @@ module _ (types : Types) (held : ℕ) (image : List ℕ) (w : Walk) (fs : List F
       let fits : 1 + reserved (blocks image) + entries_blocks (kind_of image) (with_addition_by ls before (addition dir e)) ≤ blocks image - 2 =
       subst (λ (us : List Entry). 1 + reserved (blocks image) + entries_blocks (kind_of image) us ≤ blocks image - 2)
       (sym added_one) (front_room (k + 1)) in
-      let is = entry_stands ls (accepted held) basis vs (suc k) e x.2 dir place.1 room fits in
-      subst (λ m. IsFront ls all m (vs ++ verdict (before_first_by ls (accepted held) image) basis vs (suc k) ∷ [])) (add-one k)
+      let is = entry_stands ls (as_accepted held) basis vs (suc k) e x.2 dir place.1 room fits in
+      subst (λ m. IsFront ls all m (vs ++ verdict (before_first_by ls (as_accepted held) image) basis vs (suc k) ∷ [])) (add-one k)
       (subst (λ (u : Verdict). IsFront ls all (k + 1) (vs ++ u ∷ [])) (sym is) (front_more ls all k vs e fit.tree within here f dir place.2))
 
-  front : (k : ℕ) → k ≤ heads w → IsFront ls all k (verdicts (before_first_by ls (accepted held) image) basis k)
+  front : (k : ℕ) → k ≤ heads w → IsFront ls all k (verdicts (before_first_by ls (as_accepted held) image) basis k)
   front zero le = nothing_yet ls all
-  front (suc k) le = next_front k (verdicts (before_first_by ls (accepted held) image) basis k) (omega arith) (front k (omega arith))
+  front (suc k) le = next_front k (verdicts (before_first_by ls (as_accepted held) image) basis k) (omega arith) (front k (omega arith))
 
 -- the tree of the additions is that of the walk
 same_tree : (image : List ℕ) (w : Walk) (g : Ground) (vs : List Verdict) → g.given ≡ image → AllHold (root_demands image (root_of image))
@@ -226,17 +226,17 @@ module _ (types : Types) (held : ℕ) (image : List ℕ) (t : Tree) (l : Layout)
   walk : IsWalkBy of_types image w
   walk = (shows_none image of_types (passed types image) (types_read image types) w unreported).1
 
-  whole : IsFront of_types (entries_in image w w) (heads w) (first_verdicts_by of_types (accepted held) whole_basis)
+  whole : IsFront of_types (entries_in image w w) (heads w) (first_verdicts_by of_types (as_accepted held) whole_basis)
   whole = front types held image w fs sound le survey clean own all_marks walk made (heads w) (omega arith)
 
-  pub tree_kept : rescued_tree_by of_types (accepted held) whole_basis None ≡ t
+  pub tree_kept : rescued_tree_by of_types (as_accepted held) whole_basis None ≡ t
   tree_kept =
-      let xs : List Addition = verdict_additions (first_verdicts_by of_types (accepted held) whole_basis) in
+      let xs : List Addition = verdict_additions (first_verdicts_by of_types (as_accepted held) whole_basis) in
       let all : entries_of_additions_by of_types (xs ++ []) ≡ entries_in image w w =
       ap (entries_of_additions_by of_types) (append-nil xs)
       ∙ (whole.entries ∙ take_all (heads w) (entries_in image w w) (omega (arith, entries_length image w w))) in
-      same_tree image w (before_second_by of_types (accepted held) whole_basis) [] refl made.root all
+      same_tree image w (before_second_by of_types (as_accepted held) whole_basis) [] refl made.root all
       ∙ sym (one_fit image t (tree_in_by of_types image w) l (layout_in w) fit made).0
 
-  pub none_left : rescue_leaves_by of_types (accepted held) whole_basis ≡ []
+  pub none_left : rescue_leaves_by of_types (as_accepted held) whole_basis ≡ []
   none_left = whole.none

@@ -175,8 +175,8 @@ abbrev pub is_of_kept_entry : Ground → ℕ → Bool
 is_of_kept_entry g b = has_mark (added_marks g.verdicts) (unwrap_or (owning_entry g.walk b) 0)
 
 -- what is known of an input that is accepted, which holds so many blocks whole
-abbrev pub accepted : ℕ → Input
-accepted held = record { held = held; is_refused = false }
+abbrev pub as_accepted : ℕ → Input
+as_accepted held = record { held = held; is_refused = false }
 
 -- block b of an image may be data: the input holds it; and if the input is refused, the block does not claim to be a header
 abbrev pub is_data : Input → List ℕ → ℕ → Bool

@@ -27,7 +27,7 @@ ghost use Rattle.adf_build.specs.Laid.{IsLaid};
 ghost use Rattle.adf_rescue.specs.Doubts.{first_doubts_by};
 ghost use Rattle.adf_rescue.specs.Losses.{lost_blocks, lost_headers};
 ghost use Rattle.adf_rescue.specs.Lost.{has_lost};
-ghost use Rattle.adf_rescue.specs.Rescue.{Basis, Verdict, accepted, at_path, before_first_by, first_verdicts_by, path_by};
+ghost use Rattle.adf_rescue.specs.Rescue.{Basis, Verdict, as_accepted, at_path, before_first_by, first_verdicts_by, path_by};
 ghost use Rattle.adf_rescue.specs.Rescue.{verdict_additions, new_path, rescue_leaves_by, rescued_additions_by, rescued_tree_by};
 ghost use Rattle.adf_rescue.specs.Rescue.{second_verdicts_by, verdict_tree, verdict};
 ghost use Rattle.adf_rescue.specs.Rescue.Verdict.{adds};
@@ -85,11 +85,11 @@ pub fn whole_is_kept()
     ensures tree { (types : Types) (held : ℕ) (image : List ℕ) (t : Tree) (l : Layout) (w : Walk) (fs : List FindingValue)
         (sound : ℕ → Bool) → blocks image ≤ held → FitsBy (letters_for types image) image t l → IsSurvey image w fs
         → IsOfItsKind image w → AreMarks image w (grave fs) sound
-        → rescued_tree_by (letters_for types image) (accepted held) (record { image = image; walk = w; sound = sound }) None ≡ t }
+        → rescued_tree_by (letters_for types image) (as_accepted held) (record { image = image; walk = w; sound = sound }) None ≡ t }
     ensures all { (types : Types) (held : ℕ) (image : List ℕ) (t : Tree) (l : Layout) (w : Walk) (fs : List FindingValue)
         (sound : ℕ → Bool) → blocks image ≤ held → FitsBy (letters_for types image) image t l → IsSurvey image w fs
         → IsOfItsKind image w → AreMarks image w (grave fs) sound
-        → rescue_leaves_by (letters_for types image) (accepted held) (record { image = image; walk = w; sound = sound }) ≡ [] }
+        → rescue_leaves_by (letters_for types image) (as_accepted held) (record { image = image; walk = w; sound = sound }) ≡ [] }
     ensures lost { (image : List ℕ) (t : Tree) (l : Layout) (w : Walk) (fs : List FindingValue)
         → Fits image t l → IsSurvey image w fs → (made : Bool) → has_lost made image w fs ≡ false }
 {}

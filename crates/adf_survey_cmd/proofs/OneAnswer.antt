@@ -27,7 +27,7 @@ use Rattle.adf_survey_cmd.specs.Answers.{Surveys, TellsFound, told_status, types
 use Rattle.adf_survey_cmd.specs.Hints.{hinted}
 use Rattle.adf_survey_cmd.specs.Subject.{IsTyped, OfTyped, SubjectValue, begun_subject, sized, subject, typed_subject}
 use Rattle.adf_survey_cmd.specs.Losses.{LossValue, losses_text}
-use Rattle.adf_survey_cmd.specs.Rescues.{GivesFault, IsJudged, Replies, RescueValue, Rescues, RescuesBy, RescuesFound, RescuesIn, RescuesJudged}
+use Rattle.adf_survey_cmd.specs.Rescues.{GivesFault, IsRefusal, Replies, RescueValue, Rescues, RescuesBy, RescuesFound, RescuesIn, RescuesRead}
 use Rattle.adf_survey_cmd.specs.Rescues.{RescuesSome, rescue_reply}
 use Rattle.adf_file_words.specs.SurveyLine.{AsksSurvey, InquiryValue, QuestionValue, cat, list, report, rescue}
 use Rattle.adf_survey_cmd.specs.FoundLines.{listing_text}
@@ -166,23 +166,23 @@ rescued_once types known lost input image boot r q (w, fs, s, x) (u, gs, t, y) =
     (subst (λ hs. RescuesFound types known lost input image u hs boot r) same.1 moved) y
 
 -- an input is accepted, or refused
-one_judged : (types : Types) (input : List ℕ) (x y : Bool) → IsJudged types input x → IsJudged types input y → x ≡ y
-one_judged types input true true a b = refl
-one_judged types input false false a b = refl
-one_judged types input true false none (t, l, fits) = absurd (none t l fits)
-one_judged types input false true (t, l, fits) none = absurd (none t l fits)
+one_refusal : (types : Types) (input : List ℕ) (x y : Bool) → IsRefusal types input x → IsRefusal types input y → x ≡ y
+one_refusal types input true true a b = refl
+one_refusal types input false false a b = refl
+one_refusal types input true false none (t, l, fits) = absurd (none t l fits)
+one_refusal types input false true (t, l, fits) none = absurd (none t l fits)
 
 -- so its rescue has one reply
-judged_once : (types : Types) (held : ℕ) (lost : List LossValue) (input boot : List ℕ) (r q : RescueValue) → Rescues types held lost input boot r
+read_once : (types : Types) (held : ℕ) (lost : List LossValue) (input boot : List ℕ) (r q : RescueValue) → Rescues types held lost input boot r
     → Rescues types held lost input boot q → rescue_reply r ≡ rescue_reply q
-judged_once types held lost input boot r q (refused, is, x) (other, also, y) =
+read_once types held lost input boot r q (refused, is, x) (other, also, y) =
     let known : Bool → Input = λ b. record { held = held; is_refused = b } in
     rescued_once types (known other) lost input (image_read other input) boot r q
-    (subst (λ b. RescuesJudged types (known b) lost input boot r) (one_judged types input refused other is also) x) y
+    (subst (λ b. RescuesRead types (known b) lost input boot r) (one_refusal types input refused other is also) x) y
 
 typed_rescued_once : (types : Types) (s : SubjectValue) (a b : Reply) → Replies (RescuesTyped types s) a → Replies (RescuesTyped types s) b → a ≡ b
 typed_rescued_once types s a b (r, (t, is, x), e) (q, (u, also, y), f) =
-    e ∙ judged_once types u.end u.lost u.image (sized 2 s.image) r q
+    e ∙ read_once types u.end u.lost u.image (sized 2 s.image) r q
     (subst (λ (t : SubjectValue). Rescues types t.end t.lost t.image (sized 2 s.image) r) (one_typed s t u is also) x) y ∙ sym f
 
 one_question : (q : QuestionValue) (s : SubjectValue) (a b : Reply) → QuestionAnswer q s a → QuestionAnswer q s b → a ≡ b

@@ -38,7 +38,7 @@ use Rattle.adf_runs.proofs.PendingText.{appends_nil}
 use Rattle.adf_survey_cmd.specs.Losses.{LossValue, ToldValue, front_losses, input_losses, loss_values, losses_of, rescue_losses, runs_lost, told_by}
 use Rattle.adf_survey_cmd.specs.Losses.{told_value}
 use Rattle.adf_survey_cmd.specs.Prepared.{IsBegunInput, IsFault, IsToldRefusal, LaysFor, Prepares, RefusesFor, WritesPrepared, known_of}
-use Rattle.adf_survey_cmd.specs.Rescues.{IsJudged, IsNoVolume, Replies, RescueValue, RescueValue.written, Rescues, RescuesBoth, RescuesBy, RescuesIn}
+use Rattle.adf_survey_cmd.specs.Rescues.{IsRefusal, IsNoVolume, Replies, RescueValue, RescueValue.written, Rescues, RescuesBoth, RescuesBy, RescuesIn}
 use Rattle.adf_survey_cmd.specs.declared.preparing.Begun.{Begun}
 use Rattle.adf_survey_cmd.specs.declared.preparing.Prepared.{Prepared}
 use Rattle.adf_survey_cmd.specs.declared.preparing.Unrescued.{Unrescued, TheVariants.NoMemory, TheVariants.Refused}
@@ -50,21 +50,21 @@ if_some o x P e h = subst (λ o. IfSome o P) e h
 -- what is given by the survey of an image that is read, and by that of a second one, if there is one
 pub found_gives : (types : Types) (known : Input) (lost : List LossValue) (input image : List ℕ) (w : Walk) (fs : List FindingValue) (sound : ℕ → Bool)
     (second : Option (List ℕ)) (boot : List ℕ) (r : RescueValue)
-    → IsJudged types input known.is_refused → image ≡ image_read known.is_refused input
+    → IsRefusal types input known.is_refused → image ≡ image_read known.is_refused input
     → IsSurvey image w fs → AreMarks image w (grave fs) sound → second_image (lacks_root input) image w fs ≡ second
     → RescuesBoth types known lost input (record { image = image; walk = w; sound = sound }) second fs boot r → Rescues types known.held lost input boot r
-found_gives types known lost input image w fs sound second boot r judged same survey marks is by =
+found_gives types known lost input image w fs sound second boot r refusal same survey marks is by =
     let a : Basis = record { image = image; walk = w; sound = sound } in (
       known.is_refused,
-      judged,
+      refusal,
       subst (λ (l : List ℕ). RescuesIn types known lost input l boot r) same
           (w, fs, survey, (sound, marks, subst (λ (o : Option (List ℕ)). RescuesBoth types known lost input a o fs boot r) (sym is) by)),
     )
 
 -- an input that has no fault is accepted, and one that has one is refused
-pub judged_by : (types : Types) (input : List ℕ) (fault : Option Fault) → IsFault types input fault → IsJudged types input (is_some fault)
-judged_by types input None is = is
-judged_by types input (Some f) first = λ t l fits. none_fits input f.block f.cause t l first fits
+pub refusal_of_fault : (types : Types) (input : List ℕ) (fault : Option Fault) → IsFault types input fault → IsRefusal types input (is_some fault)
+refusal_of_fault types input None is = is
+refusal_of_fault types input (Some f) first = λ t l fits. none_fits input f.block f.cause t l first fits
 
 -- a second image is surveyed if there is one
 

@@ -34,7 +34,7 @@ use Rattle.adf_rescue.specs.Rescue.{Basis, IsSecond, rescued_additions_by}
 use Rattle.adf_rescue.specs.declared.standing.Input.{Input}
 use Rattle.adf_survey_cmd.proofs.RescueAnswers.{none_fits_it}
 use Rattle.adf_survey_cmd.specs.Losses.{LossValue, rescue_losses}
-use Rattle.adf_survey_cmd.specs.Rescues.{GivesFault, IsJudged, IsNoVolume, RescueValue, Rescues, RescuesBy, RescuesJudged, RescuesSome}
+use Rattle.adf_survey_cmd.specs.Rescues.{GivesFault, IsRefusal, IsNoVolume, RescueValue, Rescues, RescuesBy, RescuesRead, RescuesSome}
 
 -- the second survey
 
@@ -86,14 +86,14 @@ allowed_size image w fs (unread f) some = absurd (some refl)
 allowed_size image w fs (read v d t) some = (course_size image v).1
 
 -- of an input that is refused, or of whose image nothing is surveyed, the first fault is given
-fault_judged : (ls : List LossValue) (types : Types) (refused : Bool) (input : List ℕ) (w : Walk) (fs : List FindingValue) → IsJudged types input refused
+fault_refused : (ls : List LossValue) (types : Types) (refused : Bool) (input : List ℕ) (w : Walk) (fs : List FindingValue) → IsRefusal types input refused
     → IsSurvey (image_read refused input) w fs → (refused ≡ true) ⊎ (w ≡ []) → (r : RescueValue) × GivesFault ls types input r
-fault_judged ls types true input w fs judged survey why = fault_given ls types input judged (fits_or_fault_by types input)
-fault_judged ls types false input w fs judged survey (inl is) = absurd cc
-fault_judged ls types false input w fs (t, l, fits) survey (inr none) =
+fault_refused ls types true input w fs refusal survey why = fault_given ls types input refusal (fits_or_fault_by types input)
+fault_refused ls types false input w fs refusal survey (inl is) = absurd cc
+fault_refused ls types false input w fs (t, l, fits) survey (inr none) =
     absurd (none_fits_it types input w fs survey (unread_fault types input w fs survey none) t l fits)
 
-module _ (types : Types) (known : Input) (lost : List LossValue) (input : List ℕ) (judged : IsJudged types input known.is_refused) (w : Walk)
+module _ (types : Types) (known : Input) (lost : List LossValue) (input : List ℕ) (refusal : IsRefusal types input known.is_refused) (w : Walk)
     (fs : List FindingValue) (survey : IsSurvey (image_read known.is_refused input) w fs) (sound : ℕ → Bool)
     (are : AreBytes (image_read known.is_refused input)) (second : Option Basis) (more : AreSecondBytes second) (boot : List ℕ) where
   abbrev image : List ℕ
@@ -107,7 +107,7 @@ module _ (types : Types) (known : Input) (lost : List LossValue) (input : List �
       let letters : Letters = letters_for types image in
       elim (dec_and (dec_refused known.is_refused) (dec_nil (rescued_additions_by letters known first second))) [
         | yes nothing ↦
-            let (r, refuses) = fault_judged (rescue_losses letters known lost input first second fs) types known.is_refused input w fs judged survey
+            let (r, refuses) = fault_refused (rescue_losses letters known lost input first second fs) types known.is_refused input w fs refusal survey
             (inl nothing.0) in (r, inl (nothing, refuses))
         | no stands ↦
             let (volume, laid, size) = rescue_laid letters known first second (allowed_size image w fs survey some) are more in
@@ -116,29 +116,29 @@ module _ (types : Types) (known : Input) (lost : List LossValue) (input : List �
 
   rescued_by : Dec (w ≡ []) → (r : RescueValue) × RescuesBy types known lost input first second fs boot r
   rescued_by (yes none) =
-      let (r, refuses) = fault_judged [] types known.is_refused input w fs judged survey (inr none) in (r, inl (none, refuses))
+      let (r, refuses) = fault_refused [] types known.is_refused input w fs refusal survey (inr none) in (r, inl (none, refuses))
   rescued_by (no some) = let (r, told) = some_rescued some in (r, inr (some, told))
 
-rescued_judged : (types : Types) (known : Input) (lost : List LossValue) (input boot : List ℕ) → AreBytes input → IsJudged types input known.is_refused
-    → (r : RescueValue) × RescuesJudged types known lost input boot r
-rescued_judged types known lost input boot are judged =
+rescued_read : (types : Types) (known : Input) (lost : List LossValue) (input boot : List ℕ) → AreBytes input → IsRefusal types input known.is_refused
+    → (r : RescueValue) × RescuesRead types known lost input boot r
+rescued_read types known lost input boot are refusal =
     let image : List ℕ = image_read known.is_refused input in
     let here : AreBytes image = read_bytes known.is_refused input are in
     let (w, fs, survey) = some_survey image in
     let (sound, marks) = some_marks image w fs survey (grave fs) in
     let bytes = second_bytes (lacks_root input) image w fs here in
     let (second, is, more) = second_of (second_image (lacks_root input) image w fs) bytes in
-    let (r, told) = rescued_by types known lost input judged w fs survey sound here second more boot (dec_nil w) in
+    let (r, told) = rescued_by types known lost input refusal w fs survey sound here second more boot (dec_nil w) in
     (r, (w, fs, survey, (sound, marks, (second, is, told))))
 
 -- an input is accepted or refused
-judged : (types : Types) (input : List ℕ) → FitsOrHasFaultBy types input → (refused : Bool) × IsJudged types input refused
-judged types input (inl fits) = (false, fits)
-judged types input (inr (b, c, first)) = (true, λ t l fits. none_fits input b c t l first fits)
+refusal_told : (types : Types) (input : List ℕ) → FitsOrHasFaultBy types input → (refused : Bool) × IsRefusal types input refused
+refusal_told types input (inl fits) = (false, fits)
+refusal_told types input (inr (b, c, first)) = (true, λ t l fits. none_fits input b c t l first fits)
 
 pub some_rescue : (types : Types) (held : ℕ) (lost : List LossValue) (input boot : List ℕ) → AreBytes input
     → (r : RescueValue) × Rescues types held lost input boot r
 some_rescue types held lost input boot are =
-    let (refused, is) = judged types input (fits_or_fault_by types input) in
-    let (r, told) = rescued_judged types (record { held = held; is_refused = refused }) lost input boot are is in
+    let (refused, is) = refusal_told types input (fits_or_fault_by types input) in
+    let (r, told) = rescued_read types (record { held = held; is_refused = refused }) lost input boot are is in
     (r, (refused, is, told))

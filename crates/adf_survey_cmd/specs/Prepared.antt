@@ -17,7 +17,7 @@ use Rattle.adf_texts.specs.Lines.{fault_line}
 use Rattle.adf_runs.specs.Commands.{Reply}
 use Rattle.adf_runs.specs.declared.outcome.Outcome.{Outcome, TheVariants.LeftOut, TheVariants.NoMemory as OutOfMemory}
 use Rattle.adf_survey_cmd.specs.Losses.{LossValue, loss_values, losses_text, runs_lost}
-use Rattle.adf_survey_cmd.specs.Rescues.{IsJudged, RescueValue, RescueValue.refused, RescueValue.written, rescue_reply}
+use Rattle.adf_survey_cmd.specs.Rescues.{IsRefusal, RescueValue, RescueValue.refused, RescueValue.written, rescue_reply}
 use Rattle.adf_survey_cmd.specs.declared.preparing.Begun.{Begun}
 use Rattle.adf_survey_cmd.specs.declared.preparing.Prepared.{Prepared}
 use Rattle.adf_survey_cmd.specs.declared.preparing.Unrescued.{Unrescued, TheVariants.NoMemory, TheVariants.Refused}
@@ -28,7 +28,7 @@ IsFirstFault types image f = FirstFaultBy (letters_for types image) image f.bloc
 
 -- an image is accepted where these types are, or has this first fault
 abbrev pub IsFault : Types → List ℕ → Option Fault → Type 0
-IsFault types image None = IsJudged types image false
+IsFault types image None = IsRefusal types image false
 IsFault types image (Some f) = IsFirstFault types image f
 
 -- what is told of an input before an image is read of it: its first fault, if it is refused; whether it states a type; whether a root is made; and

@@ -85,16 +85,16 @@ RescuesIn types known lost input image boot r =
     (w : Walk) × (fs : List FindingValue) × IsSurvey image w fs × RescuesFound types known lost input image w fs boot r
 
 -- an input is refused where these types are accepted: no tree and layout fit it; or it is accepted
-abbrev pub IsJudged : Types → List ℕ → (refused : Bool) → Type 0
-IsJudged types input true = IsNoVolume types input
-IsJudged types input false = (t : Tree) × (l : Layout) × FitsBy (letters_for types input) input t l
+abbrev pub IsRefusal : Types → List ℕ → (refused : Bool) → Type 0
+IsRefusal types input true = IsNoVolume types input
+IsRefusal types input false = (t : Tree) × (l : Layout) × FitsBy (letters_for types input) input t l
 
 -- the rescue of an input that is accepted or refused, by the image that is read of it
-abbrev pub RescuesJudged : Types → Input → (lost : List LossValue) → List ℕ → (boot : List ℕ) → RescueValue → Type 0
-RescuesJudged types known lost input boot r = RescuesIn types known lost input (image_read known.is_refused input) boot r
+abbrev pub RescuesRead : Types → Input → (lost : List LossValue) → List ℕ → (boot : List ℕ) → RescueValue → Type 0
+RescuesRead types known lost input boot r = RescuesIn types known lost input (image_read known.is_refused input) boot r
 
 -- the rescue of an input, whose boot block and root may be overwritten, of which the first `held` blocks are there, and beside which these blocks
 -- are lost, with these boot blocks put into the volume. Names have the letters of the image as far as these types have them
 abbrev pub Rescues : Types → (held : ℕ) → (lost : List LossValue) → List ℕ → (boot : List ℕ) → RescueValue → Type 0
 Rescues types held lost input boot r =
-    (refused : Bool) × IsJudged types input refused × RescuesJudged types (record { held = held; is_refused = refused }) lost input boot r
+    (refused : Bool) × IsRefusal types input refused × RescuesRead types (record { held = held; is_refused = refused }) lost input boot r

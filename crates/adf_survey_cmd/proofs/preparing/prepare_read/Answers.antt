@@ -7,7 +7,7 @@ use Rattle.adf_rescue.specs.Opened.{lacks_root}
 use Rattle.adf_rescue.specs.Rescue.{Basis}
 use Rattle.adf_survey_cmd.specs.Prepared.{IsBegunInput, known_of}
 use Rattle.adf_survey_cmd.specs.Rescues.{Rescues, RescuesBoth, RescuesBy}
-use Rattle.adf_survey_cmd.proofs.RescueAnswers.{found_gives, judged_by, none_prepared, prepares_weaker, second_is, second_none}
+use Rattle.adf_survey_cmd.proofs.RescueAnswers.{found_gives, refusal_of_fault, none_prepared, prepares_weaker, second_is, second_none}
 use Rattle.adf_survey_cmd.proofs.preparing.prepare_read.Goals as goal
 
 pub prepare_found-requires : goal.prepare_found-requires
@@ -29,7 +29,7 @@ returns-in-Some c = λ lost input begun.
     prepares_weaker (RescuesBoth c.args.scope.types (known_of c.args.scope.held c.args.begun.now) lost input a (Some hung) fs)
     (Rescues c.args.scope.types c.args.scope.held lost input) _
     (λ boot r by. found_gives c.args.scope.types (known_of c.args.scope.held c.args.begun.now) lost input v.image w fs sound (Some hung) boot r
-    (judged_by c.args.scope.types input c.args.begun.now.fault begun.fault) (same ∙ begun.reads) here marks second by)
+    (refusal_of_fault c.args.scope.types input c.args.begun.now.fault begun.fault) (same ∙ begun.reads) here marks second by)
     (c.prepare_hung.ensures lost input
     (subst (λ (image : List ℕ). IsBegunInput c.args.scope.types lost input image c.args.begun.now) (sym same) begun) w fs sound here marks)
 
@@ -48,7 +48,7 @@ returns c = λ lost input begun.
     prepares_weaker (RescuesBy c.args.scope.types (known_of c.args.scope.held c.args.begun.now) lost input a None fs)
     (Rescues c.args.scope.types c.args.scope.held lost input) _
     (λ boot r by. found_gives c.args.scope.types (known_of c.args.scope.held c.args.begun.now) lost input v.image w fs sound None boot r
-    (judged_by c.args.scope.types input c.args.begun.now.fault begun.fault) (same ∙ begun.reads) here marks none (None, tt, by))
+    (refusal_of_fault c.args.scope.types input c.args.begun.now.fault begun.fault) (same ∙ begun.reads) here marks none (None, tt, by))
     (c.prepare_found.ensures lost input
     (subst (λ (image : List ℕ). IsBegunInput c.args.scope.types lost input image c.args.begun.now) (sym same) begun) w fs sound here marks None tt)
 
