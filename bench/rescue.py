@@ -192,11 +192,15 @@ def is_child(image, b, t):
 
 
 def pruned(image):
-    """The image in which each header with a wrong sum leads only to what says that it is such a part, or else its chain is broken; and is
-    a directory if it leads to a header that names it."""
+    """The image in which each header with a wrong sum names another directory, if its sum is right then; or leads only to what says that it
+    is such a part, or else its chain is broken; and is a directory if it leads to a header that names it."""
     new, blocks = bytearray(image), len(image) // 512
     for b in range(2, blocks):
         if not claims(new, b, 2) or b == blocks // 2 or sealed(new, b):
+            continue
+        home = (words(new, b)[125] - sum(words(new, b))) % 2**32
+        if home == blocks // 2 or 2 <= home < blocks and says_dir(new, home):
+            pack_into(">I", new, 512 * b + 500, home)
             continue
         if words(new, b)[127] != DIR and any(is_child(new, b, t) for t in words(new, b)[6:78]):
             pack_into(">I", new, 512 * b + 4 * 127, DIR)

@@ -1,13 +1,13 @@
 -- What stays in a pruned image.
 -- Letters: b, c blocks; i, j words; k a number of slots or blocks; x, y, z images.
-use Rattle.std.proofs.Common.{◌==◌, ◌&&◌, ◌||◌, not, ◌≡◌, ◌≢◌, ◌≤◌, ◌<◌, ℕ, zero, suc, ◌+◌, ◌*◌, ◌^◌, Bool, true, false, List, length, ◌∙◌, ap, arith}
+use Rattle.std.proofs.Common.{◌==◌, ◌&&◌, ◌||◌, cond, not, ◌≡◌, ◌≢◌, ◌≤◌, ◌<◌, ℕ, zero, suc, ◌+◌, ◌*◌, ◌^◌, Bool, true, false, List, length, ◌∙◌, ap, arith}
 use Rattle.std.proofs.Common.{◌⊎◌, inl, inr, refl, subst, sym}
 use Rattle.std.proofs.lemmas.Bool.{and_left, and_parts, and_right, cases_Bool, cases_lt, cond-false, cond-true, cond_both, eq-eqb, eqb-true, not_from_true}
 use Rattle.std.proofs.lemmas.Bool.Decides.{nat_tests}
 use Rattle.std.proofs.lemmas.Grind.{common_steps}
-use Rattle.adf_base.specs.Words.{block, with_word, word}
-use Rattle.adf_base.proofs.WordLaws.{block_other, block_written, length-block, length-with_bytes, length-with_word, word-with_word_other, word-with_word_same}
-use Rattle.adf_blocks.specs.declared.layout.TheConstants.{EXTENSION, FIRST_SLOT, NEXT_IN_CHAIN, OWN_KEY, SECONDARY_TYPE, SLOTS, ST_DIR, TYPE, T_LIST, T_SHORT}
+use Rattle.adf_base.specs.Words.{block, checksum, long_sum, with_word, word}
+use Rattle.adf_base.proofs.WordLaws.{block_other, block_written, length-block, length-with_bytes, length-with_word, sealed_block, word-with_word_other, word-with_word_same}
+use Rattle.adf_blocks.specs.declared.layout.TheConstants.{EXTENSION, FIRST_SLOT, NEXT_IN_CHAIN, OWN_KEY, PARENT, SECONDARY_TYPE, SLOTS, ST_DIR, TYPE, T_LIST, T_SHORT}
 use Rattle.adf_blocks.specs.Sizes.{blocks}
 use Rattle.adf_volume.specs.Image.{root_of, word_in}
 use Rattle.adf_volume.specs.Start.{is_image_len}
@@ -16,6 +16,7 @@ use Rattle.adf_rescue.specs.Claims.{claims_header, claims_type}
 use Rattle.adf_rescue.specs.Pruned.{chain_pruned, directory_typed, has_directory_type}
 use Rattle.adf_rescue.specs.Pruned.{chain_leads, extension_leads, extension_pruned, put_unless, slot_leads, LeadsToParts}
 use Rattle.adf_rescue.specs.Opened.{opened}
+use Rattle.adf_rescue.specs.Pruned.{IsMended, homed, is_home, parent_summed}
 use Rattle.adf_rescue.specs.Pruned.{header_pruned, image_read, is_in_doubt, leads_to_child, may_be_pruned, pruned, pruned_at, pruned_first, slots_pruned}
 use Rattle.adf_rescue.proofs.OpenedImages.{length_opened}
 use Rattle.adf_rescue.proofs.PrunedImages.{all_pruned}
@@ -173,6 +174,10 @@ module _ {c : ℕ} {x y : List ℕ} (h : Prunes c x y) (b : ℕ) where
         extension = word_moves T_LIST EXTENSION (ap (λ bs. word bs EXTENSION) same) leads.extension;
       }
 
+  mended_moves : b ≢ c → IsMended x b → IsMended y b
+  mended_moves other (inl right) = inl (ap long_sum (h.others b other) ∙ right)
+  mended_moves other (inr leads) = inr (parts_move other leads)
+
 -- the first k slots lead to parts
 slots_lead : (x : List ℕ) (b k : ℕ) → b < blocks x → k ≤ SLOTS → (s : ℕ) → s < k
     → (word_in (slots_pruned x b k) b (FIRST_SLOT + s) ≡ 0) ⊎ (slot_leads (slots_pruned x b k) b s ≡ true)
@@ -233,18 +238,32 @@ header_leads x b inside =
       extension = extension_is_led chain b in3;
     }
 
-at_leads : (x : List ℕ) (b : ℕ) → b < blocks x → is_in_doubt x b ≡ true → LeadsToParts (pruned_at x b) b
+-- the image with header b mended
+abbrev mended : List ℕ → ℕ → List ℕ
+mended x b = cond (is_home x (parent_summed x b)) (homed x b) (header_pruned x b)
+
+mended_leads : (x : List ℕ) (b : ℕ) → b < blocks x → IsMended (mended x b) b
+mended_leads x b inside =
+    cond_both (is_home x (parent_summed x b)) (homed x b) (header_pruned x b) (λ y. IsMended y b)
+    (λ home. inl (sealed_block x b PARENT (whole x b inside) (omega arith))) (λ none. inr (header_leads x b inside))
+
+mended_prunes : (x : List ℕ) (b : ℕ) → b < blocks x → Prunes b x (mended x b)
+mended_prunes x b inside =
+    cond_both (is_home x (parent_summed x b)) (homed x b) (header_pruned x b) (Prunes b x)
+    (λ home. put_prunes x b PARENT (checksum PARENT (block x b)) inside (omega arith) refl
+    (inl (word_other x b PARENT (checksum PARENT (block x b)) SECONDARY_TYPE inside (omega arith) (omega arith)))) (λ none. header_prunes x b inside)
+
+at_leads : (x : List ℕ) (b : ℕ) → b < blocks x → is_in_doubt x b ≡ true → IsMended (pruned_at x b) b
 unfolding pruned_at
-at_leads x b inside doubt =
-    subst (λ y. LeadsToParts y b) (sym (cond-true (is_in_doubt x b) (header_pruned x b) x doubt)) (header_leads x b inside)
+at_leads x b inside doubt = subst (λ y. IsMended y b) (sym (cond-true (is_in_doubt x b) (mended x b) x doubt)) (mended_leads x b inside)
 
 at_prunes : (x : List ℕ) (b : ℕ) → b < blocks x → Prunes b x (pruned_at x b)
 unfolding pruned_at
-at_prunes x b inside = cond_both (is_in_doubt x b) (header_pruned x b) x (Prunes b x) (λ doubt. header_prunes x b inside) (λ sound. prunes_none b x)
+at_prunes x b inside = cond_both (is_in_doubt x b) (mended x b) x (Prunes b x) (λ doubt. mended_prunes x b inside) (λ sound. prunes_none b x)
 
 at_keeps : (x : List ℕ) (b : ℕ) → is_in_doubt x b ≡ false → pruned_at x b ≡ x
 unfolding pruned_at
-at_keeps x b sound = cond-false (is_in_doubt x b) (header_pruned x b) x sound
+at_keeps x b sound = cond-false (is_in_doubt x b) (mended x b) x sound
 
 -- whether a block is in doubt depends on itself and the length alone
 same_doubt : (x y : List ℕ) (b : ℕ) → length y ≡ length x → block y b ≡ block x b → is_in_doubt y b ≡ is_in_doubt x b
@@ -256,7 +275,7 @@ record PrunesFirst (k : ℕ) (x y : List ℕ) : Type 0 where
   sound : (b : ℕ) → is_in_doubt x b ≡ false → block y b ≡ block x b
   ahead : (b : ℕ) → k ≤ b → block y b ≡ block x b
   words : (b i : ℕ) → may_be_pruned i ≡ false → word_in y b i ≡ word_in x b i
-  leads : (b : ℕ) → b < k → is_in_doubt x b ≡ true → LeadsToParts y b
+  leads : (b : ℕ) → b < k → is_in_doubt x b ≡ true → IsMended y b
   type : (b : ℕ) → KeepsType x y b
 
 none_prunes : (x : List ℕ) → PrunesFirst 0 x x
@@ -284,11 +303,11 @@ more_prunes k x y inside h =
       ahead = λ b le. t.others b (omega arith) ∙ h.ahead b (omega arith);
       words = λ b i kept. all_words t b i kept ∙ h.words b i kept;
       leads = λ b lt doubt. elim (cases_lt b k) [
-        | inl before ↦ parts_move t b (omega arith) (h.leads b before doubt)
+        | inl before ↦ mended_moves t b (omega arith) (h.leads b before doubt)
         | inr from ↦
             let last : k ≡ b = omega arith in
             let here = same_doubt x y k h.length (h.ahead k (omega arith)) ∙ subst (λ c. is_in_doubt x c ≡ true) (sym last) doubt in
-            subst (λ c. LeadsToParts (pruned_at y k) c) last (at_leads y k (still x y k h.length inside) here)
+            subst (λ c. IsMended (pruned_at y k) c) last (at_leads y k (still x y k h.length inside) here)
       ];
       type = λ b. type_more x y (pruned_at y k) b (h.type b) (elim (cases_Bool (b == k)) [
         | inl here ↦ subst (λ c. KeepsType y (pruned_at y k) c) (sym (eqb-true b k here)) t.type
@@ -322,10 +341,10 @@ sound_kept x b sound = either x (λ y. block y b ≡ block x b) (λ len. (first_
 pub words_kept : (x : List ℕ) (b i : ℕ) → may_be_pruned i ≡ false → word_in (pruned x) b i ≡ word_in x b i
 words_kept x b i kept = either x (λ y. word_in y b i ≡ word_in x b i) (λ len. (first_prunes (blocks x) x (omega arith)).words b i kept) refl
 
-pub links_kept : (x : List ℕ) → is_image_len (length x) ≡ true → (b : ℕ) → is_in_doubt x b ≡ true → LeadsToParts (pruned x) b
+pub links_kept : (x : List ℕ) → is_image_len (length x) ≡ true → (b : ℕ) → is_in_doubt x b ≡ true → IsMended (pruned x) b
 links_kept x len b doubt =
     let inside : b < blocks x = grind (arith, common_steps, and_parts, nat_tests) in
-    subst (λ y. LeadsToParts y b) (sym (all_pruned x len)) ((first_prunes (blocks x) x (omega arith)).leads b inside doubt)
+    subst (λ y. IsMended y b) (sym (all_pruned x len)) ((first_prunes (blocks x) x (omega arith)).leads b inside doubt)
 
 pub type_kept : (x : List ℕ) (b : ℕ) → KeepsType x (pruned x) b
 type_kept x b = either x (λ y. KeepsType x y b) (λ len. (first_prunes (blocks x) x (omega arith)).type b) (inl refl)

@@ -2,13 +2,14 @@
 -- Letters: b, t blocks; i a word; s a slot; k a number of slots or blocks.
 use Rattle.std.specs.Prelude.{ℕ, ◌+◌, ◌==◌, ◌&&◌, ◌||◌, ◌≡◌, ◌<◌, ◌⊎◌, not, nat_le, nat_lt, Bool, true, false, cond, List, length}
 use Rattle.std.proofs.Common.{zero, suc}
-use Rattle.adf_base.specs.Words.{block, long_sum}
+use Rattle.adf_base.specs.Words.{block, long_sum, sealed, with_block, word}
 use Rattle.adf_blocks.specs.declared.layout.TheConstants.{EXTENSION, FIRST_SLOT, NEXT_IN_CHAIN, PARENT, SECONDARY_TYPE, SLOTS, ST_DIR}
-use Rattle.adf_blocks.specs.Sizes.{blocks}
+use Rattle.adf_blocks.specs.Sizes.{blocks, in_range}
 use Rattle.adf_volume.specs.Image.{root_of, word_in}
 use Rattle.adf_volume.specs.Start.{is_image_len}
 use Rattle.adf_rescue.specs.Claims.{claims_extension, claims_header}
 use Rattle.adf_rescue.specs.Hung.{put_in}
+use Rattle.adf_rescue.specs.Lost.{says_directory}
 use Rattle.adf_rescue.specs.Opened.{opened}
 
 -- block b is a header in doubt: it claims to be a header, is not the root, and its sum is wrong
@@ -72,9 +73,22 @@ header_pruned image b =
     let chain = chain_pruned slots b in
     extension_pruned chain b
 
--- the image with block b pruned, if it is a header in doubt
+-- the directory that header b has to name for its sum to be right
+abbrev pub parent_summed : List ℕ → ℕ → ℕ
+parent_summed image b = word (sealed PARENT (block image b)) PARENT
+
+-- block p is the root, or says that it is a directory's header
+abbrev pub is_home : List ℕ → ℕ → Bool
+is_home image p = (p == root_of image) || in_range image p && says_directory image p
+
+-- the image in which header b names this directory
+abbrev pub homed : List ℕ → ℕ → List ℕ
+homed image b = with_block image b (sealed PARENT (block image b))
+
+-- the image with block b mended, if it is a header in doubt: it names another directory, if its sum is right then; otherwise it is pruned
 unfoldable pub pruned_at : List ℕ → ℕ → List ℕ
-pruned_at image b = cond (is_in_doubt image b) (header_pruned image b) image
+pruned_at image b =
+    cond (is_in_doubt image b) (cond (is_home image (parent_summed image b)) (homed image b) (header_pruned image b)) image
 
 -- the image with the first k blocks pruned, one after the other
 unfoldable pub pruned_first : List ℕ → ℕ → List ℕ
@@ -89,13 +103,16 @@ pruned image = cond (is_image_len (length image)) (pruned_first image (blocks im
 abbrev pub image_read : (refused : Bool) → List ℕ → List ℕ
 image_read refused input = cond refused (pruned (opened input)) input
 
--- word i of a header is one that may be pruned: a slot, the next in the chain, the extension block, or the secondary type
+-- word i of a header is one that may be pruned: a slot, the next in the chain, the directory, the extension block, or the secondary type
 abbrev pub may_be_pruned : ℕ → Bool
-may_be_pruned i =
-    nat_le FIRST_SLOT i && nat_lt i (FIRST_SLOT + SLOTS) || (i == NEXT_IN_CHAIN) || (i == EXTENSION) || (i == SECONDARY_TYPE)
+may_be_pruned i = nat_le FIRST_SLOT i && nat_lt i (FIRST_SLOT + SLOTS) || nat_le NEXT_IN_CHAIN i && nat_le i SECONDARY_TYPE
 
 -- each word of block b that may lead on is 0, or leads to what claims to be such a part; but the chain is broken otherwise
 pub record LeadsToParts (image : List ℕ) (b : ℕ) : Type 0 where
   pub slots : (s : ℕ) → s < SLOTS → (word_in image b (FIRST_SLOT + s) ≡ 0) ⊎ (slot_leads image b s ≡ true)
   pub chain : (word_in image b NEXT_IN_CHAIN ≡ 1) ⊎ (chain_leads image b ≡ true)
   pub extension : (word_in image b EXTENSION ≡ 0) ⊎ (extension_leads image b ≡ true)
+
+-- header b is mended: its sum is right, or it leads to such parts
+abbrev pub IsMended : List ℕ → ℕ → Type 0
+IsMended image b = (long_sum (block image b) ≡ 0) ⊎ LeadsToParts image b

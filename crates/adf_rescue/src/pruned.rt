@@ -1,19 +1,19 @@
 // Headers whose checksums are wrong, pruned of what does not say of itself that it is their part.
 
-ghost use Rattle.std.specs.Prelude.{◌≡◌, ◌<◌, ◌+◌, ◌⊎◌, ℕ, Bool, List, length, true, false};
+ghost use Rattle.std.specs.Prelude.{◌≡◌, ◌<◌, ◌+◌, ◌⊎◌, ℕ, Bool, List, cond, length, true, false};
 ghost use Rattle.adf_base.specs.Words.{block};
 ghost use Rattle.adf_blocks.specs.Sizes.{blocks};
 ghost use Rattle.adf_blocks.specs.declared.layout.TheConstants.{SECONDARY_TYPE, SLOTS, ST_DIR};
 ghost use Rattle.adf_volume.specs.Image.{root_of, word_in};
 ghost use Rattle.adf_volume.specs.Start.{is_image_len};
-ghost use Rattle.adf_rescue.specs.Pruned.{LeadsToParts, chain_leads, chain_pruned, directory_typed, extension_pruned, has_directory_type, header_pruned};
+ghost use Rattle.adf_rescue.specs.Pruned.{IsMended, chain_leads, chain_pruned, directory_typed, extension_pruned, has_directory_type, header_pruned};
 ghost use Rattle.adf_rescue.specs.Pruned.{is_child_of, is_in_doubt, leads_to_child, may_be_pruned, pruned, pruned_at};
-ghost use Rattle.adf_rescue.specs.Pruned.{put_unless, slot_pruned, slots_pruned};
+ghost use Rattle.adf_rescue.specs.Pruned.{homed, is_home, parent_summed, put_unless, slot_pruned, slots_pruned};
 
 use crate::claims::{claims_extension, claims_header};
 use crate::image::{block_count, block_in, root_of};
-use crate::lost::word_in;
-use adf_base::set_word;
+use crate::lost::{in_range, says_directory, word_in};
+use adf_base::{BLOCK_LEN, seal, seal_block, set_word};
 use adf_blocks::{EXTENSION, FIRST_SLOT, NEXT_IN_CHAIN, PARENT, SECONDARY_TYPE, SLOTS, ST_DIR};
 use adf_volume::is_image_len;
 
@@ -140,6 +140,38 @@ fn prune_header(image: &mut [u8], b: u32)
     prune_extension(image, b);
 }
 
+// The directory that header `b` has to name for its checksum to be right.
+fn parent_summed(image: &[u8], b: u32) -> u32
+    requires { b < blocks image.now }
+    ensures { result ≡ parent_summed image.now b }
+{
+    let mut copy = [0u8; BLOCK_LEN];
+    copy.copy_from_slice(block_in(image, b as usize).bytes(0, BLOCK_LEN));
+    seal_block(&mut copy, PARENT);
+    word_in(&copy, 0, PARENT)
+}
+
+// Whether block `p` is the root, or says that it is a directory's header.
+fn is_home(image: &[u8], p: u32) -> bool
+    requires { is_image_len (length image.now) ≡ true }
+    ensures { result ≡ is_home image.now p }
+{
+    p == root_of(image) || in_range(image, p) && says_directory(image, p)
+}
+
+// Mends header `b`, which is in doubt.
+fn mend_header(image: &mut [u8], b: u32)
+    requires sized { is_image_len (length image.old) ≡ true }
+    requires inside { b < blocks image.old }
+    ensures { image.new ≡ cond (is_home image.old (parent_summed image.old b)) (homed image.old b) (header_pruned image.old b) }
+{
+    if is_home(image, parent_summed(image, b)) {
+        seal(image, b, PARENT);
+    } else {
+        prune_header(image, b);
+    }
+}
+
 // Prunes block `b`, if it is a header in doubt.
 #[tactic(auto, unfolding(crate::specs::Pruned::pruned_at))]
 fn prune_at(image: &mut [u8], b: u32)
@@ -148,16 +180,17 @@ fn prune_at(image: &mut [u8], b: u32)
     ensures { image.new ≡ pruned_at image.old b }
 {
     if is_in_doubt(image, b) {
-        prune_header(image, b);
+        mend_header(image, b);
     }
 }
 
-/// Prunes the headers of an image whose checksums are wrong, but for the root: those of blocks that say by words 0 and 1 that
-/// they are headers. One that has a sound header in it, which words 6 to 77 lead to and which names it as its directory, is
+/// Mends the headers of an image whose checksums are wrong, but for the root: those of blocks that say by words 0 and 1 that
+/// they are headers. One whose checksum is right with the root, or a sound directory, in word 125 names that. The others are
+/// pruned. One that has a sound header in it, which words 6 to 77 lead to and which names it as its directory, is
 /// made a directory, by word 127. In a directory each of words 6 to 77 becomes 0 unless it leads to what says by words 0 and 1
 /// that it is a header, and in others all of them; likewise word 126 unless it leads to what says that it is an extension
 /// block. Word 124, the next in the chain, becomes 1, which is no header's block, unless it is 0 or leads to what says that it
-/// is a header. Nothing else changes, nor is a checksum made right. The headers are pruned in
+/// is a header. Nothing else changes, nor is a checksum. The headers are pruned in
 /// ascending order, each by the image as it stands then. An image of a length that no volume has stays as it is.
 #[tactic(auto, using(crate::proofs::PrunedImages::pruned_steps))]
 pub fn prune(image: &mut [u8])
@@ -172,9 +205,9 @@ pub fn prune(image: &mut [u8])
 }
 
 /// A pruned image has as many bytes. Each block stays that is no header in doubt, so the boot block and the root, and all of
-/// an image without such a header. In a volume each word of a header in doubt that leads on is then 0, or leads to what claims
-/// to be such a part; but where a chain led elsewhere its word is 1. Of each block only words 6 to 77, 124, 126 and 127 change, so no checksum does; and the last of them only
-/// to that of a directory.
+/// an image without such a header. In a volume a header in doubt then has a right checksum, or each word of it that leads on is
+/// 0, or leads to what claims to be such a part; but where a chain led elsewhere its word is 1. Of each block only words 6 to 77
+/// and 124 to 127 change, and the last of them only to that of a directory.
 pub fn pruned_keeps()
     ensures length { (image : List ℕ) → length (pruned image) ≡ length image }
     ensures odd { (image : List ℕ) → is_image_len (length image) ≡ false → pruned image ≡ image }
@@ -183,7 +216,7 @@ pub fn pruned_keeps()
     ensures root { (image : List ℕ) → block (pruned image) (root_of image) ≡ block image (root_of image) }
     ensures same { (image : List ℕ) → ((b : ℕ) → is_in_doubt image b ≡ false) → pruned image ≡ image }
     ensures links { (image : List ℕ) → is_image_len (length image) ≡ true → (b : ℕ) → is_in_doubt image b ≡ true
-        → LeadsToParts (pruned image) b }
+        → IsMended (pruned image) b }
     ensures words { (image : List ℕ) (b i : ℕ) → may_be_pruned i ≡ false → word_in (pruned image) b i ≡ word_in image b i }
     ensures types { (image : List ℕ) (b : ℕ) → (word_in (pruned image) b SECONDARY_TYPE ≡ word_in image b SECONDARY_TYPE)
         ⊎ (word_in (pruned image) b SECONDARY_TYPE ≡ ST_DIR) }
