@@ -102,11 +102,31 @@ def told_type(image):
     return stated if (kind, letters) == (stated % 2, stated >= 2) else 2 * letters + kind
 
 
+def with_kind_of(stated, other):
+    """A type of 0 to 5, but of the kind of another."""
+    if stated % 2 == other % 2:
+        return stated
+    return min(stated, 3) - 1 if stated % 2 else min(stated, 2) + 1
+
+
+def type_opened(image):
+    """The type that the entries of an image tell, once it is opened; where its root is made, of the kind that is told with what is lost
+    hung in it."""
+    new, told = opened(image), told_type(opened(image))
+    first = Survey(new)
+    if lacks_root(image) and first.nodes:
+        lost = Lost(first, True)
+        if lost.lost and first.findings:
+            return with_kind_of(told, told_type(lost.hung()))
+    return told
+
+
 def typed(image):
     """The image with the type that its entries tell, and whether that is another one than is stated."""
-    new = opened(image)
-    told = told_type(new) if len(image) % 1024 == 0 and 4 <= len(image) // 512 <= 1048576 else None
-    return (image, False) if told is None or told == new[3] else (b"DOS" + bytes([told]) + image[4:], True)
+    if len(image) % 1024 or not 4 <= len(image) // 512 <= 1048576:
+        return image, False
+    told = type_opened(image)
+    return (image, False) if told == opened(image)[3] else (b"DOS" + bytes([told]) + image[4:], True)
 
 
 # The image as it is opened

@@ -40,12 +40,12 @@ length_restored volume image tree laid =
     (other_restored volume (sized 2 image) (laid_long volume tree laid) whole).long
 
 given_blocks : (s : SubjectValue) (r : RescueValue) → RescueOf s r → IsOfBlocks (blocks s.image) r
-given_blocks s r (t, typed, (refused, is, (w, fs, survey, (sound, marks, (b, second, inl (none, (f, first, e))))))) = subst (IsOfBlocks (blocks s.image)) (sym e) tt
-given_blocks s r (t, typed, (refused, is, (w, fs, survey, (sound, marks, (b, second, inr (read, inl (nothing, (f, first, e)))))))) =
+given_blocks s r (t, typed, (said, is, (w, fs, survey, (sound, marks, (b, second, inl (none, (f, first, e))))))) = subst (IsOfBlocks (blocks s.image)) (sym e) tt
+given_blocks s r (t, typed, (said, is, (w, fs, survey, (sound, marks, (b, second, inr (read, inl (nothing, (f, first, e)))))))) =
     subst (IsOfBlocks (blocks s.image)) (sym e) tt
-given_blocks s r (t, typed, (refused, is, (w, fs, survey, (sound, marks, (b, second, inr (read, inr (stands, (volume, laid, size, e)))))))) =
+given_blocks s r (t, typed, (said, is, (w, fs, survey, (sound, marks, (b, second, inr (read, inr (stands, (volume, laid, size, e)))))))) =
     subst (IsOfBlocks (blocks s.image)) (sym e)
-    (ap (λ n. n / 512) (length_restored volume s.image _ laid) ∙ size ∙ ap (λ n. n / 512) (length_read refused t.image ∙ typed_length s t typed))
+    (ap (λ n. n / 512) (length_restored volume s.image _ laid) ∙ size ∙ ap (λ n. n / 512) (length_read said t.image ∙ typed_length s t typed))
 
 pub meant_blocks : (n : Option ℕ) (input volume : List ℕ) (losses : List LossValue) → RescueOf (subject n input) (written volume losses)
     → blocks volume ≡ blocks (meant n input)

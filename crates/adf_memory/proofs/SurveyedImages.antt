@@ -1,8 +1,8 @@
 -- What is surveyed of an image, in the memory of a caller.
--- Letters: s, t, u what is surveyed; w, v walks of its survey, fs, gs the findings; n the number of blocks that is asked for, 0 for those that the image
+-- Letters: s, t, u what is surveyed; o the type that its entries tell, if it is another; n the number of blocks that is asked for, 0 for those that the image
 -- has; k, read numbers of blocks.
 use Rattle.std.proofs.Common.{◌≡◌, ◌≤◌, ◌<◌, ◌∙◌, ◌==◌, ◌&&◌, ◌∷◌, ◌++◌, ℕ, Bool, true, false, List, [], None, Some, ap, append-nil, arith, codes, cond, drop}
-use Rattle.std.proofs.Common.{◌≢◌, ◌*◌, ◌/◌, Option, ap₂, length, min, nat_lt, not, refl, slice_index, subst, sym, take}
+use Rattle.std.proofs.Common.{◌≢◌, ◌*◌, ◌/◌, Option, ap₂, is_some, length, min, nat_lt, not, refl, slice_index, subst, sym, take}
 use Rattle.std.specs.Prelude.{IfSome}
 use Rattle.std.specs.Option.{option_or}
 use Rattle.adf_blocks.specs.Sizes.{blocks}
@@ -10,21 +10,19 @@ use Rattle.adf_blocks.specs.declared.layout.TheConstants.{MOST_BLOCKS}
 use Rattle.std.proofs.lemmas.Bool.{and_parts, cond_both, cond-false, cond-true, Decides.nat_tests}
 use Rattle.std.proofs.lemmas.List.{drop-set-lt, get_or-set_same, length-append, length-set}
 use Rattle.adf_volume.specs.Start.{is_image_len}
-use Rattle.adf_volume.specs.Walk.{Walk}
-use Rattle.adf_findings.specs.OwnKind.{is_mistyped, retyped, told_type}
-use Rattle.adf_findings.specs.Survey.{FindingValue, IsSurvey}
-use Rattle.adf_findings.proofs.OneSurvey.{one_survey}
+use Rattle.adf_findings.specs.OwnKind.{retyped}
 use Rattle.adf_rescue.specs.MadeRoot.{has_root}
-use Rattle.adf_rescue.specs.Opened.{lacks_boot, opened, states_type, with_boot_type}
+use Rattle.adf_rescue.specs.Opened.{lacks_boot, states_type, with_boot_type}
 use Rattle.adf_rescue.proofs.MadeRoots.{sized as sized_as}
-use Rattle.adf_rescue.proofs.OpenedImages.{length_begun, length_opened}
+use Rattle.adf_rescue.proofs.OpenedImages.{length_begun}
 use Rattle.adf_runs.specs.Commands.{Reply}
 use Rattle.adf_survey_cmd.specs.Hints.{Hinted}
 use Rattle.adf_survey_cmd.specs.Lengths.{blocks_read, other_length, stated_length}
-use Rattle.adf_survey_cmd.specs.Subject.{IsTyped, OfTyped, SubjectValue, as_long, begun_subject, behind_loss, behind_text, changed, held_end, meant}
-use Rattle.adf_survey_cmd.specs.Subject.{missing_text, sized, subject, subject_read, type_line, type_word, typed_by, typed_subject}
+use Rattle.adf_survey_cmd.specs.Subject.{IsTypeTold, IsTyped, OfTyped, SubjectValue, as_long, begun_subject, behind_loss, behind_text, changed, held_end, meant}
+use Rattle.adf_survey_cmd.specs.Subject.{missing_text, sized, subject, subject_read, type_line, type_word, typed_by}
 use Rattle.adf_survey_cmd.specs.Losses.{LossValue, run_loss}
-use Rattle.adf_survey_cmd.proofs.Subjects.{other_long, typed_either}
+use Rattle.adf_survey_cmd.proofs.OneAnswer.{one_told}
+use Rattle.adf_survey_cmd.proofs.Subjects.{told_either, typed_either}
 use Rattle.adf_memory.specs.FoundTables.{mark_number}
 use Rattle.adf_memory.specs.Rescuing.{asked_blocks}
 use Rattle.adf_memory.specs.Rooms.{filled}
@@ -56,19 +54,13 @@ unfolding type_line
 type_line_some t = omega (arith, length-append (codes "block 0: files of ") (type_word t ++ codes "\n"))
 
 -- so there is one more line if and only if the type is changed
-longer : (is : Bool) (s : SubjectValue) (t : ℕ) → nat_lt (length s.front) (length (typed_by s (cond is (Some t) None)).front) ≡ is
-longer true s t = grind (arith, nat_tests, length-append s.front (type_line t), type_line_some t)
-longer false s t = grind (arith, nat_tests)
+longer : (s : SubjectValue) (o : Option ℕ) → nat_lt (length s.front) (length (typed_by s o).front) ≡ is_some o
+longer s (Some t) = grind (arith, nat_tests, length-append s.front (type_line t), type_line_some t)
+longer s None = grind (arith, nat_tests)
 
 pub retyped_told : (s t : SubjectValue) (is : Bool) → IsTyped s t → is ≡ nat_lt (length s.front) (length t.front) → IsRetyped s t is
-retyped_told s t is (w, fs, survey, e) tells = (
-  w,
-  fs,
-  survey,
-  e,
-  tells ∙ ap (λ (u : SubjectValue). nat_lt (length s.front) (length u.front)) e
-      ∙ longer (is_mistyped (opened s.image) w) s (told_type (opened s.image) w),
-)
+retyped_told s t is (o, told, e) tells =
+    (o, told, e, tells ∙ ap (λ (u : SubjectValue). nat_lt (length s.front) (length u.front)) e ∙ longer s o)
 
 -- the image of what is surveyed in the end
 
@@ -90,31 +82,27 @@ begun_rest s =
     cond_both (lacks_boot s.image) (changed s (with_boot_type s.image) (codes "block 0: not dos\n")) s
     (λ (t : SubjectValue). drop 4 t.image ≡ drop 4 s.image) (λ lacks. boot_rest s.image) (λ e. refl)
 
--- the survey of an image that is begun and opened
-abbrev IsOpenedSurvey : SubjectValue → Walk → List FindingValue → Type 0
-IsOpenedSurvey s w fs = IsSurvey (opened (begun_subject s).image) w fs
+-- the type that the entries of an image tell that is begun
+abbrev IsBegunTold : SubjectValue → Option ℕ → Type 0
+IsBegunTold s o = IsTypeTold (begun_subject s).image o
 
-pub surveyed_length : (s : SubjectValue) (w : Walk) (fs : List FindingValue) → IsOpenedSurvey s w fs
-    → length (surveyed_subject s w).image ≡ length s.image
-surveyed_length s w fs h =
+pub surveyed_length : (s : SubjectValue) (o : Option ℕ) → IsBegunTold s o → length (surveyed_subject s o).image ≡ length s.image
+surveyed_length s o h =
     let image : List ℕ = (begun_subject s).image in
-    typed_either (begun_subject s) w fs h (λ (u : SubjectValue). length u.image ≡ length image) refl
+    typed_either (begun_subject s) o h (λ (u : SubjectValue). length u.image ≡ length image) refl
     (λ t small long. length-set (with_boot_type image) 3 t ∙ length_begun image long)
     ∙ begun_length s
 
-surveyed_rest : (s : SubjectValue) (w : Walk) (fs : List FindingValue) → IsOpenedSurvey s w fs → drop 4 (surveyed_subject s w).image ≡ drop 4 s.image
-surveyed_rest s w fs h =
+surveyed_rest : (s : SubjectValue) (o : Option ℕ) → IsBegunTold s o → drop 4 (surveyed_subject s o).image ≡ drop 4 s.image
+surveyed_rest s o h =
     let image : List ℕ = (begun_subject s).image in
-    typed_either (begun_subject s) w fs h (λ (u : SubjectValue). drop 4 u.image ≡ drop 4 image) refl
+    typed_either (begun_subject s) o h (λ (u : SubjectValue). drop 4 u.image ≡ drop 4 image) refl
     (λ t small long. drop-set-lt 4 (with_boot_type image) 3 t (omega arith) ∙ boot_rest image)
     ∙ begun_rest s
 
-surveyed_same : (s : SubjectValue) (w : Walk) → lacks_boot s.image ≡ false → is_mistyped (opened (begun_subject s).image) w ≡ false
-    → (surveyed_subject s w).image ≡ s.image
-surveyed_same s w has typed =
-    let u : SubjectValue = begun_subject s in
-    ap (λ (t : SubjectValue). t.image)
-    (ap (λ (is : Bool). typed_by u (cond is (Some (told_type (opened u.image) w)) None)) typed ∙ cond-false (lacks_boot s.image) _ s has)
+surveyed_same : (s : SubjectValue) (o : Option ℕ) → lacks_boot s.image ≡ false → is_some o ≡ false → (surveyed_subject s o).image ≡ s.image
+surveyed_same s None has typed = ap (λ (t : SubjectValue). t.image) (cond-false (lacks_boot s.image) _ s has)
+surveyed_same s (Some t) has typed = cc
 
 type_has : (image : List ℕ) → states_type image ≡ true → lacks_boot image ≡ false
 type_has image states = none (is_image_len (length image)) (states_type image) (has_root image) states
@@ -126,15 +114,13 @@ type_has image states = none (is_image_len (length image)) (states_type image) (
 
 -- its end, and the lines in front
 
-typed_end : (is : Bool) (s : SubjectValue) (t : ℕ) → (typed_by s (cond is (Some t) None)).end ≡ s.end
-typed_end true s t = refl
-typed_end false s t = refl
+typed_end : (s : SubjectValue) (o : Option ℕ) → (typed_by s o).end ≡ s.end
+typed_end s (Some t) = refl
+typed_end s None = refl
 
-surveyed_end : (s : SubjectValue) (w : Walk) → (surveyed_subject s w).end ≡ s.end
-surveyed_end s w =
-    let u : SubjectValue = begun_subject s in
-    typed_end (is_mistyped (opened u.image) w) u (told_type (opened u.image) w)
-    ∙ changed_end (lacks_boot s.image) s (with_boot_type s.image) (codes "block 0: not dos\n")
+surveyed_end : (s : SubjectValue) (o : Option ℕ) → (surveyed_subject s o).end ≡ s.end
+surveyed_end s o =
+    typed_end (begun_subject s) o ∙ changed_end (lacks_boot s.image) s (with_boot_type s.image) (codes "block 0: not dos\n")
 
 -- the lines of what is told
 abbrev begun_line : Bool → List ℕ
@@ -147,26 +133,16 @@ retyped_line is image = cond (mark_number is == 1) (type_line (slice_index image
 type_there : (image : List ℕ) (t : ℕ) → 4 ≤ length image → slice_index (retyped (with_boot_type image) t) 3 ≡ t
 type_there image t long = get_or-set_same (with_boot_type image) 3 t 0 (omega (arith, length_begun image long))
 
-typed_front : (s : SubjectValue) (w : Walk) (fs : List FindingValue) → IsSurvey (opened s.image) w fs
-    → (typed_subject s w).front ≡ s.front ++ retyped_line (is_mistyped (opened s.image) w) (typed_subject s w).image
-typed_front s w fs h = go (is_mistyped (opened s.image) w) refl
-  where
-    told : ℕ
-    told = told_type (opened s.image) w
+typed_front : (s : SubjectValue) (o : Option ℕ) → IsTypeTold s.image o
+    → (typed_by s o).front ≡ s.front ++ retyped_line (is_some o) (typed_by s o).image
+typed_front s (Some t) h = ap (λ (t : ℕ). s.front ++ type_line t) (sym (type_there s.image t (told_either s.image t h).1))
+typed_front s None h = sym (append-nil s.front)
 
-    go : (is : Bool) → is_mistyped (opened s.image) w ≡ is
-        → (typed_by s (cond is (Some told) None)).front ≡ s.front ++ retyped_line is (typed_by s (cond is (Some told) None)).image
-    go true e =
-        let long : 4 ≤ length s.image =
-        omega (arith, other_long (opened s.image) w fs h told (ap (λ (is : Bool). cond is (Some told) None) e), length_opened s.image) in
-        ap (λ (t : ℕ). s.front ++ type_line t) (sym (type_there s.image told long))
-    go false e = sym (append-nil s.front)
-
-surveyed_front : (s : SubjectValue) (w : Walk) (fs : List FindingValue) → IsOpenedSurvey s w fs → (surveyed_subject s w).front
-    ≡ (s.front ++ begun_line (lacks_boot s.image)) ++ retyped_line (is_mistyped (opened (begun_subject s).image) w) (surveyed_subject s w).image
-surveyed_front s w fs h =
-    typed_front (begun_subject s) w fs h
-    ∙ ap (λ (l : List ℕ). l ++ retyped_line (is_mistyped (opened (begun_subject s).image) w) (surveyed_subject s w).image)
+surveyed_front : (s : SubjectValue) (o : Option ℕ) → IsBegunTold s o
+    → (surveyed_subject s o).front ≡ (s.front ++ begun_line (lacks_boot s.image)) ++ retyped_line (is_some o) (surveyed_subject s o).image
+surveyed_front s o h =
+    typed_front (begun_subject s) o h
+    ∙ ap (λ (l : List ℕ). l ++ retyped_line (is_some o) (surveyed_subject s o).image)
     (changed_front (lacks_boot s.image) s (with_boot_type s.image) (codes "block 0: not dos\n"))
 
 -- the losses of blocks
@@ -175,40 +151,36 @@ changed_lost : (is : Bool) (s : SubjectValue) (image line : List ℕ) → (cond 
 changed_lost true s image line = refl
 changed_lost false s image line = refl
 
-typed_lost : (is : Bool) (s : SubjectValue) (t : ℕ)
-    → (typed_by s (cond is (Some t) None)).lost ≡ s.lost ++ cond (mark_number is == 1) (run_loss 0 0 ∷ []) []
-typed_lost true s t = refl
-typed_lost false s t = sym (append-nil s.lost)
+typed_lost : (s : SubjectValue) (o : Option ℕ) → (typed_by s o).lost ≡ s.lost ++ cond (mark_number (is_some o) == 1) (run_loss 0 0 ∷ []) []
+typed_lost s (Some t) = refl
+typed_lost s None = sym (append-nil s.lost)
 
-surveyed_lost : (s : SubjectValue) (w : Walk) → (surveyed_subject s w).lost
-    ≡ s.lost ++ cond (mark_number (is_mistyped (opened (begun_subject s).image) w) == 1) (run_loss 0 0 ∷ []) []
-surveyed_lost s w =
-    let u : SubjectValue = begun_subject s in
-    typed_lost (is_mistyped (opened u.image) w) u (told_type (opened u.image) w)
-    ∙ ap (λ (ls : List LossValue). ls ++ cond (mark_number (is_mistyped (opened u.image) w) == 1) (run_loss 0 0 ∷ []) [])
+surveyed_lost : (s : SubjectValue) (o : Option ℕ)
+    → (surveyed_subject s o).lost ≡ s.lost ++ cond (mark_number (is_some o) == 1) (run_loss 0 0 ∷ []) []
+surveyed_lost s o =
+    typed_lost (begun_subject s) o
+    ∙ ap (λ (ls : List LossValue). ls ++ cond (mark_number (is_some o) == 1) (run_loss 0 0 ∷ []) [])
     (changed_lost (lacks_boot s.image) s (with_boot_type s.image) (codes "block 0: not dos\n"))
 
 -- what is told of what is begun and retyped, by its numbers
 pub subject_put : (s t u : SubjectValue) (old new : List ℕ) (begun changed : Bool) (k b r : ℕ) → t ≡ begun_subject s → IsRetyped t u changed
     → begun ≡ lacks_boot s.image → k ≡ length u.image → b ≡ mark_number begun → r ≡ mark_number changed → new ≡ filled u.image old
     → length s.image ≤ length old → HasSubject s old new (record { length = k; held = u.end; is_begun = b; is_retyped = r })
-subject_put s t u old new begun changed k b r e (w, fs, survey, typed, tells) lacks count one two room fits =
-    let same : u ≡ surveyed_subject s w = typed ∙ ap (λ (t : SubjectValue). typed_subject t w) e in
-    let opens : IsSurvey (opened (begun_subject s).image) w fs = subst (λ (t : SubjectValue). IsSurvey (opened t.image) w fs) e survey in
-    let long : k ≡ length (surveyed_subject s w).image = count ∙ ap (λ (u : SubjectValue). length u.image) same in
-    let is : changed ≡ is_mistyped (opened (begun_subject s).image) w = tells ∙ ap (λ (t : SubjectValue). is_mistyped (opened t.image) w) e in
+subject_put s t u old new begun changed k b r e (o, told, typed, tells) lacks count one two room fits =
+    let same : u ≡ surveyed_subject s o = typed ∙ ap (λ (t : SubjectValue). typed_by t o) e in
+    let begins : IsBegunTold s o = subst (λ (t : SubjectValue). IsTypeTold t.image o) e told in
+    let long : k ≡ length (surveyed_subject s o).image = count ∙ ap (λ (u : SubjectValue). length u.image) same in
     record {
-      walk = w;
-      findings = fs;
-      survey = opens;
+      other = o;
+      type = begins;
       room = room ∙ ap (λ (u : SubjectValue). filled u.image old) same;
       tells = λ i. record {
         length = long i;
         held = (same i).end;
         is_begun = (one ∙ ap mark_number lacks) i;
-        is_retyped = (two ∙ ap mark_number is) i;
+        is_retyped = (two ∙ ap mark_number tells) i;
       };
-      fits = subst (λ (n : ℕ). n ≤ length old) (sym (long ∙ surveyed_length s w fs opens)) fits;
+      fits = subst (λ (n : ℕ). n ≤ length old) (sym (long ∙ surveyed_length s o begins)) fits;
     }
 
 -- the length that is read
@@ -273,43 +245,42 @@ stated_is false n input = refl
 -- what a room begins with
 
 module _ (s : SubjectValue) (old new : List ℕ) (told : SubjectTold) (has : HasSubject s old new told) where
-  told_length : told.length ≡ length (surveyed_subject s has.walk).image
+  told_length : told.length ≡ length (surveyed_subject s has.other).image
   told_length = ap (λ (x : SubjectTold). x.length) has.tells
 
-  room_image : take told.length new ≡ (surveyed_subject s has.walk).image
+  room_image : take told.length new ≡ (surveyed_subject s has.other).image
   room_image =
-      let image : List ℕ = (surveyed_subject s has.walk).image in
+      let image : List ℕ = (surveyed_subject s has.other).image in
       (λ i. take (told_length i) (has.room i)) ∙ text_there image old (subst (λ (k : ℕ). k ≤ length old) told_length has.fits)
 
   pub has_length : told.length ≡ length s.image
-  has_length = told_length ∙ surveyed_length s has.walk has.findings has.survey
+  has_length = told_length ∙ surveyed_length s has.other has.type
 
   pub has_rest : drop 4 (take told.length new) ≡ drop 4 s.image
-  has_rest = ap (drop 4) room_image ∙ surveyed_rest s has.walk has.findings has.survey
+  has_rest = ap (drop 4) room_image ∙ surveyed_rest s has.other has.type
 
   pub has_same : told.is_begun ≡ 0 → told.is_retyped ≡ 0 → take told.length new ≡ s.image
   has_same begun typed =
-      room_image ∙ surveyed_same s has.walk (unset (lacks_boot s.image) (sym (ap (λ (x : SubjectTold). x.is_begun) has.tells) ∙ begun))
-      (unset (is_mistyped (opened (begun_subject s).image) has.walk) (sym (ap (λ (x : SubjectTold). x.is_retyped) has.tells) ∙ typed))
+      room_image ∙ surveyed_same s has.other (unset (lacks_boot s.image) (sym (ap (λ (x : SubjectTold). x.is_begun) has.tells) ∙ begun))
+      (unset (is_some has.other) (sym (ap (λ (x : SubjectTold). x.is_retyped) has.tells) ∙ typed))
 
   pub has_type : states_type s.image ≡ true → told.is_begun ≡ 0
   has_type states = ap (λ (x : SubjectTold). x.is_begun) has.tells ∙ ap mark_number (type_has s.image states)
 
-  one_surveyed : (t : SubjectValue) → IsTyped (begun_subject s) t → t ≡ surveyed_subject s has.walk
-  one_surveyed t (v, gs, survey, e) =
-      e ∙ ap (typed_subject (begun_subject s)) (one_survey (opened (begun_subject s).image) v has.walk gs has.findings survey has.survey).0
+  one_surveyed : (t : SubjectValue) → IsTyped (begun_subject s) t → t ≡ surveyed_subject s has.other
+  one_surveyed t (o, is, e) = e ∙ ap (typed_by (begun_subject s)) (one_told (begun_subject s).image o has.other is has.type)
 
 module _ (n : ℕ) (input old new : List ℕ) (told : SubjectTold) (has : HasSubject (subject (asked_blocks n) input) old new told) where
   abbrev s : SubjectValue
   s = subject (asked_blocks n) input
 
   told_end : told.held ≡ s.end
-  told_end = ap (λ (x : SubjectTold). x.held) has.tells ∙ surveyed_end s has.walk
+  told_end = ap (λ (x : SubjectTold). x.held) has.tells ∙ surveyed_end s has.other
 
   told_is : tells {X = List ℕ} [] (λ end k. []) input told (stated_length (asked_blocks n) input) (blocks_read (asked_blocks n) input)
   told_is = (has_length s old new told has, told_end)
 
-  told_front : front_lines n (blocks input) (take told.length new) told ≡ (surveyed_subject s has.walk).front
+  told_front : front_lines n (blocks input) (take told.length new) told ≡ (surveyed_subject s has.other).front
   told_front =
       let front = λ (stated : ℕ) (end k : ℕ). missing_text end k ++ behind_text k stated in
       let read =
@@ -321,9 +292,9 @@ module _ (n : ℕ) (input old new : List ℕ) (told : SubjectTold) (has : HasSub
       (λ i.
       (sym read i ++ cond ((marks i).is_begun == 1) (codes "block 0: not dos\n") [])
       ++ cond ((marks i).is_retyped == 1) (type_line (slice_index (image i) 3)) [])
-      ∙ sym (surveyed_front s has.walk has.findings has.survey)
+      ∙ sym (surveyed_front s has.other has.type)
 
-  told_lost : blocks_lost n (blocks input) told ≡ (surveyed_subject s has.walk).lost
+  told_lost : blocks_lost n (blocks input) told ≡ (surveyed_subject s has.other).lost
   told_lost =
       let lost = λ (stated : ℕ) (end k : ℕ). behind_loss k stated in
       let read =
@@ -331,9 +302,9 @@ module _ (n : ℕ) (input old new : List ℕ) (told : SubjectTold) (has : HasSub
       ∙ read_told [] (lost (stated_length (asked_blocks n) input)) input told (n == 0) n told_is
       ∙ ap (λ (stated : ℕ). of_read [] (lost stated) n (blocks input) told) (stated_is (n == 0) n input) in
       let marks = has.tells in
-      (λ i. sym read i ++ cond ((marks i).is_retyped == 1) (run_loss 0 0 ∷ []) []) ∙ sym (surveyed_lost s has.walk)
+      (λ i. sym read i ++ cond ((marks i).is_retyped == 1) (run_loss 0 0 ∷ []) []) ∙ sym (surveyed_lost s has.other)
 
-  subject_is : surveyed_subject s has.walk ≡ subject_in n (blocks input) new told
+  subject_is : surveyed_subject s has.other ≡ subject_in n (blocks input) new told
   subject_is =
       let image = sym (room_image s old new told has) in
       let end = sym (ap (λ (x : SubjectTold). x.held) has.tells) in

@@ -1,14 +1,11 @@
 -- What is surveyed of an image, in the memory of a caller.
--- Letters: s, t what is surveyed of an input; w the walk of its survey; n the number of blocks that is asked for, 0 for those that the image has;
+-- Letters: s, t what is surveyed of an input; o the type that its entries tell, if it is another; n the number of blocks that is asked for, 0 for those that the image has;
 -- given the blocks of the image.
-use Rattle.std.specs.Prelude.{◌≡◌, ◌≤◌, ◌/◌, ◌==◌, ◌&&◌, ◌∷◌, ◌++◌, ℕ, Bool, List, [], codes, cond, length, min, slice_index, take}
+use Rattle.std.specs.Prelude.{◌≡◌, ◌≤◌, ◌/◌, ◌==◌, ◌&&◌, ◌∷◌, ◌++◌, ℕ, Bool, List, [], Option, codes, cond, is_some, length, min, slice_index, take}
 use Rattle.adf_blocks.specs.declared.layout.TheConstants.{MOST_BLOCKS}
-use Rattle.adf_volume.specs.Walk.{Walk}
-use Rattle.adf_findings.specs.OwnKind.{is_mistyped}
-use Rattle.adf_findings.specs.Survey.{FindingValue, IsSurvey}
-use Rattle.adf_rescue.specs.Opened.{lacks_boot, opened}
+use Rattle.adf_rescue.specs.Opened.{lacks_boot}
 use Rattle.adf_survey_cmd.specs.Losses.{LossValue, run_loss}
-use Rattle.adf_survey_cmd.specs.Subject.{SubjectValue, begun_subject, behind_loss, behind_text, missing_text, type_line, typed_subject}
+use Rattle.adf_survey_cmd.specs.Subject.{IsTypeTold, SubjectValue, begun_subject, behind_loss, behind_text, missing_text, type_line, typed_by}
 use Rattle.adf_memory.specs.FoundTables.{mark_number}
 use Rattle.adf_memory.specs.Rooms.{filled}
 use Rattle.adf_memory.specs.declared.subjects.SubjectTold.{SubjectTold}
@@ -20,29 +17,27 @@ untold k = record { length = k; held = 0; is_begun = 0; is_retyped = 0 }
 -- t is s with the type that its entries tell, and this tells whether it had another one
 abbrev pub IsRetyped : SubjectValue → SubjectValue → Bool → Type 0
 IsRetyped s t is_retyped =
-    (w : Walk) × (fs : List FindingValue) × IsSurvey (opened s.image) w fs × (t ≡ typed_subject s w)
-    × (is_retyped ≡ is_mistyped (opened s.image) w)
+    (o : Option ℕ) × IsTypeTold s.image o × (t ≡ typed_by s o) × (is_retyped ≡ is_some o)
 
--- what is surveyed in the end of an input, by the walk of its survey once it is begun and opened
-abbrev pub surveyed_subject : SubjectValue → Walk → SubjectValue
-surveyed_subject s w = typed_subject (begun_subject s) w
+-- what is surveyed in the end of an input, by the type that its entries tell once it is begun
+abbrev pub surveyed_subject : SubjectValue → Option ℕ → SubjectValue
+surveyed_subject s o = typed_by (begun_subject s) o
 
 -- what is told of it
-abbrev pub subject_told : SubjectValue → Walk → SubjectTold
-subject_told s w = record {
-  length = length (surveyed_subject s w).image;
-  held = (surveyed_subject s w).end;
+abbrev pub subject_told : SubjectValue → Option ℕ → SubjectTold
+subject_told s o = record {
+  length = length (surveyed_subject s o).image;
+  held = (surveyed_subject s o).end;
   is_begun = mark_number (lacks_boot s.image);
-  is_retyped = mark_number (is_mistyped (opened (begun_subject s).image) w);
+  is_retyped = mark_number (is_some o);
 }
 
 -- the room has enough bytes, begins with the image that is surveyed in the end, and is otherwise as it was; this is told
 pub record HasSubject (s : SubjectValue) (old new : List ℕ) (told : SubjectTold) : Type 0 where
-  pub walk : Walk
-  pub findings : List FindingValue
-  pub survey : IsSurvey (opened (begun_subject s).image) walk findings
-  pub room : new ≡ filled (surveyed_subject s walk).image old
-  pub tells : told ≡ subject_told s walk
+  pub other : Option ℕ
+  pub type : IsTypeTold (begun_subject s).image other
+  pub room : new ≡ filled (surveyed_subject s other).image old
+  pub tells : told ≡ subject_told s other
   pub fits : told.length ≤ length old
 
 -- what holds of the blocks that are held and those that are read, by what is told; nothing, if the image is read as it is

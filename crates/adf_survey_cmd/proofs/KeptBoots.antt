@@ -63,9 +63,9 @@ two_blocks image long =
 
 -- what has the type that its files say is as long
 pub typed_length : (s t : SubjectValue) → IsTyped s t → length t.image ≡ length s.image
-typed_length s t (w, fs, h, e) =
+typed_length s t (o, is, e) =
     ap (λ (u : SubjectValue). length u.image) e
-    ∙ typed_either s w fs h (λ (u : SubjectValue). length u.image ≡ length s.image) refl
+    ∙ typed_either s o is (λ (u : SubjectValue). length u.image ≡ length s.image) refl
     (λ type small long. length-set (with_boot_type s.image) 3 type ∙ length_begun s.image long)
 
 -- a volume that is laid for a rescue, with the boot blocks of what was surveyed

@@ -36,7 +36,7 @@ use Rattle.adf_survey_cmd.specs.Answers.{CopiesFound, CopiesFromSurvey, ListsSur
 use Rattle.adf_survey_cmd.specs.Hints.{disk_hint}
 use Rattle.adf_survey_cmd.specs.Lengths.{blocks_read, stated_length}
 use Rattle.adf_survey_cmd.specs.Subject.{IsTyped, OfTyped, SubjectValue, begun_subject, behind_loss, behind_text, held_end, missing_text, other_type}
-use Rattle.adf_survey_cmd.specs.Subject.{sized, subject, subject_read, subject_text, typed_by, typed_subject}
+use Rattle.adf_survey_cmd.specs.Subject.{IsOtherType, IsTypeTold, kind_image, sized, subject, subject_read, subject_text, typed_by}
 use Rattle.adf_file_words.specs.SurveyLine.{AreFew, InquiryValue, QuestionValue, cat, list, report, rescue}
 use Rattle.adf_survey_cmd.specs.Lines.{findings_text, runs_from}
 use Rattle.adf_survey_cmd.specs.Losses.{LossValue}
@@ -132,19 +132,25 @@ long_begun s long = cond-false (lacks_boot s.image) _ s (not_begun s.image long)
 none_other : (image : List ℕ) → other_type image [] ≡ None
 none_other image = let none = none_mistyped image [] refl in cond-false (is_mistyped image []) _ None (sym none)
 
-long_same : (s : SubjectValue) (w : Walk) (fs : List FindingValue) → 512 * MOST_BLOCKS < length s.image → IsSurvey (opened s.image) w fs
-    → typed_subject s w ≡ s
-long_same s w fs long h =
-    let none : w ≡ [] = (one_survey (opened s.image) w [] fs bad_size h (long_survey (opened s.image) (long_opened s.image long))).0 in
-    ap (typed_subject s) none ∙ ap (typed_by s) (none_other (opened s.image))
+-- and none is made of what is lost
+none_kind : (image : List ℕ) (w : Walk) (fs : List FindingValue) → 512 * MOST_BLOCKS < length image
+    → kind_image (lacks_root image) (opened image) w fs ≡ None
+none_kind image w fs long = cond-false (lacks_root image) _ None (and_left (is_image_len (length image)) _ (no_volume image long))
+
+long_told : (image : List ℕ) (o : Option ℕ) → 512 * MOST_BLOCKS < length image → IsTypeTold image o → o ≡ None
+long_told image o long (w, fs, h, is) =
+    let none : w ≡ [] = (one_survey (opened image) w [] fs bad_size h (long_survey (opened image) (long_opened image long))).0 in
+    let other : o ≡ other_type (opened image) w = subst (λ k. IsOtherType (opened image) w k o) (none_kind image w fs long) is in
+    other ∙ ap (other_type (opened image)) none ∙ none_other (opened image)
 
 typed_so : (s t : SubjectValue) → 512 * MOST_BLOCKS < length s.image → IsTyped s t → t ≡ s
-typed_so s t long (w, fs, h, e) = e ∙ long_same s w fs long h
+typed_so s t long (o, is, e) = e ∙ ap (typed_by s) (long_told s.image o long is)
 
 is_typed : (s : SubjectValue) → 512 * MOST_BLOCKS < length s.image → IsTyped s s
 is_typed s long =
     let survey = long_survey (opened s.image) (long_opened s.image long) in
-    ([], bad_size, survey, sym (long_same s [] bad_size long survey))
+    let told = subst (λ k. IsOtherType (opened s.image) [] k None) (sym (none_kind s.image [] bad_size long)) (sym (none_other (opened s.image))) in
+    (None, ([], bad_size, survey, told), refl)
 
 same_typed : (s t : SubjectValue) → 512 * MOST_BLOCKS < length s.image → IsTyped (begun_subject s) t → t ≡ s
 same_typed s t long is = typed_so s t long (subst (λ (u : SubjectValue). IsTyped u t) (long_begun s long) is)

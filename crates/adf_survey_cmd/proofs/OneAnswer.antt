@@ -9,6 +9,7 @@ use Rattle.adf_volume.specs.declared.types.Types.{Types}
 use Rattle.adf_volume.specs.Walk.{FileAt, FirstFaultBy, node_block, Walk}
 use Rattle.adf_findings.specs.Files.{grave}
 use Rattle.adf_findings.specs.Lookup.{LeadsTo}
+use Rattle.adf_findings.specs.OwnKind.{told_type}
 use Rattle.adf_findings.specs.SoundMarks.{AreMarks}
 use Rattle.adf_findings.specs.Survey.{FindingValue}
 use Rattle.adf_findings.proofs.OneSurvey.{one_survey}
@@ -25,7 +26,8 @@ use Rattle.adf_cmd.proofs.OneAnswer.{one_check, one_dates}
 use Rattle.adf_survey_cmd.specs.Answers.{CopiesEntry, CopiesFound, CopiesFromSurvey, IsWholeFile, ListsSurvey, QuestionAnswer, RescuesTyped, SurveyAnswer}
 use Rattle.adf_survey_cmd.specs.Answers.{Surveys, TellsFound, told_status, types_kept}
 use Rattle.adf_survey_cmd.specs.Hints.{hinted}
-use Rattle.adf_survey_cmd.specs.Subject.{IsTyped, OfTyped, SubjectValue, begun_subject, sized, subject, typed_subject}
+use Rattle.adf_survey_cmd.specs.Subject.{IsOtherType, IsTypeTold, IsTyped, OfTyped, SubjectValue, begun_subject, kind_image, sized, subject}
+use Rattle.adf_survey_cmd.specs.Subject.{typed_by, unless_own, with_kind_of}
 use Rattle.adf_survey_cmd.specs.Losses.{LossValue, losses_text}
 use Rattle.adf_survey_cmd.specs.Rescues.{GivesFault, IsRefusal, Replies, RescueValue, Rescues, RescuesBy, RescuesFound, RescuesIn, RescuesRead}
 use Rattle.adf_survey_cmd.specs.Rescues.{RescuesSome, rescue_reply}
@@ -98,8 +100,22 @@ copied_once damaged path s a b (names, text, w, fs, h, x) (others, also, u, gs, 
     found_once s u damaged gs others a b (subst (λ (ns : List (List ℕ)). CopiesFound damaged s u gs ns a) path_is found) y
 
 -- an input is surveyed as one thing
+
+one_other_type : (image : List ℕ) (w : Walk) (k : Option (List ℕ)) (o p : Option ℕ) → IsOtherType image w k o → IsOtherType image w k p → o ≡ p
+one_other_type image w None o p x y = x ∙ sym y
+one_other_type image w (Some hung) o p (u, gs, h, x) (v, hs, g, y) =
+    x ∙ ap (λ (u : Walk). unless_own image (with_kind_of (told_type image w) (told_type hung u))) (one_survey hung u v gs hs h g).0 ∙ sym y
+
+pub one_told : (input : List ℕ) (o p : Option ℕ) → IsTypeTold input o → IsTypeTold input p → o ≡ p
+one_told input o p (w, fs, h, x) (v, gs, g, y) =
+    let image : List ℕ = opened input in
+    let same = one_survey image w v fs gs h g in
+    let moved = subst (λ (u : Walk). IsOtherType image u (kind_image (lacks_root input) image u fs) o) same.0 x in
+    one_other_type image v (kind_image (lacks_root input) image v gs) o p
+    (subst (λ (hs : List FindingValue). IsOtherType image v (kind_image (lacks_root input) image v hs) o) same.1 moved) y
+
 one_typed : (s t u : SubjectValue) → IsTyped s t → IsTyped s u → t ≡ u
-one_typed s t u (w, fs, h, x) (v, gs, g, y) = x ∙ (ap (typed_subject s) (one_survey (opened s.image) w v fs gs h g).0 ∙ sym y)
+one_typed s t u (o, is, x) (p, also, y) = x ∙ (ap (typed_by s) (one_told s.image o p is also) ∙ sym y)
 
 -- so what has one answer of that has one of the input
 typed_once : (s : SubjectValue) (answers : SubjectValue → Reply → Type 0)

@@ -25,6 +25,6 @@ retyped_bytes : (s : SubjectValue) (t : ℕ) → t ≤ 3 → AreBytes s.image �
 retyped_bytes s t small are = All-set IsByte (with_boot_type s.image) 3 t (omega arith) (begun_bytes s.image are)
 
 pub typed_bytes : (s t : SubjectValue) → IsTyped s t → AreBytes s.image → AreBytes t.image
-typed_bytes s t (w, fs, survey, e) are =
+typed_bytes s t (o, is, e) are =
     let bytes : SubjectValue → Type 0 = λ (u : SubjectValue). AreBytes u.image in
-    subst bytes (sym e) (typed_either s w fs survey bytes are (λ type small long. retyped_bytes s type small are))
+    subst bytes (sym e) (typed_either s o is bytes are (λ type small long. retyped_bytes s type small are))

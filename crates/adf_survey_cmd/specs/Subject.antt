@@ -1,7 +1,8 @@
 -- What is surveyed of an input.
 -- Letters: s, t what is surveyed; w the walk of a survey; n a number of blocks; stated the number that is stated, asked the one that is asked for;
 -- end a block.
-use Rattle.std.specs.Prelude.{◌≡◌, ◌*◌, ◌-◌, ◌%◌, ◌==◌, ◌++◌, ◌∷◌, ℕ, List, [], Option, None, Some, codes, cond, length, min, nat_lt, replicate, take}
+use Rattle.std.specs.Prelude.{◌≡◌, ◌+◌, ◌*◌, ◌-◌, ◌%◌, ◌==◌, ◌++◌, ◌∷◌, ℕ, Bool, not, List, [], Option, None, Some, codes, cond, length, min, nat_lt}
+use Rattle.std.specs.Prelude.{replicate, slice_index, take}
 use Rattle.adf_names.specs.VolumeTypes.{kind_text_by, letters_of_type}
 use Rattle.adf_names.specs.declared.kind.Kind.{Kind, TheVariants.Ofs, TheVariants.Ffs}
 use Rattle.adf_blocks.specs.declared.layout.TheConstants.{MOST_BLOCKS}
@@ -9,7 +10,8 @@ use Rattle.adf_blocks.specs.Sizes.{blocks}
 use Rattle.adf_volume.specs.Walk.{Walk}
 use Rattle.adf_findings.specs.OwnKind.{is_mistyped, retyped, told_type}
 use Rattle.adf_findings.specs.Survey.{FindingValue, IsSurvey}
-use Rattle.adf_rescue.specs.Opened.{lacks_boot, opened, with_boot_type}
+use Rattle.adf_rescue.specs.Hung.{second_image}
+use Rattle.adf_rescue.specs.Opened.{lacks_boot, lacks_root, opened, with_boot_type}
 use Rattle.adf_runs.specs.Commands.{Reply}
 use Rattle.adf_survey_cmd.specs.Lengths.{blocks_read, stated_length}
 use Rattle.adf_survey_cmd.specs.Lines.{blocks_text, findings_text}
@@ -113,13 +115,38 @@ abbrev pub typed_by : SubjectValue → Option ℕ → SubjectValue
 typed_by s None = s
 typed_by s (Some type) = retyped_subject s type
 
--- with the type that its entries tell, by the walk of the survey of its image, once that is opened
-abbrev pub typed_subject : SubjectValue → Walk → SubjectValue
-typed_subject s w = typed_by s (other_type (opened s.image) w)
+-- the type of the other kind, with the same letters
+abbrev pub of_other_kind : ℕ → ℕ
+of_other_kind type = cond (type % 2 == 0) (min type 2 + 1) (min type 3 - 1)
 
--- that is t, by the survey of its image, once that is opened
+-- a type, but of the kind of another
+abbrev pub with_kind_of : ℕ → ℕ → ℕ
+with_kind_of type other = cond (type % 2 == other % 2) type (of_other_kind type)
+
+-- a type, if it is not the image's own
+abbrev pub unless_own : List ℕ → ℕ → Option ℕ
+unless_own image type = cond (not (type == slice_index image 3)) (Some type) None
+
+-- the type that the entries of an image tell, by the walk of its survey, if it is another; of the kind that is told with what is lost hung in it
+-- again, if there is such an image
+abbrev pub IsOtherType : List ℕ → Walk → Option (List ℕ) → Option ℕ → Type 0
+IsOtherType image w None o = o ≡ other_type image w
+IsOtherType image w (Some hung) o =
+    (u : Walk) × (gs : List FindingValue) × IsSurvey hung u gs × (o ≡ unless_own image (with_kind_of (told_type image w) (told_type hung u)))
+
+-- the image that tells the kind, where the root was made: that with what is lost hung in it
+abbrev pub kind_image : (made : Bool) → List ℕ → Walk → List FindingValue → Option (List ℕ)
+kind_image made image w fs = cond made (second_image made image w fs) None
+
+-- the type that the entries of an input tell, once it is opened, if it is another
+abbrev pub IsTypeTold : List ℕ → Option ℕ → Type 0
+IsTypeTold input o =
+    (w : Walk) × (fs : List FindingValue) × IsSurvey (opened input) w fs
+    × IsOtherType (opened input) w (kind_image (lacks_root input) (opened input) w fs) o
+
+-- t is s with the type that its entries tell
 abbrev pub IsTyped : SubjectValue → SubjectValue → Type 0
-IsTyped s t = (w : Walk) × (fs : List FindingValue) × IsSurvey (opened s.image) w fs × (t ≡ typed_subject s w)
+IsTyped s t = (o : Option ℕ) × IsTypeTold s.image o × (t ≡ typed_by s o)
 
 -- the answer is that of what is surveyed in the end, begun and with the type that its files say
 abbrev pub OfTyped : SubjectValue → (SubjectValue → Reply → Type 0) → Reply → Type 0

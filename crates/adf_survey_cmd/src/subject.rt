@@ -1,13 +1,15 @@
 // What is surveyed of an input.
 
-ghost use Rattle.std.specs.Prelude.{◌≡◌, ◌≤◌, ◌++◌, ℕ, IfOk, OnOk, length};
+ghost use Rattle.std.specs.Prelude.{◌≡◌, ◌≤◌, ◌++◌, ℕ, IfOk, OnOk, length, true};
 ghost use Rattle.adf_blocks.specs.declared.layout.TheConstants.{MOST_BLOCKS};
+ghost use Rattle.adf_findings.specs.OwnKind.{told_type};
 ghost use Rattle.adf_findings.specs.Survey.{OnSurvey};
-ghost use Rattle.adf_rescue.specs.Opened.{opened};
+ghost use Rattle.adf_rescue.specs.Hung.{second_image};
+ghost use Rattle.adf_rescue.specs.Opened.{lacks_root, opened};
 ghost use Rattle.adf_survey_cmd.specs.Losses.{runs_lost};
-ghost use Rattle.adf_survey_cmd.specs.Subject.{IsTyped, begun_subject, behind_loss, behind_text, changed, held_end, missing_text};
-ghost use Rattle.adf_survey_cmd.specs.Subject.{other_type, retyped_subject, sized, subject, subject_read, subject_value};
-ghost use Rattle.adf_survey_cmd.specs.Subject.{type_line, type_word};
+ghost use Rattle.adf_survey_cmd.specs.Subject.{IsOtherType, IsTyped, begun_subject, behind_loss, behind_text, changed, held_end, missing_text};
+ghost use Rattle.adf_survey_cmd.specs.Subject.{kind_image, other_type, retyped_subject, sized, subject, subject_read, subject_value};
+ghost use Rattle.adf_survey_cmd.specs.Subject.{type_line, type_word, unless_own, with_kind_of};
 
 use crate::lengths::{blocks_read, stated_length};
 use crate::losses::BlockRun;
@@ -17,7 +19,7 @@ use adf_blocks::MOST_BLOCKS;
 use adf_boot_blocks::BOOT_LEN;
 use adf_findings::{Survey, retype, some_survey, survey};
 use adf_names::{kind_text_by, letters_of_type};
-use adf_rescue::{begin_image, is_mended, lacks_boot, open_image};
+use adf_rescue::{begin_image, hung_image, is_mended, lacks_boot, lacks_root, open_image};
 use adf_tree::Kind;
 use std::alloc::{AllocError, Global};
 
@@ -135,16 +137,73 @@ fn type_in(alloc: Global, image: &[u8]) -> Result<Option<u8>, NoMemory>
     Ok(other_type(&survey))
 }
 
-// The same of an image, once it is opened.
+// A type, but of the kind of another.
+fn with_kind_of(number: u8, other: u8) -> u8
+    ensures { result ≡ with_kind_of number other }
+{
+    if number % 2 == other % 2 {
+        number
+    } else if number % 2 == 0 {
+        number.min(2) + 1
+    } else {
+        number.min(3) - 1
+    }
+}
+
+// A type, if it is not the image's own.
+fn unless_own(image: &[u8], number: u8) -> Option<u8>
+    ensures { result ≡ unless_own image.now number }
+{
+    if number != image.get(3).copied().unwrap_or(0) {
+        Some(number)
+    } else {
+        None
+    }
+}
+
+// A type, but of the kind that the entries of this image tell, if it is not the image's own.
+fn type_hung(alloc: Global, image: &[u8], told: u8, hung: &[u8]) -> Result<Option<u8>, NoMemory>
+    ensures { OnSurvey hung.now (λ u _.
+        IfOk result (λ o. o ≡ unless_own image.now (with_kind_of told (told_type hung.now u)))) }
+{
+    let second = survey(alloc, hung)?;
+    Ok(unless_own(image, with_kind_of(told, second.told_type())))
+}
+
+// The type that the entries of an image tell whose root was made, if it is another.
+fn type_made(alloc: Global, image: &[u8]) -> Result<Option<u8>, NoMemory>
+    ensures { OnSurvey image.now (λ w fs. IfOk result (IsOtherType image.now w (second_image true image.now w fs))) }
+{
+    some_survey();
+    let found = survey(alloc, image)?;
+    match hung_image(alloc, &found, true)? {
+        Some(hung) => type_hung(alloc, image, found.told_type(), &hung),
+        None => Ok(other_type(&found)),
+    }
+}
+
+// The same of an opened image, whose root was made or not.
+fn type_read(alloc: Global, image: &[u8], made: bool) -> Result<Option<u8>, NoMemory>
+    ensures { OnSurvey image.now (λ w fs. IfOk result (IsOtherType image.now w (kind_image made image.now w fs))) }
+{
+    if made {
+        type_made(alloc, image)
+    } else {
+        type_in(alloc, image)
+    }
+}
+
+// The same of an input, once it is opened.
 fn type_opened(alloc: Global, image: &[u8]) -> Result<Option<u8>, NoMemory>
-    ensures { OnSurvey (opened image.now) (λ w _. IfOk result (λ told. told ≡ other_type (opened image.now) w)) }
+    ensures { OnSurvey (opened image.now) (λ w fs. IfOk result
+        (IsOtherType (opened image.now) w (kind_image (lacks_root image.now) (opened image.now) w fs))) }
 {
     if !is_mended(image) {
-        return type_in(alloc, image);
+        return type_read(alloc, image, lacks_root(image));
     }
     let mut copy = image.to_vec(alloc)?;
     open_image(&mut copy);
-    type_in(alloc, &copy)
+    type_read(alloc, &copy, lacks_root(image))
 }
 
 impl Subject {

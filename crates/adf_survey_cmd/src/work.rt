@@ -126,7 +126,6 @@ impl View {
 
     // Shows this of what is surveyed of an input, if the type of its image is the one that its entries tell; otherwise tells
     // that type.
-    #[tactic(auto, using(crate::proofs::Subjects::typed_same))]
     fn of_begun<W: Sink>(
         &self,
         alloc: Global,
