@@ -29,10 +29,11 @@ WHERE text_words MATCH ? ORDER BY images.name, images.number, entries.id"""
 BY_FILE_SUM = f"SELECT {FIELDS} FROM entries JOIN images ON images.id = image WHERE entries.sha256 = ? ORDER BY images.name, images.number, entries.id"
 
 
-def query_of(words: Sequence[str]) -> str:
-    """The query for what has a word that begins with each of these; any text is a word."""
-    quoted = (word.encode("utf-8", "replace").decode().replace('"', '""') for word in words)
-    return " ".join(f'"{word}"*' for word in quoted)
+def query_of(texts: Sequence[str]) -> str:
+    """The query for what has a word that begins with each of these; what stands between spaces is a word."""
+    plain = (database.words_of(text.encode("utf-8", "replace").decode()) or "" for text in texts)
+    words = [word.replace('"', '""') for text in plain for word in text.split()] or [""]
+    return " ".join(f'"{word}"*' for word in words)
 
 
 def by_words(connection: sqlite3.Connection, words: Sequence[str]) -> Iterator[sqlite3.Row]:

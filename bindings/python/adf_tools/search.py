@@ -1,5 +1,5 @@
 """The parts of a catalogue that its index searches, each a script that is loaded when a word that begins so is looked for: a search of
-100,000 disks loads some of them alone."""
+100,000 disks loads some of them alone. Of a word that is in many places a part has the first of these, and all images."""
 
 from __future__ import annotations
 
@@ -8,14 +8,16 @@ import json
 import operator
 import re
 import sqlite3
-from typing import Any, Dict, Iterable, Iterator, List, Optional, Set, Tuple
+from typing import Any, Dict, Iterable, Iterator, List, NamedTuple, Optional, Set, Tuple
 
 from adf_tools.image_pages import is_page
 from adf_tools.out_folder import PARTS
 
 Part = Tuple[str, Optional[bytes]]  # its name, and its bytes, if a word has it
+Terms = Tuple[int, List[Tuple[int, int]], List[int]]  # of a word: how many places, the first of them as rows of the database, steps of images
 MARKUP = re.compile("[<>&\x7f]")  # letters that a text of a script has by their numbers
-FRONT, MOST_PLACES = 3, 100  # letters of a word that name its part; places of a word that a part has
+FRONT, MOST_PLACES = 3, 200  # letters of a word that name its part; places of a word that a part has
+IMAGES_A_FILE = 1000  # names of images that are in one file
 NO_LETTER = re.compile("[^a-z0-9]")
 TERMS = """SELECT term, 0 AS kind, doc FROM image_terms UNION ALL SELECT term, 1, doc FROM entry_terms UNION ALL SELECT sha256, 1, id
 FROM entries WHERE sha256 IS NOT NULL UNION ALL SELECT sha256, 0, id FROM images WHERE sha256 IS NOT NULL
@@ -25,6 +27,8 @@ VOCABULARY = """SELECT term, doc FROM image_vocabulary WHERE term >= ?1 AND term
 UNION ALL SELECT term, doc FROM entry_vocabulary WHERE term >= ?1 AND term < ?2"""
 PLACES = """SELECT 0, doc FROM (SELECT DISTINCT doc FROM image_terms WHERE term = ?1 LIMIT ?2)
 UNION ALL SELECT 1, doc FROM (SELECT DISTINCT doc FROM entry_terms WHERE term = ?1 LIMIT ?2) LIMIT ?2"""
+IMAGES_OF = """SELECT doc FROM image_terms WHERE term = ?1 UNION SELECT image FROM entry_terms JOIN entries ON entries.id = doc WHERE term = ?1
+UNION SELECT image FROM entries WHERE sha256 = ?1 UNION SELECT id FROM images WHERE sha256 = ?1 OR tree = ?1"""
 SUMS = """SELECT sha256, 0, id FROM images WHERE sha256 >= ?1 AND sha256 < ?2 UNION ALL SELECT tree, 0, id FROM images
 WHERE tree >= ?1 AND tree < ?2 UNION ALL SELECT sha256, 1, id FROM entries WHERE sha256 >= ?1 AND sha256 < ?2"""
 
@@ -39,28 +43,43 @@ def script_of(value: object) -> str:
     return MARKUP.sub(lambda found: f"\\u{ord(found[0]):04x}", json.dumps(value, separators=(",", ":")))
 
 
+class Place(NamedTuple):
+    """A place of a word: the number of an image, and the path and the comment of an entry in it; empty for the image itself."""
+
+    image: int
+    path: str
+    comment: str
+
+
 class Places:
     """The places of words, as the parts have them: a number for each image, and the path in it."""
 
     def __init__(self, connection: sqlite3.Connection) -> None:
         self.connection = connection
-        rows = connection.execute("SELECT id, name, page FROM images")
-        self.images = {row["id"]: (row["name"], row["page"] if is_page(row["page"]) else "") for row in rows}
+        rows = connection.execute("SELECT id, name, page, label FROM images")
+        self.images = {row["id"]: (row["name"], row["page"] if is_page(row["page"]) else "", row["id"], row["label"] or "") for row in rows}
 
-    def place(self, kind: int, doc: int) -> Tuple[int, str]:
-        """The image of a row of the database, and the path in it, which is empty for the image itself."""
+    def place(self, kind: int, doc: int) -> Place:
+        """The place that a row of the database is."""
         if kind == 0:
-            return doc, ""
-        row = self.connection.execute("SELECT image, path FROM entries WHERE id = ?", (doc,)).fetchone()
-        return (row["image"], row["path"]) if row else (0, "")
+            return Place(doc, "", "")
+        row = self.connection.execute("SELECT image, path, comment FROM entries WHERE id = ?", (doc,)).fetchone()
+        return Place(row["image"], row["path"], row["comment"]) if row else Place(0, "", "")
 
-    def part(self, name: str, terms: Dict[str, Tuple[int, List[Tuple[int, int]]]]) -> bytes:
-        """A part: for each word how many places have it, and the images and paths of the first of them; the images are named once."""
+    def steps(self, term: str) -> List[int]:
+        """The numbers of the images of all places of a word, each as what it is more than the one before."""
+        numbers = sorted({row[0] for row in self.connection.execute(IMAGES_OF, (term,))} & self.images.keys())
+        return [number - before for before, number in zip([0, *numbers], numbers)]
+
+    def part(self, name: str, terms: Dict[str, Terms]) -> bytes:
+        """A part: for each word how many places have it, and the images and paths of the first of them; the images are named once. If there
+        are more, all images follow by their numbers."""
         numbers: Dict[int, int] = {}
         words = {}
-        for term, (count, docs) in terms.items():
-            places = sorted((self.images[image], path, image) for image, path in itertools.starmap(self.place, docs) if image in self.images)
-            words[term] = (count, [(numbers.setdefault(image, len(numbers)), path) for _, path, image in places])
+        for term, (count, docs, steps) in terms.items():
+            found = sorted((self.images[place.image], place) for place in itertools.starmap(self.place, docs) if place.image in self.images)
+            places = [(numbers.setdefault(each.image, len(numbers)), each.path, *([each.comment] if each.comment else [])) for _, each in found]
+            words[term] = (count, places, *([steps] if steps else []))
         images = [self.images[image] for image in numbers]
         return f"part({script_of([name, images, words])});\n".encode("ascii")
 
@@ -69,17 +88,30 @@ class Places:
         begin = name.rstrip("_")
         limits = begin, begin + chr(0x10FFFF)
         counts: Dict[str, int] = {}
-        places: Dict[str, List[Tuple[int, int]]] = {}
+        terms: Dict[str, Terms] = {}
         for term, count in self.connection.execute(VOCABULARY, limits):
             if part_of(term) == name:
                 counts[term] = counts.get(term, 0) + count
-        for term in counts:
-            places[term] = [(kind, doc) for kind, doc in self.connection.execute(PLACES, (term, MOST_PLACES))]
+        sums: Dict[str, List[Tuple[int, int]]] = {}
         for term, kind, doc in self.connection.execute(SUMS, limits) if begin == name else ():
-            counts[term] = counts.get(term, 0) + 1
-            places.setdefault(term, []).append((kind, doc))
-        terms = {term: (counts[term], sorted(places[term])[:MOST_PLACES]) for term in sorted(counts)}
+            sums.setdefault(term, []).append((kind, doc))
+        for term in sorted({*counts, *sums}):
+            docs = [(kind, doc) for kind, doc in self.connection.execute(PLACES, (term, MOST_PLACES))] if term in counts else []
+            more = sums.get(term, [])
+            terms[term] = self.kept(term, counts.get(term, 0) + len(more), sorted({*docs, *more}))
         return self.part(name, terms) if terms else None
+
+    def kept(self, term: str, count: int, docs: List[Tuple[int, int]]) -> Terms:
+        """What a part has of the places of a word: how many there are, the first of them, and, if there are more, all images."""
+        return count, docs[:MOST_PLACES], self.steps(term) if count > MOST_PLACES else []
+
+    def names(self) -> Iterator[Part]:
+        """The names and pages of all images, a file for some of them, by their numbers."""
+        numbers = sorted({image // IMAGES_A_FILE for image in self.images if image >= 0})
+        for number in numbers:
+            some = range(number * IMAGES_A_FILE, (number + 1) * IMAGES_A_FILE)
+            there = {image: self.images[image][:2] for image in some if image in self.images}
+            yield f"i-{number}", f"part({script_of([f'i-{number}', there, {}])});\n".encode("ascii")
 
 
 def all_parts(connection: sqlite3.Connection) -> Iterator[Part]:
@@ -93,14 +125,16 @@ def all_parts(connection: sqlite3.Connection) -> Iterator[Part]:
             yield from ((old, places.part(old, waiting.pop(old))) for old in [old for old in waiting if "_" not in old])
         last = name
         docs = dict.fromkeys((row["kind"], row["doc"]) for row in rows)
-        waiting.setdefault(name, {})[term] = (len(docs), list(itertools.islice(docs, MOST_PLACES)))
+        waiting.setdefault(name, {})[term] = places.kept(term, len(docs), list(docs))
     yield from ((old, places.part(old, terms)) for old, terms in waiting.items())
+    yield from places.names()
 
 
 def due_parts(connection: sqlite3.Connection, names: Iterable[str]) -> Iterator[Part]:
-    """The bytes of each of these parts, if a word has it."""
+    """The bytes of each of these parts, if a word has it, and the names of images."""
     places = Places(connection)
     yield from ((name, places.one(name)) for name in names)
+    yield from places.names()
 
 
 def touched_parts(connection: sqlite3.Connection) -> Set[str]:
