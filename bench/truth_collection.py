@@ -67,6 +67,7 @@ class Collection:
         self.count, self.folder, self.seed = count, folder, seed
         self.dice = random.Random(f"{seed} files")
         self.lines: List[str] = []
+        self.known: Dict[str, bool] = {}  # whether the list calls a disk a bad dump, by the disk's SHA-1
 
     def form(self, number: int) -> str:
         """How a disk is kept."""
@@ -104,8 +105,16 @@ class Collection:
             name = os.path.basename(disk.name).replace(".adz", ".adf")
             sums = f'crc="{zlib.crc32(content):08x}" sha1="{hashlib.sha1(content).hexdigest()}"'
             more = f' status="{status}"' if status else ""
+            if known == "known":
+                digest = hashlib.sha1(content).hexdigest()
+                self.known[digest] = bool(status) and self.known.get(digest, True)
             self.lines.append(f'<game name="Some"><rom name={quoteattr(name)} size="{len(content)}" {sums}{more}/></game>\n')
         return disk._replace(known=known, is_bad_dump=bool(status))
+
+    def settled(self, disk: Disk) -> Disk:
+        """A disk with the bytes of one that is in the list is known too."""
+        digest = hashlib.sha1(disk.image).hexdigest()
+        return disk._replace(known="known", is_bad_dump=self.known[digest]) if digest in self.known else disk
 
     def put(self, disk: Disk) -> Disk:
         """Writes the file of a disk."""
@@ -181,7 +190,7 @@ def make(count: int, folder: str, seed: str = "1") -> List[Disk]:
     """Makes a collection in a new folder, and gives its disks."""
     os.makedirs(os.path.join(folder, "disks"))
     collection = Collection(count, folder, seed)
-    disks = list(collection.disks())
+    disks = list(map(collection.settled, list(collection.disks())))
     collection.write("notes.txt", b"no image\n")
     collection.write_list()
     write_tables(folder, disks)

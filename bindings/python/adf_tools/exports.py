@@ -14,6 +14,7 @@ from xml.sax.saxutils import XMLGenerator
 import adf
 from adf_tools import bags, database
 from adf_tools.advice import TITLES
+from adf_tools.image_pages import lost_text
 from adf_tools.names import bytes_of
 from adf_tools.program import command_line
 from adf_tools.verify import files_in, folder_of
@@ -210,7 +211,7 @@ def note_of(row: sqlite3.Row) -> str:
     """What a catalogue says of an image, beside its verdict."""
     told = [TITLES.get(row["advice"], row["advice"])]
     if row["verdict"] != "ok" and row["lost"] is not None:
-        told.append(f"lost {'at least ' if row['lost_least'] else ''}{row['lost']}")
+        told.append("lost " + lost_text(row, str(row["lost"]), "all that was there"))
     return ", ".join([*told, *([row["form"]] if row["form"] else [])])
 
 

@@ -72,9 +72,11 @@ def blocks_drawn(name: object, roles: bytes, fault: Optional[Fault] = None) -> H
     return drawn(picture("", roles, fault, name=f"Blocks of {name}"))
 
 
-def lost_text(image: Row) -> str:
-    """How many files of an image are lost: a lower bound, where headers or directories are missing."""
-    return ("at least " if image["lost_least"] else "") + count_of(image["lost"] or 0, "file")
+def lost_text(image: Row, count: str, every: str) -> str:
+    """How many files of an image are lost: a lower bound, where headers or directories are missing; every one where nothing is found."""
+    if image["lost_least"] and not image["dirs"] and not image["files"]:
+        return every
+    return f"at least {count}" if image["lost_least"] else count
 
 
 class ImagePage:
@@ -205,10 +207,10 @@ class ImagePage:
         image = self.image
         whole = (image["dirs"] or 0) + (image["files"] or 0)
         counts = f"{count_of(image['faults'] or 0, 'line')}; {image['sound'] or 0} of {count_of(whole, 'entry', 'entries')} sound"
-        kind = "note" if image["advice"] in NO_FAULT else "refused"
+        kind, lost = "note" if image["advice"] in NO_FAULT else "refused", count_of(image["lost"] or 0, "file")
         pairs: List[Tuple[str, object]] = [("What to do", self.advice()), ("Refused", marked_as(kind, image["verdict"]))]
         pairs += [("Label", shown(image["label"]))] if image["label"] else []
-        pairs += [("Findings", counts), ("Lost", lost_text(image)), *self.sum_facts()]
+        pairs += [("Findings", counts), ("Lost", lost_text(image, lost, "all that was there")), *self.sum_facts()]
         cause = paragraphs_of_causes().get(self.damage(), html(""))
         fault = Fault(image["block"] or 0, image["verdict"])
         beside = self.beside(blocks_drawn(image["name"], self.roles(), fault), self.found_part(whole))

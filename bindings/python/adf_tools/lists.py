@@ -8,7 +8,7 @@ import sqlite3
 from typing import Callable, Iterator, List, NamedTuple
 
 from adf_tools.advice import GROUPS, SOUND, TITLES, Advice
-from adf_tools.image_pages import NO_FAULT, is_page
+from adf_tools.image_pages import NO_FAULT, is_page, lost_text
 from adf_tools.markup import Html, html, joined, link, shown
 from adf_tools.out_folder import TWICE
 from adf_tools.pages import cell, count_of, day, page, paragraph, table
@@ -23,7 +23,7 @@ KNOWN = (
 )
 MOST_IMAGES = 500  # of a page
 NAMES = "name, number"
-ORDERS = {"read again": f"lost DESC, lost_least DESC, {NAMES}"}  # of the lists that begin with the worst
+ORDERS = {"read again": f"dirs + files > 0, lost DESC, lost_least DESC, {NAMES}"}  # of the lists that begin with the worst
 PASSED = "SELECT kind, SUM(count) AS count FROM passed WHERE (file IS NULL) = ? GROUP BY kind ORDER BY 2 DESC, 1"
 COLUMNS = "name, page, verdict, advice, form, fits, label, kind, used, blocks, dirs, files, lost, lost_least, altered, known_as"
 MOST_KINDS = 20  # that the index names
@@ -204,7 +204,7 @@ def index_row(row: sqlite3.Row, has_known: bool) -> Html:
     if full is not None:
         meter = html('<meter max="100" value="{value}" aria-label="full"></meter> {percent} %', value=f"{full:.1f}", percent=f"{full:.0f}")
     found = (row["dirs"] or 0) + (row["files"] or 0)
-    told = "" if is_sound or row["lost"] is None else ("at least " if row["lost_least"] else "") + str(row["lost"])
+    told = "" if is_sound or row["lost"] is None else lost_text(row, str(row["lost"]), "all")
     lost = link(row["page"], told, "found") if told and found and has_page else shown(told)
     cells = [cell(anchor, "text"), cell(verdict_of(row), "verdict", key="" if is_sound else row["verdict"].split(": ")[-1])]
     cells += [cell(shown(row["label"] or ""), "text"), cell(shown(row["kind"] or ""), "nowrap wide")]

@@ -77,15 +77,15 @@ class Standing:
         and its block."""
         found: Dict[int, Tuple[int, str]] = {}
         waiting = {entry.raw_path: entry for entry in rest}
-        called: Dict[bytes, bytes] = {}
+        called: Dict[bytes, List[bytes]] = {b"": [b""]}  # the paths of directories, by those that the lines tell
         surveyed = {entry.header for entry in self.survey.entries}
         for each in self.left_out:
             if each.is_kept and each.first not in surveyed:
                 above, slash, name = each.raw_path.rpartition(b"/")
-                front = called.get(above, above) + slash
-                entry = waiting.pop(front + b"lost-%d" % each.first, None) or waiting.pop(front + name, None)
+                names = [front + slash + last for last in (b"lost-%d" % each.first, name) for front in called.get(above, [above])]
+                entry = next((waiting.pop(path) for path in names if path in waiting), None)
                 if entry is not None:
-                    called[each.raw_path] = entry.raw_path
+                    called.setdefault(each.raw_path, []).append(entry.raw_path)
                     found[entry.number] = each.first, each.why
         return found
 
