@@ -28,7 +28,8 @@ class Find(Asked):
         for words, found in (
             (["lemmings"], lemmings), (["LEMM"], lemmings), (["startup", "seq"], startup), (["startup-sequence"], startup), (["seq", "s"], startup),
             (["\xfcbel"], [("a.zip/B\xfc.adf", "c/readme")]), (["ein", "ubel"], [("a.zip/B\xfc.adf", "c/readme")]),
-            (["bucher"], [("a.zip/B\xfc.adf", "")]), (["other"], [("other.adf", "")]),
+            (["bucher"], [("a.zip/B\xfc.adf", "")]), (["other"], [("other.adf", "")]), (["startup seq"], startup),
+            (["EIN ubel"], [("a.zip/B\xfc.adf", "c/readme")]),
         ):  # fmt: skip
             self.assertEqual(self.find(*words, "out"), found, words)
 
