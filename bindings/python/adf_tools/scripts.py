@@ -78,7 +78,7 @@ async function placesOf(word) {
 }
 const has = (texts, word) => texts.some(text => text.startsWith(word));
 async function nameOf(number) {
-  const { images } = await load("i-" + Math.floor(number / 1000));
+  const { images } = await load("i-" + Math.floor(number / 2 ** 32));
   const [name, page] = images[number] ?? [];
   return name === undefined ? undefined : { name, page, number, path: "", isMore: true };
 }
@@ -101,6 +101,7 @@ async function find() {
   const mayHave = number => each.every(one => one.isWhole ? one.named.has(number) : one.numbers.has(number));
   const more = each.every(one => one.isWhole) ? [] : [...each[0].numbers].filter(number => !seen.has(number) && mayHave(number));
   const named = (await Promise.all(more.slice(0, Math.max(0, 500 - found.length)).map(nameOf))).filter(place => place);
+  named.sort((one, other) => order.compare(one.name, other.name));
   document.querySelector("#places").replaceChildren(...found.slice(0, 500).map(item), ...named.map(item));
   const count = found.length + " found" + (more.length ? ", and in " + more.length + " more images" : "");
   const isAll = found.length <= 500 && !more.length && each.some(one => one.isWhole);

@@ -3,6 +3,7 @@
 
 from __future__ import annotations
 
+import hashlib
 import itertools
 import json
 import operator
@@ -17,7 +18,7 @@ Part = Tuple[str, Optional[bytes]]  # its name, and its bytes, if a word has it
 Terms = Tuple[int, List[Tuple[int, int]], List[int]]  # of a word: how many places, the first of them as rows of the database, steps of images
 MARKUP = re.compile("[<>&\x7f]")  # letters that a text of a script has by their numbers
 FRONT, MOST_PLACES = 3, 200  # letters of a word that name its part; places of a word that a part has
-IMAGES_A_FILE = 1000  # names of images that are in one file
+FILE_BITS = 32  # of the 40 bits of an image's number, those that do not name the file that has its name
 NO_LETTER = re.compile("[^a-z0-9]")
 TERMS = """SELECT term, 0 AS kind, doc FROM image_terms UNION ALL SELECT term, 1, doc FROM entry_terms UNION ALL SELECT sha256, 1, id
 FROM entries WHERE sha256 IS NOT NULL UNION ALL SELECT sha256, 0, id FROM images WHERE sha256 IS NOT NULL
@@ -43,12 +44,30 @@ def script_of(value: object) -> str:
     return MARKUP.sub(lambda found: f"\\u{ord(found[0]):04x}", json.dumps(value, separators=(",", ":")))
 
 
+class NamedImage(NamedTuple):
+    """An image, as a part has it."""
+
+    name: str
+    page: str
+    number: int
+    label: str
+
+
+def named_image(row: sqlite3.Row) -> NamedImage:
+    return NamedImage(row["name"], row["page"] if is_page(row["page"]) else "", number_of(row["name"], row["number"]), row["label"] or "")
+
+
 class Place(NamedTuple):
-    """A place of a word: the number of an image, and the path and the comment of an entry in it; empty for the image itself."""
+    """A place of a word: the row of an image, and the path and the comment of an entry in it; empty for the image itself."""
 
     image: int
     path: str
     comment: str
+
+
+def number_of(name: str, number: int) -> int:
+    """What an image is called in the parts: a number of 40 bits that is the same in each run."""
+    return int.from_bytes(hashlib.sha256(f"{name}\0{number}".encode("utf-8", "replace")).digest()[:5], "big")
 
 
 class Places:
@@ -56,8 +75,8 @@ class Places:
 
     def __init__(self, connection: sqlite3.Connection) -> None:
         self.connection = connection
-        rows = connection.execute("SELECT id, name, page, label FROM images")
-        self.images = {row["id"]: (row["name"], row["page"] if is_page(row["page"]) else "", row["id"], row["label"] or "") for row in rows}
+        rows = connection.execute("SELECT id, name, page, number, label FROM images")
+        self.images = {row["id"]: named_image(row) for row in rows}
 
     def place(self, kind: int, doc: int) -> Place:
         """The place that a row of the database is."""
@@ -68,7 +87,8 @@ class Places:
 
     def steps(self, term: str) -> List[int]:
         """The numbers of the images of all places of a word, each as what it is more than the one before."""
-        numbers = sorted({row[0] for row in self.connection.execute(IMAGES_OF, (term,))} & self.images.keys())
+        rows = self.connection.execute(IMAGES_OF, (term,))
+        numbers = sorted({self.images[row[0]].number for row in rows if row[0] in self.images})
         return [number - before for before, number in zip([0, *numbers], numbers)]
 
     def part(self, name: str, terms: Dict[str, Terms]) -> bytes:
@@ -106,12 +126,13 @@ class Places:
         return count, docs[:MOST_PLACES], self.steps(term) if count > MOST_PLACES else []
 
     def names(self) -> Iterator[Part]:
-        """The names and pages of all images, a file for some of them, by their numbers."""
-        numbers = sorted({image // IMAGES_A_FILE for image in self.images if image >= 0})
-        for number in numbers:
-            some = range(number * IMAGES_A_FILE, (number + 1) * IMAGES_A_FILE)
-            there = {image: self.images[image][:2] for image in some if image in self.images}
-            yield f"i-{number}", f"part({script_of([f'i-{number}', there, {}])});\n".encode("ascii")
+        """The names and pages of all images, in files by the first bits of their numbers."""
+        groups: Dict[int, Dict[int, Tuple[str, str]]] = {}
+        for image in sorted(self.images.values()):
+            groups.setdefault(image.number >> FILE_BITS, {})[image.number] = (image.name, image.page)
+        for group, images in sorted(groups.items()):
+            name = f"i-{group}"
+            yield name, f"part({script_of([name, images, {}])});\n".encode("ascii")
 
 
 def all_parts(connection: sqlite3.Connection) -> Iterator[Part]:
