@@ -23,6 +23,7 @@ PREMIS, XSI = "http://www.loc.gov/premis/v3", "http://www.w3.org/2001/XMLSchema-
 DFXML = "http://www.forensicswiki.org/wiki/Category:Digital_Forensics_XML"
 NO_XML = re.compile("[\x00-\x08\x0b\x0c\x0e-\x1f\ud800-\udfff\ufffe\uffff]")  # letters that no XML has
 PROGRAM, SUMS = "adf-catalogue", (("CRC-32", "crc32"), ("MD5", "md5"), ("SHA-1", "sha1"), ("SHA-256", "sha256"))
+SHA256 = re.compile("[0-9a-f]{64}")
 CIVIL = re.compile(r"([0-9]{4}-[0-9]{2}-[0-9]{2}) ([0-9]{2}:[0-9]{2}:[0-9]{2})\.[0-9]{2}")
 NOT_JUDGED = "volumes not read", "too long", "loader", "other form", "no volume", "not read"
 AT = "COALESCE(ended, begun) AS at"
@@ -49,14 +50,14 @@ def totals_text(connection: sqlite3.Connection) -> str:
 
 
 def is_inside(path: str) -> bool:
-    """Whether a path leads to a file of the folder: the database may say anything."""
+    """Whether a path leads to a file of the folder."""
     return not path.startswith("/") and not {"", ".", ".."} & set(path.split("/"))
 
 
 def files(connection: sqlite3.Connection) -> Iterator[sqlite3.Row]:
-    """The files whose checksums are known."""
+    """The files whose checksums are known, by names of files in the folder: the database may say anything."""
     line = "SELECT files.*, program FROM files JOIN runs ON runs.id = run WHERE sha256 IS NOT NULL ORDER BY path"
-    yield from (row for row in connection.execute(line) if is_inside(row["path"]))
+    yield from (row for row in connection.execute(line) if is_inside(row["path"]) and SHA256.fullmatch(row["sha256"]))
 
 
 # A list for sha256sum
@@ -271,7 +272,7 @@ class Dfxml:
 
 def work(words: argparse.Namespace) -> int:
     """Writes what a catalogue has in the form that is wanted."""
-    with database.asked(os.path.join(words.out, database.NAME)) as connection:
+    with database.asked(os.path.join(words.out, database.NAME), True) as connection:
         if words.bagit is not None:
             known = {row["path"]: row["sha256"] for row in files(connection)}
             found = files_in(folder_of(connection, words), words.out)

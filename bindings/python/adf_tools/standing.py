@@ -3,6 +3,7 @@ out, each by the library's words for it."""
 
 from __future__ import annotations
 
+import functools
 import struct
 from typing import Dict, Iterator, List, NamedTuple, Optional, Sequence, Set, Tuple, Union
 
@@ -26,6 +27,10 @@ class Stood(NamedTuple):
     @property
     def is_kept(self) -> bool:
         return isinstance(self.source, adf.Entry)
+
+
+def first_word(image: bytes, block: int) -> int:
+    return int.from_bytes(image[adf.BLOCK * block : adf.BLOCK * block + 4], "big")
 
 
 def words_of(image: bytes, block: int) -> Sequence[int]:
@@ -116,11 +121,11 @@ class Standing:
     def _headers_told(self) -> Set[int]:
         """The headers that are not found, but named by lost blocks: OFS data blocks and extension blocks say whose they are. A bitmap that has
         zeros for a page tells nothing."""
-        image, roles = self.survey.image, self.survey.owners()
+        image = self.survey.image
         known = {stood.header for stood in self.entries} | {each.first for each in self.left_out if each.is_entry}
-        pages = (words_of(image, block) for block, role in enumerate(roles) if adf.ROLES[role] == "page")
-        if not all(page[0] for page in pages):
+        pages = [block for block, role in enumerate(self.survey.owners()) if adf.ROLES[role] == "page"]
+        if not all(first_word(image, page) for page in pages):
             return set()
-        lost = (words_of(image, block) for each in self.left_out for block in self._in_use(each))
-        told = (words[TELLS[words[0]]] for words in lost if words[0] in TELLS and sum(words) % 2**32 == 0)
+        lost = (block for each in self.left_out for block in self._in_use(each) if first_word(image, block) in TELLS)
+        told = (words[TELLS[words[0]]] for words in map(functools.partial(words_of, image), lost) if sum(words) % 2**32 == 0)
         return {header for header in told if 2 <= header < len(image) // adf.BLOCK} - known

@@ -13,6 +13,7 @@ from typing import Dict, Iterator, List, NamedTuple, Optional
 import adf
 from adf_tools import database, store, trees
 from adf_tools.collection import fault_of, files_below, opened
+from adf_tools.find import plain
 from adf_tools.names import bytes_of, host_letters
 from adf_tools.out_folder import PAGES
 from adf_tools.pages import count_of
@@ -85,7 +86,7 @@ class Verify:
         names = {file.name for file in self.files}
         for name in sorted(set(self.stored) - names):
             self.counts["gone"] += 1
-            yield f"gone\t{name}"
+            yield f"gone\t{plain(name)}"
         progress = Progress(len(self.files), "files")
         answers = in_order(read, [file.path for file in self.files], MEMORY)
         with contextlib.closing(progress), contextlib.closing(answers):
@@ -94,7 +95,7 @@ class Verify:
                 what, more = self.compared(file, found)
                 self.counts[what] += 1
                 if what != "same":
-                    yield f"{what}\t{file.name}" + (f"\t{more}" if more else "")
+                    yield f"{what}\t{plain(file.name)}" + (f"\t{more}" if more else "")
 
     def compared(self, file: File, found: Found) -> tuple[str, str]:
         """How a file has come out, and what more is told of it."""
@@ -115,7 +116,7 @@ def has_date(path: bytes, altered: Optional[int]) -> bool:
 
 def work(words: argparse.Namespace) -> int:
     """Writes a line for each file that is not as the catalogue has it; the status says whether there is one."""
-    with database.asked(os.path.join(words.out, database.NAME)) as connection:
+    with database.asked(os.path.join(words.out, database.NAME), True) as connection:
         verify = Verify(connection, files_in(folder_of(connection, words), words.out))
         for line_ in verify.lines():
             sys.stdout.buffer.write((line_ + "\n").encode("utf-8", "backslashreplace"))

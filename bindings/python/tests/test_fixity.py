@@ -69,6 +69,11 @@ class Verify(Asked):
             connection.execute("UPDATE files SET path = '../outside.adf' WHERE path = 'tools.adf'")
         self.assertEqual(self.verified("out", status=1)[0], ["gone\t../outside.adf", "new\ttools.adf"])
 
+    def test_does_nothing_that_the_database_says(self):
+        with database.opened(f"out/{database.NAME}") as connection:
+            connection.execute("UPDATE files SET path = 'a' || CHAR(10, 27) || '[2J' WHERE path = 'tools.adf'")
+        self.assertEqual(self.verified("out", status=1)[0], ["gone\ta\\x0a\\x1b[2J", "new\ttools.adf"])
+
     def test_keeps_each_sum_that_a_file_has_had(self):
         first = sha256("disks/tools.adf")
         self.catalogue("--fresh", "disks", "out", status=1)
@@ -92,6 +97,14 @@ class Export(Asked):
         ran = subprocess.run(["sha256sum", "-c", "--quiet", "../sums"], cwd="disks", stdout=subprocess.PIPE, stderr=subprocess.PIPE)
         self.assertEqual((ran.returncode, ran.stdout, ran.stderr), (0, b"", b""))
         self.assertEqual(content_of("sums").count(b"\n"), 8)
+
+    def test_lists_no_file_outside_of_the_folder(self):
+        self.catalogue("disks", "out", status=1)
+        with database.opened(f"out/{database.NAME}") as connection:
+            connection.execute("UPDATE files SET path = '../outside' WHERE path = 'tools.adf'")
+            connection.execute("UPDATE files SET sha256 = sha256 || CHAR(10) || 'x' WHERE path = 'other.adf'")
+        lines = self.exported("sha256", "out").decode().splitlines()
+        self.assertEqual([line[66:] for line in lines], ["a.zip", "games/bad.adf", "games/copy.adf"])
 
     def test_writes_premis(self):
         self.catalogue("disks", "out", status=1)
