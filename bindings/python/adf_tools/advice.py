@@ -83,7 +83,7 @@ def advice_of(refused: adf.Refused, survey: adf.Survey, columns: Dict[str, objec
     if refused.cause == "directory cache" and len(survey.findings) == 1:
         return "other type"
     has_nothing = not survey.entries and not survey.kind
-    if has_nothing and starts_alone(columns):
+    if has_nothing and starts_alone(columns) and len(survey.image) >= adf.BLOCK * FLOPPIES[0]:
         return "loader"
     if len(survey.image) != columns["bytes"] or refused.cause == "bad size":
         return "wrong length" if not has_nothing or survey.image[:3] == b"DOS" else "no volume"

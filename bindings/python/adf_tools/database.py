@@ -122,7 +122,6 @@ ALTER TABLE files ADD COLUMN crc32 TEXT;
 ALTER TABLE files ADD COLUMN md5 TEXT;
 ALTER TABLE files ADD COLUMN sha1 TEXT;
 ALTER TABLE files ADD COLUMN sha256 TEXT;
-CREATE INDEX images_by_lost ON images (advice, lost, name, number);
 CREATE TABLE sums (
     id INTEGER PRIMARY KEY, path TEXT NOT NULL, run INTEGER NOT NULL REFERENCES runs, bytes INTEGER NOT NULL, sha256 TEXT NOT NULL);
 CREATE INDEX sums_by_path ON sums (path);

@@ -125,9 +125,10 @@ class Groups(Catalogues):
         for name, begin in forms.items():
             written(f"disks/{name}.adf", begin.ljust(901120, b"\x11"))
         written("disks/loader.adf", loader)
+        written("disks/cut.adf", loader[: 512 * 700])
         written("disks/empty.adf")
         self.catalogue("disks", "out", status=1)
-        self.assertEqual(self.groups(), {**{f"{name}.adf": "other form" for name in (*forms, "empty")}, "loader.adf": "loader"})
+        self.assertEqual(self.groups(), {**{f"{name}.adf": "other form" for name in (*forms, "empty")}, "loader.adf": "loader", "cut.adf": "read again"})
         told = dict(self.asked("out", "SELECT name, form FROM images"))
         self.assertEqual((told["empty.adf"], told["loader.adf"]), ("an empty file", None))
         self.assertIn("swap", told["swapped.adf"])
