@@ -204,9 +204,7 @@ class Merge:
             for path, part, row in files:
                 with told(part.path):
                     read = read_of(part.connection, row)
-                if path in known:
-                    store.remove(self.connection, known[path][0])
-                store.add(self.connection, path, stamp_of(row), self.run, read)
+                store.put(self.connection, known[path][0] if path in known else None, store.Kept(path, stamp_of(row), read), self.run)
             self.connection.execute("UPDATE runs SET read = read + ? WHERE id = ?", (len(files), self.run))
 
 

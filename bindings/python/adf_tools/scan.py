@@ -119,9 +119,8 @@ class Scan:
             self.own_names.note(link for _, read in batch for link in links_of(read))
             with transaction(self.connection):
                 for file, read in batch:
-                    if file.name in known:
-                        store.remove(self.connection, known[file.name][0])
-                    store.add(self.connection, file.name, file.stamp, run, read)
+                    number = known[file.name][0] if file.name in known else None
+                    store.put(self.connection, number, store.Kept(file.name, file.stamp, read), run)
                 self.connection.execute("UPDATE runs SET read = read + ? WHERE id = ?", (len(batch), run))
             for link in (link for _, read in batch for link in links_of(read)):
                 self.own_names.out.move(os.path.basename(link), link)

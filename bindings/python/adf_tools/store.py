@@ -4,12 +4,14 @@ from __future__ import annotations
 
 import os
 import sqlite3
-from typing import Any, Dict, Optional, Sequence, Tuple
+from collections import Counter
+from typing import Any, Dict, Iterable, NamedTuple, Optional, Sequence, Tuple
 
 from adf_tools.reader import Read
 from adf_tools.volumes import Record, Rows
 
 Stamp = Tuple[int, int, int, int]
+LONGEST_WORDS = 1024  # letters of a path, from its end, that are searched
 NO_STAMP = (None, None, None, None)
 MOST_NUMBER = 2**63 - 1
 TABLES = {
@@ -32,6 +34,9 @@ COMING = (
     """INSERT INTO entry_words (rowid, path, comment) SELECT entries.id, words_of(substr(path, -1024)), words_of(comment)
         FROM entries JOIN images ON images.id = image WHERE file = ?1""",
 )
+SHOWN = """SELECT name, number, page, label, NULL AS path, NULL AS comment, sha256, tree FROM images WHERE file = ?1
+    UNION ALL SELECT name, number, page, label, path, comment, entries.sha256, NULL FROM entries JOIN images ON images.id = image WHERE file = ?1"""
+TOUCH = "INSERT INTO touched VALUES (?, ?) ON CONFLICT (sha256) DO UPDATE SET name = MIN(name, excluded.name)"
 TOUCHED = (
     """INSERT INTO touched SELECT * FROM (
             SELECT entries.sha256, name FROM entries JOIN images ON images.id = entries.image WHERE file = ?1 AND entries.sha256 IS NOT NULL
@@ -42,6 +47,14 @@ TOUCHED = (
     """INSERT INTO touched_words (words) SELECT words_of(substr(path, -1024) || ' ' || comment)
         FROM entries JOIN images ON images.id = image WHERE file = ?1""",
 )
+
+
+class Kept(NamedTuple):
+    """A file with its stamp, and what is kept of it."""
+
+    path: str
+    stamp: Optional[Stamp]
+    read: Read
 
 
 def stamp_of(path: bytes) -> Optional[Stamp]:
@@ -81,13 +94,43 @@ def insert_rows(connection: sqlite3.Connection, table: str, names: Sequence[str]
 
 
 def remove(connection: sqlite3.Connection, file: int) -> None:
-    """Takes a file out, with all that is kept of its images. The sums that it had are noted."""
+    """Takes a file out, with all that is kept of its images. The words and sums that it had are noted."""
     for line in (*TOUCHED, *GOING):
         connection.execute(line, (file,))
 
 
-def add(connection: sqlite3.Connection, path: str, stamp: Optional[Stamp], run: int, read: Read) -> None:
-    """Puts a file in. What could not be read has no stamp, so the next run reads it again."""
+def shown_of(connection: sqlite3.Connection, file: int) -> Rows:
+    """What pages and the search show of a file: of each image and entry its names, and then its sums."""
+    return [tuple(row) for row in connection.execute(SHOWN, (file,))]
+
+
+def changed(before: Rows, after: Rows) -> Iterable[Tuple[Any, ...]]:
+    """The rows that came or went, each once."""
+    one, other = Counter(before), Counter(after)
+    return {**(one - other), **(other - one)}
+
+
+def put(connection: sqlite3.Connection, known: Optional[int], file: Kept, run: int) -> None:
+    """Puts a file in, in the place of what is known of it. The words and sums of what came or went are noted."""
+    if known is None:
+        number = add(connection, file, run)
+        for line in TOUCHED:
+            connection.execute(line, (number,))
+        return
+    before = shown_of(connection, known)
+    for line in GOING:
+        connection.execute(line, (known,))
+    after = shown_of(connection, add(connection, file, run))
+    for name, _, _, label, path, comment in changed([row[:6] for row in before], [row[:6] for row in after]):
+        text = f"{name} {label or ''}" if path is None else f"{path[-LONGEST_WORDS:]} {comment}"
+        connection.execute("INSERT INTO touched_words (words) VALUES (words_of(?))", (text,))
+    sums = changed(*([(*row[:6], each) for row in rows for each in row[6:] if each is not None] for rows in (before, after)))
+    connection.executemany(TOUCH, [(row[6], row[0]) for row in sums])
+
+
+def add(connection: sqlite3.Connection, kept: Kept, run: int) -> int:
+    """Adds a file, and gives its number. What could not be read has no stamp, so the next run reads it again."""
+    path, stamp, read = kept
     is_read = all(record.columns["advice"] != "not read" for record in read.records)
     size, altered, inode, changed = stamp if stamp and is_read else NO_STAMP
     columns = dict(path=path, size=size, altered_ns=altered, inode=inode, changed_ns=changed, run=run)
@@ -102,8 +145,9 @@ def add(connection: sqlite3.Connection, path: str, stamp: Optional[Stamp], run: 
             add_volume(connection, file, disk, record)
         else:
             disk = add_image(connection, file, None, record)
-    for line in (*TOUCHED, *COMING):
+    for line in COMING:
         connection.execute(line, (file,))
+    return file
 
 
 def note_sum(connection: sqlite3.Connection, path: str, run: int, size: int, digest: str) -> None:
