@@ -57,12 +57,19 @@ function partsOf(word) {
   const front = plain([...word].slice(0, 3).join("")).slice(0, 3);
   return front.length === 2 ? [front + "_", ...[...letters.slice(0, -1)].map(letter => front + letter)] : [front.padEnd(3, "_")];
 }
+async function wordsIn(name, word) {
+  let one = await load(name);
+  const letters = [...word];
+  while (one.words.length === 1 && one.words[0][0] === "" && letters.length > name.length) one = await load(name += plain(letters[name.length])[0]);
+  return one;
+}
 async function placesOf(word) {
   const places = new Map();
   const numbers = new Set();
   const named = new Set();
   let isWhole = word.length > 1;
-  for (const { images, words } of await Promise.all(partsOf(word).map(load))) for (const [term, [count, found, steps]] of words) if (term.startsWith(word)) {
+  const parts = await Promise.all(partsOf(word).map(name => wordsIn(name, word)));
+  for (const { images, words } of parts) for (const [term, [count, found, steps]] of words) if (term === "" || term.startsWith(word)) {
     for (const [image, path, comment] of found) {
       const [name, page, number, label] = images[image];
       const own = text_words(path + " " + (comment ?? ""));

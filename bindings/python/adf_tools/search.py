@@ -9,15 +9,16 @@ import json
 import operator
 import re
 import sqlite3
-from typing import Any, Dict, Iterable, Iterator, List, NamedTuple, Optional, Set, Tuple
+from typing import Any, Dict, Iterable, Iterator, List, NamedTuple, Set, Tuple
 
 from adf_tools.image_pages import is_page
 from adf_tools.out_folder import PARTS
 
-Part = Tuple[str, Optional[bytes]]  # its name, and its bytes, if a word has it
+Part = Tuple[str, bytes]  # its name, and its bytes
 Terms = Tuple[int, List[Tuple[int, int]], List[int]]  # of a word: how many places, the first of them as rows of the database, steps of images
 MARKUP = re.compile("[<>&\x7f]")  # letters that a text of a script has by their numbers
-FRONT, MOST_PLACES = 3, 200  # letters of a word that name its part; places of a word that a part has
+FRONT, LONGEST_FRONT = 3, 20  # letters of a word that name its part, and of a part of one that is too large
+MOST_PLACES, MOST_TERMS = 200, 2000  # places of a word that a part has; words of a part
 FILE_BITS = 32  # of the 40 bits of an image's number, those that do not name the file that has its name
 NO_LETTER = re.compile("[^a-z0-9]")
 TERMS = """SELECT term, 0 AS kind, doc FROM image_terms UNION ALL SELECT term, 1, doc FROM entry_terms UNION ALL SELECT sha256, 1, id
@@ -30,13 +31,15 @@ PLACES = """SELECT 0, doc FROM (SELECT DISTINCT doc FROM image_terms WHERE term 
 UNION ALL SELECT 1, doc FROM (SELECT DISTINCT doc FROM entry_terms WHERE term = ?1 LIMIT ?2) LIMIT ?2"""
 IMAGES_OF = """SELECT doc FROM image_terms WHERE term = ?1 UNION SELECT image FROM entry_terms JOIN entries ON entries.id = doc WHERE term = ?1
 UNION SELECT image FROM entries WHERE sha256 = ?1 UNION SELECT id FROM images WHERE sha256 = ?1 OR tree = ?1"""
+IMAGES_BETWEEN = """SELECT doc FROM image_terms WHERE term BETWEEN ?1 AND ?2
+UNION SELECT image FROM entry_terms JOIN entries ON entries.id = doc WHERE term BETWEEN ?1 AND ?2"""
 SUMS = """SELECT sha256, 0, id FROM images WHERE sha256 >= ?1 AND sha256 < ?2 UNION ALL SELECT tree, 0, id FROM images
 WHERE tree >= ?1 AND tree < ?2 UNION ALL SELECT sha256, 1, id FROM entries WHERE sha256 >= ?1 AND sha256 < ?2"""
 
 
-def part_of(term: str) -> str:
-    """The part that has a word: its first three letters, with `_` for what is no letter or digit of ASCII."""
-    return NO_LETTER.sub("_", term[:FRONT]).ljust(FRONT, "_")
+def part_of(term: str, length: int = FRONT) -> str:
+    """The part that has a word: its first letters, three of them, with `_` for what is no letter or digit of ASCII."""
+    return NO_LETTER.sub("_", term[:length]).ljust(length, "_")
 
 
 def script_of(value: object) -> str:
@@ -87,8 +90,11 @@ class Places:
 
     def steps(self, term: str) -> List[int]:
         """The numbers of the images of all places of a word, each as what it is more than the one before."""
-        rows = self.connection.execute(IMAGES_OF, (term,))
-        numbers = sorted({self.images[row[0]].number for row in rows if row[0] in self.images})
+        return self.steps_to(row[0] for row in self.connection.execute(IMAGES_OF, (term,)))
+
+    def steps_to(self, images: Iterable[int]) -> List[int]:
+        """The numbers of images, each as what it is more than the one before."""
+        numbers = sorted({self.images[image].number for image in images if image in self.images})
         return [number - before for before, number in zip([0, *numbers], numbers)]
 
     def part(self, name: str, terms: Dict[str, Terms]) -> bytes:
@@ -103,8 +109,24 @@ class Places:
         images = [self.images[image] for image in numbers]
         return f"part({script_of([name, images, words])});\n".encode("ascii")
 
-    def one(self, name: str) -> Optional[bytes]:
-        """The part of this name, if a word has it."""
+    def tree(self, name: str, terms: Dict[str, Terms]) -> Iterator[Part]:
+        """A part; of one with too many words one for each next letter, and for all of them one word that is empty."""
+        if len(terms) <= MOST_TERMS or len(name) == LONGEST_FRONT:
+            yield name, self.part(name, terms)
+            return
+        yield name, self.part(name, {"": self.together(terms)})
+        longer = (term for term in terms if len(term) > len(name))
+        for front, some in itertools.groupby(longer, lambda term: part_of(term, len(name) + 1)):
+            yield from self.tree(front, {term: terms[term] for term in some})
+
+    def together(self, terms: Dict[str, Terms]) -> Terms:
+        """What a part has of many words as of one: how many places, the first of them, and all images."""
+        docs = itertools.islice((doc for _, places, _ in terms.values() for doc in places), MOST_PLACES)
+        rows = self.connection.execute(IMAGES_BETWEEN, (min(terms), max(terms)))
+        return sum(count for count, _, _ in terms.values()), list(docs), self.steps_to(row[0] for row in rows)
+
+    def one(self, name: str) -> Iterator[Part]:
+        """The part of this name, if a word has it, and those that it is parted into."""
         begin = name.rstrip("_")
         limits = begin, begin + chr(0x10FFFF)
         counts: Dict[str, int] = {}
@@ -119,7 +141,7 @@ class Places:
             docs = [(kind, doc) for kind, doc in self.connection.execute(PLACES, (term, MOST_PLACES))] if term in counts else []
             more = sums.get(term, [])
             terms[term] = self.kept(term, counts.get(term, 0) + len(more), sorted({*docs, *more}))
-        return self.part(name, terms) if terms else None
+        yield from self.tree(name, terms) if terms else ()
 
     def kept(self, term: str, count: int, docs: List[Tuple[int, int]]) -> Terms:
         """What a part has of the places of a word: how many there are, the first of them, and, if there are more, all images."""
@@ -142,19 +164,21 @@ def all_parts(connection: sqlite3.Connection) -> Iterator[Part]:
     last = ""
     for term, rows in itertools.groupby(connection.execute(TERMS), operator.itemgetter("term")):
         name = part_of(term)
-        if name != last:
-            yield from ((old, places.part(old, waiting.pop(old))) for old in [old for old in waiting if "_" not in old])
+        for old in [old for old in waiting if "_" not in old] if name != last else ():
+            yield from places.tree(old, waiting.pop(old))
         last = name
         docs = dict.fromkeys((row["kind"], row["doc"]) for row in rows)
         waiting.setdefault(name, {})[term] = places.kept(term, len(docs), list(docs))
-    yield from ((old, places.part(old, terms)) for old, terms in waiting.items())
+    for old, terms in waiting.items():
+        yield from places.tree(old, terms)
     yield from places.names()
 
 
 def due_parts(connection: sqlite3.Connection, names: Iterable[str]) -> Iterator[Part]:
     """The bytes of each of these parts, if a word has it, and the names of images."""
     places = Places(connection)
-    yield from ((name, places.one(name)) for name in names)
+    for name in names:
+        yield from places.one(name)
     yield from places.names()
 
 

@@ -152,7 +152,7 @@ class Site:
         if facts.get("parts") != facts["maker"] or 2 * len(due) > len(there):
             gone = there - self.write_some(search.all_parts(self.connection))
         else:
-            gone = {name for name in there if name in due or name.startswith("i-")} - self.write_some(search.due_parts(self.connection, due))
+            gone = {name for name in there if name[: search.FRONT] in due or name.startswith("i-")} - self.write_some(search.due_parts(self.connection, due))
         self.own.remove(search.file_of(name) for name in gone)
         with transaction(self.connection):
             self.connection.execute("DELETE FROM parts_due")
@@ -162,7 +162,7 @@ class Site:
         """Writes these parts, as far as there are such; gives their names."""
         written: Set[str] = set()
         while some := list(itertools.islice(parts, NOTED)):
-            there = {name: content for name, content in some if content is not None and PART_NAME.fullmatch(search.file_of(name))}
+            there = {name: content for name, content in some if PART_NAME.fullmatch(search.file_of(name))}
             self.own.note(map(search.file_of, there))
             for name, content in there.items():
                 self.out.write(search.file_of(name), content)

@@ -62,13 +62,13 @@ def collection() -> sqlite3.Connection:
 
 @unittest.skipUnless(NODE, "needs node")
 class Search(unittest.TestCase):
-    """Parts have three places of a word at most."""
+    """Parts have three places of a word, and four words at most."""
 
     def setUp(self) -> None:
         folder = tempfile.TemporaryDirectory()
         self.addCleanup(folder.cleanup)
         self.folder, self.connection = folder.name, collection()
-        patch = mock.patch.object(search, "MOST_PLACES", 3)
+        patch = mock.patch.multiple(search, MOST_PLACES=3, MOST_TERMS=4)
         patch.start()
         self.addCleanup(patch.stop)
         os.mkdir(os.path.join(self.folder, "search"))
@@ -102,8 +102,15 @@ class Search(unittest.TestCase):
     def test_finds_words_by_two_letters(self):
         self.assertEqual(self.asked("no", "to"), [("1 found", ["d7.adf: c/even1"]), ("1 found", ["d8.adf"])])
 
+    def test_finds_words_in_parts_that_are_parted(self):
+        self.assertTrue(os.path.exists(os.path.join(self.folder, "search", "lemmings5.js")))
+        told, lines = self.asked("lemmi")[0]
+        self.assertEqual((told, len(lines)), ("3 found, and in 5 more images; adf-catalogue find lists all", 8))
+        self.assertEqual(self.asked("lemmings9", "lemmingsx"), [("0 found", [])] * 2)
+        self.assertEqual(self.asked("lemmings8 tools"), [("1 found", ["d8.adf: \\x0alemmings8"])])
+
     def test_makes_the_same_parts_one_by_one(self):
-        names = [name for name, _ in search.all_parts(self.connection) if not name.startswith("i-")]
+        names = [name for name, _ in search.all_parts(self.connection) if len(name) == 3 and not name.startswith("i-")]
         self.assertEqual(dict(search.due_parts(self.connection, names)), dict(search.all_parts(self.connection)))
 
 
