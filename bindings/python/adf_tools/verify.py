@@ -18,7 +18,7 @@ from adf_tools.names import bytes_of, host_letters
 from adf_tools.out_folder import PAGES
 from adf_tools.pages import count_of
 from adf_tools.processes import in_order
-from adf_tools.program import FAILED, REFUSED, Progress, command_line, host_text, stop
+from adf_tools.program import FAILED, REFUSED, Progress, command_line, host_text, stop, tell
 
 MEMORY = 64 << 20  # what a process takes
 
@@ -121,11 +121,11 @@ def work(words: argparse.Namespace) -> int:
         for line_ in verify.lines():
             sys.stdout.buffer.write((line_ + "\n").encode("utf-8", "backslashreplace"))
     sys.stdout.flush()
-    counts = verify.counts
-    told = ", ".join(f"{count} {what}" for what, count in counts.items())
-    with contextlib.suppress(OSError):  # nobody reads it
-        print(f"adf-catalogue: {host_text(words.out)}: of {count_of(sum(counts.values()), 'file')} {told}", file=sys.stderr, flush=True)
-    return FAILED if counts["not read"] else REFUSED if sum(counts.values()) > counts["same"] else 0
+    counts, whole = verify.counts, sum(verify.counts.values())
+    if whole == counts["same"]:
+        return 0
+    tell("adf-catalogue", f"{host_text(words.out)}: of {count_of(whole, 'file')} " + ", ".join(f"{count} {what}" for what, count in counts.items()))
+    return FAILED if counts["not read"] else REFUSED
 
 
 def line() -> argparse.ArgumentParser:
