@@ -106,8 +106,9 @@ def kinds_passed(path: bytes, has_image: bool) -> Counter[str]:
         try:
             with opened(path) as file:
                 kinds.update(kind_of(member.name.rpartition(b"/")[2]) for member in members_of(file, form) if not is_image(member))
-        except FAULTS:  # which is told of the file
-            pass
+        except Exception as error:  # which is told of the file
+            if sys.flags.dev_mode and not isinstance(error, FAULTS):
+                raise
     return kinds
 
 
