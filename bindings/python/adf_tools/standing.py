@@ -73,7 +73,7 @@ class Standing:
                 seen.add(entry.number)
                 is_whole = found.is_sound or found.is_file
                 yield Stood(entry, found.header, why.get(found.header, SOUND if is_whole else DAMAGED))
-        rest = [entry for entry in self.volume.entries if entry.number not in seen] if self.volume else []
+        rest = [] if self.volume is None else [entry for entry in self.volume.entries if entry.number not in seen]
         headers = self._headers_of(rest)
         yield from (Stood(entry, *headers.get(entry.number, (0, SOUND))) for entry in rest)
 
