@@ -49,6 +49,12 @@ _adf_boot() {
 }
 
 _adf_files() {
+    case $1:${COMP_WORDS[1]}:$2 in
+        adf-catalogue:export:-*)
+            COMPREPLY=($(compgen -W "--sha256 --premis --dfxml --bagit -h --help --version" -- "$2"))
+            return
+            ;;
+    esac
     case $1:$2 in
         adf-mount:-*) COMPREPLY=($(compgen -W "--partition --damaged --blocks --strict -f -o -h --help -V --version" -- "$2")) ;;
         adf-edit:-*) COMPREPLY=($(compgen -W "--help --version" -- "$2")) ;;

@@ -2,7 +2,7 @@
 
 from __future__ import annotations
 
-from typing import Iterator, NamedTuple, Optional
+from typing import Dict, Iterator, NamedTuple, Optional
 
 import adf
 
@@ -20,14 +20,23 @@ class Advice(NamedTuple):
 
 GROUPS = (
     Advice("sound", "Sound", "Nothing is to be done."),
+    Advice("sound ffs", "Sound; file contents have no checksums on FFS", "Nothing is to be done: what has a checksum is right. Whether the contents"
+           " of files are, only a second reading or a published list can tell."),
+    Advice("published", "As published", "A published list has the image, by its checksums: nothing is to be done, whatever a check says."),
     Advice("other type", "Readable, of another type", "Nothing is wrong: the volume is of type 4 or 5, whose directory caches are not read."),
     Advice("bitmap", "Files whole, bitmap wrong", "All files can be read. The disk was perhaps taken out before its bitmap was written."),
-    Advice("read again", "Read again", "A checksum, a block or the end is wrong: read the disk once more, and compare."),
+    Advice("read again", "Read again", "A checksum, a block or the end is wrong: read the disk once more, and compare. The worst come first."),
     Advice("wrong length", "Wrong length", "The image is cut, or longer than its disk. Its line says the length that fits, in blocks."),
     Advice("tables", "Hard disk with a fault", "The tables of the disk, or of a partition, have a fault. Other partitions are read all the same."),
+    Advice("volumes not read", "Hard disk, not all of it read", "The tables have no fault. A partition is of a file system that is not read, or has none:"
+           " whether it is sound is not known."),
+    Advice("too long", "Longer than 512 MiB", "No volume of that length is read: whether it is sound is not known."),
+    Advice("loader", "Starts by its own loader", "It has boot blocks with code or a right checksum, and no volume behind them: keep it, and do not mend it."),
+    Advice("other form", "Another form of image", "Not the sectors of a disk, one after the other. Its line says what it is."),
     Advice("no volume", "Not a volume of an Amiga", "It may be of another computer, or start by its own loader: keep it, and do not mend it."),
     Advice("not read", "Not read", "The file or its archive cannot be read: copy it again."),
 )
+SOUND = "sound", "sound ffs"  # the groups of images without a fault
 TITLES = {group.name: group.title for group in GROUPS}
 
 
@@ -57,12 +66,27 @@ def passed(survey: adf.Survey) -> int:
     return int(len(survey.findings) > 0 and survey.findings[0].cause == "international")
 
 
-def advice_of(refused: adf.Refused, survey: adf.Survey, fits: Optional[int]) -> str:
-    """The group of a refused image."""
+def sound_group(kind: str) -> str:
+    """The group of a sound volume of this kind."""
+    return "sound ffs" if kind.startswith("ffs") else "sound"
+
+
+def starts_alone(columns: Dict[str, object]) -> bool:
+    """Whether boot blocks that begin with DOS have code, or a right checksum."""
+    return columns.get("boot") in ("bootable", "bad-sum") or columns.get("boot") == "no-code" and bool(columns.get("boot_is_right"))
+
+
+def advice_of(refused: adf.Refused, survey: adf.Survey, columns: Dict[str, object]) -> str:
+    """The group of a refused image, of which the survey finds what stands."""
+    if columns.get("form"):
+        return "other form"
     if refused.cause == "directory cache" and len(survey.findings) == 1:
         return "other type"
-    if fits is not None or refused.cause == "bad size":
-        return "wrong length" if fits is not None or survey.image[:3] == b"DOS" else "no volume"
+    has_nothing = not survey.entries and not survey.kind
+    if has_nothing and starts_alone(columns) and len(survey.image) >= adf.BLOCK * FLOPPIES[0]:
+        return "loader"
+    if len(survey.image) != columns["bytes"] or refused.cause == "bad size":
+        return "wrong length" if not has_nothing or survey.image[:3] == b"DOS" else "no volume"
     if refused.cause == "not dos" and not survey.entries:
         return "no volume"
     causes = {finding.cause for finding in survey.findings[passed(survey) : 1000]}

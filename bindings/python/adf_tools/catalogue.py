@@ -10,7 +10,7 @@ import sys
 from typing import Callable, Dict, Iterator, Tuple
 
 import adf
-from adf_tools import compare, database, find, known, merge, store, trees
+from adf_tools import compare, database, exports, find, known, merge, store, trees, verify
 from adf_tools.lists import INDEX
 from adf_tools.out_folder import ENTRIES, FOLDER, OTHER_NAMES, PAGES, PARTS, OutFolder, OwnNames, is_own
 from adf_tools.pages import count_of
@@ -143,12 +143,14 @@ COMMANDS: Dict[str, Tuple[Callable[[], argparse.ArgumentParser], Callable[[argpa
     "compare": (compare.line, compare.work),
     "scan": (merge.scan_line, merge.scan),
     "merge": (merge.merge_line, merged),
+    "verify": (verify.line, verify.work),
+    "export": (exports.line, exports.work),
 }
 
 
 def catalogue_line() -> argparse.ArgumentParser:
     does = "Keeps a database of the images in a folder, and pages for a browser: an index, and one for each image."
-    more = "Other commands: adf-catalogue find, compare, scan, merge, each with -h. A folder with such a name is written ./find."
+    more = "Other commands: adf-catalogue find, compare, scan, merge, verify, export, each with -h. A folder with such a name is written ./find."
     line = command_line("adf-catalogue", does, more)
     line.add_argument("folder", metavar="FOLDER", help="the images, in all folders below: *.adf, *.hdf, files that begin with DOS, also in .zip, .gz, .adz")
     line.add_argument("out", metavar="OUT", help="the catalogue, which is created or brought up to date; its index is index.html")

@@ -5,15 +5,19 @@ from __future__ import annotations
 import os
 import stat
 import sys
-from typing import BinaryIO, Container, Iterator
+from collections import Counter
+from typing import BinaryIO, Callable, Container, Iterator
 
-from adf_tools.archives import ENDINGS, FAULTS, IMAGES, NO_FILE, Image, begins_as_volume, fault_of, form_named, images_in_archive, unforeseen, unread
+from adf_tools.archives import (
+    DMS, ENDINGS, FAULTS, GZIP, IMAGES, NO_FILE, Image, begins_as_volume, fault_of, form_named, images_in_archive, is_image, members_of, unforeseen, unread)
 from adf_tools.content import content_in
+from adf_tools.names import host_letters
 from adf_tools.program import WORKING
 from adf_tools.trees import Identity
 
-__all__ = ["ARCHIVES", "Image", "fault_of", "files_below", "images_in", "unforeseen", "unread"]
+__all__ = ["ARCHIVES", "Image", "fault_of", "files_below", "images_in", "kind_of", "kinds_passed", "opened", "unforeseen", "unread"]
 ARCHIVES = tuple(ending for endings in ENDINGS.values() for ending in endings)
+LONGEST_KIND, NO_KIND, LINK = 16, "no ending", "link to a folder"
 FILE = os.O_RDONLY | os.O_NONBLOCK | os.O_NOCTTY | os.O_CLOEXEC
 
 
@@ -57,8 +61,13 @@ def is_left_out(entry: os.DirEntry[bytes], left_out: Container[Identity]) -> boo
         return False
 
 
-def files_below(folder: bytes, left_out: Container[Identity] = ()) -> list[bytes]:
-    """The paths of all files below a folder that can have images, and of folders that cannot be read, by their bytes."""
+def passed_by(_path: bytes, _kind: str) -> None:
+    """What is no image is not told."""
+
+
+def files_below(folder: bytes, left_out: Container[Identity] = (), note: Callable[[bytes, str], None] = passed_by) -> list[bytes]:
+    """The paths of all files below a folder that can have images, and of folders that cannot be read, by their bytes. Of all others the path
+    and the kind are noted."""
     found: list[bytes] = []
     waiting = [folder]
     while waiting:
@@ -66,11 +75,41 @@ def files_below(folder: bytes, left_out: Container[Identity] = ()) -> list[bytes
         try:
             with os.scandir(path) as entries:
                 inside = list(entries)
-            waiting += (entry.path for entry in inside if is_folder(entry) and not is_left_out(entry, left_out))
-            found += (entry.path for entry in inside if not is_folder(entry) and is_candidate(entry.path))
+            for entry in inside:
+                if is_folder(entry):
+                    if entry.is_symlink():
+                        note(entry.path, LINK)
+                    elif not is_left_out(entry, left_out):
+                        waiting.append(entry.path)
+                elif is_candidate(entry.path):
+                    found.append(entry.path)
+                else:
+                    note(entry.path, kind_of(entry.name))
         except OSError:
             found.append(path)
     return sorted(found)
+
+
+def kind_of(name: bytes) -> str:
+    """What a file is by the end of its name, in small letters."""
+    ending = os.path.splitext(name)[1].lower()
+    return host_letters(ending) if 1 < len(ending) <= LONGEST_KIND else NO_KIND
+
+
+def kinds_passed(path: bytes, has_image: bool) -> Counter[str]:
+    """How many files of each kind an archive has that are no images; a packed file that has none is one of its own kind."""
+    form = form_named(path)
+    if form in (GZIP, DMS):
+        return Counter() if has_image else Counter([kind_of(path)])
+    kinds: Counter[str] = Counter()
+    if form:
+        try:
+            with opened(path) as file:
+                kinds.update(kind_of(member.name.rpartition(b"/")[2]) for member in members_of(file, form) if not is_image(member))
+        except Exception as error:  # which is told of the file
+            if sys.flags.dev_mode and not isinstance(error, FAULTS):
+                raise
+    return kinds
 
 
 def images_in(path: bytes, name: bytes) -> Iterator[Image]:

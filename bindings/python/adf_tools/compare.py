@@ -9,9 +9,10 @@ from typing import Dict, Iterator, List, NamedTuple, Optional
 
 import adf
 from adf_tools.collection import Image, images_in
-from adf_tools.names import letters, spelled_letters
+from adf_tools.names import letters
 from adf_tools.program import FAILED, REFUSED, command_line, host_text, stop
-from adf_tools.volumes import file_sum, sound_sums
+from adf_tools.standing import Source, Standing, Stood
+from adf_tools.volumes import file_sum, path_of
 
 
 class Thing(NamedTuple):
@@ -70,24 +71,25 @@ def content_at(image: Image, path: bytes) -> bytes:
     return volume.begin()
 
 
-def thing_of(entry: adf.Entry | adf.Found, content: str) -> Thing:
+def thing_of(entry: Source, content: str) -> Thing:
     return Thing("file" if entry.is_file else "directory", content, f"{entry.protection:08x}", str(entry.date), letters(entry.comment))
 
 
-def found_sum(entry: adf.Found, sums: Dict[int, str]) -> str:
-    """A sum of the bytes of a file of a damaged image; of a damaged file its block, which no sum is equal to."""
-    return sums.get(entry.number, f"damaged, block {entry.header}") if entry.is_file else ""
+def stood_sum(stood: Stood) -> str:
+    """A sum of the bytes of a file that stands of a damaged image; of one that does not its block, which no sum is equal to."""
+    if isinstance(stood.source, adf.Entry):
+        return file_sum(stood.source) if stood.source.is_file else ""
+    return f"{stood.state}, block {stood.header}"
 
 
 def side_of(image: bytes) -> Side:
-    """What is compared of an image; of a refused one what is found in it."""
+    """What is compared of an image; of a refused one what stands of it."""
     try:
         volume = adf.Volume(image)
     except adf.Refused as refused:
-        survey = adf.survey(image)
-        found = sound_sums(survey)
-        things = {spelled_letters(entry.path): thing_of(entry, found_sum(entry, found)) for entry in survey.entries}
-        return Side(image, str(refused), letters(survey.label), things)
+        standing = Standing(image, refused)
+        things = {path_of(stood.source): thing_of(stood.source, stood_sum(stood)) for stood in reversed(standing.entries)}
+        return Side(image, str(refused), letters(standing.survey.label), things)
     sums = ((entry, file_sum(entry) if entry.is_file else "") for entry in volume.entries)
     return Side(image, "ok", letters(volume.label), {letters(entry.path): thing_of(entry, digest) for entry, digest in sums})
 

@@ -10,7 +10,7 @@ import tempfile
 from typing import IO, BinaryIO, Iterator, Optional
 
 import adf
-from adf_tools.volumes import disk_of, fault_of, is_volume, volume_of
+from adf_tools.volumes import disk_of, fault_of, is_long, is_volume
 
 CHANGED = "changed while it was read"
 
@@ -35,9 +35,15 @@ class Content:
         return disk_of(self.content)
 
     def volume(self, disk: adf.Disk, partition: adf.Partition) -> Optional[Content]:
-        """The volume of a partition, if it has one of an Amiga; of one that is too large one byte more than the largest has."""
-        content = volume_of(disk, partition)
-        return None if content is None else Content(content)
+        """The volume of a partition, if it has one of an Amiga; one that is longer than any that is read is not read into memory."""
+        if fault_of(disk, partition) or not is_volume(partition):
+            return None
+        part = Slice(self, adf.BLOCK * partition.first, adf.BLOCK * partition.blocks)
+        return part if is_long(partition) else Content(part.read(0, part.size))
+
+    def read(self, at: int, count: int) -> bytes:
+        """So many bytes from a place, of those that there are."""
+        return self.content[at : at + count]
 
 
 class FileContent(Content):
@@ -69,10 +75,21 @@ class FileContent(Content):
             tables.truncate(self.size)
             return disk_of(mmap.mmap(tables.fileno(), 0, access=mmap.ACCESS_READ))
 
-    def volume(self, disk: adf.Disk, partition: adf.Partition) -> Optional[Content]:
-        if fault_of(disk, partition) or not is_volume(partition):
-            return None
-        return Content(self.read(adf.BLOCK * partition.first, min(adf.BLOCK * partition.blocks, adf.MOST_BYTES + 1)))
+
+class Slice(Content):
+    """A part of other bytes, which is read where it is asked for."""
+
+    def __init__(self, whole: Content, first: int, size: int) -> None:
+        self.whole, self.first, self.size = whole, first, size
+
+    def read(self, at: int, count: int) -> bytes:
+        return self.whole.read(self.first + at, max(0, min(count, self.size - at)))
+
+    def begin(self) -> bytes:
+        return self.read(0, adf.MOST_BYTES + 1)
+
+    def parts(self) -> Iterator[memoryview]:
+        yield from (memoryview(self.read(at, adf.PART)) for at in range(0, self.size, adf.PART))
 
 
 def content_in(file: BinaryIO, size: int) -> Content:

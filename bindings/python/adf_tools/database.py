@@ -11,10 +11,11 @@ import contextlib
 import fcntl
 import functools
 import os
+import re
 import sqlite3
 import stat
 import urllib.parse
-from typing import Iterator, List, NoReturn, Set, Tuple
+from typing import Iterator, List, NoReturn, Optional, Set, Tuple
 
 from adf_tools.names import one_line
 from adf_tools.program import FAILED, host_text, stop
@@ -111,8 +112,31 @@ ALTER TABLE known ADD COLUMN status TEXT;
 CREATE TABLE written (name TEXT PRIMARY KEY) WITHOUT ROWID;
 INSERT INTO facts (name, value) SELECT 'unnoted', '1' FROM runs LIMIT 1;
 """
-STEPS = (FIRST, SECOND, THIRD, FOURTH, FIFTH, SIXTH)  # each brings a database to the next version
+SEVENTH = """
+ALTER TABLE images ADD COLUMN form TEXT;
+ALTER TABLE images ADD COLUMN lost_least INTEGER;
+ALTER TABLE images ADD COLUMN judged TEXT;
+UPDATE images SET judged = advice, lost_least = 1;
+ALTER TABLE files ADD COLUMN bytes INTEGER;
+ALTER TABLE files ADD COLUMN crc32 TEXT;
+ALTER TABLE files ADD COLUMN md5 TEXT;
+ALTER TABLE files ADD COLUMN sha1 TEXT;
+ALTER TABLE files ADD COLUMN sha256 TEXT;
+CREATE TABLE sums (
+    id INTEGER PRIMARY KEY, path TEXT NOT NULL, run INTEGER NOT NULL REFERENCES runs, bytes INTEGER NOT NULL, sha256 TEXT NOT NULL);
+CREATE INDEX sums_by_path ON sums (path);
+CREATE TABLE passed (
+    id INTEGER PRIMARY KEY, file INTEGER REFERENCES files ON DELETE CASCADE, kind TEXT NOT NULL, count INTEGER NOT NULL);
+CREATE INDEX passed_of_files ON passed (file);
+CREATE TABLE lists (name TEXT PRIMARY KEY, shows TEXT NOT NULL) WITHOUT ROWID;
+INSERT INTO image_words (image_words) VALUES ('delete-all');
+INSERT INTO entry_words (entry_words) VALUES ('delete-all');
+INSERT INTO image_words (rowid, name, label) SELECT id, words_of(name), words_of(label) FROM images;
+INSERT INTO entry_words (rowid, path, comment) SELECT id, words_of(substr(path, -1024)), words_of(comment) FROM entries;
+"""
+STEPS = (FIRST, SECOND, THIRD, FOURTH, FIFTH, SIXTH, SEVENTH)  # each brings a database to the next version
 TYPES = {"INTEGER": "integer", "TEXT": "text", "BLOB": "blob"}
+ESCAPE = re.compile(r"\\x[0-9a-f]{2}")
 BESIDE = "-journal", "-wal", "-shm"
 JOURNAL_MARK = bytes.fromhex("d9d505f920a163d7")  # with it ends a journal that names another file, which is of several databases
 TEXTS = "SELECT 1 FROM text_words_content WHERE typeof(c0) NOT IN ('text', 'null') LIMIT 1"
@@ -153,9 +177,19 @@ def connection_to(path: str, mode: str) -> sqlite3.Connection:
     name = urllib.parse.quote(os.fsencode(os.path.abspath(path)))
     connection = sqlite3.connect(f"file:{name}?mode={mode}", uri=True, timeout=WAIT, isolation_level=None)
     connection.row_factory = sqlite3.Row
+    add_functions(connection)
     for pragma in ("trusted_schema = OFF", "foreign_keys = ON", "cell_size_check = ON"):
         connection.execute(f"PRAGMA {pragma}")
     return connection
+
+
+def words_of(text: object) -> Optional[str]:
+    """A text as it is indexed: what stands there for a byte that cannot be printed parts words."""
+    return None if text is None else ESCAPE.sub(" ", str(text))
+
+
+def add_functions(connection: sqlite3.Connection) -> None:
+    connection.create_function("words_of", 1, words_of)
 
 
 def schema_of(connection: sqlite3.Connection) -> Set[Tuple[str, ...]]:
@@ -173,6 +207,7 @@ def own_schema(version: int) -> Set[Tuple[str, ...]]:
 
 def made_in_memory(version: int) -> sqlite3.Connection:
     connection = sqlite3.connect(":memory:", isolation_level=None)
+    add_functions(connection)
     for step in STEPS[:version]:
         connection.executescript(step)
     return connection

@@ -29,10 +29,11 @@ WHERE text_words MATCH ? ORDER BY images.name, images.number, entries.id"""
 BY_FILE_SUM = f"SELECT {FIELDS} FROM entries JOIN images ON images.id = image WHERE entries.sha256 = ? ORDER BY images.name, images.number, entries.id"
 
 
-def query_of(words: Sequence[str]) -> str:
-    """The query for what has a word that begins with each of these; any text is a word."""
-    quoted = (word.encode("utf-8", "replace").decode().replace('"', '""') for word in words)
-    return " ".join(f'"{word}"*' for word in quoted)
+def query_of(texts: Sequence[str]) -> str:
+    """The query for what has a word that begins with each of these; what stands between spaces is a word."""
+    plain = (database.words_of(text.encode("utf-8", "replace").decode()) or "" for text in texts)
+    words = [word.replace('"', '""') for text in plain for word in text.split()] or [""]
+    return " ".join(f'"{word}"*' for word in words)
 
 
 def by_words(connection: sqlite3.Connection, words: Sequence[str]) -> Iterator[sqlite3.Row]:
@@ -56,13 +57,17 @@ def by_sum(connection: sqlite3.Connection, digits: str) -> Iterator[sqlite3.Row]
         yield from connection.execute(BY_FILE_SUM, (digits,))
 
 
+def plain(text: object) -> str:
+    """A text of a database in one line, of which a terminal shows all, and does nothing that it says."""
+    return HIDDEN.sub(lambda found: adf.escape(found[0].encode("utf-8", "replace")), one_line(text))
+
+
 def line_of(row: sqlite3.Row, is_json: bool) -> str:
     """The line of a place. A terminal shows all of it, and does nothing that it says."""
     if is_json:
         line_ = json.dumps({name: row[name] for name in row.keys() if row[name] is not None}, ensure_ascii=False, default=str)
         return HIDDEN.sub(lambda found: json.dumps(found[0])[1:-1], line_)
-    image, path = (HIDDEN.sub(lambda found: adf.escape(found[0].encode("utf-8", "replace")), one_line(text or "")) for text in (row["image"], row["path"]))
-    return f"{image}\t{path}"
+    return f"{plain(row['image'] or '')}\t{plain(row['path'] or '')}"
 
 
 def checksum(text: str) -> str:

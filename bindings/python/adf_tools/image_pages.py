@@ -33,6 +33,8 @@ KEPT = {each.why for each in (adf.LeftOut(reason, b"", 0, 0) for reason in adf.R
 MOST_BOOTS = 100  # disks with the same boot blocks that are counted for a page
 MOST_DRAWN, MOST_RUNS = 1 << 19, 100_000  # letters of all icons of a page; runs of equal blocks of a picture
 INDEX = "../index.html"
+NO_FAULT = "other type", "bitmap", "published"  # groups of refused images of which all files stand, or nothing is to be done
+TYPES = "international", "directory cache"  # causes that are no damage
 Row = sqlite3.Row
 
 
@@ -70,6 +72,13 @@ def blocks_drawn(name: object, roles: bytes, fault: Optional[Fault] = None) -> H
     return drawn(picture("", roles, fault, name=f"Blocks of {name}"))
 
 
+def lost_text(image: Row, count: str, every: str) -> str:
+    """How many files of an image are lost: a lower bound, where headers or directories are missing; every one where nothing is found."""
+    if image["lost_least"] and not image["dirs"] and not image["files"]:
+        return every
+    return f"at least {count}" if image["lost_least"] else count
+
+
 class ImagePage:
     """The page of one image, whose rows are asked of the database."""
 
@@ -101,9 +110,11 @@ class ImagePage:
     def sum_facts(self) -> List[Tuple[str, object]]:
         """The length, the checksums, and which images are the same."""
         image = self.image
-        pairs: List[Tuple[str, object]] = [("Bytes", image["bytes"])]
+        pairs: List[Tuple[str, object]] = [("What it is", shown(image["form"]))] if image["form"] else []
+        pairs.append(("Bytes", image["bytes"]))
         sums = (("CRC-32", "crc32"), ("MD5", "md5"), ("SHA-1", "sha1"), ("SHA-256", "sha256"))
         pairs += ((head, code(image[column])) for head, column in sums if image[column])
+        pairs += self.file_facts()
         if image["boot_crc32"]:
             pairs.append(("Boot blocks", self.boot_text()))
         pairs += ((head, self.same(column)) for head, column in (("The same bytes", "sha256"), ("The same files", "tree")) if self.same(column))
@@ -112,6 +123,13 @@ class ImagePage:
         if image["unlisted"]:
             pairs.append(("Not in the database", f"the last {image['unlisted']} of the entries"))
         return pairs
+
+    def file_facts(self) -> List[Tuple[str, object]]:
+        """The file that an image was packed in, or is a part of, and its checksum."""
+        row = self.connection.execute("SELECT path, sha256 FROM files WHERE id = ?", (self.image["file"],)).fetchone()
+        if row is None or row["path"] == self.image["name"] or not row["sha256"]:
+            return []
+        return [("Its file", html("{path}: SHA-256 {digest}", path=shown(row["path"]), digest=code(row["sha256"])))]
 
     def known_text(self) -> Html:
         """What published lists say of the image."""
@@ -178,7 +196,8 @@ class ImagePage:
         numbers = f"{image['kind']}, {image['used']} of {image['blocks']} blocks used, {image['free']} free"
         dirs, files = image["dirs"] or 0, image["files"] or 0
         counts = f"{count_of(dirs, 'directory', 'directories')}, {count_of(files, 'file')}"
-        pairs = [("Label", shown(image["label"] or "")), ("Volume", numbers), ("Holds", counts), *self.date_facts(), *self.sum_facts()]
+        told = group.title if (group := ADVICE.get(image["advice"])) else ""
+        pairs = [("State", shown(told)), ("Label", shown(image["label"] or "")), ("Volume", numbers), ("Holds", counts), *self.date_facts(), *self.sum_facts()]
         rows = map(self.entry_row, self.rows(ENTRIES))
         entries = long_table("Entries", ENTRY_HEADS, rows, dirs + files, "adf list < IMAGE") if dirs + files else html("")
         return joined((facts("Volume", pairs), self.icons(), self.beside(blocks_drawn(image["name"], self.roles()), entries)))
@@ -188,14 +207,20 @@ class ImagePage:
         image = self.image
         whole = (image["dirs"] or 0) + (image["files"] or 0)
         counts = f"{count_of(image['faults'] or 0, 'line')}; {image['sound'] or 0} of {count_of(whole, 'entry', 'entries')} sound"
-        kind = "note" if image["advice"] in ("other type", "bitmap") else "refused"
+        kind, lost = "note" if image["advice"] in NO_FAULT else "refused", count_of(image["lost"] or 0, "file")
         pairs: List[Tuple[str, object]] = [("What to do", self.advice()), ("Refused", marked_as(kind, image["verdict"]))]
         pairs += [("Label", shown(image["label"]))] if image["label"] else []
-        pairs += [("Findings", counts), ("Lost", count_of(image["lost"] or 0, "file")), *self.sum_facts()]
-        cause = paragraphs_of_causes().get(image["cause"], html(""))
+        pairs += [("Findings", counts), ("Lost", lost_text(image, lost, "all that was there")), *self.sum_facts()]
+        cause = paragraphs_of_causes().get(self.damage(), html(""))
         fault = Fault(image["block"] or 0, image["verdict"])
         beside = self.beside(blocks_drawn(image["name"], self.roles(), fault), self.found_part(whole))
         return joined((facts("Image", pairs), cause, self.finding_table(), self.rescue_part(), self.icons(), beside))
+
+    def damage(self) -> str:
+        """The cause that is explained: that of the damage, if there is any beside the type."""
+        line = f"SELECT cause FROM findings WHERE image = :image AND cause NOT IN {TYPES} ORDER BY id LIMIT 1"
+        found = next(self.rows(line), None)
+        return str(found["cause"] if found and self.image["cause"] in TYPES else self.image["cause"])
 
     def disk_body(self) -> Html:
         """The page of a whole hard disk: its partitions, each with its volume."""
@@ -224,7 +249,7 @@ class ImagePage:
         return joined((*self.columns(row), cell(row["header"], "number wide"), cell(shown(row["comment"]), "text wide"), cell(also, "text")))
 
     def found_row(self, row: Row) -> Html:
-        mark = "sound" if row["state"] == "sound" else marked_as("refused", "damaged")
+        mark = shown(row["state"]) if row["state"] == "sound" else marked_as("note" if row["state"] in KEPT else "refused", row["state"])
         also = others(row["images"], self.image["page"], row["sha256"])
         return joined((cell(mark), *self.columns(row), cell(shown(row["comment"]), "text wide"), cell(also, "text")))
 
@@ -232,7 +257,7 @@ class ImagePage:
         """The entries that are found in a refused image."""
         if not whole:
             return html("")
-        form = """<div id="found"><p>Of a sound file, <code>adf-survey {option}cat PATH &lt; IMAGE &gt; FILE</code> writes the bytes.</p>\n{found}</div>"""
+        form = """<div id="found"><p><code>adf-unpack {option}IMAGE FOLDER</code> writes what stands, and says what does not.</p>\n{found}</div>"""
         found = long_table("Found", FOUND_HEADS, map(self.found_row, self.rows(ENTRIES)), whole, f"adf-survey {self.option()}--list < IMAGE")
         return html(form, option=self.option(), found=found)
 
@@ -241,14 +266,14 @@ class ImagePage:
         return long_table("Findings", FINDING_HEADS, rows, self.image["faults"] or 0, f"adf-survey {self.option()}< IMAGE")
 
     def rescue_part(self) -> Html:
-        """The link to the new volume of a refused image, what it leaves out, and what it keeps in doubt."""
-        if not is_page(self.image["rescued"]):
-            return html("")
+        """The new volume of a refused image, if it was written, what its rescue leaves out, and what that keeps in doubt."""
         found = list(self.rows("SELECT * FROM left_out WHERE image = :image ORDER BY id"))
         kept = sum(row["why"] in KEPT for row in found)
         counts = f"{count_of(len(found) - kept, 'entry', 'entries')} left out" + (f", {kept} in doubt" if kept else "")
-        form = '<p><a href="{name}" download>A new, sound volume</a> of all that stands, {counts}.</p>\n'
-        told = html(form, name=address(os.path.basename(self.image["rescued"])), counts=counts)
+        told = html("")
+        if is_page(self.image["rescued"]):
+            form = '<p><a href="{name}" download>A new, sound volume</a> of all that stands, {counts}.</p>\n'
+            told = html(form, name=address(os.path.basename(self.image["rescued"])), counts=counts)
         rows = [row_of(row["why"], row["path"]) for row in found]
         head, command = "Left out or in doubt" if kept else "Left out", f"adf-survey {self.option()}rescue < IMAGE"
         return joined((told, long_table(head, ("Why", "Path"), rows, len(rows), command) if rows else html("")))
@@ -280,8 +305,8 @@ def partition_row(row: Dict[str, Any]) -> Html:
     """The line of a partition. What is wrong with it, else with its volume, is its verdict."""
     name = row["name"] or row["number"]
     named = link(os.path.basename(row["page"]), name) if is_page(row["page"]) else shown(name)
-    verdict = row["fault"] or row["verdict"] or "not an Amiga's"
-    shown_verdict = shown(verdict) if verdict in ("ok", "not an Amiga's") else marked_as("refused", verdict)
+    verdict = row["fault"] or row["verdict"] or "not read"
+    shown_verdict = shown(verdict) if verdict in ("ok", "not read") else marked_as("refused", verdict)
     flags = ", ".join(text for bit, text in ((1, "bootable"), (2, "not mounted")) if row["flags"] & bit)
     cells = [cell(named, "text"), cell(shown_verdict), cell(shown(row["kind"])), cell(row["first"], "number"), cell(row["blocks"], "number")]
     return joined((*cells, cell(flags, "nowrap wide"), cell(row["priority"], "number wide"), cell(shown(row["label"] or ""), "text")))

@@ -17,6 +17,7 @@ SUMS = {"crc": (8, "crc32"), "md5": (32, "md5"), "sha1": (40, "sha1")}
 HEXADECIMAL = re.compile("[0-9a-f]+")
 PACKED = (".gz", ".adz", ".hdz", ".zip")
 STATUSES = {"baddump": "a bad dump", "nodump": "not dumped"}
+PUBLISHED = "published"
 INSERT = "INSERT INTO known (list, game, name, plain_name, size, crc32, md5, sha1, status) VALUES (?, ?, ?, ?, ?, ?, ?, ?, ?)"
 MATCHES = """
 SELECT images.id, known.list, game, known.name, status, status IS NOT NULL FROM images JOIN known ON known.sha1 = images.sha1
@@ -24,6 +25,14 @@ UNION ALL SELECT images.id, known.list, game, known.name, status, status IS NOT 
 UNION ALL SELECT images.id, known.list, game, known.name, status, status IS NOT NULL FROM images JOIN known ON known.crc32 = images.crc32 AND known.size = bytes
     WHERE known.sha1 IS NULL AND known.md5 IS NULL
 ORDER BY 1, 6, 4, 3, 2"""
+
+
+class Noted(NamedTuple):
+    """Whether a list has an image, what it calls it, and whether it says nothing bad of it."""
+
+    known: Optional[str]
+    known_as: Optional[str]
+    is_good: bool = False
 
 
 class Disk(NamedTuple):
@@ -126,18 +135,21 @@ def row_of(disk: Disk) -> Tuple[Any, ...]:
 
 
 def note(connection: sqlite3.Connection) -> None:
-    """Notes of each image whether a list knows it, and as what; pages that say something else by that are made again."""
+    """Notes of each image whether a list knows it, and as what, and in which group it is by that; pages that say something else by that
+    are made again."""
     has_lists = connection.execute("SELECT EXISTS (SELECT 1 FROM known)").fetchone()[0]
-    found: Dict[int, Tuple[str, str]] = {}
+    found: Dict[int, Noted] = {}
     if has_lists:
         for image, title, game, name, status, _ in connection.execute(MATCHES):
-            found.setdefault(image, ("known", called(name or game, title, status)))
+            found.setdefault(image, Noted("known", called(name or game, title, status), status is None))
     with transaction(connection):
-        rows = connection.execute("SELECT id, name, sha256, known, known_as FROM images").fetchall()
+        rows = connection.execute("SELECT id, name, sha256, judged, advice, known, known_as FROM images").fetchall()
         for row in rows:
-            now = found.get(row["id"]) or (unmatched(connection, row) if has_lists and row["sha256"] else (None, None))
-            if now != (row["known"], row["known_as"]):
-                connection.execute("UPDATE images SET known = ?, known_as = ?, is_shown = 0 WHERE id = ?", (*now, row["id"]))
+            now = found.get(row["id"]) or (unmatched(connection, row) if has_lists and row["sha256"] else Noted(None, None))
+            advice = PUBLISHED if now.is_good and row["judged"] not in ("sound", "not read") else row["judged"]
+            if (now.known, now.known_as, advice) != (row["known"], row["known_as"], row["advice"]):
+                line = "UPDATE images SET known = ?, known_as = ?, advice = ?, is_shown = 0 WHERE id = ?"
+                connection.execute(line, (now.known, now.known_as, advice, row["id"]))
 
 
 def called(name: str, title: str, status: Optional[str]) -> str:
@@ -145,11 +157,11 @@ def called(name: str, title: str, status: Optional[str]) -> str:
     return f"{name} ({title}, {STATUSES[status]})" if status in STATUSES else f"{name} ({title})"
 
 
-def unmatched(connection: sqlite3.Connection, row: sqlite3.Row) -> Tuple[str, Optional[str]]:
+def unmatched(connection: sqlite3.Connection, row: sqlite3.Row) -> Noted:
     """Of an image that no list has by its checksums: whether a list has its name, and checksums for it."""
     line = """SELECT name, list, status, COALESCE(sha1, md5, crc32) IS NOT NULL AS has_sums FROM known WHERE plain_name = ?
         ORDER BY has_sums DESC, list, name LIMIT 1"""
     named = connection.execute(line, (plain_name(row["name"]),)).fetchone()
     if named is None:
-        return "unknown", None
-    return "differs" if named["has_sums"] else "unknown", called(named["name"], named["list"], named["status"])
+        return Noted("unknown", None)
+    return Noted("differs" if named["has_sums"] else "unknown", called(named["name"], named["list"], named["status"]))

@@ -2,11 +2,13 @@
 
 from __future__ import annotations
 
+import functools
+import hashlib
 import sqlite3
-from typing import Iterator, List, NamedTuple
+from typing import Callable, Iterator, List, NamedTuple
 
-from adf_tools.advice import GROUPS, TITLES, Advice
-from adf_tools.image_pages import is_page
+from adf_tools.advice import GROUPS, SOUND, TITLES, Advice
+from adf_tools.image_pages import NO_FAULT, is_page, lost_text
 from adf_tools.markup import Html, html, joined, link, shown
 from adf_tools.out_folder import TWICE
 from adf_tools.pages import cell, count_of, day, page, paragraph, table
@@ -20,10 +22,23 @@ KNOWN = (
     ("unknown", "Unknown", "No published list has the image."),
 )
 MOST_IMAGES = 500  # of a page
+NAMES = "name, number"
+ORDERS = {"read again": f"dirs + files > 0, lost DESC, lost_least DESC, {NAMES}"}  # of the lists that begin with the worst
+PASSED = "SELECT kind, SUM(count) AS count FROM passed WHERE (file IS NULL) = ? GROUP BY kind ORDER BY 2 DESC, 1"
+COLUMNS = "name, page, verdict, advice, form, fits, label, kind, used, blocks, dirs, files, lost, lost_least, altered, known_as"
+MOST_KINDS = 20  # that the index names
 FILTER = Html('<p><label>Filter this page <input id="filter" type="search"></label> <span id="shown" role="status"></span></p>\n')
 SEARCH = Html("""<form role="search" id="search"><p><label>Find disks and files, by words or a SHA-256 <input id="wanted" type="search"></label>
 <button>Find</button> <span id="told" role="status"></span></p></form><ul id="places"></ul>
 """)
+
+
+class ListPage(NamedTuple):
+    """A page of a list: its name, a sum of all that it shows, and what makes it."""
+
+    name: str
+    shows: str
+    make: Callable[[], Html]
 
 
 class Listed(NamedTuple):
@@ -35,6 +50,7 @@ class Listed(NamedTuple):
     where: str
     value: str
     whole: int
+    order: str = NAMES
 
     @property
     def pages(self) -> range:
@@ -63,7 +79,8 @@ class Lists:
         for group in GROUPS[1:]:
             if self.counts.get(group.name):
                 front = joined((above, paragraph(shown(group.text))))
-                yield Listed(group_list(group), f"{self.title}: {group.title}", front, "WHERE advice = :value", group.name, self.counts[group.name])
+                title, order = f"{self.title}: {group.title}", ORDERS.get(group.name, NAMES)
+                yield Listed(group_list(group), title, front, "WHERE advice = :value", group.name, self.counts[group.name], order)
         for name, title, text in KNOWN if self.known else ():
             front = joined((above, paragraph(shown(text)), self.known_table()))
             yield Listed(f"list-{name}", f"{self.title}: {title}", front, "WHERE known = :value", name, self.known.get(name, 0))
@@ -73,8 +90,8 @@ class Lists:
         """The names of all pages."""
         return [list_name(each.name, number) for each in self.all() for number in each.pages]
 
-    def pages(self) -> Iterator[tuple[str, Html]]:
-        """The name of each page, and the page; the index is the last."""
+    def pages(self) -> Iterator[ListPage]:
+        """All pages; the index is the last."""
         for each in self.all():
             yield from self.pages_of(each)
 
@@ -87,26 +104,50 @@ class Lists:
 
     def front(self) -> Html:
         """What stands on the index before the images: how many there are, and what is to be done with them."""
-        whole, sound = sum(self.counts.values()), self.counts.get("sound", 0)
+        whole = sum(self.counts.values())
+        (sound,) = self.connection.execute(f"SELECT COUNT(*) FROM images WHERE judged IN {SOUND}").fetchone()
         rows = [group_row(group, self.counts[group.name]) for group in GROUPS if self.counts.get(group.name)]
         counts = paragraph(f"{count_of(whole, 'image')}, {sound} sound")
         groups = table("What to do", ("Images", "Count", "What to do"), rows) if rows else html("")
-        return joined((counts, groups, self.known_table(), paragraph(link(TWICE, "What is there twice")), SEARCH))
+        return joined((counts, self.passed(), groups, self.known_table(), paragraph(link(TWICE, "What is there twice")), SEARCH))
 
-    def pages_of(self, each: Listed) -> Iterator[tuple[str, Html]]:
+    def passed(self) -> Html:
+        """How many files are no images, by their kinds: below the folder, and in archives."""
+        told = []
+        for is_below, where in ((1, "No images"), (0, "No images, in archives")):
+            rows = self.connection.execute(PASSED, (is_below,)).fetchall()
+            more = sum(row["count"] for row in rows[MOST_KINDS:])
+            texts = [f"{row['count']} {row['kind']}" for row in rows[:MOST_KINDS]] + ([f"{more} of other kinds"] if more else [])
+            told += [paragraph(shown(f"{where}: {', '.join(texts)}"), "note")] if texts else []
+        return joined(told)
+
+    def pages_of(self, each: Listed) -> Iterator[ListPage]:
         """The pages of one list, the last first."""
-        begins, has_known = self.begins(each.where, each.value), "known" in each.where
+        rows_of = self.rows_of(each)
         for number in reversed(each.pages):
-            later = f"{each.where} AND" if each.where else "WHERE"
-            line = f"SELECT * FROM images {later} (name, number) >= (:name, :number) ORDER BY name, number LIMIT {MOST_IMAGES}"
-            begin = begins[number - 1] if begins else ("", 0)
-            rows = self.connection.execute(line, {"value": each.value, "name": begin[0], "number": begin[1]})
-            links = self.links(each.name, number, each.pages[-1])
-            images = table("Images", (*HEADS, "Known as") if has_known else HEADS, (index_row(row, has_known) for row in rows))
-            script = joined((SCRIPT, SEARCHING)) if each.name == "index" and number == 1 else SCRIPT
-            top = each.front if number == 1 else paragraph(link(list_name(each.name, 1), "The first page"))
-            form = '{top}{filter}{links}<div id="images">{images}</div>{links}'
-            yield list_name(each.name, number), page(each.title, html(form, top=top, filter=FILTER, links=links, images=images), script)
+            rows = rows_of(number).fetchall()
+            shows = hashlib.sha256(repr((each, number, [tuple(row) for row in rows])).encode("utf-8", "replace")).hexdigest()
+            yield ListPage(list_name(each.name, number), shows, functools.partial(self.page_of, each, number, rows))
+
+    def page_of(self, each: Listed, number: int, rows: List[sqlite3.Row]) -> Html:
+        """A page of a list, with these images."""
+        has_known, links = "known" in each.where, self.links(each.name, number, each.pages[-1])
+        images = table("Images", (*HEADS, "Known as") if has_known else HEADS, (index_row(row, has_known) for row in rows))
+        script = joined((SCRIPT, SEARCHING)) if each.name == "index" and number == 1 else SCRIPT
+        top = each.front if number == 1 else paragraph(link(list_name(each.name, 1), "The first page"))
+        form = '{top}{filter}{links}<div id="images">{images}</div>{links}'
+        return page(each.title, html(form, top=top, filter=FILTER, links=links, images=images), script)
+
+    def rows_of(self, each: Listed) -> Callable[[int], sqlite3.Cursor]:
+        """What gives the images of a page of a list, by its number."""
+        if each.order != NAMES:
+            line = f"SELECT {COLUMNS} FROM images {each.where} ORDER BY {each.order} LIMIT {MOST_IMAGES} OFFSET :begin"
+            return lambda number: self.connection.execute(line, {"value": each.value, "begin": MOST_IMAGES * (number - 1)})
+        begins = self.begins(each.where, each.value) or [("", 0)]
+        later = f"{each.where} AND" if each.where else "WHERE"
+        plain = f"SELECT {COLUMNS} FROM images {later} (name, number) >= (:name, :number) ORDER BY {NAMES} LIMIT {MOST_IMAGES}"
+        places = [{"value": each.value, "name": name, "number": number} for name, number in begins]
+        return lambda number: self.connection.execute(plain, places[number - 1])
 
     def begins(self, where: str, value: str) -> List[tuple[str, int]]:
         """The first image of each page of a list."""
@@ -142,8 +183,9 @@ def list_row(name: str, title: str, count: int, text: str) -> Html:
 def verdict_of(row: sqlite3.Row) -> Html:
     """What is wrong with an image, and the length that fits."""
     is_sound = row["verdict"] == "ok"
-    told = TITLES.get(row["advice"], "") if row["advice"] == "tables" and is_sound else row["verdict"]
-    kind = "note" if row["advice"] in ("other type", "bitmap") else "refused"
+    told = TITLES.get(row["advice"], "") if row["advice"] in ("tables", "volumes not read") and is_sound else row["verdict"]
+    told = f"{told}: {row['form']}" if row["form"] else told
+    kind = "note" if row["advice"] in NO_FAULT else "refused"
     verdict = shown(told) if told == "ok" else html('<span class="{kind}">{told}</span>', kind=kind, told=shown(told))
     return verdict if row["fits"] is None else html("{verdict}<br>{fits} blocks fit", verdict=verdict, fits=row["fits"])
 
@@ -162,7 +204,8 @@ def index_row(row: sqlite3.Row, has_known: bool) -> Html:
     if full is not None:
         meter = html('<meter max="100" value="{value}" aria-label="full"></meter> {percent} %', value=f"{full:.1f}", percent=f"{full:.0f}")
     found = (row["dirs"] or 0) + (row["files"] or 0)
-    lost = link(row["page"], row["lost"], "found") if not is_sound and found and has_page else html("")
+    told = "" if is_sound or row["lost"] is None else lost_text(row, str(row["lost"]), "all")
+    lost = link(row["page"], told, "found") if told and found and has_page else shown(told)
     cells = [cell(anchor, "text"), cell(verdict_of(row), "verdict", key="" if is_sound else row["verdict"].split(": ")[-1])]
     cells += [cell(shown(row["label"] or ""), "text"), cell(shown(row["kind"] or ""), "nowrap wide")]
     cells += [cell(meter, "nowrap wide", key=f"{full or 0:.1f}")]

@@ -7,6 +7,7 @@ import contextlib
 import os
 import re
 import sqlite3
+from collections import Counter
 from typing import Any, Dict, Iterator, List, NamedTuple, Sequence, Tuple
 
 import adf
@@ -15,13 +16,15 @@ from adf_tools.database import told, transaction
 from adf_tools.out_folder import OutFolder, OwnNames
 from adf_tools.names import one_line
 from adf_tools.program import FAILED, REFUSED, add_escape, command_line, host_text, stop
+from adf_tools.reader import Read, most_common
 from adf_tools.scan import Options, Part, Scan
+from adf_tools.sums import Sums
 from adf_tools.volumes import Record, Rows, record
 
 PART = re.compile("([1-9][0-9]{0,5})/([1-9][0-9]{0,5})")
 IMAGE = tuple(
     """name number member page bytes crc32 md5 sha1 sha256 tree advice verdict block cause kind type blocks used free dirs files label root
-    altered created boot boot_crc32 boot_is_right faults sound lost unlisted fits roles""".split()
+    altered created boot boot_crc32 boot_is_right faults sound lost lost_least unlisted fits form roles""".split()
 )
 FILES = 100  # of a transaction
 
@@ -110,8 +113,15 @@ def checked(parts: Sequence[OpenPart]) -> Dict[str, str]:
     return each[0][1]
 
 
-def records_of(part: sqlite3.Connection, file: int) -> List[Record]:
+def read_of(part: sqlite3.Connection, file: sqlite3.Row) -> Read:
     """What a part keeps of a file, as a reader gives it."""
+    found = [file[name] for name in Sums._fields]
+    passed = dict(part.execute("SELECT kind, count FROM passed WHERE file = ?", (file["id"],)).fetchall())
+    return Read(records_of(part, file["id"]), Sums(*found) if all(found) else None, passed)
+
+
+def records_of(part: sqlite3.Connection, file: int) -> List[Record]:
+    """What a part keeps of the images in a file."""
     numbers = {volume: (disk, number) for volume, disk, number in part.execute(
         "SELECT volume, partitions.disk, partitions.number FROM partitions JOIN images ON images.id = partitions.disk WHERE file = ?", (file,))}  # fmt: skip
     found = []
@@ -134,6 +144,15 @@ def rows_of(part: sqlite3.Connection, image: int, columns: Dict[str, Any]) -> Re
     line = "SELECT c0 FROM entries LEFT JOIN text_words_content AS texts ON texts.id = entries.id WHERE image = ? ORDER BY entries.id"
     texts: Rows = [(place, text) for place, (text,) in enumerate(part.execute(line, (image,))) if text is not None]
     return record(columns)._replace(texts=texts, **rows)
+
+
+def passed_of(parts: Sequence[OpenPart]) -> Dict[str, int]:
+    """How many files of each kind are no images, in all parts."""
+    found: Counter[str] = Counter()
+    for part in parts:
+        with told(part.path):
+            found.update(dict(part.connection.execute("SELECT kind, count FROM passed WHERE file IS NULL").fetchall()))
+    return most_common(found)
 
 
 def files_of(parts: Sequence[OpenPart]) -> List[Row]:
@@ -163,6 +182,7 @@ class Merge:
             self.add(known, new[at : at + FILES])
         names = {file.path for file in files}
         with transaction(self.connection):
+            store.set_passed(self.connection, passed_of(self.parts))
             gone = [number for path, (number, _) in known.items() if path not in names]
             for number in gone:
                 store.remove(self.connection, number)
@@ -183,10 +203,8 @@ class Merge:
         with transaction(self.connection):
             for path, part, row in files:
                 with told(part.path):
-                    records = records_of(part.connection, row["id"])
-                if path in known:
-                    store.remove(self.connection, known[path][0])
-                store.add(self.connection, path, stamp_of(row), self.run, records)
+                    read = read_of(part.connection, row)
+                store.put(self.connection, known[path][0] if path in known else None, store.Kept(path, stamp_of(row), read), self.run)
             self.connection.execute("UPDATE runs SET read = read + ? WHERE id = ?", (len(files), self.run))
 
 

@@ -6,17 +6,29 @@ import hashlib
 import os
 import re
 import sys
-from typing import Iterator, Optional
+from collections import Counter
+from typing import Dict, Iterator, List, NamedTuple, Optional
 
 import adf
-from adf_tools.collection import Image, fault_of, images_in, unforeseen, unread
-from adf_tools.names import host_letters, spelled_letters
+from adf_tools.archives import foreign
+from adf_tools.collection import ARCHIVES, Image, fault_of, images_in, kinds_passed, opened, unforeseen, unread
+from adf_tools.names import host_letters
 from adf_tools.out_folder import NEW_FILE, PAGES
 from adf_tools.program import FAILED, Stop, stop
-from adf_tools.sums import sums_of
-from adf_tools.volumes import Columns, Record, disk_record, image_record, limited, record
+from adf_tools.sums import Sums, sums_of
+from adf_tools.volumes import Columns, Record, disk_record, image_record, long_record, record
 
 MOST_WRITTEN = 128 << 20  # letters that are kept of one file; of an archive the rest is left out
+MOST_KINDS, OTHERS = 1000, "others"  # kinds of files that are counted, and what the rest is called
+
+
+class Read(NamedTuple):
+    """What is kept of a file: of each image in it; the file's checksums, if it could be read; and how many files of each kind it has that
+    are no images."""
+
+    records: List[Record]
+    sums: Optional[Sums]
+    passed: Dict[str, int]
 
 
 def page_name(name: bytes, number: int) -> str:
@@ -38,13 +50,47 @@ def facts_of(image: Image) -> Columns:
     return {"bytes": image.length, **(sums_of(image.content.parts())._asdict() if is_whole else {})}
 
 
+def form_of(image: bytes) -> Optional[str]:
+    """What an image is that has no sectors one after the other, if its begin says so."""
+    return foreign(image) or None if image else "an empty file"
+
+
+def own_sums(records: List[Record]) -> Optional[Sums]:
+    """The checksums of a file that is an image: those of the image."""
+    columns = records[0].columns if records else {}
+    return Sums(*(columns[name] for name in Sums._fields)) if columns.get("sha256") else None
+
+
+def file_sums(path: bytes) -> Optional[Sums]:
+    """The checksums of a file, if it can be read."""
+    try:
+        with opened(path) as file:
+            return sums_of(iter(lambda: file.read(adf.PART), b""))
+    except OSError:
+        return None
+
+
+def most_common(kinds: Counter[str]) -> Dict[str, int]:
+    """How many files there are of each kind; of more than MOST_KINDS the rest is one."""
+    found = dict(kinds.most_common(MOST_KINDS))
+    rest = sum(kinds.values()) - sum(found.values())
+    return {**found, OTHERS: found.get(OTHERS, 0) + rest} if rest else found
+
+
 class Reader:
     """Reads a file below a folder. The new volumes go into a folder, if the descriptor of one is given; texts are kept if they are wanted."""
 
     def __init__(self, folder: bytes, volumes: Optional[int], has_texts: bool) -> None:
         self.folder, self.volumes, self.has_texts = folder, volumes, has_texts
 
-    def __call__(self, path: bytes) -> list[Record]:
+    def __call__(self, path: bytes) -> Read:
+        """What is kept of a file."""
+        records = self.records_in(path)
+        is_packed = path.lower().endswith(ARCHIVES)
+        passed = kinds_passed(path, bool(records)) if is_packed else Counter()
+        return Read(records, file_sums(path) if is_packed else own_sums(records), most_common(passed))
+
+    def records_in(self, path: bytes) -> list[Record]:
         """What is kept of the images in a file; of a hard disk its volumes follow it."""
         records: list[Record] = []
         name, weight = os.path.relpath(path, self.folder), 0
@@ -98,22 +144,22 @@ class Reader:
 
     def record_of(self, image: Image) -> Record:
         """What is kept of the image of a volume."""
-        page, content = page_name(image.name, image.number), image.content.begin()
-        found = image_record(content, {**columns_of(image), "page": page, **facts_of(image)}, self.has_texts)
-        return self.rescued(content, found) if self.volumes is not None and found.columns["verdict"] != "ok" else found
+        columns = {**columns_of(image), "page": page_name(image.name, image.number), **facts_of(image)}
+        if image.content.size > adf.MOST_BYTES:
+            return long_record(columns)
+        content = image.content.begin()
+        found, volume = image_record(content, {**columns, "form": form_of(content)}, self.has_texts)
+        return found if volume is None or self.volumes is None else self.rescued(volume, found, self.volumes)
 
-    def rescued(self, image: bytes, found: Record) -> Record:
-        """Writes the new volume of what stands in a refused image, if anything does; it is to stand beside its page."""
-        try:
-            volume, left_out = adf.rescue(image, found.columns.get("fits"))
-        except adf.Refused:
-            return found
+    @staticmethod
+    def rescued(volume: adf.Rescued, found: Record, folder: int) -> Record:
+        """Writes the new volume of what stands in a refused image; it is to stand beside its page."""
         link = found.columns["page"][: -len("html")] + "adf"
         try:
-            with open(os.open(os.path.basename(link), NEW_FILE, 0o666, dir_fd=self.volumes), "wb") as file:
-                file.write(volume)
+            with open(os.open(os.path.basename(link), NEW_FILE, 0o666, dir_fd=folder), "wb") as file:
+                file.write(volume.image)
         except FileExistsError:  # two images have one name
             return found
         except OSError as error:
             stop(FAILED, f"{link}: {error.strerror}")
-        return found._replace(columns={**found.columns, "rescued": link}, left_out=limited((each.why, spelled_letters(each.path)) for each in left_out))
+        return found._replace(columns={**found.columns, "rescued": link})

@@ -11,6 +11,7 @@ import os
 import sqlite3
 import time
 import zlib
+from collections import Counter
 from typing import Container, Dict, Iterator, List, NamedTuple, Optional, Tuple
 
 import adf
@@ -21,12 +22,12 @@ from adf_tools.names import host_letters
 from adf_tools.processes import in_order
 from adf_tools.out_folder import OwnNames, is_own
 from adf_tools.program import Progress
-from adf_tools.reader import Reader
+from adf_tools.reader import Read, Reader, most_common
 from adf_tools.trees import Identity
-from adf_tools.volumes import Record
 
 HERE = os.path.dirname(os.path.abspath(__file__))
-READING = ("advice", "archives", "collection", "content", "icons", "names", "picture", "reader", "sums", "volumes")  # the modules by which files are read
+READING = (  # the modules by which files are read
+    "advice", "archives", "collection", "content", "icons", "names", "picture", "reader", "standing", "sums", "volumes")  # fmt: skip
 LEAST_MEMORY, IMAGE_COPIES, PACKED = 256 << 20, 6, 8  # what a process takes, how often it has an image, how small an archive packs one
 FILES, WEIGHT, SECONDS = 100, 16 << 20, 2.0  # of a transaction
 
@@ -74,9 +75,9 @@ def reader_of(options: Options) -> str:
     return json.dumps([adf.__version__, *map(sum_of, (adf.library_path(), *module, *own)), options.rescues, options.has_texts])
 
 
-def links_of(records: List[Record]) -> List[str]:
+def links_of(read: Read) -> List[str]:
     """The new volumes of what was read of a file."""
-    return [record.columns["rescued"] for record in records if "rescued" in record.columns]
+    return [record.columns["rescued"] for record in read.records if "rescued" in record.columns]
 
 
 def memory_for(files: List[File]) -> int:
@@ -90,9 +91,19 @@ class Scan:
 
     def __init__(self, connection: sqlite3.Connection, folder: bytes, own_names: OwnNames, own: Container[Identity], options: Options) -> None:
         self.connection, self.folder, self.own_names, self.options = connection, folder, own_names, options
-        begin = os.path.join(folder, b"")
-        paths = ((path, path[len(begin) :] if path.startswith(begin) else b".") for path in files_below(folder, own))
+        self.passed: Counter[str] = Counter()
+        paths = ((path, self.name_of(path)) for path in files_below(folder, own, self.pass_by))
         self.files = [File(path, host_letters(name), store.stamp_of(path)) for path, name in paths if options.part.has(name)]
+
+    def name_of(self, path: bytes) -> bytes:
+        """The name of a file in the folder."""
+        begin = os.path.join(self.folder, b"")
+        return path[len(begin) :] if path.startswith(begin) else b"."
+
+    def pass_by(self, path: bytes, kind: str) -> None:
+        """Counts what is no image, of the part that is read."""
+        if self.options.part.has(self.name_of(path)):
+            self.passed[kind] += 1
 
     def update(self) -> None:
         """Reads the files that are new or have changed, and takes out those that are gone."""
@@ -100,18 +111,18 @@ class Scan:
         known = self.known()
         gone = set(known) - {file.name for file in self.files}
         with transaction(self.connection):
+            store.set_passed(self.connection, most_common(self.passed))
             for name in gone:
                 store.remove(self.connection, known[name][0])
         new = [file for file in self.files if file.name not in known or known[file.name][1] != file.stamp or file.stamp is None]
         for batch in self.batches(new):
-            self.own_names.note(link for _, records in batch for link in links_of(records))
+            self.own_names.note(link for _, read in batch for link in links_of(read))
             with transaction(self.connection):
-                for file, records in batch:
-                    if file.name in known:
-                        store.remove(self.connection, known[file.name][0])
-                    store.add(self.connection, file.name, file.stamp, run, records)
+                for file, read in batch:
+                    number = known[file.name][0] if file.name in known else None
+                    store.put(self.connection, number, store.Kept(file.name, file.stamp, read), run)
                 self.connection.execute("UPDATE runs SET read = read + ? WHERE id = ?", (len(batch), run))
-            for link in (link for _, records in batch for link in links_of(records)):
+            for link in (link for _, read in batch for link in links_of(read)):
                 self.own_names.out.move(os.path.basename(link), link)
         with transaction(self.connection):
             self.connection.execute("UPDATE runs SET ended = datetime('now'), removed = ? WHERE id = ?", (len(gone), run))
@@ -123,7 +134,8 @@ class Scan:
             last = self.connection.execute("SELECT value FROM facts WHERE name = 'reader'").fetchone()
             if self.options.is_fresh or last is None or last[0] != reader:
                 self.connection.execute("UPDATE files SET size = NULL")
-            facts = {"reader": reader, "title": self.title(), "part": f"{self.options.part.number}/{self.options.part.whole}"}
+            place = host_letters(os.path.abspath(self.folder))
+            facts = {"reader": reader, "title": self.title(), "folder": place, "part": f"{self.options.part.number}/{self.options.part.whole}"}
             self.connection.executemany("INSERT OR REPLACE INTO facts VALUES (?, ?)", facts.items())
             line = "INSERT INTO runs (begun, program, files) VALUES (datetime('now'), ?, ?)"
             return self.connection.execute(line, (f"adf-catalogue {adf.__version__}", len(self.files))).lastrowid or 0
@@ -141,17 +153,17 @@ class Scan:
         rows = self.connection.execute("SELECT path, id, size, altered_ns, inode, changed_ns FROM files")
         return {path: (number, None if number in lost else tuple(stamp)) for path, number, *stamp in rows}
 
-    def batches(self, files: List[File]) -> Iterator[List[Tuple[File, List[Record]]]]:
+    def batches(self, files: List[File]) -> Iterator[List[Tuple[File, Read]]]:
         """What is read of these files, some of them at a time."""
         work = self.own_names.out.work
         reader, progress = Reader(self.folder, work if self.options.rescues else None, self.options.has_texts), Progress(len(files), "files")
-        batch: List[Tuple[File, List[Record]]] = []
+        batch: List[Tuple[File, Read]] = []
         weight, begun = 0, time.monotonic()
         answers = in_order(reader, [file.path for file in files], memory_for(files), work)
         with contextlib.closing(progress), contextlib.closing(answers):
-            for file, records in zip(files, answers):
-                batch.append((file, records))
-                weight += sum(record.weight for record in records)
+            for file, read in zip(files, answers):
+                batch.append((file, read))
+                weight += sum(record.weight for record in read.records)
                 progress.step()
                 if len(batch) >= FILES or weight > WEIGHT or time.monotonic() - begun > SECONDS:
                     yield batch

@@ -50,37 +50,70 @@ function load(name) {
   }));
   return loaded.get(name);
 }
-const text_words = text => text.normalize("NFD").replace(/\\p{M}/gu, "").toLowerCase().match(/[\\p{L}\\p{N}]+/gu) ?? [];
-async function placesOf(word) {
-  const name = word.slice(0, 3).replace(/[^a-z0-9]/g, "_").padEnd(3, "_");
-  const { images, words } = await load(name);
-  const places = new Map();
-  let more = false;
-  for (const [term, [count, found]] of words) if (term.startsWith(word)) {
-    more ||= count > found.length;
-    for (const [image, path] of found) places.set(JSON.stringify([...images[image], path]), [...images[image], path]);
-  }
-  return { places, more, images: new Set([...places.values()].filter(place => place[2] === "").map(place => place[1])) };
+const text_words = text => text.replace(/\\\\x[0-9a-f]{2}/g, " ").normalize("NFD").replace(/\\p{M}/gu, "").toLowerCase().match(/[\\p{L}\\p{N}]+/gu) ?? [];
+const letters = "abcdefghijklmnopqrstuvwxyz0123456789_";
+const plain = text => text.replace(/[^a-z0-9]/g, "_");
+function partsOf(word) {
+  const front = plain([...word].slice(0, 3).join("")).slice(0, 3);
+  return front.length === 2 ? [front + "_", ...[...letters.slice(0, -1)].map(letter => front + letter)] : [front.padEnd(3, "_")];
 }
-function item([name, page, path]) {
+async function wordsIn(name, word) {
+  let one = await load(name);
+  const letters = [...word];
+  while (one.words.length === 1 && one.words[0][0] === "" && letters.length > name.length) one = await load(name += plain(letters[name.length])[0]);
+  return one;
+}
+async function placesOf(word) {
+  const places = new Map();
+  const numbers = new Set();
+  const named = new Set();
+  let isWhole = word.length > 1;
+  const parts = await Promise.all(partsOf(word).map(name => wordsIn(name, word)));
+  for (const { images, words } of parts) for (const [term, [count, found, steps]] of words) if (term === "" || term.startsWith(word)) {
+    for (const [image, path, comment] of found) {
+      const [name, page, number, label] = images[image];
+      const own = text_words(path + " " + (comment ?? ""));
+      places.set(JSON.stringify([number, path, comment]), { name, page, number, path, own, above: text_words(name + " " + label) });
+      numbers.add(number);
+      if (path === "") named.add(number);
+    }
+    let number = 0;
+    for (const step of steps ?? []) numbers.add(number += step);
+    isWhole &&= !steps;
+  }
+  return { word, places, numbers, named, isWhole };
+}
+const has = (texts, word) => texts.some(text => text.startsWith(word));
+async function nameOf(number) {
+  const { images } = await load("i-" + Math.floor(number / 2 ** 32));
+  const [name, page] = images[number] ?? [];
+  return name === undefined ? undefined : { name, page, number, path: "", isMore: true };
+}
+function item({ name, page, path, isMore }) {
   const line = document.createElement("li");
   const link = document.createElement(page ? "a" : "span");
   if (page) link.href = page;
   link.textContent = name;
-  line.append(link, path ? ": " + path : "");
+  line.append(link, path ? ": " + path : isMore ? ": entries on its page" : "");
   return line;
 }
 async function find() {
-  const text = document.querySelector("#wanted").value;
-  const words = text_words(text);
+  const words = text_words(document.querySelector("#wanted").value);
   const each = await Promise.all(words.map(placesOf));
   const every = new Map(each.flatMap(one => [...one.places]));
-  const found = [...every].filter(([key, place]) => each.every(one => one.places.has(key) || one.images.has(place[1]))).map(([, place]) => place);
-  found.sort((one, other) => order.compare(one[0] + "\\t" + one[2], other[0] + "\\t" + other[2]));
-  document.querySelector("#places").replaceChildren(...found.slice(0, 500).map(item));
-  const more = each.some(one => one.more) || found.length > 500;
-  const count = Math.min(found.length, 500) + " found" + (more ? ", and more: adf-catalogue find has all" : "");
-  document.querySelector("#told").textContent = words.length ? count : "";
+  const fits = (key, place) => each.every(one => one.places.has(key) || has(place.own, one.word) || has(place.above, one.word));
+  const found = [...every].filter(([key, place]) => fits(key, place)).map(([, place]) => place);
+  found.sort((one, other) => order.compare(one.name + "\t" + one.path, other.name + "\t" + other.path));
+  const seen = new Set(found.map(place => place.number));
+  const mayHave = number => each.every(one => one.isWhole ? one.named.has(number) : one.numbers.has(number));
+  const more = each.every(one => one.isWhole) ? [] : [...each[0].numbers].filter(number => !seen.has(number) && mayHave(number));
+  const named = (await Promise.all(more.slice(0, Math.max(0, 500 - found.length)).map(nameOf))).filter(place => place);
+  named.sort((one, other) => order.compare(one.name, other.name));
+  document.querySelector("#places").replaceChildren(...found.slice(0, 500).map(item), ...named.map(item));
+  const count = found.length + " found" + (more.length ? ", and in " + more.length + " more images" : "");
+  const isAll = found.length <= 500 && !more.length && each.some(one => one.isWhole);
+  const rest = isAll ? "" : "; adf-catalogue find lists all";
+  document.querySelector("#told").textContent = words.length ? count + rest : "";
 }
 document.querySelector("#search").onsubmit = event => {
   event.preventDefault();

@@ -87,6 +87,7 @@ class Site:
         if last is None or last[0] != maker:
             with transaction(self.connection):
                 self.connection.execute("UPDATE images SET is_shown = 0 WHERE is_shown")
+                self.connection.execute("DELETE FROM lists")
                 self.connection.execute("INSERT OR REPLACE INTO facts VALUES ('maker', ?)", (maker,))
 
     def note_holders(self) -> None:
@@ -146,12 +147,12 @@ class Site:
     def write_parts(self) -> None:
         """Writes the parts that the index searches: all, if the programs are other ones or most have changed; else those that are due."""
         facts = dict(self.connection.execute("SELECT name, value FROM facts").fetchall())
-        due = [row[0] for row in self.connection.execute("SELECT name FROM parts_due ORDER BY name")]
+        due = {row[0]: None for row in self.connection.execute("SELECT name FROM parts_due ORDER BY name")}
         there = {search.part_in(name) for name in self.own.names if PART_NAME.fullmatch(name)}
         if facts.get("parts") != facts["maker"] or 2 * len(due) > len(there):
             gone = there - self.write_some(search.all_parts(self.connection))
         else:
-            gone = there & set(due) - self.write_some(search.due_parts(self.connection, due))
+            gone = {name for name in there if name[: search.FRONT] in due or name.startswith("i-")} - self.write_some(search.due_parts(self.connection, due))
         self.own.remove(search.file_of(name) for name in gone)
         with transaction(self.connection):
             self.connection.execute("DELETE FROM parts_due")
@@ -161,7 +162,7 @@ class Site:
         """Writes these parts, as far as there are such; gives their names."""
         written: Set[str] = set()
         while some := list(itertools.islice(parts, NOTED)):
-            there = {name: content for name, content in some if content is not None and PART_NAME.fullmatch(search.file_of(name))}
+            there = {name: content for name, content in some if PART_NAME.fullmatch(search.file_of(name))}
             self.own.note(map(search.file_of, there))
             for name, content in there.items():
                 self.out.write(search.file_of(name), content)
@@ -175,15 +176,22 @@ class Site:
         names = [TWICE, *lists.names()]
         self.own.note(names)
         self.out.write(TWICE, Twice(self.connection).page().encode("utf-8"))
-        for name, page in lists.pages():
-            self.out.write(name, page.encode("utf-8"))
+        known = dict(self.connection.execute("SELECT name, shows FROM lists").fetchall())
+        made = []
+        for each in lists.pages():
+            if known.get(each.name) != each.shows or self.out.status(each.name) is None:
+                self.connection.execute("DELETE FROM lists WHERE name = ?", (each.name,))  # what is broken off here is made again
+                self.out.write(each.name, each.make().encode("utf-8"))
+                made.append((each.name, each.shows))
+        with transaction(self.connection):
+            self.connection.executemany("INSERT OR REPLACE INTO lists VALUES (?, ?)", made)
         return names
 
     def write_tables(self, is_escaped: bool) -> None:
         self.own.note((IMAGES, ENTRIES))
-        for name, query in ((IMAGES, tables.IMAGE_QUERY), (ENTRIES, tables.ENTRY_QUERY)):
+        for name, queries in ((IMAGES, (tables.IMAGE_QUERY, tables.PASSED_QUERY)), (ENTRIES, (tables.ENTRY_QUERY,))):
             with self.out.new_file(name) as file:
-                tables.write_table(self.connection, query, file, is_escaped)
+                tables.write_table(self.connection, queries, file, is_escaped)
 
     def remove_old(self, lists: Sequence[str]) -> None:
         """Removes pages and volumes to which no row leads, and lists that are no longer written."""

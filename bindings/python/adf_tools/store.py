@@ -4,11 +4,14 @@ from __future__ import annotations
 
 import os
 import sqlite3
-from typing import Any, Dict, List, Optional, Sequence, Tuple
+from collections import Counter
+from typing import Any, Dict, Iterable, NamedTuple, Optional, Sequence, Tuple
 
+from adf_tools.reader import Read
 from adf_tools.volumes import Record, Rows
 
 Stamp = Tuple[int, int, int, int]
+LONGEST_WORDS = 1024  # letters of a path, from its end, that are searched
 NO_STAMP = (None, None, None, None)
 MOST_NUMBER = 2**63 - 1
 TABLES = {
@@ -19,27 +22,39 @@ TABLES = {
 }
 PARTITION = ("number", "name", "kind", "first", "blocks", "flags", "priority", "block", "fault")
 GOING = (
-    """INSERT INTO image_words (image_words, rowid, name, label) SELECT 'delete', id, name, label FROM images WHERE file = ?1""",
-    """INSERT INTO entry_words (entry_words, rowid, path, comment) SELECT 'delete', entries.id, substr(path, -1024), comment
+    """INSERT INTO image_words (image_words, rowid, name, label) SELECT 'delete', id, words_of(name), words_of(label)
+        FROM images WHERE file = ?1""",
+    """INSERT INTO entry_words (entry_words, rowid, path, comment) SELECT 'delete', entries.id, words_of(substr(path, -1024)), words_of(comment)
         FROM entries JOIN images ON images.id = image WHERE file = ?1""",
     "DELETE FROM text_words WHERE rowid IN (SELECT entries.id FROM entries JOIN images ON images.id = image WHERE file = ?1)",
     "DELETE FROM files WHERE id = ?1",
 )
 COMING = (
-    "INSERT INTO image_words (rowid, name, label) SELECT id, name, label FROM images WHERE file = ?1",
-    """INSERT INTO entry_words (rowid, path, comment) SELECT entries.id, substr(path, -1024), comment
+    "INSERT INTO image_words (rowid, name, label) SELECT id, words_of(name), words_of(label) FROM images WHERE file = ?1",
+    """INSERT INTO entry_words (rowid, path, comment) SELECT entries.id, words_of(substr(path, -1024)), words_of(comment)
         FROM entries JOIN images ON images.id = image WHERE file = ?1""",
 )
+SHOWN = """SELECT name, number, page, label, NULL AS path, NULL AS comment, sha256, tree FROM images WHERE file = ?1
+    UNION ALL SELECT name, number, page, label, path, comment, entries.sha256, NULL FROM entries JOIN images ON images.id = image WHERE file = ?1"""
+TOUCH = "INSERT INTO touched VALUES (?, ?) ON CONFLICT (sha256) DO UPDATE SET name = MIN(name, excluded.name)"
 TOUCHED = (
     """INSERT INTO touched SELECT * FROM (
             SELECT entries.sha256, name FROM entries JOIN images ON images.id = entries.image WHERE file = ?1 AND entries.sha256 IS NOT NULL
             UNION SELECT sha256, name FROM images WHERE file = ?1 AND sha256 IS NOT NULL
             UNION SELECT tree, name FROM images WHERE file = ?1 AND tree IS NOT NULL)
         WHERE TRUE ON CONFLICT (sha256) DO UPDATE SET name = MIN(name, excluded.name)""",
-    "INSERT INTO touched_words (words) SELECT name || ' ' || COALESCE(label, '') FROM images WHERE file = ?1",
-    """INSERT INTO touched_words (words) SELECT substr(path, -1024) || ' ' || comment
+    "INSERT INTO touched_words (words) SELECT words_of(name || ' ' || COALESCE(label, '')) FROM images WHERE file = ?1",
+    """INSERT INTO touched_words (words) SELECT words_of(substr(path, -1024) || ' ' || comment)
         FROM entries JOIN images ON images.id = image WHERE file = ?1""",
 )
+
+
+class Kept(NamedTuple):
+    """A file with its stamp, and what is kept of it."""
+
+    path: str
+    stamp: Optional[Stamp]
+    read: Read
 
 
 def stamp_of(path: bytes) -> Optional[Stamp]:
@@ -61,7 +76,7 @@ def wants_texts(connection: sqlite3.Connection, is_asked: bool) -> bool:
 
 def counts(connection: sqlite3.Connection) -> Tuple[int, int, int]:
     """How many images there are, how many of them are refused, or have a fault in the tables of a hard disk, and how many not read."""
-    line = """SELECT COUNT(*), COALESCE(SUM(verdict != 'ok' OR advice = 'tables'), 0), COALESCE(SUM(advice = 'not read'), 0) FROM images"""
+    line = """SELECT COUNT(*), COALESCE(SUM(verdict != 'ok' OR judged = 'tables'), 0), COALESCE(SUM(judged = 'not read'), 0) FROM images"""
     whole, others, unread = connection.execute(line).fetchone()
     return whole, others - unread, unread
 
@@ -79,24 +94,78 @@ def insert_rows(connection: sqlite3.Connection, table: str, names: Sequence[str]
 
 
 def remove(connection: sqlite3.Connection, file: int) -> None:
-    """Takes a file out, with all that is kept of its images. The sums that it had are noted."""
+    """Takes a file out, with all that is kept of its images. The words and sums that it had are noted."""
     for line in (*TOUCHED, *GOING):
         connection.execute(line, (file,))
 
 
-def add(connection: sqlite3.Connection, path: str, stamp: Optional[Stamp], run: int, records: List[Record]) -> None:
-    """Puts a file in. What could not be read has no stamp, so the next run reads it again."""
-    is_read = all(record.columns["advice"] != "not read" for record in records)
+def shown_of(connection: sqlite3.Connection, file: int) -> Rows:
+    """What pages and the search show of a file: of each image and entry its names, and then its sums."""
+    return [tuple(row) for row in connection.execute(SHOWN, (file,))]
+
+
+def changed(before: Rows, after: Rows) -> Iterable[Tuple[Any, ...]]:
+    """The rows that came or went, each once."""
+    one, other = Counter(before), Counter(after)
+    return {**(one - other), **(other - one)}
+
+
+def put(connection: sqlite3.Connection, known: Optional[int], file: Kept, run: int) -> None:
+    """Puts a file in, in the place of what is known of it. The words and sums of what came or went are noted."""
+    if known is None:
+        number = add(connection, file, run)
+        for line in TOUCHED:
+            connection.execute(line, (number,))
+        return
+    before = shown_of(connection, known)
+    for line in GOING:
+        connection.execute(line, (known,))
+    after = shown_of(connection, add(connection, file, run))
+    for name, _, _, label, path, comment in changed([row[:6] for row in before], [row[:6] for row in after]):
+        text = f"{name} {label or ''}" if path is None else f"{path[-LONGEST_WORDS:]} {comment}"
+        connection.execute("INSERT INTO touched_words (words) VALUES (words_of(?))", (text,))
+    sums = changed(*([(*row[:6], each) for row in rows for each in row[6:] if each is not None] for rows in (before, after)))
+    connection.executemany(TOUCH, [(row[6], row[0]) for row in sums])
+
+
+def add(connection: sqlite3.Connection, kept: Kept, run: int) -> int:
+    """Adds a file, and gives its number. What could not be read has no stamp, so the next run reads it again."""
+    path, stamp, read = kept
+    is_read = all(record.columns["advice"] != "not read" for record in read.records)
     size, altered, inode, changed = stamp if stamp and is_read else NO_STAMP
-    file = insert(connection, "files", dict(path=path, size=size, altered_ns=altered, inode=inode, changed_ns=changed, run=run))
+    columns = dict(path=path, size=size, altered_ns=altered, inode=inode, changed_ns=changed, run=run)
+    if read.sums and stamp:
+        columns.update(read.sums._asdict(), bytes=stamp[0])
+        note_sum(connection, path, run, stamp[0], read.sums.sha256)
+    file = insert(connection, "files", columns)
+    add_passed(connection, file, read.passed)
     disk = None
-    for record in records:
+    for record in read.records:
         if "partition" in record.columns:
             add_volume(connection, file, disk, record)
         else:
             disk = add_image(connection, file, None, record)
-    for line in (*TOUCHED, *COMING):
+    for line in COMING:
         connection.execute(line, (file,))
+    return file
+
+
+def note_sum(connection: sqlite3.Connection, path: str, run: int, size: int, digest: str) -> None:
+    """Keeps that a file had this sum in a run, if it is not what was noted of it last."""
+    last = connection.execute("SELECT bytes, sha256 FROM sums WHERE path = ? ORDER BY id DESC LIMIT 1", (path,)).fetchone()
+    if last is None or tuple(last) != (size, digest):
+        insert(connection, "sums", dict(path=path, run=run, bytes=size, sha256=digest))
+
+
+def add_passed(connection: sqlite3.Connection, file: Optional[int], kinds: Dict[str, int]) -> None:
+    """Notes how many files of each kind are no images, in an archive, or below the folder if none is given."""
+    connection.executemany("INSERT INTO passed (file, kind, count) VALUES (?, ?, ?)", [(file, *pair) for pair in sorted(kinds.items())])
+
+
+def set_passed(connection: sqlite3.Connection, kinds: Dict[str, int]) -> None:
+    """Notes how many files of each kind below the folder are no images, in the place of what was noted before."""
+    connection.execute("DELETE FROM passed WHERE file IS NULL")
+    add_passed(connection, None, kinds)
 
 
 def add_volume(connection: sqlite3.Connection, file: int, disk: Optional[int], record: Record) -> None:
@@ -109,7 +178,7 @@ def add_volume(connection: sqlite3.Connection, file: int, disk: Optional[int], r
 
 def add_image(connection: sqlite3.Connection, file: int, disk: Optional[int], record: Record) -> int:
     """Adds an image and its rows; gives its number."""
-    columns: Dict[str, Any] = {**record.columns, "file": file, "disk": disk}
+    columns: Dict[str, Any] = {**record.columns, "judged": record.columns["advice"], "file": file, "disk": disk}
     image = insert(connection, "images", columns)
     for table, names in TABLES.items():
         insert_rows(connection, table, names, ("image", image), getattr(record, table))

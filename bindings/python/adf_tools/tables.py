@@ -3,17 +3,21 @@
 from __future__ import annotations
 
 import sqlite3
-from typing import Any, BinaryIO, Callable, Sequence
+from typing import Any, BinaryIO, Callable, Iterable, Sequence
 
 import adf
 from adf_tools.names import CONTROL, bytes_of, one_line
 
-IMAGE_QUERY = """SELECT name AS image, bytes, sha256, verdict, kind, blocks, used, free, dirs, files, label, root, altered, created, unlisted,
-advice, lost, fits, rescued, crc32, md5, sha1, boot_crc32, boot_is_right, boot, boot_others FROM images
+IMAGE_QUERY = """SELECT name AS image, images.bytes, images.sha256, verdict, kind, blocks, used, free, dirs, images.files, label, root, altered, created,
+unlisted, advice, lost, fits, rescued, images.crc32, images.md5, images.sha1, boot_crc32, boot_is_right, boot, boot_others, lost_least, form,
+files.path AS file, files.sha256 AS file_sha256, known, known_as FROM images JOIN files ON files.id = images.file
 LEFT JOIN (SELECT boot_crc32 AS crc, COUNT(*) - 1 AS boot_others FROM images GROUP BY boot_crc32) ON crc = boot_crc32 ORDER BY name, number"""
+PASSED_QUERY = """SELECT CASE SUBSTR(kind, 1, 1) WHEN '.' THEN '*' ELSE '' END || kind AS image,
+CASE WHEN file IS NULL THEN 'no image' ELSE 'no image, in an archive' END AS verdict, SUM(count) AS files, 'passed' AS advice
+FROM passed GROUP BY kind, verdict ORDER BY 2, 1"""
 ENTRY_QUERY = """SELECT images.name AS image, entries.kind, size, printf('%08x', protection) AS protection, date, header, entries.sha256,
 path, comment, state FROM entries JOIN images ON images.id = image ORDER BY images.name, images.number, entries.id"""
-NAMES, TEXTS = ("image",), ("label", "path", "comment")
+NAMES, TEXTS = ("image", "file", "form", "known_as"), ("label", "path", "comment")
 
 
 def escaped_name(name: str) -> str:
@@ -37,16 +41,19 @@ def form_of(column: str, is_escaped: bool) -> Callable[[Any], str]:
     return lambda value: "" if value is None else one_line(value)
 
 
-def write_table(connection: sqlite3.Connection, query: str, file: BinaryIO, is_escaped: bool) -> None:
-    """Writes the rows of a query, behind a line that names its columns."""
-    rows = connection.execute(query)
+def write_table(connection: sqlite3.Connection, queries: Sequence[str], file: BinaryIO, is_escaped: bool) -> None:
+    """Writes the rows of a query, behind a line that names its columns, and then those of others, which have some of its columns."""
+    rows = connection.execute(queries[0])
     columns = [column[0] for column in rows.description]
     forms = [form_of(column, is_escaped) for column in columns]
     file.write(("\t".join(columns) + "\n").encode("ascii"))
     file.writelines((line_of(row, forms, is_escaped) + "\n").encode("utf-8") for row in rows)
+    for query in queries[1:]:
+        others = ([row[name] if name in row.keys() else None for name in columns] for row in connection.execute(query))
+        file.writelines((line_of(row, forms, is_escaped) + "\n").encode("utf-8") for row in others)
 
 
-def line_of(row: sqlite3.Row, forms: Sequence[Callable[[Any], str]], is_escaped: bool) -> str:
+def line_of(row: Iterable[Any], forms: Sequence[Callable[[Any], str]], is_escaped: bool) -> str:
     """The line of a row. As a rule no value has what could break a line."""
     line = "\t".join(["" if value is None else str(value) for value in row])
     if not is_escaped and line.count("\t") == len(forms) - 1 and not CONTROL.search(line.replace("\t", "")):

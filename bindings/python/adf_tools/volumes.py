@@ -10,9 +10,10 @@ from typing import Any, Dict, Iterable, Iterator, List, NamedTuple, Optional, Se
 
 import adf
 from adf_tools import icons
-from adf_tools.advice import advice_of, length_that_fits, passed
+from adf_tools.advice import advice_of, passed, sound_group
 from adf_tools.names import letters, spelled_letters
 from adf_tools.picture import roles_of_refused
+from adf_tools.standing import SOUND, Source, Standing, Stood
 from adf_tools.sums import boot_facts
 
 DOS = b"DOS"
@@ -67,18 +68,24 @@ def file_sum(entry: adf.Entry) -> str:
     return digest.hexdigest()
 
 
-def path_of(entry: adf.Entry | adf.Found) -> str:
+def path_of(entry: Source) -> str:
     """The path of an entry in letters; of one that is found as adf-survey spells it."""
     return letters(entry.path) if isinstance(entry, adf.Entry) else spelled_letters(entry.path)
 
 
-def entry_row(entry: adf.Entry | adf.Found, digest: Optional[str], state: str) -> Tuple[Any, ...]:
+def entry_row(entry: Source, header: int, state: str, digest: Optional[str]) -> Tuple[Any, ...]:
     kind, path, comment = "file" if entry.is_file else "dir", path_of(entry), letters(entry.comment)
-    return kind, path, entry.size, entry.protection, str(entry.date), comment, entry.header, state, digest
+    return kind, path, entry.size, entry.protection, str(entry.date), comment, header, state, digest
 
 
-def found_row(entry: adf.Found, sums: Dict[int, str]) -> Tuple[Any, ...]:
-    return entry_row(entry, sums.get(entry.number), "sound" if entry.is_sound else "damaged")
+def volume_row(entry: adf.Entry) -> Tuple[Any, ...]:
+    return entry_row(entry, entry.header, "sound", file_sum(entry) if entry.is_file else None)
+
+
+def stood_row(stood: Stood) -> Tuple[Any, ...]:
+    """The row of an entry of a refused image; a file that is in the rescue has its SHA-256."""
+    source = stood.source
+    return entry_row(source, stood.header, stood.state, file_sum(source) if isinstance(source, adf.Entry) and source.is_file else None)
 
 
 def dates_of(volume: adf.Volume | adf.Survey) -> Columns:
@@ -94,7 +101,7 @@ def tree_sum(volume: adf.Volume, rows: Rows) -> str:
     return digest.hexdigest()
 
 
-def icon_rows(entries: Sequence[adf.Entry] | Sequence[adf.Found]) -> Iterator[Tuple[Any, ...]]:
+def icon_rows(entries: Sequence[Source]) -> Iterator[Tuple[Any, ...]]:
     """The icons of the disk and of its drawers, as far as they are sound."""
     drawers = {entry.raw_path.lower() for entry in entries if not entry.is_file and not entry.parent} | {b"disk"}
     for entry in entries:
@@ -104,16 +111,13 @@ def icon_rows(entries: Sequence[adf.Entry] | Sequence[adf.Found]) -> Iterator[Tu
                 yield path_of(entry), icon.width, icon.height, icon.palette, zlib.compress(icon.pixels)
 
 
-def content_of(entry: adf.Entry | adf.Found) -> bytes:
-    """The bytes of a file, or none if they cannot be had."""
-    try:
-        return entry.read()
-    except adf.Error:
-        return b""
+def content_of(entry: Source) -> bytes:
+    """The bytes of a file that is in a volume, or in the rescue of one; of any other none."""
+    return entry.read() if isinstance(entry, adf.Entry) else b""
 
 
-def text_rows(entries: Sequence[adf.Entry | adf.Found]) -> Iterator[Tuple[Any, ...]]:
-    """The text files of a volume, or those that are sound on a refused image, each by its place among the entries."""
+def text_rows(entries: Sequence[Source]) -> Iterator[Tuple[Any, ...]]:
+    """The text files of a volume, or those that stand on a refused image, each by its place among the entries."""
     for place, entry in enumerate(entries):
         content = content_of(entry) if entry.is_file and 0 < entry.size <= LONGEST_TEXT else b""
         if content and len(content.translate(None, CONTROLS)) == len(content):
@@ -122,40 +126,37 @@ def text_rows(entries: Sequence[adf.Entry | adf.Found]) -> Iterator[Tuple[Any, .
 
 def volume_record(volume: adf.Volume, columns: Columns, has_texts: bool) -> Record:
     """What is kept of a volume."""
-    rows = limited(entry_row(entry, file_sum(entry) if entry.is_file else None, "sound") for entry in volume.entries)
+    rows = limited(map(volume_row, volume.entries))
     whole, files = len(volume.entries), sum(entry.is_file for entry in volume.entries)
     numbers = {"kind": volume.kind, "blocks": volume.blocks, "used": volume.used, "free": volume.free, "type": volume.image[3]}
-    counts = {"dirs": whole - files, "files": files, "faults": 0, "sound": whole, "lost": 0, "unlisted": whole - len(rows)}
+    counts = {"dirs": whole - files, "files": files, "faults": 0, "sound": whole, "lost": 0, "lost_least": 0, "unlisted": whole - len(rows)}
     tree = tree_sum(volume, rows) if len(rows) == whole else None
-    told = {"verdict": "ok", "advice": "sound", "label": letters(volume.label), "tree": tree, "roles": zlib.compress(volume.owners())}
+    told = {"verdict": "ok", "advice": sound_group(volume.kind), "label": letters(volume.label), "tree": tree, "roles": zlib.compress(volume.owners())}
     texts = limited(text_rows(volume.entries[: len(rows)])) if has_texts else []
     drawn = list(itertools.islice(icon_rows(volume.entries), MOST_ICONS))
     return record({**columns, **numbers, **counts, **dates_of(volume), **told})._replace(entries=rows, icons=drawn, texts=texts)
 
 
-def sound_sums(survey: adf.Survey) -> Dict[int, str]:
-    """The SHA-256 of the sound files of a refused image, by their numbers."""
-    return {entry.number: hashlib.sha256(content_of(entry)).hexdigest() for entry in survey.entries if entry.is_file and entry.is_sound}
-
-
-def refused_record(image: bytes, refused: adf.Refused, columns: Columns, has_texts: bool) -> Record:
-    """What is kept of a refused image: its findings, and what is found in it all the same; at the length that fits, if it is another."""
-    fits = length_that_fits(image, refused)
-    survey = adf.survey(image, fits)
-    sums = sound_sums(survey)
-    rows = limited(found_row(entry, sums) for entry in survey.entries)
-    findings = limited(finding_rows(survey))
-    sound, lost = (sum(entry.is_sound == is_sound for entry in survey.entries if is_sound or entry.is_file) for is_sound in (True, False))
-    files = sum(entry.is_file for entry in survey.entries)
-    counts = {"dirs": len(survey.entries) - files, "files": files, "sound": sound, "lost": lost, "unlisted": len(survey.entries) - len(rows)}
-    told = {"verdict": str(refused), "block": refused.block, "cause": refused.cause, "label": letters(survey.label), "fits": fits}
-    told.update(advice=advice_of(refused, survey, fits), faults=len(survey.findings) - passed(survey), roles=zlib.compress(roles_of_refused(survey)))
+def refused_record(standing: Standing, refused: adf.Refused, columns: Columns, has_texts: bool) -> Record:
+    """What is kept of a refused image: its findings, and what stands of it all the same, as its rescue has it."""
+    survey, sources = standing.survey, [stood.source for stood in standing.entries]
+    rows, findings = limited(map(stood_row, standing.entries)), limited(finding_rows(survey))
+    told = {"verdict": str(refused), "block": refused.block, "cause": refused.cause, "label": letters(survey.label), "fits": standing.fits}
+    told.update(counts_of(standing), unlisted=len(sources) - len(rows), faults=len(survey.findings) - passed(survey))
+    told.update(advice=advice_of(refused, survey, columns), roles=zlib.compress(roles_of_refused(survey)))
     if survey.kind:
-        volume_type = adf.KINDS.index(survey.kind) if survey.is_begun else image[3]
-        told.update(kind=survey.kind, type=volume_type, blocks=len(image) // adf.BLOCK, **dates_of(survey))
-    texts = limited(text_rows(survey.entries[: len(rows)])) if has_texts else []
-    drawn = list(itertools.islice(icon_rows(survey.entries), MOST_ICONS))
-    return record({**columns, **counts, **told})._replace(entries=rows, findings=findings, icons=drawn, texts=texts)
+        told.update(kind=survey.kind, type=standing.type, blocks=(columns["bytes"] or 0) // adf.BLOCK, **dates_of(survey))
+    left_out = limited((each.why, spelled_letters(each.path)) for each in standing.left_out)
+    texts = limited(text_rows(sources[: len(rows)])) if has_texts else []
+    drawn = list(itertools.islice(icon_rows(sources), MOST_ICONS))
+    return record({**columns, **told})._replace(entries=rows, findings=findings, left_out=left_out, icons=drawn, texts=texts)
+
+
+def counts_of(standing: Standing) -> Columns:
+    """How many entries there are, how many of them stand, and how many files are lost."""
+    files = sum(stood.source.is_file for stood in standing.entries)
+    sound = sum(stood.state == SOUND for stood in standing.entries)
+    return {"dirs": len(standing.entries) - files, "files": files, "sound": sound, "lost": standing.lost, "lost_least": int(standing.is_least)}
 
 
 def finding_rows(survey: adf.Survey) -> Iterator[Tuple[Any, ...]]:
@@ -164,14 +165,20 @@ def finding_rows(survey: adf.Survey) -> Iterator[Tuple[Any, ...]]:
         yield first, last, cause, *(None if path is None else spelled_letters(path) for path in paths)
 
 
-def image_record(image: bytes, columns: Columns, has_texts: bool) -> Record:
-    """What is kept of the image of a volume, refused or not."""
+def image_record(image: bytes, columns: Columns, has_texts: bool) -> Tuple[Record, Optional[adf.Rescued]]:
+    """What is kept of the image of a volume, refused or not, and the new volume of a refused one."""
     columns = {**columns, **boot_facts(image)}
     try:
         volume = adf.Volume(image)
     except adf.Refused as refused:
-        return refused_record(image, refused, columns, has_texts)
-    return volume_record(volume, columns, has_texts)
+        standing = Standing(image, refused)
+        return refused_record(standing, refused, columns, has_texts), standing.volume
+    return volume_record(volume, columns, has_texts), None
+
+
+def long_record(columns: Columns) -> Record:
+    """What is kept of a volume that is longer than any that is read."""
+    return record({**columns, "verdict": "block 0: bad size", "block": 0, "cause": "bad size", "advice": "too long"})
 
 
 def disk_of(content: adf.Image) -> Optional[adf.Disk]:
@@ -187,6 +194,11 @@ def is_volume(partition: adf.Partition) -> bool:
     return partition.kind.startswith((*adf.KINDS, "DOS"))
 
 
+def is_long(partition: adf.Partition) -> bool:
+    """Whether its volume is longer than any that is read."""
+    return adf.BLOCK * partition.blocks > adf.MOST_BYTES
+
+
 def fault_of(disk: adf.Disk, partition: adf.Partition) -> str:
     """What is wrong with a partition, or an empty text; that it reserves other blocks than a volume that is read is a fault too."""
     (reserved,) = struct.unpack_from(">I", memoryview(disk.image), adf.BLOCK * partition.block + RESERVED)
@@ -198,7 +210,8 @@ def disk_record(disk: adf.Disk, columns: Columns) -> Record:
     faults = sum(bool(fault_of(disk, partition)) for partition in disk.partitions)
     told = {"kind": "disk", "verdict": f"block {disk.block}: {disk.cause}" if disk.cause else "ok", "faults": faults + bool(disk.cause)}
     cause = {"block": disk.block, "cause": disk.cause} if disk.cause else {}
-    blocks, advice = len(memoryview(disk.image)) // adf.BLOCK, "tables" if told["faults"] else "sound"
+    is_read = all(is_volume(partition) and not is_long(partition) for partition in disk.partitions)
+    blocks, advice = len(memoryview(disk.image)) // adf.BLOCK, "tables" if told["faults"] else "sound" if is_read else "volumes not read"
     return record({**columns, **told, **cause, "blocks": blocks, "advice": advice})._replace(
         partitions=[
             (row.number, letters(row.name), row.kind, row.first, row.blocks, row.flags, row.priority, row.block, fault_of(disk, row))

@@ -88,7 +88,7 @@ class Catalogues(Folder):
             return connection.execute(query, values).fetchall()
 
     def verdicts(self, out):
-        return {row["image"]: row["verdict"] for row in rows_of(f"{out}/images.tsv")}
+        return {row["image"]: row["verdict"] for row in rows_of(f"{out}/images.tsv") if row["advice"] != "passed"}
 
 
 class Pages(Catalogues):
@@ -274,7 +274,7 @@ class Archives(Catalogues):
                 file.write(bytes(1 << 20))
         self.catalogue("packed", "out", "--tsv", status=3)
         self.assertEqual(
-            [(row["image"], row["bytes"], row["verdict"]) for row in rows_of("out/images.tsv")],
+            [(row["image"], row["bytes"], row["verdict"]) for row in rows_of("out/images.tsv") if row["advice"] != "passed"],
             [
                 *(("a.zip/../../out.adf", "901120", "ok"), ("a.zip/lzma.adf", "", "read fault: packed by a method that is not read")),
                 *(("a.zip/x/Bü.ADF", "901120", "ok"), ("b.adz", "901120", "ok")),

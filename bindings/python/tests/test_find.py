@@ -28,7 +28,8 @@ class Find(Asked):
         for words, found in (
             (["lemmings"], lemmings), (["LEMM"], lemmings), (["startup", "seq"], startup), (["startup-sequence"], startup), (["seq", "s"], startup),
             (["\xfcbel"], [("a.zip/B\xfc.adf", "c/readme")]), (["ein", "ubel"], [("a.zip/B\xfc.adf", "c/readme")]),
-            (["bucher"], [("a.zip/B\xfc.adf", "")]), (["other"], [("other.adf", "")]),
+            (["bucher"], [("a.zip/B\xfc.adf", "")]), (["other"], [("other.adf", "")]), (["startup seq"], startup),
+            (["EIN ubel"], [("a.zip/B\xfc.adf", "c/readme")]),
         ):  # fmt: skip
             self.assertEqual(self.find(*words, "out"), found, words)
 
@@ -109,7 +110,7 @@ class Queries(Asked):
             "HAVING COUNT(*) > 1": [(same, 2, "games/copy.adf, tools.adf")],
             "COUNT(DISTINCT sha256) > 1": [("free.adf, games/copy.adf, tools.adf",)],
             "MIN(path)": [(4, "lemmings"), (4, "s/startup-sequence"), (2, "c/readme"), (2, "large")],
-            "advice = 'read again'": [("disk.hdf/DH1", "block 32: bad sum", 0), ("games/bad.adf", "block 880: bad sum", 0)],
+            "advice = 'read again'": [("disk.hdf/DH1", "block 32: bad sum", 0, 1), ("games/bad.adf", "block 880: bad sum", 0, 1)],
             "GROUP BY cause": [("bad sum", 2), ("bad type", 1), ("not dos", 1)],
             "fits": [("cut.adf", 870400, 901120)],
             "known = 'differs'": [("tools.adf", "Tools.adf (list.dat)")],
