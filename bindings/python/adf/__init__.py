@@ -38,10 +38,11 @@ What the module itself raises is an adf.Error, and also the error of Python that
 a MemoryError. A file that cannot be read is an OSError, and a wrong argument a TypeError or ValueError, as everywhere.
 """
 
-from adf._arguments import Buffer, Image, Path
+from adf._arguments import Buffer, EntryPath, Image, Path
 from adf._layout import BLOCK, KINDS, LETTERS, MOST_BYTES, PART, ROLES, TYPES
 from adf._library import library_path, library_version, load
 from adf._rescues import LeftOut, Reason, rescue
+from adf._sources import Source, read_image
 from adf._texts import escape, unescape
 from adf.boots import BadBoot, Boot, with_boot, with_standard_boot, without_boot
 from adf.building import Addition, NotBuilt, build
@@ -50,9 +51,9 @@ from adf.commands import Answer, run
 from adf.dates import Date
 from adf.disks import Disk, Partition, partitions
 from adf.entries import Entries, Entry, File
-from adf.errors import Closed, Damaged, DamagedWarning, Error, NoLibrary, NoMemory, NoSuchPath, NotAFile, Refused
+from adf.errors import Closed, Damaged, DamagedWarning, Error, NoLibrary, NoMemory, NoSuchPath, NotAFile, NotUnpacked, Refused
 from adf.findings import Finding, Findings, Found
-from adf.opening import open, open_image, read_image
+from adf.opening import open, open_image
 from adf.rescued import Rescued
 from adf.surveys import Survey, survey
 from adf.volumes import Volume
@@ -65,10 +66,10 @@ from adf.dates import EPOCH as EPOCH
 
 __all__ = [
     "Addition", "Answer", "BLOCK", "BadBoot", "Boot", "Buffer", "Closed", "Damaged", "DamagedWarning", "Date", "Disk", "Entries",
-    "Entry", "Error", "File", "Finding", "Findings", "Found", "Image", "KINDS", "LETTERS", "LeftOut", "MOST_BYTES", "NoLibrary",
-    "NoMemory", "NoSuchPath", "NotAFile", "NotBuilt", "PART", "Partition", "Path", "ROLES", "Reason", "Refused", "Rescued",
-    "Survey", "TYPES", "Verdict", "Volume", "build", "check", "escape", "library_path", "library_version", "load", "open",
-    "open_image", "partitions", "read_image", "rescue", "run", "survey", "unescape", "with_boot", "with_standard_boot",
-    "without_boot",
+    "Entry", "EntryPath", "Error", "File", "Finding", "Findings", "Found", "Image", "KINDS", "LETTERS", "LeftOut", "MOST_BYTES",
+    "NoLibrary", "NoMemory", "NoSuchPath", "NotAFile", "NotBuilt", "NotUnpacked", "PART", "Partition", "Path", "ROLES", "Reason",
+    "Refused", "Rescued", "Source", "Survey", "TYPES", "Verdict", "Volume", "build", "check", "escape", "library_path",
+    "library_version", "load", "open", "open_image", "partitions", "read_image", "rescue", "run", "survey", "unescape", "with_boot",
+    "with_standard_boot", "without_boot",
 ]  # fmt: skip
 __version__ = "1.0"

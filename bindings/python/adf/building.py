@@ -6,7 +6,7 @@ import ctypes
 from typing import Any, Iterable, NamedTuple, Sequence
 
 from adf import _arguments, _structs
-from adf._arguments import Image
+from adf._arguments import EntryPath, Image
 from adf._layout import BLOCK, CAPITALS, KINDS, MOST_BYTES
 from adf._library import NO_MEMORY, calls
 from adf._texts import escape
@@ -27,7 +27,7 @@ REFUSALS = {
 class Addition(NamedTuple):
     """A directory or file to build: its path, its bytes (None for a directory), comment, protection and date. Texts are in Latin-1."""
 
-    path: str | bytes
+    path: EntryPath
     content: Image | None = None
     comment: str | bytes = b""
     protection: int = 0
@@ -172,7 +172,7 @@ def build(
 ) -> bytes:
     """The image of a volume with these entries, each directory before what is in it: the kind "ofs" or "ffs", the blocks (None for the
     fewest), the label, and the dates of the root, of the last change and of the creation. NotBuilt if there is none."""
-    given = [Addition(*entry) for entry in entries]
+    given = [each._replace(path=_arguments.plain_path(each.path)) for each in (Addition(*entry) for entry in entries)]
     plan, parts = _planned(given)
     contents = b"".join(parts)
     volume = new_volume(kind, 0 if blocks is None else blocks, label, dates)
@@ -184,6 +184,6 @@ def build(
     except NotBuilt as error:
         if error.number:
             error.entry = given[error.number - 1]
-            error.path = error.entry.path if isinstance(error.entry.path, str) else error.entry.path.decode("latin-1")
+            error.path = _arguments.raw("the path", error.entry.path).decode("latin-1")
         raise
     return bytes(room)
