@@ -332,7 +332,7 @@ fn a_disk_tells_its_partitions() {
     image.extend(built("volume ffs 16\nfile 0:0:0 00000000 a\ndata 616263\n"));
     let disk = Disk::of(&image).unwrap();
     assert_eq!((disk.fault(), disk.partitions().len()), (None, 1));
-    let partition = disk.named("dh0").unwrap();
+    let partition = disk.find("dh0").unwrap();
     assert_eq!((partition.number(), partition.name().as_bytes(), partition.place()), (1, &b"DH0"[..], Ok((16, 16))));
     assert_eq!((partition.flags(), partition.priority(), &partition.dos_type()), (1, 5, b"DOS\x01"));
     let volume = Volume::check(partition.volume().unwrap()).unwrap();
@@ -364,10 +364,10 @@ fn what_is_left_of_a_file_is_told() {
     let parts = survey.parts().unwrap();
     let files: Vec<_> = survey.entries().map(|found| parts.file(found).unwrap()).collect();
     let mut room = [0; 700];
-    assert_eq!(files[0].read_at(0, &mut room), (0, 488));
-    assert_eq!(files[0].read_at(488, &mut room), (488, 24));
+    assert_eq!(files[0].piece_at(&mut room, 0), (0, 488));
+    assert_eq!(files[0].piece_at(&mut room, 488), (488, 24));
     assert_eq!((&room[..488], room[488]), (&[b'A'; 488][..], 0));
-    assert_eq!(files[0].read_at(1000, &mut room), (0, 0));
+    assert_eq!(files[0].piece_at(&mut room, 1000), (0, 0));
     assert_eq!(survey.owners().unwrap()[2..6], [Role::Head, Role::Free, Role::Data, Role::Free]);
 }
 
@@ -386,7 +386,7 @@ fn what_adf_survey_opens_is_surveyed() {
         assert_eq!((found.is_sound(), found.remains(), remains("a", &image)), (true, Ok(whole.clone()), Ok(whole)));
         let mut room = [0; 1001];
         let file = survey.parts().unwrap().file(found).unwrap();
-        assert_eq!((file.read_at(0, &mut room), room[999], room[1000]), ((1000, 0), b'A', 0));
+        assert_eq!((file.piece_at(&mut room, 0), room[999], room[1000]), ((1000, 0), b'A', 0));
         assert_eq!(survey.owners().unwrap()[2..6], [Role::Head, Role::Data, Role::Data, Role::Data]);
     }
     assert!(!Survey::of(&sound).unwrap().is_begun());
@@ -427,7 +427,7 @@ fn a_floppy_that_is_cut_in_a_file_has_it_damaged() {
     let lost = found.remains().unwrap().lost;
     assert_eq!((found.is_sound(), lost.len(), lost[0].start, lost[0].end), (false, 1, left, 591_944));
     let mut room = vec![0; 591_944];
-    assert_eq!(survey.parts().unwrap().file(found).unwrap().read_at(0, &mut room), (left, 591_944 - left));
+    assert_eq!(survey.parts().unwrap().file(found).unwrap().piece_at(&mut room, 0), (left, 591_944 - left));
 }
 
 #[test]
