@@ -11,6 +11,8 @@
         print(adf.escape(entry.path), entry.size, entry.date, adf.escape(entry.comment))
     start = volume["s/startup-sequence"].read()     # bytes; the case of its letters does not count; KeyError where nothing is there
     file = volume["c/list"].open()                  # a file of Python, which seeks
+    rows = [entry._asdict() for entry in volume.entries]  # as for pandas.DataFrame(rows)
+    volume = adf.open("games.zip/disk1.adf")        # a packed image; also adf.open(io.BytesIO(image)), or any file open for bytes
     for path, directories, files in volume.walk():  # as os.walk
         print(adf.escape(path), directories, files)
     roles = volume.owners()                         # a byte for each block: adf.ROLES[roles[880]] is "root"
@@ -22,7 +24,7 @@
     new, left_out = adf.rescue(image)               # a sound volume of all that stands; what it leaves out, and what it keeps in doubt
     image = adf.build("ffs", None, [adf.Addition("c"), adf.Addition("c/list", b"..")], "Work")  # a new volume, here as small as may be
     image = adf.with_boot(image, volume.boot)       # with the boot blocks of another: .is_bootable, .has_code, .crc
-    disk = adf.Disk(image)                          # of a whole hard disk: disk.partitions, and adf.Volume(disk.volume("DH0"))
+    disk = adf.Disk(image)                          # of a whole hard disk: for row in disk, disk["DH0"], adf.Volume(disk.volume("DH0"))
 
 Texts are in Latin-1, as Amigas have them, so each byte is one character and nothing is lost; where a path is given, bytes do
 as well, and mean themselves. `raw_label`, `raw_name`, `raw_path` and `raw_comment` are the bytes. Any byte but `/` and `:` may be in a
