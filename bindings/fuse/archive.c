@@ -4,6 +4,7 @@
 #include "names.h"
 #include "volume.h"
 
+#include <locale.h>
 #include <stdio.h>
 #include <stdlib.h>
 #include <string.h>
@@ -139,7 +140,8 @@ static int write_member(struct archive *archive, size_t place, int unpacked, con
     return count == 0 ? SOUND : say_damaged(name);
 }
 
-int unpack_member(int file, int unpacked, const char *name, const char *form, const char *wanted) {
+/* Unpacks a member while names have the letters of UTF-8. */
+static int unpack_named(int file, int unpacked, const char *name, const char *form, const char *wanted) {
     size_t place = 0;
     struct archive *archive = begin_archive(file, form);
     int status = archive == NULL ? say_damaged(name) : choose(archive, name, wanted, &place);
@@ -149,6 +151,17 @@ int unpack_member(int file, int unpacked, const char *name, const char *form, co
     archive = begin_archive(file, form);
     status = archive == NULL ? say_damaged(name) : write_member(archive, place, unpacked, name);
     archive_read_free(archive);
+    return status;
+}
+
+int unpack_member(int file, int unpacked, const char *name, const char *form, const char *wanted) {
+    locale_t letters = newlocale(LC_CTYPE_MASK, "C.UTF-8", (locale_t)0), before = uselocale((locale_t)0);
+    if (letters != (locale_t)0)
+        uselocale(letters);
+    int status = unpack_named(file, unpacked, name, form, wanted);
+    uselocale(before);
+    if (letters != (locale_t)0)
+        freelocale(letters);
     return status;
 }
 #else

@@ -118,11 +118,11 @@ class Mounts(Folder):
             archive.writestr("readme", b"no image")
         with zipfile.ZipFile("one.zip", "w") as archive:
             archive.writestr("readme", b"no image")
-            archive.writestr("d.adf", image_of())
+            archive.writestr("B\xfccher.adf", image_of())
         with zipfile.ZipFile("none.zip", "w"):
             pass
         shown = ["c", "empty", "large", "none"]
-        self.assertEqual(self.seen("one.zip"), shown)
+        self.assertEqual((self.seen("one.zip"), self.seen("one.zip/B\xfccher.adf")), (shown, shown))
         self.assertEqual(self.seen("two.zip/s/a\n.adf"), shown)
         self.assertEqual(self.seen("two.zip/b.ADF"), [])
         with open("one.zip", "rb") as file:
