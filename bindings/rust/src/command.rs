@@ -82,7 +82,7 @@ pub fn run(words: &[&str], input: &[u8]) -> Answer {
 }
 
 /// Runs the command `adf-survey` with these arguments over an image: `survey(&["--blocks", "1760", "--list"], image)`. `Survey::of`,
-/// `remains` and `rescue` give what it finds as structs. No file is opened: an argument that names one is refused, at status 2.
+/// `remains_of` and `rescue` give what it finds as structs. No file is opened: an argument that names one is refused, at status 2.
 ///
 /// # Examples
 ///

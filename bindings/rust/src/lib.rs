@@ -28,7 +28,9 @@ pub use ffi::Date;
 pub use found_file::{FoundFile, Parts};
 pub use opened::{open, open_blocks, Opened};
 pub use reader::Reader;
-pub use remains::{remains, Remains};
+#[allow(deprecated)]
+pub use remains::remains;
+pub use remains::{remains_of, Remains};
 pub use rescue::{rescue, rescue_blocks, LeftOut, Reason, Rescue};
 pub use role::{Kind, Role};
 pub use survey::{Finding, Found, FoundEntries, Survey};

@@ -27,10 +27,10 @@ pub struct Remains {
 /// ```
 /// let mut image = adf::run(&["build"], b"volume ofs 1760\nfile 0:0:0 00000000 readme\ndata 48690a\n").into_output()?;
 /// image[512 * 880 + 440] ^= 1; // a byte of the root
-/// assert_eq!(adf::remains("readme", &image)?.bytes, b"Hi\n");
+/// assert_eq!(adf::remains_of(&image, "readme")?.bytes, b"Hi\n");
 /// # Ok::<(), Box<dyn std::error::Error>>(())
 /// ```
-pub fn remains(path: &str, image: &[u8]) -> Result<Remains, Failed> {
+pub fn remains_of(image: &[u8], path: &str) -> Result<Remains, Failed> {
     let survey = Survey::of(image).map_err(failed)?;
     let wanted: Option<Vec<_>> = path.split('/').map(|name| Some(in_capitals(&unescape(name)?))).collect();
     let names = |found: Found| found.names().into_iter().map(in_capitals).collect::<Vec<_>>();
@@ -42,6 +42,16 @@ pub fn remains(path: &str, image: &[u8]) -> Result<Remains, Failed> {
         Ok(None) => Err(Failed::with(1, "not a file")),
         Err(why) => Err(not_found(path, why)),
     }
+}
+
+/// [`remains_of`], with its arguments in another order than all other calls over an image.
+///
+/// # Errors
+///
+/// As of [`remains_of`].
+#[deprecated(note = "remains_of has the image first, as the other calls")]
+pub fn remains(path: &str, image: &[u8]) -> Result<Remains, Failed> {
+    remains_of(image, path)
 }
 
 /// The answer where a path leads to nothing.

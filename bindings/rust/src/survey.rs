@@ -1,7 +1,8 @@
 use crate::counted::counted;
 use crate::ffi::{self, Date, FindingRecord, PartRecord, SubjectTold, SurveyTables};
+use crate::remains::remains_of_found;
 use crate::subject::Subject;
-use crate::{remains, text, Cause, Failed, Kind, NotFound, Refused, Remains, Text};
+use crate::{text, Cause, Failed, Kind, NotFound, Refused, Remains, Text};
 use std::fmt;
 use std::sync::{Arc, Mutex, PoisonError};
 
@@ -328,7 +329,7 @@ impl<'survey> Found<'survey> {
     ///
     /// `not a file` of a directory and a link; `no memory`.
     pub fn remains(&self) -> Result<Remains, Failed> {
-        remains::remains_of_found(self)
+        remains_of_found(self)
     }
 
     pub(crate) fn survey(&self) -> &'survey Survey<'survey> {
