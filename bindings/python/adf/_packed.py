@@ -43,8 +43,10 @@ def unpacked(file: BinaryIO, form: str, wanted: bytes, name: Path | None) -> byt
     try:
         with members.opened_member(file, form, wanted) as packed:
             return bytes(archives.begin_of(packed))
+    except MemoryError:
+        raise
     except archives.FAULTS as error:
-        raise NotUnpacked(errno.EIO, archives.fault_of(error), name) from None
+        raise NotUnpacked(getattr(error, "errno", None) or errno.EIO, archives.fault_of(error), name) from None
 
 
 def no_volume(begin: bytes, length: int) -> str:
