@@ -24,10 +24,8 @@ def read_image(file: BinaryIO) -> bytes:
 
 def _rest(file: BinaryIO, most: int) -> bytes:
     """The rest of an open file, but at most so many bytes."""
-    if not isinstance(file.read(0), bytes):
-        raise TypeError("a file of bytes is needed, as open(path, 'rb') gives it, and not one of text")
     size = _descriptor_size(file)
-    image = file.read(min(size + 1, most))
+    image = _accepted(file, min(size + 1, most))
     if len(image) <= size:
         return image
     room = io.BytesIO()
@@ -37,11 +35,22 @@ def _rest(file: BinaryIO, most: int) -> bytes:
     return room.getvalue()
 
 
+def _accepted(file: BinaryIO, count: int) -> bytes:
+    """The first bytes of a file. TypeError if it is one of text."""
+    try:
+        begin: Any = None if isinstance(file, io.TextIOBase) else file.read(count)
+    except UnicodeDecodeError:
+        begin = None
+    if not isinstance(begin, bytes):
+        raise TypeError("a file of bytes is needed, as open(path, 'rb') gives it, and not one of text")
+    return begin
+
+
 def _descriptor_size(file: BinaryIO) -> int:
     """How many bytes the host says that a file has; 0 if it is none of the host, and of a pipe."""
     try:
-        return os.fstat(file.fileno()).st_size if isinstance(file, OF_THE_HOST) else 0
-    except OSError:
+        return os.fstat(file.fileno()).st_size
+    except (AttributeError, OSError):
         return 0
 
 

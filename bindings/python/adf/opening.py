@@ -27,7 +27,7 @@ def open_image(image: Image, filename: Path | None = None, *, strict: bool = Fal
     """The volume of an image of type 0 to 3. If the image is refused, a DamagedWarning says so, and the volume is a Rescued one, that of
     what stands: `left_out` is what is not in it, and what is in it in doubt. Refused if nothing stands, or with `strict` if the image is
     not a volume. With a number of blocks it is read as if it had so many; those that it does not have are lost."""
-    return _opened(_arguments.plain(image), filename, strict, blocks)
+    return _opened(_arguments.plain(image), filename, strict, _sizes.number_of_blocks(blocks))
 
 
 def _opened(image: bytes, filename: Path | None, strict: bool, blocks: int | None) -> Volume:

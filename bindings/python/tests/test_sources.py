@@ -4,6 +4,7 @@ import gzip
 import io
 import os
 import pathlib
+import tempfile
 import time
 import warnings
 import zipfile
@@ -34,9 +35,14 @@ class Sources(Folder):
 
     def test_takes_no_text(self):
         written("a.adf", OFS)
-        for source in (io.StringIO("DOS"), open("a.adf", encoding="latin-1"), 3, None):
+        for source in (io.StringIO("DOS"), 3, None):
             self.assertRaises(TypeError, adf.open, source)
-        self.assertRaisesRegex(TypeError, "and not one of text", adf.read_image, open("a.adf", encoding="latin-1"))
+        with open("a.adf", encoding="utf-8") as file, tempfile.NamedTemporaryFile("w+", encoding="utf-8") as other:
+            other.write("DOS")
+            other.seek(0)
+            for source in (file, other):
+                self.assertRaisesRegex(TypeError, "and not one of text", adf.open, source)
+                self.assertRaisesRegex(TypeError, "and not one of text", adf.read_image, source)
 
     def test_unpacks(self):
         self.zipped("one.zip", disk_adf=OFS, readme=b"no image")
