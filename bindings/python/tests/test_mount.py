@@ -14,6 +14,7 @@ import zipfile
 import adf
 from adf_tools.names import host_name
 from tests.shared import TOP, Folder, built, changed, image_of, written
+from tests.test_packed import dms, lha
 from tests.test_unpack import renamed
 
 SOURCES = glob.glob(os.path.join(TOP, "bindings", "fuse", "*.c"))
@@ -125,6 +126,9 @@ class Mounts(Folder):
         self.assertEqual((self.seen("one.zip"), self.seen("one.zip/B\xfccher.adf")), (shown, shown))
         self.assertEqual(self.seen("two.zip/s/a\n.adf"), shown)
         self.assertEqual(self.seen("two.zip/b.ADF"), [])
+        written("a.lha", lha(b"a.adf", image_of()))
+        self.assertEqual((self.seen("a.lha"), self.seen("a.lha/a.adf")), (shown, shown))
+        written("bad.lha", lha(b"a.adf", image_of(), crc=0))
         with open("one.zip", "rb") as file:
             content = bytearray(file.read())
         content[200] ^= 1
@@ -132,6 +136,7 @@ class Mounts(Folder):
         for words, status, told in (
             *((("two.zip",), 1, "2 images in it, give one as FILE/NAME: b.ADF, s/a\\x0a.adf"), (("two.zip/c",), 1, "no image has this name")),
             *((("none.zip",), 1, "no image in it"), (("damaged.zip",), 3, "damaged archive"), (("a.adf/x",), 3, "Not a directory")),
+            (("bad.lha",), 3, "damaged archive"),
         ):
             self.assertEqual(self.mount(*words, "seen"), (status, "", f"adf-mount: {words[0]}: {told}\n"))
 
@@ -146,6 +151,13 @@ class Mounts(Folder):
             written("other", begin.ljust(901120, b"\1"))
             status, output, errors = self.mount("other", "seen")
             self.assertEqual((status in (1, 3), output, errors.count("\n")), (True, "", 1), errors)
+
+    @unittest.skipUnless(shutil.which("xdms"), "needs xdms")
+    def test_reads_disks_of_dms(self):
+        written("a.dms", dms(image_of()))
+        self.assertEqual(self.seen("a.dms"), ["c", "empty", "large", "none"])
+        written("a.dms", dms(image_of())[:5000])
+        self.assertRegex(self.mount("a.dms", "seen")[2], "^adf-mount: a.dms: xdms: [^\n]*\n$")
 
     def test_says_what_xdms_says(self):
         written("disk.dms", b"DMS!".ljust(1000, b"\1"))

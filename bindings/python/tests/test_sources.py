@@ -4,14 +4,17 @@ import gzip
 import io
 import os
 import pathlib
+import shutil
 import tempfile
 import time
+import unittest
 import warnings
 import zipfile
 
 import adf
 from tests.samples import disk, table, volume
 from tests.shared import Folder, image_of, nested, written
+from tests.test_packed import dms, lha
 
 OFS = image_of()
 
@@ -58,6 +61,20 @@ class Sources(Folder):
         self.assertRaisesRegex(OSError, "damaged archive: 'cut.adz'", adf.open, "cut.adz")
         written("plain.adf", OFS)
         self.assertRaises(NotADirectoryError, adf.open, "plain.adf/a.adf")
+
+    @unittest.skipUnless(shutil.which("xdms"), "needs xdms")
+    def test_unpacks_disks_of_dms(self):
+        written("a.dms", dms(OFS))
+        self.assertEqual(adf.open("a.dms").image, OFS)
+        self.assertEqual(adf.open(io.BytesIO(dms(OFS))).image, OFS)
+        self.assertRaisesRegex(adf.NotUnpacked, "xdms: ", adf.open, io.BytesIO(dms(OFS)[:5000]))
+
+    def test_unpacks_archives_of_lha(self):
+        written("a.lha", lha(b"a.adf", OFS))
+        try:
+            self.assertEqual(adf.open("a.lha").image, OFS)
+        except adf.NotUnpacked as error:
+            self.assertEqual(error.strerror, "packed by LHA: python3-libarchive-c (Debian's) is needed to read it")
 
     def test_says_what_has_no_volume(self):
         whole, length = disk(volume(blocks=64)), 1760 * 512
