@@ -57,6 +57,10 @@
 #ifdef __cplusplus
 extern "C" {
 #endif
+#ifdef __clang__ /* it takes bool for an extension where C is that of 1989 */
+#pragma clang diagnostic push
+#pragma clang diagnostic ignored "-Wc99-extensions"
+#endif
 
 /* Why an image is refused: what adf_check, adf_owners and adf_index return, and those of types 0 to 3. Within one block the causes
  * are tested in this order, except that ADF_SAME_NAME comes after all other causes of a header. FAULTS.md explains them. A later
@@ -698,6 +702,7 @@ uint8_t adf_disk_index(const uint8_t *bytes, size_t length, uint64_t blocks, str
 size_t adf_disk_cause_text(uint8_t cause, uint8_t *room, size_t room_length);
 size_t adf_partition_fault_text(uint8_t fault, uint8_t *room, size_t room_length);
 
+/* How far a command went, and whether it had room. */
 struct adf_moved {
     size_t input;     /* bytes that were read */
     size_t output;    /* bytes at the front of the room for output */
@@ -747,6 +752,9 @@ uint8_t adf_run(const uint8_t *words, size_t words_length, const uint8_t *input,
 uint8_t adf_survey_run(const uint8_t *words, size_t words_length, const uint8_t *input, size_t input_length, uint8_t *output,
                        size_t output_room, uint8_t *errors, size_t errors_room, struct adf_moved *moved);
 
+#ifdef __clang__
+#pragma clang diagnostic pop
+#endif
 #ifdef __cplusplus
 }
 #endif

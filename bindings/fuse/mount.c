@@ -8,7 +8,7 @@
  *     kit=$(dirname "$(rt doc)")
  *     cc -o adf-mount *.c -I../../include ../../crates/adf_c/out/libadf_c.a "$kit/c/liblibc_c.a" $(pkg-config --cflags --libs fuse3)
  *
- * With -DADF_ZLIB and what pkg-config has for zlib, images that gzip packed are read too.
+ * With -DADF_ZLIB and -DADF_LIBARCHIVE, and what pkg-config has for zlib and libarchive, packed images are read too.
  */
 #define _GNU_SOURCE
 #define FUSE_USE_VERSION 31
@@ -472,9 +472,11 @@ static int open_file_of(const char *path, const char *name) {
 
 /* Opens the image and reads its volumes: SOUND, or the status to end with, and why stands on standard error. */
 static int open_image(const char *path, const char *name, const char *wanted) {
-    int status = open_file_of(path, name);
+    char *place = strdup(path), *member = place == NULL ? NULL : member_of(place);
+    int status = place == NULL ? FAILED : open_file_of(place, name);
     if (status == SOUND)
-        status = unpack_file(&shown.file, name);
+        status = unpack_file(&shown.file, name, member);
+    free(place);
     if (status != SOUND)
         return status;
     errno = 0;

@@ -1,21 +1,19 @@
 #define _GNU_SOURCE
 #include "packed.h"
 
+#include "unpacking.h"
 #include "volume.h"
 
-#include <stdbool.h>
+#include <errno.h>
+#include <fcntl.h>
 #include <stdio.h>
+#include <stdlib.h>
 #include <string.h>
+#include <sys/stat.h>
 #include <unistd.h>
 
 #ifdef ADF_ZLIB
-#include <errno.h>
-#include <fcntl.h>
-#include <stdlib.h>
 #include <zlib.h>
-
-enum { PART = 1 << 20 };
-static const off_t MOST_BYTES = (off_t)512 * 1048576;
 #endif
 
 /* Bytes at a place in the first ones of a file, and what they say. */
@@ -27,10 +25,8 @@ struct sign {
 };
 
 static const struct sign PACKED[] = {
-    {0, "\x1f\x8b\x08", 3, "gzip"},
-    {0, "PK\3\4", 4, "zip"},
-    {0, "DMS!", 4, "DMS"},
-    {2, "-lh", 3, "LHA"},
+    {0, "\x1f\x8b\x08", 3, "gzip"}, {0, "PK\3\4", 4, "zip"}, {0, "PK\5\6", 4, "zip"},
+    {0, "DMS!", 4, "DMS"},          {2, "-lh", 3, "LHA"},    {2, "-lz", 3, "LHA"},
 };
 static const struct sign OTHERS[] = {
     {0, "SCP", 3, "a flux image (SCP): adf reads sectors"},
@@ -50,12 +46,11 @@ static const char *text_of(const struct sign *signs, size_t count, const uint8_t
 
 const char *foreign(const uint8_t *image, size_t length) { return text_of(OTHERS, sizeof OTHERS / sizeof *OTHERS, image, length); }
 
-static int say(const char *name, const char *why, int status) {
+int say(const char *name, const char *why, int status) {
     fprintf(stderr, "adf-mount: %s: %s\n", name, why);
     return status;
 }
 
-#ifdef ADF_ZLIB
 /* A new file without a name, which is open; -1 with errno if there can be none. */
 static int temporary_file(void) {
     FILE *stream = tmpfile();
@@ -65,17 +60,19 @@ static int temporary_file(void) {
     return file;
 }
 
-static bool write_all(int file, const uint8_t *bytes, size_t count) {
+bool write_all(int file, const void *bytes, size_t count) {
+    const uint8_t *from = bytes;
     while (count > 0) {
-        ssize_t done = write(file, bytes, count);
+        ssize_t done = write(file, from, count);
         if (done < 0 && errno != EINTR)
             return false;
-        bytes += done < 0 ? 0 : done;
+        from += done < 0 ? 0 : done;
         count -= done < 0 ? 0 : (size_t)done;
     }
     return true;
 }
 
+#ifdef ADF_ZLIB
 /* Writes what is packed into a file, as far as the largest volume has bytes: SOUND, or the status to end with. */
 static int copy_unpacked(gzFile packed, int file, const char *name, uint8_t *room) {
     off_t whole = 0;
@@ -90,11 +87,11 @@ static int copy_unpacked(gzFile packed, int file, const char *name, uint8_t *roo
     return count < 0 ? say(name, "damaged archive", FAILED) : SOUND;
 }
 
-static int unpack_gzip(int *file, const char *name) {
+static int unpack_gzip(int file, int unpacked, const char *name) {
     uint8_t *room = malloc(PART);
-    int unpacked = temporary_file(), given = dup(*file);
+    int given = dup(file);
     gzFile packed = room == NULL || given < 0 || lseek(given, 0, SEEK_SET) < 0 ? NULL : gzdopen(given, "rb");
-    int status = unpacked < 0 || packed == NULL ? say(name, strerror(errno), FAILED) : copy_unpacked(packed, unpacked, name, room);
+    int status = packed == NULL ? say(name, strerror(errno), FAILED) : copy_unpacked(packed, unpacked, name, room);
     if (packed != NULL) {
         int closed = gzclose_r(packed);
         if (status == SOUND && closed != Z_OK) /* the end is missing */
@@ -102,28 +99,49 @@ static int unpack_gzip(int *file, const char *name) {
     } else if (given >= 0)
         close(given);
     free(room);
+    return status;
+}
+#else
+static int unpack_gzip(int file, int unpacked, const char *name) {
+    (void)file, (void)unpacked;
+    return say(name, "packed by gzip, and adf-mount is built without zlib (Debian's zlib1g-dev)", FAILED);
+}
+#endif
+
+/* Writes the image in a file of this form, the one that is wanted if that is not NULL. */
+static int unpack_form(int file, int unpacked, const char *name, const char *form, const char *wanted) {
+    bool is_one = strcmp(form, "gzip") == 0 || strcmp(form, "DMS") == 0;
+    if (!is_one)
+        return unpack_member(file, unpacked, name, form, wanted);
+    if (wanted != NULL)
+        return say(name, "no image has this name", REFUSED);
+    return strcmp(form, "DMS") == 0 ? unpack_dms(file, unpacked, name) : unpack_gzip(file, unpacked, name);
+}
+
+int unpack_file(int *file, const char *name, const char *wanted) {
+    uint8_t begin[16];
+    ssize_t count = pread(*file, begin, sizeof begin, 0);
+    const char *form = count <= 0 ? NULL : text_of(PACKED, sizeof PACKED / sizeof *PACKED, begin, (size_t)count);
+    if (form == NULL)
+        return wanted == NULL ? SOUND : say(name, strerror(ENOTDIR), FAILED);
+    int unpacked = temporary_file();
+    int status = unpacked < 0 ? say(name, strerror(errno), FAILED) : unpack_form(*file, unpacked, name, form, wanted);
     if (status == SOUND && dup3(unpacked, *file, O_CLOEXEC) < 0)
         status = say(name, strerror(errno), FAILED);
     if (unpacked >= 0)
         close(unpacked);
     return status;
 }
-#else
-static int unpack_gzip(int *file, const char *name) {
-    (void)file;
-    return say(name, "packed by gzip, and adf-mount is built without zlib (Debian's zlib1g-dev)", FAILED);
-}
-#endif
 
-int unpack_file(int *file, const char *name) {
-    uint8_t begin[16];
-    ssize_t count = pread(*file, begin, sizeof begin, 0);
-    const char *form = count <= 0 ? NULL : text_of(PACKED, sizeof PACKED / sizeof *PACKED, begin, (size_t)count);
-    if (form == NULL)
-        return SOUND;
-    if (strcmp(form, "gzip") == 0)
-        return unpack_gzip(file, name);
-    char why[64];
-    snprintf(why, sizeof why, "packed by %s: adf-unpack reads it", form);
-    return say(name, why, REFUSED);
+char *member_of(char *path) {
+    struct stat status;
+    if (lstat(path, &status) == 0 || errno != ENOTDIR)
+        return NULL;
+    for (char *slash = strrchr(path, '/'); slash != NULL && slash != path; slash = memrchr(path, '/', (size_t)(slash - path))) {
+        *slash = '\0';
+        if (stat(path, &status) == 0 && S_ISREG(status.st_mode))
+            return slash + 1;
+        *slash = '/';
+    }
+    return NULL;
 }

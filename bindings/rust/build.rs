@@ -7,6 +7,7 @@
 //!   is linked if `ADF_LIBRARY` is the path of `libadf.so`, or if no archive is installed.
 
 use std::env;
+use std::ffi::OsStr;
 use std::path::{Path, PathBuf};
 use std::process::Command;
 
@@ -33,10 +34,11 @@ fn main() {
 /// Links `FOLDER/libNAME.a`, or `FOLDER/libNAME.so`.
 fn link(library: &Path) {
     let name = library.file_stem().and_then(|stem| stem.to_str()).and_then(|stem| stem.strip_prefix("lib"));
-    let (Some(folder), Some(name)) = (library.parent(), name) else {
-        panic!("{}: not the path of a library libNAME.a or libNAME.so", library.display());
+    let (folder, name) = match (library.parent(), name) {
+        (Some(folder), Some(name)) => (folder, name),
+        _ => panic!("{}: not the path of a library libNAME.a or libNAME.so", library.display()),
     };
-    let kind = if library.extension().is_some_and(|extension| extension == "so") { "dylib" } else { "static" };
+    let kind = if library.extension() == Some(OsStr::new("so")) { "dylib" } else { "static" };
     println!("cargo:rerun-if-changed={}", library.display());
     println!("cargo:rustc-link-search=native={}", folder.display());
     println!("cargo:rustc-link-lib={kind}={name}");
@@ -56,12 +58,10 @@ fn kit() -> Option<PathBuf> {
 /// Links the installed archive; without one, what pkg-config says of the installed library.
 fn link_installed() {
     let pkg_config = |flag| answer(Command::new("pkg-config").args([flag, "adf"]));
-    let Some(flags) = pkg_config("--libs") else {
-        panic!(
-            "no libadf: set ADF_LIBRARY to the path of libadf.a, run `rt lib` in crates/adf_c of a clone, \
-             or have pkg-config find adf.pc (PKG_CONFIG_PATH)"
-        );
-    };
+    let flags = pkg_config("--libs").expect(
+        "no libadf: set ADF_LIBRARY to the path of libadf.a, run `rt lib` in crates/adf_c of a clone, \
+         or have pkg-config find adf.pc (PKG_CONFIG_PATH)",
+    );
     for name in ["PKG_CONFIG_PATH", "PKG_CONFIG_LIBDIR", "PKG_CONFIG_SYSROOT_DIR"] {
         println!("cargo:rerun-if-env-changed={name}");
     }

@@ -11,6 +11,8 @@
         print(adf.escape(entry.path), entry.size, entry.date, adf.escape(entry.comment))
     start = volume["s/startup-sequence"].read()     # bytes; the case of its letters does not count; KeyError where nothing is there
     file = volume["c/list"].open()                  # a file of Python, which seeks
+    rows = [entry._asdict() for entry in volume.entries]  # as for pandas.DataFrame(rows)
+    volume = adf.open("games.zip/disk1.adf")        # a packed image; also adf.open(io.BytesIO(image)), or any file open for bytes
     for path, directories, files in volume.walk():  # as os.walk
         print(adf.escape(path), directories, files)
     roles = volume.owners()                         # a byte for each block: adf.ROLES[roles[880]] is "root"
@@ -22,7 +24,7 @@
     new, left_out = adf.rescue(image)               # a sound volume of all that stands; what it leaves out, and what it keeps in doubt
     image = adf.build("ffs", None, [adf.Addition("c"), adf.Addition("c/list", b"..")], "Work")  # a new volume, here as small as may be
     image = adf.with_boot(image, volume.boot)       # with the boot blocks of another: .is_bootable, .has_code, .crc
-    disk = adf.Disk(image)                          # of a whole hard disk: disk.partitions, and adf.Volume(disk.volume("DH0"))
+    disk = adf.Disk(image)                          # of a whole hard disk: for row in disk, disk["DH0"], adf.Volume(disk.volume("DH0"))
 
 Texts are in Latin-1, as Amigas have them, so each byte is one character and nothing is lost; where a path is given, bytes do
 as well, and mean themselves. `raw_label`, `raw_name`, `raw_path` and `raw_comment` are the bytes. Any byte but `/` and `:` may be in a
@@ -38,10 +40,11 @@ What the module itself raises is an adf.Error, and also the error of Python that
 a MemoryError. A file that cannot be read is an OSError, and a wrong argument a TypeError or ValueError, as everywhere.
 """
 
-from adf._arguments import Buffer, Image, Path
+from adf._arguments import Buffer, EntryPath, Image, Path
 from adf._layout import BLOCK, KINDS, LETTERS, MOST_BYTES, PART, ROLES, TYPES
 from adf._library import library_path, library_version, load
 from adf._rescues import LeftOut, Reason, rescue
+from adf._sources import Source, read_image
 from adf._texts import escape, unescape
 from adf.boots import BadBoot, Boot, with_boot, with_standard_boot, without_boot
 from adf.building import Addition, NotBuilt, build
@@ -50,9 +53,9 @@ from adf.commands import Answer, run
 from adf.dates import Date
 from adf.disks import Disk, Partition, partitions
 from adf.entries import Entries, Entry, File
-from adf.errors import Closed, Damaged, DamagedWarning, Error, NoLibrary, NoMemory, NoSuchPath, NotAFile, Refused
+from adf.errors import Closed, Damaged, DamagedWarning, Error, NoLibrary, NoMemory, NoSuchPath, NotAFile, NotUnpacked, Refused
 from adf.findings import Finding, Findings, Found
-from adf.opening import open, open_image, read_image
+from adf.opening import open, open_image
 from adf.rescued import Rescued
 from adf.surveys import Survey, survey
 from adf.volumes import Volume
@@ -65,10 +68,10 @@ from adf.dates import EPOCH as EPOCH
 
 __all__ = [
     "Addition", "Answer", "BLOCK", "BadBoot", "Boot", "Buffer", "Closed", "Damaged", "DamagedWarning", "Date", "Disk", "Entries",
-    "Entry", "Error", "File", "Finding", "Findings", "Found", "Image", "KINDS", "LETTERS", "LeftOut", "MOST_BYTES", "NoLibrary",
-    "NoMemory", "NoSuchPath", "NotAFile", "NotBuilt", "PART", "Partition", "Path", "ROLES", "Reason", "Refused", "Rescued",
-    "Survey", "TYPES", "Verdict", "Volume", "build", "check", "escape", "library_path", "library_version", "load", "open",
-    "open_image", "partitions", "read_image", "rescue", "run", "survey", "unescape", "with_boot", "with_standard_boot",
-    "without_boot",
+    "Entry", "EntryPath", "Error", "File", "Finding", "Findings", "Found", "Image", "KINDS", "LETTERS", "LeftOut", "MOST_BYTES",
+    "NoLibrary", "NoMemory", "NoSuchPath", "NotAFile", "NotBuilt", "NotUnpacked", "PART", "Partition", "Path", "ROLES", "Reason",
+    "Refused", "Rescued", "Source", "Survey", "TYPES", "Verdict", "Volume", "build", "check", "escape", "library_path",
+    "library_version", "load", "open", "open_image", "partitions", "read_image", "rescue", "run", "survey", "unescape", "with_boot",
+    "with_standard_boot", "without_boot",
 ]  # fmt: skip
 __version__ = "1.0"

@@ -7,9 +7,11 @@ import ctypes
 import mmap
 import operator
 import os
+import pathlib
 from typing import Any, Union
 
 Path = Union[str, bytes, "os.PathLike[str]", "os.PathLike[bytes]"]
+EntryPath = Union[str, bytes, pathlib.PurePath]
 Image = Union[bytes, bytearray, memoryview, mmap.mmap]
 Buffer = Union[bytearray, memoryview, mmap.mmap]
 MOST_NUMBER = 2**32 - 1
@@ -30,10 +32,19 @@ def within(what: str, given: Any, most: int = MOST_NUMBER) -> int:
     return number
 
 
-def accept_path(given: object) -> None:
-    """TypeError if it is no path of an entry."""
-    if not isinstance(given, (str, bytes)):
-        raise TypeError(f"a path is a str or bytes, and not {type(given).__name__}; entries[n] is the entry n + 1")
+def plain_path(given: Any) -> Any:
+    """A PurePath as a text, which is empty if it has no parts; all else as it is."""
+    if isinstance(given, pathlib.PurePath):
+        return given.as_posix() if given.parts else ""
+    return given
+
+
+def entry_path(given: Any) -> Any:
+    """A path of an entry as a text or bytes. TypeError if it is another thing."""
+    path = plain_path(given)
+    if not isinstance(path, (str, bytes)):
+        raise TypeError(f"a path is a str, bytes or PurePath, and not {type(given).__name__}; entries[n] is the entry n + 1")
+    return path
 
 
 def raw(what: str, given: Any) -> bytes:

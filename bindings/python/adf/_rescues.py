@@ -59,7 +59,7 @@ class LeftOut(_Loss):
     def path(self) -> str:
         """The path of an entry, as `adf-survey` spells it; of what is lost `in c/` or `blocks 44 to 65`."""
         if self.blocks:
-            return f"block {self.first}" if self.first == self.last else f"blocks {self.first} to {self.last}"
+            return _texts.blocks_text(self.blocks)
         return self._spelled if self.directory is None else f"in {self.directory}/"
 
     @property

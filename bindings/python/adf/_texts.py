@@ -3,7 +3,6 @@
 from __future__ import annotations
 
 import re
-from typing import Iterable
 
 NO_BYTES = "\\x"  # how adf-survey spells a name without bytes
 ESCAPED = re.compile(r"\\x([0-9a-f]{2})")
@@ -41,9 +40,9 @@ def spelled_name(name: bytes) -> str:
     return escape(name).replace("/", "\\x2f").replace(":", "\\x3a") if name else NO_BYTES
 
 
-def spelled_path(names: Iterable[bytes]) -> str:
-    """The path of such names, as `adf-survey` spells it."""
-    return "/".join(map(spelled_name, names))
+def blocks_text(blocks: range) -> str:
+    """A run of blocks as a text."""
+    return f"block {blocks[0]}" if len(blocks) == 1 else f"blocks {blocks[0]} to {blocks[-1]}"
 
 
 def as_spelled(path: str) -> str:

@@ -6,7 +6,7 @@ import ctypes
 from typing import Any, Iterable, NamedTuple, Sequence
 
 from adf import _arguments, _structs
-from adf._arguments import Image
+from adf._arguments import EntryPath, Image
 from adf._layout import BLOCK, CAPITALS, KINDS, MOST_BYTES
 from adf._library import NO_MEMORY, calls
 from adf._texts import escape
@@ -15,7 +15,8 @@ from adf.entries import Entry
 from adf.errors import Error, NoMemory
 
 NEVER = Date(0, 0, 0)
-DONE, FULL = 0, 11
+DONE, EXISTS, FULL = 0, 8, 11
+SAME_NAMES = "the case of letters does not count"
 MOST_SIZE = 2**63 - 1
 DATES = "root", "last change", "creation"
 REFUSALS = {
@@ -27,7 +28,7 @@ REFUSALS = {
 class Addition(NamedTuple):
     """A directory or file to build: its path, its bytes (None for a directory), comment, protection and date. Texts are in Latin-1."""
 
-    path: str | bytes
+    path: EntryPath
     content: Image | None = None
     comment: str | bytes = b""
     protection: int = 0
@@ -41,16 +42,23 @@ class Addition(NamedTuple):
 
 
 class NotBuilt(Error, ValueError):
-    """No volume is built: why; the path of the addition that has the fault, and its number from 1 (`entry` is the addition itself);
-    for a tree that does not fit the blocks that it needs and those that there are, without the two boot blocks."""
+    """No volume is built: why; the path of the addition that has the fault, and its number from 1 (`entry` is the addition itself); of
+    one that `exists` the path of the earlier one, `twin`; for a tree that does not fit the blocks that it needs and those that there are,
+    without the two boot blocks."""
 
     def __init__(self, why: str, path: str = "", number: int = 0, need: int = 0, have: int = 0) -> None:
         super().__init__(why, path, number, need, have)
         self.why, self.path, self.number, self.need, self.have = why, path, number, need, have
         self.entry: Addition | None = None
+        self.twin = ""
+
+    @property
+    def reason(self) -> str:
+        """Why, and what it is that exists."""
+        return f"{self.why}, as {escape(self.twin)}: {SAME_NAMES}" if self.twin else self.why
 
     def __str__(self) -> str:
-        return f"{escape(self.path)}: {self.why}" if self.path else self.why
+        return f"{escape(self.path)}: {self.reason}" if self.path else self.reason
 
 
 def _filled(field: Any, raw: bytes) -> int:
@@ -95,6 +103,12 @@ class Plan:
             number = row[0] if row[0] < number else 0
         return b"/".join(reversed(names))
 
+    def twin_of(self, number: int) -> bytes:
+        """The path of the first addition in the directory of this one that has its name."""
+        parent, name = self._rows[number - 1][0], self._rows[number - 1][5].translate(CAPITALS)
+        rows = enumerate(self._rows[: number - 1], 1)
+        return next((self.path_of(each) for each, row in rows if row[0] == parent and row[5].translate(CAPITALS) == name), b"")
+
     def table(self, is_shared: bool = False) -> Any:
         """The table for the library; if it is shared, the bytes of all files begin at the first one of the contents."""
         table = (_structs.Addition * max(len(self._rows), 1))()
@@ -124,7 +138,9 @@ def _done(number: int, told: Any, plan: Plan) -> int:
     if number == FULL:
         raise NotBuilt(f"full: need {told.need}, have {told.have}", "", 0, told.need, told.have)
     if number != DONE:
-        raise NotBuilt(REFUSALS.get(number, str(number)), plan.path_of(told.addition).decode("latin-1"), told.addition)
+        error = NotBuilt(REFUSALS.get(number, str(number)), plan.path_of(told.addition).decode("latin-1"), told.addition)
+        error.twin = plan.twin_of(told.addition).decode("latin-1") if number == EXISTS else ""
+        raise error
     return int(told.blocks)
 
 
@@ -172,7 +188,7 @@ def build(
 ) -> bytes:
     """The image of a volume with these entries, each directory before what is in it: the kind "ofs" or "ffs", the blocks (None for the
     fewest), the label, and the dates of the root, of the last change and of the creation. NotBuilt if there is none."""
-    given = [Addition(*entry) for entry in entries]
+    given = [each._replace(path=_arguments.plain_path(each.path)) for each in (Addition(*entry) for entry in entries)]
     plan, parts = _planned(given)
     contents = b"".join(parts)
     volume = new_volume(kind, 0 if blocks is None else blocks, label, dates)
@@ -184,6 +200,6 @@ def build(
     except NotBuilt as error:
         if error.number:
             error.entry = given[error.number - 1]
-            error.path = error.entry.path if isinstance(error.entry.path, str) else error.entry.path.decode("latin-1")
+            error.path = _arguments.raw("the path", error.entry.path).decode("latin-1")
         raise
     return bytes(room)

@@ -5,7 +5,7 @@ from __future__ import annotations
 import ctypes
 import errno
 import re
-from typing import Any, NamedTuple
+from typing import Any, Iterator, NamedTuple
 
 from adf import _arguments, _structs
 from adf._arguments import Image
@@ -39,8 +39,24 @@ class Partition(NamedTuple):
         return self.raw_name.decode("latin-1")
 
 
+def rows_of(tables: bytes, blocks: int) -> tuple[Any, list[Partition]]:
+    """What is told of a disk of so many blocks whose tables are these, and its partitions."""
+    told, rows = _structs.Disk(), (_structs.Partition * MOST_PARTITIONS)()
+    if calls().adf_disk_index(tables, len(tables), blocks, rows, MOST_PARTITIONS, ctypes.byref(told)) != 0:
+        raise NoMemory
+    return told, [_partition(number, row) for number, row in enumerate(rows[: told.partitions], 1)]
+
+
+def _partition(number: int, row: Any) -> Partition:
+    kind = row.dos_type - DOS_TYPE
+    text = TYPES[kind] if 0 <= kind < len(TYPES) else escape(row.dos_type.to_bytes(4, "big"))
+    fields = row.first, row.blocks, row.flags, row.priority, row.block, text_of(calls().adf_partition_fault_text, row.fault)
+    return Partition(number, bytes(row.name)[: row.name_length], text, *fields)
+
+
 class Disk(ReadOnly):
-    """The partitions of a whole hard disk, in the order of its tables; cause and block, the first fault of these, or an empty text
+    """The partitions of a whole hard disk, in the order of its tables: `for partition in disk`, `len(disk)`, `disk["DH0"]`, `"DH0" in disk`,
+    `disk.keys()`. cause and block, the first fault of these, or an empty text
     and 0. Where they have one, the partitions are those that can be read nevertheless, as `adf-disk survey` tells them.
 
     The image may be an mmap: of it only the tables are read here, and a volume where it is asked for.
@@ -53,24 +69,35 @@ class Disk(ReadOnly):
     _number: int
 
     def __init__(self, image: Image) -> None:
-        told, rows = _structs.Disk(), (_structs.Partition * MOST_PARTITIONS)()
         view = _arguments.view(image)
-        tables, blocks = bytes(view[:MOST_TABLES]), len(view) // BLOCK
-        if calls().adf_disk_index(tables, len(tables), blocks, rows, MOST_PARTITIONS, ctypes.byref(told)) != 0:
-            raise NoMemory
-        partitions = [self._partition(number, row) for number, row in enumerate(rows[: told.partitions], 1)]
+        told, partitions = rows_of(bytes(view[:MOST_TABLES]), len(view) // BLOCK)
         cause = text_of(calls().adf_disk_cause_text, told.cause)
         vars(self).update(image=image, partitions=partitions, cause=cause, block=told.block, _number=told.cause)
 
     def __repr__(self) -> str:
         return f"<adf.Disk: {len(self.partitions)} partitions" + (f", block {self.block}: {self.cause}>" if self.cause else ">")
 
-    @staticmethod
-    def _partition(number: int, row: Any) -> Partition:
-        kind = row.dos_type - DOS_TYPE
-        text = TYPES[kind] if 0 <= kind < len(TYPES) else escape(row.dos_type.to_bytes(4, "big"))
-        fields = row.first, row.blocks, row.flags, row.priority, row.block, text_of(calls().adf_partition_fault_text, row.fault)
-        return Partition(number, bytes(row.name)[: row.name_length], text, *fields)
+    def __iter__(self) -> Iterator[Partition]:
+        return iter(self.partitions)
+
+    def __len__(self) -> int:
+        return len(self.partitions)
+
+    def __contains__(self, wanted: Partition | int | str | bytes) -> bool:
+        """Whether `disk[wanted]` finds a partition; or whether this is one of them."""
+        if isinstance(wanted, Partition):
+            return wanted in self.partitions
+        try:
+            return bool(self[wanted])
+        except NoSuchPath:
+            return False
+
+    def keys(self) -> list[str | int]:
+        """What `disk[key]` finds each partition by, in their order: its name, or its number if it has none or an earlier one has the same."""
+        first: dict[str, int] = {}
+        for partition in self.partitions:
+            first.setdefault(_upper(partition.name), partition.number)
+        return [row.name if row.name and first[_upper(row.name)] == row.number else row.number for row in self.partitions]
 
     def __getitem__(self, wanted: int | str | bytes) -> Partition:
         """The partition with a number, or the first with a name, a text or bytes; the case of a to z does not count. NoSuchPath if there

@@ -17,6 +17,14 @@ if TYPE_CHECKING:
     from adf.volumes import Volume
 
 
+ROW = "path", "name", "is_file", "size", "protection", "date", "comment", "number", "parent", "header"
+
+
+def row_of(entry: Any) -> dict[str, Any]:
+    """What a row of a table has of an entry, of a volume or found."""
+    return {name: entry.date.civil if name == "date" else getattr(entry, name) for name in ROW}
+
+
 class Entries(Sequence["Entry"]):
     """The entries of a volume, each made as it is asked for."""
 
@@ -37,9 +45,7 @@ class Entries(Sequence["Entry"]):
         return self._volume._entry(taken) if isinstance(taken, int) else [self._volume._entry(number) for number in taken]
 
 
-class Entry(NamedTuple):
-    """A directory or a file: entry n is volume.entries[n - 1], and `parent` is the number of its directory, 0 for the root."""
-
+class _Fields(NamedTuple):
     volume: Volume
     number: int
     parent: int
@@ -50,6 +56,16 @@ class Entry(NamedTuple):
     is_file: bool
     raw_name: bytes
     raw_comment: bytes
+
+
+class Entry(_Fields):
+    """A directory or a file: entry n is volume.entries[n - 1], and `parent` is the number of its directory, 0 for the root."""
+
+    __slots__ = ()
+
+    def _asdict(self) -> dict[str, Any]:
+        """The entry as a row, as for a table of pandas: its date as `civil`, and no bytes."""
+        return row_of(self)
 
     @property
     def name(self) -> str:
@@ -65,12 +81,7 @@ class Entry(NamedTuple):
 
     @property
     def raw_path(self) -> bytes:
-        names, parent = [self.raw_name], self.parent
-        while parent:
-            row = self.volume._table[parent - 1]
-            names.append(bytes(row.name)[: row.name_length])
-            parent = row.parent
-        return b"/".join(reversed(names))
+        return self.volume._path_to(self.parent) + self.raw_name
 
     def __repr__(self) -> str:
         return f"<adf.Entry {self.path!r}>"

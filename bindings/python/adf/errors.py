@@ -40,19 +40,24 @@ class Damaged(Error, OSError):
     """A file of a survey is damaged, or something is wrong with a partition."""
 
 
-class Refused(Error):
-    """No volume has the image: the cause of the first fault, as `bad sum`, its block and its number, and the file, if it is one.
+class NotUnpacked(Error, OSError):
+    """A packed image cannot be unpacked, or it is not said which of several is wanted."""
 
-    Its text is that of `adf check`, behind the name of the file.
+
+class Refused(Error):
+    """No volume has the image: the cause of the first fault, as `bad sum`, its block and its number, and the file, if it is one; a hint
+    what it is else, as a hard disk, if its begin tells.
+
+    Its text is that of `adf check`, behind the name of the file, and the hint.
     """
 
-    def __init__(self, cause: str, block: int, number: int, filename: Path | None = None) -> None:
-        super().__init__(cause, block, number, filename)
-        self.cause, self.block, self.number, self.filename = cause, block, number, filename
+    def __init__(self, cause: str, block: int, number: int, filename: Path | None = None, hint: str = "") -> None:
+        super().__init__(cause, block, number, filename, hint)
+        self.cause, self.block, self.number, self.filename, self.hint = cause, block, number, filename, hint
 
     def __str__(self) -> str:
         name = "" if self.filename is None else f"{shown(self.filename)}: "
-        return f"{name}block {self.block}: {self.cause}"
+        return f"{name}block {self.block}: {self.cause}" + (f"; {self.hint}" if self.hint else "")
 
 
 class DamagedWarning(UserWarning):

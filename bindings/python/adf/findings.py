@@ -4,11 +4,12 @@ from __future__ import annotations
 
 import errno
 import os
-from typing import TYPE_CHECKING, Iterator, NamedTuple, Sequence, overload
+from typing import TYPE_CHECKING, Any, Iterator, NamedTuple, Sequence, overload
 
 from adf import _texts
 from adf._layout import BLOCK, FILE_TYPE
 from adf.dates import Date
+from adf.entries import row_of
 from adf.errors import Damaged, NotAFile
 
 if TYPE_CHECKING:
@@ -27,14 +28,7 @@ class Finding(NamedTuple):
     owner: str | None
 
 
-class Found(NamedTuple):
-    """A directory, file or link that is found: entry n is survey.entries[n - 1], and `parent` is the number of its directory, 0 for
-    the root; a link counts as a file.
-
-    The name is that of the header, which need not be one: `raw_name` and `raw_path` may have any bytes, as `/` in a name, or `..`, which
-    leads out of a folder. `name` and `path` are these as `adf-survey` spells them: in the escape form, with \\x2f for a `/` in a name.
-    """
-
+class _Fields(NamedTuple):
     survey: Survey
     number: int
     parent: int
@@ -47,6 +41,21 @@ class Found(NamedTuple):
     raw_name: bytes
     raw_comment: bytes
 
+
+class Found(_Fields):
+    """A directory, file or link that is found: entry n is survey.entries[n - 1], and `parent` is the number of its directory, 0 for
+    the root; a link counts as a file.
+
+    The name is that of the header, which need not be one: `raw_name` and `raw_path` may have any bytes, as `/` in a name, or `..`, which
+    leads out of a folder. `name` and `path` are these as `adf-survey` spells them: in the escape form, with \\x2f for a `/` in a name.
+    """
+
+    __slots__ = ()
+
+    def _asdict(self) -> dict[str, Any]:
+        """The entry as a row, as for a table of pandas: its date as `civil`, and no bytes."""
+        return {**row_of(self), "is_sound": self.is_sound}
+
     @property
     def name(self) -> str:
         return _texts.spelled_name(self.raw_name)
@@ -57,20 +66,11 @@ class Found(NamedTuple):
 
     @property
     def path(self) -> str:
-        return _texts.spelled_path(self._names)
+        return self.survey._path_to(self.parent)[1] + self.name
 
     @property
     def raw_path(self) -> bytes:
-        return b"/".join(self._names)
-
-    @property
-    def _names(self) -> list[bytes]:
-        """The names of its directories, from the root on, and its own."""
-        names, entry = [self.raw_name], self
-        while entry.parent:
-            entry = self.survey.entries[entry.parent - 1]
-            names.append(entry.raw_name)
-        return names[::-1]
+        return self.survey._path_to(self.parent)[0] + self.raw_name
 
     def __repr__(self) -> str:
         return f"<adf.Found {self.path!r}>"

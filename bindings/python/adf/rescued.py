@@ -100,10 +100,10 @@ class Rescued(Volume):
 
     @functools.cached_property
     def refused(self) -> Refused | None:
-        """Why the image is refused; None if it is sound."""
-        image, filename, _ = self._image_given
+        """Why the image is refused, read as if it had the blocks that were asked for; None if it is sound."""
+        image, filename, blocks = self._image_given
         try:
-            check(image, international=True)
+            check(_sizes.sized(image, blocks), international=True)
         except Refused as refused:
             return Refused(refused.cause, refused.block, refused.number, filename)
         return None

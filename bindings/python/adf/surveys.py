@@ -9,7 +9,7 @@ import os
 from typing import Any, Iterator
 
 from adf import _arguments, _sizes, _structs, _texts
-from adf._arguments import Image
+from adf._arguments import EntryPath, Image
 from adf._layout import BLOCK, FIRST_ROOM, KINDS, LEAST_CHUNK, TYPES
 from adf._library import NO_MEMORY, NOT_DOS, SMALL_ROOM, calls, cause_text
 from adf._read_only import ReadOnly
@@ -78,6 +78,7 @@ class Survey(ReadOnly):
     _opened: bytes
     _held: int
     _own_causes: list[str]
+    _last_path: tuple[int, bytes, str]
 
     def __init__(self, image: Image, blocks: int | None = None) -> None:
         blocks = _sizes.number_of_blocks(blocks)
@@ -96,7 +97,7 @@ class Survey(ReadOnly):
             image=given[:4] + raw[4:] if subject.is_begun or subject.is_retyped else raw, kind=KINDS[told.kind] if told.blocks else "",
             date=date_of(told.root), altered=date_of(told.altered), created=date_of(told.created),
             raw_label=label, label=label.decode("latin-1"), is_begun=bool(subject.is_begun), is_retyped=bool(subject.is_retyped),
-            _given=(given, blocks), _opened=raw, _held=subject.held,
+            _given=(given, blocks), _opened=raw, _held=subject.held, _last_path=(0, b"", ""),
         )
         self._mark_missing(tables[2])
         vars(self)["entries"] = [self._entry(place + 1, tables[2][place]) for place in range(told.entries)]
@@ -156,6 +157,18 @@ class Survey(ReadOnly):
         """The blocks of each finding, without paths, which can be very long."""
         return (range(row.first, row.last + 1) for row in self._rows)
 
+    def _path_to(self, number: int) -> tuple[bytes, str]:
+        """The path of a directory and a slash, as bytes and as `adf-survey` spells it; nothing for the root. The last one is kept: so the
+        paths of a deep tree, one after the other, take no longer than they are."""
+        (kept, raw, spelled), above, at = self._last_path, [], number
+        while at not in (0, kept):
+            above.append(self.entries[at - 1])
+            at = above[-1].parent
+        raw = (raw if at else b"") + b"".join(found.raw_name + b"/" for found in reversed(above))
+        spelled = (spelled if at else "") + "".join(found.name + "/" for found in reversed(above))
+        vars(self)["_last_path"] = number, raw, spelled
+        return raw, spelled
+
     def _entry(self, number: int, row: Any) -> Found:
         name, comment = bytes(row.name)[: row.name_length], bytes(row.comment)[: row.comment_length]
         fields = row.parent, row.header, row.size, row.protection, date_of(row.date), bool(row.is_file), bool(row.is_sound)
@@ -169,7 +182,7 @@ class Survey(ReadOnly):
             path = f"{path or ''}/"
         return Finding(row.first, row.last, cause_text(row.cause), path, self.entries[row.owner - 1].path if row.owner else None)
 
-    def read(self, path: str | bytes) -> bytes:
+    def read(self, path: EntryPath) -> bytes:
         """The bytes of a sound file, for which the image is surveyed again; of several with this path those of the first. The path is a
         text in Latin-1, or as `adf-survey` spells it, or bytes, which mean themselves. NoSuchPath if nothing has it, as none has one
         through a name that is not one; NotAFile if it is not a file, Damaged if it is damaged."""
@@ -178,7 +191,7 @@ class Survey(ReadOnly):
             raise Damaged(errno.EIO, "damaged", path)
         return self._remains(found)[0]
 
-    def remains(self, path: str | bytes) -> tuple[bytes, list[range]]:
+    def remains(self, path: EntryPath) -> tuple[bytes, list[range]]:
         """What is left of a file, sound or damaged, for which the image is surveyed again: its bytes, with zeros for those that are
         lost, and the ranges of these; of several with this path those of the first. NoSuchPath and NotAFile as of `read`."""
         return self._remains(self._file(path))
@@ -191,11 +204,11 @@ class Survey(ReadOnly):
             raise NoMemory
         return roles.raw[: len(self.image) // BLOCK]
 
-    def _file(self, path: str | bytes) -> Found:
+    def _file(self, path: EntryPath) -> Found:
         """The file under a path, the first of several."""
-        _arguments.accept_path(path)
+        name = _arguments.entry_path(path)
         try:
-            text = (escape(path) if isinstance(path, bytes) else _texts.as_spelled(path)).encode("ascii")
+            text = (escape(name) if isinstance(name, bytes) else _texts.as_spelled(name)).encode("ascii")
         except UnicodeEncodeError:
             raise NoSuchPath(path) from None
         node = _structs.SIZE()

@@ -8,7 +8,7 @@ import functools
 from typing import Any, Iterator, Sequence
 
 from adf import _arguments, _structs
-from adf._arguments import Image, Path
+from adf._arguments import EntryPath, Image, Path
 from adf._layout import FIRST_ROOM, LETTERS, TYPES
 from adf._library import NO_MEMORY, accept, calls
 from adf._read_only import ReadOnly
@@ -42,6 +42,7 @@ class Volume(ReadOnly):
     raw_label: bytes
     label: str
     _known_tables: Any
+    _last_path: tuple[int, bytes]
 
     def __init__(self, image: Image, filename: Path | None = None) -> None:
         raw, contents = _arguments.plain(image), _structs.Contents()
@@ -57,7 +58,7 @@ class Volume(ReadOnly):
             blocks=contents.blocks, used=contents.used, free=contents.free,
             date=date_of(contents.root), altered=date_of(contents.altered), created=date_of(contents.created),
             raw_label=label, label=label.decode("latin-1"),
-            _known_tables=((raw, len(raw)), (tables[0], contents.entries), (tables[2], contents.data_blocks)),
+            _known_tables=((raw, len(raw)), (tables[0], contents.entries), (tables[2], contents.data_blocks)), _last_path=(0, b""),
         )
 
     def close(self) -> None:
@@ -112,14 +113,14 @@ class Volume(ReadOnly):
         """What is wrong with the image: nothing, unless it is a Rescued one."""
         return ()
 
-    def __getitem__(self, path: str | bytes) -> Entry:
-        """The entry under a path, a text or bytes: names with `/` between them. NoSuchPath if there is none."""
+    def __getitem__(self, path: EntryPath) -> Entry:
+        """The entry under a path, a text, bytes or a PurePath: names with `/` between them. NoSuchPath if there is none."""
         number = self._find(path)
         if not number:
             raise NoSuchPath(path)
         return self._entry(number)
 
-    def __contains__(self, path: str | bytes) -> bool:
+    def __contains__(self, path: EntryPath) -> bool:
         return bool(self._find(path))
 
     def __iter__(self) -> Iterator[str]:
@@ -128,24 +129,38 @@ class Volume(ReadOnly):
     def walk(self, top: Any = "") -> Iterator[tuple[Any, list[Any], list[Any]]]:
         """As os.walk: for each directory from `top` on its path, and the names of the directories and of the files in it.
         What is taken out of the directories is not gone into. Bytes are told where bytes are given."""
-        is_raw, waiting = isinstance(top, bytes), [top]
+        top = _arguments.entry_path(top)
+        slash, waiting = b"/" if isinstance(top, bytes) else "/", [(top, self._find(top))]
         while waiting:
-            path = waiting.pop()
-            number = self._find(path)
+            path, number = waiting.pop()
             if number is None or number > 0 and self._table[number - 1].is_file:
                 raise NoSuchPath(path)
             inside = self.entries[bisect.bisect_left(self._parents, number) : bisect.bisect_right(self._parents, number)]
-            names = [(entry.is_file, entry.raw_name if is_raw else entry.name) for entry in inside]
-            directories = [name for is_file, name in names if not is_file]
-            yield path, directories, [name for is_file, name in names if is_file]
-            slash = b"/" if is_raw else "/"
-            waiting += (path + slash + name if path else name for name in reversed(directories))
+            named = [(entry, entry.raw_name if isinstance(top, bytes) else entry.name) for entry in inside]
+            numbers = {name: entry.number for entry, name in named if not entry.is_file}
+            directories = list(numbers)
+            yield path, directories, [name for entry, name in named if entry.is_file]
+            for name in reversed(directories):
+                below = path + slash + name if path else name
+                waiting.append((below, numbers[name] if name in numbers else self._find(below)))
 
     def owners(self) -> bytes:
         """The role of each block, a byte for each, as a place in ROLES."""
         image, roles = self._tables[0], ctypes.create_string_buffer(self.blocks)
         accept(calls().adf_owners_types(*image, roles, self.blocks), 0)
         return roles.raw
+
+    def _path_to(self, number: int) -> bytes:
+        """The path of a directory and a slash, nothing for the root. The last one is kept: so the paths of a deep tree, one after the other,
+        take no longer than they are."""
+        (kept, begin), names, at = self._last_path, [], number
+        while at not in (0, kept):
+            row = self._table[at - 1]
+            names.append(bytes(row.name)[: row.name_length] + b"/")
+            at = row.parent
+        path = (begin if at else b"") + b"".join(reversed(names))
+        vars(self)["_last_path"] = number, path
+        return path
 
     @functools.cached_property
     def _parents(self) -> list[int]:
@@ -157,11 +172,11 @@ class Volume(ReadOnly):
         fields = row.parent, row.header, row.size, row.protection, date_of(row.date), bool(row.is_file)
         return Entry(self, number, *fields, name, comment)
 
-    def _find(self, path: str | bytes) -> int | None:
+    def _find(self, path: EntryPath) -> int | None:
         """The number under a path, 0 for the empty one, None where nothing is there."""
-        _arguments.accept_path(path)
+        name = _arguments.entry_path(path)
         try:
-            text = escape(path).encode("ascii")
+            text = escape(name).encode("ascii")
         except UnicodeEncodeError:
             return None
         node = ctypes.c_size_t()

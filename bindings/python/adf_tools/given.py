@@ -6,20 +6,20 @@ import argparse
 import contextlib
 import errno
 import io
-import itertools
 import mmap
 import os
 import re
 import stat
 import sys
 import warnings
-from typing import IO, BinaryIO, Iterator, List, NamedTuple, Optional, Tuple
+from typing import IO, BinaryIO, Iterator, NamedTuple, Optional, Tuple
 
 import adf
 from adf_tools.advice import length_that_fits
-from adf_tools.archives import FAULTS, LONGEST_BEGIN, MOST_UNPACKED, Image, Member, begin_of, fault_of, foreign, form_of, is_image, members_of, unpacked
+from adf_tools.archives import FAULTS, LONGEST_BEGIN, MOST_UNPACKED, Image, begin_of, fault_of, foreign, form_of, unpacked
 from adf_tools.content import FileContent
-from adf_tools.names import host_letters, letters
+from adf_tools.members import NotChosen, opened_member, place_of
+from adf_tools.names import letters
 from adf_tools.program import FAILED, REFUSED, host_text, open_input, stop, tell
 from adf_tools.trees import named
 from adf_tools.volumes import disk_of
@@ -27,7 +27,6 @@ from adf_tools.volumes import disk_of
 STANDARD_INPUT = "-"
 MOST_BLOCKS = adf.MOST_BYTES // adf.BLOCK
 IS_IMAGE = "the image, also packed (.adz, .gz, .zip, .dms, .lha), or games.zip/disk1.adf; without it, or for -, standard input"
-MOST_MEMBERS, MOST_LISTED = 65536, 20  # of an archive; of those that are to be chosen from
 Content = Tuple[adf.Image, Optional[int]]  # the bytes of an image, and how many its file has, if that is known
 
 
@@ -70,7 +69,8 @@ class Given(NamedTuple):
             try:
                 return adf.open_image(self.content, strict=strict, blocks=self.blocks)
             except adf.Refused as refused:
-                stop(REFUSED, self.line(foreign(self.content) or f"{refused}{help_of(self.content, refused, self.size)}"))
+                fault = f"block {refused.block}: {refused.cause}{help_of(self.content, refused, self.size)}"
+                stop(REFUSED, self.line(foreign(self.content) or fault))
 
     def tell(self, program: str, volume: adf.Volume) -> int:
         """A line for all that is left out; the status to end with."""
@@ -104,15 +104,6 @@ def end_of(file: IO[bytes]) -> int:
     end = file.seek(0, os.SEEK_END)
     file.seek(at)
     return end
-
-
-def place_of(path: str) -> Tuple[str, bytes]:
-    """The file that a word names, and the name behind it of a member of that file, or none."""
-    file = path
-    while file and not os.path.lexists(file):
-        file = os.path.dirname(file)
-    member = os.fsencode(path[len(file) + 1 :])
-    return (file, member) if member and os.path.isfile(file) else (path, b"")
 
 
 def name_of(path: str) -> str:
@@ -152,16 +143,13 @@ def unpacked_from(file: IO[bytes], form: str, path: str, wanted: bytes, is_whole
     """The bytes of the one image that is wanted of a packed file."""
     name = name_of(path)
     try:
-        place = chosen(list(itertools.islice(members_of(file, form), MOST_MEMBERS + 1)), wanted, name)
-        members = members_of(file, form)  # the archive is open as long as this is kept
-        member = next(itertools.islice(members, place, None))
-        if member.fault:
-            stop(FAILED, f"{name}: {member.fault}")
-        with member.open() as packed:
+        with opened_member(file, form, wanted) as packed:
             if is_whole:
                 return content_of(unpacked(packed, os.fsencode(path), 0, MOST_UNPACKED), name)
             content = begin_of(packed)
         return content, len(content) if len(content) <= adf.MOST_BYTES else None
+    except NotChosen as error:
+        stop(REFUSED, f"{name}: {error}")
     except FAULTS as error:
         stop(FAILED, f"{name}: {fault_of(error)}")
 
@@ -171,23 +159,6 @@ def content_of(image: Image, name: str) -> Content:
     if image.fault:
         stop(FAILED, f"{name}: {image.fault}")
     return mapped(image.content.file) if isinstance(image.content, FileContent) else image.content.begin(), image.length
-
-
-def chosen(members: List[Member], wanted: bytes, name: str) -> int:
-    """Which member has the name that is wanted; without a name the one image that is there, or the one file."""
-    if len(members) > MOST_MEMBERS:
-        stop(REFUSED, f"{name}: more than {MOST_MEMBERS} files in it")
-    images = [place for place, member in enumerate(members) if is_image(member)] or list(range(len(members)))
-    fit = [place for place, member in enumerate(members) if member.name == wanted] if wanted else images
-    if len(fit) == 1:
-        return fit[0]
-    if wanted:
-        stop(REFUSED, f"{name}: {'more than one' if fit else 'no'} image has this name")
-    if not fit:
-        stop(REFUSED, f"{name}: no image in it")
-    listed = [host_letters(members[place].name) for place in fit[:MOST_LISTED]]
-    more = f" and {len(fit) - MOST_LISTED} more" if len(fit) > MOST_LISTED else ""
-    stop(REFUSED, f"{name}: {len(fit)} images in it, give one as FILE/NAME: {', '.join(listed)}{more}")
 
 
 def given(words: argparse.Namespace) -> Given:

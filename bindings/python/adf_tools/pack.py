@@ -11,6 +11,7 @@ import sys
 from typing import BinaryIO, Iterable, Iterator, NamedTuple, Optional
 
 import adf
+from adf import building
 from adf_tools.names import bytes_of
 from adf_tools.program import REFUSED, USAGE, add_escape, begin, command_line, host_text, manifest_of, run_lines, stop
 from adf_tools.trees import Place
@@ -200,6 +201,19 @@ def shortened(line: str) -> str:
     return line if len(line) <= LONGEST_LINE else f"{line[:40]} .. {line[4 + 40 - LONGEST_LINE :]}"
 
 
+def twin_of(lines: list[str], number: int) -> str:
+    """What is to be said of a line whose entry exists: the path of the earlier one."""
+    wanted = path_in(lines[number - 1])
+    twin = next((line for line in lines[: number - 1] if path_in(line) == wanted), "")
+    return f"; as {shortened(twin.split(' ', 3)[3])}: {building.SAME_NAMES}" if twin and wanted else ""
+
+
+def path_in(line: str) -> bytes:
+    """The path in a line of an entry, without the case of its letters; nothing of another line."""
+    words = line.split(" ", 3)
+    return adf.unescape(words[3]).translate(adf.CAPITALS) if words[0] in ("dir", "file") else b""
+
+
 def tried(lines: Iterable[str]) -> bytes:
     """The manifest of these lines, which `adf build` takes."""
     manifest = manifest_of(lines)
@@ -207,7 +221,10 @@ def tried(lines: Iterable[str]) -> bytes:
     if status:
         said = refusal.decode().strip()
         number = re.match(r"line ([1-9][0-9]*)", said)
-        stop(status, f"{said}: {shortened(manifest.decode().splitlines()[int(number[1]) - 1])}" if number else said)
+        if number:
+            made, at = manifest.decode().splitlines(), int(number[1])
+            said += f": {shortened(made[at - 1])}{twin_of(made, at) if said.endswith('exists') else ''}"
+        stop(status, said)
     return manifest
 
 

@@ -122,7 +122,7 @@ def write_image(words: argparse.Namespace) -> int:
             put_boot(filled(fd, adf.BLOCK * wanted, volume, plan, packer, folder, found), boot, words.bootable)
     except building.NotBuilt as error:
         path = os.path.join(folder, error.path.encode("latin-1")) if error.path else b""
-        stop(REFUSED, f"{host_letters(path)}: {error.why}" if path else error.why)
+        stop(REFUSED, f"{host_letters(path)}: {error.reason}" if path else error.reason)
     except (FileNotFoundError, NotADirectoryError) as error:
         if error.filename is None or os.fsencode(error.filename) in (folder, os.fsencode(words.image)):
             raise

@@ -19,7 +19,7 @@ LARGE = 1 << 20  # bytes of an answer that waits in a file
 AHEAD = 16  # so many pieces for each process are given out before the first of them is done
 FILE = os.O_RDONLY | os.O_NOFOLLOW | os.O_CLOEXEC
 NEW_FILE = os.O_WRONLY | os.O_CREAT | os.O_EXCL | os.O_NOFOLLOW | os.O_CLOEXEC
-MEMORY, GROUP = "/proc/meminfo", "/sys/fs/cgroup"
+MEMORY, GROUP, OWN_GROUP = "/proc/meminfo", "/sys/fs/cgroup", "/proc/self/cgroup"
 Piece = TypeVar("Piece")
 Answer = TypeVar("Answer")
 
@@ -51,12 +51,25 @@ def number_in(path: str, name: str | None = None) -> int | None:
     return None
 
 
+def groups() -> list[str]:
+    """The folders of the group that the program is in, as a batch system makes one for a job, and of those that it is in."""
+    try:
+        with open(OWN_GROUP, encoding="utf-8") as file:
+            own = next((line[len("0::") :].strip() for line in file if line.startswith("0::/")), "/")
+    except (OSError, ValueError):
+        own = "/"
+    names = [name for name in own.split("/") if name not in ("", "..")]
+    return [os.path.join(GROUP, *names[:count]) for count in range(len(names) + 1)]
+
+
 def free_memory() -> int | None:
-    """How many bytes can be had, of the system and of the group that the program is in; None if nothing tells it."""
-    system, most, used = number_in(MEMORY, "MemAvailable:"), number_in(f"{GROUP}/memory.max"), number_in(f"{GROUP}/memory.current")
+    """How many bytes can be had, of the system and of the groups that the program is in; None if nothing tells it."""
+    system = number_in(MEMORY, "MemAvailable:")
     known = [1024 * system] if system is not None else []
-    if most is not None and used is not None:
-        known.append(most - used)
+    for group in groups():
+        most, used = number_in(f"{group}/memory.max"), number_in(f"{group}/memory.current")
+        if most is not None and used is not None:
+            known.append(most - used)
     return min(known, default=None)
 
 

@@ -48,8 +48,9 @@ class Volumes(Folder):
 
     def test_tells_the_entry_that_has_a_fault(self):
         for path, why in (
-            *((path, "no parent") for path in ("x/y", "/c", "x\x1b/y")), ("none/y", "parent is file"), ("c/", "no name of an Amiga"), ("c/LIST", "exists"),
-        ):  # fmt: skip
+            *((path, "no parent") for path in ("x/y", "/c", "x\x1b/y")), ("none/y", "parent is file"), ("c/", "no name of an Amiga"),
+            ("c/LIST", "exists, as c/list: the case of letters does not count"),
+        ):
             with self.assertRaises(adf.NotBuilt) as caught:
                 adf.build("ofs", 1760, [*ENTRIES, adf.Addition(path), adf.Addition("x/z")])
             self.assertEqual((str(caught.exception), caught.exception.number), (f"{adf.escape(path)}: {why}", 4))

@@ -8,10 +8,13 @@ import shutil
 import struct
 import subprocess
 import unittest
+import unittest.mock
+import zipfile
 
 import adf
 from adf_tools.names import host_name
 from tests.shared import TOP, Folder, built, changed, image_of, written
+from tests.test_packed import dms, lha
 from tests.test_unpack import renamed
 
 SOURCES = glob.glob(os.path.join(TOP, "bindings", "fuse", "*.c"))
@@ -36,10 +39,18 @@ def table(words):
     return struct.pack(">128I", *block)
 
 
+def flags_of(library, mark):
+    """What the compiler is told of a library that may be left out; nothing if it is not there."""
+    ran = subprocess.run(["pkg-config", "--cflags", "--libs", library], stdout=subprocess.PIPE, stderr=subprocess.DEVNULL)
+    return [mark, *shlex.split(ran.stdout.decode())] if ran.returncode == 0 else []
+
+
 def zlib_flags():
-    """What the compiler is told of zlib; nothing if it is not there."""
-    ran = subprocess.run(["pkg-config", "--cflags", "--libs", "zlib"], stdout=subprocess.PIPE, stderr=subprocess.DEVNULL)
-    return ["-DADF_ZLIB", *shlex.split(ran.stdout.decode())] if ran.returncode == 0 else []
+    return flags_of("zlib", "-DADF_ZLIB")
+
+
+def archive_flags():
+    return flags_of("libarchive", "-DADF_LIBARCHIVE")
 
 
 @unittest.skipUnless(flags(), "needs cc, libfuse 3, fusermount3 and /dev/fuse")
@@ -48,6 +59,7 @@ class Mounts(Folder):
         super().setUp()
         shutil.copy(adf.library_path(), adf.SONAME)
         line = ["cc", "-std=c11", "-o", "adf-mount", "-I", os.path.join(TOP, "include"), *SOURCES, os.path.abspath(adf.SONAME), *flags(), *zlib_flags()]
+        line += archive_flags()
         subprocess.run([*line, f"-Wl,-rpath,{os.getcwd()}"], check=True)
         os.mkdir("seen")
         self.addCleanup(subprocess.run, ["fusermount3", "-u", "-q", os.path.abspath("seen")], stderr=subprocess.DEVNULL)
@@ -86,11 +98,85 @@ class Mounts(Folder):
 
     def test_names_what_is_no_image_of_sectors(self):
         for begin, told in (
-            *((b"PK\3\4", "packed by zip: adf-unpack reads it"), (b"DMS!", "packed by DMS: adf-unpack reads it")),
             *((b"SCP", "a flux image (SCP): adf reads sectors"), (b"CAPS\0\0\0\x0c", "an image of tracks (IPF): adf reads sectors")),
         ):
             written("other", begin.ljust(901120, b"\1"))
             self.assertEqual(self.mount("other", "seen"), (1, "", f"adf-mount: other: {told}\n"))
+
+    def seen(self, *words):
+        """What a mount shows, which says nothing."""
+        self.assertEqual(self.mount(*words, "seen"), (0, "", ""))
+        names = sorted(os.listdir("seen"))
+        subprocess.run(["fusermount3", "-u", "seen"], check=True)
+        return names
+
+    @unittest.skipUnless(archive_flags(), "needs libarchive")
+    def test_reads_members_of_archives(self):
+        other = built("volume ofs 4\n")
+        with zipfile.ZipFile("two.zip", "w", zipfile.ZIP_DEFLATED) as archive:
+            archive.writestr("b.ADF", other)
+            archive.writestr("s/a\n.adf", image_of())
+            archive.writestr("readme", b"no image")
+        with zipfile.ZipFile("one.zip", "w") as archive:
+            archive.writestr("readme", b"no image")
+            archive.writestr("B\xfccher.adf", image_of())
+        with zipfile.ZipFile("none.zip", "w"):
+            pass
+        shown = ["c", "empty", "large", "none"]
+        self.assertEqual((self.seen("one.zip"), self.seen("one.zip/B\xfccher.adf")), (shown, shown))
+        self.assertEqual(self.seen("two.zip/s/a\n.adf"), shown)
+        self.assertEqual(self.seen("two.zip/b.ADF"), [])
+        written("a.lha", lha(b"a.adf", image_of()))
+        self.assertEqual((self.seen("a.lha"), self.seen("a.lha/a.adf")), (shown, shown))
+        written("bad.lha", lha(b"a.adf", image_of(), crc=0))
+        with open("one.zip", "rb") as file:
+            content = bytearray(file.read())
+        content[200] ^= 1
+        written("damaged.zip", content)
+        for words, status, told in (
+            *((("two.zip",), 1, "2 images in it, give one as FILE/NAME: b.ADF, s/a\\x0a.adf"), (("two.zip/c",), 1, "no image has this name")),
+            *((("none.zip",), 1, "no image in it"), (("damaged.zip",), 3, "damaged archive"), (("a.adf/x",), 3, "Not a directory")),
+            (("bad.lha",), 3, "damaged archive"),
+        ):
+            self.assertEqual(self.mount(*words, "seen"), (status, "", f"adf-mount: {words[0]}: {told}\n"))
+
+    @unittest.skipUnless(archive_flags(), "needs libarchive")
+    def test_ends_for_hostile_archives(self):
+        with zipfile.ZipFile("bomb.zip", "w", zipfile.ZIP_DEFLATED) as archive:
+            with archive.open("a.adf", "w", force_zip64=True) as member:
+                for _ in range(513):
+                    member.write(bytes(1 << 20))
+        self.assertEqual(self.mount("bomb.zip", "seen"), (1, "", "adf-mount: bomb.zip: packed: more than 536870912 bytes are not unpacked\n"))
+        for begin in (b"PK\3\4", b"PK\5\6", b"..-lh5-", b"..-lzs-"):
+            written("other", begin.ljust(901120, b"\1"))
+            status, output, errors = self.mount("other", "seen")
+            self.assertEqual((status in (1, 3), output, errors.count("\n")), (True, "", 1), errors)
+
+    @unittest.skipUnless(shutil.which("xdms"), "needs xdms")
+    def test_reads_disks_of_dms(self):
+        written("a.dms", dms(image_of()))
+        self.assertEqual(self.seen("a.dms"), ["c", "empty", "large", "none"])
+        written("a.dms", dms(image_of())[:5000])
+        self.assertRegex(self.mount("a.dms", "seen")[2], "^adf-mount: a.dms: xdms: [^\n]*\n$")
+
+    def test_says_what_xdms_says(self):
+        written("disk.dms", b"DMS!".ljust(1000, b"\1"))
+        program = "xdms: " if shutil.which("xdms") else "packed by DMS: xdms (Debian's) is needed to read it"
+        status, output, errors = self.mount("disk.dms", "seen")
+        self.assertEqual((status, output, errors.count("\n")), (3, "", 1))
+        self.assertIn(f"adf-mount: disk.dms: {program}", errors)
+        os.mkdir("bin")
+        for line, told in (
+            *((f"cp {os.path.abspath('a.adf')} disk.adf", ""), ("echo 'a\x1bb' >&2; exit 1", "xdms: a\\x1bb")),
+            *(("exit 0", "xdms: it wrote no disk"), ("exit 4", "xdms: status 4")),
+        ):
+            written("bin/xdms", f"#!/bin/sh\n{line}\n".encode())
+            os.chmod("bin/xdms", 0o755)
+            with unittest.mock.patch.dict(os.environ, {"PATH": os.path.abspath("bin") + ":" + os.environ["PATH"], "TMPDIR": os.getcwd()}):
+                self.assertEqual(self.mount("disk.dms", "seen"), (3 if told else 0, "", f"adf-mount: disk.dms: {told}\n" if told else ""))
+            if not told:
+                subprocess.run(["fusermount3", "-u", "seen"], check=True)
+        self.leaves("a.adf", "adf-mount", "bin", "disk.dms", adf.SONAME, "seen")
 
     def test_ends_at_2_for_words_that_it_does_not_take(self):
         for words in (("a.adf", "seen", "-o", "frobnicate"), ("a.adf", "seen", "--frobnicate"), ("a.adf",), (), ("a.adf", "seen", "more"), ("a.adf", "nix")):

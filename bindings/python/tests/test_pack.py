@@ -121,7 +121,9 @@ class Names(Folder):
         written(f"{name}/list")
         written(f"{name}/LIST")
         self.refused(1, "exists", "pack", "ofs", "1760", "f")
-        self.assertTrue(self.run_tool("pack", "ofs", "1760", "f").stderr.endswith(b"ffff/list\n"))
+        told = self.run_tool("pack", "ofs", "1760", "f").stderr
+        self.assertTrue(told.endswith(b"fffff/LIST: the case of letters does not count\n") and b"fffff/list; as " in told, told)
+        self.refused(1, "exists, as ", "pack", "--image", "new.adf", "ofs", "1760", "f")
 
 
 class Sidecars(Folder):

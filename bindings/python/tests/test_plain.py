@@ -7,11 +7,14 @@ import array
 import contextlib
 import ctypes
 import io
+import os
+import tempfile
 import unittest
 from unittest import mock
 
 import adf
 from adf import _arguments, _library, _structs, _texts, surveys
+from adf_tools import processes
 from adf_tools.given import number_of_blocks
 from adf_tools.markup import Html, html, joined, link
 from adf_tools.program import command_line
@@ -92,7 +95,7 @@ class Rooms(unittest.TestCase):
 
 class Texts(unittest.TestCase):
     def test_spells_names_of_any_bytes(self):
-        self.assertEqual(_texts.spelled_path([b"c", b"", b"a/b:\x1b", b".."]), "c/\\x/a\\x2fb\\x3a\\x1b/..")
+        self.assertEqual("/".join(map(_texts.spelled_name, [b"c", b"", b"a/b:\x1b", b".."])), "c/\\x/a\\x2fb\\x3a\\x1b/..")
         self.assertEqual(_texts.raw_path("c/\\x/a\\x2fb"), b"c//a/b")
 
     def test_has_dates(self):
@@ -126,3 +129,20 @@ class Lines(unittest.TestCase):
         with contextlib.redirect_stderr(said), self.assertRaises(SystemExit) as ended:
             command_line("adf-try", "Tries.").parse_args(["a\n\x1b[2J"])
         self.assertEqual((ended.exception.code, said.getvalue().splitlines()[-1]), (2, "adf-try: error: unrecognized arguments: a\\x0a\\x1b[2J"))
+
+
+class Memory(unittest.TestCase):
+    def test_is_that_of_the_group_of_a_job(self):
+        with tempfile.TemporaryDirectory() as folder:
+            os.makedirs(f"{folder}/jobs/one")
+            names = {"MEMORY": f"{folder}/none", "GROUP": folder, "OWN_GROUP": f"{folder}/own"}
+            with mock.patch.multiple(processes, **names):
+                for own, files, free in (
+                    *(("", {}, None), ("1:memory:/jobs\n0::/jobs/one\n", {"jobs/memory.max": 5000, "jobs/memory.current": 1000}, 4000)),
+                    ("0::/jobs/one\n", {"jobs/one/memory.max": 300, "jobs/one/memory.current": 100}, 200),
+                    *(("0::/jobs/one\n", {"jobs/one/memory.max": "max"}, 4000), ("0::/../../jobs\n", {}, 4000), ("0::/nix\n", {}, None)),
+                ):
+                    for name, text in {"own": own, **files}.items():
+                        with open(f"{folder}/{name}", "w", encoding="ascii") as file:
+                            file.write(str(text))
+                    self.assertEqual(processes.free_memory(), free, own)

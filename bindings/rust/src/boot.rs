@@ -36,6 +36,10 @@ pub struct Boot {
 
 impl Boot {
     /// The boot blocks at the front of an image, or of a file of them.
+    ///
+    /// # Errors
+    ///
+    /// `BadSize` if there are no 1,024 bytes.
     pub fn of(image: &[u8]) -> Result<Boot, BootRefusal> {
         let told = done(ffi::boot(image))?;
         let mut bytes = [0; ffi::BOOT_BYTES];
@@ -43,6 +47,7 @@ impl Boot {
         Ok(Boot { bytes, told })
     }
 
+    /// Their bytes.
     pub fn as_bytes(&self) -> &[u8] {
         &self.bytes
     }
@@ -52,6 +57,7 @@ impl Boot {
         self.told.crc
     }
 
+    /// Whether they begin with `DOS`.
     pub fn begins_with_dos(&self) -> bool {
         self.told.begins_with_dos != 0
     }
@@ -61,6 +67,7 @@ impl Boot {
         self.told.volume_type
     }
 
+    /// Whether their checksum is right.
     pub fn has_right_sum(&self) -> bool {
         self.told.has_right_sum != 0
     }
@@ -90,6 +97,10 @@ impl fmt::Debug for Boot {
 
 impl Volume<'_> {
     /// The boot blocks of the image.
+    ///
+    /// # Errors
+    ///
+    /// None of an image that is a volume; a newer library may have one.
     pub fn boot(&self) -> Result<Boot, BootRefusal> {
         Boot::of(self.image())
     }
@@ -97,16 +108,37 @@ impl Volume<'_> {
 
 /// The image with other boot blocks: a `Boot`, those of another image, or the bytes of a file of them. It keeps its type, and gets the
 /// checksum with which an Amiga starts it.
+///
+/// # Errors
+///
+/// Why the image gets none, or what the source lacks.
 pub fn with_boot(image: &[u8], boot: impl AsRef<[u8]>) -> Result<Vec<u8>, BootRefusal> {
     changed(image, |room| ffi::boot_copy(room, boot.as_ref()))
 }
 
 /// The image with boot blocks that start AmigaDOS.
+///
+/// # Errors
+///
+/// Why the image gets none.
+///
+/// # Examples
+///
+/// ```
+/// let image = adf::run(&["build"], b"volume ofs 1760\n").into_output()?;
+/// let image = adf::with_standard_boot(&image)?;
+/// assert!(adf::Boot::of(&image)?.is_bootable());
+/// # Ok::<(), Box<dyn std::error::Error>>(())
+/// ```
 pub fn with_standard_boot(image: &[u8]) -> Result<Vec<u8>, BootRefusal> {
     changed(image, ffi::boot_install)
 }
 
 /// The image with zeros behind the type in its boot blocks.
+///
+/// # Errors
+///
+/// Why the image gets none.
 pub fn without_boot(image: &[u8]) -> Result<Vec<u8>, BootRefusal> {
     changed(image, ffi::boot_clear)
 }

@@ -46,9 +46,13 @@ impl fmt::Display for BuildRefusal {
 /// it needs and those that there are, without the two boot blocks.
 #[derive(Clone, Copy, Debug, PartialEq, Eq)]
 pub struct NotBuilt {
+    /// Why.
     pub refusal: BuildRefusal,
+    /// The number of the entry that has the fault, from 1, or 0.
     pub number: usize,
+    /// The blocks that the tree needs, if it is `Full`.
     pub need: u64,
+    /// The blocks that there are, if it is `Full`.
     pub have: u64,
 }
 
@@ -67,22 +71,45 @@ impl Error for NotBuilt {}
 /// A directory or file to build: its path, names with `/` between them; its bytes, or `None` for a directory.
 #[derive(Clone, Copy, Debug, Default)]
 pub struct Addition<'a> {
+    /// The bytes of its path.
     pub path: &'a [u8],
+    /// The bytes of a file; `None` for a directory.
     pub content: Option<&'a [u8]>,
+    /// The bytes of its comment, at most 79.
     pub comment: &'a [u8],
+    /// The protection word; a set bit of 0 to 3 forbids.
     pub protection: u32,
+    /// The date of the entry.
     pub date: Date,
 }
 
 /// The dates of a new volume: of the root, of the last change and of the creation.
 #[derive(Clone, Copy, Debug, Default)]
 pub struct Dates {
+    /// That of the root.
     pub root: Date,
+    /// That of the last change.
     pub altered: Date,
+    /// That of the creation.
     pub created: Date,
 }
 
 /// Builds the image of a volume with these entries, each directory before what is in it; without a number of blocks the smallest.
+///
+/// # Errors
+///
+/// Why no volume is built, and the number of the entry that has the fault.
+///
+/// # Examples
+///
+/// ```
+/// use adf::{build, Addition, Dates, Kind, Volume};
+/// let directory = Addition { path: b"c", ..Addition::default() };
+/// let file = Addition { path: b"c/list", content: Some(b"Hi\n"), ..Addition::default() };
+/// let image = build(Kind::Ffs, Some(1760), &[directory, file], b"Work", Dates::default())?;
+/// assert_eq!(Volume::check(&image)?.find("c/list")?.read(), b"Hi\n");
+/// # Ok::<(), Box<dyn std::error::Error>>(())
+/// ```
 pub fn build(kind: Kind, blocks: Option<u32>, entries: &[Addition<'_>], label: &[u8], dates: Dates) -> Result<Vec<u8>, NotBuilt> {
     let (additions, contents) = table(entries);
     let mut volume = NewVolume {

@@ -42,6 +42,7 @@ impl fmt::Display for Cause {
 /// An image is refused: its first fault, and the block it is in. Shown as `block 880: bad sum`.
 #[derive(Clone, Copy, Debug, PartialEq, Eq, Hash)]
 pub struct Refused {
+    /// What is wrong.
     pub cause: Cause,
     /// The number of the block, 0 if an allocation failed.
     pub block: u32,

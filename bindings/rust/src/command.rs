@@ -12,12 +12,18 @@ pub struct Answer {
     /// 0: success. 1: the input is refused or has findings. 2: the arguments are refused. 3: an allocation failed, or the output has
     /// more than 4 GiB: then it is cut there, and errors say `write fault`.
     pub status: u8,
+    /// What the command wrote to standard output.
     pub output: Vec<u8>,
+    /// What it wrote to standard error.
     pub errors: Vec<u8>,
 }
 
 impl Answer {
-    /// The output at status 0; the answer as an error at any other.
+    /// The output at status 0.
+    ///
+    /// # Errors
+    ///
+    /// The answer itself at any other status.
     pub fn into_output(self) -> Result<Vec<u8>, Failed> {
         match self.status {
             0 => Ok(self.output),
@@ -28,14 +34,16 @@ impl Answer {
 
 impl fmt::Debug for Answer {
     fn fmt(&self, f: &mut fmt::Formatter<'_>) -> fmt::Result {
-        let (output, errors) = (format_args!("{} bytes", self.output.len()), String::from_utf8_lossy(&self.errors));
-        f.debug_struct("Answer").field("status", &self.status).field("output", &output).field("errors", &errors).finish()
+        let (bytes, errors) = (self.output.len(), String::from_utf8_lossy(&self.errors));
+        let mut shown = f.debug_struct("Answer");
+        shown.field("status", &self.status).field("output", &format_args!("{bytes} bytes")).field("errors", &errors).finish()
     }
 }
 
 /// The answer of a command that did not do what was asked. Shown as the first line that it wrote, such as `no such path`.
 #[derive(Clone, Debug, PartialEq, Eq)]
 pub struct Failed {
+    /// The answer.
     pub answer: Answer,
 }
 
@@ -61,12 +69,28 @@ impl Error for Failed {}
 
 /// Runs the command `adf` with these arguments, without the program's name, over an input: an image, or a manifest for `build`.
 /// `run(&["build"], manifest)` makes an image. An argument with a zero byte is refused, at status 2.
+///
+/// # Examples
+///
+/// ```
+/// let image = adf::run(&["build"], b"volume ffs 4\n").into_output()?;
+/// assert_eq!(adf::run(&["check"], &image).output, b"ok ffs blocks 4 used 2 free 0 dirs 0 files 0\n");
+/// # Ok::<(), adf::Failed>(())
+/// ```
 pub fn run(words: &[&str], input: &[u8]) -> Answer {
     run_program(Program::Adf, "adf", words, input)
 }
 
 /// Runs the command `adf-survey` with these arguments over an image: `survey(&["--blocks", "1760", "--list"], image)`. `Survey::of`,
-/// `remains` and `rescue` give what it finds as structs. No file is opened: an argument that names one is refused, at status 2.
+/// `remains_of` and `rescue` give what it finds as structs. No file is opened: an argument that names one is refused, at status 2.
+///
+/// # Examples
+///
+/// ```
+/// let image = adf::run(&["build"], b"volume ffs 4\n").into_output()?;
+/// assert_eq!((adf::survey(&[], &image).status, adf::survey(&[], &image).output), (0, vec![]));
+/// # Ok::<(), adf::Failed>(())
+/// ```
 pub fn survey(words: &[&str], image: &[u8]) -> Answer {
     run_program(Program::Survey, "adf-survey", words, image)
 }

@@ -1,6 +1,7 @@
+use crate::counted::counted;
 use crate::ffi::{self, DiskRecord, Numbered, PartitionRecord};
 use crate::numbered::numbered;
-use crate::{Refused, Text};
+use crate::{text, NotFound, Refused, Text};
 use std::error::Error;
 use std::fmt;
 
@@ -47,7 +48,9 @@ impl Error for PartitionFault {}
 /// The first fault of the tables of a disk, and the block it is in. Shown as `block 0: no rigid disk`.
 #[derive(Clone, Copy, Debug, PartialEq, Eq, Hash)]
 pub struct DiskFault {
+    /// What is wrong.
     pub cause: DiskCause,
+    /// The number of the block.
     pub block: u32,
 }
 
@@ -67,8 +70,20 @@ pub struct Disk<'image> {
 }
 
 impl<'image> Disk<'image> {
-    /// Reads the partitions of a disk. An error is `Cause::NoMemory`. If the tables have a fault, `fault` reports it, and the
-    /// partitions are those that can be read nevertheless.
+    /// Reads the partitions of a disk. If the tables have a fault, `fault` reports it, and the partitions are those that can be read
+    /// nevertheless.
+    ///
+    /// # Errors
+    ///
+    /// `Cause::NoMemory` alone.
+    ///
+    /// # Examples
+    ///
+    /// ```
+    /// let disk = adf::Disk::of(&[0; 8192])?;
+    /// assert_eq!((disk.partitions().len(), disk.fault().unwrap().to_string()), (0, "block 0: no rigid disk".to_owned()));
+    /// # Ok::<(), adf::Refused>(())
+    /// ```
     pub fn of(image: &'image [u8]) -> Result<Disk<'image>, Refused> {
         const MOST_TABLES: usize = 512 * 65_536;
         let tables = &image[..image.len().min(MOST_TABLES)];
@@ -83,19 +98,52 @@ impl<'image> Disk<'image> {
     }
 
     /// All partitions, or those that can be read.
-    pub fn partitions(&self) -> impl ExactSizeIterator<Item = Partition<'_>> + DoubleEndedIterator {
-        (0..self.partitions.len()).map(|place| Partition { disk: self, place })
+    pub fn partitions(&self) -> Partitions<'_> {
+        Partitions { disk: self, numbers: 1..self.partitions.len() + 1 }
     }
 
-    /// The first partition with a name. The case of a to z is ignored.
+    /// The first partition with a name, a text in Latin-1. The case of a to z is ignored.
+    ///
+    /// # Errors
+    ///
+    /// `NotFound::Nothing`.
+    pub fn find(&self, name: impl AsRef<str>) -> Result<Partition<'_>, NotFound> {
+        self.find_bytes(&text::to_latin(name.as_ref()).ok_or(NotFound::Nothing)?)
+    }
+
+    /// The first partition whose name has these bytes. The case of a to z is ignored.
+    ///
+    /// # Errors
+    ///
+    /// `NotFound::Nothing`.
+    pub fn find_bytes(&self, name: &[u8]) -> Result<Partition<'_>, NotFound> {
+        self.partitions().find(|partition| partition.name().as_bytes().eq_ignore_ascii_case(name)).ok_or(NotFound::Nothing)
+    }
+
+    /// [`Disk::find_bytes`] of the bytes of a text or of others.
+    #[deprecated(note = "find takes a text, and find_bytes bytes, as those of a volume")]
     pub fn named(&self, name: impl AsRef<[u8]>) -> Option<Partition<'_>> {
-        self.partitions().find(|partition| partition.name().as_bytes().eq_ignore_ascii_case(name.as_ref()))
+        self.find_bytes(name.as_ref()).ok()
     }
 }
 
 impl fmt::Debug for Disk<'_> {
     fn fmt(&self, f: &mut fmt::Formatter<'_>) -> fmt::Result {
         f.debug_struct("Disk").field("partitions", &self.partitions.len()).field("fault", &self.fault()).finish()
+    }
+}
+
+counted! {
+    /// The partitions of a disk.
+    Partitions<'disk> { disk: &'disk Disk<'disk> } -> Partition<'disk>: |number| Partition { disk, place: number - 1 }
+}
+
+impl<'disk> IntoIterator for &'disk Disk<'_> {
+    type Item = Partition<'disk>;
+    type IntoIter = Partitions<'disk>;
+
+    fn into_iter(self) -> Partitions<'disk> {
+        self.partitions()
     }
 }
 
@@ -141,7 +189,11 @@ impl<'disk> Partition<'disk> {
         self.record().block
     }
 
-    /// The first block of its volume on the disk, and how many it has; or why it has no place.
+    /// The first block of its volume on the disk, and how many it has.
+    ///
+    /// # Errors
+    ///
+    /// Why it has no place.
     pub fn place(&self) -> Result<(u64, u64), PartitionFault> {
         let PartitionRecord { first, blocks, fault, .. } = *self.record();
         match blocks {
@@ -157,7 +209,11 @@ impl<'disk> Partition<'disk> {
         (fault != 0).then(|| fault.into())
     }
 
-    /// The bytes of its volume, an image of its own; or why it has no place.
+    /// The bytes of its volume, an image of its own.
+    ///
+    /// # Errors
+    ///
+    /// Why it has no place.
     pub fn volume(&self) -> Result<&'disk [u8], PartitionFault> {
         let (first, blocks) = self.place()?;
         let (from, length) = (512 * first as usize, 512 * blocks as usize);

@@ -41,6 +41,20 @@ pub struct Date {
 /// What `adf_rescue` and `adf_survey_subject` answer, if more room is wanted than was given.
 const SMALL_ROOM: u8 = 24;
 
+/// The bytes of so many blocks.
+pub(crate) fn bytes_of(blocks: u32) -> usize {
+    (blocks as usize).saturating_mul(512)
+}
+
+/// What is there of an image of so many blocks, if a volume can have so many.
+pub(crate) fn cut(image: &[u8], blocks: u32) -> Result<&[u8], Refused> {
+    const MOST_BLOCKS: u32 = 1 << 20;
+    match blocks {
+        1..=MOST_BLOCKS => Ok(&image[..image.len().min(bytes_of(blocks))]),
+        _ => Err(Refused { cause: Cause::BadSize, block: 0 }),
+    }
+}
+
 /// A vector with room for so many, if there is memory.
 fn with_room<T>(count: usize) -> Result<Vec<T>, Refused> {
     let mut room = Vec::new();

@@ -1,14 +1,17 @@
 #![doc = include_str!("../README.md")]
+#![warn(missing_docs, missing_debug_implementations)]
 
 mod boot;
 mod building;
 mod cause;
 mod command;
+mod counted;
 mod disk;
 mod ffi;
 mod found_file;
 mod numbered;
 mod opened;
+mod reader;
 mod remains;
 mod rescue;
 mod role;
@@ -20,16 +23,20 @@ pub use boot::{with_boot, with_standard_boot, without_boot, Boot, BootRefusal};
 pub use building::{build, Addition, BuildRefusal, Dates, NotBuilt};
 pub use cause::{Cause, NotFound, Refused};
 pub use command::{run, survey, Answer, Failed};
-pub use disk::{Disk, DiskCause, DiskFault, Partition, PartitionFault};
+pub use disk::{Disk, DiskCause, DiskFault, Partition, PartitionFault, Partitions};
 pub use ffi::Date;
 pub use found_file::{FoundFile, Parts};
-pub use opened::{open, Opened};
-pub use remains::{remains, Remains};
-pub use rescue::{rescue, LeftOut, Reason, Rescue};
+pub use opened::{open, open_blocks, Opened};
+pub use reader::Reader;
+#[allow(deprecated)]
+pub use remains::remains;
+pub use remains::{remains_of, Remains};
+pub use rescue::{rescue, rescue_blocks, LeftOut, Reason, Rescue};
 pub use role::{Kind, Role};
-pub use survey::{Finding, Found, Survey};
+pub use survey::{Finding, Found, FoundEntries, Survey};
 pub use text::{escape, unescape, Text};
 
+use counted::counted;
 use std::borrow::Cow;
 use std::fmt;
 use std::time::{Duration, SystemTime};
@@ -57,12 +64,26 @@ pub struct Volume<'image> {
 }
 
 impl<'image> Volume<'image> {
-    /// Checks an image of type 0 to 3. If it is not a volume, the error is its first fault. `Cause::NoMemory` says nothing about the image.
+    /// Checks an image of type 0 to 3.
+    ///
+    /// # Errors
+    ///
+    /// The first fault of an image that is not a volume. `Cause::NoMemory` says nothing about the image.
+    ///
+    /// # Examples
+    ///
+    /// ```
+    /// assert_eq!(adf::Volume::check(&[0; 8192]).unwrap_err().to_string(), "block 0: not dos");
+    /// ```
     pub fn check(image: &'image [u8]) -> Result<Volume<'image>, Refused> {
         Ok(Volume { tables: ffi::index(image)?, image: Cow::Borrowed(image) })
     }
 
     /// Checks an image, and keeps its bytes in the volume, which then borrows nothing.
+    ///
+    /// # Errors
+    ///
+    /// As of [`Volume::check`].
     pub fn check_owned(image: Vec<u8>) -> Result<Volume<'static>, Refused> {
         Ok(Volume { tables: ffi::index(&image)?, image: Cow::Owned(image) })
     }
@@ -72,6 +93,7 @@ impl<'image> Volume<'image> {
         &self.image
     }
 
+    /// How its data blocks are written, and which letters its names have.
     pub fn kind(&self) -> Kind {
         self.tables.contents.kind.into()
     }
@@ -91,6 +113,7 @@ impl<'image> Volume<'image> {
         self.tables.contents.free
     }
 
+    /// The name of the volume.
     pub fn label(&self) -> Text<'_> {
         let contents = &self.tables.contents;
         Text::of(&contents.label, contents.label_length)
@@ -118,11 +141,15 @@ impl<'image> Volume<'image> {
 
     /// All directories and files, without the root. A directory comes before what is in it. The entries of one directory are next to
     /// each other, in the order of the slots and chains of the disk.
-    pub fn entries(&self) -> impl ExactSizeIterator<Item = Entry<'_>> + DoubleEndedIterator {
-        (0..self.tables.entries.len()).map(|place| Entry { volume: self, number: place + 1 })
+    pub fn entries(&self) -> Entries<'_> {
+        Entries { volume: self, numbers: 1..self.tables.entries.len() + 1 }
     }
 
-    /// The role of each block. The image is checked once more for it, so an allocation may fail.
+    /// The role of each block. The image is checked once more for it.
+    ///
+    /// # Errors
+    ///
+    /// `Cause::NoMemory` alone.
     pub fn owners(&self) -> Result<Vec<Role>, Refused> {
         let roles = ffi::owners(&self.image)?;
         Ok(roles.into_iter().map(Role::from).collect())
@@ -131,11 +158,28 @@ impl<'image> Volume<'image> {
     /// The entry under a path: names with `/` between them, as `Entry::path` has it. The case of a to z is ignored; with
     /// international letters, that of all letters of Latin-1. The empty path is the root's. A character that is not in Latin-1 is in no
     /// path.
+    ///
+    /// # Errors
+    ///
+    /// `NotFound::Nothing`, `NotFound::NoPath`, `NotFound::NoMemory`.
+    ///
+    /// # Examples
+    ///
+    /// ```
+    /// let image = adf::run(&["build"], b"volume ofs 1760\nfile 0:0:0 00000000 B\\xfccher\n").into_output()?;
+    /// let volume = adf::Volume::check(&image)?;
+    /// assert_eq!(volume.find("b\u{fc}cher")?.number(), volume.find_bytes(b"B\xfccher")?.number());
+    /// # Ok::<(), Box<dyn std::error::Error>>(())
+    /// ```
     pub fn find(&self, path: impl AsRef<str>) -> Result<Entry<'_>, NotFound> {
         self.find_bytes(&text::to_latin(path.as_ref()).ok_or(NotFound::NoPath)?)
     }
 
     /// The entry under the bytes of a path, as `Entry::path_bytes` has them.
+    ///
+    /// # Errors
+    ///
+    /// As of [`Volume::find`].
     pub fn find_bytes(&self, path: &[u8]) -> Result<Entry<'_>, NotFound> {
         let number = ffi::find(&self.tables, escape(path).as_bytes())?;
         Ok(Entry { volume: self, number })
@@ -146,6 +190,20 @@ impl fmt::Debug for Volume<'_> {
     fn fmt(&self, f: &mut fmt::Formatter<'_>) -> fmt::Result {
         let (kind, blocks, entries) = (self.kind(), self.blocks(), self.tables.entries.len());
         f.debug_struct("Volume").field("kind", &kind).field("blocks", &blocks).field("entries", &entries).finish_non_exhaustive()
+    }
+}
+
+counted! {
+    /// Entries of a volume.
+    Entries<'volume> { volume: &'volume Volume<'volume> } -> Entry<'volume>: |number| Entry { volume, number }
+}
+
+impl<'volume> IntoIterator for &'volume Volume<'_> {
+    type Item = Entry<'volume>;
+    type IntoIter = Entries<'volume>;
+
+    fn into_iter(self) -> Entries<'volume> {
+        self.entries()
     }
 }
 
@@ -166,10 +224,12 @@ impl<'volume> Entry<'volume> {
         self.number
     }
 
+    /// Whether it is a file.
     pub fn is_file(&self) -> bool {
-        self.record().is_some_and(|record| record.is_file == 1)
+        self.record().map_or(false, |record| record.is_file == 1)
     }
 
+    /// The name, which the root has none of.
     pub fn name(&self) -> Text<'volume> {
         self.record().map(|record| Text::of(&record.name, record.name_length)).unwrap_or_default()
     }
@@ -189,6 +249,7 @@ impl<'volume> Entry<'volume> {
         self.record().map_or(0, |record| record.protection)
     }
 
+    /// The date of the entry.
     pub fn date(&self) -> Date {
         self.record().map_or(self.volume.date(), |record| record.date)
     }
@@ -204,12 +265,12 @@ impl<'volume> Entry<'volume> {
     }
 
     /// What is in a directory; nothing for a file.
-    pub fn children(&self) -> impl ExactSizeIterator<Item = Entry<'volume>> + DoubleEndedIterator {
+    pub fn children(&self) -> Entries<'volume> {
         let Entry { volume, number } = *self;
         let entries = &volume.tables.entries;
         let first = entries.partition_point(|record| (record.parent as usize) < number);
         let behind = entries.partition_point(|record| (record.parent as usize) <= number);
-        (first..behind).map(move |place| Entry { volume, number: place + 1 })
+        Entries { volume, numbers: first + 1..behind + 1 }
     }
 
     /// The path as `Volume::find` takes it: names with `/` between them, their bytes read as Latin-1; empty for the root.

@@ -3,6 +3,7 @@
 macro_rules! numbered {
     ($(#[$about:meta])* $name:ident($number:ty): $($(#[$says:meta])* $variant:ident = $value:literal,)*) => {
         $(#[$about])*
+        #[allow(missing_docs)] // a variant has the name of its number in include/adf.h, which says what it means
         #[derive(Clone, Copy, Debug, PartialEq, Eq, Hash)]
         #[non_exhaustive]
         pub enum $name {

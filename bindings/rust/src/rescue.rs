@@ -18,6 +18,7 @@ pub struct Rescue {
 /// `adf-survey rescue`, such as `damaged: c/list`.
 #[derive(Clone, Debug, PartialEq, Eq)]
 pub struct LeftOut {
+    /// Why it is left out, or in doubt.
     pub reason: Reason,
     /// The path of an entry, or of the directory in which headers are lost, as `adf-survey` spells it (`Found::path`); empty for the root
     /// and for blocks. An entry that is kept may have another name in the new volume.
@@ -33,6 +34,7 @@ numbered! {
     Reason(u8):
     /// A file that is not whole.
     Damaged = 1,
+    /// A link, which no new volume has.
     Link = 2,
     /// Its directory is left out, its name is taken, or the blocks do not suffice.
     NoRoom = 3,
@@ -81,12 +83,48 @@ impl fmt::Display for LeftOut {
     }
 }
 
-/// Makes a new volume of all that stands in an image, as `adf-survey rescue` does. If nothing stands, the error is the first fault.
-/// `Cause::NoMemory` says nothing about the image.
+/// Makes a new volume of all that stands in an image, as `adf-survey rescue` does.
+///
+/// # Errors
+///
+/// The first fault, if nothing stands. `Cause::NoMemory` says nothing about the image.
+///
+/// # Examples
+///
+/// ```
+/// let mut image = adf::run(&["build"], b"volume ofs 1760\nfile 0:0:0 00000000 a\ndata 41\nfile 0:0:0 00000000 b\ndata 42\n").into_output()?;
+/// let header = adf::Volume::check(&image)?.find("a")?.header() as usize;
+/// image[512 * header..512 * header + 512].fill(0);
+/// let rescue = adf::rescue(&image)?;
+/// assert_eq!(adf::Volume::check(&rescue.image)?.find("b")?.read(), b"B");
+/// assert!(!rescue.left_out.is_empty());
+/// # Ok::<(), Box<dyn std::error::Error>>(())
+/// ```
 pub fn rescue(image: &[u8]) -> Result<Rescue, Refused> {
-    let found = ffi::rescue(image)?;
+    ffi::rescue(image, 0).map(rescue_of)
+}
+
+/// Makes a new volume as [`rescue`] does, of an image read as if it had so many blocks; those that it does not have are lost.
+///
+/// # Errors
+///
+/// The first fault, if nothing stands. `Cause::NoMemory` says nothing about the image.
+///
+/// # Examples
+///
+/// ```
+/// let image = adf::run(&["build"], b"volume ofs 1760\nfile 0:0:0 00000000 a\ndata 41\n").into_output()?;
+/// let rescue = adf::rescue_blocks(&image[..512 * 1000], 1760)?;
+/// assert_eq!(rescue.image.len(), image.len());
+/// # Ok::<(), Box<dyn std::error::Error>>(())
+/// ```
+pub fn rescue_blocks(image: &[u8], blocks: u32) -> Result<Rescue, Refused> {
+    ffi::rescue(ffi::cut(image, blocks)?, blocks).map(rescue_of)
+}
+
+fn rescue_of(found: ffi::RescueTables) -> Rescue {
     let left_out = found.losses.iter().map(|loss| left_out_of(loss, &found.paths)).collect();
-    Ok(Rescue { image: found.volume, left_out })
+    Rescue { image: found.volume, left_out }
 }
 
 /// A row of the table of losses, with its path in the text of all paths.

@@ -12,9 +12,9 @@ pub(crate) enum Subject<'image> {
 }
 
 impl<'image> Subject<'image> {
-    /// What is surveyed of an image, and what is told of it.
-    pub(crate) fn of(image: &'image [u8]) -> Result<(Subject<'image>, SubjectTold), Refused> {
-        let (subject, told) = ffi::subject(image)?;
+    /// What is surveyed of an image, as if it had so many blocks unless they are 0, and what is told of it.
+    pub(crate) fn of(image: &'image [u8], blocks: u32) -> Result<(Subject<'image>, SubjectTold), Refused> {
+        let (subject, told) = ffi::subject(image, blocks)?;
         let is_changed = told.length != image.len() || told.is_begun == 1 || told.is_retyped == 1;
         Ok((if is_changed { Subject::Changed(Arc::new(subject), told.held as usize) } else { Subject::Given(image) }, told))
     }

@@ -1,7 +1,10 @@
-use crate::ffi::{self, Date, FindingRecord, SubjectTold, SurveyTables};
+use crate::counted::counted;
+use crate::ffi::{self, Date, FindingRecord, PartRecord, SubjectTold, SurveyTables};
+use crate::remains::remains_of_found;
 use crate::subject::Subject;
-use crate::{remains, text, Cause, Failed, Kind, NotFound, Refused, Remains, Text};
+use crate::{text, Cause, Failed, Kind, NotFound, Refused, Remains, Text};
 use std::fmt;
+use std::sync::{Arc, Mutex, PoisonError};
 
 /// What is found in an image by `adf-survey`: everything that is wrong, and the entries that can still be reached. Where nothing but the
 /// boot block is lost, and where the files say another type, the image is surveyed as if it began with the type that its files say; a
@@ -10,12 +13,51 @@ pub struct Survey<'image> {
     subject: Subject<'image>,
     told: SubjectTold,
     tables: SurveyTables,
+    parts: Mutex<Option<Arc<[PartRecord]>>>,
 }
 
 impl<'image> Survey<'image> {
-    /// Surveys an image, sound or not. An error is `Cause::NoMemory`.
+    /// Surveys an image, sound or not.
+    ///
+    /// # Errors
+    ///
+    /// `Cause::NoMemory` alone.
+    ///
+    /// # Examples
+    ///
+    /// ```
+    /// let mut image = adf::run(&["build"], b"volume ofs 1760\nfile 0:0:0 00000000 readme\ndata 48690a\n").into_output()?;
+    /// image[512 * 880 + 440] ^= 1; // a byte of the root
+    /// let survey = adf::Survey::of(&image)?;
+    /// assert_eq!(survey.findings().next().unwrap().cause(), adf::Cause::BadSum);
+    /// assert_eq!(survey.find("readme")?.remains()?.bytes, b"Hi\n");
+    /// # Ok::<(), Box<dyn std::error::Error>>(())
+    /// ```
     pub fn of(image: &'image [u8]) -> Result<Survey<'image>, Refused> {
-        let (subject, told) = Subject::of(image)?;
+        Survey::stated(image, 0)
+    }
+
+    /// Surveys an image read as if it had so many blocks; those that it does not have are lost, and files with data in them are damaged.
+    ///
+    /// # Errors
+    ///
+    /// `Cause::BadSize` if no volume has so many blocks, and `Cause::NoMemory`.
+    ///
+    /// # Examples
+    ///
+    /// ```
+    /// let image = adf::run(&["build"], b"volume ofs 1760\nfile 0:0:0 00000000 readme\ndata 48690a\n").into_output()?;
+    /// let survey = adf::Survey::of_blocks(&image[..512 * 1000], 1760)?;
+    /// assert_eq!((survey.blocks(), survey.find("readme")?.is_sound()), (1760, true));
+    /// # Ok::<(), Box<dyn std::error::Error>>(())
+    /// ```
+    pub fn of_blocks(image: &'image [u8], blocks: u32) -> Result<Survey<'image>, Refused> {
+        Survey::stated(ffi::cut(image, blocks)?, blocks)
+    }
+
+    /// The survey of an image, as if it had so many blocks unless they are 0.
+    fn stated(image: &'image [u8], blocks: u32) -> Result<Survey<'image>, Refused> {
+        let (subject, told) = Subject::of(image, blocks)?;
         let mut tables = ffi::survey(&subject)?;
         let cut = if subject.is_whole() { Vec::new() } else { subject.parts()?.1 };
         for node in cut {
@@ -28,7 +70,7 @@ impl<'image> Survey<'image> {
             let (first, last, node, owner, cause, is_within) = (0, 0, 0, 0, Cause::NotDos.number(), 0);
             tables.findings.insert(0, FindingRecord { first, last, node, owner, cause, is_within });
         }
-        Ok(Survey { subject, told, tables })
+        Ok(Survey { subject, told, tables, parts: Mutex::new(None) })
     }
 
     /// The kind, if the root is found.
@@ -74,17 +116,50 @@ impl<'image> Survey<'image> {
     }
 
     /// The entries that are found, each after its directory.
-    pub fn entries(&self) -> impl ExactSizeIterator<Item = Found<'_>> + DoubleEndedIterator {
-        (0..self.tables.entries.len()).map(|place| Found { survey: self, number: place + 1 })
+    pub fn entries(&self) -> FoundEntries<'_> {
+        FoundEntries { survey: self, numbers: 1..self.tables.entries.len() + 1 }
     }
 
     pub(crate) fn subject(&self) -> &Subject<'image> {
         &self.subject
     }
 
+    /// The entry under a path, of several the first: names with `/` between them, in Latin-1 or as [`Found::path`] spells them.
+    ///
+    /// # Errors
+    ///
+    /// `NotFound::Nothing` if nothing has this path, and of the root, which is no entry; `NotFound::NoMemory`.
+    pub fn find(&self, path: impl AsRef<str>) -> Result<Found<'_>, NotFound> {
+        self.found(&text::as_spelled(path.as_ref()).ok_or(NotFound::Nothing)?)
+    }
+
+    /// The entry under the bytes of a path, of several the first. None leads through a name with a `/` in it.
+    ///
+    /// # Errors
+    ///
+    /// As of [`Survey::find`].
+    pub fn find_bytes(&self, path: &[u8]) -> Result<Found<'_>, NotFound> {
+        self.found(&text::escape(path))
+    }
+
+    fn found(&self, path: &str) -> Result<Found<'_>, NotFound> {
+        self.entry(ffi::find_found(&self.subject, path.as_bytes())?).ok_or(NotFound::Nothing)
+    }
+
     /// The entry under a path in escape form, of several the first; none for the root.
-    pub(crate) fn find(&self, path: &str) -> Result<Option<Found<'_>>, NotFound> {
+    pub(crate) fn find_escaped(&self, path: &str) -> Result<Option<Found<'_>>, NotFound> {
         Ok(self.entry(ffi::find_found(&self.subject, path.as_bytes())?))
+    }
+
+    /// What is at each block, for which the image is surveyed once more when it is asked for first.
+    pub(crate) fn known_parts(&self) -> Result<Arc<[PartRecord]>, Refused> {
+        let mut known = self.parts.lock().unwrap_or_else(PoisonError::into_inner);
+        if let Some(parts) = &*known {
+            return Ok(Arc::clone(parts));
+        }
+        let parts: Arc<[PartRecord]> = self.subject.parts()?.0.into();
+        *known = Some(Arc::clone(&parts));
+        Ok(parts)
     }
 
     fn entry(&self, number: usize) -> Option<Found<'_>> {
@@ -96,6 +171,20 @@ impl fmt::Debug for Survey<'_> {
     fn fmt(&self, f: &mut fmt::Formatter<'_>) -> fmt::Result {
         let (findings, entries) = (self.tables.findings.len(), self.tables.entries.len());
         f.debug_struct("Survey").field("findings", &findings).field("entries", &entries).finish()
+    }
+}
+
+counted! {
+    /// The entries of a survey.
+    FoundEntries<'survey> { survey: &'survey Survey<'survey> } -> Found<'survey>: |number| Found { survey, number }
+}
+
+impl<'survey> IntoIterator for &'survey Survey<'_> {
+    type Item = Found<'survey>;
+    type IntoIter = FoundEntries<'survey>;
+
+    fn into_iter(self) -> FoundEntries<'survey> {
+        self.entries()
     }
 }
 
@@ -111,14 +200,17 @@ impl<'survey> Finding<'survey> {
         &self.survey.tables.findings[self.place]
     }
 
+    /// The first block.
     pub fn first(&self) -> u32 {
         self.record().first
     }
 
+    /// The last block.
     pub fn last(&self) -> u32 {
         self.record().last
     }
 
+    /// What is wrong.
     pub fn cause(&self) -> Cause {
         self.record().cause.into()
     }
@@ -136,6 +228,17 @@ impl<'survey> Finding<'survey> {
     /// The entry that owns the blocks, if the cause is `Cause::Taken`.
     pub fn owner(&self) -> Option<Found<'survey>> {
         self.survey.entry(self.record().owner)
+    }
+}
+
+impl fmt::Debug for Finding<'_> {
+    fn fmt(&self, f: &mut fmt::Formatter<'_>) -> fmt::Result {
+        let (blocks, entry) = (self.first()..=self.last(), self.entry().map(|found| found.path()));
+        f.debug_struct("Finding")
+            .field("blocks", &blocks)
+            .field("cause", &self.cause())
+            .field("entry", &entry)
+            .finish_non_exhaustive()
     }
 }
 
@@ -161,6 +264,7 @@ impl<'survey> Found<'survey> {
         self.record().is_sound == 1
     }
 
+    /// Whether it is a file, or a link.
     pub fn is_file(&self) -> bool {
         self.record().is_file == 1
     }
@@ -185,6 +289,7 @@ impl<'survey> Found<'survey> {
         self.record().protection
     }
 
+    /// The date of the entry.
     pub fn date(&self) -> Date {
         self.record().date
     }
@@ -217,10 +322,18 @@ impl<'survey> Found<'survey> {
         names
     }
 
-    /// What is left of this file, for which the image is surveyed again: that of this entry, also where another one has its path. A
-    /// directory and a link are refused with `not a file`.
+    /// What is left of this file, sound or damaged: that of this entry, also where another one has its path. For the first file of a
+    /// survey the image is surveyed again, for no other.
+    ///
+    /// # Errors
+    ///
+    /// `not a file` of a directory and a link; `no memory`.
     pub fn remains(&self) -> Result<Remains, Failed> {
-        remains::remains_of_found(self)
+        remains_of_found(self)
+    }
+
+    pub(crate) fn survey(&self) -> &'survey Survey<'survey> {
+        self.survey
     }
 
     pub(crate) fn subject(&self) -> &'survey Subject<'survey> {

@@ -10,6 +10,7 @@ impl<'volume> Text<'volume> {
         Text(&field[..field.len().min(usize::from(length))])
     }
 
+    /// The bytes.
     pub fn as_bytes(self) -> &'volume [u8] {
         self.0
     }
@@ -61,6 +62,33 @@ pub(crate) fn spelled(names: &[&[u8]]) -> String {
         _ => escape(name).replace('/', "\\x2f").replace(':', "\\x3a"),
     };
     names.iter().map(name).collect::<Vec<_>>().join("/")
+}
+
+/// The escape form of a path in Latin-1, or of one that `adf-survey` spells, which stays as it is; `None` if it has other characters.
+pub(crate) fn as_spelled(path: &str) -> Option<String> {
+    let (mut spelled, mut rest) = (String::new(), path);
+    while let Some(letter) = rest.chars().next() {
+        let length = spelled_length(rest).unwrap_or(0);
+        if length > 0 {
+            spelled.push_str(&rest[..length]);
+            rest = &rest[length..];
+        } else {
+            spelled.push_str(&escape(&[u8::try_from(letter).ok()?]));
+            rest = &rest[letter.len_utf8()..];
+        }
+    }
+    Some(spelled)
+}
+
+/// How many letters of a byte in the escape form, or of a name without bytes, are at the front of a text, if one is.
+fn spelled_length(text: &str) -> Option<usize> {
+    let behind = text.strip_prefix(NO_BYTES)?.as_bytes();
+    let is_digit = |byte: &u8| matches!(byte, b'0'..=b'9' | b'a'..=b'f');
+    match behind {
+        [first, second, ..] if is_digit(first) && is_digit(second) => Some(4),
+        [] | [b'/', ..] => Some(2),
+        _ => None,
+    }
 }
 
 /// The bytes of a path that `adf-survey` spells; `None` if it spells none so.

@@ -1,8 +1,8 @@
 //! Small volumes, built by the library itself.
 
 use adf::{
-    open, remains, rescue, run, survey, Cause, Date, Disk, DiskCause, Kind, LeftOut, NotFound, PartitionFault, Reason, Refused,
-    Remains, Role, Survey, Volume,
+    open, remains_of, rescue, run, survey, Cause, Date, Disk, DiskCause, Kind, LeftOut, NotFound, PartitionFault, Reason,
+    Refused, Remains, Role, Survey, Volume,
 };
 use std::fmt::Debug;
 use std::time::{Duration, SystemTime};
@@ -271,7 +271,7 @@ fn a_volume_owns_its_bytes() {
 #[test]
 fn answers_are_errors_too() {
     fn file(path: &str, image: &[u8]) -> Result<Vec<u8>, Box<dyn std::error::Error>> {
-        Ok([run(&["cat", path], image).into_output()?, remains(path, image)?.bytes].concat())
+        Ok([run(&["cat", path], image).into_output()?, remains_of(image, path)?.bytes].concat())
     }
     let image = image("ofs");
     assert_eq!(file("c/readme", &image).unwrap(), b"Hello\nHello\n");
@@ -332,7 +332,7 @@ fn a_disk_tells_its_partitions() {
     image.extend(built("volume ffs 16\nfile 0:0:0 00000000 a\ndata 616263\n"));
     let disk = Disk::of(&image).unwrap();
     assert_eq!((disk.fault(), disk.partitions().len()), (None, 1));
-    let partition = disk.named("dh0").unwrap();
+    let partition = disk.find("dh0").unwrap();
     assert_eq!((partition.number(), partition.name().as_bytes(), partition.place()), (1, &b"DH0"[..], Ok((16, 16))));
     assert_eq!((partition.flags(), partition.priority(), &partition.dos_type()), (1, 5, b"DOS\x01"));
     let volume = Volume::check(partition.volume().unwrap()).unwrap();
@@ -350,24 +350,24 @@ fn a_disk_tells_its_partitions() {
 fn what_is_left_of_a_file_is_told() {
     // The header of `a` is block 2, its data 3 to 5, with 488 bytes in each but the last; the types of 3 and 5 become 0.
     let mut image = built("volume ofs 16\nfile 0:0:0 00000000 a\nfill 1000 41\ndir 0:0:0 00000000 c\n");
-    assert_eq!(remains("a", &image), Ok(Remains { bytes: vec![b'A'; 1000], lost: vec![] }));
+    assert_eq!(remains_of(&image, "a"), Ok(Remains { bytes: vec![b'A'; 1000], lost: vec![] }));
     image[3 * 512 + 3] = 0;
     image[5 * 512 + 3] = 0;
     let bytes = [vec![0; 488], vec![b'A'; 488], vec![0; 24]].concat();
-    assert_eq!(remains("a", &image), Ok(Remains { bytes, lost: vec![0..488, 976..1000] }));
+    assert_eq!(remains_of(&image, "a"), Ok(Remains { bytes, lost: vec![0..488, 976..1000] }));
     for (path, why) in [("nix", "no such path: nix\n"), ("c", "not a file\n"), ("a//b", "bad path\n")] {
-        assert_eq!(remains(path, &image).unwrap_err().answer.errors, why.as_bytes());
+        assert_eq!(remains_of(&image, path).unwrap_err().answer.errors, why.as_bytes());
     }
-    assert_eq!(remains("a", b"").unwrap_err().to_string(), "no such path: a");
+    assert_eq!(remains_of(b"", "a").unwrap_err().to_string(), "no such path: a");
     // By its number the bytes and the gaps are the same.
     let survey = Survey::of(&image).unwrap();
     let parts = survey.parts().unwrap();
     let files: Vec<_> = survey.entries().map(|found| parts.file(found).unwrap()).collect();
     let mut room = [0; 700];
-    assert_eq!(files[0].read_at(0, &mut room), (0, 488));
-    assert_eq!(files[0].read_at(488, &mut room), (488, 24));
+    assert_eq!(files[0].piece_at(&mut room, 0), (0, 488));
+    assert_eq!(files[0].piece_at(&mut room, 488), (488, 24));
     assert_eq!((&room[..488], room[488]), (&[b'A'; 488][..], 0));
-    assert_eq!(files[0].read_at(1000, &mut room), (0, 0));
+    assert_eq!(files[0].piece_at(&mut room, 1000), (0, 0));
     assert_eq!(survey.owners().unwrap()[2..6], [Role::Head, Role::Free, Role::Data, Role::Free]);
 }
 
@@ -383,10 +383,10 @@ fn what_adf_survey_opens_is_surveyed() {
         assert_eq!((survey.is_begun(), survey.is_retyped(), survey.kind()), (image[0] == 0, image[0] != 0, Some(Kind::Ofs)));
         let found = survey.entries().next().unwrap();
         let whole = Remains { bytes: vec![b'A'; 1000], lost: vec![] };
-        assert_eq!((found.is_sound(), found.remains(), remains("a", &image)), (true, Ok(whole.clone()), Ok(whole)));
+        assert_eq!((found.is_sound(), found.remains(), remains_of(&image, "a")), (true, Ok(whole.clone()), Ok(whole)));
         let mut room = [0; 1001];
         let file = survey.parts().unwrap().file(found).unwrap();
-        assert_eq!((file.read_at(0, &mut room), room[999], room[1000]), ((1000, 0), b'A', 0));
+        assert_eq!((file.piece_at(&mut room, 0), room[999], room[1000]), ((1000, 0), b'A', 0));
         assert_eq!(survey.owners().unwrap()[2..6], [Role::Head, Role::Data, Role::Data, Role::Data]);
     }
     assert!(!Survey::of(&sound).unwrap().is_begun());
@@ -427,7 +427,7 @@ fn a_floppy_that_is_cut_in_a_file_has_it_damaged() {
     let lost = found.remains().unwrap().lost;
     assert_eq!((found.is_sound(), lost.len(), lost[0].start, lost[0].end), (false, 1, left, 591_944));
     let mut room = vec![0; 591_944];
-    assert_eq!(survey.parts().unwrap().file(found).unwrap().read_at(0, &mut room), (left, 591_944 - left));
+    assert_eq!(survey.parts().unwrap().file(found).unwrap().piece_at(&mut room, 0), (left, 591_944 - left));
 }
 
 #[test]
@@ -445,7 +445,7 @@ fn a_path_that_two_files_have_is_refused() {
     let left: Vec<_> = found.iter().map(|found| found.remains().unwrap()).collect();
     assert!(left.iter().all(|left| left.lost.is_empty()));
     assert_eq!(left.iter().map(|left| &left.bytes[..]).collect::<std::collections::BTreeSet<_>>(), [&b"A"[..], b"B"].into());
-    assert_eq!(remains("a", &image).unwrap_err().to_string(), "not unique");
+    assert_eq!(remains_of(&image, "a").unwrap_err().to_string(), "not unique");
     image[name] = b'b';
     image[sum] = image[sum].wrapping_sub(b'b' - b'A');
     let survey = Survey::of(&image).unwrap();

@@ -1,6 +1,6 @@
 //! Rescues.
 
-use super::{accepted, with_room, SMALL_ROOM};
+use super::{accepted, bytes_of, with_room, SMALL_ROOM};
 use crate::cause::Refused;
 
 /// `struct adf_loss`.
@@ -67,7 +67,7 @@ impl Rooms {
 }
 
 /// Rescues an image, and fills tables with so much room: what the call answers, and the tables with the whole numbers.
-fn rescue_into(image: &[u8], rooms: Rooms) -> Result<(u8, RescueTables), Refused> {
+fn rescue_into(image: &[u8], blocks: u32, rooms: Rooms) -> Result<(u8, RescueTables), Refused> {
     let (mut volume, mut losses, mut paths) = (with_room(rooms.volume)?, with_room(rooms.losses)?, with_room(rooms.paths)?);
     let (volume_room, losses_room, paths_room) = (volume.capacity(), losses.capacity(), paths.capacity());
     let mut told = RescueTold::default();
@@ -76,7 +76,7 @@ fn rescue_into(image: &[u8], rooms: Rooms) -> Result<(u8, RescueTables), Refused
         adf_rescue(
             image.as_ptr(),
             image.len(),
-            0,
+            blocks,
             volume.as_mut_ptr(),
             volume_room,
             losses.as_mut_ptr(),
@@ -98,11 +98,12 @@ fn rescue_into(image: &[u8], rooms: Rooms) -> Result<(u8, RescueTables), Refused
     Ok((answer, RescueTables { told, volume, losses, paths }))
 }
 
-/// Rescues an image: its volume, which may be longer than the image, and whole tables.
-pub(crate) fn rescue(image: &[u8]) -> Result<RescueTables, Refused> {
-    let mut rooms = Rooms { volume: image.len(), losses: 1024, paths: 1 << 16 };
+/// Rescues an image, as if it had so many blocks unless they are 0: its volume, which may be longer, and whole tables.
+pub(crate) fn rescue(image: &[u8], blocks: u32) -> Result<RescueTables, Refused> {
+    let volume = if blocks == 0 { image.len() } else { bytes_of(blocks) };
+    let mut rooms = Rooms { volume, losses: 1024, paths: 1 << 16 };
     loop {
-        let (answer, tables) = rescue_into(image, rooms)?;
+        let (answer, tables) = rescue_into(image, blocks, rooms)?;
         let wanted = rooms.with_all(&tables.told);
         if wanted == rooms || (answer != 0 && answer != SMALL_ROOM) {
             let block = tables.told.block;

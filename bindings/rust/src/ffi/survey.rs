@@ -1,6 +1,6 @@
 //! Surveys: what is wrong with an image, and what is found in it.
 
-use super::{accepted, looked_up, with_room, Date, SMALL_ROOM};
+use super::{accepted, bytes_of, looked_up, with_room, Date, SMALL_ROOM};
 use crate::cause::{NotFound, Refused};
 
 /// `struct adf_subject`.
@@ -78,15 +78,15 @@ extern "C" {
     fn adf_survey_find(image: *const u8, length: usize, path: *const u8, path_length: usize, node: *mut usize) -> u8;
 }
 
-/// The image that `adf-survey` surveys of an image, and what is told of it.
-pub(crate) fn subject(image: &[u8]) -> Result<(Vec<u8>, SubjectTold), Refused> {
-    let mut room = image.len();
+/// The image that `adf-survey` surveys of an image, as if it had so many blocks unless they are 0, and what is told of it.
+pub(crate) fn subject(image: &[u8], blocks: u32) -> Result<(Vec<u8>, SubjectTold), Refused> {
+    let mut room = if blocks == 0 { image.len() } else { bytes_of(blocks) };
     loop {
         let mut subject = with_room(room)?;
         subject.resize(room, 0);
         let mut told = SubjectTold::default();
         // "A pointer to bytes has as many bytes as its length or room says".
-        let answer = unsafe { adf_survey_subject(image.as_ptr(), image.len(), 0, subject.as_mut_ptr(), room, &mut told) };
+        let answer = unsafe { adf_survey_subject(image.as_ptr(), image.len(), blocks, subject.as_mut_ptr(), room, &mut told) };
         if answer != SMALL_ROOM || told.length <= room {
             accepted(answer).map_err(|cause| Refused { cause, block: 0 })?;
             subject.truncate(told.length);

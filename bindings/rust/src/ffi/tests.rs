@@ -1,7 +1,19 @@
 use super::*;
-use std::mem::{offset_of, size_of};
+use std::mem::{size_of, MaybeUninit};
 use std::path::Path;
 use std::process::Command;
+use std::ptr::addr_of;
+
+/// The place of a field in a struct.
+macro_rules! offset_of {
+    ($type:ty, $field:ident) => {{
+        let room = MaybeUninit::<$type>::uninit();
+        let start = room.as_ptr();
+        // The field is not read: its place in memory that is there is taken.
+        let place = unsafe { addr_of!((*start).$field) };
+        place as usize - start as usize
+    }};
+}
 
 /// The size of a struct and the places of its fields, with the expressions of C that stand for them.
 macro_rules! layout {
