@@ -112,7 +112,10 @@ class Standing:
         """Whether more may be lost than is counted: headers, directories or blocks in use are missing, or nothing stands."""
         if self.volume is None:
             return not {finding.cause for finding in self.survey.findings[:FEW]} <= HARMLESS or not self.survey.kind
-        return any(each.reason in (adf.Reason.HEADERS, adf.Reason.MADE) or self._in_use(each) for each in self.left_out)
+        roles = self.survey.owners()  # the blocks of a file whose header's checksum is wrong are lost, and known to be of that file
+        return any(
+            each.reason in (adf.Reason.HEADERS, adf.Reason.MADE) or any(not roles[block] for block in self._in_use(each)) for each in self.left_out
+        )
 
     def _in_use(self, each: adf.LeftOut) -> range:
         """The blocks in use that are lost by a line; none, if it is about the boot block, or about what is behind the volume."""

@@ -128,7 +128,7 @@ class Damaged(Folder):
             *((b"con", "co\\x6e"), (b"a\0:b", "a\\x00\\x3ab"), (b"", "\\x"), (b"x.uaem", "x.uae\\x6d"), (b"\x1b[2J", "\\x1b[2J")),
         ):
             ran = self.run_tool("unpack", "--damaged", "in/new", given=renamed(self.image, raw), prefix=["sh", "-c", 'mkdir in && exec "$@"', "sh"])
-            self.assertEqual((ran.returncode, ran.stderr.count(b"\n")), (1, 1), ran.stderr)
+            self.assertEqual((ran.returncode, ran.stderr.count(b"\n")), (1, 2), ran.stderr)  # the file, and its block
             self.assertEqual(sorted(os.listdir("in/new")), sorted([f"{name}.damaged", f"{name}.gaps", "sound"]))
             self.leaves("in")
             self.assertEqual(os.listdir("in"), ["new"])
