@@ -9,6 +9,7 @@ import itertools
 import json
 import os
 import sqlite3
+import stat
 from typing import Iterator, List, Optional, Sequence, Set
 
 import adf
@@ -179,13 +180,18 @@ class Site:
         known = dict(self.connection.execute("SELECT name, shows FROM lists").fetchall())
         made = []
         for each in lists.pages():
-            if known.get(each.name) != each.shows or self.out.status(each.name) is None:
+            if known.get(each.name) != each.shows or not self.is_there(each.name):
                 self.connection.execute("DELETE FROM lists WHERE name = ?", (each.name,))  # what is broken off here is made again
                 self.out.write(each.name, each.make().encode("utf-8"))
                 made.append((each.name, each.shows))
         with transaction(self.connection):
             self.connection.executemany("INSERT OR REPLACE INTO lists VALUES (?, ?)", made)
         return names
+
+    def is_there(self, name: str) -> bool:
+        """Whether a page is there, as a file."""
+        there = self.out.status(name)
+        return there is not None and stat.S_ISREG(there.st_mode)
 
     def write_tables(self, is_escaped: bool) -> None:
         self.own.note((IMAGES, ENTRIES))

@@ -23,6 +23,7 @@ from tests.test_catalogue import Catalogues, Page, trees_of
 
 TOOLS = os.path.join(os.path.dirname(HERE), "adf_tools")
 MARKUP = "'\"><script>alert(1)</script><img src=x onerror=alert(1)>&\x1b]0;x\x07\x9b"
+FILE_SUMS = ("bytes", "crc32", "md5", "sha1", "sha256")
 FIRST_RUN = """
 import contextlib, fcntl, os
 from adf_tools import catalogue
@@ -128,7 +129,9 @@ class Links(Catalogues):
     def test_takes_the_files_of_an_earlier_version_for_its_own(self):
         self.catalogue("disks", "out", "--tsv")
         with contextlib.closing(sqlite3.connect("out/collection.sqlite")) as connection, connection:
-            connection.executescript("DROP TABLE written; ALTER TABLE known DROP COLUMN status; PRAGMA user_version = 5")
+            connection.executescript("DROP TABLE sums; DROP TABLE passed; DROP TABLE lists; DROP TABLE written; PRAGMA user_version = 5")
+            for column in ("images form", "images lost_least", "images judged", *(f"files {name}" for name in FILE_SUMS), "known status"):
+                connection.execute("ALTER TABLE {} DROP COLUMN {}".format(*column.split()))
         os.remove("disks/a.adf")
         written("disks/b.adf", BAD)
         written("out/list-favourites.html", b"mine")
@@ -203,7 +206,7 @@ class Strange(Catalogues):
                 self.assertNotRegex(tags.text, "[\x07\x1b\x9b]")
             for path in glob.glob("out/search/*.js"):
                 self.assertNotRegex(read(path).decode("ascii"), "[<>]")
-            self.assertEqual({len(line.split("\t")) for line in read("out/images.tsv").decode().split("\n")[:-1]}, {26})
+            self.assertEqual({len(line.split("\t")) for line in read("out/images.tsv").decode().split("\n")[:-1]}, {32})
             os.rename("out", f"out{verdict == 'ok'}{kind == 'disk'}")
             os.remove("part")
 
