@@ -475,7 +475,7 @@ class Failures(Catalogues):
 
     def test_is_taken_up_where_it_was_interrupted(self):
         self.catalogue("disks", "whole", "--tsv")
-        for number, statuses in ((signal.SIGTERM, (0, 3)), (signal.SIGKILL, (0, -signal.SIGKILL))):
+        for number, statuses in ((signal.SIGTERM, (0, 3, -signal.SIGTERM)), (signal.SIGKILL, (0, -signal.SIGKILL))):
             for part in (0, 0.05, 0.2, 0.4):
                 status, errors = self.broken_off(number, part)
                 self.assertIn(status, statuses)
