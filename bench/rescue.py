@@ -84,12 +84,17 @@ def length_of(given, blocks):
     return others[0] if len(others) == 1 else stated
 
 
+def is_filled(image, b):
+    """The second half of the block repeats its first, as where a program wrote a pattern for what it could not read."""
+    return image[512 * b : 512 * b + 256] == image[512 * b + 256 : 512 * b + 512]
+
+
 def told_type(image):
     """The type that the entries of the survey of an opened image tell."""
     sv, stated = Survey(image), image[3]
     if not sv.nodes:
         return stated
-    says = [sv.says_data_of(*role[2:], b) for b, role in sv.owner.items() if role[1] == "data"]
+    says = [said for b, role in sv.owner.items() if role[1] == "data" for said in [sv.says_data_of(*role[2:], b)] if said or not is_filled(sv.image, b)]
     full = [n for n in range(1, len(sv.nodes)) if sv.word(sv.block_of(n), 127) == FILE and sv.size(n)]
     if stated % 2:
         is_other = sum(says) > len(says) - sum(says)
@@ -321,10 +326,16 @@ class Lost:
                 self.hang(image, b, p, ends)
         return bytes(image)
 
+    def hung_slot(self, b, home):
+        """One of the first half, if the directory names it in the slot of its name; else of the second."""
+        name = self.sv.text(b, 432)
+        is_named = is_name(name) and words(self.image, home)[6 + slot(name, self.sv.international)] == b
+        return b % (SLOTS // 2) + (0 if is_named else SLOTS // 2)
+
     def hang(self, image, b, home, ends):
         """First in the slot of its number, if the survey has nothing there; else behind the last header of the directory behind which it
         has nothing."""
-        at, i = home, 6 + b % SLOTS
+        at, i = home, 6 + self.hung_slot(b, home)
         if words(image, at)[i] in self.sv.owner:
             if home not in ends:
                 return
@@ -397,7 +408,7 @@ class Rescue:
             surveys.append(Survey(self.first.hung()))
             self.take(surveys[1], known)
         self.losses = [*self.doubts(surveys), *self.lost_headers(), *self.lost_blocks(surveys)]
-        if not self.added and faults:
+        if not self.added and faults and (self.root_made or [at for _, at, _ in self.findings] != [0]):
             self.refused = "block %d: %s" % faults[0][1:]
 
     def doubts(self, surveys):

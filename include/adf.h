@@ -50,9 +50,11 @@
 #include <stddef.h>
 #include <stdint.h>
 
-/* The version of this header, as a text, and as a number to compare: 10000 for each major version, 100 for each minor one. */
-#define ADF_VERSION "1.0"
-#define ADF_VERSION_NUMBER 10000
+/* The version of this header, as a text, and as a number to compare: 10000 for each major version, 100 for each minor one.
+ * VERSIONS.md says which calls came with which version.
+ */
+#define ADF_VERSION "1.1"
+#define ADF_VERSION_NUMBER 10100
 
 #ifdef __cplusplus
 extern "C" {
@@ -564,7 +566,7 @@ struct adf_rescue_told {
  *    what is in it in doubt.
  *    told->losses and told->paths are the whole numbers: a table that is smaller has the front part. The rest of each room is
  *    unchanged.
- * An adf_cause: nothing stands. It is the first fault of the image, at told->block; where adf_survey_subject would change the type,
+ * An adf_cause: nothing stands, and more is wrong than the type. It is the first fault of the image, at told->block; where adf_survey_subject would change the type,
  *    of the image with that type.
  * ADF_RESCUE_SMALL_ROOM: the volume has told->blocks blocks, and the room has fewer bytes. A volume has as many blocks as what
  *    adf_survey_subject writes, which may be more than the image has. A room of as many blocks is not refused so.
@@ -574,6 +576,12 @@ struct adf_rescue_told {
  */
 uint8_t adf_rescue(const uint8_t *image, size_t length, uint32_t blocks, uint8_t *room, size_t room_length, struct adf_loss *losses,
                    size_t losses_room, uint8_t *paths, size_t paths_room, struct adf_rescue_told *told);
+
+/* The same, with the letters of the image, as `adf-survey rescue --keep-type` does: of an image of type 2 or 4 the volume is of type
+ * 2, of one of type 3 or 5 of type 3, and adf_check_types accepts it. Others have the volume of adf_rescue.
+ */
+uint8_t adf_rescue_types(const uint8_t *image, size_t length, uint32_t blocks, uint8_t *room, size_t room_length, struct adf_loss *losses,
+                         size_t losses_room, uint8_t *paths, size_t paths_room, struct adf_rescue_told *told);
 
 /* Writes the escape form of a name to the front of the room, as far as it fits, and returns the length of the whole text, at most
  * four times that of the name: a byte outside 32 to 126, and the backslash, is \xHH, as in the paths of adf_find. A `/` or `:`, which

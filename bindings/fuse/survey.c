@@ -24,7 +24,7 @@ static uint8_t rescue_with(const uint8_t *image, size_t length, size_t blocks, s
     free(rescue->volume);
     *rescue = (struct rescue){.volume = malloc(room + 1)};
     if (rescue->volume != NULL && losses != NULL)
-        cause = adf_rescue(image, length, (uint32_t)blocks, rescue->volume, room, losses, count, &path, 0, &told);
+        cause = adf_rescue_types(image, length, (uint32_t)blocks, rescue->volume, room, losses, count, &path, 0, &told);
     if (cause == ADF_ACCEPTED)
         count_losses(rescue, losses, told.losses < count ? told.losses : count);
     free(losses);

@@ -18,8 +18,8 @@ struct rescue {
     uint32_t block;  /* the block of the first fault, where nothing stands */
 };
 
-/* Rescues an image, read as if it had so many blocks (0: as many as it has). An adf_cause: 0, the first fault where nothing stands, or
- * ADF_NO_MEMORY. */
+/* Rescues an image, with its letters, read as if it had so many blocks (0: as many as it has). An adf_cause: 0, the first fault where
+ * nothing stands, or ADF_NO_MEMORY. */
 uint8_t rescue_image(const uint8_t *image, size_t length, size_t blocks, struct rescue *rescue);
 
 /* The image that adf-survey surveys, in memory that the caller frees, and how many lines it has in front of its findings. */

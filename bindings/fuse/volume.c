@@ -131,15 +131,13 @@ static bool keep_left(struct volume *volume, struct subject *subject) {
     return volume->left != NULL;
 }
 
-/* Puts what stands of the image in its place. Where nothing stands on a volume of type 2 or 3, the fault is that of its check. */
-static int take_rescue(struct volume *volume, uint8_t fault, const char *name, const struct taking *taking) {
+/* Puts what stands of the image in its place. */
+static int take_rescue(struct volume *volume, const char *name, const struct taking *taking) {
     struct rescue rescue;
     struct subject subject = {0};
     uint8_t cause = rescue_image(volume->image, volume->length, taking->blocks, &rescue);
     if (cause == ADF_NO_MEMORY)
         return say_no_memory(name);
-    if (cause == ADF_INTERNATIONAL && fault != ADF_ACCEPTED)
-        return say_refused(volume, name, fault, taking->whole);
     if (cause != ADF_ACCEPTED) {
         volume->contents.block = rescue.block;
         return say_refused(volume, name, cause, taking->whole);
@@ -162,7 +160,7 @@ int take_volume(struct volume *volume, uint8_t *image, size_t length, const char
         return say_no_memory(name);
     if (cause == ADF_ACCEPTED && (taking->is_strict || volume->length == meant))
         return SOUND;
-    return taking->is_strict ? say_refused(volume, name, cause, taking->whole) : take_rescue(volume, cause, name, taking);
+    return taking->is_strict ? say_refused(volume, name, cause, taking->whole) : take_rescue(volume, name, taking);
 }
 
 int find_entry(const struct volume *volume, const char *path, size_t *node) {

@@ -54,10 +54,19 @@ _adf_files() {
             COMPREPLY=($(compgen -W "--sha256 --premis --dfxml --bagit -h --help --version" -- "$2"))
             return
             ;;
+        adf-catalogue:scan:-*)
+            COMPREPLY=($(compgen -W "--index-text --fresh -h --help --version" -- "$2"))
+            return
+            ;;
+        adf-catalogue:merge:-*)
+            COMPREPLY=($(compgen -W "--tsv --no-pages --dat --escape -h --help --version" -- "$2"))
+            return
+            ;;
     esac
     case $1:$2 in
         adf-mount:-*) COMPREPLY=($(compgen -W "--partition --damaged --blocks --strict -f -o -h --help -V --version" -- "$2")) ;;
         adf-edit:-*) COMPREPLY=($(compgen -W "--help --version" -- "$2")) ;;
+        adf-merge:-*) COMPREPLY=($(compgen -W "--help --version" -- "$2")) ;;
         adf-shelf:-*) COMPREPLY=($(compgen -W "--null --any-type --help --version" -- "$2")) ;;
         adf-catalogue:-*) COMPREPLY=($(compgen -W "--tsv --rescue --fresh --escape --index-text --dat -h --help --version" -- "$2")) ;;
         adf-pack:-*)
@@ -78,4 +87,4 @@ complete -F _adf adf
 complete -F _adf_survey adf-survey
 complete -F _adf_disk adf-disk
 complete -o default -F _adf_boot adf-boot
-complete -o default -F _adf_files adf-catalogue adf-edit adf-map adf-mount adf-pack adf-recipe adf-shelf adf-unpack fsck.affs mkfs.affs
+complete -o default -F _adf_files adf-catalogue adf-edit adf-map adf-merge adf-mount adf-pack adf-recipe adf-shelf adf-unpack fsck.affs mkfs.affs

@@ -74,4 +74,4 @@ __all__ = [
     "library_version", "load", "open", "open_image", "partitions", "read_image", "rescue", "run", "survey", "unescape", "with_boot",
     "with_standard_boot", "without_boot",
 ]  # fmt: skip
-__version__ = "1.0"
+__version__ = "1.1"

@@ -12,7 +12,7 @@ from adf._structs import BYTE, LONG, SIZE, WORD, struct
 from adf.errors import NoLibrary, NoMemory, Refused
 
 SONAME = "libadf.so.1"
-NOT_DOS, INTERNATIONAL, NO_MEMORY = 2, 3, 23  # of enum adf_cause
+NOT_DOS, NO_MEMORY = 2, 23  # of enum adf_cause
 SMALL_ROOM = 24  # what adf_rescue and adf_survey_subject answer, if more room is wanted than was given
 LONGEST_TEXT = 64
 POINTER = ctypes.c_void_p
@@ -38,6 +38,7 @@ CALLS = {
     "adf_found_blocks": (SIZE, *(POINTER, SIZE) * 2, SIZE, WORD, POINTER, SIZE),
     "adf_found_read": (SIZE, POINTER, SIZE, WORD, POINTER, SIZE, SIZE, POINTER, SIZE, POINTER),
     "adf_rescue": (BYTE, POINTER, SIZE, WORD, *(POINTER, SIZE) * 3, POINTER),
+    "adf_rescue_types": (BYTE, POINTER, SIZE, WORD, *(POINTER, SIZE) * 3, POINTER),
     "adf_escape": (SIZE, *(POINTER, SIZE) * 2),
     "adf_disk_index": (BYTE, POINTER, SIZE, LONG, POINTER, SIZE, POINTER),
     "adf_disk_cause_text": (SIZE, BYTE, POINTER, SIZE),

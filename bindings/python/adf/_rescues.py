@@ -105,10 +105,10 @@ def counts(left_out: Sequence[LeftOut]) -> str:
     return f"{len(left_out) - kept} left out" + (f", {kept} in doubt" if kept else "")
 
 
-def rescue(image: Image, blocks: int | None = None) -> tuple[bytes, list[LeftOut]]:
+def rescue(image: Image, blocks: int | None = None, keep_type: bool = False) -> tuple[bytes, list[LeftOut]]:
     """A new, sound volume with all that stands in an image, what is left out, and what is kept in doubt; with a number of blocks as if the
-    image had so many. It has as many blocks, or those of a floppy where the image is cut, or has tracks behind the volume. Refused where
-    nothing stands."""
+    image had so many. It has as many blocks, or those of a floppy where the image is cut, or has tracks behind the volume. It is of type 0
+    or 1, or with `keep_type` of type 2 or 3, if the image has their letters. Refused where nothing stands."""
     blocks, told = _sizes.number_of_blocks(blocks), _structs.RescueTold()
     raw = _sizes.cut(_arguments.plain(image), blocks)
     rooms, wanted = (-1, -1, -1), (BLOCK * blocks if blocks else len(raw), FIRST_ROOM, FIRST_PATHS)
@@ -118,7 +118,8 @@ def rescue(image: Image, blocks: int | None = None) -> tuple[bytes, list[LeftOut
         rooms = wanted
         losses, paths = (_structs.Loss * rooms[1])(), ctypes.create_string_buffer(rooms[2])
         tables = volume, rooms[0], losses, rooms[1], paths, rooms[2], ctypes.byref(told)
-        number = calls().adf_rescue(raw, len(raw), blocks or 0, *tables)
+        call = calls().adf_rescue_types if keep_type else calls().adf_rescue
+        number = call(raw, len(raw), blocks or 0, *tables)
         wanted = max(rooms[0], BLOCK * told.blocks), max(rooms[1], told.losses), max(rooms[2], told.paths)
         if number != SMALL_ROOM or wanted == rooms:
             accept(number, told.block)

@@ -7,7 +7,6 @@ from typing import Any
 
 from adf import _arguments, _sizes
 from adf._arguments import Image, Path
-from adf._library import INTERNATIONAL
 from adf._rescues import LeftOut, counts, rescue
 from adf.checks import check
 from adf.entries import Entry
@@ -17,18 +16,8 @@ from adf.surveys import Survey
 from adf.volumes import Volume
 
 
-def _own_fault(image: bytes, blocks: int | None, refused: Refused) -> Refused:
-    """The first fault of what is surveyed of an image, by the letters of its type, if it is refused for these."""
-    if refused.number == INTERNATIONAL:
-        try:
-            check(Survey(image, blocks)._opened, international=True)
-        except Refused as first:
-            return first
-    return refused
-
-
 class Rescued(Volume):
-    """The volume of what stands in an image that is refused: its rescue, in memory. `left_out` is what is not in it, and what is in it in
+    """The volume of what stands in an image that is refused: its rescue, in memory, with the letters of the image. `left_out` is what is not in it, and what is in it in
     doubt, and `findings` all that is wrong with the image, by its `survey`; `refused` says why it is refused. Its blocks, and the headers
     of its entries, are not those of the image. Refused if nothing stands."""
 
@@ -38,10 +27,9 @@ class Rescued(Volume):
     def __init__(self, image: Image, filename: Path | None = None, blocks: int | None = None) -> None:
         given, blocks = _arguments.plain(image), _sizes.number_of_blocks(blocks)
         try:
-            new, left_out = rescue(given, blocks)
+            new, left_out = rescue(given, blocks, keep_type=True)
         except Refused as refused:
-            first = _own_fault(given, blocks, refused)
-            raise Refused(first.cause, first.block, first.number, filename) from None
+            raise Refused(refused.cause, refused.block, refused.number, filename) from None
         super().__init__(new, filename)
         vars(self).update(_given=(given, filename, blocks), _left_out=left_out)
 

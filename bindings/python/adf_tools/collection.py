@@ -65,28 +65,37 @@ def passed_by(_path: bytes, _kind: str) -> None:
     """What is no image is not told."""
 
 
-def files_below(folder: bytes, left_out: Container[Identity] = (), note: Callable[[bytes, str], None] = passed_by) -> list[bytes]:
+def every(_path: bytes) -> bool:
+    """All files are wanted."""
+    return True
+
+
+def files_below(
+    folder: bytes, left_out: Container[Identity] = (), note: Callable[[bytes, str], None] = passed_by, wants: Callable[[bytes], bool] = every
+) -> list[bytes]:
     """The paths of all files below a folder that can have images, and of folders that cannot be read, by their bytes. Of all others the path
-    and the kind are noted."""
+    and the kind are noted. Of what is not wanted only the names are read."""
     found: list[bytes] = []
     waiting = [folder]
     while waiting:
         path = waiting.pop()
         try:
             with os.scandir(path) as entries:
-                inside = list(entries)
+                inside = [entry for entry in entries if wants(entry.path) or is_folder(entry)]
             for entry in inside:
                 if is_folder(entry):
-                    if entry.is_symlink():
+                    if not entry.is_symlink():
+                        if not is_left_out(entry, left_out):
+                            waiting.append(entry.path)
+                    elif wants(entry.path):
                         note(entry.path, LINK)
-                    elif not is_left_out(entry, left_out):
-                        waiting.append(entry.path)
                 elif is_candidate(entry.path):
                     found.append(entry.path)
                 else:
                     note(entry.path, kind_of(entry.name))
         except OSError:
-            found.append(path)
+            if wants(path):
+                found.append(path)
     return sorted(found)
 
 

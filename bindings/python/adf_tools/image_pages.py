@@ -2,6 +2,7 @@
 
 from __future__ import annotations
 
+import functools
 import json
 import os
 import sqlite3
@@ -24,7 +25,7 @@ PARTITION_HEADS = ("Partition", "Verdict", "Kind", "First block", "Blocks", "-Fl
 ADVICE = {group.name: group for group in GROUPS}
 ENTRIES = """SELECT entries.*, holders.images FROM entries LEFT JOIN holders ON holders.sha256 = entries.sha256
 WHERE image = :image ORDER BY entries.id"""
-ALSO = 3  # other images that a page links to
+ALSO, LONGEST_KEPT = 3, 4096  # other images that a page links to; letters of the row of them, if its links are kept for other pages
 BOOTS = {
     "bootable": "bootable", "no-code": "not bootable, without code", "bad-sum": "not bootable, their checksum is wrong",
     "not-dos": "not bootable, they do not begin with DOS",
@@ -52,12 +53,23 @@ def pairs_of(text: object) -> List[Tuple[str, str]]:
         return []
 
 
-def others(found: object, own: str, sum_: Optional[str]) -> Html:
+def linked(text: object) -> List[Tuple[str, Html]]:
+    """The pages that a row of `holders` has, each with the link to it; an empty one, if a page cannot have that name."""
+    return [(page_, link(os.path.basename(page_), name) if is_page(page_) else html("")) for name, page_ in pairs_of(text)]
+
+
+@functools.lru_cache(maxsize=4096)
+def linked_often(text: str) -> List[Tuple[str, Html]]:
+    """The same, kept: what many images hold is on the page of each."""
+    return linked(text)
+
+
+def others(found: Optional[str], own: str, sum_: Optional[str]) -> Html:
     """Links to other images that hold the same bytes, and to all of them, if there are more."""
-    pairs = pairs_of(found)
-    rest = [(name, link_) for name, link_ in pairs if link_ != own and is_page(link_)]
-    links = [link(os.path.basename(link_), name) for name, link_ in rest[:ALSO]]
-    return joined(links + ([link(INDEX, "all", f"find={sum_}")] if len(rest) > ALSO or len(pairs) > ALSO else []), ", ")
+    pairs = [] if not found else linked_often(found) if len(found) < LONGEST_KEPT else linked(found)
+    links = [link_ for page_, link_ in pairs if link_ and page_ != own]
+    every = [link(INDEX, "all", f"find={sum_}")] if len(pairs) > ALSO else []
+    return joined(links[:ALSO] + every, ", ")
 
 
 def code(text: object) -> Html:

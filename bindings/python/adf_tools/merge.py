@@ -8,16 +8,16 @@ import os
 import re
 import sqlite3
 from collections import Counter
-from typing import Any, Dict, Iterator, List, NamedTuple, Sequence, Tuple
+from typing import Any, Dict, Iterator, List, NamedTuple, Optional, Sequence, Tuple
 
 import adf
 from adf_tools import database, store
 from adf_tools.database import told, transaction
 from adf_tools.out_folder import OutFolder, OwnNames
 from adf_tools.names import one_line
-from adf_tools.program import FAILED, REFUSED, add_escape, command_line, host_text, stop
+from adf_tools.program import FAILED, REFUSED, command_line, host_text, stop
 from adf_tools.reader import Read, most_common
-from adf_tools.scan import Options, Part, Scan
+from adf_tools.scan import WEIGHT, Options, Part, Scan
 from adf_tools.sums import Sums
 from adf_tools.volumes import Record, Rows, record
 
@@ -184,8 +184,7 @@ class Merge:
         with transaction(self.connection):
             store.set_passed(self.connection, passed_of(self.parts))
             gone = [number for path, (number, _) in known.items() if path not in names]
-            for number in gone:
-                store.remove(self.connection, number)
+            store.remove(self.connection, gone)
             self.connection.execute("UPDATE runs SET ended = datetime('now'), removed = ? WHERE id = ?", (len(gone), self.run))
 
     def begun(self, facts: Dict[str, str]) -> Dict[str, Tuple[int, Any]]:
@@ -201,10 +200,17 @@ class Merge:
 
     def add(self, known: Dict[str, Tuple[int, Any]], files: Sequence[Row]) -> None:
         with transaction(self.connection):
+            found: List[Tuple[Optional[int], store.Kept]] = []
+            weight = 0
             for path, part, row in files:
                 with told(part.path):
                     read = read_of(part.connection, row)
-                store.put(self.connection, known[path][0] if path in known else None, store.Kept(path, stamp_of(row), read), self.run)
+                found.append((known[path][0] if path in known else None, store.Kept(path, stamp_of(row), read)))
+                weight += sum(record.weight for record in read.records)
+                if weight > WEIGHT:
+                    store.put(self.connection, found, self.run)
+                    found, weight = [], 0
+            store.put(self.connection, found, self.run)
             self.connection.execute("UPDATE runs SET read = read + ? WHERE id = ?", (len(files), self.run))
 
 
@@ -218,13 +224,3 @@ def opened_parts(paths: Sequence[str]) -> Iterator[List[OpenPart]]:
     """The databases of the parts, which are only asked."""
     with contextlib.ExitStack() as stack:
         yield [OpenPart(path, stack.enter_context(database.asked(path, True))) for path in paths]
-
-
-def merge_line() -> argparse.ArgumentParser:
-    parser = command_line("adf-catalogue merge", "Puts the parts that adf-catalogue scan wrote into a catalogue, and writes its pages.")
-    parser.add_argument("out", metavar="OUT", help="the catalogue, which is created or brought up to date")
-    parser.add_argument("parts", metavar="DATABASE", nargs="+", help="the databases of all parts")
-    parser.add_argument("--tsv", action="store_true", help="also write the tables images.tsv and entries.tsv")
-    parser.add_argument("--dat", action="append", metavar="FILE", help="a published list of known disks; may be given more than once")
-    add_escape(parser, "write texts of the tables")
-    return parser

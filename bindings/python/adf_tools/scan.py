@@ -92,18 +92,21 @@ class Scan:
     def __init__(self, connection: sqlite3.Connection, folder: bytes, own_names: OwnNames, own: Container[Identity], options: Options) -> None:
         self.connection, self.folder, self.own_names, self.options = connection, folder, own_names, options
         self.passed: Counter[str] = Counter()
-        paths = ((path, self.name_of(path)) for path in files_below(folder, own, self.pass_by))
-        self.files = [File(path, host_letters(name), store.stamp_of(path)) for path, name in paths if options.part.has(name)]
+        paths = files_below(folder, own, self.pass_by, self.is_wanted)
+        self.files = [File(path, host_letters(self.name_of(path)), store.stamp_of(path)) for path in paths]
 
     def name_of(self, path: bytes) -> bytes:
         """The name of a file in the folder."""
         begin = os.path.join(self.folder, b"")
         return path[len(begin) :] if path.startswith(begin) else b"."
 
-    def pass_by(self, path: bytes, kind: str) -> None:
-        """Counts what is no image, of the part that is read."""
-        if self.options.part.has(self.name_of(path)):
-            self.passed[kind] += 1
+    def is_wanted(self, path: bytes) -> bool:
+        """Whether a file is of the part that is read."""
+        return self.options.part.has(self.name_of(path))
+
+    def pass_by(self, _path: bytes, kind: str) -> None:
+        """Counts what is no image."""
+        self.passed[kind] += 1
 
     def update(self) -> None:
         """Reads the files that are new or have changed, and takes out those that are gone."""
@@ -112,15 +115,13 @@ class Scan:
         gone = set(known) - {file.name for file in self.files}
         with transaction(self.connection):
             store.set_passed(self.connection, most_common(self.passed))
-            for name in gone:
-                store.remove(self.connection, known[name][0])
+            store.remove(self.connection, [known[name][0] for name in gone])
         new = [file for file in self.files if file.name not in known or known[file.name][1] != file.stamp or file.stamp is None]
         for batch in self.batches(new):
             self.own_names.note(link for _, read in batch for link in links_of(read))
             with transaction(self.connection):
-                for file, read in batch:
-                    number = known[file.name][0] if file.name in known else None
-                    store.put(self.connection, number, store.Kept(file.name, file.stamp, read), run)
+                files = [(known[file.name][0] if file.name in known else None, store.Kept(file.name, file.stamp, read)) for file, read in batch]
+                store.put(self.connection, files, run)
                 self.connection.execute("UPDATE runs SET read = read + ? WHERE id = ?", (len(batch), run))
             for link in (link for _, read in batch for link in links_of(read)):
                 self.own_names.out.move(os.path.basename(link), link)

@@ -63,13 +63,15 @@ async function wordsIn(name, word) {
   while (one.words.length === 1 && one.words[0][0] === "" && letters.length > name.length) one = await load(name += plain(letters[name.length])[0]);
   return one;
 }
+const isSum = term => /^[0-9a-f]{64}$/.test(term);
+const begins = (term, word) => term === "" || term === word || term.startsWith(word) && !isSum(term);
 async function placesOf(word) {
   const places = new Map();
   const numbers = new Set();
   const named = new Set();
   let isWhole = word.length > 1;
   const parts = await Promise.all(partsOf(word).map(name => wordsIn(name, word)));
-  for (const { images, words } of parts) for (const [term, [count, found, steps]] of words) if (term === "" || term.startsWith(word)) {
+  for (const { images, words } of parts) for (const [term, [found, steps]] of words) if (begins(term, word)) {
     for (const [image, path, comment] of found) {
       const [name, page, number, label] = images[image];
       const own = text_words(path + " " + (comment ?? ""));

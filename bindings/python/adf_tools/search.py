@@ -3,38 +3,44 @@
 
 from __future__ import annotations
 
+import functools
 import hashlib
 import itertools
 import json
 import operator
+import os
 import re
 import sqlite3
-from typing import Any, Dict, Iterable, Iterator, List, NamedTuple, Set, Tuple
+from typing import Dict, Iterable, Iterator, List, NamedTuple, Sequence, Set, Tuple
 
+from adf_tools import database
 from adf_tools.image_pages import is_page
 from adf_tools.out_folder import PARTS
 
 Part = Tuple[str, bytes]  # its name, and its bytes
-Terms = Tuple[int, List[Tuple[int, int]], List[int]]  # of a word: how many places, the first of them as rows of the database, steps of images
+Place = Tuple[int, str, str]  # of a word: the row of an image, and the path and the comment of an entry in it; empty for the image itself
+Terms = Tuple[List[Place], List[int]]  # of a word: its places, or the first of them, and then the steps of all its images
 MARKUP = re.compile("[<>&\x7f]")  # letters that a text of a script has by their numbers
 FRONT, LONGEST_FRONT = 3, 20  # letters of a word that name its part, and of a part of one that is too large
 MOST_PLACES, MOST_TERMS = 200, 2000  # places of a word that a part has; words of a part
 FILE_BITS = 32  # of the 40 bits of an image's number, those that do not name the file that has its name
-NO_LETTER = re.compile("[^a-z0-9]")
-TERMS = """SELECT term, 0 AS kind, doc FROM image_terms UNION ALL SELECT term, 1, doc FROM entry_terms UNION ALL SELECT sha256, 1, id
-FROM entries WHERE sha256 IS NOT NULL UNION ALL SELECT sha256, 0, id FROM images WHERE sha256 IS NOT NULL
-UNION ALL SELECT tree, 0, id FROM images WHERE tree IS NOT NULL ORDER BY 1, 2, 3"""
-
-VOCABULARY = """SELECT term, doc FROM image_vocabulary WHERE term >= ?1 AND term < ?2
-UNION ALL SELECT term, doc FROM entry_vocabulary WHERE term >= ?1 AND term < ?2"""
-PLACES = """SELECT 0, doc FROM (SELECT DISTINCT doc FROM image_terms WHERE term = ?1 LIMIT ?2)
-UNION ALL SELECT 1, doc FROM (SELECT DISTINCT doc FROM entry_terms WHERE term = ?1 LIMIT ?2) LIMIT ?2"""
-IMAGES_OF = """SELECT doc FROM image_terms WHERE term = ?1 UNION SELECT image FROM entry_terms JOIN entries ON entries.id = doc WHERE term = ?1
-UNION SELECT image FROM entries WHERE sha256 = ?1 UNION SELECT id FROM images WHERE sha256 = ?1 OR tree = ?1"""
+NO_LETTER, SUM = re.compile("[^a-z0-9]"), re.compile("[0-9a-f]{64}")
+AFTER, NO_ASCII, LAST = "\x01", "\x80", chr(0x10FFFF)  # what comes behind a word before all that is longer; other letters than those of ASCII
+BETWEEN = "{0} >= ?1 AND {0} < ?2".format
+PLACES = (  # of the words from one on and before another, in their order
+    f"SELECT term, doc, '', '' FROM image_terms WHERE {BETWEEN('term')}",
+    f"SELECT term, image, path, comment FROM entry_terms CROSS JOIN entries ON entries.id = doc WHERE {BETWEEN('term')}",
+    f"SELECT sha256, id, '', '' FROM images WHERE {BETWEEN('sha256')} ORDER BY sha256, id",
+    f"SELECT tree, id, '', '' FROM images WHERE {BETWEEN('tree')} ORDER BY tree, id",
+    f"SELECT sha256, image, path, comment FROM entries WHERE {BETWEEN('sha256')} ORDER BY sha256, id",
+)
+FRONTS = f"""SELECT substr(term, 1, {FRONT}) FROM image_vocabulary UNION SELECT substr(term, 1, {FRONT}) FROM entry_vocabulary
+UNION SELECT substr(sha256, 1, {FRONT}) FROM images WHERE sha256 IS NOT NULL UNION SELECT substr(tree, 1, {FRONT}) FROM images WHERE tree IS NOT NULL
+UNION SELECT substr(sha256, 1, {FRONT}) FROM entries WHERE sha256 IS NOT NULL"""
+IMAGES_OF = """SELECT doc FROM image_terms WHERE term = ?1 UNION ALL SELECT image FROM entry_terms JOIN entries ON entries.id = doc WHERE term = ?1
+UNION ALL SELECT image FROM entries WHERE sha256 = ?1 UNION ALL SELECT id FROM images WHERE sha256 = ?1 OR tree = ?1"""
 IMAGES_BETWEEN = """SELECT doc FROM image_terms WHERE term BETWEEN ?1 AND ?2
-UNION SELECT image FROM entry_terms JOIN entries ON entries.id = doc WHERE term BETWEEN ?1 AND ?2"""
-SUMS = """SELECT sha256, 0, id FROM images WHERE sha256 >= ?1 AND sha256 < ?2 UNION ALL SELECT tree, 0, id FROM images
-WHERE tree >= ?1 AND tree < ?2 UNION ALL SELECT sha256, 1, id FROM entries WHERE sha256 >= ?1 AND sha256 < ?2"""
+UNION ALL SELECT image FROM entry_terms JOIN entries ON entries.id = doc WHERE term BETWEEN ?1 AND ?2"""
 
 
 def part_of(term: str, length: int = FRONT) -> str:
@@ -60,17 +66,15 @@ def named_image(row: sqlite3.Row) -> NamedImage:
     return NamedImage(row["name"], row["page"] if is_page(row["page"]) else "", number_of(row["name"], row["number"]), row["label"] or "")
 
 
-class Place(NamedTuple):
-    """A place of a word: the row of an image, and the path and the comment of an entry in it; empty for the image itself."""
-
-    image: int
-    path: str
-    comment: str
-
-
 def number_of(name: str, number: int) -> int:
     """What an image is called in the parts: a number of 40 bits that is the same in each run."""
     return int.from_bytes(hashlib.sha256(f"{name}\0{number}".encode("utf-8", "replace")).digest()[:5], "big")
+
+
+def limits_of(name: str) -> List[Tuple[str, str]]:
+    """From where on, and before what, the words of a part are. Its `_` is a letter that is not of ASCII, or behind the end of a word."""
+    begin = name.partition("_")[0]
+    return [(begin, begin + LAST)] if begin == name else [(begin, begin + AFTER), (begin + NO_ASCII, begin + LAST)]
 
 
 class Places:
@@ -81,31 +85,24 @@ class Places:
         rows = connection.execute("SELECT id, name, page, number, label FROM images")
         self.images = {row["id"]: named_image(row) for row in rows}
 
-    def place(self, kind: int, doc: int) -> Place:
-        """The place that a row of the database is."""
-        if kind == 0:
-            return Place(doc, "", "")
-        row = self.connection.execute("SELECT image, path, comment FROM entries WHERE id = ?", (doc,)).fetchone()
-        return Place(row["image"], row["path"], row["comment"]) if row else Place(0, "", "")
-
     def steps(self, term: str) -> List[int]:
         """The numbers of the images of all places of a word, each as what it is more than the one before."""
         return self.steps_to(row[0] for row in self.connection.execute(IMAGES_OF, (term,)))
 
     def steps_to(self, images: Iterable[int]) -> List[int]:
         """The numbers of images, each as what it is more than the one before."""
-        numbers = sorted({self.images[image].number for image in images if image in self.images})
+        numbers = sorted({self.images[image].number for image in set(images) if image in self.images})
         return [number - before for before, number in zip([0, *numbers], numbers)]
 
     def part(self, name: str, terms: Dict[str, Terms]) -> bytes:
-        """A part: for each word how many places have it, and the images and paths of the first of them; the images are named once. If there
-        are more, all images follow by their numbers."""
+        """A part: for each word the images and paths of its places, or of the first of them; the images are named once. If there are more,
+        all images follow by their numbers."""
         numbers: Dict[int, int] = {}
         words = {}
-        for term, (count, docs, steps) in terms.items():
-            found = sorted((self.images[place.image], place) for place in itertools.starmap(self.place, docs) if place.image in self.images)
-            places = [(numbers.setdefault(each.image, len(numbers)), each.path, *([each.comment] if each.comment else [])) for _, each in found]
-            words[term] = (count, places, *([steps] if steps else []))
+        for term, (places, steps) in terms.items():
+            found = sorted((self.images[place[0]], place) for place in places if place[0] in self.images)
+            told = [(numbers.setdefault(image, len(numbers)), path, *([comment] if comment else [])) for _, (image, path, comment) in found]
+            words[term] = (told, *([steps] if steps else []))
         images = [self.images[image] for image in numbers]
         return f"part({script_of([name, images, words])});\n".encode("ascii")
 
@@ -120,32 +117,37 @@ class Places:
             yield from self.tree(front, {term: terms[term] for term in some})
 
     def together(self, terms: Dict[str, Terms]) -> Terms:
-        """What a part has of many words as of one: how many places, the first of them, and all images."""
-        docs = itertools.islice((doc for _, places, _ in terms.values() for doc in places), MOST_PLACES)
+        """What a part has of many words as of one: the first of the places, and all images. Sums are found by all of their digits alone."""
+        places = itertools.islice((place for term, (places, _) in terms.items() if not SUM.fullmatch(term) for place in places), MOST_PLACES)
         rows = self.connection.execute(IMAGES_BETWEEN, (min(terms), max(terms)))
-        return sum(count for count, _, _ in terms.values()), list(docs), self.steps_to(row[0] for row in rows)
+        return list(places), self.steps_to(row[0] for row in rows)
+
+    def first_places(self, query: str, begin: str, end: str) -> Iterator[Tuple[str, List[Place]]]:
+        """Each word of a query with its first places, one more than a part has; the rest is not read."""
+        cursor = self.connection.cursor()
+        cursor.row_factory = None
+        while begin:
+            rows, begin = cursor.execute(query, (begin, end)), ""
+            for term, some in itertools.groupby(rows, operator.itemgetter(0)):
+                places = [place for _, *place in itertools.islice((each for each, _ in itertools.groupby(some)), MOST_PLACES + 1)]
+                yield term, places
+                if len(places) > MOST_PLACES:
+                    begin = term + AFTER
+                    break
 
     def one(self, name: str) -> Iterator[Part]:
         """The part of this name, if a word has it, and those that it is parted into."""
-        begin = name.rstrip("_")
-        limits = begin, begin + chr(0x10FFFF)
-        counts: Dict[str, int] = {}
-        terms: Dict[str, Terms] = {}
-        for term, count in self.connection.execute(VOCABULARY, limits):
-            if part_of(term) == name:
-                counts[term] = counts.get(term, 0) + count
-        sums: Dict[str, List[Tuple[int, int]]] = {}
-        for term, kind, doc in self.connection.execute(SUMS, limits) if begin == name else ():
-            sums.setdefault(term, []).append((kind, doc))
-        for term in sorted({*counts, *sums}):
-            docs = [(kind, doc) for kind, doc in self.connection.execute(PLACES, (term, MOST_PLACES))] if term in counts else []
-            more = sums.get(term, [])
-            terms[term] = self.kept(term, counts.get(term, 0) + len(more), sorted({*docs, *more}))
+        found: Dict[str, List[Place]] = {}
+        for query, (begin, end) in itertools.product(PLACES, limits_of(name)):
+            for term, places in self.first_places(query, begin, end):
+                if part_of(term) == name:
+                    found.setdefault(term, []).extend(places)
+        terms = {term: self.kept(term, found[term]) for term in sorted(found)}
         yield from self.tree(name, terms) if terms else ()
 
-    def kept(self, term: str, count: int, docs: List[Tuple[int, int]]) -> Terms:
-        """What a part has of the places of a word: how many there are, the first of them, and, if there are more, all images."""
-        return count, docs[:MOST_PLACES], self.steps(term) if count > MOST_PLACES else []
+    def kept(self, term: str, places: List[Place]) -> Terms:
+        """What a part has of the places of a word: the first of them, and, if there are more, all images."""
+        return places[:MOST_PLACES], self.steps(term) if len(places) > MOST_PLACES else []
 
     def names(self) -> Iterator[Part]:
         """The names and pages of all images, in files by the first bits of their numbers."""
@@ -157,29 +159,27 @@ class Places:
             yield name, f"part({script_of([name, images, {}])});\n".encode("ascii")
 
 
-def all_parts(connection: sqlite3.Connection) -> Iterator[Part]:
-    """The name and the bytes of each part."""
-    places = Places(connection)
-    waiting: Dict[str, Dict[str, Any]] = {}
-    last = ""
-    for term, rows in itertools.groupby(connection.execute(TERMS), operator.itemgetter("term")):
-        name = part_of(term)
-        for old in [old for old in waiting if "_" not in old] if name != last else ():
-            yield from places.tree(old, waiting.pop(old))
-        last = name
-        docs = dict.fromkeys((row["kind"], row["doc"]) for row in rows)
-        waiting.setdefault(name, {})[term] = places.kept(term, len(docs), list(docs))
-    for old, terms in waiting.items():
-        yield from places.tree(old, terms)
-    yield from places.names()
+def part_names(connection: sqlite3.Connection) -> List[str]:
+    """The names of all parts, without those that they are parted into."""
+    return sorted({part_of(row[0]) for row in connection.execute(FRONTS)})
 
 
-def due_parts(connection: sqlite3.Connection, names: Iterable[str]) -> Iterator[Part]:
-    """The bytes of each of these parts, if a word has it, and the names of images."""
-    places = Places(connection)
-    for name in names:
-        yield from places.one(name)
-    yield from places.names()
+@functools.lru_cache(maxsize=1)
+def places_in(path: str, _process: int) -> Places:
+    """The places of words in a database, for one process, which only asks."""
+    return Places(database.connection_to(path, "ro"))
+
+
+class PartMaker:
+    """Makes the parts of these names from a database, each if a word has it."""
+
+    def __init__(self, path: str) -> None:
+        self.path = path
+
+    def __call__(self, names: Sequence[str]) -> List[Part]:
+        with database.told(self.path):
+            places = places_in(self.path, os.getpid())
+            return [part for name in names for part in places.one(name)]
 
 
 def touched_parts(connection: sqlite3.Connection) -> Set[str]:

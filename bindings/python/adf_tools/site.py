@@ -13,7 +13,7 @@ import stat
 from typing import Iterator, List, Optional, Sequence, Set
 
 import adf
-from adf_tools import database, search, tables
+from adf_tools import database, search, store, tables
 from adf_tools.database import transaction
 from adf_tools.image_pages import ALSO, MOST_BOOTS, ImagePage, is_page, pairs_of
 from adf_tools.lists import Lists
@@ -29,6 +29,9 @@ HOLDING = "SELECT image FROM entries WHERE sha256 = ?1 UNION SELECT id FROM imag
 COUNTED = """SELECT touched.sha256, touched.name, holders.images, (SELECT COUNT(*) FROM (
     SELECT image FROM entries WHERE entries.sha256 = touched.sha256 UNION SELECT id FROM images WHERE images.sha256 = touched.sha256
     UNION SELECT id FROM images WHERE tree = touched.sha256 LIMIT 2)) FROM touched LEFT JOIN holders ON holders.sha256 = touched.sha256"""
+SHARED = """INSERT OR REPLACE INTO touched SELECT sha256, '' FROM (SELECT sha256 FROM entries WHERE sha256 IS NOT NULL
+    UNION ALL SELECT sha256 FROM images WHERE sha256 IS NOT NULL UNION ALL SELECT tree FROM images WHERE tree IS NOT NULL)
+    GROUP BY sha256 HAVING COUNT(*) > 1"""
 BOOTS = """SELECT crc, now.images FROM (SELECT boot_crc32 AS crc, MIN(COUNT(*), ?) AS images FROM images WHERE crc IS NOT NULL GROUP BY crc)
     AS now LEFT JOIN boots ON boots.crc32 = crc WHERE boots.images IS NOT now.images"""
 FIRSTS = ALSO + 2  # images of a sum that are kept: those that a page links to, itself, and one more
@@ -93,6 +96,8 @@ class Site:
 
     def note_holders(self) -> None:
         """Brings the table of the first images that hold a sum up to date; pages whose links change by that are made again."""
+        if not store.is_noted(self.connection):
+            self.note_sums()
         found = [row for row in self.connection.execute(COUNTED) if not is_behind(row["name"], row["images"])]
         with transaction(self.connection):
             for digest, _, before, count in found:
@@ -102,6 +107,12 @@ class Site:
             self.connection.executemany("INSERT OR IGNORE INTO parts_due VALUES (?)", [(name,) for name in search.touched_parts(self.connection)])
             self.connection.execute("DELETE FROM touched")
             self.connection.execute("INSERT INTO touched_words (touched_words) VALUES ('delete-all')")
+
+    def note_sums(self) -> None:
+        """Before the first pages are made, notes all sums that several images hold, and those that did when a run was broken off."""
+        with transaction(self.connection):
+            self.connection.execute(SHARED)
+            self.connection.execute("INSERT OR IGNORE INTO touched SELECT sha256, '' FROM holders")
 
     def hold(self, digest: str, now: Optional[str]) -> None:
         """Notes which images hold a sum."""
@@ -146,18 +157,25 @@ class Site:
                 progress.step(len(images))
 
     def write_parts(self) -> None:
-        """Writes the parts that the index searches: all, if the programs are other ones or most have changed; else those that are due."""
+        """Writes the parts that the index searches: all, if the programs are other ones, else those that are due."""
         facts = dict(self.connection.execute("SELECT name, value FROM facts").fetchall())
-        due = {row[0]: None for row in self.connection.execute("SELECT name FROM parts_due ORDER BY name")}
-        there = {search.part_in(name) for name in self.own.names if PART_NAME.fullmatch(name)}
-        if facts.get("parts") != facts["maker"] or 2 * len(due) > len(there):
-            gone = there - self.write_some(search.all_parts(self.connection))
-        else:
-            gone = {name for name in there if name[: search.FRONT] in due or name.startswith("i-")} - self.write_some(search.due_parts(self.connection, due))
-        self.own.remove(search.file_of(name) for name in gone)
+        is_whole = facts.get("parts") != facts["maker"]
+        due = search.part_names(self.connection) if is_whole else [row[0] for row in self.connection.execute("SELECT name FROM parts_due ORDER BY name")]
+        there, fronts = {search.part_in(name) for name in self.own.names if PART_NAME.fullmatch(name)}, set(due)
+        written = self.write_some(self.made_parts(due))
+        of_these = {name for name in there if is_whole or name[: search.FRONT] in fronts or name.startswith("i-")}
+        self.own.remove(search.file_of(name) for name in of_these - written)
         with transaction(self.connection):
             self.connection.execute("DELETE FROM parts_due")
             self.connection.execute("INSERT OR REPLACE INTO facts VALUES ('parts', ?)", (facts["maker"],))
+
+    def made_parts(self, names: Sequence[str]) -> Iterator[search.Part]:
+        """The parts of these names, and those that name the images."""
+        pieces = [names[at : at + PIECE] for at in range(0, len(names), PIECE)]
+        with contextlib.closing(in_order(search.PartMaker(self.out.path_of(database.NAME)), pieces, MEMORY, self.out.work)) as answers:
+            for parts in answers:
+                yield from parts
+        yield from search.Places(self.connection).names()
 
     def write_some(self, parts: Iterator[search.Part]) -> Set[str]:
         """Writes these parts, as far as there are such; gives their names."""

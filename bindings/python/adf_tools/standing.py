@@ -109,9 +109,13 @@ class Standing:
 
     @property
     def is_least(self) -> bool:
-        """Whether more may be lost than is counted: headers, directories or blocks in use are missing, or nothing stands."""
+        """Whether more may be lost than is counted: headers, directories or blocks in use are missing, nothing stands, or the rescue alone finds
+        what it leaves out, which may have been deleted."""
         if self.volume is None:
             return not {finding.cause for finding in self.survey.findings[:FEW]} <= HARMLESS or not self.survey.kind
+        surveyed = {entry.header for entry in self.survey.entries}
+        if any(each.is_entry and not each.is_kept and each.first not in surveyed for each in self.left_out):
+            return True
         roles = self.survey.owners()  # the blocks of a file whose header's checksum is wrong are lost, and known to be of that file
         return any(
             each.reason in (adf.Reason.HEADERS, adf.Reason.MADE) or any(not roles[block] for block in self._in_use(each)) for each in self.left_out

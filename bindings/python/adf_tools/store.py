@@ -2,6 +2,7 @@
 
 from __future__ import annotations
 
+import json
 import os
 import sqlite3
 from collections import Counter
@@ -21,31 +22,32 @@ TABLES = {
     "icons": ("path", "width", "height", "palette", "pixels"),
 }
 PARTITION = ("number", "name", "kind", "first", "blocks", "flags", "priority", "block", "fault")
+OF_FILES = "file IN (SELECT value FROM json_each(?1))"
 GOING = (
-    """INSERT INTO image_words (image_words, rowid, name, label) SELECT 'delete', id, words_of(name), words_of(label)
-        FROM images WHERE file = ?1""",
-    """INSERT INTO entry_words (entry_words, rowid, path, comment) SELECT 'delete', entries.id, words_of(substr(path, -1024)), words_of(comment)
-        FROM entries JOIN images ON images.id = image WHERE file = ?1""",
-    "DELETE FROM text_words WHERE rowid IN (SELECT entries.id FROM entries JOIN images ON images.id = image WHERE file = ?1)",
-    "DELETE FROM files WHERE id = ?1",
+    f"""INSERT INTO image_words (image_words, rowid, name, label) SELECT 'delete', id, words_of(name), words_of(label)
+        FROM images WHERE {OF_FILES}""",
+    f"""INSERT INTO entry_words (entry_words, rowid, path, comment) SELECT 'delete', entries.id, words_of(substr(path, -1024)), words_of(comment)
+        FROM entries JOIN images ON images.id = image WHERE {OF_FILES}""",
+    f"DELETE FROM text_words WHERE rowid IN (SELECT entries.id FROM entries JOIN images ON images.id = image WHERE {OF_FILES})",
+    "DELETE FROM files WHERE id IN (SELECT value FROM json_each(?1))",
 )
 COMING = (
-    "INSERT INTO image_words (rowid, name, label) SELECT id, words_of(name), words_of(label) FROM images WHERE file = ?1",
-    """INSERT INTO entry_words (rowid, path, comment) SELECT entries.id, words_of(substr(path, -1024)), words_of(comment)
-        FROM entries JOIN images ON images.id = image WHERE file = ?1""",
+    f"INSERT INTO image_words (rowid, name, label) SELECT id, words_of(name), words_of(label) FROM images WHERE {OF_FILES}",
+    f"""INSERT INTO entry_words (rowid, path, comment) SELECT entries.id, words_of(substr(path, -1024)), words_of(comment)
+        FROM entries JOIN images ON images.id = image WHERE {OF_FILES}""",
 )
 SHOWN = """SELECT name, number, page, label, NULL AS path, NULL AS comment, sha256, tree FROM images WHERE file = ?1
     UNION ALL SELECT name, number, page, label, path, comment, entries.sha256, NULL FROM entries JOIN images ON images.id = image WHERE file = ?1"""
 TOUCH = "INSERT INTO touched VALUES (?, ?) ON CONFLICT (sha256) DO UPDATE SET name = MIN(name, excluded.name)"
 TOUCHED = (
-    """INSERT INTO touched SELECT * FROM (
-            SELECT entries.sha256, name FROM entries JOIN images ON images.id = entries.image WHERE file = ?1 AND entries.sha256 IS NOT NULL
-            UNION SELECT sha256, name FROM images WHERE file = ?1 AND sha256 IS NOT NULL
-            UNION SELECT tree, name FROM images WHERE file = ?1 AND tree IS NOT NULL)
+    f"""INSERT INTO touched SELECT * FROM (
+            SELECT entries.sha256, name FROM entries JOIN images ON images.id = entries.image WHERE {OF_FILES} AND entries.sha256 IS NOT NULL
+            UNION SELECT sha256, name FROM images WHERE {OF_FILES} AND sha256 IS NOT NULL
+            UNION SELECT tree, name FROM images WHERE {OF_FILES} AND tree IS NOT NULL)
         WHERE TRUE ON CONFLICT (sha256) DO UPDATE SET name = MIN(name, excluded.name)""",
-    "INSERT INTO touched_words (words) SELECT words_of(name || ' ' || COALESCE(label, '')) FROM images WHERE file = ?1",
-    """INSERT INTO touched_words (words) SELECT words_of(substr(path, -1024) || ' ' || comment)
-        FROM entries JOIN images ON images.id = image WHERE file = ?1""",
+    f"INSERT INTO touched_words (words) SELECT words_of(name || ' ' || COALESCE(label, '')) FROM images WHERE {OF_FILES}",
+    f"""INSERT INTO touched_words (words) SELECT words_of(substr(path, -1024) || ' ' || comment)
+        FROM entries JOIN images ON images.id = image WHERE {OF_FILES}""",
 )
 
 
@@ -93,10 +95,21 @@ def insert_rows(connection: sqlite3.Connection, table: str, names: Sequence[str]
     connection.executemany(line, ((first[1], *row) for row in rows))
 
 
-def remove(connection: sqlite3.Connection, file: int) -> None:
-    """Takes a file out, with all that is kept of its images. The words and sums that it had are noted."""
-    for line in (*TOUCHED, *GOING):
-        connection.execute(line, (file,))
+def each_of(connection: sqlite3.Connection, lines: Iterable[str], files: Sequence[int]) -> None:
+    """Does this with all of these files at once, which costs an index of words far less than one after the other."""
+    for line in lines if files else ():
+        connection.execute(line, (json.dumps(files),))
+
+
+def is_noted(connection: sqlite3.Connection) -> bool:
+    """Whether it is noted what came or went: once there are pages, of which only some are made again."""
+    return connection.execute("SELECT 1 FROM facts WHERE name = 'parts'").fetchone() is not None
+
+
+def remove(connection: sqlite3.Connection, files: Sequence[int]) -> None:
+    """Takes files out, with all that is kept of their images. The words and sums that they had are noted."""
+    each_of(connection, TOUCHED if is_noted(connection) else (), files)
+    each_of(connection, GOING, files)
 
 
 def shown_of(connection: sqlite3.Connection, file: int) -> Rows:
@@ -110,17 +123,23 @@ def changed(before: Rows, after: Rows) -> Iterable[Tuple[Any, ...]]:
     return {**(one - other), **(other - one)}
 
 
-def put(connection: sqlite3.Connection, known: Optional[int], file: Kept, run: int) -> None:
-    """Puts a file in, in the place of what is known of it. The words and sums of what came or went are noted."""
-    if known is None:
-        number = add(connection, file, run)
-        for line in TOUCHED:
-            connection.execute(line, (number,))
-        return
-    before = shown_of(connection, known)
-    for line in GOING:
-        connection.execute(line, (known,))
-    after = shown_of(connection, add(connection, file, run))
+def put(connection: sqlite3.Connection, files: Sequence[Tuple[Optional[int], Kept]], run: int) -> None:
+    """Puts files in, each in the place of what is known of it by its number. The words and sums of what came or went are noted."""
+    has_notes = is_noted(connection)
+    known = [number for number, _ in files if number is not None]
+    before = {number: shown_of(connection, number) for number in known} if has_notes else {}
+    each_of(connection, GOING, known)
+    added = [(number, add(connection, kept, run)) for number, kept in files]
+    each_of(connection, COMING, [new for _, new in added])
+    if has_notes:
+        each_of(connection, TOUCHED, [new for number, new in added if number is None])
+        for number, new in added:
+            if number is not None:
+                note_changes(connection, before[number], shown_of(connection, new))
+
+
+def note_changes(connection: sqlite3.Connection, before: Rows, after: Rows) -> None:
+    """Notes the words and sums of a file that has changed."""
     for name, _, _, label, path, comment in changed([row[:6] for row in before], [row[:6] for row in after]):
         text = f"{name} {label or ''}" if path is None else f"{path[-LONGEST_WORDS:]} {comment}"
         connection.execute("INSERT INTO touched_words (words) VALUES (words_of(?))", (text,))
@@ -145,8 +164,6 @@ def add(connection: sqlite3.Connection, kept: Kept, run: int) -> int:
             add_volume(connection, file, disk, record)
         else:
             disk = add_image(connection, file, None, record)
-    for line in COMING:
-        connection.execute(line, (file,))
     return file
 
 

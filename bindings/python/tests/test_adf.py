@@ -70,6 +70,7 @@ class Volumes(unittest.TestCase):
         with self.assertWarnsRegex(adf.DamagedWarning, f"block {block}: bad sum"):
             volume = adf.open_image(changed(international(), block, 500, 1))
         self.assertEqual((volume.refused.cause, volume.refused.block, list(volume)), ("bad sum", block, ["c", "é"]))
+        self.assertEqual((volume.kind, "É" in volume, adf.rescue(volume.survey.image)[0][3]), ("ffs-international", True, 1))
         self.assertRaisesRegex(adf.Refused, "block 880: bad type", adf.open_image, b"DOS\2" + bytes(1760 * 512 - 4))
 
     def test_tells_the_entries(self):

@@ -1,78 +1,15 @@
-"""Tests of a catalogue in a browser, which is asked by its own protocol, over two pipes."""
+"""Tests of a catalogue in a browser."""
 
-import fcntl
 import glob
 import hashlib
 import json
 import os
-import shutil
-import subprocess
-import time
 import unittest
 import urllib.parse
 
 import adf
+from tests.browser import BROWSER, Browser
 from tests.shared import Folder, changed, image_of, written
-
-BROWSER = shutil.which("chromium") or shutil.which("chromium-browser")
-FLAGS = "--headless --no-sandbox --disable-gpu --remote-debugging-pipe --user-data-dir=profile"
-
-
-class Browser:
-    """A browser that is asked, and tells what happens."""
-
-    def __init__(self):
-        first, self.asks = os.pipe()
-        self.answers, second = os.pipe()
-        inside, outside = (fcntl.fcntl(fd, fcntl.F_DUPFD, 10) for fd in (first, second))
-        line = f"exec timeout 120 {BROWSER} {FLAGS} 3<&{inside} 4>&{outside} > browser.out 2>&1"
-        self.process = subprocess.Popen(["bash", "-c", line], pass_fds=(inside, outside))
-        for fd in (first, second, inside, outside):
-            os.close(fd)
-        self.told, self.heard, self.number, self.session = self.messages(), [], 0, {}
-
-    def messages(self):
-        left = b""
-        while part := os.read(self.answers, 1 << 16):
-            *whole, left = (left + part).split(b"\0")
-            yield from map(json.loads, whole)
-
-    def until(self, is_meant):
-        """The first message that is meant."""
-        while not any(map(is_meant, self.heard)):
-            self.heard.append(next(self.told))
-        return self.heard.pop([is_meant(message) for message in self.heard].index(True))
-
-    def until_event(self, name, **values):
-        return self.until(lambda message: message.get("method") == name and values.items() <= message["params"].items())
-
-    def ask(self, method, **words):
-        self.number += 1
-        number = self.number
-        os.write(self.asks, json.dumps({"id": number, "method": method, "params": words, **self.session}).encode() + b"\0")
-        return self.until(lambda message: message.get("id") == number)["result"]
-
-    def value(self, expression):
-        return self.ask("Runtime.evaluate", expression=expression, returnByValue=True)["result"].get("value")
-
-    def click(self, thing):
-        self.value(f"{thing}.scrollIntoView({{block: 'center'}})")
-        x, y = self.value(f"(box => [box.x + box.width / 2, box.y + box.height / 2])({thing}.getBoundingClientRect())")
-        for kind in ("mousePressed", "mouseReleased"):
-            self.ask("Input.dispatchMouseEvent", type=kind, x=x, y=y, button="left", clickCount=1)
-
-    def names(self):
-        """The names of the images that the index shows."""
-        return self.value("[...document.querySelectorAll('#images tbody tr:not([hidden])')].map(row => row.cells[0].innerText)")
-
-    def open(self, address):
-        self.ask("Page.navigate", url=address)
-        self.until_event("Page.loadEventFired")
-
-    def close(self):
-        self.session = {}
-        self.ask("Browser.close")
-        self.process.wait(60)
 
 
 @unittest.skipUnless(BROWSER, "needs chromium")
@@ -81,17 +18,13 @@ class Index(Folder):
         super().setUp()
         os.makedirs("disks/games")
         bad = changed(image_of(), 880, 440, 1)
-        for name, content in (("bad_sum.adf", bad), ("a\tb\\c.adf", image_of()), ("games/<script>alert(1)<.aDf", b"X" + image_of()[1:]), ("b.adf", image_of())):
+        scripted = "games/<script>alert(1)<.aDf"
+        for name, content in (("bad_sum.adf", bad), ("a\tbook\\cover.adf", image_of()), (scripted, b"X" + image_of()[1:]), ("b.adf", image_of())):
             written(f"disks/{name}", content)
         self.run_tool("catalogue", "--rescue", "disks", "out")
         self.address = f"file://{os.getcwd()}/out/index.html"
         self.browser = Browser()
         self.addCleanup(self.browser.process.kill)
-        target = self.browser.ask("Target.createTarget", url="about:blank")["targetId"]
-        self.browser.ask("Browser.setDownloadBehavior", behavior="allow", downloadPath=os.path.abspath("saved"), eventsEnabled=True)
-        self.browser.session = {"sessionId": self.browser.ask("Target.attachToTarget", targetId=target, flatten=True)["sessionId"]}
-        for domain in ("Page", "Log"):
-            self.browser.ask(f"{domain}.enable")
 
     def test_sorts_filters_and_leads(self):
         browser = self.browser
@@ -113,6 +46,9 @@ class Index(Folder):
         self.assertEqual(sorted(found), ["sound c", "sound c/readme", "sound empty", "sound large", "sound none"])
         self.assertTrue(browser.value("document.body.innerText.includes('block 880: bad sum')"))
         self.assertEqual(browser.value("getComputedStyle(document.querySelector('.refused')).color"), "rgb(170, 0, 0)")
+        session, browser.session = browser.session, {}
+        browser.ask("Browser.setDownloadBehavior", behavior="allow", downloadPath=os.path.abspath("saved"), eventsEnabled=True)
+        browser.session = session
         browser.click("document.querySelector('a[download]')")
         browser.until_event("Browser.downloadProgress", state="completed")
         self.assertEqual([message for message in browser.heard if message.get("method") == "Log.entryAdded"], [])
@@ -122,17 +58,15 @@ class Index(Folder):
             self.assertEqual(adf.check(file.read()).files, 3)
 
     def until(self, expression, value):
-        """Waits until an expression has a value."""
-        end = time.monotonic() + 30
-        while self.browser.value(expression) != value and time.monotonic() < end:
-            time.sleep(0.05)
-        self.assertEqual(self.browser.value(expression), value)
+        """An expression comes to a value."""
+        self.assertEqual(self.browser.wait(expression, value), value)
 
     def test_finds_names_and_sums_of_files(self):
         browser, places = self.browser, "[...document.querySelectorAll('#places li')].map(line => line.innerText)"
         # The one that does not begin with DOS has lost its boot block alone, so all in it is found.
-        readme = [f"{name}: c/readme" for name in ("a\\x09b\\x5cc.adf", "b.adf", "bad_sum.adf", "games/<script>alert(1)<.aDf")]
+        readme = [f"{name}: c/readme" for name in ("a\\x09book\\x5ccover.adf", "b.adf", "bad_sum.adf", "games/<script>alert(1)<.aDf")]
         asked = (("c readme", "4 found"), ("READ \xdcbel", "4 found"), ("script alert", "1 found"), ("b\xfccher", "4 found"))
+        asked += (("em", "4 found"), ("em ad", "4 found"), ("book", "1 found"), ("co", "1 found"), ("cover book", "1 found"), ("cover large", "1 found"))
         for text, told in (*asked, ("nothing at all", "0 found"), ("\\ < \" '", "")):
             browser.open("about:blank")
             browser.open(f"{self.address}#find={urllib.parse.quote(text)}")

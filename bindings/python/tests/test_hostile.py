@@ -26,14 +26,14 @@ MARKUP = "'\"><script>alert(1)</script><img src=x onerror=alert(1)>&\x1b]0;x\x07
 FILE_SUMS = ("bytes", "crc32", "md5", "sha1", "sha256")
 FIRST_RUN = """
 import contextlib, fcntl, os
-from adf_tools import catalogue
-made = catalogue.new_folder
+from adf_tools import catalogue, update
+made = update.new_folder
 @contextlib.contextmanager
 def new_folder(path):
     with made(path) as folder:
         yield folder
     {}
-catalogue.new_folder = new_folder
+update.new_folder = new_folder
 catalogue.main()
 """
 

@@ -89,8 +89,8 @@ class Large(Catalogues):
             name, images, words = json.loads(text[len("part(") : -len(");\n")])
             self.assertEqual(os.path.basename(path), f"{name}.js")
             parts[name] = images, words
-        self.assertEqual(parts["sta"][1], {"startup": [1, [[0, "s/startup-sequence"]]]})
+        self.assertEqual(parts["sta"][1], {"startup": [[[0, "s/startup-sequence"]]]})
         self.assertEqual([image[0] for image in parts["gru"][0]], ["a.adf"])
-        self.assertEqual(parts["s__"][1]["s"][0], 2)
+        self.assertEqual(len(parts["s__"][1]["s"][0]), 2)
         digest = hashlib.sha256(b"x").hexdigest()
-        self.assertEqual(parts[digest[:3]][1][digest], [1, [[0, "s/startup-sequence"]]])
+        self.assertEqual(parts[digest[:3]][1][digest], [[[0, "s/startup-sequence"]]])

@@ -14,7 +14,7 @@ from unittest import mock
 
 import adf
 from adf import _arguments, _library, _structs, _texts, surveys
-from adf_tools import processes
+from adf_tools import collection, processes
 from adf_tools.given import number_of_blocks
 from adf_tools.markup import Html, html, joined, link
 from adf_tools.program import command_line
@@ -39,6 +39,25 @@ class Arguments(unittest.TestCase):
         self.assertEqual((number_of_blocks("1"), number_of_blocks("1048576")), (1, 1048576))
         for text in ("0", "-1", "1048577", "1e3", "", " 1", "\u0661", "9" * 30):
             self.assertRaises(argparse.ArgumentTypeError, number_of_blocks, text)
+
+
+class Folders(unittest.TestCase):
+    def test_opens_only_the_files_that_are_wanted(self):
+        with tempfile.TemporaryDirectory() as folder:
+            for name in ("a/one", "a/two", "b/three", "b/four", "five", "six.adf"):
+                path = os.path.join(folder, name)
+                os.makedirs(os.path.dirname(path), exist_ok=True)
+                with open(path, "wb") as file:
+                    file.write(b"DOS\0" if "o" in name else b"none")
+            os.symlink("a", os.path.join(folder, "link"))
+            every = [os.path.join(folder, name).encode() for name in ("a/one", "a/two", "b/four", "six.adf")]
+            for wanted in (every[:2], every[1:3], [folder.encode() + b"/five"], []):
+                opened, passed = [], []
+                with mock.patch.object(collection, "opened", lambda path: opened.append(path) or open(path, "rb")):
+                    found = collection.files_below(folder.encode(), (), lambda path, _: passed.append(path), wanted.__contains__)
+                self.assertEqual((found, sorted(opened)), ([path for path in wanted if path in every], wanted))
+                self.assertEqual(passed, [path for path in wanted if path not in every])
+            self.assertEqual(collection.files_below(folder.encode()), every)
 
 
 class Library:

@@ -42,7 +42,7 @@ const text = line => line.children.map(part => part.textContent ?? part).join(""
 
 
 def collection() -> sqlite3.Connection:
-    """A database of eight images, each with three entries."""
+    """A database of eight images, each with four entries."""
     connection = database.made_in_memory(len(database.STEPS))
     connection.row_factory = sqlite3.Row
     connection.execute("INSERT INTO runs (id, begun, program) VALUES (1, '', '')")
@@ -50,13 +50,14 @@ def collection() -> sqlite3.Connection:
         store.insert(connection, "files", dict(id=number, path=f"d{number}.adf", run=1))
         label = "Tools" if number == 8 else "Work"
         page = f"images/d{number}-{number:016x}.html"
-        columns = dict(id=number, file=number, name=f"d{number}.adf", number=0, advice="sound", judged="sound", verdict="ok", page=page, label=label)
+        names = dict(id=number, file=number, name=f"d{number}.adf", number=0, page=page, label=label)
+        columns = dict(names, advice="sound", judged="sound", verdict="ok", sha256=f"{number:064x}")
         store.insert(connection, "images", columns)
-        for path, comment in (("s/startup", ""), (f"c/even{number % 2}", "note" if number == 7 else ""), (f"\\x0alemmings{number}", "")):
+        north = f"\xe6ble/{'o' * (number % 2)}\xf8{number}"
+        for path, comment in (("s/startup", ""), (f"c/even{number % 2}", "note" if number == 7 else ""), (f"\\x0alemmings{number}", ""), (north, "")):
             columns = dict(image=number, kind="file", path=path, size=1, protection=0, date="", comment=comment, header=2, state="sound")
             store.insert(connection, "entries", columns)
-        for line in store.COMING:
-            connection.execute(line, (number,))
+    store.each_of(connection, store.COMING, list(range(1, 9)))
     return connection
 
 
@@ -72,11 +73,16 @@ class Search(unittest.TestCase):
         patch.start()
         self.addCleanup(patch.stop)
         os.mkdir(os.path.join(self.folder, "search"))
-        for name, content in search.all_parts(self.connection):
+        for name, content in self.parts(search.part_names(self.connection)):
             with open(os.path.join(self.folder, search.file_of(name)), "wb") as file:
                 file.write(content or b"")
         with open(os.path.join(self.folder, "script.js"), "w", encoding="utf-8") as script:
             script.write(BEFORE + scripts.SEARCHING + AFTER)
+
+    def parts(self, names: list[str]) -> list[search.Part]:
+        """The parts of these names, and those that name the images."""
+        places = search.Places(self.connection)
+        return [*(part for name in names for part in places.one(name)), *places.names()]
 
     def asked(self, *texts: str) -> list[tuple[str, list[str]]]:
         """What the page tells of each text, and the lines that it shows."""
@@ -102,6 +108,13 @@ class Search(unittest.TestCase):
     def test_finds_words_by_two_letters(self):
         self.assertEqual(self.asked("no", "to"), [("1 found", ["d7.adf: c/even1"]), ("1 found", ["d8.adf"])])
 
+    def test_finds_words_with_letters_that_are_not_of_ascii(self):
+        self.assertEqual(self.asked("\xf86", "o\xf83", "\xe6b")[:2], [("1 found", ["d6.adf: \xe6ble/\xf86"]), ("1 found", ["d3.adf: \xe6ble/o\xf83"])])
+        self.assertEqual(len(self.asked("\xe6ble")[0][1]), 8)
+
+    def test_finds_sums_by_all_of_their_digits(self):
+        self.assertEqual(self.asked(f"{3:064X}", "00", f"{3:064x}"[:63]), [("1 found", ["d3.adf"]), ("0 found", []), ("0 found", [])])
+
     def test_finds_words_in_parts_that_are_parted(self):
         self.assertTrue(os.path.exists(os.path.join(self.folder, "search", "lemmings5.js")))
         told, lines = self.asked("lemmi")[0]
@@ -109,9 +122,8 @@ class Search(unittest.TestCase):
         self.assertEqual(self.asked("lemmings9", "lemmingsx"), [("0 found", [])] * 2)
         self.assertEqual(self.asked("lemmings8 tools"), [("1 found", ["d8.adf: \\x0alemmings8"])])
 
-    def test_makes_the_same_parts_one_by_one(self):
-        names = [name for name, _ in search.all_parts(self.connection) if len(name) == 3 and not name.startswith("i-")]
-        self.assertEqual(dict(search.due_parts(self.connection, names)), dict(search.all_parts(self.connection)))
+    def test_makes_parts_that_no_word_has_any_more_empty(self):
+        self.assertEqual([name for name, _ in self.parts(["zzz", "z__", "___"]) if not name.startswith("i-")], [])
 
 
 if __name__ == "__main__":

@@ -1,9 +1,10 @@
-use crate::{ffi, rescue, rescue_blocks, Cause, LeftOut, Refused, Volume};
+use crate::rescue::rescue_types;
+use crate::{ffi, Cause, LeftOut, Refused, Volume};
 
 /// The volume of an image, or of what stands of it.
 #[derive(Debug)]
 pub struct Opened<'image> {
-    /// The volume: of a refused image that of its rescue, in memory.
+    /// The volume: of a refused image that of its rescue, in memory, with the letters of the image.
     pub volume: Volume<'image>,
     /// Why the image is refused, if it is.
     pub refused: Option<Refused>,
@@ -33,7 +34,7 @@ pub fn open(image: &[u8]) -> Result<Opened<'_>, Refused> {
         Err(refused) if refused.cause == Cause::NoMemory => return Err(refused),
         Err(refused) => refused,
     };
-    match rescue(image) {
+    match rescue_types(image, 0) {
         Ok(rescued) => {
             Ok(Opened { volume: Volume::check_owned(rescued.image)?, refused: Some(refused), left_out: rescued.left_out })
         }
@@ -63,7 +64,7 @@ pub fn open_blocks(image: &[u8], blocks: u32) -> Result<Opened<'_>, Refused> {
     if given.len() == ffi::bytes_of(blocks) {
         return open(given);
     }
-    let rescued = rescue_blocks(given, blocks)?;
+    let rescued = rescue_types(given, blocks)?;
     let refused = Volume::check_owned(with_zeros(given, blocks)?).err();
     Ok(Opened { volume: Volume::check_owned(rescued.image)?, refused, left_out: rescued.left_out })
 }

@@ -1,4 +1,4 @@
-use crate::ffi::{self, LossRecord};
+use crate::ffi::{self, Damaged, LossRecord};
 use crate::numbered::numbered;
 use crate::text::unspelled;
 use crate::Refused;
@@ -101,7 +101,7 @@ impl fmt::Display for LeftOut {
 /// # Ok::<(), Box<dyn std::error::Error>>(())
 /// ```
 pub fn rescue(image: &[u8]) -> Result<Rescue, Refused> {
-    ffi::rescue(image, 0).map(rescue_of)
+    ffi::rescue(Damaged { image, blocks: 0, keeps_type: false }).map(rescue_of)
 }
 
 /// Makes a new volume as [`rescue`] does, of an image read as if it had so many blocks; those that it does not have are lost.
@@ -119,7 +119,12 @@ pub fn rescue(image: &[u8]) -> Result<Rescue, Refused> {
 /// # Ok::<(), Box<dyn std::error::Error>>(())
 /// ```
 pub fn rescue_blocks(image: &[u8], blocks: u32) -> Result<Rescue, Refused> {
-    ffi::rescue(ffi::cut(image, blocks)?, blocks).map(rescue_of)
+    ffi::rescue(Damaged { image: ffi::cut(image, blocks)?, blocks, keeps_type: false }).map(rescue_of)
+}
+
+/// Makes a new volume with the letters of the image, read as if it had so many blocks unless they are 0.
+pub(crate) fn rescue_types(image: &[u8], blocks: u32) -> Result<Rescue, Refused> {
+    ffi::rescue(Damaged { image, blocks, keeps_type: true }).map(rescue_of)
 }
 
 fn rescue_of(found: ffi::RescueTables) -> Rescue {

@@ -277,6 +277,23 @@ extern "C" fn adf_rescue(
 
 #[no_mangle]
 #[allow(clippy::too_many_arguments)]
+extern "C" fn adf_rescue_types(
+    image: *const u8,
+    length: usize,
+    blocks: u32,
+    room: *mut u8,
+    room_length: usize,
+    losses: *mut Loss,
+    losses_room: usize,
+    paths: *mut u8,
+    paths_room: usize,
+    told: *mut RescueTold,
+) -> u8 {
+    adf_rescue(image, length, blocks, room, room_length, losses, losses_room, paths, paths_room, told)
+}
+
+#[no_mangle]
+#[allow(clippy::too_many_arguments)]
 extern "C" fn adf_build(_: *const u8, _: *const u8, _: usize, _: *const u8, _: usize, _: *mut u8, _: usize, _: *mut u8) -> u8 {
     NEW
 }

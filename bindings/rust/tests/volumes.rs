@@ -573,7 +573,9 @@ fn what_stands_is_opened() {
     assert_eq!(opened.volume.find("c/readme").unwrap().read(), b"Hello\n");
     assert_eq!(opened.volume.find("large").err(), Some(NotFound::Nothing));
     let header = header as u32;
-    assert_eq!(opened.left_out, [LeftOut { reason: Reason::Damaged, path: "large".to_owned(), first: header, last: header }]);
+    let damaged = LeftOut { reason: Reason::Damaged, path: "large".to_owned(), first: header, last: header };
+    let blocks = LeftOut { reason: Reason::Blocks, path: String::new(), first: 7, last: 78 };
+    assert_eq!(opened.left_out, [damaged, blocks]);
 
     assert_eq!(open(&[]).err(), Some(Refused { cause: Cause::BadSize, block: 0 }));
     assert_eq!(open(&[0; 8192]).err(), Some(Refused { cause: Cause::NotDos, block: 0 }));

@@ -1,24 +1,18 @@
 -- The tree of a manifest has its fields within their bounds: its files have fewer than 2^63 bytes, since its text is short.
 use Rattle.std.proofs.Common.{◌≡◌, ◌<◌, ◌≤◌, ◌^◌, ◌*◌, ◌+◌, ◌-◌, ◌==◌, ◌&&◌, ◌++◌, ℕ, Bool, true, false, List, [], ◌∷◌, Option, Some, None, IfSome, ap, arith}
 use Rattle.std.proofs.Common.{length, length-append, map, nat_lt, slice_index, subst, sym, take, if◌then◌else◌}
-use Rattle.std.specs.List.{All, flat_map, join_with_byte}
-use Rattle.std.specs.Option.{unwrap_or}
+use Rattle.std.specs.{List.All, List.flat_map, List.join_with_byte, Option.unwrap_or}
 use Rattle.std.proofs.lemmas.List.{length-replicate, length-take, Elements.All-cons, Elements.All-head, Elements.All-nil, Elements.All-tail}
 use Rattle.std.proofs.lemmas.List.Splits.{join_with_byte-slice_split}
 use Rattle.adf_base.specs.Dates.{IsStamp}
-use Rattle.adf_names.specs.Meta.{AreStamps}
-use Rattle.adf_names.specs.declared.meta.Stamps.{Stamps}
-use Rattle.adf_names.specs.declared.meta.TheConstants.{NO_STAMPS}
+use Rattle.adf_names.specs.{Meta.AreStamps, declared.meta.Stamps.Stamps, declared.meta.TheConstants.NO_STAMPS}
 use Rattle.adf_blocks.specs.Sizes.{is_allowed}
-use Rattle.adf_tree.specs.Bounds.{IsBounded, IsBoundedEntry, IsData}
-use Rattle.adf_tree.specs.Tree.{IsTree, Tree, new_entry}
+use Rattle.adf_tree.specs.{Bounds.IsBounded, Bounds.IsBoundedEntry, Bounds.IsData, Tree.IsTree, Tree.Tree, Tree.new_entry}
 use Rattle.adf_tree.proofs.BoundedEntries.{bounded_added, last_is_name}
-use Rattle.adf_manifest.specs.Lines.{DataRun, FillRun, IsRun, RunValue, most_fill, run_line}
-use Rattle.adf_manifest.specs.Texts.{pairs}
+use Rattle.adf_manifest.specs.{Lines.DataRun, Lines.FillRun, Lines.IsRun, Lines.RunValue, Lines.most_fill, Lines.run_line, Texts.pairs, Items.run_bytes}
+use Rattle.adf_manifest.specs.{Items.with_item, Manifest.most_bytes, Manifest.preamble_lines, Manifest.preamble_tree, Manifest.without_last_feed}
 use Rattle.adf_manifest.specs.Items.{IsGivenNote, IsItem, Item, body_of_sort, bytes_of_runs, item_body, item_lines, item_meta, items_tree, note_lines}
-use Rattle.adf_manifest.specs.Items.{run_bytes, with_item}
 use Rattle.adf_manifest.specs.Manifest.{IsGivenLabel, IsManifest, IsTreeOfManifest, IsWell, Manifest, items_of, lines, manifest_lines, manifest_tree}
-use Rattle.adf_manifest.specs.Manifest.{most_bytes, preamble_lines, preamble_tree, without_last_feed}
 use Rattle.adf_manifest.specs.declared.lines.Sort.{Sort, TheVariants.Dir, TheVariants.File}
 use Rattle.adf_manifest.proofs.TreesOfLines.{adding_lines, one_tree_of}
 

@@ -5,25 +5,20 @@ use Rattle.adf_base.specs.declared.hash.Letters.TheVariants.{Ascii}
 use Rattle.adf_base.proofs.ByteLists.{AreBytes}
 use Rattle.adf_blocks.specs.Sizes.{blocks, is_allowed}
 use Rattle.adf_names.specs.declared.kind.Kind.{Kind}
-use Rattle.adf_tree.specs.Bounds.{IsBounded}
-use Rattle.adf_tree.specs.Tree.{IsTree, IsTreeBy, Tree, with_kind}
+use Rattle.adf_tree.specs.{Bounds.IsBounded, Tree.IsTree, Tree.IsTreeBy, Tree.Tree, Tree.with_kind}
 use Rattle.adf_volume.proofs.BoundedFits.{fits_bounded}
-use Rattle.adf_build.specs.Building.{need_of}
-use Rattle.adf_build.specs.Plan.{blocks_needed}
-use Rattle.adf_build.proofs.LaidWrites.{CanHold}
-use Rattle.adf_build.proofs.WholeVolume.{fits_plain, laid_as_planned, volume_laid, well_formed}
+use Rattle.adf_build.specs.{Building.need_of, Plan.blocks_needed}
+use Rattle.adf_build.proofs.{LaidWrites.CanHold, WholeVolume.fits_plain, WholeVolume.laid_as_planned, WholeVolume.volume_laid, WholeVolume.well_formed}
 use Rattle.adf_findings.proofs.FitsOrFault.{fits_or_fault}
 use Rattle.adf_findings.specs.Verdict.{FitsOrHasFault}
 use Rattle.adf_manifest.specs.Manifest.{IsManifestOrHasFault}
 use Rattle.adf_manifest.proofs.TreesOfLines.{manifest_letters}
-use Rattle.adf_answers.proofs.BoundedManifests.{manifest_bounded}
-use Rattle.adf_answers.proofs.SomeVerdicts.{some_verdict}
+use Rattle.adf_answers.proofs.{BoundedManifests.manifest_bounded, SomeVerdicts.some_verdict, Images.checked, Images.refused, Images.some_copy, Images.some_list}
 use Rattle.adf_texts.specs.Lines.{full_line, manifest_fault_line}
 use Rattle.adf_runs.specs.Commands.{Reply, on_errors, on_output}
 use Rattle.adf_words.specs.CommandLine.{RequestValue, build, cat, check, convert, list}
 use Rattle.adf_cmd.specs.Answers.{BuildsOrIsFull, built_output}
 use Rattle.adf_answers.specs.Answered.{HasAnswer}
-use Rattle.adf_answers.proofs.Images.{checked, refused, some_copy, some_list}
 
 -- a tree is built, or there are too few blocks
 built_or_full : (lines : Bool) (tree : Tree) (n : ℕ) → tree.letters ≡ Ascii → IsTree tree.entries → IsBounded tree → is_allowed n ≡ true

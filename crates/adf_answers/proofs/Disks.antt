@@ -5,21 +5,15 @@ use Rattle.adf_findings.specs.Verdict.{FitsOrHasFaultBy}
 use Rattle.adf_volume.specs.declared.types.Types.TheVariants.{WithInternational}
 use Rattle.adf_partitions.proofs.SomeReadings.{some_disk, some_reading}
 use Rattle.adf_plans.proofs.SomeTexts.{some_text}
-use Rattle.adf_partitions.specs.Disks.{HasListOrFault}
-use Rattle.adf_partitions.specs.FaultTexts.{disk_fault_text, place_fault_text}
+use Rattle.adf_partitions.specs.{Disks.HasListOrFault, FaultTexts.disk_fault_text, FaultTexts.place_fault_text, declared.fault.DiskFault.DiskFault}
+use Rattle.adf_partitions.specs.{declared.partition.Partition.Partition, declared.place.Place.Place, declared.place.PlaceFault.PlaceFault}
 use Rattle.adf_plans.specs.PlanTexts.{HasPlanOrFault, text_fault_text}
-use Rattle.adf_partitions.specs.declared.fault.DiskFault.{DiskFault}
-use Rattle.adf_partitions.specs.declared.partition.Partition.{Partition}
-use Rattle.adf_partitions.specs.declared.place.Place.{Place}
-use Rattle.adf_partitions.specs.declared.place.PlaceFault.{PlaceFault}
 use Rattle.adf_runs.specs.Commands.{Reply, on_output}
-use Rattle.adf_file_words.specs.DiskLine.{DiskRequestValue, WantedValue, build, check, list, survey, volume}
+use Rattle.adf_disk_cmd.specs.CommandLine.{DiskRequestValue, WantedValue, build, check, list, survey, volume}
 use Rattle.adf_disk_cmd.specs.Answers.{DiskAnswer, OfDisk, OfFault, OfPartitions, disk_fault_line, volume_reply, wanted_of}
-use Rattle.adf_disk_cmd.specs.Builds.{BuildsDisk, plan_reply, refusal}
+use Rattle.adf_disk_cmd.specs.{Builds.BuildsDisk, Builds.plan_reply, Builds.refusal, Lines.list_lines, Lines.name_text, Lines.volume_at}
+use Rattle.adf_disk_cmd.specs.{declared.unchecked.Unchecked.Unchecked, declared.work.TheConstants.MOST_DISK_BYTES}
 use Rattle.adf_disk_cmd.specs.Checks.{AreChecked, TellsPlace, TellsVolume, check_status, unchecked_text, why_unchecked}
-use Rattle.adf_disk_cmd.specs.Lines.{list_lines, name_text, volume_at}
-use Rattle.adf_disk_cmd.specs.declared.unchecked.Unchecked.{Unchecked}
-use Rattle.adf_disk_cmd.specs.declared.work.TheConstants.{MOST_DISK_BYTES}
 
 told_by : (image : List ℕ) → FitsOrHasFaultBy WithInternational image → (sound : Bool) × (line : List ℕ) × TellsVolume image None sound line
 told_by image (inl (t, l, fits)) = (true, _, inl (t, l, fits, refl))

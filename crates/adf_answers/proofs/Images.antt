@@ -1,17 +1,13 @@
 -- Each image has an answer of `adf`.
 use Rattle.std.proofs.Common.{ℕ, List, Option, None, Some, codes, inl, inr, refl}
-use Rattle.adf_blocks.specs.Sizes.{blocks}
-use Rattle.adf_blocks.specs.declared.cause.Cause.{Cause}
+use Rattle.adf_blocks.specs.{Sizes.blocks, declared.cause.Cause.Cause}
 use Rattle.adf_fields.proofs.DateTexts.{date_of}
 use Rattle.adf_findings.proofs.FitsOrFault.{fits_or_fault}
 use Rattle.adf_findings.specs.Verdict.{FitsOrHasFault}
 use Rattle.adf_names.specs.PathTexts.{IsPathText}
 use Rattle.adf_names.proofs.SomePaths.{path_or_none}
-use Rattle.adf_volume.specs.Counts.{counts_of}
-use Rattle.adf_volume.specs.Walk.{FirstFault}
-use Rattle.adf_volume.specs.declared.fault.Fault.{Fault}
-use Rattle.adf_texts.specs.Lines.{fault_line, ok_line}
-use Rattle.adf_texts.specs.VolumeLines.{volume_lines}
+use Rattle.adf_volume.specs.{Counts.counts_of, Walk.FirstFault, declared.fault.Fault.Fault}
+use Rattle.adf_texts.specs.{Lines.fault_line, Lines.ok_line, VolumeLines.volume_lines}
 use Rattle.adf_runs.specs.Commands.{Reply, bad_path, on_errors, on_output}
 use Rattle.adf_words.specs.CommandLine.{cat, check, list}
 use Rattle.adf_cmd.specs.Answers.{Copies, RefusesImage, contents_at}

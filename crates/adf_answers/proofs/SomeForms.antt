@@ -1,16 +1,13 @@
 -- A text has the form of a line, or of none. The numbers of a line are tried in turn: P is what one is tried for, k how many are left to try.
 use Rattle.std.proofs.Common.{◌≡◌, ◌∙◌, ◌<◌, ◌^◌, ◌%◌, ◌+◌, ◌++◌, ℕ, zero, suc, true, List, [], ◌∷◌, ap, arith, codes, inl, inr, length, subst, sym}
 use Rattle.std.specs.List.{All, list_all}
-use Rattle.std.proofs.lemmas.List.{append_assoc, append_cancel_left}
-use Rattle.std.proofs.Math.Bool.{Bool-discrete}
+use Rattle.std.proofs.{lemmas.List.append_assoc, lemmas.List.append_cancel_left, Math.Bool.Bool-discrete}
 use mathlib.Core.List.{List-discrete}
 use mathlib.Core.Logic.Dec.{and as dec_and}
 use native.Mathlib.Decide.{dec_lt, map_dec, ℕ_discrete}
-use Rattle.adf_base.specs.Dates.{IsStamp, plain_text}
-use Rattle.adf_base.specs.declared.dates.Stamp.{Stamp}
-use Rattle.adf_names.specs.Meta.{AreStamps}
+use Rattle.adf_base.specs.{Dates.IsStamp, Dates.plain_text, declared.dates.Stamp.Stamp}
+use Rattle.adf_names.specs.{Meta.AreStamps, declared.meta.Stamps.Stamps}
 use Rattle.adf_names.specs.declared.kind.Kind.{Kind, TheVariants.Ffs, TheVariants.Ofs}
-use Rattle.adf_names.specs.declared.meta.Stamps.{Stamps}
 use Rattle.adf_names.proofs.SomeSpellings.{begins}
 use Rattle.adf_manifest.specs.Lines.{DataRun, EntryLine, FillRun, HasForm, IsLine, IsVolumeLine, LabelLine, LineValue, NoteLine, RunLine, StampsLine}
 use Rattle.adf_manifest.specs.Lines.{entry_line, fill_line, line_text, most_fill, sort_text, stamps_line, volume_line}

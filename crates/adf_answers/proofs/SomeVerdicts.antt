@@ -4,35 +4,25 @@ use Rattle.std.proofs.Common.{IsOk, ap, arith, inl, inr, length, refl, subst, sy
 use Rattle.std.proofs.lemmas.List.{append-nil, append_assoc, Elements.All-nil, Splits.length-slice_split}
 use mathlib.Core.Logic.Dec.{and as dec_and}
 use native.Mathlib.Decide.{dec_le}
-use Rattle.adf_names.specs.Escapes.{IsSpelling, escaped}
-use Rattle.adf_names.specs.PathTexts.{IsPathText}
-use Rattle.adf_names.specs.declared.kind.Kind.{Kind}
-use Rattle.adf_names.proofs.SomePaths.{path_or_none}
-use Rattle.adf_names.proofs.SomeSpellings.{dec_spelling}
+use Rattle.adf_names.specs.{Escapes.IsSpelling, Escapes.escaped, PathTexts.IsPathText, declared.kind.Kind.Kind}
+use Rattle.adf_names.proofs.{SomePaths.path_or_none, SomeSpellings.dec_spelling}
 use Rattle.adf_blocks.specs.Sizes.{is_allowed}
-use Rattle.adf_tree.specs.Tree.{room_for}
-use Rattle.adf_tree.specs.declared.tree.RoomFault.{RoomFault}
+use Rattle.adf_tree.specs.{Tree.room_for, declared.tree.RoomFault.RoomFault}
 use Rattle.adf_tree.specs.declared.tree.RoomFault.TheVariants as room
 use Rattle.adf_tree.proofs.AddRoom.{no_room}
 use Rattle.adf_manifest.specs.Lines.{EntryLine, IsLine, IsRun, LabelLine, LineValue, NoteLine, RunLine, StampsLine, label_line, line_text, note_line, run_line}
-use Rattle.adf_manifest.specs.Lines.{stamps_line, volume_line}
-use Rattle.adf_manifest.specs.Items.{IsItem}
+use Rattle.adf_manifest.specs.{Lines.stamps_line, Lines.volume_line, Items.IsItem, Manifest.without_last_feed, Reader.bare, declared.reader.Preamble.Preamble}
 use Rattle.adf_manifest.specs.Manifest.{EndsInFile, Entries, ExplainsKind, HasFault, IsBare, IsFaultOf, IsFirstLineFault, IsLaterFault, IsManifestOrHasFault}
 use Rattle.adf_manifest.specs.Manifest.{IsPreamble, IsWell, Manifest, MayStand, lines, manifest_lines, manifest_tree, most_bytes, preamble_lines}
-use Rattle.adf_manifest.specs.Manifest.{without_last_feed}
-use Rattle.adf_manifest.specs.Reader.{bare}
 use Rattle.adf_manifest.specs.declared.lines.Sort.{Sort, TheVariants.Dir, TheVariants.File}
 use Rattle.adf_manifest.specs.declared.manifest.ManifestKind.{ManifestKind}
 use Rattle.adf_manifest.specs.declared.manifest.ManifestKind.TheVariants.{BadLine, BadSize, BadText, Exists, NoMemory, NoParent, ParentIsFile, TooLong}
-use Rattle.adf_manifest.specs.declared.reader.Preamble.{Preamble}
 use Rattle.adf_manifest.proofs.Growth.{last_is, last_lines, last_well, new_item, new_lines, new_well, noted, noted_is, noted_lines, with_last, with_new}
-use Rattle.adf_manifest.proofs.Growth.{with_run, with_run_is, with_run_lines}
-use Rattle.adf_manifest.proofs.Forms.{line_same}
+use Rattle.adf_manifest.proofs.{Growth.with_run, Growth.with_run_is, Growth.with_run_lines, Forms.line_same, TreesOfLines.adding_lines}
 use Rattle.adf_manifest.proofs.LastLines.{stamps_behind, with_label, with_stamps}
 use Rattle.adf_survey_cmd.proofs.SomeRescues.{dec_nil}
 use Rattle.adf_answers.proofs.SomeForms.{dec_form, dec_volume}
 use Rattle.adf_manifest.proofs.StateLaws.{bare_lines, bare_well, filled_list, path_filled}
-use Rattle.adf_manifest.proofs.TreesOfLines.{adding_lines}
 
 -- the lines of a manifest and one more are those of a manifest, or the line has a fault
 abbrev Goes : Manifest → List ℕ → Type 0

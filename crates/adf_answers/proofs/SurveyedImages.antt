@@ -8,26 +8,17 @@ use Rattle.adf_blocks.specs.declared.layout.TheConstants.{SECONDARY_TYPE, ST_FIL
 use Rattle.adf_fields.proofs.DateTexts.{date_of, date_of_is}
 use Rattle.adf_names.proofs.SomePaths.{path_or_none}
 use Rattle.adf_names.specs.PathTexts.{HasPathOrNone, IsPathText}
-use Rattle.adf_volume.specs.Image.{word_in}
-use Rattle.adf_volume.specs.Walk.{FileAt, node_block, Walk}
-use Rattle.adf_findings.specs.Files.{file_content, file_in}
-use Rattle.adf_findings.specs.Remains.{gaps_of, left_of}
-use Rattle.adf_findings.specs.Survey.{FindingValue, IsSurvey}
-use Rattle.adf_findings.proofs.Decidability.{dec_true}
+use Rattle.adf_volume.specs.{Image.word_in, Walk.FileAt, Walk.node_block, Walk.Walk}
+use Rattle.adf_findings.specs.{Files.file_content, Files.file_in, Remains.gaps_of, Remains.left_of, Survey.FindingValue, Survey.IsSurvey}
+use Rattle.adf_findings.proofs.{Decidability.dec_true, SomeMarks.dec_sound, SomeMarks.some_marks, SomeSurvey.some_survey}
 use Rattle.adf_findings.proofs.SomeLookups.{dec_is_file, leads_or_not}
-use Rattle.adf_findings.proofs.SomeMarks.{dec_sound, some_marks}
-use Rattle.adf_findings.proofs.SomeSurvey.{some_survey}
 use Rattle.adf_runs.specs.Commands.{Reply, bad_path, on_errors, on_output}
-use Rattle.adf_file_words.specs.SurveyLine.{QuestionValue, asked, cat, list, report, rescue}
+use Rattle.adf_survey_cmd.specs.CommandLine.{QuestionValue, asked, cat, list, report, rescue}
 use Rattle.adf_survey_cmd.proofs.SomeRescues.{some_rescue as rescue_given}
-use Rattle.adf_survey_cmd.proofs.SubjectBytes.{subject_bytes, typed_bytes}
-use Rattle.adf_survey_cmd.proofs.Subjects.{some_typed}
+use Rattle.adf_survey_cmd.proofs.{SubjectBytes.subject_bytes, SubjectBytes.typed_bytes, Subjects.some_typed}
 use Rattle.adf_survey_cmd.specs.Answers.{CopiesEntry, CopiesFound, CopiesFromSurvey, IsWholeFile, ListsSurvey, QuestionAnswer, Surveys, no_path_line}
-use Rattle.adf_survey_cmd.specs.Answers.{told_status, types_kept}
+use Rattle.adf_survey_cmd.specs.{Answers.told_status, Answers.types_kept, Hints.hinted, Remains.remains_reply, Rescues.rescue_reply}
 use Rattle.adf_survey_cmd.specs.FoundLines.{has_its_data, listing_text}
-use Rattle.adf_survey_cmd.specs.Hints.{hinted}
-use Rattle.adf_survey_cmd.specs.Remains.{remains_reply}
-use Rattle.adf_survey_cmd.specs.Rescues.{rescue_reply}
 use Rattle.adf_survey_cmd.specs.Subject.{OfTyped, SubjectValue, begun_subject, sized, subject, subject_text}
 use Rattle.adf_answers.specs.Answered.{HasSurveyAnswer}
 

@@ -2,11 +2,9 @@
 use Rattle.std.specs.Prelude.{ℕ, List}
 use Rattle.adf_runs.specs.Commands.{Reply}
 use Rattle.adf_words.specs.CommandLine.{RequestValue}
-use Rattle.adf_file_words.specs.DiskLine.{DiskRequestValue}
-use Rattle.adf_file_words.specs.SurveyLine.{InquiryValue}
+use Rattle.adf_disk_cmd.specs.{CommandLine.DiskRequestValue, Answers.DiskAnswer}
+use Rattle.adf_survey_cmd.specs.{CommandLine.InquiryValue, Answers.SurveyAnswer}
 use Rattle.adf_cmd.specs.Answers.{Answer}
-use Rattle.adf_disk_cmd.specs.Answers.{DiskAnswer}
-use Rattle.adf_survey_cmd.specs.Answers.{SurveyAnswer}
 
 -- a request of `adf` and an input have an answer
 abbrev pub HasAnswer : RequestValue → List ℕ → Type 0

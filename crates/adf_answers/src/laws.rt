@@ -5,8 +5,8 @@ ghost use Rattle.std.specs.Prelude.{◌<◌, ◌≢◌, ℕ, Bool, List};
 ghost use Rattle.std.specs.List.{All};
 ghost use Rattle.adf_names.specs.declared.kind.Kind.{Kind};
 ghost use Rattle.adf_words.specs.CommandLine.{RequestValue, convert};
-ghost use Rattle.adf_file_words.specs.DiskLine.{DiskRequestValue};
-ghost use Rattle.adf_file_words.specs.SurveyLine.{InquiryValue, rescue};
+ghost use Rattle.adf_disk_cmd.specs.CommandLine.{DiskRequestValue};
+ghost use Rattle.adf_survey_cmd.specs.CommandLine.{InquiryValue, rescue};
 ghost use Rattle.adf_answers.specs.Answered.{HasAnswer, HasDiskAnswer, HasSurveyAnswer};
 
 /// Whatever is asked of bytes has an answer of `adf`. Of all requests but `convert` this holds of any list of numbers.

@@ -1,10 +1,9 @@
 -- Lists of bytes: what is cut out of them, what is written into them, and the words in them.
 -- Letters: bs, xs lists of bytes; v a number; i the number of a word; b that of a block.
 use Rattle.std.proofs.Common.{◌<◌, ◌^◌, ◌*◌, ◌+◌, ◌++◌, ℕ, zero, suc, List, [], ◌∷◌, inl, inr, length, take, drop, slice_index, slice_range, arith}
-use Rattle.std.specs.List.{All, flat_map}
+use Rattle.std.specs.{List.All, List.flat_map, Int.byte_at, Int.bytes_high_first}
 use Rattle.std.proofs.lemmas.Bool.{cases_lt}
 use Rattle.std.proofs.lemmas.List.{get_or_past, Elements.All-append, Elements.All-cons, Elements.All-drop, Elements.All-nil, Elements.All-take}
-use Rattle.std.specs.Int.{byte_at, bytes_high_first}
 use Rattle.byteorder.specs.Endian.{big_bytes}
 use Rattle.adf_base.specs.Words.{block, checksum, sealed, with_block, with_bytes, with_word, word}
 

@@ -2,15 +2,10 @@
 use Rattle.std.proofs.Common.{◌≡◌, ◌≢◌, ◌≤◌, ◌<◌, ℕ, ◌+◌, ◌-◌, ◌*◌, ◌^◌, ◌%◌, List, ◌++◌, [], ◌∷◌, length, take, drop, refl, sym, ap, ◌∙◌, arith, inl, inr}
 use Rattle.std.proofs.Common.{length-append, length-drop, append_assoc, append-nil, zero, suc, add-one, get_or, sum, slice_range, reverse}
 use Rattle.std.specs.List.{flat_map}
-use Rattle.std.proofs.lemmas.Grind.{flat_map-append, common_steps}
-use Rattle.std.proofs.lemmas.Bool.{cases_lt}
+use Rattle.std.proofs.{lemmas.Grind.flat_map-append, lemmas.Grind.common_steps, lemmas.Bool.cases_lt, lemmas.List.reverse-append}
+use Rattle.std.proofs.{lemmas.List.FromFn.sum_by-map-range_with_len_more, lemmas.Slice.between_is, Math.Seq.drop-append-add}
 use Rattle.std.proofs.lemmas.List.{drop-drop, take_at, drop_at, take-append-le, length-take-le, take-take, take_more, take-append-drop, length-reverse}
-use Rattle.std.proofs.lemmas.List.{reverse-append}
-use Rattle.std.proofs.lemmas.List.FromFn.{sum_by-map-range_with_len_more}
-use Rattle.byteorder.specs.Endian.{big_bytes}
-use Rattle.byteorder.specs.Numbers.{length-bytes_high_first}
-use Rattle.std.proofs.lemmas.Slice.{between_is}
-use Rattle.std.proofs.Math.Seq.{drop-append-add}
+use Rattle.byteorder.specs.{Endian.big_bytes, Numbers.length-bytes_high_first}
 use borrow.Rule.Slice.PartMut.{put_mid}
 use Rattle.adf_base.specs.Words.{word, words, long_sum, with_bytes, with_word, block, with_block, checksum, sealed}
 

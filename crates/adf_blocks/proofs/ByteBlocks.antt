@@ -7,8 +7,7 @@ use Rattle.adf_base.specs.declared.dates.Stamp.{Stamp}
 use Rattle.adf_blocks.specs.declared.layout.TheConstants.{CHECKSUM, SLOTS, ST_ROOT, T_SHORT, VALID}
 use Rattle.adf_blocks.specs.Fields.{Field, block_of_fields, long, longs, stamp, text}
 use Rattle.adf_blocks.specs.HeadBlock.{BodyFields, HeadFields, count_of, ext_of, first_of, head_block, head_table, secondary_of, size_of, table_of}
-use Rattle.adf_blocks.specs.HeadBlock.BodyFields.{DirFields, FileFields}
-use Rattle.adf_blocks.specs.RootBlock.{RootFields, root_block, root_table}
+use Rattle.adf_blocks.specs.{HeadBlock.BodyFields.DirFields, HeadBlock.BodyFields.FileFields, RootBlock.RootFields, RootBlock.root_block, RootBlock.root_table}
 
 -- the bytes of each field are bytes
 abbrev AreByteFields : List Field → Type 0

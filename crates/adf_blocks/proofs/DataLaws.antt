@@ -4,11 +4,9 @@ use Rattle.std.proofs.lemmas.Bool.{eq-eqb}
 use Rattle.adf_base.specs.Words.{block, word, with_block, long_sum}
 use Rattle.adf_base.proofs.WordLaws.{block_written}
 use Rattle.adf_blocks.specs.declared.layout.TheConstants.{DATA_BYTES, DATA_HEAD, DATA_HELD, DATA_NEXT, DATA_NUMBER, TYPE, T_DATA}
-use Rattle.adf_blocks.specs.Forms.{first_cause}
-use Rattle.adf_blocks.specs.Fields.{Descends}
+use Rattle.adf_blocks.specs.{Forms.first_cause, Fields.Descends}
 use Rattle.adf_blocks.specs.DataBlock.{DataFields, FitsData, data_block, data_form, data_table}
-use Rattle.adf_blocks.proofs.ClauseLaws.{no_cause}
-use Rattle.adf_blocks.proofs.FieldLaws.{bytes_of_field, length_sealed_fields, sum_of_fields, word_of_field}
+use Rattle.adf_blocks.proofs.{ClauseLaws.no_cause, FieldLaws.bytes_of_field, FieldLaws.length_sealed_fields, FieldLaws.sum_of_fields, FieldLaws.word_of_field}
 
 -- the fields of a data block fit side by side
 pub data_descends : (d : DataFields) → FitsData d → Descends 512 (data_table d)

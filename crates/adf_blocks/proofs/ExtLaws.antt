@@ -1,13 +1,10 @@
 -- The fields of a written extension block.
 use Rattle.std.proofs.Common.{◌≡◌, ◌≤◌, ◌<◌, ℕ, ◌+◌, ◌-◌, ◌*◌, ◌^◌, List, length, ◌∙◌, arith, rules, None, slice_index}
-use Rattle.std.proofs.lemmas.Bool.{eq-eqb}
-use Rattle.std.proofs.lemmas.List.{length-reverse}
+use Rattle.std.proofs.{lemmas.Bool.eq-eqb, lemmas.List.length-reverse}
 use Rattle.adf_base.specs.Words.{block, word, with_block, long_sum}
 use Rattle.adf_base.proofs.WordLaws.{length_longs, block_written}
-use Rattle.adf_blocks.specs.Forms.{first_cause}
+use Rattle.adf_blocks.specs.{Forms.first_cause, declared.layout.TheConstants.T_LIST, Fields.Descends, Fields.long}
 use Rattle.adf_blocks.specs.declared.layout.TheConstants.{EXTENSION, FIRST_POINTER, OWN_KEY, PARENT, POINTERS, POINTER_COUNT, SECONDARY_TYPE, ST_FILE, TYPE}
-use Rattle.adf_blocks.specs.declared.layout.TheConstants.{T_LIST}
-use Rattle.adf_blocks.specs.Fields.{Descends, long}
 use Rattle.adf_blocks.specs.ExtBlock.{ExtFields, FitsExt, ext_block, ext_form, ext_table}
 use Rattle.adf_blocks.proofs.ClauseLaws.{no_cause}
 use Rattle.adf_blocks.proofs.FieldLaws.{length_sealed_fields, long_number, pointer_number, sum_of_fields, word_of_field}

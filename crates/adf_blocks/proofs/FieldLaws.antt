@@ -1,21 +1,15 @@
 -- The content of a block composed of fields.
 use Rattle.std.proofs.Common.{◌≡◌, ◌≢◌, ◌≤◌, ◌<◌, ℕ, zero, suc, ◌+◌, ◌-◌, ◌*◌, ◌^◌, ◌⊎◌, List, ◌++◌, [], ◌∷◌, rules, length, take, drop, refl, sym, ap, subst}
 use Rattle.std.proofs.Common.{◌∙◌, arith, add-zero, append-nil, inl, inr, slice_range, slice_index, replicate, reverse, min}
-use Rattle.std.proofs.lemmas.Bool.{cases_lt}
+use Rattle.std.proofs.{lemmas.Bool.cases_lt, Math.Seq.drop-append-add, lemmas.Grind.common_steps}
 use Rattle.std.proofs.lemmas.List.{length-replicate, length-reverse, drop-take, drop-drop, take-take, take_at, take_all, drop-replicate, take-replicate}
 use Rattle.std.proofs.lemmas.List.{get_or-drop, get_or-take, get_or-reverse, get_or_past, length-take}
-use Rattle.std.proofs.Math.Seq.{drop-append-add}
-use Rattle.std.proofs.lemmas.Grind.{common_steps}
-use Rattle.byteorder.specs.Endian.{big_number}
-use Rattle.byteorder.specs.Numbers.{big_number-reads_back}
-use Rattle.adf_base.specs.Words.{word, long_sum, sealed, checksum}
-use Rattle.adf_base.specs.declared.dates.Stamp.{Stamp}
+use Rattle.byteorder.specs.{Endian.big_number, Numbers.big_number-reads_back}
+use Rattle.adf_base.specs.{Words.word, Words.long_sum, Words.sealed, Words.checksum, declared.dates.Stamp.Stamp, Dates.IsStamp}
 use Rattle.adf_base.proofs.WordLaws.{length-with_bytes, range-with_bytes_same, range-with_bytes_below, range-with_bytes_above, word-with_word_other}
 use Rattle.adf_base.proofs.WordLaws.{length_longs, long_sum-sealed, length-big_bytes}
-use Rattle.adf_blocks.specs.declared.layout.TheConstants.{CHECKSUM}
-use Rattle.adf_blocks.specs.Forms.{stamp_at, text_at}
+use Rattle.adf_blocks.specs.{declared.layout.TheConstants.CHECKSUM, Forms.stamp_at, Forms.text_at}
 use Rattle.adf_blocks.specs.Fields.{Field, block_of_fields, Descends, downwards, long, longs, stamp, text}
-use Rattle.adf_base.specs.Dates.{IsStamp}
 
 -- a block that is laid is whole
 pub length-block_of_fields : (top : ℕ) (fs : List Field) → top ≤ 512 → Descends top fs → length (block_of_fields fs) ≡ 512

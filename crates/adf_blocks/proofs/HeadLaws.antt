@@ -1,27 +1,19 @@
 -- The fields of a written header.
 use Rattle.std.proofs.Common.{◌≡◌, ◌≤◌, ◌<◌, ℕ, ◌+◌, ◌-◌, ◌*◌, ◌^◌, List, length, refl, ap, ◌∙◌, arith, rules, true, None, not, slice_index}
 use Rattle.std.proofs.lemmas.Bool.{eq-eqb, le-leb, Decides.nat_tests}
-use Rattle.std.proofs.lemmas.List.{length-reverse}
-use Rattle.std.proofs.Math.Bool.{or-true}
-use Rattle.std.proofs.lemmas.Grind.{common_steps}
+use Rattle.std.proofs.{lemmas.List.length-reverse, Math.Bool.or-true, lemmas.Grind.common_steps}
 use Rattle.byteorder.specs.Endian.{big_number}
-use Rattle.adf_base.specs.Hash.{slot_of}
-use Rattle.adf_base.specs.Words.{block, word, with_block, long_sum}
+use Rattle.adf_base.specs.{Hash.slot_of, Words.block, Words.word, Words.with_block, Words.long_sum, Dates.IsStamp}
 use Rattle.adf_base.proofs.WordLaws.{length_longs, block_written}
-use Rattle.adf_names.specs.Meta.{IsBoundedMeta}
-use Rattle.adf_names.specs.Texts.{is_name}
-use Rattle.adf_names.specs.declared.kind.Kind.{Kind, TheVariants.Ofs, TheVariants.Ffs}
-use Rattle.adf_blocks.specs.Forms.{first_cause, stamp_at, text_at}
+use Rattle.adf_names.specs.{Meta.IsBoundedMeta, Texts.is_name, declared.kind.Kind.Kind, declared.kind.Kind.TheVariants.Ofs, declared.kind.Kind.TheVariants.Ffs}
+use Rattle.adf_blocks.specs.{Forms.first_cause, Forms.stamp_at, Forms.text_at, Fields.Descends, Fields.long}
 use Rattle.adf_blocks.specs.declared.layout.TheConstants.{CHECKSUM, COMMENT, DATE, EXTENSION, FIRST_DATA, FIRST_POINTER, FIRST_SLOT, NAME, NEXT_IN_CHAIN}
 use Rattle.adf_blocks.specs.declared.layout.TheConstants.{OWN_KEY, PARENT, POINTERS, PROTECTION, SECONDARY_TYPE, SIZE, SLOTS, ST_DIR, TYPE, T_SHORT}
-use Rattle.adf_blocks.specs.Fields.{Descends, long}
-use Rattle.adf_base.specs.Dates.{IsStamp}
 use Rattle.adf_blocks.specs.HeadBlock.{BodyFields, FitsBody, FitsBodyWords, FitsHead, HeadFields, head_block, head_form, head_table, body_at, body_stated}
 use Rattle.adf_blocks.specs.HeadBlock.{ext_of, first_of, has_first, has_type, is_link, is_name_at, meta_at, secondary_of, size_of, table_of}
 use Rattle.adf_blocks.specs.HeadBlock.BodyFields.{DirFields, FileFields}
-use Rattle.adf_blocks.proofs.ClauseLaws.{no_cause}
+use Rattle.adf_blocks.proofs.{ClauseLaws.no_cause, FieldLaws.text_of_field, FieldLaws.word_of_field}
 use Rattle.adf_blocks.proofs.FieldLaws.{length_sealed_fields, long_number, number_of_field, numbers_of_field, pointer_number, stamp_of_field, sum_of_fields}
-use Rattle.adf_blocks.proofs.FieldLaws.{text_of_field, word_of_field}
 
 -- a name has at most 30 bytes
 pub name_short : (bs : List ℕ) → is_name bs ≡ true → length bs ≤ 30

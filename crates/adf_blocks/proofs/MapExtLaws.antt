@@ -1,12 +1,10 @@
 -- The fields of a written bitmap extension block.
 use Rattle.std.proofs.Common.{◌≡◌, ◌≤◌, ◌<◌, ℕ, ◌+◌, ◌^◌, List, length, sym, ap, ◌∙◌, arith, rules, inl, inr, slice_index}
-use Rattle.std.proofs.lemmas.Bool.{cases_lt}
-use Rattle.std.proofs.lemmas.List.{get_or_past}
+use Rattle.std.proofs.{lemmas.Bool.cases_lt, lemmas.List.get_or_past}
 use Rattle.adf_base.specs.Words.{word}
 use Rattle.adf_base.proofs.WordLaws.{length_longs}
 use Rattle.adf_blocks.specs.declared.layout.TheConstants.{MAP_EXT_FIRST, MAP_EXT_NEXT, MAP_EXT_PAGES}
-use Rattle.adf_blocks.specs.Fields.{Descends, block_of_fields}
-use Rattle.adf_blocks.specs.MapExtBlock.{map_ext_block, map_ext_table}
+use Rattle.adf_blocks.specs.{Fields.Descends, Fields.block_of_fields, MapExtBlock.map_ext_block, MapExtBlock.map_ext_table}
 use Rattle.adf_blocks.proofs.FieldLaws.{fields_between, fields_long, fields_longs, length-block_of_fields, long_number}
 
 -- the fields fit side by side

@@ -3,9 +3,7 @@ use Rattle.std.proofs.Common.{◌≡◌, ◌≤◌, ◌<◌, ℕ, ◌+◌, ◌*�
 use Rattle.adf_base.specs.Words.{block, word, with_block, long_sum}
 use Rattle.adf_base.proofs.WordLaws.{block_written, length-with_bytes, length_longs, long_sum-sealed, length-big_bytes}
 use Rattle.adf_blocks.specs.declared.layout.TheConstants.{PAGE_BITS, PAGE_CHECKSUM, PAGE_FIRST}
-use Rattle.adf_blocks.specs.Forms.{first_cause}
-use Rattle.adf_blocks.specs.Fields.{Descends}
-use Rattle.adf_blocks.specs.PageBlock.{IsFreeBit, page_block, page_form, page_table}
+use Rattle.adf_blocks.specs.{Forms.first_cause, Fields.Descends, PageBlock.IsFreeBit, PageBlock.page_block, PageBlock.page_form, PageBlock.page_table}
 use Rattle.adf_blocks.proofs.FieldLaws.{length-block_of_fields, long_number, numbers_of_field}
 
 -- the words of bits fit behind the checksum

@@ -1,13 +1,11 @@
 -- The fields of a written root.
 use Rattle.std.proofs.Common.{◌≡◌, ◌≤◌, ◌<◌, ℕ, ◌+◌, ◌*◌, ◌^◌, List, length, refl, sym, ◌∙◌, arith, rules, inl, inr, None, slice_index}
-use Rattle.std.proofs.lemmas.Bool.{le-leb, cases_lt}
-use Rattle.std.proofs.lemmas.List.{get_or_past}
+use Rattle.std.proofs.{lemmas.Bool.le-leb, lemmas.Bool.cases_lt, lemmas.List.get_or_past}
 use Rattle.adf_base.specs.Words.{block, word, with_block, long_sum}
 use Rattle.adf_base.proofs.WordLaws.{length_longs, block_written}
 use Rattle.adf_blocks.specs.declared.layout.TheConstants.{ALTERED, BITMAP_FLAG, CHECKSUM, CREATED, DATE, FIRST_MAP_EXT, FIRST_PAGE, FIRST_SLOT, HASH_SIZE, NAME}
 use Rattle.adf_blocks.specs.declared.layout.TheConstants.{ROOT_PAGES, SECONDARY_TYPE, SLOTS, ST_ROOT, TYPE, T_SHORT, VALID}
-use Rattle.adf_blocks.specs.Forms.{first_cause, text_at}
-use Rattle.adf_blocks.specs.Fields.{Descends, long, longs}
+use Rattle.adf_blocks.specs.{Forms.first_cause, Forms.text_at, Fields.Descends, Fields.long, Fields.longs}
 use Rattle.adf_blocks.specs.RootBlock.{FitsRoot, RootFields, root_block, root_form, root_table, stamps_at}
 use Rattle.adf_names.specs.Meta.{AreStamps}
 use Rattle.adf_blocks.proofs.FieldLaws.{apart_between, length_sealed_fields, long_number, numbers_of_field, stamp_of_field, sum_of_fields, text_of_field}

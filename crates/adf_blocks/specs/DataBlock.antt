@@ -4,8 +4,7 @@ use Rattle.adf_base.specs.Words.{word, long_sum, sealed}
 use Rattle.adf_blocks.specs.declared.cause.Cause.TheVariants.{BadSum, BadType, BadData}
 use Rattle.adf_blocks.specs.declared.«data».DataOut.{DataOut}
 use Rattle.adf_blocks.specs.declared.layout.TheConstants.{CHECKSUM, DATA_BYTES, DATA_HEAD, DATA_HELD, DATA_NEXT, DATA_NUMBER, DATA_ROOM, TYPE, T_DATA}
-use Rattle.adf_blocks.specs.Fields.{Field, block_of_fields, long}
-use Rattle.adf_blocks.specs.Forms.{Clause}
+use Rattle.adf_blocks.specs.{Fields.Field, Fields.block_of_fields, Fields.long, Forms.Clause}
 
 -- the form of data block `number`, from 1, of the file with header `head`: `held` bytes; the next one is `next` or 0
 abbrev pub data_form : ℕ → ℕ → ℕ → ℕ → List ℕ → List Clause

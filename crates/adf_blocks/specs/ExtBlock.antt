@@ -2,11 +2,9 @@
 use Rattle.std.specs.Prelude.{◌≤◌, ◌<◌, ◌*◌, ◌^◌, ℕ, ◌==◌, ◌&&◌, List, [], ◌∷◌, length}
 use Rattle.adf_base.specs.Words.{word, long_sum, sealed}
 use Rattle.adf_blocks.specs.declared.cause.Cause.TheVariants.{BadSum, BadType, BadOwnKey, BadParent}
-use Rattle.adf_blocks.specs.declared.ext.ExtOut.{ExtOut}
+use Rattle.adf_blocks.specs.{declared.ext.ExtOut.ExtOut, Fields.Field, Fields.downwards, Fields.block_of_fields, Fields.long, Forms.Clause}
 use Rattle.adf_blocks.specs.declared.layout.TheConstants.{CHECKSUM, EXTENSION, FIRST_POINTER, OWN_KEY, PARENT, POINTERS, POINTER_COUNT, SECONDARY_TYPE, ST_FILE}
 use Rattle.adf_blocks.specs.declared.layout.TheConstants.{TYPE, T_LIST}
-use Rattle.adf_blocks.specs.Fields.{Field, downwards, block_of_fields, long}
-use Rattle.adf_blocks.specs.Forms.{Clause}
 
 -- the form of an extension block at block `own`, of the file whose header is block `head`
 abbrev pub ext_form : ℕ → ℕ → List ℕ → List Clause

@@ -2,8 +2,7 @@
 use Rattle.std.specs.Prelude.{◌≤◌, ◌+◌, ◌*◌, ◌-◌, ℕ, List, [], ◌∷◌, length, replicate, reverse}
 use Rattle.std.specs.List.{flat_map}
 use Rattle.byteorder.specs.Endian.{big_bytes}
-use Rattle.adf_base.specs.Words.{with_bytes}
-use Rattle.adf_base.specs.declared.dates.Stamp.{Stamp}
+use Rattle.adf_base.specs.{Words.with_bytes, declared.dates.Stamp.Stamp}
 
 -- the four bytes of a word, big-endian
 abbrev pub long : ℕ → List ℕ

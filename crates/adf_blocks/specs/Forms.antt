@@ -1,7 +1,6 @@
 -- The form of a block: a list of tests in order, each with the cause to report if it is the first to fail.
 use Rattle.std.specs.Prelude.{◌≡◌, ℕ, ◌+◌, Bool, if◌then◌else◌, List, [], ◌∷◌, Option, Some, None, Result, slice_index, slice_range, MatchResult}
-use Rattle.adf_base.specs.Words.{word}
-use Rattle.adf_base.specs.declared.dates.Stamp.{Stamp}
+use Rattle.adf_base.specs.{Words.word, declared.dates.Stamp.Stamp}
 use Rattle.adf_blocks.specs.declared.cause.Cause.{Cause}
 
 -- a clause: whether it holds, and the cause if not

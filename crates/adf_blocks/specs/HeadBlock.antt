@@ -1,21 +1,17 @@
 -- The headers of directories and files.
 use Rattle.std.specs.Prelude.{◌≡◌, ◌≤◌, ◌<◌, ◌*◌, ◌^◌, ℕ, ◌==◌, if◌then◌else◌, ◌&&◌, ◌||◌, not, nat_le, Bool, true, false, List, [], ◌∷◌, length, slice_index}
 use Rattle.std.specs.Prelude.{take}
-use Rattle.adf_base.specs.Words.{word, long_sum, sealed}
-use Rattle.adf_base.specs.Hash.{slot_by}
-use Rattle.adf_base.specs.declared.hash.Letters.{Letters, TheVariants.Ascii}
-use Rattle.adf_names.specs.Texts.{is_name}
+use Rattle.adf_base.specs.{Words.word, Words.long_sum, Words.sealed, Hash.slot_by, declared.hash.Letters.Letters, declared.hash.Letters.TheVariants.Ascii}
+use Rattle.adf_names.specs.{Texts.is_name, declared.meta.Meta.Meta}
 use Rattle.adf_names.specs.declared.kind.Kind.{Kind, TheVariants.Ofs, TheVariants.Ffs}
 use Rattle.adf_blocks.specs.declared.cause.Cause.TheVariants.{BadSum, BadType, Link, BadOwnKey, BadParent, BadName, BadComment, WrongSlot, BadFirst}
-use Rattle.adf_names.specs.declared.meta.Meta.{Meta}
 use Rattle.adf_blocks.specs.declared.head.HeadBody.{HeadBody, TheVariants.Dir, TheVariants.File}
-use Rattle.adf_blocks.specs.declared.head_out.HeadOut.{HeadOut}
+use Rattle.adf_blocks.specs.{declared.head_out.HeadOut.HeadOut, Forms.Clause, Forms.stamp_at, Forms.text_at}
 use Rattle.adf_blocks.specs.declared.head_out.HeadOutBody.{HeadOutBody, TheVariants.Dir as DirOut, TheVariants.File as FileOut}
 use Rattle.adf_blocks.specs.declared.layout.TheConstants.{CHECKSUM, COMMENT, DATE, EXTENSION, FIRST_DATA, FIRST_POINTER, FIRST_SLOT, NAME, NEXT_IN_CHAIN}
 use Rattle.adf_blocks.specs.declared.layout.TheConstants.{OWN_KEY, PARENT, POINTERS, POINTER_COUNT, PROTECTION, SECONDARY_TYPE, SIZE, SLOTS, ST_DIR, ST_FILE}
 use Rattle.adf_blocks.specs.declared.layout.TheConstants.{ST_LINK_DIR, ST_LINK_FILE, ST_SOFT_LINK, TYPE, T_SHORT}
 use Rattle.adf_blocks.specs.Fields.{Field, downwards, block_of_fields, long, longs, stamp, text}
-use Rattle.adf_blocks.specs.Forms.{Clause, stamp_at, text_at}
 
 -- the secondary types of the three links: soft, hard to a directory, hard to a file
 abbrev pub is_link : ℕ → Bool

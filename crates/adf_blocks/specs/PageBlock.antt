@@ -1,10 +1,8 @@
 -- Pages of the bitmap. Bit r of a volume is that of block 2 + r; a set bit means that the block is free.
 use Rattle.std.specs.Prelude.{◌+◌, ◌*◌, ◌/◌, ◌%◌, ◌==◌, ℕ, List, [], ◌∷◌, IsBitSet}
 use Rattle.adf_base.specs.Words.{word, long_sum, sealed}
-use Rattle.adf_blocks.specs.declared.cause.Cause.TheVariants.{BadSum}
+use Rattle.adf_blocks.specs.{declared.cause.Cause.TheVariants.BadSum, Forms.Clause, Fields.Field, Fields.block_of_fields, Fields.longs}
 use Rattle.adf_blocks.specs.declared.layout.TheConstants.{PAGE_CHECKSUM, PAGE_FIRST}
-use Rattle.adf_blocks.specs.Forms.{Clause}
-use Rattle.adf_blocks.specs.Fields.{Field, block_of_fields, longs}
 
 -- the form of a page
 abbrev pub page_form : List ℕ → List Clause

@@ -3,10 +3,9 @@ use Rattle.std.specs.Prelude.{◌≡◌, ◌≤◌, ◌*◌, ◌==◌, ◌&&◌,
 use Rattle.adf_base.specs.Words.{word, long_sum, sealed}
 use Rattle.adf_names.specs.declared.meta.Stamps.{Stamps}
 use Rattle.adf_blocks.specs.declared.cause.Cause.TheVariants.{BadSum, BadType, BadName, BadHashSize, NotValidated}
-use Rattle.adf_blocks.specs.declared.root_out.RootOut.{RootOut}
+use Rattle.adf_blocks.specs.{declared.root_out.RootOut.RootOut, Forms.Clause, Forms.stamp_at, Forms.text_at}
 use Rattle.adf_blocks.specs.declared.layout.TheConstants.{ALTERED, BITMAP_FLAG, CHECKSUM, CREATED, DATE, FIRST_MAP_EXT, FIRST_PAGE, FIRST_SLOT, HASH_SIZE, NAME}
 use Rattle.adf_blocks.specs.declared.layout.TheConstants.{ROOT_PAGES, SECONDARY_TYPE, SLOTS, ST_ROOT, TYPE, T_SHORT, VALID}
-use Rattle.adf_blocks.specs.Forms.{Clause, stamp_at, text_at}
 use Rattle.adf_blocks.specs.Fields.{Field, block_of_fields, long, longs, stamp, text}
 
 -- the form of a root

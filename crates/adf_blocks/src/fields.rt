@@ -1,10 +1,8 @@
 // Dates and texts in the bytes of a block.
 
 ghost use Rattle.std.specs.Prelude.{◌≡◌, ◌≤◌, ◌<◌, ◌+◌, ◌*◌, length};
-ghost use Rattle.adf_base.specs.Words.{with_bytes};
-ghost use Rattle.adf_blocks.specs.Fields.{stamp, text};
-ghost use Rattle.adf_base.specs.Dates.{IsStamp};
-ghost use Rattle.adf_blocks.specs.Forms.{stamp_at};
+ghost use Rattle.adf_base.specs.{Words.with_bytes, Dates.IsStamp};
+ghost use Rattle.adf_blocks.specs.{Fields.stamp, Fields.text, Forms.stamp_at};
 
 use adf_base::{Block, Stamp, put_bytes, put_words};
 

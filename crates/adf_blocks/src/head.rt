@@ -1,10 +1,8 @@
 // The headers of directories and files: reader.
 
 ghost use Rattle.std.specs.Prelude.{◌≡◌, ◌≤◌, ◌<◌, ◌+◌, ◌-◌, ◌==◌, true, slice_index};
-ghost use Rattle.adf_base.specs.Hash.{slot_by};
-ghost use Rattle.adf_base.specs.Words.{word};
-ghost use Rattle.adf_blocks.specs.Forms.{ReadsForm, stamp_at, text_at};
-ghost use Rattle.adf_blocks.specs.declared.layout.TheConstants.{COMMENT};
+ghost use Rattle.adf_base.specs.{Hash.slot_by, Words.word};
+ghost use Rattle.adf_blocks.specs.{Forms.ReadsForm, Forms.stamp_at, Forms.text_at, declared.layout.TheConstants.COMMENT};
 ghost use Rattle.adf_blocks.specs.HeadBlock.{body_at, IsHead, has_first, has_type, head_form, head_form_by, is_entry, is_link};
 ghost use Rattle.adf_blocks.specs.HeadBlock.{is_name_at, meta_at, meta_stated};
 

@@ -1,11 +1,8 @@
 // The headers of directories and files: writer.
 
 ghost use Rattle.std.specs.Prelude.{◌≡◌, ◌≤◌, ◌<◌, ◌+◌, ◌-◌, ◌*◌, ◌^◌, ℕ, List, length, slice_index, None};
-ghost use Rattle.adf_base.specs.Hash.{slot_of};
-ghost use Rattle.adf_base.specs.Words.{block, with_block, with_bytes, word};
-ghost use Rattle.adf_names.specs.Meta.{IsBoundedMeta};
-ghost use Rattle.adf_names.specs.declared.kind.Kind.{Kind};
-ghost use Rattle.adf_base.specs.Dates.{IsStamp};
+ghost use Rattle.adf_base.specs.{Hash.slot_of, Words.block, Words.with_block, Words.with_bytes, Words.word, Dates.IsStamp};
+ghost use Rattle.adf_names.specs.{Meta.IsBoundedMeta, declared.kind.Kind.Kind};
 ghost use Rattle.adf_blocks.specs.Forms.{first_cause, stamp_at, text_at};
 ghost use Rattle.adf_blocks.specs.HeadBlock.BodyFields.{DirFields, FileFields};
 ghost use Rattle.adf_blocks.specs.HeadBlock.{FitsBody, FitsBodyWords, FitsHead, FitsTable, HeadFields, body_at, body_fields};

@@ -23,8 +23,7 @@ pub struct Root<'a> {
 
 impl<'a> Model for Root<'a> {
     ghost use Rattle.std.specs.Prelude.{List, ℕ, None, ◌≡◌};
-    ghost use Rattle.adf_blocks.specs.Forms.{first_cause};
-    ghost use Rattle.adf_blocks.specs.RootBlock.{root_form};
+    ghost use Rattle.adf_blocks.specs.{Forms.first_cause, RootBlock.root_form};
 
     ghost Value = { List ℕ };
 

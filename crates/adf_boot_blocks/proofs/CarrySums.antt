@@ -1,8 +1,7 @@
 -- Sums of words with each carry added back: what they leave by 2 ^ 32 - 1, and no 0 where there is a word that is none.
 use Rattle.std.proofs.Common.{◌≡◌, ◌≢◌, ℕ, zero, suc, List, [], ◌∷◌, ◌++◌, ◌+◌, ◌-◌, ◌*◌, ◌/◌, ◌^◌, ◌<◌, ◌≤◌, true, sum, length, slice_index, slice_range, inl}
 use Rattle.std.proofs.Common.{inr, eq-eqb, refl, sym, subst, ◌∙◌, arith, add-one}
-use Rattle.std.proofs.lemmas.Bool.{cases_eq}
-use Rattle.std.proofs.lemmas.Grind.{common_steps}
+use Rattle.std.proofs.{lemmas.Bool.cases_eq, lemmas.Grind.common_steps}
 use Rattle.std.proofs.lemmas.List.{get_or-drop, get_or-take, FromFn.map-range_with_len_more, Sums.fold_push}
 use Rattle.byteorder.specs.Endian.{big_bytes}
 use Rattle.adf_base.specs.Words.{with_word, word, words}

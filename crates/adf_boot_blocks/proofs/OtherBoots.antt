@@ -2,34 +2,24 @@
 -- Letters: image a volume, other one with other boot blocks; t a tree, l its layout, ls its letters; b, a blocks; n a node, h its header; k, j, i, m indices.
 use Rattle.std.proofs.Common.{◌≡◌, ℕ, zero, suc, List, [], ◌∷◌, ◌++◌, ◌+◌, ◌-◌, ◌*◌, ◌/◌, ◌%◌, ◌<◌, ◌≤◌, ◌↔◌, length, drop, take, slice_index, map, refl, sym}
 use Rattle.std.proofs.Common.{ap, subst, ◌∙◌, arith}
-use Rattle.std.proofs.lemmas.Grind.{common_steps}
-use Rattle.std.proofs.lemmas.List.{drop-drop, get_or-take}
-use Rattle.adf_base.specs.Hash.{slot_by}
-use Rattle.adf_base.specs.Words.{block, word}
+use Rattle.std.proofs.{lemmas.Grind.common_steps, lemmas.List.drop-drop, lemmas.List.get_or-take}
+use Rattle.adf_base.specs.{Hash.slot_by, Words.block, Words.word}
 use Rattle.adf_base.specs.declared.hash.Letters.{Letters, TheVariants.Ascii, TheVariants.International}
 use Rattle.adf_names.specs.declared.kind.Kind.{Kind, TheVariants.Ofs, TheVariants.Ffs}
-use Rattle.adf_blocks.specs.DataBlock.{data_form}
-use Rattle.adf_blocks.specs.ExtBlock.{ext_form}
-use Rattle.adf_blocks.specs.Forms.{text_at}
-use Rattle.adf_blocks.specs.HeadBlock.{head_form_by, meta_at}
-use Rattle.adf_blocks.specs.PageBlock.{IsFreeBit, page_form}
-use Rattle.adf_blocks.specs.RootBlock.{root_form, stamps_at}
-use Rattle.adf_blocks.specs.Sizes.{blocks, middle, pages_needed}
+use Rattle.adf_blocks.specs.{DataBlock.data_form, ExtBlock.ext_form, Forms.text_at, HeadBlock.head_form_by, HeadBlock.meta_at, PageBlock.IsFreeBit}
+use Rattle.adf_blocks.specs.{PageBlock.page_form, RootBlock.root_form, RootBlock.stamps_at, Sizes.blocks, Sizes.middle, Sizes.pages_needed}
 use Rattle.adf_blocks.specs.declared.layout.TheConstants.{EXTENSION, FIRST_MAP_EXT, FIRST_PAGE, FIRST_SLOT, MAP_EXT_NEXT, NAME, NEXT_IN_CHAIN, PAGE_BITS}
 use Rattle.adf_blocks.specs.declared.layout.TheConstants.{POINTERS, SECONDARY_TYPE, SIZE, SLOTS}
-use Rattle.adf_tree.specs.Tree.{IsDir, Tree}
+use Rattle.adf_tree.specs.{Tree.IsDir, Tree.Tree, declared.entry.Entry.Entry}
 use Rattle.adf_tree.specs.declared.entry.Body.{Body, TheVariants.Dir, TheVariants.File}
-use Rattle.adf_tree.specs.declared.entry.Entry.{Entry}
 use Rattle.adf_volume.specs.Demands.{AllHold, boot_demands_by, data_demands, demands_at, root_demands}
 use Rattle.adf_volume.specs.Fits.{BodyFits, EntryFitsBy, FileFits, Fits, FitsBy, IsFree, TableAt}
 use Rattle.adf_volume.specs.Image.{area, content, held, joined, kind_of, map_exts_needed, meta_of, name_of, root_of, stamps_of, table_word, word_in}
 use Rattle.adf_volume.specs.Layout.{EntryAt, Layout, at_node, chain_nodes_by, datas_of, exts_of, owned, owned_from}
-use Rattle.adf_volume.specs.Lists.{At, In, NoBlockTwice, Spelled, numbered}
-use Rattle.adf_volume.specs.LayoutRoles.{LayoutHasBy}
+use Rattle.adf_volume.specs.{Lists.At, Lists.In, Lists.NoBlockTwice, Lists.Spelled, Lists.numbered, LayoutRoles.LayoutHasBy}
 use Rattle.adf_volume.specs.declared.owner.Owner.{Owner, TheVariants.Root as TheRoot, TheVariants.Page as APage, TheVariants.MapExt as AMapExt}
 use Rattle.adf_volume.specs.Walk.{Role, Role.Root, Role.Page, Role.MapExt, Role.Head, Role.Ext, Role.Data}
-use Rattle.adf_volume.proofs.LayoutRoles.{part_range}
-use Rattle.adf_volume.proofs.Chains.{entry_some, place_at}
+use Rattle.adf_volume.proofs.{LayoutRoles.part_range, Chains.entry_some, Chains.place_at}
 use Rattle.adf_boot_blocks.specs.BootBlocks.{IsOtherBoot}
 
 -- words that lead from one to the next, where the links of the members are the same

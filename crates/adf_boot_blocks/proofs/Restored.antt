@@ -4,11 +4,9 @@ use Rattle.std.proofs.Common.{◌≡◌, ◌∙◌, ℕ, zero, suc, true, false,
 use Rattle.std.proofs.Common.{ap, ap₂, refl, sym, subst, inl, inr, arith, add-one, length-drop, length-take, Bool}
 use Rattle.std.specs.Prelude.{◌==◌, ◌&&◌, not}
 use Rattle.std.proofs.lemmas.Bool.{and_parts, and_cases, cases_Bool, cases_eq, eqb-true, leb-true, not-false}
-use Rattle.std.proofs.lemmas.Grind.{common_steps}
-use Rattle.std.proofs.lemmas.List.{get_or-take, length-take-le}
+use Rattle.std.proofs.{lemmas.Grind.common_steps, lemmas.List.get_or-take, lemmas.List.length-take-le}
 use Rattle.byteorder.specs.Endian.{big_bytes, big_number}
-use Rattle.adf_base.specs.Words.{block, with_word, word, words}
-use Rattle.adf_base.specs.declared.hash.Letters.{Letters}
+use Rattle.adf_base.specs.{Words.block, Words.with_word, Words.word, Words.words, declared.hash.Letters.Letters}
 use Rattle.adf_base.proofs.WordLaws.{length-big_bytes, no_words, range-with_bytes_above, range-with_bytes_below, range-with_bytes_same}
 use Rattle.adf_blocks.proofs.FieldLaws.{sub_range}
 use Rattle.adf_boot_blocks.specs.BootBlocks.{IsOtherBoot, begins_with_dos, carry_sum, has_right_sum, is_bootable, with_sum}
@@ -16,8 +14,7 @@ use Rattle.adf_boot_blocks.specs.Writing.{HasBootOf, copied, is_of_other_type, r
 use Rattle.adf_boot_blocks.specs.declared.boot.TheConstants.{BOOT_LEN, BOOT_WORDS, CHECKSUM, RIGHT_SUM}
 use Rattle.adf_tree.specs.Tree.{Tree}
 use Rattle.adf_blocks.specs.Sizes.{blocks}
-use Rattle.adf_volume.specs.Fits.{FitsBy}
-use Rattle.adf_volume.specs.Layout.{Layout}
+use Rattle.adf_volume.specs.{Fits.FitsBy, Layout.Layout}
 use Rattle.adf_boot_blocks.proofs.OtherBoots.{other_fits_by}
 use Rattle.adf_boot_blocks.proofs.CarrySums.{AreBytes, AreWords, sum_is_right, word_of_bytes, word_small, words_more}
 use Rattle.adf_boot_blocks.proofs.Writes.{begun_byte, bootable, other_bytes, other_next, other_sum, same_boot}

@@ -2,10 +2,8 @@
 use Rattle.std.proofs.Common.{◌≡◌, ◌<◌, ◌≤◌, ◌%◌, ℕ, List, Bool, true, false, Option, None, Some, if◌then◌else◌, length, nat_le, not, refl}
 use Rattle.std.specs.Prelude.{◌==◌, ◌&&◌}
 use Rattle.std.proofs.lemmas.Bool.{and_parts, leb-true, lt-leb}
-use Rattle.adf_boot_blocks.specs.BootBlocks.{begins_with_dos}
+use Rattle.adf_boot_blocks.specs.{BootBlocks.begins_with_dos, declared.boot.TheConstants.BOOT_LEN, declared.refusal.BootRefusal.BootRefusal}
 use Rattle.adf_boot_blocks.specs.Refusals.{copy_refusal, has_image_size, image_refusal}
-use Rattle.adf_boot_blocks.specs.declared.boot.TheConstants.{BOOT_LEN}
-use Rattle.adf_boot_blocks.specs.declared.refusal.BootRefusal.{BootRefusal}
 use Rattle.adf_boot_blocks.specs.declared.refusal.BootRefusal.TheVariants.{BadSize, NotDos, BadSourceSize, SourceNotDos}
 use Rattle.adf_boot_blocks.specs.declared.refusal.TheConstants.{LEAST_BYTES, MOST_BYTES}
 

@@ -1,10 +1,9 @@
 -- What writes into the boot blocks leave.
 use Rattle.std.proofs.Common.{◌≡◌, ℕ, List, true, ◌+◌, ◌-◌, ◌*◌, ◌<◌, ◌≤◌, length, slice_index, take, sym, ap, ◌∙◌, arith, refl}
-use Rattle.std.proofs.lemmas.Grind.{common_steps}
+use Rattle.std.proofs.{lemmas.Grind.common_steps, lemmas.List.get_or-take, lemmas.List.take-take}
 use Rattle.byteorder.specs.Endian.{big_bytes}
 use Rattle.adf_base.specs.Words.{with_bytes, with_word, words}
 use Rattle.adf_base.proofs.WordLaws.{drop-with_bytes_above, front-with_bytes, length-big_bytes, length-with_bytes}
-use Rattle.std.proofs.lemmas.List.{get_or-take, take-take}
 use Rattle.adf_boot_blocks.specs.BootBlocks.{IsOtherBoot, begins_with_dos, carry_sum, has_right_sum, is_bootable, with_sum}
 use Rattle.adf_boot_blocks.specs.declared.boot.TheConstants.{BOOT_LEN, BOOT_WORDS, CHECKSUM, RIGHT_SUM}
 

@@ -1,8 +1,6 @@
 -- Why an image does not get other boot blocks. `source` has those that are copied at its front.
 use Rattle.std.specs.Prelude.{◌==◌, ◌&&◌, ◌%◌, ℕ, Bool, List, Option, None, Some, if◌then◌else◌, length, nat_le, not}
-use Rattle.adf_boot_blocks.specs.BootBlocks.{begins_with_dos}
-use Rattle.adf_boot_blocks.specs.declared.boot.TheConstants.{BOOT_LEN}
-use Rattle.adf_boot_blocks.specs.declared.refusal.BootRefusal.{BootRefusal}
+use Rattle.adf_boot_blocks.specs.{BootBlocks.begins_with_dos, declared.boot.TheConstants.BOOT_LEN, declared.refusal.BootRefusal.BootRefusal}
 use Rattle.adf_boot_blocks.specs.declared.refusal.BootRefusal.TheVariants.{BadSize, NotDos, BadSourceSize, SourceNotDos}
 use Rattle.adf_boot_blocks.specs.declared.refusal.TheConstants.{LEAST_BYTES, MOST_BYTES}
 

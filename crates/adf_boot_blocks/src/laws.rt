@@ -3,11 +3,9 @@
 ghost use Rattle.std.specs.Prelude.{◌≡◌, ◌<◌, ◌≤◌, ◌^◌, ℕ, List, length, true};
 ghost use Rattle.std.specs.List.{All};
 ghost use Rattle.adf_tree.specs.Tree.{Tree};
-ghost use Rattle.adf_volume.specs.Fits.{Fits};
-ghost use Rattle.adf_volume.specs.Layout.{Layout};
+ghost use Rattle.adf_volume.specs.{Fits.Fits, Layout.Layout};
 ghost use Rattle.adf_boot_blocks.specs.BootBlocks.{IsOtherBoot, begins_with_dos, has_right_sum, with_sum};
-ghost use Rattle.adf_boot_blocks.specs.Writing.{HasBootOf, restored};
-ghost use Rattle.adf_boot_blocks.specs.declared.boot.TheConstants.{BOOT_LEN};
+ghost use Rattle.adf_boot_blocks.specs.{Writing.HasBootOf, Writing.restored, declared.boot.TheConstants.BOOT_LEN};
 
 /// The boot blocks are no part of a tree or a layout: what fits an image fits each image that has other boot blocks of its type.
 pub fn boot_is_no_part()

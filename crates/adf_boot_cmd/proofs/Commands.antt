@@ -1,8 +1,7 @@
 -- The command `adf-boot` is consistent.
 use Rattle.std.proofs.Common.{◌≡◌, ◌∙◌, ℕ, List, Option, Some, None, inl, inr, sym}
-use Rattle.adf_file_words.specs.BootLine.{AreRefusedByBoot, AsksBoot, BootRequestValue}
+use Rattle.adf_boot_cmd.specs.{CommandLine.AreRefusedByBoot, CommandLine.AsksBoot, CommandLine.BootRequestValue, Answers.boot_command}
 use Rattle.adf_runs.specs.Commands.{IsConsistent, IsUnanswered}
-use Rattle.adf_boot_cmd.specs.Answers.{boot_command}
 
 not_refused : (words : List (List ℕ)) (r : BootRequestValue) → AsksBoot words r → ¬ AreRefusedByBoot words
 not_refused words r asks (inl fault) = fault asks.0

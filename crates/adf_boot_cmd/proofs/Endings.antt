@@ -2,14 +2,12 @@
 -- Letters: c a command, r what is asked, w the outcome of its work; n the status.
 use Rattle.std.proofs.Common.{◌≡◌, ◌∙◌, ℕ, List, Option, None, Some, IfSome, take, sym, arith}
 use Rattle.std.proofs.lemmas.Grind.{common_steps}
-use Rattle.adf_file_words.specs.BootLine.{AreRefusedByBoot, ExplainsBootArgs}
+use Rattle.adf_words.specs.CommandLine.{ExplainsArgs}
+use Rattle.adf_boot_cmd.specs.CommandLine.{AreRefusedByBoot}
 use Rattle.adf_words.specs.declared.command_line.ArgsError.{ArgsError, TheVariants.Usage, TheVariants.NoMemory as ArgsNoMemory}
-use Rattle.adf_runs.specs.Commands.{Command, IsUnanswered, RunEnds}
+use Rattle.adf_runs.specs.{Commands.Command, Commands.IsUnanswered, Commands.RunEnds, Outcomes.DoesOn, Outcomes.outcome_text, Outcomes.status_of}
+use Rattle.adf_runs.specs.{Streams.AreFirst, Streams.IsTold, Streams.Seen, WorkFaults.IsNoWork, WorkFaults.args_refused, declared.outcome.Outcome.Outcome}
 use Rattle.adf_file_runs.specs.FileRuns.{KnownFiles, RunEndsOnFiles}
-use Rattle.adf_runs.specs.Outcomes.{DoesOn, outcome_text, status_of}
-use Rattle.adf_runs.specs.Streams.{AreFirst, IsTold, Seen}
-use Rattle.adf_runs.specs.WorkFaults.{IsNoWork, args_refused}
-use Rattle.adf_runs.specs.declared.outcome.Outcome.{Outcome}
 use Rattle.adf_boot_blocks.specs.declared.boot.TheConstants.{BOOT_LEN}
 
 -- a work was done, and errors were told its line
@@ -28,7 +26,8 @@ input_ends c file_of words files input n output errors none ends = record {
 }
 
 -- words that are refused
-pub no_words : (fault : ArgsError) (words : List (List ℕ)) → ExplainsBootArgs fault words → IsNoWork (args_refused fault) (AreRefusedByBoot words) ⊥
+pub no_words : (fault : ArgsError) (words : List (List ℕ)) → ExplainsArgs fault (AreRefusedByBoot words)
+    → IsNoWork (args_refused fault) (AreRefusedByBoot words) ⊥
 no_words Usage words h = h
 no_words ArgsNoMemory words h = tt
 

@@ -1,19 +1,14 @@
 -- The answers to orders, case by case.
 use Rattle.std.proofs.Common.{◌≡◌, ℕ, Bool, List, Option, Some, None, ◌++◌, ◌+◌, ◌<◌, ◌≤◌, true, false, codes, drop, if◌then◌else◌, length, min, nat_le, not}
 use Rattle.std.proofs.Common.{take, ap, ◌∙◌, refl, sym, arith}
-use Rattle.std.proofs.lemmas.Bool.{lt-leb, le-leb}
-use Rattle.std.proofs.lemmas.List.{take-take, take_min}
+use Rattle.std.proofs.{lemmas.Bool.lt-leb, lemmas.Bool.le-leb, lemmas.List.take-take, lemmas.List.take_min}
 use Rattle.adf_boot_blocks.specs.BootBlocks.{begins_with_dos, is_bootable}
-use Rattle.adf_boot_blocks.specs.declared.boot.TheConstants.{BOOT_LEN}
-use Rattle.adf_boot_blocks.specs.declared.refusal.BootRefusal.{BootRefusal}
+use Rattle.adf_boot_blocks.specs.{declared.boot.TheConstants.BOOT_LEN, declared.refusal.BootRefusal.BootRefusal, declared.refusal.TheConstants.MOST_BYTES}
 use Rattle.adf_boot_blocks.specs.declared.refusal.BootRefusal.TheVariants.{BadSize, BadSourceSize, SourceNotDos}
-use Rattle.adf_boot_blocks.specs.declared.refusal.TheConstants.{MOST_BYTES}
 use Rattle.adf_boot_blocks.proofs.Taken.{IsTaken, copy_taken, image_taken, large_refused}
 use Rattle.adf_runs.specs.Commands.{Reply, on_errors, on_output}
 use Rattle.adf_boot_cmd.specs.Answers.{BootAnswer, Order, changed_boot, line_status, boot_reply, order_refusal, boot_refusal_text, written}
-use Rattle.adf_boot_cmd.specs.Answers.{clear, copy, install, tell}
-use Rattle.adf_boot_cmd.specs.Lines.{boot_line}
-use Rattle.adf_boot_cmd.specs.Work.{HasBoot}
+use Rattle.adf_boot_cmd.specs.{Answers.clear, Answers.copy, Answers.install, Answers.tell, Lines.boot_line, Work.HasBoot}
 
 -- as many bytes are told of as boot blocks have
 pub counted : (bytes : List ℕ) (n : ℕ) → n ≡ min (length bytes) BOOT_LEN → take n bytes ≡ take BOOT_LEN bytes

@@ -5,15 +5,11 @@ use Rattle.std.proofs.lemmas.List.{drop_at, length-take-le, take-append-le, take
 use Rattle.adf_base.specs.Words.{with_bytes, with_word}
 use Rattle.adf_blocks.specs.Sizes.{blocks, middle}
 use Rattle.adf_tree.specs.Tree.{Tree}
-use Rattle.adf_volume.specs.Fits.{Fits}
-use Rattle.adf_volume.specs.Layout.{Layout}
-use Rattle.adf_boot_blocks.specs.BootBlocks.{IsOtherBoot}
+use Rattle.adf_volume.specs.{Fits.Fits, Layout.Layout}
+use Rattle.adf_boot_blocks.specs.{BootBlocks.IsOtherBoot, declared.refusal.BootRefusal.BootRefusal, declared.standard.TheConstants.STANDARD_CODE}
 use Rattle.adf_boot_blocks.specs.Writing.{cleared, copied, installed}
 use Rattle.adf_boot_blocks.specs.declared.boot.TheConstants.{BOOT_LEN, CODE, ROOT}
-use Rattle.adf_boot_blocks.specs.declared.refusal.BootRefusal.{BootRefusal}
-use Rattle.adf_boot_blocks.specs.declared.standard.TheConstants.{STANDARD_CODE}
-use Rattle.adf_boot_blocks.proofs.OtherBoots.{other_fits}
-use Rattle.adf_boot_blocks.proofs.Writes.{other_bytes, other_next, other_sum, other_word, same_boot}
+use Rattle.adf_boot_blocks.proofs.{OtherBoots.other_fits, Writes.other_bytes, Writes.other_next, Writes.other_sum, Writes.other_word, Writes.same_boot}
 use Rattle.adf_runs.specs.Commands.{Reply}
 use Rattle.adf_boot_cmd.proofs.Replies.{is_written, refused, taken}
 use Rattle.adf_boot_cmd.specs.Answers.{Order, changed_boot, clear, copy, install, order_refusal, reply_of, tell, written}

@@ -1,22 +1,15 @@
 -- What the command answers to its words and its input. `image` are the bytes of an image, `boot` those of a boot file.
 use Rattle.std.specs.Prelude.{◌≡◌, ◌⊎◌, [], IfSome, Option, Some, None, ◌++◌, ℕ, Bool, List, codes, drop, if◌then◌else◌, length, nat_le, take}
 use Rattle.adf_blocks.specs.Sizes.{blocks, middle}
-use Rattle.adf_boot_blocks.specs.BootBlocks.{is_bootable}
-use Rattle.adf_boot_blocks.specs.Refusals.{copy_refusal, image_refusal}
-use Rattle.adf_boot_blocks.specs.Writing.{cleared, copied, installed}
-use Rattle.adf_boot_blocks.specs.declared.boot.TheConstants.{BOOT_LEN}
-use Rattle.adf_boot_blocks.specs.declared.refusal.BootRefusal.{BootRefusal}
+use Rattle.adf_boot_blocks.specs.{BootBlocks.is_bootable, Refusals.copy_refusal, Refusals.image_refusal, Writing.cleared, Writing.copied, Writing.installed}
+use Rattle.adf_boot_blocks.specs.{declared.boot.TheConstants.BOOT_LEN, declared.refusal.BootRefusal.BootRefusal, declared.refusal.TheConstants.MOST_BYTES}
+use Rattle.adf_boot_blocks.specs.{declared.standard.TheConstants.STANDARD_CODE}
 use Rattle.adf_boot_blocks.specs.declared.refusal.BootRefusal.TheVariants.{BadSize, NotDos, BadSourceSize, SourceNotDos}
-use Rattle.adf_boot_blocks.specs.declared.refusal.TheConstants.{MOST_BYTES}
-use Rattle.adf_boot_blocks.specs.declared.standard.TheConstants.{STANDARD_CODE}
 use Rattle.std.specs.Io.KnownBytes.{Appends}
-use Rattle.adf_file_words.specs.BootLine.{AreRefusedByBoot, AsksBoot, BootRequestValue}
-use Rattle.adf_file_words.specs.BootLine.BootRequestValue.{tell as tells, install as installs, clear as clears, copy as copies}
-use Rattle.adf_file_runs.specs.FileRuns.{unopened_line}
-use Rattle.adf_runs.specs.Streams.{IsTold, Seen}
-use Rattle.adf_file_runs.specs.declared.files.Unopened.{Unopened}
-use Rattle.adf_runs.specs.Commands.{Command, Reply, on_errors, on_output}
-use Rattle.adf_boot_cmd.specs.Lines.{boot_line}
+use Rattle.adf_boot_cmd.specs.{CommandLine.AreRefusedByBoot, CommandLine.AsksBoot, CommandLine.BootRequestValue, CommandLine.boot_file, Lines.boot_line}
+use Rattle.adf_boot_cmd.specs.CommandLine.BootRequestValue.{tell as tells, install as installs, clear as clears, copy as copies}
+use Rattle.adf_file_runs.specs.{FileRuns.KnownFiles, FileRuns.RunEndsOnFiles, FileRuns.unopened_line, declared.files.Unopened.Unopened}
+use Rattle.adf_runs.specs.{Streams.IsTold, Streams.Seen, Commands.Command, Commands.Reply, Commands.on_errors, Commands.on_output}
 
 -- what is asked of an image: what its boot blocks are, that they get standard code, none, or those of a boot file
 pub data Order : Type 0 where
@@ -100,3 +93,8 @@ abbrev pub LacksBoot : (name : List ℕ) → (n : ℕ) → (o o' : Option (List 
 LacksBoot name n o o' errors = (n ≡ 3) × Appends o o' []
     × (((why : Unopened) × IsTold errors (unopened_line name why))
     ⊎ (IsTold errors (codes "boot file: read fault\n") ⊎ IsTold errors (codes "no memory\n")))
+
+-- how a run with these words ends, over files and an input
+abbrev pub BootEnds : List (List ℕ) → KnownFiles → Seen → ℕ → Seen → Seen → Type 0
+BootEnds words files input n output errors = RunEndsOnFiles (boot_command files.bytes_of) boot_file words files input n output errors
+    ⊎ ((name : List ℕ) × AsksBoot words (copies name) × LacksBoot name n output.before output.after errors)

@@ -2,15 +2,14 @@
 
 ghost use Rattle.std.specs.Prelude.{◌≡◌, ◌⊎◌, List, Option, ℕ, false, take, IfErr, IfOk, IfSome};
 ghost use Rattle.adf_boot_blocks.specs.declared.boot.TheConstants.{BOOT_LEN};
-ghost use Rattle.adf_file_words.specs.BootLine.{boot_request_value, copy};
-ghost use Rattle.adf_boot_cmd.specs.Answers.{IsOrderOf, LacksBoot};
+ghost use Rattle.adf_boot_cmd.specs.CommandLine.{boot_request_value, copy};
+ghost use Rattle.adf_boot_cmd.specs.{Answers.IsOrderOf, Answers.LacksBoot, Work.IsBootFaultOf, Work.order_of};
 ghost use Rattle.adf_runs.specs.Streams.{seen};
-ghost use Rattle.adf_boot_cmd.specs.Work.{IsBootFaultOf, order_of};
 
+use crate::command_line::BootRequest;
 use crate::work::Work;
 use adf_boot_blocks::BOOT_LEN;
 use adf_file_runs::{Files, Unopened, refuse_file};
-use adf_file_words::BootRequest;
 use adf_runs::{Sink, StreamFault, read_first, say};
 use std::alloc::Global;
 

@@ -2,8 +2,7 @@
 
 ghost use Rattle.std.specs.Prelude.{◌≡◌, ◌≢◌, ℕ, List};
 ghost use Rattle.adf_tree.specs.Tree.{Tree};
-ghost use Rattle.adf_volume.specs.Fits.{Fits};
-ghost use Rattle.adf_volume.specs.Layout.{Layout};
+ghost use Rattle.adf_volume.specs.{Fits.Fits, Layout.Layout};
 ghost use Rattle.adf_boot_cmd.specs.Answers.{Order, reply_of, tell};
 
 /// An image that is written has the tree and the layout of the image that it is made of.

@@ -2,12 +2,16 @@
 #![tactic(auto)]
 
 mod boot_file;
+mod command_line;
 mod laws;
 mod line;
 mod runner;
 mod work;
 mod writing;
 
+pub use crate::command_line::{
+    BootRequest, BootWords, boot_words_as_documented, parse_boot as parse,
+};
 pub use crate::laws::trees_stay;
 pub use crate::line::boot_line;
 pub use crate::runner::run;

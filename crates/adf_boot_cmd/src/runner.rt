@@ -1,15 +1,15 @@
 // The whole command.
 
-ghost use Rattle.std.specs.Prelude.{◌≡◌, ◌⊎◌, List, ℕ, false};
-ghost use Rattle.adf_file_runs.specs.FileRuns.{RunEndsOnFiles, known_files};
-ghost use Rattle.adf_file_words.specs.BootLine.{AreRefusedByBoot, AsksBoot, boot_file, copy};
+ghost use Rattle.std.specs.Prelude.{◌≡◌, false};
+ghost use Rattle.adf_file_runs.specs.FileRuns.{known_files};
+ghost use Rattle.adf_boot_cmd.specs.{CommandLine.AreRefusedByBoot, Answers.BootEnds};
 ghost use Rattle.adf_words.specs.CommandLine.{texts_of};
 ghost use Rattle.adf_runs.specs.Streams.{seen};
-ghost use Rattle.adf_boot_cmd.specs.Answers.{LacksBoot, boot_command};
 
 use crate::boot_file::work_for;
-use adf_file_runs::{Files, refuse_file};
-use adf_file_words::{BOOT_USAGE as USAGE, parse_boot};
+use crate::command_line::{ABOUT, BOOT_USAGE as USAGE, parse_boot};
+use crate::work::Work;
+use adf_file_runs::{About, Files, Invocation, SystemProgram, refuse_file};
 use adf_runs::{Sink, Source, WorkFault};
 use std::alloc::Global;
 
@@ -31,11 +31,9 @@ pub fn run<F: Files, R: Source, W: Sink, E: Sink>(
     requires reads { R.has_failed input.old ≡ false }
     requires writes { W.has_failed output.old ≡ false }
     requires tells { E.has_failed errors.old ≡ false }
-    ensures ends { RunEndsOnFiles (boot_command (F.bytes_of files.now)) boot_file (texts_of words.now)
+    ensures ends { BootEnds (texts_of words.now)
         (known_files F.bytes_of F.may_fail F.may_open files.now) (seen R.left R.has_failed input.old input.new) result
-        (seen W.held W.has_failed output.old output.new) (seen E.held E.has_failed errors.old errors.new)
-        ⊎ ((name : List ℕ) × AsksBoot (texts_of words.now) (copy name)
-        × LacksBoot name result (W.held output.old) (W.held output.new) (seen E.held E.has_failed errors.old errors.new)) }
+        (seen W.held W.has_failed output.old output.new) (seen E.held E.has_failed errors.old errors.new) }
     ensures untouched { AreRefusedByBoot (texts_of words.now)
         → (input.new ≡ input.old) × (output.new ≡ output.old) }
 {
@@ -53,5 +51,23 @@ pub fn run<F: Files, R: Source, W: Sink, E: Sink>(
             Ok(mut source) => work.on_input(alloc, &mut source, output).finish(errors),
             Err(why) => refuse_file(alloc, name, why, errors),
         },
+    }
+}
+
+impl SystemProgram for Work {
+    ghost ends = { BootEnds };
+
+    fn about() -> About {
+        ABOUT
+    }
+
+    fn start<F: Files, R: Source, W: Sink, E: Sink>(
+        alloc: Global,
+        asked: &Invocation<'_, F>,
+        input: &mut R,
+        output: &mut W,
+        errors: &mut E,
+    ) -> u8 {
+        run(alloc, asked.words, asked.files, input, output, errors)
     }
 }

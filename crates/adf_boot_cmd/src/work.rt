@@ -1,11 +1,9 @@
 // What is done with the boot blocks of an image.
 
 ghost use Rattle.std.specs.Prelude.{◌≡◌, ◌+◌, false, true};
-ghost use Rattle.adf_runs.specs.Outcomes.{Does, DoesOn, is_read_fault};
-ghost use Rattle.adf_runs.specs.Streams.{TakesAtMost, seen};
+ghost use Rattle.adf_runs.specs.{Outcomes.Does, Outcomes.DoesOn, Outcomes.is_read_fault, Streams.TakesAtMost, Streams.seen};
 ghost use Rattle.adf_boot_blocks.specs.declared.refusal.TheConstants.{MOST_BYTES};
-ghost use Rattle.adf_boot_cmd.specs.Answers.{BootAnswer};
-ghost use Rattle.adf_boot_cmd.specs.Work.{order_of};
+ghost use Rattle.adf_boot_cmd.specs.{Answers.BootAnswer, Work.order_of};
 
 use crate::writing::tell;
 use adf_boot_blocks::{BOOT_LEN, MOST_BYTES};

@@ -1,11 +1,8 @@
 // Images with other boot blocks.
 
 ghost use Rattle.std.specs.Prelude.{◌≡◌, ◌≤◌, ◌++◌, codes, false, length};
-ghost use Rattle.adf_boot_blocks.specs.declared.boot.TheConstants.{BOOT_LEN};
-ghost use Rattle.adf_boot_blocks.specs.declared.refusal.TheConstants.{MOST_BYTES};
-ghost use Rattle.adf_runs.specs.Commands.{on_errors, on_output};
-ghost use Rattle.adf_runs.specs.Outcomes.{Does, DoesSilently};
-ghost use Rattle.adf_runs.specs.Streams.{seen};
+ghost use Rattle.adf_boot_blocks.specs.{declared.boot.TheConstants.BOOT_LEN, declared.refusal.TheConstants.MOST_BYTES};
+ghost use Rattle.adf_runs.specs.{Commands.on_errors, Commands.on_output, Outcomes.Does, Outcomes.DoesSilently, Streams.seen};
 ghost use Rattle.adf_boot_cmd.specs.Answers.{changed_boot, line_status, boot_reply, order_refusal, boot_refusal_text, written};
 ghost use Rattle.adf_boot_cmd.specs.Work.{HasBoot, order_of};
 

@@ -1,11 +1,9 @@
 -- The free blocks are distinct, in the volume, and neither the root nor reserved.
 use Rattle.std.proofs.Common.{◌≡◌, ℕ, zero, suc, ◌∷◌, ◌++◌, inl, inr, ◌+◌, ◌-◌, ◌<◌, ◌≤◌, length, refl, ap, ◌∙◌, arith}
 use Rattle.std.specs.List.{range_with_len}
-use Rattle.std.proofs.lemmas.Bool.{cases_lt, Decides.nat_tests}
-use Rattle.std.proofs.lemmas.Grind.{common_steps}
+use Rattle.std.proofs.{lemmas.Bool.cases_lt, lemmas.Bool.Decides.nat_tests, lemmas.Grind.common_steps}
 use Rattle.adf_blocks.specs.Sizes.{middle}
-use Rattle.adf_volume.specs.Lists.{In}
-use Rattle.adf_volume.specs.Image.{map_exts_needed}
+use Rattle.adf_volume.specs.{Lists.In, Image.map_exts_needed}
 use Rattle.adf_volume.proofs.DistinctBlocks.{Distinct}
 use Rattle.adf_build.specs.Plan.{reserved, nth_free, allocated}
 

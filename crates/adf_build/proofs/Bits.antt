@@ -1,18 +1,13 @@
 -- The bits of the pages are those of the free blocks.
 use Rattle.std.proofs.Common.{◌≡◌, ℕ, zero, suc, List, [], ◌∷◌, ◌++◌, inl, inr, ◌+◌, ◌-◌, ◌*◌, ◌/◌, ◌%◌, ◌^◌, ◌<◌, ◌≤◌, length, refl, sym, ap, subst, ◌∙◌}
 use Rattle.std.proofs.Common.{arith, Bool, true, false, cond, map, take}
-use Rattle.std.proofs.lemmas.Bool.{cases_lt, Decides.nat_tests}
-use Rattle.std.proofs.Math.Nat.{pow-succ', div-div-eq-div-mul}
-use Rattle.adf_blocks.specs.declared.layout.TheConstants.{PAGE_BITS}
-use Rattle.adf_blocks.specs.Sizes.{middle}
+use Rattle.std.proofs.{lemmas.Bool.cases_lt, lemmas.Bool.Decides.nat_tests, Math.Nat.pow-succ', Math.Nat.div-div-eq-div-mul, Math.ListN.set}
+use Rattle.std.proofs.{lemmas.List.take_more_set, lemmas.List.FromFn.map-range_with_len_more, lemmas.Grind.common_steps}
+use Rattle.adf_blocks.specs.{declared.layout.TheConstants.PAGE_BITS, Sizes.middle}
 use Rattle.adf_volume.specs.Lists.{In}
-use Rattle.std.proofs.Math.ListN.{set}
 use Rattle.std.specs.List.{range_with_len}
-use Rattle.std.proofs.lemmas.List.{take_more_set, FromFn.map-range_with_len_more}
-use Rattle.std.proofs.lemmas.Grind.{common_steps}
 use Rattle.adf_volume.proofs.Lists.{in_left, in_right, in_cases}
-use Rattle.adf_build.specs.Plan.{reserved, nth_free, allocated}
-use Rattle.adf_build.specs.Bits.{is_used, bits_from, is_free_bit}
+use Rattle.adf_build.specs.{Plan.reserved, Plan.nth_free, Plan.allocated, Bits.is_used, Bits.bits_from, Bits.is_free_bit}
 use Rattle.adf_build.proofs.AllocatedBlocks.{stretch, in_allocated, allocated_in, in_range, range_in, Stretch.low, Stretch.high}
 
 used_middle : (n total b : ℕ) → middle n ≤ b → b ≤ middle n + reserved n → is_used n total b ≡ true

@@ -1,11 +1,9 @@
 -- Chains with correct pointers to the next member are spelled.
 use Rattle.std.proofs.Common.{◌≡◌, ℕ, suc, List, [], ◌∷◌, refl, map, arith}
 use Rattle.std.proofs.lemmas.Grind.{common_steps}
-use Rattle.adf_base.specs.Hash.{slot_by}
-use Rattle.adf_base.specs.declared.hash.Letters.{Letters}
+use Rattle.adf_base.specs.{Hash.slot_by, declared.hash.Letters.Letters}
 use Rattle.adf_tree.specs.declared.entry.Entry.{Entry}
-use Rattle.adf_volume.specs.Lists.{Spelled}
-use Rattle.adf_volume.specs.Layout.{nodes_from_by}
+use Rattle.adf_volume.specs.{Lists.Spelled, Layout.nodes_from_by}
 use Rattle.adf_build.specs.Laid.{first_block}
 use Rattle.adf_volume.proofs.Comparisons.{both_equal}
 

@@ -1,27 +1,18 @@
 -- The place of each built entry, and the pointer of its header to the next one in its chain.
 use Rattle.std.proofs.Common.{◌≡◌, ℕ, zero, suc, List, [], ◌∷◌, ◌+◌, ◌^◌, ◌<◌, ◌≤◌, map, refl, sym, ap, subst, ◌∙◌, arith, slice_index}
-use Rattle.std.proofs.lemmas.List.FromFn.{get_or-map-range_with_len}
-use Rattle.std.proofs.lemmas.Grind.{common_steps}
-use Rattle.adf_base.specs.Hash.{slot_by}
-use Rattle.adf_base.specs.Words.{block, word}
-use Rattle.adf_tree.specs.Bounds.{IsBoundedEntry}
+use Rattle.std.proofs.{lemmas.List.FromFn.get_or-map-range_with_len, lemmas.Grind.common_steps}
+use Rattle.adf_base.specs.{Hash.slot_by, Words.block, Words.word}
+use Rattle.adf_tree.specs.{Bounds.IsBoundedEntry, declared.entry.Entry.Entry, declared.entry.Body.TheVariants.Dir, Tree.Tree}
 use Rattle.adf_names.specs.declared.kind.Kind.{Kind}
-use Rattle.adf_tree.specs.declared.entry.Entry.{Entry}
-use Rattle.adf_tree.specs.declared.entry.Body.TheVariants.{Dir}
-use Rattle.adf_tree.specs.Tree.{Tree}
 use Rattle.adf_blocks.specs.declared.layout.TheConstants.{FIRST_SLOT, NEXT_IN_CHAIN, SLOTS}
-use Rattle.adf_blocks.specs.Sizes.{middle}
-use Rattle.adf_blocks.specs.HeadBlock.{FitsHead, head_block, BodyFields.DirFields}
-use Rattle.adf_blocks.proofs.HeadLaws.{head_block-next, head_block-slot}
-use Rattle.adf_blocks.proofs.RootLaws.{root_block-slot}
-use Rattle.adf_volume.specs.Lists.{At, Spelled}
-use Rattle.adf_volume.specs.Image.{word_in}
+use Rattle.adf_blocks.specs.{Sizes.middle, HeadBlock.FitsHead, HeadBlock.head_block, HeadBlock.BodyFields.DirFields}
+use Rattle.adf_blocks.proofs.{HeadLaws.head_block-next, HeadLaws.head_block-slot, RootLaws.root_block-slot}
+use Rattle.adf_volume.specs.{Lists.At, Lists.Spelled, Image.word_in}
 use Rattle.adf_volume.specs.Layout.{Place, nodes_from_by, chain_nodes_by, head_at, exts_at, datas_at, at_node}
 use Rattle.adf_build.specs.Plan.{exts_needed, data_blocks, entry_blocks, entries_blocks, nth_free, allocated, places_from, planned}
 use Rattle.adf_build.specs.Writes.{HoldsBlocks}
 use Rattle.adf_build.specs.Laid.{body_writes, entries_writes, first_block, heads_from, node_blocks, planned_body, slots_by, volume}
-use Rattle.adf_build.proofs.ChainLinks.{LinksBy, spelled_chain}
-use Rattle.adf_build.proofs.WholeBlocks.{fits_head, entry_head}
+use Rattle.adf_build.proofs.{ChainLinks.LinksBy, ChainLinks.spelled_chain, WholeBlocks.fits_head, WholeBlocks.entry_head}
 use Rattle.adf_build.proofs.LaidWrites.{CanHold, has_free, near, entry_sound, fits_root, volume_blocks, holds_entries, holds_root}
 use Rattle.adf_build.proofs.WrittenBlocks.{holds_left, holds_right}
 

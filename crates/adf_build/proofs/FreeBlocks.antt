@@ -1,15 +1,11 @@
 -- The blocks free for entries, and the tables that point to them.
 use Rattle.std.proofs.Common.{◌≡◌, ◌≤◌, ◌<◌, ◌+◌, ◌-◌, ◌*◌, ◌/◌, ◌^◌, ℕ, List, arith, true, length, take, nat_le, nat_lt, ◌||◌}
-use Rattle.std.proofs.Math.ListN.{set}
-use Rattle.std.proofs.lemmas.Bool.Decides.{nat_tests}
-use Rattle.std.proofs.lemmas.List.{take_more_set}
-use Rattle.std.proofs.lemmas.Grind.{common_steps}
+use Rattle.std.proofs.{Math.ListN.set, lemmas.Bool.Decides.nat_tests, lemmas.List.take_more_set, lemmas.Grind.common_steps}
 use Rattle.adf_names.specs.declared.kind.Kind.{Kind, TheVariants.Ofs, TheVariants.Ffs}
 use Rattle.adf_blocks.specs.Sizes.{chunk, count, is_allowed, pages_needed}
 use Rattle.adf_volume.specs.Image.{map_exts_needed}
 use Rattle.adf_volume.proofs.Sizes.{size_high, size_low}
-use Rattle.adf_build.specs.Bits.{is_used}
-use Rattle.adf_build.specs.Plan.{nth_free, reserved, allocated}
+use Rattle.adf_build.specs.{Bits.is_used, Plan.nth_free, Plan.reserved, Plan.allocated}
 use Rattle.adf_build.proofs.AllocatedBlocks.{free_below, allocated-append}
 
 -- the pages and the bitmap extension blocks are few

@@ -1,38 +1,27 @@
 -- The entries of a tree fit the built volume.
 use Rattle.std.proofs.Common.{◌≡◌, ℕ, zero, suc, List, ◌+◌, ◌-◌, ◌*◌, ◌/◌, ◌%◌, ◌^◌, ◌<◌, ◌≤◌, length, min, refl, sym, ap, subst, ◌∙◌, arith}
 use Rattle.std.specs.Prelude.{slice_index}
-use Rattle.std.proofs.lemmas.Bool.Decides.{nat_tests}
-use Rattle.std.proofs.lemmas.Grind.{common_steps}
-use Rattle.adf_base.specs.Hash.{slot_by, slot_of}
-use Rattle.adf_base.specs.declared.hash.Letters.{Letters}
-use Rattle.adf_base.specs.Words.{block, word}
+use Rattle.std.proofs.{lemmas.Bool.Decides.nat_tests, lemmas.Grind.common_steps}
+use Rattle.adf_base.specs.{Hash.slot_by, Hash.slot_of, declared.hash.Letters.Letters, Words.block, Words.word}
 use Rattle.adf_names.specs.declared.kind.Kind.{Kind, TheVariants.Ofs, TheVariants.Ffs}
 use Rattle.adf_tree.specs.declared.entry.Body.{Body, TheVariants.Dir, TheVariants.File}
-use Rattle.adf_tree.specs.declared.entry.Entry.{Entry}
-use Rattle.adf_tree.specs.Tree.{Tree}
-use Rattle.adf_blocks.specs.Sizes.{chunk, count}
+use Rattle.adf_tree.specs.{declared.entry.Entry.Entry, Tree.Tree}
+use Rattle.adf_blocks.specs.{Sizes.chunk, Sizes.count, Forms.text_at}
 use Rattle.adf_blocks.specs.declared.layout.TheConstants.{EXTENSION, FIRST_POINTER, NAME, POINTERS, SECONDARY_TYPE, SIZE}
-use Rattle.adf_blocks.specs.Forms.{text_at}
 use Rattle.adf_blocks.specs.HeadBlock.{HeadFields, meta_at, secondary_of, ext_of, head_form, head_form_by, BodyFields.FileFields}
 use Rattle.adf_blocks.proofs.HeadLaws.{head_block-form, head_block-name, head_block-meta, head_block-secondary, head_block-size, head_block-ext}
-use Rattle.adf_blocks.proofs.HeadLaws.{head_block-pointer}
-use Rattle.adf_blocks.proofs.FieldLaws.{long_number}
-use Rattle.adf_volume.specs.Lists.{At, Spelled}
+use Rattle.adf_blocks.proofs.{HeadLaws.head_block-pointer, FieldLaws.long_number}
+use Rattle.adf_volume.specs.{Lists.At, Lists.Spelled, Demands.AllHold, Demands.demands_at, Demands.head_demands_by, Demands.data_demands, Layout.at_node}
+use Rattle.adf_volume.specs.{Layout.exts_of, Layout.datas_of, Fits.EntryFitsBy, Fits.FileFits, Fits.BodyFits, Fits.TableAt}
 use Rattle.adf_volume.specs.Image.{word_in, held, content, table_word, name_of, meta_of}
-use Rattle.adf_volume.specs.Demands.{AllHold, demands_at, head_demands_by, data_demands}
-use Rattle.adf_volume.specs.Layout.{at_node, exts_of, datas_of}
-use Rattle.adf_volume.specs.Fits.{EntryFitsBy, FileFits, BodyFits, TableAt}
 use Rattle.adf_volume.proofs.FormDemands.{all_demanded}
 use Rattle.adf_build.specs.Plan.{exts_needed, data_blocks, entries_blocks, nth_free, allocated, places_from, planned}
 use Rattle.adf_build.specs.Writes.{HoldsBlocks}
 use Rattle.adf_build.specs.Laid.{body_writes, data_writes, ext_writes, node_blocks, nth_free_or_none, planned_body, slots_by, volume}
-use Rattle.adf_build.proofs.AllocatedBlocks.{length_allocated}
-use Rattle.adf_build.proofs.WholeBlocks.{free_small, next_small, entry_head}
-use Rattle.adf_build.proofs.LaidWrites.{CanHold, has_free, small, entry_sound}
-use Rattle.adf_build.proofs.WrittenBlocks.{holds_left, holds_right}
-use Rattle.adf_build.proofs.EntryBlocks.{Standing, head_fits, nodes_at, standing}
+use Rattle.adf_build.proofs.{AllocatedBlocks.length_allocated, WholeBlocks.free_small, WholeBlocks.next_small, WholeBlocks.entry_head, LaidWrites.CanHold}
+use Rattle.adf_build.proofs.{LaidWrites.has_free, LaidWrites.small, LaidWrites.entry_sound, WrittenBlocks.holds_left, WrittenBlocks.holds_right}
+use Rattle.adf_build.proofs.{EntryBlocks.Standing, EntryBlocks.head_fits, EntryBlocks.nodes_at, EntryBlocks.standing, FreeBlocks.size_small}
 use Rattle.adf_build.proofs.LaidFiles.{allocated_at, allocated_index, exts_linked, exts_formed, exts_point, bytes_held, datas_formed, held_long}
-use Rattle.adf_build.proofs.FreeBlocks.{size_small}
 
 chunks_cover : (kind : Kind) (size : ℕ) → size ≤ count kind size * chunk kind
 unfolding count chunk

@@ -1,30 +1,20 @@
 -- The extension blocks, the data blocks and the content of a built file.
 use Rattle.std.proofs.Common.{◌≡◌, ℕ, zero, suc, List, [], ◌∷◌, ◌++◌, inl, inr, ◌+◌, ◌-◌, ◌*◌, ◌<◌, ◌≤◌, length, take, drop, refl, sym, ap, subst, ◌∙◌, arith}
 use Rattle.std.proofs.Common.{take_all, length-take, length-drop, length-take-le, slice_index, None, replicate}
-use Rattle.std.proofs.lemmas.Bool.{cases_lt, Decides.nat_tests}
+use Rattle.std.proofs.{lemmas.Bool.cases_lt, lemmas.Bool.Decides.nat_tests, Math.Seq.take-append-add, lemmas.Grind.common_steps}
 use Rattle.std.proofs.lemmas.List.{drop-drop, take-append-le, take-append-drop, take-take}
-use Rattle.std.proofs.Math.Seq.{take-append-add}
-use Rattle.std.proofs.lemmas.Grind.{common_steps}
 use Rattle.adf_base.specs.Words.{block, word}
 use Rattle.adf_base.proofs.WordLaws.{range-with_bytes_same}
 use Rattle.adf_names.specs.declared.kind.Kind.{Kind, TheVariants.Ofs, TheVariants.Ffs}
 use Rattle.adf_blocks.specs.declared.layout.TheConstants.{DATA_BYTES, DATA_ROOM, EXTENSION, FIRST_POINTER, POINTERS}
-use Rattle.adf_blocks.specs.Forms.{first_cause}
-use Rattle.adf_blocks.specs.ExtBlock.{FitsExt, ext_block, ext_form}
-use Rattle.adf_blocks.specs.DataBlock.{data_form}
-use Rattle.adf_blocks.proofs.ExtLaws.{ext_block-form, ext_block-next, ext_block-pointer}
-use Rattle.adf_blocks.proofs.DataLaws.{data_block-form, data_block-bytes}
-use Rattle.adf_volume.specs.Lists.{At, Spelled}
-use Rattle.adf_blocks.specs.Sizes.{chunk, count}
-use Rattle.adf_volume.specs.Image.{word_in, held, area, joined}
+use Rattle.adf_blocks.specs.{Forms.first_cause, ExtBlock.FitsExt, ExtBlock.ext_block, ExtBlock.ext_form, DataBlock.data_form, Sizes.chunk, Sizes.count}
+use Rattle.adf_blocks.proofs.{ExtLaws.ext_block-form, ExtLaws.ext_block-next, ExtLaws.ext_block-pointer, DataLaws.data_block-form, DataLaws.data_block-bytes}
+use Rattle.adf_volume.specs.{Lists.At, Lists.Spelled, Image.word_in, Image.held, Image.area, Image.joined}
 use Rattle.adf_volume.specs.Demands.{AllHold, ext_demands, data_demands}
-use Rattle.adf_volume.proofs.FormDemands.{all_demanded}
-use Rattle.adf_volume.proofs.Lists.{at_below, at_index, index_past}
-use Rattle.adf_build.proofs.AllocatedBlocks.{length_allocated}
-use Rattle.adf_build.specs.Plan.{allocated, exts_needed, nth_free}
-use Rattle.adf_build.specs.Writes.{HoldsBlocks}
+use Rattle.adf_volume.proofs.{FormDemands.all_demanded, Lists.at_below, Lists.at_index, Lists.index_past}
+use Rattle.adf_build.proofs.{AllocatedBlocks.length_allocated, Parts.part_held}
+use Rattle.adf_build.specs.{Plan.allocated, Plan.exts_needed, Plan.nth_free, Writes.HoldsBlocks}
 use Rattle.adf_build.specs.Laid.{data_bytes, data_part, data_writes, ext_part, ext_writes, nth_free_or_none, planned_data, planned_ext}
-use Rattle.adf_build.proofs.Parts.{part_held}
 use Rattle.adf_build.proofs.WholeBlocks.{HasFree, free_small, next_small, fits_ext, fits_data, data_long, chunk_small, chunk_ofs}
 
 -- block j of a run

@@ -2,49 +2,32 @@
 use Rattle.std.proofs.Common.{◌≡◌, ℕ, zero, suc, List, [], ◌∷◌, ◌+◌, ◌-◌, ◌*◌, ◌/◌, ◌%◌, ◌^◌, ◌<◌, ◌≤◌, length, map, refl, sym, ap, subst, ◌∙◌, arith, Bool}
 use Rattle.std.proofs.Common.{true, false, cond, slice_index, None, ◌↔◌, ◌==◌, IsBitSet}
 use Rattle.std.specs.List.{range_with_len}
-use Rattle.std.proofs.lemmas.Nat.{bit_set_by_shift, and_mask}
-use Rattle.adf_tree.specs.declared.entry.Body.TheVariants.{File}
+use Rattle.std.proofs.{lemmas.Nat.bit_set_by_shift, lemmas.Nat.and_mask, lemmas.Grind.common_steps}
+use Rattle.adf_tree.specs.{declared.entry.Body.TheVariants.File, declared.entry.Entry.Entry, Tree.Tree, Tree.IsDir}
 use Rattle.std.proofs.lemmas.List.FromFn.{get_or-map-range_with_len, get_or-range_with_len, length-map-range_with_len, length-range_with_len}
-use Rattle.adf_base.specs.declared.hash.Letters.{Letters}
-use Rattle.adf_base.specs.Words.{block, word, with_bytes}
+use Rattle.adf_base.specs.{declared.hash.Letters.Letters, Words.block, Words.word, Words.with_bytes}
 use Rattle.adf_names.specs.declared.kind.Kind.{Kind, TheVariants.Ofs, TheVariants.Ffs}
-use Rattle.adf_tree.specs.declared.entry.Entry.{Entry}
-use Rattle.adf_tree.specs.Tree.{Tree, IsDir}
 use Rattle.adf_blocks.specs.declared.layout.TheConstants.{FIRST_MAP_EXT, FIRST_PAGE, FIRST_SLOT, MAP_EXT_NEXT, MAP_EXT_PAGES, NAME, NEXT_IN_CHAIN, PAGE_BITS}
 use Rattle.adf_blocks.specs.declared.layout.TheConstants.{ROOT_PAGES, SLOTS}
-use Rattle.adf_blocks.specs.Sizes.{blocks, middle, pages_needed}
-use Rattle.adf_blocks.specs.Forms.{first_cause, text_at}
-use Rattle.adf_blocks.specs.Fields.{block_of_fields}
-use Rattle.adf_blocks.specs.RootBlock.{root_form, stamps_at}
-use Rattle.adf_blocks.specs.MapExtBlock.{map_ext_block}
-use Rattle.adf_blocks.specs.PageBlock.{page_form, page_block, IsFreeBit}
+use Rattle.adf_blocks.specs.{Sizes.blocks, Sizes.middle, Sizes.pages_needed, Forms.first_cause, Forms.text_at, Fields.block_of_fields, RootBlock.root_form}
+use Rattle.adf_blocks.specs.{RootBlock.stamps_at, MapExtBlock.map_ext_block, PageBlock.page_form, PageBlock.page_block, PageBlock.IsFreeBit}
 use Rattle.adf_blocks.proofs.RootLaws.{root_block-form, root_block-text, root_block-stamps, root_block-page, root_block-map_ext}
-use Rattle.adf_blocks.proofs.MapExtLaws.{map_ext_block-next, map_ext_block-page}
-use Rattle.adf_blocks.proofs.PageLaws.{page_block-form, page_block-bit}
-use Rattle.adf_volume.specs.declared.owner.Owner.{Owner}
-use Rattle.adf_volume.specs.Lists.{At, In, Spelled}
+use Rattle.adf_blocks.proofs.{MapExtLaws.map_ext_block-next, MapExtLaws.map_ext_block-page, PageLaws.page_block-form, PageLaws.page_block-bit}
+use Rattle.adf_volume.specs.{declared.owner.Owner.Owner, Lists.At, Lists.In, Lists.Spelled, Fits.FitsBy, Fits.EntryFitsBy, Fits.FileFits, Fits.IsFree}
 use Rattle.adf_volume.specs.Image.{word_in, root_of, kind_of, name_of, stamps_of, map_exts_needed}
 use Rattle.adf_volume.specs.Demands.{AllHold, boot_form_by, boot_demands_by, root_demands, page_demands}
 use Rattle.adf_volume.specs.Layout.{EntryAt, at_node, chain_nodes_by, owned}
-use Rattle.adf_volume.specs.Fits.{FitsBy, EntryFitsBy, FileFits, IsFree}
-use Rattle.adf_volume.proofs.FormDemands.{all_demanded}
-use Rattle.adf_volume.proofs.Lists.{at_below, at_index}
-use Rattle.adf_volume.proofs.Images.{page_in}
-use Rattle.adf_volume.proofs.TreeOrder.{dir_node}
+use Rattle.adf_volume.proofs.{FormDemands.all_demanded, Lists.at_below, Lists.at_index, Images.page_in, TreeOrder.dir_node}
 use Rattle.adf_volume.proofs.DistinctBlocks.{block_in, in_block}
 use Rattle.adf_build.specs.Plan.{entry_blocks, entries_blocks, places_from, planned}
 use Rattle.adf_build.specs.Bits.{is_used, is_free_bit, bits_from, page_words}
 use Rattle.adf_build.specs.Laid.{IsLaid, boot_bytes_by, listed_pages, map_ext_or_none, map_ext_part, page_part, planned_root, volume}
-use Rattle.adf_build.proofs.AllocatedBlocks.{reserved_below}
-use Rattle.adf_build.proofs.Parts.{part_held}
-use Rattle.adf_build.proofs.Planned.{owned_blocks, planned_once, planned_range}
-use Rattle.adf_build.proofs.Bits.{bit_of, bits_small, owned_used, used_owned}
+use Rattle.adf_build.proofs.{AllocatedBlocks.reserved_below, Parts.part_held, Planned.owned_blocks, Planned.planned_once, Planned.planned_range, Bits.bit_of}
+use Rattle.adf_build.proofs.{Bits.bits_small, Bits.owned_used, Bits.used_owned, LaidEntries.entry_laid, LaidEntries.file_laid}
 use Rattle.adf_build.proofs.LaidWrites.{CanHold, can_hold, four, small, listed_few, reserved_parts, fits_root, volume_long, volume_blocks, holds_map_exts}
 use Rattle.adf_build.proofs.LaidWrites.{holds_pages, holds_root, holds_boot}
 use Rattle.adf_build.proofs.EntryBlocks.{standing, chain_laid, root_slot, dir_slot}
-use Rattle.adf_build.proofs.LaidEntries.{entry_laid, file_laid}
 use Rattle.std.proofs.lemmas.Bool.{false_from_ne_true, true≢false, Decides.nat_tests}
-use Rattle.std.proofs.lemmas.Grind.{common_steps}
 
 boot_holds : (letters : Letters) (kind : Kind) → first_cause (boot_form_by letters (block_of_fields ((0, boot_bytes_by letters kind) ∷ []))) ≡ None
 unfolding with_bytes

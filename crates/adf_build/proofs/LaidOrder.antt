@@ -1,35 +1,20 @@
 -- The order of a built volume: each part in its place, ascending without gaps, and zeros elsewhere.
 use Rattle.std.proofs.Common.{◌≡◌, ℕ, zero, suc, List, [], length, ◌∷◌, ◌++◌, ◌⊎◌, inl, inr, ◌+◌, ◌-◌, ◌*◌, ◌<◌, ◌≤◌, refl, sym, ap, subst, ◌∙◌, arith}
-use Rattle.std.specs.List.{range_with_len}
-use Rattle.std.specs.Prelude.{replicate}
-use Rattle.std.proofs.lemmas.Bool.{cases_lt}
+use Rattle.std.specs.{List.range_with_len, Prelude.replicate}
+use Rattle.std.proofs.{lemmas.Bool.cases_lt, lemmas.Grind.common_steps}
 use Rattle.std.proofs.lemmas.List.{drop-replicate, take-replicate, FromFn.length-range_with_len}
-use Rattle.std.proofs.lemmas.Grind.{common_steps}
 use Rattle.adf_base.specs.Words.{block}
-use Rattle.adf_tree.specs.Tree.{Tree}
-use Rattle.adf_tree.specs.declared.entry.Body.TheVariants.{File}
-use Rattle.adf_tree.specs.declared.entry.Entry.{Entry}
+use Rattle.adf_tree.specs.{Tree.Tree, declared.entry.Body.TheVariants.File, declared.entry.Entry.Entry}
 use Rattle.adf_names.specs.declared.kind.Kind.{Kind}
-use Rattle.adf_blocks.specs.declared.layout.TheConstants.{POINTERS}
-use Rattle.adf_blocks.specs.Sizes.{blocks, count, middle, pages_needed}
-use Rattle.adf_volume.specs.declared.owner.Owner.{Owner}
-use Rattle.adf_volume.specs.Lists.{At, In}
-use Rattle.adf_volume.specs.Fits.{FitsBy}
-use Rattle.adf_volume.specs.Image.{map_exts_needed}
+use Rattle.adf_blocks.specs.{declared.layout.TheConstants.POINTERS, Sizes.blocks, Sizes.count, Sizes.middle, Sizes.pages_needed}
+use Rattle.adf_volume.specs.{declared.owner.Owner.Owner, Lists.At, Lists.In, Fits.FitsBy, Image.map_exts_needed}
 use Rattle.adf_volume.specs.Layout.{EntryAt, Layout, exts_at, exts_of, owned}
-use Rattle.adf_volume.proofs.Lists.{in_left, in_right}
-use Rattle.adf_volume.proofs.DistinctBlocks.{in_block}
-use Rattle.adf_build.specs.InOrder.{IsInOrder, blocks_in_order}
+use Rattle.adf_volume.proofs.{Lists.in_left, Lists.in_right, DistinctBlocks.in_block}
+use Rattle.adf_build.specs.{InOrder.IsInOrder, InOrder.blocks_in_order, Writes.numbers_of, Laid.writes, Laid.volume, Laid.IsLaid}
 use Rattle.adf_build.specs.Plan.{allocated, data_blocks, entries_blocks, exts_needed, nth_free, places_from, planned, reserved}
-use Rattle.adf_build.specs.Writes.{numbers_of}
-use Rattle.adf_build.specs.Laid.{writes, volume, IsLaid}
 use Rattle.adf_build.proofs.AllocatedBlocks.{stretch, allocated-append, allocated_in, free_rises, in_allocated, length_allocated, range_in}
-use Rattle.adf_build.proofs.AllocatedBlocks.Stretch.{low, high}
-use Rattle.adf_build.proofs.Planned.{owned_blocks}
-use Rattle.adf_build.proofs.BlockWrites.{with_blocks_same, with_blocks_other}
-use Rattle.adf_build.proofs.WrittenBlocks.{number_in}
-use Rattle.adf_build.proofs.LaidFiles.{allocated_at}
-use Rattle.adf_build.proofs.LaidFits.{laid_fits, range_at}
+use Rattle.adf_build.proofs.{AllocatedBlocks.Stretch.low, AllocatedBlocks.Stretch.high, Planned.owned_blocks, BlockWrites.with_blocks_same}
+use Rattle.adf_build.proofs.{BlockWrites.with_blocks_other, WrittenBlocks.number_in, LaidFiles.allocated_at, LaidFits.laid_fits, LaidFits.range_at}
 use Rattle.adf_build.proofs.LaidWrites.{can_hold, four, writes_are, writes_once, zeros_long}
 
 -- the free block that is b

@@ -1,37 +1,23 @@
 -- A built volume has each of its parts.
 use Rattle.std.proofs.Common.{◌≡◌, ℕ, zero, suc, List, [], ◌∷◌, ◌++◌, inl, inr, ◌+◌, ◌-◌, ◌*◌, ◌^◌, ◌<◌, ◌≤◌, length, refl, sym, subst, arith, true}
-use Rattle.std.proofs.Common.{append_assoc, slice_index, replicate}
+use Rattle.std.proofs.{Common.append_assoc, Common.slice_index, Common.replicate, lemmas.Grind.common_steps}
 use Rattle.std.specs.List.{range_with_len}
 use Rattle.std.proofs.lemmas.List.{length-replicate, FromFn.length-map-range_with_len, FromFn.length-range_with_len}
-use Rattle.std.proofs.lemmas.Grind.{common_steps}
-use Rattle.adf_base.specs.declared.hash.Letters.{Letters}
-use Rattle.adf_base.specs.Words.{block}
-use Rattle.adf_tree.specs.Bounds.{IsBoundedEntry}
+use Rattle.adf_base.specs.{declared.hash.Letters.Letters, Words.block}
+use Rattle.adf_tree.specs.{Bounds.IsBoundedEntry, declared.entry.Entry.Entry, Tree.Tree}
 use Rattle.adf_names.specs.declared.kind.Kind.{Kind}
-use Rattle.adf_tree.specs.declared.entry.Entry.{Entry}
-use Rattle.adf_tree.specs.Tree.{Tree}
 use Rattle.adf_blocks.specs.declared.layout.TheConstants.{MAP_EXT_PAGES, PAGE_BITS}
-use Rattle.adf_blocks.specs.Sizes.{blocks, middle, pages_needed, is_allowed}
-use Rattle.adf_blocks.specs.Fields.{block_of_fields}
-use Rattle.adf_blocks.specs.RootBlock.{FitsRoot, root_block}
-use Rattle.adf_blocks.proofs.FieldLaws.{length-block_of_fields}
-use Rattle.adf_blocks.proofs.RootLaws.{length_root_block}
-use Rattle.adf_blocks.proofs.PageLaws.{length_page_block}
-use Rattle.adf_blocks.proofs.MapExtLaws.{length_map_ext_block}
-use Rattle.adf_volume.specs.Lists.{At}
-use Rattle.adf_volume.specs.Image.{map_exts_needed}
-use Rattle.adf_volume.proofs.Lists.{in_cases, at_below, at_index_or}
-use Rattle.adf_volume.proofs.Sizes.{size_low, size_high}
+use Rattle.adf_blocks.specs.{Sizes.blocks, Sizes.middle, Sizes.pages_needed, Sizes.is_allowed, Fields.block_of_fields, RootBlock.FitsRoot, RootBlock.root_block}
+use Rattle.adf_blocks.proofs.{FieldLaws.length-block_of_fields, RootLaws.length_root_block, PageLaws.length_page_block, MapExtLaws.length_map_ext_block}
+use Rattle.adf_volume.specs.{Lists.At, Image.map_exts_needed}
+use Rattle.adf_volume.proofs.{Lists.in_cases, Lists.at_below, Lists.at_index_or, Sizes.size_low, Sizes.size_high}
 use Rattle.adf_volume.proofs.DistinctBlocks.{Distinct, distinct-append}
 use Rattle.adf_build.specs.Plan.{reserved, entry_blocks, entries_blocks, blocks_needed, allocated}
-use Rattle.adf_build.specs.Bits.{bits_from, is_free_bit, page_words}
-use Rattle.adf_build.specs.Writes.{AreBlocks, NoneTwice, HoldsBlocks, numbers_of}
+use Rattle.adf_build.specs.{Bits.bits_from, Bits.is_free_bit, Bits.page_words, Writes.AreBlocks, Writes.NoneTwice, Writes.HoldsBlocks, Writes.numbers_of}
 use Rattle.adf_build.specs.Laid.{IsLaid, IsWellFormed, boot_bytes_by, entries_writes, heads_from, listed_pages, map_ext_or_none, map_ext_part, map_ext_writes}
 use Rattle.adf_build.specs.Laid.{node_blocks, page_part, page_writes, planned_root, volume, writes}
 use Rattle.adf_build.proofs.AllocatedBlocks.{free_from, free_below, free_apart, reserved_below, in_allocated, in_range, distinct_allocated, distinct_range}
-use Rattle.adf_build.proofs.AllocatedBlocks.{range_with_len-append}
-use Rattle.adf_build.proofs.BlockWrites.{length-with_blocks}
-use Rattle.adf_build.proofs.Parts.{are_parts, range_numbers}
+use Rattle.adf_build.proofs.{AllocatedBlocks.range_with_len-append, BlockWrites.length-with_blocks, Parts.are_parts, Parts.range_numbers}
 use Rattle.adf_build.proofs.WrittenBlocks.{none_twice, laid_holds, holds_left, holds_right, numbers_of-append, entries_numbers}
 use Rattle.adf_build.proofs.WholeBlocks.{HasFree, free_small, are-append, are_entries}
 

@@ -1,18 +1,14 @@
 -- The bitmap extension blocks of a volume.
 use Rattle.std.proofs.Common.{map, take, min, ◌≡◌, ◌≤◌, ◌<◌, ◌+◌, ◌-◌, ◌*◌, ◌^◌, ℕ, List, arith, true, add-one}
 use Rattle.adf_base.specs.Words.{with_block}
-use Rattle.adf_blocks.specs.MapExtBlock.{map_ext_block}
-use Rattle.adf_blocks.specs.Sizes.{is_allowed, middle, pages_needed}
+use Rattle.adf_blocks.specs.{MapExtBlock.map_ext_block, Sizes.is_allowed, Sizes.middle, Sizes.pages_needed}
 use Rattle.adf_blocks.specs.declared.layout.TheConstants.{MAP_EXT_PAGES, ROOT_PAGES}
 use Rattle.std.specs.List.{range_with_len}
 use Rattle.std.proofs.lemmas.Grind.{common_steps}
 use Rattle.adf_volume.specs.Image.{map_exts_needed}
 use Rattle.adf_volume.proofs.Sizes.{size_high, size_low}
-use Rattle.adf_build.specs.Laid.{map_ext_or_none, map_ext_part}
-use Rattle.adf_build.specs.Writes.{with_blocks}
-use Rattle.adf_build.proofs.AllocatedBlocks.{reserved_below}
-use Rattle.adf_build.proofs.LaidWrites.{reserved_parts}
-use Rattle.adf_build.proofs.Parts.{part_step}
+use Rattle.adf_build.specs.{Laid.map_ext_or_none, Laid.map_ext_part, Writes.with_blocks}
+use Rattle.adf_build.proofs.{AllocatedBlocks.reserved_below, LaidWrites.reserved_parts, Parts.part_step}
 
 -- a bitmap extension block lies whole in the image
 pub map_ext_fits : (n b j l : ℕ) → is_allowed n ≡ true → b ≡ middle n + 1 + pages_needed n + j → j < map_exts_needed (pages_needed n) → l ≡ n * 512

@@ -2,19 +2,13 @@
 use Rattle.std.proofs.Common.{◌≡◌, ◌≤◌, ◌<◌, ◌≢◌, ◌+◌, ◌*◌, ℕ, zero, suc, List, [], ◌∷◌, refl, sym, ap, subst, ◌∙◌, arith, false, length, drop, inl, inr}
 use Rattle.std.proofs.Common.{get_or-set_other, get_or-set_same, ◌==◌, ◌&&◌, slice_index, slice_index_or, replicate}
 use Rattle.std.specs.List.{AllWithin, Sorted.IsNonDecreasingBy}
-use Rattle.std.proofs.Math.ListN.{set}
-use Rattle.std.proofs.lemmas.Bool.{cases_eq, cases_lt, Decides.nat_tests}
+use Rattle.std.proofs.{Math.ListN.set, lemmas.Bool.cases_eq, lemmas.Bool.cases_lt, lemmas.Bool.Decides.nat_tests, lemmas.Grind.common_steps}
 use Rattle.std.proofs.lemmas.List.{drop_all, get_or-replicate, FromFn.fill_by_all}
-use Rattle.std.proofs.lemmas.Grind.{common_steps}
-use Rattle.adf_base.specs.Hash.{slot_by}
-use Rattle.adf_base.specs.declared.hash.Letters.{Letters}
-use Rattle.adf_tree.specs.declared.entry.Entry.{Entry}
-use Rattle.adf_tree.specs.Chain.{in_chain_by}
-use Rattle.adf_tree.specs.Tree.{IsTreeBy, rank_by}
+use Rattle.adf_base.specs.{Hash.slot_by, declared.hash.Letters.Letters}
+use Rattle.adf_tree.specs.{declared.entry.Entry.Entry, Chain.in_chain_by, Tree.IsTreeBy, Tree.rank_by}
 use Rattle.adf_tree.proofs.TreeInvariant.{slot_small_by}
 use Rattle.adf_volume.specs.Layout.{nodes_from_by}
-use Rattle.adf_build.specs.Laid.{first_block, slots_by}
-use Rattle.adf_build.specs.Order.{RisesFromBy}
+use Rattle.adf_build.specs.{Laid.first_block, Laid.slots_by, Order.RisesFromBy}
 use Rattle.adf_volume.proofs.Comparisons.{equal_both}
 
 -- a lower bound

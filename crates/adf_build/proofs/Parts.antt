@@ -1,11 +1,9 @@
 -- Parts written one for each number: part j is f j, a block's number and its bytes.
 use Rattle.std.proofs.Common.{◌≡◌, ℕ, zero, suc, List, inl, inr, ◌+◌, ◌-◌, ◌<◌, ◌≤◌, length, map, refl, arith}
-use Rattle.std.proofs.lemmas.Bool.{cases_lt}
+use Rattle.std.proofs.{lemmas.Bool.cases_lt, lemmas.Grind.common_steps}
 use Rattle.std.specs.List.{range_with_len}
-use Rattle.std.proofs.lemmas.Grind.{common_steps}
 use Rattle.adf_base.specs.Words.{block, with_block}
-use Rattle.adf_build.specs.Plan.{allocated, nth_free}
-use Rattle.adf_build.specs.Writes.{AreBlocks, HoldsBlocks, numbers_of, with_blocks}
+use Rattle.adf_build.specs.{Plan.allocated, Plan.nth_free, Writes.AreBlocks, Writes.HoldsBlocks, Writes.numbers_of, Writes.with_blocks}
 
 -- one part more of m
 pub part_step : (image old all bytes : List ℕ) (f : ℕ → ℕ × List ℕ) (j b m : ℕ) → j < m → b ≡ (f j).0 → bytes ≡ (f j).1

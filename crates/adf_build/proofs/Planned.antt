@@ -1,16 +1,11 @@
 -- The blocks of a planned layout: the root, the reserved blocks and a run of free blocks.
 use Rattle.std.proofs.Common.{◌≡◌, ℕ, suc, List, [], ◌∷◌, ◌++◌, inl, inr, ◌+◌, ◌-◌, ◌<◌, ◌≤◌, length, refl, sym, ap, subst, ◌∙◌, arith, append_assoc}
-use Rattle.std.proofs.Common.{length-append}
-use Rattle.std.proofs.lemmas.List.FromFn.{length-range_with_len}
+use Rattle.std.proofs.{Common.length-append, lemmas.List.FromFn.length-range_with_len}
 use Rattle.std.specs.List.{range_with_len}
-use Rattle.adf_volume.specs.Lists.{In, NoBlockTwice}
+use Rattle.adf_volume.specs.{Lists.In, Lists.NoBlockTwice, Image.map_exts_needed, Layout.owned_from, Layout.owned, declared.owner.Owner.Owner}
 use Rattle.adf_names.specs.declared.kind.Kind.{Kind}
-use Rattle.adf_tree.specs.declared.entry.Entry.{Entry}
-use Rattle.adf_tree.specs.Tree.{Tree}
+use Rattle.adf_tree.specs.{declared.entry.Entry.Entry, Tree.Tree}
 use Rattle.adf_blocks.specs.Sizes.{blocks, middle, pages_needed}
-use Rattle.adf_volume.specs.Image.{map_exts_needed}
-use Rattle.adf_volume.specs.Layout.{owned_from, owned}
-use Rattle.adf_volume.specs.declared.owner.Owner.{Owner}
 use Rattle.adf_volume.proofs.DistinctBlocks.{blocks_of, blocks_of-append, blocks_of-numbered, block_in, Distinct, distinct_blocks, distinct-append}
 use Rattle.adf_volume.proofs.Lists.{in_cases}
 use Rattle.adf_build.specs.Plan.{reserved, allocated, exts_needed, data_blocks, entries_blocks, blocks_needed, places_from, planned}

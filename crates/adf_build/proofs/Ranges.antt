@@ -1,9 +1,7 @@
 -- Ranges of blocks.
 use Rattle.std.proofs.Common.{◌≡◌, ℕ, List, ◌+◌, ◌<◌, length, take, arith}
 use Rattle.std.specs.List.{range_with_len}
-use Rattle.std.proofs.Math.ListN.{set}
-use Rattle.std.proofs.lemmas.List.{take_more_set}
-use Rattle.std.proofs.lemmas.Grind.{common_steps}
+use Rattle.std.proofs.{Math.ListN.set, lemmas.List.take_more_set, lemmas.Grind.common_steps}
 use Rattle.adf_build.proofs.AllocatedBlocks.{range_with_len-append}
 
 -- one block more in a table

@@ -1,29 +1,17 @@
 -- Each built part is a whole block in the volume.
 use Rattle.std.proofs.Common.{◌≡◌, ℕ, suc, List, [], ◌∷◌, ◌++◌, ◌+◌, ◌*◌, ◌^◌, ◌<◌, ◌≤◌, length, take, drop, refl, arith, true, length-take, slice_index}
-use Rattle.std.proofs.lemmas.Bool.Decides.{nat_tests}
-use Rattle.std.proofs.lemmas.List.FromFn.{length-map-range_with_len}
-use Rattle.std.proofs.lemmas.Grind.{common_steps}
-use Rattle.adf_names.specs.Texts.{is_name}
-use Rattle.adf_names.specs.declared.kind.Kind.{Kind, TheVariants.Ofs, TheVariants.Ffs}
+use Rattle.std.proofs.{lemmas.Bool.Decides.nat_tests, lemmas.List.FromFn.length-map-range_with_len, lemmas.Grind.common_steps}
+use Rattle.adf_names.specs.{Texts.is_name, declared.kind.Kind.Kind, declared.kind.Kind.TheVariants.Ofs, declared.kind.Kind.TheVariants.Ffs}
 use Rattle.adf_tree.specs.declared.entry.Body.{Body, TheVariants.Dir, TheVariants.File}
-use Rattle.adf_tree.specs.declared.entry.Entry.{Entry}
-use Rattle.adf_tree.specs.Tree.{Tree}
+use Rattle.adf_tree.specs.{declared.entry.Entry.Entry, Tree.Tree}
 use Rattle.adf_blocks.specs.declared.layout.TheConstants.{DATA_ROOM, SLOTS}
-use Rattle.adf_blocks.specs.HeadBlock.{FitsHead, FitsBody, HeadFields}
-use Rattle.adf_blocks.specs.ExtBlock.{FitsExt}
-use Rattle.adf_blocks.specs.DataBlock.{FitsData}
-use Rattle.adf_blocks.proofs.FieldLaws.{length-block_of_fields}
-use Rattle.adf_blocks.proofs.HeadLaws.{length_head_block}
-use Rattle.adf_blocks.proofs.ExtLaws.{length_ext_block}
-use Rattle.adf_blocks.proofs.DataLaws.{length_data_block}
-use Rattle.adf_blocks.specs.Sizes.{chunk, count}
+use Rattle.adf_blocks.specs.{HeadBlock.FitsHead, HeadBlock.FitsBody, HeadBlock.HeadFields, ExtBlock.FitsExt, DataBlock.FitsData, Sizes.chunk, Sizes.count}
+use Rattle.adf_blocks.proofs.{FieldLaws.length-block_of_fields, HeadLaws.length_head_block, ExtLaws.length_ext_block, DataLaws.length_data_block}
 use Rattle.adf_volume.specs.Lists.{At}
-use Rattle.adf_build.specs.Plan.{exts_needed, data_blocks, entry_blocks, entries_blocks, nth_free}
-use Rattle.adf_build.specs.Writes.{AreBlocks}
+use Rattle.adf_build.specs.{Plan.exts_needed, Plan.data_blocks, Plan.entry_blocks, Plan.entries_blocks, Plan.nth_free, Writes.AreBlocks}
 use Rattle.adf_build.specs.Laid.{body_writes, data_bytes, data_part, data_writes, entries_writes, ext_part, ext_writes, node_blocks, nth_free_or_none}
 use Rattle.adf_build.specs.Laid.{planned_body, planned_data, planned_ext, planned_head, planned_spot, slots_by}
-use Rattle.adf_build.proofs.Parts.{are_parts}
-use Rattle.adf_build.proofs.AllocatedBlocks.{free_from, length_allocated}
+use Rattle.adf_build.proofs.{Parts.are_parts, AllocatedBlocks.free_from, AllocatedBlocks.length_allocated}
 
 pub chunk_small : (kind : Kind) → chunk kind ≤ 512
 unfolding chunk

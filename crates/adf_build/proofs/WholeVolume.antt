@@ -2,15 +2,10 @@
 use Rattle.std.proofs.Common.{◌≡◌, ◌*◌, ℕ, List, refl, sym, subst, arith, replicate}
 use Rattle.std.proofs.lemmas.Grind.{common_steps}
 use Rattle.adf_base.specs.declared.hash.Letters.TheVariants.{Ascii}
-use Rattle.adf_tree.specs.Bounds.{IsBounded}
-use Rattle.adf_tree.specs.Tree.{IsTreeBy, Tree}
-use Rattle.adf_volume.specs.Fits.{Fits, FitsBy}
-use Rattle.adf_volume.specs.Layout.{Layout}
-use Rattle.adf_build.specs.Laid.{IsLaid, IsWellFormed, writes, volume}
-use Rattle.adf_build.specs.Writes.{with_blocks}
-use Rattle.adf_build.specs.Plan.{planned}
-use Rattle.adf_build.proofs.LaidFits.{volume_fits}
-use Rattle.adf_build.proofs.LaidWrites.{CanHold, volume_blocks}
+use Rattle.adf_tree.specs.{Bounds.IsBounded, Tree.IsTreeBy, Tree.Tree}
+use Rattle.adf_volume.specs.{Fits.Fits, Fits.FitsBy, Layout.Layout}
+use Rattle.adf_build.specs.{Laid.IsLaid, Laid.IsWellFormed, Laid.writes, Laid.volume, Writes.with_blocks, Plan.planned}
+use Rattle.adf_build.proofs.{LaidFits.volume_fits, LaidWrites.CanHold, LaidWrites.volume_blocks}
 
 pub laid_bytes : (t : Tree) (n : ℕ) → with_blocks (replicate (n * 512) 0) (writes t n) ≡ volume t n
 unfolding volume

@@ -1,7 +1,6 @@
 -- Words of a page whose 32 blocks are all free, or none of them.
 use Rattle.std.proofs.Common.{◌≡◌, ◌≤◌, ◌<◌, ◌+◌, ◌*◌, ◌/◌, ◌^◌, ℕ, zero, suc, refl, sym, ap, ◌∙◌, arith, Bool, true, false, cond}
-use Rattle.std.proofs.lemmas.Bool.{false_from_ne_true, true≢false, Decides.nat_tests}
-use Rattle.std.proofs.Math.Nat.{pow-succ'}
+use Rattle.std.proofs.{lemmas.Bool.false_from_ne_true, lemmas.Bool.true≢false, lemmas.Bool.Decides.nat_tests, Math.Nat.pow-succ'}
 use Rattle.adf_build.specs.Bits.{bits_from, is_free_bit, is_used}
 
 -- bits that are all clear, and bits that are all set

@@ -1,31 +1,19 @@
 -- The steps of the loops that write blocks: the remaining blocks, by the first of them.
 use Rattle.std.proofs.Common.{◌≡◌, ◌<◌, ◌+◌, ◌-◌, ◌*◌, ℕ, suc, List, [], ◌∷◌, ◌++◌, refl, ap, ◌∙◌, arith, length, map, take, drop, min, slice_index}
 use Rattle.std.specs.List.{range_with_len}
-use Rattle.std.proofs.lemmas.List.{drop-drop, drop_min, take_min}
-use Rattle.std.proofs.lemmas.Grind.{common_steps}
-use Rattle.adf_base.specs.Hash.{slot_by}
-use Rattle.adf_base.specs.declared.hash.Letters.{Letters}
-use Rattle.adf_base.specs.Words.{with_block}
-use Rattle.adf_tree.specs.declared.entry.Body.TheVariants.{File}
-use Rattle.adf_tree.specs.declared.entry.Entry.{Entry}
-use Rattle.adf_names.specs.declared.kind.Kind.{Kind}
-use Rattle.adf_names.specs.declared.meta.Stamps.{Stamps}
-use Rattle.adf_tree.specs.Tree.{Tree}
+use Rattle.std.proofs.{lemmas.List.drop-drop, lemmas.List.drop_min, lemmas.List.take_min, lemmas.Grind.common_steps}
+use Rattle.adf_base.specs.{Hash.slot_by, declared.hash.Letters.Letters, Words.with_block}
+use Rattle.adf_tree.specs.{declared.entry.Body.TheVariants.File, declared.entry.Entry.Entry, Tree.Tree}
+use Rattle.adf_names.specs.{declared.kind.Kind.Kind, declared.meta.Stamps.Stamps}
 use Rattle.adf_blocks.specs.declared.layout.TheConstants.{POINTERS, ROOT_PAGES}
 use Rattle.adf_blocks.specs.Sizes.{chunk, count, middle, pages_needed}
-use Rattle.adf_blocks.specs.ExtBlock.{ext_block}
-use Rattle.adf_blocks.specs.Fields.{block_of_fields}
-use Rattle.adf_blocks.specs.HeadBlock.{head_block, BodyFields.FileFields}
-use Rattle.adf_blocks.specs.RootBlock.{root_block}
+use Rattle.adf_blocks.specs.{ExtBlock.ext_block, Fields.block_of_fields, HeadBlock.head_block, HeadBlock.BodyFields.FileFields, RootBlock.root_block}
 use Rattle.adf_volume.specs.Layout.{nodes_from_by}
-use Rattle.adf_build.specs.Writes.{with_blocks}
+use Rattle.adf_build.specs.{Writes.with_blocks, Laid.planned_spot, Laid.slots_by, Laid.writes, declared.heads.Spot.Spot}
 use Rattle.adf_build.specs.Laid.{boot_bytes_by, data_bytes, data_part, data_writes, entries_writes, entry_writes, ext_part, ext_writes, first_block}
 use Rattle.adf_build.specs.Laid.{planned_head, heads_from, map_ext_or_none, map_ext_writes, node_blocks, nth_free_or_none, page_writes, planned_root}
-use Rattle.adf_build.specs.Laid.{planned_spot, slots_by, writes}
 use Rattle.adf_build.specs.Plan.{allocated, data_blocks, entries_blocks, entry_blocks, exts_needed, nth_free}
-use Rattle.adf_build.specs.declared.heads.Spot.{Spot}
-use Rattle.adf_build.proofs.BlockWrites.{with_blocks-append}
-use Rattle.adf_build.proofs.Parts.{part_step}
+use Rattle.adf_build.proofs.{BlockWrites.with_blocks-append, Parts.part_step}
 
 -- one data block more
 pub data_step : (image old all : List ℕ) (n : ℕ) (kind : Kind) (k j c exts first b head next m : ℕ) (bytes left held : List ℕ) → j < c

@@ -3,17 +3,13 @@ use Rattle.std.proofs.Common.{◌≡◌, ℕ, suc, List, [], ◌∷◌, ◌++◌
 use Rattle.std.proofs.lemmas.Grind.{common_steps}
 use Rattle.adf_names.specs.declared.kind.Kind.{Kind}
 use Rattle.adf_tree.specs.declared.entry.Body.{Body, TheVariants.Dir, TheVariants.File}
-use Rattle.adf_tree.specs.declared.entry.Entry.{Entry}
-use Rattle.adf_tree.specs.Tree.{Tree}
+use Rattle.adf_tree.specs.{declared.entry.Entry.Entry, Tree.Tree}
 use Rattle.adf_volume.specs.Lists.{In}
 use Rattle.adf_blocks.specs.Sizes.{count}
 use Rattle.adf_volume.proofs.DistinctBlocks.{Distinct}
-use Rattle.adf_build.specs.Plan.{exts_needed, data_blocks, entry_blocks, entries_blocks, allocated}
-use Rattle.adf_build.specs.Writes.{with_blocks, AreBlocks, NoneTwice, HoldsBlocks, numbers_of}
-use Rattle.adf_build.specs.Laid.{body_writes, data_part, entries_writes, ext_part}
-use Rattle.adf_build.proofs.AllocatedBlocks.{allocated-append}
-use Rattle.adf_build.proofs.BlockWrites.{with_blocks_same}
-use Rattle.adf_build.proofs.Parts.{free_numbers}
+use Rattle.adf_build.specs.{Plan.exts_needed, Plan.data_blocks, Plan.entry_blocks, Plan.entries_blocks, Plan.allocated, Writes.with_blocks, Writes.AreBlocks}
+use Rattle.adf_build.specs.{Writes.NoneTwice, Writes.HoldsBlocks, Writes.numbers_of, Laid.body_writes, Laid.data_part, Laid.entries_writes, Laid.ext_part}
+use Rattle.adf_build.proofs.{AllocatedBlocks.allocated-append, BlockWrites.with_blocks_same, Parts.free_numbers}
 
 pub number_in : (ps : List (ℕ × List ℕ)) (q : ℕ × List ℕ) → In ps q → In (numbers_of ps) q.0
 number_in [] q h = absurd h

@@ -2,8 +2,7 @@
 use Rattle.std.specs.Prelude.{ℕ, List, ◌+◌, ◌-◌, ◌*◌, ◌&&◌, ◌||◌, nat_lt, nat_le, not, cond, Bool, map}
 use Rattle.std.specs.List.{range_with_len}
 use Rattle.std.proofs.Common.{zero, suc}
-use Rattle.adf_blocks.specs.declared.layout.TheConstants.{PAGE_BITS}
-use Rattle.adf_blocks.specs.Sizes.{middle}
+use Rattle.adf_blocks.specs.{declared.layout.TheConstants.PAGE_BITS, Sizes.middle}
 use Rattle.adf_build.specs.Plan.{reserved}
 
 -- block b is the root, a reserved block or one of the first `total` free blocks

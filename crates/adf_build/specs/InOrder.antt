@@ -1,13 +1,8 @@
 -- The order of the parts of a built volume: ascending, without gaps.
 use Rattle.std.specs.Prelude.{◌≡◌, ◌+◌, ◌*◌, ◌<◌, ◌≤◌, ℕ, List, [], ◌∷◌, ◌++◌, length}
-use Rattle.adf_tree.specs.declared.entry.Body.TheVariants.{File}
-use Rattle.adf_tree.specs.declared.entry.Entry.{Entry}
-use Rattle.adf_tree.specs.Tree.{Tree}
-use Rattle.adf_blocks.specs.Sizes.{blocks, count, middle}
-use Rattle.adf_blocks.specs.declared.layout.TheConstants.{POINTERS}
-use Rattle.adf_volume.specs.declared.owner.Owner.{Owner}
-use Rattle.adf_volume.specs.Lists.{At, In}
-use Rattle.adf_volume.specs.Layout.{EntryAt, Layout, Place, exts_of, owned}
+use Rattle.adf_tree.specs.{declared.entry.Body.TheVariants.File, declared.entry.Entry.Entry, Tree.Tree}
+use Rattle.adf_blocks.specs.{Sizes.blocks, Sizes.count, Sizes.middle, declared.layout.TheConstants.POINTERS}
+use Rattle.adf_volume.specs.{declared.owner.Owner.Owner, Lists.At, Lists.In, Layout.EntryAt, Layout.Layout, Layout.Place, Layout.exts_of, Layout.owned}
 
 -- the blocks of entries in order: for each its header, its extension blocks and its data blocks
 abbrev pub blocks_in_order : List Place → List ℕ

@@ -4,29 +4,18 @@
 use Rattle.std.specs.Prelude.{◌≡◌, ◌≤◌, ℕ, List, [], ◌∷◌, ◌++◌, ◌+◌, ◌-◌, ◌*◌, nat_lt, cond, length, take, drop, map, replicate, slice_index, min, true}
 use Rattle.std.specs.List.{range_with_len}
 use Rattle.std.proofs.Common.{suc}
-use Rattle.adf_base.specs.declared.hash.Letters.{Letters}
-use Rattle.adf_base.specs.Hash.{slot_by}
-use Rattle.adf_names.specs.VolumeTypes.{type_number}
-use Rattle.adf_names.specs.declared.kind.Kind.{Kind, TheVariants.Ofs, TheVariants.Ffs}
+use Rattle.adf_base.specs.{declared.hash.Letters.Letters, Hash.slot_by}
+use Rattle.adf_names.specs.{VolumeTypes.type_number, declared.kind.Kind.Kind, declared.kind.Kind.TheVariants.Ofs, declared.kind.Kind.TheVariants.Ffs}
 use Rattle.adf_tree.specs.declared.entry.Body.{Body, TheVariants.Dir, TheVariants.File}
-use Rattle.adf_tree.specs.declared.entry.Entry.{Entry}
-use Rattle.adf_tree.specs.Bounds.{IsBounded}
-use Rattle.adf_tree.specs.Tree.{Tree, IsTreeBy}
+use Rattle.adf_tree.specs.{declared.entry.Entry.Entry, Bounds.IsBounded, Tree.Tree, Tree.IsTreeBy}
 use Rattle.adf_blocks.specs.Sizes.{blocks, chunk, count, is_allowed, middle, pages_needed}
 use Rattle.adf_blocks.specs.declared.layout.TheConstants.{MAP_EXT_PAGES, POINTERS, ROOT_PAGES, SLOTS}
-use Rattle.adf_blocks.specs.Fields.{block_of_fields}
-use Rattle.adf_blocks.specs.RootBlock.{RootFields, root_block}
-use Rattle.adf_blocks.specs.PageBlock.{page_block}
-use Rattle.adf_blocks.specs.MapExtBlock.{map_ext_block}
+use Rattle.adf_blocks.specs.{Fields.block_of_fields, RootBlock.RootFields, RootBlock.root_block, PageBlock.page_block, MapExtBlock.map_ext_block}
+use Rattle.adf_blocks.specs.{ExtBlock.ExtFields, ExtBlock.ext_block, DataBlock.DataFields, DataBlock.data_block}
 use Rattle.adf_blocks.specs.HeadBlock.{BodyFields, HeadFields, head_block, BodyFields.DirFields, BodyFields.FileFields}
-use Rattle.adf_blocks.specs.ExtBlock.{ExtFields, ext_block}
-use Rattle.adf_blocks.specs.DataBlock.{DataFields, data_block}
-use Rattle.adf_volume.specs.Image.{map_exts_needed}
-use Rattle.adf_volume.specs.Layout.{nodes_from_by}
+use Rattle.adf_volume.specs.{Image.map_exts_needed, Layout.nodes_from_by}
 use Rattle.adf_build.specs.Plan.{exts_needed, entry_blocks, entries_blocks, blocks_needed, nth_free, allocated}
-use Rattle.adf_build.specs.Writes.{with_blocks}
-use Rattle.adf_build.specs.Bits.{page_words}
-use Rattle.adf_build.specs.declared.heads.Spot.{Spot}
+use Rattle.adf_build.specs.{Writes.with_blocks, Bits.page_words, declared.heads.Spot.Spot}
 
 -- the block of the first node of a chain, or 0
 abbrev pub first_block : (ℕ → ℕ) → List ℕ → ℕ

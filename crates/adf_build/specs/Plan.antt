@@ -5,12 +5,9 @@ use Rattle.std.specs.List.{range_with_len}
 use Rattle.std.proofs.Common.{zero, suc}
 use Rattle.adf_names.specs.declared.kind.Kind.{Kind}
 use Rattle.adf_tree.specs.declared.entry.Body.{Body, TheVariants.Dir, TheVariants.File}
-use Rattle.adf_tree.specs.declared.entry.Entry.{Entry}
-use Rattle.adf_tree.specs.Tree.{Tree}
-use Rattle.adf_blocks.specs.Sizes.{count, middle, pages_needed}
-use Rattle.adf_volume.specs.Image.{map_exts_needed}
-use Rattle.adf_blocks.specs.declared.layout.TheConstants.{POINTERS}
-use Rattle.adf_volume.specs.Layout.{Place, Layout}
+use Rattle.adf_tree.specs.{declared.entry.Entry.Entry, Tree.Tree}
+use Rattle.adf_blocks.specs.{Sizes.count, Sizes.middle, Sizes.pages_needed, declared.layout.TheConstants.POINTERS}
+use Rattle.adf_volume.specs.{Image.map_exts_needed, Layout.Place, Layout.Layout}
 
 -- the number of extension blocks for this many data blocks: the header and each of them point to up to POINTERS
 unfoldable pub exts_needed : ℕ → ℕ

@@ -2,9 +2,8 @@
 
 ghost use Rattle.std.specs.Prelude.{◌≡◌, ◌*◌, IfOk, IfErr, OnOk, OnErr, length, replicate, vec_len};
 ghost use Rattle.adf_volume.specs.Fits.{FitsBy};
-ghost use Rattle.adf_build.specs.Laid.{IsLaid, IsWellFormed, node_blocks, volume};
-ghost use Rattle.adf_build.specs.Plan.{entries_blocks, planned};
-ghost use Rattle.adf_build.specs.Building.{IsBuildable, IsBuildFault, build_fault_number};
+ghost use Rattle.adf_build.specs.{Laid.IsLaid, Laid.IsWellFormed, Laid.node_blocks, Laid.volume, Plan.entries_blocks};
+ghost use Rattle.adf_build.specs.{Plan.planned, Building.IsBuildable, Building.IsBuildFault, Building.build_fault_number};
 
 use crate::counting::count_entries;
 use crate::nodes::nodes_of;

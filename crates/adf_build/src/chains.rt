@@ -3,11 +3,9 @@
 ghost use Rattle.std.specs.Prelude.{◌≡◌, ◌≤◌, ◌<◌, ◌+◌, ◌*◌, ◌∷◌, ◌≢◌, ℕ, length, drop, slice_index};
 ghost use Rattle.std.specs.List.{AllWithin};
 ghost use Rattle.adf_base.specs.Hash.{slot_by};
-ghost use Rattle.adf_tree.specs.declared.entry.Entry.{Entry};
-ghost use Rattle.adf_tree.specs.Chain.{in_chain_by};
+ghost use Rattle.adf_tree.specs.{declared.entry.Entry.Entry, Chain.in_chain_by};
 ghost use Rattle.adf_blocks.specs.declared.layout.TheConstants.{SLOTS};
-ghost use Rattle.adf_build.specs.Laid.{first_block};
-ghost use Rattle.adf_build.specs.Order.{RisesFromBy};
+ghost use Rattle.adf_build.specs.{Laid.first_block, Order.RisesFromBy};
 ghost use Rattle.adf_volume.specs.Layout.{nodes_from_by};
 
 use crate::nodes::{entry_at, parent_of};

@@ -2,12 +2,8 @@
 
 ghost use Rattle.std.specs.Prelude.{◌≡◌, ◌≤◌, ◌+◌, ◌*◌, [], ◌∷◌, length};
 ghost use Rattle.adf_base.specs.Words.{with_block};
-ghost use Rattle.adf_blocks.specs.Fields.{block_of_fields};
-ghost use Rattle.adf_blocks.specs.DataBlock.{data_fields};
-ghost use Rattle.adf_blocks.specs.Sizes.{chunk, count};
-ghost use Rattle.adf_build.specs.Laid.{data_bytes, data_writes};
-ghost use Rattle.adf_build.specs.Writes.{with_blocks};
-ghost use Rattle.adf_build.specs.Plan.{HasFree, exts_needed};
+ghost use Rattle.adf_blocks.specs.{Fields.block_of_fields, DataBlock.data_fields, Sizes.chunk, Sizes.count};
+ghost use Rattle.adf_build.specs.{Laid.data_bytes, Laid.data_writes, Writes.with_blocks, Plan.HasFree, Plan.exts_needed};
 
 use crate::counting::ext_count;
 use crate::plan::Plan;

@@ -2,9 +2,7 @@
 
 ghost use Rattle.std.specs.Prelude.{◌≡◌, ◌≤◌, ◌+◌, ◌*◌, ℕ, length, drop};
 ghost use Rattle.adf_build.specs.Laid.{entries_writes, node_blocks};
-ghost use Rattle.adf_build.specs.Writes.{with_blocks};
-ghost use Rattle.adf_build.specs.Building.{IsBuildable};
-ghost use Rattle.adf_build.specs.Order.{RisesFromBy};
+ghost use Rattle.adf_build.specs.{Writes.with_blocks, Building.IsBuildable, Order.RisesFromBy};
 ghost use Rattle.adf_volume.specs.Layout.{nodes_from_by};
 
 use crate::chains::{children_end, next_of, parent_block, slots_between};

@@ -1,9 +1,7 @@
 // The extension blocks of a file.
 
 ghost use Rattle.std.specs.Prelude.{◌≡◌, ◌+◌, ◌*◌, length};
-ghost use Rattle.adf_build.specs.Laid.{ext_writes};
-ghost use Rattle.adf_build.specs.Writes.{with_blocks};
-ghost use Rattle.adf_build.specs.Plan.{HasFree, exts_needed};
+ghost use Rattle.adf_build.specs.{Laid.ext_writes, Writes.with_blocks, Plan.HasFree, Plan.exts_needed};
 
 use crate::counting::ext_count;
 use crate::plan::Plan;

@@ -4,8 +4,7 @@ ghost use Rattle.std.specs.Prelude.{◌≡◌, ◌+◌, ◌*◌, ℕ, List, leng
 ghost use Rattle.adf_tree.specs.declared.entry.Body.TheVariants.{File as TheFile};
 ghost use Rattle.adf_base.specs.Words.{with_block};
 ghost use Rattle.adf_blocks.specs.HeadBlock.{FitsTable, body_fields, head_block};
-ghost use Rattle.adf_build.specs.Writes.{with_blocks};
-ghost use Rattle.adf_build.specs.Laid.{entry_writes, planned_head};
+ghost use Rattle.adf_build.specs.{Writes.with_blocks, Laid.entry_writes, Laid.planned_head};
 ghost use Rattle.adf_build.specs.Plan.{HasFree, entry_blocks, nth_free};
 
 use crate::counting::{data_blocks, ext_count};

@@ -3,15 +3,10 @@
 ghost use Rattle.std.specs.Prelude.{◌≡◌, ◌≤◌, ◌<◌, ◌↔◌, ℕ, List, ◌+◌, ◌-◌, ◌*◌, length, replicate, true};
 ghost use Rattle.adf_base.specs.Words.{block};
 ghost use Rattle.adf_tree.specs.Tree.{Tree};
-ghost use Rattle.adf_blocks.specs.declared.layout.TheConstants.{POINTERS};
-ghost use Rattle.adf_blocks.specs.Sizes.{blocks, is_allowed};
-ghost use Rattle.adf_volume.specs.declared.owner.Owner.{Owner};
+ghost use Rattle.adf_blocks.specs.{declared.layout.TheConstants.POINTERS, Sizes.blocks, Sizes.is_allowed};
+ghost use Rattle.adf_volume.specs.{declared.owner.Owner.Owner, Layout.Layout, Layout.owned, Fits.FitsBy};
 ghost use Rattle.adf_volume.specs.Lists.{In, NoBlockTwice};
-ghost use Rattle.adf_volume.specs.Layout.{Layout, owned};
-ghost use Rattle.adf_volume.specs.Fits.{FitsBy};
-ghost use Rattle.adf_build.specs.InOrder.{IsInOrder};
-ghost use Rattle.adf_build.specs.Plan.{blocks_needed, exts_needed, planned};
-ghost use Rattle.adf_build.specs.Writes.{numbers_of};
+ghost use Rattle.adf_build.specs.{InOrder.IsInOrder, Plan.blocks_needed, Plan.exts_needed, Plan.planned, Writes.numbers_of};
 ghost use Rattle.adf_build.specs.Laid.{IsLaid, IsWellFormed, writes, volume};
 
 /// The planned layout owns as many blocks as the tree needs, none twice, and all in range if there is room.

@@ -1,8 +1,7 @@
 // The bitmap extension blocks of a volume.
 
 ghost use Rattle.std.specs.Prelude.{◌≡◌, ◌*◌, length};
-ghost use Rattle.adf_build.specs.Laid.{map_ext_writes};
-ghost use Rattle.adf_build.specs.Writes.{with_blocks};
+ghost use Rattle.adf_build.specs.{Laid.map_ext_writes, Writes.with_blocks};
 
 use crate::plan::Plan;
 use adf_blocks::{MAP_EXT_PAGES, ROOT_PAGES, write_map_ext};

@@ -1,9 +1,7 @@
 // The nodes of a tree and the blocks of their headers.
 
 ghost use Rattle.std.specs.Prelude.{◌≡◌, ◌<◌, ◌+◌, ◌^◌, ◌∷◌, length, drop, IfOk};
-ghost use Rattle.adf_build.specs.Laid.{node_blocks};
-ghost use Rattle.adf_build.specs.Plan.{entry_blocks};
-ghost use Rattle.adf_build.specs.Building.{IsBuildable};
+ghost use Rattle.adf_build.specs.{Laid.node_blocks, Plan.entry_blocks, Building.IsBuildable};
 
 use crate::counting::{data_blocks, ext_count};
 use crate::plan::Plan;

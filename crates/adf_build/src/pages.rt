@@ -2,8 +2,7 @@
 
 ghost use Rattle.std.specs.Prelude.{◌≡◌, ◌<◌, ◌*◌, ◌^◌, length, IfSome};
 ghost use Rattle.adf_build.specs.Bits.{bits_from, is_free_bit, is_used, page_words};
-ghost use Rattle.adf_build.specs.Laid.{page_writes};
-ghost use Rattle.adf_build.specs.Writes.{with_blocks};
+ghost use Rattle.adf_build.specs.{Laid.page_writes, Writes.with_blocks};
 
 use crate::plan::Plan;
 use adf_blocks::{PAGE_BITS, PAGE_WORDS, write_page};

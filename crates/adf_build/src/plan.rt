@@ -4,8 +4,7 @@ ghost use Rattle.std.specs.Prelude.{◌≡◌, ◌≤◌, ◌<◌, ◌+◌, ◌-
 ghost use Rattle.std.specs.List.{range_with_len};
 ghost use Rattle.adf_blocks.specs.Sizes.{is_allowed, middle, pages_needed};
 ghost use Rattle.adf_volume.specs.Image.{map_exts_needed};
-ghost use Rattle.adf_build.specs.Laid.{map_ext_or_none, nth_free_or_none};
-ghost use Rattle.adf_build.specs.Plan.{nth_free, reserved, allocated};
+ghost use Rattle.adf_build.specs.{Laid.map_ext_or_none, Laid.nth_free_or_none, Plan.nth_free, Plan.reserved, Plan.allocated};
 
 use adf_blocks::{MAP_EXT_PAGES, POINTERS, ROOT_PAGES, is_allowed_size, page_count};
 

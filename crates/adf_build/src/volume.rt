@@ -2,13 +2,9 @@
 
 ghost use Rattle.std.specs.Prelude.{◌≡◌, ◌*◌, [], ◌∷◌, length, take};
 ghost use Rattle.adf_base.specs.Words.{with_block};
-ghost use Rattle.adf_blocks.specs.Fields.{block_of_fields};
-ghost use Rattle.adf_blocks.specs.RootBlock.{root_block};
-ghost use Rattle.adf_blocks.specs.Sizes.{middle};
+ghost use Rattle.adf_blocks.specs.{Fields.block_of_fields, RootBlock.root_block, Sizes.middle};
 ghost use Rattle.adf_build.specs.Laid.{boot_bytes_by, node_blocks, writes, planned_root, slots_by};
-ghost use Rattle.adf_build.specs.Writes.{with_blocks};
-ghost use Rattle.adf_build.specs.Plan.{entries_blocks};
-ghost use Rattle.adf_build.specs.Building.{IsBuildable};
+ghost use Rattle.adf_build.specs.{Writes.with_blocks, Plan.entries_blocks, Building.IsBuildable};
 
 use crate::chains::{children_end, slots_between};
 use crate::entries::write_entries;

@@ -2,31 +2,18 @@
 use Rattle.std.proofs.Common.{◌≡◌, ◌≢◌, inl, inr, ℕ, zero, suc, List, ◌++◌, ◌+◌, ◌-◌, ◌*◌, ◌/◌, ◌%◌, ◌<◌, ◌≤◌, refl, sym, ap, subst, ◌∙◌, arith, Bool, true}
 use Rattle.std.proofs.Common.{false, not, IfErr, Result, Ok, Err, slice_index, IsTrue, ◌↔◌, ◌==◌, ◌^◌, IsBitSet}
 use Rattle.std.specs.Int.Bits.{bit_and}
-use Rattle.std.proofs.lemmas.Bool.Decides.{nat_tests}
-use Rattle.std.proofs.lemmas.Grind.{common_steps}
+use Rattle.std.proofs.{lemmas.Bool.Decides.nat_tests, lemmas.Grind.common_steps}
 use Rattle.adf_blocks.specs.declared.cause.Cause.{Cause, TheVariants.LostBlock, TheVariants.OwnedFree}
 use Rattle.adf_blocks.specs.Sizes.{blocks, pages_needed}
 use Rattle.adf_volume.specs.Image.{word_in, IsFreeAt, letters_of}
-use Rattle.adf_volume.specs.Demands.{AllHold, FirstFails}
+use Rattle.adf_volume.specs.{Demands.AllHold, Demands.FirstFails, Walk.FirstFaultBy.at_bitmap, declared.fault.Fault.Fault, Start.IsOwnBegun}
 use Rattle.adf_volume.specs.Walk.{Has, IsAbsent, IsFreeIn, bitmap_demands, Walk, FirstFaultBy, Role.Page, FirstFaultBy.at_bitmap, Role.Page}
-use Rattle.adf_volume.specs.Walk.FirstFaultBy.{at_bitmap}
-use Rattle.adf_volume.proofs.Gathered.{one_block}
-use Rattle.adf_volume.proofs.Images.{page_in}
+use Rattle.adf_volume.proofs.{Gathered.one_block, Images.page_in, WalkFits.fits, Walks.asked_block, Walks.page_word, Walks.of_walk, WholeWalks.all_map_exts}
 use Rattle.adf_volume.proofs.Lists.{all_append, all_split, fails_right}
-use Rattle.adf_volume.proofs.WalkFits.{fits}
-use Rattle.adf_volume.proofs.Walks.{asked_block, page_word, of_walk}
-use Rattle.adf_volume.proofs.WholeWalks.{all_map_exts}
-use Rattle.adf_volume.specs.declared.fault.Fault.{Fault}
-use Rattle.adf_volume.specs.Start.{IsOwnBegun}
-use Rattle.adf_check.specs.Pages.{AreListed, IsBitFault}
+use Rattle.adf_check.specs.{Pages.AreListed, Pages.IsBitFault, Store.StoreValue, Own.IsOwnFault}
 use Rattle.adf_check.specs.Reading.{block_of_page, IsListed, IsMapped, StoreFits}
 use Rattle.adf_walk.specs.KeptOwner.{kept_at, no_owner}
-use Rattle.adf_check.specs.Store.{StoreValue}
-use Rattle.adf_check.proofs.ClaimSteps.{first_fault}
-use Rattle.adf_check.proofs.NodeSteps.{at_or}
-use Rattle.adf_check.proofs.PageSteps.{page_is}
-use Rattle.adf_check.proofs.StoreSteps.{free_absent, taken_present}
-use Rattle.adf_check.specs.Own.{IsOwnFault}
+use Rattle.adf_check.proofs.{ClaimSteps.first_fault, NodeSteps.at_or, PageSteps.page_is, StoreSteps.free_absent, StoreSteps.taken_present}
 
 clash : {t : Bool} → t ≡ true → t ≡ false → ⊥
 clash a b = let e : true ≡ false = sym a ∙ b in cc

@@ -2,41 +2,24 @@
 use Rattle.std.proofs.Common.{◌≡◌, ◌≢◌, ℕ, zero, suc, List, [], ◌∷◌, ◌+◌, ◌-◌, ◌<◌, ◌≤◌, length, map, refl, sym, ap, subst, ◌∙◌, arith, Bool, true, false}
 use Rattle.std.proofs.Common.{Option, Some, None, IfSome}
 use Rattle.std.specs.Str.{bytes_eq}
-use Rattle.std.proofs.lemmas.Slice.Eq.{bytes_eq-Decides}
-use Rattle.std.proofs.lemmas.List.{nil_from_length}
-use Rattle.std.proofs.lemmas.Grind.{common_steps}
+use Rattle.std.proofs.{lemmas.Slice.Eq.bytes_eq-Decides, lemmas.List.nil_from_length, lemmas.Grind.common_steps}
 use native.Mathlib.Decide.{dec_lt, ℕ_discrete}
 use Rattle.adf_blocks.specs.declared.layout.TheConstants.{FIRST_SLOT, NAME, NEXT_IN_CHAIN, SECONDARY_TYPE, SLOTS, ST_DIR, ST_FILE}
-use Rattle.adf_base.specs.Hash.{slot_by}
-use Rattle.adf_base.specs.declared.hash.Letters.{Letters}
-use Rattle.adf_base.specs.Words.{block}
+use Rattle.adf_base.specs.{Hash.slot_by, declared.hash.Letters.Letters, Words.block}
 use Rattle.adf_names.specs.Texts.{uppers_by}
 use Rattle.adf_tree.specs.declared.entry.Body.{Body, TheVariants.Dir, TheVariants.File}
-use Rattle.adf_tree.specs.declared.entry.Entry.{Entry}
-use Rattle.adf_tree.specs.Tree.{Tree, child_by}
+use Rattle.adf_tree.specs.{declared.entry.Entry.Entry, Tree.Tree, Tree.child_by}
 use Rattle.adf_tree.proofs.ChildLookup.{found_is_by}
-use Rattle.adf_blocks.specs.Forms.{text_at}
-use Rattle.adf_blocks.specs.HeadBlock.{IsHead}
-use Rattle.adf_blocks.specs.Sizes.{blocks}
+use Rattle.adf_blocks.specs.{Forms.text_at, HeadBlock.IsHead, Sizes.blocks}
 use Rattle.adf_volume.specs.declared.owner.Owner.TheVariants.{Head as AHead}
-use Rattle.adf_volume.specs.Fits.{BodyFits, EntryFitsBy}
-use Rattle.adf_volume.specs.Image.{name_of, word_in, letters_of}
-use Rattle.adf_volume.specs.Layout.{EntryAt, Layout, at_node, chain_nodes_by}
-use Rattle.adf_volume.specs.Lists.{At, Spelled}
-use Rattle.adf_volume.specs.Made.{layout_in, tree_in_by}
-use Rattle.adf_volume.specs.Walk.Role.{Head}
-use Rattle.adf_volume.proofs.Chains.{SlotEntry, chain_rises, entry_at, entry_below}
-use Rattle.adf_volume.proofs.Finds.{chain_no, chain_yes}
-use Rattle.adf_volume.proofs.LayoutRoles.{part_owned, part_range}
+use Rattle.adf_volume.specs.{Fits.BodyFits, Fits.EntryFitsBy, Image.name_of, Image.word_in, Image.letters_of, Layout.EntryAt, Layout.Layout, Layout.at_node}
+use Rattle.adf_volume.specs.{Layout.chain_nodes_by, Lists.At, Lists.Spelled, Made.layout_in, Made.tree_in_by, Walk.Role.Head}
+use Rattle.adf_volume.proofs.{Chains.SlotEntry, Chains.chain_rises, Chains.entry_at, Chains.entry_below, Finds.chain_no, Finds.chain_yes}
+use Rattle.adf_volume.proofs.{LayoutRoles.part_owned, LayoutRoles.part_range, TreeOrder.DirNode, TreeOrder.is_dir, TreeOrder.ordered}
 use Rattle.adf_volume.proofs.Lists.{at_below, at_fun, at_map, at_some, at_unmap, spelled_first, spelled_link, spelled_next, spelled_word}
-use Rattle.adf_volume.proofs.TreeOrder.{DirNode, is_dir, ordered}
-use Rattle.adf_check.specs.Lookup.{headed}
-use Rattle.adf_check.specs.Reading.{StoreFits}
+use Rattle.adf_check.specs.{Lookup.headed, Reading.StoreFits, Store.StoreValue, Volumes.OnVolume}
 use Rattle.adf_walk.specs.KeptOwner.{kept_at}
-use Rattle.adf_check.specs.Store.{StoreValue}
-use Rattle.adf_check.specs.StoreStands.{StoreStandsForBy}
-use Rattle.adf_check.proofs.RowLaws.{head_facts}
-use Rattle.adf_check.proofs.StoreStands.{keeps}
+use Rattle.adf_check.proofs.{RowLaws.head_facts, StoreStands.StoreStandsForBy, StoreStands.keeps}
 
 -- the name of a header, as it is read and compared
 module _ (letters : Letters) (image : List ℕ) (b : ℕ) (name : List ℕ) {told head bytes : List ℕ} {t : Bool}
@@ -207,22 +190,20 @@ child_below letters (e ∷ es) p name n h = (found_is_by letters (e ∷ es) p na
 -- the same, of what is kept
 module _ {image : List ℕ} {store : StoreValue} (tells : StoreFits image store) where
   pub child_within : (p : ℕ) (name : List ℕ) (r : Option ℕ)
-      → ((letters : Letters) (t : Tree) (l : Layout) → StoreStandsForBy letters image store t l → r ≡ child_by letters t.entries p name)
+      → OnVolume image (λ t _. r ≡ child_by t.letters t.entries p name)
       → IfSome r (λ n. n ≤ length store.headers)
   child_within p name None h = tt
   child_within p name (Some n) h =
-      let k = keeps image store tells in
+      let t = tree_in_by (letters_of image) image tells.walk in
       omega (
         arith,
-        child_below (letters_of image) (tree_in_by (letters_of image) image tells.walk).entries p name n
-            (sym (h (letters_of image) (tree_in_by (letters_of image) image tells.walk) (layout_in tells.walk) k)),
-        k.headers.count,
+        child_below (letters_of image) t.entries p name n (sym (h (letters_of image) t (layout_in tells.walk) tells.fits)),
+        (keeps image store tells).headers.count,
       )
 
-  module _ {p : ℕ} {name : List ℕ} {b : ℕ}
-      (c : (letters : Letters) (t : Tree) (l : Layout) → StoreStandsForBy letters image store t l → OnChain letters image t l p name b) (ne : b ≢ 0) where
+  module _ {p : ℕ} {name : List ℕ} {b : ℕ} (c : OnVolume image (λ t l. OnChain t.letters image t l p name b)) (ne : b ≢ 0) where
     abbrev known : OnChain (letters_of image) image (tree_in_by (letters_of image) image tells.walk) (layout_in tells.walk) p name b
-    known = c (letters_of image) (tree_in_by (letters_of image) image tells.walk) (layout_in tells.walk) (keeps image store tells)
+    known = c (letters_of image) (tree_in_by (letters_of image) image tells.walk) (layout_in tells.walk) tells.fits
 
     pub on_inside : b < blocks image
     on_inside = here_inside (keeps image store tells) known ne

@@ -1,35 +1,21 @@
 -- The steps along the headers of a chain.
-use Rattle.adf_check.specs.Claims.{InRange}
+use Rattle.adf_check.specs.{Claims.InRange, declared.chains.Chain.Chain, declared.claims.Link.Link, Store.StoreValue, Own.IsOwnFault}
 use Rattle.std.proofs.Common.{◌≡◌, ◌≢◌, ◌⊎◌, inl, inr, ℕ, suc, List, ◌∷◌, ◌+◌, ◌<◌, length, true, false, refl, sym, ap, subst, ◌∙◌, arith, Some, None, ◌↔◌}
-use Rattle.std.proofs.lemmas.Bool.Decides.{Decides-or}
+use Rattle.std.proofs.{lemmas.Bool.Decides.Decides-or, lemmas.Slice.Eq.bytes_eq-Decides, lemmas.Grind.common_steps}
 use Rattle.std.specs.Str.{bytes_eq}
-use Rattle.std.proofs.lemmas.Slice.Eq.{bytes_eq-Decides}
-use Rattle.std.proofs.lemmas.Grind.{common_steps}
 use Rattle.adf_blocks.specs.declared.layout.TheConstants.{FIRST_SLOT, NAME, NEXT_IN_CHAIN, SLOTS}
-use Rattle.adf_base.specs.Words.{block, word}
-use Rattle.adf_base.specs.declared.hash.Letters.{Letters}
-use Rattle.adf_names.specs.Texts.{uppers_by}
+use Rattle.adf_base.specs.{Words.block, Words.word, declared.hash.Letters.Letters}
+use Rattle.adf_names.specs.{Texts.uppers_by, declared.kind.Kind.Kind}
 use Rattle.adf_tree.specs.NameSet.{has, HasMore, Names}
-use Rattle.adf_names.specs.declared.kind.Kind.{Kind}
 use Rattle.adf_blocks.specs.declared.cause.Cause.{Cause, TheVariants.SameName}
-use Rattle.adf_blocks.specs.Forms.{Clause, first_cause, text_at}
-use Rattle.adf_blocks.specs.HeadBlock.{head_form_by}
-use Rattle.adf_volume.specs.Demands.{Demand, AllHold, FirstFails, head_demands_by}
-use Rattle.adf_volume.specs.Image.{kind_of, name_of, word_in, letters_of}
-use Rattle.adf_volume.specs.Walk.{Role, heads, Walk, form_demands_by, Role.Head}
-use Rattle.adf_volume.proofs.Gathered.{node_is}
+use Rattle.adf_blocks.specs.{Forms.Clause, Forms.first_cause, Forms.text_at, HeadBlock.head_form_by}
+use Rattle.adf_volume.specs.{Demands.Demand, Demands.AllHold, Demands.FirstFails, Demands.head_demands_by, Image.kind_of, Image.name_of, Image.word_in}
+use Rattle.adf_volume.specs.{Image.letters_of, Walk.Role, Walk.heads, Walk.Walk, Walk.form_demands_by, Walk.Role.Head, Fault.fault}
+use Rattle.adf_volume.proofs.{Gathered.node_is, Pointers.link_asks, Pointers.link_ends, PositionSteps.end_chain, Roles.dir_is_node, Roles.dir_up}
 use Rattle.adf_volume.proofs.FormDemands.{all_demanded, first_demanded}
-use Rattle.adf_volume.proofs.Pointers.{link_asks, link_ends}
-use Rattle.adf_volume.proofs.PositionSteps.{end_chain}
-use Rattle.adf_volume.proofs.Roles.{dir_is_node, dir_up}
-use Rattle.adf_volume.specs.Fault.{fault}
 use Rattle.adf_check.specs.Reading.{IsAtSlot, IsInChain, Sees, sees_of}
-use Rattle.adf_check.specs.declared.chains.Chain.{Chain}
-use Rattle.adf_check.specs.declared.claims.Link.{Link}
 use Rattle.adf_walk.specs.KeptOwner.{kept_at, no_owner}
-use Rattle.adf_check.specs.Store.{StoreValue}
 use Rattle.adf_check.proofs.ClaimSteps.{IsNextAt, IsStored, form_fault, gathered, name_fault, read_one, read_to}
-use Rattle.adf_check.specs.Own.{IsOwnFault}
 
 -- the next header, at position j of the chain
 abbrev pub next_head : Walk → Chain → ℕ → Role

@@ -1,29 +1,17 @@
 -- One step of a check: the next role is claimed and kept, or refused as the first fault.
-use Rattle.adf_check.specs.Claims.{InRange, IsClaimFault}
+use Rattle.adf_check.specs.{Claims.InRange, Claims.IsClaimFault, Reading.HasRead, Own.IsOwnFault}
 use Rattle.std.proofs.Common.{◌≡◌, ℕ, suc, List, [], ◌∷◌, ◌++◌, ◌+◌, ◌≤◌, length, set, count_by, inl, inr, refl, sym, ap, subst, ◌∙◌, arith, Result, Ok, Err}
 use Rattle.std.specs.Prelude.{IfErr, IsOk, OnOk}
 use Rattle.std.proofs.lemmas.Grind.{common_steps}
-use Rattle.adf_blocks.specs.declared.cause.Cause.{Cause, TheVariants.SameName, TheVariants.ShortFile}
-use Rattle.adf_blocks.specs.Sizes.{blocks}
-use Rattle.adf_volume.specs.Demands.{Demand, demand, AllHold, FirstFails}
-use Rattle.adf_volume.specs.Image.{word_in, letters_of}
+use Rattle.adf_blocks.specs.{declared.cause.Cause.Cause, declared.cause.Cause.TheVariants.SameName, declared.cause.Cause.TheVariants.ShortFile, Sizes.blocks}
+use Rattle.adf_volume.specs.{Demands.Demand, Demands.demand, Demands.AllHold, Demands.FirstFails, Image.word_in, Image.letters_of, Walk.FirstFaultBy.at_due}
+use Rattle.adf_volume.specs.{Positions.Position, Positions.IsUpTo, Positions.behind, Positions.position_of, declared.fault.Fault.Fault, Fault.fault}
 use Rattle.adf_volume.specs.Walk.{Role, first, heads, Asks, IsDue, Enough, Walk, FirstFaultBy, demands_by, form_demands_by, NewNameBy, Role.Head, IsWalkBy.step}
-use Rattle.adf_volume.specs.Walk.FirstFaultBy.{at_due}
 use Rattle.adf_volume.proofs.Lists.{fails_left, fails_right, all_append, snoc_length}
-use Rattle.adf_volume.proofs.Memory.{fault_of_image}
-use Rattle.adf_volume.proofs.Gathered.{IsGathered}
-use Rattle.adf_volume.proofs.PositionSteps.{not_taken, past_taken}
-use Rattle.adf_volume.proofs.Roles.{asks_number}
-use Rattle.adf_volume.proofs.Walks.{of_walk}
-use Rattle.adf_volume.specs.Positions.{Position, IsUpTo, behind, position_of}
-use Rattle.adf_volume.specs.declared.fault.Fault.{Fault}
-use Rattle.adf_volume.specs.Fault.{fault}
-use Rattle.adf_check.specs.Reading.{HasRead}
-use Rattle.adf_walk.specs.declared.kept_header.KeptHeader.{KeptHeader}
-use Rattle.adf_walk.specs.KeptOwner.{kept_at, no_owner}
+use Rattle.adf_volume.proofs.{Memory.fault_of_image, Gathered.IsGathered, PositionSteps.not_taken, PositionSteps.past_taken, Roles.asks_number, Walks.of_walk}
+use Rattle.adf_walk.specs.{declared.kept_header.KeptHeader.KeptHeader, KeptOwner.kept_at, KeptOwner.no_owner}
 use Rattle.adf_check.specs.Store.{StoreValue, next_kept, push_header, push_block, ext_file, data_file, is_dir_at, stored, StoreMatches}
 use Rattle.adf_check.proofs.StoreSteps.{free_absent, taken_present, tells_more}
-use Rattle.adf_check.specs.Own.{IsOwnFault}
 
 -- what is said of an error, said otherwise
 pub if_err : {T : Type 0} (r : Result T Fault) (P Q : Fault → Type 0) → IfErr r P → ((f : Fault) → P f → Q f) → IfErr r Q

@@ -1,37 +1,17 @@
 -- The steps along the data blocks of a file.
-use Rattle.adf_check.specs.Claims.{InRange}
+use Rattle.adf_check.specs.{Claims.InRange, Datas.AreDatas, Datas.IsDataLink, Datas.data_asked, declared.claims.Link.Link, declared.datas.Datas.Datas}
+use Rattle.adf_check.specs.{declared.file.File.File, Reading.HasRead, Reading.IsAtNode, Reading.IsInDatas, Store.StoreValue, Own.IsOwnWalk, Own.IsOwnFault}
 use Rattle.std.proofs.Common.{◌≡◌, ℕ, zero, suc, List, [], ◌∷◌, ◌+◌, ◌*◌, ◌/◌, ◌<◌, ◌≤◌, length, Bool, true, false, cond, refl, sym, ap, subst, arith, nat_lt}
-use Rattle.std.proofs.Common.{slice_index}
-use Rattle.std.proofs.lemmas.Bool.{ltb-true}
-use Rattle.std.proofs.lemmas.Grind.{common_steps}
-use Rattle.adf_blocks.specs.declared.layout.TheConstants.{POINTERS}
-use Rattle.adf_blocks.specs.declared.cause.Cause.{Cause, TheVariants.ShortFile}
-use Rattle.adf_blocks.specs.Sizes.{blocks}
-use Rattle.adf_volume.specs.Demands.{AllHold, FirstFails}
-use Rattle.adf_volume.specs.Image.{table_word, word_in, letters_of}
-use Rattle.adf_volume.specs.Lists.{At}
+use Rattle.std.proofs.{Common.slice_index, lemmas.Bool.ltb-true, lemmas.Grind.common_steps}
+use Rattle.adf_blocks.specs.{declared.layout.TheConstants.POINTERS, declared.cause.Cause.Cause, declared.cause.Cause.TheVariants.ShortFile, Sizes.blocks}
+use Rattle.adf_volume.specs.{Demands.AllHold, Demands.FirstFails, Image.table_word, Image.word_in, Image.letters_of, Lists.At, Walk.Role.Data, Walk.Role.Ext}
+use Rattle.adf_volume.specs.{Positions.IsUpTo, Positions.behind, Positions.position_of, Fault.fault, Start.IsOwnBegun}
 use Rattle.adf_volume.specs.Walk.{Asks, Enough, FileAt, MemberAt, Role, data_count, ext_count, member_block, node_block, Walk, form_demands_by}
-use Rattle.adf_volume.specs.Walk.Role.{Data, Ext}
-use Rattle.adf_volume.proofs.Lists.{at_some}
+use Rattle.adf_volume.proofs.{Lists.at_some, MemberFacts.in_range, Gathered.file_one, Gathered.member_is, PositionSteps.end_datas, Walks.file_is}
 use Rattle.adf_volume.proofs.Roles.{head_role, member_up, typed_up}
-use Rattle.adf_volume.proofs.MemberFacts.{in_range}
-use Rattle.adf_volume.proofs.Gathered.{file_one, member_is}
-use Rattle.adf_volume.proofs.PositionSteps.{end_datas}
-use Rattle.adf_volume.proofs.Walks.{file_is}
-use Rattle.adf_volume.specs.Positions.{IsUpTo, behind, position_of}
-use Rattle.adf_volume.specs.Fault.{fault}
-use Rattle.adf_check.specs.Datas.{AreDatas, IsDataLink, data_asked}
-use Rattle.adf_check.specs.declared.claims.Link.{Link}
-use Rattle.adf_check.specs.declared.datas.Datas.{Datas}
-use Rattle.adf_check.specs.declared.file.File.{File}
-use Rattle.adf_volume.specs.Start.{IsOwnBegun}
-use Rattle.adf_check.specs.Reading.{HasRead, IsAtNode, IsInDatas}
 use Rattle.adf_walk.specs.KeptOwner.{kept_at, no_owner}
-use Rattle.adf_check.specs.Store.{StoreValue}
-use Rattle.adf_check.proofs.NodeSteps.{at_or}
-use Rattle.adf_check.proofs.NumberBounds.{many_blocks}
+use Rattle.adf_check.proofs.{NodeSteps.at_or, NumberBounds.many_blocks}
 use Rattle.adf_check.proofs.ClaimSteps.{IsNextAt, IsStored, form_fault, gathered, read_one, read_to, short_fault}
-use Rattle.adf_check.specs.Own.{IsOwnWalk, IsOwnFault}
 
 member_inside : (image : List ℕ) (w : Walk) → IsOwnBegun image → IsOwnWalk image w → (n m c : ℕ) → MemberAt image w n m c → c < blocks image
 member_inside image w begun v n zero c h = (in_range image v (many_blocks image begun) (head_role h.header) c h.header.has).1

@@ -1,31 +1,18 @@
 -- The steps along the extension blocks of a file.
-use Rattle.adf_check.specs.Claims.{InRange}
+use Rattle.adf_check.specs.{Claims.InRange, Datas.ext_link, declared.claims.Link.Link, declared.file.File.File, Store.StoreValue, Own.IsOwnFault}
 use Rattle.std.proofs.Common.{◌≡◌, ◌≢◌, inl, inr, ℕ, zero, suc, List, [], ◌∷◌, ◌++◌, length, refl, sym, ap, arith, subst, ◌∙◌, Some, None}
 use Rattle.std.proofs.lemmas.Grind.{common_steps}
 use Rattle.adf_blocks.specs.declared.layout.TheConstants.{EXTENSION, SIZE}
 use Rattle.adf_base.specs.Words.{block, word}
-use Rattle.adf_blocks.specs.declared.cause.Cause.{Cause}
-use Rattle.adf_blocks.specs.Forms.{first_cause}
-use Rattle.adf_blocks.specs.ExtBlock.{ext_form}
-use Rattle.adf_volume.specs.Demands.{Demand, AllHold, FirstFails, ext_demands}
-use Rattle.adf_volume.specs.Image.{word_in, letters_of}
-use Rattle.adf_volume.specs.Lists.{At}
+use Rattle.adf_blocks.specs.{declared.cause.Cause.Cause, Forms.first_cause, ExtBlock.ext_form}
+use Rattle.adf_volume.specs.{Demands.Demand, Demands.AllHold, Demands.FirstFails, Demands.ext_demands, Image.word_in, Image.letters_of, Lists.At, Fault.fault}
 use Rattle.adf_volume.specs.Walk.{Role, FileAt, MemberAt, ext_count, form_demands_by, Role.Ext}
-use Rattle.adf_volume.proofs.FormDemands.{all_demanded, first_demanded}
-use Rattle.adf_volume.proofs.Lists.{at_snoc, snoc_length}
-use Rattle.adf_volume.proofs.Roles.{count_own, member_up, typed_up}
-use Rattle.adf_volume.proofs.Pointers.{ext_asks, ext_ends}
+use Rattle.adf_volume.proofs.{FormDemands.all_demanded, FormDemands.first_demanded, Lists.at_snoc, Lists.snoc_length, Roles.count_own, Roles.member_up}
+use Rattle.adf_volume.proofs.{Roles.typed_up, Pointers.ext_asks, Pointers.ext_ends, Walks.file_is}
 use Rattle.adf_volume.proofs.PositionSteps.{end_exts, enter_file, no_exts}
-use Rattle.adf_volume.proofs.Walks.{file_is}
-use Rattle.adf_volume.specs.Fault.{fault}
 use Rattle.adf_check.specs.Reading.{HasExtTable, IsInDatas, IsInExts, IsInNode}
-use Rattle.adf_check.specs.Datas.{ext_link}
-use Rattle.adf_check.specs.declared.claims.Link.{Link}
-use Rattle.adf_check.specs.declared.file.File.{File}
 use Rattle.adf_walk.specs.KeptOwner.{kept_at, no_owner}
-use Rattle.adf_check.specs.Store.{StoreValue}
 use Rattle.adf_check.proofs.ClaimSteps.{IsNextAt, IsStored, form_fault, gathered, read_one, read_to}
-use Rattle.adf_check.specs.Own.{IsOwnFault}
 
 -- a file's table begins with its header
 pub enter_exts : (image : List ℕ) (store : StoreValue) (file : File) (st : IsInNode image store file.node) → FileAt image st.walk file.node file.head

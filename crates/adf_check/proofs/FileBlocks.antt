@@ -2,16 +2,11 @@
 use Rattle.std.proofs.Common.{◌≡◌, ℕ, suc, List, [], ◌∷◌, ◌++◌, inl, inr, ◌+◌, ◌<◌, ◌≤◌, length, length-append, refl, ap, ◌∙◌, arith, Bool, true, false, cond}
 use Rattle.std.proofs.Common.{take, drop, append_assoc, Option, Some, None, ◌==◌, ◌||◌, is_some, nat_lt, not}
 use Rattle.std.proofs.lemmas.Bool.{eqb-true, false_from_ne_true, le-ltb, lt-ltb, ltb-false, ltb-true, not-true, Decides.nat_tests, Decides.nat_tests}
-use Rattle.std.proofs.lemmas.List.{append-nil}
-use Rattle.std.proofs.Math.Seq.{drop-append_seam, take-append_seam}
-use Rattle.std.proofs.lemmas.Grind.{common_steps}
-use Rattle.adf_volume.specs.Image.{root_of}
+use Rattle.std.proofs.{lemmas.List.append-nil, Math.Seq.drop-append_seam, Math.Seq.take-append_seam, lemmas.Grind.common_steps}
+use Rattle.adf_volume.specs.{Image.root_of, Made.picked, Made.is_ext_of, Made.exts_in, Made.is_data_of, Made.datas_in}
 use Rattle.adf_volume.specs.Walk.{Role, first, Has, Walk, Role.Root, Role.Ext, Role.Data, IsWalkBy.start, IsWalkBy.step}
-use Rattle.adf_volume.specs.Made.{picked, is_ext_of, exts_in, is_data_of, datas_in}
-use Rattle.adf_volume.proofs.Lists.{snoc_length}
-use Rattle.adf_volume.proofs.WalkOrder.{rises}
-use Rattle.adf_check.specs.Store.{ext_file, data_file, file_blocks, is_below, blocks_before}
-use Rattle.adf_check.specs.Own.{IsOwnWalk}
+use Rattle.adf_volume.proofs.{Lists.snoc_length, WalkOrder.rises}
+use Rattle.adf_check.specs.{Store.ext_file, Store.data_file, Store.file_blocks, Store.is_below, Store.blocks_before, Own.IsOwnWalk}
 
 -- a test that passes whatever another one passes picks no fewer blocks
 picked_fewer : (f g : Role → Bool) (w : Walk) → ((r : Role) → f r ≡ true → g r ≡ true) → length (picked f w) ≤ length (picked g w)

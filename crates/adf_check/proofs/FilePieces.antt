@@ -1,35 +1,22 @@
 -- The pieces of a file, joined, are its bytes.
 use Rattle.std.proofs.Common.{◌≡◌, ◌≢◌, ℕ, zero, suc, List, [], ◌∷◌, length-append, ◌+◌, ◌*◌, ◌^◌, ◌<◌, ◌≤◌, length, take, drop, get_or, refl, sym, ap, subst}
-use Rattle.std.proofs.Common.{◌∙◌, arith, Option, Some, None, length-take, length-drop}
+use Rattle.std.proofs.Common.{◌∙◌, ◌-◌, arith, Option, Some, None, length-take, length-drop}
 use Rattle.std.specs.List.{All, concat}
-use Rattle.std.proofs.lemmas.Grind.{common_steps}
+use Rattle.std.proofs.{lemmas.Bool.ne_eqb, lemmas.Grind.common_steps, lemmas.Option.slice_get_past}
 use Rattle.adf_blocks.specs.declared.layout.TheConstants.{SECONDARY_TYPE, SIZE, ST_DIR}
-use Rattle.adf_base.specs.Words.{block}
+use Rattle.adf_base.specs.{Words.block, declared.hash.Letters.Letters}
 use Rattle.adf_tree.specs.declared.entry.Body.{Body, TheVariants.Dir, TheVariants.File}
-use Rattle.adf_tree.specs.declared.entry.Entry.{Entry}
+use Rattle.adf_tree.specs.{declared.entry.Entry.Entry, Tree.Tree, Tree.entry}
 use Rattle.adf_names.specs.declared.kind.Kind.{Kind}
-use Rattle.adf_tree.specs.Tree.{Tree, entry}
 use Rattle.adf_blocks.specs.Sizes.{blocks, count}
-use Rattle.adf_volume.specs.Walk.Role.{Data}
-use Rattle.adf_volume.specs.Fits.{BodyFits}
-use Rattle.adf_volume.specs.Image.{area, held, kind_of, piece, pieces, word_in}
-use Rattle.adf_volume.specs.Layout.{EntryAt, Layout, Place, at_node, datas_at, datas_of}
-use Rattle.adf_volume.specs.Lists.{At}
-use Rattle.adf_volume.specs.Pieces.{AreInside}
-use Rattle.adf_volume.proofs.Images.{area_length, count_small}
-use Rattle.adf_volume.proofs.Lists.{at_index_or}
-use Rattle.adf_volume.proofs.LayoutRoles.{part_range}
+use Rattle.adf_volume.specs.{Walk.Role.Data, Image.area, Image.held, Image.kind_of, Image.piece, Image.pieces, Image.word_in, Layout.EntryAt, Layout.Layout}
+use Rattle.adf_volume.specs.{Layout.Place, Layout.at_node, Layout.datas_at, Layout.datas_of, Lists.At, Pieces.AreInside, Fits.BodyFits, Fits.FitsBy}
+use Rattle.adf_volume.proofs.{Images.area_length, Images.count_small, Lists.at_index_or, LayoutRoles.part_range, Chains.entry_is_at, Chains.entry_some}
 use Rattle.adf_volume.proofs.PieceBytes.{held_some, piece_at, pieces_joined, pieces_length}
-use Rattle.adf_volume.proofs.Chains.{entry_is_at, entry_some}
 use Rattle.adf_walk.specs.declared.node_start.NodeStart.{NodeStart}
-use Rattle.adf_check.specs.StoreStands.{StoreStandsForBy}
-use Rattle.adf_check.specs.Store.{StoreValue}
-use Rattle.adf_check.proofs.ChainLookups.{body_dir}
-use Rattle.adf_check.proofs.NodeSteps.{at_or}
-use Rattle.adf_check.proofs.StoreStands.{keeps}
-use Rattle.adf_check.specs.Reading.{StoreFits}
+use Rattle.adf_check.specs.{Store.StoreValue, Reading.StoreFits, Volumes.OnVolume}
+use Rattle.adf_check.proofs.{ChainLookups.body_dir, NodeSteps.at_or, StoreStands.StoreStandsForBy, StoreStands.keeps, StoreStands.stands}
 use Rattle.adf_check.specs.Pieces.{body_bytes, bytes_of, pieces_at, pieces_in, pieces_of}
-use Rattle.adf_base.specs.declared.hash.Letters.{Letters}
 
 -- pieces of which none is empty are none where they join to nothing
 pub no_pieces : (ps : List (List ℕ)) → All (λ p. 0 < length p) ps → concat ps ≡ [] → ps ≡ []
@@ -65,18 +52,20 @@ module _ {image : List ℕ} {store : StoreValue} {letters : Letters} {t : Tree} 
 pub record IsEntry (image : List ℕ) (store : StoreValue) (n h : ℕ) : Type 0 where
   pub some : n ≢ 0
   pub within : n ≤ length store.headers
-  pub block : (letters : Letters) (t : Tree) (l : Layout) → StoreStandsForBy letters image store t l → h ≡ at_node image l n
+  pub block : OnVolume image (λ _ l. h ≡ at_node image l n)
 
 -- the node is an entry, by its number and the number of rows
-pub is_entry : {image : List ℕ} {store : StoreValue} {n m h : ℕ}
-    → ((letters : Letters) (t : Tree) (l : Layout) → StoreStandsForBy letters image store t l → h ≡ at_node image l n)
-    → m ≡ n → m ≢ 0 → n ≤ length store.headers → IsEntry image store n h
+pub is_entry : {image : List ℕ} {store : StoreValue} {n m h : ℕ} → OnVolume image (λ _ l. h ≡ at_node image l n) → m ≡ n → m ≢ 0 → n ≤ length store.headers → IsEntry image store n h
 is_entry block view ne le = record { some = (λ z. ne (view ∙ z)); within = le; block = block }
 
 past : (qs : List Place) (i : ℕ) → length qs ≤ i → ◌≡◌ {A = List ℕ} [] (datas_at qs i)
 past [] i h = refl
 past (q ∷ qs) zero h = absurd (omega arith)
 past (q ∷ qs) (suc i) h = past qs i (omega arith)
+
+-- nothing is past the last entry
+pub past_entry : (es : List Entry) (n : ℕ) → length es < n → entry es n ≡ None
+past_entry es n h = rw (ne_eqb n 0 (omega arith)) (slice_get_past es (n - 1) (omega arith))
 
 -- the root has no data blocks, and nothing past the last entry has
 pub root_datas : (l : Layout) (n m : ℕ) → m ≡ n → m ≡ 0 → ◌≡◌ {A = List ℕ} [] (datas_of l n)
@@ -94,7 +83,7 @@ module _ {image : List ℕ} {store : StoreValue} {n h : ℕ} (is : IsEntry image
     here = grind (arith, common_steps, entry_some)
 
     body_fits : BodyFits image t.kind l n h here.0.body
-    body_fits = subst (λ b. BodyFits image t.kind l n b here.0.body) (sym (is.block letters t l k)) (k.fits.entries n here.0 here.1).body
+    body_fits = subst (λ b. BodyFits image t.kind l n b here.0.body) (sym (is.block letters t l k.fits)) (k.fits.entries n here.0 here.1).body
 
     told : bytes_of (entry t.entries n) ≡ body_bytes here.0.body
     told = ap bytes_of ((entry_is_at t n here.0).0 here.1)
@@ -160,26 +149,25 @@ module _ {image : List ℕ} {store : StoreValue} {n h : ℕ} (is : IsEntry image
   -- what is made of the data blocks of a file
   module _ (tells : StoreFits image store) (w : word_in image h SECONDARY_TYPE ≢ ST_DIR) {xs ds : List ℕ} {kind : Kind} {size : ℕ}
       (is_image : xs ≡ image) (is_kind : kind ≡ kind_of image) (is_size : size ≡ word_in image h SIZE)
-      (are : (letters : Letters) (t : Tree) (l : Layout) → StoreStandsForBy letters image store t l → ds ≡ datas_of l n) where
-    pieces_are : (letters : Letters) (t : Tree) (l : Layout) → StoreStandsForBy letters image store t l
+      (are : OnVolume image (λ _ l. ds ≡ datas_of l n)) where
+    pieces_are : (letters : Letters) (t : Tree) (l : Layout) → FitsBy letters image t l
         → pieces xs kind size 1 ds ≡ pieces image (kind_of image) (word_in image h SIZE) 1 (datas_of l n)
-    pieces_are letters t l k = λ i. pieces (is_image i) (is_kind i) (is_size i) 1 (are letters t l k i)
+    pieces_are letters t l fits = λ i. pieces (is_image i) (is_kind i) (is_size i) 1 (are letters t l fits i)
 
     pub made_inside : size < 2 ^ 32 → AreInside xs ds 1
     made_inside small =
         let k = keeps image store tells in
         let inside = file_inside _ _ _ k w (subst (λ s. s < 2 ^ 32) is_size small) in
-        subst (λ xs. AreInside xs ds 1) (sym is_image) (subst (λ ds. AreInside image ds 1) (sym (are _ _ _ k)) inside)
+        subst (λ xs. AreInside xs ds 1) (sym is_image) (subst (λ ds. AreInside image ds 1) (sym (are _ _ _ k.fits)) inside)
 
-    pub made_exact : (letters : Letters) (t : Tree) (l : Layout) → StoreStandsForBy letters image store t l
-        → {ps : List (List ℕ)} → ps ≡ pieces xs kind size 1 ds → Some ps ≡ pieces_at image t l n
-    made_exact letters t l k made = ap Some (made ∙ pieces_are letters t l k) ∙ file_pieces letters t l k w
+    pub made_exact : {ps : List (List ℕ)} → ps ≡ pieces xs kind size 1 ds → OnVolume image (λ t l. Some ps ≡ pieces_at image t l n)
+    made_exact made = λ letters t l fits. ap Some (made ∙ pieces_are letters t l fits) ∙ file_pieces t.letters t l (stands tells fits) w
 
-    pub made_joined : (letters : Letters) (t : Tree) (l : Layout) → StoreStandsForBy letters image store t l
-        → {ps : List (List ℕ)} → ps ≡ pieces xs kind size 1 ds → Some (concat ps) ≡ bytes_of (entry t.entries n)
-    made_joined letters t l k made = ap (λ ps. Some (concat ps)) (made ∙ pieces_are letters t l k) ∙ file_bytes letters t l k w
+    pub made_joined : {ps : List (List ℕ)} → ps ≡ pieces xs kind size 1 ds → OnVolume image (λ t _. Some (concat ps) ≡ bytes_of (entry t.entries n))
+    made_joined made = λ letters t l fits.
+        ap (λ ps. Some (concat ps)) (made ∙ pieces_are letters t l fits) ∙ file_bytes t.letters t l (stands tells fits) w
 
     pub made_some : {ps : List (List ℕ)} → ps ≡ pieces xs kind size 1 ds → All (λ p. 0 < length p) ps
     made_some made =
         let k = keeps image store tells in
-        subst (All (λ p. 0 < length p)) (sym (made ∙ pieces_are _ _ _ k)) (file_some _ _ _ k w)
+        subst (All (λ p. 0 < length p)) (sym (made ∙ pieces_are _ _ _ k.fits)) (file_some _ _ _ k w)

@@ -3,26 +3,15 @@ use Rattle.std.proofs.Common.{◌≡◌, ◌≢◌, ℕ, suc, ◌-◌, List, [],
 use Rattle.std.proofs.lemmas.Grind.{common_steps}
 use Rattle.adf_blocks.specs.declared.layout.TheConstants.{EXTENSION, SECONDARY_TYPE, SIZE, ST_DIR}
 use Rattle.adf_blocks.specs.Sizes.{blocks}
-use Rattle.adf_volume.specs.Image.{root_of, word_in}
-use Rattle.adf_volume.specs.Lists.{At}
-use Rattle.adf_volume.specs.Walk.{Has, first, HeadAt, DirAt, FileAt, Role, Walk}
-use Rattle.adf_volume.proofs.Gathered.{root_in}
-use Rattle.adf_volume.proofs.FormDemands.{head_type}
+use Rattle.adf_volume.specs.{Image.root_of, Image.word_in, Lists.At, Walk.Has, Walk.first, Walk.HeadAt, Walk.DirAt, Walk.FileAt, Walk.Role, Walk.Walk}
+use Rattle.adf_volume.proofs.{Gathered.root_in, FormDemands.head_type, MemberFacts.in_range, MemberFacts.kept, Roles.head_role, Walks.numbered}
 use Rattle.adf_volume.proofs.Lists.{at_below, at_fun, at_index_or, at_snoc, at_some, snoc_length}
-use Rattle.adf_volume.proofs.MemberFacts.{in_range, kept}
 use Rattle.adf_volume.proofs.PositionSteps.{end_nodes, enter_dir, low_first}
-use Rattle.adf_volume.proofs.Roles.{head_role}
-use Rattle.adf_volume.proofs.Walks.{numbered}
 use Rattle.adf_walk.specs.declared.kept_header.KeptHeader.{KeptHeader}
 use Rattle.adf_check.specs.Reading.{IsAtNode, IsAtSlot, IsInExts, IsInNode, IsRead}
-use Rattle.adf_check.specs.Datas.{ext_link}
-use Rattle.adf_check.specs.declared.file.File.{File}
-use Rattle.adf_check.specs.Store.{StoreValue, StoreMatches, entered}
-use Rattle.adf_check.proofs.NumberBounds.{many_blocks}
-use Rattle.adf_check.proofs.ClaimSteps.{gathered, read_to}
-use Rattle.adf_check.proofs.ExtSteps.{enter_exts}
+use Rattle.adf_check.specs.{Datas.ext_link, declared.file.File.File, Store.StoreValue, Store.StoreMatches, Store.entered, Own.IsOwnWalk}
+use Rattle.adf_check.proofs.{NumberBounds.many_blocks, ClaimSteps.gathered, ClaimSteps.read_to, ExtSteps.enter_exts}
 use Rattle.adf_check.proofs.FileBlocks.{all_before, data_tells, ext_tells}
-use Rattle.adf_check.specs.Own.{IsOwnWalk}
 
 -- the member at a place
 pub at_or : {X : Type 0} (xs : List X) (i : ℕ) (d : X) → i < length xs → At xs i (get_or xs i d)

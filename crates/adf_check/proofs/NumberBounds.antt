@@ -1,22 +1,11 @@
 -- The numbers of blocks and nodes fit in 29 bits, and so do the places of the blocks of files.
 use Rattle.std.proofs.Common.{◌≡◌, ℕ, List, ◌+◌, ◌^◌, ◌<◌, ◌≤◌, length, arith}
-use Rattle.std.proofs.lemmas.List.Sums.{count_by-le-length}
-use Rattle.std.proofs.lemmas.Grind.{common_steps}
-use Rattle.adf_blocks.specs.declared.layout.TheConstants.{MOST_BLOCKS}
-use Rattle.adf_blocks.specs.Sizes.{blocks, pages_needed}
-use Rattle.adf_volume.specs.Walk.{heads, Walk}
-use Rattle.adf_volume.proofs.Sizes.{size_high, size_low}
-use Rattle.adf_volume.proofs.Gathered.{dir_number}
-use Rattle.adf_volume.proofs.Walks.{of_walk}
-use Rattle.adf_volume.specs.Positions.{Position}
-use Rattle.adf_check.specs.Reading.{HasRead, IsInChain}
-use Rattle.adf_check.specs.declared.chains.Chain.{Chain}
-use Rattle.adf_check.specs.declared.claims.Link.{Link}
-use Rattle.adf_check.specs.Store.{StoreValue, StoreMatches}
-use Rattle.adf_volume.specs.Start.{IsOwnBegun}
+use Rattle.std.proofs.{lemmas.List.Sums.count_by-le-length, lemmas.Grind.common_steps}
+use Rattle.adf_blocks.specs.{declared.layout.TheConstants.MOST_BLOCKS, Sizes.blocks, Sizes.pages_needed}
+use Rattle.adf_volume.specs.{Walk.heads, Walk.Walk, Positions.Position, Start.IsOwnBegun}
+use Rattle.adf_volume.proofs.{Sizes.size_high, Sizes.size_low, Gathered.dir_number, Walks.of_walk, WalkMembers.picked_within, WalkLengths.heads_within}
+use Rattle.adf_check.specs.{Reading.HasRead, Reading.IsInChain, declared.chains.Chain.Chain, declared.claims.Link.Link, Store.StoreValue, Store.StoreMatches}
 use Rattle.adf_walk.specs.KeptOwner.{claimed_count}
-use Rattle.adf_volume.proofs.WalkMembers.{picked_within}
-use Rattle.adf_volume.proofs.WalkLengths.{heads_within}
 
 -- there are at least 4 blocks
 pub many_blocks : (image : List ℕ) → IsOwnBegun image → 4 ≤ blocks image

@@ -1,31 +1,19 @@
 -- The steps along the bitmap pages and the bitmap extension blocks.
-use Rattle.adf_check.specs.Claims.{InRange}
+use Rattle.adf_check.specs.{Claims.InRange, Pages.AreListed, Store.StoreValue, Own.IsOwnWalk, Own.IsOwnFault}
 use Rattle.std.proofs.Common.{◌≡◌, inl, ℕ, zero, suc, List, [], ◌∷◌, ◌++◌, ◌+◌, ◌-◌, ◌/◌, ◌%◌, ◌<◌, ◌≤◌, length, refl, sym, ap, subst, ◌∙◌, arith, Some, None}
-use Rattle.std.proofs.Common.{nat_lt, slice_index}
-use Rattle.std.proofs.lemmas.Grind.{common_steps}
+use Rattle.std.proofs.{Common.nat_lt, Common.slice_index, lemmas.Grind.common_steps}
 use Rattle.std.proofs.lemmas.Bool.{cond-true, cond-false, le-ltb, lt-ltb}
 use Rattle.adf_base.specs.Words.{block}
-use Rattle.adf_blocks.specs.declared.cause.Cause.{Cause}
-use Rattle.adf_blocks.specs.Forms.{first_cause}
-use Rattle.adf_blocks.specs.PageBlock.{page_form}
-use Rattle.adf_blocks.specs.Sizes.{blocks, pages_needed}
+use Rattle.adf_blocks.specs.{declared.cause.Cause.Cause, Forms.first_cause, PageBlock.page_form, Sizes.blocks, Sizes.pages_needed}
 use Rattle.adf_blocks.specs.declared.layout.TheConstants.{MAP_EXT_PAGES, ROOT_PAGES}
-use Rattle.adf_volume.specs.Demands.{AllHold, page_demands}
-use Rattle.adf_volume.specs.Image.{word_in}
+use Rattle.adf_volume.specs.{Demands.AllHold, Demands.page_demands, Image.word_in, Positions.word_of_map_ext, Positions.word_of_page, Fault.fault}
 use Rattle.adf_volume.specs.Walk.{Has, NamesPage, Walk, Role.MapExt, Role.Page}
 use Rattle.adf_volume.proofs.FormDemands.{all_demanded, first_demanded}
-use Rattle.adf_volume.proofs.Lists.{at_snoc, snoc_length}
-use Rattle.adf_volume.proofs.MemberFacts.{kept, names_up}
+use Rattle.adf_volume.proofs.{Lists.at_snoc, Lists.snoc_length, MemberFacts.kept, MemberFacts.names_up, PositionSteps.end_pages}
 use Rattle.adf_volume.proofs.Pointers.{behind_map_ext, behind_page, map_ext_asks, map_ext_next, names_first, names_page, next_holder, page_next}
-use Rattle.adf_volume.proofs.PositionSteps.{end_pages}
-use Rattle.adf_volume.specs.Positions.{word_of_map_ext, word_of_page}
-use Rattle.adf_volume.specs.Fault.{fault}
-use Rattle.adf_check.specs.Pages.{AreListed}
 use Rattle.adf_check.specs.Reading.{HasRead, IsAtNode, IsAtPage, IsBeforePage, block_of_page, block_of_map_ext}
 use Rattle.adf_walk.specs.KeptOwner.{kept_at, no_owner}
-use Rattle.adf_check.specs.Store.{StoreValue}
 use Rattle.adf_check.proofs.ClaimSteps.{IsNextAt, IsStored, form_fault, read_one, read_to}
-use Rattle.adf_check.specs.Own.{IsOwnWalk, IsOwnFault}
 
 -- where no bitmap extension block comes before page k
 pub same_holder : (image : List ℕ) (store : StoreValue) (k a : ℕ) → IsBeforePage image store k a

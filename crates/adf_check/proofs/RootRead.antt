@@ -1,20 +1,14 @@
 -- The state of a check after the root.
 use Rattle.std.proofs.Common.{◌≡◌, ℕ, zero, suc, List, [], ◌∷◌, ◌+◌, ◌-◌, ◌<◌, ◌≤◌, length, set, refl, sym, ap, subst, ◌∙◌, arith, replicate}
-use Rattle.std.proofs.lemmas.Grind.{common_steps}
-use Rattle.std.proofs.lemmas.List.{length-replicate}
+use Rattle.std.proofs.{lemmas.Grind.common_steps, lemmas.List.length-replicate}
 use Rattle.adf_blocks.specs.Sizes.{blocks}
-use Rattle.adf_volume.specs.Image.{root_of}
+use Rattle.adf_volume.specs.{Image.root_of, Walk.IsWalkBy.start, Start.IsOwnBegun}
 use Rattle.adf_volume.specs.Walk.Role.{Root as TheRoot}
-use Rattle.adf_volume.specs.Walk.IsWalkBy.{start}
-use Rattle.adf_volume.specs.Start.{IsOwnBegun}
 use Rattle.adf_volume.proofs.PositionSteps.{with_root}
-use Rattle.adf_walk.specs.declared.kept_owner.KeptOwner.{KeptOwner}
-use Rattle.adf_walk.specs.declared.owner_class.OwnerClass.TheVariants.{Root}
+use Rattle.adf_walk.specs.{declared.kept_owner.KeptOwner.KeptOwner, declared.owner_class.OwnerClass.TheVariants.Root}
 use Rattle.adf_walk.specs.KeptOwner.{boot_owner, claimed_count, kept_at, no_owner}
-use Rattle.adf_check.specs.Reading.{IsBeforePage}
-use Rattle.adf_check.specs.Store.{StoreValue, StoreMatches}
-use Rattle.adf_check.proofs.StoreSteps.{tells_more}
-use Rattle.adf_check.proofs.NumberBounds.{many_blocks}
+use Rattle.adf_check.specs.{Reading.IsBeforePage, Store.StoreValue, Store.StoreMatches}
+use Rattle.adf_check.proofs.{StoreSteps.tells_more, NumberBounds.many_blocks}
 
 -- what is kept of the root
 abbrev root_owner : KeptOwner

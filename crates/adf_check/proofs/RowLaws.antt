@@ -1,35 +1,22 @@
 -- A row agrees with its entry in the tree.
 use Rattle.std.proofs.Common.{Bool, true, false, if◌then◌else◌, ◌≡◌, ℕ, suc, List, ◌<◌, length, refl, sym, ap, subst, ◌∙◌, arith, Some}
 use Rattle.std.specs.Prelude.{option_map, ◌==◌}
-use Rattle.std.proofs.lemmas.Bool.{and_parts, Decides.nat_tests}
-use Rattle.std.proofs.lemmas.Grind.{common_steps}
+use Rattle.std.proofs.{lemmas.Bool.and_parts, lemmas.Bool.Decides.nat_tests, lemmas.Grind.common_steps}
 use Rattle.adf_blocks.specs.declared.layout.TheConstants.{SECONDARY_TYPE, ST_DIR}
-use Rattle.adf_base.specs.Words.{block}
+use Rattle.adf_base.specs.{Words.block, declared.hash.Letters.Letters}
 use Rattle.adf_tree.specs.declared.entry.Body.{Body, TheVariants.Dir, TheVariants.File}
 use Rattle.adf_names.specs.declared.kind.Kind.{Kind}
 use Rattle.adf_tree.specs.Tree.{Tree, entry, is_dir_body}
 use Rattle.adf_blocks.specs.HeadBlock.{IsHead, body_at, head_form_by}
 use Rattle.adf_blocks.specs.declared.head.HeadBody.TheVariants.{Dir as HeadDir, File as HeadFile}
-use Rattle.adf_volume.specs.Demands.{AllHold, root_demands, demands_at, boot_demands_by}
-use Rattle.adf_volume.specs.Fits.{BodyFits, EntryFitsBy}
+use Rattle.adf_volume.specs.{Demands.AllHold, Demands.root_demands, Demands.demands_at, Demands.boot_demands_by, Fits.BodyFits, Fits.EntryFitsBy, Layout.Layout}
+use Rattle.adf_volume.specs.{Layout.at_node, Lists.At, Start.IsOwnBegun, Rows.row_body, Rows.row_in, Rows.row_of_body, Rows.row_of_entry, declared.row.Row.Row}
 use Rattle.adf_volume.specs.Image.{kind_of, meta_of, name_of, root_of, word_in, letters_of}
-use Rattle.adf_volume.specs.Layout.{Layout, at_node}
-use Rattle.adf_volume.specs.Lists.{At}
-use Rattle.adf_volume.proofs.MemberFacts.{kept}
-use Rattle.adf_volume.proofs.Roles.{head_role}
-use Rattle.adf_volume.proofs.FormDemands.{demanded}
-use Rattle.adf_volume.proofs.Lists.{all_append, at_below, at_some}
-use Rattle.adf_volume.proofs.Chains.{entry_is_at}
+use Rattle.adf_volume.proofs.{MemberFacts.kept, Roles.head_role, FormDemands.demanded, Lists.all_append, Lists.at_below, Lists.at_some, Chains.entry_is_at}
 use Rattle.adf_walk.specs.declared.kept_header.KeptHeader.{KeptHeader as Kept}
-use Rattle.adf_check.specs.StoreStands.{StoreStandsForBy}
-use Rattle.adf_check.specs.Reading.{StoreFits}
-use Rattle.adf_check.specs.Store.{StoreValue}
-use Rattle.adf_check.proofs.NodeSteps.{node_here}
-use Rattle.adf_volume.specs.Start.{IsOwnBegun}
-use Rattle.adf_volume.specs.Rows.{row_body, row_in, row_of_body, row_of_entry}
-use Rattle.adf_volume.specs.declared.row.Row.{Row}
+use Rattle.adf_check.proofs.{StoreStands.StoreStandsForBy, NodeSteps.node_here}
+use Rattle.adf_check.specs.{Reading.StoreFits, Store.StoreValue}
 use Rattle.adf_volume.specs.declared.row.RowBody.TheVariants.{Dir as DirRow, File as FileRow}
-use Rattle.adf_base.specs.declared.hash.Letters.{Letters}
 
 -- a block with the form of a header is one
 pub head_facts : (letters : Letters) (kind : Kind) (b own parent slot : ℕ) (bytes : List ℕ)

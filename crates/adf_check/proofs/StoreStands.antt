@@ -1,34 +1,58 @@
 -- The store of a whole walk stands for the tree and the layout that fit.
-use Rattle.std.proofs.Common.{◌≡◌, ◌≢◌, ◌⊎◌, ℕ, zero, suc, List, ◌+◌, ◌-◌, ◌≤◌, inl, inr, length, sym, ap, ◌∙◌, take, drop, arith, is_some}
-use Rattle.std.proofs.lemmas.Grind.{common_steps}
+use Rattle.std.proofs.Common.{◌≡◌, ◌≢◌, ◌⊎◌, ℕ, zero, suc, List, ◌+◌, ◌-◌, ◌<◌, ◌≤◌, inl, inr, length, sym, ap, subst, ◌∙◌, take, drop, arith, is_some}
+use Rattle.std.proofs.{lemmas.Grind.common_steps, lemmas.List.Sorted.IsNonDecreasingBy-from_default}
+use native.Mathlib.Decide.{dec_lt}
 use Rattle.adf_base.specs.declared.hash.Letters.{Letters}
-use Rattle.adf_tree.specs.declared.entry.Entry.{Entry}
-use Rattle.adf_tree.specs.Tree.{Tree}
-use Rattle.adf_volume.specs.Layout.{Layout, exts_of, datas_of}
-use Rattle.adf_volume.specs.Lists.{At}
-use Rattle.adf_volume.specs.Walk.{Role, Has, Role.Ext, Role.Data}
-use Rattle.adf_volume.specs.LayoutRoles.{LayoutHasBy, owner_of}
-use Rattle.adf_volume.specs.Made.{layout_in, exts_in, datas_in, tree_in_by}
-use Rattle.adf_volume.proofs.ImageStart.{own_letters}
-use Rattle.adf_volume.proofs.Lists.{at_fun, same_list}
-use Rattle.adf_volume.proofs.WalkAgreement.{agreement}
-use Rattle.adf_volume.proofs.WalkCompleteness.{part_walked}
+use Rattle.adf_tree.specs.{declared.entry.Entry.Entry, Tree.Tree}
+use Rattle.adf_blocks.specs.Sizes.{blocks}
+use Rattle.adf_volume.specs.{declared.owner.Owner.Owner, Fits.FitsBy, Lists.At, Lists.In, Walk.Role, Walk.Has, Walk.Role.Ext, Walk.Role.Data}
+use Rattle.adf_volume.specs.{LayoutRoles.LayoutHasBy, LayoutRoles.owner_of, Made.layout_in, Made.exts_in, Made.datas_in, Made.tree_in_by, Image.letters_of}
+use Rattle.adf_volume.specs.Layout.{Layout, EntryAt, at_node, exts_of, datas_of, owned}
+use Rattle.adf_volume.proofs.{FitWalks.one_fit, ImageStart.own_letters, LayoutRoles.owned_part, Lists.at_below, Lists.at_fun, Lists.same_list}
+use Rattle.adf_volume.proofs.{WalkAgreement.agreement, WalkCompleteness.part_walked, WholeWalks.head_is, WholeWalks.entry_is, WalkOwners.owned_has}
+use Rattle.adf_volume.proofs.{WalkOwners.is_owned, WalkLengths.walk_length, WalkLengths.walked_once}
 use Rattle.adf_volume.proofs.WalkMembers.{entries_length, has_ext, ext_has, has_data, data_has}
-use Rattle.adf_volume.proofs.WholeWalks.{head_is, entry_is}
-use Rattle.adf_volume.proofs.WalkOwners.{owned_has, is_owned}
-use Rattle.adf_walk.specs.declared.kept_header.KeptHeader.{KeptHeader}
-use Rattle.adf_walk.specs.declared.kept_owner.KeptOwner.{KeptOwner}
+use Rattle.adf_walk.specs.{declared.kept_header.KeptHeader.KeptHeader, declared.kept_owner.KeptOwner.KeptOwner, declared.node_start.NodeStart.NodeStart}
 use Rattle.adf_walk.specs.declared.owner_class.OwnerClass.TheVariants as class
-use Rattle.adf_walk.specs.KeptOwner.{kept_at, no_owner}
-use Rattle.adf_walk.specs.Places.{kept_as, start_of}
-use Rattle.adf_check.specs.Store.{StoreValue, blocks_before, data_file, ext_file, file_blocks}
-use Rattle.adf_check.specs.Reading.{StoreFits}
-use Rattle.adf_check.specs.StoreStands.{OwnersFit, HeadersFit, StartsFit, StartsRise, StoreStandsForBy}
-use Rattle.adf_check.proofs.NodeSteps.{node_here}
-use Rattle.adf_volume.proofs.WalkLengths.{walk_length, walked_once}
+use Rattle.adf_walk.specs.KeptOwner.{boot_owner, kept_at, no_owner}
+use Rattle.adf_walk.specs.Places.{AreStarts, IsNumbered, first_data, first_ext, kept_as, start_of}
+use Rattle.adf_check.specs.{Store.StoreValue, Store.blocks_before, Store.data_file, Store.ext_file, Store.file_blocks, Reading.StoreFits}
+use Rattle.adf_check.proofs.{NodeSteps.node_here, KeptPlaces.at_whole, KeptPlaces.data_node, KeptPlaces.ext_node, KeptPlaces.one_place, KeptPlaces.start_at}
 use Rattle.adf_check.proofs.FileBlocks.{exts_apart, exts_stored, datas_apart, datas_stored, no_datas_before, no_exts_before}
-use Rattle.adf_check.proofs.KeptPlaces.{at_whole, data_node, ext_node, one_place, start_at}
-use Rattle.adf_volume.specs.Image.{letters_of}
+
+-- the table has the one owner of each block, kept by the starts of the nodes
+pub record OwnersFit (image : List ℕ) (l : Layout) (starts : List NodeStart) (owners : List KeptOwner) : Type 0 where
+  pub size : length owners ≡ blocks image
+  pub boot : (b : ℕ) → b < 2 → b < blocks image → kept_at owners b ≡ boot_owner
+  pub part : (o : Owner) (b : ℕ) → In (owned image l) (o, b) → kept_at owners b ≡ kept_as starts o
+  pub free : (b : ℕ) → 2 ≤ b → b < blocks image → ((o : Owner) → In (owned image l) (o, b) → ⊥) → kept_at owners b ≡ no_owner
+
+-- header i has the parent and the block of entry i + 1's header
+pub record HeadersFit (image : List ℕ) (t : Tree) (l : Layout) (headers : List KeptHeader) : Type 0 where
+  pub count : length headers ≡ length t.entries
+  pub head : (i : ℕ) (r : KeptHeader) → At headers i r → at_node image l (suc i) ≡ r.head
+  pub parent : (i : ℕ) (r : KeptHeader) (e : Entry) → At headers i r → EntryAt t (suc i) e → e.parent ≡ r.parent
+
+-- start n has the positions of the extension blocks and the data blocks of node n in the flat lists
+pub record StartsFit (l : Layout) (store : StoreValue) : Type 0 where
+  pub count : length store.starts ≡ suc (length store.headers)
+  pub exts : (n : ℕ) (x : NodeStart) → At store.starts n x → take (length (exts_of l n)) (drop x.exts store.exts) ≡ exts_of l n
+  pub datas : (n : ℕ) (x : NodeStart) → At store.starts n x → take (length (datas_of l n)) (drop x.datas store.datas) ≡ datas_of l n
+
+-- the blocks of each node end in the flat lists before those of a later one begin, and nothing stands before those of the root
+pub record StartsRise (l : Layout) (starts : List NodeStart) : Type 0 where
+  pub zero : (x : NodeStart) → At starts 0 x → (x.exts ≡ 0) × (x.datas ≡ 0)
+  pub apart : (n m : ℕ) (x y : NodeStart) → n < m → At starts n x → At starts m y
+      → (x.exts + length (exts_of l n) ≤ y.exts) × (x.datas + length (datas_of l n) ≤ y.datas)
+
+-- the store stands for this tree and layout, which fit the image as a volume with these letters
+pub record StoreStandsForBy (letters : Letters) (image : List ℕ) (store : StoreValue) (t : Tree) (l : Layout) : Type 0 where
+  pub fits : FitsBy letters image t l
+  pub owners : OwnersFit image l store.starts store.owners
+  pub headers : HeadersFit image t l store.headers
+  pub starts : StartsFit l store
+  pub rising : StartsRise l store.starts
+  pub used : store.used ≡ length (owned image l)
 
 is_free : (o : KeptOwner) → (o ≡ no_owner) ⊎ (o ≢ no_owner)
 is_free o = grind (arith, common_steps)
@@ -142,11 +166,77 @@ module _ (image : List ℕ) (store : StoreValue) (st : StoreFits image store) wh
   pub keeps : StoreStandsForBy (letters_of image) image store (tree_in_by (letters_of image) image st.walk) (layout_in st.walk)
   keeps = grind (arith, common_steps, owners_fit, headers_fit, starts_fit, starts_rise, walk_length)
 
--- the letters by which a tree fits are those of the image, and of the tree
-pub own_are : {letters : Letters} {image : List ℕ} {store : StoreValue} {t : Tree} {l : Layout} → StoreStandsForBy letters image store t l
-    → letters_of image ≡ letters
-own_are {letters = letters} {image = image} k = own_letters letters image k.fits.boots
+-- the letters of an image are those of the tree that fits it
+pub own_are : {letters : Letters} {image : List ℕ} {t : Tree} {l : Layout} → FitsBy letters image t l → letters_of image ≡ t.letters
+own_are {letters = letters} {image = image} fits = own_letters letters image fits.boots ∙ sym fits.letters
 
-pub letters_are : {letters : Letters} {image : List ℕ} {store : StoreValue} {t : Tree} {l : Layout} → StoreStandsForBy letters image store t l
-    → letters_of image ≡ t.letters
-letters_are k = own_are k ∙ sym k.fits.letters
+-- so it stands for whatever fits the image, by the letters of the tree
+pub stands : {image : List ℕ} {store : StoreValue} {letters : Letters} {t : Tree} {l : Layout} → StoreFits image store → FitsBy letters image t l
+    → StoreStandsForBy t.letters image store t l
+stands {image = image} {store = store} {t = t} {l = l} st fits =
+    let u = tree_in_by (letters_of image) image st.walk in
+    let same = one_fit image u t (layout_in st.walk) l st.fits fits in
+    subst (λ ls. StoreStandsForBy ls image store t l) (own_are fits)
+    (subst (λ u. StoreStandsForBy (letters_of image) image store u l) same.0
+    (subst (StoreStandsForBy (letters_of image) image store u) same.1 (keeps image store st)))
+
+-- the same of an image under another name
+pub stands_as : {image now : List ℕ} {store : StoreValue} {letters : Letters} {t : Tree} {l : Layout} → StoreFits image store → image ≡ now
+    → FitsBy letters now t l → StoreStandsForBy t.letters image store t l
+stands_as {letters = letters} {t = t} {l = l} st is fits = stands st (subst (λ (i : List ℕ). FitsBy letters i t l) (sym is) fits)
+
+-- the starts of a volume
+module _ {image : List ℕ} {store : StoreValue} {letters : Letters} {t : Tree} {l : Layout} (st : StoreStandsForBy letters image store t l) where
+  starts_are : (first : NodeStart → ℕ) → ((x : NodeStart) → At store.starts 0 x → first x ≡ 0)
+      → ((n m : ℕ) (x y : NodeStart) → n < m → At store.starts n x → At store.starts m y → first x ≤ first y) → AreStarts first store.starts
+  starts_are first begins up =
+      let some : 0 < length store.starts = omega (arith, st.starts.count) in
+      record {
+        some = some;
+        zero = begins (start_of store.starts 0) (start_at store.starts 0 some);
+        rising = IsNonDecreasingBy-from_default first store.starts (record { exts = 0; datas = 0 }) (λ i j le lt. elim (dec_lt i j) [
+          | yes more ↦ up i j (start_of store.starts i) (start_of store.starts j) more (start_at store.starts i (omega arith))
+              (start_at store.starts j lt)
+          | no same ↦ let e : i ≡ j = omega arith in let f = ap (λ i. first (start_of store.starts i)) e in omega (arith, f)
+        ]);
+      }
+
+  pub ext_starts : AreStarts first_ext store.starts
+  ext_starts = starts_are first_ext (λ x h. (st.rising.zero x h).0) (λ n m x y lt h k. omega (arith, (st.rising.apart n m x y lt h k).0))
+
+  pub data_starts : AreStarts first_data store.starts
+  data_starts = starts_are first_data (λ x h. (st.rising.zero x h).1) (λ n m x y lt h k. omega (arith, (st.rising.apart n m x y lt h k).1))
+
+  node_in : (n : ℕ) → n ≤ length l.places → n < length store.starts
+  node_in n le = omega (arith, st.starts.count, st.headers.count, st.fits.places)
+
+  apart_at : (n m : ℕ) → n < m → (within : m < length store.starts)
+      → ((start_of store.starts n).exts + length (exts_of l n) ≤ (start_of store.starts m).exts)
+      × ((start_of store.starts n).datas + length (datas_of l n) ≤ (start_of store.starts m).datas)
+  apart_at n m lt within = st.rising.apart n m (start_of store.starts n) (start_of store.starts m) lt (start_at store.starts n (omega arith))
+      (start_at store.starts m within)
+
+  role_numbered : (r : Role) (b : ℕ) → LayoutHasBy letters image t l r b → IsNumbered store.starts (owner_of r)
+  role_numbered (Ext n zero) b h = absurd h
+  role_numbered (Ext n (suc k)) b h = (
+    omega arith,
+    record {
+      within = node_in n (ext_node l n k b h);
+      begins = omega arith;
+      last = (λ m lt within. omega (arith, (apart_at n m lt within).0, at_below (exts_of l n) k b h));
+    },
+  )
+  role_numbered (Data n zero) b h = absurd h
+  role_numbered (Data n (suc k)) b h = (
+    omega arith,
+    record {
+      within = node_in n (data_node l n k b h);
+      begins = omega arith;
+      last = (λ m lt within. omega (arith, (apart_at n m lt within).1, at_below (datas_of l n) k b h));
+    },
+  )
+  role_numbered _ b h = tt
+
+  -- a part is numbered within its file
+  pub part_numbered : (o : Owner) (b : ℕ) → In (owned image l) (o, b) → IsNumbered store.starts o
+  part_numbered o b h = let q = owned_part letters image t l st.fits.places o b h in subst (IsNumbered store.starts) (sym q.2) (role_numbered q.0 b q.1)

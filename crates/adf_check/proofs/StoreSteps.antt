@@ -2,21 +2,15 @@
 use Rattle.std.proofs.Common.{◌≡◌, ◌==◌, ℕ, suc, List, [], ◌∷◌, ◌++◌, inl, inr, ◌+◌, ◌<◌, ◌≤◌, ◌≢◌, length, Option, Bool, refl, sym, ap, subst, ◌∙◌, arith, set}
 use Rattle.std.proofs.Common.{is_some, length-set, get_or-set_same, get_or-set_other, count_by}
 use Rattle.std.specs.Int.{from_bool}
-use Rattle.std.proofs.lemmas.List.Sums.{sum_by-append}
-use Rattle.std.proofs.lemmas.Grind.{common_steps}
+use Rattle.std.proofs.{lemmas.List.Sums.sum_by-append, lemmas.Grind.common_steps}
 use native.Mathlib.Decide.{ℕ_discrete}
-use Rattle.adf_blocks.specs.declared.layout.TheConstants.{SECONDARY_TYPE, ST_DIR}
-use Rattle.adf_blocks.specs.Sizes.{blocks}
-use Rattle.adf_volume.specs.Image.{word_in}
-use Rattle.adf_volume.specs.Lists.{At}
+use Rattle.adf_blocks.specs.{declared.layout.TheConstants.SECONDARY_TYPE, declared.layout.TheConstants.ST_DIR, Sizes.blocks}
+use Rattle.adf_volume.specs.{Image.word_in, Lists.At, Made.picked}
 use Rattle.adf_volume.specs.Walk.{Role, first, second, Has, head_count, heads, IsAbsent, Walk, Role.Head, Role.Ext, Role.Data}
 use Rattle.adf_volume.proofs.Lists.{at_new, at_old, at_below, snoc_length}
-use Rattle.adf_walk.specs.declared.kept_header.KeptHeader.{KeptHeader}
-use Rattle.adf_walk.specs.declared.kept_owner.KeptOwner.{KeptOwner}
-use Rattle.adf_walk.specs.KeptOwner.{kept_at, no_owner}
+use Rattle.adf_walk.specs.{declared.kept_header.KeptHeader.KeptHeader, declared.kept_owner.KeptOwner.KeptOwner, KeptOwner.kept_at, KeptOwner.no_owner}
 use Rattle.adf_check.specs.Store.{StoreValue, IsKeptOwner, Owns, KeepsHeaders, StoreMatches, file_blocks, next_kept, push_header, push_block, ext_file}
 use Rattle.adf_check.specs.Store.{data_file, is_dir_at, blocks_before, stored}
-use Rattle.adf_volume.specs.Made.{picked}
 use Rattle.adf_check.proofs.FileBlocks.{TellsFile, data_tells, ext_tells, not_below}
 
 -- no block of a role is kept as free

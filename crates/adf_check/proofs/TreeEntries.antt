@@ -1,20 +1,14 @@
 -- Adding the entries of a tree one after another gives the tree.
 use Rattle.std.proofs.Common.{◌≡◌, ℕ, suc, ◌+◌, ◌<◌, ◌≤◌, length, take, take_all, get_or, refl, sym, ap, subst, ◌∙◌, arith, Option, Some, None}
 use Rattle.std.specs.Prelude.{IsSome, option_map}
-use Rattle.std.proofs.lemmas.List.{take_more}
-use Rattle.std.proofs.lemmas.Grind.{common_steps}
+use Rattle.std.proofs.{lemmas.List.take_more, lemmas.Grind.common_steps}
 use Rattle.adf_base.specs.declared.hash.Letters.{Letters}
 use Rattle.adf_tree.specs.declared.entry.Body.{Body, TheVariants.Dir, TheVariants.File}
-use Rattle.adf_tree.specs.declared.entry.Entry.{Entry}
-use Rattle.adf_tree.specs.Laws.{IsNextEntryBy}
-use Rattle.adf_tree.specs.Tree.{IsTreeBy, Tree, entry, with_last, IsLastBy, MayAddBy}
+use Rattle.adf_tree.specs.{declared.entry.Entry.Entry, Laws.IsNextEntryBy, Tree.IsTreeBy, Tree.Tree, Tree.entry, Tree.with_last, Tree.IsLastBy, Tree.MayAddBy}
 use Rattle.adf_tree.proofs.TreePrefixes.{is_next}
-use Rattle.adf_volume.proofs.Lists.{at_index_or, at_some}
-use Rattle.adf_volume.proofs.Chains.{entry_is_at}
-use Rattle.adf_check.specs.Pieces.{body_bytes, bytes_of}
-use Rattle.adf_check.specs.Rebuild.{body_with}
-use Rattle.adf_volume.specs.Rows.{row_of_entry}
-use Rattle.adf_volume.specs.declared.row.Row.{Row}
+use Rattle.adf_volume.proofs.{Lists.at_index_or, Lists.at_some, Chains.entry_is_at}
+use Rattle.adf_check.specs.{Pieces.body_bytes, Pieces.bytes_of, Rebuild.body_with}
+use Rattle.adf_volume.specs.{Rows.row_of_entry, declared.row.Row.Row}
 
 body_back : (body : Body) → body_with (body_bytes body) ≡ body
 body_back Dir = refl

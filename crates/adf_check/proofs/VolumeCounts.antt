@@ -1,25 +1,15 @@
 -- The counts of a volume are those of its tree and layout.
 use Rattle.std.proofs.Common.{◌≡◌, ℕ, suc, List, ◌-◌, ◌<◌, length, count_by, subst, arith, ◌==◌}
 use Rattle.std.proofs.lemmas.Grind.{common_steps}
-use Rattle.adf_blocks.specs.declared.layout.TheConstants.{SECONDARY_TYPE, ST_DIR}
+use Rattle.adf_blocks.specs.{declared.layout.TheConstants.SECONDARY_TYPE, declared.layout.TheConstants.ST_DIR, Sizes.blocks}
 use Rattle.adf_names.specs.declared.kind.Kind.{Kind}
 use Rattle.adf_tree.specs.Tree.{Tree}
-use Rattle.adf_blocks.specs.Sizes.{blocks}
-use Rattle.adf_volume.specs.Image.{kind_of, word_in}
-use Rattle.adf_volume.specs.Layout.{Layout, at_node}
-use Rattle.adf_volume.specs.Lists.{At}
-use Rattle.adf_volume.proofs.MemberFacts.{in_range}
-use Rattle.adf_volume.proofs.Roles.{head_role}
-use Rattle.adf_volume.proofs.WalkCounts.{others, same_count}
+use Rattle.adf_volume.specs.{Image.kind_of, Image.word_in, Layout.Layout, Layout.at_node, Lists.At, declared.counts.Counts.Counts}
+use Rattle.adf_volume.proofs.{MemberFacts.in_range, Roles.head_role, WalkCounts.others, WalkCounts.same_count}
 use Rattle.adf_walk.specs.declared.kept_header.KeptHeader.{KeptHeader}
-use Rattle.adf_check.specs.StoreStands.{StoreStandsForBy}
-use Rattle.adf_check.specs.Reading.{StoreFits}
-use Rattle.adf_check.specs.Store.{StoreValue, is_dir_at}
-use Rattle.adf_check.proofs.NodeSteps.{node_here}
-use Rattle.adf_check.proofs.NumberBounds.{many_blocks}
-use Rattle.adf_check.proofs.RowLaws.{tells_begun, type_told}
+use Rattle.adf_check.proofs.{StoreStands.StoreStandsForBy, NodeSteps.node_here, NumberBounds.many_blocks, RowLaws.tells_begun, RowLaws.type_told}
+use Rattle.adf_check.specs.{Reading.StoreFits, Store.StoreValue, Store.is_dir_at}
 use Rattle.adf_volume.specs.Counts.{counts_of, is_directory}
-use Rattle.adf_volume.specs.declared.counts.Counts.{Counts}
 use Rattle.adf_base.specs.declared.hash.Letters.{Letters}
 
 -- the headers of rows are blocks of the image

@@ -1,12 +1,8 @@
 -- The blocks of files.
 use Rattle.std.specs.Prelude.{◌≡◌, ◌≤◌, ℕ, List, ◌+◌, ◌*◌, ◌/◌, cond, length, nat_lt, slice_index}
 use Rattle.adf_blocks.specs.declared.layout.TheConstants.{POINTERS}
-use Rattle.adf_volume.specs.Demands.{Demand, data_demands}
-use Rattle.adf_volume.specs.Image.{held, kind_of, table_word, word_in}
-use Rattle.adf_volume.specs.Walk.{data_count}
-use Rattle.adf_check.specs.declared.claims.Link.{Link}
-use Rattle.adf_check.specs.declared.datas.Datas.{Datas}
-use Rattle.adf_check.specs.declared.file.File.{File}
+use Rattle.adf_volume.specs.{Demands.Demand, Demands.data_demands, Image.held, Image.kind_of, Image.table_word, Image.word_in, Walk.data_count}
+use Rattle.adf_check.specs.{declared.claims.Link.Link, declared.datas.Datas.Datas, declared.file.File.File}
 
 -- the word of a file's header that points to its first extension block
 abbrev pub ext_link : File → Link

@@ -1,10 +1,9 @@
--- The promise: what the result of a check stands for, and what it tells.
-pub mod Store
-pub mod StoreStands
+-- The promise: what a checked volume tells.
 pub mod Volumes
 pub mod Pieces
+-- The states of the checker: what it keeps, its position, what is read up to it, and its steps.
+pub mod Store
 pub mod Own
--- The states of the checker: its position, what is read up to it, and its steps.
 pub mod Reading
 pub mod Progress
 pub mod Claims

@@ -1,9 +1,6 @@
 -- The model of an image as a volume with the letters of its own type.
 use Rattle.std.specs.Prelude.{ℕ, List}
-use Rattle.adf_volume.specs.Fault.{IsTrueFaultBy}
-use Rattle.adf_volume.specs.Image.{letters_of}
-use Rattle.adf_volume.specs.Walk.{IsWalkBy, Walk}
-use Rattle.adf_volume.specs.declared.fault.Fault.{Fault}
+use Rattle.adf_volume.specs.{Fault.IsTrueFaultBy, Image.letters_of, Walk.IsWalkBy, Walk.Walk, declared.fault.Fault.Fault}
 
 -- the walks by these letters
 abbrev pub IsOwnWalk : List ℕ → Walk → Type 0

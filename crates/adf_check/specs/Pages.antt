@@ -1,12 +1,9 @@
 -- The bitmap pages as read.
 use Rattle.std.specs.Prelude.{◌≡◌, ◌≢◌, ◌⊎◌, Bool, true, false, ℕ, List, ◌<◌, length, slice_index}
-use Rattle.adf_blocks.specs.Sizes.{blocks}
-use Rattle.adf_blocks.specs.declared.cause.Cause.TheVariants.{LostBlock, OwnedFree}
+use Rattle.adf_blocks.specs.{Sizes.blocks, declared.cause.Cause.TheVariants.LostBlock, declared.cause.Cause.TheVariants.OwnedFree}
 use Rattle.adf_check.specs.Reading.{IsListed}
-use Rattle.adf_walk.specs.KeptOwner.{kept_at, no_owner}
-use Rattle.adf_volume.specs.Fault.{fault}
-use Rattle.adf_volume.specs.declared.fault.Fault.{Fault}
-use Rattle.adf_walk.specs.declared.kept_owner.KeptOwner.{KeptOwner}
+use Rattle.adf_walk.specs.{KeptOwner.kept_at, KeptOwner.no_owner, declared.kept_owner.KeptOwner.KeptOwner}
+use Rattle.adf_volume.specs.{Fault.fault, declared.fault.Fault.Fault}
 
 -- these are the blocks of the first k pages, and they are inside the image
 pub record AreListed (image : List ℕ) (pages : List ℕ) (k : ℕ) : Type 0 where

@@ -1,11 +1,9 @@
 -- The bytes of files.
 use Rattle.std.specs.Prelude.{ℕ, List, length, Option, Some, None}
 use Rattle.adf_tree.specs.declared.entry.Body.{Body, TheVariants.Dir, TheVariants.File}
-use Rattle.adf_tree.specs.declared.entry.Entry.{Entry}
+use Rattle.adf_tree.specs.{declared.entry.Entry.Entry, Tree.Tree, Tree.entry}
 use Rattle.adf_names.specs.declared.kind.Kind.{Kind}
-use Rattle.adf_tree.specs.Tree.{Tree, entry}
-use Rattle.adf_volume.specs.Image.{pieces}
-use Rattle.adf_volume.specs.Layout.{Layout, datas_of}
+use Rattle.adf_volume.specs.{Image.pieces, Layout.Layout, Layout.datas_of}
 
 -- the pieces of a file with these data blocks, one for each; none for a directory
 abbrev pub pieces_in : List ℕ → Kind → List ℕ → Body → Option (List (List ℕ))

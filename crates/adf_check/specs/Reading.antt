@@ -6,19 +6,12 @@ use Rattle.std.proofs.Common.{zero, suc}
 use Rattle.adf_blocks.specs.declared.layout.TheConstants.{EXTENSION, FIRST_MAP_EXT, FIRST_PAGE, MAP_EXT_NEXT, MAP_EXT_PAGES, ROOT_PAGES, SIZE}
 use Rattle.adf_tree.specs.NameSet.{has, Names}
 use Rattle.adf_names.specs.Texts.{uppers_by}
-use Rattle.adf_volume.specs.Lists.{At}
+use Rattle.adf_volume.specs.{Lists.At, Demands.AllHold, Fits.FitsBy, Start.IsOwnBegun, Made.tree_in_by, Made.layout_in}
 use Rattle.adf_volume.specs.Image.{letters_of, word_in, root_of, name_of}
-use Rattle.adf_volume.specs.Demands.{AllHold}
 use Rattle.adf_volume.specs.Walk.{Has, DirAt, FileAt, MemberAt, NamesPage, ext_count, IsWhole, bitmap_demands, Walk, Role.Page, Role.Head, Role.Ext, Role.Data}
 use Rattle.adf_volume.specs.Positions.{Position, IsLink, IsPageHolder, IsUpTo, before_node, before_page, position_of, word_of_page}
-use Rattle.adf_volume.specs.Fits.{FitsBy}
-use Rattle.adf_volume.specs.Start.{IsOwnBegun}
-use Rattle.adf_volume.specs.Made.{tree_in_by, layout_in}
-use Rattle.adf_check.specs.Own.{IsOwnWalk}
+use Rattle.adf_check.specs.{Own.IsOwnWalk, declared.chains.Chain.Chain, declared.claims.Link.Link, declared.file.File.File}
 use Rattle.adf_check.specs.Store.{StoreValue, StoreMatches}
-use Rattle.adf_check.specs.declared.chains.Chain.{Chain}
-use Rattle.adf_check.specs.declared.claims.Link.{Link}
-use Rattle.adf_check.specs.declared.file.File.{File}
 
 -- the image begins as a volume; the walk has all parts before the position and none after it; n nodes are begun, each the root or one
 -- with a header; the store matches the walk

@@ -3,19 +3,12 @@
 -- k the number of a page or of a part of a file.
 use Rattle.std.specs.Prelude.{◌≡◌, ◌≢◌, ◌==◌, ℕ, Bool, false, Option, Some, None, List, [], ◌∷◌, ◌++◌, ◌<◌, ◌≤◌, cond, count_by, is_some, nat_lt, length, set}
 use Rattle.std.proofs.Common.{suc}
-use Rattle.adf_blocks.specs.declared.layout.TheConstants.{SECONDARY_TYPE, ST_DIR}
-use Rattle.adf_blocks.specs.Sizes.{blocks}
-use Rattle.adf_volume.specs.Image.{word_in}
-use Rattle.adf_volume.specs.Lists.{At}
+use Rattle.adf_blocks.specs.{declared.layout.TheConstants.SECONDARY_TYPE, declared.layout.TheConstants.ST_DIR, Sizes.blocks}
+use Rattle.adf_volume.specs.{Image.word_in, Lists.At, LayoutRoles.owner_of, Made.picked}
 use Rattle.adf_volume.specs.Walk.{Role, Has, heads, Walk, Role.Head, Role.Ext, Role.Data}
-use Rattle.adf_volume.specs.LayoutRoles.{owner_of}
-use Rattle.adf_volume.specs.Made.{picked}
-use Rattle.adf_walk.specs.KeptOwner.{boot_owner, claimed_count, kept_at, no_owner}
-use Rattle.adf_walk.specs.declared.kept_owner.KeptOwner.{KeptOwner}
+use Rattle.adf_walk.specs.{KeptOwner.boot_owner, KeptOwner.claimed_count, KeptOwner.kept_at, KeptOwner.no_owner, declared.kept_owner.KeptOwner.KeptOwner}
+use Rattle.adf_walk.specs.{Places.kept_by, declared.kept_header.KeptHeader.KeptHeader, declared.node_start.NodeStart.NodeStart}
 use Rattle.adf_walk.specs.declared.owner_class.OwnerClass.TheVariants as class
-use Rattle.adf_walk.specs.Places.{kept_by}
-use Rattle.adf_walk.specs.declared.kept_header.KeptHeader.{KeptHeader}
-use Rattle.adf_walk.specs.declared.node_start.NodeStart.{NodeStart}
 use Rattle.adf_check.specs.declared.store.Store.{Store}
 
 -- the value of a store: headers of nodes 1, 2, ..; how many are of directories; starts of nodes 0, 1, ..; the number of blocks with an owner

@@ -1,12 +1,10 @@
 // Comparison of the bitmap with the owners.
 
-ghost use Rattle.adf_check.specs.Own.{IsOwnFault};
+ghost use Rattle.adf_check.specs.{Own.IsOwnFault, Store.store_value, Pages.AreListed, Pages.IsBitFault};
 ghost use Rattle.std.specs.Prelude.{◌≡◌, ◌<◌, ◌≤◌, ◌+◌, ◌-◌, ◌*◌, ◌↔◌, ℕ, IsBitSet, IsTrue, length, min, OnOk, IfErr};
 ghost use Rattle.adf_blocks.specs.Sizes.{blocks, pages_needed};
 ghost use Rattle.adf_check.specs.Reading.{IsMapped, IsRead, StoreFits};
 ghost use Rattle.adf_walk.specs.KeptOwner.{kept_at, no_owner};
-ghost use Rattle.adf_check.specs.Store.{store_value};
-ghost use Rattle.adf_check.specs.Pages.{AreListed, IsBitFault};
 
 use crate::store::Store;
 use adf_blocks::{Cause, PAGE_WORDS, Page, is_set};

@@ -1,14 +1,12 @@
 // Directories: the headers of each slot's chain.
 
 ghost use Rattle.adf_base.specs.Words.{word};
-ghost use Rattle.adf_check.specs.Own.{IsOwnFault};
+ghost use Rattle.adf_check.specs.{Own.IsOwnFault, Progress.left, Store.store_value};
 ghost use Rattle.std.specs.Prelude.{◌≡◌, ◌≢◌, ◌==◌, ◌<◌, ◌+◌, ◌^◌, OnOk, IfOk, IfErr};
 ghost use Rattle.adf_blocks.specs.Sizes.{blocks};
 ghost use Rattle.adf_blocks.specs.declared.layout.TheConstants.{FIRST_SLOT, SECONDARY_TYPE, SLOTS, ST_DIR};
 ghost use Rattle.adf_volume.specs.Image.{word_in};
 ghost use Rattle.adf_check.specs.Reading.{IsAtNode, IsAtSlot, IsInChain, sees_of};
-ghost use Rattle.adf_check.specs.Progress.{left};
-ghost use Rattle.adf_check.specs.Store.{store_value};
 
 use crate::claims::{Link, claim_named};
 use crate::store::Store;

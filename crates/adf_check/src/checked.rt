@@ -1,21 +1,13 @@
 // Checked volumes.
 
 ghost use Rattle.std.specs.Prelude.{◌≡◌, ◌+◌, ◌≤◌, ◌<◌, ◌↔◌, ℕ, [], length, IsOk, IsSome, Some, IfOk, IfSome, option_map};
-ghost use Rattle.std.specs.Option.{unwrap_or};
-ghost use Rattle.std.specs.List.{All, concat};
-ghost use Rattle.adf_base.specs.declared.hash.Letters.{Letters};
+ghost use Rattle.std.specs.{Option.unwrap_or, List.All, List.concat};
 ghost use Rattle.adf_tree.specs.Tree.{Tree, entry, find_by};
 ghost use Rattle.adf_blocks.specs.Sizes.{blocks};
-ghost use Rattle.adf_volume.specs.declared.owner.Owner.{Owner};
-ghost use Rattle.adf_volume.specs.Layout.{Layout, at_node, datas_of, owned};
-ghost use Rattle.adf_volume.specs.Lists.{In};
-ghost use Rattle.adf_check.specs.Store.{store_value};
+ghost use Rattle.adf_volume.specs.{declared.owner.Owner.Owner, Layout.Layout, Layout.at_node, Layout.datas_of, Layout.owned};
+ghost use Rattle.adf_volume.specs.{Lists.In, Rows.row_of_entry, Fits.FitsBy, Counts.counts_of, Image.letters_of};
+ghost use Rattle.adf_check.specs.{Store.store_value, Pieces.bytes_of, Pieces.pieces_at, Volumes.IsChecked, Volumes.OnVolume};
 ghost use Rattle.adf_walk.specs.OwnerClass.{class_of};
-ghost use Rattle.adf_check.specs.Pieces.{bytes_of, pieces_at};
-ghost use Rattle.adf_volume.specs.Rows.{row_of_entry};
-ghost use Rattle.adf_check.specs.Volumes.{IsChecked, StandsForBy};
-ghost use Rattle.adf_volume.specs.Counts.{counts_of};
-ghost use Rattle.adf_volume.specs.Image.{letters_of};
 
 use crate::lookup::{block_of, find};
 use crate::pieces::{blocks_of, pieces_of};
@@ -39,21 +31,21 @@ pub struct Checked<'a> {
 }
 
 impl<'a> Model for Checked<'a> {
-    ghost use Rattle.adf_check.specs.Store.{store_value};
-    ghost use Rattle.adf_check.specs.Volumes.{IsChecked, Volume};
+    ghost use Rattle.std.specs.Prelude.{ℕ, List};
+    ghost use Rattle.adf_check.specs.{Store.store_value, Volumes.IsChecked};
 
-    ghost Value = { Volume };
+    ghost Value = { List ℕ };
 
-    ghost view = { λ c. record { image = c.image; store = store_value c.store } };
+    ghost view = { λ c. c.image };
 
-    ghost invariant = { λ c. IsChecked (record { image = c.image; store = store_value c.store }) c.label c.stamps };
+    ghost invariant = { λ c. IsChecked c.image (store_value c.store) c.label c.stamps };
 }
 
 impl<'a> Checked<'a> {
     // A checked volume, from what was read of its image.
     pub(crate) fn new(image: Image<'a>, store: Store, label: Label, stamps: Stamps) -> Checked<'a>
-        requires { IsChecked (record { image = image; store = store_value store }) label stamps }
-        ensures { result ≡ record { image = image.entry; store = store_value store } }
+        requires { IsChecked image (store_value store) label stamps }
+        ensures { result ≡ image.entry }
     {
         Checked {
             image,
@@ -68,13 +60,11 @@ impl Checked<'_> {
     /// The owner of a block: the part that owns it, `Boot` for blocks 0 and 1, `Free` if no part owns it; `None` if
     /// there is no such block.
     pub fn owner(&self, b: u32) -> Option<Owner>
-        ensures some { IsSome result ↔ (b < blocks self.now.image) }
-        ensures part { (letters : Letters) (t : Tree) (l : Layout) (o : Owner) → StandsForBy letters self.now t l
-            → In (owned self.now.image l) (o, b) → result ≡ Some o }
+        ensures some { IsSome result ↔ (b < blocks self.now) }
+        ensures part { OnVolume self.now (λ _ l. (o : Owner) → In (owned self.now l) (o, b) → result ≡ Some o) }
         ensures boot { b < 2 → result ≡ Some Owner.Boot }
-        ensures free { (letters : Letters) (t : Tree) (l : Layout) → StandsForBy letters self.now t l → 2 ≤ b
-            → b < blocks self.now.image
-            → ((o : Owner) → In (owned self.now.image l) (o, b) → ⊥) → result ≡ Some Owner.Free }
+        ensures free { OnVolume self.now (λ _ l. 2 ≤ b → b < blocks self.now
+            → ((o : Owner) → In (owned self.now l) (o, b) → ⊥) → result ≡ Some Owner.Free) }
     {
         if b < self.image.blocks() {
             let kept = self.store.owners.at(b);
@@ -87,13 +77,12 @@ impl Checked<'_> {
     /// The class of the owner of a block, without a search for its file; `None` if there is no such block.
     #[tactic(auto, using(crate::proofs::StoreStands::keeps))]
     pub fn owner_class(&self, b: u32) -> Option<OwnerClass>
-        ensures some { IsSome result ↔ (b < blocks self.now.image) }
-        ensures part { (letters : Letters) (t : Tree) (l : Layout) (o : Owner) → StandsForBy letters self.now t l
-            → In (owned self.now.image l) (o, b) → result ≡ Some (class_of o) }
+        ensures some { IsSome result ↔ (b < blocks self.now) }
+        ensures part { OnVolume self.now (λ _ l. (o : Owner) → In (owned self.now l) (o, b)
+            → result ≡ Some (class_of o)) }
         ensures boot { b < 2 → result ≡ Some OwnerClass.Boot }
-        ensures free { (letters : Letters) (t : Tree) (l : Layout) → StandsForBy letters self.now t l → 2 ≤ b
-            → b < blocks self.now.image
-            → ((o : Owner) → In (owned self.now.image l) (o, b) → ⊥) → result ≡ Some OwnerClass.Free }
+        ensures free { OnVolume self.now (λ _ l. 2 ≤ b → b < blocks self.now
+            → ((o : Owner) → In (owned self.now l) (o, b) → ⊥) → result ≡ Some OwnerClass.Free) }
     {
         if b < self.image.blocks() {
             Some(self.store.owners.at(b).class)
@@ -103,44 +92,40 @@ impl Checked<'_> {
     }
 
     /// The letters of its names.
-    #[tactic(auto, using(crate::proofs::StoreStands::letters_are))]
+    #[tactic(auto, using(adf_volume::proofs::ImageStart::own_letters))]
     pub fn letters(&self) -> Letters
-        ensures image { result ≡ letters_of self.now.image }
-        ensures tree { (letters : Letters) (t : Tree) (l : Layout) → StandsForBy letters self.now t l
-            → result ≡ t.letters }
+        ensures image { result ≡ letters_of self.now }
+        ensures tree { OnVolume self.now (λ t _. result ≡ t.letters) }
     {
         self.image.letters()
     }
 
     /// The label.
     pub fn label(&self) -> &Label
-        ensures { (letters : Letters) (t : Tree) (l : Layout) → StandsForBy letters self.now t l → result.now ≡ t.label }
+        ensures { OnVolume self.now (λ t _. result.now ≡ t.label) }
     {
         &self.label
     }
 
     /// The dates of the root, the last change and the creation.
     pub fn stamps(&self) -> Stamps
-        ensures { (letters : Letters) (t : Tree) (l : Layout) → StandsForBy letters self.now t l → result ≡ t.stamps }
+        ensures { OnVolume self.now (λ t _. result ≡ t.stamps) }
     {
         self.stamps
     }
 
     /// The number of entries, not counting the root.
     pub fn len(&self) -> usize
-        ensures count { (letters : Letters) (t : Tree) (l : Layout) → StandsForBy letters self.now t l
-            → result ≡ length t.entries }
-        // There are a tree and a layout that the volume stands for, by its letters.
-        ensures stands { (t : Tree) × (l : Layout)
-            × StandsForBy (letters_of self.now.image) self.now t l }
+        ensures count { OnVolume self.now (λ t _. result ≡ length t.entries) }
+        // A tree and a layout fit the image, by its letters.
+        ensures fits { (t : Tree) × (l : Layout) × FitsBy (letters_of self.now) self.now t l }
     {
         self.store.headers.len()
     }
 
     /// The row of an entry; `None` for the root and past the last entry.
     pub fn row(&self, n: Node) -> Option<Row>
-        ensures { (letters : Letters) (t : Tree) (l : Layout) → StandsForBy letters self.now t l
-            → result ≡ option_map row_of_entry (entry t.entries n) }
+        ensures { OnVolume self.now (λ t _. result ≡ option_map row_of_entry (entry t.entries n)) }
     {
         if n.0 == 0 {
             return None;
@@ -152,18 +137,15 @@ impl Checked<'_> {
 
     /// The node that the path leads to, ignoring the case of the volume's letters; 0 for the empty path.
     pub fn find(&self, path: &[Name]) -> Option<Node>
-        ensures { (letters : Letters) (t : Tree) (l : Layout) → StandsForBy letters self.now t l
-            → result ≡ find_by letters t.entries path.now }
+        ensures { OnVolume self.now (λ t _. result ≡ find_by t.letters t.entries path.now) }
     {
         find(&self.image, &self.store, path)
     }
 
     /// The block of the root or of an entry's header; `None` past the last entry.
     pub fn block_of(&self, n: Node) -> Option<u32>
-        ensures some { (letters : Letters) (t : Tree) (l : Layout) → StandsForBy letters self.now t l
-            → IsSome result ↔ (n ≤ length t.entries) }
-        ensures block { (letters : Letters) (t : Tree) (l : Layout) → StandsForBy letters self.now t l
-            → IfSome result (λ b. b ≡ at_node self.now.image l n) }
+        ensures some { OnVolume self.now (λ t _. IsSome result ↔ (n ≤ length t.entries)) }
+        ensures block { OnVolume self.now (λ _ l. IfSome result (λ b. b ≡ at_node self.now l n)) }
     {
         if self.store.headers.len() < n.0 {
             return None;
@@ -173,7 +155,7 @@ impl Checked<'_> {
 
     /// The data blocks of a file, in file order; empty for the root, a directory, and past the last entry.
     pub fn blocks_of(&self, n: Node) -> &[u32]
-        ensures { (letters : Letters) (t : Tree) (l : Layout) → StandsForBy letters self.now t l → result.now ≡ datas_of l n }
+        ensures { OnVolume self.now (λ _ l. result.now ≡ datas_of l n) }
     {
         blocks_of(&self.image, &self.store, n)
     }
@@ -181,12 +163,9 @@ impl Checked<'_> {
     /// The bytes of a file as slices of the image, one for each data block; `None` for the root, a directory, and past
     /// the last entry.
     pub fn pieces(&self, n: Node) -> Option<Pieces<'_>>
-        ensures exact { (letters : Letters) (t : Tree) (l : Layout) → StandsForBy letters self.now t l
-            → result ≡ pieces_at self.now.image t l n }
-        ensures joined { (letters : Letters) (t : Tree) (l : Layout) → StandsForBy letters self.now t l
-            → option_map concat result ≡ bytes_of (entry t.entries n) }
-        ensures one_each { (letters : Letters) (t : Tree) (l : Layout) → StandsForBy letters self.now t l
-            → IfSome result (λ ps. length ps ≡ length (datas_of l n)) }
+        ensures exact { OnVolume self.now (λ t l. result ≡ pieces_at self.now t l n) }
+        ensures joined { OnVolume self.now (λ t _. option_map concat result ≡ bytes_of (entry t.entries n)) }
+        ensures one_each { OnVolume self.now (λ _ l. IfSome result (λ ps. length ps ≡ length (datas_of l n))) }
         ensures some { IfSome result (λ ps. All (λ p. 0 < length p) ps) }
     {
         pieces_of(&self.image, &self.store, n)
@@ -194,10 +173,9 @@ impl Checked<'_> {
 
     /// The bytes of a file; `None` for the root, a directory, and past the last entry. An empty file needs no memory.
     pub fn read(&self, alloc: Global, n: Node) -> Result<Option<Vec<u8>>, NoMemory>
-        ensures bytes { (letters : Letters) (t : Tree) (l : Layout) → StandsForBy letters self.now t l
-            → IfOk result (λ r. option_map (λ v. v.items) r ≡ bytes_of (entry t.entries n)) }
-        ensures empty { (letters : Letters) (t : Tree) (l : Layout) → StandsForBy letters self.now t l
-            → unwrap_or (bytes_of (entry t.entries n)) [] ≡ [] → IsOk result }
+        ensures bytes { OnVolume self.now (λ t _. IfOk result (λ r.
+            option_map (λ v. v.items) r ≡ bytes_of (entry t.entries n))) }
+        ensures empty { OnVolume self.now (λ t _. unwrap_or (bytes_of (entry t.entries n)) [] ≡ [] → IsOk result) }
     {
         match self.pieces(n) {
             None => Ok(None),
@@ -207,17 +185,16 @@ impl Checked<'_> {
 
     /// The tree of the volume. A volume with no entries needs no memory.
     pub fn to_tree(&self, alloc: Global) -> Result<adf_tree::Tree, NoMemory>
-        ensures tree { (letters : Letters) (t : Tree) (l : Layout) → StandsForBy letters self.now t l → IfOk result (λ u. u ≡ t) }
-        ensures empty { (letters : Letters) (t : Tree) (l : Layout) → StandsForBy letters self.now t l → t.entries ≡ []
-            → IsOk result }
+        ensures tree { OnVolume self.now (λ t _. IfOk result (λ u. u ≡ t)) }
+        ensures empty { OnVolume self.now (λ t _. t.entries ≡ [] → IsOk result) }
     {
         tree_of(self, alloc)
     }
 
     /// The counts of the volume.
     pub fn counts(&self) -> Counts
-        ensures exact { (letters : Letters) (t : Tree) (l : Layout) → StandsForBy letters self.now t l
-            → result ≡ counts_of self.now.image t l }
+        ensures exact { OnVolume self.now (λ t l. result ≡ counts_of self.now t l) }
+        ensures blocks { result.blocks ≡ blocks self.now }
         ensures all { result.used + result.free + 2 ≡ result.blocks }
     {
         let blocks = self.image.blocks();

@@ -1,17 +1,12 @@
 // The whole check.
 
-ghost use Rattle.adf_volume.specs.Fault.{IsTrueFaultBy};
-ghost use Rattle.adf_volume.specs.Image.{letters_of, root_of};
+ghost use Rattle.adf_volume.specs.{Fault.IsTrueFaultBy, Image.letters_of, Image.root_of, Fits.Fits, Fits.FitsBy, Layout.Layout};
+ghost use Rattle.adf_volume.specs.{Walk.FirstFault, Walk.FirstFaultBy, Types.letters_for};
 ghost use Rattle.adf_base.specs.Words.{block};
 ghost use Rattle.std.specs.Prelude.{◌≡◌, ◌≢◌, IfOk, IfErr};
 ghost use Rattle.adf_tree.specs.Tree.{Tree};
-ghost use Rattle.adf_volume.specs.Fits.{Fits, FitsBy};
-ghost use Rattle.adf_volume.specs.Layout.{Layout};
-ghost use Rattle.adf_volume.specs.Walk.{FirstFault, FirstFaultBy};
 ghost use Rattle.adf_volume.specs.Start.{IsBegun, IsBegunBy, IsOwnBegun};
-ghost use Rattle.adf_volume.specs.Types.{letters_for};
 ghost use Rattle.adf_check.specs.Own.{IsOwnFault};
-ghost use Rattle.adf_check.specs.Volumes.{StandsFor, StandsForBy};
 
 use crate::bitmap::check_bitmap;
 use crate::checked::Checked;
@@ -30,10 +25,11 @@ use std::alloc::Global;
 /// extension blocks, their number and its data blocks); the bitmap in ascending order of blocks. `NoMemory` at block 0
 /// if an allocation fails, which can happen only after the root was accepted; nothing else is then known of the image.
 pub fn check<'a>(alloc: Global, image: &'a [u8]) -> Result<Checked<'a>, Fault>
-    ensures image { IfOk result (λ v. v.image ≡ image.now) }
+    // A checked volume is seen as its image.
+    ensures image { IfOk result (λ v. v ≡ image.now) }
 
-    // A tree and a layout fit the image, and the answer stands for them. No others fit, by `one_fit` of adf_volume.
-    ensures fits { IfOk result (λ v. (t : Tree) × (l : Layout) × StandsFor v t l) }
+    // A tree and a layout fit the image. No others fit, by `one_fit` of adf_volume.
+    ensures fits { IfOk result (λ v. (t : Tree) × (l : Layout) × Fits v t l) }
 
     // A fault is the first one, and no tree fits the image.
     ensures first { IfErr result (λ f. f.cause ≢ Cause.NoMemory
@@ -50,9 +46,9 @@ pub fn check<'a>(alloc: Global, image: &'a [u8]) -> Result<Checked<'a>, Fault>
 
 /// Checks an image of one of the accepted types, in the same order, by the letters of its type. `NoMemory` as in `check`.
 pub fn check_types<'a>(alloc: Global, types: Types, image: &'a [u8]) -> Result<Checked<'a>, Fault>
-    ensures image { IfOk result (λ v. v.image ≡ image.now) }
+    ensures image { IfOk result (λ v. v ≡ image.now) }
     ensures fits { IfOk result (λ v.
-        (t : Tree) × (l : Layout) × StandsForBy (letters_for types image.now) v t l) }
+        (t : Tree) × (l : Layout) × FitsBy (letters_for types image.now) v t l) }
     ensures first { IfErr result (λ f. f.cause ≢ Cause.NoMemory
         → FirstFaultBy (letters_for types image.now) image.now f.block f.cause) }
     ensures none { IfErr result (λ f. f.cause ≢ Cause.NoMemory → (t : Tree) (l : Layout)
@@ -66,8 +62,8 @@ pub fn check_types<'a>(alloc: Global, types: Types, image: &'a [u8]) -> Result<C
 
 // Checks an image of a volume with these letters: any fault is the first one.
 fn check_all<'a>(alloc: Global, letters: Letters, image: &'a [u8]) -> Result<Checked<'a>, Fault>
-    ensures image { IfOk result (λ v. v.image ≡ image.now) }
-    ensures fits { IfOk result (λ v. (t : Tree) × (l : Layout) × StandsForBy letters v t l) }
+    ensures image { IfOk result (λ v. v ≡ image.now) }
+    ensures fits { IfOk result (λ v. (t : Tree) × (l : Layout) × FitsBy letters v t l) }
     ensures fault { IfErr result (IsTrueFaultBy letters image.now) }
     ensures begun { IfErr result (λ f. f.cause ≡ Cause.NoMemory → IsBegunBy letters image.now) }
 {
@@ -79,9 +75,9 @@ fn check_all<'a>(alloc: Global, letters: Letters, image: &'a [u8]) -> Result<Che
 #[tactic(auto, unfolding(adf_volume::specs::Image::name_of, adf_volume::specs::Image::stamps_of))]
 fn check_opened<'a>(alloc: Global, opened: Opened<'a>) -> Result<Checked<'a>, Fault>
     requires root { opened.root ≡ block opened.image (root_of opened.image) }
-    ensures image { IfOk result (λ v. v.image ≡ opened.entry.image) }
+    ensures image { IfOk result (λ v. v ≡ opened.entry.image) }
     ensures fits { IfOk result (λ v.
-        (t : Tree) × (l : Layout) × StandsForBy (letters_of opened.entry.image) v t l) }
+        (t : Tree) × (l : Layout) × FitsBy (letters_of opened.entry.image) v t l) }
     ensures fault { IfErr result (IsOwnFault opened.entry.image) }
     ensures begun { IsOwnBegun opened.entry.image }
 {

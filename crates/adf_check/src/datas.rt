@@ -1,13 +1,9 @@
 // The data blocks of files.
 
-ghost use Rattle.adf_blocks.specs.declared.layout.TheConstants.{POINTERS};
-ghost use Rattle.adf_check.specs.Own.{IsOwnFault};
+ghost use Rattle.adf_blocks.specs.{declared.layout.TheConstants.POINTERS, Sizes.blocks, Sizes.chunk};
+ghost use Rattle.adf_check.specs.{Own.IsOwnFault, Reading.IsAtNode, Reading.IsInDatas, Store.store_value};
 ghost use Rattle.std.specs.Prelude.{◌≡◌, ◌≤◌, ◌<◌, ◌+◌, ◌*◌, ◌/◌, min, OnOk, IfErr, length, slice_index, ℕ};
-ghost use Rattle.adf_blocks.specs.Sizes.{blocks, chunk};
-ghost use Rattle.adf_volume.specs.Demands.{AllHold, FirstFails};
-ghost use Rattle.adf_volume.specs.Image.{held, table_word, word_in};
-ghost use Rattle.adf_check.specs.Reading.{IsAtNode, IsInDatas};
-ghost use Rattle.adf_check.specs.Store.{store_value};
+ghost use Rattle.adf_volume.specs.{Demands.AllHold, Demands.FirstFails, Image.held, Image.table_word, Image.word_in};
 ghost use Rattle.adf_check.specs.Datas.{AreDatas, IsDataLink, data_asked, next_of};
 
 use crate::claims::{Link, claim_named};

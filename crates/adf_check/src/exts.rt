@@ -1,11 +1,8 @@
 // The extension blocks of files.
 
-ghost use Rattle.adf_check.specs.Own.{IsOwnFault};
+ghost use Rattle.adf_check.specs.{Own.IsOwnFault, Progress.left, Datas.ext_link, Store.store_value};
 ghost use Rattle.std.specs.Prelude.{◌≢◌, ◌<◌, OnOk, IfOk, IfErr};
 ghost use Rattle.adf_check.specs.Reading.{IsInDatas, IsInExts};
-ghost use Rattle.adf_check.specs.Progress.{left};
-ghost use Rattle.adf_check.specs.Datas.{ext_link};
-ghost use Rattle.adf_check.specs.Store.{store_value};
 
 use crate::claims::{Link, claim_named};
 use crate::file::File;

@@ -20,6 +20,5 @@ mod store;
 pub use crate::checked::Checked;
 pub use crate::checker::{check, check_types};
 pub use crate::owners::Owners;
-pub use crate::store::stores_stand_for_trees;
 pub use adf_volume::{Counts, Fault, Owner, Pieces, Row, RowBody};
 pub use adf_walk::OwnerClass;

@@ -1,18 +1,11 @@
 // Look-up along the chains of an image.
 
 ghost use Rattle.std.specs.Prelude.{◌≡◌, ◌≢◌, ◌≤◌, ◌<◌, ◌+◌, length, map, IfSome};
-ghost use Rattle.adf_blocks.specs.declared.layout.TheConstants.{NEXT_IN_CHAIN, SLOTS};
-ghost use Rattle.adf_base.specs.declared.hash.Letters.{Letters};
-ghost use Rattle.adf_tree.specs.Tree.{Tree, child_by, find_from_by};
-ghost use Rattle.adf_blocks.specs.Sizes.{blocks};
-ghost use Rattle.adf_volume.specs.Image.{word_in};
-ghost use Rattle.adf_volume.specs.Layout.{Layout, at_node, chain_nodes_by};
-ghost use Rattle.adf_volume.specs.Lists.{Spelled};
-ghost use Rattle.adf_check.specs.StoreStands.{StoreStandsForBy};
-ghost use Rattle.adf_check.specs.Reading.{StoreFits};
+ghost use Rattle.adf_blocks.specs.{declared.layout.TheConstants.NEXT_IN_CHAIN, declared.layout.TheConstants.SLOTS, Sizes.blocks};
+ghost use Rattle.adf_tree.specs.Tree.{child_by, find_from_by};
+ghost use Rattle.adf_volume.specs.{Image.word_in, Layout.at_node, Layout.chain_nodes_by, Lists.Spelled};
+ghost use Rattle.adf_check.specs.{Reading.StoreFits, Store.store_value, Lookup.headed, Volumes.OnVolume};
 ghost use Rattle.adf_walk.specs.KeptOwner.{kept_at};
-ghost use Rattle.adf_check.specs.Store.{store_value};
-ghost use Rattle.adf_check.specs.Lookup.{headed};
 
 use crate::store::Store;
 use adf_base::slot_by;
@@ -25,8 +18,7 @@ use adf_walk::{OwnerClass, OwnerTable};
 pub fn block_of(image: &Image<'_>, store: &Store, node: Node) -> u32
     requires tells { StoreFits image.now (store_value store.now) }
     requires node { node ≤ length store.now.headers.items }
-    ensures block { (letters : Letters) (t : Tree) (l : Layout) → StoreStandsForBy letters image.now (store_value store.now) t l
-        → result ≡ at_node image.now l node }
+    ensures block { OnVolume image.now (λ _ l. result ≡ at_node image.now l node) }
     ensures inside { result < blocks image.now }
 {
     if node.0 == 0 {
@@ -52,10 +44,8 @@ fn first_of(image: &Image<'_>, store: &Store, parent: Node, slot: u8) -> u32
     requires tells { StoreFits image.now (store_value store.now) }
     requires node { parent ≤ length store.now.headers.items }
     requires slot { slot < SLOTS }
-    ensures { (letters : Letters) (t : Tree) (l : Layout) → StoreStandsForBy letters image.now (store_value store.now) t l
-        → Spelled (λ b.
-        word_in image.now b NEXT_IN_CHAIN) result
-        (map (at_node image.now l) (chain_nodes_by letters t parent slot)) }
+    ensures { OnVolume image.now (λ t l. Spelled (λ b. word_in image.now b NEXT_IN_CHAIN) result
+        (map (at_node image.now l) (chain_nodes_by t.letters t parent slot))) }
 {
     let up = block_of(image, store, parent);
     match image.body(up) {
@@ -68,8 +58,7 @@ fn first_of(image: &Image<'_>, store: &Store, parent: Node, slot: u8) -> u32
 pub fn child(image: &Image<'_>, store: &Store, parent: Node, name: &Name) -> Option<Node>
     requires tells { StoreFits image.now (store_value store.now) }
     requires node { parent ≤ length store.now.headers.items }
-    ensures found { (letters : Letters) (t : Tree) (l : Layout) → StoreStandsForBy letters image.now (store_value store.now) t l
-        → result ≡ child_by letters t.entries parent name.now }
+    ensures found { OnVolume image.now (λ t _. result ≡ child_by t.letters t.entries parent name.now) }
     ensures node { IfSome result (λ n. n ≤ length store.now.headers.items) }
 {
     let letters = image.letters();
@@ -87,8 +76,7 @@ pub fn child(image: &Image<'_>, store: &Store, parent: Node, name: &Name) -> Opt
 /// The node that the path leads to.
 pub fn find(image: &Image<'_>, store: &Store, path: &[Name]) -> Option<Node>
     requires { StoreFits image.now (store_value store.now) }
-    ensures { (letters : Letters) (t : Tree) (l : Layout) → StoreStandsForBy letters image.now (store_value store.now) t l
-        → result ≡ find_from_by letters t.entries 0 path.now }
+    ensures { OnVolume image.now (λ t _. result ≡ find_from_by t.letters t.entries 0 path.now) }
 {
     let mut node = Node(0);
     for name in path {

@@ -2,10 +2,8 @@
 
 ghost use Rattle.std.specs.Prelude.{◌≡◌, ◌<◌, ◌+◌, ◌^◌, [], ◌∷◌, OnOk, IfErr, length};
 ghost use Rattle.adf_check.specs.Reading.{IsAtNode, IsInExts, IsInNode, IsRead};
-ghost use Rattle.adf_check.specs.Store.{entered, store_value};
-ghost use Rattle.adf_check.specs.Own.{IsOwnFault};
+ghost use Rattle.adf_check.specs.{Store.entered, Store.store_value, Own.IsOwnFault, Datas.ext_link};
 ghost use Rattle.adf_volume.specs.Fault.{fault};
-ghost use Rattle.adf_check.specs.Datas.{ext_link};
 
 use crate::chains::read_directory;
 use crate::datas::read_datas;

@@ -20,10 +20,8 @@ pub struct Owners {
 
 impl Model for Owners {
     ghost use Rattle.std.specs.Prelude.{List};
-    ghost use Rattle.adf_walk.specs.Owners.{is_part};
-    ghost use Rattle.adf_walk.specs.OwnerTable.{IsTable};
-    ghost use Rattle.adf_volume.specs.declared.owner.Owner.{Owner};
-    ghost use Rattle.adf_volume.specs.declared.owner.Owner.TheVariants.{Boot};
+    ghost use Rattle.adf_walk.specs.{Owners.is_part, OwnerTable.IsTable};
+    ghost use Rattle.adf_volume.specs.{declared.owner.Owner.Owner, declared.owner.Owner.TheVariants.Boot};
 
     ghost Value = { List Owner };
 

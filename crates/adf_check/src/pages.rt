@@ -1,15 +1,12 @@
 // The bitmap pages: those of the root, then each bitmap extension block with its pages.
 
-ghost use Rattle.adf_check.specs.Own.{IsOwnFault};
+ghost use Rattle.adf_check.specs.{Own.IsOwnFault, Store.store_value, Pages.AreListed};
 ghost use Rattle.std.specs.Prelude.{◌≡◌, ◌≤◌, ◌<◌, ◌+◌, ◌-◌, ◌%◌, ◌↔◌, IsTrue, OnOk, IfOk, IfErr};
 ghost use Rattle.adf_base.specs.Words.{block};
 ghost use Rattle.adf_blocks.specs.declared.layout.TheConstants.{MAP_EXT_PAGES, ROOT_PAGES};
 ghost use Rattle.adf_blocks.specs.Sizes.{blocks, pages_needed};
-ghost use Rattle.adf_volume.specs.Image.{root_of, word_in};
-ghost use Rattle.adf_volume.specs.Positions.{word_of_map_ext, word_of_page};
+ghost use Rattle.adf_volume.specs.{Image.root_of, Image.word_in, Positions.word_of_map_ext, Positions.word_of_page};
 ghost use Rattle.adf_check.specs.Reading.{IsAtNode, IsAtPage, IsBeforePage, block_of_page};
-ghost use Rattle.adf_check.specs.Store.{store_value};
-ghost use Rattle.adf_check.specs.Pages.{AreListed};
 
 use crate::claims::claim_named;
 use crate::store::Store;

@@ -2,15 +2,10 @@
 
 ghost use Rattle.std.specs.Prelude.{◌≡◌, ◌≤◌, ◌<◌, ◌+◌, length, option_map, take, drop, IfSome};
 ghost use Rattle.std.specs.List.{All, concat};
-ghost use Rattle.adf_base.specs.declared.hash.Letters.{Letters};
-ghost use Rattle.adf_tree.specs.Tree.{Tree, entry};
+ghost use Rattle.adf_tree.specs.Tree.{entry};
 ghost use Rattle.adf_blocks.specs.Sizes.{blocks, count};
-ghost use Rattle.adf_volume.specs.Image.{kind_of};
-ghost use Rattle.adf_volume.specs.Layout.{Layout, datas_of};
-ghost use Rattle.adf_check.specs.StoreStands.{StoreStandsForBy};
-ghost use Rattle.adf_check.specs.Reading.{StoreFits};
-ghost use Rattle.adf_check.specs.Store.{store_value};
-ghost use Rattle.adf_check.specs.Pieces.{bytes_of, pieces_at};
+ghost use Rattle.adf_volume.specs.{Image.kind_of, Layout.datas_of};
+ghost use Rattle.adf_check.specs.{Reading.StoreFits, Store.store_value, Pieces.bytes_of, Pieces.pieces_at, Volumes.OnVolume};
 
 use crate::lookup::block_of;
 use crate::store::Store;
@@ -30,10 +25,8 @@ fn part(xs: &[u32], from: usize, len: usize) -> &[u32]
 fn datas_of<'a>(image: &Image<'_>, store: &'a Store, n: Node, size: u32) -> &'a [u32]
     requires tells { StoreFits image.now (store_value store.now) }
     requires node { n ≤ length store.now.headers.items }
-    requires size { (letters : Letters) (t : Tree) (l : Layout) → StoreStandsForBy letters image.now (store_value store.now) t l
-        → length (datas_of l n) ≡ count (kind_of image.now) size }
-    ensures { (letters : Letters) (t : Tree) (l : Layout) → StoreStandsForBy letters image.now (store_value store.now) t l
-        → result.now ≡ datas_of l n }
+    requires size { OnVolume image.now (λ _ l. length (datas_of l n) ≡ count (kind_of image.now) size) }
+    ensures { OnVolume image.now (λ _ l. result.now ≡ datas_of l n) }
 {
     let count = count_of(image.kind(), size) as usize;
     if count == 0 {
@@ -45,8 +38,7 @@ fn datas_of<'a>(image: &Image<'_>, store: &'a Store, n: Node, size: u32) -> &'a 
 /// The data blocks of a file; empty for the root, a directory, and past the last entry.
 pub fn blocks_of<'a>(image: &Image<'_>, store: &'a Store, n: Node) -> &'a [u32]
     requires { StoreFits image.now (store_value store.now) }
-    ensures { (letters : Letters) (t : Tree) (l : Layout) → StoreStandsForBy letters image.now (store_value store.now) t l
-        → result.now ≡ datas_of l n }
+    ensures { OnVolume image.now (λ _ l. result.now ≡ datas_of l n) }
 {
     if n.0 == 0 {
         return &[];
@@ -63,13 +55,9 @@ pub fn blocks_of<'a>(image: &Image<'_>, store: &'a Store, n: Node) -> &'a [u32]
 /// The pieces of a file; `None` for the root, a directory, and past the last entry.
 pub fn pieces_of<'a>(image: &Image<'a>, store: &'a Store, n: Node) -> Option<Pieces<'a>>
     requires { StoreFits image.now (store_value store.now) }
-    ensures exact { (letters : Letters) (t : Tree) (l : Layout) → StoreStandsForBy letters image.now (store_value store.now) t l
-        → result ≡ pieces_at image.now t l n }
-    ensures joined { (letters : Letters) (t : Tree) (l : Layout) → StoreStandsForBy letters image.now (store_value store.now) t l
-        → option_map concat result ≡ bytes_of (entry t.entries n) }
-    ensures one_each { (letters : Letters) (t : Tree) (l : Layout)
-        → StoreStandsForBy letters image.now (store_value store.now) t l
-        → IfSome result (λ ps. length ps ≡ length (datas_of l n)) }
+    ensures exact { OnVolume image.now (λ t l. result ≡ pieces_at image.now t l n) }
+    ensures joined { OnVolume image.now (λ t _. option_map concat result ≡ bytes_of (entry t.entries n)) }
+    ensures one_each { OnVolume image.now (λ _ l. IfSome result (λ ps. length ps ≡ length (datas_of l n))) }
     ensures some { IfSome result (λ ps. All (λ p. 0 < length p) ps) }
 {
     if n.0 == 0 || store.headers.len() < n.0 {

@@ -1,12 +1,8 @@
 // The tree of a checked volume, rebuilt.
 
 ghost use Rattle.std.specs.Prelude.{[], IsOk, ◌≡◌, ◌≢◌, ◌≤◌, ◌<◌, ◌+◌, length, option_map, IfOk, IfSome, IsSome};
-ghost use Rattle.adf_base.specs.declared.hash.Letters.{Letters};
-ghost use Rattle.adf_tree.specs.declared.entry.Body.{Body};
-ghost use Rattle.adf_tree.specs.Tree.{Tree, entry};
-ghost use Rattle.adf_volume.specs.Layout.{Layout};
-ghost use Rattle.adf_check.specs.Rebuild.{body_with};
-ghost use Rattle.adf_check.specs.Volumes.{StandsForBy};
+ghost use Rattle.adf_tree.specs.{declared.entry.Body.Body, Tree.entry};
+ghost use Rattle.adf_check.specs.{Rebuild.body_with, Volumes.OnVolume};
 
 use crate::checked::Checked;
 use adf_base::NoMemory;
@@ -25,8 +21,7 @@ fn body_with(bytes: Option<Vec<u8>>) -> Body
 
 // An entry with its bytes; `None` for the root and past the last entry.
 fn entry_of(volume: &Checked<'_>, alloc: Global, n: Node) -> Result<Option<Entry>, NoMemory>
-    ensures { (letters : Letters) (t : Tree) (l : Layout) → StandsForBy letters volume.now t l
-        → IfOk result (λ e. e ≡ entry t.entries n) }
+    ensures { OnVolume volume.now (λ t _. IfOk result (λ e. e ≡ entry t.entries n)) }
 {
     let Some(row) = volume.row(n) else {
         return Ok(None);
@@ -49,9 +44,8 @@ fn label_of(label: &Label) -> Label
 
 /// The tree of a volume, entry by entry.
 pub fn tree_of(volume: &Checked<'_>, alloc: Global) -> Result<adf_tree::Tree, NoMemory>
-    ensures tree { (letters : Letters) (t : Tree) (l : Layout) → StandsForBy letters volume.now t l → IfOk result (λ u. u ≡ t) }
-    ensures empty { (letters : Letters) (t : Tree) (l : Layout) → StandsForBy letters volume.now t l → t.entries ≡ []
-        → IsOk result }
+    ensures tree { OnVolume volume.now (λ t _. IfOk result (λ u. u ≡ t)) }
+    ensures empty { OnVolume volume.now (λ t _. t.entries ≡ [] → IsOk result) }
 {
     let kind = volume.counts().kind;
     let label = label_of(volume.label());

@@ -1,13 +1,9 @@
 // The facts that a check keeps of the blocks it has read.
 
-ghost use Rattle.std.specs.Prelude.{ℕ, List, IfOk};
-ghost use Rattle.adf_tree.specs.Tree.{Tree};
+ghost use Rattle.std.specs.Prelude.{IfOk};
 ghost use Rattle.adf_blocks.specs.Sizes.{blocks};
-ghost use Rattle.adf_volume.specs.Image.{letters_of, root_of};
-ghost use Rattle.adf_volume.specs.Layout.{Layout};
-ghost use Rattle.adf_check.specs.Reading.{IsBeforePage, StoreFits};
-ghost use Rattle.adf_check.specs.Store.{StoreValue, store_value};
-ghost use Rattle.adf_check.specs.StoreStands.{StoreStandsForBy};
+ghost use Rattle.adf_volume.specs.Image.{root_of};
+ghost use Rattle.adf_check.specs.{Reading.IsBeforePage, Store.store_value};
 
 use adf_base::NoMemory;
 use adf_volume::Image;
@@ -49,9 +45,3 @@ impl Store {
         })
     }
 }
-
-/// The state after a whole walk stands for the one tree and layout that fit, by the letters of the image.
-pub fn stores_stand_for_trees()
-    ensures { (image : List ℕ) (store : StoreValue) → StoreFits image store
-        → (t : Tree) × (l : Layout) × StoreStandsForBy (letters_of image) image store t l }
-{}

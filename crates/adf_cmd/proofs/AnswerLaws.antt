@@ -4,36 +4,22 @@ use Rattle.std.specs.Prelude.{codes, option_map}
 use Rattle.std.proofs.lemmas.Grind.{common_steps}
 use Rattle.adf_base.specs.declared.hash.Letters.{Letters, TheVariants.Ascii}
 use Rattle.adf_fields.proofs.DateTexts.{date_of, date_of_is}
-use Rattle.adf_names.specs.PathTexts.{IsPathText}
+use Rattle.adf_names.specs.{PathTexts.IsPathText, declared.kind.Kind.Kind}
 use Rattle.adf_tree.specs.Tree.{Tree, entry, find, with_kind}
-use Rattle.adf_names.specs.declared.kind.Kind.{Kind}
 use Rattle.adf_blocks.specs.Sizes.{blocks}
-use Rattle.adf_volume.specs.Fits.{Fits, FitsBy}
-use Rattle.adf_volume.specs.Layout.{Layout}
-use Rattle.adf_volume.specs.Walk.{FirstFaultBy}
-use Rattle.adf_build.specs.Laid.{IsLaid, volume}
-use Rattle.adf_build.specs.Plan.{planned}
+use Rattle.adf_volume.specs.{Fits.Fits, Fits.FitsBy, Layout.Layout, Walk.FirstFaultBy, Counts.counts_of, Types.letters_for, declared.counts.Counts.Counts}
+use Rattle.adf_volume.specs.{declared.fault.Fault.Fault, declared.types.Types.Types}
+use Rattle.adf_build.specs.{Laid.IsLaid, Laid.volume, Plan.planned, Building.IsBuildable}
 use Rattle.adf_build.proofs.WholeVolume.{fits_plain}
-use Rattle.adf_build.specs.Building.{IsBuildable}
 use Rattle.adf_check.specs.Pieces.{bytes_of}
-use Rattle.adf_volume.specs.Counts.{counts_of}
-use Rattle.adf_volume.specs.Types.{letters_for}
-use Rattle.adf_volume.specs.declared.counts.Counts.{Counts}
-use Rattle.adf_volume.specs.declared.fault.Fault.{Fault}
-use Rattle.adf_volume.specs.declared.types.Types.{Types}
 use Rattle.adf_cmd.specs.Answers.{Answer, BuildsOrIsFull, Checks, Copies, IsBuilt, RefusesImage, contents_at}
-use Rattle.adf_runs.specs.Commands.{Reply, on_errors, on_output}
-use Rattle.adf_runs.specs.Streams.{Seen}
+use Rattle.adf_runs.specs.{Commands.Reply, Commands.on_errors, Commands.on_output, Streams.Seen, Outcomes.Does, Outcomes.DoesSilently, Outcomes.EndsBy}
 use Rattle.adf_words.specs.CommandLine.{build, cat, convert, list}
-use Rattle.adf_manifest.specs.Manifest.{ExplainsFault, IsManifest}
-use Rattle.adf_runs.specs.Outcomes.{Does, DoesSilently, EndsBy}
+use Rattle.adf_manifest.specs.{Manifest.ExplainsFault, Manifest.IsManifest, declared.manifest.ManifestFault.ManifestFault}
 use Rattle.adf_cmd.specs.Refusals.{IsFaultOutcome, IsRefusedImage}
-use Rattle.adf_texts.specs.Lines.{fault_line, ok_line_by}
-use Rattle.adf_texts.specs.VolumeLines.{volume_lines}
-use Rattle.adf_manifest.specs.declared.manifest.ManifestFault.{ManifestFault}
+use Rattle.adf_texts.specs.{Lines.fault_line, Lines.ok_line_by, VolumeLines.volume_lines}
 use Rattle.adf_runs.specs.declared.outcome.Outcome.{Outcome, TheVariants.Refused, TheVariants.NoMemory}
-use Rattle.adf_runs.proofs.Endings.{does_weaker, ends_weaker}
-use Rattle.adf_runs.proofs.PendingText.{appends_nil}
+use Rattle.adf_runs.proofs.{Endings.does_weaker, Endings.ends_weaker, PendingText.appends_nil}
 
 -- the line of the first fault of an image answers a check
 pub refused_answer : (types : Types) (image line : List ℕ) (f : Fault) → FirstFaultBy (letters_for types image) image f.block f.cause
@@ -107,6 +93,12 @@ pub not_copied : (t : Tree) (names : List (List ℕ)) (node : ℕ) → Some node
 not_copied t names node e f =
     let found : contents_at t names ≡ Some None = ap (option_map (λ n. bytes_of (entry t.entries n))) (sym e) ∙ ap Some (sym f) in
     subst (λ x. Copies x (on_errors 1 (codes "not a file\n"))) (sym found) refl
+
+-- its path leads to nothing
+pub none_copied : (t : Tree) (names : List (List ℕ)) → ◌≡◌ {A = Option ℕ} None (find t.entries names)
+    → Copies (contents_at t names) (on_errors 1 (codes "no such path\n"))
+none_copied t names e =
+    subst (λ x. Copies x (on_errors 1 (codes "no such path\n"))) (ap (option_map (λ n. bytes_of (entry t.entries n))) e) refl
 
 -- what copies what a path leads to answers the request for it
 pub copy_ends : (w : Outcome) (path : List ℕ) (names : List (List ℕ)) (image : List ℕ) (t : Tree) (l : Layout) (o o' : Option (List ℕ))

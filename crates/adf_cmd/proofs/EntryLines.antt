@@ -1,8 +1,7 @@
 -- The lines of the first entries of a tree, behind a text.
 use Rattle.std.proofs.Common.{◌≡◌, ◌≤◌, ◌+◌, ◌++◌, ℕ, List, append_assoc, append-nil, length}
 use Rattle.adf_base.specs.declared.dates.Stamp.{Stamp}
-use Rattle.adf_tree.specs.declared.entry.Entry.{Entry}
-use Rattle.adf_tree.specs.Tree.{Tree}
+use Rattle.adf_tree.specs.{declared.entry.Entry.Entry, Tree.Tree}
 use Rattle.adf_texts.specs.VolumeLines.{lines_of_entries, lines_of_entry}
 use Rattle.adf_texts.proofs.VolumeTexts.{lines_front, lines_of_more, lines_of_none}
 

@@ -2,13 +2,9 @@
 use Rattle.std.proofs.Common.{◌≡◌, ◌-◌, ◌<◌, ◌≤◌, ◌++◌, ◌∙◌, ℕ, zero, suc, List, [], ◌∷◌, Option, Some, None, refl, sym, ap, arith, append_assoc, get_or}
 use Rattle.std.specs.Prelude.{option_map, reverse}
 use Rattle.std.proofs.lemmas.List.{reverse-append}
-use Rattle.adf_tree.specs.declared.entry.Entry.{Entry}
-use Rattle.adf_tree.specs.Paths.{names_of}
-use Rattle.adf_tree.specs.Tree.{IsTree, entry}
-use Rattle.adf_tree.proofs.EntryPaths.{names_next}
-use Rattle.adf_tree.proofs.PathContents.{entry_says, names_past}
-use Rattle.adf_volume.specs.Rows.{row_of_entry}
-use Rattle.adf_volume.specs.declared.row.Row.{Row}
+use Rattle.adf_tree.specs.{declared.entry.Entry.Entry, Paths.names_of, Tree.IsTree, Tree.entry}
+use Rattle.adf_tree.proofs.{EntryPaths.names_next, PathContents.entry_says, PathContents.names_past}
+use Rattle.adf_volume.specs.{Rows.row_of_entry, declared.row.Row.Row}
 
 -- the entry of which a row tells
 pub told_entry : (r : Row) (o : Option Entry) → Some r ≡ option_map row_of_entry o → (e : Entry) × (o ≡ Some e) × (r ≡ row_of_entry e)

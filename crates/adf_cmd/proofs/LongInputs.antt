@@ -1,24 +1,16 @@
 -- What is answered to the front of an input that is longer than the limit is answered to the whole of it.
 use Rattle.std.proofs.Common.{◌≡◌, ◌≢◌, ◌<◌, ◌+◌, ◌*◌, ◌∙◌, inl, inr, ℕ, List, Option, Some, None, IfSome, refl, subst, sym, arith, length, take, length-take}
-use Rattle.std.proofs.lemmas.Bool.{cases_lt}
-use Rattle.std.proofs.lemmas.List.{take_all}
-use Rattle.std.proofs.lemmas.Grind.{common_steps}
+use Rattle.std.proofs.{lemmas.Bool.cases_lt, lemmas.List.take_all, lemmas.Grind.common_steps}
 use Rattle.adf_base.specs.declared.hash.Letters.{Letters, TheVariants.Ascii}
-use Rattle.adf_blocks.specs.declared.layout.TheConstants.{MOST_BLOCKS}
-use Rattle.adf_blocks.specs.declared.cause.Cause.TheVariants.{BadSize}
-use Rattle.adf_volume.specs.Demands.{IsSize}
-use Rattle.adf_volume.specs.Walk.{FirstFaultBy, FirstFaultBy.at_boot}
-use Rattle.adf_volume.proofs.OneFault.{one_fault}
-use Rattle.adf_volume.proofs.Sizes.{size_high}
-use Rattle.adf_volume.specs.Types.{letters_for}
-use Rattle.adf_volume.specs.declared.fault.Fault.{Fault}
+use Rattle.adf_blocks.specs.{declared.layout.TheConstants.MOST_BLOCKS, declared.cause.Cause.TheVariants.BadSize}
+use Rattle.adf_volume.specs.{Demands.IsSize, Walk.FirstFaultBy, Walk.FirstFaultBy.at_boot, Types.letters_for, declared.fault.Fault.Fault}
+use Rattle.adf_volume.proofs.{OneFault.one_fault, Sizes.size_high}
 use Rattle.adf_volume.specs.declared.types.Types.{Types, TheVariants.Plain}
 use Rattle.adf_manifest.specs.Manifest.{ExplainsKind}
 use Rattle.adf_manifest.specs.declared.manifest.ManifestKind.{ManifestKind, TheVariants.NoMemory as ManifestNoMemory, TheVariants.TooLong}
-use Rattle.adf_cmd.specs.Answers.{Answer, Checks, limit_of}
+use Rattle.adf_cmd.specs.{Answers.Answer, Answers.Checks, Answers.limit_of, declared.checking.CheckAnswer.CheckAnswer}
 use Rattle.adf_runs.specs.Commands.{Reply}
 use Rattle.adf_words.specs.CommandLine.{RequestValue, build, cat, check}
-use Rattle.adf_cmd.specs.declared.checking.CheckAnswer.{CheckAnswer}
 use Rattle.adf_cmd.specs.CheckAnswers.{IsCheckAnswer, IsCheckAnswerTo}
 
 -- each answer to one input is one to another

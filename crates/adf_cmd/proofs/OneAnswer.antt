@@ -3,30 +3,19 @@ use Rattle.std.proofs.Common.{◌≡◌, ◌≢◌, ◌∙◌, ◌⊎◌, inl, i
 use Rattle.std.proofs.lemmas.Grind.{common_steps}
 use mathlib.Core.Path.{fun_ext}
 use Rattle.adf_fields.proofs.DateTexts.{one_text}
-use Rattle.adf_base.specs.declared.dates.Stamp.{Stamp}
-use Rattle.adf_base.specs.declared.hash.Letters.{Letters}
+use Rattle.adf_base.specs.{declared.dates.Stamp.Stamp, declared.hash.Letters.Letters}
 use Rattle.adf_tree.specs.Tree.{Tree, with_kind}
 use Rattle.adf_names.specs.declared.kind.Kind.{Kind}
 use Rattle.adf_names.proofs.PathParts.{one_path}
-use Rattle.adf_blocks.specs.Sizes.{blocks}
-use Rattle.adf_blocks.specs.declared.cause.Cause.{Cause}
-use Rattle.adf_volume.specs.Counts.{counts_of}
-use Rattle.adf_volume.specs.Fits.{Fits}
-use Rattle.adf_volume.specs.Layout.{Layout}
-use Rattle.adf_volume.specs.Walk.{FirstFault, FirstFaultBy}
-use Rattle.adf_volume.proofs.FitWalks.{one_fit}
-use Rattle.adf_volume.proofs.NoneFits.{none_fits}
-use Rattle.adf_volume.proofs.OneFault.{one_fault}
-use Rattle.adf_volume.specs.Types.{letters_for}
-use Rattle.adf_volume.specs.declared.fault.Fault.{Fault}
+use Rattle.adf_blocks.specs.{Sizes.blocks, declared.cause.Cause.Cause}
+use Rattle.adf_volume.specs.{Counts.counts_of, Fits.Fits, Layout.Layout, Walk.FirstFault, Walk.FirstFaultBy, Types.letters_for, declared.fault.Fault.Fault}
+use Rattle.adf_volume.proofs.{FitWalks.one_fit, NoneFits.none_fits, OneFault.one_fault}
 use Rattle.adf_volume.specs.declared.types.Types.{Types, TheVariants.Plain}
 use Rattle.adf_manifest.specs.Manifest.{ExplainsKind, IsManifest, lines}
 use Rattle.adf_manifest.specs.declared.manifest.ManifestKind.{ManifestKind, TheVariants.NoMemory, TheVariants.TooLong}
 use Rattle.adf_manifest.proofs.Faults as manifests
-use Rattle.adf_manifest.proofs.TreesOfLines.{one_tree_of}
-use Rattle.adf_manifest.proofs.Verdicts.{one_told}
-use Rattle.adf_texts.specs.Lines.{fault_line, ok_line_by}
-use Rattle.adf_texts.specs.VolumeLines.{AreDates, volume_lines}
+use Rattle.adf_manifest.proofs.{TreesOfLines.one_tree_of, Verdicts.one_told}
+use Rattle.adf_texts.specs.{Lines.fault_line, Lines.ok_line_by, VolumeLines.AreDates, VolumeLines.volume_lines}
 use Rattle.adf_cmd.specs.Answers.{Answer, BuildsManifest, BuildsOrIsFull, Checks, Converts, Copies, CopiesFrom, Lists, RefusesImage, RefusesManifest}
 use Rattle.adf_cmd.specs.Answers.{contents_at}
 use Rattle.adf_runs.specs.Commands.{Reply, on_errors, on_output}

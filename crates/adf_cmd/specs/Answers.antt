@@ -1,30 +1,18 @@
 -- What the command answers to its words and its input.
 use Rattle.std.specs.Prelude.{◌≡◌, ◌≢◌, ◌++◌, ◌<◌, ◌-◌, ◌*◌, ◌⊎◌, ℕ, Bool, false, List, codes, Option, None, Some, option_map}
-use Rattle.adf_blocks.specs.declared.layout.TheConstants.{MOST_BLOCKS}
-use Rattle.adf_base.specs.declared.dates.Stamp.{Stamp}
-use Rattle.adf_base.specs.declared.hash.Letters.{Letters}
-use Rattle.adf_names.specs.PathTexts.{IsPathText}
+use Rattle.adf_blocks.specs.{declared.layout.TheConstants.MOST_BLOCKS, Sizes.blocks}
+use Rattle.adf_base.specs.{declared.dates.Stamp.Stamp, declared.hash.Letters.Letters}
+use Rattle.adf_names.specs.{PathTexts.IsPathText, declared.kind.Kind.Kind}
 use Rattle.adf_tree.specs.Tree.{Tree, entry, find, with_kind}
-use Rattle.adf_names.specs.declared.kind.Kind.{Kind}
-use Rattle.adf_blocks.specs.Sizes.{blocks}
-use Rattle.adf_volume.specs.Fits.{Fits, FitsBy}
-use Rattle.adf_volume.specs.Layout.{Layout}
-use Rattle.adf_volume.specs.Walk.{FirstFault, FirstFaultBy}
-use Rattle.adf_build.specs.Laid.{IsLaid, volume}
-use Rattle.adf_build.specs.Plan.{blocks_needed, planned}
-use Rattle.adf_build.specs.Building.{IsBuildable, need_of}
+use Rattle.adf_volume.specs.{Fits.Fits, Fits.FitsBy, Layout.Layout, Walk.FirstFault, Walk.FirstFaultBy, Counts.counts_of, Types.letters_for}
+use Rattle.adf_volume.specs.{declared.fault.Fault.Fault, declared.types.Types.Types, declared.types.Types.TheVariants.Plain}
+use Rattle.adf_build.specs.{Laid.IsLaid, Laid.volume, Plan.blocks_needed, Plan.planned, Building.IsBuildable, Building.need_of}
 use Rattle.adf_check.specs.Pieces.{bytes_of}
-use Rattle.adf_volume.specs.Counts.{counts_of}
-use Rattle.adf_volume.specs.Types.{letters_for}
-use Rattle.adf_volume.specs.declared.fault.Fault.{Fault}
-use Rattle.adf_volume.specs.declared.types.Types.{Types, TheVariants.Plain}
 use Rattle.adf_words.specs.CommandLine.{AsksFor, AreRefused, RequestValue, build, cat, check, convert, list}
 use Rattle.adf_runs.specs.Commands.{Command, Reply, bad_path, on_errors, on_output}
 use Rattle.adf_cmd.specs.Listing.{image_or_lines}
-use Rattle.adf_manifest.specs.Manifest.{ExplainsFault, IsManifest, most_bytes}
-use Rattle.adf_texts.specs.Lines.{fault_line, full_line, manifest_fault_line, ok_line_by}
-use Rattle.adf_texts.specs.VolumeLines.{AreDates, volume_lines}
-use Rattle.adf_manifest.specs.declared.manifest.ManifestFault.{ManifestFault}
+use Rattle.adf_manifest.specs.{Manifest.ExplainsFault, Manifest.IsManifest, Manifest.most_bytes, declared.manifest.ManifestFault.ManifestFault}
+use Rattle.adf_texts.specs.{Lines.fault_line, Lines.full_line, Lines.manifest_fault_line, Lines.ok_line_by, VolumeLines.AreDates, VolumeLines.volume_lines}
 use Rattle.adf_manifest.specs.declared.manifest.ManifestKind.TheVariants.{NoMemory as ManifestNoMemory}
 
 -- `check` at status 0 tells the numbers of the tree and the layout that fit the image by these letters

@@ -2,8 +2,7 @@
 use Rattle.std.specs.Prelude.{◌≡◌, List, ℕ, Option, IfSome, if◌then◌else◌, string_bytes}
 use Rattle.adf_volume.specs.declared.types.Types.{Types}
 use Rattle.adf_runs.specs.Commands.{on_output}
-use Rattle.adf_cmd.specs.Answers.{Checks}
-use Rattle.adf_cmd.specs.declared.checking.CheckAnswer.{CheckAnswer}
+use Rattle.adf_cmd.specs.{Answers.Checks, declared.checking.CheckAnswer.CheckAnswer}
 
 -- the answer to an image where these types are accepted: at status 0 where it is sound, at status 1 where it is refused
 abbrev pub IsCheckAnswer : Types → List ℕ → CheckAnswer → Type 0

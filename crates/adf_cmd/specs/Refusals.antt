@@ -1,7 +1,6 @@
 -- What an outcome says of an input that is refused.
 use Rattle.std.specs.Prelude.{◌≡◌, ◌≢◌, ℕ, List, string_bytes}
-use Rattle.adf_volume.specs.Walk.{FirstFault}
-use Rattle.adf_volume.specs.declared.fault.Fault.{Fault}
+use Rattle.adf_volume.specs.{Walk.FirstFault, declared.fault.Fault.Fault}
 use Rattle.adf_texts.specs.Lines.{fault_line, full_line, manifest_fault_line}
 use Rattle.adf_manifest.specs.declared.manifest.ManifestFault.{ManifestFault}
 use Rattle.adf_manifest.specs.declared.manifest.ManifestKind.TheVariants.{NoMemory as ManifestNoMemory}

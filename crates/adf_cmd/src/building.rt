@@ -4,12 +4,10 @@ ghost use Rattle.std.specs.Prelude.{◌≡◌, ◌<◌, ◌^◌, true, false, le
 ghost use Rattle.std.specs.Io.KnownBytes.{Appends};
 ghost use Rattle.adf_base.specs.declared.hash.Letters.TheVariants.{Ascii};
 ghost use Rattle.adf_blocks.specs.Sizes.{is_allowed};
-ghost use Rattle.adf_cmd.specs.Answers.{Answer, BuildsOrIsFull};
+ghost use Rattle.adf_cmd.specs.{Answers.Answer, Answers.BuildsOrIsFull, Listing.image_or_lines};
 ghost use Rattle.adf_words.specs.CommandLine.{build};
-ghost use Rattle.adf_cmd.specs.Listing.{image_or_lines};
 ghost use Rattle.adf_cmd.specs.Refusals.{IsFaultOutcome, IsFullOutcome};
-ghost use Rattle.adf_runs.specs.Streams.{AppendsPart, is_device, seen};
-ghost use Rattle.adf_runs.specs.Outcomes.{Does};
+ghost use Rattle.adf_runs.specs.{Streams.AppendsPart, Streams.is_device, Streams.seen, Outcomes.Does};
 
 use crate::listing::write_listing;
 use adf_build::{BuildFault, build};

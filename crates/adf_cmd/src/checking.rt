@@ -2,16 +2,10 @@
 
 ghost use Rattle.std.specs.Prelude.{◌≡◌, ◌+◌, false, IfOk, List, string_bytes, true, ℕ};
 ghost use Rattle.adf_tree.specs.Tree.{Tree};
-ghost use Rattle.adf_volume.specs.Layout.{Layout};
-ghost use Rattle.adf_volume.specs.Walk.{FirstFaultBy};
-ghost use Rattle.adf_volume.specs.Types.{letters_for};
-ghost use Rattle.adf_volume.specs.declared.types.Types.{Types};
-ghost use Rattle.adf_check.specs.Volumes.{StandsForBy};
-ghost use Rattle.adf_cmd.specs.Answers.{Answer, limit_of};
+ghost use Rattle.adf_volume.specs.{Fits.FitsBy, Layout.Layout, Walk.FirstFaultBy, Types.letters_for, declared.types.Types.Types};
+ghost use Rattle.adf_cmd.specs.{Answers.Answer, Answers.limit_of, CheckAnswers.IsCheckAnswer, CheckAnswers.IsCheckAnswerTo};
 ghost use Rattle.adf_words.specs.CommandLine.{check};
-ghost use Rattle.adf_cmd.specs.CheckAnswers.{IsCheckAnswer, IsCheckAnswerTo};
-ghost use Rattle.adf_runs.specs.Streams.{TakesAtMost, is_device, seen};
-ghost use Rattle.adf_runs.specs.Outcomes.{Does};
+ghost use Rattle.adf_runs.specs.{Streams.TakesAtMost, Streams.is_device, Streams.seen, Outcomes.Does};
 ghost use Rattle.adf_texts.specs.Lines.{ok_line_by};
 
 use crate::images::{MOST_IMAGE_BYTES, checked, refused_line};
@@ -43,8 +37,8 @@ pub struct CheckAnswer {
 // The answer to an accepted image.
 fn acceptance(alloc: Global, volume: &Checked<'_>) -> Result<CheckAnswer, AllocError>
     ensures { (types : Types) (t : Tree) (l : Layout)
-        → StandsForBy (letters_for types volume.now.image) volume.now t l
-        → IfOk result (IsCheckAnswer types volume.now.image) }
+        → FitsBy (letters_for types volume.now) volume.now t l
+        → IfOk result (IsCheckAnswer types volume.now) }
 {
     let line = accepted_line(alloc, volume.letters(), &volume.counts())?;
     Ok(CheckAnswer { sound: true, line })

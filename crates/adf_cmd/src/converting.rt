@@ -4,13 +4,10 @@ ghost use Rattle.std.specs.Prelude.{◌≡◌, true, false, IfErr, IfOk};
 ghost use Rattle.adf_base.specs.declared.hash.Letters.TheVariants.{Ascii};
 ghost use Rattle.adf_tree.specs.Tree.{with_kind};
 ghost use Rattle.adf_blocks.specs.Sizes.{blocks, is_allowed};
-ghost use Rattle.adf_volume.specs.Fits.{Fits};
-ghost use Rattle.adf_volume.specs.Layout.{Layout};
-ghost use Rattle.adf_cmd.specs.Answers.{Answer, BuildsOrIsFull};
+ghost use Rattle.adf_volume.specs.{Fits.Fits, Layout.Layout};
+ghost use Rattle.adf_cmd.specs.{Answers.Answer, Answers.BuildsOrIsFull, Refusals.IsRefusedImage};
 ghost use Rattle.adf_words.specs.CommandLine.{convert};
-ghost use Rattle.adf_cmd.specs.Refusals.{IsRefusedImage};
-ghost use Rattle.adf_runs.specs.Outcomes.{Blames, Does};
-ghost use Rattle.adf_runs.specs.Streams.{seen};
+ghost use Rattle.adf_runs.specs.{Outcomes.Blames, Outcomes.Does, Streams.seen};
 
 use crate::building::build_tree;
 use crate::images::volume_of;

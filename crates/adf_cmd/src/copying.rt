@@ -1,16 +1,13 @@
 // The command `cat`.
 
 ghost use Rattle.std.specs.Prelude.{◌≡◌, ◌≤◌, ◌<◌, ◌+◌, ◌^◌, ◌++◌, ℕ, List, false, is_err, length, take, IfOk, OnOk, OnErr};
-ghost use Rattle.std.specs.Io.KnownBytes.{Appends};
-ghost use Rattle.std.specs.List.{concat};
+ghost use Rattle.std.specs.{Io.KnownBytes.Appends, List.concat};
 ghost use Rattle.adf_names.specs.PathTexts.{IsPathText};
 ghost use Rattle.adf_tree.specs.Tree.{Tree};
-ghost use Rattle.adf_volume.specs.Layout.{Layout};
-ghost use Rattle.adf_check.specs.Volumes.{StandsFor};
+ghost use Rattle.adf_volume.specs.{Fits.Fits, Layout.Layout};
 ghost use Rattle.adf_cmd.specs.Answers.{Answer, Copies, contents_at};
 ghost use Rattle.adf_words.specs.CommandLine.{cat};
-ghost use Rattle.adf_runs.specs.Outcomes.{Blames, EndsBy};
-ghost use Rattle.adf_runs.specs.Streams.{AppendsPart, KeepsPending};
+ghost use Rattle.adf_runs.specs.{Outcomes.Blames, Outcomes.EndsBy, Streams.AppendsPart, Streams.KeepsPending};
 
 use crate::images::volume_of;
 use adf_check::{Checked, Pieces};
@@ -97,7 +94,7 @@ pub fn write_through<const N: usize, W: Sink>(
 // Writes the bytes of the file under a path.
 fn copy_file<W: Sink>(volume: &Checked<'_>, names: &[Name], output: &mut W) -> Outcome
     requires { W.has_failed output.old ≡ false }
-    ensures ends { (t : Tree) (l : Layout) → StandsFor volume.now t l
+    ensures ends { (t : Tree) (l : Layout) → Fits volume.now t l
         → EndsBy (Copies (contents_at t names.now)) result
         (W.held output.old) (W.held output.new) }
     ensures blames { Blames result false (W.has_failed output.new) }

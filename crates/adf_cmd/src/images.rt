@@ -2,11 +2,7 @@
 
 ghost use Rattle.std.specs.Prelude.{◌≡◌, false, IfErr, IfOk, string_bytes};
 ghost use Rattle.adf_tree.specs.Tree.{Tree};
-ghost use Rattle.adf_volume.specs.Fits.{FitsBy};
-ghost use Rattle.adf_volume.specs.Layout.{Layout};
-ghost use Rattle.adf_volume.specs.Walk.{FirstFaultBy};
-ghost use Rattle.adf_volume.specs.Types.{letters_for};
-ghost use Rattle.adf_check.specs.Volumes.{StandsFor, StandsForBy};
+ghost use Rattle.adf_volume.specs.{Fits.Fits, Fits.FitsBy, Layout.Layout, Walk.FirstFaultBy, Types.letters_for};
 ghost use Rattle.adf_cmd.specs.Refusals.{IsRefusedImage};
 ghost use Rattle.adf_texts.specs.Lines.{fault_line};
 ghost use Rattle.adf_runs.specs.Outcomes.{Blames};
@@ -38,9 +34,9 @@ pub fn checked<'a>(
     types: Types,
     image: &'a [u8],
 ) -> Result<Result<Checked<'a>, Fault>, AllocError>
-    ensures image { IfOk result (λ r. IfOk r (λ v. v.image ≡ image.now)) }
+    ensures image { IfOk result (λ r. IfOk r (λ v. v ≡ image.now)) }
     ensures fits { IfOk result (λ r. IfOk r (λ v.
-        (t : Tree) × (l : Layout) × StandsForBy (letters_for types image.now) v t l)) }
+        (t : Tree) × (l : Layout) × FitsBy (letters_for types image.now) v t l)) }
     ensures first { IfOk result (λ r. IfErr r (λ f.
         FirstFaultBy (letters_for types image.now) image.now f.block f.cause)) }
     ensures none { IfOk result (λ r. IfErr r (λ _. (t : Tree) (l : Layout)
@@ -57,8 +53,8 @@ pub fn checked<'a>(
 
 /// The volume of an image; of a refused one, how the work ends.
 pub fn volume_of<'a>(alloc: Global, image: &'a [u8]) -> Result<Checked<'a>, Outcome>
-    ensures image { IfOk result (λ v. v.image ≡ image.now) }
-    ensures fits { IfOk result (λ v. (t : Tree) × (l : Layout) × StandsFor v t l) }
+    ensures image { IfOk result (λ v. v ≡ image.now) }
+    ensures fits { IfOk result (λ v. (t : Tree) × (l : Layout) × Fits v t l) }
     ensures refused { IfErr result (IsRefusedImage image.now) }
     ensures blames { IfErr result (λ w. Blames w false false) }
 {

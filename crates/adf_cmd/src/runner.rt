@@ -3,8 +3,7 @@
 ghost use Rattle.std.specs.Prelude.{◌≡◌, false, true};
 ghost use Rattle.adf_cmd.specs.Answers.{RequestsHaveOneAnswer, WordsAskForOneRequest, adf_command};
 ghost use Rattle.adf_words.specs.CommandLine.{texts_of};
-ghost use Rattle.adf_runs.specs.Commands.{IsUnanswered, RunEnds, TakesEnough};
-ghost use Rattle.adf_runs.specs.Streams.{seen};
+ghost use Rattle.adf_runs.specs.{Commands.IsUnanswered, Commands.RunEnds, Commands.TakesEnough, Streams.seen};
 
 use crate::work::Work;
 use adf_runs::{Sink, Source, run_program};

@@ -2,17 +2,13 @@
 
 ghost use Rattle.std.specs.Prelude.{◌≡◌, ◌++◌, ◌+◌, false, IfOk, OnOk, OnErr, length};
 ghost use Rattle.std.specs.Io.KnownBytes.{Appends};
-ghost use Rattle.adf_tree.specs.Paths.{names_of};
-ghost use Rattle.adf_tree.specs.Tree.{Tree};
+ghost use Rattle.adf_tree.specs.{Paths.names_of, Tree.Tree};
 ghost use Rattle.adf_blocks.specs.Sizes.{blocks};
-ghost use Rattle.adf_volume.specs.Layout.{Layout};
-ghost use Rattle.adf_check.specs.Volumes.{StandsFor};
+ghost use Rattle.adf_volume.specs.{Fits.Fits, Layout.Layout};
 ghost use Rattle.adf_texts.specs.VolumeLines.{lines_of_entries, lines_of_entry, opening_lines, volume_lines};
-ghost use Rattle.adf_cmd.specs.Answers.{Answer};
+ghost use Rattle.adf_cmd.specs.{Answers.Answer, VolumeListing.InAnyDates};
 ghost use Rattle.adf_words.specs.CommandLine.{list};
-ghost use Rattle.adf_runs.specs.Streams.{AppendsPart, KeepsPending, is_device, seen};
-ghost use Rattle.adf_runs.specs.Outcomes.{Does};
-ghost use Rattle.adf_cmd.specs.VolumeListing.{InAnyDates};
+ghost use Rattle.adf_runs.specs.{Streams.AppendsPart, Streams.KeepsPending, Streams.is_device, Streams.seen, Outcomes.Does};
 
 use crate::images::volume_of;
 use adf_check::Checked;
@@ -23,8 +19,8 @@ use std::alloc::{AllocError, Global};
 
 // The names of a node from the root on.
 fn path_of(alloc: Global, volume: &Checked<'_>, n: Node) -> Result<Vec<Name>, AllocError>
-    requires { (t : Tree) × (l : Layout) × StandsFor volume.now t l }
-    ensures { (t : Tree) (l : Layout) → StandsFor volume.now t l
+    requires { (t : Tree) × (l : Layout) × Fits volume.now t l }
+    ensures { (t : Tree) (l : Layout) → Fits volume.now t l
         → IfOk result (λ path. path.items ≡ names_of t.entries n) }
 {
     let mut path = Vec::new(alloc);
@@ -40,7 +36,7 @@ fn path_of(alloc: Global, volume: &Checked<'_>, n: Node) -> Result<Vec<Name>, Al
 // Appends the lines before those of the entries.
 fn push_opening(volume: &Checked<'_>, text: &mut Vec<u8>) -> Result<(), AllocError>
     ensures { InAnyDates volume.now (λ date t. OnOk result (text.new.items ≡ text.old.items
-        ++ opening_lines date t.kind t.label t.stamps (blocks volume.now.image))) }
+        ++ opening_lines date t.kind t.label t.stamps (blocks volume.now))) }
 {
     let counts = volume.counts();
     push_opening_lines(
@@ -59,7 +55,7 @@ fn push_entry(
     n: Node,
     text: &mut Vec<u8>,
 ) -> Result<(), AllocError>
-    requires { (t : Tree) × (l : Layout) × StandsFor volume.now t l }
+    requires { (t : Tree) × (l : Layout) × Fits volume.now t l }
     ensures { InAnyDates volume.now (λ date t. OnOk result
         (text.new.items ≡ text.old.items ++ lines_of_entry date t.entries n)) }
 {
@@ -79,7 +75,7 @@ fn list_entry<W: Sink>(
     output: &mut W,
 ) -> Result<(), StreamFault>
     requires works { W.has_failed output.old ≡ false }
-    requires stands { (t : Tree) × (l : Layout) × StandsFor volume.now t l }
+    requires fits { (t : Tree) × (l : Layout) × Fits volume.now t l }
     ensures ok { InAnyDates volume.now (λ date t. OnOk result (KeepsPending
         (W.held output.old) (text.old.items ++ lines_of_entry date t.entries n)
         (W.held output.new) text.new.items)) }
@@ -101,7 +97,7 @@ fn write_entries<W: Sink>(
     output: &mut W,
 ) -> Result<(), StreamFault>
     requires works { W.has_failed output.old ≡ false }
-    requires stands { (t : Tree) × (l : Layout) × StandsFor volume.now t l }
+    requires fits { (t : Tree) × (l : Layout) × Fits volume.now t l }
     ensures ok { InAnyDates volume.now (λ date t. OnOk result (Appends
         (W.held output.old) (W.held output.new)
         (text.items ++ lines_of_entries date t.entries (length t.entries)))) }
@@ -124,12 +120,12 @@ fn write_volume<W: Sink>(
     output: &mut W,
 ) -> Result<(), StreamFault>
     requires works { W.has_failed output.old ≡ false }
-    requires stands { (t : Tree) × (l : Layout) × StandsFor volume.now t l }
+    requires fits { (t : Tree) × (l : Layout) × Fits volume.now t l }
     ensures ok { InAnyDates volume.now (λ date t. OnOk result (Appends
-        (W.held output.old) (W.held output.new) (volume_lines date t (blocks volume.now.image)))) }
+        (W.held output.old) (W.held output.new) (volume_lines date t (blocks volume.now)))) }
     ensures err { InAnyDates volume.now (λ date t. OnErr result (AppendsPart
         (W.has_failed output.new) (W.held output.old) (W.held output.new)
-        (volume_lines date t (blocks volume.now.image)))) }
+        (volume_lines date t (blocks volume.now)))) }
     ensures failed { W.has_failed output.new ≡ is_device result }
 {
     let mut text = Vec::new(alloc);
@@ -140,8 +136,8 @@ fn write_volume<W: Sink>(
 // Writes the lines of a volume, and tells how that went.
 fn list_volume<W: Sink>(alloc: Global, volume: &Checked<'_>, output: &mut W) -> Outcome
     requires works { W.has_failed output.old ≡ false }
-    requires stands { (t : Tree) × (l : Layout) × StandsFor volume.now t l }
-    ensures { Does (Answer list volume.now.image) result (seen W.held W.has_failed output.old output.new) }
+    requires fits { (t : Tree) × (l : Layout) × Fits volume.now t l }
+    ensures { Does (Answer list volume.now) result (seen W.held W.has_failed output.old output.new) }
 {
     match write_volume(alloc, volume, output) {
         Ok(()) => Outcome::Done,

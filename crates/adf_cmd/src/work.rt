@@ -1,11 +1,9 @@
 // What a command does, once its words and its path are read.
 
 ghost use Rattle.std.specs.Prelude.{◌≡◌, false, IfErr, IfOk};
-ghost use Rattle.adf_cmd.specs.Answers.{Answer, HasBadPath};
+ghost use Rattle.adf_cmd.specs.{Answers.Answer, Answers.HasBadPath, Work.Serves};
 ghost use Rattle.adf_words.specs.CommandLine.{RequestValue, request_value};
-ghost use Rattle.adf_runs.specs.Outcomes.{Blames, EndsBy};
-ghost use Rattle.adf_cmd.specs.Work.{Serves};
-ghost use Rattle.adf_runs.specs.WorkFaults.{IsNoWork};
+ghost use Rattle.adf_runs.specs.{Outcomes.Blames, Outcomes.EndsBy, WorkFaults.IsNoWork};
 
 use crate::building::build_manifest;
 use crate::checking::check_image;
@@ -62,9 +60,8 @@ impl Work {
 
 impl Program for Work {
     ghost use Rattle.std.proofs.Common.{inl, refl, rules};
-    ghost use Rattle.adf_cmd.specs.Answers.{adf_command};
+    ghost use Rattle.adf_cmd.specs.{Answers.adf_command, Work.Serves};
     ghost use Rattle.adf_words.specs.CommandLine.{cat};
-    ghost use Rattle.adf_cmd.specs.Work.{Serves};
 
     ghost command = { adf_command };
 

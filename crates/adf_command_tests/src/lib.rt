@@ -24,6 +24,8 @@ mod edited_lines;
 #[cfg(test)]
 mod memory;
 #[cfg(test)]
+mod merge_runs;
+#[cfg(test)]
 mod named_errors;
 #[cfg(test)]
 mod operands;

@@ -8,7 +8,7 @@ use std::alloc::Global;
 // What is kept of texts that are said one after the other, by a device that takes at most so many bytes a call and fails once
 // so many calls were made.
 fn said(alloc: Global, most: usize, calls: usize, texts: &[&str]) -> Vec<u8> {
-    let mut errors = NamedErrors::new("adf-try: ", Kept::new(alloc, most, calls));
+    let mut errors = NamedErrors::new("adf-try", Kept::new(alloc, most, calls));
     for text in texts {
         if !errors.inner.failed() {
             say(&mut errors, text.as_bytes());

@@ -242,7 +242,7 @@ impl Sink for Counted<'_> {
 }
 
 // How many bytes errors get where an input of two reads says this.
-fn announced(alloc: Global, line: Option<&str>) -> usize {
+fn announced(alloc: Global, line: Option<&'static str>) -> usize {
     let said = Cell::new(0);
     let errors = Counted { bytes: &said };
     let mut input = AnnouncedInput::new(Given::new(FILE, usize::MAX), errors, line);

@@ -7,6 +7,7 @@ use std::alloc::Global;
 const ABOUT: About = About {
     name: "adf-try",
     help: "usage: adf-try\n",
+    waits: None,
 };
 
 // What words ask for.
@@ -35,7 +36,7 @@ fn what_comes_first_is_asked(rt: HostRuntime) {
     }
 }
 
-const VERSION: &[u8] = b"adf-try 1.0\n";
+const VERSION: &[u8] = b"adf-try 1.1\n";
 
 // Whether this is told at the status, and output and errors get these bytes, where output fails after so many calls.
 fn tells(alloc: Global, telling: Telling, calls: usize, wanted: (u8, &[u8], &[u8])) -> bool {

@@ -4,20 +4,16 @@ use Rattle.std.proofs.Common.{◌≡◌, ◌≢◌, ◌≤◌, ◌<◌, ◌+◌,
 use Rattle.std.proofs.Common.{get_or, ◌^◌, inl, inr, length, length-drop, refl, subst, suc, sym, zero, ◌==◌, ◌/◌, if◌then◌else◌}
 use Rattle.std.proofs.lemmas.List.{drop_all, length-take-le, Folds.list_all_at}
 use Rattle.std.specs.List.{flat_map, list_all}
-use Rattle.std.proofs.lemmas.Bool.{and_parts, Decides.nat_tests}
-use Rattle.std.proofs.lemmas.Grind.{common_steps}
+use Rattle.std.proofs.{lemmas.Bool.and_parts, lemmas.Bool.Decides.nat_tests, lemmas.Grind.common_steps}
 use Rattle.adf_disk_cmd.proofs.NewVolumes.{MayBeNew, length_new, may_be_new, new_volume}
 use Rattle.adf_disk_cmd.specs.Builds.{BuildsDisk, HasPlanned, behind_volume, built_disk, given_bytes, given_cylinders, given_line, given_size, plan_reply}
 use Rattle.adf_disk_cmd.specs.Builds.{volume_of, volumes_of}
 use Rattle.adf_partitions.proofs.PlanSizes.{blocks_fit, cylinders_fit, plans_at}
-use Rattle.adf_partitions.proofs.PlannedDisk.{planned_disk}
-use Rattle.adf_partitions.proofs.PlannedVolumes.{disk_size, volumes_stand}
+use Rattle.adf_partitions.proofs.{PlannedDisk.planned_disk, PlannedVolumes.disk_size, PlannedVolumes.volumes_stand}
 use Rattle.adf_plans.proofs.TextLines.{is_plan-tells}
-use Rattle.adf_partitions.specs.Disks.{IsDisk}
+use Rattle.adf_partitions.specs.{Disks.IsDisk, WrittenTables.disk_bytes, WrittenTables.planned_tables, declared.plan.PartitionPlan.PartitionPlan}
 use Rattle.adf_plans.specs.PlanTexts.{IsText, behind_line, has_volume, is_plan}
 use Rattle.adf_partitions.specs.Plans.{AreVolumes, IsPlan, PlanValue, cylinder_blocks, cylinders_of, planned_blocks, planned_partitions}
-use Rattle.adf_partitions.specs.WrittenTables.{disk_bytes, planned_tables}
-use Rattle.adf_partitions.specs.declared.plan.PartitionPlan.{PartitionPlan}
 use Rattle.adf_runs.specs.Commands.{Reply, on_errors, on_output}
 
 -- volumes one behind the other

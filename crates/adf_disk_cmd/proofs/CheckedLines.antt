@@ -1,15 +1,11 @@
 -- The lines of partitions, one behind the other.
 use Rattle.std.proofs.Common.{◌≡◌, ◌&&◌, ◌<◌, ◌+◌, ◌++◌, ◌∙◌, ℕ, Bool, true, false, List, [], ◌∷◌, Ok, ap₂, arith, refl, subst, sym, None, append-nil}
-use Rattle.std.proofs.Common.{append_assoc, drop, get_or, length}
-use Rattle.std.proofs.Math.Seq.{drop-cons}
-use Rattle.std.proofs.Math.Bool.{and-true}
-use Rattle.std.proofs.lemmas.Grind.{common_steps}
+use Rattle.std.proofs.{Common.append_assoc, Common.drop, Common.get_or, Common.length, Math.Seq.drop-cons, Math.Bool.and-true, lemmas.Grind.common_steps}
 use Rattle.adf_disk_cmd.specs.Checks.{AreChecked, TellsPartition, TellsPlace, TellsVolume, check_status, why_unchecked}
 use Rattle.adf_disk_cmd.specs.Lines.{list_line, list_lines, name_text, volume_at}
 use Rattle.adf_cmd.specs.Answers.{Checks}
 use Rattle.adf_volume.specs.declared.types.Types.TheVariants.{WithInternational}
-use Rattle.adf_partitions.specs.declared.partition.Partition.{Partition}
-use Rattle.adf_partitions.specs.declared.place.Place.{Place}
+use Rattle.adf_partitions.specs.{declared.partition.Partition.Partition, declared.place.Place.Place}
 use Rattle.adf_runs.specs.Commands.{on_output}
 
 -- what is left from a partition on

@@ -2,24 +2,15 @@
 use Rattle.std.proofs.Common.{◌≡◌, ◌+◌, ◌*◌, ◌-◌, ◌/◌, ◌∙◌, inl, inr, ℕ, List, Option, None, Some, IfSome, ap, arith, drop, length, min, subst, take}
 use Rattle.std.proofs.lemmas.List.{drop_min, length-drop, take-take, take_all, take_min}
 use Rattle.adf_disk_cmd.specs.Answers.{DiskAnswer, OfBytes, OfDisk, OfFault, OfPartitions}
-use Rattle.adf_disk_cmd.specs.Builds.{BuildsDisk}
-use Rattle.adf_disk_cmd.specs.Lines.{volume_at}
-use Rattle.adf_disk_cmd.specs.Work.{IsWorkOf}
-use Rattle.adf_disk_cmd.specs.declared.work.TheConstants.{MOST_DISK_BYTES}
+use Rattle.adf_disk_cmd.specs.{Builds.BuildsDisk, Lines.volume_at, Work.IsWorkOf, declared.work.TheConstants.MOST_DISK_BYTES}
 use Rattle.adf_disk_cmd.specs.declared.work.Work.{Work, TheVariants.Check, TheVariants.Survey}
-use Rattle.adf_partitions.specs.Disks.{FirstDiskFault, IsDisk}
-use Rattle.adf_partitions.specs.declared.fault.DiskFault.{DiskFault}
-use Rattle.adf_partitions.specs.declared.partition.Partition.{Partition}
-use Rattle.adf_partitions.specs.declared.place.Place.{Place}
-use Rattle.adf_partitions.specs.declared.tables.Tables.{Tables}
+use Rattle.adf_partitions.specs.{Disks.FirstDiskFault, Disks.IsDisk, declared.fault.DiskFault.DiskFault, declared.partition.Partition.Partition}
+use Rattle.adf_partitions.specs.{declared.place.Place.Place, declared.tables.Tables.Tables}
 use Rattle.std.proofs.lemmas.Grind.{common_steps}
-use Rattle.adf_runs.proofs.Endings.{ends_weaker}
-use Rattle.adf_runs.specs.Commands.{Reply}
-use Rattle.adf_runs.specs.Outcomes.{EndsBy, after_reading}
-use Rattle.adf_runs.specs.declared.outcome.Outcome.{Outcome}
+use Rattle.adf_runs.proofs.{Endings.ends_weaker, PendingText.appends_nil}
+use Rattle.adf_runs.specs.{Commands.Reply, Outcomes.EndsBy, Outcomes.after_reading, declared.outcome.Outcome.Outcome}
 use Rattle.adf_runs.specs.declared.streams.StreamFault.{StreamFault, TheVariants.Device, TheVariants.NoMemory}
-use Rattle.adf_file_words.specs.DiskLine.{DiskRequestValue, build, check, list, survey, volume}
-use Rattle.adf_runs.proofs.PendingText.{appends_nil}
+use Rattle.adf_disk_cmd.specs.CommandLine.{DiskRequestValue, build, check, list, survey, volume}
 
 -- what is answered to the front of an input that is longer than the largest disk is answered to the whole of it
 pub long_answers : (r : DiskRequestValue) (front bytes : List ℕ) → front ≡ take (MOST_DISK_BYTES + 1) bytes → (reply : Reply)

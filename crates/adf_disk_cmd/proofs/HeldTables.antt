@@ -1,25 +1,16 @@
 -- What is told of a disk of which only the blocks that may have tables are held.
 -- Letters: all is an input, bytes what is held of it, len how many it has; n is the number of its blocks that count.
 use Rattle.std.proofs.Common.{◌≡◌, ◌+◌, ◌/◌, ◌∙◌, ℕ, Bool, true, false, List, Option, None, Some, IfSome, ap, arith, length, length-take, min, refl, subst, sym}
-use Rattle.std.proofs.Common.{take}
-use Rattle.std.proofs.lemmas.List.{take-take}
-use Rattle.adf_disk_cmd.specs.Answers.{DiskAnswer, OfFault, OfPartitions}
-use Rattle.adf_disk_cmd.specs.Lines.{list_lines}
-use Rattle.adf_disk_cmd.specs.Work.{TellsFault, listing_request}
-use Rattle.adf_disk_cmd.specs.declared.list_input.TheConstants.{TABLES_LEN}
-use Rattle.adf_disk_cmd.specs.declared.work.TheConstants.{MOST_DISK_BYTES}
+use Rattle.std.proofs.{Common.take, lemmas.List.take-take}
+use Rattle.adf_disk_cmd.specs.{Answers.DiskAnswer, Answers.OfFault, Answers.OfPartitions, Lines.list_lines, Work.TellsFault, Work.listing_request}
+use Rattle.adf_disk_cmd.specs.{declared.list_input.TheConstants.TABLES_LEN, declared.work.TheConstants.MOST_DISK_BYTES}
 use Rattle.adf_disk_cmd.proofs.Endings.{disk_ends, refused_ends, told_ends}
 use Rattle.adf_partitions.proofs.FirstBlocks.{first_disk, first_fault, first_readable}
-use Rattle.adf_partitions.specs.Disks.{FirstDiskFault, IsDisk}
-use Rattle.adf_partitions.specs.Searches.{AreReadable}
-use Rattle.adf_partitions.specs.declared.fault.DiskFault.{DiskFault}
+use Rattle.adf_partitions.specs.{Disks.FirstDiskFault, Disks.IsDisk, Searches.AreReadable, declared.fault.DiskFault.DiskFault, declared.tables.Tables.Tables}
 use Rattle.adf_partitions.specs.declared.partition.Partition.{Partition}
-use Rattle.adf_partitions.specs.declared.tables.Tables.{Tables}
 use Rattle.adf_runs.proofs.Endings.{ends_weaker}
-use Rattle.adf_runs.specs.Commands.{Reply, on_output}
+use Rattle.adf_runs.specs.{Commands.Reply, Commands.on_output, Streams.IsExcerpt, Streams.Seen, declared.outcome.Outcome.Outcome}
 use Rattle.adf_runs.specs.Outcomes.{Blames, DoesOn, EndsBy}
-use Rattle.adf_runs.specs.Streams.{IsExcerpt, Seen}
-use Rattle.adf_runs.specs.declared.outcome.Outcome.{Outcome}
 
 -- the bytes that count
 abbrev pub disk_of : List ℕ → List ℕ

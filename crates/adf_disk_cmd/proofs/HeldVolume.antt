@@ -2,40 +2,24 @@
 -- Letters: as in proofs/HeldTables; tables are the first t bytes of all, q is the place of the volume, f its first byte and b how many it has.
 use Rattle.std.proofs.Common.{◌≡◌, ◌≤◌, ◌+◌, ◌-◌, ◌*◌, ◌/◌, ◌∙◌, ◌++◌, [], ℕ, List, Option, None, Some, Result, Ok, Err, IfOk, IfSome, inl, inr, ap, append-nil}
 use Rattle.std.proofs.Common.{arith, drop, false, length, length-drop, length-take, min, refl, subst, sym, take}
-use Rattle.std.proofs.Math.ListN.{drop_of_length-le}
-use Rattle.std.proofs.Math.Seq.{take-add}
+use Rattle.std.proofs.{Math.ListN.drop_of_length-le, Math.Seq.take-add, lemmas.Bool.cases_lt, lemmas.Grind.common_steps}
 use Rattle.std.specs.Prelude.{Bool, bytes_eq, ◌||◌, ◌∷◌}
-use Rattle.std.proofs.lemmas.Bool.{cases_lt}
 use Rattle.std.proofs.lemmas.List.{drop-drop, drop-take, take-take, take_all}
 use Rattle.std.specs.Option.{SomeIff, unwrap_or}
-use Rattle.std.proofs.lemmas.Grind.{common_steps}
 use Rattle.adf_base.specs.Words.{block}
-use Rattle.adf_names.specs.Escapes.{escaped}
-use Rattle.adf_names.specs.Texts.{uppers}
+use Rattle.adf_names.specs.{Escapes.escaped, Texts.uppers}
 use Rattle.adf_partitions.proofs.AnyLength.{is_disk_too, named_is, numbered_is}
-use Rattle.adf_partitions.specs.Disks.{FirstDiskFault, IsDisk}
-use Rattle.adf_partitions.specs.Places.{StatesPlace, end_of, partition_place}
-use Rattle.adf_partitions.specs.Volumes.{FoundAlike, IsStated}
-use Rattle.adf_partitions.specs.declared.fault.DiskFault.{DiskFault}
-use Rattle.adf_partitions.specs.declared.partition.Partition.{Partition}
-use Rattle.adf_partitions.specs.declared.place.Place.{Place}
-use Rattle.adf_partitions.specs.declared.place.PlaceFault.{PlaceFault}
-use Rattle.adf_partitions.specs.declared.tables.Tables.{Tables}
+use Rattle.adf_partitions.specs.{Disks.FirstDiskFault, Disks.IsDisk, Places.StatesPlace, Places.end_of, Places.partition_place, Volumes.FoundAlike}
+use Rattle.adf_partitions.specs.{Volumes.IsStated, declared.fault.DiskFault.DiskFault, declared.partition.Partition.Partition, declared.place.Place.Place}
+use Rattle.adf_partitions.specs.{declared.place.PlaceFault.PlaceFault, declared.tables.Tables.Tables}
 use Rattle.adf_texts.specs.Names.{names_text}
-use Rattle.adf_runs.proofs.Endings.{ends_weaker}
-use Rattle.adf_runs.proofs.KnownBytes.{left_over}
-use Rattle.adf_runs.specs.Outcomes.{EndsBy}
-use Rattle.adf_runs.specs.Streams.{IsExcerpt, TakesFirst}
-use Rattle.adf_runs.specs.declared.outcome.Outcome.{Outcome}
-use Rattle.adf_file_words.specs.DiskLine.{WantedValue, name, number, volume}
-use Rattle.adf_disk_cmd.proofs.Endings.{disk_ends, refused_ends, told_ends}
-use Rattle.adf_disk_cmd.proofs.HeldTables.{disk_held, disk_of, fault_held}
+use Rattle.adf_runs.proofs.{Endings.ends_weaker, KnownBytes.left_over}
+use Rattle.adf_runs.specs.{Outcomes.EndsBy, Streams.IsExcerpt, Streams.TakesFirst, declared.outcome.Outcome.Outcome}
+use Rattle.adf_disk_cmd.specs.{CommandLine.WantedValue, CommandLine.name, CommandLine.number, CommandLine.volume, Lines.volume_at, Work.HoldsVolume}
+use Rattle.adf_disk_cmd.specs.{Work.IsSoughtPlace, Work.TellsFault, Work.held_place_reply, Work.held_reply, declared.copy_input.TheConstants.MOST_DISK_BLOCKS}
+use Rattle.adf_disk_cmd.specs.{declared.list_input.TheConstants.TABLES_LEN, declared.work.TheConstants.MOST_DISK_BYTES}
+use Rattle.adf_disk_cmd.proofs.{Endings.disk_ends, Endings.refused_ends, Endings.told_ends, HeldTables.disk_held, HeldTables.disk_of, HeldTables.fault_held}
 use Rattle.adf_disk_cmd.specs.Answers.{DiskAnswer, OfPartitions, place_reply, volume_reply, wanted_of}
-use Rattle.adf_disk_cmd.specs.Lines.{volume_at}
-use Rattle.adf_disk_cmd.specs.Work.{HoldsVolume, IsSoughtPlace, TellsFault, held_place_reply, held_reply}
-use Rattle.adf_disk_cmd.specs.declared.copy_input.TheConstants.{MOST_DISK_BLOCKS}
-use Rattle.adf_disk_cmd.specs.declared.list_input.TheConstants.{TABLES_LEN}
-use Rattle.adf_disk_cmd.specs.declared.work.TheConstants.{MOST_DISK_BYTES}
 
 -- whether a text is this name
 abbrev is_name_of : List ℕ → List ℕ → Bool

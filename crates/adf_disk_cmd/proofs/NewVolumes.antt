@@ -1,37 +1,24 @@
 -- New volumes. p is the plan of a partition, n the number of its blocks, c that of a cylinder.
 use Rattle.std.proofs.Common.{◌≡◌, ◌≤◌, ◌-◌, ◌*◌, ◌∙◌, ℕ, Bool, true, false, List, [], ◌∷◌, length, ap, inl, refl, sym, arith, ◌&&◌, ◌||◌}
 use Rattle.std.proofs.lemmas.Grind.{common_steps}
-use Rattle.adf_base.specs.Dates.{IsStamp}
-use Rattle.adf_base.specs.Words.{with_bytes, word}
+use Rattle.adf_base.specs.{Dates.IsStamp, Words.with_bytes, Words.word}
 use Rattle.adf_base.specs.declared.hash.Letters.{Letters, TheVariants.Ascii, TheVariants.International}
-use Rattle.adf_blocks.specs.Fields.{block_of_fields}
-use Rattle.adf_blocks.specs.Sizes.{is_allowed}
-use Rattle.adf_build.proofs.AllocatedBlocks.{reserved_below}
-use Rattle.adf_build.proofs.LaidFits.{volume_fits}
-use Rattle.adf_build.proofs.LaidWrites.{CanHold, holds_boot, volume_long}
-use Rattle.adf_build.specs.Building.{IsBuildFault}
-use Rattle.adf_build.specs.Laid.{boot_bytes_by, volume}
-use Rattle.adf_build.specs.Plan.{blocks_needed, planned}
+use Rattle.adf_blocks.specs.{Fields.block_of_fields, Sizes.is_allowed}
+use Rattle.adf_build.proofs.{AllocatedBlocks.reserved_below, LaidFits.volume_fits, LaidWrites.CanHold, LaidWrites.holds_boot, LaidWrites.volume_long}
+use Rattle.adf_build.specs.{Building.IsBuildFault, Laid.boot_bytes_by, Laid.volume, Plan.blocks_needed, Plan.planned}
 use Rattle.adf_build.specs.declared.builder.BuildFault.TheVariants.{Full}
 use Rattle.adf_disk_cmd.specs.Builds.{IsNewVolume, planned_tree}
 use Rattle.adf_cmd.specs.Answers.{Checks}
-use Rattle.adf_volume.specs.declared.types.Types.TheVariants.{WithInternational}
+use Rattle.adf_volume.specs.{declared.types.Types.TheVariants.WithInternational, Counts.counts_of, Fits.FitsBy, Image.letters_of, Layout.Layout}
 use Rattle.adf_names.specs.declared.kind.Kind.{Kind, TheVariants.Ofs, TheVariants.Ffs}
 use Rattle.adf_partitions.proofs.NumberTests.{le_of}
-use Rattle.adf_partitions.specs.Plans.{planned_type}
+use Rattle.adf_partitions.specs.{Plans.planned_type, declared.plan.PartitionPlan.PartitionPlan}
 use Rattle.adf_plans.specs.PlanTexts.{has_volume}
-use Rattle.adf_partitions.specs.declared.plan.PartitionPlan.{PartitionPlan}
 use Rattle.adf_tree.proofs.TreeOfAdditions.{nothing_added_by}
 use Rattle.adf_tree.specs.Tree.{Tree}
 use Rattle.adf_runs.specs.Commands.{on_output}
 use Rattle.adf_texts.specs.Lines.{ok_line_by}
-use Rattle.adf_volume.proofs.FitWalks.{own_fit}
-use Rattle.adf_volume.proofs.ImageStart.{own_letters}
-use Rattle.adf_volume.proofs.Sizes.{size_low}
-use Rattle.adf_volume.specs.Counts.{counts_of}
-use Rattle.adf_volume.specs.Fits.{FitsBy}
-use Rattle.adf_volume.specs.Image.{letters_of}
-use Rattle.adf_volume.specs.Layout.{Layout}
+use Rattle.adf_volume.proofs.{FitWalks.own_fit, ImageStart.own_letters, Sizes.size_low}
 
 -- the label fits, and the size is allowed
 pub record MayBeNew (n : ℕ) (p : PartitionPlan) : Type 0 where

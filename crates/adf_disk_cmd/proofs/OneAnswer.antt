@@ -6,23 +6,16 @@ use Rattle.std.proofs.lemmas.Grind.{common_steps}
 use Rattle.adf_disk_cmd.specs.Answers.{ChecksAll, DiskAnswer, OfBytes, OfDisk, OfFault, OfPartitions, TellsReadable, disk_fault_line}
 use Rattle.adf_disk_cmd.specs.Builds.{BuildsDisk, plan_reply, refusal}
 use Rattle.adf_disk_cmd.specs.Checks.{AreChecked, TellsPlace, TellsText, TellsVolume, check_status, unchecked_text, why_unchecked}
-use Rattle.adf_disk_cmd.specs.Lines.{name_text, volume_at}
+use Rattle.adf_disk_cmd.specs.{Lines.name_text, Lines.volume_at, declared.unchecked.Unchecked.Unchecked, declared.work.TheConstants.MOST_DISK_BYTES}
 use Rattle.adf_cmd.proofs.OneAnswer.{one_check}
 use Rattle.adf_volume.specs.declared.types.Types.TheVariants.{WithInternational}
-use Rattle.adf_disk_cmd.specs.declared.unchecked.Unchecked.{Unchecked}
-use Rattle.adf_disk_cmd.specs.declared.work.TheConstants.{MOST_DISK_BYTES}
 use Rattle.adf_partitions.proofs.OneAnswer.{no_fault, one_disk, one_fault, one_reading}
 use Rattle.adf_plans.proofs.OnePlan.{no_text_fault, one_plan, one_text_fault}
-use Rattle.adf_partitions.specs.FaultTexts.{place_fault_text}
-use Rattle.adf_partitions.specs.Plans.{PlanValue}
-use Rattle.adf_partitions.specs.declared.fault.DiskFault.{DiskFault}
-use Rattle.adf_partitions.specs.declared.partition.Partition.{Partition}
-use Rattle.adf_partitions.specs.declared.place.Place.{Place}
-use Rattle.adf_partitions.specs.declared.place.PlaceFault.{PlaceFault}
-use Rattle.adf_plans.specs.PlanTexts.{text_fault_text}
-use Rattle.adf_plans.specs.declared.plan_text.TextFault.{TextFault}
+use Rattle.adf_partitions.specs.{FaultTexts.place_fault_text, Plans.PlanValue, declared.fault.DiskFault.DiskFault, declared.partition.Partition.Partition}
+use Rattle.adf_partitions.specs.{declared.place.Place.Place, declared.place.PlaceFault.PlaceFault}
+use Rattle.adf_plans.specs.{PlanTexts.text_fault_text, declared.plan_text.TextFault.TextFault}
 use Rattle.adf_runs.specs.Commands.{Reply, on_output}
-use Rattle.adf_file_words.specs.DiskLine.{AsksDisk, DiskRequestValue, build, check, list, survey, volume}
+use Rattle.adf_disk_cmd.specs.CommandLine.{AsksDisk, DiskRequestValue, build, check, list, survey, volume}
 
 pub one_request : (words : List (List ℕ)) (r q : DiskRequestValue) → AsksDisk words r → AsksDisk words q → r ≡ q
 one_request words r q a b = grind (arith, common_steps)

@@ -2,23 +2,17 @@
 -- Letters: `start` is what the input had at first, a, b and c what is left of it; k is where the held bytes begin, f the first byte of a place, n a count.
 use Rattle.std.proofs.Common.{◌≡◌, ◌<◌, ◌≤◌, ◌+◌, ◌-◌, ◌*◌, ◌∙◌, ◌++◌, ◌∷◌, [], ℕ, List, Option, None, Some, All, ap, append-nil, append_assoc, arith, drop}
 use Rattle.std.proofs.Common.{get_or, length, min, subst, sym, take, length-append, length-drop, length-take, length-take-le}
-use Rattle.std.proofs.Math.Seq.{drop-append_seam}
-use Rattle.std.proofs.lemmas.Bool.{cases_lt}
+use Rattle.std.proofs.{Math.Seq.drop-append_seam, lemmas.Bool.cases_lt, lemmas.Grind.common_steps}
 use Rattle.std.proofs.lemmas.List.{drop-append-le, drop-drop, get_or-drop, map_push, take-append-drop, take-append-le, take_more}
 use Rattle.std.proofs.lemmas.List.Elements.{All-append, All-cons, All-from_get_or, All-get_or, All-nil}
-use Rattle.std.specs.Io.KnownBytes.{Consumes, IsAtEnd}
-use Rattle.std.specs.List.Sorted.{IsNonDecreasingBy}
-use Rattle.std.proofs.lemmas.Grind.{common_steps}
-use Rattle.adf_disk_cmd.specs.Checks.{IsVolumeAnswer}
-use Rattle.adf_partitions.specs.Places.{end_of}
-use Rattle.adf_partitions.specs.declared.place.Place.{Place}
+use Rattle.std.specs.{Io.KnownBytes.Consumes, Io.KnownBytes.IsAtEnd, List.Sorted.IsNonDecreasingBy}
+use Rattle.adf_disk_cmd.specs.{Checks.IsVolumeAnswer, Lines.volume_at, declared.work.TheConstants.MOST_DISK_BYTES}
+use Rattle.adf_partitions.specs.{Places.end_of, declared.place.Place.Place}
 use Rattle.adf_runs.proofs.KnownBytes.{consumes_more, two_at_most}
 use Rattle.adf_runs.specs.Streams.{PassesOver, TakesAtMost, TakesCount, TakesFirst}
 use Rattle.adf_disk_cmd.proofs.HeldVolume.{whole_place}
 use Rattle.adf_disk_cmd.specs.HeldChecks.{IsAnswered, BeginsFrom, IsStretch, IsWithin, first_of_place, checked_places}
-use Rattle.adf_disk_cmd.specs.Lines.{volume_at}
 use Rattle.adf_disk_cmd.specs.declared.checking.CheckedVolume.{CheckedVolume}
-use Rattle.adf_disk_cmd.specs.declared.work.TheConstants.{MOST_DISK_BYTES}
 
 pub stretch_at_most : (start left : Option (List ℕ)) (k n : ℕ) (bytes : List ℕ) → IsStretch start left k bytes → k + length bytes ≤ n
     → TakesAtMost n start left

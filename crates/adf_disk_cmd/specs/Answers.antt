@@ -1,24 +1,14 @@
 -- What the command answers to its words and its input. `bytes` are those of a disk, ps its partitions.
 use Rattle.std.specs.Prelude.{◌≡◌, ◌++◌, ◌/◌, ◌⊎◌, ◌||◌, ℕ, Bool, List, [], ◌∷◌, bytes_eq, codes, find, length, take, Option, None, Some, Result, Ok, Err}
 use Rattle.std.specs.Fmt.{decimal}
-use Rattle.adf_names.specs.Escapes.{escaped}
-use Rattle.adf_names.specs.Texts.{uppers}
+use Rattle.adf_names.specs.{Escapes.escaped, Texts.uppers}
 use Rattle.adf_texts.specs.Names.{names_text}
-use Rattle.adf_partitions.specs.Disks.{FirstDiskFault, IsDisk}
-use Rattle.adf_partitions.specs.FaultTexts.{disk_fault_text, place_fault_text}
-use Rattle.adf_partitions.specs.Partitions.{partition_numbered}
-use Rattle.adf_partitions.specs.Searches.{AreReadable}
-use Rattle.adf_partitions.specs.declared.fault.DiskFault.{DiskFault}
-use Rattle.adf_partitions.specs.declared.partition.Partition.{Partition}
-use Rattle.adf_partitions.specs.declared.place.Place.{Place}
-use Rattle.adf_partitions.specs.declared.place.PlaceFault.{PlaceFault}
-use Rattle.adf_partitions.specs.declared.tables.Tables.{Tables}
-use Rattle.adf_file_words.specs.DiskLine.{AreRefusedByDisk, AsksDisk, DiskRequestValue, WantedValue, build, check, list, name, number, survey}
-use Rattle.adf_file_words.specs.DiskLine.{volume}
+use Rattle.adf_partitions.specs.{Disks.FirstDiskFault, Disks.IsDisk, FaultTexts.disk_fault_text, FaultTexts.place_fault_text, Partitions.partition_numbered}
+use Rattle.adf_partitions.specs.{Searches.AreReadable, declared.fault.DiskFault.DiskFault, declared.partition.Partition.Partition, declared.place.Place.Place}
+use Rattle.adf_partitions.specs.{declared.place.PlaceFault.PlaceFault, declared.tables.Tables.Tables}
+use Rattle.adf_disk_cmd.specs.CommandLine.{AreRefusedByDisk, AsksDisk, DiskRequestValue, WantedValue, build, check, list, name, number, survey}
+use Rattle.adf_disk_cmd.specs.{CommandLine.volume, Builds.BuildsDisk, Builds.refusal, Checks.AreChecked, Checks.check_status, Lines.list_lines, Lines.volume_at}
 use Rattle.adf_runs.specs.Commands.{Command, Reply, on_output}
-use Rattle.adf_disk_cmd.specs.Builds.{BuildsDisk, refusal}
-use Rattle.adf_disk_cmd.specs.Checks.{AreChecked, check_status}
-use Rattle.adf_disk_cmd.specs.Lines.{list_lines, volume_at}
 use Rattle.adf_disk_cmd.specs.declared.work.TheConstants.{MOST_DISK_BYTES}
 
 -- `check` writes the lines of all partitions, at status 0 where all of them are sound

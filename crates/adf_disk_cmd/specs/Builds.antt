@@ -4,21 +4,14 @@ use Rattle.std.specs.Prelude.{◌≡◌, ◌+◌, ◌*◌, ◌/◌, ◌==◌, �
 use Rattle.std.specs.Fmt.{decimal}
 use Rattle.adf_tree.specs.Tree.{Tree}
 use Rattle.adf_names.specs.declared.meta.TheConstants.{NO_STAMPS}
-use Rattle.adf_volume.specs.Counts.{counts_of}
-use Rattle.adf_volume.specs.Fits.{FitsBy}
-use Rattle.adf_volume.specs.Image.{word_in}
-use Rattle.adf_build.specs.Laid.{volume}
-use Rattle.adf_build.specs.Plan.{planned}
-use Rattle.adf_partitions.specs.Disks.{IsDisk}
+use Rattle.adf_volume.specs.{Counts.counts_of, Fits.FitsBy, Image.word_in, declared.types.Types.TheVariants.WithInternational}
+use Rattle.adf_build.specs.{Laid.volume, Plan.planned}
+use Rattle.adf_partitions.specs.{Disks.IsDisk, WrittenTables.disk_bytes, WrittenTables.planned_tables, declared.plan.PartitionPlan.PartitionPlan}
 use Rattle.adf_partitions.specs.Plans.{PlanValue, StandInPlaces, cylinder_blocks, planned_partitions, planned_type}
-use Rattle.adf_plans.specs.PlanTexts.{IsText, IsTextFault, text_fault_text}
-use Rattle.adf_partitions.specs.WrittenTables.{disk_bytes, planned_tables}
-use Rattle.adf_partitions.specs.declared.plan.PartitionPlan.{PartitionPlan}
-use Rattle.adf_plans.specs.declared.plan_text.TextFault.{TextFault}
+use Rattle.adf_plans.specs.{PlanTexts.IsText, PlanTexts.IsTextFault, PlanTexts.text_fault_text, declared.plan_text.TextFault.TextFault}
 use Rattle.adf_runs.specs.Commands.{Reply, on_errors, on_output}
 use Rattle.adf_texts.specs.Lines.{ok_line_by}
 use Rattle.adf_cmd.specs.Answers.{Checks}
-use Rattle.adf_volume.specs.declared.types.Types.TheVariants.{WithInternational}
 
 -- a text and a line feed on errors, at status 1
 abbrev pub refusal : List ℕ → Reply

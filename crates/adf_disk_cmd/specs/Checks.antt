@@ -4,18 +4,11 @@ use Rattle.std.specs.Prelude.{if◌then◌else◌}
 use Rattle.std.specs.Fmt.{decimal}
 use Rattle.adf_blocks.specs.declared.layout.TheConstants.{MOST_BLOCKS}
 use Rattle.adf_runs.specs.Commands.{on_output}
-use Rattle.adf_partitions.specs.Faults.{first_failed}
-use Rattle.adf_partitions.specs.FaultTexts.{field_fault_text, place_fault_text}
-use Rattle.adf_partitions.specs.declared.field_fault.FieldFault.{FieldFault}
-use Rattle.adf_partitions.specs.declared.partition.Partition.{Partition}
-use Rattle.adf_partitions.specs.declared.place.Place.{Place}
-use Rattle.adf_partitions.specs.declared.place.PlaceFault.{PlaceFault}
-use Rattle.adf_disk_cmd.specs.Lines.{bytes_text, is_checked, name_text, volume_at}
-use Rattle.adf_cmd.specs.Answers.{Checks}
-use Rattle.adf_cmd.specs.CheckAnswers.{IsCheckAnswer}
-use Rattle.adf_cmd.specs.declared.checking.CheckAnswer.{CheckAnswer}
+use Rattle.adf_partitions.specs.{Faults.first_failed, FaultTexts.field_fault_text, FaultTexts.place_fault_text, declared.field_fault.FieldFault.FieldFault}
+use Rattle.adf_partitions.specs.{declared.partition.Partition.Partition, declared.place.Place.Place, declared.place.PlaceFault.PlaceFault}
+use Rattle.adf_disk_cmd.specs.{Lines.bytes_text, Lines.is_checked, Lines.name_text, Lines.volume_at, declared.unchecked.Unchecked.Unchecked}
+use Rattle.adf_cmd.specs.{Answers.Checks, CheckAnswers.IsCheckAnswer, declared.checking.CheckAnswer.CheckAnswer}
 use Rattle.adf_volume.specs.declared.types.Types.TheVariants.{WithInternational}
-use Rattle.adf_disk_cmd.specs.declared.unchecked.Unchecked.{Unchecked}
 use Rattle.adf_disk_cmd.specs.declared.unchecked.Unchecked.TheVariants.{OtherType, Fields, Reserved, OddBlocks, BadSize}
 
 -- what a check answers to a volume, one of types 0 to 3

@@ -1,21 +1,13 @@
 -- What is known of volumes of which not all bytes are held. `all` are the bytes of a disk, `tables` those of its blocks that may have tables, `bytes` what
 -- is held; `checked` are volumes that were checked, q is a place, p a partition.
 use Rattle.std.specs.Prelude.{◌≡◌, ◌≤◌, ◌<◌, ◌*◌, ◌++◌, ◌==◌, ◌&&◌, ◌⊎◌, ℕ, List, Option, None, Bool, All, IfOk, length, map, min, take}
-use Rattle.std.specs.List.{Contains}
-use Rattle.std.specs.Io.KnownBytes.{Consumes}
+use Rattle.std.specs.{List.Contains, Io.KnownBytes.Consumes}
 use Rattle.adf_base.specs.Words.{block}
-use Rattle.adf_disk_cmd.specs.Checks.{IsVolumeAnswer, why_unchecked}
-use Rattle.adf_partitions.specs.Disks.{IsDisk}
-use Rattle.adf_partitions.specs.Places.{StatesPlace, end_of, partition_place}
-use Rattle.adf_partitions.specs.declared.layout.TheConstants.{MOST_TABLES}
-use Rattle.adf_partitions.specs.declared.partition.Partition.{Partition}
-use Rattle.adf_partitions.specs.declared.place.Place.{Place}
-use Rattle.adf_partitions.specs.declared.tables.Tables.{Tables}
-use Rattle.adf_disk_cmd.specs.Lines.{volume_at}
-use Rattle.adf_disk_cmd.specs.declared.checking.CheckedVolume.{CheckedVolume}
+use Rattle.adf_disk_cmd.specs.{Checks.IsVolumeAnswer, Checks.why_unchecked, Lines.volume_at, declared.checking.CheckedVolume.CheckedVolume}
+use Rattle.adf_disk_cmd.specs.{declared.list_input.TheConstants.TABLES_LEN, declared.work.TheConstants.MOST_DISK_BYTES}
+use Rattle.adf_partitions.specs.{Disks.IsDisk, Places.StatesPlace, Places.end_of, Places.partition_place, declared.layout.TheConstants.MOST_TABLES}
+use Rattle.adf_partitions.specs.{declared.partition.Partition.Partition, declared.place.Place.Place, declared.tables.Tables.Tables}
 use Rattle.adf_disk_cmd.specs.declared.copy_input.TheConstants.{MOST_DISK_BLOCKS}
-use Rattle.adf_disk_cmd.specs.declared.list_input.TheConstants.{TABLES_LEN}
-use Rattle.adf_disk_cmd.specs.declared.work.TheConstants.{MOST_DISK_BYTES}
 
 -- this is answered to the volume at its place
 abbrev pub IsAnswered : List ℕ → CheckedVolume → Type 0

@@ -1,7 +1,6 @@
 -- What is done for words, of a disk or of a plan.
 use Rattle.std.specs.Prelude.{◌≡◌}
-use Rattle.adf_file_words.specs.DiskLine.{DiskRequestValue, build}
-use Rattle.adf_disk_cmd.specs.Work.{IsWorkOf}
+use Rattle.adf_disk_cmd.specs.{CommandLine.DiskRequestValue, CommandLine.build, Work.IsWorkOf}
 use Rattle.adf_disk_cmd.specs.declared.job.Job.{Job, TheVariants.Tell, TheVariants.Build}
 
 -- the job is that of a request

@@ -1,4 +1,5 @@
--- The promise: the lines, and what the command answers.
+-- The promise: the command line, the lines, and what the command answers.
+pub mod CommandLine
 pub mod Lines
 pub mod Checks
 pub mod Builds

@@ -1,18 +1,12 @@
 -- The lines of partitions. p is a partition, n its number; t is the type of a file system, its four bytes as one number.
 use Rattle.std.specs.Prelude.{ℕ, ◌+◌, ◌*◌, ◌==◌, ◌&&◌, ◌||◌, nat_le, Bool, List, [], ◌∷◌, ◌++◌, codes, drop, take, Option, None, Some, Result, Ok, Err}
 use Rattle.std.specs.Prelude.{if◌then◌else◌}
-use Rattle.std.specs.Fmt.{decimal, signed_decimal}
-use Rattle.std.specs.Int.{to_be_bytes, w32}
-use Rattle.adf_partitions.specs.FaultTexts.{field_fault_text, place_fault_text}
-use Rattle.adf_partitions.specs.declared.field_fault.FieldFault.{FieldFault}
-use Rattle.adf_partitions.specs.declared.partition.Partition.{Partition}
-use Rattle.adf_partitions.specs.declared.place.Place.{Place}
-use Rattle.adf_partitions.specs.declared.place.PlaceFault.{PlaceFault}
+use Rattle.std.specs.{Fmt.decimal, Fmt.signed_decimal, Int.to_be_bytes, Int.w32}
+use Rattle.adf_partitions.specs.{FaultTexts.field_fault_text, FaultTexts.place_fault_text, declared.field_fault.FieldFault.FieldFault}
+use Rattle.adf_partitions.specs.{declared.partition.Partition.Partition, declared.place.Place.Place, declared.place.PlaceFault.PlaceFault}
 use Rattle.adf_texts.specs.Names.{names_text}
 use Rattle.adf_base.specs.declared.hash.Letters.TheVariants.{Ascii, International}
-use Rattle.adf_names.specs.Escapes.{escaped}
-use Rattle.adf_names.specs.VolumeTypes.{kind_text_by}
-use Rattle.adf_names.specs.declared.kind.Kind.TheVariants.{Ofs, Ffs}
+use Rattle.adf_names.specs.{Escapes.escaped, VolumeTypes.kind_text_by, declared.kind.Kind.TheVariants.Ofs, declared.kind.Kind.TheVariants.Ffs}
 use Rattle.adf_disk_cmd.specs.declared.types.TheConstants.{DOS}
 
 -- the four bytes of a type, in the escape form

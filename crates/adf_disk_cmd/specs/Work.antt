@@ -1,22 +1,14 @@
 -- What is done with a disk.
 use Rattle.std.specs.Prelude.{◌≡◌, ◌≤◌, ◌+◌, ◌-◌, ◌*◌, ℕ, Bool, true, false, List, Option, None, Some, Result, Ok, Err, IfOk, IfSome, drop, take}
 use Rattle.std.specs.String.{string_bytes}
-use Rattle.adf_partitions.specs.Disks.{IsDisk}
+use Rattle.adf_partitions.specs.{Disks.IsDisk, Places.end_of, declared.fault.DiskFault.DiskFault, declared.partition.Partition.Partition}
+use Rattle.adf_partitions.specs.{declared.place.Place.Place, declared.place.PlaceFault.PlaceFault, declared.tables.Tables.Tables}
 use Rattle.adf_partitions.specs.FaultTexts.{disk_fault_text, place_fault_text}
-use Rattle.adf_partitions.specs.Places.{end_of}
-use Rattle.adf_partitions.specs.declared.fault.DiskFault.{DiskFault}
-use Rattle.adf_partitions.specs.declared.partition.Partition.{Partition}
-use Rattle.adf_partitions.specs.declared.place.Place.{Place}
-use Rattle.adf_partitions.specs.declared.place.PlaceFault.{PlaceFault}
-use Rattle.adf_partitions.specs.declared.tables.Tables.{Tables}
-use Rattle.adf_runs.specs.Commands.{Reply, on_output}
-use Rattle.adf_runs.specs.Streams.{IsExcerpt}
-use Rattle.adf_file_words.specs.DiskLine.{DiskRequestValue, WantedValue, check, list, name, number, survey, volume}
+use Rattle.adf_runs.specs.{Commands.Reply, Commands.on_output, Streams.IsExcerpt}
+use Rattle.adf_disk_cmd.specs.CommandLine.{DiskRequestValue, WantedValue, check, list, name, number, survey, volume}
 use Rattle.adf_disk_cmd.specs.Answers.{TellsReadable, disk_fault_line, no_partition_text, wanted_of}
-use Rattle.adf_disk_cmd.specs.Builds.{refusal}
+use Rattle.adf_disk_cmd.specs.{Builds.refusal, declared.list_input.TheConstants.TABLES_LEN, declared.work.TheConstants.MOST_DISK_BYTES}
 use Rattle.adf_disk_cmd.specs.declared.copy_input.TheConstants.{MOST_DISK_BLOCKS}
-use Rattle.adf_disk_cmd.specs.declared.list_input.TheConstants.{TABLES_LEN}
-use Rattle.adf_disk_cmd.specs.declared.work.TheConstants.{MOST_DISK_BYTES}
 use Rattle.adf_disk_cmd.specs.declared.work.Sought.{Sought, TheVariants.Numbered, TheVariants.Named}
 use Rattle.adf_disk_cmd.specs.declared.work.Work.{Work, TheVariants.List as ListAll, TheVariants.Check, TheVariants.Survey, TheVariants.Volume}
 

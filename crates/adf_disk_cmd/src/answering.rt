@@ -1,11 +1,8 @@
 // How an answer is written.
 
 ghost use Rattle.std.specs.Prelude.{◌≡◌, ◌++◌, false};
-ghost use Rattle.adf_disk_cmd.specs.Builds.{refusal};
-ghost use Rattle.adf_disk_cmd.specs.Checks.{check_status};
-ghost use Rattle.adf_runs.specs.Commands.{on_output};
-ghost use Rattle.adf_runs.specs.Outcomes.{Does, DoesSilently};
-ghost use Rattle.adf_runs.specs.Streams.{seen};
+ghost use Rattle.adf_disk_cmd.specs.{Builds.refusal, Checks.check_status};
+ghost use Rattle.adf_runs.specs.{Commands.on_output, Outcomes.Does, Outcomes.DoesSilently, Streams.seen};
 
 use adf_runs::{Outcome, Sink, write_all, write_both};
 use std::alloc::Global;

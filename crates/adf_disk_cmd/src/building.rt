@@ -9,9 +9,8 @@ ghost use Rattle.adf_disk_cmd.specs.Builds.{given_line, plan_reply, planned_tree
 ghost use Rattle.adf_partitions.specs.Plans.{IsPlan, cylinder_blocks, plan_value};
 ghost use Rattle.adf_plans.specs.PlanTexts.{IsTextFault, has_volume, is_plan};
 ghost use Rattle.adf_plans.specs.declared.plan_text.TextKind.{TextKind};
-ghost use Rattle.adf_runs.specs.Commands.{on_errors};
+ghost use Rattle.adf_runs.specs.{Commands.on_errors, Streams.seen};
 ghost use Rattle.adf_runs.specs.Outcomes.{Blames, Does, DoesSilently, EndsBy};
-ghost use Rattle.adf_runs.specs.Streams.{seen};
 
 use crate::answering::write_text;
 use adf_base::BLOCK_LEN;

@@ -1,10 +1,9 @@
 // The command `check`.
 
 ghost use Rattle.std.specs.Prelude.{◌≡◌, ◌++◌, All, List, ℕ, false, find, option_copied, string_bytes, IfOk, OnOk};
-ghost use Rattle.adf_disk_cmd.specs.Answers.{ChecksAll};
+ghost use Rattle.adf_disk_cmd.specs.{Answers.ChecksAll, Lines.name_text, Lines.volume_at};
 ghost use Rattle.adf_disk_cmd.specs.Checks.{AreChecked, TellsPartition, IsVolumeAnswer};
 ghost use Rattle.adf_disk_cmd.specs.HeldChecks.{IsAnswered, IsKnown, KnowsVolume, KnowsVolumes, lies_at};
-ghost use Rattle.adf_disk_cmd.specs.Lines.{name_text, volume_at};
 ghost use Rattle.adf_runs.specs.Outcomes.{Blames, EndsBy};
 
 use crate::answering::write_text;

@@ -1,12 +1,11 @@
 // The command `volume` over an input, of which only the blocks that may have tables and the bytes of one volume are held.
 
 ghost use Rattle.std.specs.Prelude.{◌≡◌, ◌+◌, ◌++◌, ◌≤◌, List, ℕ, false, true, IfErr, IfOk, IfSome, OnOk, option_copied};
-ghost use Rattle.adf_disk_cmd.specs.Answers.{DiskAnswer};
+ghost use Rattle.adf_disk_cmd.specs.{Answers.DiskAnswer, CommandLine.volume};
 ghost use Rattle.adf_disk_cmd.specs.Work.{HoldsVolume, IsSoughtPlace, held_reply, sought_value};
 ghost use Rattle.adf_partitions.specs.Places.{end_of};
 ghost use Rattle.adf_runs.specs.Outcomes.{Blames, Does, DoesOn, EndsBy, LacksInput, is_read_fault};
 ghost use Rattle.adf_runs.specs.Streams.{TakesAtMost, seen};
-ghost use Rattle.adf_file_words.specs.DiskLine.{volume};
 
 use crate::answering::{refuse, write_parts};
 use crate::list_input::{TABLES_LEN, blocks_of, write_fault};

@@ -1,16 +1,15 @@
 // What is done for words, of a disk or of a plan.
 
 ghost use Rattle.std.specs.Prelude.{IfOk};
-ghost use Rattle.adf_disk_cmd.specs.Jobs.{IsJobOf};
-ghost use Rattle.adf_file_words.specs.DiskLine.{disk_request_value};
+ghost use Rattle.adf_disk_cmd.specs.{Jobs.IsJobOf, CommandLine.disk_request_value};
 
 use crate::building::build_disk;
 use crate::check_input::check_input;
+use crate::command_line::{DISK_USAGE as USAGE, DiskRequest, disk_file, parse_disk};
 use crate::copy_input::copy_input;
 use crate::list_input::list_input;
 use crate::work::{MOST_DISK_BYTES, Work, sought_for};
 use adf_file_runs::FileProgram;
-use adf_file_words::{DISK_USAGE as USAGE, DiskRequest, disk_file, parse_disk};
 use adf_runs::{Outcome, Program, Sink, Source, WorkFault, read_input};
 use std::alloc::{AllocError, Global};
 
@@ -38,8 +37,7 @@ fn job_for(alloc: Global, request: DiskRequest<'_>) -> Result<Job, AllocError>
 
 impl Program for Job {
     ghost use Rattle.std.proofs.Common.{rules};
-    ghost use Rattle.adf_disk_cmd.specs.Answers.{disk_command};
-    ghost use Rattle.adf_disk_cmd.specs.Jobs.{IsJobOf};
+    ghost use Rattle.adf_disk_cmd.specs.{Answers.disk_command, Jobs.IsJobOf};
 
     ghost command = { disk_command };
 
@@ -91,7 +89,7 @@ impl Program for Job {
 }
 
 impl FileProgram for Job {
-    ghost use Rattle.adf_file_words.specs.DiskLine.{disk_file};
+    ghost use Rattle.adf_disk_cmd.specs.CommandLine.{disk_file};
 
     ghost file_of = { disk_file };
 

@@ -5,6 +5,7 @@ mod answering;
 mod building;
 mod check_input;
 mod checking;
+mod command_line;
 mod copy_input;
 mod job;
 mod list_input;
@@ -19,8 +20,8 @@ mod volumes;
 mod work;
 
 pub use crate::building::built_disks;
+pub use crate::command_line::{DiskRequest, Wanted, disk_words_as_documented, parse_disk as parse};
 pub use crate::job::Job;
 pub use crate::runner::{one_answer, run_files};
 pub use crate::unchecked::large_volumes_are_refused;
 pub use crate::work::{MOST_DISK_BYTES, Sought, Work};
-pub use adf_file_words::{DiskRequest, Wanted, disk_words_as_documented, parse_disk as parse};

@@ -1,8 +1,7 @@
 // The commands `list` and `survey` over an input, of which only the blocks that may have tables are held.
 
 ghost use Rattle.std.specs.Prelude.{◌≡◌, ◌+◌, ◌/◌, List, ℕ, false, min, true};
-ghost use Rattle.adf_disk_cmd.specs.Answers.{DiskAnswer};
-ghost use Rattle.adf_disk_cmd.specs.Work.{TellsFault, listing_request};
+ghost use Rattle.adf_disk_cmd.specs.{Answers.DiskAnswer, Work.TellsFault, Work.listing_request};
 ghost use Rattle.adf_runs.specs.Outcomes.{Blames, Does, DoesOn, EndsBy, is_read_fault};
 ghost use Rattle.adf_runs.specs.Streams.{IsExcerpt, TakesAtMost, seen};
 

@@ -2,9 +2,7 @@
 
 ghost use Rattle.std.specs.Prelude.{◌≡◌, ◌++◌, false, string_bytes, IfOk, OnOk};
 ghost use Rattle.adf_disk_cmd.specs.Lines.{fields_fault_text, list_line, list_lines, name_text, place_text, words_text};
-ghost use Rattle.adf_runs.specs.Commands.{on_output};
-ghost use Rattle.adf_runs.specs.Outcomes.{Does};
-ghost use Rattle.adf_runs.specs.Streams.{seen};
+ghost use Rattle.adf_runs.specs.{Commands.on_output, Outcomes.Does, Streams.seen};
 
 use crate::answering::write_text;
 use crate::types::type_text;

@@ -2,14 +2,14 @@
 
 ghost use Rattle.std.specs.Prelude.{◌≡◌, ℕ, List, Some, false, true};
 ghost use Rattle.adf_disk_cmd.specs.Answers.{DiskRequestsHaveOneAnswer, WordsAskForOneDiskRequest, disk_command};
-ghost use Rattle.adf_runs.specs.Commands.{IsUnanswered, TakesEnough};
-ghost use Rattle.adf_runs.specs.Streams.{seen};
+ghost use Rattle.adf_runs.specs.{Commands.IsUnanswered, Commands.TakesEnough, Streams.seen};
 ghost use Rattle.adf_file_runs.specs.FileRuns.{RunEndsOnFiles, known_files};
 ghost use Rattle.adf_words.specs.CommandLine.{texts_of};
-ghost use Rattle.adf_file_words.specs.DiskLine.{disk_file};
+ghost use Rattle.adf_disk_cmd.specs.CommandLine.{disk_file};
 
+use crate::command_line::ABOUT;
 use crate::job::Job;
-use adf_file_runs::{Files, Invocation, run_program_on_files};
+use adf_file_runs::{About, Files, Invocation, SystemProgram, run_program_on_files};
 use adf_runs::{Sink, Source};
 use std::alloc::Global;
 
@@ -43,6 +43,24 @@ pub fn run_files<F: Files, R: Source, W: Sink, E: Sink>(
         (R.left input.old) (R.left input.new) }
 {
     run_program_on_files::<Job, F, R, W, E>(alloc, asked, input, output, errors)
+}
+
+impl SystemProgram for Job {
+    ghost ends = { RunEndsOnFiles disk_command disk_file };
+
+    fn about() -> About {
+        ABOUT
+    }
+
+    fn start<F: Files, R: Source, W: Sink, E: Sink>(
+        alloc: Global,
+        asked: &Invocation<'_, F>,
+        input: &mut R,
+        output: &mut W,
+        errors: &mut E,
+    ) -> u8 {
+        run_files(alloc, asked, input, output, errors)
+    }
 }
 
 /// Words ask for one thing at most, and what is asked of a disk has one answer at most: one status, one output and one text on

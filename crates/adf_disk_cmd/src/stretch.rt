@@ -2,8 +2,7 @@
 
 ghost use Rattle.std.specs.Prelude.{◌≡◌, ◌<◌, ◌≤◌, ◌+◌, ◌*◌, ◌-◌, ◌++◌, [], ℕ, false, All, IfOk, List, OnOk, Option, Some, drop};
 ghost use Rattle.std.specs.Prelude.{is_err, length, take, vec_len};
-ghost use Rattle.std.specs.List.Sorted.{IsNonDecreasingBy};
-ghost use Rattle.std.specs.Io.KnownBytes.{Consumes, IsAtEnd};
+ghost use Rattle.std.specs.{List.Sorted.IsNonDecreasingBy, Io.KnownBytes.Consumes, Io.KnownBytes.IsAtEnd};
 ghost use Rattle.adf_disk_cmd.specs.HeldChecks.{BeginsFrom, IsStretch, IsWithin, first_of_place};
 ghost use Rattle.adf_partitions.specs.Places.{end_of};
 ghost use Rattle.adf_runs.specs.Streams.{TakesAtMost, is_device};

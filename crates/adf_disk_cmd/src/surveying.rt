@@ -2,9 +2,7 @@
 
 ghost use Rattle.std.specs.Prelude.{◌≡◌, List, ℕ, false, IfOk};
 ghost use Rattle.adf_disk_cmd.specs.Answers.{TellsReadable};
-ghost use Rattle.adf_runs.specs.Commands.{on_output};
-ghost use Rattle.adf_runs.specs.Outcomes.{Does};
-ghost use Rattle.adf_runs.specs.Streams.{seen};
+ghost use Rattle.adf_runs.specs.{Commands.on_output, Outcomes.Does, Streams.seen};
 
 use crate::answering::write_text;
 use crate::listing::list_lines;

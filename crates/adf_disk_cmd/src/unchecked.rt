@@ -2,10 +2,9 @@
 
 ghost use Rattle.std.specs.Prelude.{◌≡◌, ◌<◌, ◌*◌, ◌++◌, List, ℕ, codes, length, string_bytes, IfOk};
 ghost use Rattle.adf_blocks.specs.declared.layout.TheConstants.{MOST_BLOCKS};
-ghost use Rattle.adf_disk_cmd.specs.Checks.{unchecked_text, why_unchecked};
+ghost use Rattle.adf_disk_cmd.specs.{Checks.unchecked_text, Checks.why_unchecked, declared.unchecked.Unchecked.Unchecked};
 ghost use Rattle.adf_cmd.specs.Answers.{Checks};
 ghost use Rattle.adf_volume.specs.declared.types.Types.TheVariants.{WithInternational};
-ghost use Rattle.adf_disk_cmd.specs.declared.unchecked.Unchecked.{Unchecked};
 ghost use Rattle.adf_runs.specs.Commands.{on_output};
 
 use crate::types::{bytes_text, is_checked};

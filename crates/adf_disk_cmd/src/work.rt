@@ -2,20 +2,18 @@
 
 ghost use Rattle.std.specs.Prelude.{◌≡◌, false, IfOk, List, Option, option_copied, string_bytes};
 ghost use Rattle.adf_disk_cmd.specs.Answers.{OfDisk, OfFault, OfPartitions, no_partition_text, volume_reply, wanted_of};
-ghost use Rattle.adf_disk_cmd.specs.Builds.{refusal};
-ghost use Rattle.adf_disk_cmd.specs.Work.{IsWorkOf, sought_value};
-ghost use Rattle.adf_runs.specs.Outcomes.{Blames, Does, DoesSilently, EndsBy};
-ghost use Rattle.adf_runs.specs.Streams.{seen};
-ghost use Rattle.adf_file_words.specs.DiskLine.{DiskRequestValue, wanted_value};
+ghost use Rattle.adf_disk_cmd.specs.{Builds.refusal, Work.IsWorkOf, Work.sought_value};
+ghost use Rattle.adf_runs.specs.{Outcomes.Blames, Outcomes.Does, Outcomes.DoesSilently, Outcomes.EndsBy, Streams.seen};
+ghost use Rattle.adf_disk_cmd.specs.CommandLine.{DiskRequestValue, wanted_value};
 
 use crate::answering::{refuse, write_text};
 use crate::checking::write_checks;
+use crate::command_line::Wanted;
 use crate::listing::write_list;
 use crate::names::partition_called;
 use crate::surveying::write_readable;
 use crate::volumes::volume_at;
 use adf_base::BLOCK_LEN;
-use adf_file_words::Wanted;
 use adf_partitions::{Disk, DiskCause, DiskFault, Partition};
 use adf_runs::{Outcome, Sink};
 use adf_texts::push_escaped;

@@ -1,19 +1,14 @@
 -- Maps from parent and name to number.
 use Rattle.std.proofs.Common.{◌≡◌, ◌≢◌, ℕ, ◌<◌, ◌≤◌, inl, inr, List, [], ◌∷◌, ◌++◌, length, set, get_or, Some, None, Option, cond, true, arith, ◌==◌, ◌&&◌}
 use Rattle.std.proofs.Common.{refl, zero, suc, sym, subst, ◌∙◌, ap}
-use Rattle.std.specs.List.{slice_get}
-use Rattle.std.specs.Ordering.{is_eq}
-use Rattle.std.specs.Str.{bytes_eq}
-use Rattle.std.specs.Map.{lookup}
+use Rattle.std.specs.{List.slice_get, Ordering.is_eq, Str.bytes_eq, Map.lookup}
 use Rattle.std.specs.BTreeMap.{BTreeMap, get, is_at, IsEmpty, IsUnchanged, Updates}
 use Rattle.std.proofs.lemmas.Bool.{and_parts, cases_Bool, cases_eq, eqb-true, false_from_ne_true, cond-false}
-use Rattle.std.proofs.lemmas.Option.{slice_get-get_or}
+use Rattle.std.proofs.{lemmas.Option.slice_get-get_or, Math.Bool.and_comm, lemmas.Grind.common_steps}
 use Rattle.adf_drafts.specs.declared.child_map.ChildKey.{ChildKey}
 use Rattle.adf_tree.specs.NameKeys.{is_short}
 use Rattle.adf_drafts.specs.ChildMap.{bucket_of, by_child, child_key, number_in_bucket, number_in, AddsNumber, Numbers}
 use Rattle.adf_tree.proofs.NameKeys.{equal_words, not_short, same_names, same_number, then_is}
-use Rattle.std.proofs.Math.Bool.{and_comm}
-use Rattle.std.proofs.lemmas.Grind.{common_steps}
 
 same_key : (m p : ℕ) (k x : List ℕ) → is_short k ≡ true → is_short x ≡ true
     → is_eq (by_child (child_key m k) (child_key p x)) ≡ ((m == p) && bytes_eq k x)

@@ -2,28 +2,19 @@
 -- Letters: l the letters whose case is ignored.
 use Rattle.std.proofs.Common.{◌≡◌, ◌≢◌, ℕ, ◌+◌, ◌-◌, ◌<◌, ◌≤◌, List, [], ◌∷◌, ◌++◌, length, get_or, true, Option, Some, None, Result, Ok, Err, arith, sym, refl}
 use Rattle.std.proofs.Common.{◌∙◌, ap, if◌then◌else◌, is_ok, option_map, OnOk}
-use Rattle.std.proofs.lemmas.Bool.{ne_eqb}
+use Rattle.std.proofs.{lemmas.Bool.ne_eqb, Math.Seq.take-append_seam, lemmas.Grind.common_steps}
 use Rattle.std.proofs.lemmas.List.{get_or_push, length_push, length-map}
-use Rattle.std.proofs.Math.Seq.{take-append_seam}
-use Rattle.std.proofs.lemmas.Grind.{common_steps}
 use Rattle.adf_base.specs.declared.hash.Letters.{Letters}
-use Rattle.adf_drafts.specs.declared.draft.Room.{Room}
-use Rattle.adf_tree.specs.declared.entry.Body.{Body, TheVariants.Dir}
-use Rattle.adf_tree.specs.declared.entry.Entry.{Entry}
-use Rattle.adf_names.specs.declared.kind.Kind.{Kind}
-use Rattle.adf_names.specs.declared.meta.Meta.{Meta}
-use Rattle.adf_names.specs.declared.meta.Stamps.{Stamps}
+use Rattle.adf_drafts.specs.{declared.draft.Room.Room, ChildMap.number_in, ChildMap.Numbers}
+use Rattle.adf_tree.specs.{declared.entry.Body.Body, declared.entry.Body.TheVariants.Dir, declared.entry.Entry.Entry, Tree.MayAddBy}
+use Rattle.adf_names.specs.{declared.kind.Kind.Kind, declared.meta.Meta.Meta, declared.meta.Stamps.Stamps, Texts.uppers_by}
 use Rattle.adf_tree.specs.declared.tree.RoomFault.{RoomFault, TheVariants.Exists}
-use Rattle.adf_names.specs.Texts.{uppers_by}
-use Rattle.adf_drafts.specs.ChildMap.{number_in, Numbers}
 use Rattle.adf_drafts.specs.Draft.{draft_value, in_tree, new_number, addition_node, built, built_more, IsDirectoryOf, IsDraft, IsRoomFor}
 use Rattle.adf_tree.specs.Tree.{added_by, child_by, directory_from_by, free_in, is_dir, moved, parents_of, place_by, rank_by, room_at_by, room_for_by, IsTreeBy}
-use Rattle.adf_tree.specs.Tree.{MayAddBy}
 use Rattle.adf_tree.proofs.AddRoom.{next_dir_by, room_may_add_by, room_says_by, IsNewBy}
 use Rattle.adf_tree.proofs.ChildLookup.{child_new, child_other, child_says_by, found_is_by, parent_stays}
 use Rattle.adf_drafts.proofs.DraftInvariant.{node_new, node_old, walked_more}
-use Rattle.adf_drafts.proofs.DraftLookup.{dir_at, past_by}
-use Rattle.adf_drafts.proofs.DraftRooms.{put_in, room_may, room_new}
+use Rattle.adf_drafts.proofs.{DraftLookup.dir_at, DraftLookup.past_by, DraftRooms.put_in, DraftRooms.room_may, DraftRooms.room_new}
 use Rattle.adf_tree.proofs.TreeInvariant.{at_place, length_added, moved_below, moved_near, moved_up, new_get, place_le_by}
 
 -- a path of directories in a tree with one more entry

@@ -1,19 +1,14 @@
 -- Where paths lead in a draft.
 -- Letters: l the letters whose case is ignored.
 use Rattle.std.proofs.Common.{◌≡◌, ℕ, ◌+◌, ◌-◌, ◌<◌, ◌≤◌, inl, inr, List, length, get_or, drop, Bool, Option, Some, None, Result, Err, arith, ap, if◌then◌else◌}
-use Rattle.std.proofs.Common.{option_map}
-use Rattle.std.proofs.lemmas.Bool.{cases_eq, ne_eqb}
-use Rattle.std.proofs.lemmas.List.{drop_more}
+use Rattle.std.proofs.{Common.option_map, lemmas.Bool.cases_eq, lemmas.Bool.ne_eqb, lemmas.List.drop_more}
 use Rattle.adf_base.specs.declared.hash.Letters.{Letters, TheVariants.Ascii}
-use Rattle.adf_tree.specs.declared.entry.Entry.{Entry}
+use Rattle.adf_tree.specs.{declared.entry.Entry.Entry, Tree.directory_from_by, Tree.is_dir, Tree.is_dir_body}
 use Rattle.adf_tree.specs.declared.tree.RoomFault.{RoomFault, TheVariants.NoParent, TheVariants.ParentIsFile}
 use Rattle.adf_names.specs.Texts.{uppers_by}
-use Rattle.adf_tree.specs.Tree.{directory_from_by, is_dir, is_dir_body}
-use Rattle.adf_drafts.specs.ChildMap.{number_in, Numbers}
-use Rattle.adf_drafts.specs.Draft.{addition_node, built, IsDraft, IsNumberedTree, NumberedTree}
+use Rattle.adf_drafts.specs.{ChildMap.number_in, ChildMap.Numbers, Draft.addition_node, Draft.built, Draft.IsDraft, Draft.IsNumberedTree, Draft.NumberedTree}
 use Rattle.adf_drafts.proofs.DraftInvariant.{some_node}
-use Rattle.adf_tree.proofs.Lists.{some_in}
-use Rattle.adf_tree.proofs.PathContents.{entry_at}
+use Rattle.adf_tree.proofs.{Lists.some_in, PathContents.entry_at}
 
 -- an addition is a directory where its entry in the tree is one
 pub dir_at : (es : List Entry) (n : ℕ) (d : Entry) → 0 < n → n ≤ length es → is_dir es n ≡ is_dir_body (get_or es (n - 1) d).body

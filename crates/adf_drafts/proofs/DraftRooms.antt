@@ -3,19 +3,12 @@
 use Rattle.std.proofs.Common.{◌≡◌, ℕ, ◌≤◌, ◌++◌, List, [], ◌∷◌, length, arith, if◌then◌else◌, Result, is_ok, OnOk, Bool, true, false}
 use Rattle.std.proofs.lemmas.Grind.{common_steps}
 use Rattle.adf_base.specs.declared.hash.Letters.{Letters}
-use Rattle.adf_drafts.specs.declared.draft.Room.{Room}
-use Rattle.adf_tree.specs.declared.entry.Body.{Body}
-use Rattle.adf_tree.specs.declared.entry.Entry.{Entry}
-use Rattle.adf_names.specs.declared.kind.Kind.{Kind}
-use Rattle.adf_names.specs.declared.meta.Meta.{Meta}
-use Rattle.adf_names.specs.declared.meta.Stamps.{Stamps}
-use Rattle.adf_drafts.specs.ChildMap.{Numbers}
-use Rattle.adf_drafts.specs.Draft.{draft_value, in_tree, built, IsDraft, IsRoomFor}
-use Rattle.adf_tree.specs.Paths.{AddsOneBy}
+use Rattle.adf_drafts.specs.{declared.draft.Room.Room, ChildMap.Numbers, Draft.draft_value, Draft.in_tree, Draft.built, Draft.IsDraft, Draft.IsRoomFor}
+use Rattle.adf_tree.specs.{declared.entry.Body.Body, declared.entry.Entry.Entry, Paths.AddsOneBy}
+use Rattle.adf_names.specs.{declared.kind.Kind.Kind, declared.meta.Meta.Meta, declared.meta.Stamps.Stamps}
 use Rattle.adf_tree.specs.Tree.{added_by, new_entry_by, parents_of, with_entry_by, MayAddBy, Tree}
-use Rattle.adf_tree.proofs.AddRoom.{new_in_room_by, room_may_add_by, IsNewBy}
+use Rattle.adf_tree.proofs.{AddRoom.new_in_room_by, AddRoom.room_may_add_by, AddRoom.IsNewBy, PathContents.added_paths}
 use Rattle.adf_drafts.proofs.DraftInvariant.{entries_left}
-use Rattle.adf_tree.proofs.PathContents.{added_paths}
 
 -- the addition that is put in a room
 abbrev pub put_in : Room → Meta → Body → Entry

@@ -1,18 +1,14 @@
 -- The next entry of a tree, behind those before it: its path has room, and directories stay where their paths lead.
 -- Letters: l the letters whose case is ignored; es the entries before, e the next one; p, q, m nodes; dir, names paths; x a name.
 use Rattle.std.proofs.Common.{◌≡◌, ℕ, ◌+◌, ◌-◌, ◌<◌, ◌≤◌, List, [], ◌∷◌, ◌++◌, length, get_or, true, Some, None, Ok, arith, refl, sym, ap, ◌∙◌}
-use Rattle.std.proofs.lemmas.Bool.{false_from_ne_true}
+use Rattle.std.proofs.{lemmas.Bool.false_from_ne_true, lemmas.Grind.common_steps}
 use Rattle.std.proofs.lemmas.List.{get_or_append_left, get_or_push, length_push}
-use Rattle.std.proofs.lemmas.Grind.{common_steps}
 use Rattle.adf_base.specs.declared.hash.Letters.{Letters}
-use Rattle.adf_tree.specs.declared.entry.Body.TheVariants.{Dir}
-use Rattle.adf_tree.specs.declared.entry.Entry.{Entry}
+use Rattle.adf_tree.specs.{declared.entry.Body.TheVariants.Dir, declared.entry.Entry.Entry, Tree.room_for_by}
 use Rattle.adf_tree.specs.Tree.{IsTreeBy, MayAddBy, child_by, directory_from_by, free_in, is_child_by, is_dir, is_dir_body, last_of, new_entry_by, room_at_by}
-use Rattle.adf_tree.specs.Tree.{room_for_by}
 use Rattle.adf_tree.proofs.AddRoom.{next_dir_by}
 use Rattle.adf_tree.proofs.ChildLookup.{child_is_by, child_says_by, found_is_by, is_child_from_by, no_children_by}
-use Rattle.adf_drafts.proofs.DraftLookup.{dir_at, past_by}
-use Rattle.adf_drafts.proofs.DraftDirectories.{one_more, room_more}
+use Rattle.adf_drafts.proofs.{DraftLookup.dir_at, DraftLookup.past_by, DraftDirectories.one_more, DraftDirectories.room_more}
 
 -- one entry more
 

@@ -1,10 +1,6 @@
 -- A map from parent and name to the number of the entry.
 use Rattle.std.specs.Prelude.{◌≡◌, ℕ, ◌+◌, ◌%◌, ◌^◌, ◌==◌, ◌&&◌, List, Option, Some, None, if◌then◌else◌}
-use Rattle.std.specs.List.{slice_get}
-use Rattle.std.specs.Ordering.{nat_cmp, ordering_then}
-use Rattle.std.specs.declared.cmp.Ordering.{Ordering}
-use Rattle.std.specs.Str.{bytes_eq}
-use Rattle.std.specs.BTreeMap.{BTreeMap, get}
+use Rattle.std.specs.{List.slice_get, Ordering.nat_cmp, Ordering.ordering_then, declared.cmp.Ordering.Ordering, Str.bytes_eq, BTreeMap.BTreeMap, BTreeMap.get}
 use Rattle.adf_drafts.specs.declared.child_map.ChildKey.{ChildKey}
 use Rattle.adf_tree.specs.NameKeys.{by_words, is_short, key_of_name}
 

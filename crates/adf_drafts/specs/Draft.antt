@@ -2,15 +2,10 @@
 -- What depends on the letters whose case is ignored takes them first.
 use Rattle.std.specs.Prelude.{◌≡◌, ℕ, ◌+◌, ◌-◌, ◌<◌, ◌≤◌, List, [], ◌∷◌, ◌++◌, Some, Result, Ok, Err, option_map, length, map, fold, slice_index_or}
 use Rattle.adf_base.specs.declared.hash.Letters.{Letters}
-use Rattle.adf_names.specs.Texts.{uppers_by}
-use Rattle.adf_tree.specs.declared.entry.Entry.{Entry}
-use Rattle.adf_tree.specs.declared.tree.RoomFault.{RoomFault}
-use Rattle.adf_drafts.specs.declared.draft.Room.{Room}
-use Rattle.adf_names.specs.declared.kind.Kind.{Kind}
-use Rattle.adf_names.specs.declared.meta.Stamps.{Stamps}
+use Rattle.adf_names.specs.{Texts.uppers_by, declared.kind.Kind.Kind, declared.meta.Stamps.Stamps}
+use Rattle.adf_tree.specs.{declared.entry.Entry.Entry, declared.tree.RoomFault.RoomFault, Chain.chain_by}
+use Rattle.adf_drafts.specs.{declared.draft.Room.Room, ChildMap.number_in, ChildMap.Numbers}
 use Rattle.adf_tree.specs.Tree.{added_by, child_by, directory_from_by, last_of, moved, place_by, rank_by, room_for_by, IsTreeBy, Tree}
-use Rattle.adf_tree.specs.Chain.{chain_by}
-use Rattle.adf_drafts.specs.ChildMap.{number_in, Numbers}
 
 -- the tree of the additions, and the number of each addition in it
 pub record NumberedTree : Type 0 where

@@ -1,16 +1,11 @@
 -- From outcomes to answers. `part` are the first bytes of an input, as many as count.
 use Rattle.std.proofs.Common.{◌≡◌, ◌≢◌, ◌+◌, ◌++◌, ◌∙◌, inl, inr, ℕ, List, Option, ap, arith, codes, length, min, subst, take}
 use Rattle.std.proofs.lemmas.List.{take-take, take_min}
-use Rattle.adf_edit_cmd.specs.Answers.{EditAnswer, Edits}
-use Rattle.adf_edit_cmd.specs.Edited.{IsEdited, StopsInput}
-use Rattle.adf_edit_cmd.specs.Stops.{stop_text}
-use Rattle.adf_edit_cmd.specs.declared.program.TheConstants.{MOST_INPUT_BYTES}
-use Rattle.adf_edit_cmd.specs.declared.stop.Stop.{Stop, TheVariants.NoMemory}
+use Rattle.adf_edit_cmd.specs.{Answers.EditAnswer, Answers.Edits, Edited.IsEdited, Edited.StopsInput, Stops.stop_text}
+use Rattle.adf_edit_cmd.specs.{declared.program.TheConstants.MOST_INPUT_BYTES, declared.stop.Stop.Stop, declared.stop.Stop.TheVariants.NoMemory}
 use Rattle.adf_runs.proofs.Endings.{does_weaker, ends_weaker}
 use Rattle.adf_runs.specs.Commands.{Reply, on_errors, on_output}
-use Rattle.adf_runs.specs.Outcomes.{Does, EndsBy}
-use Rattle.adf_runs.specs.Streams.{Seen}
-use Rattle.adf_runs.specs.declared.outcome.Outcome.{Outcome}
+use Rattle.adf_runs.specs.{Outcomes.Does, Outcomes.EndsBy, Streams.Seen, declared.outcome.Outcome.Outcome}
 
 -- a new image that is written is an answer
 pub written : {w : Outcome} {output : Seen} (input new : List ℕ) → IsEdited input new → Does (λ reply. reply ≡ on_output 0 new) w output

@@ -1,23 +1,16 @@
 -- Edits one after the other, and the bytes of their files.
 use Rattle.std.proofs.Common.{◌≡◌, ◌<◌, ◌≤◌, ◌+◌, ℕ, suc, List, [], ◌∷◌, ◌++◌, take, Option, Some, None, Result, Ok, Err, length, map, drop, get_or, nat_lt}
 use Rattle.std.proofs.Common.{true, false, ap, refl, sym, subst, inl, inr, arith, ◌∙◌}
-use Rattle.std.proofs.Math.Seq.{drop-cons, take-append_seam}
-use Rattle.std.proofs.lemmas.List.{drop_all, length-map}
+use Rattle.std.proofs.{Math.Seq.drop-cons, Math.Seq.take-append_seam, lemmas.List.drop_all, lemmas.List.length-map}
 use Rattle.adf_blocks.specs.Sizes.{blocks}
 use Rattle.adf_boot_blocks.proofs.OtherBoots.{other_fits_by}
 use Rattle.adf_boot_blocks.specs.BootBlocks.{IsOtherBoot}
-use Rattle.adf_build.specs.Building.{IsBuildable}
-use Rattle.adf_build.specs.Laid.{volume}
-use Rattle.adf_build.specs.Plan.{planned}
-use Rattle.adf_edits.specs.Edits.{EditValue, edit_value, edited}
+use Rattle.adf_build.specs.{Building.IsBuildable, Laid.volume, Plan.planned}
+use Rattle.adf_edits.specs.{Edits.EditValue, Edits.edit_value, Edits.edited, declared.edits.Edit.Edit, declared.edits.EditFault.EditFault}
 use Rattle.adf_edits.specs.Outline.{IsWithoutRoomBy, OutlineValue, outline_of}
-use Rattle.adf_edits.specs.declared.edits.Edit.{Edit}
-use Rattle.adf_edits.specs.declared.edits.EditFault.{EditFault}
 use Rattle.adf_base.specs.declared.hash.Letters.{Letters}
-use Rattle.adf_tree.specs.Tree.{Tree}
-use Rattle.adf_tree.specs.declared.tree.AddFault.{AddFault}
-use Rattle.adf_volume.specs.Fits.{Fits, FitsBy}
-use Rattle.adf_volume.specs.Layout.{Layout}
+use Rattle.adf_tree.specs.{Tree.Tree, declared.tree.AddFault.AddFault}
+use Rattle.adf_volume.specs.{Fits.Fits, Fits.FitsBy, Layout.Layout}
 use Rattle.adf_edit_cmd.specs.Edited.{IsLaidOver, IsShallow, StopsOn, StopsTree, outline_after, next_outline, with_boot_by}
 use Rattle.adf_edit_cmd.specs.Script.{ScriptValue, behind_file, behind_files, bytes_taken}
 use Rattle.adf_edit_cmd.specs.declared.stop.Stop.{Stop, TheVariants.Line, TheVariants.NoRoom}

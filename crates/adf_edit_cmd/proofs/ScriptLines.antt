@@ -1,12 +1,10 @@
 -- Lines that say no edit. text is what stands behind the first word of a line.
 use Rattle.std.proofs.Common.{◌≡◌, ◌≢◌, ◌<◌, ◌^◌, ℕ, List, Some, None, false, true, sym, ◌∙◌, subst, decimal}
-use Rattle.adf_base.specs.Dates.{IsStamp, plain_text}
-use Rattle.adf_base.specs.declared.dates.Stamp.{Stamp}
+use Rattle.adf_base.specs.{Dates.IsStamp, Dates.plain_text, declared.dates.Stamp.Stamp}
 use Rattle.adf_edits.specs.Edits.{EditValue, change, dir, file, label, move, remove}
 use Rattle.adf_edits.specs.declared.edits.Change.TheVariants as what
 use Rattle.adf_manifest.specs.Texts.{hex_word}
-use Rattle.adf_names.specs.Escapes.{IsSpelling}
-use Rattle.adf_names.specs.PathTexts.{IsPathText}
+use Rattle.adf_names.specs.{Escapes.IsSpelling, PathTexts.IsPathText}
 use Rattle.adf_edit_cmd.specs.Lines.{SaysBehindVerb, SaysEdit, before_colon, has_byte, value_in, verb_of}
 use Rattle.adf_plans.specs.PlanTexts.{behind_word, first_word}
 use Rattle.adf_edit_cmd.specs.declared.lines.Verb.{Verb}

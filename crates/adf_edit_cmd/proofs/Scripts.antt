@@ -3,13 +3,11 @@ use Rattle.std.proofs.Common.{◌≡◌, ◌<◌, ◌≤◌, ℕ, List, [], ◌�
 use Rattle.std.proofs.Common.{◌∙◌}
 use Rattle.std.proofs.lemmas.List.{length-map, map-append}
 use Rattle.adf_base.specs.declared.hash.Letters.{Letters}
-use Rattle.adf_edits.specs.Edits.{EditValue, edit_value}
-use Rattle.adf_edits.specs.declared.edits.Edit.{Edit}
+use Rattle.adf_edits.specs.{Edits.EditValue, Edits.edit_value, declared.edits.Edit.Edit}
 use Rattle.adf_plans.specs.PlanTexts.{before_byte, behind_line, first_line}
 use Rattle.adf_plans.proofs.TextLines.{shorter}
-use Rattle.adf_edit_cmd.specs.Lines.{SaysEdit}
+use Rattle.adf_edit_cmd.specs.{Lines.SaysEdit, declared.script.TheConstants.MOST_LINES}
 use Rattle.adf_edit_cmd.specs.Script.{AreEdits, IsNextRead, IsScript, IsScriptFault, ending}
-use Rattle.adf_edit_cmd.specs.declared.script.TheConstants.{MOST_LINES}
 use Rattle.adf_edit_cmd.specs.declared.stop.Stop.{Stop, TheVariants.BadLine, TheVariants.NoMemory}
 
 no_empty_line : (e : EditValue) → ¬ SaysEdit (first_line []) e

@@ -1,9 +1,7 @@
 -- What the program answers.
 use Rattle.std.specs.Prelude.{◌≡◌, ◌≢◌, ◌<◌, ◌≤◌, ◌⊎◌, ◌++◌, ℕ, List, codes, length, take}
 use Rattle.adf_runs.specs.Commands.{Command, Reply, on_errors, on_output}
-use Rattle.adf_edit_cmd.specs.Edited.{IsEdited, StopsInput}
-use Rattle.adf_edit_cmd.specs.Stops.{stop_text}
-use Rattle.adf_edit_cmd.specs.declared.program.TheConstants.{MOST_INPUT_BYTES}
+use Rattle.adf_edit_cmd.specs.{Edited.IsEdited, Edited.StopsInput, Stops.stop_text, declared.program.TheConstants.MOST_INPUT_BYTES}
 use Rattle.adf_edit_cmd.specs.declared.stop.Stop.{Stop, TheVariants.NoMemory}
 
 -- at status 0 the new image is written; at status 1 errors say why there is none

@@ -1,22 +1,14 @@
 -- What an image becomes by a script. s is the script, es are edits, `given` are the bytes behind it, t is a tree, n a number of blocks.
 use Rattle.std.specs.Prelude.{◌≡◌, ◌<◌, ◌-◌, ◌+◌, ◌⊎◌, ℕ, List, [], ◌∷◌, Some, None, Result, Ok, Err, false, length, true}
 use Rattle.adf_blocks.specs.Sizes.{blocks}
-use Rattle.adf_build.specs.Building.{IsBuildable, need_of}
-use Rattle.adf_build.specs.Laid.{volume}
-use Rattle.adf_build.specs.Plan.{blocks_needed, planned}
+use Rattle.adf_build.specs.{Building.IsBuildable, Building.need_of, Laid.volume, Plan.blocks_needed, Plan.planned}
 use Rattle.adf_base.specs.declared.hash.Letters.{Letters, TheVariants.Ascii, TheVariants.International}
 use Rattle.adf_boot_blocks.specs.Writing.{restored, with_boot}
-use Rattle.adf_edits.specs.Edits.{EditValue, edited}
+use Rattle.adf_edits.specs.{Edits.EditValue, Edits.edited, Paths.has_deep, declared.edits.EditFault.EditFault}
 use Rattle.adf_edits.specs.Outline.{IsWithoutRoomBy, OutlineValue, outline_of, tree_of_outline_by}
-use Rattle.adf_edits.specs.Paths.{has_deep}
-use Rattle.adf_edits.specs.declared.edits.EditFault.{EditFault}
-use Rattle.adf_tree.specs.Additions.{AllHaveRoomBy}
-use Rattle.adf_tree.specs.Tree.{Tree}
-use Rattle.adf_volume.specs.Fits.{Fits, FitsBy}
-use Rattle.adf_volume.specs.Layout.{Layout}
-use Rattle.adf_volume.specs.Walk.{FirstFault}
-use Rattle.adf_edit_cmd.specs.Script.{IsScript, IsScriptFault, ScriptValue, behind_file, behind_files}
-use Rattle.adf_edit_cmd.specs.declared.stop.Stop.{Stop}
+use Rattle.adf_tree.specs.{Additions.AllHaveRoomBy, Tree.Tree}
+use Rattle.adf_volume.specs.{Fits.Fits, Fits.FitsBy, Layout.Layout, Walk.FirstFault}
+use Rattle.adf_edit_cmd.specs.{Script.IsScript, Script.IsScriptFault, Script.ScriptValue, Script.behind_file, Script.behind_files, declared.stop.Stop.Stop}
 use Rattle.adf_edit_cmd.specs.declared.stop.Stop.TheVariants.{Short, Image, TooDeep, Line, NoRoom, Full, NoMemory}
 
 -- an outline goes on, or the edit of line n cannot be applied

@@ -1,13 +1,10 @@
 -- Scripts. `left` is what is left of a text from a line on, es are edits.
 use Rattle.std.specs.Prelude.{◌≡◌, ◌≤◌, ◌⊎◌, ◌+◌, ℕ, Bool, List, [], ◌∷◌, ◌++◌, Option, Some, None, Result, Ok, Err, codes, drop, if◌then◌else◌, length, nat_lt}
-use Rattle.std.specs.Prelude.{option_map}
-use Rattle.std.specs.Str.{bytes_eq}
+use Rattle.std.specs.{Prelude.option_map, Str.bytes_eq}
 use Rattle.adf_base.specs.declared.hash.Letters.{Letters, TheVariants.Ascii, TheVariants.International}
-use Rattle.adf_edits.specs.Edits.{EditValue, edit_value, file}
-use Rattle.adf_edits.specs.declared.edits.Edit.{Edit}
+use Rattle.adf_edits.specs.{Edits.EditValue, Edits.edit_value, Edits.file, declared.edits.Edit.Edit}
 use Rattle.adf_plans.specs.PlanTexts.{behind_line, first_line}
-use Rattle.adf_edit_cmd.specs.Lines.{SaysEdit}
-use Rattle.adf_edit_cmd.specs.declared.script.TheConstants.{MOST_LINES}
+use Rattle.adf_edit_cmd.specs.{Lines.SaysEdit, declared.script.TheConstants.MOST_LINES}
 use Rattle.adf_edit_cmd.specs.declared.stop.Stop.{Stop, TheVariants.BadLine, TheVariants.NoMemory}
 
 -- a script: its edits, and the letters of the new volume

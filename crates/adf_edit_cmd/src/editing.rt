@@ -2,12 +2,9 @@
 
 ghost use Rattle.std.specs.Prelude.{◌≡◌, ◌≢◌, ◌≤◌, ◌*◌, IfOk, IfErr, OnOk, Ok, Err, length, map, true};
 ghost use Rattle.adf_blocks.specs.Sizes.{blocks, is_allowed};
-ghost use Rattle.adf_edits.specs.Edits.{edit_value, edited};
-ghost use Rattle.adf_edits.specs.Outline.{outline_of};
-ghost use Rattle.adf_check.specs.Volumes.{StandsFor};
+ghost use Rattle.adf_edits.specs.{Edits.edit_value, Edits.edited, Outline.outline_of};
 ghost use Rattle.adf_tree.specs.Tree.{Tree as TreeValue};
-ghost use Rattle.adf_volume.specs.Fits.{Fits};
-ghost use Rattle.adf_volume.specs.Layout.{Layout};
+ghost use Rattle.adf_volume.specs.{Fits.Fits, Layout.Layout};
 ghost use Rattle.adf_edit_cmd.specs.Edited.{IsByScript, IsByTree, IsDepthStop, IsEdited, IsFullStop, IsImageFault, IsLaidOver};
 ghost use Rattle.adf_edit_cmd.specs.Edited.{IsLineStop, IsShallow, StopsInput, StopsOn, StopsTree, outline_after, with_boot_by};
 ghost use Rattle.adf_boot_blocks.specs.BootBlocks.{IsOtherBoot};
@@ -25,8 +22,8 @@ use std::alloc::Global;
 
 // The volume of an image.
 fn volume_of<'a>(alloc: Global, image: &'a [u8]) -> Result<Checked<'a>, Stop>
-    ensures image { IfOk result (λ v. v.image ≡ image.now) }
-    ensures fits { IfOk result (λ v. (t : TreeValue) × (l : Layout) × StandsFor v t l) }
+    ensures image { IfOk result (λ v. v ≡ image.now) }
+    ensures fits { IfOk result (λ v. (t : TreeValue) × (l : Layout) × Fits v t l) }
     ensures refused { IfErr result (IsImageFault image.now) }
 {
     match check(alloc, image) {

@@ -1,16 +1,14 @@
 // The program: its only word is its name. It reads an input, and writes a new image.
 
 ghost use Rattle.std.specs.Prelude.{◌≡◌, ◌++◌, List, Option, codes, false, ℕ};
-ghost use Rattle.adf_edit_cmd.specs.Answers.{Edits, edit_command};
-ghost use Rattle.adf_edit_cmd.specs.Edited.{StopsInput};
-ghost use Rattle.adf_edit_cmd.specs.Stops.{stop_text};
+ghost use Rattle.adf_edit_cmd.specs.{Answers.Edits, Answers.edit_command, Edited.StopsInput, Stops.stop_text};
 ghost use Rattle.adf_runs.specs.Commands.{IsUnanswered, RunEnds, TakesEnough, on_errors, on_output};
-ghost use Rattle.adf_runs.specs.Outcomes.{Blames, Does, DoesSilently, EndsBy};
-ghost use Rattle.adf_runs.specs.Streams.{seen};
+ghost use Rattle.adf_runs.specs.{Outcomes.Blames, Outcomes.Does, Outcomes.DoesSilently, Outcomes.EndsBy, Streams.seen};
 ghost use Rattle.adf_words.specs.CommandLine.{texts_of};
 
 use crate::editing::new_image;
 use crate::stop::Stop;
+use adf_file_runs::{About, Files, Invocation, SystemProgram};
 use adf_runs::{Outcome, Program, Sink, Source, WorkFault, read_input, run_program, write_all};
 use std::alloc::Global;
 
@@ -20,6 +18,17 @@ pub const MOST_INPUT_BYTES: usize = 1 << 40;
 /// What is said of words that are refused.
 const USAGE: &str = "usage: adf-edit < INPUT > IMAGE\n\
     a script, the bytes of its files and an image come on standard input; man adf-edit tells more\n";
+
+/// What the program tells of itself.
+const ABOUT: About = About {
+    name: "adf-edit",
+    help: "Removes, moves, adds and changes entries of an Amiga volume, and lays its tree anew.\n\n\
+    usage: adf-edit < INPUT > IMAGE\n\
+    \x20      adf-edit --help, adf-edit --version\n\n\
+    The input is a script, whose last line is `end`, then the bytes of its files, then the image.\n\
+    man adf-edit tells more.\n",
+    waits: None,
+};
 
 // Writes an image.
 fn write_image<W: Sink>(output: &mut W, image: &[u8]) -> Outcome
@@ -141,4 +150,22 @@ pub fn run<R: Source, W: Sink, E: Sink>(
         (R.left input.old) (R.left input.new) }
 {
     run_program::<Work, R, W, E>(alloc, words, input, output, errors)
+}
+
+impl SystemProgram for Work {
+    ghost ends = { λ words files. RunEnds edit_command words };
+
+    fn about() -> About {
+        ABOUT
+    }
+
+    fn start<F: Files, R: Source, W: Sink, E: Sink>(
+        alloc: Global,
+        asked: &Invocation<'_, F>,
+        input: &mut R,
+        output: &mut W,
+        errors: &mut E,
+    ) -> u8 {
+        run(alloc, asked.words, input, output, errors)
+    }
 }

@@ -3,8 +3,7 @@
 ghost use Rattle.std.specs.Prelude.{◌≡◌, ◌≤◌, IfOk, IfErr, IfSome, IfNone, None, Some, length, map};
 ghost use Rattle.adf_edits.specs.Edits.{edit_value};
 ghost use Rattle.adf_edit_cmd.specs.Script.{IsNextRead, IsScript, IsScriptFault, behind_file, behind_files, ending, is_end};
-ghost use Rattle.adf_edit_cmd.specs.Script.{letters_asked, bytes_taken};
-ghost use Rattle.adf_edit_cmd.specs.declared.script.TheConstants.{MOST_LINES};
+ghost use Rattle.adf_edit_cmd.specs.{Script.letters_asked, Script.bytes_taken, declared.script.TheConstants.MOST_LINES};
 
 use crate::lines::read_edit;
 use crate::stop::Stop;

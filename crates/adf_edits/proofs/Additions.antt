@@ -1,21 +1,15 @@
 -- Additions that all have room, and the additions of a tree. xs are additions, x is the next one, es the entries of a tree.
 use Rattle.std.proofs.Common.{◌≡◌, ◌≢◌, ◌<◌, ◌≤◌, ◌++◌, ◌∷◌, ◌+◌, ◌-◌, ℕ, List, [], Some, Ok, Err, Option, Result, length, get_or, take, arith, ap, sym, refl}
 use Rattle.std.proofs.Common.{subst, ◌∙◌, IsOk, OnOk, is_ok, if◌then◌else◌, zero, suc}
-use Rattle.std.proofs.Math.Seq.{take-append_seam, get_or-append_seam}
-use Rattle.std.proofs.Math.ListN.{get_or-append}
-use Rattle.std.proofs.lemmas.Bool.{cases_Bool, eqb-true, ne_eqb, Decides.nat_tests}
-use Rattle.std.proofs.lemmas.List.{length-append, take_all, take_more, Sums.fold_push}
-use Rattle.std.proofs.lemmas.Option.{get_or_from_slice_get, slice_get-get_or}
-use Rattle.std.specs.List.{slice_get}
-use Rattle.std.specs.Option.{IsSome}
+use Rattle.std.proofs.{Math.Seq.take-append_seam, Math.Seq.get_or-append_seam, Math.ListN.get_or-append, lemmas.Bool.cases_Bool, lemmas.Bool.eqb-true}
+use Rattle.std.proofs.{lemmas.Bool.ne_eqb, lemmas.Bool.Decides.nat_tests, lemmas.List.length-append, lemmas.List.take_all, lemmas.List.take_more}
+use Rattle.std.proofs.{lemmas.List.Sums.fold_push, lemmas.Option.get_or_from_slice_get, lemmas.Option.slice_get-get_or, lemmas.Grind.common_steps}
+use Rattle.std.specs.{List.slice_get, Option.IsSome}
 use Rattle.adf_base.specs.declared.hash.Letters.{Letters, TheVariants.Ascii, TheVariants.Ascii}
-use Rattle.std.proofs.lemmas.Grind.{common_steps}
 use Rattle.adf_tree.proofs.Lists.{some_in}
-use Rattle.adf_tree.specs.declared.entry.Entry.{Entry}
+use Rattle.adf_tree.specs.{declared.entry.Entry.Entry, declared.tree.RoomFault.RoomFault, Faults.add_fault}
 use Rattle.adf_tree.specs.declared.tree.AddFault.{AddFault, TheVariants.NoMemory}
-use Rattle.adf_tree.specs.declared.tree.RoomFault.{RoomFault}
 use Rattle.adf_tree.specs.Additions.{Addition, AllHaveRoom, AllHaveRoomBy, entries_of_additions, entries_of_additions_by, with_addition, with_addition_by}
-use Rattle.adf_tree.specs.Faults.{add_fault}
 use Rattle.adf_tree.specs.Tree.{entry, room_for, room_for_by, with_entry_by, IsAnswer, IsTree, Tree}
 use Rattle.adf_edits.specs.Outline.{IsWithoutRoomBy, OutlineValue, tree_additions, tree_of_outline_by, with_addition_in, with_addition_for, with_first}
 

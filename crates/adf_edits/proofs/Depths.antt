@@ -3,11 +3,8 @@
 use Rattle.std.proofs.Common.{◌≡◌, ◌<◌, ◌+◌, ◌-◌, ◌++◌, ◌∷◌, ◌∙◌, ℕ, List, [], Some, length, drop, take, fold, true, false, ap, refl, arith}
 use Rattle.std.proofs.lemmas.List.{length-append, length-drop, take-append-drop, Folds.list_any-append, Folds.list_any-append}
 use Rattle.std.proofs.lemmas.Grind.{common_steps}
-use Rattle.adf_tree.specs.declared.entry.Entry.{Entry}
-use Rattle.adf_tree.specs.Additions.{Addition}
-use Rattle.adf_tree.specs.Tree.{entry}
-use Rattle.adf_edits.specs.Outline.{addition_for, tree_additions, with_addition_for}
-use Rattle.adf_edits.specs.Paths.{has_deep, is_deep}
+use Rattle.adf_tree.specs.{declared.entry.Entry.Entry, Additions.Addition, Tree.entry}
+use Rattle.adf_edits.specs.{Outline.addition_for, Outline.tree_additions, Outline.with_addition_for, Paths.has_deep, Paths.is_deep}
 use Rattle.adf_edits.proofs.Additions.{additions_more}
 
 -- the number of names in a path that is moved

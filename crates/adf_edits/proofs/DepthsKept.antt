@@ -1,19 +1,13 @@
 -- An edit that is applied makes no path that is too deep.
 -- Letters: xs are additions, ys what the edit makes of them; x, y additions.
 use Rattle.std.proofs.Common.{◌≡◌, ◌∷◌, ℕ, List, [], map, false, None, Some, Ok, Option, Result, arith, refl, subst}
-use Rattle.std.specs.List.{filter, list_any}
-use Rattle.std.specs.Option.{option_or}
-use Rattle.std.proofs.lemmas.Bool.{cases_Bool}
-use Rattle.std.proofs.lemmas.List.Folds.{list_any-append}
-use Rattle.std.proofs.lemmas.Grind.{common_steps}
+use Rattle.std.specs.{List.filter, List.list_any, Option.option_or}
+use Rattle.std.proofs.{lemmas.Bool.cases_Bool, lemmas.List.Folds.list_any-append, lemmas.Grind.common_steps}
 use Rattle.adf_tree.specs.Additions.{Addition}
-use Rattle.adf_edits.specs.declared.edits.Change.{Change}
-use Rattle.adf_edits.specs.declared.edits.EditFault.{EditFault}
+use Rattle.adf_edits.specs.{declared.edits.Change.Change, declared.edits.EditFault.EditFault, Paths.has_deep, Paths.is_deep}
 use Rattle.adf_edits.specs.Edits.{EditValue, change_fault, changed_at, edited_additions, gets_deep, is_within, move_fault, moved_additions, rebased}
 use Rattle.adf_edits.specs.Edits.{remove_fault, removed, room_fault, unless, with_new}
-use Rattle.adf_edits.specs.Paths.{has_deep, is_deep}
-use Rattle.adf_edits.proofs.PlacedInOrder.{any_fewer, any_mapped, same_place}
-use Rattle.adf_edits.proofs.RoomKept.{made_is}
+use Rattle.adf_edits.proofs.{PlacedInOrder.any_fewer, PlacedInOrder.any_mapped, PlacedInOrder.same_place, RoomKept.made_is}
 
 -- what has room is not too deep
 room_shallow : (xs : List Addition) (path : List (List ℕ)) → room_fault xs path ≡ None → is_deep path ≡ false

@@ -2,11 +2,9 @@
 use Rattle.std.proofs.Common.{◌≡◌, ℕ, List, Ok, Result, arith}
 use Rattle.std.proofs.lemmas.Grind.{common_steps}
 use Rattle.adf_tree.specs.Additions.{Addition, AllHaveRoom}
-use Rattle.adf_edits.specs.declared.edits.EditFault.{EditFault}
+use Rattle.adf_edits.specs.{declared.edits.EditFault.EditFault, Outline.OutlineValue}
 use Rattle.adf_edits.specs.Edits.{EditValue, edited, edited_additions, with_additions}
-use Rattle.adf_edits.specs.Outline.{OutlineValue}
-use Rattle.adf_edits.proofs.MovesKept.{move_kept}
-use Rattle.adf_edits.proofs.RoomKept.{change_kept, label_kept, new_kept, remove_kept}
+use Rattle.adf_edits.proofs.{MovesKept.move_kept, RoomKept.change_kept, RoomKept.label_kept, RoomKept.new_kept, RoomKept.remove_kept}
 
 pub edit_kept : (edit : EditValue) (given : List ℕ) (xs ys : List Addition) → AllHaveRoom xs → edited_additions edit given xs ≡ Ok ys
     → AllHaveRoom ys

@@ -1,19 +1,12 @@
 -- A path leads to the content of the first addition that has it.
 -- Letters: xs are additions; x, y additions; p, w tests of additions; f, g what is done to them and to their content; q a path.
 use Rattle.std.proofs.Common.{◌≡◌, ℕ, suc, List, [], ◌∷◌, ◌<◌, inl, inr, length, get_or, map, refl, sym, ap, ◌∙◌, arith, true, false, Bool, None, Option, Some}
-use Rattle.std.proofs.Common.{not, option_map}
-use Rattle.std.specs.List.{filter, find, list_any}
-use Rattle.std.specs.Option.{option_and_then, option_or}
-use Rattle.std.proofs.lemmas.Bool.{cases_Bool}
-use Rattle.std.proofs.lemmas.Grind.{common_steps}
+use Rattle.std.proofs.{Common.not, Common.option_map, lemmas.Bool.cases_Bool, lemmas.Grind.common_steps}
+use Rattle.std.specs.{List.filter, List.find, List.list_any, Option.option_and_then, Option.option_or}
 use Rattle.adf_names.specs.Texts.{uppers}
-use Rattle.adf_tree.specs.declared.entry.Entry.{Entry}
+use Rattle.adf_tree.specs.{declared.entry.Entry.Entry, Paths.Content, Paths.content_at, Paths.entry_content, Tree.entry}
 use Rattle.adf_tree.specs.Additions.{Addition, AllHaveRoom, IsTreeOf, content_of, entries_of_additions}
-use Rattle.adf_tree.specs.Paths.{Content, content_at, entry_content}
-use Rattle.adf_tree.specs.Tree.{entry}
-use Rattle.adf_tree.proofs.Lists.{some_in}
-use Rattle.adf_tree.proofs.PathContents.{find_uppers}
-use Rattle.adf_tree.proofs.TreeOfAdditions.{all_built}
+use Rattle.adf_tree.proofs.{Lists.some_in, PathContents.find_uppers, TreeOfAdditions.all_built}
 use Rattle.adf_edits.specs.Edits.{has_path, is_at}
 use Rattle.adf_edits.proofs.Places.{nothing_at, same_paths}
 

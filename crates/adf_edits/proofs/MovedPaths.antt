@@ -1,27 +1,18 @@
 -- What each path leads to after a move.
 -- Letters: xs are additions, ys what the move makes of them; y an addition; r the names behind a path; q a path.
 use Rattle.std.proofs.Common.{◌≡◌, ℕ, List, [], ◌∷◌, ◌++◌, ◌<◌, length, map, refl, sym, ap, ◌∙◌, arith, true, false, Bool, None, Ok, Some, Option, drop}
-use Rattle.std.proofs.Common.{option_map}
-use Rattle.std.specs.Cmp.{both_ways}
-use Rattle.std.specs.List.{filter, find}
-use Rattle.std.specs.Option.{option_or}
-use Rattle.std.proofs.Math.ListN.{drop_of_length-le}
-use Rattle.std.proofs.Math.Seq.{drop-append_seam}
-use Rattle.std.proofs.lemmas.Bool.{false_from_ne_true}
+use Rattle.std.proofs.{Common.option_map, Math.ListN.drop_of_length-le, Math.Seq.drop-append_seam, lemmas.Bool.false_from_ne_true, lemmas.Grind.common_steps}
+use Rattle.std.specs.{Cmp.both_ways, List.filter, List.find, Option.option_or}
 use Rattle.std.proofs.lemmas.Iterator.Adapters.{option_map_id}
 use Rattle.std.proofs.lemmas.List.{append-nil, get_or-append-add, get_or-drop, length-append, length-drop, map-append, Folds.find-append, Folds.find-append}
-use Rattle.std.proofs.lemmas.Grind.{common_steps}
 use Rattle.adf_names.specs.Texts.{uppers}
 use Rattle.adf_tree.specs.Additions.{Addition, AllHaveRoom, content_of, entries_of_additions}
-use Rattle.adf_tree.specs.Paths.{Content, content_at}
-use Rattle.adf_tree.specs.Tree.{last_of}
+use Rattle.adf_tree.specs.{Paths.Content, Paths.content_at, Tree.last_of}
 use Rattle.adf_edits.specs.Edits.{is_at, is_within, move_fault, moved_additions, rebased, unless, without}
 use Rattle.adf_edits.specs.Paths.{is_at_or_under}
 use Rattle.adf_edits.proofs.FirstAt.{content_done, first_kept, first_left_out, first_through, first_unlike, none_first, or_nothing, told}
 use Rattle.adf_edits.proofs.MovesKept.{MayMove, as_long, backs, fronts, front_is, free_rest, joined_within, may_move, move_kept, no_longer, rejoined}
-use Rattle.adf_edits.proofs.MovesKept.{within_from}
-use Rattle.adf_edits.proofs.Places.{same_paths}
-use Rattle.adf_edits.proofs.RoomKept.{made_is}
+use Rattle.adf_edits.proofs.{MovesKept.within_from, Places.same_paths, RoomKept.made_is}
 
 -- paths
 

@@ -2,28 +2,18 @@
 -- Letters: xs are additions, front those before them, rest what stays; x, y additions; a, b, d, p, r paths; n a number of names.
 use Rattle.std.proofs.Common.{◌≡◌, ◌≢◌, ℕ, zero, suc, List, [], ◌∷◌, ◌++◌, inl, inr, ◌-◌, ◌<◌, ◌≤◌, ◌==◌, length, get_or, map, refl, sym, ap, subst, ◌∙◌, arith}
 use Rattle.std.proofs.Common.{true, false, Bool, cond, drop, take, nat_le, not, None, Ok, Option, Some}
-use Rattle.std.specs.List.{filter, list_any, take-map}
-use Rattle.std.proofs.Math.Seq.{take-append_seam}
-use Rattle.std.proofs.Math.ListN.{drop_of_length-le}
+use Rattle.std.specs.{List.filter, List.list_any, List.take-map, Option.option_or}
+use Rattle.std.proofs.{Math.Seq.take-append_seam, Math.ListN.drop_of_length-le, lemmas.List.take-append-drop, lemmas.List.take-take, lemmas.List.take_all}
+use Rattle.std.proofs.{lemmas.List.Elements.filter-append, lemmas.List.Folds.list_any-append, lemmas.List.Folds.list_any_at, lemmas.Grind.common_steps}
 use Rattle.std.proofs.lemmas.Bool.{and_from, and_parts, cases_Bool, cases_lt, eqb-false, false_from_ne_true, le-leb, ne_eqb, Decides.nat_tests}
 use Rattle.std.proofs.lemmas.List.{append-nil, append_assoc, append_cancel_left, drop-map, length-append, length-map, length-take-le, map-append}
-use Rattle.std.proofs.lemmas.List.{take-append-drop, take-take, take_all}
-use Rattle.std.proofs.lemmas.List.Elements.{filter-append}
-use Rattle.std.proofs.lemmas.List.Folds.{list_any-append, list_any_at}
 use Rattle.adf_names.specs.Texts.{uppers}
-use Rattle.adf_tree.specs.Additions.{Addition, AllHaveRoom, same_path}
-use Rattle.adf_tree.specs.Tree.{is_dir_body, last_of, parents_of}
-use Rattle.adf_tree.proofs.AddRoom.{whole_path}
-use Rattle.adf_tree.proofs.Lists.{some_in}
-use Rattle.std.specs.Option.{option_or}
-use Rattle.std.proofs.lemmas.Grind.{common_steps}
-use Rattle.adf_edits.specs.declared.edits.EditFault.{EditFault}
+use Rattle.adf_tree.specs.{Additions.Addition, Additions.AllHaveRoom, Additions.same_path, Tree.is_dir_body, Tree.last_of, Tree.parents_of}
+use Rattle.adf_tree.proofs.{AddRoom.whole_path, Lists.some_in}
+use Rattle.adf_edits.specs.{declared.edits.EditFault.EditFault, Edits.room_fault, Edits.unless, Edits.without, Paths.is_at_or_under}
 use Rattle.adf_edits.specs.Edits.{has_directory, has_path, is_at, leads_to_directory, is_directory_at, is_within, move_fault, moved_additions, rebased}
-use Rattle.adf_edits.specs.Edits.{room_fault, unless, without}
-use Rattle.adf_edits.specs.Paths.{is_at_or_under}
 use Rattle.adf_edits.proofs.PlacedInOrder.{KeepsDirectory, PlacedAfter, any_kept, filtered_after, nothing_before, placed, roomy}
-use Rattle.adf_edits.proofs.Places.{HasPlace, same_paths, some_passes}
-use Rattle.adf_edits.proofs.RoomKept.{made_is, place_without_fault}
+use Rattle.adf_edits.proofs.{Places.HasPlace, Places.same_paths, Places.some_passes, RoomKept.made_is, RoomKept.place_without_fault}
 
 -- paths within a directory
 

@@ -1,19 +1,14 @@
 -- The outline of a tree has that tree.
 -- Letters: t the tree, es its entries, e the next of them; k the number of those before; xs the additions of these, x that of e; p a node.
 use Rattle.std.proofs.Common.{◌≡◌, ℕ, zero, suc, List, [], ◌∷◌, ◌++◌, inl, inr, ◌+◌, ◌-◌, ◌<◌, ◌≤◌, length, get_or, take, refl, sym, ap, subst, ◌∙◌, arith, Ok}
-use Rattle.std.proofs.Common.{IsOk, take_all, add-one}
+use Rattle.std.proofs.{Common.IsOk, Common.take_all, Common.add-one, lemmas.Bool.cases_lt, lemmas.Bool.ne_eqb, lemmas.Grind.common_steps}
 use Rattle.std.specs.List.{slice_get}
-use Rattle.std.proofs.lemmas.Bool.{cases_lt, ne_eqb}
 use Rattle.std.proofs.lemmas.List.{get_or_default, length_push, length-take-le, take_more, Sums.fold_push, Sums.fold_push}
-use Rattle.std.proofs.lemmas.Grind.{common_steps}
 use Rattle.adf_base.specs.declared.hash.Letters.TheVariants.{Ascii}
-use Rattle.adf_tree.specs.declared.entry.Body.TheVariants.{Dir}
-use Rattle.adf_tree.specs.declared.entry.Entry.{Entry}
+use Rattle.adf_tree.specs.{declared.entry.Body.TheVariants.Dir, declared.entry.Entry.Entry, Laws.IsNextEntry}
 use Rattle.adf_tree.specs.Additions.{Addition, AllHaveRoom, entries_of_additions, with_addition}
-use Rattle.adf_tree.specs.Laws.{IsNextEntry}
 use Rattle.adf_tree.specs.Tree.{IsDir, IsTree, Tree, added, directory_from, room_for}
-use Rattle.adf_tree.proofs.Lists.{get_last, some_in}
-use Rattle.adf_tree.proofs.TreePrefixes.{first_tree, is_next}
+use Rattle.adf_tree.proofs.{Lists.get_last, Lists.some_in, TreePrefixes.first_tree, TreePrefixes.is_next}
 use Rattle.adf_edits.specs.Outline.{addition_for, tree_additions, outline_of, path_at, path_or_root, tree_of_outline, with_addition_for}
 use Rattle.adf_edits.proofs.Additions.{room_more, tree_more}
 use Rattle.adf_drafts.proofs.NextEntries.{directory_stays, has_room, new_is, new_leads}

@@ -1,21 +1,15 @@
 -- What each path leads to after a removal, an addition, a change or a new label.
 -- Letters: xs are additions, ys what the edit makes of them; x, y additions; q a path.
 use Rattle.std.proofs.Common.{◌≡◌, ◌≢◌, ℕ, List, [], ◌∷◌, inl, inr, map, refl, sym, ap, ◌∙◌, true, false, None, Ok, Some, Result, not, option_map, arith}
-use Rattle.std.specs.List.{find}
-use Rattle.std.specs.Option.{option_or}
+use Rattle.std.specs.{List.find, Option.option_or}
 use Rattle.std.proofs.lemmas.Bool.{cases_Bool, false_from_ne_true}
-use Rattle.std.proofs.lemmas.Iterator.Adapters.{option_map_id}
-use Rattle.std.proofs.lemmas.List.Folds.{find-append}
-use Rattle.std.proofs.lemmas.Grind.{common_steps}
+use Rattle.std.proofs.{lemmas.Iterator.Adapters.option_map_id, lemmas.List.Folds.find-append, lemmas.Grind.common_steps}
 use Rattle.adf_names.specs.Texts.{uppers}
-use Rattle.adf_tree.specs.Additions.{Addition, AllHaveRoom, content_of, entries_of_additions}
-use Rattle.adf_tree.specs.Paths.{Content, content_at}
-use Rattle.adf_edits.specs.declared.edits.Change.{Change}
-use Rattle.adf_edits.specs.declared.edits.EditFault.{EditFault}
+use Rattle.adf_tree.specs.{Additions.Addition, Additions.AllHaveRoom, Additions.content_of, Additions.entries_of_additions, Paths.Content, Paths.content_at}
+use Rattle.adf_edits.specs.{declared.edits.Change.Change, declared.edits.EditFault.EditFault}
 use Rattle.adf_edits.specs.Edits.{change_fault, changed_meta, changed_at, changed_if, is_at, remove_fault, removed, unless, with_new}
 use Rattle.adf_edits.proofs.FirstAt.{content_done, first_kept, first_left_out, first_mapped, none_first, or_nothing, told}
-use Rattle.adf_edits.proofs.Places.{same_paths}
-use Rattle.adf_edits.proofs.RoomKept.{change_kept, made_is, new_kept, place_without_fault, remove_kept}
+use Rattle.adf_edits.proofs.{Places.same_paths, RoomKept.change_kept, RoomKept.made_is, RoomKept.new_kept, RoomKept.place_without_fault, RoomKept.remove_kept}
 
 -- what has one path does not have another
 pub not_both : (a b : List (List ℕ)) (y : Addition) → map uppers a ≢ map uppers b → is_at a y ≡ true → is_at b y ≡ false

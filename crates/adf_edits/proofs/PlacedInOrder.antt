@@ -2,19 +2,13 @@
 -- where what is left out is no directory of what stays.
 -- Letters: xs are additions, front those before them; x, y additions; q the test of what stays.
 use Rattle.std.proofs.Common.{◌≡◌, ℕ, suc, List, [], ◌∷◌, ◌++◌, inl, inr, ◌+◌, ◌==◌, length, map, refl, sym, ap, subst, ◌∙◌, arith, true, false, Bool, IsOk}
-use Rattle.std.proofs.Common.{cond}
+use Rattle.std.proofs.{Common.cond, Math.Seq.take-append_seam, Math.Seq.get_or-append_seam, lemmas.Bool.cases_Bool, lemmas.Grind.common_steps}
 use Rattle.std.specs.List.{All, filter, list_any}
-use Rattle.std.proofs.Math.Seq.{take-append_seam, get_or-append_seam}
-use Rattle.std.proofs.lemmas.Bool.{cases_Bool}
 use Rattle.std.proofs.lemmas.List.{append-nil, append_assoc, length-append, map-append, Elements.filter-append, Elements.filter-append}
-use Rattle.adf_tree.specs.Additions.{Addition, AllHaveRoom, entries_of_additions}
-use Rattle.adf_tree.specs.Tree.{parents_of, room_for}
-use Rattle.std.proofs.lemmas.Grind.{common_steps}
+use Rattle.adf_tree.specs.{Additions.Addition, Additions.AllHaveRoom, Additions.entries_of_additions, Tree.parents_of, Tree.room_for}
 use Rattle.adf_tree.proofs.TreeOfAdditions.{all_built}
-use Rattle.adf_edits.specs.declared.edits.Change.{Change}
-use Rattle.adf_edits.specs.Edits.{changed_at, changed_if, is_at, is_directory_at}
-use Rattle.adf_edits.proofs.Additions.{room_more}
-use Rattle.adf_edits.proofs.Places.{HasPlace, place_from, room_from}
+use Rattle.adf_edits.specs.{declared.edits.Change.Change, Edits.changed_at, Edits.changed_if, Edits.is_at, Edits.is_directory_at}
+use Rattle.adf_edits.proofs.{Additions.room_more, Places.HasPlace, Places.place_from, Places.room_from}
 
 -- each addition has a place behind these and those before it
 abbrev pub PlacedAfter : List Addition → List Addition → Type 0

@@ -1,24 +1,17 @@
 -- Room for a path, told by the additions of a tree: the path has a name, its directory is there, and nothing has the path.
 -- Letters: xs are additions, es the entries of their tree; x, y additions, e an entry; n, m, q nodes; dir, path, names paths.
 use Rattle.std.proofs.Common.{◌≡◌, ℕ, zero, suc, List, [], ◌∷◌, inl, inr, ◌-◌, ◌<◌, ◌≤◌, ◌==◌, length, get_or, map, refl, sym, ap, ◌∙◌, ◌↔◌, arith, subst, Bool}
-use Rattle.std.proofs.Common.{true, false, Option, Some, None, Ok, IsOk, option_map}
-use Rattle.std.specs.List.{list_any}
-use Rattle.std.specs.Option.{option_and_then}
-use Rattle.std.proofs.lemmas.Bool.{and_from, and_parts, cases_Bool, eqb-true, false_from_ne_true}
-use Rattle.std.proofs.lemmas.List.{nil_from_length, Folds.list_any_at}
-use Rattle.std.proofs.lemmas.Slice.Eq.{bytes_eq-Decides, slice_eq-Decides}
-use Rattle.std.proofs.lemmas.Grind.{common_steps}
+use Rattle.std.proofs.{Common.true, Common.false, Common.Option, Common.Some, Common.None, Common.Ok, Common.IsOk, Common.option_map, lemmas.Bool.and_from}
+use Rattle.std.proofs.{lemmas.Bool.and_parts, lemmas.Bool.cases_Bool, lemmas.Bool.eqb-true, lemmas.Bool.false_from_ne_true, lemmas.List.nil_from_length}
+use Rattle.std.proofs.{lemmas.List.Folds.list_any_at, lemmas.Slice.Eq.bytes_eq-Decides, lemmas.Slice.Eq.slice_eq-Decides, lemmas.Grind.common_steps}
+use Rattle.std.specs.{List.list_any, Option.option_and_then}
 use Rattle.adf_names.specs.Texts.{uppers}
-use Rattle.adf_tree.specs.declared.entry.Entry.{Entry}
+use Rattle.adf_tree.specs.{declared.entry.Entry.Entry, Paths.Content, Paths.content_at, Paths.entry_content}
 use Rattle.adf_tree.specs.Additions.{Addition, IsTreeOf, content_of, same_path}
-use Rattle.adf_tree.specs.Paths.{Content, content_at, entry_content}
 use Rattle.adf_tree.specs.Tree.{IsDir, IsTree, child, directory_from, entry, find, find_from, is_dir, is_dir_body, last_of, new_entry, parents_of, room_for}
 use Rattle.adf_tree.proofs.AddRoom.{directory_is_dir, room_says, whole_path}
-use Rattle.adf_tree.proofs.ChildLookup.{child_says, found_is}
-use Rattle.adf_tree.proofs.Lists.{some_in}
+use Rattle.adf_tree.proofs.{ChildLookup.child_says, ChildLookup.found_is, Lists.some_in, PathLookup.then_find, TreeOfAdditions.has_room}
 use Rattle.adf_tree.proofs.PathContents.{directory_found, entry_at, entry_says, find_snoc, find_uppers}
-use Rattle.adf_tree.proofs.PathLookup.{then_find}
-use Rattle.adf_tree.proofs.TreeOfAdditions.{has_room}
 use Rattle.adf_drafts.proofs.DraftLookup.{dir_at, past}
 use Rattle.adf_edits.specs.Edits.{has_path, is_at, leads_to_directory, is_directory_at}
 

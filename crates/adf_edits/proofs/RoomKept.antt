@@ -6,16 +6,12 @@ use Rattle.std.proofs.lemmas.Bool.{and_from, and_parts, cases_Bool, eqb-false, f
 use Rattle.std.proofs.lemmas.List.{length-map, length-take-le, Folds.list_any_at, Folds.list_any_at}
 use Rattle.std.proofs.lemmas.Grind.{common_steps}
 use Rattle.adf_names.specs.Texts.{uppers}
-use Rattle.adf_tree.specs.Additions.{Addition, AllHaveRoom}
-use Rattle.adf_tree.specs.Tree.{parents_of}
+use Rattle.adf_tree.specs.{Additions.Addition, Additions.AllHaveRoom, Tree.parents_of}
 use Rattle.adf_tree.proofs.TreeOfAdditions.{all_built}
-use Rattle.adf_edits.specs.declared.edits.EditFault.{EditFault}
-use Rattle.adf_edits.specs.declared.edits.Change.{Change}
+use Rattle.adf_edits.specs.{declared.edits.EditFault.EditFault, declared.edits.Change.Change, Paths.is_under}
 use Rattle.adf_edits.specs.Edits.{change_fault, changed_at, has_under, is_at, remove_fault, removed, room_fault, unless, with_new}
-use Rattle.adf_edits.specs.Paths.{is_under}
-use Rattle.adf_edits.proofs.Additions.{room_more}
+use Rattle.adf_edits.proofs.{Additions.room_more, Places.HasPlace, Places.room_from, Places.same_paths}
 use Rattle.adf_edits.proofs.PlacedInOrder.{KeepsDirectory, changed_after, filtered_after, nothing_before, placed, roomy}
-use Rattle.adf_edits.proofs.Places.{HasPlace, room_from, same_paths}
 
 -- no fault
 

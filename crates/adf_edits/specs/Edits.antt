@@ -1,22 +1,15 @@
 -- What an edit makes of a tree. xs are the additions of the tree, x is one of them.
 use Rattle.std.specs.Prelude.{◌==◌, ◌&&◌, ◌||◌, not, ℕ, Bool, List, [], ◌∷◌, ◌++◌, Option, Some, None, Result, Ok, Err, codes, drop, take, if◌then◌else◌}
-use Rattle.std.specs.Prelude.{length, map}
-use Rattle.std.specs.List.{filter, list_any}
-use Rattle.std.specs.Option.{option_or}
+use Rattle.std.specs.{Prelude.length, Prelude.map, List.filter, List.list_any, Option.option_or}
 use Rattle.adf_base.specs.declared.dates.TheConstants.{NO_STAMP}
-use Rattle.adf_names.specs.Meta.{new_meta}
-use Rattle.adf_names.specs.declared.meta.Meta.{Meta}
+use Rattle.adf_names.specs.{Meta.new_meta, declared.meta.Meta.Meta}
 use Rattle.adf_tree.specs.declared.entry.Body.{Body, TheVariants.Dir, TheVariants.File}
-use Rattle.adf_tree.specs.Additions.{Addition, same_path}
-use Rattle.adf_tree.specs.Tree.{is_dir_body, parents_of}
-use Rattle.adf_edits.specs.Outline.{OutlineValue}
+use Rattle.adf_tree.specs.{Additions.Addition, Additions.same_path, Tree.is_dir_body, Tree.parents_of}
+use Rattle.adf_edits.specs.{Outline.OutlineValue, declared.edits.Edit.Edit, declared.edits.EditFault.EditFault, declared.edits.EditFault.TheVariants.NoMemory}
 use Rattle.adf_edits.specs.Paths.{is_at_or_under, is_deep, is_under}
 use Rattle.adf_edits.specs.declared.edits.Change.{Change, TheVariants.Note, TheVariants.Protect, TheVariants.Date}
-use Rattle.adf_edits.specs.declared.edits.Edit.{Edit}
 use Rattle.adf_edits.specs.declared.edits.Edit.TheVariants as edit
-use Rattle.adf_edits.specs.declared.edits.EditFault.{EditFault}
 use Rattle.adf_edits.specs.declared.edits.EditFault.TheVariants.{NoSuchPath, NotEmpty, WithinItself, EmptyPath, NoParent, ParentIsFile, Exists, TooDeep}
-use Rattle.adf_edits.specs.declared.edits.EditFault.TheVariants.{NoMemory}
 
 -- one edit of a tree
 pub data EditValue : Type 0 where

@@ -1,16 +1,10 @@
 -- Trees as lists of additions.
 use Rattle.std.specs.Prelude.{◌≡◌, ◌<◌, ◌==◌, ◌-◌, ℕ, List, [], ◌∷◌, ◌++◌, Err, fold, if◌then◌else◌, length, slice_get, take, Option, Some, None}
-use Rattle.std.specs.Prelude.{slice_index_or}
-use Rattle.std.specs.List.{slice_get}
+use Rattle.std.specs.{Prelude.slice_index_or, List.slice_get}
 use Rattle.adf_base.specs.declared.hash.Letters.{Letters, TheVariants.Ascii}
-use Rattle.adf_names.specs.declared.kind.Kind.{Kind}
-use Rattle.adf_names.specs.declared.meta.Stamps.{Stamps}
-use Rattle.adf_tree.specs.declared.entry.Entry.{Entry}
-use Rattle.adf_tree.specs.declared.tree.AddFault.{AddFault}
-use Rattle.adf_tree.specs.declared.tree.RoomFault.{RoomFault}
-use Rattle.adf_tree.specs.Additions.{Addition, entries_of_additions_by, with_addition_by}
-use Rattle.adf_tree.specs.Faults.{add_fault}
-use Rattle.adf_tree.specs.Tree.{Tree, room_for_by}
+use Rattle.adf_names.specs.{declared.kind.Kind.Kind, declared.meta.Stamps.Stamps}
+use Rattle.adf_tree.specs.{declared.entry.Entry.Entry, declared.tree.AddFault.AddFault, declared.tree.RoomFault.RoomFault, Additions.Addition}
+use Rattle.adf_tree.specs.{Additions.entries_of_additions_by, Additions.with_addition_by, Faults.add_fault, Tree.Tree, Tree.room_for_by}
 
 -- the value of an outline: the kind, label and dates of a tree, and its additions
 pub record OutlineValue : Type 0 where

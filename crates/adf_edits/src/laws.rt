@@ -3,15 +3,13 @@
 ghost use Rattle.std.specs.Prelude.{◌≡◌, ◌≢◌, ◌++◌, ◌∷◌, ℕ, List, None, Ok, Some, false, map, option_map, true};
 ghost use Rattle.adf_base.specs.declared.hash.Letters.TheVariants.{Ascii};
 ghost use Rattle.adf_names.specs.Texts.{uppers};
-ghost use Rattle.adf_tree.specs.declared.entry.Body.TheVariants.{Dir};
+ghost use Rattle.adf_tree.specs.{declared.entry.Body.TheVariants.Dir, Paths.Content, Paths.content_at};
 ghost use Rattle.adf_tree.specs.Additions.{Addition, AllHaveRoom, content_of, entries_of_additions};
-ghost use Rattle.adf_tree.specs.Paths.{Content, content_at};
 ghost use Rattle.adf_tree.specs.Tree.{IsTree, Tree, last_of};
-ghost use Rattle.adf_edits.specs.declared.edits.Change.{Change};
+ghost use Rattle.adf_edits.specs.{declared.edits.Change.Change, Paths.has_deep, Paths.is_at_or_under};
 ghost use Rattle.adf_edits.specs.Edits.{EditValue, changed_meta, edited, edited_additions, file_of, new_addition};
 ghost use Rattle.adf_edits.specs.Edits.EditValue.{change, dir, file, label, move, remove};
 ghost use Rattle.adf_edits.specs.Outline.{OutlineValue, outline_of, tree_of_outline};
-ghost use Rattle.adf_edits.specs.Paths.{has_deep, is_at_or_under};
 
 /// The outline of a tree has that tree, and each of its additions has room.
 pub fn outlines_have_their_trees()

@@ -1,11 +1,10 @@
 // Trees as lists of additions.
 
 ghost use Rattle.std.specs.Prelude.{◌≡◌, ◌≢◌, ◌++◌, ◌∷◌, [], ◌≤◌, length, IfOk, IfErr, OnOk, false, true};
-ghost use Rattle.adf_tree.specs.Additions.{AllHaveRoom, AllHaveRoomBy};
+ghost use Rattle.adf_tree.specs.{Additions.AllHaveRoom, Additions.AllHaveRoomBy, Tree.IsAnswer, Tree.room_for_by};
 ghost use Rattle.adf_edits.specs.Outline.{IsWithoutRoom, IsWithoutRoomBy, addition_for, tree_additions, outline_of, path_at};
 ghost use Rattle.adf_edits.specs.Outline.{tree_of_outline, tree_of_outline_by, with_addition_in, with_addition_for};
 ghost use Rattle.adf_edits.specs.Paths.{has_deep, is_deep};
-ghost use Rattle.adf_tree.specs.Tree.{IsAnswer, room_for_by};
 
 use crate::paths::{MOST_DEPTH, push_names};
 use adf_base::{Letters, NoMemory};

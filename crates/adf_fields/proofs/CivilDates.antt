@@ -1,13 +1,10 @@
 -- The civil date of each day up to 9999-12-31.
 use Rattle.std.proofs.Common.{◌≡◌, ℕ, zero, suc, ◌+◌, ◌<◌, ◌≤◌, inl, inr, arith, refl, rules, pos, ◌+ℤ◌, ◌<ℤ◌, ◌≤ℤ◌}
-use Rattle.std.proofs.lemmas.Bool.{cases_lt}
-use Rattle.std.proofs.lemmas.Int.{by_lt_z}
-use Rattle.jiff.specs.Types.{Date}
-use Rattle.jiff.specs.Words.{days_in_month}
+use Rattle.std.proofs.{lemmas.Bool.cases_lt, lemmas.Int.by_lt_z}
+use Rattle.jiff.specs.{Types.Date, Words.days_in_month}
 use Rattle.jiff.proofs.Family.{epoch_day-lt, days_from_civil-day, days_from_civil-next_month, days_from_civil-next_year, days_from_civil-max}
 use Rattle.jiff.proofs.SpanFacts.{signed_arith}
-use Rattle.adf_fields.specs.Dates.{IsCivilDay}
-use Rattle.adf_fields.specs.declared.date_texts.TheConstants.{CIVIL_DAYS, DAYS_TO_1978}
+use Rattle.adf_fields.specs.{Dates.IsCivilDay, declared.date_texts.TheConstants.CIVIL_DAYS, declared.date_texts.TheConstants.DAYS_TO_1978}
 use Rattle.adf_fields.proofs.Digits.{epoch_day_1970}
 
 -- a day has a civil date

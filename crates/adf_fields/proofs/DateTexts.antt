@@ -4,8 +4,7 @@ use Rattle.std.specs.Bool.{MatchBool}
 use Rattle.std.proofs.lemmas.Bool.{and_parts, ltb-true}
 use Rattle.jiff.specs.Types.{Date}
 use Rattle.jiff.proofs.Family.{epoch_day_injective}
-use Rattle.adf_base.specs.declared.dates.Stamp.{Stamp}
-use Rattle.adf_base.specs.Dates.{plain_text}
+use Rattle.adf_base.specs.{declared.dates.Stamp.Stamp, Dates.plain_text}
 use Rattle.adf_fields.specs.Dates.{AppendsStampText, IsCivilDay, IsCivilText, IsStampText, civil_text, is_civil}
 use Rattle.adf_fields.specs.declared.date_texts.TheConstants.{CIVIL_DAYS, DAYS_TO_1978}
 use Rattle.adf_fields.proofs.CivilDates.{civil_date}

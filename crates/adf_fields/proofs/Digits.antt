@@ -1,12 +1,9 @@
 -- Numbers below 100 in two digits.
 use Rattle.std.proofs.Common.{◌≡◌, ℕ, ◌+◌, ◌-◌, ◌/◌, ◌%◌, ◌^◌, ◌<◌, List, [], arith, refl, inl, inr, false, true, sym, decimal, pos}
 use Rattle.std.specs.Fmt.{padded_integral, char_count, format_spec}
-use Rattle.std.proofs.lemmas.Bool.{cases_lt}
-use Rattle.std.proofs.lemmas.Fmt.{decimal_digit, decimal_step}
-use Rattle.jiff.specs.Types.{Date}
-use Rattle.jiff.specs.Words.{epoch_day, IsYmd}
-use Rattle.jiff.proofs.SpanFacts.{signed_arith}
-use Rattle.jiff.proofs.OnLiterals.{jiff_on_literals}
+use Rattle.std.proofs.{lemmas.Bool.cases_lt, lemmas.Fmt.decimal_digit, lemmas.Fmt.decimal_step}
+use Rattle.jiff.specs.{Types.Date, Words.epoch_day, Words.IsYmd}
+use Rattle.jiff.proofs.{SpanFacts.signed_arith, OnLiterals.jiff_on_literals}
 use Rattle.adf_base.specs.declared.dates.Stamp.{Stamp}
 use Rattle.adf_fields.specs.Dates.{two_digits, IsCivilDay, IsStampText, civil_text, is_civil}
 use Rattle.adf_fields.specs.declared.date_texts.TheConstants.{DAYS_TO_1978}

@@ -1,9 +1,7 @@
 -- Dates as texts: the civil date and time if there is one, otherwise the three numbers.
 use Rattle.std.specs.Prelude.{◌≡◌, ℕ, pos, ◌+◌, ◌/◌, ◌%◌, ◌&&◌, Bool, nat_lt, List, [], ◌∷◌, ◌++◌, codes, MatchBool}
-use Rattle.jiff.specs.Words.{epoch_day, date_text}
-use Rattle.jiff.specs.Types.{Date}
-use Rattle.adf_base.specs.declared.dates.Stamp.{Stamp}
-use Rattle.adf_base.specs.Dates.{plain_text}
+use Rattle.jiff.specs.{Words.epoch_day, Words.date_text, Types.Date}
+use Rattle.adf_base.specs.{declared.dates.Stamp.Stamp, Dates.plain_text}
 use Rattle.adf_fields.specs.declared.date_texts.TheConstants.{CIVIL_DAYS, DAYS_TO_1978}
 
 -- two digits of a number below 100

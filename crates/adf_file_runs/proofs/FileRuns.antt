@@ -1,14 +1,11 @@
 -- Runs whose words may name a file.
 -- Letters: c a command, file_of the file that its words name; n the status; o what output held.
 use Rattle.std.proofs.Common.{◌≡◌, ◌⊎◌, ◌∙◌, rules, inl, inr, Bool, List, Option, ℕ, Some, None, IfSome, refl, false, true, codes}
-use Rattle.adf_runs.specs.Commands.{Command, IsConsistent, RunEnds}
-use Rattle.adf_file_runs.specs.FileRuns.{KnownFiles, RunEndsOnFiles, unopened_line}
-use Rattle.adf_runs.specs.Streams.{IsTold, Seen, still}
+use Rattle.adf_runs.specs.{Commands.Command, Commands.IsConsistent, Commands.RunEnds, Streams.IsTold, Streams.Seen, Streams.still}
+use Rattle.adf_file_runs.specs.{FileRuns.KnownFiles, FileRuns.RunEndsOnFiles, FileRuns.unopened_line, declared.files.Unopened.Unopened}
 use Rattle.adf_runs.specs.WorkFaults.{IsNoWork, refusal_line, refusal_status}
-use Rattle.adf_file_runs.specs.declared.files.Unopened.{Unopened}
 use Rattle.adf_runs.specs.declared.work_fault.WorkFault.{WorkFault, TheVariants.BadPath, TheVariants.NoMemory, TheVariants.Usage}
-use Rattle.adf_runs.proofs.CommandRuns.{no_work_ends}
-use Rattle.adf_runs.proofs.PendingText.{appends_nil}
+use Rattle.adf_runs.proofs.{CommandRuns.no_work_ends, PendingText.appends_nil}
 
 -- no work ends in an answer
 no_answer : (f : WorkFault) (n : ℕ) → n ≡ refusal_status f → ¬ (n ≡ 2) → ¬ (n ≡ 3) → ⊥

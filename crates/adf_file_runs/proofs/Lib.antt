@@ -1,2 +1,3 @@
 pub mod AskedHelp
 pub mod FileRuns
+pub mod NamedLines

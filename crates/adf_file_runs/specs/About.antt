@@ -1,7 +1,6 @@
 -- What a program tells of itself.
 use Rattle.std.specs.Prelude.{◌≡◌, ℕ, Bool, false, List, [], ◌∷◌, ◌++◌, Option, None, Some, codes, if◌then◌else◌}
-use Rattle.std.specs.Option.{option_or}
-use Rattle.std.specs.Str.{bytes_eq}
+use Rattle.std.specs.{Option.option_or, Str.bytes_eq}
 use Rattle.adf_file_runs.specs.declared.about.About.{About}
 use Rattle.adf_file_runs.specs.declared.about.Telling.{Telling, TheVariants.Help, TheVariants.Version}
 
@@ -31,4 +30,4 @@ AsksNothing word = (telling_named word ≡ None) × (is_last word ≡ false)
 -- the text that is told: the help, or the name and the version
 abbrev pub told_text : About → Telling → List ℕ
 told_text about Help = about.help.now
-told_text about Version = about.name.now ++ codes " 1.0\n"
+told_text about Version = about.name.now ++ codes " 1.1\n"

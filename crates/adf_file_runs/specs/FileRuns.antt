@@ -3,10 +3,8 @@
 use Rattle.std.specs.Prelude.{◌≡◌, ◌⊎◌, ◌++◌, ℕ, Bool, true, List, [], codes, Option, None, Some}
 use Rattle.std.specs.Io.KnownBytes.{Appends}
 use Rattle.adf_names.specs.Escapes.{escaped}
-use Rattle.adf_runs.specs.Commands.{Command, RunEnds}
-use Rattle.adf_file_runs.specs.Files.{unopened_text}
-use Rattle.adf_runs.specs.Streams.{IsTold, Seen, still}
-use Rattle.adf_file_runs.specs.declared.files.Unopened.{Unopened, TheVariants.Other}
+use Rattle.adf_runs.specs.{Commands.Command, Commands.RunEnds, Streams.IsTold, Streams.Seen, Streams.still}
+use Rattle.adf_file_runs.specs.{Files.unopened_text, declared.files.Unopened.Unopened, declared.files.Unopened.TheVariants.Other}
 
 -- the command where there are no files: words that name one are refused
 abbrev pub without_files : {Words : Type 0} → Command Words → (Words → Option (List ℕ)) → Command Words

@@ -2,3 +2,4 @@
 pub mod About
 pub mod Files
 pub mod FileRuns
+pub mod NamedLines

@@ -9,16 +9,19 @@ ghost use Rattle.adf_runs.specs.Streams.{Says};
 use adf_runs::{Outcome, Sink, write_all, write_both};
 
 /// The version of the programs and of the library: 10000 for each major version, 100 for each minor one.
-pub const VERSION_NUMBER: u32 = 10000;
+pub const VERSION_NUMBER: u32 = 10100;
 
 // The same as a text, behind the name of a program.
-const VERSION_END: &str = " 1.0\n";
+const VERSION_END: &str = " 1.1\n";
 
-/// What a program is called, and the lines of its help.
+/// What a program tells of itself.
 #[derive(Clone, Copy, Debug)]
 pub struct About {
     pub name: &'static str,
+    /// The lines of its help.
     pub help: &'static str,
+    /// What it says before it reads from a terminal, if anything.
+    pub waits: Option<&'static str>,
 }
 
 /// What a program is asked of itself.

@@ -6,16 +6,16 @@ use adf_runs::{Failed, Sink, Source, say};
 
 /// An input that says on errors, before its first read, what it waits for.
 #[derive(Drop)]
-pub struct AnnouncedInput<'a, R, E> {
+pub struct AnnouncedInput<R, E> {
     inner: R,
     errors: E,
     /// What is still to be said.
-    line: Option<&'a str>,
+    line: Option<&'static str>,
 }
 
-impl<'a, R: Source, E: Sink> AnnouncedInput<'a, R, E> {
+impl<R: Source, E: Sink> AnnouncedInput<R, E> {
     /// This input, with the line that it says on these errors; `None`: it says nothing.
-    pub fn new(inner: R, errors: E, line: Option<&'a str>) -> AnnouncedInput<'a, R, E>
+    pub fn new(inner: R, errors: E, line: Option<&'static str>) -> AnnouncedInput<R, E>
         ensures { result.inner ≡ inner }
     {
         AnnouncedInput {
@@ -38,7 +38,7 @@ impl<'a, R: Source, E: Sink> AnnouncedInput<'a, R, E> {
     }
 }
 
-impl<R: Source, E: Sink> Source for AnnouncedInput<'_, R, E> {
+impl<R: Source, E: Sink> Source for AnnouncedInput<R, E> {
     ghost left = { λ d. R.left d.inner };
 
     ghost has_failed = { λ d. R.has_failed d.inner };

@@ -3,10 +3,8 @@
 ghost use Rattle.std.specs.Prelude.{◌≡◌, ◌⊎◌, ◌++◌, ℕ, List, OnOk, Option, Some, false, true, IfErr, IfOk, codes, option_map};
 ghost use Rattle.adf_names.specs.Escapes.{escape_of, escaped};
 ghost use Rattle.adf_words.specs.CommandLine.{texts_of};
-ghost use Rattle.adf_runs.specs.Commands.{IsUnanswered, TakesEnough};
+ghost use Rattle.adf_runs.specs.{Commands.IsUnanswered, Commands.TakesEnough, Streams.IsTold, Streams.seen, WorkFaults.IsNoWork};
 ghost use Rattle.adf_file_runs.specs.FileRuns.{RunEndsOnFiles, known_files, refusal_text, unopened_line, without_files};
-ghost use Rattle.adf_runs.specs.Streams.{IsTold, seen};
-ghost use Rattle.adf_runs.specs.WorkFaults.{IsNoWork};
 
 use crate::files::{Files, Unopened};
 use adf_names::{hex_digit, is_plain};

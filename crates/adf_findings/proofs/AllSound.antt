@@ -1,15 +1,10 @@
 -- Where a survey has no finding, each entry is sound.
 use Rattle.std.proofs.Common.{◌≡◌, ℕ, List, [], ◌∷◌, ◌++◌, inl, refl, sym, ap, subst, ◌∙◌}
-use Rattle.adf_volume.specs.Lists.{In}
-use Rattle.adf_volume.specs.Walk.{Role, Has, HeadAt, Walk}
-use Rattle.adf_volume.proofs.Gathered.{head_block}
-use Rattle.adf_volume.proofs.Lists.{in_left}
-use Rattle.adf_findings.specs.Members.{owns}
-use Rattle.adf_findings.specs.Sound.{IsOfItsKind, IsSound, says_data_of}
+use Rattle.adf_volume.specs.{Lists.In, Walk.Role, Walk.Has, Walk.HeadAt, Walk.Walk}
+use Rattle.adf_volume.proofs.{Gathered.head_block, Lists.in_left}
+use Rattle.adf_findings.specs.{Members.owns, Sound.IsOfItsKind, Sound.IsSound, Sound.says_data_of}
 use Rattle.adf_findings.specs.Survey.{FindingValue, IsSurvey, IsSurvey.read, IsSurvey.unread}
-use Rattle.adf_findings.proofs.OneSurvey.{gathered}
-use Rattle.adf_findings.proofs.SoundEntries.{skipped_reported}
-use Rattle.adf_findings.proofs.SoundMarks.{is_alone}
+use Rattle.adf_findings.proofs.{OneSurvey.gathered, SoundEntries.skipped_reported, SoundMarks.is_alone}
 
 pub none_over : (over : Walk) → ((r : Role) (b : ℕ) → Has over r b → ⊥) → over ≡ []
 none_over [] none = refl

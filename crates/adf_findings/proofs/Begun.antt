@@ -1,29 +1,19 @@
 -- The start of a course.
 use Rattle.std.specs.Prelude.{Bool, false, cond, None, slice_index, slice_index_or, replicate, ◌==◌, ◌-◌}
 use Rattle.std.proofs.Common.{◌≡◌, ℕ, zero, suc, List, [], ◌∷◌, ◌++◌, length, ◌<◌, ◌≤◌, refl, sym, subst, ap, ◌∙◌, arith, inl}
-use Rattle.std.specs.Ordering.{nat_cmp}
-use Rattle.std.specs.Map.{lookup}
-use Rattle.std.specs.BTreeMap.{BTreeMap, IsEmpty, get, is_at}
-use Rattle.std.proofs.lemmas.Bool.{le-ltb, Decides.eqb_tells}
-use Rattle.std.proofs.lemmas.List.{length-replicate}
-use Rattle.std.proofs.lemmas.Grind.{common_steps}
+use Rattle.std.specs.{Ordering.nat_cmp, Map.lookup, BTreeMap.BTreeMap, BTreeMap.IsEmpty, BTreeMap.get, BTreeMap.is_at}
+use Rattle.std.proofs.{lemmas.Bool.le-ltb, lemmas.Bool.Decides.eqb_tells, lemmas.List.length-replicate, lemmas.Grind.common_steps}
 use Rattle.adf_tree.specs.NameSet.{Names}
 use Rattle.adf_blocks.specs.Sizes.{blocks}
-use Rattle.adf_volume.specs.Image.{root_of}
-use Rattle.adf_volume.specs.Positions.{before_page}
-use Rattle.adf_volume.specs.Walk.Role.{Root}
+use Rattle.adf_volume.specs.{Image.root_of, Positions.before_page, Walk.Role.Root}
 use Rattle.adf_volume.proofs.PositionSteps.{with_root}
 use Rattle.adf_volume.specs.declared.part.Part.TheVariants.{Root as RootPart}
-use Rattle.adf_findings.specs.declared.found.Found.{Found}
-use Rattle.adf_findings.specs.declared.progress.Progress.{Progress}
+use Rattle.adf_findings.specs.{declared.found.Found.Found, declared.progress.Progress.Progress, Courses.HasReachedPage, Courses.noted, WalkOwners.OwnersValue}
 use Rattle.adf_findings.specs.Survey.{FindingValue, IsCourse, begun}
-use Rattle.adf_findings.specs.Courses.{HasReachedPage, noted}
 use Rattle.adf_volume.specs.declared.owner.Owner.TheVariants.{Free, Boot, Root as TheRoot}
 use Rattle.adf_walk.specs.Owners.{owned_count, owner_at}
-use Rattle.adf_findings.specs.WalkOwners.{OwnersValue}
 use Rattle.adf_findings.specs.Found.{AreNamed, AreOwned, AreSame, IsNextPart, IsOwned, Stands, owner_by}
-use Rattle.adf_findings.proofs.Taking.{none_default, stands_but}
-use Rattle.adf_findings.proofs.WalkOwners.{count_more, owned_more}
+use Rattle.adf_findings.proofs.{Taking.none_default, Taking.stands_but, WalkOwners.count_more, WalkOwners.owned_more}
 
 empty_get : {K X : Type 0} (m : BTreeMap K X) (test : K → Bool) → IsEmpty m → lookup test m.entries ≡ None
 empty_get m test e = ap (lookup test) e

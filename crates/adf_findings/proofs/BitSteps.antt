@@ -1,30 +1,18 @@
 -- The findings of the bits.
 use Rattle.std.proofs.Common.{Bool, true, false, ◌||◌, not, Option, Some, None, IsTrue, ◌↔◌, ◌≡◌, ℕ, suc, List, [], ◌∷◌, ◌++◌, inl, inr, ◌+◌, ◌-◌, ◌/◌, ◌%◌}
 use Rattle.std.proofs.Common.{zero, slice_index_or, ◌*◌, ◌<◌, ◌≤◌, refl, sym, subst, ◌∙◌, arith, add-one, IsBitSet}
-use Rattle.std.specs.Ordering.{nat_cmp}
-use Rattle.std.specs.BTreeMap.{BTreeMap, get}
-use Rattle.std.proofs.lemmas.List.{append_assoc, append-nil}
-use Rattle.std.proofs.lemmas.Grind.{common_steps}
-use Rattle.adf_blocks.specs.declared.cause.Cause.{Cause}
+use Rattle.std.specs.{Ordering.nat_cmp, BTreeMap.BTreeMap, BTreeMap.get}
+use Rattle.std.proofs.{lemmas.List.append_assoc, lemmas.List.append-nil, lemmas.Grind.common_steps}
+use Rattle.adf_blocks.specs.{declared.cause.Cause.Cause, Sizes.blocks}
 use Rattle.adf_blocks.specs.declared.layout.TheConstants.{PAGE_BITS, PAGE_FIRST, PAGE_WORDS}
-use Rattle.adf_blocks.specs.Sizes.{blocks}
-use Rattle.adf_volume.specs.Image.{IsFreeAt, word_in}
-use Rattle.adf_volume.specs.Walk.{Has, IsAbsent, IsFreeIn, Walk, Role.Page}
-use Rattle.adf_volume.proofs.Gathered.{one_block}
-use Rattle.adf_volume.proofs.Roles.{has_role, same_refl}
-use Rattle.adf_findings.specs.declared.found.Found.{Found}
+use Rattle.adf_volume.specs.{Image.IsFreeAt, Image.word_in, Walk.Has, Walk.IsAbsent, Walk.IsFreeIn, Walk.Walk, Walk.Role.Page}
+use Rattle.adf_volume.proofs.{Gathered.one_block, Roles.has_role, Roles.same_refl}
+use Rattle.adf_findings.specs.{declared.found.Found.Found, declared.finding.Finding.Finding, Parts.finding_value, Forms.Tells, Members.at_role, Members.owns}
 use Rattle.adf_findings.specs.Survey.{BitsTell, Course, FindingValue, IsCourse, IsUnexcused, IsValidated, finding, is_cache}
 use Rattle.adf_findings.specs.Survey.BitsTell.{agrees, differs, ends}
-use Rattle.adf_findings.specs.declared.finding.Finding.{Finding}
-use Rattle.adf_findings.specs.Parts.{finding_value}
-use Rattle.adf_findings.specs.Forms.{Tells}
 use Rattle.adf_findings.specs.Bits.{IsBitCompared, IsPageCompared}
 use Rattle.adf_findings.specs.Found.{BitTells, IsCompleted, IsFinished, HasReportedOn, TellsOn, Stands, bit_cause, is_owned}
-use Rattle.adf_findings.specs.Members.{at_role, owns}
-use Rattle.adf_findings.proofs.WalkOwners.{owned_is}
-use Rattle.adf_findings.proofs.RoleBlocks.{at_has, lacks_at}
-use Rattle.adf_findings.proofs.Known.{tells_absent}
-use Rattle.adf_findings.proofs.OneSurvey.{gathered}
+use Rattle.adf_findings.proofs.{WalkOwners.owned_is, RoleBlocks.at_has, RoleBlocks.lacks_at, Known.tells_absent, OneSurvey.gathered}
 
 -- the page at a page's place is in the walk
 pub has_page : (w : Walk) (page at : ℕ) → at_role w (Page page) ≡ Some at → Has w (Page page) at

@@ -1,21 +1,14 @@
 -- What the bitmap tells of a block, by the pages that are kept.
 -- Letters: w the walk of a survey, fs its findings; b a block; at the block of its page; t the bit.
 use Rattle.std.proofs.Common.{Bool, Option, None, Some, IfSome, IsSome, IsTrue, ◌↔◌, ◌≡◌, ℕ, List, ◌-◌, ◌/◌, ◌%◌, ◌≤◌, refl, sym, subst, ◌∙◌, arith}
-use Rattle.std.specs.BTreeMap.{BTreeMap, get}
-use Rattle.std.specs.Ordering.{nat_cmp}
+use Rattle.std.specs.{BTreeMap.BTreeMap, BTreeMap.get, Ordering.nat_cmp}
 use Rattle.std.proofs.lemmas.Grind.{common_steps}
 use Rattle.adf_blocks.specs.declared.layout.TheConstants.{PAGE_BITS}
-use Rattle.adf_volume.specs.Image.{IsFreeAt}
-use Rattle.adf_volume.specs.Walk.{Has, IsFreeIn, Walk, Role.Page}
-use Rattle.adf_volume.proofs.Gathered.{one_block}
-use Rattle.adf_volume.proofs.Roles.{same_refl}
-use Rattle.adf_findings.specs.Found.{IsBitOf}
-use Rattle.adf_findings.specs.Members.{at_role}
+use Rattle.adf_volume.specs.{Image.IsFreeAt, Walk.Has, Walk.IsFreeIn, Walk.Walk, Walk.Role.Page}
+use Rattle.adf_volume.proofs.{Gathered.one_block, Roles.same_refl}
+use Rattle.adf_findings.specs.{Found.IsBitOf, Members.at_role, SurveyResult.IsBitStated}
 use Rattle.adf_findings.specs.Survey.{FindingValue, IsSurvey, IsValidated, IsSurvey.read, IsSurvey.unread}
-use Rattle.adf_findings.specs.SurveyResult.{IsBitStated}
-use Rattle.adf_findings.proofs.BitSteps.{has_page}
-use Rattle.adf_findings.proofs.RoleBlocks.{lacks_at}
-use Rattle.adf_findings.proofs.OneSurvey.{gathered}
+use Rattle.adf_findings.proofs.{BitSteps.has_page, RoleBlocks.lacks_at, OneSurvey.gathered}
 
 -- the walk of a survey has one block at most for a page
 pub one_page : (image : List ℕ) (w : Walk) (fs : List FindingValue) → IsSurvey image w fs → (i at b : ℕ) → Has w (Page i) at

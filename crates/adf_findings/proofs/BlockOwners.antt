@@ -2,19 +2,14 @@
 use Rattle.std.specs.Prelude.{cond, ◌==◌, Some, None, map, slice_get}
 use Rattle.std.specs.Option.{option_and_then, unwrap_or}
 use Rattle.std.proofs.Common.{◌≡◌, ℕ, zero, suc, List, [], ◌∷◌, Option, ◌≤◌, inl, inr, refl, sym, ap, ◌∙◌, arith}
-use Rattle.std.proofs.lemmas.Bool.{cases_Bool, Decides.eqb_tells}
-use Rattle.std.proofs.lemmas.Grind.{common_steps}
-use Rattle.adf_volume.specs.declared.owner.Owner.{Owner}
+use Rattle.std.proofs.{lemmas.Bool.cases_Bool, lemmas.Bool.Decides.eqb_tells, lemmas.Grind.common_steps}
+use Rattle.adf_volume.specs.{declared.owner.Owner.Owner, Parts.entry_of}
 use Rattle.adf_walk.specs.Owners.{owner_at}
-use Rattle.adf_volume.specs.Parts.{entry_of}
 use Rattle.adf_volume.specs.Walk.{Role, Asks, Has, Walk, Role.Head, Role.Ext, Role.Data}
 use Rattle.adf_volume.proofs.Gathered.{IsGathered, asked_file, number_of, IsGathered.start, IsGathered.step}
 use Rattle.adf_volume.proofs.Roles.{asks_number}
-use Rattle.adf_findings.specs.declared.finding.Finding.{Finding}
-use Rattle.adf_findings.specs.Concerned.{taker_of, is_taken}
-use Rattle.adf_findings.specs.Members.{data_number, role_entry, number_at, owning_entry}
-use Rattle.adf_findings.specs.Parts.{finding_value}
-use Rattle.adf_findings.specs.SurveyResult.{entry_at, owner_for}
+use Rattle.adf_findings.specs.{declared.finding.Finding.Finding, Concerned.taker_of, Concerned.is_taken, Members.data_number, Members.role_entry}
+use Rattle.adf_findings.specs.{Members.number_at, Members.owning_entry, Parts.finding_value, SurveyResult.entry_at, SurveyResult.owner_for}
 
 -- the number of an entry, which is not 0
 from_number : (o : Option ℕ) → ((n : ℕ) → o ≡ Some n → 1 ≤ n) → cond (unwrap_or o 0 == 0) None (Some (unwrap_or o 0)) ≡ o

@@ -4,13 +4,10 @@
 use Rattle.std.proofs.Common.{Bool, true, ◌&&◌, Option, None, ◌≡◌, ℕ, List, arith}
 use Rattle.std.specs.Option.{is_none}
 use Rattle.std.proofs.lemmas.Grind.{common_steps}
-use Rattle.adf_blocks.specs.declared.cause.Cause.{Cause}
-use Rattle.adf_blocks.specs.Forms.{first_cause}
+use Rattle.adf_blocks.specs.{declared.cause.Cause.Cause, Forms.first_cause, Sizes.in_range}
 use Rattle.adf_volume.specs.declared.part.Part.{Part}
-use Rattle.adf_findings.specs.declared.judge.Facts.{Facts}
-use Rattle.adf_findings.specs.Survey.JudgementValue.{clean}
+use Rattle.adf_findings.specs.{declared.judge.Facts.Facts, Survey.JudgementValue.clean}
 use Rattle.adf_findings.specs.Forms.{first_failing, first_of_five, form_of, judged_by, keeps}
-use Rattle.adf_blocks.specs.Sizes.{in_range}
 
 nothing_fails : (a b : ℕ) (e r t : Bool) (form : Option Cause) → (e && (r && (t && is_none form))) ≡ true
     → first_of_five a b e r t form true ≡ None

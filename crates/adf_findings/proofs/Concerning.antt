@@ -1,22 +1,12 @@
 -- The entries kept for the findings are those that they concern.
-use Rattle.std.specs.Prelude.{Some, None, is_some, map, slice_get}
-use Rattle.std.specs.Option.{option_and_then, option_flatten}
+use Rattle.std.specs.{Prelude.Some, Prelude.None, Prelude.is_some, Prelude.map, Prelude.slice_get, Option.option_and_then, Option.option_flatten}
 use Rattle.std.proofs.Common.{◌≡◌, ℕ, zero, suc, List, [], ◌∷◌, ◌++◌, Option, inl, inr, refl, sym, ap, ◌∙◌, arith}
 use Rattle.std.proofs.lemmas.Grind.{common_steps}
-use Rattle.adf_volume.specs.Lists.{In}
-use Rattle.adf_volume.specs.Walk.{Lacks, Walk, Role.Head}
-use Rattle.adf_findings.specs.declared.found.Found.{Found}
-use Rattle.adf_findings.specs.declared.concern.Concern.{Concern}
-use Rattle.adf_findings.specs.declared.finding.Finding.{Finding}
-use Rattle.adf_findings.specs.Concerned.{concern_of_nth, concern_with}
-use Rattle.adf_findings.specs.Found.{Stands}
-use Rattle.adf_findings.specs.Members.{at_role}
-use Rattle.adf_findings.specs.Marks.{blamed, is_header}
-use Rattle.adf_findings.specs.Parts.{part_role, finding_value}
+use Rattle.adf_volume.specs.{Lists.In, Walk.Lacks, Walk.Walk, Walk.Role.Head}
+use Rattle.adf_findings.specs.{declared.found.Found.Found, declared.concern.Concern.Concern, declared.finding.Finding.Finding, Concerned.concern_of_nth}
+use Rattle.adf_findings.specs.{Concerned.concern_with, Found.Stands, Members.at_role, Marks.blamed, Marks.is_header, Parts.part_role, Parts.finding_value}
 use Rattle.adf_findings.specs.Survey.{BitsTell, Course, FindingValue, IsCourse}
-use Rattle.adf_findings.proofs.HeadPlaces.{header_found}
-use Rattle.adf_findings.proofs.RoleBlocks.{at_lacks, taken_at}
-use Rattle.adf_findings.proofs.OneSurvey.{gathered}
+use Rattle.adf_findings.proofs.{HeadPlaces.header_found, RoleBlocks.at_lacks, RoleBlocks.taken_at, OneSurvey.gathered}
 use Rattle.adf_findings.proofs.SoundMarks.{apart, in_values, skipped_header, settled}
 
 -- what holds of each finding holds at each place

@@ -6,31 +6,19 @@ use Rattle.std.proofs.Common.{◌≡◌, ℕ, suc, List, [], ◌∷◌, ◌++◌
 use Rattle.std.proofs.lemmas.Bool.{and_parts, cases_Bool, cases_lt, eq-eqb, eqb-true, or_cases}
 use Rattle.std.proofs.lemmas.Grind.{common_steps}
 use Rattle.adf_names.specs.declared.kind.Kind.{Kind, TheVariants.Ofs, TheVariants.Ffs}
-use Rattle.adf_blocks.specs.declared.cause.Cause.{Cause, TheVariants.Taken}
-use Rattle.adf_blocks.specs.declared.layout.TheConstants.{TYPE, T_DATA}
-use Rattle.adf_blocks.specs.DataBlock.{data_form}
-use Rattle.adf_blocks.specs.ExtBlock.{ext_form}
-use Rattle.adf_blocks.specs.Forms.{Clause}
-use Rattle.adf_blocks.specs.PageBlock.{page_form}
-use Rattle.adf_blocks.specs.Sizes.{blocks}
+use Rattle.adf_blocks.specs.{declared.cause.Cause.Cause, declared.cause.Cause.TheVariants.Taken, declared.layout.TheConstants.TYPE}
+use Rattle.adf_blocks.specs.{declared.layout.TheConstants.T_DATA, DataBlock.data_form, ExtBlock.ext_form, Forms.Clause, PageBlock.page_form, Sizes.blocks}
 use Rattle.adf_base.specs.Words.{block}
 use Rattle.adf_volume.specs.Demands.{Demand, FirstFails, data_demands, demands_at, root_demands}
-use Rattle.adf_volume.specs.Image.{held, kind_of, root_of, word_in}
-use Rattle.adf_volume.specs.Lists.{In}
+use Rattle.adf_volume.specs.{Image.held, Image.kind_of, Image.root_of, Image.word_in, Lists.In}
 use Rattle.adf_volume.specs.Walk.{Asks, Has, Role, Same, Walk, next_data, node_block, Role.Root, Role.Page, Role.MapExt, Role.Head, Role.Ext, Role.Data}
-use Rattle.adf_volume.proofs.Lists.{in_cases}
-use Rattle.adf_volume.proofs.WordsPast.{past_word}
-use Rattle.adf_findings.specs.Concerned.{is_contested, is_taken, number_alone}
-use Rattle.adf_findings.specs.Demands.{demands_in, form_demands_in, head_form_in}
-use Rattle.adf_findings.specs.Members.{owns}
-use Rattle.adf_findings.specs.Sound.{says_data_of}
+use Rattle.adf_volume.proofs.{Lists.in_cases, WordsPast.past_word}
+use Rattle.adf_findings.specs.{Concerned.is_contested, Concerned.is_taken, Concerned.number_alone, Demands.demands_in, Demands.form_demands_in}
+use Rattle.adf_findings.specs.{Demands.head_form_in, Members.owns, Sound.says_data_of, Survey.BitsTell.agrees, Survey.BitsTell.differs, Survey.BitsTell.ends}
+use Rattle.adf_findings.specs.{Survey.BootTells.clean_boot, Survey.BootTells.other_type, Survey.RootTells.clean_root, Survey.RootTells.reported_root}
+use Rattle.adf_findings.specs.{Survey.IsCourse.start, Survey.IsCourse.step, SurveyResult.SurveyValue, SurveyResult.TellsOf, SurveyResult.alone_in}
 use Rattle.adf_findings.specs.Survey.{BitsTell, BootTells, Course, FindingValue, IsCourse, IsDone, IsItself, RootTells, finding, is_kept}
-use Rattle.adf_findings.specs.Survey.BitsTell.{agrees, differs, ends}
-use Rattle.adf_findings.specs.Survey.BootTells.{clean_boot, other_type}
-use Rattle.adf_findings.specs.Survey.RootTells.{clean_root, reported_root}
-use Rattle.adf_findings.specs.Survey.IsCourse.{start, step}
 use Rattle.adf_findings.specs.Survey.JudgementValue.{clean, reported, skipped}
-use Rattle.adf_findings.specs.SurveyResult.{SurveyValue, TellsOf, alone_in}
 use Rattle.adf_findings.proofs.SoundMarks.{not_alone}
 
 -- what is kept of a block is the number that it has alone

@@ -1,31 +1,23 @@
 -- The positions of a course: by chain in a directory, extension blocks before data blocks in a file, node by node.
 use Rattle.std.specs.Prelude.{Bool, true, false, cond, nat_le, nat_lt, ◌||◌, ◌%◌, Option, Some, None, slice_index}
 use Rattle.std.proofs.Common.{◌≡◌, ◌≢◌, ℕ, zero, suc, length, List, ◌⊎◌, inl, ◌+◌, ◌-◌, ◌*◌, ◌/◌, ◌<◌, ◌≤◌, refl, sym, subst, ap, ◌∙◌, add-one, arith}
-use Rattle.std.proofs.lemmas.Bool.{eq-eqb, eqb-true, Decides.nat_tests}
+use Rattle.std.proofs.{lemmas.Bool.eq-eqb, lemmas.Bool.eqb-true, lemmas.Bool.Decides.nat_tests, lemmas.Grind.common_steps}
 use Rattle.adf_names.specs.declared.kind.Kind.TheVariants.{Ofs}
-use Rattle.std.proofs.lemmas.Grind.{common_steps}
 use Rattle.adf_blocks.specs.declared.layout.TheConstants.{EXTENSION, FIRST_POINTER, FIRST_SLOT, NEXT_IN_CHAIN, POINTERS, SECONDARY_TYPE, SLOTS, ST_DIR, ST_FILE}
 use Rattle.adf_blocks.specs.Sizes.{blocks}
 use Rattle.adf_volume.specs.Image.{kind_of, table_word, word_in}
-use Rattle.adf_volume.specs.Positions.{before_node, position_of}
+use Rattle.adf_volume.specs.{Positions.before_node, Positions.position_of, Walk.Role.Head, Walk.Role.Ext, Walk.Role.Data}
 use Rattle.adf_volume.specs.Walk.{Has, NodeAt, DirAt, FileAt, MemberAt, Asks, Enough, data_count, ext_count, heads, member_block, next_data, node_block, Walk}
-use Rattle.adf_volume.specs.Walk.Role.{Head, Ext, Data}
 use Rattle.adf_volume.proofs.Gathered.{IsGathered, ext_below, ext_counted, file_one, head_block, member_is, node_is, node_there}
 use Rattle.adf_volume.proofs.Pointers.{ext_asks, ext_ends, link_asks, link_ends}
 use Rattle.adf_volume.proofs.PositionSteps.{chain_broken, end_chain, end_datas, end_exts, end_node, end_nodes, enter_dir, enter_file, exts_broken, no_exts}
 use Rattle.adf_volume.proofs.Roles.{count_own, dir_is_node, dir_up, member_up, typed_up}
 use Rattle.adf_volume.specs.declared.part.Part.TheVariants.{Head as HeadPart, Ext as ExtPart, Data as DataPart}
-use Rattle.adf_findings.specs.declared.course.Due.{Due}
-use Rattle.adf_findings.specs.declared.course.FileTable.{FileTable}
+use Rattle.adf_findings.specs.{declared.course.Due.Due, declared.course.FileTable.FileTable, Survey.Course, Found.IsFinished, Forms.Tells}
 use Rattle.adf_findings.specs.declared.progress.Progress.{Progress}
-use Rattle.adf_findings.specs.Survey.{Course}
-use Rattle.adf_findings.specs.Found.{IsFinished}
 use Rattle.adf_findings.specs.Courses.{HasReached, HasReachedData, HasReachedExt, HasReachedHeader, HasReachedSlot, HasReachedTable, HasReachedMember}
 use Rattle.adf_findings.specs.Courses.{HasReachedNamed, HasTable, Holds, IsGoneOn, IsNamed, IsTrueIn, due_below, due_in, end_in, next_in, noted, table_block_in}
-use Rattle.adf_findings.specs.Forms.{Tells}
-use Rattle.adf_findings.proofs.CourseSteps.{moved}
-use Rattle.adf_findings.proofs.Members.{member_inside, member_next, member_none}
-use Rattle.adf_findings.proofs.OneSurvey.{gathered}
+use Rattle.adf_findings.proofs.{CourseSteps.moved, Members.member_inside, Members.member_next, Members.member_none, OneSurvey.gathered}
 
 module _ {image : List ℕ} where
   module _ {f : Progress} {s : Course} where

@@ -1,35 +1,21 @@
 -- The steps of a course: the part at its position is taken or skipped, or the position advances without one.
 use Rattle.std.specs.Prelude.{Bool, not, ◌||◌, Option, Some, None}
-use Rattle.std.proofs.lemmas.List.{length-set, Sums.count_by-le-length}
+use Rattle.std.proofs.{lemmas.List.length-set, lemmas.List.Sums.count_by-le-length, lemmas.Grind.common_steps}
 use Rattle.std.proofs.Common.{◌≡◌, ℕ, suc, length, List, [], ◌∷◌, ◌<◌, ◌≤◌, inl, inr, set, refl, sym, subst, ap, ◌∙◌, arith}
-use Rattle.std.proofs.lemmas.Grind.{common_steps}
 use Rattle.adf_tree.specs.NameSet.{has}
-use Rattle.adf_volume.specs.Image.{word_in}
+use Rattle.adf_volume.specs.{Image.word_in, LayoutRoles.owner_of, Parts.renumbered, Parts.role_of}
 use Rattle.adf_volume.specs.Positions.{Position, IsNoLater, IsUpTo, behind, position_of}
-use Rattle.adf_volume.specs.LayoutRoles.{owner_of}
 use Rattle.adf_volume.specs.Walk.{Role, Same, Asks, Enough, Has, Lacks, first, heads, second, Walk, Role.Head, Role.Ext, Role.Data}
 use Rattle.adf_walk.specs.Owners.{is_part}
-use Rattle.adf_findings.specs.WalkOwners.{HasNumber, node_after}
-use Rattle.adf_volume.proofs.Gathered.{IsGathered}
+use Rattle.adf_findings.specs.{WalkOwners.HasNumber, WalkOwners.node_after, declared.course.Due.Due, declared.course.Reference.Reference}
+use Rattle.adf_findings.specs.{declared.forms.Context.Context, declared.judge.Facts.Facts, declared.found.Found.Found, declared.progress.Progress.Progress}
+use Rattle.adf_findings.specs.{Survey.Course, Forms.IsContext, Forms.Knows, Forms.Tells, Demands.uppers_in, Courses.role_asked}
+use Rattle.adf_volume.proofs.{Gathered.IsGathered, Roles.asks_number, Roles.renumbered_same}
 use Rattle.adf_volume.proofs.PositionSteps.{not_skipped, not_taken, past_skipped, past_taken, same_behind, same_position}
-use Rattle.adf_volume.proofs.Roles.{asks_number, renumbered_same}
-use Rattle.adf_volume.specs.Parts.{renumbered, role_of}
 use Rattle.adf_volume.specs.declared.part.Part.{Part, TheVariants.Head as HeadPart}
-use Rattle.adf_findings.specs.declared.course.Due.{Due}
-use Rattle.adf_findings.specs.declared.course.Reference.{Reference}
-use Rattle.adf_findings.specs.declared.forms.Context.{Context}
-use Rattle.adf_findings.specs.declared.judge.Facts.{Facts}
-use Rattle.adf_findings.specs.declared.found.Found.{Found}
-use Rattle.adf_findings.specs.declared.progress.Progress.{Progress}
-use Rattle.adf_findings.specs.Survey.{Course}
-use Rattle.adf_findings.specs.Forms.{IsContext, Knows, Tells}
-use Rattle.adf_findings.specs.Demands.{uppers_in}
 use Rattle.adf_findings.specs.Found.{AreNamed, IsChain, IsKept, IsNextPart, IsTaken, KeepsName, Stands, has_name, is_owned, last_node}
 use Rattle.adf_findings.specs.Courses.{HasReachedPart, Holds, IsGoneOn, IsNamed, IsNextReference, IsOutcome, IsSkipped, IsToTake, course_on, due_below, noted}
-use Rattle.adf_findings.specs.Courses.{role_asked}
-use Rattle.adf_findings.proofs.Known.{known_names, knows, own_name}
-use Rattle.adf_findings.proofs.OneSurvey.{gathered}
-use Rattle.adf_findings.proofs.Taking.{IsNumbered, stands_taken}
+use Rattle.adf_findings.proofs.{Known.known_names, Known.knows, Known.own_name, OneSurvey.gathered, Taking.IsNumbered, Taking.stands_taken}
 use Rattle.adf_findings.proofs.WalkOwners.{count_more, free_is, part_owns}
 
 -- a part that comes next has the next number of its kind

@@ -3,33 +3,20 @@
 -- data block, from 0; b its block; r, q roles.
 use Rattle.std.specs.Prelude.{◌&&◌, Bool, true, false, cond, nat_lt, Option, Some, None}
 use Rattle.std.proofs.Common.{◌≡◌, ℕ, suc, zero, List, ◌==◌, ◌+◌, ◌++◌, ◌≤◌, ◌<◌, refl, sym, ap, subst, ◌∙◌, add-one, arith}
-use Rattle.std.proofs.lemmas.Bool.{eqb-true, eq-eqb, Decides.eqb_tells, Decides.nat_tests}
-use Rattle.std.proofs.lemmas.Grind.{common_steps}
+use Rattle.std.proofs.{lemmas.Bool.eqb-true, lemmas.Bool.eq-eqb, lemmas.Bool.Decides.eqb_tells, lemmas.Bool.Decides.nat_tests, lemmas.Grind.common_steps}
 use Rattle.adf_names.specs.declared.kind.Kind.{Kind, TheVariants.Ofs, TheVariants.Ffs}
 use Rattle.adf_blocks.specs.Sizes.{blocks}
-use Rattle.adf_volume.specs.Walk.{Has, FileAt, node_block, Walk, Role.Data}
-use Rattle.adf_volume.proofs.Gathered.{head_block}
-use Rattle.adf_volume.proofs.Roles.{has_role, same_refl}
-use Rattle.adf_findings.specs.Files.{named_from}
-use Rattle.adf_findings.specs.Concerned.{is_contested, number_alone}
-use Rattle.adf_findings.specs.Members.{at_role, number_at, owning_entry}
+use Rattle.adf_volume.specs.{Walk.Has, Walk.FileAt, Walk.node_block, Walk.Walk, Walk.Role.Data, Parts.entry_of, Image.kind_of}
+use Rattle.adf_volume.proofs.{Gathered.head_block, Roles.has_role, Roles.same_refl}
+use Rattle.adf_findings.specs.{Files.named_from, Concerned.is_contested, Concerned.number_alone, Members.at_role, Members.number_at, Members.owning_entry}
+use Rattle.adf_findings.specs.{Sound.says_data_of, SurveyResult.SurveyValue, SurveyResult.TellsOf, SurveyResult.alone_in}
 use Rattle.adf_findings.specs.Remains.{below, blocks_stated, bytes_left, data_alone, data_found, data_left, data_named, gaps_left, left_below}
 use Rattle.adf_findings.specs.Remains.{named_below, own_data, size_stated, unless_contested}
-use Rattle.adf_findings.specs.Sound.{says_data_of}
 use Rattle.adf_findings.specs.Survey.{FindingValue, IsSurvey, IsSurvey.read, IsSurvey.unread}
 use Rattle.adf_walk.specs.Owners.{owner_at}
-use Rattle.adf_volume.specs.Parts.{entry_of}
-use Rattle.adf_findings.specs.SurveyResult.{SurveyValue, TellsOf, alone_in}
-use Rattle.adf_volume.specs.Image.{kind_of}
-use Rattle.adf_findings.proofs.BlockOwners.{first_with, held_data}
+use Rattle.adf_findings.proofs.{BlockOwners.first_with, BlockOwners.held_data, Starts.course_size, FileBlocks.data_is, Lookups.file_between, RoleBlocks.at_has}
+use Rattle.adf_findings.proofs.{RoleBlocks.lacks_at, OneSurvey.gathered, SoundEntries.one_part, SoundMarks.data_inside}
 use Rattle.adf_findings.proofs.Contested.{alone_number, kept_alone, said_inside}
-use Rattle.adf_findings.proofs.Starts.{course_size}
-use Rattle.adf_findings.proofs.FileBlocks.{data_is}
-use Rattle.adf_findings.proofs.Lookups.{file_between}
-use Rattle.adf_findings.proofs.RoleBlocks.{at_has, lacks_at}
-use Rattle.adf_findings.proofs.OneSurvey.{gathered}
-use Rattle.adf_findings.proofs.SoundEntries.{one_part}
-use Rattle.adf_findings.proofs.SoundMarks.{data_inside}
 
 -- the data block at a data block's place is in the walk
 pub has_data : (w : Walk) (n k b : ℕ) → at_role w (Data n k) ≡ Some b → Has w (Data n k) b

@@ -3,30 +3,18 @@
 -- and its number; f the progress of a survey.
 use Rattle.std.specs.Prelude.{Bool, true, not, nat_le, nat_lt, ◌&&◌, ◌||◌}
 use Rattle.std.proofs.Common.{◌≡◌, ℕ, List, ◌+◌, ◌-◌, ◌*◌, ◌<◌, ◌≤◌, length, refl, sym, subst, ◌∙◌, arith}
-use Rattle.std.proofs.lemmas.Bool.{and_parts, le-leb, lt-ltb}
+use Rattle.std.proofs.{lemmas.Bool.and_parts, lemmas.Bool.le-leb, lemmas.Bool.lt-ltb, lemmas.Grind.common_steps}
 use Rattle.adf_names.specs.declared.kind.Kind.{Kind, TheVariants.Ofs, TheVariants.Ffs}
-use Rattle.std.proofs.lemmas.Grind.{common_steps}
-use Rattle.adf_blocks.specs.Forms.{first_cause}
-use Rattle.adf_blocks.specs.Sizes.{in_range}
-use Rattle.adf_volume.specs.declared.owner.Owner.TheVariants.{Free}
+use Rattle.adf_blocks.specs.{Forms.first_cause, Sizes.in_range, declared.layout.TheConstants.FIRST_POINTER, declared.layout.TheConstants.POINTERS}
+use Rattle.adf_volume.specs.{declared.owner.Owner.TheVariants.Free, Image.kind_of, Image.word_in}
 use Rattle.adf_walk.specs.Owners.{owner_at}
-use Rattle.adf_blocks.specs.declared.layout.TheConstants.{FIRST_POINTER, POINTERS}
-use Rattle.adf_volume.specs.Image.{kind_of, word_in}
 use Rattle.adf_volume.specs.declared.part.Part.{Part, TheVariants.Data as DataPart}
-use Rattle.adf_findings.specs.declared.course.FileTable.{FileTable}
-use Rattle.adf_findings.specs.declared.course.Reference.{Reference}
-use Rattle.adf_findings.specs.declared.found.Found.{Found}
-use Rattle.adf_findings.specs.declared.progress.Progress.{Progress}
-use Rattle.adf_findings.specs.declared.judge.Facts.{Facts}
-use Rattle.adf_findings.specs.declared.judge.Judgement.TheVariants.{Clean}
-use Rattle.adf_findings.specs.Survey.JudgementValue.{clean}
-use Rattle.adf_findings.specs.Courses.{HasReachedNamed, IsNamed, IsToTake, due_in, end_in}
-use Rattle.adf_findings.specs.Forms.{data_clauses, first_of_five, judged_by}
-use Rattle.adf_findings.specs.Found.{IsNextPart, IsTaken, is_owned}
-use Rattle.adf_findings.proofs.CoursePlaces.{data_gone, data_is_named}
+use Rattle.adf_findings.specs.{declared.course.FileTable.FileTable, declared.course.Reference.Reference, declared.found.Found.Found}
+use Rattle.adf_findings.specs.{declared.progress.Progress.Progress, declared.judge.Facts.Facts, declared.judge.Judgement.TheVariants.Clean}
+use Rattle.adf_findings.specs.{Survey.JudgementValue.clean, Courses.HasReachedNamed, Courses.IsNamed, Courses.IsToTake, Courses.due_in, Courses.end_in}
+use Rattle.adf_findings.specs.{Forms.data_clauses, Forms.first_of_five, Forms.judged_by, Found.IsNextPart, Found.IsTaken, Found.is_owned}
+use Rattle.adf_findings.proofs.{CoursePlaces.data_gone, CoursePlaces.data_is_named, Judgements.judged_named, Outcomes.clean_outcome}
 use Rattle.adf_findings.proofs.CourseSteps.{is_next, taken_next, taken_on}
-use Rattle.adf_findings.proofs.Judgements.{judged_named}
-use Rattle.adf_findings.proofs.Outcomes.{clean_outcome}
 
 -- nothing is asked of the form of an FFS data block
 no_cause : {kind : Kind} {e r t : Bool} (a b h k n next : ℕ) (bytes : List ℕ) (kept : Bool) → kind ≡ Ffs → e ≡ true → r ≡ true → t ≡ true

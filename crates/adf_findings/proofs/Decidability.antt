@@ -5,18 +5,12 @@ use Rattle.std.proofs.lemmas.Grind.{common_steps}
 use mathlib.Core.Logic.Dec.{and as dec_and, not as dec_not}
 use native.Mathlib.Decide.{dec_le, dec_lt, map_dec, ℕ_discrete}
 use Rattle.adf_names.specs.declared.kind.Kind.{Kind, TheVariants.Ofs, TheVariants.Ffs}
-use Rattle.adf_blocks.specs.declared.cause.Cause.{Cause}
+use Rattle.adf_blocks.specs.{declared.cause.Cause.Cause, Forms.Clause, Sizes.blocks, DataBlock.data_form, ExtBlock.ext_form, PageBlock.page_form}
 use Rattle.adf_blocks.specs.declared.layout.TheConstants.{BITMAP_FLAG, PAGE_BITS, POINTERS, VALID}
-use Rattle.adf_blocks.specs.Forms.{Clause}
-use Rattle.adf_blocks.specs.Sizes.{blocks}
-use Rattle.adf_blocks.specs.DataBlock.{data_form}
-use Rattle.adf_blocks.specs.ExtBlock.{ext_form}
-use Rattle.adf_blocks.specs.PageBlock.{page_form}
 use Rattle.adf_base.specs.Words.{block}
-use Rattle.adf_volume.specs.Image.{name_of, kind_of, root_of, word_in, IsFreeAt}
-use Rattle.adf_volume.specs.Demands.{Demand, AllHold, FirstFails, demands_at, data_demands}
+use Rattle.adf_volume.specs.{Image.name_of, Image.kind_of, Image.root_of, Image.word_in, Image.IsFreeAt, Demands.Demand, Demands.AllHold, Demands.FirstFails}
+use Rattle.adf_volume.specs.{Demands.demands_at, Demands.data_demands, Walk.Role.Page, Walk.Role.Head, Walk.Role.Ext, Walk.Role.Data}
 use Rattle.adf_volume.specs.Walk.{Role, Has, data_count, ext_count, Enough, IsAbsent, IsFreeIn, bitmap_demands, node_block, Walk}
-use Rattle.adf_volume.specs.Walk.Role.{Page, Head, Ext, Data}
 use Rattle.adf_findings.specs.Demands.{NewNameIn, demands_in, form_demands_in, head_form_in, uppers_in}
 use Rattle.adf_findings.specs.Survey.{FindingValue, JudgementValue, Judged, IsItself, is_cache, is_kept, Course, IsCompared, IsUnexcused, BitsTell}
 use Rattle.adf_findings.specs.Survey.JudgementValue.{clean, reported, skipped}

@@ -1,14 +1,9 @@
 -- The directories of entries, and the paths that lead through them.
 use Rattle.std.proofs.Common.{◌≡◌, ℕ, List, [], ◌∷◌, ◌++◌, ◌<◌, ◌∙◌, arith}
-use Rattle.adf_volume.specs.Image.{name_of}
-use Rattle.adf_volume.specs.Walk.{HeadAt, NodeAt, node_block, Walk}
+use Rattle.adf_volume.specs.{Image.name_of, Walk.HeadAt, Walk.NodeAt, Walk.node_block, Walk.Walk}
 use Rattle.adf_volume.proofs.Gathered.{head_block, number_of, node_there, parent_below}
-use Rattle.adf_findings.specs.Members.{parent_node}
-use Rattle.adf_findings.specs.Lookup.{path_to}
-use Rattle.adf_findings.specs.Survey.{FindingValue, IsSurvey, IsSurvey.read, IsSurvey.unread}
-use Rattle.adf_findings.proofs.EntryPaths.{path_next}
-use Rattle.adf_findings.proofs.Keeping.{parent_is}
-use Rattle.adf_findings.proofs.OneSurvey.{gathered}
+use Rattle.adf_findings.specs.{Members.parent_node, Lookup.path_to, Survey.FindingValue, Survey.IsSurvey, Survey.IsSurvey.read, Survey.IsSurvey.unread}
+use Rattle.adf_findings.proofs.{EntryPaths.path_next, Keeping.parent_is, OneSurvey.gathered}
 
 -- the directory of an entry is in the walk, with a smaller number
 pub directory_first : (image : List ℕ) (w : Walk) (fs : List FindingValue) (n h : ℕ) → IsSurvey image w fs → (g : HeadAt w n h)

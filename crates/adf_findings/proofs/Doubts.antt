@@ -2,16 +2,12 @@
 -- Letters: f a state; b a block; m a node; k a number of blocks.
 use Rattle.std.specs.Prelude.{Bool, true, false, not, ◌&&◌, ◌||◌, None}
 use Rattle.std.proofs.Common.{◌≡◌, ℕ, zero, suc, List, [], inl, inr, ◌<◌, ◌≤◌, refl, ap, ◌∙◌, arith}
-use Rattle.std.proofs.lemmas.Bool.{cases_lt, Decides.nat_tests}
-use Rattle.std.proofs.lemmas.Grind.{common_steps}
+use Rattle.std.proofs.{lemmas.Bool.cases_lt, lemmas.Bool.Decides.nat_tests, lemmas.Grind.common_steps}
 use Rattle.adf_base.specs.Words.{block, word}
 use Rattle.adf_blocks.specs.declared.layout.TheConstants.{TYPE, T_DATA}
 use Rattle.adf_volume.specs.declared.owner.Owner.{Owner}
 use Rattle.adf_walk.specs.Owners.{is_part}
-use Rattle.adf_findings.specs.WalkOwners.{data_number_of}
-use Rattle.adf_findings.specs.declared.found.Found.{Found}
-use Rattle.adf_findings.specs.Found.{is_owned}
-use Rattle.adf_findings.specs.Marks.{doubted, is_doubted, is_node}
+use Rattle.adf_findings.specs.{WalkOwners.data_number_of, declared.found.Found.Found, Found.is_owned, Marks.doubted, Marks.is_doubted, Marks.is_node}
 use Rattle.adf_findings.proofs.SoundMarks.{none_doubted}
 
 no_number : (o : Owner) → is_part o ≡ false → data_number_of o ≡ 0

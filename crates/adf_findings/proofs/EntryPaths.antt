@@ -1,16 +1,11 @@
 -- The path of an entry is the path of its directory and its name.
 use Rattle.std.specs.Prelude.{Bool, true, false, ◌&&◌, cond, map, nat_le, reverse}
 use Rattle.std.proofs.Common.{◌≡◌, ℕ, zero, suc, List, [], ◌∷◌, ◌++◌, ◌<◌, ◌≤◌, refl, ap, arith, append_assoc, length, length-append, ◌+◌}
-use Rattle.std.proofs.lemmas.Grind.{reverse_onto, common_steps}
-use Rattle.std.proofs.lemmas.List.{map-append, reverse-append}
+use Rattle.std.proofs.{lemmas.Grind.reverse_onto, lemmas.Grind.common_steps, lemmas.List.map-append, lemmas.List.reverse-append}
 use Rattle.std.proofs.lemmas.Bool.{and_parts, Decides.nat_tests}
-use Rattle.adf_volume.specs.Image.{name_of}
-use Rattle.adf_volume.specs.Walk.{heads, node_block, Walk}
-use Rattle.adf_findings.specs.Members.{parent_node}
-use Rattle.adf_findings.specs.Lookup.{IsNamedChild, path_to, path_up}
-use Rattle.adf_findings.specs.Survey.{FindingValue, IsSurvey}
-use Rattle.adf_findings.proofs.Keeping.{parent_is}
-use Rattle.adf_findings.proofs.Lookups.{child_between, header_at}
+use Rattle.adf_volume.specs.{Image.name_of, Walk.heads, Walk.node_block, Walk.Walk}
+use Rattle.adf_findings.specs.{Members.parent_node, Lookup.IsNamedChild, Lookup.path_to, Lookup.path_up, Survey.FindingValue, Survey.IsSurvey}
+use Rattle.adf_findings.proofs.{Keeping.parent_is, Lookups.child_between, Lookups.header_at}
 
 -- whether it is the number of an entry
 abbrev is_entry : Walk → ℕ → Bool

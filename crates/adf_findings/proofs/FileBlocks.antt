@@ -2,18 +2,14 @@
 use Rattle.std.proofs.Common.{◌≡◌, ℕ, zero, suc, List, ◌∷◌, length, inl, inr, ◌/◌, ◌<◌, ◌≤◌, refl, sym, ap, subst, ◌∙◌, arith, eq-eqb}
 use Rattle.std.proofs.lemmas.Grind.{common_steps}
 use Rattle.adf_blocks.specs.declared.layout.TheConstants.{POINTERS}
-use Rattle.adf_volume.specs.Image.{root_of, table_word, word_in}
-use Rattle.adf_volume.specs.Lists.{At}
-use Rattle.adf_volume.specs.Made.{datas_in, is_data_of}
+use Rattle.adf_volume.specs.{Image.root_of, Image.table_word, Image.word_in, Lists.At, Made.datas_in, Made.is_data_of}
 use Rattle.adf_volume.specs.Walk.{Role, Has, FileAt, Lacks, MemberAt, data_count, Walk, Role.Head, Role.Ext, Role.Data}
-use Rattle.adf_volume.proofs.Gathered.{IsGathered, ext_below, ext_counted, file_one}
+use Rattle.adf_volume.proofs.{Gathered.IsGathered, Gathered.ext_below, Gathered.ext_counted, Gathered.file_one, Roles.has_role}
 use Rattle.adf_volume.proofs.Lists.{at_below, at_snoc, at_some, same_list, snoc_length}
-use Rattle.adf_volume.proofs.Roles.{has_role}
 use Rattle.adf_volume.proofs.WalkMembers.{Lists, data_only, none_listed, one_more}
 use Rattle.adf_findings.specs.Files.{member_from, named_from, names_from}
 use Rattle.adf_findings.specs.Survey.{Course, IsCourse, IsNext, IsCourse.start, IsCourse.step, JudgementValue.skipped}
-use Rattle.adf_findings.proofs.OneSurvey.{gathered}
-use Rattle.adf_findings.proofs.SoundMarks.{taken_wanted}
+use Rattle.adf_findings.proofs.{OneSurvey.gathered, SoundMarks.taken_wanted}
 
 module _ (image : List ℕ) where
   -- a file that has a member has those before it

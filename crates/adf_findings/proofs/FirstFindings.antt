@@ -1,39 +1,24 @@
 -- The first finding of a survey behind that of its type, and surveys with no other.
 -- Letters: past the findings of the type; over the parts skipped; rest the findings behind them.
 use Rattle.std.proofs.Common.{false, ◌≡◌, ℕ, suc, List, [], ◌∷◌, ◌⊎◌, ◌++◌, inl, inr, ◌+◌, ◌-◌, ◌/◌, ◌<◌, ◌≤◌, refl, sym, subst, ap, ◌∙◌, append-nil}
-use Rattle.std.proofs.Common.{append_assoc, None, arith}
+use Rattle.std.proofs.{Common.append_assoc, Common.None, Common.arith, lemmas.List.append_cancel_left, lemmas.Grind.common_steps}
 use Rattle.std.proofs.lemmas.Bool.{eqb-true, Decides.nat_tests}
-use Rattle.std.proofs.lemmas.List.{append_cancel_left}
-use Rattle.std.proofs.lemmas.Grind.{common_steps}
 use Rattle.adf_base.specs.declared.hash.Letters.{Letters}
-use Rattle.adf_blocks.specs.declared.cause.Cause.{Cause}
-use Rattle.adf_blocks.specs.declared.layout.TheConstants.{PAGE_BITS}
-use Rattle.adf_blocks.specs.Sizes.{blocks, pages_needed}
-use Rattle.adf_volume.specs.Image.{letters_of, word_in, root_of}
+use Rattle.adf_blocks.specs.{declared.cause.Cause.Cause, declared.layout.TheConstants.PAGE_BITS, Sizes.blocks, Sizes.pages_needed}
+use Rattle.adf_volume.specs.{Image.letters_of, Image.word_in, Image.root_of, Fits.FitsBy, Layout.Layout, Made.layout_in, Made.tree_in_by, Start.IsBegunBy}
 use Rattle.adf_volume.specs.Demands.{AllHold, FirstFails, boot_demands, boot_demands_by, root_demands}
 use Rattle.adf_volume.specs.Walk.{Role, Lacks, IsDue, IsAbsent, IsWalkBy, IsWhole, FirstFaultBy, bitmap_demands, demands_by, Walk, Role.Page, Role.Root}
 use Rattle.adf_volume.specs.Walk.IsWalkBy.{start as walk_start, step as walk_step}
 use Rattle.adf_volume.specs.Walk.FirstFaultBy.{at_boot, at_due, at_bitmap}
-use Rattle.adf_volume.proofs.Walks.{asked_block, page_word}
-use Rattle.adf_volume.proofs.WholeWalks.{all_map_exts}
+use Rattle.adf_volume.proofs.{Walks.asked_block, Walks.page_word, WholeWalks.all_map_exts, FormDemands.demanded, NoneFits.none_fits, WalkFits.fits}
 use Rattle.adf_tree.specs.Tree.{Tree}
-use Rattle.adf_volume.specs.Fits.{FitsBy}
-use Rattle.adf_volume.specs.Layout.{Layout}
-use Rattle.adf_volume.specs.Made.{layout_in, tree_in_by}
-use Rattle.adf_volume.proofs.FormDemands.{demanded}
-use Rattle.adf_volume.specs.Start.{IsBegunBy}
 use Rattle.adf_volume.proofs.Lists.{all_append, all_split, fails_left, fails_right}
-use Rattle.adf_volume.proofs.NoneFits.{none_fits}
-use Rattle.adf_volume.proofs.WalkFits.{fits}
-use Rattle.adf_findings.specs.Demands.{demands_in}
+use Rattle.adf_findings.specs.{Demands.demands_in, Survey.IsCourse.start, Survey.IsCourse.step, Survey.RootTells.clean_root, Survey.RootTells.reported_root}
+use Rattle.adf_findings.specs.{Survey.UnreadTells.bad_boot, Survey.UnreadTells.bad_root, Survey.IsSurvey.unread, Survey.IsSurvey.read}
 use Rattle.adf_findings.specs.Survey.{BootTells, FindingValue, JudgementValue, Judged, RootTells, finding, is_other_type, Course, after, IsNext, IsCourse}
 use Rattle.adf_findings.specs.Survey.{IsDone, IsValidated, IsCompared, BitsTell, IsSurvey, is_cache}
 use Rattle.adf_findings.specs.Survey.JudgementValue.{clean, reported, skipped}
-use Rattle.adf_findings.specs.Survey.IsCourse.{start, step}
-use Rattle.adf_findings.specs.Survey.RootTells.{clean_root, reported_root}
-use Rattle.adf_findings.specs.Survey.UnreadTells.{bad_boot, bad_root}
 use Rattle.adf_findings.specs.Survey.BitsTell.{ends, agrees, differs}
-use Rattle.adf_findings.specs.Survey.IsSurvey.{unread, read}
 
 -- a boot block has no cause for these letters, or the first one behind the findings of the type
 abbrev pub BootReads : List ℕ → Letters → List FindingValue → List FindingValue → Type 0

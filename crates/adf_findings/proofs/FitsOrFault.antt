@@ -1,15 +1,8 @@
 -- Every image is that of a volume, or has a first fault. w is the walk of its survey, fs its findings.
 use Rattle.std.proofs.Common.{ℕ, List, [], ◌∷◌, ◌++◌, inl, inr, append-nil, subst}
-use Rattle.adf_volume.specs.Made.{layout_in, tree_in_by}
-use Rattle.adf_volume.specs.Walk.{Walk}
-use Rattle.adf_findings.proofs.FirstFindings.{first_finding, none_found, shown}
-use Rattle.adf_findings.proofs.SomeSurvey.{some_survey}
-use Rattle.adf_findings.proofs.TypesRead.{types_read}
-use Rattle.adf_findings.specs.Survey.{FindingValue, IsSurvey}
-use Rattle.adf_volume.specs.Types.{letters_for}
-use Rattle.adf_findings.specs.Types.{passed}
-use Rattle.adf_findings.specs.Verdict.{FitsOrHasFault, FitsOrHasFaultBy}
-use Rattle.adf_volume.specs.declared.types.Types.{Types, TheVariants.Plain}
+use Rattle.adf_volume.specs.{Made.layout_in, Made.tree_in_by, Walk.Walk, Types.letters_for, declared.types.Types.Types, declared.types.Types.TheVariants.Plain}
+use Rattle.adf_findings.proofs.{FirstFindings.first_finding, FirstFindings.none_found, FirstFindings.shown, SomeSurvey.some_survey, TypesRead.types_read}
+use Rattle.adf_findings.specs.{Survey.FindingValue, Survey.IsSurvey, Types.passed, Verdict.FitsOrHasFault, Verdict.FitsOrHasFaultBy}
 
 pub fits_or_fault_by : (types : Types) (image : List ℕ) → FitsOrHasFaultBy types image
 fits_or_fault_by types image =

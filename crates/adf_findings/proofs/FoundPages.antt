@@ -6,10 +6,8 @@ use Rattle.std.proofs.lemmas.Grind.{common_steps}
 use Rattle.adf_blocks.specs.Sizes.{blocks, pages_needed}
 use Rattle.adf_volume.specs.Walk.{Has, Role, Walk, Role.Page}
 use Rattle.adf_volume.proofs.Gathered.{IsGathered, IsGathered.start, IsGathered.step}
-use Rattle.adf_findings.specs.Members.{at_role}
-use Rattle.adf_findings.specs.Survey.{FindingValue, IsSurvey, IsSurvey.read, IsSurvey.unread}
-use Rattle.adf_findings.proofs.RoleBlocks.{taken_at}
-use Rattle.adf_findings.proofs.OneSurvey.{gathered}
+use Rattle.adf_findings.specs.{Members.at_role, Survey.FindingValue, Survey.IsSurvey, Survey.IsSurvey.read, Survey.IsSurvey.unread}
+use Rattle.adf_findings.proofs.{RoleBlocks.taken_at, OneSurvey.gathered}
 
 gathered_low : (image : List ℕ) {w : Walk} → IsGathered image w → (i b : ℕ) → Has w (Page i) b → i < pages_needed (blocks image)
 gathered_low image start i b (inl e) = cc

@@ -1,7 +1,6 @@
 -- Gaps, one behind another.
 use Rattle.std.proofs.Common.{◌≡◌, List, [], ◌∷◌, ◌++◌, refl, ap}
-use Rattle.adf_findings.specs.declared.remains.Gap.{Gap}
-use Rattle.adf_findings.specs.Remains.{joined_gaps, with_gap}
+use Rattle.adf_findings.specs.{declared.remains.Gap.Gap, Remains.joined_gaps, Remains.with_gap}
 
 -- only the last gap may go on
 pub with_gap_last : (xs : List Gap) (x g : Gap) → with_gap (xs ++ x ∷ []) g ≡ xs ++ joined_gaps x g

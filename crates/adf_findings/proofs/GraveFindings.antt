@@ -2,16 +2,11 @@
 -- Letters: f, g findings; fs, gs lists of them; xs the same as they are kept; n a file's node; k a part's number.
 use Rattle.std.proofs.Common.{◌&&◌, Bool, map, not, Some, ◌≡◌, ◌∙◌, ℕ, List, [], ◌∷◌, ap, sym, arith, false, inl, inr, true}
 use Rattle.std.specs.List.{filter}
-use Rattle.std.proofs.lemmas.Grind.{common_steps}
-use Rattle.adf_volume.specs.Lists.{In}
-use Rattle.adf_volume.specs.Walk.{Role, Walk, Role.Data, Role.Ext, Role.Head}
+use Rattle.std.proofs.{lemmas.Grind.common_steps, lemmas.Bool.cond_both}
+use Rattle.adf_volume.specs.{Lists.In, Walk.Role, Walk.Walk, Walk.Role.Data, Walk.Role.Ext, Walk.Role.Head}
 use Rattle.adf_volume.proofs.Roles.{same_role}
-use Rattle.adf_findings.specs.declared.finding.Finding.{Finding}
+use Rattle.adf_findings.specs.{declared.finding.Finding.Finding, Parts.finding_value, Sound.IsUnreported, Survey.FindingValue}
 use Rattle.adf_findings.specs.Files.{IsSoundFile, counting, grave, is_harmless, is_head, is_light}
-use Rattle.adf_findings.specs.Parts.{finding_value}
-use Rattle.adf_findings.specs.Sound.{IsUnreported}
-use Rattle.adf_findings.specs.Survey.{FindingValue}
-use Rattle.std.proofs.lemmas.Bool.{cond_both}
 use Rattle.adf_tree.proofs.Lists.{filter_of_map}
 
 -- a grave finding is a finding

@@ -1,23 +1,16 @@
 -- Places that are given: when nodes are begun, what was kept is the same owner still.
 -- Letters: p, q places that are given; xs starts, x a start; c how many; n a node; i a place; k a number of a block, or an owner as it is kept.
-use Rattle.std.specs.Prelude.{count_by}
+use Rattle.std.specs.{Prelude.count_by, Global.Vec, List.All}
 use Rattle.std.proofs.Common.{◌≡◌, ℕ, zero, suc, List, [], ◌∷◌, ◌++◌, ◌+◌, ◌-◌, ◌<◌, ◌≤◌, ◌^◌, inl, inr, length, get_or, map, replicate, set, nat_le, refl, sym}
 use Rattle.std.proofs.Common.{ap, subst, ◌∙◌, arith}
-use Rattle.std.specs.Global.{Vec}
-use Rattle.std.specs.List.{All}
-use Rattle.std.proofs.lemmas.Bool.{cases_lt, lt-leb}
+use Rattle.std.proofs.{lemmas.Bool.cases_lt, lemmas.Bool.lt-leb, lemmas.List.Sorted.IsNonDecreasingBy-from_default, lemmas.Grind.common_steps}
 use Rattle.std.proofs.lemmas.List.{get_or-append_right, get_or_append_left, length-append, length-replicate, map-set, Sums.count_by-le-length}
-use Rattle.std.proofs.lemmas.List.Sorted.{IsNonDecreasingBy-from_default}
-use Rattle.std.proofs.lemmas.Grind.{common_steps}
 use Rattle.adf_volume.specs.declared.owner.Owner.{Owner}
 use Rattle.adf_volume.specs.declared.owner.Owner.TheVariants as owner
 use Rattle.adf_findings.specs.declared.given_places.GivenPlaces.{GivenPlaces}
-use Rattle.adf_walk.specs.declared.kept_owner.KeptOwner.{KeptOwner}
+use Rattle.adf_walk.specs.{declared.kept_owner.KeptOwner.KeptOwner, declared.node_start.NodeStart.NodeStart, KeptOwner.boot_owner, KeptOwner.is_claimed}
+use Rattle.adf_walk.specs.{KeptOwner.kept_at, KeptOwner.no_owner, OwnerClass.is_part_class, Owners.is_part, Owners.owner_at}
 use Rattle.adf_walk.specs.declared.owner_class.OwnerClass.{OwnerClass, TheVariants.Free, TheVariants.Ext, TheVariants.Data}
-use Rattle.adf_walk.specs.declared.node_start.NodeStart.{NodeStart}
-use Rattle.adf_walk.specs.KeptOwner.{boot_owner, is_claimed, kept_at, no_owner}
-use Rattle.adf_walk.specs.OwnerClass.{is_part_class}
-use Rattle.adf_walk.specs.Owners.{is_part, owner_at}
 use Rattle.adf_walk.specs.Places.{AreStarts, first_data, first_ext, last_start, owner_kept, owner_with, start_of}
 use Rattle.adf_findings.specs.WalkOwners.{AreFit, AreGrown, IsGiven, IsInside, IsKeptBy}
 use Rattle.adf_walk.proofs.KeptPlaces.{last_is}

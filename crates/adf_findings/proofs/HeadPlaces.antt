@@ -5,14 +5,9 @@ use Rattle.std.proofs.lemmas.Bool.{and_parts, eqb-true, eq-eqb, Decides.eqb_tell
 use Rattle.std.proofs.lemmas.Grind.{common_steps}
 use Rattle.adf_volume.specs.Walk.{Role, Has, Asks, heads, Walk, Role.Root, Role.Head}
 use Rattle.adf_volume.proofs.Gathered.{IsGathered, number_of, IsGathered.start, IsGathered.step}
-use Rattle.adf_volume.proofs.Lists.{get_before, snoc_length}
-use Rattle.adf_volume.proofs.Roles.{asks_number, head_at}
-use Rattle.adf_findings.specs.declared.found.ChainPlace.{ChainPlace}
-use Rattle.adf_findings.specs.declared.found.Found.{Found}
-use Rattle.adf_findings.specs.Survey.{Course}
-use Rattle.adf_findings.specs.Found.{Stands, places_of, with_place}
-use Rattle.adf_findings.specs.Members.{parent_by, parent_node}
-use Rattle.adf_findings.specs.Marks.{is_header, is_place}
+use Rattle.adf_volume.proofs.{Lists.get_before, Lists.snoc_length, Roles.asks_number, Roles.head_at}
+use Rattle.adf_findings.specs.{declared.found.ChainPlace.ChainPlace, declared.found.Found.Found, Survey.Course, Found.Stands, Found.places_of, Found.with_place}
+use Rattle.adf_findings.specs.{Members.parent_by, Members.parent_node, Marks.is_header, Marks.is_place}
 use Rattle.adf_tree.proofs.Lists.{get_last}
 
 -- the parent of what comes later is that of no earlier node

@@ -1,30 +1,20 @@
 -- The judgement of a part by tests.
 use Rattle.std.specs.Prelude.{Bool, true, false, ◌&&◌, ◌||◌, cond, nat_le, slice_index, Option, Some, None}
 use Rattle.std.proofs.Common.{◌≡◌, ℕ, List, [], ◌∷◌, ◌++◌, inl, inr, ◌<◌, ◌≤◌, refl, sym, subst, ap, arith, rules}
-use Rattle.std.proofs.Math.Bool.{or-true}
-use Rattle.std.proofs.lemmas.Bool.{and_parts, Decides.nat_tests}
-use Rattle.std.proofs.lemmas.Grind.{common_steps}
-use Rattle.adf_blocks.specs.declared.cause.Cause.{Cause}
+use Rattle.std.proofs.{Math.Bool.or-true, lemmas.Bool.and_parts, lemmas.Bool.Decides.nat_tests, lemmas.Grind.common_steps}
+use Rattle.adf_blocks.specs.{declared.cause.Cause.Cause, HeadBlock.is_name_at, Sizes.blocks, Sizes.in_range, declared.layout.TheConstants.NAME}
 use Rattle.adf_blocks.specs.declared.cause.Cause.TheVariants.{BadName, OutOfRange, SameName, ShortFile, Taken}
 use Rattle.adf_blocks.specs.Forms.{Clause, first_cause, text_at}
-use Rattle.adf_blocks.specs.HeadBlock.{is_name_at}
-use Rattle.adf_blocks.specs.Sizes.{blocks, in_range}
 use Rattle.adf_base.specs.Words.{block}
-use Rattle.adf_names.specs.declared.kind.Kind.{Kind, TheVariants.Ofs, TheVariants.Ffs}
-use Rattle.adf_names.specs.Texts.{is_name}
-use Rattle.adf_blocks.specs.declared.layout.TheConstants.{NAME}
+use Rattle.adf_names.specs.{declared.kind.Kind.Kind, declared.kind.Kind.TheVariants.Ofs, declared.kind.Kind.TheVariants.Ffs, Texts.is_name}
 use Rattle.adf_volume.specs.Demands.{Demand, demand, demands_at, data_demands, AllHold, FirstFails}
 use Rattle.adf_volume.proofs.FormDemands.{all_demanded, demanded}
-use Rattle.adf_volume.specs.Image.{name_of}
-use Rattle.adf_volume.specs.Walk.{Role, Enough, IsAbsent, Walk, Role.Page, Role.Head, Role.Data}
+use Rattle.adf_volume.specs.{Image.name_of, Walk.Role, Walk.Enough, Walk.IsAbsent, Walk.Walk, Walk.Role.Page, Walk.Role.Head, Walk.Role.Data, Parts.role_of}
 use Rattle.adf_findings.specs.Demands.{NewNameIn, demands_in, form_demands_in}
 use Rattle.adf_volume.specs.declared.part.Part.{Part, TheVariants.Head as HeadPart}
-use Rattle.adf_findings.specs.declared.forms.Context.{Context}
-use Rattle.adf_findings.specs.declared.judge.Facts.{Facts}
+use Rattle.adf_findings.specs.{declared.forms.Context.Context, declared.judge.Facts.Facts, Found.HasValidName}
 use Rattle.adf_findings.specs.Survey.{IsItself, Judged, JudgementValue, is_kept, JudgementValue.clean, JudgementValue.reported}
-use Rattle.adf_findings.specs.Found.{HasValidName}
 use Rattle.adf_findings.specs.Forms.{IsContext, Knows, Tells, data_clauses, first_failing, first_of_five, form_of, itself_by, judged_by, keeps, of_form}
-use Rattle.adf_volume.specs.Parts.{role_of}
 
 -- what fails first of the demands, or nothing
 abbrev pub FirstIs : List Demand → Option (ℕ × Cause) → Type 0

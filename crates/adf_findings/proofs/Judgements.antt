@@ -1,24 +1,14 @@
 -- The judgement of a part that is next, by what is found of it and by its name.
 use Rattle.std.proofs.Common.{Bool, cond, not, true, ◌≡◌, ℕ, List, sym, subst, ap, ◌∙◌}
-use Rattle.adf_blocks.specs.declared.cause.Cause.TheVariants.{SameName}
-use Rattle.adf_blocks.specs.Forms.{first_cause}
-use Rattle.adf_volume.specs.Positions.{position_of}
-use Rattle.adf_volume.specs.Walk.{Walk}
-use Rattle.adf_findings.specs.Demands.{demands_in}
-use Rattle.adf_volume.specs.declared.part.Part.{Part}
-use Rattle.adf_findings.specs.declared.course.Reference.{Reference}
-use Rattle.adf_findings.specs.declared.judge.Facts.{Facts}
-use Rattle.adf_findings.specs.declared.judge.Judgement.{Judgement}
-use Rattle.adf_findings.specs.declared.progress.Progress.{Progress}
+use Rattle.adf_blocks.specs.{declared.cause.Cause.TheVariants.SameName, Forms.first_cause, Sizes.in_range}
+use Rattle.adf_volume.specs.{Positions.position_of, Walk.Walk, declared.part.Part.Part, Parts.role_of}
+use Rattle.adf_findings.specs.{Demands.demands_in, declared.course.Reference.Reference, declared.judge.Facts.Facts, declared.judge.Judgement.Judgement}
+use Rattle.adf_findings.specs.{declared.progress.Progress.Progress, Found.AreNamed, Found.HasValidName, Found.IsChain, Found.is_owned, Found.new_in}
 use Rattle.adf_findings.specs.Survey.{Course, Judged, JudgementValue, JudgementValue.clean, JudgementValue.reported}
 use Rattle.adf_findings.specs.Forms.{first_failing, form_of, itself_by, judged_by, judgement_value, keeps}
-use Rattle.adf_findings.specs.Found.{AreNamed, HasValidName, IsChain, is_owned, new_in}
-use Rattle.adf_volume.specs.Parts.{role_of}
 use Rattle.adf_findings.specs.Courses.{Holds, IsJudged, IsNamed, IsNextReference, role_asked}
-use Rattle.adf_findings.proofs.CourseSteps.{known, known_chain, known_named}
+use Rattle.adf_findings.proofs.{CourseSteps.known, CourseSteps.known_chain, CourseSteps.known_named, Known.new_is}
 use Rattle.adf_findings.proofs.JudgementTests.{itself_whole, judged, name_cause, no_cause, other_cause, valid_name}
-use Rattle.adf_findings.proofs.Known.{new_is}
-use Rattle.adf_blocks.specs.Sizes.{in_range}
 
 module _ (image : List ℕ) (f : Progress) (x : Reference) (part : Part) (facts : Facts) where
   -- the judgement by all but the name, and by a name that is new or not

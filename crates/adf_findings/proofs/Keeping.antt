@@ -1,35 +1,22 @@
 -- The result for an image is that of its survey.
 use Rattle.std.specs.Prelude.{Bool, cond, ◌==◌, Some, None, ◌&&◌, Option, ◌-◌, false, true, map, not, slice_get, slice_index}
 use Rattle.std.proofs.Common.{◌≡◌, ℕ, List, [], ◌∷◌, ◌++◌, ◌≤◌, refl, sym, ap, subst, ◌∙◌, arith, ◌*◌, ◌<◌, length}
-use Rattle.std.specs.List.{AllZip, filter}
-use Rattle.std.specs.Option.{option_flatten}
+use Rattle.std.specs.{List.AllZip, List.filter, Option.option_flatten}
 use Rattle.std.proofs.lemmas.Grind.{common_steps}
 use Rattle.adf_blocks.specs.Sizes.{blocks}
 use Rattle.adf_volume.proofs.Gathered.{head_block, numbered as has_number, number_of}
 use Rattle.adf_volume.specs.Walk.{Has, heads, node_block, Walk, Role.Head}
 use Rattle.adf_volume.proofs.Roles.{head_role}
 use Rattle.adf_volume.specs.declared.owner.Owner.{Owner, TheVariants.Boot}
-use Rattle.adf_findings.proofs.Begun.{new_owned}
+use Rattle.adf_findings.proofs.{Begun.new_owned, Concerning.concerned_kept, Concerning.no_concern_nth, GraveFindings.grave_is, GraveFindings.grave_kept}
+use Rattle.adf_findings.proofs.{HeadPlaces.head_parent, BlockOwners.owner_is, OneSurvey.gathered, OneSurvey.one_survey, Starts.course_size}
 use Rattle.adf_findings.proofs.WalkOwners.{entry_is, number_is, owned_is}
-use Rattle.adf_findings.specs.Found.{AreOwned, IsCompleted}
-use Rattle.adf_findings.specs.Concerned.{is_contested}
-use Rattle.adf_findings.specs.Members.{parent_node, has_mark}
-use Rattle.adf_findings.specs.declared.found.Found.{Found}
-use Rattle.adf_findings.specs.declared.finding.Finding.{Finding}
-use Rattle.adf_findings.specs.Files.{counting, grave, is_light}
-use Rattle.adf_findings.specs.Marks.{blamed, is_blamed, is_clear, is_undoubted}
-use Rattle.adf_findings.specs.declared.concern.Concern.{Concern}
-use Rattle.adf_findings.specs.Parts.{finding_value}
+use Rattle.adf_findings.specs.{Found.AreOwned, Found.IsCompleted, Concerned.is_contested, Members.parent_node, Members.has_mark, declared.found.Found.Found}
+use Rattle.adf_findings.specs.{declared.finding.Finding.Finding, Files.counting, Files.grave, Files.is_light, Marks.blamed, Marks.is_blamed, Marks.is_clear}
+use Rattle.adf_findings.specs.{Marks.is_undoubted, declared.concern.Concern.Concern, Parts.finding_value, Sound.IsSound}
 use Rattle.adf_findings.specs.Survey.{FindingValue, IsSurvey, UnreadTells, IsSurvey.read, IsSurvey.unread}
-use Rattle.adf_findings.specs.Sound.{IsSound}
 use Rattle.adf_findings.specs.SurveyResult.{IsOfSurvey, SurveyValue, TellsOf, block_at}
-use Rattle.adf_findings.proofs.Concerning.{concerned_kept, no_concern_nth}
-use Rattle.adf_findings.proofs.GraveFindings.{grave_is, grave_kept}
-use Rattle.adf_findings.proofs.HeadPlaces.{head_parent}
-use Rattle.adf_findings.proofs.BlockOwners.{owner_is}
-use Rattle.adf_findings.proofs.OneSurvey.{gathered, one_survey}
 use Rattle.adf_findings.proofs.SoundMarks.{clear_is_sound, inside, unread_none}
-use Rattle.adf_findings.proofs.Starts.{course_size}
 
 -- nothing is taken of an image of which no block has an owner
 none_owned : {owners : List Owner} → owners ≡ Boot ∷ Boot ∷ [] → AreOwned 2 (record { owners = owners; node = 0 }) []

@@ -3,25 +3,16 @@ use Rattle.std.specs.Prelude.{Bool, true, false, not, ◌==◌, ◌||◌}
 use Rattle.std.proofs.Common.{◌≡◌, ◌≢◌, ℕ, zero, suc, List, [], ◌∷◌, inl, inr, ◌<◌, refl, sym, subst, ap, ◌∙◌, arith}
 use Rattle.std.specs.Str.{bytes_eq}
 use Rattle.std.proofs.lemmas.Bool.{and_parts, cases_Bool, eqb-true, eq-eqb, Decides.nat_tests}
-use Rattle.std.proofs.lemmas.Slice.Eq.{bytes_eq-Decides}
-use Rattle.std.proofs.lemmas.Grind.{common_steps}
+use Rattle.std.proofs.{lemmas.Slice.Eq.bytes_eq-Decides, lemmas.Grind.common_steps}
 use Rattle.adf_tree.specs.NameSet.{HasMore, Names, has}
 use Rattle.adf_names.specs.Texts.{is_name}
 use Rattle.adf_blocks.specs.Sizes.{blocks, in_range}
-use Rattle.adf_volume.specs.Image.{name_of}
-use Rattle.adf_volume.specs.Positions.{position_of}
-use Rattle.adf_volume.specs.Walk.{Role, Enough, Has, IsAbsent, Walk, Role.Head}
-use Rattle.adf_findings.specs.Demands.{NewNameIn, uppers_in}
+use Rattle.adf_volume.specs.{Image.name_of, Positions.position_of, Walk.Role, Walk.Enough, Walk.Has, Walk.IsAbsent, Walk.Walk, Walk.Role.Head, Parts.role_of}
+use Rattle.adf_findings.specs.{Demands.NewNameIn, Demands.uppers_in, declared.judge.Facts.Facts, declared.found.Found.Found, Survey.Course, Members.owns}
 use Rattle.adf_volume.specs.declared.part.Part.{Part, TheVariants.Head as HeadPart}
-use Rattle.adf_findings.specs.declared.judge.Facts.{Facts}
-use Rattle.adf_findings.specs.declared.found.Found.{Found}
-use Rattle.adf_findings.specs.Survey.{Course}
 use Rattle.adf_findings.specs.Forms.{IsContext, Knows, Tells}
-use Rattle.adf_findings.proofs.WalkOwners.{owned_is}
+use Rattle.adf_findings.proofs.{WalkOwners.owned_is, Names.other_name}
 use Rattle.adf_findings.specs.Found.{is_owned, AreNamed, HasValidName, IsChain, KeepsName, Stands, has_name, is_named, known_at, new_in}
-use Rattle.adf_findings.specs.Members.{owns}
-use Rattle.adf_volume.specs.Parts.{role_of}
-use Rattle.adf_findings.proofs.Names.{other_name}
 
 pub tells_absent : (w : Walk) (b : ℕ) → Tells (not (owns w b)) (IsAbsent w b)
 tells_absent [] b = λ q h. h

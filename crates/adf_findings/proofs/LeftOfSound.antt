@@ -4,34 +4,20 @@
 use Rattle.std.specs.Prelude.{◌&&◌, Bool, true, false, cond, None, Option, Some}
 use Rattle.std.proofs.Common.{◌≡◌, ℕ, suc, zero, List, [], ◌∷◌, ◌++◌, length, ◌+◌, ◌-◌, ◌*◌, ◌<◌, ◌≤◌, refl, sym, ap, subst, add-one, ◌∙◌, arith}
 use Rattle.std.specs.List.{concat}
-use Rattle.std.proofs.lemmas.List.{append_assoc, append-nil}
-use Rattle.std.proofs.Math.Nat.{min-eq_left}
-use Rattle.std.proofs.lemmas.Bool.Decides.{nat_tests}
-use Rattle.std.proofs.lemmas.Grind.{common_steps}
+use Rattle.std.proofs.{lemmas.List.append_assoc, lemmas.List.append-nil, Math.Nat.min-eq_left, lemmas.Bool.Decides.nat_tests, lemmas.Grind.common_steps}
 use Rattle.adf_base.specs.Words.{block}
 use Rattle.adf_names.specs.declared.kind.Kind.{Kind, TheVariants.Ofs, TheVariants.Ffs}
-use Rattle.adf_blocks.specs.declared.layout.TheConstants.{SIZE}
-use Rattle.adf_blocks.specs.Sizes.{blocks, chunk, count}
-use Rattle.adf_volume.specs.Image.{held, kind_of, piece, pieces, word_in}
-use Rattle.adf_volume.specs.Lists.{At}
-use Rattle.adf_volume.specs.Made.{datas_in, is_data_of}
-use Rattle.adf_volume.specs.Demands.{AllHold, data_demands}
-use Rattle.adf_volume.specs.Walk.{Has, FileAt, data_count, node_block, Walk, Role.Data}
-use Rattle.adf_volume.proofs.Lists.{at_some}
+use Rattle.adf_blocks.specs.{declared.layout.TheConstants.SIZE, Sizes.blocks, Sizes.chunk, Sizes.count}
+use Rattle.adf_volume.specs.{Image.held, Image.kind_of, Image.piece, Image.pieces, Image.word_in, Lists.At, Made.datas_in, Made.is_data_of, Demands.AllHold}
+use Rattle.adf_volume.specs.{Demands.data_demands, Walk.Has, Walk.FileAt, Walk.data_count, Walk.node_block, Walk.Walk, Walk.Role.Data}
+use Rattle.adf_volume.proofs.{Lists.at_some, WalkMembers.picked_within}
 use Rattle.adf_findings.specs.Files.{IsSoundFile, counting, file_content, file_in, named_from}
 use Rattle.adf_findings.specs.Remains.{below, blocks_stated, bytes_in, bytes_left, data_alone, data_found, data_left, gaps_left, gaps_of}
 use Rattle.adf_findings.specs.Remains.{left_below, left_of, own_data, size_stated, unless_contested, with_lost}
 use Rattle.adf_findings.specs.Sound.{FileHolds, IsSound, says_data_of}
 use Rattle.adf_findings.specs.Survey.{BitsTell, Course, FindingValue, IsCourse, IsDone, IsSurvey, IsSurvey.read, IsSurvey.unread}
-use Rattle.adf_findings.proofs.AllSound.{all_sound}
-use Rattle.adf_findings.proofs.RoleBlocks.{taken_at}
-use Rattle.adf_findings.proofs.OneSurvey.{gathered}
-use Rattle.adf_findings.proofs.OwnedWalks.{few_parts}
-use Rattle.adf_findings.proofs.SoundEntries.{whole_file}
-use Rattle.adf_findings.proofs.SoundFiles.{file_told, joined_content, whole_listed}
-use Rattle.adf_findings.proofs.Contested.{not_contested}
-use Rattle.adf_findings.proofs.DataFound.{found_named}
-use Rattle.adf_volume.proofs.WalkMembers.{picked_within}
+use Rattle.adf_findings.proofs.{AllSound.all_sound, RoleBlocks.taken_at, OneSurvey.gathered, OwnedWalks.few_parts, SoundEntries.whole_file}
+use Rattle.adf_findings.proofs.{SoundFiles.file_told, SoundFiles.joined_content, SoundFiles.whole_listed, Contested.not_contested, DataFound.found_named}
 
 -- a file with so many data blocks is no longer than so many blocks
 fits_in : (kind : Kind) (size n : ℕ) → count kind size ≤ n → size ≤ 512 * n

@@ -1,17 +1,11 @@
 -- Look-up of paths among the entries found, and which of these are files.
 use Rattle.std.proofs.Common.{Bool, true, ◌↔◌, drop, get_or, ◌≡◌, ℕ, zero, suc, List, ◌∷◌, ◌+◌, ◌==◌, length, ◌<◌, ◌≤◌, sym, ap, subst, ◌∙◌, arith}
-use Rattle.std.proofs.Math.Seq.{drop-cons}
-use Rattle.std.proofs.lemmas.Bool.{eqb-true, eq-eqb}
+use Rattle.std.proofs.{Math.Seq.drop-cons, lemmas.Bool.eqb-true, lemmas.Bool.eq-eqb, lemmas.Slice.Eq.bytes_eq-Decides, lemmas.Grind.common_steps}
 use Rattle.std.specs.Str.{bytes_eq}
-use Rattle.std.proofs.lemmas.Slice.Eq.{bytes_eq-Decides}
-use Rattle.adf_volume.specs.Image.{name_of, word_in}
+use Rattle.adf_volume.specs.{Image.name_of, Image.word_in, Walk.FileAt, Walk.Has, Walk.HeadAt, Walk.heads, Walk.node_block, Walk.Walk, Walk.Role.Head}
 use Rattle.adf_blocks.specs.declared.layout.TheConstants.{SECONDARY_TYPE, ST_FILE}
-use Rattle.std.proofs.lemmas.Grind.{common_steps}
-use Rattle.adf_volume.specs.Walk.{FileAt, Has, HeadAt, heads, node_block, Walk, Role.Head}
-use Rattle.adf_volume.proofs.Gathered.{head_block, number_of, parent_below, node_there}
-use Rattle.adf_volume.proofs.Roles.{head_at}
-use Rattle.adf_findings.specs.Demands.{uppers_in}
-use Rattle.adf_findings.specs.Lookup.{IsNamedChild, IsFirstChild, LeadsTo}
+use Rattle.adf_volume.proofs.{Gathered.head_block, Gathered.number_of, Gathered.parent_below, Gathered.node_there, Roles.head_at}
+use Rattle.adf_findings.specs.{Demands.uppers_in, Lookup.IsNamedChild, Lookup.IsFirstChild, Lookup.LeadsTo}
 use Rattle.adf_findings.specs.Survey.{FindingValue, IsSurvey, IsSurvey.read, IsSurvey.unread}
 use Rattle.adf_findings.proofs.OneSurvey.{gathered}
 

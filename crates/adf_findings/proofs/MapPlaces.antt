@@ -1,17 +1,13 @@
 -- The positions of a course among the bitmap pages: a bitmap extension block comes before its pages.
 use Rattle.std.proofs.Common.{Option, Some, None, ◌≡◌, ℕ, List, ◌∷◌, inl, ◌+◌, ◌-◌, ◌/◌, ◌%◌, ◌<◌, ◌≤◌, refl, sym, subst, arith}
 use Rattle.std.proofs.lemmas.Grind.{common_steps}
-use Rattle.adf_blocks.specs.declared.layout.TheConstants.{MAP_EXT_PAGES, ROOT_PAGES}
-use Rattle.adf_blocks.specs.Sizes.{blocks, pages_needed}
-use Rattle.adf_volume.specs.Image.{word_in}
+use Rattle.adf_blocks.specs.{declared.layout.TheConstants.MAP_EXT_PAGES, declared.layout.TheConstants.ROOT_PAGES, Sizes.blocks, Sizes.pages_needed}
+use Rattle.adf_volume.specs.{Image.word_in, Walk.NamesPage, Walk.Role.Page, Walk.Role.MapExt}
 use Rattle.adf_volume.specs.Positions.{IsPageHolder, Position, before_page, position_of, word_of_map_ext, word_of_page}
-use Rattle.adf_volume.specs.Walk.{NamesPage, Role.Page, Role.MapExt}
-use Rattle.adf_volume.proofs.MemberFacts.{names_up}
+use Rattle.adf_volume.proofs.{MemberFacts.names_up, PositionSteps.end_map, PositionSteps.map_broken}
 use Rattle.adf_volume.proofs.Pointers.{behind_map_ext, behind_page, map_ext_asks, map_ext_next, names_first, next_holder}
-use Rattle.adf_volume.proofs.PositionSteps.{end_map, map_broken}
 use Rattle.adf_volume.specs.declared.part.Part.TheVariants.{Page as PagePart, MapExt as MapExtPart}
-use Rattle.adf_findings.specs.declared.progress.Progress.{Progress}
-use Rattle.adf_findings.specs.Survey.{Course}
+use Rattle.adf_findings.specs.{declared.progress.Progress.Progress, Survey.Course}
 use Rattle.adf_findings.specs.Courses.{HasReachedPage, Holds, IsGoneOn, IsNamed, IsPageNamed, due_below}
 use Rattle.adf_findings.proofs.CourseSteps.{moved}
 

@@ -2,17 +2,13 @@
 -- Letters: s a course, w a walk; n a node; m the number of a block in its table, a and c blocks.
 use Rattle.std.specs.Prelude.{Bool, true, false, cond, ◌==◌}
 use Rattle.std.proofs.Common.{◌≡◌, ℕ, zero, suc, List, [], ◌∷◌, inl, inr, ◌<◌, ◌≤◌, refl, sym, arith}
-use Rattle.std.proofs.lemmas.Bool.{eqb-true}
-use Rattle.std.proofs.lemmas.Grind.{common_steps}
-use Rattle.adf_blocks.specs.declared.layout.TheConstants.{EXTENSION}
-use Rattle.adf_blocks.specs.Sizes.{blocks}
+use Rattle.std.proofs.{lemmas.Bool.eqb-true, lemmas.Grind.common_steps}
+use Rattle.adf_blocks.specs.{declared.layout.TheConstants.EXTENSION, Sizes.blocks}
 use Rattle.adf_volume.specs.Image.{word_in}
 use Rattle.adf_volume.specs.Walk.{Asks, Has, MemberAt, Walk, ext_block_in, ext_count, member_block, Role.Root, Role.Head, Role.Ext}
-use Rattle.adf_volume.proofs.Gathered.{IsGathered, ext_below, member_is}
-use Rattle.adf_volume.proofs.Roles.{member_up}
+use Rattle.adf_volume.proofs.{Gathered.IsGathered, Gathered.ext_below, Gathered.member_is, Roles.member_up}
 use Rattle.adf_findings.specs.Survey.{Course, IsCourse, IsCourse.start, IsCourse.step, JudgementValue.clean, JudgementValue.reported, JudgementValue.skipped}
-use Rattle.adf_findings.proofs.OneSurvey.{gathered}
-use Rattle.adf_findings.proofs.SoundMarks.{inside}
+use Rattle.adf_findings.proofs.{OneSurvey.gathered, SoundMarks.inside}
 
 asks_member : (image : List ℕ) (w : Walk) (n m a i : ℕ) → Asks image w (Ext n (suc m)) a i → MemberAt image w n m a × (i ≡ EXTENSION)
 asks_member image w n zero a i h = (h.0, h.1)

@@ -1,17 +1,12 @@
 -- Names in blocks, and names in upper case.
-use Rattle.std.specs.Prelude.{false, min, slice_index, slice_range, true}
+use Rattle.std.specs.{Prelude.false, Prelude.min, Prelude.slice_index, Prelude.slice_range, Prelude.true, Str.bytes_eq}
 use Rattle.std.proofs.Common.{◌≡◌, ℕ, List, ◌+◌, ◌*◌, ◌-◌, ◌<◌, ◌≤◌, length, drop, take, arith}
-use Rattle.std.specs.Str.{bytes_eq}
 use Rattle.std.proofs.lemmas.Bool.{cases_lt, false_from_ne_true}
-use Rattle.std.proofs.lemmas.List.{length-drop, take_all}
-use Rattle.std.proofs.lemmas.Slice.Eq.{bytes_eq-Decides}
-use Rattle.std.proofs.lemmas.Grind.{common_steps}
-use Rattle.adf_base.specs.Words.{block}
-use Rattle.adf_base.specs.declared.hash.Letters.{Letters}
+use Rattle.std.proofs.{lemmas.List.length-drop, lemmas.List.take_all, lemmas.Slice.Eq.bytes_eq-Decides, lemmas.Grind.common_steps}
+use Rattle.adf_base.specs.{Words.block, declared.hash.Letters.Letters}
 use Rattle.adf_names.specs.Texts.{is_name, uppers_by}
 use Rattle.adf_names.proofs.RaisedNames.{raised_name}
-use Rattle.adf_blocks.specs.declared.layout.TheConstants.{NAME}
-use Rattle.adf_blocks.specs.Sizes.{blocks}
+use Rattle.adf_blocks.specs.{declared.layout.TheConstants.NAME, Sizes.blocks}
 use Rattle.adf_volume.specs.Image.{name_of}
 use Rattle.adf_volume.proofs.Images.{block_length}
 

@@ -2,16 +2,10 @@
 use Rattle.std.proofs.Common.{None, ◌≡◌, ℕ, suc, List, ◌∷◌, ◌++◌, ◌+◌, ◌<◌, length, refl, sym, subst, ◌∙◌, arith}
 use Rattle.std.proofs.lemmas.Grind.{common_steps}
 use native.Mathlib.Decide.{dec_lt}
-use Rattle.adf_volume.specs.Image.{word_in}
-use Rattle.adf_volume.specs.Demands.{Demand}
-use Rattle.adf_volume.specs.Walk.{Role, Same, Asks, bitmap_demands, Walk}
-use Rattle.adf_volume.proofs.Lists.{fails_not_all}
-use Rattle.adf_volume.proofs.OneFault.{fails_one, neither_before, number_is}
-use Rattle.adf_volume.proofs.Roles.{same_role}
-use Rattle.adf_findings.specs.Demands.{demands_in}
+use Rattle.adf_volume.specs.{Image.word_in, Demands.Demand, Walk.Role, Walk.Same, Walk.Asks, Walk.bitmap_demands, Walk.Walk}
+use Rattle.adf_volume.proofs.{Lists.fails_not_all, OneFault.fails_one, OneFault.neither_before, OneFault.number_is, Roles.same_role}
+use Rattle.adf_findings.specs.{Demands.demands_in, Survey.JudgementValue.clean, Survey.JudgementValue.skipped, Survey.IsCourse.start, Survey.IsCourse.step}
 use Rattle.adf_findings.specs.Survey.{FindingValue, finding, JudgementValue, Judged, begun, Course, after, IsNext, IsCourse, IsDone, BitsTell, IsSurvey}
-use Rattle.adf_findings.specs.Survey.JudgementValue.{clean, skipped}
-use Rattle.adf_findings.specs.Survey.IsCourse.{start, step}
 use Rattle.adf_findings.specs.Survey.BitsTell.{ends, agrees, differs}
 use Rattle.adf_volume.proofs.Gathered.{IsGathered, asks_one, IsGathered.start as gathered_start, IsGathered.step as gathered_step}
 use Rattle.adf_findings.proofs.Starts.{boot_one, boot_told, not_unread, root_one, root_told, unread_one}

@@ -4,15 +4,10 @@ use Rattle.std.proofs.Common.{◌&&◌, ◌↔◌, Bool, nat_le, true, false, �
 use Rattle.std.proofs.lemmas.Bool.{cases_lt, Decides.nat_tests}
 use Rattle.adf_volume.specs.Walk.{Has, HeadAt, node_block, Walk, Role.Page}
 use Rattle.adf_volume.proofs.Gathered.{IsGathered, IsGathered.start, IsGathered.step}
-use Rattle.adf_findings.specs.Files.{counting, grave}
+use Rattle.adf_findings.specs.{Files.counting, Files.grave, Members.has_mark, Sound.IsSound, SurveyResult.IsOfSurvey, SurveyResult.SurveyValue}
 use Rattle.adf_findings.specs.SoundMarks.{AreMarks, mark_in, whole_in}
-use Rattle.adf_findings.specs.Members.{has_mark}
-use Rattle.adf_findings.specs.Sound.{IsSound}
 use Rattle.adf_findings.specs.Survey.{BootTells, FindingValue, IsSurvey, OnSurvey, RootTells, UnreadTells, IsSurvey.read, IsSurvey.unread}
-use Rattle.adf_findings.specs.SurveyResult.{IsOfSurvey, SurveyValue}
-use Rattle.adf_findings.proofs.Keeping.{root_no_entry, tells_each}
-use Rattle.adf_findings.proofs.OneSurvey.{gathered}
-use Rattle.adf_findings.proofs.Starts.{boot_told, not_unread, root_told}
+use Rattle.adf_findings.proofs.{Keeping.root_no_entry, Keeping.tells_each, OneSurvey.gathered, Starts.boot_told, Starts.not_unread, Starts.root_told}
 
 pub some_part : (image : List ℕ) (w : Walk) → IsGathered image w → w ≡ [] → ⊥
 some_part image w start e = cc

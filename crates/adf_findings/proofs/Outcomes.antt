@@ -3,25 +3,14 @@ use Rattle.std.proofs.Common.{Some, None, ◌≡◌, ℕ, List, [], ◌∷◌, �
 use Rattle.std.specs.Global.{Vec}
 use Rattle.std.proofs.lemmas.Grind.{common_steps}
 use Rattle.adf_blocks.specs.declared.cause.Cause.{Cause}
-use Rattle.adf_volume.specs.Walk.{Role}
-use Rattle.adf_findings.specs.Demands.{demands_in}
-use Rattle.adf_volume.specs.declared.part.Part.{Part}
-use Rattle.adf_findings.specs.declared.finding.Finding.{Finding}
-use Rattle.adf_findings.specs.declared.course.Reference.{Reference}
+use Rattle.adf_volume.specs.{Walk.Role, declared.part.Part.Part, Parts.role_of}
+use Rattle.adf_findings.specs.{Demands.demands_in, declared.finding.Finding.Finding, declared.course.Reference.Reference, declared.found.Found.Found}
+use Rattle.adf_findings.specs.{declared.progress.Progress.Progress, Survey.IsCourse.step, Forms.judgement_value, Found.IsBlockSkipped, Found.Stands}
+use Rattle.adf_findings.specs.{Parts.finding_value, Courses.IsNextReference, Courses.IsOutcome, Courses.KeepsNameBy, Courses.noted, Courses.role_asked}
 use Rattle.adf_findings.specs.declared.judge.Judgement.{Judgement, TheVariants.Clean, TheVariants.Reported, TheVariants.Skipped}
-use Rattle.adf_findings.specs.declared.found.Found.{Found}
-use Rattle.adf_findings.specs.declared.progress.Progress.{Progress}
 use Rattle.adf_findings.specs.Survey.{Course, FindingValue, IsCourse, Judged, JudgementValue, after, finding, JudgementValue.reported, JudgementValue.skipped}
-use Rattle.adf_findings.specs.Survey.IsCourse.{step}
-use Rattle.adf_findings.specs.Forms.{judgement_value}
-use Rattle.adf_findings.specs.Found.{IsBlockSkipped, Stands}
-use Rattle.adf_findings.specs.Parts.{finding_value}
-use Rattle.adf_volume.specs.Parts.{role_of}
-use Rattle.adf_findings.specs.Courses.{IsNextReference, IsOutcome, KeepsNameBy, noted, role_asked}
 use Rattle.adf_volume.proofs.PartDemands.{part_holds_by}
-use Rattle.adf_findings.proofs.JudgementTests.{itself_holds}
-use Rattle.adf_findings.proofs.Known.{no_owner}
-use Rattle.adf_findings.proofs.Taking.{stands_but, stands_skipped}
+use Rattle.adf_findings.proofs.{JudgementTests.itself_holds, Known.no_owner, Taking.stands_but, Taking.stands_skipped}
 
 module _ {image : List ℕ} {f : Progress} {s : Course} (x : Reference) (v : IsCourse image s) (st : Stands image f.found s)
     (heard : s.findings ≡ noted f) (n : IsNextReference image s x) (part : Part) (is : role_of part ≡ role_asked s x.due.part) (j : Judgement)

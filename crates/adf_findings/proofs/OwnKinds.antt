@@ -1,28 +1,19 @@
 -- What the entries of a survey tell of the type of their volume.
 -- Letters: w the walk of a survey; v a result; t, u tallies; k a number of blocks, or of a data block; n that of an entry; r a role.
-use Rattle.std.specs.Prelude.{Bool, false, true, cond, nat_lt, Option, Some, None, slice_index}
+use Rattle.std.specs.Prelude.{Bool, false, true, cond, is_some, nat_lt, Option, Some, None, slice_index}
 use Rattle.std.specs.Option.{unwrap_or}
-use Rattle.std.proofs.Common.{◌≡◌, ℕ, zero, suc, List, [], ◌==◌, ◌+◌, ◌≤◌, inl, inr, add-one, ap, refl, sym, ◌<◌, ◌∙◌, arith}
-use Rattle.std.proofs.lemmas.Bool.{cases_lt, Decides.eqb_tells, Decides.nat_tests}
-use Rattle.std.proofs.lemmas.Grind.{common_steps}
+use Rattle.std.proofs.Common.{◌≡◌, ℕ, zero, suc, List, [], ◌==◌, ◌+◌, ◌≤◌, inl, inr, add-one, ap, refl, subst, sym, ◌<◌, ◌∙◌, arith}
+use Rattle.std.proofs.{lemmas.Bool.cases_lt, lemmas.Bool.Decides.eqb_tells, lemmas.Bool.Decides.nat_tests, lemmas.Grind.common_steps}
 use Rattle.adf_names.specs.declared.kind.Kind.{Kind, TheVariants.Ofs, TheVariants.Ffs}
 use Rattle.adf_blocks.specs.Sizes.{blocks}
-use Rattle.adf_volume.specs.Image.{kind_of}
-use Rattle.adf_volume.specs.Walk.{Has, heads, node_block, Walk, Role.Data}
+use Rattle.adf_volume.specs.{Image.kind_of, Walk.Has, Walk.heads, Walk.node_block, Walk.Walk, Walk.Role.Data, Parts.entry_of}
 use Rattle.adf_volume.proofs.Gathered.{number_of}
-use Rattle.adf_findings.specs.declared.own_kind.Tally.{Tally}
-use Rattle.adf_findings.specs.Members.{number_at, owning_entry}
-use Rattle.adf_findings.specs.OwnKind.{has_other_kind, is_full_file, is_mistyped, is_other_kind, passing, said_at, said_in, tallied, tally}
-use Rattle.adf_findings.specs.OwnKind.{told_type}
-use Rattle.adf_findings.specs.Sound.{IsSound, says_data_of}
+use Rattle.adf_findings.specs.{declared.own_kind.Tally.Tally, Members.number_at, Members.owning_entry, OwnKind.tallied, OwnKind.tally, OwnKind.told_type}
+use Rattle.adf_findings.specs.{Sound.IsSound, Sound.says_data_of, WalkOwners.data_number_of, SurveyResult.SurveyValue, SurveyResult.TellsOf}
+use Rattle.adf_findings.specs.OwnKind.{has_other_kind, is_filled, is_full_file, is_mistyped, is_other_kind, kind_said, passing, said_at, said_in}
 use Rattle.adf_findings.specs.Survey.{FindingValue, IsSurvey, IsSurvey.read, IsSurvey.unread}
 use Rattle.adf_walk.specs.Owners.{owner_at}
-use Rattle.adf_findings.specs.WalkOwners.{data_number_of}
-use Rattle.adf_volume.specs.Parts.{entry_of}
-use Rattle.adf_findings.specs.SurveyResult.{SurveyValue, TellsOf}
-use Rattle.adf_findings.proofs.BlockOwners.{held_data}
-use Rattle.adf_findings.proofs.OneSurvey.{gathered}
-use Rattle.adf_findings.proofs.SoundMarks.{taken_wanted}
+use Rattle.adf_findings.proofs.{BlockOwners.held_data, OneSurvey.gathered, SoundMarks.taken_wanted}
 
 -- the number kept of a block is that of its entry
 pub kept_owner : (m : ℕ) (o : Option ℕ) → cond (m == 0) None (Some m) ≡ o → unwrap_or o 0 ≡ m
@@ -37,7 +28,7 @@ kept_said {v = v} {w = w} t image b =
     let own : unwrap_or (owning_entry w b) 0 ≡ entry_of (owner_at v.owners b) = kept_owner (entry_of (owner_at v.owners b)) (owning_entry w b) (t.owner b) in
     let head : slice_index v.nodes (entry_of (owner_at v.owners b)) ≡ node_block w (unwrap_or (owning_entry w b) 0) =
     t.node (entry_of (owner_at v.owners b)) ∙ ap (node_block w) (sym own) in
-    λ i. cond (number i == 0) None (Some (says_data_of image (head i) (number i) b))
+    λ i. cond (number i == 0) None (kind_said image (head i) (number i) b)
 
 pub tally_none : (image : List ℕ) (w : Walk) → tally image w 0 ≡ record { says = 0; others = 0 }
 unfolding tally
@@ -64,14 +55,24 @@ data_entry image w fs (read v d t) n k b h = elim (taken_wanted image v (Data n 
   | inr x ↦ number_of image (gathered image v) x.asked.0.1.header
 ]
 
+none_said_by : (filled : Bool) → cond filled None (Some false) ≡ Some true → ⊥
+none_said_by true e = cc
+none_said_by false e = cc
+
 -- no data block of entries that are sound by some findings says that it is an OFS one
 module _ (image : List ℕ) (w : Walk) (fs gs : List FindingValue) (v : IsSurvey image w fs) (ffs : kind_of image ≡ Ffs)
     (sound : (n : ℕ) → 1 ≤ n → n ≤ heads w → IsSound image w gs n (node_block w n)) where
+  not_said_of : (h k b : ℕ) → says_data_of image h k b ≡ false → kind_said image h k b ≡ Some true → ⊥
+  not_said_of h k b other e =
+      let said : cond false (Some true) (cond (is_filled image b) None (Some false)) ≡ Some true =
+      ap (λ s. cond s (Some true) (cond (is_filled image b) None (Some false))) (sym other) ∙ e in
+      none_said_by (is_filled image b) said
+
   none_said : (b : ℕ) → said_at image w b ≡ Some true → ⊥
   none_said b e = go (number_at w b) refl e
     where
       go : (k : ℕ) → number_at w b ≡ k
-          → cond (k == 0) None (Some (says_data_of image (node_block w (unwrap_or (owning_entry w b) 0)) k b)) ≡ Some true → ⊥
+          → cond (k == 0) None (kind_said image (node_block w (unwrap_or (owning_entry w b) 0)) k b) ≡ Some true → ⊥
       go zero is e = cc
       go (suc k) is e =
           let some : (suc k == 0) ≡ false = grind (arith, nat_tests) in
@@ -79,9 +80,9 @@ module _ (image : List ℕ) (w : Walk) (fs gs : List FindingValue) (v : IsSurvey
           let (lo, hi) = data_entry image w fs v n k b has in
           let here : unwrap_or (owning_entry w b) 0 ≡ n = ap (λ o. unwrap_or o 0) own in
           let not_said = ap (λ m. says_data_of image (node_block w m) (suc k) b) here ∙ (sound n lo hi).own ffs (suc k) b has in
-          let said : Some (says_data_of image (node_block w (unwrap_or (owning_entry w b) 0)) (suc k) b) ≡ Some true =
-          ap (λ t. cond t None (Some (says_data_of image (node_block w (unwrap_or (owning_entry w b) 0)) (suc k) b))) (sym some) ∙ e in
-          let clash : Some false ≡ Some true = ap Some (sym not_said) ∙ said in cc
+          let said : kind_said image (node_block w (unwrap_or (owning_entry w b) 0)) (suc k) b ≡ Some true =
+          ap (λ t. cond t None (kind_said image (node_block w (unwrap_or (owning_entry w b) 0)) (suc k) b)) (sym some) ∙ e in
+          not_said_of (node_block w (unwrap_or (owning_entry w b) 0)) (suc k) b not_said said
 
   says_same : (t : Tally) (o : Option Bool) → (o ≡ Some true → ⊥) → (tallied t o).says ≡ t.says
   says_same t o h = grind (arith, common_steps)
@@ -111,17 +112,24 @@ unfolding tally
 no_tally image zero = refl
 no_tally image (suc k) = no_tally image k
 
--- a data block is counted
-one_counted : (image : List ℕ) (w : Walk) (k : ℕ) → (number_at w k == 0) ≡ false → 1 ≤ counted (tally image w (k + 1))
+-- a data block that tells is counted
+some_tallied : (t : Tally) (o : Option Bool) → is_some o ≡ true → 1 ≤ (tallied t o).says + (tallied t o).others
+some_tallied t None e = cc
+some_tallied t (Some true) e = omega arith
+some_tallied t (Some false) e = omega arith
+
+one_counted : (image : List ℕ) (w : Walk) (k : ℕ) → is_some (said_at image w k) ≡ true → 1 ≤ counted (tally image w (k + 1))
 unfolding counted
-one_counted image w k e = grind (arith, common_steps, tally_more)
+one_counted image w k e =
+    let more : tally image w (k + 1) ≡ tallied (tally image w k) (said_at image w k) = tally_more image w k in
+    subst (λ (t : Tally). 1 ≤ t.says + t.others) (sym more) (some_tallied (tally image w k) (said_at image w k) e)
 
 -- and stays counted
 stays_counted : (t : Tally) (o : Option Bool) → counted t ≤ counted (tallied t o)
 unfolding counted
 stays_counted t o = grind (arith, common_steps)
 
-pub some_counted : (image : List ℕ) (w : Walk) (b k : ℕ) → b < k → (number_at w b == 0) ≡ false → 1 ≤ counted (tally image w k)
+pub some_counted : (image : List ℕ) (w : Walk) (b k : ℕ) → b < k → is_some (said_at image w b) ≡ true → 1 ≤ counted (tally image w k)
 some_counted image w b zero lt e = absurd (omega arith)
 some_counted image w b (suc k) lt e = elim (cases_lt b k) [
   | inl below ↦
@@ -140,20 +148,18 @@ some_counted image w b (suc k) lt e = elim (cases_lt b k) [
 
 -- so the tally tells that there is one
 pub some_found : {v : SurveyValue} {w : Walk} {fs : List FindingValue} → TellsOf v w fs → (image : List ℕ) (b k : ℕ) → b < k
-    → (data_number_of (owner_at v.owners b) == 0) ≡ false → false ≡ ((tally image w k).says + (tally image w k).others == 0)
+    → is_some (said_in image v b) ≡ true → false ≡ ((tally image w k).says + (tally image w k).others == 0)
 unfolding counted
 some_found {v = v} {w = w} t image b k lt e =
-    let some : 1 ≤ counted (tally image w k) = some_counted image w b k lt (ap (λ n. n == 0) (sym (t.number b)) ∙ e) in
+    let some : 1 ≤ counted (tally image w k) = some_counted image w b k lt (ap is_some (sym (kept_said t image b)) ∙ e) in
     let not : ((tally image w k).says + (tally image w k).others == 0) ≡ false = grind (arith, nat_tests) in sym not
 
 -- and that there is none
 pub none_found : {v : SurveyValue} {w : Walk} {fs : List FindingValue} → TellsOf v w fs → (image : List ℕ) (k : ℕ)
-    → data_number_of (owner_at v.owners k) ≡ 0 → tally image w k ≡ record { says = 0; others = 0 }
+    → said_in image v k ≡ None → tally image w k ≡ record { says = 0; others = 0 }
     → tally image w (k + 1) ≡ record { says = 0; others = 0 }
 none_found {v = v} {w = w} t image k e none =
-    let zero_is : number_at w k ≡ 0 = sym (t.number k) ∙ e in
-    let said : said_at image w k ≡ None =
-    ap (λ n. cond (n == 0) None (Some (says_data_of image (node_block w (unwrap_or (owning_entry w k) 0)) n k))) zero_is in
+    let said : said_at image w k ≡ None = sym (kept_said t image k) ∙ e in
     tally_more image w k ∙ ap (tallied (tally image w k)) said ∙ none
 
 pub passing_none : (test : ℕ → Bool) → passing test 0 ≡ 0

@@ -1,23 +1,15 @@
 -- As many blocks have parts as their owners as the walk of a course has members.
 -- Letters: w a walk; r a role; b its block; o, p owners of blocks.
 use Rattle.std.proofs.Common.{◌≡◌, ℕ, List, [], ◌∷◌, ◌-◌, ◌<◌, ◌≤◌, length, set, replicate, refl, arith}
-use Rattle.std.proofs.lemmas.List.Sums.{count_by-le-length}
-use Rattle.std.proofs.lemmas.Grind.{common_steps}
+use Rattle.std.proofs.{lemmas.List.Sums.count_by-le-length, lemmas.Grind.common_steps}
 use Rattle.adf_blocks.specs.Sizes.{blocks}
 use Rattle.adf_volume.specs.declared.owner.Owner.TheVariants.{Boot, Free}
-use Rattle.adf_volume.specs.Image.{root_of, word_in}
-use Rattle.adf_volume.specs.LayoutRoles.{owner_of}
-use Rattle.adf_volume.specs.Walk.{Has, Role, Walk, Role.Root}
-use Rattle.adf_volume.proofs.PartDemands.{part_holds_by}
-use Rattle.adf_volume.proofs.Sizes.{size_low}
+use Rattle.adf_volume.specs.{Image.root_of, Image.word_in, LayoutRoles.owner_of, Walk.Has, Walk.Role, Walk.Walk, Walk.Role.Root}
+use Rattle.adf_volume.proofs.{PartDemands.part_holds_by, Sizes.size_low}
 use Rattle.adf_walk.specs.Owners.{owned_count}
-use Rattle.adf_findings.specs.WalkOwners.{OwnersValue, node_after}
-use Rattle.adf_findings.specs.Found.{AreOwned}
+use Rattle.adf_findings.specs.{WalkOwners.OwnersValue, WalkOwners.node_after, Found.AreOwned}
 use Rattle.adf_findings.specs.Survey.{Course, IsCourse, IsCourse.start, IsCourse.step, JudgementValue.clean, JudgementValue.reported, JudgementValue.skipped}
-use Rattle.adf_findings.proofs.Begun.{new_count, new_owned}
-use Rattle.adf_findings.proofs.JudgementTests.{itself_holds}
-use Rattle.adf_findings.proofs.Known.{no_owner}
-use Rattle.adf_findings.proofs.Starts.{course_size}
+use Rattle.adf_findings.proofs.{Begun.new_count, Begun.new_owned, JudgementTests.itself_holds, Known.no_owner, Starts.course_size}
 use Rattle.adf_findings.proofs.WalkOwners.{count_more, free_is, owned_more, part_owns}
 
 -- the owners of the blocks of a walk: so many are parts as it has members

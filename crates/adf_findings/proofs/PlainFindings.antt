@@ -2,15 +2,10 @@
 use Rattle.std.proofs.Common.{◌≡◌, ℕ, List, []}
 use Rattle.adf_base.specs.declared.hash.Letters.TheVariants.{Ascii}
 use Rattle.adf_tree.specs.Tree.{Tree}
-use Rattle.adf_volume.specs.Fits.{Fits}
-use Rattle.adf_volume.specs.Layout.{Layout}
-use Rattle.adf_volume.specs.Made.{layout_in, tree_in}
-use Rattle.adf_volume.specs.Walk.{Walk}
+use Rattle.adf_volume.specs.{Fits.Fits, Layout.Layout, Made.layout_in, Made.tree_in, Walk.Walk, declared.types.Types.TheVariants.Plain}
 use Rattle.adf_findings.specs.Survey.{FindingValue, IsSurvey}
-use Rattle.adf_volume.specs.declared.types.Types.TheVariants.{Plain}
 use Rattle.adf_findings.proofs.FirstFindings as by
-use Rattle.adf_findings.proofs.FirstFindings.{Shows}
-use Rattle.adf_findings.proofs.TypesRead.{types_read}
+use Rattle.adf_findings.proofs.{FirstFindings.Shows, TypesRead.types_read}
 
 pub shown : (image : List ℕ) {w : Walk} → IsSurvey image w [] → Shows image Ascii w []
 shown image {w} v = by.shows_none image Ascii [] (types_read image Plain) w v

@@ -6,8 +6,7 @@ use Rattle.std.proofs.lemmas.Bool.{and_parts, cases_Bool, cond-false, cond-true,
 use Rattle.std.proofs.lemmas.Grind.{common_steps}
 use Rattle.adf_tree.proofs.NameKeys.{same_number}
 use Rattle.adf_volume.specs.Walk.{Role, Has, Lacks, Same, Walk, Role.Page}
-use Rattle.adf_volume.proofs.Gathered.{IsGathered, one_block}
-use Rattle.adf_volume.proofs.Roles.{same_of, same_refl, same_role}
+use Rattle.adf_volume.proofs.{Gathered.IsGathered, Gathered.one_block, Roles.same_of, Roles.same_refl, Roles.same_role}
 use Rattle.adf_findings.specs.Members.{at_role, is_same}
 
 same_is : (r q : Role) → is_same r q ≡ true → Same r q

@@ -1,20 +1,14 @@
 -- What a path leads to in a survey is decided.
 -- Letters: w the walk of a survey, fs its findings; p, n nodes; k a number of nodes.
-use Rattle.std.specs.Prelude.{Bool, true, false}
-use Rattle.std.specs.Str.{bytes_eq}
+use Rattle.std.specs.{Prelude.Bool, Prelude.true, Prelude.false, Str.bytes_eq}
 use Rattle.std.proofs.Common.{◌≡◌, ◌⊎◌, ℕ, zero, suc, List, [], ◌∷◌, inl, inr, ◌<◌, ◌≤◌, refl, sym, subst, ◌∙◌, arith}
 use Rattle.std.proofs.lemmas.Bool.{cases_Bool, cases_lt}
 use native.Mathlib.Decide.{dec_le, ℕ_discrete}
-use Rattle.adf_volume.specs.Image.{name_of}
-use Rattle.adf_volume.specs.Walk.{FileAt, heads, node_block, Walk}
+use Rattle.adf_volume.specs.{Image.name_of, Walk.FileAt, Walk.heads, Walk.node_block, Walk.Walk}
 use Rattle.adf_volume.proofs.DecidedAsks.{dec_file}
-use Rattle.adf_findings.specs.Demands.{uppers_in}
-use Rattle.adf_findings.specs.Members.{parent_node}
-use Rattle.adf_findings.specs.Lookup.{IsFirstChild, IsNamedChild, LeadsTo}
+use Rattle.adf_findings.specs.{Demands.uppers_in, Members.parent_node, Lookup.IsFirstChild, Lookup.IsNamedChild, Lookup.LeadsTo}
 use Rattle.adf_findings.specs.Survey.{FindingValue, IsSurvey, IsSurvey.read, IsSurvey.unread}
-use Rattle.adf_findings.proofs.Keeping.{parent_is}
-use Rattle.adf_findings.proofs.Lookups.{child_between, child_told, leads_on}
-use Rattle.adf_findings.proofs.OneSurvey.{gathered}
+use Rattle.adf_findings.proofs.{Keeping.parent_is, Lookups.child_between, Lookups.child_told, Lookups.leads_on, OneSurvey.gathered}
 
 -- whether an entry is a file
 pub dec_is_file : (image : List ℕ) (w : Walk) (fs : List FindingValue) → IsSurvey image w fs → (n : ℕ) → Dec ((h : ℕ) × FileAt image w n h)

@@ -3,24 +3,16 @@
 -- the slot and the position of a header; r, q, z roles; b, c blocks; k, i the number of an extension or data block.
 use Rattle.std.specs.Prelude.{Bool, true, false, Option, Some, None, ◌↔◌}
 use Rattle.std.proofs.Common.{◌≡◌, ℕ, suc, List, [], ◌∷◌, inl, inr, refl, sym, ap, subst, ◌∙◌, arith}
-use Rattle.std.proofs.lemmas.Bool.{cases_Bool}
-use Rattle.std.proofs.lemmas.Grind.{common_steps}
+use Rattle.std.proofs.{lemmas.Bool.cases_Bool, lemmas.Grind.common_steps}
 use mathlib.Core.Logic.Dec.{and as dec_and, not as dec_not}
 use native.Mathlib.Decide.{dec_le, map_dec, ℕ_discrete}
 use Rattle.adf_names.specs.declared.kind.Kind.{Kind, TheVariants.Ofs, TheVariants.Ffs}
-use Rattle.adf_volume.specs.Image.{kind_of, word_in}
-use Rattle.adf_volume.specs.Lists.{In}
+use Rattle.adf_volume.specs.{Image.kind_of, Image.word_in, Lists.In}
 use Rattle.adf_volume.specs.Walk.{Asks, Has, HeadAt, Role, Same, first, heads, node_block, second, third, Walk, Role.Data, Role.Ext, Role.Head}
-use Rattle.adf_volume.proofs.Gathered.{number_of, one_head}
-use Rattle.adf_volume.proofs.Roles.{head_role}
-use Rattle.adf_findings.specs.Members.{owns}
-use Rattle.adf_findings.specs.Sound.{IsSound, IsUnreported, says_data_of}
-use Rattle.adf_findings.specs.SoundMarks.{AreMarks}
+use Rattle.adf_volume.proofs.{Gathered.number_of, Gathered.one_head, Roles.head_role}
+use Rattle.adf_findings.specs.{Members.owns, Sound.IsSound, Sound.IsUnreported, Sound.says_data_of, SoundMarks.AreMarks}
 use Rattle.adf_findings.specs.Survey.{Course, FindingValue, IsCourse, IsDone, IsSurvey, IsSurvey.read, IsSurvey.unread}
-use Rattle.adf_findings.proofs.Decidability.{dec_both, dec_false}
-use Rattle.adf_findings.proofs.Lookups.{header_at}
-use Rattle.adf_findings.proofs.OneSurvey.{gathered}
-use Rattle.adf_findings.proofs.SoundMarks.{is_alone, not_alone}
+use Rattle.adf_findings.proofs.{Decidability.dec_both, Decidability.dec_false, Lookups.header_at, OneSurvey.gathered, SoundMarks.is_alone, SoundMarks.not_alone}
 
 -- the answer to what is decided
 told : {P : Type 0} → Dec P → Bool

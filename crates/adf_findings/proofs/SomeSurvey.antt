@@ -4,35 +4,23 @@ use Rattle.std.specs.Prelude.{Bool, true, false, Some, None}
 use Rattle.std.proofs.Common.{◌≡◌, ℕ, zero, suc, List, [], ◌∷◌, ◌++◌, inl, inr, ◌+◌, ◌-◌, ◌*◌, ◌/◌, ◌%◌, ◌<◌, length, refl, sym, ap, ◌∙◌, arith}
 use Rattle.std.proofs.lemmas.Grind.{common_steps}
 use native.Mathlib.Decide.{ℕ_discrete}
-use Rattle.adf_blocks.specs.declared.cause.Cause.{Cause}
+use Rattle.adf_blocks.specs.{declared.cause.Cause.Cause, Sizes.blocks, Sizes.pages_needed, RootBlock.root_form}
 use Rattle.adf_blocks.specs.declared.layout.TheConstants.{POINTERS, SLOTS}
-use Rattle.adf_blocks.specs.Sizes.{blocks, pages_needed}
 use Rattle.adf_base.specs.Words.{block}
-use Rattle.adf_blocks.specs.RootBlock.{root_form}
-use Rattle.adf_volume.specs.Image.{letters_of, word_in, root_of}
-use Rattle.adf_volume.specs.Lists.{In}
+use Rattle.adf_volume.specs.{Image.letters_of, Image.word_in, Image.root_of, Lists.In, Parts.renumbered}
 use Rattle.adf_volume.specs.Demands.{FirstFails, IsSize, boot_form, boot_demands, root_demands}
 use Rattle.adf_volume.specs.Walk.{Role, Before, Same, Has, heads, MemberAt, Asks, Lacks, IsAbsent, Walk}
 use Rattle.adf_volume.specs.Walk.Role.{Root, Page, MapExt, Head, Ext, Data}
-use Rattle.adf_volume.proofs.DecidedAsks.{Asked, dec_asked}
+use Rattle.adf_volume.proofs.{DecidedAsks.Asked, DecidedAsks.dec_asked, Lists.in_left, Lists.in_right, Roles.head_role, Roles.renumbered_same, Roles.same_of}
+use Rattle.adf_volume.proofs.{Gathered.IsGathered, Gathered.root_in, PartDemands.part_holds_by}
 use Rattle.adf_volume.proofs.FitWalks.{dec_lacks, lacks_same, least, without}
-use Rattle.adf_volume.proofs.Lists.{in_left, in_right}
-use Rattle.adf_volume.proofs.Roles.{head_role, renumbered_same, same_of}
-use Rattle.adf_volume.specs.Parts.{renumbered}
-use Rattle.adf_findings.specs.Demands.{demands_in}
+use Rattle.adf_findings.specs.{Demands.demands_in, Survey.IsNext, Survey.IsCourse, Survey.IsDone, Survey.IsSurvey, Survey.IsCourse.start, Survey.IsCourse.step}
+use Rattle.adf_findings.specs.{Survey.BootTells.clean_boot, Survey.BootTells.other_type, Survey.RootTells.clean_root, Survey.RootTells.reported_root}
+use Rattle.adf_findings.specs.{Survey.UnreadTells.bad_boot, Survey.UnreadTells.bad_root, Survey.IsSurvey.unread, Survey.IsSurvey.read}
 use Rattle.adf_findings.specs.Survey.{FindingValue, finding, JudgementValue, Judged, BootTells, RootJudged, RootTells, begun, is_other_type, Course, after}
-use Rattle.adf_findings.specs.Survey.{IsNext, IsCourse, IsDone, IsSurvey}
 use Rattle.adf_findings.specs.Survey.JudgementValue.{clean, reported, skipped}
-use Rattle.adf_findings.specs.Survey.IsCourse.{start, step}
-use Rattle.adf_findings.specs.Survey.BootTells.{clean_boot, other_type}
-use Rattle.adf_findings.specs.Survey.RootTells.{clean_root, reported_root}
-use Rattle.adf_findings.specs.Survey.UnreadTells.{bad_boot, bad_root}
-use Rattle.adf_findings.specs.Survey.IsSurvey.{unread, read}
-use Rattle.adf_volume.proofs.Gathered.{IsGathered, root_in}
-use Rattle.adf_volume.proofs.PartDemands.{part_holds_by}
-use Rattle.adf_findings.proofs.JudgementTests.{itself_holds}
+use Rattle.adf_findings.proofs.{JudgementTests.itself_holds, OneSurvey.gathered}
 use Rattle.adf_findings.proofs.Decidability.{decided, decided_form, dec_all, dec_true, first_failing, judged, bits_told}
-use Rattle.adf_findings.proofs.OneSurvey.{gathered}
 
 -- the values at the numbers below n
 upto : {X : Type 0} → (ℕ → X) → ℕ → List X

@@ -1,14 +1,10 @@
 -- All that the chains of a sound entry lead to is in the walk of its survey.
 use Rattle.std.proofs.Common.{◌≡◌, ◌∙◌, ℕ, List, inl, inr, Some, refl, ap, subst, sym, arith}
 use Rattle.std.proofs.lemmas.Grind.{common_steps}
-use Rattle.adf_volume.specs.Image.{word_in}
-use Rattle.adf_volume.specs.Walk.{Asks, Has, Role, Same, Walk, Role.Head}
-use Rattle.adf_volume.proofs.Lists.{in_left}
-use Rattle.adf_volume.proofs.Roles.{same_of}
-use Rattle.adf_findings.specs.Sound.{IsSound}
-use Rattle.adf_findings.specs.Survey.{FindingValue, IsSurvey, IsSurvey.read, IsSurvey.unread}
-use Rattle.adf_findings.proofs.SoundEntries.{skipped_reported}
-use Rattle.adf_findings.proofs.SoundMarks.{apart, settled_at}
+use Rattle.adf_volume.specs.{Image.word_in, Walk.Asks, Walk.Has, Walk.Role, Walk.Same, Walk.Walk, Walk.Role.Head}
+use Rattle.adf_volume.proofs.{Lists.in_left, Roles.same_of}
+use Rattle.adf_findings.specs.{Sound.IsSound, Survey.FindingValue, Survey.IsSurvey, Survey.IsSurvey.read, Survey.IsSurvey.unread}
+use Rattle.adf_findings.proofs.{SoundEntries.skipped_reported, SoundMarks.apart, SoundMarks.settled_at}
 
 -- a role in the place of a header is a header, perhaps with another number
 same_head : (r : Role) (m p s j : ℕ) → Same r (Head m p s j) → (k : ℕ) × (r ≡ Head k p s j)

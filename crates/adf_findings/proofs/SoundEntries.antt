@@ -1,29 +1,20 @@
 -- The blocks of a sound entry.
 use Rattle.std.specs.Prelude.{Bool, Some, false, nat_lt, true}
 use Rattle.std.proofs.Common.{◌≡◌, ℕ, zero, suc, List, [], ◌∷◌, ◌++◌, ◌⊎◌, inl, inr, ◌*◌, ◌/◌, ◌<◌, ◌≤◌, refl, sym, ap, subst, ◌∙◌, arith}
-use Rattle.std.proofs.lemmas.Bool.{cond-false, cond-true, le-ltb, lt-ltb}
-use Rattle.std.proofs.lemmas.Grind.{common_steps}
+use Rattle.std.proofs.{lemmas.Bool.cond-false, lemmas.Bool.cond-true, lemmas.Bool.le-ltb, lemmas.Bool.lt-ltb, lemmas.Grind.common_steps}
 use native.Mathlib.Decide.{dec_lt}
 use Rattle.adf_blocks.specs.declared.layout.TheConstants.{POINTERS, SIZE}
-use Rattle.adf_volume.specs.Image.{letters_of, held, kind_of, word_in, table_word}
-use Rattle.adf_volume.specs.Lists.{In}
-use Rattle.adf_volume.specs.Demands.{AllHold, data_demands, ext_demands}
+use Rattle.adf_volume.specs.{Image.letters_of, Image.held, Image.kind_of, Image.word_in, Image.table_word, Lists.In, Demands.AllHold, Demands.data_demands}
+use Rattle.adf_volume.specs.{Demands.ext_demands, Walk.IsAbsent, Walk.ext_count, Walk.Role.Root, Walk.Role.Head, Walk.Role.Ext, Walk.Role.Data}
 use Rattle.adf_volume.specs.Walk.{Before, Lacks, NodeAt, member_block, next_data, node_block, Walk, Role, second, Has, FileAt, MemberAt, data_count, Asks}
-use Rattle.adf_volume.specs.Walk.{IsAbsent, ext_count}
-use Rattle.adf_volume.specs.Walk.Role.{Root, Head, Ext, Data}
-use Rattle.adf_volume.proofs.Lists.{in_left, in_right}
+use Rattle.adf_volume.proofs.{Lists.in_left, Lists.in_right, PartDemands.part_holds_by}
 use Rattle.adf_volume.proofs.Roles.{count_up, dec_has, dir_is_node, has_low, head_in, head_role, same_refl, typed_in}
-use Rattle.adf_findings.specs.Demands.{demands_in, form_demands_in, head_demands_in}
-use Rattle.adf_findings.specs.Files.{counting}
+use Rattle.adf_findings.specs.{Demands.demands_in, Demands.form_demands_in, Demands.head_demands_in, Files.counting, Survey.IsSurvey.unread}
+use Rattle.adf_findings.specs.{Survey.IsSurvey.read, Sound.FileHolds, Sound.HeaderHolds, Sound.IsNextData, Sound.IsSound, Sound.IsUnreported}
 use Rattle.adf_findings.specs.Survey.{FindingValue, finding, Course, IsNext, IsCourse, IsDone, IsSurvey, IsCourse.start, IsCourse.step}
 use Rattle.adf_findings.specs.Survey.JudgementValue.{clean, reported, skipped}
-use Rattle.adf_findings.specs.Survey.IsSurvey.{unread, read}
-use Rattle.adf_findings.specs.Sound.{FileHolds, HeaderHolds, IsNextData, IsSound, IsUnreported}
 use Rattle.adf_volume.proofs.Gathered.{IsGathered, asked_dir, asked_file, asks_one, ext_counted, file_one, head_block, member_is, node_is, node_one, one_block}
-use Rattle.adf_findings.proofs.OneSurvey.{gathered}
-use Rattle.adf_volume.proofs.PartDemands.{part_holds_by}
-use Rattle.adf_findings.proofs.GraveFindings.{data_unreported, ext_unreported}
-use Rattle.adf_findings.proofs.JudgementTests.{itself_holds}
+use Rattle.adf_findings.proofs.{OneSurvey.gathered, GraveFindings.data_unreported, GraveFindings.ext_unreported, JudgementTests.itself_holds}
 
 module _ (image : List ℕ) where
   -- a finding concerns the part

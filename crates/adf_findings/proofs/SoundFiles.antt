@@ -1,26 +1,16 @@
 -- The data blocks of a sound file are those in its table.
 use Rattle.std.proofs.Common.{Bool, false, get_or, slice_index, ◌≡◌, ℕ, suc, List, [], ◌++◌, ◌*◌, ◌^◌, ◌<◌, length, sym, ap, subst, ◌∙◌, arith}
-use Rattle.adf_blocks.specs.declared.layout.TheConstants.{SECONDARY_TYPE, SIZE, ST_FILE}
-use Rattle.adf_volume.proofs.Images.{count_small}
-use Rattle.adf_volume.specs.Image.{kind_of, pieces, word_in}
-use Rattle.adf_volume.specs.Made.{datas_in}
+use Rattle.adf_blocks.specs.{declared.layout.TheConstants.SECONDARY_TYPE, declared.layout.TheConstants.SIZE, declared.layout.TheConstants.ST_FILE, Sizes.blocks}
+use Rattle.adf_volume.proofs.{Images.count_small, Lists.at_index_or, Lists.at_some, Lists.in_left, PieceBytes.pieces_joined, Roles.same_refl}
+use Rattle.adf_volume.specs.{Image.kind_of, Image.pieces, Image.word_in, Made.datas_in, Pieces.AreInside}
 use Rattle.adf_volume.specs.Walk.{FileAt, data_count, node_block, Walk, Role.Data}
-use Rattle.adf_volume.proofs.Lists.{at_index_or, at_some, in_left}
-use Rattle.adf_blocks.specs.Sizes.{blocks}
-use Rattle.adf_volume.specs.Pieces.{AreInside}
-use Rattle.adf_volume.proofs.PieceBytes.{pieces_joined}
-use Rattle.adf_volume.proofs.Roles.{same_refl}
 use Rattle.std.specs.List.{concat}
 use Rattle.adf_findings.specs.Files.{FileValue, HasItsBlocks, counting, file_content, file_from, file_in, names_from}
-use Rattle.adf_findings.specs.Sound.{IsSound}
+use Rattle.adf_findings.specs.{Sound.IsSound, SurveyResult.IsOfSurvey, SurveyResult.SurveyValue}
 use Rattle.adf_findings.specs.Survey.{FindingValue, IsSurvey, IsSurvey.read, IsSurvey.unread}
-use Rattle.adf_findings.specs.SurveyResult.{IsOfSurvey, SurveyValue}
-use Rattle.adf_findings.proofs.Keeping.{tells_each}
+use Rattle.adf_findings.proofs.{Keeping.tells_each, GraveFindings.data_unreported, SoundMarks.data_inside, Starts.course_size}
 use Rattle.adf_findings.proofs.FileBlocks.{DatasListed, datas_listed, listed_named, names_length}
-use Rattle.adf_findings.proofs.GraveFindings.{data_unreported}
 use Rattle.adf_findings.proofs.SoundEntries.{skipped_reported, whole_file}
-use Rattle.adf_findings.proofs.SoundMarks.{data_inside}
-use Rattle.adf_findings.proofs.Starts.{course_size}
 
 -- the data blocks of a sound entry are in the walk in order; the findings that count may be the grave ones alone
 pub whole_listed : (image : List ℕ) (w : Walk) (fs : List FindingValue) (c : Bool) (n h : ℕ) → IsSurvey image w fs

@@ -5,42 +5,24 @@ use Rattle.std.specs.Option.{option_map, unwrap_or}
 use Rattle.std.proofs.lemmas.Bool.{and_parts, cases_Bool, cases_lt, eq-eqb, eqb-true, not-true, or_cases, or_parts, Decides.eqb_tells, Decides.nat_tests}
 use Rattle.std.proofs.lemmas.Grind.{common_steps}
 use Rattle.adf_names.specs.declared.kind.Kind.{Kind, TheVariants.Ofs, TheVariants.Ffs}
-use Rattle.adf_blocks.specs.Sizes.{blocks}
-use Rattle.adf_blocks.specs.declared.layout.TheConstants.{TYPE, T_DATA}
-use Rattle.adf_volume.specs.Image.{kind_of, root_of, word_in}
-use Rattle.adf_volume.specs.Lists.{In}
+use Rattle.adf_blocks.specs.{Sizes.blocks, declared.layout.TheConstants.TYPE, declared.layout.TheConstants.T_DATA}
+use Rattle.adf_volume.specs.{Image.kind_of, Image.root_of, Image.word_in, Lists.In, Parts.renumbered}
 use Rattle.adf_volume.specs.Walk.{Role, Same, Has, Asks, Lacks, heads, node_block, Walk, Role.Root, Role.Head, Role.Ext, Role.Data}
 use Rattle.adf_volume.proofs.Gathered.{IsGathered, asks_one, head_block, number_of, numbered as has_number, one_block, one_head}
-use Rattle.adf_volume.proofs.Lists.{in_cases}
-use Rattle.adf_volume.proofs.OneFault.{number_is}
+use Rattle.adf_volume.proofs.{Lists.in_cases, OneFault.number_is, AsksSplit.asks_more, PartDemands.part_holds_by}
 use Rattle.adf_volume.proofs.Roles.{asks_number, dec_has, head_at, head_role, renumbered_same, same_of, same_refl, same_role}
-use Rattle.adf_volume.specs.Parts.{renumbered}
 use Rattle.adf_volume.specs.declared.part.Part.{Part, TheVariants.Head as HeadPart, TheVariants.Ext as ExtPart, TheVariants.Data as DataPart}
-use Rattle.adf_findings.specs.declared.finding.Finding.{Finding}
-use Rattle.adf_findings.specs.declared.found.Found.{Found}
+use Rattle.adf_findings.specs.{declared.finding.Finding.Finding, declared.found.Found.Found, Concerned.node_of, Found.Stands, Members.owns}
+use Rattle.adf_findings.specs.{Marks.number_in_block, Parts.part_role, Parts.finding_value, Sound.IsSound, Sound.IsUnreported, Sound.says_data_of}
+use Rattle.adf_findings.specs.{Survey.BitsTell.agrees, Survey.BitsTell.differs, Survey.BitsTell.ends, Survey.IsCourse.start, Survey.IsCourse.step}
+use Rattle.adf_findings.specs.{Survey.RootTells.clean_root, Survey.RootTells.reported_root, Survey.UnreadTells.bad_boot, Survey.UnreadTells.bad_root}
 use Rattle.adf_findings.specs.declared.concern.Concern.TheVariants.{Entry, Within}
-use Rattle.adf_findings.specs.Concerned.{node_of}
-use Rattle.adf_findings.specs.Found.{Stands}
-use Rattle.adf_findings.specs.Members.{owns}
 use Rattle.adf_findings.proofs.WalkOwners.{both, entry_is, number_is as data_number_is}
 use Rattle.adf_findings.specs.Marks.{blamed, doubted, entry_in_block, is_blamed, is_clear, is_doubted, is_doubtful, is_node, is_header, is_said}
-use Rattle.adf_findings.specs.Marks.{number_in_block}
-use Rattle.adf_findings.specs.Parts.{part_role, finding_value}
-use Rattle.adf_findings.specs.Sound.{IsSound, IsUnreported, says_data_of}
 use Rattle.adf_findings.specs.Survey.{BitsTell, BootTells, Course, FindingValue, IsCourse, IsDone, IsNext, RootTells, UnreadTells, finding}
-use Rattle.adf_findings.specs.Survey.BitsTell.{agrees, differs, ends}
-use Rattle.adf_findings.specs.Survey.IsCourse.{start, step}
-use Rattle.adf_findings.specs.Survey.RootTells.{clean_root, reported_root}
-use Rattle.adf_findings.specs.Survey.UnreadTells.{bad_boot, bad_root}
 use Rattle.adf_findings.specs.Survey.JudgementValue.{clean, reported, skipped}
-use Rattle.adf_volume.proofs.AsksSplit.{asks_more}
-use Rattle.adf_findings.proofs.BlockOwners.{first_with, held_data}
-use Rattle.adf_findings.proofs.HeadPlaces.{found_header, header_found}
-use Rattle.adf_findings.proofs.Known.{tells_absent}
-use Rattle.adf_findings.proofs.OneSurvey.{gathered}
-use Rattle.adf_volume.proofs.PartDemands.{part_holds_by}
-use Rattle.adf_findings.proofs.JudgementTests.{itself_holds}
-use Rattle.adf_findings.proofs.SoundEntries.{one_role}
+use Rattle.adf_findings.proofs.{BlockOwners.first_with, BlockOwners.held_data, HeadPlaces.found_header, HeadPlaces.header_found, Known.tells_absent}
+use Rattle.adf_findings.proofs.{OneSurvey.gathered, JudgementTests.itself_holds, SoundEntries.one_role}
 
 module _ (image : List ℕ) where
   -- the part was taken or skipped

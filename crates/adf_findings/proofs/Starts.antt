@@ -3,22 +3,13 @@
 use Rattle.std.proofs.Common.{None, Some, true, false, ◌≡◌, ℕ, List, [], ◌∷◌, ◌++◌, refl, ap, subst, ◌∙◌, arith}
 use Rattle.std.proofs.lemmas.Grind.{common_steps}
 use Rattle.adf_base.specs.Words.{block}
-use Rattle.adf_blocks.specs.declared.cause.Cause.{Cause}
-use Rattle.adf_blocks.specs.Forms.{first_cause}
-use Rattle.adf_blocks.specs.RootBlock.{root_form}
-use Rattle.adf_volume.specs.Demands.{FirstFails, IsSize, boot_demands, root_demands}
-use Rattle.adf_volume.specs.Image.{root_of}
-use Rattle.adf_volume.specs.Walk.Role.{Root}
-use Rattle.adf_volume.proofs.Lists.{fails_not_all}
-use Rattle.adf_volume.proofs.FormDemands.{all_demanded, first_demanded}
-use Rattle.adf_volume.proofs.OneFault.{fails_one}
-use Rattle.adf_findings.specs.Start.{has_root_type}
+use Rattle.adf_blocks.specs.{declared.cause.Cause.Cause, Forms.first_cause, RootBlock.root_form}
+use Rattle.adf_volume.specs.{Demands.FirstFails, Demands.IsSize, Demands.boot_demands, Demands.root_demands, Image.root_of, Walk.Role.Root}
+use Rattle.adf_volume.proofs.{Lists.fails_not_all, FormDemands.all_demanded, FormDemands.first_demanded, OneFault.fails_one}
+use Rattle.adf_findings.specs.{Start.has_root_type, Survey.JudgementValue.skipped, Survey.IsCourse.start, Survey.IsCourse.step, Survey.BootTells.clean_boot}
+use Rattle.adf_findings.specs.{Survey.BootTells.other_type, Survey.UnreadTells.bad_boot, Survey.UnreadTells.bad_root}
 use Rattle.adf_findings.specs.Survey.{BootTells, Course, FindingValue, IsCourse, IsItself, RootJudged, RootTells, UnreadTells, finding, is_other_type}
-use Rattle.adf_findings.specs.Survey.JudgementValue.{skipped}
-use Rattle.adf_findings.specs.Survey.IsCourse.{start, step}
-use Rattle.adf_findings.specs.Survey.BootTells.{clean_boot, other_type}
 use Rattle.adf_findings.specs.Survey.RootTells.{clean_root, reported_root}
-use Rattle.adf_findings.specs.Survey.UnreadTells.{bad_boot, bad_root}
 
 module _ (image : List ℕ) where
   -- a boot block of type 0 to 5 is that of an image of allowed size

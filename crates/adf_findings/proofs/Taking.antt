@@ -1,28 +1,20 @@
 -- The state of a survey when parts are taken and skipped.
 use Rattle.std.proofs.Common.{Bool, true, false, cond, ◌==◌, Some, slice_index, slice_index_or, ◌≡◌, ℕ, suc, List, [], ◌∷◌, ◌++◌, length, replicate, set, subst}
 use Rattle.std.proofs.Common.{sym, ◌<◌, ◌≤◌, ap, ◌∙◌, arith, length-set, get_or-set_same, get_or-set_other}
-use Rattle.std.specs.Ordering.{nat_cmp}
-use Rattle.std.specs.BTreeMap.{BTreeMap, get}
+use Rattle.std.specs.{Ordering.nat_cmp, BTreeMap.BTreeMap, BTreeMap.get, Global.Vec}
 use Rattle.std.proofs.lemmas.List.{length-replicate, get_or_push, get_or_append_left, get_or_past, length_push}
-use Rattle.std.proofs.lemmas.Grind.{common_steps}
+use Rattle.std.proofs.{lemmas.Grind.common_steps, lemmas.Bool.cases_lt, lemmas.Bool.cond-false, lemmas.Bool.Decides.eqb_tells}
 use Rattle.adf_blocks.specs.Sizes.{blocks}
 use Rattle.adf_volume.proofs.Lists.{snoc_length}
-use Rattle.std.specs.Global.{Vec}
-use Rattle.adf_volume.specs.declared.owner.Owner.{Owner}
-use Rattle.adf_volume.specs.LayoutRoles.{owner_of}
+use Rattle.adf_volume.specs.{declared.owner.Owner.Owner, LayoutRoles.owner_of, Parts.role_of}
 use Rattle.adf_walk.specs.Owners.{owned_count}
 use Rattle.adf_findings.proofs.WalkOwners.{count_more, free_is, owned_more, part_owns}
 use Rattle.adf_volume.specs.Walk.{Role, heads, head_count, node_block, node_block_of, Walk, Role.Root, Role.Page, Role.Head}
 use Rattle.adf_volume.specs.declared.part.Part.{Part, TheVariants.Page as PagePart, TheVariants.Head as HeadPart}
-use Rattle.adf_findings.specs.declared.found.ChainPlace.{ChainPlace}
-use Rattle.adf_findings.specs.declared.found.Found.{Found}
-use Rattle.adf_findings.specs.Survey.{Course, FindingValue}
-use Rattle.adf_volume.specs.Parts.{role_of}
+use Rattle.adf_findings.specs.{declared.found.ChainPlace.ChainPlace, declared.found.Found.Found, Survey.Course, Survey.FindingValue, Found.with_place}
 use Rattle.adf_findings.specs.Found.{AreSkipped, AreMarked, AreSame, IsKept, IsOwned, IsBlockSkipped, IsPut, IsTaken, KeepsParts, Stands, places_of, with_mark}
-use Rattle.adf_findings.specs.Found.{with_place}
 use Rattle.adf_findings.specs.Members.{at_role, owns, parent_by, parent_node}
 use Rattle.adf_findings.proofs.RoleBlocks.{other_place, page_place}
-use Rattle.std.proofs.lemmas.Bool.{cases_lt, cond-false, Decides.eqb_tells}
 
 kept_more : (part : Part) (b : ℕ) (f g h : Found) → IsKept part b f g → AreSame g h → IsKept part b f h
 kept_more (HeadPart n p s j) b f g h k e = grind (arith, common_steps)

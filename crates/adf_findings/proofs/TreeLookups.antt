@@ -4,31 +4,18 @@ use Rattle.std.proofs.Common.{◌≡◌, ℕ, zero, suc, List, [], ◌∷◌, �
 use Rattle.adf_blocks.specs.declared.layout.TheConstants.{SECONDARY_TYPE, ST_DIR, ST_FILE}
 use Rattle.adf_base.specs.declared.hash.Letters.TheVariants.{Ascii}
 use Rattle.adf_names.specs.Texts.{uppers_by}
-use Rattle.adf_tree.specs.declared.entry.Body.TheVariants.{Dir, File}
-use Rattle.adf_tree.specs.declared.entry.Entry.{Entry}
+use Rattle.adf_tree.specs.{declared.entry.Body.TheVariants.Dir, declared.entry.Body.TheVariants.File, declared.entry.Entry.Entry}
 use Rattle.adf_tree.specs.Tree.{IsTree, Tree, child, entry, find, find_from, find_from_by, is_child}
 use Rattle.adf_tree.proofs.ChildLookup.{child_is, child_says, found_is, is_child_from}
-use Rattle.adf_volume.specs.Fits.{Fits}
-use Rattle.adf_volume.specs.Image.{content, kind_of, letters_of, name_of, root_of, word_in}
-use Rattle.adf_volume.specs.Layout.{Layout}
-use Rattle.adf_volume.specs.Lists.{At}
-use Rattle.adf_volume.specs.Made.{datas_in, entries_in, entry_in, layout_in, tree_in}
+use Rattle.adf_volume.specs.{Fits.Fits, Image.content, Image.kind_of, Image.letters_of, Image.name_of, Image.root_of, Image.word_in, Layout.Layout, Lists.At}
+use Rattle.adf_volume.specs.{Made.datas_in, Made.entries_in, Made.entry_in, Made.layout_in, Made.tree_in, Demands.boot_demands, Demands.root_demands}
 use Rattle.adf_volume.specs.Walk.{Has, HeadAt, IsWalk, IsWhole, heads, node_block, Walk, Role.Head}
-use Rattle.adf_volume.proofs.Chains.{entry_is_at}
-use Rattle.adf_volume.proofs.FitWalks.{one_fit}
-use Rattle.adf_volume.specs.Demands.{boot_demands, root_demands}
-use Rattle.adf_volume.proofs.ImageStart.{plain_letters}
-use Rattle.adf_volume.proofs.Lists.{all_split, at_below, at_index_or}
-use Rattle.adf_volume.proofs.Roles.{head_at}
-use Rattle.adf_volume.proofs.WalkMembers.{entries_length, entry_has}
+use Rattle.adf_volume.proofs.{Chains.entry_is_at, FitWalks.one_fit, ImageStart.plain_letters, Lists.all_split, Lists.at_below, Lists.at_index_or, Roles.head_at}
+use Rattle.adf_volume.proofs.{WalkMembers.entries_length, WalkMembers.entry_has, WholeWalks.file_at}
 use Rattle.adf_volume.proofs.Walks.{file_is, number_of, numbered as has_number}
-use Rattle.adf_volume.proofs.WholeWalks.{file_at}
-use Rattle.adf_findings.specs.Files.{IsSoundFile, file_content, file_in}
-use Rattle.adf_findings.specs.Sound.{IsOfItsKind}
+use Rattle.adf_findings.specs.{Files.IsSoundFile, Files.file_content, Files.file_in, Sound.IsOfItsKind, Survey.FindingValue, Survey.IsSurvey}
 use Rattle.adf_findings.specs.Lookup.{IsFirstChild, IsNamedChild, LeadsTo}
-use Rattle.adf_findings.specs.Survey.{FindingValue, IsSurvey}
-use Rattle.adf_findings.proofs.AllSound.{all_sound}
-use Rattle.adf_findings.proofs.PlainFindings.{finds_none, none_found, shown}
+use Rattle.adf_findings.proofs.{AllSound.all_sound, PlainFindings.finds_none, PlainFindings.none_found, PlainFindings.shown}
 
 module _ (image : List ℕ) (w : Walk) (v : IsWalk image w) (tree : IsTree (entries_in image w w)) (plain : letters_of image ≡ Ascii) where
   abbrev entries : List Entry

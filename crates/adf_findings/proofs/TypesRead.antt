@@ -2,20 +2,15 @@
 -- Letters: at, c the block and the cause of a finding of the boot block; n a type.
 use Rattle.std.proofs.Common.{true, false, not, None, Some, Option, cond, ◌≡◌, ◌<◌, ◌&&◌, ◌==◌, ℕ, List, [], ◌∷◌, ◌⊎◌, ◌++◌, inl, inr, refl, sym, subst, ap}
 use Rattle.std.proofs.Common.{◌∙◌, arith, slice_index}
-use Rattle.std.proofs.lemmas.Bool.{le-ltb, Decides.nat_tests}
-use Rattle.std.proofs.lemmas.Grind.{common_steps}
+use Rattle.std.proofs.{lemmas.Bool.le-ltb, lemmas.Bool.Decides.nat_tests, lemmas.Grind.common_steps}
 use Rattle.adf_base.specs.Words.{block}
 use Rattle.adf_base.specs.declared.hash.Letters.TheVariants.{Ascii, International as InternationalLetters}
 use Rattle.adf_blocks.specs.declared.cause.Cause.{Cause, TheVariants.BadSize, TheVariants.DirCache, TheVariants.International, TheVariants.NotDos}
 use Rattle.adf_blocks.specs.Forms.{first_cause}
 use Rattle.adf_volume.specs.Demands.{AllHold, FirstFails, boot_demands, boot_demands_by, has_letters}
-use Rattle.adf_volume.specs.Image.{letters_of}
-use Rattle.adf_volume.specs.Start.{start_form}
-use Rattle.adf_volume.proofs.ImageStart.{boot_fails, boot_holds, plain_letters}
-use Rattle.adf_volume.proofs.Lists.{fails_not_all}
-use Rattle.adf_volume.proofs.OneFault.{fails_one}
+use Rattle.adf_volume.specs.{Image.letters_of, Start.start_form, Types.letters_for}
+use Rattle.adf_volume.proofs.{ImageStart.boot_fails, ImageStart.boot_holds, ImageStart.plain_letters, Lists.fails_not_all, OneFault.fails_one}
 use Rattle.adf_findings.specs.Survey.{BootTells, FindingValue, finding, is_other_type, BootTells.clean_boot, BootTells.other_type}
-use Rattle.adf_volume.specs.Types.{letters_for}
 use Rattle.adf_findings.specs.Types.{passed, passed_of}
 use Rattle.adf_volume.specs.declared.types.Types.{Types, TheVariants.Plain, TheVariants.WithInternational}
 use Rattle.adf_findings.proofs.FirstFindings.{BootReads, Reads}

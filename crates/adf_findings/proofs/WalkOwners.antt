@@ -3,16 +3,11 @@
 use Rattle.std.specs.Prelude.{◌||◌, nat_lt}
 use Rattle.std.specs.Option.{unwrap_or}
 use Rattle.std.proofs.Common.{◌≡◌, ◌==◌, ℕ, Bool, true, false, cond, List, [], ◌∷◌, ◌<◌, ◌≤◌, ◌+◌, length, set, refl, sym, ap, ◌∙◌, arith, length-set}
-use Rattle.std.proofs.Common.{get_or-set_same, get_or-set_other}
-use Rattle.std.proofs.lemmas.Bool.{le-ltb, Decides.eqb_tells}
-use Rattle.std.proofs.lemmas.Grind.{common_steps}
+use Rattle.std.proofs.{Common.get_or-set_same, Common.get_or-set_other, lemmas.Bool.le-ltb, lemmas.Bool.Decides.eqb_tells, lemmas.Grind.common_steps}
 use Rattle.adf_volume.specs.declared.owner.Owner.{Owner, TheVariants.Free, TheVariants.Boot}
-use Rattle.adf_volume.specs.LayoutRoles.{owner_of}
-use Rattle.adf_volume.specs.Walk.{Role, Walk}
+use Rattle.adf_volume.specs.{LayoutRoles.owner_of, Walk.Role, Walk.Walk, Parts.entry_of}
 use Rattle.adf_walk.specs.Owners.{is_part, owned_count, owner_at}
-use Rattle.adf_findings.specs.WalkOwners.{OwnersValue, data_number_of, node_after}
-use Rattle.adf_volume.specs.Parts.{entry_of}
-use Rattle.adf_findings.specs.Found.{AreOwned, owner_by}
+use Rattle.adf_findings.specs.{WalkOwners.OwnersValue, WalkOwners.data_number_of, WalkOwners.node_after, Found.AreOwned, Found.owner_by}
 use Rattle.adf_findings.specs.Members.{data_number, role_entry, number_at, owning_entry, owns}
 
 through : {X Y : Type 0} (f : X → Y) (t : Bool) (x y : X) → f (cond t x y) ≡ cond t (f x) (f y)

@@ -1,7 +1,6 @@
 -- The bits as they are compared.
 use Rattle.std.specs.Prelude.{◌≡◌, ◌-◌, ◌/◌, ◌%◌, ◌↔◌, ℕ, Bool, IsTrue, List, Option, Some, None}
-use Rattle.std.specs.BTreeMap.{BTreeMap, get}
-use Rattle.std.specs.Ordering.{nat_cmp}
+use Rattle.std.specs.{BTreeMap.BTreeMap, BTreeMap.get, Ordering.nat_cmp}
 use Rattle.adf_blocks.specs.declared.layout.TheConstants.{PAGE_BITS}
 use Rattle.adf_volume.specs.Image.{IsFreeAt}
 use Rattle.adf_findings.specs.Survey.{IsValidated}

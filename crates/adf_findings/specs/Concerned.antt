@@ -6,8 +6,7 @@ use Rattle.std.specs.Option.{option_and_then}
 use Rattle.adf_blocks.specs.declared.cause.Cause.{Cause, TheVariants.Taken}
 use Rattle.adf_volume.specs.Walk.{Role, Walk, Role.Head, Role.Ext, Role.Data}
 use Rattle.adf_findings.specs.declared.concern.Concern.{Concern, TheVariants.Entry, TheVariants.Within}
-use Rattle.adf_findings.specs.Members.{at_role, number_at, owning_entry}
-use Rattle.adf_findings.specs.Survey.{FindingValue}
+use Rattle.adf_findings.specs.{Members.at_role, Members.number_at, Members.owning_entry, Survey.FindingValue}
 
 -- the entry or the directory that is concerned
 abbrev pub node_of : Concern → ℕ

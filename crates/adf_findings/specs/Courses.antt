@@ -3,26 +3,16 @@
 -- b a block; n, p nodes; y a part that is due; x a reference, or the table of a file; m the number of a block in it; j a judgement.
 use Rattle.std.specs.Prelude.{◌≡◌, ◌≤◌, ◌<◌, ◌+◌, ◌*◌, ◌%◌, ◌==◌, ◌||◌, ℕ, true, false, cond, nat_le, nat_lt, min, map, List, ◌∷◌, Option, Some, None, IfSome}
 use Rattle.std.proofs.Common.{suc}
-use Rattle.adf_blocks.specs.declared.layout.TheConstants.{EXTENSION, POINTERS}
-use Rattle.adf_blocks.specs.Sizes.{blocks}
-use Rattle.adf_volume.specs.Image.{table_word, word_in}
+use Rattle.adf_blocks.specs.{declared.layout.TheConstants.EXTENSION, declared.layout.TheConstants.POINTERS, Sizes.blocks}
+use Rattle.adf_volume.specs.{Image.table_word, Image.word_in, Walk.Role.Page, Walk.Role.Head, Walk.Role.Ext, Walk.Role.Data, Parts.renumbered, Parts.role_of}
 use Rattle.adf_volume.specs.Positions.{Position, IsLink, IsPageHolder, IsUpTo, before_node, before_page, behind, position_of, word_of_page}
 use Rattle.adf_volume.specs.Walk.{Role, Asks, DirAt, Enough, FileAt, MemberAt, NamesPage, data_count, ext_count, heads, Walk}
-use Rattle.adf_volume.specs.Walk.Role.{Page, Head, Ext, Data}
-use Rattle.adf_volume.specs.Parts.{renumbered, role_of}
 use Rattle.adf_volume.specs.declared.part.Part.{Part, TheVariants.Data as DataPart}
-use Rattle.adf_findings.specs.declared.course.Due.{Due}
-use Rattle.adf_findings.specs.declared.course.FileTable.{FileTable}
-use Rattle.adf_findings.specs.declared.course.Reference.{Reference}
-use Rattle.adf_findings.specs.declared.progress.Progress.{Progress}
-use Rattle.adf_findings.specs.declared.judge.Judgement.{Judgement, TheVariants.Skipped}
+use Rattle.adf_findings.specs.{declared.course.Due.Due, declared.course.FileTable.FileTable, declared.course.Reference.Reference}
+use Rattle.adf_findings.specs.{declared.progress.Progress.Progress, declared.judge.Judgement.Judgement, declared.judge.Judgement.TheVariants.Skipped}
+use Rattle.adf_findings.specs.{Demands.demands_in, Forms.IsContext, Forms.Tells, Forms.judgement_value, Survey.Course, Survey.FindingValue, Survey.IsCourse}
+use Rattle.adf_findings.specs.{Survey.IsNext, Survey.Judged, Parts.finding_value, Found.AreNamed, Found.KeepsName, Found.Stands, Members.owns}
 use Rattle.adf_tree.specs.NameSet.{Names}
-use Rattle.adf_findings.specs.Demands.{demands_in}
-use Rattle.adf_findings.specs.Forms.{IsContext, Tells, judgement_value}
-use Rattle.adf_findings.specs.Survey.{Course, FindingValue, IsCourse, IsNext, Judged}
-use Rattle.adf_findings.specs.Parts.{finding_value}
-use Rattle.adf_findings.specs.Found.{AreNamed, KeepsName, Stands}
-use Rattle.adf_findings.specs.Members.{owns}
 
 -- the findings noted
 abbrev pub noted : Progress → List FindingValue

@@ -1,12 +1,9 @@
 -- The demands on parts by the letters of the volume. On types 0 and 1 these are the demands of the model.
 -- Letters: w a walk; r a role; b the block of a part, a the block that points to it.
 use Rattle.std.specs.Prelude.{ℕ, List}
-use Rattle.adf_names.specs.declared.kind.Kind.{Kind}
-use Rattle.adf_names.specs.Texts.{uppers_by}
-use Rattle.adf_blocks.specs.Forms.{Clause}
-use Rattle.adf_blocks.specs.HeadBlock.{head_form_by}
-use Rattle.adf_volume.specs.Demands.{Demand, head_demands_by}
-use Rattle.adf_volume.specs.Image.{letters_of}
+use Rattle.adf_names.specs.{declared.kind.Kind.Kind, Texts.uppers_by}
+use Rattle.adf_blocks.specs.{Forms.Clause, HeadBlock.head_form_by}
+use Rattle.adf_volume.specs.{Demands.Demand, Demands.head_demands_by, Image.letters_of}
 use Rattle.adf_volume.specs.Walk.{NewNameBy, Role, demands_by, form_demands_by, Walk}
 
 -- a name in upper case

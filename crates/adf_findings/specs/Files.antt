@@ -4,16 +4,12 @@
 use Rattle.std.specs.Prelude.{◌≡◌, ◌*◌, ◌/◌, ◌<◌, ◌&&◌, ℕ, Bool, true, false, not, List, [], ◌∷◌, ◌++◌, length, Option, Some}
 use Rattle.std.specs.List.{filter}
 use Rattle.std.proofs.Common.{zero, suc}
-use Rattle.adf_blocks.specs.declared.cause.Cause.{Cause}
+use Rattle.adf_blocks.specs.{declared.cause.Cause.Cause, Sizes.blocks}
 use Rattle.adf_blocks.specs.declared.cause.Cause.TheVariants.{BadComment, BadFirst, BadName, SameName, WrongSlot}
 use Rattle.adf_blocks.specs.declared.layout.TheConstants.{EXTENSION, POINTERS, SECONDARY_TYPE, ST_FILE}
-use Rattle.adf_blocks.specs.Sizes.{blocks}
-use Rattle.adf_volume.specs.Image.{content, kind_of, table_word, word_in}
-use Rattle.adf_volume.specs.Lists.{At}
-use Rattle.adf_volume.specs.Made.{datas_in}
+use Rattle.adf_volume.specs.{Image.content, Image.kind_of, Image.table_word, Image.word_in, Lists.At, Made.datas_in}
 use Rattle.adf_volume.specs.Walk.{Role, data_count, node_block, Walk, Role.Head}
-use Rattle.adf_findings.specs.Sound.{IsSound}
-use Rattle.adf_findings.specs.Survey.{FindingValue}
+use Rattle.adf_findings.specs.{Sound.IsSound, Survey.FindingValue}
 
 -- a file: the image, the block of its header, and its data blocks in order
 pub record FileValue : Type 0 where

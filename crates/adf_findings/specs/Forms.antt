@@ -6,22 +6,14 @@ use Rattle.adf_base.specs.Words.{block}
 use Rattle.adf_names.specs.declared.kind.Kind.{Kind, TheVariants.Ofs, TheVariants.Ffs}
 use Rattle.adf_blocks.specs.declared.cause.Cause.{Cause, TheVariants.OutOfRange, TheVariants.SameName, TheVariants.ShortFile, TheVariants.Taken}
 use Rattle.adf_blocks.specs.declared.layout.TheConstants.{SIZE}
-use Rattle.adf_blocks.specs.Sizes.{in_range}
-use Rattle.adf_blocks.specs.Forms.{Clause, first_cause}
-use Rattle.adf_blocks.specs.DataBlock.{data_form}
-use Rattle.adf_blocks.specs.ExtBlock.{ext_form}
-use Rattle.adf_blocks.specs.PageBlock.{page_form}
-use Rattle.adf_volume.specs.Image.{held, kind_of, word_in}
+use Rattle.adf_blocks.specs.{Sizes.in_range, Forms.Clause, Forms.first_cause, DataBlock.data_form, ExtBlock.ext_form, PageBlock.page_form}
+use Rattle.adf_volume.specs.{Image.held, Image.kind_of, Image.word_in, declared.part.Part.Part, Parts.role_of}
 use Rattle.adf_volume.specs.Walk.{Role, Enough, IsAbsent, next_data, node_block, Walk, Role.Head, Role.Ext, Role.Data}
-use Rattle.adf_findings.specs.Demands.{head_form_in}
-use Rattle.adf_volume.specs.declared.part.Part.{Part}
+use Rattle.adf_findings.specs.{Demands.head_form_in, declared.forms.Context.Context, declared.judge.Facts.Facts}
 use Rattle.adf_volume.specs.declared.part.Part.TheVariants.{Root as RootPart, Page as PagePart, MapExt as MapExtPart, Head as HeadPart, Ext as ExtPart}
 use Rattle.adf_volume.specs.declared.part.Part.TheVariants.{Data as DataPart}
-use Rattle.adf_findings.specs.declared.forms.Context.{Context}
-use Rattle.adf_findings.specs.declared.judge.Facts.{Facts}
 use Rattle.adf_findings.specs.declared.judge.Judgement.{Judgement, TheVariants.Clean, TheVariants.Reported, TheVariants.Skipped}
 use Rattle.adf_findings.specs.Survey.{JudgementValue, is_kept, JudgementValue.clean, JudgementValue.reported, JudgementValue.skipped}
-use Rattle.adf_volume.specs.Parts.{role_of}
 
 -- the form of a data block; none for FFS
 abbrev pub data_clauses : Kind → ℕ → ℕ → ℕ → ℕ → List ℕ → List Clause

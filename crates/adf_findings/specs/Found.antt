@@ -3,28 +3,18 @@
 use Rattle.std.specs.Prelude.{◌≡◌, ◌≤◌, ◌<◌, ◌+◌, ◌-◌, ◌==◌, ◌&&◌, ◌||◌, ℕ, Bool, true, false, cond, not, List, [], ◌∷◌, ◌++◌, ◌⊎◌, length, nat_lt, replicate}
 use Rattle.std.specs.Prelude.{set, slice_index, slice_index_or, Option, Some, None, IsTrue, ◌↔◌}
 use Rattle.std.proofs.Common.{zero, suc}
-use Rattle.std.specs.Ordering.{nat_cmp}
-use Rattle.std.specs.Str.{bytes_eq}
-use Rattle.std.specs.BTreeMap.{BTreeMap, Updates, get}
+use Rattle.std.specs.{Ordering.nat_cmp, Str.bytes_eq, BTreeMap.BTreeMap, BTreeMap.Updates, BTreeMap.get}
 use Rattle.adf_tree.specs.NameSet.{Names, has}
 use Rattle.adf_names.specs.Texts.{is_name}
-use Rattle.adf_blocks.specs.declared.cause.Cause.{Cause, TheVariants.LostBlock, TheVariants.OwnedFree}
-use Rattle.adf_volume.specs.Demands.{AllHold, FirstFails}
-use Rattle.adf_blocks.specs.Sizes.{blocks}
-use Rattle.adf_volume.specs.Image.{IsFreeAt, name_of}
-use Rattle.adf_volume.specs.LayoutRoles.{owner_of}
+use Rattle.adf_blocks.specs.{declared.cause.Cause.Cause, declared.cause.Cause.TheVariants.LostBlock, declared.cause.Cause.TheVariants.OwnedFree, Sizes.blocks}
+use Rattle.adf_volume.specs.{Demands.AllHold, Demands.FirstFails, Image.IsFreeAt, Image.name_of, LayoutRoles.owner_of, Positions.Position, Parts.role_of}
 use Rattle.adf_volume.specs.declared.owner.Owner.{Owner, TheVariants.Free, TheVariants.Boot}
-use Rattle.adf_volume.specs.Positions.{Position}
 use Rattle.adf_volume.specs.Walk.{Role, Has, bitmap_demands, heads, node_block, Walk, Role.Page, Role.Head}
 use Rattle.adf_walk.specs.Owners.{is_part, owned_count, owner_at}
-use Rattle.adf_findings.specs.WalkOwners.{HasNumber, OwnersValue, node_after}
-use Rattle.adf_findings.specs.Demands.{uppers_in}
+use Rattle.adf_findings.specs.{WalkOwners.HasNumber, WalkOwners.OwnersValue, WalkOwners.node_after, Demands.uppers_in, declared.found.ChainPlace.ChainPlace}
+use Rattle.adf_findings.specs.{declared.found.Found.Found, Members.at_role, Members.owns, Members.parent_node}
 use Rattle.adf_volume.specs.declared.part.Part.{Part, TheVariants.Page as PagePart, TheVariants.Head as HeadPart}
-use Rattle.adf_findings.specs.declared.found.ChainPlace.{ChainPlace}
-use Rattle.adf_findings.specs.declared.found.Found.{Found}
 use Rattle.adf_findings.specs.Survey.{BitsTell, Course, FindingValue, IsCompared, IsCourse, IsDone}
-use Rattle.adf_volume.specs.Parts.{role_of}
-use Rattle.adf_findings.specs.Members.{at_role, owns, parent_node}
 
 -- whether the role at block c is a header of the chain with this name
 abbrev pub is_named : List ℕ → Role → ℕ → ℕ → ℕ → List ℕ → Bool

@@ -3,10 +3,8 @@
 -- b its block; f a number of steps.
 use Rattle.std.specs.Prelude.{◌≡◌, ◌<◌, ◌&&◌, ℕ, List, [], ◌∷◌, ◌++◌, cond, nat_le}
 use Rattle.std.proofs.Common.{zero, suc}
-use Rattle.adf_volume.specs.Image.{name_of}
-use Rattle.adf_volume.specs.Walk.{Has, heads, node_block, Walk, Role.Head}
-use Rattle.adf_findings.specs.Demands.{uppers_in}
-use Rattle.adf_findings.specs.Members.{parent_node}
+use Rattle.adf_volume.specs.{Image.name_of, Walk.Has, Walk.heads, Walk.node_block, Walk.Walk, Walk.Role.Head}
+use Rattle.adf_findings.specs.{Demands.uppers_in, Members.parent_node}
 
 -- entry n is found in directory p, and its header has this name, ignoring case
 abbrev pub IsNamedChild : List ℕ → Walk → ℕ → List ℕ → ℕ → Type 0

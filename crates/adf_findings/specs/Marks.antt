@@ -2,22 +2,16 @@
 -- Letters: f a state; b a block; k a number of blocks, or of a part; m, n, p nodes;
 -- s, j a slot and a position in its chain.
 use Rattle.std.specs.Prelude.{◌==◌, ◌||◌, ◌&&◌, ◌-◌, ℕ, Bool, false, cond, not, nat_lt, List, [], ◌∷◌, length, slice_get, slice_index, slice_index_or, Option}
-use Rattle.std.specs.Prelude.{Some, None}
-use Rattle.std.specs.Option.{option_map}
+use Rattle.std.specs.{Prelude.Some, Prelude.None, Option.option_map}
 use Rattle.std.proofs.Common.{zero, suc}
 use Rattle.adf_names.specs.declared.kind.Kind.{Kind, TheVariants.Ofs, TheVariants.Ffs}
 use Rattle.adf_blocks.specs.Sizes.{blocks}
-use Rattle.adf_volume.specs.Image.{kind_of}
+use Rattle.adf_volume.specs.{Image.kind_of, Parts.entry_of}
 use Rattle.adf_volume.specs.declared.part.Part.{Part, TheVariants.Head as HeadPart, TheVariants.Ext as ExtPart, TheVariants.Data as DataPart}
-use Rattle.adf_findings.specs.declared.finding.Finding.{Finding}
+use Rattle.adf_findings.specs.{declared.finding.Finding.Finding, declared.found.Found.Found, WalkOwners.data_number_of, Concerned.node_of, Sound.says_data_of}
 use Rattle.adf_findings.specs.declared.found.ChainPlace.{ChainPlace}
-use Rattle.adf_findings.specs.declared.found.Found.{Found}
 use Rattle.adf_findings.specs.declared.concern.Concern.{Concern, TheVariants.Entry, TheVariants.Within}
 use Rattle.adf_walk.specs.Owners.{owner_at}
-use Rattle.adf_findings.specs.WalkOwners.{data_number_of}
-use Rattle.adf_volume.specs.Parts.{entry_of}
-use Rattle.adf_findings.specs.Concerned.{node_of}
-use Rattle.adf_findings.specs.Sound.{says_data_of}
 
 -- whether a position is this one
 abbrev pub is_place : Option ChainPlace → ℕ → ℕ → Bool

@@ -1,8 +1,7 @@
 -- The facts of an image whose root is taken.
 use Rattle.std.specs.Prelude.{List, ℕ}
 use Rattle.adf_base.specs.Words.{block}
-use Rattle.adf_blocks.specs.RootBlock.{label_stated, stamps_at}
-use Rattle.adf_blocks.specs.Sizes.{blocks}
+use Rattle.adf_blocks.specs.{RootBlock.label_stated, RootBlock.stamps_at, Sizes.blocks}
 use Rattle.adf_volume.specs.Image.{kind_of, root_of}
 use Rattle.adf_findings.specs.declared.opening.Opening.{Opening}
 

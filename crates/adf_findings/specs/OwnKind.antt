@@ -1,39 +1,37 @@
 -- What the entries of a survey tell of the type of their volume.
--- Letters: w the walk of a survey; v a result; b the number of a block; n that of an entry; k a number of blocks; t a tally.
+-- Letters: w the walk of a survey; v a result; b the number of a block, h that of a header; n that of an entry; k a number of blocks, or of a
+-- data block; t a tally.
 use Rattle.std.specs.Prelude.{ℕ, ◌+◌, ◌-◌, ◌==◌, ◌&&◌, ◌||◌, Bool, true, false, cond, nat_le, nat_lt, not, List, Option, Some, None, set, slice_get}
-use Rattle.std.specs.Prelude.{slice_index}
-use Rattle.std.specs.Option.{unwrap_or}
+use Rattle.std.specs.{Prelude.slice_index, Prelude.slice_range, Option.unwrap_or, Str.bytes_eq}
 use Rattle.std.proofs.Common.{zero, suc}
-use Rattle.adf_base.specs.Hash.{slot_by}
+use Rattle.adf_base.specs.{Hash.slot_by, Words.block}
 use Rattle.adf_base.specs.declared.hash.Letters.{Letters, TheVariants.Ascii, TheVariants.International}
-use Rattle.adf_names.specs.Texts.{is_name}
-use Rattle.adf_names.specs.VolumeTypes.{type_number}
+use Rattle.adf_names.specs.{Texts.is_name, VolumeTypes.type_number}
 use Rattle.adf_names.specs.declared.kind.Kind.{Kind, TheVariants.Ofs, TheVariants.Ffs}
-use Rattle.adf_blocks.specs.Sizes.{blocks}
-use Rattle.adf_blocks.specs.declared.layout.TheConstants.{SECONDARY_TYPE, SIZE, ST_FILE}
-use Rattle.adf_volume.specs.Image.{kind_of, letters_of, name_of, word_in}
-use Rattle.adf_volume.specs.Walk.{heads, node_block, Walk}
+use Rattle.adf_blocks.specs.{Sizes.blocks, declared.layout.TheConstants.SECONDARY_TYPE, declared.layout.TheConstants.SIZE, declared.layout.TheConstants.ST_FILE}
+use Rattle.adf_volume.specs.{Image.kind_of, Image.letters_of, Image.name_of, Image.word_in, Walk.heads, Walk.node_block, Walk.Walk, Parts.entry_of}
 use Rattle.adf_walk.specs.Owners.{owner_at}
-use Rattle.adf_findings.specs.WalkOwners.{data_number_of}
-use Rattle.adf_volume.specs.Parts.{entry_of}
-use Rattle.adf_findings.specs.declared.found.ChainPlace.{ChainPlace}
-use Rattle.adf_findings.specs.declared.own_kind.Tally.{Tally}
+use Rattle.adf_findings.specs.{WalkOwners.data_number_of, declared.found.ChainPlace.ChainPlace, declared.own_kind.Tally.Tally, Found.places_of}
+use Rattle.adf_findings.specs.{Members.number_at, Members.owning_entry, Sound.says_data_of, SurveyResult.SurveyValue}
 use Rattle.adf_findings.specs.declared.own_kind.TheConstants.{FILES_THAT_TELL}
-use Rattle.adf_findings.specs.Found.{places_of}
-use Rattle.adf_findings.specs.Members.{number_at, owning_entry}
-use Rattle.adf_findings.specs.Sound.{says_data_of}
-use Rattle.adf_findings.specs.SurveyResult.{SurveyValue}
 
--- whether the data block of the walk at block b says that it is an OFS one of its file; nothing of other blocks
+-- block b is filled with a pattern, as by a program that could not read it: its second half repeats its first
+abbrev pub is_filled : List ℕ → ℕ → Bool
+is_filled image b = nat_lt b (blocks image) && bytes_eq (slice_range (block image b) 0 256) (slice_range (block image b) 256 512)
+
+-- whether block b says that it is OFS data block k of the file with its header at block h; nothing of one that does not and is filled
+abbrev pub kind_said : List ℕ → (h k b : ℕ) → Option Bool
+kind_said image h k b = cond (says_data_of image h k b) (Some true) (cond (is_filled image b) None (Some false))
+
+-- the same of the data block of the walk at block b, of its file; nothing of other blocks
 abbrev pub said_at : List ℕ → Walk → ℕ → Option Bool
-said_at image w b =
-    cond (number_at w b == 0) None (Some (says_data_of image (node_block w (unwrap_or (owning_entry w b) 0)) (number_at w b) b))
+said_at image w b = cond (number_at w b == 0) None (kind_said image (node_block w (unwrap_or (owning_entry w b) 0)) (number_at w b) b)
 
 -- the same by what is kept of blocks and nodes
 abbrev pub said_in : List ℕ → SurveyValue → ℕ → Option Bool
 said_in image v b =
     cond (data_number_of (owner_at v.owners b) == 0) None
-    (Some (says_data_of image (slice_index v.nodes (entry_of (owner_at v.owners b))) (data_number_of (owner_at v.owners b)) b))
+    (kind_said image (slice_index v.nodes (entry_of (owner_at v.owners b))) (data_number_of (owner_at v.owners b)) b)
 
 -- a tally with one more block
 abbrev pub tallied : Tally → Option Bool → Tally
@@ -41,7 +39,7 @@ tallied t None = t
 tallied t (Some true) = record { says = t.says + 1; others = t.others }
 tallied t (Some false) = record { says = t.says; others = t.others + 1 }
 
--- how many of the data blocks at the first k blocks say so, and how many do not
+-- how many of the data blocks at the first k blocks say so, and how many that are not filled do not
 unfoldable pub tally : List ℕ → Walk → ℕ → Tally
 tally image w zero = record { says = 0; others = 0 }
 tally image w (suc k) = tallied (tally image w k) (said_at image w k)
@@ -70,7 +68,7 @@ is_in_slot letters image w n =
     is_name (name_of image (node_block w n)) && (slot_by letters (name_of image (node_block w n)) == slot_of_entry w n)
 
 -- whether a volume of a kind is of the other one, by the tally of its data blocks and the number of files that are not empty:
--- one of FFS, if more say that they are OFS ones than do not; one of OFS, if there are FILES_THAT_TELL files or more, but no data block
+-- one of FFS, if more say that they are OFS ones than do not; one of OFS, if there are FILES_THAT_TELL files or more, but no such block
 abbrev pub is_other_kind : Kind → Tally → ℕ → Bool
 is_other_kind Ofs t files = (t.says + t.others == 0) && nat_le FILES_THAT_TELL files
 is_other_kind Ffs t files = nat_lt t.others t.says

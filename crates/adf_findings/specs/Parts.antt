@@ -1,10 +1,7 @@
 -- The roles and the values of findings.
 use Rattle.std.specs.Prelude.{Option, Some, None}
-use Rattle.adf_volume.specs.Walk.{Role}
-use Rattle.adf_volume.specs.Parts.{role_of}
-use Rattle.adf_volume.specs.declared.part.Part.{Part}
-use Rattle.adf_findings.specs.declared.finding.Finding.{Finding}
-use Rattle.adf_findings.specs.Survey.{FindingValue}
+use Rattle.adf_volume.specs.{Walk.Role, Parts.role_of, declared.part.Part.Part}
+use Rattle.adf_findings.specs.{declared.finding.Finding.Finding, Survey.FindingValue}
 
 -- the role of a part, if there is one
 abbrev pub part_role : Option Part → Option Role

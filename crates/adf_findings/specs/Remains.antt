@@ -5,18 +5,10 @@ use Rattle.std.specs.Prelude.{ℕ, ◌+◌, ◌-◌, ◌*◌, ◌==◌, ◌&&◌
 use Rattle.std.proofs.Common.{suc, zero}
 use Rattle.adf_base.specs.Words.{block}
 use Rattle.adf_names.specs.declared.kind.Kind.{Kind, TheVariants.Ofs, TheVariants.Ffs}
-use Rattle.adf_blocks.specs.declared.layout.TheConstants.{SIZE}
-use Rattle.adf_blocks.specs.Sizes.{blocks, chunk, count}
-use Rattle.adf_volume.specs.Image.{held, kind_of, piece, word_in}
-use Rattle.adf_volume.specs.Walk.{node_block, Walk, Role.Data}
+use Rattle.adf_blocks.specs.{declared.layout.TheConstants.SIZE, Sizes.blocks, Sizes.chunk, Sizes.count}
+use Rattle.adf_volume.specs.{Image.held, Image.kind_of, Image.piece, Image.word_in, Walk.node_block, Walk.Walk, Walk.Role.Data, Parts.entry_of}
 use Rattle.adf_walk.specs.Owners.{owner_at}
-use Rattle.adf_volume.specs.Parts.{entry_of}
-use Rattle.adf_findings.specs.declared.remains.Gap.{Gap}
-use Rattle.adf_findings.specs.Concerned.{is_contested}
-use Rattle.adf_findings.specs.Members.{at_role}
-use Rattle.adf_findings.specs.Files.{named_from}
-use Rattle.adf_findings.specs.Sound.{says_data_of}
-use Rattle.adf_findings.specs.Survey.{FindingValue}
+use Rattle.adf_findings.specs.{declared.remains.Gap.Gap, Concerned.is_contested, Members.at_role, Files.named_from, Sound.says_data_of, Survey.FindingValue}
 use Rattle.adf_findings.specs.SurveyResult.{SurveyValue, alone_in}
 
 -- the block that is taken as data block k of file n

@@ -5,14 +5,11 @@ use Rattle.std.specs.Prelude.{◌≡◌, ◌<◌, ◌≤◌, ◌/◌, ◌==◌, 
 use Rattle.std.proofs.Common.{suc}
 use Rattle.adf_base.specs.Words.{block, long_sum}
 use Rattle.adf_blocks.specs.declared.layout.TheConstants.{DATA_HEAD, DATA_NUMBER, POINTERS, SIZE, TYPE, T_DATA}
-use Rattle.adf_volume.specs.Demands.{AllHold, data_demands, ext_demands}
+use Rattle.adf_volume.specs.{Demands.AllHold, Demands.data_demands, Demands.ext_demands, Lists.At, Lists.In, Made.datas_in}
 use Rattle.adf_names.specs.declared.kind.Kind.TheVariants.{Ffs}
-use Rattle.adf_volume.specs.Lists.{At, In}
-use Rattle.adf_volume.specs.Made.{datas_in}
 use Rattle.adf_volume.specs.Image.{held, kind_of, table_word, word_in}
 use Rattle.adf_volume.specs.Walk.{Role, Same, Has, HeadAt, NodeAt, MemberAt, data_count, Asks, node_block, Walk, Role.Head, Role.Ext, Role.Data}
-use Rattle.adf_findings.specs.Demands.{head_demands_in}
-use Rattle.adf_findings.specs.Survey.{FindingValue}
+use Rattle.adf_findings.specs.{Demands.head_demands_in, Survey.FindingValue}
 
 -- no finding concerns the part
 abbrev pub IsUnreported : List FindingValue → Role → Type 0

@@ -2,10 +2,7 @@
 -- Letters: w the walk of a survey, fs its findings; n an entry's node; v a result.
 use Rattle.std.specs.Prelude.{◌≡◌, ◌↔◌, ◌&&◌, ℕ, Bool, true, List, nat_le}
 use Rattle.adf_volume.specs.Walk.{node_block, Walk}
-use Rattle.adf_findings.specs.Members.{has_mark}
-use Rattle.adf_findings.specs.Sound.{IsSound}
-use Rattle.adf_findings.specs.Survey.{FindingValue}
-use Rattle.adf_findings.specs.SurveyResult.{SurveyValue}
+use Rattle.adf_findings.specs.{Members.has_mark, Sound.IsSound, Survey.FindingValue, SurveyResult.SurveyValue}
 
 -- an entry is marked if and only if it is sound
 abbrev pub AreMarks : List ℕ → Walk → List FindingValue → (ℕ → Bool) → Type 0

@@ -1,16 +1,11 @@
 -- Images to survey.
 use Rattle.std.specs.Prelude.{◌≡◌, ◌==◌, ◌&&◌, ℕ, Bool, List, [], ◌∷◌, ◌++◌, Option, Some, None}
 use Rattle.adf_base.specs.Words.{word}
-use Rattle.adf_blocks.specs.declared.cause.Cause.{Cause}
+use Rattle.adf_blocks.specs.{declared.cause.Cause.Cause, Sizes.blocks}
 use Rattle.adf_blocks.specs.declared.layout.TheConstants.{SECONDARY_TYPE, ST_ROOT, TYPE, T_SHORT}
-use Rattle.adf_blocks.specs.Sizes.{blocks}
 use Rattle.adf_names.specs.declared.kind.Kind.{Kind}
-use Rattle.adf_volume.specs.Demands.{IsSize}
-use Rattle.adf_volume.specs.Image.{kind_of}
-use Rattle.adf_volume.specs.Walk.Role.{Root}
-use Rattle.adf_volume.specs.declared.fault.Fault.{Fault}
-use Rattle.adf_findings.specs.declared.start.Unread.{Unread}
-use Rattle.adf_findings.specs.Survey.{FindingValue, finding}
+use Rattle.adf_volume.specs.{Demands.IsSize, Image.kind_of, Walk.Role.Root, declared.fault.Fault.Fault}
+use Rattle.adf_findings.specs.{declared.start.Unread.Unread, Survey.FindingValue, Survey.finding}
 
 -- an image of whole blocks, their number allowed, of this kind and number of blocks
 pub record IsSized (image : List ℕ) (read : Kind) (n : ℕ) : Type 0 where

@@ -4,14 +4,12 @@
 -- j a judgement; fs findings; n a number of blocks.
 use Rattle.std.specs.Prelude.{◌≡◌, ◌==◌, ◌&&◌, ℕ, Bool, true, false, nat_le, List, [], ◌∷◌, ◌++◌, ◌-◌, ◌/◌, Option, Some, None, slice_index}
 use Rattle.std.proofs.Common.{suc}
-use Rattle.adf_blocks.specs.declared.cause.Cause.{Cause}
+use Rattle.adf_blocks.specs.{declared.cause.Cause.Cause, Sizes.blocks}
 use Rattle.adf_blocks.specs.declared.cause.Cause.TheVariants.{BadSum, Link, BadName, BadComment, WrongSlot, BadFirst, SameName, ShortFile, BadHashSize}
 use Rattle.adf_blocks.specs.declared.cause.Cause.TheVariants.{DirCache, International, NotValidated}
 use Rattle.adf_base.specs.Words.{block}
 use Rattle.adf_blocks.specs.declared.layout.TheConstants.{BITMAP_FLAG, OWN_KEY, PAGE_BITS, T_DIR_CACHE, TYPE, VALID}
-use Rattle.adf_blocks.specs.Sizes.{blocks}
-use Rattle.adf_volume.specs.Image.{word_in, root_of}
-use Rattle.adf_volume.specs.Demands.{Demand, AllHold, FirstFails, boot_demands, root_demands}
+use Rattle.adf_volume.specs.{Image.word_in, Image.root_of, Demands.Demand, Demands.AllHold, Demands.FirstFails, Demands.boot_demands, Demands.root_demands}
 use Rattle.adf_volume.specs.Walk.{Role, Before, Has, Asks, Lacks, IsAbsent, bitmap_demands, Walk, Role.Root, Role.Page}
 use Rattle.adf_findings.specs.Demands.{demands_in}
 

@@ -1,26 +1,14 @@
 -- The results of a survey.
 -- Letters: v a result; w, fs the walk and the findings of the survey; k the index of a finding; n a node; b a block; i the number of a page.
 use Rattle.std.specs.Prelude.{◌≡◌, ◌≤◌, ◌-◌, ◌/◌, ◌==◌, ◌↔◌, ℕ, Bool, true, cond, List, Option, Some, None, length, map, slice_get, slice_index}
-use Rattle.std.specs.BTreeMap.{is_at}
-use Rattle.std.specs.Map.{lookup}
-use Rattle.std.specs.Option.{option_flatten}
-use Rattle.std.specs.Ordering.{nat_cmp}
+use Rattle.std.specs.{BTreeMap.is_at, Map.lookup, Option.option_flatten, Ordering.nat_cmp}
 use Rattle.adf_blocks.specs.declared.layout.TheConstants.{PAGE_BITS}
-use Rattle.adf_volume.specs.declared.owner.Owner.{Owner}
+use Rattle.adf_volume.specs.{declared.owner.Owner.Owner, Parts.entry_of, Walk.Has, Walk.heads, Walk.node_block, Walk.Walk, Walk.Role.Page}
 use Rattle.adf_walk.specs.Owners.{is_part, owner_at}
-use Rattle.adf_findings.specs.WalkOwners.{data_number_of}
-use Rattle.adf_volume.specs.Parts.{entry_of}
-use Rattle.adf_volume.specs.Walk.{Has, heads, node_block, Walk, Role.Page}
-use Rattle.adf_findings.specs.declared.concern.Concern.{Concern}
-use Rattle.adf_findings.specs.declared.finding.Finding.{Finding}
-use Rattle.adf_findings.specs.declared.found.ChainPlace.{ChainPlace}
-use Rattle.adf_findings.specs.Concerned.{concern_of_nth, is_contested, is_taken}
-use Rattle.adf_findings.specs.Files.{grave}
-use Rattle.adf_findings.specs.Found.{places_of}
+use Rattle.adf_findings.specs.{WalkOwners.data_number_of, declared.concern.Concern.Concern, declared.finding.Finding.Finding}
+use Rattle.adf_findings.specs.{declared.found.ChainPlace.ChainPlace, Concerned.concern_of_nth, Concerned.is_contested, Concerned.is_taken, Files.grave}
+use Rattle.adf_findings.specs.{Found.places_of, Parts.finding_value, Sound.IsSound, Survey.FindingValue, Survey.IsSurvey, Survey.IsValidated}
 use Rattle.adf_findings.specs.Members.{at_role, number_at, owning_entry, owns, parent_node, has_mark}
-use Rattle.adf_findings.specs.Parts.{finding_value}
-use Rattle.adf_findings.specs.Sound.{IsSound}
-use Rattle.adf_findings.specs.Survey.{FindingValue, IsSurvey, IsValidated}
 
 -- the result: the findings and what they concern; the owner of each block; whether findings say that it is taken; the blocks of pages, by number;
 -- for each node its block, its parent, from node 1 on its position, whether it is sound, and whether it is but for harmless findings of headers

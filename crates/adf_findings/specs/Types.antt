@@ -1,7 +1,6 @@
 -- Volumes of types 0 to 3: a survey of those of international letters has one finding more, that of their type.
 use Rattle.std.specs.Prelude.{ℕ, Bool, true, false, List, [], ◌∷◌, Option, Some, None, cond}
-use Rattle.adf_blocks.specs.declared.cause.Cause.{Cause, TheVariants.International}
-use Rattle.adf_blocks.specs.Forms.{first_cause}
+use Rattle.adf_blocks.specs.{declared.cause.Cause.Cause, declared.cause.Cause.TheVariants.International, Forms.first_cause}
 use Rattle.adf_volume.specs.Start.{start_form}
 use Rattle.adf_findings.specs.Survey.{FindingValue, finding}
 use Rattle.adf_volume.specs.declared.types.Types.{Types, TheVariants.Plain, TheVariants.WithInternational}

@@ -2,10 +2,7 @@
 use Rattle.std.specs.Prelude.{◌⊎◌, ℕ, List}
 use Rattle.adf_blocks.specs.declared.cause.Cause.{Cause}
 use Rattle.adf_tree.specs.Tree.{Tree}
-use Rattle.adf_volume.specs.Fits.{FitsBy}
-use Rattle.adf_volume.specs.Layout.{Layout}
-use Rattle.adf_volume.specs.Walk.{FirstFaultBy}
-use Rattle.adf_volume.specs.Types.{letters_for}
+use Rattle.adf_volume.specs.{Fits.FitsBy, Layout.Layout, Walk.FirstFaultBy, Types.letters_for}
 use Rattle.adf_volume.specs.declared.types.Types.{Types, TheVariants.Plain}
 
 -- a tree and a layout fit the image, or it has a first fault, where volumes of these types are accepted

@@ -1,14 +1,10 @@
 // Comparison of the bitmap with the blocks that are owned.
 
 ghost use Rattle.std.specs.Prelude.{◌≡◌, ◌≤◌, ◌<◌, ◌+◌, ◌-◌, ◌*◌, ◌%◌, ◌||◌, ◌↔◌, ℕ, false, map, min, slice_index_or, IsBitSet};
-ghost use Rattle.std.specs.Prelude.{IsTrue, OnOk};
-ghost use Rattle.adf_blocks.specs.declared.layout.TheConstants.{PAGE_BITS, PAGE_WORDS};
-ghost use Rattle.adf_blocks.specs.Sizes.{blocks};
-ghost use Rattle.std.specs.BTreeMap.{get};
-ghost use Rattle.std.specs.Ordering.{nat_cmp};
+ghost use Rattle.std.specs.{Prelude.IsTrue, Prelude.OnOk, BTreeMap.get, Ordering.nat_cmp};
+ghost use Rattle.adf_blocks.specs.{declared.layout.TheConstants.PAGE_BITS, declared.layout.TheConstants.PAGE_WORDS, Sizes.blocks};
 ghost use Rattle.adf_volume.specs.Image.{IsFreeAt};
-ghost use Rattle.adf_findings.specs.Parts.{finding_value};
-ghost use Rattle.adf_findings.specs.Survey.{IsValidated, is_cache};
+ghost use Rattle.adf_findings.specs.{Parts.finding_value, Survey.IsValidated, Survey.is_cache};
 ghost use Rattle.adf_findings.specs.Bits.{IsBitCompared, IsPageCompared};
 ghost use Rattle.adf_findings.specs.Found.{IsBitOf, IsCompleted, IsFinished, HasReportedOn, bit_cause, is_owned};
 

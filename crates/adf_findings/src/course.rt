@@ -5,15 +5,12 @@ ghost use Rattle.std.specs.Prelude.{◌≡◌, ◌<◌, ◌≤◌, ◌+◌, ◌*
 ghost use Rattle.adf_names.specs.declared.kind.Kind.TheVariants.{Ffs};
 ghost use Rattle.adf_blocks.specs.declared.layout.TheConstants.{POINTERS, SLOTS};
 ghost use Rattle.adf_blocks.specs.Sizes.{blocks, pages_needed};
-ghost use Rattle.adf_volume.specs.Image.{kind_of, root_of, table_word};
+ghost use Rattle.adf_volume.specs.{Image.kind_of, Image.root_of, Image.table_word, Parts.role_of};
 ghost use Rattle.adf_volume.specs.Positions.{before_node, position_of, word_of_map_ext, word_of_page};
-ghost use Rattle.adf_findings.specs.Survey.{Course};
-ghost use Rattle.adf_volume.specs.Parts.{role_of};
-ghost use Rattle.adf_findings.specs.Found.{IsFinished};
+ghost use Rattle.adf_findings.specs.{Survey.Course, Found.IsFinished, Courses.next_in, Courses.noted, Courses.table_block_in};
 ghost use Rattle.adf_findings.specs.Courses.{HasReached, HasReachedData, HasReachedFile, HasReachedPage, HasReachedPart};
 ghost use Rattle.adf_findings.specs.Courses.{HasReachedNamed, HasReachedSlot, Holds, IsGoneOn, IsJudged, IsNamed};
 ghost use Rattle.adf_findings.specs.Courses.{IsNextReference, IsOutcome, IsPageNamed, KeepsNameBy, due_below, due_in, end_in};
-ghost use Rattle.adf_findings.specs.Courses.{next_in, noted, table_block_in};
 
 use crate::finding::Finding;
 use crate::forms::Context;

@@ -2,12 +2,9 @@
 
 ghost use Rattle.std.specs.Prelude.{◌≡◌, ◌<◌, ◌≤◌, ◌==◌, ◌&&◌, true};
 ghost use Rattle.adf_base.specs.Words.{block, word};
-ghost use Rattle.adf_blocks.specs.Forms.{first_cause};
-ghost use Rattle.adf_blocks.specs.Sizes.{blocks, chunk};
-ghost use Rattle.adf_volume.specs.Image.{held, kind_of};
-ghost use Rattle.adf_findings.specs.Demands.{head_form_in};
-ghost use Rattle.adf_findings.specs.Forms.{form_of, itself_by};
-ghost use Rattle.adf_volume.specs.Parts.{role_of};
+ghost use Rattle.adf_blocks.specs.{Forms.first_cause, Sizes.blocks, Sizes.chunk};
+ghost use Rattle.adf_volume.specs.{Image.held, Image.kind_of, Parts.role_of};
+ghost use Rattle.adf_findings.specs.{Demands.head_form_in, Forms.form_of, Forms.itself_by};
 
 use crate::image::SizedImage;
 use adf_base::Block;

@@ -1,17 +1,13 @@
 // The state of a survey.
 
 ghost use Rattle.std.specs.Prelude.{◌≡◌, ◌≤◌, ◌<◌, ◌+◌, ℕ, List, [], IfOk, OnOk, Some, not, slice_index};
-ghost use Rattle.std.specs.BTreeMap.{Updates};
-ghost use Rattle.std.specs.Ordering.{nat_cmp};
+ghost use Rattle.std.specs.{BTreeMap.Updates, Ordering.nat_cmp};
 ghost use Rattle.adf_blocks.specs.Sizes.{blocks};
 ghost use Rattle.adf_tree.specs.NameSet.{has};
-ghost use Rattle.adf_volume.specs.Positions.{position_of};
-ghost use Rattle.adf_volume.specs.Walk.{Walk};
-ghost use Rattle.adf_volume.specs.Parts.{role_of};
+ghost use Rattle.adf_volume.specs.{Positions.position_of, Walk.Walk, Parts.role_of};
 ghost use Rattle.adf_findings.specs.Found.{AreNamed, AreSame, Stands, IsChain, IsKept, IsOwned, IsBlockSkipped, HasValidName};
 ghost use Rattle.adf_findings.specs.Found.{IsPut, IsTaken, IsNextPart, KeepsName, KeepsParts, begun_marks, is_owned, known_at};
-ghost use Rattle.adf_findings.specs.Found.{new_in};
-ghost use Rattle.adf_findings.specs.Survey.{begun};
+ghost use Rattle.adf_findings.specs.{Found.new_in, Survey.begun};
 
 use crate::header_name::valid_name;
 use crate::image::SizedImage;

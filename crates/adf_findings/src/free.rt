@@ -3,9 +3,7 @@
 ghost use Rattle.std.specs.Prelude.{◌≡◌, ◌≤◌, ◌-◌, ◌/◌, ◌↔◌, ℕ, IfSome, IsSome, IsTrue, Some};
 ghost use Rattle.adf_blocks.specs.declared.layout.TheConstants.{PAGE_BITS};
 ghost use Rattle.adf_volume.specs.Walk.{Has, IsFreeIn, Role.Page};
-ghost use Rattle.adf_findings.specs.Members.{at_role};
-ghost use Rattle.adf_findings.specs.Survey.{OnSurvey};
-ghost use Rattle.adf_findings.specs.SurveyResult.{IsBitStated};
+ghost use Rattle.adf_findings.specs.{Members.at_role, Survey.OnSurvey, SurveyResult.IsBitStated};
 
 use crate::bits::{bit_of, is_validated, page_at};
 use crate::start::start;

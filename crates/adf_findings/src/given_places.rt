@@ -1,10 +1,9 @@
 // The places that are given to the extension blocks and the data blocks of a walk.
 
 ghost use Rattle.std.specs.Prelude.{◌≡◌, ◌≤◌, ◌<◌, ◌+◌, ◌-◌, ◌^◌, ◌++◌, IfOk, OnOk, length, replicate, true};
-ghost use Rattle.adf_volume.specs.declared.owner.Owner.{Owner};
+ghost use Rattle.adf_volume.specs.{declared.owner.Owner.Owner, Parts.entry_of};
 ghost use Rattle.adf_walk.specs.Owners.{is_part};
 ghost use Rattle.adf_findings.specs.WalkOwners.{AreFit, AreGrown, HasNumber, IsKeptBy, node_after};
-ghost use Rattle.adf_volume.specs.Parts.{entry_of};
 
 use adf_base::NoMemory;
 use adf_tree::Node;

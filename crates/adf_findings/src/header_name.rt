@@ -1,8 +1,7 @@
 // The name in a header.
 
 ghost use Rattle.std.specs.Prelude.{◌≡◌, ◌+◌, ◌<◌, ◌↔◌, IfSome, IsSome, min, slice_index, slice_range, true};
-ghost use Rattle.adf_blocks.specs.Sizes.{blocks};
-ghost use Rattle.adf_blocks.specs.declared.layout.TheConstants.{NAME};
+ghost use Rattle.adf_blocks.specs.{Sizes.blocks, declared.layout.TheConstants.NAME};
 ghost use Rattle.adf_names.specs.Texts.{is_name};
 ghost use Rattle.adf_volume.specs.Image.{name_of};
 

@@ -3,11 +3,9 @@
 ghost use Rattle.std.specs.Prelude.{◌≡◌, ◌<◌, ◌≤◌, ◌*◌, ◌^◌, IsTrue, length, nat_le, slice_index, true};
 ghost use Rattle.adf_base.specs.Words.{block};
 ghost use Rattle.adf_blocks.specs.Sizes.{blocks, is_allowed};
-ghost use Rattle.adf_volume.specs.Demands.{IsSize};
+ghost use Rattle.adf_volume.specs.{Demands.IsSize, Walk.data_count};
 ghost use Rattle.adf_volume.specs.Image.{kind_of, letters_of, root_of, word_in};
-ghost use Rattle.adf_volume.specs.Walk.{data_count};
-ghost use Rattle.adf_findings.specs.Sound.{says_data_of};
-ghost use Rattle.adf_findings.specs.Start.{IsSized};
+ghost use Rattle.adf_findings.specs.{Sound.says_data_of, Start.IsSized};
 
 use adf_base::{BLOCK_LEN, Block, Letters};
 use adf_blocks::{DATA_HEAD, DATA_NUMBER, SIZE, T_DATA, TYPE};

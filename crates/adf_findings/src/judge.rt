@@ -2,9 +2,8 @@
 
 ghost use Rattle.std.specs.Prelude.{◌≡◌, ◌&&◌, true};
 ghost use Rattle.std.specs.Option.{is_none};
-ghost use Rattle.adf_blocks.specs.Forms.{first_cause};
+ghost use Rattle.adf_blocks.specs.{Forms.first_cause, Sizes.in_range};
 ghost use Rattle.adf_findings.specs.Forms.{first_failing, form_of, judged_by, keeps, judgement_value};
-ghost use Rattle.adf_blocks.specs.Sizes.{in_range};
 
 use crate::forms::{Context, first_cause, is_itself};
 use crate::image::SizedImage;

@@ -2,24 +2,16 @@
 
 ghost use Rattle.std.specs.Prelude.{◌≡◌, ◌<◌, ◌↔◌, ℕ, Bool, List, [], ◌∷◌, ◌++◌, Some};
 ghost use Rattle.adf_tree.specs.declared.entry.Body.TheVariants.{File};
-ghost use Rattle.adf_tree.specs.declared.entry.Entry.{Entry};
-ghost use Rattle.adf_tree.specs.Tree.{Tree, entry, find};
-ghost use Rattle.adf_volume.specs.Fits.{Fits, FitsBy};
-ghost use Rattle.adf_volume.specs.Image.{name_of, word_in};
-ghost use Rattle.adf_volume.specs.Layout.{Layout};
+ghost use Rattle.adf_tree.specs.{declared.entry.Entry.Entry, Tree.Tree, Tree.entry, Tree.find};
+ghost use Rattle.adf_volume.specs.{Fits.Fits, Fits.FitsBy, Image.name_of, Image.word_in, Layout.Layout, Walk.Role.Data};
+ghost use Rattle.adf_volume.specs.{Walk.Role.Head, Types.letters_for, declared.types.Types.Types};
 ghost use Rattle.adf_volume.specs.Made.{layout_in, tree_in, tree_in_by};
 ghost use Rattle.adf_volume.specs.Walk.{Asks, FileAt, FirstFault, FirstFaultBy, Has, HeadAt, NodeAt, Role, Walk};
-ghost use Rattle.adf_volume.specs.Walk.Role.{Data, Head};
 ghost use Rattle.adf_findings.specs.Files.{IsSoundFile, file_content, file_in, grave, named_from};
-ghost use Rattle.adf_findings.specs.Lookup.{LeadsTo, path_to};
-ghost use Rattle.adf_findings.specs.Remains.{data_found, gaps_of, left_of};
+ghost use Rattle.adf_findings.specs.{Lookup.LeadsTo, Lookup.path_to, Remains.data_found, Remains.gaps_of, Remains.left_of};
+ghost use Rattle.adf_findings.specs.{SoundMarks.AreMarks, Types.passed, Verdict.FitsOrHasFault, Verdict.FitsOrHasFaultBy};
 ghost use Rattle.adf_findings.specs.Survey.{FindingValue, IsSurvey, OnSurvey};
 ghost use Rattle.adf_findings.specs.Sound.{DatasInOrder, FileHolds, HeaderHolds, IsOfItsKind, IsSound};
-ghost use Rattle.adf_findings.specs.SoundMarks.{AreMarks};
-ghost use Rattle.adf_volume.specs.Types.{letters_for};
-ghost use Rattle.adf_findings.specs.Types.{passed};
-ghost use Rattle.adf_findings.specs.Verdict.{FitsOrHasFault, FitsOrHasFaultBy};
-ghost use Rattle.adf_volume.specs.declared.types.Types.{Types};
 
 /// Every image has a survey.
 #[tactic(auto, using(crate::proofs::SomeSurvey::some_survey))]

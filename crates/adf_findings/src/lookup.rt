@@ -1,8 +1,7 @@
 // Look-up of paths among the entries found, and the paths of entries.
 
 ghost use Rattle.std.specs.Prelude.{◌≡◌, ◌↔◌, ℕ, [], IsOk, IsTrue, IfNone, IfOk, IfSome, map};
-ghost use Rattle.adf_findings.specs.Lookup.{IsNamedChild, IsFirstChild, LeadsTo, path_to};
-ghost use Rattle.adf_findings.specs.Survey.{OnSurvey};
+ghost use Rattle.adf_findings.specs.{Lookup.IsNamedChild, Lookup.IsFirstChild, Lookup.LeadsTo, Lookup.path_to, Survey.OnSurvey};
 
 use crate::survey_result::Survey;
 use adf_base::NoMemory;

@@ -1,16 +1,12 @@
 // The marks of sound entries.
 
 ghost use Rattle.std.specs.Prelude.{◌≡◌, ◌≤◌, ◌<◌, ◌^◌, ◌==◌, ◌&&◌, ◌||◌, ℕ, Bool, IfOk, IsTrue, None, false, map, not};
-ghost use Rattle.std.specs.Prelude.{OnOk, slice_index_or};
-ghost use Rattle.std.specs.List.{filter};
-ghost use Rattle.adf_blocks.specs.declared.layout.TheConstants.{TYPE, T_DATA};
-ghost use Rattle.adf_blocks.specs.Sizes.{blocks};
+ghost use Rattle.std.specs.{Prelude.OnOk, Prelude.slice_index_or, List.filter};
+ghost use Rattle.adf_blocks.specs.{declared.layout.TheConstants.TYPE, declared.layout.TheConstants.T_DATA, Sizes.blocks};
 ghost use Rattle.adf_volume.specs.Image.{word_in};
 ghost use Rattle.adf_findings.specs.Concerned.{is_contested, is_taken};
-ghost use Rattle.adf_findings.specs.Files.{is_harmless, is_light};
-ghost use Rattle.adf_findings.specs.Parts.{finding_value};
+ghost use Rattle.adf_findings.specs.{Files.is_harmless, Files.is_light, Parts.finding_value, Members.has_mark};
 ghost use Rattle.adf_findings.specs.Marks.{blamed, doubted, is_blamed, is_doubted, is_header, is_node, is_undoubted};
-ghost use Rattle.adf_findings.specs.Members.{has_mark};
 
 use crate::concern::Concern;
 use crate::finding::Finding;

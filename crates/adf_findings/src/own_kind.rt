@@ -3,12 +3,10 @@
 ghost use Rattle.std.specs.Prelude.{◌≡◌, ◌≤◌, ◌<◌, ◌+◌, ◌-◌, ◌==◌, ℕ, List, IsTrue, slice_get, slice_index};
 ghost use Rattle.adf_blocks.specs.Sizes.{blocks};
 ghost use Rattle.adf_volume.specs.Walk.{Role, heads, node_block};
-ghost use Rattle.adf_findings.specs.Files.{grave};
-ghost use Rattle.adf_findings.specs.Sound.{IsSound};
+ghost use Rattle.adf_findings.specs.{Files.grave, Sound.IsSound, Survey.OnSurvey};
 ghost use Rattle.adf_findings.specs.OwnKind.{has_other_kind, has_other_letters, is_full_file, is_in_slot, is_mistyped};
-ghost use Rattle.adf_findings.specs.OwnKind.{is_other_kind, other_kind, other_letters, passing, retyped, said_in};
+ghost use Rattle.adf_findings.specs.OwnKind.{is_filled, is_other_kind, kind_said, other_kind, other_letters, passing, retyped, said_in};
 ghost use Rattle.adf_findings.specs.OwnKind.{slot_of_place, tallied, tally, told_type, type_with};
-ghost use Rattle.adf_findings.specs.Survey.{OnSurvey};
 
 use crate::found::ChainPlace;
 use crate::image::SizedImage;
@@ -23,7 +21,7 @@ use adf_tree::{Kind, Name, Node};
 /// How many files that are not empty show, without a data block, that an OFS volume is one of FFS.
 pub const FILES_THAT_TELL: usize = 4;
 
-/// How many data blocks say that they are OFS ones, and how many do not.
+/// How many data blocks say that they are OFS ones, and how many that are not filled do not.
 #[derive(Clone, Copy, PartialEq, Eq, Drop)]
 pub struct Tally {
     pub says: u32,
@@ -106,8 +104,32 @@ fn slot_at(places: &Vec<ChainPlace>, n: usize) -> u8
     }
 }
 
+// Whether a block is filled with a pattern: its second half repeats its first.
+fn is_filled(image: &SizedImage<'_>, b: u32) -> bool
+    ensures { result ≡ is_filled image.now b }
+{
+    if image.blocks() <= b {
+        return false;
+    }
+    let block = image.block(b);
+    block.bytes(0, 256) == block.bytes(256, 256)
+}
+
+// Whether a block says that it is such an OFS data block; `None` of one that does not, and is filled.
+fn kind_said(image: &SizedImage<'_>, head: u32, number: u32, b: u32) -> Option<bool>
+    ensures { result ≡ kind_said image.now head number b }
+{
+    let says = image.says_data_of(head, number, b);
+    if !says && is_filled(image, b) {
+        None
+    } else {
+        Some(says)
+    }
+}
+
 impl Survey<'_> {
-    // Whether the data block at a block says that it is an OFS one of its file; `None` where no data block is found.
+    // Whether the data block at a block says that it is an OFS one of its file; `None` where no data block is found, or one that
+    // is filled.
     fn said_at(&self, image: &SizedImage<'_>, b: u32) -> Option<bool>
         ensures { result ≡ said_in image.now self.now b }
     {
@@ -117,10 +139,10 @@ impl Survey<'_> {
             return None;
         }
         let head = number_at(&self.nodes, entry_of(&owner));
-        Some(image.says_data_of(head, number, b))
+        kind_said(image, head, number, b)
     }
 
-    // How many data blocks say so, and how many do not.
+    // How many data blocks say so, and how many that are not filled do not.
     fn tally(&self, image: &SizedImage<'_>) -> Tally
         ensures { OnSurvey self.now.image (λ w _. result ≡ tally image.now w (blocks image.now)) }
     {
@@ -132,14 +154,14 @@ impl Survey<'_> {
         tally
     }
 
-    // Whether no data block is found.
+    // Whether no data block is found that tells its kind.
     fn has_no_data(&self, image: &SizedImage<'_>) -> bool
         ensures { OnSurvey self.now.image (λ w _. result ≡ ((tally image.now w (blocks image.now)).says
             + (tally image.now w (blocks image.now)).others == 0)) }
     {
         let _owners = &self.owners;
         for b in 0..image.blocks() {
-            if data_number_of(&self.owners.at(b)) != 0 {
+            if self.said_at(image, b).is_some() {
                 return false;
             }
         }
@@ -238,8 +260,8 @@ impl Survey<'_> {
 
     /// The type that the entries tell, 0 to 5: the one stated, unless their kind or their letters are others. Of FFS they are
     /// OFS, if more of the data blocks that are found say that they are OFS ones of their files than do not; of OFS they are
-    /// FFS, if no data block is found, but `FILES_THAT_TELL` files that are not empty, or more. The letters are others, if by
-    /// these more headers are in the slots of their names.
+    /// FFS, if no data block is found, but `FILES_THAT_TELL` files that are not empty, or more. A block whose second half repeats
+    /// its first says nothing. The letters are others, if by these more headers are in the slots of their names.
     #[tactic(auto, using(crate::proofs::OwnKinds::none_told, crate::proofs::Openings::unbegun_walk))]
     pub fn told_type(&self) -> u8
         ensures { OnSurvey self.now.image (λ w _. result ≡ told_type self.now.image w) }

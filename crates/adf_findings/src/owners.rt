@@ -2,9 +2,8 @@
 
 ghost use Rattle.std.specs.Prelude.{◌≡◌, slice_get};
 ghost use Rattle.std.specs.Option.{option_and_then};
-ghost use Rattle.adf_findings.specs.Concerned.{is_taken};
+ghost use Rattle.adf_findings.specs.{Concerned.is_taken, WalkOwners.data_number_of};
 ghost use Rattle.adf_findings.specs.SurveyResult.{entry_at, owner_for};
-ghost use Rattle.adf_findings.specs.WalkOwners.{data_number_of};
 ghost use Rattle.adf_volume.specs.Parts.{entry_of};
 
 use crate::finding::Finding;

@@ -4,12 +4,10 @@ ghost use Rattle.std.specs.Prelude.{◌≡◌, ◌≤◌, ◌<◌, ◌^◌, ◌+
 ghost use Rattle.std.specs.Prelude.{slice_index};
 ghost use Rattle.adf_blocks.specs.Sizes.{blocks, count};
 ghost use Rattle.adf_base.specs.Words.{block};
-ghost use Rattle.adf_volume.specs.Image.{kind_of, piece};
-ghost use Rattle.adf_volume.specs.Walk.{FileAt, node_block};
-ghost use Rattle.adf_findings.specs.Files.{named_from};
+ghost use Rattle.adf_volume.specs.{Image.kind_of, Image.piece, Walk.FileAt, Walk.node_block};
+ghost use Rattle.adf_findings.specs.{Files.named_from, Survey.OnSurvey};
 ghost use Rattle.adf_findings.specs.Remains.{below, blocks_stated, bytes_in, bytes_left, data_at, gap_at, gaps_left, gaps_of};
 ghost use Rattle.adf_findings.specs.Remains.{joined_gaps, left_of, named_below, own_data, size_stated, with_gap, with_lost};
-ghost use Rattle.adf_findings.specs.Survey.{OnSurvey};
 
 use crate::image::SizedImage;
 use crate::owners::entry_of;

@@ -2,8 +2,7 @@
 
 ghost use Rattle.std.specs.Prelude.{◌≡◌, ◌++◌, IfOk, OnOk, map};
 ghost use Rattle.adf_volume.specs.Walk.{Walk};
-ghost use Rattle.adf_findings.specs.Parts.{finding_value};
-ghost use Rattle.adf_findings.specs.Start.{boot_findings, root_findings, unread_findings};
+ghost use Rattle.adf_findings.specs.{Parts.finding_value, Start.boot_findings, Start.root_findings, Start.unread_findings};
 ghost use Rattle.adf_findings.specs.Survey.{BootTells, IsSurvey, RootTells, UnreadTells};
 
 use crate::bits::compare;

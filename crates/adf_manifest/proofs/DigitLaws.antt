@@ -1,13 +1,10 @@
 -- Laws of hexadecimal digits.
 use Rattle.std.proofs.Common.{◌&&◌, true, ◌≡◌, ◌<◌, ◌^◌, ◌+◌, ◌*◌, ◌/◌, ◌%◌, ◌==◌, ◌++◌, ◌∙◌, ℕ, false, List, [], ◌∷◌, refl, ap, arith, length, get_or, zero}
-use Rattle.std.proofs.Common.{suc}
+use Rattle.std.proofs.{Common.suc, lemmas.Bool.and_from, lemmas.Bool.and_parts, lemmas.Bool.Decides.nat_tests, lemmas.Grind.common_steps}
 use Rattle.std.specs.List.{All, list_all}
-use Rattle.std.proofs.lemmas.Bool.{and_from, and_parts, Decides.nat_tests}
 use Rattle.std.proofs.lemmas.List.Elements.{All-cons, All-head, All-nil, All-tail}
-use Rattle.std.proofs.lemmas.Grind.{common_steps}
 use Rattle.adf_names.specs.Escapes.{hex_digit}
-use Rattle.adf_manifest.specs.Tokens.{LacksByte}
-use Rattle.adf_manifest.specs.Texts.{digit, hex_word, is_digit, pair, pairs, unpaired, AreDigits}
+use Rattle.adf_manifest.specs.{Tokens.LacksByte, Texts.digit, Texts.hex_word, Texts.is_digit, Texts.pair, Texts.pairs, Texts.unpaired, Texts.AreDigits}
 use Rattle.adf_names.proofs.Spellings.{same_digits}
 
 -- the digits of a byte at the head of a text are of one byte

@@ -1,24 +1,19 @@
 -- A manifest has no fault, and lines have at most one first fault.
 use Rattle.std.proofs.Common.{◌≡◌, ◌<◌, ◌≤◌, ◌+◌, ◌++◌, ◌∙◌, ◌⊎◌, inl, inr, ℕ, zero, suc, true, List, [], ◌∷◌, Result, Ok, Err, refl, sym, ap, subst, arith}
-use Rattle.std.proofs.Common.{length, length-append, take, drop, IsOk}
-use Rattle.std.proofs.lemmas.Bool.{cases_order}
+use Rattle.std.proofs.{Common.length, Common.length-append, Common.take, Common.drop, Common.IsOk, lemmas.Bool.cases_order, lemmas.Grind.common_steps}
 use Rattle.std.proofs.lemmas.List.{append_assoc, same_from_push, take_at, drop_at}
-use Rattle.adf_tree.specs.Tree.{Tree, room_for}
+use Rattle.adf_tree.specs.{Tree.Tree, Tree.room_for, declared.tree.RoomFault.RoomFault}
 use Rattle.adf_names.specs.declared.kind.Kind.{Kind}
-use Rattle.adf_tree.specs.declared.tree.RoomFault.{RoomFault}
 use Rattle.adf_tree.specs.declared.tree.RoomFault.TheVariants as room
 use Rattle.adf_names.proofs.PathParts.{one_path}
 use Rattle.adf_blocks.specs.Sizes.{is_allowed}
 use Rattle.adf_manifest.specs.Lines.{IsLine, LineValue, LabelLine, StampsLine, EntryLine, NoteLine, RunLine, line_text, volume_line}
-use Rattle.adf_manifest.specs.Items.{item_lines}
+use Rattle.adf_manifest.specs.{Items.item_lines, declared.manifest.ManifestKind.ManifestKind}
 use Rattle.std.specs.List.{flat_map}
-use Rattle.std.proofs.lemmas.Grind.{common_steps}
 use Rattle.adf_manifest.specs.Manifest.{EndsInFile, HasBadText, HasFault, HasFaultOf, HasNoRoom, IsBare, IsFirstLineFault, IsLaterFault, IsWell, Manifest}
 use Rattle.adf_manifest.specs.Manifest.{MayStandNext, MayStand, items_of, label_lines, manifest_lines, manifest_tree, stamps_lines}
-use Rattle.adf_manifest.specs.declared.manifest.ManifestKind.{ManifestKind}
 use Rattle.adf_manifest.specs.declared.manifest.ManifestKind.TheVariants.{BadLine, BadSize, BadText, NoParent, ParentIsFile, Exists}
-use Rattle.adf_manifest.proofs.Forms.{line_same}
-use Rattle.adf_manifest.proofs.LastLines.{Adds, IsFirst, ends, last_line}
+use Rattle.adf_manifest.proofs.{Forms.line_same, LastLines.Adds, LastLines.IsFirst, LastLines.ends, LastLines.last_line}
 use Rattle.adf_manifest.proofs.Verdicts.{first_lines, heads, one_volume, one_told, rests, small, some_lines}
 
 -- a line that adds may stand at its place, and has no fault

@@ -1,17 +1,10 @@
 -- A text has at most one form, and one content.
 use Rattle.std.proofs.Common.{◌≡◌, ◌<◌, ◌^◌, ◌+◌, ◌*◌, ◌==◌, ◌∙◌, ℕ, false, List, [], refl, sym, ap, arith, codes, slice_index}
-use Rattle.std.proofs.lemmas.Fmt.{decimal_injective}
-use Rattle.std.proofs.lemmas.Bool.Decides.{nat_tests}
-use Rattle.std.proofs.lemmas.List.{append_cancel_left}
-use Rattle.std.proofs.lemmas.Grind.{common_steps}
-use Rattle.adf_base.specs.Dates.{plain_text, IsStamp}
-use Rattle.adf_base.specs.declared.dates.Stamp.{Stamp}
-use Rattle.adf_names.specs.declared.meta.Stamps.{Stamps}
-use Rattle.adf_manifest.specs.Tokens.{stamps_text}
-use Rattle.adf_names.specs.Meta.{AreStamps}
-use Rattle.adf_manifest.specs.Texts.{pairs, unpaired}
+use Rattle.std.proofs.{lemmas.Fmt.decimal_injective, lemmas.Bool.Decides.nat_tests, lemmas.List.append_cancel_left, lemmas.Grind.common_steps}
+use Rattle.adf_base.specs.{Dates.plain_text, Dates.IsStamp, declared.dates.Stamp.Stamp}
+use Rattle.adf_names.specs.{declared.meta.Stamps.Stamps, Meta.AreStamps}
+use Rattle.adf_manifest.specs.{Tokens.stamps_text, Texts.pairs, Texts.unpaired, Lines.line_text, Lines.stamps_line}
 use Rattle.adf_manifest.specs.Lines.{IsLine, IsRun, LineValue, LabelLine, StampsLine, EntryLine, NoteLine, RunLine, DataRun, FillRun, fields_text, fill_line}
-use Rattle.adf_manifest.specs.Lines.{line_text, stamps_line}
 use Rattle.adf_manifest.specs.declared.lines.Sort.{Sort, TheVariants.Dir, TheVariants.File}
 use Rattle.adf_manifest.proofs.DigitLaws.{one_pair, one_word, unpaired_pairs, word_lacks}
 use Rattle.adf_manifest.proofs.LineLaws.{fields_parts, fill_parts}

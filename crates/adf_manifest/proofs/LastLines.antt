@@ -1,29 +1,19 @@
 -- The last line of a manifest, and the manifest of the lines before it.
 use Rattle.std.proofs.Common.{◌≡◌, ◌≢◌, ◌<◌, ◌++◌, ◌∙◌, ◌⊎◌, inl, inr, ℕ, List, [], ◌∷◌, Option, Some, None, IfSome, refl, sym, ap, subst, arith, length}
-use Rattle.std.specs.Prelude.{IsOk}
-use Rattle.std.specs.List.{All}
-use Rattle.std.proofs.lemmas.List.{append-nil}
-use Rattle.std.proofs.lemmas.Grind.{common_steps}
-use Rattle.adf_names.specs.Escapes.{IsSpelling, escaped}
+use Rattle.std.specs.{Prelude.IsOk, List.All}
+use Rattle.std.proofs.{lemmas.List.append-nil, lemmas.Grind.common_steps}
+use Rattle.adf_names.specs.{Escapes.IsSpelling, Escapes.escaped, declared.kind.Kind.Kind, declared.meta.Stamps.Stamps}
 use Rattle.adf_names.specs.PathTexts.{IsName, IsPathText, path_text}
 use Rattle.adf_tree.specs.Tree.{room_for}
-use Rattle.adf_names.specs.declared.kind.Kind.{Kind}
-use Rattle.adf_names.specs.declared.meta.Stamps.{Stamps}
-use Rattle.adf_names.proofs.Spellings.{spelling_some}
-use Rattle.adf_names.proofs.PathParts.{empty_path}
+use Rattle.adf_names.proofs.{Spellings.spelling_some, PathParts.empty_path}
 use Rattle.adf_manifest.specs.Lines.{IsLine, IsRun, LineValue, LabelLine, StampsLine, EntryLine, NoteLine, RunLine, RunValue, line_text, run_line, stamps_line}
-use Rattle.adf_manifest.specs.Lines.{note_line}
+use Rattle.adf_manifest.specs.{Lines.note_line, Manifest.EndsInFile, Manifest.IsBare, Manifest.MayStand, Reader.bare, declared.reader.Preamble.Preamble}
 use Rattle.adf_manifest.specs.Items.{HaveRoom, IsGivenNote, IsItem, Item, items_tree}
 use Rattle.adf_manifest.specs.Manifest.{Entries, IsPreamble, IsWell, Manifest, preamble_lines, preamble_tree, items_of, manifest_lines, manifest_tree}
-use Rattle.adf_manifest.specs.Manifest.{EndsInFile, IsBare, MayStand}
-use Rattle.adf_manifest.specs.Reader.{bare}
 use Rattle.adf_base.specs.declared.dates.Stamp.{Stamp}
 use Rattle.adf_manifest.specs.declared.lines.Sort.{Sort, TheVariants.Dir, TheVariants.File}
-use Rattle.adf_manifest.specs.declared.reader.Preamble.{Preamble}
-use Rattle.adf_manifest.proofs.Forms.{of_three}
+use Rattle.adf_manifest.proofs.{Forms.of_three, Growth.with_new, Growth.item_with, Growth.last_is, Growth.last_well, StateLaws.bare_lines, StateLaws.bare_well}
 use Rattle.adf_manifest.proofs.Growth.{with_run, with_run_lines, last_lines, new_item, new_lines, noted, noted_lines, room_less, well_before, with_last}
-use Rattle.adf_manifest.proofs.Growth.{with_new, item_with, last_is, last_well}
-use Rattle.adf_manifest.proofs.StateLaws.{bare_lines, bare_well}
 use Rattle.adf_tree.proofs.Lists.{last_off}
 
 abbrev pub with_label : Preamble → List ℕ → Preamble

@@ -1,15 +1,11 @@
 -- Laws of the parts of a line.
 use Rattle.std.proofs.Common.{◌≡◌, ◌≤◌, ◌++◌, ◌∙◌, ℕ, List, ◌∷◌, sym, arith, codes}
 use Rattle.std.specs.Fmt.{decimal}
-use Rattle.std.proofs.lemmas.List.{append_cancel_left}
-use Rattle.adf_base.specs.Dates.{plain_text, IsStamp}
-use Rattle.adf_base.specs.declared.dates.Stamp.{Stamp}
-use Rattle.adf_manifest.specs.Tokens.{LacksByte}
-use Rattle.adf_manifest.specs.Texts.{hex_word, pair}
-use Rattle.adf_manifest.specs.Lines.{fields_text, fill_line, most_fill}
+use Rattle.std.proofs.{lemmas.List.append_cancel_left, lemmas.Grind.common_steps}
+use Rattle.adf_base.specs.{Dates.plain_text, Dates.IsStamp, declared.dates.Stamp.Stamp}
+use Rattle.adf_manifest.specs.{Tokens.LacksByte, Texts.hex_word, Texts.pair, Lines.fields_text, Lines.fill_line, Lines.most_fill}
 use Rattle.adf_manifest.proofs.TokenLaws.{CutTwice, one_cut, one_cut_twice, space_lacks, stamp_lacks}
 use Rattle.adf_manifest.proofs.DigitLaws.{word_lacks}
-use Rattle.std.proofs.lemmas.Grind.{common_steps}
 
 -- what stands behind the word of a fill line
 pub fill_text : (line text : List ℕ) (count byte : ℕ) → line ≡ codes "fill " ++ text → line ≡ fill_line count byte

@@ -1,10 +1,8 @@
 -- Laws of a manifest's lines and of their faults.
 use Rattle.std.proofs.Common.{◌≡◌, ◌≤◌, ◌+◌, ◌==◌, ◌++◌, ◌∙◌, ℕ, List, [], ◌∷◌, refl, ap, arith, append_assoc, length, length-append}
-use Rattle.std.proofs.lemmas.List.Sums.{count_by-le-length}
+use Rattle.std.proofs.{lemmas.List.Sums.count_by-le-length, lemmas.Grind.common_steps}
 use Rattle.std.proofs.lemmas.List.Splits.{length-slice_split, slice_split_at, slice_split_none}
-use Rattle.std.proofs.lemmas.Grind.{common_steps}
-use Rattle.adf_manifest.specs.Tokens.{LacksByte}
-use Rattle.adf_manifest.specs.Manifest.{between_feeds}
+use Rattle.adf_manifest.specs.{Tokens.LacksByte, Manifest.between_feeds}
 
 pub parts_cut : (text line rest : List ℕ) → text ≡ line ++ 10 ∷ rest → LacksByte 10 line → between_feeds text ≡ line ∷ between_feeds rest
 parts_cut text line rest e h = ap between_feeds e ∙ slice_split_at (λ c. c == 10) line 10 rest h refl

@@ -1,27 +1,18 @@
 -- The state of the reader after one more line.
 use Rattle.std.proofs.Common.{◌≡◌, ◌<◌, ◌++◌, ◌∙◌, ℕ, List, [], ◌∷◌, Option, Some, None, refl, sym, ap, subst, arith, length, length-append}
-use Rattle.std.specs.Prelude.{IsOk, IfErr, Result, Ok, Err, is_some, false}
-use Rattle.std.specs.List.{All}
+use Rattle.std.specs.{Prelude.IsOk, Prelude.IfErr, Prelude.Result, Prelude.Ok, Prelude.Err, Prelude.is_some, Prelude.false, List.All, Option.unwrap_or}
 use Rattle.std.proofs.lemmas.List.{append-nil, length-replicate, Elements.All-head, Elements.All-nil}
-use Rattle.adf_base.specs.declared.dates.Stamp.{Stamp}
-use Rattle.adf_base.specs.declared.hash.Letters.TheVariants.{Ascii}
-use Rattle.adf_names.specs.Escapes.{IsSpelling, escaped}
-use Rattle.adf_names.specs.PathTexts.{IsPathText, path_text}
-use Rattle.std.specs.Option.{unwrap_or}
+use Rattle.adf_base.specs.{declared.dates.Stamp.Stamp, declared.hash.Letters.TheVariants.Ascii}
+use Rattle.adf_names.specs.{Escapes.IsSpelling, Escapes.escaped, PathTexts.IsPathText, PathTexts.path_text, Meta.new_meta}
 use Rattle.adf_drafts.specs.Draft.{DraftValue, IsRoomFor}
-use Rattle.adf_names.specs.Meta.{new_meta}
-use Rattle.adf_tree.specs.Tree.{Tree, room_for, with_entry, with_entry_by}
-use Rattle.adf_tree.specs.declared.entry.Body.{Body}
+use Rattle.adf_tree.specs.{Tree.Tree, Tree.room_for, Tree.with_entry, Tree.with_entry_by, declared.entry.Body.Body}
 use Rattle.adf_manifest.specs.Lines.{EntryLine, IsLine, IsRun, RunValue, DataRun, FillRun, entry_line, note_line, run_line, LineValue}
 use Rattle.adf_manifest.specs.Items.{IsItem, Item, body_of_sort, bytes_of_runs, items_tree, run_bytes, with_item}
 use Rattle.adf_manifest.specs.Manifest.{Entries, IsPreamble, IsWell, Manifest, MayStand, preamble_lines, preamble_tree, items_of, manifest_lines, manifest_tree}
-use Rattle.adf_manifest.specs.Reader.{HasNextLine, IsLastEntry, IsReading, Stops, StopsIn, bare}
-use Rattle.adf_manifest.specs.declared.lines.Sort.{Sort, TheVariants.File}
-use Rattle.adf_manifest.specs.declared.reader.Preamble.{Preamble}
-use Rattle.adf_manifest.specs.declared.reader.LastEntry.{LastEntry}
-use Rattle.adf_manifest.specs.declared.reader.Reading.{Reading}
+use Rattle.adf_manifest.specs.{Reader.HasNextLine, Reader.IsLastEntry, Reader.IsReading, Reader.Stops, Reader.StopsIn, Reader.bare, declared.lines.Sort.Sort}
+use Rattle.adf_manifest.specs.{declared.lines.Sort.TheVariants.File, declared.reader.Preamble.Preamble, declared.reader.LastEntry.LastEntry}
+use Rattle.adf_manifest.specs.{declared.reader.Reading.Reading, declared.manifest.ManifestKind.ManifestKind, declared.manifest.ManifestKind.TheVariants.BadLine}
 use Rattle.adf_manifest.specs.declared.reader.State.TheVariants as state
-use Rattle.adf_manifest.specs.declared.manifest.ManifestKind.{ManifestKind, TheVariants.BadLine}
 use Rattle.adf_manifest.proofs.Growth.{with_run, with_run_is, with_run_lines, last_is, last_lines, last_well, new_item, new_lines, new_well, noted, noted_is}
 use Rattle.adf_manifest.proofs.Growth.{noted_lines, room_none, tree_more, tree_none, with_last, with_new}
 use Rattle.std.proofs.lemmas.Grind.{common_steps}

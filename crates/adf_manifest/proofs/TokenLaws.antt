@@ -1,23 +1,16 @@
 -- Laws of parts of lines: cuts at a byte, numbers in decimal, stamps.
 use Rattle.std.proofs.Common.{◌≡◌, ◌-◌, ◌≢◌, ◌≤◌, ◌<◌, ◌^◌, ◌==◌, ◌&&◌, ◌||◌, not, ◌++◌, ◌∙◌, ℕ, Bool, true, false, nat_lt, List, ◌∷◌, Option, Some, None}
 use Rattle.std.proofs.Common.{Result, Ok, IfNone, refl, sym, ap, subst, arith, rules, length, slice_index, slice_index_or, length-append, drop, take}
-use Rattle.std.proofs.Common.{take-append-drop, IfSome, MatchOption, nat_eq}
-use Rattle.std.proofs.Math.Seq.{get_or-append_seam}
-use Rattle.std.specs.List.{slice_split}
-use Rattle.std.specs.Result.{OkIff}
+use Rattle.std.proofs.{Common.take-append-drop, Common.IfSome, Common.MatchOption, Common.nat_eq, Math.Seq.get_or-append_seam, lemmas.Grind.common_steps}
+use Rattle.std.specs.{List.slice_split, Result.OkIff, Fmt.decimal, Str.IsUtf8, Str.Parse.AllDigits, Str.Parse.ParsesUnsigned, Str.Parse.digits_value}
 use Rattle.std.proofs.lemmas.Bool.{cases_eq, cases_lt, Decides.nat_tests}
-use Rattle.std.specs.Fmt.{decimal}
-use Rattle.std.specs.Str.{IsUtf8, Parse.AllDigits, Parse.ParsesUnsigned, Parse.digits_value}
 use Rattle.std.proofs.lemmas.Fmt.{IsAscii-decimal, decimal_is_IsNumeral, decimal-digits_value, decimal_digit, decimal_nonempty, first_decimal, parse-decimal}
 use Rattle.std.specs.Cmp.Lexicographic.{other_text, pointwise, same_text}
 use Rattle.std.proofs.lemmas.List.{append_cancel_left, take_at, Elements.All-append, Elements.All-cons, Elements.All-from_get_or, Splits.slice_split_at}
 use Rattle.std.proofs.lemmas.Str.{IsUtf8-from_ascii, Parse.IsNumeralModel, Parse.digit_at, Parse.numerals_by_value, Parse.parse_plain, Parse.tells_digits}
-use Rattle.std.proofs.lemmas.Grind.{common_steps}
-use Rattle.adf_base.specs.Dates.{plain_text, IsStamp}
-use Rattle.adf_base.specs.declared.dates.Stamp.{Stamp}
-use Rattle.adf_names.specs.declared.meta.Stamps.{Stamps}
+use Rattle.adf_base.specs.{Dates.plain_text, Dates.IsStamp, declared.dates.Stamp.Stamp}
+use Rattle.adf_names.specs.{declared.meta.Stamps.Stamps, Meta.AreStamps}
 use Rattle.adf_manifest.specs.Tokens.{LacksByte, has_number_front, stamps_text}
-use Rattle.adf_names.specs.Meta.{AreStamps}
 
 pub if_none : {T P : Type 0} (o : Option T) → P → IfNone o P
 if_none None p = p

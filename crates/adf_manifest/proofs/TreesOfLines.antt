@@ -1,12 +1,9 @@
 -- The tree of a manifest's lines: adding the entry lines in order gives it, and there is no other.
 use Rattle.std.proofs.Common.{◌≡◌, ◌++◌, ◌∙◌, List, [], ◌∷◌, refl, sym, ap, subst, map, append_assoc, arith}
-use Rattle.std.proofs.lemmas.List.{append-nil}
-use Rattle.std.proofs.lemmas.Grind.{common_steps}
+use Rattle.std.proofs.{lemmas.List.append-nil, lemmas.Grind.common_steps}
 use Rattle.adf_base.specs.declared.hash.Letters.TheVariants.{Ascii}
-use Rattle.adf_tree.specs.Additions.{Addition, IsTreeOf}
-use Rattle.adf_tree.specs.Tree.{Tree}
-use Rattle.adf_tree.proofs.TreeOfAdditions.{grown, nothing_added}
-use Rattle.adf_tree.proofs.OneTreeOfAdditions.{one_tree}
+use Rattle.adf_tree.specs.{Additions.Addition, Additions.IsTreeOf, Tree.Tree}
+use Rattle.adf_tree.proofs.{TreeOfAdditions.grown, TreeOfAdditions.nothing_added, OneTreeOfAdditions.one_tree}
 use Rattle.adf_manifest.specs.Items.{HaveRoom, Item, addition_of, items_tree, with_item}
 use Rattle.adf_manifest.specs.Manifest.{IsTreeOfManifest, IsWell, Manifest, preamble_tree, items_of, manifest_tree}
 

@@ -1,21 +1,13 @@
 -- A manifest has one verdict: one tree and number of blocks, or one first fault.
 use Rattle.std.proofs.Common.{◌≡◌, ◌<◌, ◌≤◌, ◌^◌, ◌∙◌, inl, inr, ℕ, zero, suc, true, List, [], ◌∷◌, Option, Some, None, sym, ap, subst, arith, length}
-use Rattle.std.proofs.Common.{length-append, codes}
-use Rattle.std.proofs.lemmas.Bool.Decides.{nat_tests}
-use Rattle.std.proofs.lemmas.Fmt.{decimal_injective}
+use Rattle.std.proofs.{Common.length-append, Common.codes, lemmas.Bool.Decides.nat_tests, lemmas.Fmt.decimal_injective, lemmas.Grind.common_steps}
 use Rattle.std.proofs.lemmas.List.{append_cancel_left, same_from_push}
-use Rattle.std.proofs.lemmas.Grind.{common_steps}
-use Rattle.adf_names.specs.Escapes.{IsSpelling}
-use Rattle.adf_names.specs.declared.kind.Kind.{Kind}
-use Rattle.adf_names.proofs.Spellings.{only_spelled}
-use Rattle.adf_names.proofs.PathParts.{one_path}
+use Rattle.adf_names.specs.{Escapes.IsSpelling, declared.kind.Kind.Kind}
+use Rattle.adf_names.proofs.{Spellings.only_spelled, PathParts.one_path}
 use Rattle.adf_blocks.specs.Sizes.{is_allowed}
 use Rattle.adf_manifest.specs.Lines.{LineValue, LabelLine, StampsLine, EntryLine, NoteLine, RunLine, line_text, volume_line}
-use Rattle.adf_manifest.specs.Manifest.{Entries, IsWell, Manifest, manifest_lines}
-use Rattle.adf_manifest.specs.Reader.{bare}
-use Rattle.adf_manifest.specs.declared.reader.Preamble.{Preamble}
-use Rattle.adf_manifest.proofs.Forms.{line_same}
-use Rattle.adf_manifest.proofs.LastLines.{Adds, IsFirst, IsNext, last_line}
+use Rattle.adf_manifest.specs.{Manifest.Entries, Manifest.IsWell, Manifest.Manifest, Manifest.manifest_lines, Reader.bare, declared.reader.Preamble.Preamble}
+use Rattle.adf_manifest.proofs.{Forms.line_same, LastLines.Adds, LastLines.IsFirst, LastLines.IsNext, LastLines.last_line}
 
 pub heads : {a b : List ℕ} {x y : List (List ℕ)} → a ∷ x ≡ b ∷ y → a ≡ b
 heads e = cc

@@ -1,17 +1,10 @@
 -- The entries of a manifest, and the tree of a list of them.
 use Rattle.std.specs.Prelude.{◌≡◌, ◌<◌, ◌^◌, ℕ, List, [], ◌∷◌, ◌++◌, length, map, All, Option, Some, None, IfSome, IsOk, replicate}
-use Rattle.std.specs.List.{flat_map}
-use Rattle.std.specs.Option.{unwrap_or}
-use Rattle.adf_base.specs.declared.dates.Stamp.{Stamp}
-use Rattle.adf_names.specs.Escapes.{IsSpelling, escaped}
-use Rattle.adf_names.specs.PathTexts.{IsName, path_text}
-use Rattle.adf_tree.specs.Additions.{Addition}
-use Rattle.adf_names.specs.Meta.{new_meta}
-use Rattle.adf_tree.specs.Tree.{Tree, room_for, with_entry}
-use Rattle.adf_tree.specs.declared.entry.Body.{Body}
+use Rattle.std.specs.{List.flat_map, Option.unwrap_or}
+use Rattle.adf_base.specs.{declared.dates.Stamp.Stamp, Dates.IsStamp}
+use Rattle.adf_names.specs.{Escapes.IsSpelling, Escapes.escaped, PathTexts.IsName, PathTexts.path_text, Meta.new_meta, declared.meta.Meta.Meta}
+use Rattle.adf_tree.specs.{Additions.Addition, Tree.Tree, Tree.room_for, Tree.with_entry, declared.entry.Body.Body}
 use Rattle.adf_tree.specs.declared.entry.Body.TheVariants as body
-use Rattle.adf_names.specs.declared.meta.Meta.{Meta}
-use Rattle.adf_base.specs.Dates.{IsStamp}
 use Rattle.adf_manifest.specs.Lines.{IsRun, RunValue, DataRun, FillRun, entry_line, note_line, run_line}
 use Rattle.adf_manifest.specs.declared.lines.Sort.{Sort, TheVariants.Dir, TheVariants.File}
 

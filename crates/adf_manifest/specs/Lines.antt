@@ -1,19 +1,11 @@
 -- The lines of a manifest and their content, each by itself.
 use Rattle.std.specs.Prelude.{◌≡◌, ◌<◌, ◌≤◌, ◌^◌, ℕ, List, ◌++◌, codes, length, All}
 use Rattle.std.specs.Fmt.{decimal}
-use Rattle.adf_base.specs.Dates.{plain_text, IsStamp}
-use Rattle.adf_base.specs.declared.dates.Stamp.{Stamp}
-use Rattle.adf_names.specs.declared.kind.Kind.{Kind}
-use Rattle.adf_names.specs.declared.meta.Stamps.{Stamps}
-use Rattle.adf_manifest.specs.Tokens.{stamps_text}
-use Rattle.adf_names.specs.Meta.{AreStamps}
-use Rattle.adf_names.specs.Kinds.{kind_text}
-use Rattle.adf_manifest.specs.Texts.{hex_word, pair, pairs}
-use Rattle.adf_manifest.specs.declared.lines.Sort.{Sort, TheVariants.Dir, TheVariants.File}
-use Rattle.adf_manifest.specs.declared.lines.EntryText.{EntryText}
-use Rattle.adf_manifest.specs.declared.lines.Run.{Run}
+use Rattle.adf_base.specs.{Dates.plain_text, Dates.IsStamp, declared.dates.Stamp.Stamp}
+use Rattle.adf_names.specs.{declared.kind.Kind.Kind, declared.meta.Stamps.Stamps, Meta.AreStamps, Kinds.kind_text}
+use Rattle.adf_manifest.specs.{Tokens.stamps_text, Texts.hex_word, Texts.pair, Texts.pairs, declared.lines.Sort.Sort, declared.lines.Sort.TheVariants.Dir}
+use Rattle.adf_manifest.specs.{declared.lines.Sort.TheVariants.File, declared.lines.EntryText.EntryText, declared.lines.Run.Run, declared.lines.Line.Line}
 use Rattle.adf_manifest.specs.declared.lines.Run.TheVariants as run
-use Rattle.adf_manifest.specs.declared.lines.Line.{Line}
 use Rattle.adf_manifest.specs.declared.lines.Line.TheVariants as line
 
 -- the bytes that a line adds to a file: by their digits, or one byte repeated

@@ -1,29 +1,17 @@
 -- Manifests: the lines of their preambles and entries, their content, and the first line with a fault.
 use Rattle.std.specs.Prelude.{◌≡◌, ◌≢◌, ◌+◌, ◌-◌, ◌<◌, ◌≤◌, ◌^◌, ◌==◌, ◌&&◌, ◌⊎◌, nat_lt, ℕ, true, false, List, [], ◌∷◌, ◌++◌, length, take, slice_index}
 use Rattle.std.specs.Prelude.{if◌then◌else◌, map, Option, Some, None, IfSome, All, Err}
-use Rattle.std.specs.List.{slice_split, flat_map}
-use Rattle.std.specs.Option.{unwrap_or}
+use Rattle.std.specs.{List.slice_split, List.flat_map, Option.unwrap_or}
 use Rattle.adf_base.specs.declared.hash.Letters.TheVariants.{Ascii}
-use Rattle.adf_names.specs.Escapes.{IsSpelling, escaped}
-use Rattle.adf_names.specs.PathTexts.{IsPathText}
-use Rattle.adf_tree.specs.Additions.{IsTreeOf}
-use Rattle.adf_tree.specs.Bounds.{IsBounded}
-use Rattle.adf_tree.specs.Tree.{IsTree, Tree, room_for}
-use Rattle.adf_names.specs.declared.kind.Kind.{Kind}
-use Rattle.adf_names.specs.declared.meta.Stamps.{Stamps}
+use Rattle.adf_names.specs.{Escapes.IsSpelling, Escapes.escaped, PathTexts.IsPathText, declared.kind.Kind.Kind, declared.meta.Stamps.Stamps, Meta.AreStamps}
+use Rattle.adf_tree.specs.{Additions.IsTreeOf, Bounds.IsBounded, Tree.IsTree, Tree.Tree, Tree.room_for, declared.tree.RoomFault.RoomFault}
 use Rattle.adf_names.specs.declared.meta.TheConstants.{NO_STAMPS}
-use Rattle.adf_tree.specs.declared.tree.RoomFault.{RoomFault}
 use Rattle.adf_tree.specs.declared.tree.RoomFault.TheVariants as room
 use Rattle.adf_blocks.specs.Sizes.{is_allowed}
-use Rattle.adf_names.specs.Meta.{AreStamps}
 use Rattle.adf_manifest.specs.Lines.{IsLine, IsVolumeLine, LineValue, LabelLine, StampsLine, EntryLine, NoteLine, RunLine, label_line, line_text, stamps_line}
-use Rattle.adf_manifest.specs.Lines.{volume_line}
-use Rattle.adf_manifest.specs.Items.{HaveRoom, IsItem, Item, addition_of, item_lines, items_tree}
-use Rattle.adf_manifest.specs.declared.lines.Sort.TheVariants.{File}
-use Rattle.adf_manifest.specs.declared.reader.Preamble.{Preamble}
-use Rattle.adf_manifest.specs.declared.manifest.ManifestFault.{ManifestFault}
-use Rattle.adf_manifest.specs.declared.manifest.TheConstants.{MOST_BYTES}
-use Rattle.adf_manifest.specs.declared.manifest.ManifestKind.{ManifestKind}
+use Rattle.adf_manifest.specs.{Lines.volume_line, Items.HaveRoom, Items.IsItem, Items.Item, Items.addition_of, Items.item_lines, Items.items_tree}
+use Rattle.adf_manifest.specs.{declared.lines.Sort.TheVariants.File, declared.reader.Preamble.Preamble, declared.manifest.ManifestFault.ManifestFault}
+use Rattle.adf_manifest.specs.{declared.manifest.TheConstants.MOST_BYTES, declared.manifest.ManifestKind.ManifestKind}
 use Rattle.adf_manifest.specs.declared.manifest.ManifestKind.TheVariants.{BadLine, BadSize, BadText, NoParent, ParentIsFile, Exists, NoMemory, TooLong}
 
 -- the most bytes of a manifest

@@ -2,15 +2,11 @@
 use Rattle.std.specs.Prelude.{◌≡◌, ◌++◌, ◌∷◌, ℕ, List, [], Some, None}
 use Rattle.adf_drafts.specs.Draft.{IsRoomFor}
 use Rattle.adf_tree.specs.Tree.{Tree}
-use Rattle.adf_manifest.specs.Lines.{LineValue}
+use Rattle.adf_manifest.specs.{Lines.LineValue, Manifest.manifest_lines, Manifest.manifest_tree, declared.reader.Preamble.Preamble}
+use Rattle.adf_manifest.specs.{declared.reader.LastEntry.LastEntry, declared.reader.Reading.Reading, declared.reader.State.State}
 use Rattle.adf_manifest.specs.Items.{Item, bytes_of_runs, items_tree}
 use Rattle.adf_manifest.specs.Manifest.{Entries, HasFault, IsFaultOf, IsLaterFault, IsWell, Manifest, MayStand, MayTakeMemory, TakesMemory, preamble_tree}
-use Rattle.adf_manifest.specs.Manifest.{manifest_lines, manifest_tree}
 use Rattle.adf_manifest.specs.declared.manifest.ManifestKind.{ManifestKind, TheVariants.BadLine, TheVariants.NoMemory}
-use Rattle.adf_manifest.specs.declared.reader.Preamble.{Preamble}
-use Rattle.adf_manifest.specs.declared.reader.LastEntry.{LastEntry}
-use Rattle.adf_manifest.specs.declared.reader.Reading.{Reading}
-use Rattle.adf_manifest.specs.declared.reader.State.{State}
 use Rattle.adf_manifest.specs.declared.reader.State.TheVariants as state
 
 -- the entry under construction is this item so far

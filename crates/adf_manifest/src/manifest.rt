@@ -2,11 +2,10 @@
 
 ghost use Rattle.std.specs.Prelude.{◌≡◌, ◌≤◌, ◌++◌, ◌∷◌, ℕ, List, IfOk, IfErr, length, option_map};
 ghost use Rattle.adf_base.specs.declared.hash.Letters.TheVariants.{Ascii};
-ghost use Rattle.adf_manifest.specs.Kinds.{manifest_kind_number, manifest_kind_text};
+ghost use Rattle.adf_manifest.specs.{Kinds.manifest_kind_number, Kinds.manifest_kind_text, Manifest.without_last_feed};
 ghost use Rattle.adf_manifest.specs.Manifest.{AddingLinesGivesTheTree, CanLackMemory, ExplainsFault, IsManifest, IsWell};
 ghost use Rattle.adf_manifest.specs.Manifest.{LinesHaveOneFault, Manifest, ManifestsAreFaultless, ManifestsAreOfOneTree};
 ghost use Rattle.adf_manifest.specs.Manifest.{manifest_lines, manifest_tree, most_bytes, between_feeds, lines, lines_behind};
-ghost use Rattle.adf_manifest.specs.Manifest.{without_last_feed};
 ghost use Rattle.adf_manifest.specs.Reader.{ExplainsLines, StateMatches, line_of_fault};
 
 use crate::reader::{State, finish, first_state, next_state};

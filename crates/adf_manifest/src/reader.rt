@@ -3,9 +3,8 @@
 ghost use Rattle.std.specs.Prelude.{◌≡◌, ◌<◌, ◌++◌, ◌∷◌, [], ℕ, List, IfSome, IfNone, IfOk, IfErr, None, length};
 ghost use Rattle.std.specs.Option.{unwrap_or};
 ghost use Rattle.adf_base.specs.declared.hash.Letters.TheVariants.{Ascii};
-ghost use Rattle.adf_names.specs.PathTexts.{IsPathText};
+ghost use Rattle.adf_names.specs.{PathTexts.IsPathText, Meta.AreStamps};
 ghost use Rattle.adf_drafts.specs.Draft.{IsRoomFor};
-ghost use Rattle.adf_names.specs.Meta.{AreStamps};
 ghost use Rattle.adf_manifest.specs.Lines.{IsLine, IsRun, IsVolumeLine, LabelLine, NoteLine, RunLine, StampsLine, entry_value};
 ghost use Rattle.adf_manifest.specs.Lines.{label_line, line_text, line_value, run_value, stamps_line, volume_line};
 ghost use Rattle.adf_manifest.specs.Items.{Item, body_of_sort, run_bytes, with_item};

@@ -2,11 +2,8 @@
 use Rattle.std.proofs.Common.{◌≡◌, ℕ, List, length, Option, Some, None, ap, ap₂}
 use Rattle.adf_memory.specs.DiskTables.{IsDiskRead, table_disk}
 use Rattle.adf_partitions.proofs.OneAnswer.{no_fault, one_disk, one_fault, one_reading}
-use Rattle.adf_partitions.specs.Disks.{FirstDiskFault, IsDisk}
-use Rattle.adf_partitions.specs.Searches.{AreReadable, AreReadable.whole}
-use Rattle.adf_partitions.specs.declared.fault.DiskFault.{DiskFault}
-use Rattle.adf_partitions.specs.declared.partition.Partition.{Partition}
-use Rattle.adf_partitions.specs.declared.tables.Tables.{Tables}
+use Rattle.adf_partitions.specs.{Disks.FirstDiskFault, Disks.IsDisk, Searches.AreReadable, Searches.AreReadable.whole, declared.fault.DiskFault.DiskFault}
+use Rattle.adf_partitions.specs.{declared.partition.Partition.Partition, declared.tables.Tables.Tables}
 
 module _ (bytes : List ℕ) (n : ℕ) where
   are_readable : (ps : List Partition) (o : Option DiskFault) → IsDiskRead bytes n ps o → AreReadable bytes n ps

@@ -1,11 +1,8 @@
 -- Rooms that are filled from the front.
 use Rattle.std.specs.Prelude.{◌≡◌, ◌+◌, ◌≤◌, ◌<◌, ℕ, List, [], ◌∷◌, ◌++◌, get_or, length, min, take, drop, set}
 use Rattle.std.proofs.Common.{zero, suc, refl, sym, ap, ◌∙◌, arith, append_assoc, length-append, length-take, take_all}
-use Rattle.std.proofs.Math.ListN.{drop_of_length-le}
-use Rattle.std.proofs.Math.Seq.{drop-nil, take-nil}
-use Rattle.std.proofs.lemmas.Bool.{cases_lt}
+use Rattle.std.proofs.{Math.ListN.drop_of_length-le, Math.Seq.drop-nil, Math.Seq.take-nil, lemmas.Bool.cases_lt, lemmas.Grind.common_steps}
 use Rattle.std.proofs.lemmas.List.{length-take-le, take-append-drop, take-take, take_more}
-use Rattle.std.proofs.lemmas.Grind.{common_steps}
 use Rattle.adf_memory.specs.Rooms.{filled}
 
 -- the first members where there are none to take
@@ -94,3 +91,7 @@ filled_within zero (suc q) xs (r ∷ rs) is = absurd (omega arith)
 filled_within (suc m) zero xs (r ∷ rs) is = absurd (omega arith)
 filled_within (suc m) (suc q) [] (r ∷ rs) is = grind (arith, common_steps, filled_none, take-append-drop)
 filled_within (suc m) (suc q) (x ∷ xs) (r ∷ rs) is = ap (λ ys. x ∷ ys) (filled_within m q xs rs (omega arith))
+
+-- behind what is put a room is as it was
+pub behind_filled : {X : Type 0} (n : ℕ) (xs old new : List X) → n ≡ min (length old) (length xs) → new ≡ filled xs old → drop n new ≡ drop n old
+behind_filled n xs old new count is = grind (arith, common_steps)

@@ -2,26 +2,18 @@
 -- Letters: t, p, q tests; w the walk of a survey, fs its findings; n a file's node, h the block of its header; k the number of a data block, from 0;
 -- b its block.
 use Rattle.std.specs.Prelude.{◌&&◌, Bool, true, false, cond, nat_lt, Option, Some, None, slice_get}
-use Rattle.std.specs.List.{range_with_len}
-use Rattle.std.specs.Option.{unwrap_or}
-use Rattle.std.proofs.Common.{◌≡◌, ℕ, suc, List, [], ◌∷◌, ◌==◌, ◌+◌, ◌≤◌, ◌<◌, length, map, refl, sym, ap, subst, ◌∙◌, add-one, arith}
-use Rattle.std.proofs.lemmas.Bool.{eq-eqb, eqb-true, lt-ltb, ltb-true}
+use Rattle.std.specs.{List.range_with_len, Option.unwrap_or}
+use Rattle.std.proofs.Common.{◌≡◌, ℕ, List, [], ◌∷◌, ◌≤◌, ◌<◌, length, map, refl, ap, ◌∙◌, arith}
+use Rattle.std.proofs.{lemmas.Bool.ltb-true, lemmas.Option.slice_get-get_or}
 use Rattle.std.proofs.lemmas.List.FromFn.{get_or-map-range_with_len, length-map-range_with_len}
-use Rattle.std.proofs.lemmas.Option.{slice_get-get_or}
 use Rattle.adf_names.specs.declared.kind.Kind.{Kind, TheVariants.Ofs, TheVariants.Ffs}
 use Rattle.adf_blocks.specs.Sizes.{blocks, chunk, count}
-use Rattle.adf_volume.specs.Walk.{Role, Has, FileAt, Walk, Role.Data}
-use Rattle.adf_findings.specs.Files.{named_from}
-use Rattle.adf_volume.specs.Image.{kind_of}
-use Rattle.adf_findings.specs.Concerned.{number_alone}
-use Rattle.adf_findings.specs.Members.{owning_entry}
-use Rattle.adf_findings.specs.Remains.{data_alone, own_data}
+use Rattle.adf_volume.specs.{Walk.Role, Walk.FileAt, Walk.Walk, Image.kind_of}
+use Rattle.adf_findings.specs.{Files.named_from, Concerned.number_alone, Members.owning_entry, Remains.data_alone, Remains.own_data}
 use Rattle.adf_findings.specs.Survey.{FindingValue, IsSurvey}
-use Rattle.adf_findings.proofs.DataFound.{alone_named}
-use Rattle.adf_findings.proofs.Lookups.{file_between}
-use Rattle.adf_memory.specs.declared.found_files.TheConstants.{NO_BLOCK}
+use Rattle.adf_findings.proofs.{DataFound.alone_named, Lookups.file_between}
+use Rattle.adf_memory.specs.{declared.found_files.TheConstants.NO_BLOCK, FoundTables.entry_number}
 use Rattle.adf_memory.specs.FoundFiles.{file_block_count, found_blocks, found_part_table, is_data_row, named_blocks, part_at, row_data}
-use Rattle.adf_memory.specs.FoundTables.{entry_number}
 
 -- a file of no bytes needs no blocks
 pub none_needed : (kind : Kind) (size : ℕ) → size ≡ 0 → 0 ≡ count kind size

@@ -2,24 +2,16 @@
 -- Letters: w the walk of a survey, fs its findings; n a file's node, h the block of its header; k the number of a data block, from 0; b its block;
 -- at a place in the file.
 use Rattle.std.specs.Prelude.{◌&&◌, ◌==◌, Bool, true, cond, Option, Some, None}
-use Rattle.std.proofs.Common.{◌≡◌, ℕ, suc, List, [], ◌+◌, ◌++◌, ◌*◌, ◌≤◌, ◌<◌, length, refl, sym, ap, subst, ◌∙◌, arith, eq-eqb}
+use Rattle.std.proofs.Common.{◌≡◌, ℕ, List, [], ◌+◌, ◌++◌, ◌*◌, ◌≤◌, ◌<◌, length, refl, sym, ap, subst, ◌∙◌, arith, eq-eqb}
 use Rattle.std.proofs.lemmas.Bool.Decides.{nat_tests}
-use Rattle.adf_blocks.specs.declared.layout.TheConstants.{SECONDARY_TYPE, ST_FILE}
-use Rattle.adf_blocks.specs.Sizes.{blocks, count}
-use Rattle.adf_volume.specs.Image.{kind_of, word_in}
-use Rattle.adf_volume.specs.Lists.{In}
-use Rattle.adf_volume.specs.Walk.{FileAt, node_block, Walk}
-use Rattle.adf_volume.proofs.Gathered.{head_block}
-use Rattle.adf_volume.proofs.Sizes.{size_high}
-use Rattle.adf_findings.specs.declared.remains.Gap.{Gap}
+use Rattle.adf_blocks.specs.{declared.layout.TheConstants.SECONDARY_TYPE, declared.layout.TheConstants.ST_FILE, Sizes.blocks, Sizes.count}
+use Rattle.adf_volume.specs.{Image.kind_of, Image.word_in, Lists.In, Walk.FileAt, Walk.node_block, Walk.Walk}
+use Rattle.adf_volume.proofs.{Gathered.head_block, Sizes.size_high}
+use Rattle.adf_findings.specs.{declared.remains.Gap.Gap, Survey.FindingValue, Survey.IsSurvey, Survey.IsSurvey.read, Survey.IsSurvey.unread}
 use Rattle.adf_findings.specs.Remains.{below, bytes_left, data_left, gaps_left, left_below, size_stated}
-use Rattle.adf_findings.specs.Survey.{FindingValue, IsSurvey, IsSurvey.read, IsSurvey.unread}
-use Rattle.adf_findings.proofs.DataFound.{left_inside}
-use Rattle.adf_findings.proofs.OneSurvey.{gathered}
-use Rattle.adf_findings.proofs.Starts.{course_size}
-use Rattle.adf_memory.specs.declared.found_files.TheConstants.{NO_BLOCK}
+use Rattle.adf_findings.proofs.{DataFound.left_inside, OneSurvey.gathered, Starts.course_size}
+use Rattle.adf_memory.specs.{declared.found_files.TheConstants.NO_BLOCK, FoundGaps.IsInGap, FoundGaps.gaps_in, FoundGaps.left_in, FoundGaps.up_to_gap}
 use Rattle.adf_memory.specs.FoundFiles.{file_block_count, file_size, found_blocks, found_from, lost_from}
-use Rattle.adf_memory.specs.FoundGaps.{IsInGap, gaps_in, left_in, up_to_gap}
 use Rattle.adf_memory.proofs.FoundReadings.{bytes_outside, inside_gap, none_lost as none_lost_outside}
 
 -- a block that is below an end is found below it

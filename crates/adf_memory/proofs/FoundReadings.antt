@@ -2,30 +2,23 @@
 -- Letters: bs blocks; f the block of each data block of a file, if any; size its bytes; i, j, k the number of a data block, from 0; m how many;
 -- b a block; at a place in the file.
 use Rattle.std.specs.Prelude.{◌⊎◌, cond, min, nat_lt, Option, Some, None, replicate}
-use Rattle.std.specs.List.{range_with_len}
-use Rattle.std.specs.Option.{unwrap_or}
+use Rattle.std.specs.{List.range_with_len, Option.unwrap_or}
 use Rattle.std.proofs.Common.{◌≡◌, ℕ, zero, suc, List, [], ◌∷◌, ◌++◌, ◌+◌, ◌-◌, ◌*◌, ◌/◌, ◌%◌, ◌≤◌, ◌<◌, length, take, drop, map, inl, inr, refl, sym, ap}
 use Rattle.std.proofs.Common.{subst, ◌∙◌, add-one, arith, append_assoc, append-nil, length-append, length-drop, take_all}
 use Rattle.std.proofs.Math.Seq.{drop-append-add, drop-nil, take-append-add, take-nil}
-use Rattle.std.proofs.Math.ListN.{drop_of_length-le}
-use Rattle.std.proofs.lemmas.Bool.{cases_lt, cond_above, cond_below}
+use Rattle.std.proofs.{Math.ListN.drop_of_length-le, lemmas.Bool.cases_lt, lemmas.Bool.cond_above, lemmas.Bool.cond_below}
 use Rattle.std.proofs.lemmas.List.{drop-append-le, drop-take, length-replicate, length-take-le, take-append-le, take-replicate, take-take}
 use Rattle.std.proofs.lemmas.List.FromFn.{length-map-range_with_len, map-range_with_len_more}
 use Rattle.adf_base.specs.Words.{block}
 use Rattle.adf_names.specs.declared.kind.Kind.{Kind, TheVariants.Ofs, TheVariants.Ffs}
 use Rattle.adf_blocks.specs.Sizes.{blocks, chunk, count}
-use Rattle.adf_volume.specs.Image.{area, held, joined, kind_of}
-use Rattle.adf_volume.specs.Lists.{In}
+use Rattle.adf_volume.specs.{Image.area, Image.held, Image.joined, Image.kind_of, Lists.In}
 use Rattle.adf_volume.proofs.Images.{enough_bytes}
-use Rattle.adf_findings.specs.declared.remains.Gap.{Gap}
-use Rattle.adf_findings.specs.Remains.{bytes_in, bytes_left, gaps_left}
-use Rattle.adf_memory.specs.declared.found_files.TheConstants.{NO_BLOCK}
-use Rattle.adf_memory.specs.Areas.{bytes_from, front_blocks}
-use Rattle.adf_memory.specs.FoundFiles.{missing}
+use Rattle.adf_findings.specs.{declared.remains.Gap.Gap, Remains.bytes_in, Remains.bytes_left, Remains.gaps_left}
+use Rattle.adf_memory.specs.{declared.found_files.TheConstants.NO_BLOCK, Areas.bytes_from, Areas.front_blocks, FoundFiles.missing}
 use Rattle.adf_memory.specs.FoundGaps.{IsInGap, next_gap, up_to_gap}
-use Rattle.adf_memory.proofs.Filled.{drop_zero, take_zero}
+use Rattle.adf_memory.proofs.{Filled.drop_zero, Filled.take_zero, TableBytes.area_long, TableBytes.front_more, TableBytes.front_none, TableBytes.place_of}
 use Rattle.adf_memory.proofs.FoundRuns.{AreRuns, IsFound, IsFoundUntil, begins, gaps_are_runs, held_is, place_in, run_of}
-use Rattle.adf_memory.proofs.TableBytes.{area_long, front_more, front_none, place_of}
 
 -- no bytes
 no_members : {X : Type 0} (xs : List X) → length xs ≡ 0 → xs ≡ []

@@ -10,11 +10,7 @@ use Rattle.adf_volume.specs.Walk.{Role, Asks, Has, HeadAt, heads, node_block, Wa
 use Rattle.adf_volume.proofs.Gathered.{IsGathered, head_block, number_of, root_in, root_is, IsGathered.start, IsGathered.step}
 use Rattle.adf_findings.specs.Members.{data_number, role_entry, number_at, owning_entry, owns}
 use Rattle.adf_findings.specs.Survey.{FindingValue, IsSurvey, IsSurvey.read, IsSurvey.unread}
-use Rattle.adf_findings.proofs.BlockOwners.{first_with}
-use Rattle.adf_findings.proofs.Lookups.{header_at}
-use Rattle.adf_findings.proofs.OneSurvey.{gathered}
-use Rattle.adf_findings.proofs.SoundEntries.{one_part}
-use Rattle.adf_findings.proofs.SoundMarks.{owner_of}
+use Rattle.adf_findings.proofs.{BlockOwners.first_with, Lookups.header_at, OneSurvey.gathered, SoundEntries.one_part, SoundMarks.owner_of}
 use Rattle.adf_memory.specs.FoundRoles.{IsFoundClass, IsFoundRole, role_class}
 use Rattle.adf_memory.proofs.Rooms.{put_more}
 

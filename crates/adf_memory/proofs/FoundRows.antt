@@ -2,18 +2,13 @@
 -- Letters: w a walk, fs its findings; r a run; k a place among the findings, or a count of entries; room what a table had at first.
 use Rattle.std.proofs.Common.{◌≡◌, ◌+◌, ◌-◌, ◌*◌, ◌≤◌, ◌++◌, ◌∷◌, [], ℕ, List, drop, length, map, min, slice_index, refl, sym, ap, ◌∙◌, arith, append_assoc}
 use Rattle.std.proofs.Common.{append-nil, length-append, length-take, length-drop}
-use Rattle.std.proofs.lemmas.List.{drop_all, length-map, map-append}
-use Rattle.std.proofs.lemmas.Grind.{common_steps}
+use Rattle.std.proofs.{lemmas.List.drop_all, lemmas.List.length-map, lemmas.List.map-append, lemmas.Grind.common_steps}
 use Rattle.adf_base.specs.Words.{block}
 use Rattle.adf_blocks.specs.declared.layout.TheConstants.{NAME}
-use Rattle.adf_volume.specs.Image.{name_of}
-use Rattle.adf_volume.specs.Walk.{Walk}
+use Rattle.adf_volume.specs.{Image.name_of, Walk.Walk}
 use Rattle.adf_findings.specs.Survey.{FindingValue}
-use Rattle.adf_survey_cmd.specs.declared.runs.Run.{Run}
-use Rattle.adf_survey_cmd.specs.Lines.{runs}
-use Rattle.adf_memory.specs.declared.found_tables.TableFinding.{TableFinding}
-use Rattle.adf_memory.specs.FoundTables.{finding_row, finding_table}
-use Rattle.adf_memory.specs.Rooms.{filled}
+use Rattle.adf_survey_cmd.specs.{declared.runs.Run.Run, Lines.runs}
+use Rattle.adf_memory.specs.{declared.found_tables.TableFinding.TableFinding, FoundTables.finding_row, FoundTables.finding_table, Rooms.filled}
 use Rattle.adf_memory.proofs.Filled.{filled_none}
 
 -- the runs before stand in the table; the findings to come make the others

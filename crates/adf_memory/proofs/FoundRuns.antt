@@ -6,10 +6,8 @@ use Rattle.std.proofs.Common.{◌≡◌, ℕ, zero, suc, List, [], ◌∷◌, �
 use Rattle.std.proofs.lemmas.Bool.{cases_eq, cases_lt, eq-eqb, Decides.eqb_tells, Decides.nat_tests}
 use Rattle.adf_names.specs.declared.kind.Kind.{Kind, TheVariants.Ofs, TheVariants.Ffs}
 use Rattle.adf_blocks.specs.Sizes.{chunk, count}
-use Rattle.adf_volume.specs.Image.{held, kind_of}
-use Rattle.adf_volume.specs.Lists.{In}
-use Rattle.adf_findings.specs.declared.remains.Gap.{Gap}
-use Rattle.adf_findings.specs.Remains.{gap_at, gaps_left, with_gap, with_lost}
+use Rattle.adf_volume.specs.{Image.held, Image.kind_of, Lists.In}
+use Rattle.adf_findings.specs.{declared.remains.Gap.Gap, Remains.gap_at, Remains.gaps_left, Remains.with_gap, Remains.with_lost}
 use Rattle.adf_memory.specs.FoundGaps.{IsInGap, next_gap}
 
 -- a data block of a file begins before its end

@@ -2,51 +2,32 @@
 -- Letters: t, l the tree and the layout that fit an image; w the walk of its survey; n a file's node, k the number of a data block, from 0; b its
 -- block; ds the data blocks of a file; es entries; at, from a place in the file.
 use Rattle.std.specs.Prelude.{◌==◌, min, Some}
-use Rattle.std.specs.List.{range_with_len}
-use Rattle.std.specs.Option.{unwrap_or}
+use Rattle.std.specs.{List.range_with_len, Option.unwrap_or}
 use Rattle.std.proofs.Common.{◌≡◌, ℕ, zero, suc, List, [], ◌∷◌, ◌+◌, ◌-◌, ◌*◌, ◌/◌, ◌≤◌, ◌<◌, length, take, drop, map, refl, sym, ap, subst, ◌∙◌, arith}
-use Rattle.std.proofs.Common.{take_all}
-use Rattle.std.proofs.lemmas.Bool.{cond_above, cond_below, eq-eqb}
-use Rattle.std.proofs.Math.Nat.{min-eq_left}
-use Rattle.adf_base.specs.Hash.{slot_by}
-use Rattle.adf_base.specs.declared.hash.Letters.{Letters, TheVariants.Ascii}
+use Rattle.std.proofs.{Common.take_all, lemmas.Bool.cond_above, lemmas.Bool.cond_below, lemmas.Bool.eq-eqb, Math.Nat.min-eq_left}
+use Rattle.adf_base.specs.{Hash.slot_by, declared.hash.Letters.Letters, declared.hash.Letters.TheVariants.Ascii}
 use Rattle.adf_blocks.specs.declared.layout.TheConstants.{SECONDARY_TYPE, SIZE, ST_FILE}
 use Rattle.adf_blocks.specs.Sizes.{blocks, chunk, count}
 use Rattle.adf_build.specs.Plan.{data_blocks, entries_blocks}
 use Rattle.adf_build.proofs.FreeBlocks.{size_small}
 use Rattle.adf_walk.specs.OwnerClass.{class_number}
 use Rattle.adf_walk.specs.declared.owner_class.OwnerClass.TheVariants as class
-use Rattle.adf_findings.specs.Remains.{data_left, size_stated}
-use Rattle.adf_findings.specs.Survey.{FindingValue, IsSurvey}
-use Rattle.adf_findings.proofs.LeftOfSound.{clean_left}
-use Rattle.adf_findings.proofs.PlainFindings.{finds_none, shown}
+use Rattle.adf_findings.specs.{Remains.data_left, Remains.size_stated, Survey.FindingValue, Survey.IsSurvey}
+use Rattle.adf_findings.proofs.{LeftOfSound.clean_left, PlainFindings.finds_none, PlainFindings.shown}
 use Rattle.adf_names.specs.declared.kind.Kind.{Kind}
 use Rattle.adf_rescue.proofs.FitBlocks.{fit_room}
 use Rattle.adf_tree.specs.declared.entry.Body.{Body, TheVariants.Dir, TheVariants.File}
-use Rattle.adf_tree.specs.declared.entry.Entry.{Entry}
-use Rattle.adf_tree.specs.Tree.{Tree}
-use Rattle.adf_volume.specs.Fits.{BodyFits, Fits, FitsBy}
-use Rattle.adf_volume.specs.Image.{kind_of, word_in}
+use Rattle.adf_tree.specs.{declared.entry.Entry.Entry, Tree.Tree}
+use Rattle.adf_volume.specs.{Fits.BodyFits, Fits.Fits, Fits.FitsBy, Image.kind_of, Image.word_in, LayoutRoles.LayoutHas, LayoutRoles.owner_of, Lists.At}
 use Rattle.adf_volume.specs.Layout.{EntryAt, Layout, at_node, datas_of, head_at}
-use Rattle.adf_volume.specs.LayoutRoles.{LayoutHas, owner_of}
-use Rattle.adf_volume.specs.Lists.{At}
 use Rattle.adf_volume.specs.Walk.{Role, Has, HeadAt, Walk, Role.Data, Role.Head}
-use Rattle.adf_volume.proofs.Chains.{place_at}
-use Rattle.adf_volume.proofs.FitWalks.{one_fit}
+use Rattle.adf_volume.proofs.{Chains.place_at, FitWalks.one_fit, WalkAgreement.agreement, WalkCompleteness.part_walked}
 use Rattle.adf_volume.proofs.LayoutRoles.{owned_part, part_owned, part_range}
-use Rattle.adf_volume.proofs.WalkAgreement.{agreement}
-use Rattle.adf_volume.proofs.WalkCompleteness.{part_walked}
-use Rattle.adf_memory.specs.declared.found_files.TheConstants.{NO_BLOCK}
-use Rattle.adf_memory.specs.declared.tables.TableEntry.{TableEntry}
-use Rattle.adf_memory.specs.Areas.{AreDatasOf, bytes_from}
+use Rattle.adf_memory.specs.{declared.found_files.TheConstants.NO_BLOCK, declared.tables.TableEntry.TableEntry, Areas.AreDatasOf, Areas.bytes_from}
+use Rattle.adf_memory.specs.{FoundRoles.IsFoundRole, OwnerNumbers.IsOwnerNumber, OwnerNumbers.owner_number}
 use Rattle.adf_memory.specs.FoundFiles.{file_block_count, file_size, found_blocks, found_from, lost_from, missing}
-use Rattle.adf_memory.specs.FoundRoles.{IsFoundRole}
-use Rattle.adf_memory.specs.OwnerNumbers.{IsOwnerNumber, owner_number}
 use Rattle.adf_memory.specs.Tables.{bytes_at, bytes_of_body, table_entry}
-use Rattle.adf_memory.proofs.Filled.{drop_zero}
-use Rattle.adf_memory.proofs.FoundGaps.{both}
-use Rattle.adf_memory.proofs.FoundReadings.{none_behind}
-use Rattle.adf_memory.proofs.Readings.{are_in, file_read, told_read}
+use Rattle.adf_memory.proofs.{Filled.drop_zero, FoundGaps.both, FoundReadings.none_behind, Readings.are_in, Readings.file_read, Readings.told_read}
 
 -- a list by the members at its places
 listed : (ds : List ℕ) (g : ℕ → ℕ) (j : ℕ) → ((i b : ℕ) → At ds i b → g (j + i) ≡ b) → map g (range_with_len j (length ds)) ≡ ds

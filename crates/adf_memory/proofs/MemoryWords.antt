@@ -1,8 +1,6 @@
 -- A command whose words are bytes in memory.
-use Rattle.std.proofs.Common.{ℕ, List, inl, inr, arith}
-use Rattle.std.proofs.lemmas.Grind.{common_steps}
-use Rattle.adf_runs.specs.Commands.{Command, IsUnanswered, IsConsumed, RunEnds}
-use Rattle.adf_runs.specs.Streams.{Seen, at_hand}
+use Rattle.std.proofs.{Common.ℕ, Common.List, Common.inl, Common.inr, Common.arith, lemmas.Grind.common_steps}
+use Rattle.adf_runs.specs.{Commands.Command, Commands.IsUnanswered, Commands.IsConsumed, Commands.RunEnds, Streams.Seen, Streams.at_hand}
 use Rattle.adf_memory.specs.Words.{AreWords, in_memory}
 use Rattle.adf_memory.proofs.WordParts.{along}
 

@@ -1,28 +1,22 @@
 -- Rescues that are prepared, and what they give.
 -- Letters: s, t what is surveyed; p a prepared rescue; u why there is none; x one that is ready; ls losses.
 use Rattle.std.proofs.Common.{◌≡◌, ◌∙◌, ◌<◌, ◌*◌, ◌/◌, ℕ, List, ap, sym, subst}
-use Rattle.std.specs.Prelude.{IfErr, IfOk, Result, Ok, Err}
-use Rattle.std.specs.Result.{IsErrAnd}
+use Rattle.std.specs.{Prelude.IfErr, Prelude.IfOk, Prelude.Result, Prelude.Ok, Prelude.Err, Result.IsErrAnd}
 use Rattle.adf_tree.specs.Tree.{Tree}
-use Rattle.adf_volume.specs.declared.types.Types.TheVariants.{Plain}
+use Rattle.adf_volume.specs.declared.types.Types.{Types}
 use Rattle.adf_build.specs.Laid.{volume}
-use Rattle.adf_build.proofs.LaidWrites.{CanHold, volume_blocks}
-use Rattle.adf_build.proofs.WholeVolume.{volume_laid}
+use Rattle.adf_build.proofs.{LaidWrites.CanHold, LaidWrites.volume_blocks, WholeVolume.volume_laid}
 use Rattle.adf_boot_blocks.specs.Writing.{restored}
 use Rattle.adf_boot_blocks.proofs.Restored.{other_restored}
-use Rattle.adf_survey_cmd.specs.Losses.{loss_values}
-use Rattle.adf_survey_cmd.specs.Prepared.{LaysFor, Prepares, RefusesFor}
+use Rattle.adf_survey_cmd.specs.{Answers.RescuesTyped, Losses.loss_values, Prepared.LaysFor, Prepared.Prepares, Prepared.RefusesFor, Subject.IsTyped}
+use Rattle.adf_survey_cmd.specs.{Subject.SubjectValue, Subject.sized, declared.preparing.Prepared.Prepared}
 use Rattle.adf_survey_cmd.specs.Rescues.{RescueValue, RescueValue.written, Rescues}
-use Rattle.adf_survey_cmd.specs.Subject.{IsTyped, SubjectValue, sized}
-use Rattle.adf_survey_cmd.specs.declared.preparing.Prepared.{Prepared}
 use Rattle.adf_survey_cmd.specs.declared.preparing.Unrescued.{Unrescued, TheVariants.NoMemory, TheVariants.Refused}
 use Rattle.adf_survey_cmd.proofs.KeptBoots.{laid_long}
-use Rattle.adf_memory.specs.Rescuing.{ExplainsRescue, HasRescue, IsPutOut, IsRoomRefusal, Readies, RescueOf, ready_table, told_volume, unrescued_refusal}
-use Rattle.adf_memory.specs.declared.losses.TableLoss.{TableLoss}
-use Rattle.adf_memory.specs.declared.rescuing.Ready.{Ready}
+use Rattle.adf_memory.specs.Rescuing.{ExplainsRescue, HasRescue, IsPutOut, IsRoomRefusal, Readies, ready_table, told_volume, unrescued_refusal}
+use Rattle.adf_memory.specs.{declared.losses.TableLoss.TableLoss, declared.rescuing.Ready.Ready, declared.rescuing.RescueTold.RescueTold}
 use Rattle.adf_memory.specs.declared.rescuing.RescueRefusal.{RescueRefusal}
 use Rattle.adf_memory.specs.declared.rescuing.RescueRefusal.TheVariants as refusal
-use Rattle.adf_memory.specs.declared.rescuing.RescueTold.{RescueTold}
 
 -- a rescue that is put into the rooms is what it is prepared to give
 pub put_given : (gives : RescueValue → Type 0) (x : Ready) (old new : List ℕ) (old_rows new_rows : List TableLoss) (old_paths new_paths : List ℕ)
@@ -66,15 +60,16 @@ room_explained gives x room (Err refusal.NoMemory) ready h = tt
 
 -- what is prepared of an image with the type that its files say is that of what is surveyed
 
-pub lays_typed : (s t : SubjectValue) (p : Prepared) (boot : List ℕ) → IsTyped s t → boot ≡ sized 2 s.image
-    → Prepares (Rescues Plain t.end t.lost t.image) (Ok p) → LaysFor (RescueOf s) p boot
-lays_typed s t p boot typed is h =
+pub lays_typed : (types : Types) (s t : SubjectValue) (p : Prepared) (boot : List ℕ) → IsTyped s t → boot ≡ sized 2 s.image
+    → Prepares (Rescues types t.end t.lost t.image) (Ok p) → LaysFor (RescuesTyped types s) p boot
+lays_typed types s t p boot typed is h =
     let (room, gives) = h (sized 2 s.image) in
-    subst (λ (b : List ℕ). LaysFor (RescueOf s) p b) (sym is) (room, λ volume laid long. (t, typed, gives volume laid long))
+    subst (λ (b : List ℕ). LaysFor (RescuesTyped types s) p b) (sym is) (room, λ volume laid long. (t, typed, gives volume laid long))
 
-pub refuses_typed : (s t : SubjectValue) (u : Unrescued) → IsTyped s t → Prepares (Rescues Plain t.end t.lost t.image) (Err u) → RefusesFor (RescueOf s) u
-refuses_typed s t (Refused f ls) typed h = (t, typed, h (sized 2 s.image))
-refuses_typed s t NoMemory typed h = tt
+pub refuses_typed : (types : Types) (s t : SubjectValue) (u : Unrescued) → IsTyped s t → Prepares (Rescues types t.end t.lost t.image) (Err u)
+    → RefusesFor (RescuesTyped types s) u
+refuses_typed types s t (Refused f ls) typed h = (t, typed, h (sized 2 s.image))
+refuses_typed types s t NoMemory typed h = tt
 
 -- where memory is refused, nothing is ready
 pub none_ready : (gives : RescueValue → Type 0) (x : Result Ready Unrescued) → IsErrAnd x (λ u. u ≡ NoMemory) → Readies gives x

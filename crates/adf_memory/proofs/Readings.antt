@@ -1,33 +1,23 @@
 -- The bytes of files, by the tables.
 use Rattle.std.specs.Prelude.{◌≡◌, ◌+◌, ◌-◌, ◌*◌, ◌/◌, ◌%◌, ◌≤◌, ◌<◌, ℕ, List, [], ◌∷◌, ◌++◌, Some, None, get_or, length, take, drop}
 use Rattle.std.proofs.Common.{zero, suc, refl, sym, ap, subst, ◌∙◌, arith, inl, inr, append_assoc, length-append, length-take, Option}
-use Rattle.std.proofs.Math.ListN.{drop_of_length-le}
+use Rattle.std.proofs.{Math.ListN.drop_of_length-le, lemmas.Bool.cases_lt, lemmas.Option.slice_get-get_or, lemmas.Option.slice_get_cases}
 use Rattle.std.proofs.Math.Seq.{drop-append-add, drop-nil, take-append_seam}
-use Rattle.std.proofs.lemmas.Bool.{cases_lt}
 use Rattle.std.proofs.lemmas.List.{drop-take, take-append-drop, take-append-le}
-use Rattle.std.proofs.lemmas.Option.{slice_get-get_or, slice_get_cases}
-use Rattle.adf_base.specs.Words.{block}
-use Rattle.adf_base.specs.declared.hash.Letters.{Letters}
+use Rattle.adf_base.specs.{Words.block, declared.hash.Letters.Letters}
 use Rattle.adf_tree.specs.declared.entry.Body.{Body, TheVariants.Dir, TheVariants.File}
-use Rattle.adf_tree.specs.declared.entry.Entry.{Entry}
+use Rattle.adf_tree.specs.{declared.entry.Entry.Entry, Tree.Tree, Tree.entry}
 use Rattle.adf_names.specs.declared.kind.Kind.{Kind}
-use Rattle.adf_tree.specs.Tree.{Tree, entry}
 use Rattle.adf_blocks.specs.Sizes.{blocks, chunk}
-use Rattle.adf_volume.specs.Walk.Role.{Data}
-use Rattle.adf_volume.specs.Fits.{BodyFits, FitsBy}
-use Rattle.adf_volume.specs.Image.{area, content, joined, kind_of}
+use Rattle.adf_volume.specs.{Walk.Role.Data, Fits.BodyFits, Fits.FitsBy, Image.area, Image.content, Image.joined, Image.kind_of, Lists.At}
 use Rattle.adf_volume.specs.Layout.{EntryAt, Layout, Place, at_node, datas_at, datas_of, head_at}
-use Rattle.adf_volume.specs.Lists.{At}
-use Rattle.adf_volume.proofs.Chains.{entry_is_at}
+use Rattle.adf_volume.proofs.{Chains.entry_is_at, LayoutRoles.part_range, Lists.at_below, Lists.at_index_or, Lists.at_some}
 use Rattle.adf_volume.proofs.Images.{AreIn, enough_bytes, joined_length}
-use Rattle.adf_volume.proofs.LayoutRoles.{part_range}
-use Rattle.adf_volume.proofs.Lists.{at_below, at_index_or, at_some}
 use Rattle.adf_memory.specs.declared.tables.TableEntry.{TableEntry}
 use Rattle.adf_memory.specs.Areas.{AreBlocksOf, AreDatasOf, bytes_from, bytes_in_blocks, entry_from, file_bytes_from, front_blocks, node_from}
 use Rattle.adf_memory.specs.Tables.{all_datas, block_table, bytes_at, bytes_of_body, bytes_told, entry_table, table_entry}
-use Rattle.adf_memory.proofs.Filled.{drop_zero, take_zero}
+use Rattle.adf_memory.proofs.{Filled.drop_zero, Filled.take_zero, TableLaws.told_here, TableLaws.told_length}
 use Rattle.adf_memory.proofs.TableBytes.{front_more, further, place_of}
-use Rattle.adf_memory.proofs.TableLaws.{told_here, told_length}
 
 -- the image has these blocks
 pub are_in : {image table ds : List ℕ} → AreBlocksOf image table ds → AreIn image ds

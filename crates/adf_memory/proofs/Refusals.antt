@@ -1,21 +1,16 @@
 -- What the refusal of a volume means, and the room of one that is built.
 use Rattle.std.proofs.Common.{◌≡◌, ◌≤◌, ◌<◌, ◌+◌, ◌-◌, ◌*◌, ◌++◌, ℕ, List, length, take, drop, get_or, Some, None, Bool, true, false, not, nat_lt}
 use Rattle.std.proofs.Common.{if◌then◌else◌, arith, refl, subst}
-use Rattle.std.proofs.lemmas.Bool.Decides.{nat_tests}
-use Rattle.std.proofs.lemmas.List.{take_all}
+use Rattle.std.proofs.{lemmas.Bool.Decides.nat_tests, lemmas.List.take_all}
 use Rattle.adf_blocks.specs.Sizes.{is_allowed}
 use Rattle.adf_tree.specs.Tree.{Tree}
-use Rattle.adf_build.specs.Building.{IsBuildFault}
-use Rattle.adf_build.specs.declared.builder.BuildFault.{BuildFault}
+use Rattle.adf_build.specs.{Building.IsBuildFault, declared.builder.BuildFault.BuildFault}
 use Rattle.adf_build.specs.declared.builder.BuildFault.TheVariants as build
-use Rattle.adf_memory.specs.Rooms.{filled}
+use Rattle.adf_memory.specs.{Rooms.filled, TableAdditions.AreSoundBefore, TableAdditions.IsNotAdded, TableAdditions.fault_of}
+use Rattle.adf_memory.specs.{declared.building.NewVolume.NewVolume, declared.building.Refusal.Refusal, declared.table_additions.TableAddition.TableAddition}
 use Rattle.adf_memory.specs.Building.{ExplainsBuild, ExplainsNeed, IsFullAtMost, IsSoundVolume, IsTableRefusal, bad_room, refusal_by, refusal_of, tree_of}
-use Rattle.adf_memory.specs.TableAdditions.{AreSoundBefore, IsNotAdded, fault_of}
-use Rattle.adf_memory.specs.declared.building.NewVolume.{NewVolume}
-use Rattle.adf_memory.specs.declared.building.Refusal.{Refusal}
 use Rattle.adf_memory.specs.declared.building.Refusal.TheVariants as refusal
 use Rattle.adf_memory.specs.declared.table_additions.NotAdded.{NotAdded, TheVariants.Fault, TheVariants.NoMemory}
-use Rattle.adf_memory.specs.declared.table_additions.TableAddition.{TableAddition}
 
 -- the addition at a place is the first that has a fault
 pub table_refusal : (bytes : List ℕ) (xs : List TableAddition) (i : ℕ) (e : NotAdded) → i < length xs → AreSoundBefore bytes xs i

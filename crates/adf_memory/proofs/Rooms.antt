@@ -1,9 +1,7 @@
 -- The rooms of the caller: filled from the front, and what stands in them whatever their names.
 use Rattle.std.proofs.Common.{◌≡◌, ◌+◌, ◌≤◌, ◌<◌, ℕ, List, length, get_or, set, Bool, true, false, [], ◌∷◌, Some, arith, inl, inr}
-use Rattle.std.proofs.lemmas.Bool.{cases_lt}
-use Rattle.std.proofs.lemmas.List.{get_or-set_same, get_or-set_other, length-set}
+use Rattle.std.proofs.{lemmas.Bool.cases_lt, lemmas.List.get_or-set_same, lemmas.List.get_or-set_other, lemmas.List.length-set, lemmas.Grind.common_steps}
 use Rattle.std.specs.Io.KnownBytes.{Appends}
-use Rattle.std.proofs.lemmas.Grind.{common_steps}
 use Rattle.adf_runs.specs.Commands.{Command, GetsFront, IsUnanswered, RunEnds}
 use Rattle.adf_runs.specs.Streams.{AppendsPart, Says, Seen, at_hand}
 

@@ -3,33 +3,23 @@
 -- has; k, read numbers of blocks.
 use Rattle.std.proofs.Common.{◌≡◌, ◌≤◌, ◌<◌, ◌∙◌, ◌==◌, ◌&&◌, ◌∷◌, ◌++◌, ℕ, Bool, true, false, List, [], None, Some, ap, append-nil, arith, codes, cond, drop}
 use Rattle.std.proofs.Common.{◌≢◌, ◌*◌, ◌/◌, Option, ap₂, is_some, length, min, nat_lt, not, refl, slice_index, subst, sym, take}
-use Rattle.std.specs.Prelude.{IfSome}
-use Rattle.std.specs.Option.{option_or}
-use Rattle.adf_blocks.specs.Sizes.{blocks}
-use Rattle.adf_blocks.specs.declared.layout.TheConstants.{MOST_BLOCKS}
+use Rattle.std.specs.{Prelude.IfSome, Option.option_or}
+use Rattle.adf_blocks.specs.{Sizes.blocks, declared.layout.TheConstants.MOST_BLOCKS}
 use Rattle.std.proofs.lemmas.Bool.{and_parts, cond_both, cond-false, cond-true, Decides.nat_tests}
 use Rattle.std.proofs.lemmas.List.{drop-set-lt, get_or-set_same, length-append, length-set}
 use Rattle.adf_volume.specs.Start.{is_image_len}
 use Rattle.adf_findings.specs.OwnKind.{retyped}
-use Rattle.adf_rescue.specs.MadeRoot.{has_root}
-use Rattle.adf_rescue.specs.Opened.{lacks_boot, states_type, with_boot_type}
+use Rattle.adf_rescue.specs.{MadeRoot.has_root, Opened.lacks_boot, Opened.states_type, Opened.with_boot_type}
 use Rattle.adf_rescue.proofs.MadeRoots.{sized as sized_as}
 use Rattle.adf_rescue.proofs.OpenedImages.{length_begun}
 use Rattle.adf_runs.specs.Commands.{Reply}
-use Rattle.adf_survey_cmd.specs.Hints.{Hinted}
-use Rattle.adf_survey_cmd.specs.Lengths.{blocks_read, other_length, stated_length}
+use Rattle.adf_survey_cmd.specs.{Hints.Hinted, Lengths.blocks_read, Lengths.other_length, Lengths.stated_length, Losses.LossValue, Losses.run_loss}
 use Rattle.adf_survey_cmd.specs.Subject.{IsTypeTold, IsTyped, OfTyped, SubjectValue, as_long, begun_subject, behind_loss, behind_text, changed, held_end, meant}
 use Rattle.adf_survey_cmd.specs.Subject.{missing_text, sized, subject, subject_read, type_line, type_word, typed_by}
-use Rattle.adf_survey_cmd.specs.Losses.{LossValue, run_loss}
-use Rattle.adf_survey_cmd.proofs.OneAnswer.{one_told}
-use Rattle.adf_survey_cmd.proofs.Subjects.{told_either, typed_either}
-use Rattle.adf_memory.specs.FoundTables.{mark_number}
-use Rattle.adf_memory.specs.Rescuing.{asked_blocks}
-use Rattle.adf_memory.specs.Rooms.{filled}
+use Rattle.adf_survey_cmd.proofs.{OneAnswer.one_told, Subjects.told_either, Subjects.typed_either, SizedImages.length_sized}
+use Rattle.adf_memory.specs.{FoundTables.mark_number, Rescuing.asked_blocks, Rooms.filled, declared.subjects.SubjectTold.SubjectTold}
 use Rattle.adf_memory.specs.Subjects.{HasSubject, IsRetyped, blocks_lost, front_lines, of_read, surveyed_subject, subject_in}
-use Rattle.adf_memory.specs.declared.subjects.SubjectTold.{SubjectTold}
 use Rattle.adf_survey_cmd.proofs.ReadLengths.{meant_image, read_anew}
-use Rattle.adf_survey_cmd.proofs.SizedImages.{length_sized}
 use Rattle.adf_memory.proofs.TableNames.{text_there}
 
 -- a mark that is 0 is not set

@@ -1,22 +1,18 @@
 -- The draft of a table of additions, and one addition more.
 use Rattle.std.proofs.Common.{◌≡◌, Some, None, Ok, Err, Result, ◌≤◌, ◌<◌, ◌+◌, ◌∙◌, ℕ, List, [], ◌∷◌, ◌++◌, length, map, fold, get_or, true, false, arith, refl}
 use Rattle.std.proofs.Common.{sym, ap, inl, inr, nat_lt, suc, take, ◌⊎◌}
-use Rattle.std.proofs.lemmas.Bool.{cases_lt, Decides.nat_tests}
+use Rattle.std.proofs.{lemmas.Bool.cases_lt, lemmas.Bool.Decides.nat_tests, lemmas.Grind.common_steps}
 use Rattle.std.proofs.lemmas.List.{map-append, get_or_append_left, get_or_push, length_push, take_more, Sums.fold_push}
-use Rattle.std.proofs.lemmas.Grind.{common_steps}
 use Rattle.adf_base.specs.declared.hash.Letters.TheVariants.{Ascii}
-use Rattle.adf_tree.specs.declared.entry.Body.TheVariants.{Dir}
-use Rattle.adf_tree.specs.Additions.{Addition, with_addition}
+use Rattle.adf_tree.specs.{declared.entry.Body.TheVariants.Dir, Additions.Addition, Additions.with_addition}
 use Rattle.adf_tree.specs.Tree.{Tree, room_for_by, with_entry, with_entry_by}
 use Rattle.adf_tree.specs.declared.tree.RoomFault.TheVariants as room
-use Rattle.adf_drafts.specs.declared.draft.Room.{Room}
-use Rattle.adf_drafts.specs.Draft.{DraftValue, IsDirectoryOf, IsRoomFor}
+use Rattle.adf_drafts.specs.{declared.draft.Room.Room, Draft.DraftValue, Draft.IsDirectoryOf, Draft.IsRoomFor}
 use Rattle.adf_memory.specs.TableAdditions.{IsDraftOf, IsNextAddition, additions_of, addition_body, directory_in, fault_in, fault_of, has_bytes, has_entry_name}
 use Rattle.adf_memory.specs.TableAdditions.{has_room, is_file_at, meta_in, path_numbered, addition_path, tree_with, with_next, AreSoundBefore, IsNotAdded}
-use Rattle.adf_memory.specs.declared.table_additions.AdditionFault.{AdditionFault}
+use Rattle.adf_memory.specs.{declared.table_additions.AdditionFault.AdditionFault, declared.table_additions.TableAddition.TableAddition}
 use Rattle.adf_memory.specs.declared.table_additions.AdditionFault.TheVariants.{BadName, Exists, BadComment, PastContents}
 use Rattle.adf_memory.specs.declared.table_additions.NotAdded.{NotAdded, TheVariants.Fault, TheVariants.NoMemory}
-use Rattle.adf_memory.specs.declared.table_additions.TableAddition.{TableAddition}
 
 length_mapped : {X Y : Type 0} (f : X → Y) (xs : List X) → length (map f xs) ≡ length xs
 length_mapped f [] = refl

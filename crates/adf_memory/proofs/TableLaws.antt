@@ -2,28 +2,15 @@
 -- Letters: ls the letters whose case is ignored.
 use Rattle.std.specs.Prelude.{◌≡◌, ◌+◌, ◌^◌, ◌≤◌, ◌<◌, ℕ, List, [], ◌∷◌, ◌++◌, Option, Some, None, IsSome, IfSome, length, option_map, take}
 use Rattle.std.proofs.Common.{zero, suc, refl, sym, ap, subst, ◌∙◌, arith, append_assoc, length-append, take_all}
-use Rattle.std.proofs.Math.Seq.{take-nil}
-use Rattle.std.proofs.lemmas.List.{append-nil, length-take-le, take_more}
-use Rattle.std.proofs.lemmas.Grind.{common_steps}
+use Rattle.std.proofs.{Math.Seq.take-nil, lemmas.List.append-nil, lemmas.List.length-take-le, lemmas.List.take_more, lemmas.Grind.common_steps}
 use Rattle.adf_base.specs.declared.hash.Letters.{Letters, TheVariants.Ascii, TheVariants.International}
 use Rattle.adf_names.specs.declared.kind.Kind.{Kind, TheVariants.Ofs, TheVariants.Ffs}
-use Rattle.adf_tree.specs.declared.entry.Entry.{Entry}
-use Rattle.adf_tree.specs.Tree.{Tree, IsTreeBy, entry}
+use Rattle.adf_tree.specs.{declared.entry.Entry.Entry, Tree.Tree, Tree.IsTreeBy, Tree.entry}
 use Rattle.adf_volume.specs.declared.owner.Owner.TheVariants.{Data, Ext}
-use Rattle.adf_volume.specs.Fits.{FitsBy}
-use Rattle.adf_volume.specs.Image.{letters_of}
+use Rattle.adf_volume.specs.{Fits.FitsBy, Lists.At, Lists.numbered, Rows.row_of_entry, Counts.counts_of, declared.counts.Counts.Counts, declared.row.Row.Row}
 use Rattle.adf_volume.specs.Layout.{EntryAt, Layout, Place, datas_at, datas_of, head_at, owned, owned_from}
-use Rattle.adf_volume.specs.Lists.{At, numbered}
-use Rattle.adf_volume.proofs.Chains.{entry_is_at, entry_some}
-use Rattle.adf_volume.proofs.ImageStart.{own_letters}
-use Rattle.adf_volume.proofs.Lists.{at_below, at_index_or, at_some, length_numbered}
-use Rattle.adf_volume.specs.Rows.{row_of_entry}
-use Rattle.adf_volume.specs.Counts.{counts_of}
-use Rattle.adf_volume.specs.declared.counts.Counts.{Counts}
-use Rattle.adf_volume.specs.declared.row.Row.{Row}
-use Rattle.adf_memory.specs.declared.tables.Contents.{Contents}
-use Rattle.adf_memory.specs.declared.tables.TableEntry.{TableEntry}
-use Rattle.adf_memory.specs.Rooms.{filled}
+use Rattle.adf_volume.proofs.{Chains.entry_is_at, Chains.entry_some, Lists.at_below, Lists.at_index_or, Lists.at_some, Lists.length_numbered}
+use Rattle.adf_memory.specs.{declared.tables.Contents.Contents, declared.tables.TableEntry.TableEntry, Rooms.filled}
 use Rattle.adf_memory.specs.Tables.{all_datas, block_table, contents_of, entry_table, table_entry, table_entries}
 use Rattle.adf_names.specs.VolumeTypes.{letters_of_type, type_number}
 use Rattle.adf_memory.proofs.Filled.{take_zero}
@@ -208,6 +195,5 @@ letters_coded International Ffs = refl
 
 -- the type that is told of a volume has the letters of its image
 pub letters_told : {ls : Letters} (image : List ℕ) (t : Tree) (l : Layout) (x : Contents) → FitsBy ls image t l → x ≡ contents_of image t l
-    → letters_of_type x.kind ≡ letters_of image
-letters_told {ls} image t l x fits is =
-    ap (λ (y : Contents). letters_of_type y.kind) is ∙ letters_coded t.letters t.kind ∙ fits.letters ∙ sym (own_letters ls image fits.boots)
+    → letters_of_type x.kind ≡ ls
+letters_told image t l x fits is = ap (λ (y : Contents). letters_of_type y.kind) is ∙ letters_coded t.letters t.kind ∙ fits.letters

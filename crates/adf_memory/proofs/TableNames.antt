@@ -3,29 +3,18 @@
 use Rattle.std.proofs.Common.{◌≡◌, ◌+◌, ◌≤◌, ◌<◌, ℕ, List, Bool, true, false, Some, None, get_or, length, max, take, nat_le, nat_lt, replicate, suc, refl, sym}
 use Rattle.std.proofs.Common.{ap, subst, ◌∙◌, arith, inl, inr, take_all}
 use Rattle.std.specs.List.Sorted.{IsNonDecreasingBy, IsPartitionPoint}
-use Rattle.std.proofs.lemmas.Bool.{cases_lt, false_from_ne_true}
-use Rattle.std.proofs.Math.Seq.{take-append_seam}
-use Rattle.adf_base.specs.Hash.{slot_by}
-use Rattle.adf_base.specs.declared.hash.Letters.{Letters}
-use Rattle.std.proofs.lemmas.Grind.{common_steps}
-use Rattle.adf_names.specs.Texts.{is_name}
-use Rattle.adf_tree.specs.declared.entry.Entry.{Entry}
-use Rattle.adf_tree.specs.Tree.{Tree, child_by, is_child_by, place_by, rank_by, rank_of}
+use Rattle.std.proofs.{lemmas.Bool.cases_lt, lemmas.Bool.false_from_ne_true, Math.Seq.take-append_seam, lemmas.Grind.common_steps}
+use Rattle.adf_base.specs.{Hash.slot_by, declared.hash.Letters.Letters}
+use Rattle.adf_names.specs.{Texts.is_name, PathTexts.IsPathText}
+use Rattle.adf_tree.specs.{declared.entry.Entry.Entry, Tree.Tree, Tree.child_by, Tree.is_child_by, Tree.place_by, Tree.rank_by, Tree.rank_of}
 use Rattle.adf_tree.proofs.ChildLookup.{child_found_by, child_not_before_by, child_not_past_by, child_says_by, no_children_by}
-use Rattle.adf_tree.proofs.Lists.{some_in}
+use Rattle.adf_tree.proofs.{Lists.some_in, WalkOrder.place_is_by}
 use Rattle.adf_names.proofs.PathParts.{one_path}
-use Rattle.adf_tree.proofs.WalkOrder.{place_is_by}
 use Rattle.adf_blocks.proofs.HeadLaws.{name_short}
-use Rattle.adf_volume.proofs.BoundedFits.{name_valid}
-use Rattle.adf_volume.proofs.Lists.{at_index_or, at_some}
-use Rattle.adf_names.specs.PathTexts.{IsPathText}
-use Rattle.adf_volume.specs.Fits.{FitsBy}
-use Rattle.adf_volume.specs.Layout.{Layout, at_node, head_at}
-use Rattle.adf_volume.specs.Lists.{At}
-use Rattle.adf_memory.specs.Rooms.{filled}
-use Rattle.adf_memory.specs.Tables.{all_datas, entry_table, table_entry}
+use Rattle.adf_volume.proofs.{BoundedFits.name_valid, Lists.at_index_or, Lists.at_some}
+use Rattle.adf_volume.specs.{Fits.FitsBy, Layout.Layout, Layout.at_node, Layout.head_at, Lists.At}
+use Rattle.adf_memory.specs.{Rooms.filled, Tables.all_datas, Tables.entry_table, Tables.table_entry, declared.tables.TableEntry.TableEntry}
 use Rattle.adf_memory.proofs.TableLaws.{told_here, told_length}
-use Rattle.adf_memory.specs.declared.tables.TableEntry.{TableEntry}
 use Rattle.adf_memory.specs.TableNames.{HasNamesOfBy, IsEndBy, IsStartBy, is_child_in_by, name_in, rank_in_by}
 
 module _ {ls : Letters} {xs : List TableEntry} {es : List Entry} (has : HasNamesOfBy ls xs es) where

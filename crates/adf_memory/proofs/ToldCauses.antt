@@ -1,18 +1,33 @@
--- What a number tells of the fault of a check.
-use Rattle.std.proofs.Common.{◌≡◌, ◌≢◌, ℕ, List, ◌∙◌, ap, sym, subst, inr}
+-- What a number tells of a check.
+-- Letters: ls the letters of names; b a block; n the number.
+use Rattle.std.proofs.Common.{◌≡◌, ◌≢◌, ℕ, List, ◌∙◌, ap, arith, sym, inr}
+use Rattle.std.proofs.lemmas.Grind.{common_steps}
 use Rattle.adf_base.specs.declared.hash.Letters.{Letters}
-use Rattle.adf_blocks.specs.Causes.{cause_number}
-use Rattle.adf_blocks.specs.declared.cause.Cause.{Cause, TheVariants.NoMemory}
-use Rattle.adf_volume.specs.Walk.{FirstFaultBy}
-use Rattle.adf_memory.specs.Verdicts.{IsFirstCauseBy, IsVerdictNumber, OnFault}
+use Rattle.adf_blocks.specs.{Causes.cause_number, declared.cause.Cause.Cause, declared.cause.Cause.TheVariants.NoMemory}
+use Rattle.adf_tree.specs.Tree.{Tree}
+use Rattle.adf_volume.specs.{Fits.FitsBy, Layout.Layout, Start.IsBegunBy, Walk.FirstFaultBy}
+use Rattle.adf_memory.specs.{CheckCalls.IsCheckedBy, Verdicts.WantsMemory}
 
--- the number of a cause is one that is told
-pub number_told : (cause : Cause) (n : ℕ) → n ≡ cause_number cause → IsVerdictNumber n
-number_told cause n is = inr (cause, sym is)
+-- no cause has the number 0
+pub some_number : (cause : Cause) → cause_number cause ≡ 0 → ⊥
+some_number cause zero = grind (arith, common_steps)
 
--- a cause that is told by its number, and a block that is told, are those of the first fault
-pub first_told : {letters : Letters} (image : List ℕ) (cause : Cause) (b block n : ℕ) → (cause ≢ NoMemory → FirstFaultBy letters image b cause)
-    → n ≡ cause_number cause → b ≡ block → OnFault n (IsFirstCauseBy letters image block n)
-first_told {letters} image cause b block n first is same some other =
-    let known : cause ≢ NoMemory = λ wants. other (is ∙ ap cause_number wants) in
-    (cause, sym is, subst (λ at. FirstFaultBy letters image at cause) same (first known))
+-- a number is that of one cause
+pub same_cause : (c d : Cause) → cause_number c ≡ cause_number d → c ≡ d
+same_cause c d is = grind (arith, common_steps)
+
+-- a check that refuses an image at a block answers the number of the cause
+pub refusal_told : {ls : Letters} (image : List ℕ) (cause : Cause) (b n : ℕ) → n ≡ cause_number cause
+    → (cause ≢ NoMemory → FirstFaultBy ls image b cause) → (cause ≢ NoMemory → (t : Tree) (l : Layout) → FitsBy ls image t l → ⊥)
+    → (cause ≡ NoMemory → b ≡ 0) → (cause ≡ NoMemory → IsBegunBy ls image) → IsCheckedBy ls image b n
+refusal_told {ls} image cause b n is fault nothing zero start =
+    let wants : WantsMemory n → cause ≡ NoMemory = λ e. same_cause cause NoMemory (sym is ∙ e) in
+    let other : ¬ WantsMemory n → cause ≢ NoMemory = λ no e. no (is ∙ ap cause_number e) in
+    record {
+      number = inr (cause, sym is);
+      fits = λ e. absurd (some_number cause (sym is ∙ e));
+      first = λ some no. (cause, sym is, fault (other no));
+      none = λ some no. nothing (other no);
+      memory = λ e. zero (wants e);
+      begun = λ e. start (wants e);
+    }

@@ -1,11 +1,8 @@
 -- The parts of memory between zero bytes.
 use Rattle.std.proofs.Common.{◌≡◌, Bor, ℕ, ◌<◌, List, [], ◌∷◌, ◌++◌, length, get_or, arith, sym, ◌∙◌, ap, subst}
-use Rattle.std.specs.List.{All}
-use Rattle.std.specs.Str.{IsUtf8}
-use Rattle.std.proofs.Math.Seq.{get_or-append_seam}
+use Rattle.std.specs.{List.All, Str.IsUtf8}
+use Rattle.std.proofs.{Math.Seq.get_or-append_seam, lemmas.List.Splits.length-slice_split, lemmas.Grind.common_steps}
 use Rattle.std.proofs.lemmas.List.{append_assoc, append_cancel_right, get_or_append_left, map-append, length-append, Elements.All-push}
-use Rattle.std.proofs.lemmas.List.Splits.{length-slice_split}
-use Rattle.std.proofs.lemmas.Grind.{common_steps}
 use Rattle.adf_memory.specs.Words.{AreWords, BeginWithWords, is_zero, between_zeros}
 use Rattle.adf_words.specs.CommandLine.{texts_of}
 

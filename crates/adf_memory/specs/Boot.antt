@@ -1,12 +1,9 @@
 -- The boot blocks of an image in memory: what is told of them, and the numbers of what refuses others.
 use Rattle.std.specs.Prelude.{ℕ, List, Option, None, Some, not, slice_index, take}
 use Rattle.adf_boot_blocks.specs.BootBlocks.{begins_with_dos, has_no_code, has_right_sum, is_bootable}
-use Rattle.adf_boot_blocks.specs.Crc.{crc_32}
-use Rattle.adf_boot_blocks.specs.declared.boot.TheConstants.{BOOT_LEN}
-use Rattle.adf_boot_blocks.specs.declared.refusal.BootRefusal.{BootRefusal}
+use Rattle.adf_boot_blocks.specs.{Crc.crc_32, declared.boot.TheConstants.BOOT_LEN, declared.refusal.BootRefusal.BootRefusal}
 use Rattle.adf_boot_blocks.specs.declared.refusal.BootRefusal.TheVariants.{BadSize, NotDos, BadSourceSize, SourceNotDos}
-use Rattle.adf_memory.specs.FoundTables.{mark_number}
-use Rattle.adf_memory.specs.declared.boot.BootBlocks.{BootBlocks}
+use Rattle.adf_memory.specs.{FoundTables.mark_number, declared.boot.BootBlocks.BootBlocks}
 
 -- what is told of the boot blocks at the front of these bytes
 abbrev pub boot_blocks : List ℕ → BootBlocks

@@ -4,21 +4,14 @@ use Rattle.std.specs.Prelude.{◌≡◌, ◌≤◌, ◌<◌, ◌*◌, ◌-◌, �
 use Rattle.adf_base.specs.declared.hash.Letters.TheVariants.{Ascii}
 use Rattle.adf_names.specs.declared.kind.Kind.{Kind, TheVariants.Ofs, TheVariants.Ffs}
 use Rattle.adf_tree.specs.Tree.{Tree}
-use Rattle.adf_blocks.specs.Sizes.{is_allowed}
-use Rattle.adf_blocks.specs.declared.layout.TheConstants.{MOST_BLOCKS}
-use Rattle.adf_build.specs.declared.builder.BuildFault.{BuildFault}
+use Rattle.adf_blocks.specs.{Sizes.is_allowed, declared.layout.TheConstants.MOST_BLOCKS}
+use Rattle.adf_build.specs.{declared.builder.BuildFault.BuildFault, Building.IsBuildable, Building.need_of, Laid.IsLaid}
 use Rattle.adf_build.specs.declared.builder.BuildFault.TheVariants as build
-use Rattle.adf_build.specs.Building.{IsBuildable, need_of}
-use Rattle.adf_build.specs.Laid.{IsLaid}
-use Rattle.adf_memory.specs.Rooms.{filled}
+use Rattle.adf_memory.specs.{Rooms.filled, declared.building.Built.Built, declared.building.NewVolume.NewVolume, declared.building.Refusal.Refusal}
+use Rattle.adf_memory.specs.{declared.table_additions.NotAdded.NotAdded, declared.table_additions.TableAddition.TableAddition}
 use Rattle.adf_memory.specs.TableAdditions.{AreSound, IsFirstAdditionFault, addition_fault_number, stamp_of, tree_with}
-use Rattle.adf_memory.specs.declared.building.Built.{Built}
-use Rattle.adf_memory.specs.declared.building.NewVolume.{NewVolume}
-use Rattle.adf_memory.specs.declared.building.Refusal.{Refusal}
 use Rattle.adf_memory.specs.declared.building.Refusal.TheVariants as refusal
-use Rattle.adf_memory.specs.declared.table_additions.NotAdded.{NotAdded}
 use Rattle.adf_memory.specs.declared.table_additions.NotAdded.TheVariants as not_added
-use Rattle.adf_memory.specs.declared.table_additions.TableAddition.{TableAddition}
 
 -- the kind with this number
 abbrev pub kind_by : ℕ → Kind

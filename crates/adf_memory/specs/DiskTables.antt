@@ -1,18 +1,10 @@
 -- The table of a hard disk's partitions. `bytes` are the first bytes of a disk of n blocks; ps are partitions of it.
 use Rattle.std.specs.Prelude.{◌≡◌, ◌≢◌, ℕ, List, length, map, Option, Some, None, Result, Ok, Err}
-use Rattle.adf_partitions.specs.Disks.{FirstDiskFault, IsDisk}
-use Rattle.adf_partitions.specs.FaultTexts.{disk_cause_number, field_fault_number, place_fault_number}
-use Rattle.adf_partitions.specs.Searches.{AreReadable}
-use Rattle.adf_partitions.specs.declared.fault.DiskCause.{DiskCause, TheVariants.NoMemory}
-use Rattle.adf_partitions.specs.declared.fault.DiskFault.{DiskFault}
-use Rattle.adf_partitions.specs.declared.field_fault.FieldFault.{FieldFault}
-use Rattle.adf_partitions.specs.declared.partition.Partition.{Partition}
-use Rattle.adf_partitions.specs.declared.place.Place.{Place}
-use Rattle.adf_partitions.specs.declared.place.PlaceFault.{PlaceFault}
-use Rattle.adf_partitions.specs.declared.tables.Tables.{Tables}
-use Rattle.adf_memory.specs.declared.disk_tables.TableDisk.{TableDisk}
-use Rattle.adf_memory.specs.declared.disk_tables.TablePartition.{TablePartition}
-use Rattle.adf_memory.specs.Tables.{field}
+use Rattle.adf_partitions.specs.{Disks.FirstDiskFault, Disks.IsDisk, FaultTexts.disk_cause_number, FaultTexts.field_fault_number, FaultTexts.place_fault_number}
+use Rattle.adf_partitions.specs.{Searches.AreReadable, declared.fault.DiskCause.DiskCause, declared.fault.DiskCause.TheVariants.NoMemory}
+use Rattle.adf_partitions.specs.{declared.fault.DiskFault.DiskFault, declared.field_fault.FieldFault.FieldFault, declared.partition.Partition.Partition}
+use Rattle.adf_partitions.specs.{declared.place.Place.Place, declared.place.PlaceFault.PlaceFault, declared.tables.Tables.Tables}
+use Rattle.adf_memory.specs.{declared.disk_tables.TableDisk.TableDisk, declared.disk_tables.TablePartition.TablePartition, Tables.field}
 
 -- the first block of a place; 0 if there is none
 abbrev pub first_or_zero : Result Place PlaceFault → ℕ

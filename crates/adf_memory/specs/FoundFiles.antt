@@ -2,23 +2,13 @@
 -- Letters: w the walk of a survey, fs its findings; b a block; n a file's node, h the block of its header; k the number of a data block, from 0;
 -- at a place in the file.
 use Rattle.std.specs.Prelude.{◌+◌, ◌-◌, ◌*◌, ◌/◌, ◌==◌, ◌&&◌, ℕ, Bool, false, List, [], ◌∷◌, Option, Some, None, cond, drop, length, map, min, nat_lt}
-use Rattle.std.specs.Prelude.{slice_get, take}
-use Rattle.std.specs.List.{range_with_len}
-use Rattle.std.specs.Option.{unwrap_or}
+use Rattle.std.specs.{Prelude.slice_get, Prelude.take, List.range_with_len, Option.unwrap_or}
 use Rattle.std.proofs.Common.{suc}
-use Rattle.adf_blocks.specs.declared.layout.TheConstants.{SECONDARY_TYPE, ST_FILE}
-use Rattle.adf_blocks.specs.Sizes.{blocks, chunk, count}
-use Rattle.adf_volume.specs.Image.{kind_of, word_in}
-use Rattle.adf_volume.specs.Walk.{Walk}
-use Rattle.adf_findings.specs.Files.{named_from}
-use Rattle.adf_findings.specs.Concerned.{number_alone}
-use Rattle.adf_findings.specs.Members.{owning_entry}
+use Rattle.adf_blocks.specs.{declared.layout.TheConstants.SECONDARY_TYPE, declared.layout.TheConstants.ST_FILE, Sizes.blocks, Sizes.chunk, Sizes.count}
+use Rattle.adf_volume.specs.{Image.kind_of, Image.word_in, Walk.Walk}
+use Rattle.adf_findings.specs.{Files.named_from, Concerned.number_alone, Members.owning_entry, Survey.FindingValue}
 use Rattle.adf_findings.specs.Remains.{data_left, own_data, size_stated}
-use Rattle.adf_findings.specs.Survey.{FindingValue}
-use Rattle.adf_memory.specs.declared.found_parts.FoundPart.{FoundPart}
-use Rattle.adf_memory.specs.declared.found_files.TheConstants.{NO_BLOCK}
-use Rattle.adf_memory.specs.Areas.{bytes_from}
-use Rattle.adf_memory.specs.FoundTables.{entry_number}
+use Rattle.adf_memory.specs.{declared.found_parts.FoundPart.FoundPart, declared.found_files.TheConstants.NO_BLOCK, Areas.bytes_from, FoundTables.entry_number}
 
 -- the row of block b: the entry that has it, and the number of the data block that it is, where no other part asks for it; each 0 for none
 abbrev pub part_at : Walk → List FindingValue → ℕ → FoundPart

@@ -2,11 +2,8 @@
 -- Letters: w the walk of a survey, fs its findings; n a file's node; gs gaps, in order; bytes those of a file, with zeros in its gaps; at a place in the file.
 use Rattle.std.specs.Prelude.{◌-◌, ◌≤◌, ℕ, List, [], ◌∷◌, cond, drop, length, nat_le, take}
 use Rattle.adf_blocks.specs.Sizes.{blocks}
-use Rattle.adf_volume.specs.Lists.{In}
-use Rattle.adf_volume.specs.Walk.{Walk}
-use Rattle.adf_findings.specs.declared.remains.Gap.{Gap}
-use Rattle.adf_findings.specs.Remains.{gaps_of, left_of}
-use Rattle.adf_findings.specs.Survey.{FindingValue}
+use Rattle.adf_volume.specs.{Lists.In, Walk.Walk}
+use Rattle.adf_findings.specs.{declared.remains.Gap.Gap, Remains.gaps_of, Remains.left_of, Survey.FindingValue}
 
 -- what is left of file n by all blocks of the image
 abbrev pub left_in : List ℕ → Walk → List FindingValue → ℕ → List ℕ

@@ -2,26 +2,16 @@
 -- Letters: w the walk of an image's survey, fs its findings; `sound` tells whether an entry is sound; n an entry's node, h its header's bytes; k a count.
 use Rattle.std.specs.Prelude.{ℕ, Bool, true, false, List, [], ◌∷◌, Option, Some, None, length, map}
 use Rattle.std.specs.List.{range_with_len}
-use Rattle.adf_base.specs.Words.{block}
-use Rattle.adf_blocks.specs.Causes.{cause_number}
+use Rattle.adf_base.specs.{Words.block, declared.hash.Letters.TheVariants.Ascii}
+use Rattle.adf_blocks.specs.{Causes.cause_number, HeadBlock.body_at, HeadBlock.meta_stated}
 use Rattle.adf_blocks.specs.declared.head.HeadBody.{HeadBody, TheVariants.Dir, TheVariants.File}
-use Rattle.adf_blocks.specs.HeadBlock.{body_at, meta_stated}
-use Rattle.adf_names.specs.declared.meta.Meta.{Meta}
-use Rattle.adf_volume.specs.Image.{name_of}
-use Rattle.adf_base.specs.declared.hash.Letters.TheVariants.{Ascii}
-use Rattle.adf_names.specs.VolumeTypes.{type_number}
-use Rattle.adf_volume.specs.Walk.{heads, node_block, Walk}
+use Rattle.adf_names.specs.{declared.meta.Meta.Meta, VolumeTypes.type_number}
+use Rattle.adf_volume.specs.{Image.name_of, Walk.heads, Walk.node_block, Walk.Walk}
 use Rattle.adf_findings.specs.declared.concern.Concern.{Concern, TheVariants.Entry, TheVariants.Within}
-use Rattle.adf_findings.specs.declared.opening.Opening.{Opening}
-use Rattle.adf_findings.specs.Members.{parent_node}
-use Rattle.adf_findings.specs.Opening.{opening_in}
-use Rattle.adf_findings.specs.Survey.{FindingValue}
-use Rattle.adf_survey_cmd.specs.declared.runs.Run.{Run}
-use Rattle.adf_survey_cmd.specs.Lines.{runs}
-use Rattle.adf_memory.specs.declared.found_tables.FoundEntry.{FoundEntry}
-use Rattle.adf_memory.specs.declared.found_tables.Surveyed.{Surveyed}
+use Rattle.adf_findings.specs.{declared.opening.Opening.Opening, Members.parent_node, Opening.opening_in, Survey.FindingValue}
+use Rattle.adf_survey_cmd.specs.{declared.runs.Run.Run, Lines.runs}
+use Rattle.adf_memory.specs.{declared.found_tables.FoundEntry.FoundEntry, declared.found_tables.Surveyed.Surveyed, Tables.date_of, Tables.field}
 use Rattle.adf_memory.specs.declared.found_tables.TableFinding.{TableFinding}
-use Rattle.adf_memory.specs.Tables.{date_of, field}
 
 -- the number of the entry or directory that is concerned; 0 for none
 abbrev pub concern_node : Option Concern → ℕ

@@ -16,5 +16,9 @@ pub mod Boot
 pub mod Losses
 pub mod Rescuing
 pub mod Subjects
+pub mod CheckCalls
+pub mod SurveyCalls
+pub mod TextCalls
+pub mod VolumeCalls
 -- The states of what looks up a name in a table.
 pub mod TableNames

@@ -2,8 +2,7 @@
 -- Letters: l a loss, ls losses; t a table.
 use Rattle.std.specs.Prelude.{ℕ, List, [], ◌∷◌, ◌++◌, length}
 use Rattle.adf_survey_cmd.specs.Losses.{LossValue}
-use Rattle.adf_memory.specs.declared.losses.LossTable.{LossTable}
-use Rattle.adf_memory.specs.declared.losses.TableLoss.{TableLoss}
+use Rattle.adf_memory.specs.{declared.losses.LossTable.LossTable, declared.losses.TableLoss.TableLoss}
 
 -- rows of losses, and the text of all their paths, one behind the other
 pub record LossTableValue : Type 0 where

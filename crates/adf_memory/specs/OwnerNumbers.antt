@@ -2,11 +2,8 @@
 use Rattle.std.specs.Prelude.{◌≡◌, ◌≤◌, ◌<◌, ℕ, List}
 use Rattle.adf_base.specs.declared.hash.Letters.{Letters}
 use Rattle.adf_tree.specs.Tree.{Tree}
-use Rattle.adf_volume.specs.declared.owner.Owner.{Owner}
+use Rattle.adf_volume.specs.{declared.owner.Owner.Owner, Fits.FitsBy, Layout.Layout, Layout.owned, Lists.In}
 use Rattle.adf_volume.specs.declared.owner.Owner.TheVariants as owner
-use Rattle.adf_volume.specs.Fits.{FitsBy}
-use Rattle.adf_volume.specs.Layout.{Layout, owned}
-use Rattle.adf_volume.specs.Lists.{In}
 use Rattle.adf_walk.specs.OwnerClass.{class_number, class_of}
 
 -- the number of an owner

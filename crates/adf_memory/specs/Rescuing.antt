@@ -2,29 +2,15 @@
 -- Letters: s what is surveyed of an input; ls losses; f a fault; n a number of blocks; boot the boot blocks of the input; x a rescue that is ready.
 use Rattle.std.specs.Prelude.{◌≡◌, ◌≤◌, ◌<◌, ◌*◌, ◌==◌, ℕ, List, Option, None, Some, Result, Ok, Err, cond, length}
 use Rattle.adf_tree.specs.Tree.{Tree}
-use Rattle.adf_blocks.specs.Causes.{cause_number}
-use Rattle.adf_blocks.specs.Sizes.{blocks}
-use Rattle.adf_boot_blocks.specs.Writing.{restored}
-use Rattle.adf_boot_blocks.specs.declared.boot.TheConstants.{BOOT_LEN}
-use Rattle.adf_volume.specs.declared.types.Types.TheVariants.{Plain}
+use Rattle.adf_blocks.specs.{Causes.cause_number, Sizes.blocks}
+use Rattle.adf_boot_blocks.specs.{Writing.restored, declared.boot.TheConstants.BOOT_LEN}
 use Rattle.adf_build.specs.Laid.{IsLaid, IsWellFormed}
-use Rattle.adf_survey_cmd.specs.Answers.{RescuesTyped}
-use Rattle.adf_survey_cmd.specs.Losses.{LossValue, loss_values}
-use Rattle.adf_survey_cmd.specs.Prepared.{LaysFor, RefusesFor}
+use Rattle.adf_survey_cmd.specs.{Losses.LossValue, Losses.loss_values, Prepared.LaysFor, Prepared.RefusesFor}
 use Rattle.adf_survey_cmd.specs.Rescues.{RescueValue, RescueValue.refused, RescueValue.written}
-use Rattle.adf_survey_cmd.specs.Subject.{SubjectValue}
 use Rattle.adf_survey_cmd.specs.declared.preparing.Unrescued.{Unrescued, TheVariants.NoMemory, TheVariants.Refused}
-use Rattle.adf_memory.specs.Losses.{LossTableValue, table_of_losses}
-use Rattle.adf_memory.specs.Rooms.{filled}
-use Rattle.adf_memory.specs.declared.losses.TableLoss.{TableLoss}
-use Rattle.adf_memory.specs.declared.rescuing.Ready.{Ready}
-use Rattle.adf_memory.specs.declared.rescuing.RescueRefusal.{RescueRefusal}
+use Rattle.adf_memory.specs.{Losses.LossTableValue, Losses.table_of_losses, Rooms.filled, declared.losses.TableLoss.TableLoss, declared.rescuing.Ready.Ready}
+use Rattle.adf_memory.specs.{declared.rescuing.RescueRefusal.RescueRefusal, declared.rescuing.RescueTold.RescueTold}
 use Rattle.adf_memory.specs.declared.rescuing.RescueRefusal.TheVariants as refusal
-use Rattle.adf_memory.specs.declared.rescuing.RescueTold.{RescueTold}
-
--- the rescue of what is surveyed of an input, once it has the type that its files say: with its two boot blocks as they were before
-abbrev pub RescueOf : SubjectValue → RescueValue → Type 0
-RescueOf = RescuesTyped Plain
 
 -- a rescue that gives this is ready, with its boot blocks
 abbrev pub Readies : (RescueValue → Type 0) → Result Ready Unrescued → Type 0

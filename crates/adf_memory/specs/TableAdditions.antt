@@ -3,17 +3,12 @@
 -- bytes the contents of the files; t a tree without entries; d a draft.
 use Rattle.std.specs.Prelude.{◌≡◌, ◌≤◌, ◌<◌, ◌+◌, ◌-◌, ◌==◌, ◌&&◌, ℕ, Bool, true, false, not, nat_le, nat_lt, if◌then◌else◌, Option, Some, None, Result, Ok}
 use Rattle.std.specs.Prelude.{Err, is_ok, List, [], ◌∷◌, ◌++◌, length, map, take, drop, fold, slice_index_or}
-use Rattle.adf_base.specs.declared.hash.Letters.TheVariants.{Ascii}
-use Rattle.adf_base.specs.declared.dates.Stamp.{Stamp}
-use Rattle.adf_names.specs.declared.meta.Meta.{Meta}
-use Rattle.adf_names.specs.Meta.{new_meta}
-use Rattle.adf_names.specs.Texts.{is_name}
+use Rattle.adf_base.specs.{declared.hash.Letters.TheVariants.Ascii, declared.dates.Stamp.Stamp}
+use Rattle.adf_names.specs.{declared.meta.Meta.Meta, Meta.new_meta, Texts.is_name}
 use Rattle.adf_tree.specs.declared.entry.Body.{Body, TheVariants.Dir, TheVariants.File}
-use Rattle.adf_tree.specs.Additions.{Addition, entries_of_additions}
-use Rattle.adf_tree.specs.Tree.{Tree, room_for}
+use Rattle.adf_tree.specs.{Additions.Addition, Additions.entries_of_additions, Tree.Tree, Tree.room_for}
 use Rattle.adf_drafts.specs.Draft.{DraftValue, IsDirectoryOf}
-use Rattle.adf_memory.specs.declared.tables.Date.{Date}
-use Rattle.adf_memory.specs.declared.table_additions.AdditionFault.{AdditionFault}
+use Rattle.adf_memory.specs.{declared.tables.Date.Date, declared.table_additions.AdditionFault.AdditionFault}
 use Rattle.adf_memory.specs.declared.table_additions.AdditionFault.TheVariants.{NoParent, ParentIsFile, BadName, Exists, BadComment, PastContents}
 use Rattle.adf_memory.specs.declared.table_additions.NotAdded.{NotAdded, TheVariants.Fault, TheVariants.NoMemory}
 use Rattle.adf_memory.specs.declared.table_additions.TableAddition.{TableAddition}

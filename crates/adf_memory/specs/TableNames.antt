@@ -2,13 +2,10 @@
 -- Letters: x an entry of the table, and xs entries of it; es entries of a tree; p a directory's number; r a pair of directory and slot; n a count.
 -- What depends on the letters whose case is ignored takes them first.
 use Rattle.std.specs.Prelude.{◌≡◌, ◌<◌, ◌≤◌, ◌==◌, ◌&&◌, ℕ, Bool, true, false, List, length, nat_le, nat_lt, take, slice_index_or}
-use Rattle.std.specs.List.Sorted.{IsNonDecreasingBy, IsPartitionPoint}
-use Rattle.std.specs.Str.{bytes_eq}
-use Rattle.adf_base.specs.Hash.{slot_by}
-use Rattle.adf_base.specs.declared.hash.Letters.{Letters}
-use Rattle.adf_tree.specs.declared.entry.Entry.{Entry}
+use Rattle.std.specs.{List.Sorted.IsNonDecreasingBy, List.Sorted.IsPartitionPoint, Str.bytes_eq}
+use Rattle.adf_base.specs.{Hash.slot_by, declared.hash.Letters.Letters}
+use Rattle.adf_tree.specs.{declared.entry.Entry.Entry, Tree.rank_by, Tree.rank_of}
 use Rattle.adf_names.specs.Texts.{uppers_by}
-use Rattle.adf_tree.specs.Tree.{rank_by, rank_of}
 use Rattle.adf_memory.specs.declared.tables.TableEntry.{TableEntry}
 
 -- the name of an entry of the table

@@ -2,19 +2,13 @@
 -- Letters: t a tree; l its layout; e an entry, and es entries; xs a table of entries; h the block of a header; q the place of an entry, and qs places;
 -- k a count of data blocks.
 use Rattle.std.specs.Prelude.{◌≡◌, ℕ, List, [], ◌∷◌, ◌++◌, ◌+◌, ◌-◌, Option, Some, None, length, replicate}
-use Rattle.adf_base.specs.declared.dates.Stamp.{Stamp}
-use Rattle.adf_base.specs.declared.hash.Letters.{Letters, TheVariants.Ascii}
+use Rattle.adf_base.specs.{declared.dates.Stamp.Stamp, declared.hash.Letters.Letters}
 use Rattle.adf_names.specs.VolumeTypes.{type_number}
 use Rattle.adf_tree.specs.declared.entry.Body.{Body, TheVariants.Dir, TheVariants.File}
-use Rattle.adf_tree.specs.declared.entry.Entry.{Entry}
-use Rattle.adf_tree.specs.Tree.{Tree, entry}
+use Rattle.adf_tree.specs.{declared.entry.Entry.Entry, Tree.Tree, Tree.entry}
 use Rattle.adf_blocks.specs.Sizes.{blocks}
-use Rattle.adf_volume.specs.Fits.{FitsBy}
-use Rattle.adf_volume.specs.Layout.{Layout, Place, owned}
-use Rattle.adf_memory.specs.declared.tables.Contents.{Contents}
-use Rattle.adf_memory.specs.declared.tables.Date.{Date}
-use Rattle.adf_memory.specs.declared.tables.TableEntry.{TableEntry}
-use Rattle.adf_memory.specs.Rooms.{filled}
+use Rattle.adf_volume.specs.{Fits.FitsBy, Layout.Layout, Layout.Place, Layout.owned}
+use Rattle.adf_memory.specs.{declared.tables.Contents.Contents, declared.tables.Date.Date, declared.tables.TableEntry.TableEntry, Rooms.filled}
 
 -- a text in a field of so many bytes, with zeros behind it
 abbrev pub field : ℕ → List ℕ → List ℕ
@@ -63,10 +57,6 @@ entry_table t l = table_entries 0 t.entries l.places
 -- the table is that of a volume of this tree, whose names have these letters, wherever its parts lie
 abbrev pub IsTableOfBy : Letters → List TableEntry → Tree → Type 0
 IsTableOfBy letters xs t = (image : List ℕ) × (l : Layout) × FitsBy letters image t l × (xs ≡ entry_table t l)
-
--- the same of a volume of type 0 or 1
-abbrev pub IsTableOf : List TableEntry → Tree → Type 0
-IsTableOf = IsTableOfBy Ascii
 
 -- the data blocks of files, one file after the other
 abbrev pub all_datas : List Place → List ℕ

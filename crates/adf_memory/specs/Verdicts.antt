@@ -1,11 +1,9 @@
 -- The verdict on an image.
 use Rattle.std.specs.Prelude.{◌≡◌, ◌⊎◌, ℕ, List}
-use Rattle.adf_base.specs.declared.hash.Letters.{Letters, TheVariants.Ascii}
+use Rattle.adf_base.specs.declared.hash.Letters.{Letters}
 use Rattle.adf_names.specs.VolumeTypes.{type_number}
-use Rattle.adf_blocks.specs.Causes.{cause_number}
-use Rattle.adf_blocks.specs.declared.cause.Cause.{Cause, TheVariants.NoMemory}
-use Rattle.adf_volume.specs.Walk.{FirstFaultBy}
-use Rattle.adf_volume.specs.declared.counts.Counts.{Counts}
+use Rattle.adf_blocks.specs.{Causes.cause_number, declared.cause.Cause.Cause, declared.cause.Cause.TheVariants.NoMemory}
+use Rattle.adf_volume.specs.{Walk.FirstFaultBy, declared.counts.Counts.Counts}
 use Rattle.adf_memory.specs.declared.verdict.Verdict.{Verdict}
 
 -- an accepted image with these letters: its numbers, and no block of a fault
@@ -19,10 +17,6 @@ accepted_by letters c = record {
   files = c.files;
   block = 0;
 }
-
--- the same of a volume of type 0 or 1
-abbrev pub accepted : Counts → Verdict
-accepted = accepted_by Ascii
 
 -- a refused image: the block of its fault
 abbrev pub refused : ℕ → Verdict
@@ -43,7 +37,3 @@ OnFault n holds = ¬ (n ≡ 0) → ¬ WantsMemory n → holds
 -- n is the number of the cause of the first fault of the image as a volume with these letters, which stands at block b
 abbrev pub IsFirstCauseBy : Letters → List ℕ → ℕ → ℕ → Type 0
 IsFirstCauseBy letters image b n = (c : Cause) × (cause_number c ≡ n) × FirstFaultBy letters image b c
-
--- the same as a volume of type 0 or 1
-abbrev pub IsFirstCause : List ℕ → ℕ → ℕ → Type 0
-IsFirstCause = IsFirstCauseBy Ascii

@@ -1,8 +1,8 @@
 -- The words of a command line in memory.
 use Rattle.std.specs.Prelude.{◌≡◌, ◌==◌, ◌<◌, ℕ, List, [], ◌∷◌, ◌++◌, Bool, All, length}
-use Rattle.std.specs.List.{slice_split}
-use Rattle.std.specs.Str.{IsUtf8}
-use Rattle.adf_runs.specs.Commands.{Command}
+use Rattle.std.specs.{List.slice_split, Str.IsUtf8}
+use Rattle.adf_runs.specs.{Commands.Command, Commands.IsConsumed, Commands.IsUnanswered, Commands.RunEnds, Streams.at_hand}
+use Rattle.adf_memory.specs.{Rooms.StandIn, Rooms.room_seen, declared.memory.Moved.Moved}
 
 -- whether a byte is zero
 abbrev pub is_zero : ℕ → Bool
@@ -45,3 +45,12 @@ in_memory c = record {
   limit = c.limit;
   usage = c.usage;
 }
+
+-- adf_run and adf_survey_run: a run of the command in memory ends, with counts of what was read and written. Output and errors are filled from the front, and
+-- where words are refused, the output is unchanged
+pub record RunsInMemory (c : Command (List (List ℕ))) (words input old new told : List ℕ) (moved : Moved) (n : ℕ) : Type 0 where
+  pub ends : RunEnds (in_memory c) words (at_hand input) n (room_seen moved.output moved.output_full new) (room_seen moved.errors moved.errors_full told)
+  pub untouched : IsUnanswered (in_memory c) words → (moved.output ≡ 0) × (new ≡ old)
+  pub consumed : IsConsumed (in_memory c) words input n moved.input
+  pub output : StandIn moved.output moved.output_full new
+  pub errors : StandIn moved.errors moved.errors_full told

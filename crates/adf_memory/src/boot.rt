@@ -1,17 +1,9 @@
 // The boot blocks of an image in memory.
 
-ghost use Rattle.std.specs.Prelude.{◌≡◌, ◌<◌, ◌≤◌, Option, length, true};
-ghost use Rattle.adf_tree.specs.Tree.{Tree};
-ghost use Rattle.adf_blocks.specs.Sizes.{blocks, middle};
-ghost use Rattle.adf_volume.specs.Fits.{Fits};
-ghost use Rattle.adf_volume.specs.Layout.{Layout};
-ghost use Rattle.adf_boot_blocks.specs.BootBlocks.{IsOtherBoot, is_bootable};
-ghost use Rattle.adf_boot_blocks.specs.Writing.{cleared, copied, installed};
+ghost use Rattle.std.specs.Prelude.{◌≡◌, ◌<◌, ◌≤◌, length};
 ghost use Rattle.adf_boot_blocks.specs.declared.boot.TheConstants.{BOOT_LEN};
-ghost use Rattle.adf_boot_blocks.specs.declared.standard.TheConstants.{STANDARD_CODE};
-ghost use Rattle.adf_boot_blocks.specs.Refusals.{copy_refusal, image_refusal};
-ghost use Rattle.adf_boot_blocks.specs.declared.refusal.BootRefusal.TheVariants.{BadSize};
-ghost use Rattle.adf_memory.specs.Boot.{answer_number, boot_blocks, boot_refusal_number};
+ghost use Rattle.adf_memory.specs.Boot.{boot_blocks, boot_refusal_number};
+ghost use Rattle.adf_memory.specs.VolumeCalls.{ClearsBoot, CopiesBoot, InstallsBoot, TellsBoot};
 
 use crate::found_tables::mark_number;
 use adf_base::BLOCK_LEN;
@@ -68,12 +60,7 @@ fn boot_blocks(image: &[u8]) -> BootBlocks
 
 /// Tells of the boot blocks at the front of an image. Returns 0, or the number of `BadSize` if it has fewer than 1,024 bytes.
 pub fn tell_boot(image: &[u8], boot: &mut BootBlocks) -> u8
-    ensures number { BOOT_LEN ≤ length image.now → result ≡ 0 }
-    ensures told { BOOT_LEN ≤ length image.now → boot.new ≡ boot_blocks image.now }
-
-    // An image that is shorter has none, and nothing is written.
-    ensures short { length image.now < BOOT_LEN → result ≡ boot_refusal_number BadSize }
-    ensures unchanged { length image.now < BOOT_LEN → boot.new ≡ boot.old }
+    ensures { TellsBoot image.now boot.old boot.new result }
 {
     if image.len() < BOOT_LEN {
         return boot_refusal_number(BootRefusal::BadSize);
@@ -86,16 +73,7 @@ pub fn tell_boot(image: &[u8], boot: &mut BootBlocks) -> u8
 /// Returns 0, or the number of a refusal.
 #[tactic(auto, using(adf_boot_blocks::proofs::Taken::image_taken, adf_boot_blocks::proofs::OtherBoots::other_fits))]
 pub fn install_boot(image: &mut [u8]) -> u8
-    ensures number { result ≡ answer_number (image_refusal image.old) }
-
-    // What is written starts, and what fits the image fits it still.
-    ensures exact { result ≡ 0 → image.new ≡ installed image.old (middle (blocks image.old)) STANDARD_CODE }
-    ensures bootable { result ≡ 0 → is_bootable image.new ≡ true }
-    ensures other { IsOtherBoot image.old image.new }
-    ensures fits { (t : Tree) (l : Layout) → Fits image.old t l → Fits image.new t l }
-
-    // If it is refused, nothing is written.
-    ensures unchanged { ¬ (result ≡ 0) → image.new ≡ image.old }
+    ensures { InstallsBoot image.old image.new result }
 {
     match image_refusal(image) {
         Some(refusal) => boot_refusal_number(refusal),
@@ -107,19 +85,11 @@ pub fn install_boot(image: &mut [u8]) -> u8
     }
 }
 
-/// Writes the boot blocks at the front of a source into an image, which keeps its type, with a checksum that is right. Returns 0, or the number of a refusal: of the source first.
+/// Writes the boot blocks at the front of a source into an image, which keeps its type, with a checksum that is right. Returns 0,
+/// or the number of a refusal: of the source first.
 #[tactic(auto, using(adf_boot_blocks::proofs::Taken::copy_taken, adf_boot_blocks::proofs::OtherBoots::other_fits))]
 pub fn copy_boot(image: &mut [u8], source: &[u8]) -> u8
-    ensures number { result ≡ answer_number (copy_refusal image.old source.now) }
-
-    // What is written starts, and what fits the image fits it still.
-    ensures exact { result ≡ 0 → image.new ≡ copied image.old source.now }
-    ensures bootable { result ≡ 0 → is_bootable image.new ≡ true }
-    ensures other { IsOtherBoot image.old image.new }
-    ensures fits { (t : Tree) (l : Layout) → Fits image.old t l → Fits image.new t l }
-
-    // If it is refused, nothing is written.
-    ensures unchanged { ¬ (result ≡ 0) → image.new ≡ image.old }
+    ensures { CopiesBoot source.now image.old image.new result }
 {
     match copy_refusal(image, source) {
         Some(refusal) => boot_refusal_number(refusal),
@@ -133,15 +103,7 @@ pub fn copy_boot(image: &mut [u8], source: &[u8]) -> u8
 /// Writes zeros in place of the boot blocks behind the type. Returns 0, or the number of a refusal.
 #[tactic(auto, using(adf_boot_blocks::proofs::Taken::image_taken, adf_boot_blocks::proofs::OtherBoots::other_fits))]
 pub fn clear_boot(image: &mut [u8]) -> u8
-    ensures number { result ≡ answer_number (image_refusal image.old) }
-
-    // What fits the image fits it still.
-    ensures exact { result ≡ 0 → image.new ≡ cleared image.old }
-    ensures other { IsOtherBoot image.old image.new }
-    ensures fits { (t : Tree) (l : Layout) → Fits image.old t l → Fits image.new t l }
-
-    // If it is refused, nothing is written.
-    ensures unchanged { ¬ (result ≡ 0) → image.new ≡ image.old }
+    ensures { ClearsBoot image.old image.new result }
 {
     match image_refusal(image) {
         Some(refusal) => boot_refusal_number(refusal),

@@ -2,10 +2,11 @@
 
 ghost use Rattle.std.specs.Prelude.{◌≡◌, ◌≤◌, ◌<◌, ◌*◌, ◌↔◌, [], List, ℕ, length, IsSome, IfSome, IfOk, IfErr, OnOk, OnErr};
 ghost use Rattle.adf_tree.specs.Tree.{Tree as ATree};
-ghost use Rattle.adf_memory.specs.Building.{Explains, ExplainsBuild, ExplainsNeed, HasVolume, IsBadVolume, IsFewest};
-ghost use Rattle.adf_memory.specs.Building.{IsFullAtMost, IsSoundVolume, IsTableRefusal, Refuses, bad_room, built_in, kind_by};
+ghost use Rattle.adf_memory.specs.Building.{ExplainsBuild, ExplainsNeed, HasVolume, IsBadVolume, IsFewest};
+ghost use Rattle.adf_memory.specs.Building.{IsFullAtMost, IsSoundVolume, IsTableRefusal, bad_room, built_in, kind_by};
 ghost use Rattle.adf_memory.specs.Building.{new_tree, refusal_by, refusal_number, refusal_of, told, tree_of};
 ghost use Rattle.adf_memory.specs.TableAdditions.{AreSound, IsDraftOf, tree_with};
+ghost use Rattle.adf_memory.specs.VolumeCalls.{BuildsVolume, NeedsBlocks};
 
 use crate::table_additions::{AdditionFault, NotAdded, TableAddition, add_next, stamp_of, text_in};
 use crate::tables::Date;
@@ -282,16 +283,7 @@ pub fn build_volume(
     room: &mut [u8],
     built: &mut Built,
 ) -> u8
-    // At 0 no addition has a fault, and the room begins with the image that is laid for their tree; the rest is unchanged.
-    ensures sound { result ≡ 0 → IsSoundVolume volume.now contents.now additions.now }
-    ensures volume { result ≡ 0 → HasVolume (tree_of volume.now contents.now additions.now)
-        volume.now.blocks room.old room.new }
-    ensures built { result ≡ 0 → built.new ≡ built_in volume.now.blocks }
-
-    // Any other number is that of a refusal, and the room is unchanged.
-    ensures refused { ¬ (result ≡ 0)
-        → Refuses (ExplainsBuild volume.now contents.now additions.now (length room.old)) result built.new }
-    ensures unchanged { ¬ (result ≡ 0) → room.new ≡ room.old }
+    ensures { BuildsVolume volume.now additions.now contents.now room.old room.new built.new result }
 {
     match build_in_room(alloc, volume, additions, contents, room) {
         Ok(()) => {
@@ -314,14 +306,7 @@ pub fn need_volume(
     contents: &[u8],
     built: &mut Built,
 ) -> u8
-    // At 0 no addition has a fault, and their tree has room in so many blocks, and in no fewer.
-    ensures sound { result ≡ 0 → IsSoundVolume volume.now contents.now additions.now }
-    ensures fewest { result ≡ 0 → IsFewest (tree_of volume.now contents.now additions.now) built.new.blocks }
-    ensures built { result ≡ 0 → built.new ≡ built_in built.new.blocks }
-
-    // Any other number is that of a refusal.
-    ensures refused { ¬ (result ≡ 0)
-        → Refuses (ExplainsNeed volume.now contents.now additions.now) result built.new }
+    ensures { NeedsBlocks volume.now additions.now contents.now built.new result }
 {
     match fewest_for(alloc, volume, additions, contents) {
         Ok(blocks) => {

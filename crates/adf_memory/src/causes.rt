@@ -1,15 +1,11 @@
 // The texts of causes and of faults, by their numbers.
 
 ghost use Rattle.std.specs.Prelude.{◌≡◌, IfNone, IfSome, length};
-ghost use Rattle.adf_blocks.specs.Causes.{cause_number, cause_text};
-ghost use Rattle.adf_blocks.specs.declared.cause.Cause.{Cause};
-ghost use Rattle.adf_partitions.specs.FaultTexts.{disk_cause_text, field_fault_number, field_fault_text};
-ghost use Rattle.adf_partitions.specs.FaultTexts.{place_fault_number, place_fault_text};
-ghost use Rattle.adf_partitions.specs.declared.fault.DiskCause.{DiskCause};
+ghost use Rattle.adf_partitions.specs.{FaultTexts.field_fault_number, FaultTexts.place_fault_number};
+ghost use Rattle.adf_partitions.specs.{declared.fault.DiskCause.DiskCause, declared.place.PlaceFault.PlaceFault};
 ghost use Rattle.adf_partitions.specs.declared.field_fault.FieldFault.{FieldFault};
-ghost use Rattle.adf_partitions.specs.declared.place.PlaceFault.{PlaceFault};
-ghost use Rattle.adf_memory.specs.DiskTables.{IsDiskCause};
-ghost use Rattle.adf_memory.specs.Rooms.{filled};
+ghost use Rattle.adf_memory.specs.{DiskTables.IsDiskCause, Rooms.filled};
+ghost use Rattle.adf_memory.specs.TextCalls.{WritesCause, WritesDiskCause, WritesPartitionFault};
 
 use adf_blocks::Cause;
 use adf_partitions::{DiskCause, FieldFault, PlaceFault};
@@ -72,13 +68,7 @@ fn field_fault_numbered(number: u8) -> Option<FieldFault>
 /// Writes the text of the cause with this number to the front of `room`, as far as it fits. Returns the length of the whole
 /// text, or 0 if no cause has the number.
 pub fn cause_text(cause: u8, room: &mut [u8]) -> usize
-    ensures length { (c : Cause) → cause_number c ≡ cause → result ≡ length (cause_text c) }
-    ensures text { (c : Cause) → cause_number c ≡ cause
-        → room.new ≡ filled (cause_text c) room.old }
-
-    // If no cause has the number, nothing is written.
-    ensures none { ((c : Cause) → ¬ (cause_number c ≡ cause)) → result ≡ 0 }
-    ensures unchanged { ((c : Cause) → ¬ (cause_number c ≡ cause)) → room.new ≡ room.old }
+    ensures { WritesCause cause room.old room.new result }
 {
     match Cause::numbered(cause) {
         Some(named) => put_text(room, named.text()),
@@ -89,14 +79,7 @@ pub fn cause_text(cause: u8, room: &mut [u8]) -> usize
 /// Writes the text of what is wrong with the tables of a disk, by its number, to the front of `room`, as far as it fits. Returns
 /// the length of the whole text, or 0 if no cause has the number.
 pub fn disk_cause_text(cause: u8, room: &mut [u8]) -> usize
-    ensures length { (c : DiskCause) → IsDiskCause c cause
-        → result ≡ length (disk_cause_text c) }
-    ensures text { (c : DiskCause) → IsDiskCause c cause
-        → room.new ≡ filled (disk_cause_text c) room.old }
-
-    // If no cause has the number, nothing is written.
-    ensures none { ((c : DiskCause) → ¬ IsDiskCause c cause) → result ≡ 0 }
-    ensures unchanged { ((c : DiskCause) → ¬ IsDiskCause c cause) → room.new ≡ room.old }
+    ensures { WritesDiskCause cause room.old room.new result }
 {
     match disk_cause_numbered(cause) {
         Some(named) => put_text(room, named.text()),
@@ -107,16 +90,7 @@ pub fn disk_cause_text(cause: u8, room: &mut [u8]) -> usize
 /// Writes the text of what is wrong with the place of a partition, or with its other fields, by its number, to the front of
 /// `room`, as far as it fits. Returns the length of the whole text, or 0 if no fault has the number.
 pub fn partition_fault_text(fault: u8, room: &mut [u8]) -> usize
-    ensures place { (f : PlaceFault) → place_fault_number f ≡ fault
-        → (result ≡ length (place_fault_text f)) × (room.new ≡ filled (place_fault_text f) room.old) }
-    ensures field { (f : FieldFault) → field_fault_number f ≡ fault
-        → (result ≡ length (field_fault_text f)) × (room.new ≡ filled (field_fault_text f) room.old) }
-
-    // If no fault has the number, nothing is written.
-    ensures none { ((f : PlaceFault) → ¬ (place_fault_number f ≡ fault)) → ((f : FieldFault) → ¬ (field_fault_number f ≡ fault))
-        → result ≡ 0 }
-    ensures unchanged { ((f : PlaceFault) → ¬ (place_fault_number f ≡ fault))
-        → ((f : FieldFault) → ¬ (field_fault_number f ≡ fault)) → room.new ≡ room.old }
+    ensures { WritesPartitionFault fault room.old room.new result }
 {
     if let Some(named) = place_fault_numbered(fault) {
         return put_text(room, named.text());

@@ -1,14 +1,8 @@
 // The partitions of a hard disk in a table.
 
-ghost use Rattle.std.specs.Prelude.{◌≡◌, ◌⊎◌, List, None, Some, length, IfOk, OnErr};
-ghost use Rattle.adf_memory.specs.DiskTables.{IsDiskRead, partition_table, table_disk};
-ghost use Rattle.adf_memory.specs.Rooms.{filled};
-ghost use Rattle.adf_memory.specs.Verdicts.{WantsMemory};
-ghost use Rattle.adf_partitions.specs.Disks.{FirstDiskFault, IsDisk};
-ghost use Rattle.adf_partitions.specs.Searches.{AreReadable, HasReadable};
-ghost use Rattle.adf_partitions.specs.declared.fault.DiskFault.{DiskFault};
-ghost use Rattle.adf_partitions.specs.declared.partition.Partition.{Partition};
-ghost use Rattle.adf_partitions.specs.declared.tables.Tables.{Tables};
+ghost use Rattle.std.specs.Prelude.{IfOk, OnErr};
+ghost use Rattle.adf_memory.specs.{DiskTables.IsDiskRead, VolumeCalls.FillsPartitions};
+ghost use Rattle.adf_partitions.specs.Searches.{HasReadable};
 
 use crate::disk_tables::{TableDisk, TablePartition, put_partitions, table_disk};
 use adf_blocks::Cause;
@@ -52,20 +46,7 @@ pub fn put_disk(
     partitions: &mut [TablePartition],
     disk: &mut TableDisk,
 ) -> u8
-    ensures number { (result ≡ 0) ⊎ WantsMemory result }
-
-    // The rows are those of the partitions that can be read, and `disk` has the first fault of the tables, if there is one.
-    ensures partitions { result ≡ 0 → (ps : List Partition) → AreReadable bytes.now blocks ps
-        → partitions.new ≡ filled (partition_table ps) partitions.old }
-    ensures whole { result ≡ 0 → (t : Tables) (ps : List Partition) → IsDisk bytes.now blocks t ps
-        → disk.new ≡ table_disk (length ps) None }
-    ensures fault { result ≡ 0 → (ps : List Partition) (f : DiskFault) → AreReadable bytes.now blocks ps
-        → FirstDiskFault bytes.now blocks f → disk.new ≡ table_disk (length ps) (Some f) }
-
-    // If memory ran out, the table is unchanged, and there is a partition that can be read.
-    ensures unchanged { WantsMemory result
-        → (partitions.new ≡ partitions.old) × (disk.new ≡ table_disk 0 None) }
-    ensures begun { WantsMemory result → HasReadable bytes.now blocks }
+    ensures { FillsPartitions bytes.now blocks partitions.old partitions.new disk.new result }
 {
     match read_disk(alloc, bytes, blocks) {
         Ok(read) => {

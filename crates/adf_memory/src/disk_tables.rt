@@ -2,8 +2,7 @@
 
 ghost use Rattle.std.specs.Prelude.{◌≡◌};
 ghost use Rattle.adf_memory.specs.DiskTables.{blocks_of, field_fault_of, first_or_zero, partition_fault, partition_row};
-ghost use Rattle.adf_memory.specs.DiskTables.{partition_table, table_disk};
-ghost use Rattle.adf_memory.specs.Rooms.{filled};
+ghost use Rattle.adf_memory.specs.{DiskTables.partition_table, DiskTables.table_disk, Rooms.filled};
 
 use crate::tables::{field, put};
 use adf_partitions::{DiskFault, FieldFault, Partition, Place, PlaceFault};

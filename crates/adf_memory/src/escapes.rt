@@ -1,8 +1,8 @@
 // The escape form of names.
 
-ghost use Rattle.std.specs.Prelude.{◌≡◌, ◌≤◌, ◌<◌, ◌+◌, ◌^◌, ◌++◌, ℕ, List, length};
-ghost use Rattle.adf_names.specs.Escapes.{escape_of, escaped};
-ghost use Rattle.adf_memory.specs.Rooms.{filled};
+ghost use Rattle.std.specs.Prelude.{◌≡◌, ◌<◌, ◌+◌, ◌^◌, ◌++◌, ℕ, List, length};
+ghost use Rattle.adf_names.specs.Escapes.{escape_of};
+ghost use Rattle.adf_memory.specs.{Rooms.filled, TextCalls.WritesEscape};
 
 use crate::tables::put;
 use adf_names::{hex_digit, is_plain};
@@ -31,12 +31,7 @@ fn put_escape(room: &mut [u8], at: usize, c: u8) -> usize
 /// Writes the escape form of a name to the front of `room`, as far as it fits. Returns the length of the whole text. A name of
 /// 2^61 bytes or more has none.
 pub fn escape_text(name: &[u8], room: &mut [u8]) -> usize
-    ensures length { length name.now < 2 ^ 61 → result ≡ length (escaped name.now) }
-    ensures text { length name.now < 2 ^ 61 → room.new ≡ filled (escaped name.now) room.old }
-
-    // For a name that is longer, nothing is written.
-    ensures none { 2 ^ 61 ≤ length name.now → result ≡ 0 }
-    ensures unchanged { 2 ^ 61 ≤ length name.now → room.new ≡ room.old }
+    ensures { WritesEscape name.now room.old room.new result }
 {
     if name.len() >= TOO_LONG {
         return 0;

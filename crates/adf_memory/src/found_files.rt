@@ -1,17 +1,13 @@
 // What is read of the files that a survey finds.
 
-ghost use Rattle.std.specs.Prelude.{◌≡◌, ◌≤◌, ◌<◌, ◌+◌, ◌*◌, ◌^◌, drop, length, map, min};
-ghost use Rattle.std.specs.Option.{unwrap_or};
-ghost use Rattle.std.specs.List.{range_with_len};
+ghost use Rattle.std.specs.Prelude.{◌≡◌, ◌≤◌, ◌<◌, ◌+◌, ◌*◌, ◌^◌, length, map, min};
+ghost use Rattle.std.specs.{Option.unwrap_or, List.range_with_len};
 ghost use Rattle.adf_blocks.specs.Sizes.{blocks as blocks_of};
 ghost use Rattle.adf_volume.specs.Image.{kind_of as kind_in, word_in};
-ghost use Rattle.adf_volume.specs.Walk.{FileAt};
-ghost use Rattle.adf_findings.specs.Files.{named_from};
-ghost use Rattle.adf_findings.specs.Remains.{own_data};
-ghost use Rattle.adf_findings.specs.Survey.{OnSurvey};
-ghost use Rattle.adf_memory.specs.FoundFiles.{file_block_count, file_size, found_blocks, found_from, found_part_table};
-ghost use Rattle.adf_memory.specs.FoundFiles.{is_data_row, lost_from, missing, named_block, named_blocks, row_data};
-ghost use Rattle.adf_memory.specs.Rooms.{filled};
+ghost use Rattle.adf_findings.specs.{Files.named_from, Remains.own_data};
+ghost use Rattle.adf_memory.specs.FoundFiles.{file_block_count, file_size, found_from};
+ghost use Rattle.adf_memory.specs.FoundFiles.{is_data_row, lost_from, missing, named_block, row_data};
+ghost use Rattle.adf_memory.specs.{Rooms.filled, SurveyCalls.FillsFound, SurveyCalls.ReadsFound};
 
 use crate::found_parts::FoundPart;
 use crate::reading::{kind_of, put_bytes};
@@ -141,14 +137,7 @@ pub fn put_found_blocks(
     header: u32,
     table: &mut [u32],
 ) -> usize
-    // If the rows are those of the image's survey, the table is that of what is left of the file.
-    ensures blocks { OnSurvey image.now (λ w fs. FileAt image.now w node header
-        → parts.now ≡ found_part_table image.now w fs
-        → table.new ≡ filled (found_blocks image.now w fs node header) table.old) }
-
-    // For any rows it is that of what the header and its extension blocks name, as far as it is the file's own.
-    ensures count { result ≡ file_block_count image.now header }
-    ensures any_blocks { table.new ≡ filled (named_blocks image.now parts.now node header) table.old }
+    ensures { FillsFound image.now parts.now node header table.old table.new result }
 {
     let count = file_block_count(image, header);
     put_named(image, parts, node, header, count, table);
@@ -209,12 +198,7 @@ pub fn read_found(
     room: &mut [u8],
     lost: &mut usize,
 ) -> usize
-    ensures within { result ≤ length room.new }
-    ensures count { result
-        ≡ min (length room.old) (length (found_from image.now header table.now offset)) }
-    ensures bytes { room.new ≡ filled (found_from image.now header table.now offset) room.old }
-    ensures behind { drop result room.new ≡ drop result room.old }
-    ensures lost { lost.new ≡ lost_from image.now header table.now (offset + result) }
+    ensures { ReadsFound image.now header table.now offset room.old room.new lost.new result }
 {
     let count = read_up_to_gap(image, header, table, offset, room);
     *lost = match offset.checked_add(count) {

@@ -1,10 +1,8 @@
 // Looking up paths among the entries that a survey finds.
 
-ghost use Rattle.std.specs.Prelude.{◌≡◌, ◌↔◌, ◌⊎◌, ℕ, List};
-ghost use Rattle.adf_names.specs.PathTexts.{IsPathText};
-ghost use Rattle.adf_findings.specs.Lookup.{LeadsTo};
-ghost use Rattle.adf_findings.specs.Survey.{OnSurvey};
-ghost use Rattle.adf_memory.specs.Verdicts.{WantsMemory};
+ghost use Rattle.std.specs.Prelude.{◌≡◌, ◌⊎◌, ℕ};
+ghost use Rattle.adf_findings.specs.{Lookup.LeadsTo, Survey.OnSurvey};
+ghost use Rattle.adf_memory.specs.{Verdicts.WantsMemory, SurveyCalls.FindsFound};
 
 use adf_blocks::Cause;
 use adf_findings::survey;
@@ -35,15 +33,7 @@ fn find_named(alloc: Global, image: &[u8], names: &[Name], node: &mut usize) -> 
 /// directory it takes the first. Returns 0 and writes the entry's number to `node` if it is there, 1 if there is no such
 /// entry, 2 if the text is not a path, and the number of `NoMemory` if memory ran out.
 pub fn find_found(alloc: Global, image: &[u8], path: &[u8], node: &mut usize) -> u8
-    ensures number { (result ≡ 0) ⊎ (result ≡ 1) ⊎ (result ≡ 2) ⊎ WantsMemory result }
-
-    // It is the entry of the image's one survey that the path leads to.
-    ensures found { result ≡ 0 → OnSurvey image.now (λ w _. (names : List (List ℕ)) → IsPathText path.now names
-        → LeadsTo image.now w 0 names node.new) }
-    ensures none { result ≡ 1 → OnSurvey image.now (λ w _. (names : List (List ℕ)) → IsPathText path.now names
-        → (n : ℕ) → LeadsTo image.now w 0 names n → ⊥) }
-    ensures bad_path { (result ≡ 2) ↔ ((names : List (List ℕ)) → ¬ IsPathText path.now names) }
-    ensures unchanged { ¬ (result ≡ 0) → node.new ≡ node.old }
+    ensures { FindsFound image.now path.now node.old node.new result }
 {
     match read_path(alloc, path) {
         Ok(names) => find_named(alloc, image, &names, node),

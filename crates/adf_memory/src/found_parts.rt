@@ -1,10 +1,8 @@
 // The table of the parts that a survey has at blocks.
 
-ghost use Rattle.std.specs.Prelude.{◌≡◌, ◌≢◌, ◌⊎◌};
+ghost use Rattle.std.specs.Prelude.{◌≡◌};
 ghost use Rattle.adf_findings.specs.Survey.{OnSurvey};
-ghost use Rattle.adf_memory.specs.FoundFiles.{part_at, found_part_table};
-ghost use Rattle.adf_memory.specs.Rooms.{filled};
-ghost use Rattle.adf_memory.specs.Verdicts.{WantsMemory};
+ghost use Rattle.adf_memory.specs.{FoundFiles.part_at, FoundFiles.found_part_table, Rooms.filled, SurveyCalls.FillsParts};
 
 use crate::found_tables::owner_number;
 use crate::tables::put;
@@ -47,13 +45,7 @@ fn put_parts(survey: &Survey<'_>, room: &mut [FoundPart])
 /// Surveys an image and fills a table with a row for each of its blocks, as far as it has room; with none if nothing of the
 /// image is taken. Returns 0, or the number of `NoMemory` if memory ran out.
 pub fn put_found_parts(alloc: Global, image: &[u8], parts: &mut [FoundPart]) -> u8
-    ensures number { (result ≡ 0) ⊎ WantsMemory result }
-
-    // The table is that of the image's one survey.
-    ensures parts { result ≡ 0 → OnSurvey image.now (λ w fs. parts.new ≡ filled (found_part_table image.now w fs) parts.old) }
-
-    // If memory ran out, the table is unchanged.
-    ensures unchanged { WantsMemory result → parts.new ≡ parts.old }
+    ensures { FillsParts image.now parts.old parts.new result }
 {
     match survey(alloc, image) {
         Ok(found) => {

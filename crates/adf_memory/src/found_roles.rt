@@ -1,13 +1,12 @@
 // The roles of blocks by what a survey finds.
 
-ghost use Rattle.std.specs.Prelude.{◌≡◌, ◌≢◌, ◌≤◌, ◌<◌, ◌⊎◌, ◌↔◌, ℕ, [], IsTrue, None, Some, cond, length, nat_lt, slice_index};
+ghost use Rattle.std.specs.Prelude.{◌≡◌, ◌≢◌, ◌≤◌, ◌<◌, ◌↔◌, ℕ, [], IsTrue, None, Some, cond, length, nat_lt, slice_index};
 ghost use Rattle.adf_blocks.specs.Sizes.{blocks};
 ghost use Rattle.adf_walk.specs.declared.owner_class.OwnerClass.TheVariants as class;
 ghost use Rattle.adf_volume.specs.Walk.{Has, Role, heads, node_block, Role.Root};
-ghost use Rattle.adf_findings.specs.Members.{role_entry};
-ghost use Rattle.adf_findings.specs.Survey.{OnSurvey};
+ghost use Rattle.adf_findings.specs.{Members.role_entry, Survey.OnSurvey};
 ghost use Rattle.adf_memory.specs.FoundRoles.{IsFoundClass, IsFoundRole, role_class};
-ghost use Rattle.adf_memory.specs.Verdicts.{WantsMemory};
+ghost use Rattle.adf_memory.specs.SurveyCalls.{TellsFoundRoles};
 
 use adf_blocks::Cause;
 use adf_check::OwnerClass;
@@ -116,17 +115,7 @@ fn put_found_roles(survey: &Survey<'_>, roles: &mut [u8])
 /// Surveys an image and writes the role of each block by the part that has it, one byte for each block, as far as `roles` has
 /// room; nothing if nothing of the image is taken. Returns 0, or the number of `NoMemory` if memory ran out.
 pub fn survey_owners(alloc: Global, image: &[u8], roles: &mut [u8]) -> u8
-    ensures number { (result ≡ 0) ⊎ WantsMemory result }
-
-    // The roles are those of the parts of the image's one survey.
-    ensures roles { result ≡ 0 → OnSurvey image.now (λ w _. w ≢ [] → (b : ℕ) → b < length roles.new
-        → b < blocks image.now → IsFoundRole w b (slice_index roles.new b)) }
-    ensures none { result ≡ 0 → OnSurvey image.now (λ w _. w ≡ [] → roles.new ≡ roles.old) }
-    ensures behind { (b : ℕ) → blocks image.now ≤ b
-        → slice_index roles.new b ≡ slice_index roles.old b }
-
-    // If memory ran out, nothing is written.
-    ensures unchanged { WantsMemory result → roles.new ≡ roles.old }
+    ensures { TellsFoundRoles image.now roles.old roles.new result }
 {
     match survey(alloc, image) {
         Ok(found) => {

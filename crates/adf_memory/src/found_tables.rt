@@ -1,14 +1,12 @@
 // The tables of a survey, and how they are filled.
 
 ghost use Rattle.std.specs.Prelude.{◌≡◌, ◌≤◌, ◌++◌, ◌∷◌, ℕ, Bool, Option, Some, length};
-ghost use Rattle.adf_findings.specs.SoundMarks.{AreMarks};
-ghost use Rattle.adf_findings.specs.Survey.{OnSurvey};
+ghost use Rattle.adf_findings.specs.{SoundMarks.AreMarks, Survey.OnSurvey};
 ghost use Rattle.adf_volume.specs.Walk.{heads};
 ghost use Rattle.adf_survey_cmd.specs.Lines.{runs};
 ghost use Rattle.adf_memory.specs.FoundTables.{body_number, body_size, concern_node, entry_row, finding_row, finding_table};
 ghost use Rattle.adf_memory.specs.FoundTables.{found_entry, found_table, within_number, mark_number, entry_number, surveyed_of};
-ghost use Rattle.adf_memory.specs.FoundTables.{unread};
-ghost use Rattle.adf_memory.specs.Rooms.{filled};
+ghost use Rattle.adf_memory.specs.{FoundTables.unread, Rooms.filled};
 
 use crate::tables::{Date, date_of, field, put};
 use adf_base::Letters;

@@ -1,20 +1,13 @@
 // The laws of the files that a survey finds. Each is the contract of a function that does nothing.
 
 ghost use Rattle.std.specs.Prelude.{◌≡◌, ◌≤◌, ◌+◌, ℕ, List, [], drop};
-ghost use Rattle.adf_tree.specs.declared.entry.Body.TheVariants.{File};
-ghost use Rattle.adf_tree.specs.declared.entry.Entry.{Entry};
-ghost use Rattle.adf_tree.specs.Tree.{Tree};
-ghost use Rattle.adf_volume.specs.Fits.{Fits};
+ghost use Rattle.adf_tree.specs.{declared.entry.Body.TheVariants.File, declared.entry.Entry.Entry, Tree.Tree};
+ghost use Rattle.adf_volume.specs.{Fits.Fits, Lists.In, Walk.FileAt, Walk.Walk};
 ghost use Rattle.adf_volume.specs.Layout.{EntryAt, Layout, at_node, datas_of};
-ghost use Rattle.adf_volume.specs.Lists.{In};
-ghost use Rattle.adf_volume.specs.Walk.{FileAt, Walk};
-ghost use Rattle.adf_findings.specs.declared.remains.Gap.{Gap};
-ghost use Rattle.adf_findings.specs.Survey.{FindingValue, IsSurvey};
+ghost use Rattle.adf_findings.specs.{declared.remains.Gap.Gap, Survey.FindingValue, Survey.IsSurvey};
 ghost use Rattle.adf_memory.specs.FoundFiles.{found_blocks, found_from, lost_from};
 ghost use Rattle.adf_memory.specs.FoundGaps.{IsInGap, gaps_in, left_in, up_to_gap};
-ghost use Rattle.adf_memory.specs.FoundRoles.{IsFoundRole};
-ghost use Rattle.adf_memory.specs.OwnerNumbers.{IsOwnerNumber};
-ghost use Rattle.adf_memory.specs.Tables.{bytes_at};
+ghost use Rattle.adf_memory.specs.{FoundRoles.IsFoundRole, OwnerNumbers.IsOwnerNumber, Tables.bytes_at};
 
 /// A file that is read by the table of a survey is what is left of it. From a place in no gap on, the bytes up to
 /// the next gap are read. From a place in a gap on, nothing is read, and all up to the end of the gap is lost.

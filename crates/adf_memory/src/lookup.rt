@@ -1,20 +1,15 @@
 // Looking up paths in the table of entries.
 
-ghost use Rattle.std.specs.Prelude.{◌≡◌, ◌≤◌, ◌<◌, ◌↔◌, ◌⊎◌, ℕ, List, [], Some, None, IfSome, length, nat_le, nat_lt};
+ghost use Rattle.std.specs.Prelude.{◌≡◌, ◌≤◌, ◌<◌, List, IfSome, length, nat_le, nat_lt};
 ghost use Rattle.std.specs.List.Sorted.{IsNonDecreasingBy};
-ghost use Rattle.adf_tree.specs.declared.entry.Entry.{Entry};
-ghost use Rattle.adf_names.specs.PathTexts.{IsPathText};
-ghost use Rattle.adf_names.specs.VolumeTypes.{letters_of_type};
-ghost use Rattle.adf_tree.specs.Tree.{Tree, child_by, find, find_by, rank_of};
+ghost use Rattle.adf_tree.specs.{declared.entry.Entry.Entry, Tree.child_by, Tree.find_by, Tree.rank_of};
 ghost use Rattle.adf_blocks.specs.declared.layout.TheConstants.{SLOTS};
-ghost use Rattle.adf_memory.specs.Tables.{IsTableOf, IsTableOfBy};
 ghost use Rattle.adf_memory.specs.TableNames.{HasNamesOfBy, IsEndBy, IsStartBy, is_child_in_by, name_in, rank_in_by};
-ghost use Rattle.adf_memory.specs.Verdicts.{WantsMemory};
+ghost use Rattle.adf_memory.specs.CheckCalls.{FindsEntry};
 
 use crate::tables::TableEntry;
 use adf_base::{Letters, slot_by};
 use adf_blocks::Cause;
-use adf_names::letters_of_type;
 use adf_tree::{Name, PathFault, read_path};
 use std::alloc::Global;
 
@@ -106,25 +101,17 @@ fn find(letters: Letters, entries: &[TableEntry], path: &[Name]) -> Option<usize
     Some(node)
 }
 
-// Looks up a path in the table of a volume's entries whose names have these letters, as `find_entry` does.
-fn find_entry_by(
+/// Looks up a path, in escape form, in the table of a volume's entries, by the letters of their names. Returns 0 and writes the
+/// entry's number to `node` if it is there, 1 if there is no such entry, 2 if the text is not a path, and the number of
+/// `NoMemory` if memory ran out.
+pub fn find_entry(
     alloc: Global,
     letters: Letters,
     entries: &[TableEntry],
     path: &[u8],
     node: &mut usize,
 ) -> u8
-    ensures number { (result ≡ 0) ⊎ (result ≡ 1) ⊎ (result ≡ 2) ⊎ WantsMemory result }
-    ensures inside { result ≡ 0 → node.new ≤ length entries.now }
-    ensures unchanged { ¬ (result ≡ 0) → node.new ≡ node.old }
-    ensures found { result ≡ 0 → (t : Tree) (names : List (List ℕ))
-        → IsTableOfBy letters entries.now t → IsPathText path.now names
-        → find_by letters t.entries names ≡ Some node.new }
-    ensures none { result ≡ 1 → (t : Tree) (names : List (List ℕ))
-        → IsTableOfBy letters entries.now t → IsPathText path.now names
-        → find_by letters t.entries names ≡ None }
-    ensures bad_path { (result ≡ 2) ↔ ((names : List (List ℕ)) → ¬ IsPathText path.now names) }
-    ensures empty { path.now ≡ [] → ¬ WantsMemory result }
+    ensures { FindsEntry letters entries.now path.now node.old node.new result }
 {
     match read_path(alloc, path) {
         Ok(names) => match find(letters, entries, &names) {
@@ -137,56 +124,4 @@ fn find_entry_by(
         Err(PathFault::BadText) => 2,
         Err(PathFault::NoMemory) => Cause::NoMemory.number(),
     }
-}
-
-/// Looks up a path, in escape form, in the table of a volume's entries. Returns 0 and writes the entry's number to `node` if it
-/// is there, 1 if there is no such entry, 2 if the text is not a path, and the number of `NoMemory` if memory ran out.
-pub fn find_entry(alloc: Global, entries: &[TableEntry], path: &[u8], node: &mut usize) -> u8
-    // For any table the result is one of these, and the node is the root or one of the entries.
-    ensures number { (result ≡ 0) ⊎ (result ≡ 1) ⊎ (result ≡ 2) ⊎ WantsMemory result }
-    ensures inside { result ≡ 0 → node.new ≤ length entries.now }
-    ensures unchanged { ¬ (result ≡ 0) → node.new ≡ node.old }
-
-    // In the table of a volume it is the node that the path leads to.
-    ensures found { result ≡ 0 → (t : Tree) (names : List (List ℕ))
-        → IsTableOf entries.now t → IsPathText path.now names
-        → find t.entries names ≡ Some node.new }
-    ensures none { result ≡ 1 → (t : Tree) (names : List (List ℕ))
-        → IsTableOf entries.now t → IsPathText path.now names
-        → find t.entries names ≡ None }
-    ensures bad_path { (result ≡ 2) ↔ ((names : List (List ℕ)) → ¬ IsPathText path.now names) }
-
-    // The empty path, which is that of the root, takes no memory.
-    ensures empty { path.now ≡ [] → ¬ WantsMemory result }
-{
-    find_entry_by(alloc, Letters::Ascii, entries, path, node)
-}
-
-/// Looks up a path, in escape form, in the table of entries of a volume of this kind, 0 to 3, by the letters of the kind: ASCII
-/// below 2, otherwise international. Returns what `find_entry` does.
-pub fn find_entry_types(
-    alloc: Global,
-    kind: u32,
-    entries: &[TableEntry],
-    path: &[u8],
-    node: &mut usize,
-) -> u8
-    // For any table the result is one of these, and the node is the root or one of the entries.
-    ensures number { (result ≡ 0) ⊎ (result ≡ 1) ⊎ (result ≡ 2) ⊎ WantsMemory result }
-    ensures inside { result ≡ 0 → node.new ≤ length entries.now }
-    ensures unchanged { ¬ (result ≡ 0) → node.new ≡ node.old }
-
-    // In the table of a volume it is the node that the path leads to.
-    ensures found { result ≡ 0 → (t : Tree) (names : List (List ℕ))
-        → IsTableOfBy (letters_of_type kind) entries.now t → IsPathText path.now names
-        → find_by (letters_of_type kind) t.entries names ≡ Some node.new }
-    ensures none { result ≡ 1 → (t : Tree) (names : List (List ℕ))
-        → IsTableOfBy (letters_of_type kind) entries.now t → IsPathText path.now names
-        → find_by (letters_of_type kind) t.entries names ≡ None }
-    ensures bad_path { (result ≡ 2) ↔ ((names : List (List ℕ)) → ¬ IsPathText path.now names) }
-
-    // The empty path, which is that of the root, takes no memory.
-    ensures empty { path.now ≡ [] → ¬ WantsMemory result }
-{
-    find_entry_by(alloc, letters_of_type(kind), entries, path, node)
 }

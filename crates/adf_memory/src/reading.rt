@@ -2,14 +2,8 @@
 
 ghost use Rattle.std.specs.Prelude.{◌≡◌, ◌≤◌, ◌<◌, ◌+◌, ◌-◌, ◌^◌, ◌++◌, ℕ, List, [], IfSome, IfNone, length, min, take, drop};
 ghost use Rattle.adf_base.specs.Words.{block};
-ghost use Rattle.adf_base.specs.declared.hash.Letters.{Letters};
-ghost use Rattle.adf_tree.specs.Tree.{Tree};
-ghost use Rattle.adf_volume.specs.Fits.{FitsBy};
 ghost use Rattle.adf_volume.specs.Image.{area, kind_of};
-ghost use Rattle.adf_volume.specs.Layout.{Layout};
-ghost use Rattle.adf_memory.specs.Rooms.{filled};
-ghost use Rattle.adf_memory.specs.Tables.{block_table, bytes_at, entry_table};
-ghost use Rattle.adf_memory.specs.Areas.{bytes_from, file_bytes_from, node_from};
+ghost use Rattle.adf_memory.specs.{Rooms.filled, Areas.bytes_from, Areas.file_bytes_from, Areas.node_from, CheckCalls.ReadsFile};
 
 use crate::tables::TableEntry;
 use adf_base::{BLOCK_LEN, Block};
@@ -148,22 +142,7 @@ pub fn read_bytes(
     offset: usize,
     room: &mut [u8],
 ) -> usize
-    ensures within { result ≤ length room.new }
-
-    // If the tables are those of the image's volume, by any letters, the bytes are those of the file.
-    ensures count { (letters : Letters) (t : Tree) (l : Layout) → FitsBy letters image.now t l
-        → entries.now ≡ entry_table t l → blocks.now ≡ block_table l
-        → result ≡ min (length room.old) (length (drop offset (bytes_at t node))) }
-    ensures bytes { (letters : Letters) (t : Tree) (l : Layout) → FitsBy letters image.now t l
-        → entries.now ≡ entry_table t l → blocks.now ≡ block_table l
-        → room.new ≡ filled (drop offset (bytes_at t node)) room.old }
-
-    // For any tables they are what the blocks hold that the tables name, up to the first that the image does not have.
-    ensures any_count { result ≡ min (length room.old)
-        (length (node_from image.now entries.now blocks.now node offset)) }
-    ensures any_bytes { room.new
-        ≡ filled (node_from image.now entries.now blocks.now node offset) room.old }
-    ensures behind { drop result room.new ≡ drop result room.old }
+    ensures { ReadsFile image.now entries.now blocks.now node offset room.old room.new result }
 {
     read_node(image, entries, blocks, node, offset, room)
 }

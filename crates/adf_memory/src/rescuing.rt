@@ -1,11 +1,12 @@
 // Rescues into the memory of the caller.
 
-ghost use Rattle.std.specs.Prelude.{◌≡◌, ◌≤◌, ◌*◌, ◌<◌, List, ℕ, IfErr, IfOk, OnErr, OnOk, length};
+ghost use Rattle.std.specs.Prelude.{◌≡◌, ◌≤◌, ◌*◌, ◌<◌, List, ℕ, Err, IfErr, IfOk, Ok, OnErr, OnOk, length};
 ghost use Rattle.adf_boot_blocks.specs.declared.boot.TheConstants.{BOOT_LEN};
-ghost use Rattle.adf_survey_cmd.specs.Subject.{subject, subject_value};
-ghost use Rattle.adf_memory.specs.Rescuing.{ExplainsRescue, HasRescue, IsPutOut, IsRoomRefusal, IsVolumeOf, Readies, RescueOf};
+ghost use Rattle.adf_volume.specs.declared.types.Types.TheVariants.{Plain, WithInternational};
+ghost use Rattle.adf_survey_cmd.specs.{Answers.RescuesTyped, Subject.subject, Subject.subject_value};
+ghost use Rattle.adf_memory.specs.Rescuing.{ExplainsRescue, HasRescue, IsPutOut, IsRoomRefusal, IsVolumeOf, Readies};
 ghost use Rattle.adf_memory.specs.Rescuing.{asked_blocks, rescue_number, rescue_told, unrescued_refusal};
-ghost use Rattle.adf_memory.specs.Rooms.{filled};
+ghost use Rattle.adf_memory.specs.{Rooms.filled, SurveyCalls.RescuesVolume};
 ghost use Rattle.adf_memory.specs.declared.rescuing.RescueRefusal.{RescueRefusal as ARescueRefusal};
 
 use crate::losses::{TableLoss, table_of};
@@ -92,23 +93,32 @@ pub fn asked_blocks(blocks: u32) -> Option<u32>
 }
 
 // Prepares the rescue of what is surveyed of an input, once its image has the type that its files say.
-fn ready_subject(alloc: Global, mut subject: Subject) -> Result<Ready, Unrescued>
-    ensures { Readies (RescueOf (subject_value subject)) result }
+fn ready_subject(alloc: Global, mut subject: Subject, types: Types) -> Result<Ready, Unrescued>
+    ensures { Readies (RescuesTyped types (subject_value subject)) result }
 {
     let boot = subject.boot(alloc)?;
     subject.be_typed(alloc)?;
-    match prepare(alloc, subject, Types::Plain) {
+    match prepare(alloc, subject, types) {
         Ok(prepared) => Ok(Ready { prepared, boot }),
         Err(unrescued) => Err(unrescued),
     }
 }
 
-// Prepares the rescue of an image as it is, or as if it had so many blocks.
-fn ready_image(alloc: Global, image: &[u8], blocks: u32) -> Result<Ready, Unrescued>
-    ensures { Readies (RescueOf (subject (asked_blocks blocks) image.now)) result }
+// An image that is rescued as it is, or if `blocks` is not 0, as if it had so many blocks; and the types that the new volume may
+// have.
+#[derive(Clone, Copy)]
+struct RescueInput<'a> {
+    image: &'a [u8],
+    blocks: u32,
+    types: Types,
+}
+
+// Prepares the rescue of an image.
+fn ready_image(alloc: Global, input: RescueInput<'_>) -> Result<Ready, Unrescued>
+    ensures { Readies (RescuesTyped input.entry.types (subject (asked_blocks input.entry.blocks) input.entry.image.now)) result }
 {
-    let subject = Subject::of(alloc, image, asked_blocks(blocks))?;
-    ready_subject(alloc, subject)
+    let subject = Subject::of(alloc, input.image, asked_blocks(input.blocks))?;
+    ready_subject(alloc, subject, input.types)
 }
 
 // The refusal of a rescue that gives no volume.
@@ -230,13 +240,6 @@ fn put_rescue(
     })
 }
 
-// An image that is rescued as it is, or if `blocks` is not 0, as if it had so many blocks.
-#[derive(Clone, Copy)]
-struct RescueInput<'a> {
-    image: &'a [u8],
-    blocks: u32,
-}
-
 // Rescues an image into the rooms.
 fn rescue_into(
     alloc: Global,
@@ -246,16 +249,34 @@ fn rescue_into(
     paths: &mut [u8],
 ) -> Result<RescueTold, RescueRefusal>
     ensures volume { IfOk result (HasRescue
-        (RescueOf (subject (asked_blocks input.entry.blocks) input.entry.image.now))
+        (RescuesTyped input.entry.types (subject (asked_blocks input.entry.blocks) input.entry.image.now))
         room.old room.new losses.old losses.new paths.old paths.new) }
     ensures fault { IfErr result (ExplainsRescue
-        (RescueOf (subject (asked_blocks input.entry.blocks) input.entry.image.now)) (length room.old)) }
+        (RescuesTyped input.entry.types (subject (asked_blocks input.entry.blocks) input.entry.image.now)) (length room.old)) }
     ensures unchanged { OnErr result
         ((room.new ≡ room.old) × (losses.new ≡ losses.old) × (paths.new ≡ paths.old)) }
 {
-    match ready_image(alloc, input.image, input.blocks) {
+    match ready_image(alloc, input) {
         Ok(ready) => put_rescue(alloc, ready, room, losses, paths),
         Err(unrescued) => Err(refusal_of(unrescued)),
+    }
+}
+
+// Tells of a rescue, and answers its number.
+fn tell(rescued: Result<RescueTold, RescueRefusal>, told: &mut RescueTold) -> u8
+    ensures done { result ≡ 0 → rescued ≡ Ok told.new }
+    ensures refused { ¬ (result ≡ 0)
+        → (r : ARescueRefusal) × (result ≡ rescue_number r) × (told.new ≡ rescue_told r) × (rescued ≡ Err r) }
+{
+    match rescued {
+        Ok(rescue) => {
+            *told = rescue;
+            0
+        }
+        Err(refusal) => {
+            *told = refusal.told();
+            refusal.number()
+        }
     }
 }
 
@@ -272,25 +293,36 @@ pub fn rescue_volume(
     paths: &mut [u8],
     told: &mut RescueTold,
 ) -> u8
-    // At 0 the room begins with the volume that the rescue gives, and the tables have what is not in it, or in doubt there.
-    ensures volume { result ≡ 0 → HasRescue (RescueOf (subject (asked_blocks blocks) image.now))
-        room.old room.new losses.old losses.new paths.old paths.new told.new }
-
-    // Any other number is that of a refusal, and nothing is written.
-    ensures refused { ¬ (result ≡ 0)
-        → (r : ARescueRefusal) × (result ≡ rescue_number r) × (told.new ≡ rescue_told r)
-        × ExplainsRescue (RescueOf (subject (asked_blocks blocks) image.now)) (length room.old) r }
-    ensures unchanged { ¬ (result ≡ 0)
-        → (room.new ≡ room.old) × (losses.new ≡ losses.old) × (paths.new ≡ paths.old) }
+    ensures { RescuesVolume Plain image.now blocks room.old room.new losses.old losses.new paths.old paths.new told.new result }
 {
-    match rescue_into(alloc, RescueInput { image, blocks }, room, losses, paths) {
-        Ok(rescued) => {
-            *told = rescued;
-            0
-        }
-        Err(refusal) => {
-            *told = refusal.told();
-            refusal.number()
-        }
-    }
+    let types = Types::Plain;
+    let input = RescueInput {
+        image,
+        blocks,
+        types,
+    };
+    tell(rescue_into(alloc, input, room, losses, paths), told)
+}
+
+/// The same, with the letters of the image: of one of type 2 or 4 the new volume is of type 2, of one of type 3 or 5 of type 3, and
+/// its names are compared by international letters.
+pub fn rescue_volume_types(
+    alloc: Global,
+    image: &[u8],
+    blocks: u32,
+    room: &mut [u8],
+    losses: &mut [TableLoss],
+    paths: &mut [u8],
+    told: &mut RescueTold,
+) -> u8
+    ensures { RescuesVolume WithInternational image.now blocks room.old room.new losses.old losses.new paths.old paths.new
+        told.new result }
+{
+    let types = Types::WithInternational;
+    let input = RescueInput {
+        image,
+        blocks,
+        types,
+    };
+    tell(rescue_into(alloc, input, room, losses, paths), told)
 }

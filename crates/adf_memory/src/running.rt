@@ -1,10 +1,8 @@
 // Programs over memory.
 
 ghost use Rattle.std.specs.Prelude.{◌≡◌, false};
-ghost use Rattle.adf_runs.specs.Commands.{IsUnanswered, IsConsumed, RunEnds};
-ghost use Rattle.adf_runs.specs.Streams.{at_hand, seen};
-ghost use Rattle.adf_memory.specs.Rooms.{StandIn, room_seen};
-ghost use Rattle.adf_memory.specs.Words.{in_memory};
+ghost use Rattle.adf_runs.specs.{Commands.IsUnanswered, Commands.IsConsumed, Commands.RunEnds, Streams.at_hand, Streams.seen};
+ghost use Rattle.adf_memory.specs.{Words.in_memory, Words.RunsInMemory};
 
 use crate::memory::{CallerMemory, Moved};
 use crate::words::words_in;
@@ -44,14 +42,7 @@ pub fn run_in_memory<P: Program>(
     errors: &mut [u8],
     moved: &mut Moved,
 ) -> u8
-    ensures ends { RunEnds (in_memory P.command) words.now (at_hand input.now) result
-        (room_seen moved.new.output moved.new.output_full output.new)
-        (room_seen moved.new.errors moved.new.errors_full errors.new) }
-    ensures untouched { IsUnanswered (in_memory P.command) words.now
-        → (moved.new.output ≡ 0) × (output.new ≡ output.old) }
-    ensures consumed { IsConsumed (in_memory P.command) words.now input.now result moved.new.input }
-    ensures output { StandIn moved.new.output moved.new.output_full output.new }
-    ensures errors { StandIn moved.new.errors moved.new.errors_full errors.new }
+    ensures { RunsInMemory P.command words.now input.now output.old output.new errors.new moved.new result }
 {
     let most_output = output.len();
     let most_errors = errors.len();

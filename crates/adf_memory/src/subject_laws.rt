@@ -5,12 +5,10 @@ ghost use Rattle.adf_blocks.specs.Sizes.{blocks};
 ghost use Rattle.adf_names.specs.PathTexts.{IsPathText};
 ghost use Rattle.adf_rescue.specs.Opened.{states_type};
 ghost use Rattle.adf_runs.specs.Commands.{Reply};
-ghost use Rattle.adf_file_words.specs.SurveyLine.{asked, cat, list, report};
+ghost use Rattle.adf_survey_cmd.specs.CommandLine.{asked, cat, list, report};
 ghost use Rattle.adf_survey_cmd.specs.Answers.{CopiesFromSurvey, ListsSurvey, SurveyAnswer, Surveys};
-ghost use Rattle.adf_survey_cmd.specs.Hints.{Hinted};
-ghost use Rattle.adf_survey_cmd.specs.Subject.{meant, subject};
-ghost use Rattle.adf_memory.specs.Rescuing.{asked_blocks};
-ghost use Rattle.adf_memory.specs.Subjects.{HasSubject, subject_in};
+ghost use Rattle.adf_survey_cmd.specs.{Hints.Hinted, Subject.meant, Subject.subject};
+ghost use Rattle.adf_memory.specs.{Rescuing.asked_blocks, Subjects.HasSubject, Subjects.subject_in};
 ghost use Rattle.adf_memory.specs.declared.subjects.SubjectTold.{SubjectTold};
 
 /// `adf-survey` answers by the survey of what `put_subject` writes to the room: its lines are those of what is told, and of the

@@ -1,11 +1,10 @@
 // The image that is surveyed in place of an image, in the memory of the caller.
 
-ghost use Rattle.std.specs.Prelude.{◌≡◌, ◌≤◌, ◌<◌, ◌⊎◌, IfOk, OnErr, OnOk, length};
+ghost use Rattle.std.specs.Prelude.{◌≡◌, ◌≤◌, ◌<◌, IfOk, OnErr, OnOk, length};
 ghost use Rattle.adf_rescue.specs.Opened.{lacks_boot};
 ghost use Rattle.adf_survey_cmd.specs.Subject.{begun_subject, meant, subject, subject_value};
-ghost use Rattle.adf_memory.specs.Rescuing.{asked_blocks};
+ghost use Rattle.adf_memory.specs.{Rescuing.asked_blocks, SurveyCalls.PutsSubject};
 ghost use Rattle.adf_memory.specs.Subjects.{HasSubject, IsRetyped, untold};
-ghost use Rattle.adf_memory.specs.Verdicts.{WantsMemory};
 
 use crate::found_tables::mark_number;
 use crate::rescuing::{asked_blocks, put_bytes};
@@ -128,17 +127,7 @@ pub fn put_subject(
     room: &mut [u8],
     told: &mut SubjectTold,
 ) -> u8
-    ensures number { (result ≡ 0) ⊎ (result ≡ 24) ⊎ WantsMemory result }
-    ensures subject { result ≡ 0 → HasSubject (subject (asked_blocks blocks) image.now) room.old room.new told.new }
-
-    // A room is refused if and only if it is smaller than the image that is meant, whose bytes are told.
-    ensures small { result ≡ 24 → length room.old < length (meant (asked_blocks blocks) image.now) }
-    ensures wide { length room.old < length (meant (asked_blocks blocks) image.now) → result ≡ 24 }
-    ensures bytes { result ≡ 24 → told.new ≡ untold (length (meant (asked_blocks blocks) image.now)) }
-
-    // If it is refused, or memory ran out, nothing is written.
-    ensures memory { WantsMemory result → told.new ≡ untold 0 }
-    ensures unchanged { ¬ (result ≡ 0) → room.new ≡ room.old }
+    ensures { PutsSubject image.now blocks room.old room.new told.new result }
 {
     let length = meant_len(image, blocks);
     if room.len() < length {

@@ -1,11 +1,6 @@
 // The tables of a survey of an image.
 
-ghost use Rattle.std.specs.Prelude.{◌≡◌, ◌⊎◌, ℕ, Bool};
-ghost use Rattle.adf_findings.specs.SoundMarks.{AreMarks};
-ghost use Rattle.adf_findings.specs.Survey.{OnSurvey};
-ghost use Rattle.adf_memory.specs.FoundTables.{finding_table, found_table, surveyed_of, unread};
-ghost use Rattle.adf_memory.specs.Rooms.{filled};
-ghost use Rattle.adf_memory.specs.Verdicts.{WantsMemory};
+ghost use Rattle.adf_memory.specs.SurveyCalls.{FillsSurvey};
 
 use crate::found_tables::{
     FoundEntry, Surveyed, TableFinding, put_findings, put_found, surveyed_of, unread,
@@ -23,19 +18,7 @@ pub fn put_survey(
     entries: &mut [FoundEntry],
     surveyed: &mut Surveyed,
 ) -> u8
-    ensures number { (result ≡ 0) ⊎ WantsMemory result }
-
-    // The tables are those of the image's one survey.
-    ensures findings { result ≡ 0 → OnSurvey image.now (λ w fs.
-        findings.new ≡ filled (finding_table w fs) findings.old) }
-    ensures entries { result ≡ 0 → OnSurvey image.now (λ w fs.
-        (sound : ℕ → Bool) → AreMarks image.now w fs sound
-        → entries.new ≡ filled (found_table image.now w sound) entries.old) }
-    ensures surveyed { result ≡ 0 → OnSurvey image.now (λ w fs. surveyed.new ≡ surveyed_of image.now w fs) }
-
-    // If memory ran out, the tables are unchanged.
-    ensures unchanged { WantsMemory result
-        → (findings.new ≡ findings.old) × (entries.new ≡ entries.old) × (surveyed.new ≡ unread 0) }
+    ensures { FillsSurvey image.now findings.old findings.new entries.old entries.new surveyed.new result }
 {
     match survey(alloc, image) {
         Ok(found) => {

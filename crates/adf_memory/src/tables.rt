@@ -2,17 +2,12 @@
 
 ghost use Rattle.std.specs.Prelude.{◌≡◌, ◌<◌, ◌≤◌, ◌+◌, ◌++◌, ◌∷◌, [], ◌^◌, ℕ, List, length};
 ghost use Rattle.adf_base.specs.declared.hash.Letters.{Letters};
-ghost use Rattle.adf_tree.specs.declared.entry.Body.{Body};
-ghost use Rattle.adf_tree.specs.declared.entry.Entry.{Entry};
-ghost use Rattle.adf_tree.specs.Tree.{Tree, entry};
-ghost use Rattle.adf_volume.specs.Image.{letters_of};
+ghost use Rattle.adf_tree.specs.{declared.entry.Body.Body, declared.entry.Entry.Entry, Tree.Tree, Tree.entry};
+ghost use Rattle.adf_volume.specs.{Image.letters_of, Rows.row_of_body, Rows.row_of_entry, Fits.FitsBy, Counts.counts_of};
 ghost use Rattle.adf_volume.specs.Layout.{Layout, at_node, owned};
-ghost use Rattle.adf_volume.specs.Rows.{row_of_body, row_of_entry};
-ghost use Rattle.adf_check.specs.Volumes.{StandsForBy};
-ghost use Rattle.adf_volume.specs.Counts.{counts_of};
-ghost use Rattle.adf_memory.specs.Rooms.{filled};
+ghost use Rattle.adf_check.specs.Volumes.{OnVolume};
+ghost use Rattle.adf_memory.specs.{Rooms.filled, Tables.refused_at, Tables.table_entry};
 ghost use Rattle.adf_memory.specs.Tables.{block_table, bytes_of_body, contents_of, date_of, entry_table, field, file_number};
-ghost use Rattle.adf_memory.specs.Tables.{refused_at, table_entry};
 
 use adf_base::Stamp;
 use adf_check::{Checked, Counts, Row, RowBody};
@@ -60,7 +55,7 @@ pub struct TableEntry {
 #[repr(C)]
 #[derive(Clone, Copy)]
 pub struct Contents {
-    /// 0 for OFS, 1 for FFS; of `put_index_types` 2 more where the letters are international.
+    /// The number of the type: 0 or 2 for OFS, 1 or 3 for FFS.
     pub kind: u32,
     /// All blocks, including the two boot blocks.
     pub blocks: u32,
@@ -150,15 +145,11 @@ fn entry_of(row: &Row, header: u32, first: u32) -> TableEntry
 
 // The entry with a number, before whose data blocks there are so many others.
 fn table_entry(volume: &Checked<'_>, node: Node, first: u32) -> TableEntry
-    requires few { (letters : Letters) (t : Tree) (l : Layout) → StandsForBy letters volume.now t l
-        → length (owned volume.now.image l) < 2 ^ 32 }
-    requires stands { (t : Tree) × (l : Layout)
-        × StandsForBy (letters_of volume.now.image) volume.now t l }
-    requires some { (letters : Letters) (t : Tree) (l : Layout) → StandsForBy letters volume.now t l
-        → (0 < node) × (node ≤ length t.entries) }
-    ensures { (letters : Letters) (t : Tree) (l : Layout) (e : Entry)
-        → StandsForBy letters volume.now t l → entry t.entries node ≡ Some e
-        → result ≡ table_entry (at_node volume.now.image l node) first e }
+    requires few { OnVolume volume.now (λ _ l. length (owned volume.now l) < 2 ^ 32) }
+    requires fits { (t : Tree) × (l : Layout) × FitsBy (letters_of volume.now) volume.now t l }
+    requires some { OnVolume volume.now (λ t _. (0 < node) × (node ≤ length t.entries)) }
+    ensures { OnVolume volume.now (λ t l. (e : Entry) → entry t.entries node ≡ Some e
+        → result ≡ table_entry (at_node volume.now l node) first e) }
 {
     let row = volume.row(node).unwrap();
     let header = volume.block_of(node).unwrap();
@@ -191,14 +182,10 @@ fn put_blocks(table: &mut [u32], first: usize, datas: &[u32])
 
 /// Fills the tables as far as there is room. Returns the number of data blocks.
 pub fn put_tables(volume: &Checked<'_>, entries: &mut [TableEntry], blocks: &mut [u32]) -> usize
-    requires few { (letters : Letters) (t : Tree) (l : Layout) → StandsForBy letters volume.now t l
-        → length (owned volume.now.image l) < 2 ^ 32 }
-    ensures count { (letters : Letters) (t : Tree) (l : Layout) → StandsForBy letters volume.now t l
-        → result ≡ length (block_table l) }
-    ensures entries { (letters : Letters) (t : Tree) (l : Layout) → StandsForBy letters volume.now t l
-        → entries.new ≡ filled (entry_table t l) entries.old }
-    ensures blocks { (letters : Letters) (t : Tree) (l : Layout) → StandsForBy letters volume.now t l
-        → blocks.new ≡ filled (block_table l) blocks.old }
+    requires few { OnVolume volume.now (λ _ l. length (owned volume.now l) < 2 ^ 32) }
+    ensures count { OnVolume volume.now (λ _ l. result ≡ length (block_table l)) }
+    ensures entries { OnVolume volume.now (λ t l. entries.new ≡ filled (entry_table t l) entries.old) }
+    ensures blocks { OnVolume volume.now (λ _ l. blocks.new ≡ filled (block_table l) blocks.old) }
 {
     let mut first = 0;
     for i in 0..volume.len() {
@@ -213,9 +200,8 @@ pub fn put_tables(volume: &Checked<'_>, entries: &mut [TableEntry], blocks: &mut
 
 /// What an accepted image has besides its tables.
 pub fn contents_of(volume: &Checked<'_>, counts: &Counts, data_blocks: usize) -> Contents
-    ensures { (letters : Letters) (t : Tree) (l : Layout)
-        → StandsForBy letters volume.now t l → counts.now ≡ counts_of volume.now.image t l
-        → data_blocks ≡ length (block_table l) → result ≡ contents_of volume.now.image t l }
+    ensures { OnVolume volume.now (λ t l. counts.now ≡ counts_of volume.now t l
+        → data_blocks ≡ length (block_table l) → result ≡ contents_of volume.now t l) }
 {
     let label = volume.label().bytes();
     let stamps = volume.stamps();

@@ -2,13 +2,10 @@
 -- Letters: l the letters whose case is ignored; a, b names; k the index of a byte.
 use Rattle.std.proofs.Common.{◌≡◌, ◌≢◌, ℕ, ◌<◌, List, length, get_or, true, false, arith, ap, ◌∙◌, sym}
 use Rattle.std.proofs.lemmas.List.{same_lists, get_or-map, length-map}
-use Rattle.std.proofs.lemmas.Slice.Eq.{bytes_eq-Decides}
+use Rattle.std.proofs.{lemmas.Slice.Eq.bytes_eq-Decides, lemmas.Bool.false_from_ne_true, lemmas.Grind.common_steps}
 use Rattle.std.specs.Str.{bytes_eq}
-use Rattle.adf_base.specs.Hash.{upper_by, upper_of}
-use Rattle.adf_base.specs.declared.hash.Letters.{Letters, TheVariants.Ascii}
+use Rattle.adf_base.specs.{Hash.upper_by, Hash.upper_of, declared.hash.Letters.Letters, declared.hash.Letters.TheVariants.Ascii}
 use Rattle.adf_names.specs.Texts.{uppers, uppers_by}
-use Rattle.std.proofs.lemmas.Bool.{false_from_ne_true}
-use Rattle.std.proofs.lemmas.Grind.{common_steps}
 
 pub same_yes : (l : Letters) (a b : List ℕ) → length a ≡ length b → ((k : ℕ) → k < length a → upper_by l (get_or a k 0) ≡ upper_by l (get_or b k 0))
     → bytes_eq (uppers_by l a) (uppers_by l b) ≡ true

@@ -1,15 +1,13 @@
 -- The parts of a path's text between `/`.
 use Rattle.std.proofs.Common.{◌≡◌, ◌≢◌, ◌↔◌, Bor, Option, Some, None, ℕ, ◌+◌, ◌<◌, List, [], ◌∷◌, ◌++◌, length, get_or, take, map, Bool, true, false, arith}
 use Rattle.std.proofs.Common.{sym, refl, ◌∙◌, ap, ◌==◌, ◌&&◌, nat_le, IsSome, IfNone, IfSome, is_some}
-use Rattle.std.proofs.Math.Seq.{get_or-append_seam}
+use Rattle.std.proofs.{Math.Seq.get_or-append_seam, lemmas.Grind.common_steps}
 use Rattle.std.specs.List.{All, join_with_byte, list_all}
 use Rattle.std.proofs.lemmas.Bool.{cases_Bool, and_parts, eqb-true, ne_eqb, Decides.nat_tests}
 use Rattle.std.proofs.lemmas.List.{append-nil, append_assoc, length-append, length-map, get_or-map, map-append, take_more, length-take-le}
 use Rattle.std.proofs.lemmas.List.Elements.{All-head, All-tail, All-append, All-nil, All-push}
 use Rattle.std.proofs.lemmas.List.Splits.{slice_split_none, slice_split_at, join_with_byte-slice_split}
-use Rattle.std.proofs.lemmas.Grind.{common_steps}
-use Rattle.adf_names.specs.Texts.{is_name, is_name_byte}
-use Rattle.adf_names.specs.Escapes.{escape_of, escaped, hex_digit, IsSpelling}
+use Rattle.adf_names.specs.{Texts.is_name, Texts.is_name_byte, Escapes.escape_of, Escapes.escaped, Escapes.hex_digit, Escapes.IsSpelling}
 use Rattle.adf_names.specs.PathTexts.{path_text, with_name, between_slashes, IsName, IsPathText}
 use Rattle.adf_names.proofs.Spellings.{spelling_some, spelled_plain, spelled_escape, only_spelled}
 

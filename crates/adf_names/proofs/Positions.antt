@@ -1,10 +1,9 @@
 -- The first element that passes a test, and a list cut there.
 use Rattle.std.proofs.Common.{◌≡◌, List, [], ◌∷◌, false, Bool, arith, sym, ◌∙◌, ap, Some, None, take, drop, ◌+◌, ◌-◌, nat_lt, ℕ, length, ◌<◌, position}
 use Rattle.std.specs.List.{All, position_or_len, slice_split}
-use Rattle.std.proofs.lemmas.Bool.{cases_Bool, ltb-false}
+use Rattle.std.proofs.{lemmas.Bool.cases_Bool, lemmas.Bool.ltb-false, lemmas.Grind.common_steps}
 use Rattle.std.proofs.lemmas.List.{take_rest, Quantifiers.position-Some, Splits.slice_split_first, Splits.slice_split_none}
 use Rattle.std.proofs.lemmas.List.Sums.{position_or_len_is, fails_before_first}
-use Rattle.std.proofs.lemmas.Grind.{common_steps}
 
 position_is : {X : Type 0} → (p : X → Bool) (xs : List X) (i : ℕ) (d : X) → Some i ≡ position p xs → position_or_len p xs ≡ i
 position_is p xs i d h = grind (arith, common_steps, position-Some, position_or_len_is)

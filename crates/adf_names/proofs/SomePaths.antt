@@ -3,12 +3,8 @@ use Rattle.std.proofs.Common.{◌≡◌, ◌≢◌, ◌∙◌, ◌⊎◌, ℕ, B
 use Rattle.std.specs.List.{All, join_with_byte}
 use Rattle.std.proofs.lemmas.List.Elements.{All-cons, All-head, All-nil, All-tail}
 use Rattle.std.proofs.lemmas.List.Splits.{join_with_byte-slice_split}
-use Rattle.adf_names.specs.Escapes.{escaped}
-use Rattle.adf_names.specs.PathTexts.{HasPathOrNone, IsName, between_slashes}
-use Rattle.adf_names.specs.Texts.{is_name}
-use Rattle.adf_names.proofs.PathParts.{empty_is_path, parts_of_text}
-use Rattle.adf_names.proofs.SomeSpellings.{Spells, spelt}
-use Rattle.adf_names.proofs.Spellings.{only_spelled}
+use Rattle.adf_names.specs.{Escapes.escaped, PathTexts.HasPathOrNone, PathTexts.IsName, PathTexts.between_slashes, Texts.is_name}
+use Rattle.adf_names.proofs.{PathParts.empty_is_path, PathParts.parts_of_text, SomeSpellings.Spells, SomeSpellings.spelt, Spellings.only_spelled}
 
 -- a part is the escape form of a name, or of none
 some_name : (part : List ℕ) → ((name : List ℕ) × IsName name × (part ≡ escaped name)) ⊎ ((name : List ℕ) → IsName name → part ≢ escaped name)

@@ -1,9 +1,8 @@
 -- A text is the escape form of some bytes, or of none. t is a text, c a byte, k how many bytes are left to try or to read.
 use Rattle.std.proofs.Common.{◌≡◌, ◌≢◌, ◌∙◌, ◌<◌, ◌≤◌, ◌++◌, ◌⊎◌, ℕ, zero, suc, List, [], ◌∷◌, ap, arith, inl, inr, length, refl, subst, sym}
 use Rattle.std.specs.List.{All}
-use Rattle.std.proofs.lemmas.Bool.{cases_Bool}
+use Rattle.std.proofs.{lemmas.Bool.cases_Bool, lemmas.Grind.common_steps}
 use Rattle.std.proofs.lemmas.List.{length-append, Elements.All-cons, Elements.All-head, Elements.All-tail}
-use Rattle.std.proofs.lemmas.Grind.{common_steps}
 use native.Mathlib.Decide.{dec_le, ℕ_discrete}
 use Rattle.adf_names.specs.Escapes.{IsSpelling, escape_of, escaped}
 use Rattle.adf_names.proofs.Spellings.{one_spelling, only_spelled, spelled_escape, spelled_plain}

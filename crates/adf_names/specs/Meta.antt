@@ -1,9 +1,7 @@
 -- The dates of a volume, and the metadata of an entry. Its fields are named here, and in the code that reads and writes its block.
 use Rattle.std.specs.Prelude.{◌<◌, ◌≤◌, ◌^◌, ℕ, List, length}
-use Rattle.adf_base.specs.Dates.{IsStamp}
-use Rattle.adf_base.specs.declared.dates.Stamp.{Stamp}
-use Rattle.adf_names.specs.declared.meta.Meta.{Meta}
-use Rattle.adf_names.specs.declared.meta.Stamps.{Stamps}
+use Rattle.adf_base.specs.{Dates.IsStamp, declared.dates.Stamp.Stamp}
+use Rattle.adf_names.specs.{declared.meta.Meta.Meta, declared.meta.Stamps.Stamps}
 
 -- the metadata with this comment, these protection bits and this date
 abbrev pub new_meta : List ℕ → ℕ → Stamp → Meta

@@ -1,8 +1,7 @@
 -- The texts of paths.
 use Rattle.std.specs.Prelude.{◌≡◌, ◌==◌, ℕ, ◌<◌, ◌⊎◌, List, [], ◌∷◌, ◌++◌, Bool, if◌then◌else◌, map, true, All}
 use Rattle.std.specs.List.{join_with_byte, slice_split}
-use Rattle.adf_names.specs.Escapes.{escaped}
-use Rattle.adf_names.specs.Texts.{is_name}
+use Rattle.adf_names.specs.{Escapes.escaped, Texts.is_name}
 
 -- a list of bytes is a valid name
 pub record IsName (name : List ℕ) : Type 0 where

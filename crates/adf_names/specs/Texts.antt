@@ -1,8 +1,7 @@
 -- Names, labels and comments.
 use Rattle.std.specs.Prelude.{ℕ, ◌==◌, ◌&&◌, not, nat_le, Bool, List, length, map}
 use Rattle.std.specs.List.{list_all}
-use Rattle.adf_base.specs.Hash.{upper_by, upper_of}
-use Rattle.adf_base.specs.declared.hash.Letters.{Letters}
+use Rattle.adf_base.specs.{Hash.upper_by, Hash.upper_of, declared.hash.Letters.Letters}
 
 -- a byte allowed in a name: neither `/` nor `:`
 abbrev pub is_name_byte : ℕ → Bool

@@ -1,8 +1,7 @@
 // The name of an entry.
 
 ghost use Rattle.std.specs.Prelude.{◌≡◌, ◌↔◌, IsSome, IfSome, true};
-ghost use Rattle.std.specs.List.{list_all};
-ghost use Rattle.std.specs.Str.{bytes_eq};
+ghost use Rattle.std.specs.{List.list_all, Str.bytes_eq};
 ghost use Rattle.adf_names.specs.Texts.{is_name, is_name_byte, uppers, uppers_by};
 
 use adf_base::{Letters, upper, upper_by};

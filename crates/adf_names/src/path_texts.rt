@@ -1,13 +1,9 @@
 // The texts of paths.
 
 ghost use Rattle.std.specs.Prelude.{IsOk, ◌≡◌, ◌==◌, position, ◌≢◌, ◌↔◌, ◌<◌, ◌∷◌, [], ℕ, List, Err, IfOk, IfErr, IfSome, IfNone};
-ghost use Rattle.std.specs.Prelude.{length};
-ghost use Rattle.std.specs.Bool.{OnTrue, OnFalse};
-ghost use Rattle.std.specs.String.{string_bytes};
-ghost use Rattle.adf_names.specs.Escapes.{escaped};
-ghost use Rattle.adf_names.specs.PathFaults.{path_fault_number};
+ghost use Rattle.std.specs.{Prelude.length, Bool.OnTrue, Bool.OnFalse, String.string_bytes};
+ghost use Rattle.adf_names.specs.{Escapes.escaped, PathFaults.path_fault_number, PathTexts.PathTextsDecide};
 ghost use Rattle.adf_names.specs.PathTexts.{between_slashes, path_text, with_name, HasPathOrNone, IsName, IsPathText};
-ghost use Rattle.adf_names.specs.PathTexts.{PathTextsDecide};
 
 use crate::escapes::{push_escaped, read_escaped};
 use crate::name::Name;

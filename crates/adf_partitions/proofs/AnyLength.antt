@@ -1,20 +1,12 @@
 -- What a disk says of its partitions whatever its number of blocks.
 -- Letters: as in specs/Disks; n and m two numbers of blocks, ps and p partitions with n, qs and q with m.
 use Rattle.std.proofs.Common.{◌≡◌, ◌∙◌, ℕ, zero, suc, List, [], ◌∷◌, ◌++◌, length, refl, sym, ap, subst, arith, Bool, true, false, Option, None, Some}
-use Rattle.std.specs.Prelude.{cond, find, IfOk, slice_get, ⊤}
-use Rattle.std.specs.List.{list_any}
-use Rattle.std.proofs.lemmas.Bool.{and_parts}
-use Rattle.std.proofs.lemmas.Grind.{common_steps}
-use Rattle.adf_partitions.specs.declared.partition.Partition.{Partition}
-use Rattle.adf_partitions.specs.declared.tables.Tables.{Tables}
+use Rattle.std.specs.{Prelude.cond, Prelude.find, Prelude.IfOk, Prelude.slice_get, Prelude.⊤, List.list_any}
+use Rattle.std.proofs.{lemmas.Bool.and_parts, lemmas.Grind.common_steps}
+use Rattle.adf_partitions.specs.{declared.partition.Partition.Partition, declared.tables.Tables.Tables, Faults.first_failed, Partitions.partition_numbered}
 use Rattle.adf_partitions.specs.Disks.{IsDisk, IsFound, is_block_of, part_form, partition_at, IsFound.start, IsFound.step}
-use Rattle.adf_partitions.specs.Faults.{first_failed}
-use Rattle.adf_partitions.specs.Partitions.{partition_numbered}
 use Rattle.adf_partitions.specs.Volumes.{AreAlike, FoundAlike, IsStated}
-use Rattle.adf_partitions.proofs.NumberTests.{le_of}
-use Rattle.adf_partitions.proofs.OneAnswer.{one_disk}
-use Rattle.adf_partitions.proofs.TablesEnough.{is_held}
-use Rattle.adf_partitions.proofs.VolumesApart.{if_placed, passed}
+use Rattle.adf_partitions.proofs.{NumberTests.le_of, OneAnswer.one_disk, TablesEnough.is_held, VolumesApart.if_placed, VolumesApart.passed}
 
 -- each of one list is as that of the other
 abbrev AreAll : List ℕ → ℕ → List Partition → List Partition → Type 0

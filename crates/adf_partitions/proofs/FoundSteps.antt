@@ -2,11 +2,8 @@
 use Rattle.std.proofs.Common.{◌≡◌, ◌≢◌, ℕ, List, [], ◌∷◌, ◌++◌, None, ap, sym, subst, ◌∙◌}
 use Rattle.adf_base.specs.Words.{block, word}
 use Rattle.adf_partitions.specs.declared.layout.TheConstants.{NEXT_PART, NO_BLOCK}
-use Rattle.adf_partitions.specs.declared.partition.Partition.{Partition}
-use Rattle.adf_partitions.specs.declared.tables.Tables.{Tables}
+use Rattle.adf_partitions.specs.{declared.partition.Partition.Partition, declared.tables.Tables.Tables, Faults.first_failed, Partitions.partition_of}
 use Rattle.adf_partitions.specs.Disks.{IsFound, part_form, IsFound.step}
-use Rattle.adf_partitions.specs.Faults.{first_failed}
-use Rattle.adf_partitions.specs.Partitions.{partition_of}
 
 -- the partition block that was named is read, its partition kept, and the next block taken from it
 pub one_more : {bytes : List ℕ} {n : ℕ} {t : Tables} {ps : List Partition} {a b : ℕ} → IsFound bytes n t ps a b → b ≢ NO_BLOCK

@@ -1,19 +1,11 @@
 -- If the tables of a disk name a partition, there is one that can be read. Letters: as in specs/Disks; k is the room that is left.
 use Rattle.std.proofs.Common.{◌≡◌, ◌≢◌, ◌≤◌, ◌<◌, ◌+◌, [], ◌⊎◌, ℕ, zero, suc, List, Option, Some, None, arith, inl, inr, length, refl, subst}
-use Rattle.std.proofs.lemmas.Bool.{cases_eq}
-use Rattle.std.proofs.lemmas.List.{length_push}
-use Rattle.std.proofs.lemmas.Grind.{common_steps}
-use Rattle.adf_partitions.specs.declared.fault.DiskFault.{DiskFault}
+use Rattle.std.proofs.{lemmas.Bool.cases_eq, lemmas.List.length_push, lemmas.Grind.common_steps}
+use Rattle.adf_partitions.specs.{declared.fault.DiskFault.DiskFault, declared.partition.Partition.Partition, declared.tables.Tables.Tables, Faults.first_failed}
+use Rattle.adf_partitions.specs.{Searches.HasReadable, Searches.with_all_lost, Searches.AreReadable.cut, Searches.AreReadable.whole, Tables.IsTables}
 use Rattle.adf_partitions.specs.declared.layout.TheConstants.{MOST_PARTITIONS, MOST_TABLES, NO_BLOCK}
-use Rattle.adf_partitions.specs.declared.partition.Partition.{Partition}
-use Rattle.adf_partitions.specs.declared.tables.Tables.{Tables}
 use Rattle.adf_partitions.specs.Disks.{IsFollowed, IsFound, NamesPartition, part_form, partition_at, IsFound.start, IsFound.step}
-use Rattle.adf_partitions.specs.Faults.{first_failed}
-use Rattle.adf_partitions.specs.Searches.{HasReadable, with_all_lost, AreReadable.cut, AreReadable.whole}
-use Rattle.adf_partitions.specs.Tables.{IsTables}
-use Rattle.adf_partitions.proofs.NumberTests.{lt_of}
-use Rattle.adf_partitions.proofs.Searches.{pushed, some_before}
-use Rattle.adf_partitions.proofs.VolumesApart.{each_held}
+use Rattle.adf_partitions.proofs.{NumberTests.lt_of, Searches.pushed, Searches.some_before, VolumesApart.each_held}
 
 pub none_or_some : {A : Type 0} (o : Option A) → (o ≡ None) ⊎ ((x : A) × (o ≡ Some x))
 none_or_some None = inl refl

@@ -1,18 +1,13 @@
 -- A disk has one answer: a list of partitions, or a first fault.
 -- Letters: as in specs/Disks; k, m the number of partitions found.
 use Rattle.std.proofs.Common.{◌≡◌, ◌≢◌, ◌<◌, ◌⊎◌, inl, inr, ℕ, zero, suc, List, [], ◌∷◌, ◌++◌, length, refl, sym, ap, subst, ◌∙◌, arith, Some, None}
-use Rattle.std.proofs.lemmas.Bool.{cases_lt}
-use Rattle.std.proofs.lemmas.List.{length_push}
-use Rattle.std.proofs.lemmas.Grind.{common_steps}
+use Rattle.std.proofs.{lemmas.Bool.cases_lt, lemmas.List.length_push, lemmas.Grind.common_steps}
 use Rattle.adf_base.specs.Words.{block, word}
 use Rattle.adf_partitions.specs.declared.fault.DiskCause.TheVariants.{BlockSize, NoRigidDisk}
-use Rattle.adf_partitions.specs.declared.fault.DiskFault.{DiskFault}
+use Rattle.adf_partitions.specs.{declared.fault.DiskFault.DiskFault, declared.partition.Partition.Partition, declared.tables.Tables.Tables}
+use Rattle.adf_partitions.specs.{Disks.FirstDiskFault.at_tables, Disks.FirstDiskFault.at_list, Faults.disk_fault, Faults.first_failed}
 use Rattle.adf_partitions.specs.declared.layout.TheConstants.{BLOCK_BYTES, MOST_TABLES, NEXT_PART, NO_BLOCK}
-use Rattle.adf_partitions.specs.declared.partition.Partition.{Partition}
-use Rattle.adf_partitions.specs.declared.tables.Tables.{Tables}
 use Rattle.adf_partitions.specs.Disks.{FirstDiskFault, IsCut, IsDisk, IsFound, IsListFault, IsWholeList, part_form, partition_at, IsFound.start, IsFound.step}
-use Rattle.adf_partitions.specs.Disks.FirstDiskFault.{at_tables, at_list}
-use Rattle.adf_partitions.specs.Faults.{disk_fault, first_failed}
 use Rattle.adf_partitions.specs.Searches.{AreReadable, with_all_lost, AreReadable.bare, AreReadable.cut, AreReadable.other, AreReadable.whole}
 use Rattle.adf_partitions.specs.Tables.{HasNoRdsk, HasNoTables, IsRdsk, IsTables, tables_at}
 

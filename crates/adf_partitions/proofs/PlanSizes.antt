@@ -1,11 +1,7 @@
 -- The sizes of a plan.
 use Rattle.std.proofs.Common.{◌≡◌, ◌≤◌, ◌<◌, ◌+◌, ◌*◌, ◌/◌, ◌^◌, ◌∙◌, ℕ, List, ◌∷◌, drop, get_or, length, ap, ap₂, refl, arith}
-use Rattle.std.proofs.lemmas.Bool.{cases_lt}
-use Rattle.std.proofs.lemmas.List.{drop_all}
-use Rattle.std.proofs.Math.Seq.{drop-cons}
+use Rattle.std.proofs.{lemmas.Bool.cases_lt, lemmas.List.drop_all, Math.Seq.drop-cons, Math.Nat.div-add-mod, lemmas.Grind.common_steps}
 use Rattle.std.proofs.lemmas.Nat.{mod_below, mul-le}
-use Rattle.std.proofs.Math.Nat.{div-add-mod}
-use Rattle.std.proofs.lemmas.Grind.{common_steps}
 use Rattle.adf_partitions.specs.Plans.{PlanValue, IsPlan, cylinder_blocks, cylinders_of, planned_cylinders, table_cylinders}
 use Rattle.adf_partitions.specs.declared.plan.PartitionPlan.{PartitionPlan}
 

@@ -4,28 +4,19 @@
 use Rattle.std.proofs.Common.{◌≡◌, ◌≤◌, ◌<◌, ◌+◌, ◌-◌, ◌*◌, ◌∙◌, ℕ, suc, List, [], ◌∷◌, ◌++◌, length, ap, refl, sym, subst, arith, true, false, Bool, None, Ok}
 use Rattle.std.proofs.Common.{Err, append-nil, append_assoc, length-append, All, IfOk, Result, not, nat_le, nat_lt, replicate}
 use Rattle.std.specs.List.{list_any}
-use Rattle.std.proofs.lemmas.Bool.Decides.{nat_tests}
+use Rattle.std.proofs.{lemmas.Bool.Decides.nat_tests, lemmas.Nat.mul-le, lemmas.Grind.common_steps}
 use Rattle.std.proofs.lemmas.List.{drop_at, length_push, take_at}
-use Rattle.std.proofs.lemmas.Nat.{mul-le}
-use Rattle.std.proofs.lemmas.Grind.{common_steps}
 use Rattle.adf_base.specs.Words.{block}
-use Rattle.adf_partitions.specs.declared.layout.TheConstants.{NO_BLOCK}
-use Rattle.adf_partitions.specs.declared.partition.Partition.{Partition}
-use Rattle.adf_partitions.specs.declared.place.Place.{Place}
-use Rattle.adf_partitions.specs.declared.place.PlaceFault.{PlaceFault}
+use Rattle.adf_partitions.specs.{declared.layout.TheConstants.NO_BLOCK, declared.partition.Partition.Partition, declared.place.Place.Place}
+use Rattle.adf_partitions.specs.{declared.place.PlaceFault.PlaceFault, declared.plan.PartitionPlan.PartitionPlan, Faults.first_failed, Tables.IsTables}
 use Rattle.adf_partitions.specs.declared.place.PlaceFault.TheVariants.{BeyondImage, NoCylinders, OverPartition, OverTables}
-use Rattle.adf_partitions.specs.declared.plan.PartitionPlan.{PartitionPlan}
 use Rattle.adf_partitions.specs.Disks.{IsDisk, IsFound, IsWholeList, is_block_of, part_form, IsFound.start}
-use Rattle.adf_partitions.specs.Faults.{first_failed}
 use Rattle.adf_partitions.specs.Partitions.{field_form, is_over_earlier, is_over_place, partition_of, place_form, place_or_fault}
 use Rattle.adf_partitions.specs.Places.{blocks_from, end_of, has_cylinders, is_over_tables, partition_place}
 use Rattle.adf_partitions.specs.Plans.{PlanValue, IsPartitionPlan, IsPlan, cylinder_blocks, cylinders_of, partitions_from, planned_blocks, planned_cylinders}
 use Rattle.adf_partitions.specs.Plans.{planned_partition, planned_partitions, table_cylinders}
-use Rattle.adf_partitions.specs.Tables.{IsTables}
 use Rattle.adf_partitions.specs.WrittenTables.{block_after, part_block, part_blocks, planned_tables, rdsk_block, table_bytes, written_bytes}
-use Rattle.adf_partitions.proofs.FoundSteps.{one_more}
-use Rattle.adf_partitions.proofs.NumberTests.{of_le, of_lt}
-use Rattle.adf_partitions.proofs.PlanSizes.{cylinders_more, tables_hold}
+use Rattle.adf_partitions.proofs.{FoundSteps.one_more, NumberTests.of_le, NumberTests.of_lt, PlanSizes.cylinders_more, PlanSizes.tables_hold}
 use Rattle.adf_partitions.proofs.WrittenTables.{length_part, length_rdsk, part-blocks, part-cylinders, part-environment, part-flags, part-has_drive_name}
 use Rattle.adf_partitions.proofs.WrittenTables.{part-mark, part-name, part-next, part-place, part-reserved, part-summed, part-type, part_priority, rdsk-first}
 use Rattle.adf_partitions.proofs.WrittenTables.{rdsk-highest, rdsk-lowest, rdsk-size, rdsk-summed, rdsk_mark}

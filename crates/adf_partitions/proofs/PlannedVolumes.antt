@@ -1,18 +1,14 @@
 -- The sizes of written tables, and the volumes behind them.
 -- Letters: as in proofs/PlannedDisk; c the blocks of a cylinder, vs the volumes of ps.
 use Rattle.std.proofs.Common.{◌≡◌, ◌≤◌, ◌+◌, ◌-◌, ◌*◌, ℕ, List, [], ◌∷◌, ◌++◌, length, refl, subst, arith, append-nil, append_assoc, drop, take, length-append}
-use Rattle.std.proofs.Common.{replicate, slice_range}
+use Rattle.std.proofs.{Common.replicate, Common.slice_range, lemmas.Grind.common_steps}
 use Rattle.std.specs.List.{flat_map}
 use Rattle.std.proofs.lemmas.List.{drop_all, drop_at, length-replicate, take_all, take_at}
-use Rattle.std.proofs.lemmas.Grind.{common_steps}
-use Rattle.adf_partitions.specs.declared.plan.PartitionPlan.{PartitionPlan}
-use Rattle.adf_partitions.specs.Places.{blocks_from, end_of}
+use Rattle.adf_partitions.specs.{declared.plan.PartitionPlan.PartitionPlan, Places.blocks_from, Places.end_of, Plans.planned_partitions, Plans.table_cylinders}
 use Rattle.adf_partitions.specs.Plans.{PlanValue, AreVolumes, IsPlan, StandInPlaces, cylinder_blocks, cylinders_of, partitions_from, planned_blocks}
-use Rattle.adf_partitions.specs.Plans.{planned_partitions, table_cylinders}
 use Rattle.adf_partitions.specs.WrittenTables.{disk_bytes, part_block, part_blocks, rdsk_block, table_bytes, written_bytes}
-use Rattle.adf_partitions.proofs.PlanSizes.{tables_hold}
+use Rattle.adf_partitions.proofs.{PlanSizes.tables_hold, WrittenTables.length_part, WrittenTables.length_rdsk}
 use Rattle.adf_partitions.proofs.PlannedDisk.{AreLeft, all_left, left_first, left_rest, left_within}
-use Rattle.adf_partitions.proofs.WrittenTables.{length_part, length_rdsk}
 
 length_parts : (plan : PlanValue) → IsPlan plan → (k low : ℕ) (ps : List PartitionPlan) → AreLeft plan k low ps
     → length (part_blocks plan (k + 1) low ps) ≡ length ps * 512

@@ -1,7 +1,6 @@
 -- Products of numbers of cylinders, surfaces and blocks.
 use Rattle.std.proofs.Common.{◌≡◌, ◌<◌, ◌≤◌, ℕ, ◌+◌, ◌-◌, ◌*◌, ◌^◌, arith}
-use Rattle.std.proofs.lemmas.Nat.{mul-le, mul-lt}
-use Rattle.std.proofs.lemmas.Grind.{common_steps}
+use Rattle.std.proofs.{lemmas.Nat.mul-le, lemmas.Nat.mul-lt, lemmas.Grind.common_steps}
 
 -- the product of two words fits in 64 bits
 pub product_fits : (a b : ℕ) → a < 2 ^ 32 → b < 2 ^ 32 → a * b < 2 ^ 64

@@ -1,13 +1,9 @@
 -- The search for lost partition blocks, one block after the other. ps are the partitions before it, `found` those after k blocks.
 use Rattle.std.proofs.Common.{◌≡◌, ◌≢◌, ◌≤◌, ◌<◌, ◌+◌, ◌++◌, ◌∷◌, [], ℕ, zero, suc, List, Bool, true, false, ap, arith, inl, inr, length, refl, subst}
-use Rattle.std.proofs.lemmas.Bool.{cases_lt}
-use Rattle.std.proofs.lemmas.List.{length_push}
+use Rattle.std.proofs.{lemmas.Bool.cases_lt, lemmas.List.length_push, lemmas.Grind.common_steps}
 use Rattle.std.specs.Prelude.{if◌then◌else◌}
-use Rattle.std.proofs.lemmas.Grind.{common_steps}
-use Rattle.adf_partitions.specs.Disks.{partition_at}
+use Rattle.adf_partitions.specs.{Disks.partition_at, declared.partition.Partition.Partition, declared.tables.Tables.Tables}
 use Rattle.adf_partitions.specs.Searches.{is_lost_partition, with_all_lost, with_lost_partition}
-use Rattle.adf_partitions.specs.declared.partition.Partition.{Partition}
-use Rattle.adf_partitions.specs.declared.tables.Tables.{Tables}
 
 pub pushed : (found : List Partition) (p : Partition) → found ++ p ∷ [] ≢ []
 pushed found p e = absurd (omega (arith, ap length e, length_push found p))

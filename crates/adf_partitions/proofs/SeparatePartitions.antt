@@ -3,22 +3,16 @@
 use Rattle.std.proofs.Common.{◌≡◌, ◌≢◌, ◌<◌, ◌++◌, ◌∷◌, [], ℕ, zero, suc, List, Bool, true, false, None, arith, get_or, length, refl}
 use Rattle.std.specs.Prelude.{if◌then◌else◌}
 use Rattle.std.specs.List.{list_any}
-use Rattle.std.proofs.lemmas.Bool.{and_parts, not-true, Decides.nat_tests}
+use Rattle.std.proofs.{lemmas.Bool.and_parts, lemmas.Bool.not-true, lemmas.Bool.Decides.nat_tests, lemmas.Grind.common_steps}
 use Rattle.std.proofs.lemmas.List.{length_push, Elements.All-nil, Elements.All-push, Folds.list_any_at, Quantifiers.all_pairs_push}
-use Rattle.std.proofs.lemmas.Grind.{common_steps}
 use Rattle.adf_base.specs.Words.{block}
-use Rattle.adf_partitions.specs.declared.layout.TheConstants.{MOST_PARTITIONS, MOST_TABLES}
-use Rattle.adf_partitions.specs.declared.partition.Partition.{Partition}
-use Rattle.adf_partitions.specs.declared.tables.Tables.{Tables}
+use Rattle.adf_partitions.specs.{declared.layout.TheConstants.MOST_PARTITIONS, declared.layout.TheConstants.MOST_TABLES, declared.partition.Partition.Partition}
+use Rattle.adf_partitions.specs.{declared.tables.Tables.Tables, Faults.first_failed, Partitions.place_form, Places.partition_place}
 use Rattle.adf_partitions.specs.Disks.{IsFound, is_block_of, part_form, partition_at, IsFound.start, IsFound.step}
-use Rattle.adf_partitions.specs.Faults.{first_failed}
-use Rattle.adf_partitions.specs.Partitions.{place_form}
-use Rattle.adf_partitions.specs.Places.{partition_place}
 use Rattle.adf_partitions.specs.Searches.{AreReadable, is_lost_partition, no_tables, with_all_lost}
 use Rattle.adf_partitions.specs.Searches.AreReadable.{bare, cut, other, whole}
 use Rattle.adf_partitions.specs.Volumes.{AreInOtherBlocks, AreSeparate, LiesWithin, VolumeLiesWithin, VolumesAreApart}
-use Rattle.adf_partitions.proofs.NamedPartitions.{is_few}
-use Rattle.adf_partitions.proofs.NumberTests.{lt_of}
+use Rattle.adf_partitions.proofs.{NamedPartitions.is_few, NumberTests.lt_of}
 use Rattle.adf_partitions.proofs.VolumesApart.{apart_from, each_held, if_placed, lies_well, not_over, passed}
 
 none_separate : (n : ℕ) → AreSeparate n []

@@ -1,17 +1,13 @@
 -- Every disk has a list of partitions or a first fault, and partitions that can be read.
 -- Letters: as in specs/Disks; k is the room that is left, or a number of blocks.
 use Rattle.std.proofs.Common.{◌≡◌, ◌<◌, ◌≤◌, ◌+◌, ◌⊎◌, [], ℕ, zero, suc, List, Option, Bool, true, false, None, Some, arith, inl, inr, length, refl, subst, sym}
-use Rattle.std.proofs.lemmas.Bool.{cases_eq}
-use Rattle.std.proofs.lemmas.List.{length_push}
+use Rattle.std.proofs.{lemmas.Bool.cases_eq, lemmas.List.length_push}
 use Rattle.adf_base.specs.Words.{block, word}
 use Rattle.adf_partitions.specs.declared.fault.DiskCause.TheVariants.{BlockSize, NoRigidDisk}
-use Rattle.adf_partitions.specs.declared.fault.DiskFault.{DiskFault}
+use Rattle.adf_partitions.specs.{declared.fault.DiskFault.DiskFault, declared.partition.Partition.Partition, declared.tables.Tables.Tables, Disks.IsFound.start}
+use Rattle.adf_partitions.specs.{Disks.IsFound.step, Faults.disk_fault, Faults.first_failed}
 use Rattle.adf_partitions.specs.declared.layout.TheConstants.{BLOCK_BYTES, MOST_PARTITIONS, MOST_TABLES, NO_BLOCK, RDSK_BLOCKS}
-use Rattle.adf_partitions.specs.declared.partition.Partition.{Partition}
-use Rattle.adf_partitions.specs.declared.tables.Tables.{Tables}
 use Rattle.adf_partitions.specs.Disks.{HasListOrFault, IsFollowed, IsFound, part_form, partition_at, FirstDiskFault.at_list, FirstDiskFault.at_tables}
-use Rattle.adf_partitions.specs.Disks.IsFound.{start, step}
-use Rattle.adf_partitions.specs.Faults.{disk_fault, first_failed}
 use Rattle.adf_partitions.specs.Searches.{AreReadable, bare_partitions, with_all_lost, AreReadable.bare, AreReadable.cut, AreReadable.other, AreReadable.whole}
 use Rattle.adf_partitions.specs.Tables.{HasNoRdsk, IsRdsk, IsTables, is_rdsk, tables_at}
 use Rattle.adf_partitions.proofs.NamedPartitions.{no_more, none_or_some}

@@ -3,23 +3,15 @@
 use Rattle.std.proofs.Common.{◌≡◌, ◌<◌, ◌≤◌, ◌+◌, ◌*◌, inl, inr, ℕ, List, ◌++◌, [], ◌∷◌, length, refl, sym, ap, ◌∙◌, arith, Bool, true, false, None, ◌&&◌, ◌==◌}
 use Rattle.std.proofs.Common.{not, nat_lt, length-append}
 use Rattle.std.specs.List.{list_any}
-use Rattle.std.proofs.lemmas.Bool.{and_parts}
-use Rattle.std.proofs.lemmas.List.{take-append-le}
-use Rattle.std.proofs.lemmas.Slice.{between_is}
-use Rattle.std.proofs.lemmas.Grind.{common_steps}
+use Rattle.std.proofs.{lemmas.Bool.and_parts, lemmas.List.take-append-le, lemmas.Slice.between_is, lemmas.Grind.common_steps}
 use Rattle.adf_base.specs.Words.{block, word}
 use Rattle.adf_partitions.specs.declared.fault.DiskCause.TheVariants.{OutOfRange, Repeated, NotPartition, BadSum, TooMany}
-use Rattle.adf_partitions.specs.declared.fault.DiskFault.{DiskFault}
+use Rattle.adf_partitions.specs.{declared.fault.DiskFault.DiskFault, declared.layout.TheConstants.RDSK_BLOCKS, declared.partition.Partition.Partition}
+use Rattle.adf_partitions.specs.{declared.tables.Tables.Tables, Faults.disk_fault, Faults.first_failed, Summed.holds, Summed.is_summed}
 use Rattle.adf_partitions.specs.declared.layout.TheConstants.{BLOCK_BYTES, FIRST_PART, HIGHEST_TABLE, LOWEST_TABLE, MARK, MOST_PARTITIONS, MOST_TABLES, PART}
-use Rattle.adf_partitions.specs.declared.layout.TheConstants.{RDSK_BLOCKS}
-use Rattle.adf_partitions.specs.declared.partition.Partition.{Partition}
-use Rattle.adf_partitions.specs.declared.tables.Tables.{Tables}
 use Rattle.adf_partitions.specs.Disks.{IsCut, IsDisk, IsFound, IsListFault, IsWholeList, is_block_of, part_form, IsFound.start, IsFound.step}
-use Rattle.adf_partitions.specs.Faults.{disk_fault, first_failed}
-use Rattle.adf_partitions.specs.Summed.{holds, is_summed}
 use Rattle.adf_partitions.specs.Tables.{HasNoTables, IsRdsk, IsTables, is_rdsk, may_be_table}
-use Rattle.adf_partitions.proofs.FoundSteps.{one_more}
-use Rattle.adf_partitions.proofs.NumberTests.{le_of, lt_of, of_le}
+use Rattle.adf_partitions.proofs.{FoundSteps.one_more, NumberTests.le_of, NumberTests.lt_of, NumberTests.of_le}
 
 -- the tables of a rigid disk block with these bytes
 abbrev tables_of : ℕ → List ℕ → Tables

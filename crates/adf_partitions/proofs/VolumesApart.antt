@@ -4,23 +4,16 @@ use Rattle.std.proofs.Common.{◌≡◌, ◌⊎◌, inl, inr, rules, ◌<◌, �
 use Rattle.std.proofs.Common.{None, Some, Ok, Err, Option, Result, not, nat_le, ◌==◌, IfOk}
 use Rattle.std.specs.List.{All, AllPairs}
 use Rattle.std.proofs.lemmas.Bool.{false_from_ne_true, and_parts, not-true, or_parts, Decides.nat_tests}
-use Rattle.std.proofs.lemmas.List.Elements.{All-push}
-use Rattle.std.proofs.lemmas.List.Folds.{list_any_at}
+use Rattle.std.proofs.{lemmas.List.Elements.All-push, lemmas.List.Folds.list_any_at, lemmas.Nat.mul-le, lemmas.Grind.common_steps}
 use Rattle.std.proofs.lemmas.List.Quantifiers.{all_pairs_push}
-use Rattle.std.proofs.lemmas.Nat.{mul-le}
-use Rattle.std.proofs.lemmas.Grind.{common_steps}
 use Rattle.adf_base.specs.Words.{block}
-use Rattle.adf_partitions.specs.declared.partition.Partition.{Partition}
-use Rattle.adf_partitions.specs.declared.place.Place.{Place}
-use Rattle.adf_partitions.specs.declared.place.PlaceFault.{PlaceFault}
+use Rattle.adf_partitions.specs.{declared.partition.Partition.Partition, declared.place.Place.Place, declared.place.PlaceFault.PlaceFault}
+use Rattle.adf_partitions.specs.{declared.tables.Tables.Tables, Disks.IsDisk, Disks.IsFound, Disks.partition_at, Disks.IsFound.start, Disks.IsFound.step}
+use Rattle.adf_partitions.specs.{Faults.first_failed, Volumes.ShareNoBlock, Volumes.LiesWell, Volumes.VolumeLiesWell, Volumes.VolumesAreApart}
 use Rattle.adf_partitions.specs.declared.place.PlaceFault.TheVariants.{BeyondImage, NoCylinders, OverPartition, OverTables}
-use Rattle.adf_partitions.specs.declared.tables.Tables.{Tables}
-use Rattle.adf_partitions.specs.Disks.{IsDisk, IsFound, partition_at, IsFound.start, IsFound.step}
-use Rattle.adf_partitions.specs.Faults.{first_failed}
 use Rattle.adf_partitions.specs.Partitions.{is_over, is_over_earlier, is_over_place, place_form, place_or_fault}
 use Rattle.adf_partitions.specs.Places.{do_overlap, end_of, has_cylinders, is_over_tables, partition_place}
 use Rattle.adf_partitions.proofs.NumberTests.{le_of, of_lt}
-use Rattle.adf_partitions.specs.Volumes.{ShareNoBlock, LiesWell, VolumeLiesWell, VolumesAreApart}
 
 -- the first test holds, and the others do
 first_held : {C : Type 0} (a : Bool) (x : C) (rest : List (Bool × C)) → first_failed ((a, x) ∷ rest) ≡ None → (a ≡ true) × (first_failed rest ≡ None)

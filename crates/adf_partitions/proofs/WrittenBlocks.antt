@@ -3,11 +3,9 @@ use Rattle.std.proofs.Common.{◌≡◌, ◌≢◌, ◌≤◌, ◌<◌, ◌+◌,
 use Rattle.std.specs.Prelude.{slice_index, sum}
 use Rattle.adf_base.specs.Words.{sealed, word, words, checksum}
 use Rattle.adf_base.proofs.WordLaws.{length-with_word, long_sum-sealed, sum_words_more, range-with_bytes_above, length-big_bytes, word-with_word_other}
-use Rattle.adf_blocks.specs.Fields.{Descends, Field, block_of_fields, long, longs, text}
-use Rattle.adf_blocks.specs.Forms.{text_at}
+use Rattle.adf_blocks.specs.{Fields.Descends, Fields.Field, Fields.block_of_fields, Fields.long, Fields.longs, Fields.text, Forms.text_at}
 use Rattle.adf_blocks.proofs.FieldLaws.{HasField, apart_below, field_there, fields_between, fields_long, length-block_of_fields, long_number, text_reads}
-use Rattle.adf_partitions.specs.declared.layout.TheConstants.{CHECKSUM}
-use Rattle.adf_partitions.specs.Summed.{is_summed, sum_of}
+use Rattle.adf_partitions.specs.{declared.layout.TheConstants.CHECKSUM, Summed.is_summed, Summed.sum_of}
 
 fits_block : (fs : List Field) → Descends 256 fs → Descends 512 fs
 fits_block [] d = tt

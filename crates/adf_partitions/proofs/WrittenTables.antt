@@ -2,25 +2,17 @@
 use Rattle.std.proofs.Common.{◌≡◌, ◌≢◌, ◌≤◌, ◌<◌, ◌+◌, ◌-◌, ◌*◌, ◌^◌, ◌∙◌, ℕ, length, ap, ap₂, refl, arith, rules, true, false, Bool}
 use Rattle.std.specs.Prelude.{slice_index, take, ◌&&◌, ◌==◌, not, nat_le, if◌then◌else◌, FitsSigned, ℤ, pos, negsuc}
 use Rattle.std.specs.Int.{cast_signed, cast_unsigned, w32, w8}
-use Rattle.std.proofs.lemmas.Bool.Decides.{nat_tests}
-use Rattle.std.proofs.lemmas.Int.{to_z-of_z}
-use Rattle.std.proofs.lemmas.List.{take_all}
-use Rattle.std.proofs.lemmas.Grind.{common_steps}
-use Rattle.adf_base.specs.Words.{word}
-use Rattle.adf_blocks.specs.Fields.{Descends, long}
-use Rattle.adf_blocks.specs.Forms.{text_at}
+use Rattle.std.proofs.{lemmas.Bool.Decides.nat_tests, lemmas.Int.to_z-of_z, lemmas.List.take_all, lemmas.Grind.common_steps}
+use Rattle.adf_base.specs.{Words.word, declared.hash.Letters.TheVariants.Ascii, declared.hash.Letters.TheVariants.International, declared.hash.Letters.Letters}
+use Rattle.adf_blocks.specs.{Fields.Descends, Fields.long, Forms.text_at}
 use Rattle.adf_blocks.proofs.FieldLaws.{HasField}
-use Rattle.adf_base.specs.declared.hash.Letters.{TheVariants.Ascii, TheVariants.International, Letters}
 use Rattle.adf_names.specs.declared.kind.Kind.{TheVariants.Ofs, TheVariants.Ffs, Kind}
 use Rattle.adf_partitions.specs.declared.layout.TheConstants.{BLOCK_BYTES, BLOCK_SECTORS, BOOT_PRIORITY, BOOTABLE, CHECKSUM, DOS_TYPE, DRIVE_NAME}
 use Rattle.adf_partitions.specs.declared.layout.TheConstants.{ENV_BLOCK_WORDS, ENV_LENGTH, FIRST_PART, FLAGS, HIGH_CYLINDER, HIGHEST_TABLE, LOW_CYLINDER}
 use Rattle.adf_partitions.specs.declared.layout.TheConstants.{LOWEST_TABLE, MARK, MOST_PARTITIONS, NEXT_PART, PART, RDSK, RESERVED, SUMMED_LONGS, SURFACES}
-use Rattle.adf_partitions.specs.declared.layout.TheConstants.{TRACK_BLOCKS}
-use Rattle.adf_partitions.specs.declared.plan.PartitionPlan.{PartitionPlan}
-use Rattle.adf_partitions.specs.Partitions.{has_drive_name, name_at}
-use Rattle.adf_partitions.specs.Places.{blocks_from, has_cylinders, partition_place}
+use Rattle.adf_partitions.specs.{declared.layout.TheConstants.TRACK_BLOCKS, declared.plan.PartitionPlan.PartitionPlan, Partitions.has_drive_name}
+use Rattle.adf_partitions.specs.{Partitions.name_at, Places.blocks_from, Places.has_cylinders, Places.partition_place, Summed.is_summed}
 use Rattle.adf_partitions.specs.Plans.{PlanValue, IsPartitionPlan, IsPlan, cylinder_blocks, planned_cylinders, planned_flags, planned_type, table_cylinders}
-use Rattle.adf_partitions.specs.Summed.{is_summed}
 use Rattle.adf_partitions.specs.WrittenTables.{block_after, part_block, part_table, planned_tables, rdsk_block, rdsk_table}
 use Rattle.adf_partitions.proofs.NumberTests.{of_le}
 use Rattle.adf_partitions.proofs.PlanSizes.{blocks_fit, cylinders_fit, heads_fit, sectors_fit, some_blocks}

@@ -4,14 +4,9 @@ use Rattle.std.specs.Prelude.{◌≡◌, ◌≢◌, ◌⊎◌, ℕ, ◌==◌, no
 use Rattle.std.specs.List.{list_any}
 use Rattle.adf_base.specs.Words.{block, word}
 use Rattle.adf_partitions.specs.declared.fault.DiskCause.TheVariants.{OutOfRange, Repeated, NotPartition, BadSum, TooMany}
-use Rattle.adf_partitions.specs.declared.fault.DiskFault.{DiskFault}
+use Rattle.adf_partitions.specs.{declared.fault.DiskFault.DiskFault, declared.partition.Partition.Partition, declared.tables.Tables.Tables, Faults.disk_fault}
+use Rattle.adf_partitions.specs.{Faults.first_failed, Partitions.partition_of, Summed.is_summed, Tables.HasNoTables, Tables.IsTables, Tables.may_be_table}
 use Rattle.adf_partitions.specs.declared.layout.TheConstants.{MARK, MOST_PARTITIONS, NEXT_PART, NO_BLOCK, PART}
-use Rattle.adf_partitions.specs.declared.partition.Partition.{Partition}
-use Rattle.adf_partitions.specs.declared.tables.Tables.{Tables}
-use Rattle.adf_partitions.specs.Faults.{disk_fault, first_failed}
-use Rattle.adf_partitions.specs.Partitions.{partition_of}
-use Rattle.adf_partitions.specs.Summed.{is_summed}
-use Rattle.adf_partitions.specs.Tables.{HasNoTables, IsTables, may_be_table}
 
 -- whether block b is that of a partition
 abbrev pub is_block_of : ℕ → Partition → Bool

@@ -1,11 +1,9 @@
 -- The texts of faults, as printed, and their numbers.
 use Rattle.std.specs.Prelude.{◌++◌, ℕ, List, codes}
 use Rattle.std.specs.Fmt.{decimal}
-use Rattle.adf_partitions.specs.declared.fault.DiskCause.{DiskCause}
+use Rattle.adf_partitions.specs.{declared.fault.DiskCause.DiskCause, declared.fault.DiskFault.DiskFault, declared.place.PlaceFault.PlaceFault}
 use Rattle.adf_partitions.specs.declared.fault.DiskCause.TheVariants.{NoRigidDisk, BlockSize, OutOfRange, Repeated, NotPartition, BadSum, TooMany, NoMemory}
-use Rattle.adf_partitions.specs.declared.fault.DiskFault.{DiskFault}
 use Rattle.adf_partitions.specs.declared.field_fault.FieldFault.{FieldFault, TheVariants.ShortEnvironment, TheVariants.OtherBlocks, TheVariants.BadName}
-use Rattle.adf_partitions.specs.declared.place.PlaceFault.{PlaceFault}
 use Rattle.adf_partitions.specs.declared.place.PlaceFault.TheVariants.{NoCylinders, BeyondImage, OverTables, OverPartition}
 
 -- what is wrong with a disk

@@ -1,7 +1,6 @@
 -- Faults, and the first test that fails.
 use Rattle.std.specs.Prelude.{ℕ, Bool, List, [], ◌∷◌, if◌then◌else◌, Option, Some, None}
-use Rattle.adf_partitions.specs.declared.fault.DiskCause.{DiskCause}
-use Rattle.adf_partitions.specs.declared.fault.DiskFault.{DiskFault}
+use Rattle.adf_partitions.specs.{declared.fault.DiskCause.DiskCause, declared.fault.DiskFault.DiskFault}
 
 -- a fault at a block
 abbrev pub disk_fault : ℕ → DiskCause → DiskFault

@@ -1,19 +1,14 @@
 -- Partitions. p is the partition block, n the number of blocks of the disk, t its tables, `earlier` the partitions before.
 use Rattle.std.specs.Prelude.{ℕ, ◌-◌, ◌==◌, ◌&&◌, if◌then◌else◌, not, nat_le, Bool, false, List, [], ◌∷◌, Option, Some, None, Result, Ok, Err, bytes_eq}
-use Rattle.std.specs.Prelude.{slice_get, slice_index, take}
-use Rattle.std.specs.Int.{w32, cast_signed}
-use Rattle.std.specs.List.{list_all, list_any}
+use Rattle.std.specs.{Prelude.slice_get, Prelude.slice_index, Prelude.take, Int.w32, Int.cast_signed, List.list_all, List.list_any}
 use Rattle.adf_base.specs.Words.{word}
 use Rattle.adf_names.specs.Texts.{is_name_byte, uppers}
 use Rattle.adf_blocks.specs.Forms.{text_at}
 use Rattle.adf_partitions.specs.declared.field_fault.FieldFault.{FieldFault, TheVariants.ShortEnvironment, TheVariants.OtherBlocks, TheVariants.BadName}
 use Rattle.adf_partitions.specs.declared.layout.TheConstants.{BLOCK_SECTORS, BOOT_PRIORITY, DOS_TYPE, DRIVE_NAME, ENV_BLOCK_WORDS, ENV_LENGTH, FLAGS, RESERVED}
 use Rattle.adf_partitions.specs.declared.partition.Partition.{Partition}
-use Rattle.adf_partitions.specs.declared.place.Place.{Place}
-use Rattle.adf_partitions.specs.declared.place.PlaceFault.{PlaceFault}
+use Rattle.adf_partitions.specs.{declared.place.Place.Place, declared.place.PlaceFault.PlaceFault, declared.tables.Tables.Tables, Faults.first_failed}
 use Rattle.adf_partitions.specs.declared.place.PlaceFault.TheVariants.{NoCylinders, BeyondImage, OverTables, OverPartition}
-use Rattle.adf_partitions.specs.declared.tables.Tables.{Tables}
-use Rattle.adf_partitions.specs.Faults.{first_failed}
 use Rattle.adf_partitions.specs.Places.{do_overlap, end_of, has_cylinders, is_over_tables, partition_place}
 
 -- the drive's name, cut to 31 bytes

@@ -2,9 +2,7 @@
 use Rattle.std.specs.Prelude.{◌≡◌, ℕ, ◌+◌, ◌-◌, ◌*◌, ◌<◌, ◌≤◌, ◌==◌, ◌&&◌, ◌||◌, not, nat_le, nat_lt, Bool, true, List}
 use Rattle.adf_base.specs.Words.{block, word}
 use Rattle.adf_partitions.specs.declared.layout.TheConstants.{HIGH_CYLINDER, LOW_CYLINDER, SURFACES, TRACK_BLOCKS}
-use Rattle.adf_partitions.specs.declared.place.Place.{Place}
-use Rattle.adf_partitions.specs.declared.tables.Tables.{Tables}
-use Rattle.adf_partitions.specs.Summed.{holds}
+use Rattle.adf_partitions.specs.{declared.place.Place.Place, declared.tables.Tables.Tables, Summed.holds}
 
 -- the blocks of a cylinder
 abbrev pub cylinder_of : List ℕ → ℕ

@@ -1,16 +1,10 @@
 -- Plans of hard disks. p is the plan of a partition, c the number of blocks of a cylinder, low a partition's lowest cylinder.
 use Rattle.std.specs.Prelude.{◌≡◌, ◌≤◌, ◌<◌, ◌+◌, ◌*◌, ◌/◌, ◌^◌, ℕ, true, List, [], ◌∷◌, All, IfOk, None, Ok, length, slice_range, FitsSigned, if◌then◌else◌}
-use Rattle.std.specs.Int.{w8}
-use Rattle.std.specs.List.{list_all}
+use Rattle.std.specs.{Int.w8, List.list_all}
 use Rattle.adf_base.specs.declared.hash.Letters.{Letters}
-use Rattle.adf_names.specs.Texts.{is_name_byte}
-use Rattle.adf_names.specs.VolumeTypes.{type_number}
-use Rattle.adf_names.specs.declared.kind.Kind.{Kind}
-use Rattle.adf_partitions.specs.Places.{blocks_from, end_of}
-use Rattle.adf_partitions.specs.declared.layout.TheConstants.{BOOTABLE, MOST_PARTITIONS}
-use Rattle.adf_partitions.specs.declared.partition.Partition.{Partition}
-use Rattle.adf_partitions.specs.declared.plan.DiskPlan.{DiskPlan}
-use Rattle.adf_partitions.specs.declared.plan.PartitionPlan.{PartitionPlan}
+use Rattle.adf_names.specs.{Texts.is_name_byte, VolumeTypes.type_number, declared.kind.Kind.Kind}
+use Rattle.adf_partitions.specs.{Places.blocks_from, Places.end_of, declared.layout.TheConstants.BOOTABLE, declared.layout.TheConstants.MOST_PARTITIONS}
+use Rattle.adf_partitions.specs.{declared.partition.Partition.Partition, declared.plan.DiskPlan.DiskPlan, declared.plan.PartitionPlan.PartitionPlan}
 
 -- a plan
 pub record PlanValue : Type 0 where

@@ -3,12 +3,9 @@
 use Rattle.std.specs.Prelude.{◌≢◌, ◌==◌, ◌&&◌, ◌||◌, ◌++◌, ℕ, zero, suc, not, nat_lt, Bool, List, [], ◌∷◌, length, if◌then◌else◌}
 use Rattle.std.specs.List.{list_any}
 use Rattle.adf_base.specs.Words.{block, word}
-use Rattle.adf_partitions.specs.declared.fault.DiskFault.{DiskFault}
+use Rattle.adf_partitions.specs.{declared.fault.DiskFault.DiskFault, declared.partition.Partition.Partition, declared.tables.Tables.Tables, Summed.is_summed}
 use Rattle.adf_partitions.specs.declared.layout.TheConstants.{BLOCK_BYTES, MARK, MOST_PARTITIONS, MOST_TABLES, NO_BLOCK, PART, RDSK_BLOCKS}
-use Rattle.adf_partitions.specs.declared.partition.Partition.{Partition}
-use Rattle.adf_partitions.specs.declared.tables.Tables.{Tables}
 use Rattle.adf_partitions.specs.Disks.{IsCut, IsDisk, is_block_of, partition_at}
-use Rattle.adf_partitions.specs.Summed.{is_summed}
 use Rattle.adf_partitions.specs.Tables.{HasNoRdsk, IsRdsk, IsTables, is_kept_for_tables, may_be_table}
 
 -- whether a block says that it is a partition block, with a sound sum

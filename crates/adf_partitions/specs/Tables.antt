@@ -2,12 +2,9 @@
 use Rattle.std.specs.Prelude.{◌≡◌, ◌≢◌, ◌⊎◌, ◌<◌, ℕ, ◌==◌, ◌&&◌, ◌||◌, not, nat_le, nat_lt, Bool, true, false, List}
 use Rattle.adf_base.specs.Words.{block, word}
 use Rattle.adf_partitions.specs.declared.fault.DiskCause.TheVariants.{NoRigidDisk, BlockSize}
-use Rattle.adf_partitions.specs.declared.fault.DiskFault.{DiskFault}
+use Rattle.adf_partitions.specs.{declared.fault.DiskFault.DiskFault, declared.tables.Tables.Tables, Faults.disk_fault, Summed.holds, Summed.is_summed}
 use Rattle.adf_partitions.specs.declared.layout.TheConstants.{BLOCK_BYTES, FIRST_PART, HIGHEST_TABLE, LOWEST_TABLE, MARK, MOST_TABLES, RDSK, RDSK_BLOCKS}
 use Rattle.adf_partitions.specs.declared.layout.TheConstants.{SUMMED_LONGS}
-use Rattle.adf_partitions.specs.declared.tables.Tables.{Tables}
-use Rattle.adf_partitions.specs.Faults.{disk_fault}
-use Rattle.adf_partitions.specs.Summed.{holds, is_summed}
 
 -- whether a rigid disk block says that blocks have another size than 512 bytes, and has a sum over more words than such a block has
 abbrev pub is_larger : List ℕ → Bool

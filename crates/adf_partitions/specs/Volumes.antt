@@ -1,11 +1,8 @@
 -- The volumes of a disk, each in its place.
 use Rattle.std.specs.Prelude.{◌≡◌, ◌≢◌, ◌<◌, ◌≤◌, ℕ, List, Option, None, Some, All, AllPairs, IfOk, length, ⊤}
 use Rattle.adf_base.specs.Words.{block}
-use Rattle.adf_partitions.specs.declared.layout.TheConstants.{MOST_PARTITIONS}
-use Rattle.adf_partitions.specs.declared.partition.Partition.{Partition}
-use Rattle.adf_partitions.specs.declared.place.Place.{Place}
-use Rattle.adf_partitions.specs.declared.tables.Tables.{Tables}
-use Rattle.adf_partitions.specs.Places.{IsIn, StatesPlace, end_of, partition_place}
+use Rattle.adf_partitions.specs.{declared.layout.TheConstants.MOST_PARTITIONS, declared.partition.Partition.Partition, declared.place.Place.Place}
+use Rattle.adf_partitions.specs.{declared.tables.Tables.Tables, Places.IsIn, Places.StatesPlace, Places.end_of, Places.partition_place}
 
 -- a place has blocks, all within a disk of n blocks, and none of them is kept for its tables
 pub record LiesWell (n : ℕ) (t : Tables) (q : Place) : Type 0 where

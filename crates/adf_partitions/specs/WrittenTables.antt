@@ -1,7 +1,6 @@
 -- The tables of a plan, as they are written. b is a partition block, low its partition's lowest cylinder.
 use Rattle.std.specs.Prelude.{ℕ, ◌+◌, ◌-◌, ◌*◌, nat_lt, List, [], ◌∷◌, ◌++◌, length, replicate, if◌then◌else◌}
-use Rattle.std.specs.Int.{cast_unsigned, w32}
-use Rattle.std.specs.List.{flat_map}
+use Rattle.std.specs.{Int.cast_unsigned, Int.w32, List.flat_map}
 use Rattle.adf_blocks.specs.Fields.{Field, block_of_fields, long, longs, text}
 use Rattle.adf_base.specs.Words.{sealed}
 use Rattle.adf_partitions.specs.Plans.{PlanValue, cylinder_blocks, planned_cylinders, planned_flags, planned_type, table_cylinders}
@@ -10,8 +9,7 @@ use Rattle.adf_partitions.specs.declared.layout.TheConstants.{CYLINDER_BLOCKS, D
 use Rattle.adf_partitions.specs.declared.layout.TheConstants.{HIGHEST_CYLINDER, HIGHEST_TABLE, HIGHEST_USED, HIGH_CYLINDER, HOST, INTERLEAVE, LOWEST_CYLINDER}
 use Rattle.adf_partitions.specs.declared.layout.TheConstants.{LOWEST_TABLE, LOW_CYLINDER, MARK, MOST_TRANSFER, NEXT_PART, NO_BLOCK, OTHER_LISTS, PARKED, PART}
 use Rattle.adf_partitions.specs.declared.layout.TheConstants.{RDSK, RESERVED, SECTORS, SUMMED_LONGS, SURFACES, TRACK_BLOCKS, WRITTEN_LONGS}
-use Rattle.adf_partitions.specs.declared.plan.PartitionPlan.{PartitionPlan}
-use Rattle.adf_partitions.specs.declared.tables.Tables.{Tables}
+use Rattle.adf_partitions.specs.{declared.plan.PartitionPlan.PartitionPlan, declared.tables.Tables.Tables}
 
 -- the number of the first n partition blocks that stands behind block b, if there is one
 abbrev pub block_after : ℕ → ℕ → ℕ

@@ -1,12 +1,9 @@
 // A whole hard disk.
 
 ghost use Rattle.std.specs.Prelude.{◌≡◌, ◌≢◌, List, IfErr, IfOk, find, option_copied};
-ghost use Rattle.adf_partitions.specs.Disks.{FirstDiskFault, IsDisk, NamesPartition};
-ghost use Rattle.adf_partitions.specs.Partitions.{is_partition_named, partition_numbered};
-ghost use Rattle.adf_partitions.specs.Tables.{IsTables};
-ghost use Rattle.adf_partitions.specs.declared.fault.DiskCause.{DiskCause};
-ghost use Rattle.adf_partitions.specs.declared.partition.Partition.{Partition};
-ghost use Rattle.adf_partitions.specs.declared.tables.Tables.{Tables};
+ghost use Rattle.adf_partitions.specs.{Disks.FirstDiskFault, Disks.IsDisk, Disks.NamesPartition, Partitions.is_partition_named};
+ghost use Rattle.adf_partitions.specs.{Partitions.partition_numbered, Tables.IsTables, declared.fault.DiskCause.DiskCause};
+ghost use Rattle.adf_partitions.specs.{declared.partition.Partition.Partition, declared.tables.Tables.Tables};
 
 use crate::fault::{DiskCause, DiskFault, disk_fault};
 use crate::list::{Followed, follow_list};

@@ -1,8 +1,7 @@
 // Why the partitions of a disk cannot be read.
 
 ghost use Rattle.std.specs.Prelude.{◌≡◌};
-ghost use Rattle.adf_partitions.specs.Faults.{disk_fault};
-ghost use Rattle.adf_partitions.specs.FaultTexts.{disk_cause_number, disk_cause_text};
+ghost use Rattle.adf_partitions.specs.{Faults.disk_fault, FaultTexts.disk_cause_number, FaultTexts.disk_cause_text};
 
 use std::error::Error;
 use std::fmt;

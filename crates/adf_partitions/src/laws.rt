@@ -4,12 +4,10 @@ ghost use Rattle.std.specs.Prelude.{◌≡◌, ◌≤◌, ◌*◌, ◌++◌, ◌
 ghost use Rattle.adf_partitions.specs.Disks.{FirstDiskFault, HasListOrFault, IsDisk};
 ghost use Rattle.adf_partitions.specs.Partitions.{is_partition_named, partition_numbered};
 ghost use Rattle.adf_partitions.specs.Searches.{AreReadable, is_searched, no_tables};
-ghost use Rattle.adf_partitions.specs.Tables.{HasNoTables, IsTables};
+ghost use Rattle.adf_partitions.specs.{Tables.HasNoTables, Tables.IsTables, declared.fault.DiskFault.DiskFault};
+ghost use Rattle.adf_partitions.specs.{declared.partition.Partition.Partition, declared.tables.Tables.Tables};
 ghost use Rattle.adf_partitions.specs.Volumes.{AreSeparate, FoundAlike, VolumeLiesWell, VolumesAreApart};
 ghost use Rattle.adf_partitions.specs.declared.layout.TheConstants.{MOST_TABLES, RDSK_BLOCKS};
-ghost use Rattle.adf_partitions.specs.declared.fault.DiskFault.{DiskFault};
-ghost use Rattle.adf_partitions.specs.declared.partition.Partition.{Partition};
-ghost use Rattle.adf_partitions.specs.declared.tables.Tables.{Tables};
 
 /// A disk has at most one rigid disk block, and at most one list of partitions.
 pub fn one_disk()

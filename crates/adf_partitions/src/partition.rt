@@ -3,10 +3,9 @@
 ghost use Rattle.std.specs.Prelude.{◌≡◌};
 ghost use Rattle.std.specs.List.{list_all, list_any};
 ghost use Rattle.adf_names.specs.Texts.{is_name_byte};
-ghost use Rattle.adf_partitions.specs.Faults.{first_failed};
+ghost use Rattle.adf_partitions.specs.{Faults.first_failed, Places.partition_place};
 ghost use Rattle.adf_partitions.specs.Partitions.{field_form, has_drive_name, is_over, is_over_earlier, name_at, partition_of};
 ghost use Rattle.adf_partitions.specs.Partitions.{place_form, place_or_fault};
-ghost use Rattle.adf_partitions.specs.Places.{partition_place};
 
 use crate::field_fault::FieldFault;
 use crate::layout::{

@@ -3,8 +3,7 @@
 ghost use Rattle.std.specs.Prelude.{◌≡◌, ◌≢◌, [], IfOk, OnErr};
 ghost use Rattle.adf_partitions.specs.Searches.{AreReadable, HasReadable, bare_partitions, is_lost_partition, is_partition_block};
 ghost use Rattle.adf_partitions.specs.Searches.{is_searched, with_all_lost};
-ghost use Rattle.adf_partitions.specs.Tables.{IsTables};
-ghost use Rattle.adf_partitions.specs.declared.layout.TheConstants.{MOST_TABLES};
+ghost use Rattle.adf_partitions.specs.{Tables.IsTables, declared.layout.TheConstants.MOST_TABLES};
 
 use crate::fault::DiskCause;
 use crate::layout::{MARK, MOST_PARTITIONS, MOST_TABLES, NO_BLOCK, PART, RDSK_BLOCKS};

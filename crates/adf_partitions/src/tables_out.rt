@@ -3,12 +3,11 @@
 ghost use Rattle.std.specs.Prelude.{◌≡◌, ◌≤◌, ◌<◌, ◌+◌, ◌-◌, ◌*◌, ◌++◌, ℕ, List, IfOk, length};
 ghost use Rattle.adf_base.specs.Words.{with_bytes};
 ghost use Rattle.adf_blocks.specs.Fields.{text};
-ghost use Rattle.adf_partitions.specs.Disks.{IsDisk};
+ghost use Rattle.adf_partitions.specs.{Disks.IsDisk, declared.layout.TheConstants.DRIVE_NAME};
 ghost use Rattle.adf_partitions.specs.Plans.{PlanValue, AreVolumes, IsPartitionPlan, IsPlan, StandInPlaces, cylinder_blocks};
 ghost use Rattle.adf_partitions.specs.Plans.{planned_blocks, planned_cylinders, planned_partitions, plan_value};
 ghost use Rattle.adf_partitions.specs.WrittenTables.{block_after, disk_bytes, part_block, planned_tables, rdsk_block};
 ghost use Rattle.adf_partitions.specs.WrittenTables.{table_bytes, written_bytes};
-ghost use Rattle.adf_partitions.specs.declared.layout.TheConstants.{DRIVE_NAME};
 
 use crate::layout::{
     ADDRESS_MASK, BAD_BLOCKS, BLOCK_BYTES, BLOCK_SECTORS, BOOT_PRIORITY, BUFFERS, CHECKSUM,

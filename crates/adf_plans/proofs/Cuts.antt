@@ -1,13 +1,9 @@
 -- Texts that are read byte after byte. xs is a text, i the number of bytes that were read, x the next one.
 use Rattle.std.proofs.Common.{◌≡◌, ◌<◌, ◌≤◌, ◌+◌, ◌-◌, ◌*◌, ◌∙◌, ℕ, Bool, true, false, List, [], ◌∷◌, Some, None, length, get_or, drop, ap, refl, sym, arith}
 use Rattle.std.proofs.Common.{◌&&◌, nat_le, if◌then◌else◌}
-use Rattle.std.proofs.lemmas.Bool.Decides.{nat_tests}
-use Rattle.std.proofs.lemmas.List.{drop_all, take_rest}
-use Rattle.std.proofs.Math.Seq.{drop-cons}
-use Rattle.std.proofs.lemmas.Grind.{common_steps}
+use Rattle.std.proofs.{lemmas.Bool.Decides.nat_tests, lemmas.List.drop_all, lemmas.List.take_rest, Math.Seq.drop-cons, lemmas.Grind.common_steps}
 use Rattle.std.specs.List.{position, position_or_len}
-use Rattle.adf_plans.specs.PlanTexts.{number_from, decimal_number}
-use Rattle.adf_plans.specs.declared.plan_words.TheConstants.{MOST_NUMBER}
+use Rattle.adf_plans.specs.{PlanTexts.number_from, PlanTexts.decimal_number, declared.plan_words.TheConstants.MOST_NUMBER}
 
 -- what is left from a byte on
 pub left_at : (xs : List ℕ) (i x : ℕ) → i < length xs → x ≡ get_or xs i 0 → drop i xs ≡ x ∷ drop (i + 1) xs

@@ -3,10 +3,9 @@ use Rattle.std.proofs.Common.{◌≡◌, ◌∙◌, ℕ, true, false, List, [], 
 use Rattle.std.proofs.lemmas.Grind.{common_steps}
 use Rattle.adf_names.proofs.Spellings.{only_spelled}
 use Rattle.adf_plans.proofs.SomeTexts.{made, one_some}
-use Rattle.adf_partitions.specs.declared.plan.PartitionPlan.{PartitionPlan}
+use Rattle.adf_partitions.specs.{declared.plan.PartitionPlan.PartitionPlan, Plans.PlanValue}
 use Rattle.adf_plans.specs.declared.plan_text.TextFault.{TextFault}
 use Rattle.adf_plans.specs.declared.plan_text.TextKind.{TextKind, TheVariants.BadLine, TheVariants.NoEnd, TheVariants.NoMemory, TheVariants.TooLarge}
-use Rattle.adf_partitions.specs.Plans.{PlanValue}
 use Rattle.adf_plans.specs.PlanTexts.{AreLines, HasLines, IsEndFault, IsPartitionLine, IsPartitionText, IsText, IsTextFault, HasNoPartition, before_byte}
 use Rattle.adf_plans.specs.PlanTexts.{behind_line, first_line, begins_with_end, is_plan, options_in}
 

@@ -1,29 +1,19 @@
 -- Every text has a plan, or a fault. k is how many bytes are left at most; t is a text, p a partition, ps partitions, e what is behind their lines.
 use Rattle.std.proofs.Common.{◌≡◌, ◌∙◌, ◌≤◌, ◌+◌, ◌⊎◌, ℕ, ℤ, zero, suc, Bool, true, false, List, [], ◌∷◌, Option, Some, arith, codes, inl, inr, length, refl}
-use Rattle.std.proofs.Common.{subst, sym}
-use Rattle.std.specs.Prelude.{FitsSigned}
-use Rattle.std.specs.Int.{int_wrap, w8}
-use Rattle.std.proofs.Math.IntN.{ℤ_discrete}
-use Rattle.std.specs.List.{list_all}
-use Rattle.std.proofs.lemmas.Int.{SFits-int_wrap, int_wrap_fits}
+use Rattle.std.proofs.{Common.subst, Common.sym, Math.IntN.ℤ_discrete, lemmas.Int.SFits-int_wrap, lemmas.Int.int_wrap_fits}
+use Rattle.std.specs.{Prelude.FitsSigned, Int.int_wrap, Int.w8, List.list_all}
 use native.Mathlib.Decide.{dec_le, map_dec}
 use mathlib.Core.Logic.Dec.{and as dec_and}
 use Rattle.adf_base.specs.declared.hash.Letters.{Letters}
-use Rattle.adf_names.proofs.SomeSpellings.{Spells, spelt}
-use Rattle.adf_names.proofs.Spellings.{only_spelled}
-use Rattle.adf_names.specs.Escapes.{IsSpelling}
-use Rattle.adf_names.specs.VolumeTypes.{kind_named_by}
-use Rattle.adf_names.specs.Texts.{is_name_byte}
-use Rattle.adf_names.specs.declared.kind.Kind.{Kind}
+use Rattle.adf_names.proofs.{SomeSpellings.Spells, SomeSpellings.spelt, Spellings.only_spelled}
+use Rattle.adf_names.specs.{Escapes.IsSpelling, VolumeTypes.kind_named_by, Texts.is_name_byte, declared.kind.Kind.Kind}
 use Rattle.adf_partitions.proofs.NamedPartitions.{none_or_some}
 use Rattle.adf_plans.proofs.TextLines.{line_taken}
-use Rattle.adf_partitions.specs.declared.plan.PartitionPlan.{PartitionPlan}
-use Rattle.adf_plans.specs.declared.plan_line.Options.{Options}
+use Rattle.adf_partitions.specs.{declared.plan.PartitionPlan.PartitionPlan, Plans.PlanValue}
+use Rattle.adf_plans.specs.{declared.plan_line.Options.Options, PlanTexts.options_in, PlanTexts.options_of}
 use Rattle.adf_plans.specs.declared.plan_text.TextKind.TheVariants.{BadLine, NoEnd, TooLarge}
-use Rattle.adf_partitions.specs.Plans.{PlanValue}
 use Rattle.adf_plans.specs.PlanTexts.{AreLines, HasLines, HasPlanOrFault, IsDiskLine, IsPartitionLine, IsPartitionText, HasNoPartition, behind_line}
 use Rattle.adf_plans.specs.PlanTexts.{behind_word, ends_in_space, first_line, first_word, has_word, begins_with_end, is_plan, kind_word, decimal_number}
-use Rattle.adf_plans.specs.PlanTexts.{options_in, options_of}
 
 -- whether two truth values are equal
 dec_is : (a b : Bool) → Dec (a ≡ b)

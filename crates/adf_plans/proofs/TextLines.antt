@@ -1,12 +1,9 @@
 -- The lines of a plan's text. left is what is left of a text, ps its partitions, e the text behind their lines.
 use Rattle.std.proofs.Common.{◌≡◌, ◌≢◌, ◌<◌, ◌+◌, ℕ, true, false, List, [], ◌∷◌, ◌++◌, length, ap, refl, subst, arith, append-nil, append_assoc, length-drop}
 use Rattle.std.proofs.Common.{◌==◌, All}
-use Rattle.std.proofs.lemmas.Bool.{and_parts, leb-true, ltb-true, Decides.nat_tests}
-use Rattle.std.proofs.lemmas.Grind.{common_steps}
-use Rattle.adf_partitions.specs.declared.plan.PartitionPlan.{PartitionPlan}
-use Rattle.adf_plans.specs.declared.plan_text.TextFault.{TextFault}
-use Rattle.adf_plans.specs.declared.plan_text.TextKind.{TextKind}
-use Rattle.adf_partitions.specs.Plans.{IsPartitionPlan, IsPlan, PlanValue}
+use Rattle.std.proofs.{lemmas.Bool.and_parts, lemmas.Bool.leb-true, lemmas.Bool.ltb-true, lemmas.Bool.Decides.nat_tests, lemmas.Grind.common_steps}
+use Rattle.adf_partitions.specs.{declared.plan.PartitionPlan.PartitionPlan, Plans.IsPartitionPlan, Plans.IsPlan, Plans.PlanValue}
+use Rattle.adf_plans.specs.{declared.plan_text.TextFault.TextFault, declared.plan_text.TextKind.TextKind}
 use Rattle.adf_plans.specs.PlanTexts.{AreLines, HasPartition, IsDiskLine, IsEndFault, IsTextFault, IsPartitionLine, IsPartitionText, HasNoPartition}
 use Rattle.adf_plans.specs.PlanTexts.{before_byte, behind_byte, behind_line, first_line, is_plan}
 

@@ -2,19 +2,12 @@
 -- line on, ps are partitions.
 use Rattle.std.specs.Prelude.{◌≡◌, ◌≢◌, ◌≤◌, ◌⊎◌, ◌+◌, ◌-◌, ◌*◌, ◌^◌, ◌==◌, ◌&&◌, ◌||◌, ℕ, ℤ, pos, neg_ℤ, nat_le, nat_lt, Bool, FitsSigned, true, false, List}
 use Rattle.std.specs.Prelude.{[], ◌∷◌, ◌++◌, codes, decimal, Option, Some, None, if◌then◌else◌, length, slice_index}
-use Rattle.std.specs.Int.{w8}
-use Rattle.std.specs.List.{after_first, before_first, list_all}
-use Rattle.std.specs.Str.{bytes_eq}
+use Rattle.std.specs.{Int.w8, List.after_first, List.before_first, List.list_all, Str.bytes_eq}
 use Rattle.adf_blocks.specs.Sizes.{is_allowed}
-use Rattle.adf_names.specs.Escapes.{IsSpelling}
-use Rattle.adf_names.specs.VolumeTypes.{kind_named_by}
-use Rattle.adf_names.specs.Texts.{is_name_byte}
-use Rattle.adf_partitions.specs.declared.layout.TheConstants.{MOST_PARTITIONS}
-use Rattle.adf_partitions.specs.declared.plan.PartitionPlan.{PartitionPlan}
-use Rattle.adf_plans.specs.declared.plan_line.Options.{Options}
-use Rattle.adf_plans.specs.declared.plan_text.TextFault.{TextFault}
+use Rattle.adf_names.specs.{Escapes.IsSpelling, VolumeTypes.kind_named_by, Texts.is_name_byte}
+use Rattle.adf_partitions.specs.{declared.layout.TheConstants.MOST_PARTITIONS, declared.plan.PartitionPlan.PartitionPlan}
+use Rattle.adf_plans.specs.{declared.plan_line.Options.Options, declared.plan_text.TextFault.TextFault, declared.plan_words.TheConstants.MOST_NUMBER}
 use Rattle.adf_plans.specs.declared.plan_text.TextKind.{TextKind, TheVariants.BadLine, TheVariants.NoEnd, TheVariants.NoMemory, TheVariants.TooLarge}
-use Rattle.adf_plans.specs.declared.plan_words.TheConstants.{MOST_NUMBER}
 use Rattle.adf_partitions.specs.Plans.{PlanValue, cylinder_blocks, planned_blocks}
 
 -- what is wrong with the text of a plan

@@ -1,8 +1,7 @@
 // The lines of a plan's text.
 
 ghost use Rattle.std.specs.Prelude.{◌≡◌, ◌≤◌, IfNone, IfSome, List, length, true, ℕ};
-ghost use Rattle.adf_names.specs.Escapes.{IsSpelling};
-ghost use Rattle.adf_names.specs.Texts.{is_name_byte};
+ghost use Rattle.adf_names.specs.{Escapes.IsSpelling, Texts.is_name_byte};
 ghost use Rattle.std.specs.List.{list_all};
 ghost use Rattle.adf_partitions.specs.Plans.{IsPartitionPlan};
 ghost use Rattle.adf_plans.specs.PlanTexts.{IsDiskLine, IsDiskText, IsPartitionLine, IsPartitionText, has_word, option_priority};

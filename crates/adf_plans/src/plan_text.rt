@@ -7,8 +7,7 @@ ghost use Rattle.adf_partitions.specs.Plans.{IsPlan, cylinder_blocks, plan_value
 ghost use Rattle.adf_plans.specs.PlanTexts.{AreLines, HasBegun, HasNoPartition, HasPartition, HasPlanOrFault, IsEndFault};
 ghost use Rattle.adf_plans.specs.PlanTexts.{IsPartitionText, IsText, IsTextFault, PlansHaveNoFault, TextsHaveOneFault};
 ghost use Rattle.adf_plans.specs.PlanTexts.{TextsHaveOnePlan, begins_with_end, has_volume, is_plan, kind_word, text_kind_text};
-ghost use Rattle.adf_partitions.specs.declared.layout.TheConstants.{MOST_PARTITIONS};
-ghost use Rattle.adf_partitions.specs.declared.plan.PartitionPlan.{PartitionPlan};
+ghost use Rattle.adf_partitions.specs.{declared.layout.TheConstants.MOST_PARTITIONS, declared.plan.PartitionPlan.PartitionPlan};
 ghost use Rattle.adf_plans.specs.declared.plan_text.TextKind.{TextKind};
 
 use crate::plan_line::{read_disk, read_partition};

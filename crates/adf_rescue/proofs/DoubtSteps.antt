@@ -1,14 +1,11 @@
 -- The entries kept in doubt, with one more verdict.
 -- Letters: doubt the doubt about each node; vs verdicts; n the node of the first one; k a number of verdicts.
-use Rattle.std.specs.List.{cons_option}
-use Rattle.std.specs.Prelude.{Option, None}
+use Rattle.std.specs.{List.cons_option, Prelude.Option, Prelude.None}
 use Rattle.std.proofs.Common.{◌≡◌, ◌≤◌, ◌∙◌, ◌+◌, ℕ, Bool, false, zero, suc, List, [], ◌∷◌, ◌++◌, add-one, ap, arith, length, map, refl, take, take_all}
 use Rattle.std.proofs.lemmas.Grind.{common_steps}
 use Rattle.adf_findings.specs.Members.{has_mark}
-use Rattle.adf_rescue.specs.Doubts.{doubts_from, kept_in_doubt}
+use Rattle.adf_rescue.specs.{Doubts.doubts_from, Doubts.kept_in_doubt, declared.doubts.Doubt.Doubt, declared.doubts.Doubtful.Doubtful}
 use Rattle.adf_rescue.specs.Rescue.{Verdict, added_marks, is_added}
-use Rattle.adf_rescue.specs.declared.doubts.Doubt.{Doubt}
-use Rattle.adf_rescue.specs.declared.doubts.Doubtful.{Doubtful}
 use Rattle.adf_rescue.proofs.LossSteps.{cons_append}
 
 module _ (doubt : ℕ → Option Doubt) where

@@ -2,21 +2,16 @@
 -- Letters: t a tree, l its layout; es entries, qs their places; n a node; h the block of its header; a, b blocks; xs blocks with what has them.
 use Rattle.std.proofs.Common.{◌≡◌, ℕ, zero, suc, List, [], ◌∷◌, ◌++◌, ◌+◌, ◌-◌, ◌*◌, ◌≤◌, length, take, length-append, refl, arith}
 use Rattle.std.specs.List.{range_with_len}
-use Rattle.std.proofs.lemmas.List.FromFn.{length-range_with_len}
-use Rattle.std.proofs.lemmas.Grind.{common_steps}
+use Rattle.std.proofs.{lemmas.List.FromFn.length-range_with_len, lemmas.Grind.common_steps}
 use Rattle.adf_base.specs.declared.hash.Letters.{Letters}
 use Rattle.adf_tree.specs.declared.entry.Body.{Body, TheVariants.Dir, TheVariants.File}
-use Rattle.adf_tree.specs.declared.entry.Entry.{Entry}
+use Rattle.adf_tree.specs.{declared.entry.Entry.Entry, Tree.Tree}
 use Rattle.adf_names.specs.declared.kind.Kind.{Kind}
-use Rattle.adf_tree.specs.Tree.{Tree}
-use Rattle.adf_blocks.specs.declared.layout.TheConstants.{POINTERS}
-use Rattle.adf_blocks.specs.Sizes.{blocks}
+use Rattle.adf_blocks.specs.{declared.layout.TheConstants.POINTERS, Sizes.blocks}
 use Rattle.adf_volume.specs.declared.owner.Owner.TheVariants.{Data, Ext}
-use Rattle.adf_volume.specs.Fits.{BodyFits, FileFits, FitsBy}
+use Rattle.adf_volume.specs.{Fits.BodyFits, Fits.FileFits, Fits.FitsBy, Lists.At, Lists.numbered}
 use Rattle.adf_volume.specs.Layout.{Layout, Place, at_node, datas_at, datas_of, exts_at, exts_of, owned, owned_from}
-use Rattle.adf_volume.specs.Lists.{At, numbered}
-use Rattle.adf_volume.proofs.Lists.{length_numbered}
-use Rattle.adf_volume.proofs.WalkLengths.{no_longer}
+use Rattle.adf_volume.proofs.{Lists.length_numbered, WalkLengths.no_longer}
 use Rattle.adf_build.specs.Plan.{blocks_needed, data_blocks, entries_blocks, exts_needed, reserved}
 use Rattle.adf_build.proofs.AllocatedBlocks.{range_in}
 

@@ -3,20 +3,14 @@
 use Rattle.std.specs.Prelude.{◌==◌, ◌&&◌, cond, nat_lt, Option, None}
 use Rattle.std.specs.Option.{unwrap_or}
 use Rattle.std.proofs.Common.{◌≡◌, ◌≤◌, ◌<◌, ℕ, suc, ◌*◌, Bool, true, false, List, [], ◌∷◌, length, refl, arith}
-use Rattle.std.proofs.Math.Bool.{and-true}
+use Rattle.std.proofs.{Math.Bool.and-true, lemmas.Slice.Eq.bytes_eq-Decides, lemmas.Grind.common_steps}
 use Rattle.std.proofs.lemmas.Bool.{and_from, le-leb, lt-ltb}
-use Rattle.std.proofs.lemmas.Slice.Eq.{bytes_eq-Decides}
-use Rattle.std.proofs.lemmas.Grind.{common_steps}
 use Rattle.adf_base.specs.declared.hash.Letters.{Letters}
-use Rattle.adf_blocks.specs.declared.layout.TheConstants.{BITMAP_FLAG, VALID}
-use Rattle.adf_blocks.specs.Sizes.{blocks, in_range}
-use Rattle.adf_volume.specs.Image.{root_of, word_in}
-use Rattle.adf_volume.specs.Lists.{At}
+use Rattle.adf_blocks.specs.{declared.layout.TheConstants.BITMAP_FLAG, declared.layout.TheConstants.VALID, Sizes.blocks, Sizes.in_range}
+use Rattle.adf_volume.specs.{Image.root_of, Image.word_in, Lists.At}
 use Rattle.adf_findings.specs.Files.{FileValue, HasItsBlocks}
-use Rattle.adf_rescue.specs.Lost.{bit_stated, is_stated_free}
+use Rattle.adf_rescue.specs.{Lost.bit_stated, Lost.is_stated_free, Salvage.are_data, declared.standing.Input.Input}
 use Rattle.adf_rescue.specs.Rescue.{as_accepted, are_given, before_first_by, is_data, is_given, is_same_block}
-use Rattle.adf_rescue.specs.Salvage.{are_data}
-use Rattle.adf_rescue.specs.declared.standing.Input.{Input}
 
 -- nothing is told where nothing is surveyed
 

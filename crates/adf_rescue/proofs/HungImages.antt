@@ -3,25 +3,18 @@
 -- e an end; v, m, l, t answers of tests.
 use Rattle.std.proofs.Common.{◌==◌, ◌&&◌, ◌||◌, slice_index, slice_index_or, cond, replicate, Some, None, codes, decimal, ◌≡◌, ◌≤◌, ◌<◌, ℕ, zero, suc, ◌+◌, ◌^◌}
 use Rattle.std.proofs.Common.{Bool, true, false, List, [], ◌∷◌, length, add-one, ◌∙◌, ap, arith, inl, inr, refl, subst, sym, length-append}
-use Rattle.std.specs.List.{list_all}
+use Rattle.std.specs.{List.list_all, Option.unwrap_or}
 use Rattle.std.proofs.lemmas.Bool.{and_from, and_left, cases_lt, cond-false, cond-true, or_from, or_left, or_right, Decides.nat_tests}
 use Rattle.std.proofs.lemmas.Fmt.{decimal_is_IsNumeral, length-decimal-le}
-use Rattle.std.proofs.lemmas.List.Folds.{list_all-append}
+use Rattle.std.proofs.{lemmas.List.Folds.list_all-append, lemmas.Str.Parse.digit_at, Math.Bool.and-false, Math.Bool.or-false, lemmas.Grind.common_steps}
 use Rattle.adf_names.specs.Texts.{is_name, is_name_byte}
-use Rattle.adf_blocks.specs.declared.layout.TheConstants.{NEXT_IN_CHAIN, PARENT}
-use Rattle.adf_blocks.specs.Sizes.{blocks, in_range}
-use Rattle.adf_volume.specs.Image.{word_in}
-use Rattle.adf_volume.specs.Walk.{heads, Walk}
+use Rattle.adf_blocks.specs.{declared.layout.TheConstants.NEXT_IN_CHAIN, declared.layout.TheConstants.PARENT, Sizes.blocks, Sizes.in_range}
+use Rattle.adf_volume.specs.{Image.word_in, Walk.heads, Walk.Walk}
 use Rattle.adf_findings.specs.Members.{has_mark, owns, parent_node}
 use Rattle.adf_rescue.specs.Hung.{AreEnds, AreMade, directory_end, hung_at, hung_in, slot_word, last_open, open_end, hung_first, hung_loose, is_made}
-use Rattle.adf_rescue.specs.Hung.{has_lost_child, readied, ready_in}
+use Rattle.adf_rescue.specs.{Hung.has_lost_child, Hung.readied, Hung.ready_in, Rescue.lost_name}
 use Rattle.adf_rescue.specs.Lost.{directory_at, is_lost, is_vacant, lost_among}
-use Rattle.adf_rescue.specs.Rescue.{lost_name}
-use Rattle.std.specs.Option.{unwrap_or}
 use Rattle.adf_rescue.proofs.LostHeaders.{number_known}
-use Rattle.std.proofs.lemmas.Str.Parse.{digit_at}
-use Rattle.std.proofs.Math.Bool.{and-false, or-false}
-use Rattle.std.proofs.lemmas.Grind.{common_steps}
 
 -- the name of a directory that is made
 
@@ -112,12 +105,12 @@ module _ (given : List ℕ) (w : Walk) (p : ℕ) where
       → slice_index ends n ≡ directory_end given w p
   end_found n ends are is = ap (slice_index ends) is ∙ are.end (unwrap_or (directory_at given w p) 0) (number_known given w p)
 
-  pub hung_at_end : (image : List ℕ) (b e : ℕ) → owns w (word_in image p (slot_word b)) ≡ true → e ≡ directory_end given w p → in_range image e ≡ true
+  pub hung_at_end : (image : List ℕ) (b e : ℕ) → owns w (word_in image p (slot_word given p b)) ≡ true → e ≡ directory_end given w p → in_range image e ≡ true
       → hung_at image b p e NEXT_IN_CHAIN ≡ hung_in given w image b p
   unfolding hung_in
   hung_at_end image b e full is inside = grind (arith, common_steps, cond-true)
 
-  pub not_hung : (image : List ℕ) (b e : ℕ) → owns w (word_in image p (slot_word b)) ≡ true → e ≡ directory_end given w p → in_range image e ≡ false
+  pub not_hung : (image : List ℕ) (b e : ℕ) → owns w (word_in image p (slot_word given p b)) ≡ true → e ≡ directory_end given w p → in_range image e ≡ false
       → image ≡ hung_in given w image b p
   unfolding hung_in
   not_hung image b e full is out = grind (arith, common_steps, cond-true, cond-false)

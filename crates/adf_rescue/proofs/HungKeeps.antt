@@ -3,31 +3,22 @@
 -- word; k that of one too, or a number of blocks or nodes;
 -- x, y, z images.
 use Rattle.std.proofs.Common.{◌==◌, ◌&&◌, ◌||◌, ◌%◌, ◌/◌, None, Some, cond, is_some, option_map, Option, replicate, slice_index, ◌≡◌, ◌≢◌, ◌≤◌, ◌<◌, ℕ}
-use Rattle.std.proofs.Common.{zero, suc, ◌*◌, ◌+◌, ◌^◌, Bool, true, false, List, [], ◌∷◌, length, ◌∙◌, ap, arith, inl, inr, refl, subst, sym, ◌⊎◌}
-use Rattle.std.specs.Prelude.{nat_le, nat_lt}
-use Rattle.std.specs.Option.{unwrap_or}
+use Rattle.std.proofs.Common.{zero, suc, ◌*◌, ◌+◌, ◌-◌, ◌^◌, Bool, true, false, List, [], ◌∷◌, length, ◌∙◌, ap, arith, inl, inr, refl, subst, sym, ◌⊎◌}
+use Rattle.std.specs.{Prelude.nat_le, Prelude.nat_lt, Option.unwrap_or}
 use Rattle.std.proofs.lemmas.Bool.{and_left, and_parts, and_right, cases_Bool, cond-false, cond-true, cond_both, not_from_true, or_left, or_right}
-use Rattle.std.proofs.lemmas.Bool.{eq-eqb, eqb-true}
-use Rattle.std.proofs.lemmas.Bool.Decides.{nat_tests}
-use Rattle.std.proofs.lemmas.List.{length-replicate}
-use Rattle.std.proofs.lemmas.Grind.{common_steps}
+use Rattle.std.proofs.{lemmas.Bool.eq-eqb, lemmas.Bool.eqb-true, lemmas.Bool.Decides.nat_tests, lemmas.List.length-replicate, lemmas.Grind.common_steps}
 use Rattle.adf_base.specs.Words.{block, checksum, with_block, with_bytes, with_word, word}
 use Rattle.adf_base.proofs.WordLaws.{block_other, block_written, length-block, length-with_bytes, length-with_word, word-with_word_other}
 use Rattle.adf_names.specs.declared.kind.Kind.TheVariants.{Ofs, Ffs}
 use Rattle.adf_blocks.specs.declared.layout.TheConstants.{CHECKSUM, FIRST_SLOT, NEXT_IN_CHAIN, PARENT, SLOTS}
-use Rattle.adf_blocks.specs.HeadBlock.{FitsHead, head_block}
-use Rattle.adf_blocks.specs.Sizes.{blocks, in_range}
+use Rattle.adf_blocks.specs.{HeadBlock.FitsHead, HeadBlock.head_block, Sizes.blocks, Sizes.in_range}
 use Rattle.adf_blocks.proofs.HeadLaws.{length_head_block}
-use Rattle.adf_volume.specs.Image.{kind_of, root_of, word_in}
-use Rattle.adf_volume.specs.Start.{is_image_len}
-use Rattle.adf_volume.specs.Walk.{heads, node_block, Walk}
+use Rattle.adf_volume.specs.{Image.kind_of, Image.root_of, Image.word_in, Start.is_image_len, Walk.heads, Walk.node_block, Walk.Walk}
 use Rattle.adf_findings.specs.Members.{role_entry, owning_entry, owns}
 use Rattle.adf_rescue.specs.Hung.{directory_end, home, hung, hung_at, hung_behind, hung_first, hung_in, hung_loose, is_container, is_loose, is_made}
-use Rattle.adf_rescue.specs.Hung.{last_open, made_header, put_in, readied, ready_in, sealed_in, slot_word}
+use Rattle.adf_rescue.specs.Hung.{is_named_by, last_open, made_header, put_in, readied, ready_in, sealed_in, slot_word}
 use Rattle.adf_rescue.specs.Lost.{directory_at, is_lost, is_vacant, says_directory}
-use Rattle.adf_rescue.proofs.HungImages.{name_is_valid}
-use Rattle.adf_rescue.proofs.LostHeaders.{root_at}
-use Rattle.adf_rescue.proofs.MadeRoots.{root_within, sized}
+use Rattle.adf_rescue.proofs.{HungImages.name_is_valid, LostHeaders.root_at, MadeRoots.root_within, MadeRoots.sized}
 
 -- only blocks b and p change
 
@@ -112,8 +103,12 @@ owner_owns (x ∷ w) b e = elim (cases_Bool (x.1 == b)) [
   | inr other ↦ or_right (x.1 == b) (owns w b) (owner_owns w b (sym (ap is_some (cond-false (x.1 == b) (role_entry x.0) (owning_entry w b) other)) ∙ e))
 ]
 
-slot_small : (b : ℕ) → slot_word b < 128
-slot_small b = omega arith
+slot_below : (named : Bool) (m : ℕ) → m < SLOTS → FIRST_SLOT + cond named 0 (SLOTS / 2) + m < 128
+slot_below true m small = omega arith
+slot_below false m small = omega arith
+
+slot_small : (given : List ℕ) (p b : ℕ) → slot_word given p b < 128
+slot_small given p b = slot_below (is_named_by given p b) (b % (SLOTS / 2)) (omega arith)
 
 -- what a choice of two gives is one of them
 one_of_two : (m l : Bool) (r q p : ℕ) → cond m (Some r) (cond l (Some q) None) ≡ Some p → ((m ≡ true) × (p ≡ r)) ⊎ ((l ≡ true) × (p ≡ q))
@@ -260,7 +255,7 @@ module _ (given : List ℕ) (w : Walk) (s : ℕ → Bool) (len : is_image_len (l
   in_touches x b p same inside is =
       let e : ℕ = directory_end given w p in
       let loose : is_loose given w s b ≡ true = home_loose b p is in
-      cond_both (owns w (word_in x p (slot_word b))) (hung_behind x b p e) (hung_at x b p p (slot_word b)) (KeepsMore x)
+      cond_both (owns w (word_in x p (slot_word given p b))) (hung_behind x b p e) (hung_at x b p p (slot_word given p b)) (KeepsMore x)
       (λ full.
       cond_both (in_range x e) (hung_at x b p e NEXT_IN_CHAIN) x (KeepsMore x)
       (λ there.
@@ -274,8 +269,8 @@ module _ (given : List ℕ) (w : Walk) (s : ℕ → Bool) (len : is_image_len (l
       ]))
       (λ out. keeps_all x))
       (λ free.
-      at_keeps x b p same inside loose p (slot_word b) (home_inside b p is) (slot_small b) (λ c apart at. apart.0 b (is ∙ ap (λ q. Some q) (sym at)))
-      (λ before owned. let yes = subst (λ v. owns w v ≡ true) (sym (before p (slot_word b) owned)) owned.3 in cc))
+      at_keeps x b p same inside loose p (slot_word given p b) (home_inside b p is) (slot_small given p b) (λ c apart at. apart.0 b (is ∙ ap (λ q. Some q) (sym at)))
+      (λ before owned. let yes = subst (λ v. owns w v ≡ true) (sym (before p (slot_word given p b) owned)) owned.3 in cc))
 
   home_touches : (x : List ℕ) (b : ℕ) (o : Option ℕ) → length x ≡ length given → b < blocks given → home given w s b ≡ o
       → KeepsMore x (unwrap_or (option_map (hung_in given w x b) o) x)

@@ -3,36 +3,23 @@
 use Rattle.std.specs.Prelude.{◌==◌, ◌&&◌, cond, map, slice_get, slice_index_or}
 use Rattle.std.specs.Option.{unwrap_or}
 use Rattle.std.proofs.Common.{◌≡◌, ◌∙◌, ℕ, zero, suc, Bool, true, false, List, [], ◌∷◌, ◌++◌, inl, inr, Option, Some, None, Result, Ok, Err, ap, arith, refl}
-use Rattle.std.proofs.Common.{sym}
+use Rattle.std.proofs.{Common.sym, lemmas.List.length_push, lemmas.Option.slice_get_past, lemmas.Grind.common_steps}
 use Rattle.std.proofs.lemmas.Bool.{and_parts, cases_lt, eqb-true, not-true}
-use Rattle.std.proofs.lemmas.List.{length_push}
-use Rattle.std.proofs.lemmas.Option.{slice_get_past}
-use Rattle.std.proofs.lemmas.Grind.{common_steps}
 use Rattle.adf_base.specs.declared.hash.Letters.{Letters}
-use Rattle.adf_tree.specs.Additions.{Addition}
-use Rattle.adf_tree.specs.declared.entry.Body.{Body, TheVariants.Dir, TheVariants.File}
-use Rattle.adf_tree.specs.Tree.{Tree}
+use Rattle.adf_tree.specs.{Additions.Addition, declared.entry.Body.Body, declared.entry.Body.TheVariants.Dir, declared.entry.Body.TheVariants.File, Tree.Tree}
 use Rattle.adf_tree.proofs.Lists.{get_last}
 use Rattle.adf_names.specs.declared.meta.Meta.{Meta}
 use Rattle.adf_blocks.specs.declared.layout.TheConstants.{SECONDARY_TYPE, ST_DIR, ST_FILE}
 use Rattle.adf_blocks.specs.HeadBlock.{is_link}
-use Rattle.adf_volume.specs.Image.{word_in}
-use Rattle.adf_volume.specs.Lists.{At}
-use Rattle.adf_volume.specs.Made.{datas_in}
-use Rattle.adf_volume.specs.Walk.{heads, node_block}
+use Rattle.adf_volume.specs.{Image.word_in, Lists.At, Made.datas_in, Walk.heads, Walk.node_block}
 use Rattle.adf_volume.proofs.Lists.{get_before}
 use Rattle.adf_findings.specs.Files.{IsSoundFile, file_content, file_in, grave}
-use Rattle.adf_findings.specs.Members.{owning_entry, has_mark}
-use Rattle.adf_findings.specs.SoundMarks.{AreMarks}
-use Rattle.adf_findings.specs.Survey.{FindingValue}
+use Rattle.adf_findings.specs.{Members.owning_entry, Members.has_mark, SoundMarks.AreMarks, Survey.FindingValue}
 use Rattle.adf_rescue.specs.declared.left_out.Why.{Why, TheVariants.Damaged, TheVariants.Link}
 use Rattle.adf_rescue.specs.Rescue.{Basis, Ground, Verdict, added_marks, are_given, as_given, at_path, before_second_by, body_of, body_of_type, by_body}
 use Rattle.adf_rescue.specs.Rescue.{first_verdicts_by, is_added, is_given, is_of_kept_entry, second_verdicts_by}
-use Rattle.adf_rescue.specs.Rescue.{unless_known, verdict, verdicts}
-use Rattle.adf_rescue.specs.Rescue.Verdict.{adds}
-use Rattle.adf_rescue.specs.declared.standing.Input.{Input}
-use Rattle.adf_rescue.proofs.RescuedTrees.{fitting_is}
-use Rattle.adf_rescue.proofs.Steps.{verdicts_count}
+use Rattle.adf_rescue.specs.{Rescue.unless_known, Rescue.verdict, Rescue.verdicts, Rescue.Verdict.adds, declared.standing.Input.Input}
+use Rattle.adf_rescue.proofs.{RescuedTrees.fitting_is, Steps.verdicts_count}
 
 -- an addition has the body that stands
 

@@ -1,8 +1,6 @@
 -- The losses of one more finding.
 -- Letters: h what a finding tells, if it tells something; o that, xs what the findings before tell.
-use Rattle.std.specs.List.{cons_option, filter_map}
-use Rattle.std.specs.Option.{option_and_then}
-use Rattle.std.specs.Prelude.{slice_get}
+use Rattle.std.specs.{List.cons_option, List.filter_map, Option.option_and_then, Prelude.slice_get}
 use Rattle.std.proofs.Common.{◌≡◌, ◌≤◌, ◌∙◌, ◌+◌, ℕ, zero, suc, List, [], ◌∷◌, ◌++◌, Option, Some, None}
 use Rattle.std.proofs.Common.{add-one, ap, append_assoc, length, refl, take, take_all, arith}
 use Rattle.std.proofs.lemmas.Grind.{common_steps}

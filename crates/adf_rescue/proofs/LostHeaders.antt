@@ -2,29 +2,21 @@
 -- Letters: image the image of a survey, w its walk, fs its findings; s whether each directory is open; b, p, h blocks; n, m nodes; k, t numbers of
 -- entries, findings or blocks; page the block of a page; made whether the root was made; r an answer.
 use Rattle.std.specs.Prelude.{◌==◌, ◌&&◌, ◌||◌, ◌↔◌, not, Option, Some, None, IfSome, IsSome, IsTrue, option_and_then, unwrap_or, cond, map}
-use Rattle.std.specs.Prelude.{replicate, slice_get}
+use Rattle.std.specs.{Prelude.replicate, Prelude.slice_get, List.range_with_len}
 use Rattle.std.proofs.Common.{◌≡◌, ◌≢◌, ◌≤◌, ◌<◌, ℕ, suc, ◌+◌, ◌-◌, ◌/◌, ◌%◌, Bool, true, false, List, [], ◌∷◌, ◌++◌, length, add-one, ◌∙◌, ap, arith, inl, inr}
-use Rattle.std.proofs.Common.{refl, subst, sym, zero}
-use Rattle.std.specs.List.{range_with_len}
+use Rattle.std.proofs.{Common.refl, Common.subst, Common.sym, Common.zero, lemmas.Bool.Decides.nat_tests, lemmas.Grind.common_steps}
 use Rattle.std.proofs.lemmas.Bool.{and_left, and_parts, or_from, or_left, or_right, cases_Bool, cases_lt, cond-false, cond-true, eq-eqb, eqb-true}
 use Rattle.std.proofs.lemmas.Bool.{false_from_ne_true, ne_eqb}
-use Rattle.std.proofs.lemmas.Bool.Decides.{nat_tests}
 use Rattle.std.proofs.lemmas.List.FromFn.{get_or-map-range_with_len, length-map-range_with_len, map-range_with_len_more}
-use Rattle.std.proofs.lemmas.Grind.{common_steps}
 use Rattle.adf_blocks.specs.declared.layout.TheConstants.{FIRST_POINTER, PAGE_BITS, PARENT, SECONDARY_TYPE, ST_DIR}
 use Rattle.adf_blocks.specs.Sizes.{blocks, in_range}
-use Rattle.adf_volume.specs.Image.{root_of, word_in}
-use Rattle.adf_volume.specs.Walk.{Has, IsFreeIn, heads, node_block, Walk, Role.Page}
+use Rattle.adf_volume.specs.{Image.root_of, Image.word_in, Walk.Has, Walk.IsFreeIn, Walk.heads, Walk.node_block, Walk.Walk, Walk.Role.Page}
 use Rattle.adf_findings.specs.Members.{at_role, owning_entry, owns, has_mark}
-use Rattle.adf_findings.specs.Survey.{FindingValue, IsSurvey, IsValidated}
-use Rattle.adf_findings.specs.SurveyResult.{IsBitStated}
-use Rattle.adf_findings.proofs.BitSteps.{has_page}
-use Rattle.adf_findings.proofs.BitsStated.{one_page}
-use Rattle.adf_rescue.specs.Broken.{broken_by}
+use Rattle.adf_findings.specs.{Survey.FindingValue, Survey.IsSurvey, Survey.IsValidated, SurveyResult.IsBitStated}
+use Rattle.adf_findings.proofs.{BitSteps.has_page, BitsStated.one_page}
+use Rattle.adf_rescue.specs.{Broken.broken_by, Lost.is_set_in, Lost.is_stated_free, Lost.is_in_use, Lost.is_break_in, MadeRoot.says_page}
 use Rattle.adf_rescue.specs.Lost.{AreBroken, AreOpen, bit_in, bit_stated, directory_at, directory_by, has_found_data_among}
 use Rattle.adf_rescue.specs.Lost.{has_free_data_among, has_broken, has_free_header, has_open, has_valid_flag, is_lost, is_missed, is_open}
-use Rattle.adf_rescue.specs.Lost.{is_set_in, is_stated_free, is_in_use, is_break_in}
-use Rattle.adf_rescue.specs.MadeRoot.{says_page}
 
 -- what the bitmap tells of a block
 

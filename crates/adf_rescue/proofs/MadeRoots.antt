@@ -5,23 +5,18 @@ use Rattle.std.proofs.Common.{sym, ◌-◌, ◌==◌, ◌&&◌, ◌≢◌, slice
 use Rattle.std.specs.List.{range_with_len}
 use Rattle.std.proofs.lemmas.Bool.{cond-false, cond-true, cond_both, Decides.nat_tests}
 use Rattle.std.proofs.lemmas.List.{drop-drop, get_or-drop, length-take, take_all, Edits.fill_by_more}
-use Rattle.std.proofs.lemmas.List.{FromFn.get_or-map-range_with_len, FromFn.length-map-range_with_len}
-use Rattle.std.proofs.lemmas.Grind.{common_steps}
+use Rattle.std.proofs.{lemmas.List.FromFn.get_or-map-range_with_len, lemmas.List.FromFn.length-map-range_with_len, lemmas.Grind.common_steps}
 use Rattle.adf_base.specs.Words.{block, checksum, long_sum, sealed, with_block, with_word, word}
 use Rattle.adf_base.proofs.WordLaws.{block_written, drop-with_bytes_above, front-with_bytes, length-big_bytes, length-with_bytes, length-with_word}
 use Rattle.adf_base.proofs.WordLaws.{long_sum-sealed, range-with_bytes_below, with_bytes-with_bytes, word-with_word_other, word-with_word_same}
-use Rattle.adf_names.specs.Meta.{AreStamps}
+use Rattle.adf_names.specs.{Meta.AreStamps, declared.meta.Stamps.Stamps, declared.meta.TheConstants.NO_STAMPS}
 use Rattle.adf_blocks.specs.declared.layout.TheConstants.{BITMAP_FLAG, CHECKSUM, FIRST_MAP_EXT, FIRST_SLOT, MOST_BLOCKS, NAME, SECONDARY_TYPE, SLOTS, TYPE}
-use Rattle.adf_blocks.specs.Forms.{text_at}
+use Rattle.adf_blocks.specs.{Forms.text_at, Sizes.blocks}
 use Rattle.adf_blocks.specs.RootBlock.{FitsRoot, RootFields, label_stated, root_block, stamps_at}
-use Rattle.adf_blocks.specs.Sizes.{blocks}
 use Rattle.adf_blocks.proofs.RootLaws.{length_root_block, root_block-map_ext, root_block-secondary, root_block-slot, root_block-stamps, root_block-text}
 use Rattle.adf_blocks.proofs.RootLaws.{root_block-type}
-use Rattle.adf_volume.specs.Image.{root_of}
-use Rattle.adf_volume.specs.Start.{is_image_len}
+use Rattle.adf_volume.specs.{Image.root_of, Start.is_image_len}
 use Rattle.adf_findings.specs.Start.{has_root_type}
-use Rattle.adf_names.specs.declared.meta.Stamps.{Stamps}
-use Rattle.adf_names.specs.declared.meta.TheConstants.{NO_STAMPS}
 use Rattle.adf_rescue.specs.MadeRoot.{flag_in, has_root, is_like_root, label_in, made_block, made_root, map_ext_in, middle_block, root_pages}
 use Rattle.adf_rescue.specs.MadeRoot.{rooted, slots_in, stamps_in}
 

@@ -3,23 +3,15 @@
 use Rattle.std.proofs.Common.{◌≡◌, ◌<◌, ◌≤◌, ℕ, zero, suc, ◌+◌, ◌-◌, ◌*◌, ◌/◌, ◌^◌, Bool, true, false, List, [], ◌∷◌, ◌++◌, length}
 use Rattle.std.proofs.Common.{take, drop, ◌∙◌, add-one, ap, arith, codes, inl, inr, length-drop, refl, subst, sym, ◌==◌, ◌&&◌, ◌||◌, nat_le, not, slice_range}
 use Rattle.std.proofs.lemmas.Bool.{and_from, and_left, and_parts, and_right, cases_Bool, cases_lt, cond-false, cond-true, cond_both, not_from_false}
-use Rattle.std.proofs.lemmas.Bool.{not_from_true, or_from, or_left, or_right}
+use Rattle.std.proofs.{lemmas.Bool.not_from_true, lemmas.Bool.or_from, lemmas.Bool.or_left, lemmas.Bool.or_right, lemmas.Grind.common_steps}
 use Rattle.std.proofs.lemmas.List.{drop-drop, get_or-take, length-take, take_all}
-use Rattle.std.proofs.lemmas.Grind.{common_steps}
-use Rattle.adf_base.specs.Words.{block, long_sum, with_bytes, word}
-use Rattle.adf_base.specs.declared.hash.Letters.{Letters}
+use Rattle.adf_base.specs.{Words.block, Words.long_sum, Words.with_bytes, Words.word, declared.hash.Letters.Letters}
 use Rattle.adf_tree.specs.Tree.{Tree}
 use Rattle.adf_blocks.specs.declared.layout.TheConstants.{BITMAP_FLAG, FIRST_MAP_EXT, FIRST_SLOT, SECONDARY_TYPE, SLOTS, ST_ROOT, TYPE, T_SHORT}
-use Rattle.adf_blocks.specs.RootBlock.{label_stated, stamps_at}
-use Rattle.adf_blocks.specs.Sizes.{blocks, middle}
-use Rattle.adf_volume.specs.Fits.{FitsBy}
-use Rattle.adf_volume.specs.Image.{root_of, word_in}
-use Rattle.adf_volume.specs.Layout.{Layout}
-use Rattle.adf_volume.specs.Start.{is_image_len}
-use Rattle.adf_findings.specs.Opening.{opening_in}
-use Rattle.adf_findings.specs.Start.{has_root_type}
-use Rattle.adf_names.specs.Meta.{AreStamps}
-use Rattle.adf_names.specs.declared.meta.TheConstants.{NO_STAMPS}
+use Rattle.adf_blocks.specs.{RootBlock.label_stated, RootBlock.stamps_at, Sizes.blocks, Sizes.middle}
+use Rattle.adf_volume.specs.{Fits.FitsBy, Image.root_of, Image.word_in, Layout.Layout, Start.is_image_len}
+use Rattle.adf_findings.specs.{Opening.opening_in, Start.has_root_type}
+use Rattle.adf_names.specs.{Meta.AreStamps, declared.meta.TheConstants.NO_STAMPS}
 use Rattle.adf_rescue.specs.MadeRoot.{has_root, is_like_root, made_block, middle_block, rooted}
 use Rattle.adf_rescue.specs.Opened.{with_boot_type, has_data, is_mended, opened, says_data, states_type, type_byte}
 use Rattle.adf_rescue.proofs.MadeRoots.{before_rooted, behind_rooted, dated, extended, flagged, front_rooted, length_rooted, made_is_whole, made_rooted}

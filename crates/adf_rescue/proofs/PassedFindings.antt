@@ -3,26 +3,15 @@
 use Rattle.std.proofs.Common.{◌≡◌, ◌≢◌, ℕ, List, [], ◌∷◌, ◌++◌, arith, refl, sym, ap, subst, ◌∙◌, Bool, true, false, cond, Option, Some, None}
 use Rattle.std.proofs.lemmas.Grind.{common_steps}
 use Rattle.adf_base.specs.declared.hash.Letters.{Letters}
-use Rattle.adf_blocks.specs.declared.cause.Cause.{Cause}
-use Rattle.adf_blocks.specs.Forms.{first_cause}
-use Rattle.adf_volume.specs.Start.{start_form}
-use Rattle.adf_volume.specs.Lists.{In}
-use Rattle.adf_volume.specs.Types.{letters_for}
+use Rattle.adf_blocks.specs.{declared.cause.Cause.Cause, Forms.first_cause}
+use Rattle.adf_volume.specs.{Start.start_form, Lists.In, Types.letters_for}
 use Rattle.adf_volume.specs.Walk.{IsWalkBy, Role, HeadAt, Walk, IsWalkBy.start as walk_start, IsWalkBy.step as walk_step}
 use Rattle.adf_volume.specs.declared.types.Types.{Types, TheVariants.Plain, TheVariants.WithInternational}
-use Rattle.adf_volume.proofs.Gathered.{head_block}
-use Rattle.adf_volume.proofs.Lists.{in_left}
-use Rattle.adf_findings.specs.Files.{grave}
-use Rattle.adf_findings.specs.Members.{owns}
-use Rattle.adf_findings.specs.Sound.{IsOfItsKind, IsSound, says_data_of}
-use Rattle.adf_findings.specs.Survey.{FindingValue, IsSurvey, finding, IsSurvey.read, IsSurvey.unread}
-use Rattle.adf_findings.specs.Types.{is_international, passed, passed_of}
-use Rattle.adf_findings.proofs.FirstFindings.{shows_none}
-use Rattle.adf_findings.proofs.OneSurvey.{gathered}
+use Rattle.adf_volume.proofs.{Gathered.head_block, Lists.in_left}
+use Rattle.adf_findings.specs.{Files.grave, Members.owns, Sound.IsOfItsKind, Sound.IsSound, Sound.says_data_of, Survey.FindingValue, Survey.IsSurvey}
+use Rattle.adf_findings.specs.{Survey.finding, Survey.IsSurvey.read, Survey.IsSurvey.unread, Types.is_international, Types.passed, Types.passed_of}
+use Rattle.adf_findings.proofs.{FirstFindings.shows_none, OneSurvey.gathered, SoundMarks.is_alone, TypesRead.types_read, AllSound.none_over}
 use Rattle.adf_findings.proofs.SoundEntries.{skipped_reported}
-use Rattle.adf_findings.proofs.SoundMarks.{is_alone}
-use Rattle.adf_findings.proofs.TypesRead.{types_read}
-use Rattle.adf_findings.proofs.AllSound.{none_over}
 
 -- the finding of a type concerns no part, and is grave
 

@@ -2,47 +2,25 @@
 -- Letters: t the tree, l its layout; w the walk of the survey, fs its findings, f one of them, c a cause; n, m nodes; b, d blocks, page that of a
 -- page; k a number of blocks; doubt the doubt about each node, o one of them; vs verdicts.
 use Rattle.std.specs.Prelude.{◌==◌, ◌&&◌, not, unwrap_or}
-use Rattle.std.specs.List.{cons_option, filter_map}
-use Rattle.std.specs.Option.{option_and_then}
+use Rattle.std.specs.{List.cons_option, List.filter_map, Option.option_and_then}
 use Rattle.std.proofs.Common.{◌≡◌, ◌≤◌, ◌<◌, ◌+◌, ◌-◌, ◌/◌, ◌%◌, ◌∙◌, ℕ, zero, suc, List, [], ◌∷◌, length, Bool, true, false, cond, Option, Some, None}
-use Rattle.std.proofs.Common.{ap, arith, inl, inr, refl, subst}
+use Rattle.std.proofs.{Common.ap, Common.arith, Common.inl, Common.inr, Common.refl, Common.subst, lemmas.Bool.Decides.nat_tests, lemmas.Grind.common_steps}
 use Rattle.std.proofs.lemmas.Bool.{and_parts, cases_lt, false_from_ne_true}
-use Rattle.std.proofs.lemmas.Bool.Decides.{nat_tests}
-use Rattle.std.proofs.lemmas.Grind.{common_steps}
-use Rattle.adf_base.specs.declared.hash.Letters.{Letters}
-use Rattle.adf_base.specs.Words.{block, long_sum}
-use Rattle.adf_blocks.specs.declared.cause.Cause.{Cause}
-use Rattle.adf_blocks.specs.declared.layout.TheConstants.{PAGE_BITS}
-use Rattle.adf_blocks.specs.Forms.{first_cause}
-use Rattle.adf_blocks.specs.Sizes.{blocks, in_range}
+use Rattle.adf_base.specs.{declared.hash.Letters.Letters, Words.block, Words.long_sum}
+use Rattle.adf_blocks.specs.{declared.cause.Cause.Cause, declared.layout.TheConstants.PAGE_BITS, Forms.first_cause, Sizes.blocks, Sizes.in_range}
 use Rattle.adf_tree.specs.Tree.{Tree}
-use Rattle.adf_volume.specs.Demands.{AllHold, head_demands_by}
-use Rattle.adf_volume.specs.Fits.{FitsBy}
-use Rattle.adf_volume.specs.Image.{kind_of}
-use Rattle.adf_volume.specs.Layout.{Layout}
-use Rattle.adf_volume.specs.Start.{start_form}
-use Rattle.adf_volume.specs.Types.{letters_for}
+use Rattle.adf_volume.specs.{Demands.AllHold, Demands.head_demands_by, Fits.FitsBy, Image.kind_of, Layout.Layout, Start.start_form, Types.letters_for}
 use Rattle.adf_volume.specs.declared.types.Types.{Types, TheVariants.Plain, TheVariants.WithInternational}
 use Rattle.adf_volume.specs.Walk.{HeadAt, IsAbsent, IsFreeIn, Walk, bitmap_demands, heads, node_block, Role.Page}
-use Rattle.adf_volume.proofs.MemberFacts.{kept}
-use Rattle.adf_volume.proofs.Roles.{head_role}
-use Rattle.adf_findings.specs.Members.{at_role}
-use Rattle.adf_findings.specs.Survey.{FindingValue, IsSurvey, finding}
-use Rattle.adf_findings.specs.Types.{is_international, passed, passed_of}
-use Rattle.adf_findings.proofs.BitSteps.{has_page}
-use Rattle.adf_findings.proofs.FirstFindings.{finds_none, shows_none}
-use Rattle.adf_findings.proofs.Lookups.{header_at}
-use Rattle.adf_findings.proofs.TypesRead.{types_read}
-use Rattle.adf_rescue.specs.Broken.{broken_by}
+use Rattle.adf_volume.proofs.{MemberFacts.kept, Roles.head_role}
+use Rattle.adf_findings.specs.{Members.at_role, Survey.FindingValue, Survey.IsSurvey, Survey.finding, Types.is_international, Types.passed, Types.passed_of}
+use Rattle.adf_findings.proofs.{BitSteps.has_page, FirstFindings.finds_none, FirstFindings.shows_none, Lookups.header_at, TypesRead.types_read}
+use Rattle.adf_rescue.specs.{Broken.broken_by, Losses.lost_block, Losses.lost_blocks, Losses.lost_headers, MadeRoot.says_page, declared.standing.Input.Input}
 use Rattle.adf_rescue.specs.Doubts.{doubts_from, first_doubt, first_doubts_by, kept_in_doubt}
-use Rattle.adf_rescue.specs.Losses.{lost_block, lost_blocks, lost_headers}
 use Rattle.adf_rescue.specs.Lost.{bit_in, bit_stated, has_valid_flag, is_set_in, is_stated_free}
-use Rattle.adf_rescue.specs.MadeRoot.{says_page}
 use Rattle.adf_rescue.specs.Rescue.{Basis, Verdict, before_first_by, first_verdicts_by, is_added}
 use Rattle.adf_rescue.specs.declared.doubts.Doubt.{Doubt, TheVariants.InDoubt, TheVariants.PerhapsDeleted}
-use Rattle.adf_rescue.specs.declared.standing.Input.{Input}
-use Rattle.adf_rescue.proofs.LostHeaders.{is_zero}
-use Rattle.adf_rescue.proofs.Steps.{verdicts_count}
+use Rattle.adf_rescue.proofs.{LostHeaders.is_zero, Steps.verdicts_count}
 
 -- no entry is kept in doubt where there is no doubt about any
 

@@ -3,10 +3,8 @@
 use Rattle.std.proofs.Common.{◌≡◌, ◌<◌, ℕ, zero, suc, ◌+◌, true, false, List, length, add-one, ◌∙◌, ap, arith}
 use Rattle.std.proofs.Common.{inl, inr, refl, subst}
 use Rattle.std.proofs.lemmas.Bool.{cases_lt, cond-false, cond-true, or_from, or_left, or_right}
-use Rattle.adf_blocks.specs.declared.layout.TheConstants.{FIRST_SLOT}
-use Rattle.adf_blocks.specs.Sizes.{blocks}
-use Rattle.adf_volume.specs.Image.{word_in}
-use Rattle.adf_volume.specs.Start.{is_image_len}
+use Rattle.adf_blocks.specs.{declared.layout.TheConstants.FIRST_SLOT, Sizes.blocks}
+use Rattle.adf_volume.specs.{Image.word_in, Start.is_image_len}
 use Rattle.adf_rescue.specs.Pruned.{is_child_of}
 use Rattle.adf_rescue.specs.Pruned.{leads_to_child, pruned, pruned_at, pruned_first, slot_pruned, slots_pruned}
 

@@ -3,23 +3,17 @@
 use Rattle.std.proofs.Common.{◌==◌, ◌&&◌, ◌||◌, cond, not, ◌≡◌, ◌≢◌, ◌≤◌, ◌<◌, ℕ, zero, suc, ◌+◌, ◌*◌, ◌^◌, Bool, true, false, List, length, ◌∙◌, ap, arith}
 use Rattle.std.proofs.Common.{◌⊎◌, inl, inr, refl, subst, sym}
 use Rattle.std.proofs.lemmas.Bool.{and_left, and_parts, and_right, cases_Bool, cases_lt, cond-false, cond-true, cond_both, eq-eqb, eqb-true, not_from_true}
-use Rattle.std.proofs.lemmas.Bool.Decides.{nat_tests}
-use Rattle.std.proofs.lemmas.Grind.{common_steps}
+use Rattle.std.proofs.{lemmas.Bool.Decides.nat_tests, lemmas.Grind.common_steps}
 use Rattle.adf_base.specs.Words.{block, checksum, long_sum, with_word, word}
 use Rattle.adf_base.proofs.WordLaws.{block_other, block_written, length-block, length-with_bytes, length-with_word, sealed_block, word-with_word_other, word-with_word_same}
 use Rattle.adf_blocks.specs.declared.layout.TheConstants.{EXTENSION, FIRST_SLOT, NEXT_IN_CHAIN, OWN_KEY, PARENT, SECONDARY_TYPE, SLOTS, ST_DIR, TYPE, T_LIST, T_SHORT}
 use Rattle.adf_blocks.specs.Sizes.{blocks}
-use Rattle.adf_volume.specs.Image.{root_of, word_in}
-use Rattle.adf_volume.specs.Start.{is_image_len}
-use Rattle.adf_rescue.specs.Hung.{put_in}
-use Rattle.adf_rescue.specs.Claims.{claims_header, claims_type}
-use Rattle.adf_rescue.specs.Pruned.{chain_pruned, directory_typed, has_directory_type}
+use Rattle.adf_volume.specs.{Image.root_of, Image.word_in, Start.is_image_len}
+use Rattle.adf_rescue.specs.{Hung.put_in, Claims.claims_header, Claims.claims_type, Pruned.chain_pruned, Pruned.directory_typed, Pruned.has_directory_type}
+use Rattle.adf_rescue.specs.{Opened.opened, Pruned.IsMended, Pruned.homed, Pruned.is_home, Pruned.parent_summed}
 use Rattle.adf_rescue.specs.Pruned.{chain_leads, extension_leads, extension_pruned, put_unless, slot_leads, LeadsToParts}
-use Rattle.adf_rescue.specs.Opened.{opened}
-use Rattle.adf_rescue.specs.Pruned.{IsMended, homed, is_home, parent_summed}
 use Rattle.adf_rescue.specs.Pruned.{header_pruned, image_read, is_in_doubt, leads_to_child, may_be_pruned, pruned, pruned_at, pruned_first, slots_pruned}
-use Rattle.adf_rescue.proofs.OpenedImages.{length_opened}
-use Rattle.adf_rescue.proofs.PrunedImages.{all_pruned}
+use Rattle.adf_rescue.proofs.{OpenedImages.length_opened, PrunedImages.all_pruned}
 
 -- the secondary type of block b stays, or is that of a directory
 abbrev pub KeepsType : List ℕ → List ℕ → ℕ → Type 0

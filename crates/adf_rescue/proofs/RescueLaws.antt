@@ -1,28 +1,16 @@
 -- Laws of verdicts: sound files stand, and one survey has one rescue.
 use Rattle.std.proofs.Common.{◌≡◌, ℕ, Bool, false, true, List, [], Ok, ap, arith}
-use Rattle.std.proofs.Math.Bool.{and-false}
-use Rattle.std.proofs.lemmas.Bool.{and_from, eq-eqb}
-use Rattle.std.proofs.lemmas.Grind.{common_steps}
-use Rattle.adf_base.specs.Words.{block}
-use Rattle.adf_base.specs.declared.hash.Letters.{Letters}
-use Rattle.adf_tree.specs.declared.entry.Body.TheVariants.{File}
-use Rattle.adf_tree.specs.Tree.{Tree}
-use Rattle.adf_blocks.specs.HeadBlock.{meta_stated}
-use Rattle.adf_blocks.specs.Sizes.{blocks}
-use Rattle.adf_volume.specs.Image.{name_of}
-use Rattle.adf_volume.specs.Made.{datas_in}
-use Rattle.adf_volume.specs.Walk.{node_block, Walk}
+use Rattle.std.proofs.{Math.Bool.and-false, lemmas.Bool.and_from, lemmas.Bool.eq-eqb, lemmas.Grind.common_steps}
+use Rattle.adf_base.specs.{Words.block, declared.hash.Letters.Letters}
+use Rattle.adf_tree.specs.{declared.entry.Body.TheVariants.File, Tree.Tree}
+use Rattle.adf_blocks.specs.{HeadBlock.meta_stated, Sizes.blocks}
+use Rattle.adf_volume.specs.{Image.name_of, Made.datas_in, Walk.node_block, Walk.Walk}
 use Rattle.adf_findings.specs.Files.{IsSoundFile, file_content, file_in, grave}
-use Rattle.adf_findings.specs.Members.{parent_node}
-use Rattle.adf_findings.specs.SoundMarks.{AreMarks}
-use Rattle.adf_findings.specs.Survey.{FindingValue, IsSurvey}
-use Rattle.adf_findings.proofs.OneSurvey.{one_survey}
-use Rattle.adf_findings.proofs.SoundFiles.{file_told}
-use Rattle.adf_rescue.specs.Lost.{has_lost}
-use Rattle.adf_rescue.specs.Salvage.{are_data}
+use Rattle.adf_findings.specs.{Members.parent_node, SoundMarks.AreMarks, Survey.FindingValue, Survey.IsSurvey}
+use Rattle.adf_findings.proofs.{OneSurvey.one_survey, SoundFiles.file_told}
+use Rattle.adf_rescue.specs.{Lost.has_lost, Salvage.are_data, declared.standing.Input.Input}
 use Rattle.adf_rescue.proofs.GivenBlocks.{first_given_all}
 use Rattle.adf_rescue.specs.Rescue.{IsBasis, Basis, Verdict, as_given, at_path, before_first_by, by_body, body_of, path_by, new_path, verdict_tree, verdict}
-use Rattle.adf_rescue.specs.declared.standing.Input.{Input}
 
 -- a sound file stands with its content, if its blocks may be data
 pub sound_stands : (letters : Letters) (input : Input) (l : Basis) (fs : List FindingValue) (n : ℕ) → IsSurvey l.image l.walk fs

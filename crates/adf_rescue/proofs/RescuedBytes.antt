@@ -2,29 +2,21 @@
 -- Letters: given the image of a survey, w its walk, s whether each directory is settled; b, p, e blocks; i the number of a word;
 -- k a number of blocks.
 use Rattle.std.proofs.Common.{◌<◌, ◌≤◌, ◌+◌, ◌*◌, ◌^◌, ◌++◌, ◌&&◌, cond, not, ℕ, zero, suc, Bool, true, false, List, [], ◌∷◌, arith, codes, decimal, drop, length, length-append, replicate}
-use Rattle.std.proofs.lemmas.Bool.{cond_both}
+use Rattle.std.proofs.{lemmas.Bool.cond_both, lemmas.Str.Parse.digit_at, lemmas.Grind.common_steps}
 use Rattle.std.proofs.lemmas.Fmt.{decimal_is_IsNumeral, length-decimal-le}
 use Rattle.std.proofs.lemmas.List.Elements.{All-append, All-cons, All-drop, All-from_get_or, All-from_recursion, All-nil, All-replicate, All-take}
-use Rattle.std.proofs.lemmas.Str.Parse.{digit_at}
-use Rattle.std.proofs.lemmas.Grind.{common_steps}
 use Rattle.adf_base.specs.Words.{block, sealed, with_bytes, with_word}
 use Rattle.adf_base.proofs.ByteLists.{AreBytes, IsByte, block_bytes, block_written_bytes, range_bytes, sealed_bytes, word_written, written_bytes}
 use Rattle.adf_blocks.specs.declared.layout.TheConstants.{BITMAP_FLAG, CHECKSUM, EXTENSION, FIRST_SLOT, NAME, NEXT_IN_CHAIN, PARENT, SECONDARY_TYPE, SLOTS, ST_DIR}
-use Rattle.adf_blocks.specs.Forms.{text_at}
-use Rattle.adf_blocks.specs.HeadBlock.{head_block}
-use Rattle.adf_blocks.specs.RootBlock.{label_stated, root_block}
-use Rattle.adf_blocks.specs.Sizes.{blocks}
+use Rattle.adf_blocks.specs.{Forms.text_at, HeadBlock.head_block, RootBlock.label_stated, RootBlock.root_block, Sizes.blocks}
 use Rattle.adf_blocks.proofs.ByteBlocks.{head_bytes, root_bytes}
-use Rattle.adf_volume.specs.Image.{root_of}
-use Rattle.adf_volume.specs.Start.{is_image_len}
-use Rattle.adf_volume.specs.Walk.{Walk}
+use Rattle.adf_volume.specs.{Image.root_of, Start.is_image_len, Walk.Walk}
 use Rattle.adf_rescue.specs.Hung.{emptied, hung, hung_at, hung_behind, hung_first, hung_in, hung_loose, made_header}
-use Rattle.adf_rescue.specs.Hung.{put_in, readied, ready_in, sealed_in}
+use Rattle.adf_rescue.specs.{Hung.put_in, Hung.readied, Hung.ready_in, Hung.sealed_in, Rescue.lost_name}
 use Rattle.adf_rescue.specs.MadeRoot.{flag_in, has_root, is_like_root, label_in, made_block, made_root, middle_block, rooted}
 use Rattle.adf_rescue.specs.Opened.{with_boot_type, has_data, is_mended, opened, states_type, type_byte}
 use Rattle.adf_rescue.specs.Pruned.{chain_leads, chain_pruned, directory_typed, extension_leads, has_directory_type, header_pruned, homed, image_read}
 use Rattle.adf_rescue.specs.Pruned.{is_home, is_in_doubt, leads_to_child, parent_summed, pruned, pruned_at, pruned_first, put_unless, slot_leads, slots_pruned}
-use Rattle.adf_rescue.specs.Rescue.{lost_name}
 use Rattle.adf_rescue.proofs.MadeRoots.{made_fits}
 
 -- an image that is opened

@@ -1,25 +1,19 @@
 -- The tree of a rescue is that of its additions.
 -- Letters: b the body of an entry, or why it is left out; o a path, if there is one; x an addition.
 use Rattle.std.proofs.Common.{◌≡◌, ℕ, Bool, true, false, cond, List, [], ◌∷◌, ◌++◌, Option, Some, None, Result, Ok, Err, refl, sym, ◌∙◌, ap, subst, zero, suc}
-use Rattle.std.proofs.Common.{IsOk, arith}
-use Rattle.std.proofs.lemmas.Bool.{and_parts}
+use Rattle.std.proofs.{Common.IsOk, Common.arith, lemmas.Bool.and_parts, lemmas.Option.cond_some, lemmas.Grind.common_steps}
 use Rattle.std.proofs.lemmas.List.{append-nil, append_assoc}
-use Rattle.std.proofs.lemmas.Option.{cond_some}
-use Rattle.std.proofs.lemmas.Grind.{common_steps}
 use Rattle.adf_base.specs.declared.hash.Letters.{Letters}
-use Rattle.adf_tree.specs.declared.entry.Body.{Body}
+use Rattle.adf_tree.specs.{declared.entry.Body.Body, Tree.Tree, Tree.room_for_by, Tree.with_entry_by}
 use Rattle.adf_names.specs.declared.meta.Meta.{Meta}
 use Rattle.adf_tree.specs.Additions.{Addition, IsTreeOfBy, entries_of_additions_by}
-use Rattle.adf_tree.specs.Tree.{Tree, room_for_by, with_entry_by}
 use Rattle.adf_tree.proofs.TreeOfAdditions.{grown, nothing_added_by}
 use Rattle.adf_blocks.specs.Sizes.{blocks}
 use Rattle.adf_volume.specs.Walk.{heads, node_block}
-use Rattle.adf_rescue.specs.declared.left_out.Why.{Why, TheVariants.NoRoom}
+use Rattle.adf_rescue.specs.{declared.left_out.Why.Why, declared.left_out.Why.TheVariants.NoRoom, Rescue.verdict_anew, Rescue.verdicts, Rescue.Verdict.adds}
+use Rattle.adf_rescue.specs.{Rescue.Verdict.knows, Rescue.Verdict.leaves, declared.standing.Input.Input}
 use Rattle.adf_rescue.specs.Rescue.{Ground, Basis, Verdict, verdict_addition, verdict_additions, at_path, before_first_by, before_second_by, by_body}
 use Rattle.adf_rescue.specs.Rescue.{entry_headed, path_by, path_with_room, rescued_additions_by, rescued_tree_by, verdict_tree, unless_known, verdict}
-use Rattle.adf_rescue.specs.Rescue.{verdict_anew, verdicts}
-use Rattle.adf_rescue.specs.Rescue.Verdict.{adds, knows, leaves}
-use Rattle.adf_rescue.specs.declared.standing.Input.{Input}
 use Rattle.adf_rescue.proofs.Steps.{additions_more, tree_more}
 
 -- a path that an entry gets has room

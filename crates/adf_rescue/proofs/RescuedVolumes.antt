@@ -4,48 +4,29 @@
 -- x, y additions; a the survey of the image, second the second one, if there is one.
 use Rattle.std.proofs.Common.{◌≡◌, ◌<◌, ◌≤◌, ◌-◌, ◌^◌, ◌++◌, ℕ, zero, suc, Bool, true, false, List, [], ◌∷◌, Option, Some, None, Result}
 use Rattle.std.proofs.Common.{Ok, Err, arith, append-nil, cond, length, refl, subst, sym}
-use Rattle.std.specs.Prelude.{IfSome}
-use Rattle.std.specs.List.{All}
-use Rattle.std.proofs.lemmas.Bool.{and_parts, cond_both, Decides.nat_tests}
+use Rattle.std.specs.{Prelude.IfSome, List.All}
+use Rattle.std.proofs.{lemmas.Bool.and_parts, lemmas.Bool.cond_both, lemmas.Bool.Decides.nat_tests, lemmas.Option.cond_some, lemmas.Grind.common_steps}
 use Rattle.std.proofs.lemmas.List.{length-take, Elements.All-append, Elements.All-cons, Elements.All-nil}
-use Rattle.std.proofs.lemmas.Option.{cond_some}
-use Rattle.std.proofs.lemmas.Grind.{common_steps}
-use Rattle.adf_base.specs.Words.{block}
-use Rattle.adf_base.specs.declared.hash.Letters.{Letters}
+use Rattle.adf_base.specs.{Words.block, declared.hash.Letters.Letters}
 use Rattle.adf_base.proofs.ByteLists.{AreBytes, block_bytes, word_small}
-use Rattle.adf_names.specs.Meta.{IsBoundedMeta}
-use Rattle.adf_names.specs.Texts.{is_name}
-use Rattle.adf_names.specs.declared.meta.Meta.{Meta}
-use Rattle.adf_tree.specs.Additions.{Addition}
-use Rattle.adf_tree.specs.Bounds.{IsBounded, IsData}
-use Rattle.adf_tree.specs.Tree.{Tree, last_of, with_entry_by}
-use Rattle.adf_tree.specs.declared.entry.Body.{Body}
+use Rattle.adf_names.specs.{Meta.IsBoundedMeta, Texts.is_name, declared.meta.Meta.Meta}
+use Rattle.adf_tree.specs.{Additions.Addition, Bounds.IsBounded, Bounds.IsData, Tree.Tree, Tree.last_of, Tree.with_entry_by, declared.entry.Body.Body}
 use Rattle.adf_tree.proofs.BoundedEntries.{IsBoundedAddition, bounded_additions_by}
 use Rattle.adf_drafts.proofs.NextEntries.{last_is}
 use Rattle.adf_blocks.specs.declared.layout.TheConstants.{ALTERED, COMMENT, CREATED, DATE, NAME, PROTECTION}
-use Rattle.adf_blocks.specs.Forms.{text_at}
-use Rattle.adf_blocks.specs.HeadBlock.{meta_stated}
-use Rattle.adf_blocks.specs.Sizes.{blocks, is_allowed}
-use Rattle.adf_volume.specs.Image.{content, name_of, root_of}
-use Rattle.adf_volume.specs.Walk.{heads, node_block}
-use Rattle.adf_volume.proofs.Sizes.{size_low}
-use Rattle.adf_findings.specs.Files.{file_content, file_in}
-use Rattle.adf_findings.specs.Members.{parent_node}
-use Rattle.adf_build.specs.Laid.{IsLaid, volume}
-use Rattle.adf_build.specs.Plan.{blocks_needed}
-use Rattle.adf_build.proofs.AllocatedBlocks.{reserved_below}
-use Rattle.adf_build.proofs.LaidWrites.{CanHold, volume_blocks}
-use Rattle.adf_build.proofs.WholeVolume.{volume_laid}
+use Rattle.adf_blocks.specs.{Forms.text_at, HeadBlock.meta_stated, Sizes.blocks, Sizes.is_allowed}
+use Rattle.adf_volume.specs.{Image.content, Image.name_of, Image.root_of, Walk.heads, Walk.node_block}
+use Rattle.adf_volume.proofs.{Sizes.size_low, BoundedFits.stamp_small}
+use Rattle.adf_findings.specs.{Files.file_content, Files.file_in, Members.parent_node}
+use Rattle.adf_build.specs.{Laid.IsLaid, Laid.volume, Plan.blocks_needed}
+use Rattle.adf_build.proofs.{AllocatedBlocks.reserved_below, LaidWrites.CanHold, LaidWrites.volume_blocks, WholeVolume.volume_laid}
 use Rattle.adf_rescue.specs.declared.left_out.Why.{Why, TheVariants.NoRoom}
 use Rattle.adf_rescue.specs.Rescue.{Basis, Ground, Verdict, verdict_addition, verdict_additions, as_given, at_path, before_first_by, before_second_by, body_of}
 use Rattle.adf_rescue.specs.Rescue.{body_of_type, by_body, first_verdicts_by, lost_name, path_by, path_with_room, new_path, rescued_additions_by}
 use Rattle.adf_rescue.specs.Rescue.{rescued_tree_by, second_verdicts_by, verdict_tree, verdict, verdicts}
-use Rattle.adf_rescue.specs.Rescue.Verdict.{adds, knows, leaves}
-use Rattle.adf_rescue.specs.declared.standing.Input.{Input}
+use Rattle.adf_rescue.specs.{Rescue.Verdict.adds, Rescue.Verdict.knows, Rescue.Verdict.leaves, declared.standing.Input.Input}
 use Rattle.adf_rescue.proofs.RescuedTrees.{fitting_is, or_else, tree_of_rescue}
-use Rattle.adf_rescue.proofs.Steps.{additions_more, tree_more}
-use Rattle.adf_rescue.proofs.KeptFiles.{unless_adds}
-use Rattle.adf_volume.proofs.BoundedFits.{stamp_small}
+use Rattle.adf_rescue.proofs.{Steps.additions_more, Steps.tree_more, KeptFiles.unless_adds}
 
 -- an addition
 

@@ -1,46 +1,24 @@
 -- The entries of a survey with no finding but that of an accepted type: what their headers tell is what the tree of the walk has.
 -- Letters: w the walk of the survey, fs its findings; sound the marks; n a node, i its index; b the block of its header; bs a block's bytes.
 use Rattle.std.proofs.Common.{◌≡◌, ◌⊎◌, ◌∙◌, ℕ, suc, List, inl, inr, ◌<◌, ◌≤◌, refl, arith, Bool, true, false, cond, Result, Ok, Err}
-use Rattle.std.proofs.lemmas.Bool.{and_from, and_right, eq-eqb, ne_eqb}
-use Rattle.std.proofs.lemmas.List.{take_all}
-use Rattle.std.proofs.lemmas.Grind.{common_steps}
-use Rattle.adf_base.specs.Words.{block}
-use Rattle.adf_base.specs.declared.hash.Letters.{Letters}
-use Rattle.adf_tree.specs.declared.entry.Body.{Body, TheVariants.Dir}
-use Rattle.adf_tree.specs.declared.entry.Entry.{Entry}
-use Rattle.adf_names.specs.declared.kind.Kind.{Kind}
-use Rattle.adf_names.specs.Texts.{is_name}
+use Rattle.std.proofs.{lemmas.Bool.and_from, lemmas.Bool.and_right, lemmas.Bool.eq-eqb, lemmas.Bool.ne_eqb, lemmas.List.take_all, lemmas.Grind.common_steps}
+use Rattle.adf_base.specs.{Words.block, declared.hash.Letters.Letters}
+use Rattle.adf_tree.specs.{declared.entry.Body.Body, declared.entry.Body.TheVariants.Dir, declared.entry.Entry.Entry}
+use Rattle.adf_names.specs.{declared.kind.Kind.Kind, Texts.is_name}
 use Rattle.adf_blocks.specs.declared.layout.TheConstants.{NAME, SECONDARY_TYPE, ST_DIR, ST_FILE}
-use Rattle.adf_blocks.specs.Forms.{text_at}
-use Rattle.adf_blocks.specs.HeadBlock.{is_link, meta_stated}
-use Rattle.adf_blocks.specs.RootBlock.{label_stated}
-use Rattle.adf_blocks.specs.Sizes.{blocks}
-use Rattle.adf_volume.specs.Demands.{AllHold, head_demands_by, root_demands}
+use Rattle.adf_blocks.specs.{Forms.text_at, HeadBlock.is_link, HeadBlock.meta_stated, RootBlock.label_stated, Sizes.blocks}
+use Rattle.adf_volume.specs.{Demands.AllHold, Demands.head_demands_by, Demands.root_demands, Lists.At, Made.body_in, Made.datas_in, Made.entries_in}
+use Rattle.adf_volume.specs.{Made.entry_in, Types.letters_for, declared.types.Types.Types, Walk.HeadAt, Walk.IsWalkBy, Walk.heads, Walk.node_block, Walk.Walk}
 use Rattle.adf_volume.specs.Image.{kind_of, meta_of, name_of, root_of, word_in}
-use Rattle.adf_volume.specs.Lists.{At}
-use Rattle.adf_volume.specs.Made.{body_in, datas_in, entries_in, entry_in}
-use Rattle.adf_volume.specs.Types.{letters_for}
-use Rattle.adf_volume.specs.declared.types.Types.{Types}
-use Rattle.adf_volume.specs.Walk.{HeadAt, IsWalkBy, heads, node_block, Walk}
 use Rattle.adf_volume.proofs.BoundedFits.{comment_short, label_short, name_valid}
-use Rattle.adf_volume.proofs.FormDemands.{dir_not_file, head_type}
-use Rattle.adf_volume.proofs.MemberFacts.{kept}
-use Rattle.adf_volume.proofs.Roles.{head_role}
-use Rattle.adf_volume.proofs.WalkMembers.{entry_has}
-use Rattle.adf_findings.specs.Files.{file_in}
-use Rattle.adf_findings.specs.Members.{parent_node}
-use Rattle.adf_findings.specs.Sound.{IsOfItsKind, IsSound}
-use Rattle.adf_findings.specs.SoundMarks.{AreMarks}
+use Rattle.adf_volume.proofs.{FormDemands.dir_not_file, FormDemands.head_type, MemberFacts.kept, Roles.head_role, WalkMembers.entry_has}
+use Rattle.adf_findings.specs.{Files.file_in, Members.parent_node, Sound.IsOfItsKind, Sound.IsSound, SoundMarks.AreMarks, Types.passed}
 use Rattle.adf_findings.specs.Survey.{FindingValue, IsSurvey}
-use Rattle.adf_findings.specs.Types.{passed}
-use Rattle.adf_findings.proofs.Keeping.{parent_is}
-use Rattle.adf_findings.proofs.Lookups.{header_at}
-use Rattle.adf_findings.proofs.SoundFiles.{file_told}
+use Rattle.adf_findings.proofs.{Keeping.parent_is, Lookups.header_at, SoundFiles.file_told}
 use Rattle.adf_rescue.specs.declared.left_out.Why.{Why, TheVariants.Damaged, TheVariants.Link}
 use Rattle.adf_rescue.specs.Rescue.{Basis, as_accepted, are_given, as_given, before_first_by, body_of, body_of_type}
 use Rattle.adf_rescue.specs.declared.standing.Input.{Input}
-use Rattle.adf_rescue.proofs.PassedFindings.{typed_sound}
-use Rattle.adf_rescue.proofs.GivenBlocks.{all_data, first_given_all}
+use Rattle.adf_rescue.proofs.{PassedFindings.typed_sound, GivenBlocks.all_data, GivenBlocks.first_given_all}
 
 -- texts within their fields are told whole
 

@@ -2,34 +2,24 @@
 use Rattle.std.proofs.Common.{add-one, ◌≡◌, ℕ, ◌+◌, ◌-◌, ◌<◌, ◌≤◌, inl, inr, List, [], ◌∷◌, ◌++◌, Option, Some, None, Result, Ok, Err, length, get_or, arith}
 use Rattle.std.proofs.Common.{refl, sym, ◌∙◌, ap, subst, zero, suc, length-append, IfOk, cond, true, false, min, ◌^◌}
 use Rattle.std.proofs.lemmas.Bool.{cases_lt, le-leb, lt-leb}
-use Rattle.std.proofs.lemmas.List.Sums.{fold_push}
-use Rattle.std.proofs.lemmas.Grind.{flat_map-append, common_steps}
+use Rattle.std.proofs.{lemmas.List.Sums.fold_push, lemmas.Grind.flat_map-append, lemmas.Grind.common_steps, lemmas.Option.slice_get_past}
 use Rattle.std.proofs.lemmas.List.{map-append, append-nil, append_assoc, get_or_append_left, get_or_past, get_or_push, length_push, nil_from_length}
-use Rattle.std.proofs.lemmas.Option.{slice_get_past}
-use Rattle.adf_tree.specs.Additions.{Addition}
-use Rattle.adf_drafts.specs.declared.draft.Room.{Room}
-use Rattle.adf_drafts.specs.Draft.{DraftValue, IsDirectoryOf, IsRoomFor}
+use Rattle.adf_tree.specs.{Additions.Addition, Tree.Tree, Tree.is_dir_body, Tree.new_entry_by, Tree.with_entry_by}
+use Rattle.adf_drafts.specs.{declared.draft.Room.Room, Draft.DraftValue, Draft.IsDirectoryOf, Draft.IsRoomFor}
 use Rattle.adf_tree.specs.declared.entry.Body.{TheVariants.Dir, TheVariants.File, Body}
-use Rattle.adf_tree.specs.Tree.{Tree, is_dir_body, new_entry_by, with_entry_by}
 use Rattle.adf_names.specs.declared.meta.Meta.{Meta}
-use Rattle.adf_base.specs.Words.{block}
-use Rattle.adf_base.specs.declared.hash.Letters.{Letters}
-use Rattle.adf_blocks.specs.HeadBlock.{meta_stated}
-use Rattle.adf_blocks.specs.Sizes.{blocks, is_allowed}
-use Rattle.adf_build.specs.Building.{IsBuildable}
-use Rattle.adf_volume.specs.Image.{name_of}
+use Rattle.adf_base.specs.{Words.block, declared.hash.Letters.Letters}
+use Rattle.adf_blocks.specs.{HeadBlock.meta_stated, Sizes.blocks, Sizes.is_allowed}
+use Rattle.adf_build.specs.{Building.IsBuildable, Plan.blocks_needed, Plan.entries_blocks, Plan.reserved}
+use Rattle.adf_volume.specs.{Image.name_of, Walk.heads, Walk.node_block}
 use Rattle.adf_volume.proofs.Lists.{get_before}
-use Rattle.adf_volume.specs.Walk.{heads, node_block}
 use Rattle.adf_findings.specs.Members.{parent_node}
-use Rattle.adf_build.specs.Plan.{blocks_needed, entries_blocks, reserved}
 use Rattle.adf_rescue.specs.declared.left_out.Why.{Why, TheVariants.NoRoom}
-use Rattle.adf_rescue.specs.declared.salvage.Salvage.{Salvage}
+use Rattle.adf_rescue.specs.{declared.salvage.Salvage.Salvage, Rescue.Verdict.adds, Rescue.Verdict.leaves, declared.standing.Input.Input}
 use Rattle.adf_rescue.specs.Rescue.{Ground, IsSecond, Basis, OnBasis, Verdict, added_marks, verdict_addition, verdict_additions, as_given, at_path}
 use Rattle.adf_rescue.specs.Rescue.{before_second_by, body_of, by_body, directory_path, entry_headed, fitting, is_added, left_out_by, left_out_from, path_by}
 use Rattle.adf_rescue.specs.Rescue.{path_for, new_path, second_verdicts_by, verdict_tree, unless_known, verdict, verdict_anew, verdicts}
-use Rattle.adf_rescue.specs.Rescue.Verdict.{adds, leaves}
 use Rattle.adf_rescue.specs.Salvage.{ComesNext, IsPlace, IsRoomOf, IsSalvage, entry_cost, free_blocks}
-use Rattle.adf_rescue.specs.declared.standing.Input.{Input}
 use Rattle.adf_rescue.proofs.TreeBlocks.{added_blocks}
 use Rattle.adf_tree.proofs.Lists.{get_last}
 

@@ -4,49 +4,28 @@
 use Rattle.std.proofs.Common.{◌≡◌, ℕ, zero, suc, List, [], ◌∷◌, ◌++◌, inl, inr, ◌+◌, ◌-◌, ◌<◌, ◌≤◌, length, get_or, take, refl, sym, ap, subst, ◌∙◌, arith}
 use Rattle.std.proofs.Common.{Bool, true, cond, Some, None, Ok, take_all, add-one}
 use Rattle.std.specs.Option.{option_and_then}
-use Rattle.std.proofs.lemmas.Bool.{and_from, cases_lt, le-leb}
+use Rattle.std.proofs.{lemmas.Bool.and_from, lemmas.Bool.cases_lt, lemmas.Bool.le-leb, lemmas.Grind.common_steps}
 use Rattle.std.proofs.lemmas.List.{append-nil, length_push, length-take-le, take_more, Sums.fold_push}
-use Rattle.std.proofs.lemmas.Grind.{common_steps}
 use Rattle.adf_base.specs.declared.hash.Letters.{Letters}
-use Rattle.adf_tree.specs.declared.entry.Body.TheVariants.{Dir}
-use Rattle.adf_tree.specs.declared.entry.Entry.{Entry}
+use Rattle.adf_tree.specs.{declared.entry.Body.TheVariants.Dir, declared.entry.Entry.Entry, Laws.IsNextEntryBy}
 use Rattle.adf_tree.specs.Additions.{Addition, entries_of_additions_by, with_addition_by}
-use Rattle.adf_tree.specs.Laws.{IsNextEntryBy}
 use Rattle.adf_names.specs.Texts.{is_name}
 use Rattle.adf_tree.specs.Tree.{IsDir, IsTreeBy, Tree, added_by, directory_from_by, is_dir_body, room_for_by, with_entry_by}
-use Rattle.adf_tree.proofs.TreePrefixes.{first_tree, is_next}
+use Rattle.adf_tree.proofs.{TreePrefixes.first_tree, TreePrefixes.is_next, Lists.get_last}
 use Rattle.adf_blocks.specs.Sizes.{blocks}
-use Rattle.adf_volume.specs.Demands.{AllHold, root_demands}
-use Rattle.adf_volume.specs.Fits.{FitsBy}
+use Rattle.adf_volume.specs.{Demands.AllHold, Demands.root_demands, Fits.FitsBy, Layout.Layout, Made.entries_in, Made.layout_in, Made.tree_in_by}
+use Rattle.adf_volume.specs.{Types.letters_for, declared.types.Types.Types, Walk.IsWalkBy, Walk.heads, Walk.node_block, Walk.Walk}
 use Rattle.adf_volume.specs.Image.{kind_of, name_of, root_of, stamps_of}
-use Rattle.adf_volume.specs.Layout.{Layout}
-use Rattle.adf_volume.specs.Made.{entries_in, layout_in, tree_in_by}
-use Rattle.adf_volume.specs.Types.{letters_for}
-use Rattle.adf_volume.specs.declared.types.Types.{Types}
-use Rattle.adf_volume.specs.Walk.{IsWalkBy, heads, node_block, Walk}
-use Rattle.adf_volume.proofs.FitWalks.{one_fit}
-use Rattle.adf_volume.proofs.Lists.{at_index_or, get_before}
-use Rattle.adf_volume.proofs.WalkMembers.{entries_length}
-use Rattle.adf_findings.specs.Files.{grave}
-use Rattle.adf_findings.specs.Members.{parent_node}
-use Rattle.adf_findings.specs.Sound.{IsOfItsKind}
-use Rattle.adf_findings.specs.SoundMarks.{AreMarks}
-use Rattle.adf_findings.specs.Survey.{FindingValue, IsSurvey}
-use Rattle.adf_findings.specs.Types.{passed}
-use Rattle.adf_findings.proofs.FirstFindings.{finds_none, none_found, shows_none}
-use Rattle.adf_findings.proofs.TypesRead.{types_read}
+use Rattle.adf_volume.proofs.{FitWalks.one_fit, Lists.at_index_or, Lists.get_before, WalkMembers.entries_length}
+use Rattle.adf_findings.specs.{Files.grave, Members.parent_node, Sound.IsOfItsKind, SoundMarks.AreMarks, Survey.FindingValue, Survey.IsSurvey, Types.passed}
+use Rattle.adf_findings.proofs.{FirstFindings.finds_none, FirstFindings.none_found, FirstFindings.shows_none, TypesRead.types_read}
 use Rattle.adf_build.specs.Plan.{blocks_needed, entries_blocks, reserved}
 use Rattle.adf_rescue.specs.Rescue.{as_accepted, Ground, Basis, Verdict, verdict_additions, before_first_by, before_second_by, directory_path, first_verdicts_by, fitting}
 use Rattle.adf_rescue.specs.Rescue.{left_out_from, path_by, path_for, new_path, rescue_leaves_by, rescued_tree_by, verdict_tree, verdict, verdicts}
-use Rattle.adf_rescue.specs.Rescue.Verdict.{adds}
-use Rattle.adf_rescue.specs.declared.standing.Input.{Input}
-use Rattle.adf_rescue.proofs.FitBlocks.{fit_room, front_blocks}
+use Rattle.adf_rescue.specs.{Rescue.Verdict.adds, declared.standing.Input.Input}
+use Rattle.adf_rescue.proofs.{FitBlocks.fit_room, FitBlocks.front_blocks, PassedFindings.passed_grave, SoundHeaders.IsToldAs, SoundHeaders.label_whole}
+use Rattle.adf_rescue.proofs.{SoundHeaders.told, Steps.additions_more, Steps.left_out_more, Steps.verdict_at, RescuedTrees.or_else}
 use Rattle.adf_drafts.proofs.NextEntries.{directory_stays, has_room, new_is, new_leads}
-use Rattle.adf_rescue.proofs.PassedFindings.{passed_grave}
-use Rattle.adf_rescue.proofs.SoundHeaders.{IsToldAs, label_whole, told}
-use Rattle.adf_rescue.proofs.Steps.{additions_more, left_out_more, verdict_at}
-use Rattle.adf_rescue.proofs.RescuedTrees.{or_else}
-use Rattle.adf_tree.proofs.Lists.{get_last}
 
 -- the place of a directory behind one more verdict
 

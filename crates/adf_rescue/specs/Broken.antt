@@ -4,9 +4,7 @@ use Rattle.std.specs.Prelude.{ℕ, Bool, true, false, cond, Option, Some, None}
 use Rattle.adf_blocks.specs.declared.cause.Cause.{Cause, TheVariants.WrongSlot}
 use Rattle.adf_volume.specs.Walk.{Walk}
 use Rattle.adf_findings.specs.declared.concern.Concern.{Concern, TheVariants.Entry, TheVariants.Within}
-use Rattle.adf_findings.specs.Concerned.{concern_of}
-use Rattle.adf_findings.specs.Members.{parent_node}
-use Rattle.adf_findings.specs.Survey.{FindingValue}
+use Rattle.adf_findings.specs.{Concerned.concern_of, Members.parent_node, Survey.FindingValue}
 
 -- the cause is that a header hangs in another slot than that of its name
 abbrev pub is_stray : Cause → Bool

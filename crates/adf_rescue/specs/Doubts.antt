@@ -4,15 +4,12 @@
 use Rattle.std.specs.Prelude.{◌==◌, ◌&&◌, ℕ, Bool, not, cond, List, [], ◌∷◌, Option, Some, None, option_map}
 use Rattle.std.specs.List.{cons_option}
 use Rattle.std.proofs.Common.{suc}
-use Rattle.adf_base.specs.declared.hash.Letters.{Letters}
-use Rattle.adf_base.specs.Words.{block, long_sum}
+use Rattle.adf_base.specs.{declared.hash.Letters.Letters, Words.block, Words.long_sum}
 use Rattle.adf_blocks.specs.Sizes.{in_range}
 use Rattle.adf_volume.specs.Walk.{node_block, Walk}
-use Rattle.adf_rescue.specs.Lost.{is_stated_free, is_stated_used, says_header}
+use Rattle.adf_rescue.specs.{Lost.is_stated_free, Lost.is_stated_used, Lost.says_header, declared.doubts.Doubtful.Doubtful, declared.standing.Input.Input}
 use Rattle.adf_rescue.specs.Rescue.{Basis, Verdict, first_verdicts_by, is_added, second_verdicts_by}
 use Rattle.adf_rescue.specs.declared.doubts.Doubt.{Doubt, TheVariants.FoundAgain, TheVariants.InDoubt, TheVariants.Made, TheVariants.PerhapsDeleted}
-use Rattle.adf_rescue.specs.declared.doubts.Doubtful.{Doubtful}
-use Rattle.adf_rescue.specs.declared.standing.Input.{Input}
 
 -- the doubt about an entry of the survey, by its header: its sum is wrong, or the bitmap tells that it is free
 abbrev pub first_doubt : List ℕ → Walk → ℕ → Option Doubt

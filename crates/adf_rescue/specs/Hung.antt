@@ -1,21 +1,17 @@
 -- The hung image: each lost header hangs in the directory that it names, if that is found, lost itself or made.
 -- Letters: given the image of the survey, w its walk, fs its findings, made whether its root was made; s whether each of its directories is open;
 -- b, p, e blocks; n a node; i a word; k a number of blocks or nodes.
-use Rattle.std.specs.Prelude.{◌≡◌, ◌<◌, ◌≤◌, ℕ, ◌==◌, ◌&&◌, ◌||◌, ◌+◌, ◌*◌, ◌%◌, Bool, false, cond, List, [], length, replicate, Option, Some, None}
+use Rattle.std.specs.Prelude.{◌≡◌, ◌<◌, ◌≤◌, ℕ, ◌==◌, ◌&&◌, ◌||◌, ◌+◌, ◌*◌, ◌/◌, ◌%◌, Bool, false, cond, List, [], length, replicate, Option, Some, None}
 use Rattle.std.specs.Prelude.{is_some, option_map, slice_index, unwrap_or}
 use Rattle.std.proofs.Common.{zero, suc}
-use Rattle.adf_base.specs.Words.{block, sealed, with_block, with_bytes, with_word}
-use Rattle.adf_names.specs.declared.meta.Meta.{Meta}
+use Rattle.adf_base.specs.{Hash.slot_by, Words.block, Words.sealed, Words.with_block, Words.with_bytes, Words.with_word}
+use Rattle.adf_names.specs.{Texts.is_name, declared.meta.Meta.Meta}
 use Rattle.adf_blocks.specs.declared.layout.TheConstants.{CHECKSUM, FIRST_SLOT, NEXT_IN_CHAIN, PARENT, SLOTS}
-use Rattle.adf_blocks.specs.HeadBlock.{HeadFields, head_block, BodyFields.DirFields}
-use Rattle.adf_blocks.specs.Sizes.{blocks, in_range}
-use Rattle.adf_volume.specs.Image.{root_of, word_in}
-use Rattle.adf_volume.specs.Walk.{heads, node_block, Walk}
-use Rattle.adf_findings.specs.Members.{owns, parent_node, has_mark}
-use Rattle.adf_findings.specs.Survey.{FindingValue}
-use Rattle.adf_rescue.specs.declared.hung.Loose.{Loose}
+use Rattle.adf_blocks.specs.{HeadBlock.HeadFields, HeadBlock.head_block, HeadBlock.BodyFields.DirFields, Sizes.blocks, Sizes.in_range}
+use Rattle.adf_volume.specs.{Image.letters_of, Image.name_of, Image.root_of, Image.word_in, Walk.heads, Walk.node_block, Walk.Walk}
+use Rattle.adf_findings.specs.{Members.owns, Members.parent_node, Members.has_mark, Survey.FindingValue}
+use Rattle.adf_rescue.specs.{declared.hung.Loose.Loose, Rescue.lost_name}
 use Rattle.adf_rescue.specs.Lost.{AreLost, directory_at, has_lost, is_lost, is_open, is_vacant, says_directory}
-use Rattle.adf_rescue.specs.Rescue.{lost_name}
 
 -- the directories that things are hung in
 
@@ -53,9 +49,14 @@ put_in image b i v = with_block image b (with_word (block image b) i v)
 abbrev pub sealed_in : List ℕ → ℕ → List ℕ
 sealed_in image b = with_block image b (sealed CHECKSUM (block image b))
 
--- the word of the slot that block b is hung in: its number modulo the number of slots
-abbrev pub slot_word : ℕ → ℕ
-slot_word b = FIRST_SLOT + b % SLOTS
+-- the table of directory p names header b, in the slot of its name
+abbrev pub is_named_by : List ℕ → (p b : ℕ) → Bool
+is_named_by given p b =
+    is_name (name_of given b) && (word_in given p (FIRST_SLOT + slot_by (letters_of given) (name_of given b)) == b)
+
+-- the word of the slot that block b is hung in, in directory p: one of the first half, if the table of p names it, else of the second
+abbrev pub slot_word : List ℕ → (p b : ℕ) → ℕ
+slot_word given p b = FIRST_SLOT + cond (is_named_by given p b) 0 (SLOTS / 2) + b % (SLOTS / 2)
 
 -- the image with block b, of directory p, where word i of block e leads to: what that led to is next in its chain
 unfoldable pub hung_at : List ℕ → ℕ → ℕ → ℕ → ℕ → List ℕ
@@ -83,7 +84,7 @@ hung_behind image b p e = cond (in_range image e) (hung_at image b p e NEXT_IN_C
 -- leads to none. So no word changes that leads to a part of the survey
 unfoldable pub hung_in : List ℕ → Walk → List ℕ → ℕ → ℕ → List ℕ
 hung_in given w image b p =
-    cond (owns w (word_in image p (slot_word b))) (hung_behind image b p (directory_end given w p)) (hung_at image b p p (slot_word b))
+    cond (owns w (word_in image p (slot_word given p b))) (hung_behind image b p (directory_end given w p)) (hung_at image b p p (slot_word given p b))
 
 -- no comment, no protection bits, and the date 0
 abbrev pub no_meta : Meta

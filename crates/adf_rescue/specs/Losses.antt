@@ -5,10 +5,8 @@ use Rattle.std.specs.Prelude.{◌&&◌, ◌∷◌, ◌++◌, [], not, ℕ, Bool,
 use Rattle.std.specs.List.{filter_map}
 use Rattle.adf_blocks.specs.declared.cause.Cause.{Cause, TheVariants.LostBlock}
 use Rattle.adf_volume.specs.Walk.{Walk}
-use Rattle.adf_findings.specs.Members.{owning_entry}
-use Rattle.adf_findings.specs.Survey.{FindingValue}
-use Rattle.adf_rescue.specs.Broken.{broken_by}
-use Rattle.adf_rescue.specs.Rescue.{Basis}
+use Rattle.adf_findings.specs.{Members.owning_entry, Survey.FindingValue}
+use Rattle.adf_rescue.specs.{Broken.broken_by, Rescue.Basis}
 
 -- the cause is that nothing has a block in use
 abbrev pub is_unowned : Cause → Bool

@@ -6,17 +6,10 @@ use Rattle.std.specs.Prelude.{List, [], ◌∷◌, length, Option, Some, None, i
 use Rattle.std.proofs.Common.{zero, suc}
 use Rattle.adf_base.specs.Words.{block, long_sum}
 use Rattle.adf_blocks.specs.declared.layout.TheConstants.{BITMAP_FLAG, FIRST_POINTER, OWN_KEY, PAGE_BITS, PAGE_FIRST, PARENT, POINTERS, SECONDARY_TYPE, ST_DIR}
-use Rattle.adf_blocks.specs.declared.layout.TheConstants.{ST_FILE, VALID}
-use Rattle.adf_blocks.specs.HeadBlock.{has_type}
-use Rattle.adf_blocks.specs.Sizes.{blocks, in_range}
-use Rattle.adf_volume.specs.Image.{root_of, word_in}
-use Rattle.adf_volume.specs.Start.{is_image_len}
-use Rattle.adf_volume.specs.Walk.{data_count, heads, node_block, Walk, Role.Page}
-use Rattle.adf_findings.specs.Members.{at_role, owning_entry, owns, has_mark}
-use Rattle.adf_findings.specs.Survey.{FindingValue}
-use Rattle.adf_rescue.specs.declared.lost.Evidence.{Evidence}
-use Rattle.adf_rescue.specs.Broken.{broken_by}
-use Rattle.adf_rescue.specs.MadeRoot.{says_page}
+use Rattle.adf_blocks.specs.{declared.layout.TheConstants.ST_FILE, declared.layout.TheConstants.VALID, HeadBlock.has_type, Sizes.blocks, Sizes.in_range}
+use Rattle.adf_volume.specs.{Image.root_of, Image.word_in, Start.is_image_len, Walk.data_count, Walk.heads, Walk.node_block, Walk.Walk, Walk.Role.Page}
+use Rattle.adf_findings.specs.{Members.at_role, Members.owning_entry, Members.owns, Members.has_mark, Survey.FindingValue}
+use Rattle.adf_rescue.specs.{declared.lost.Evidence.Evidence, Broken.broken_by, MadeRoot.says_page}
 
 -- block b says that it is a header, of a directory, a file or a link: by its types, its own key and its sum
 abbrev pub says_header : List ℕ → ℕ → Bool

@@ -3,12 +3,10 @@
 use Rattle.std.specs.Prelude.{ℕ, ◌+◌, ◌==◌, ◌&&◌, ◌||◌, not, nat_le, nat_lt, Bool, cond, List, [], map}
 use Rattle.std.specs.List.{range_with_len}
 use Rattle.adf_base.specs.Words.{block, long_sum, sealed, with_block, with_word, word}
-use Rattle.adf_names.specs.declared.meta.Stamps.{Stamps}
-use Rattle.adf_names.specs.declared.meta.TheConstants.{NO_STAMPS}
+use Rattle.adf_names.specs.{declared.meta.Stamps.Stamps, declared.meta.TheConstants.NO_STAMPS}
 use Rattle.adf_blocks.specs.declared.layout.TheConstants.{BITMAP_FLAG, CHECKSUM, FIRST_MAP_EXT, FIRST_PAGE, FIRST_SLOT, HASH_SIZE, ROOT_PAGES, SECONDARY_TYPE}
 use Rattle.adf_blocks.specs.declared.layout.TheConstants.{SLOTS, ST_ROOT, TYPE, T_DATA, T_DIR_CACHE, T_LIST, T_SHORT, VALID}
-use Rattle.adf_blocks.specs.RootBlock.{RootFields, label_stated, root_block, stamps_at}
-use Rattle.adf_blocks.specs.Sizes.{blocks}
+use Rattle.adf_blocks.specs.{RootBlock.RootFields, RootBlock.label_stated, RootBlock.root_block, RootBlock.stamps_at, Sizes.blocks}
 use Rattle.adf_volume.specs.Image.{root_of, word_in}
 use Rattle.adf_findings.specs.Start.{has_root_type}
 

@@ -6,8 +6,7 @@ use Rattle.std.proofs.Common.{zero, suc}
 use Rattle.adf_base.specs.Words.{block, long_sum}
 use Rattle.adf_blocks.specs.declared.layout.TheConstants.{DATA_HEAD, OWN_KEY, SECONDARY_TYPE, ST_FILE, TYPE, T_DATA, T_SHORT}
 use Rattle.adf_blocks.specs.Sizes.{blocks}
-use Rattle.adf_volume.specs.Image.{word_in}
-use Rattle.adf_volume.specs.Start.{is_image_len}
+use Rattle.adf_volume.specs.{Image.word_in, Start.is_image_len}
 use Rattle.adf_boot_blocks.specs.BootBlocks.{begins_with_dos}
 use Rattle.adf_rescue.specs.MadeRoot.{has_root, rooted}
 

@@ -5,12 +5,8 @@ use Rattle.std.proofs.Common.{zero, suc}
 use Rattle.adf_base.specs.Words.{block, long_sum, sealed, with_block, word}
 use Rattle.adf_blocks.specs.declared.layout.TheConstants.{EXTENSION, FIRST_SLOT, NEXT_IN_CHAIN, PARENT, SECONDARY_TYPE, SLOTS, ST_DIR}
 use Rattle.adf_blocks.specs.Sizes.{blocks, in_range}
-use Rattle.adf_volume.specs.Image.{root_of, word_in}
-use Rattle.adf_volume.specs.Start.{is_image_len}
-use Rattle.adf_rescue.specs.Claims.{claims_extension, claims_header}
-use Rattle.adf_rescue.specs.Hung.{put_in}
-use Rattle.adf_rescue.specs.Lost.{says_directory}
-use Rattle.adf_rescue.specs.Opened.{opened}
+use Rattle.adf_volume.specs.{Image.root_of, Image.word_in, Start.is_image_len}
+use Rattle.adf_rescue.specs.{Claims.claims_extension, Claims.claims_header, Hung.put_in, Lost.says_directory, Opened.opened}
 
 -- block b is a header in doubt: it claims to be a header, is not the root, and its sum is wrong
 abbrev pub is_in_doubt : List ℕ → ℕ → Bool

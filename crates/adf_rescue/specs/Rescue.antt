@@ -6,36 +6,20 @@
 -- depends on the types that the new volume may have takes these first.
 use Rattle.std.specs.Prelude.{◌≡◌, ◌==◌, ◌&&◌, ◌-◌, ◌+◌, ◌*◌, ℕ, Bool, true, false, not, nat_le, nat_lt, cond, List, [], ◌∷◌, ◌++◌, codes, decimal}
 use Rattle.std.specs.Prelude.{length, map, slice_get, Option, Some, None, Result, Ok, Err, is_ok}
-use Rattle.std.specs.List.{flat_map}
-use Rattle.std.specs.Option.{option_and_then, unwrap_or}
-use Rattle.std.specs.Str.{bytes_eq}
+use Rattle.std.specs.{List.flat_map, Option.option_and_then, Option.unwrap_or, Str.bytes_eq}
 use Rattle.std.proofs.Common.{zero, suc}
-use Rattle.adf_base.specs.declared.hash.Letters.{Letters}
-use Rattle.adf_base.specs.Words.{block}
+use Rattle.adf_base.specs.{declared.hash.Letters.Letters, Words.block}
 use Rattle.adf_tree.specs.declared.entry.Body.{Body, TheVariants.Dir, TheVariants.File}
-use Rattle.adf_names.specs.declared.meta.Meta.{Meta}
-use Rattle.adf_tree.specs.Additions.{Addition, entries_of_additions_by}
-use Rattle.adf_names.specs.Texts.{is_name}
-use Rattle.adf_tree.specs.Tree.{Tree, is_dir_body, room_for_by, with_entry_by}
+use Rattle.adf_names.specs.{declared.meta.Meta.Meta, Texts.is_name}
+use Rattle.adf_tree.specs.{Additions.Addition, Additions.entries_of_additions_by, Tree.Tree, Tree.is_dir_body, Tree.room_for_by, Tree.with_entry_by}
 use Rattle.adf_blocks.specs.declared.layout.TheConstants.{SECONDARY_TYPE, ST_DIR, ST_FILE}
-use Rattle.adf_blocks.specs.HeadBlock.{is_link, meta_stated}
-use Rattle.adf_blocks.specs.Sizes.{blocks}
-use Rattle.adf_volume.specs.Image.{name_of, word_in}
-use Rattle.adf_volume.specs.Made.{datas_in}
-use Rattle.adf_volume.specs.Types.{letters_for}
-use Rattle.adf_volume.specs.declared.types.Types.{Types}
-use Rattle.adf_volume.specs.Walk.{heads, node_block, Walk}
-use Rattle.adf_findings.specs.Files.{file_content, file_in, grave}
+use Rattle.adf_blocks.specs.{HeadBlock.is_link, HeadBlock.meta_stated, Sizes.blocks}
+use Rattle.adf_volume.specs.{Image.name_of, Image.word_in, Made.datas_in, Types.letters_for, declared.types.Types.Types, Walk.heads, Walk.node_block, Walk.Walk}
+use Rattle.adf_findings.specs.{Files.file_content, Files.file_in, Files.grave, SoundMarks.AreMarks, Opening.opening_in, Survey.FindingValue, Survey.IsSurvey}
 use Rattle.adf_findings.specs.Members.{owning_entry, parent_node, has_mark}
-use Rattle.adf_findings.specs.SoundMarks.{AreMarks}
-use Rattle.adf_findings.specs.Opening.{opening_in}
-use Rattle.adf_findings.specs.Survey.{FindingValue, IsSurvey}
 use Rattle.adf_build.specs.Plan.{blocks_needed}
-use Rattle.adf_rescue.specs.Claims.{claims_header}
-use Rattle.adf_rescue.specs.Lost.{is_stated_free}
-use Rattle.adf_rescue.specs.declared.left_out.LeftOut.{LeftOut}
+use Rattle.adf_rescue.specs.{Claims.claims_header, Lost.is_stated_free, declared.left_out.LeftOut.LeftOut, declared.standing.Input.Input}
 use Rattle.adf_rescue.specs.declared.left_out.Why.{Why, TheVariants.Damaged, TheVariants.Link, TheVariants.NoRoom}
-use Rattle.adf_rescue.specs.declared.standing.Input.{Input}
 
 -- a survey as a rescue takes it: its image and walk, and whether an entry is whole
 pub record Basis : Type 0 where

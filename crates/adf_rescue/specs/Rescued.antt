@@ -3,10 +3,8 @@
 use Rattle.std.specs.Prelude.{◌≡◌, ◌↔◌, List, Option, IsTrue}
 use Rattle.adf_volume.specs.Types.{letters_for}
 use Rattle.adf_findings.specs.Survey.{FindingValue}
-use Rattle.adf_rescue.specs.declared.rescues.Rescued.{Rescued}
-use Rattle.adf_rescue.specs.declared.rescues.Terms.{Terms}
+use Rattle.adf_rescue.specs.{declared.rescues.Rescued.Rescued, declared.rescues.Terms.Terms, Losses.lost_blocks, Losses.lost_headers}
 use Rattle.adf_rescue.specs.Doubts.{first_doubts_by, second_doubts_by}
-use Rattle.adf_rescue.specs.Losses.{lost_blocks, lost_headers}
 use Rattle.adf_rescue.specs.Rescue.{Basis, StandsNothingBy, rescue_leaves_by, rescued_tree_by, second_leaves_by}
 
 -- it tells whether nothing stands, and has the tree of what stands, what is left out of it, what is kept in doubt, and what is lost

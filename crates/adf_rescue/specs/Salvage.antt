@@ -2,17 +2,14 @@
 -- Letters: d the draft of the tree so far; r the state; g what is taken before the survey, vs the verdicts on its entries so far;
 -- m the number of an addition in the draft, or a node of the survey before.
 use Rattle.std.specs.Prelude.{◌≡◌, ◌≤◌, ◌+◌, ◌-◌, ◌++◌, ◌∷◌, ◌&&◌, ℕ, Bool, true, List, [], Option, Some, None, length, slice_index_or}
-use Rattle.adf_drafts.specs.declared.draft.Room.{Room}
+use Rattle.adf_drafts.specs.{declared.draft.Room.Room, Draft.DraftValue, Draft.IsDirectoryOf, Draft.IsRoomFor}
 use Rattle.adf_tree.specs.declared.entry.Body.{Body}
 use Rattle.adf_names.specs.declared.kind.Kind.{Kind}
-use Rattle.adf_drafts.specs.Draft.{DraftValue, IsDirectoryOf, IsRoomFor}
 use Rattle.adf_blocks.specs.Sizes.{blocks}
-use Rattle.adf_volume.specs.Image.{kind_of}
-use Rattle.adf_volume.specs.Walk.{heads, Walk}
+use Rattle.adf_volume.specs.{Image.kind_of, Walk.heads, Walk.Walk}
 use Rattle.adf_findings.specs.Survey.{FindingValue, IsSurvey}
 use Rattle.adf_build.specs.Plan.{data_blocks, entries_blocks, exts_needed, reserved}
-use Rattle.adf_rescue.specs.declared.salvage.Salvage.{Salvage}
-use Rattle.adf_rescue.specs.declared.standing.Input.{Input}
+use Rattle.adf_rescue.specs.{declared.salvage.Salvage.Salvage, declared.standing.Input.Input}
 use Rattle.adf_rescue.specs.Rescue.{Ground, Verdict, added_marks, is_data, verdict_additions, left_out_from, new_path, verdict_tree}
 
 -- a room is that of a path; there is none without a path

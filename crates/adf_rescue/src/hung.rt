@@ -3,19 +3,14 @@
 ghost use Rattle.std.specs.Prelude.{◌≡◌, ◌≢◌, ◌<◌, ◌≤◌, ◌||◌, ◌&&◌, ◌==◌, ℕ, Bool, List, Some, None, true, false, cond};
 ghost use Rattle.std.specs.Prelude.{length, is_some, option_map, slice_index, IfOk, IfSome, OnErr, OnOk};
 ghost use Rattle.adf_base.specs.Words.{block, with_block};
-ghost use Rattle.adf_blocks.specs.HeadBlock.{head_block};
+ghost use Rattle.adf_blocks.specs.{HeadBlock.head_block, Sizes.blocks};
 ghost use Rattle.adf_blocks.specs.declared.layout.TheConstants.{CHECKSUM, PARENT};
-ghost use Rattle.adf_blocks.specs.Sizes.{blocks};
-ghost use Rattle.adf_volume.specs.Image.{kind_of, word_in};
-ghost use Rattle.adf_volume.specs.Start.{is_image_len};
-ghost use Rattle.adf_volume.specs.Walk.{heads, node_block, Walk};
-ghost use Rattle.adf_findings.specs.Members.{owning_entry, owns, has_mark};
-ghost use Rattle.adf_findings.specs.Survey.{OnSurvey};
+ghost use Rattle.adf_volume.specs.{Image.kind_of, Image.word_in, Start.is_image_len, Walk.heads, Walk.node_block, Walk.Walk};
+ghost use Rattle.adf_findings.specs.{Members.owning_entry, Members.owns, Members.has_mark, Survey.OnSurvey};
 ghost use Rattle.adf_rescue.specs.Lost.{AreLost, IsEvidence, directory_at, has_findings, is_vacant, lost_among};
-ghost use Rattle.adf_rescue.specs.Rescue.{lost_name};
+ghost use Rattle.adf_rescue.specs.{Rescue.lost_name, Hung.second_image, Hung.slot_word};
 ghost use Rattle.adf_rescue.specs.Hung.{AreEnds, AreLoose, directory_end, emptied, home, hung, hung_at, hung_in, hung_loose};
-ghost use Rattle.adf_rescue.specs.Hung.{is_container, is_loose, is_made, made_header, open_end, ready_in, readied};
-ghost use Rattle.adf_rescue.specs.Hung.{second_image, slot_word};
+ghost use Rattle.adf_rescue.specs.Hung.{is_container, is_loose, is_made, is_named_by, made_header, open_end, ready_in, readied};
 
 use crate::image::{block_count, root_of};
 use crate::lost::{
@@ -33,12 +28,34 @@ use std::alloc::Global;
 // The word of the checksum of a header and the root.
 const CHECKSUM: usize = 5;
 
-// The word of the slot that block `b` is hung in.
-fn slot_word(b: u32) -> usize
-    ensures exact { result ≡ slot_word b }
+// Whether the table of directory `p` names header `b`, in the slot of its name.
+#[tactic(auto, using(crate::proofs::MadeRoots::sized))]
+fn is_named_by(survey: &Survey<'_>, p: u32, b: u32) -> bool
+    requires sized { is_image_len (length survey.now.image) ≡ true }
+    requires inside { b < blocks survey.now.image }
+    requires home { p < blocks survey.now.image }
+    ensures { result ≡ is_named_by survey.now.image p b }
+{
+    match survey.slot_named(b) {
+        Some(slot) => word_in(survey.image(), p, FIRST_SLOT + usize::from(slot)) == b,
+        None => false,
+    }
+}
+
+// The word of the slot that block `b` is hung in, in directory `p`.
+fn slot_word(survey: &Survey<'_>, p: u32, b: u32) -> usize
+    requires sized { is_image_len (length survey.now.image) ≡ true }
+    requires inside { b < blocks survey.now.image }
+    requires home { p < blocks survey.now.image }
+    ensures exact { result ≡ slot_word survey.now.image p b }
     ensures small { result < 78 }
 {
-    FIRST_SLOT + (b % SLOTS) as usize
+    let half = if is_named_by(survey, p, b) {
+        0
+    } else {
+        SLOTS / 2
+    };
+    FIRST_SLOT + (half + b % (SLOTS / 2)) as usize
 }
 
 // Hangs block `b` of directory `p` where word `i` of block `e` leads to.
@@ -304,7 +321,7 @@ fn hang_in(survey: &Survey<'_>, loose: &Loose, image: &mut [u8], b: u32, p: u32)
     ensures { OnSurvey survey.now.image (λ w _. (s : ℕ → Bool) → AreLoose survey.now.image w s loose.now
         → image.new ≡ hung_in survey.now.image w image.old b p) }
 {
-    let slot = slot_word(b);
+    let slot = slot_word(survey, p, b);
     if !survey.has_part(word_in(image, p, slot)) {
         hang(image, b, p, p, slot);
         return;
@@ -385,7 +402,8 @@ fn changed(alloc: Global, survey: &Survey<'_>, loose: &Loose) -> Result<Vec<u8>,
 /// no part of the survey. A block that is neither misses it if a trusted bitmap tells that it is in use, or, where none tells
 /// anything of it, if some directory is open: there a directory `lost-` and its number is made, in the root.
 ///
-/// A lost header whose directory is neither found, nor lost, nor made is not hung. No word that leads to a part of the survey is
+/// A lost header whose directory is neither found, nor lost, nor made is not hung. Those that the table of their directory names, in
+/// the slot of their names, come before the others. No word that leads to a part of the survey is
 /// changed. `NoMemory` if an allocation fails, which can happen only if there is a finding.
 pub fn hung(alloc: Global, survey: &Survey<'_>, made: bool) -> Result<Option<Vec<u8>>, NoMemory>
     ensures image { OnSurvey survey.now.image (λ w fs.

@@ -3,8 +3,7 @@
 ghost use Rattle.std.specs.Prelude.{◌≡◌, ◌<◌, ◌+◌, ◌*◌, ◌≤◌, ◌^◌, length, true};
 ghost use Rattle.adf_base.specs.Words.{block};
 ghost use Rattle.adf_blocks.specs.Sizes.{blocks};
-ghost use Rattle.adf_volume.specs.Image.{root_of};
-ghost use Rattle.adf_volume.specs.Start.{is_image_len};
+ghost use Rattle.adf_volume.specs.{Image.root_of, Start.is_image_len};
 
 use adf_base::{BLOCK_LEN, Block};
 

@@ -3,36 +3,20 @@
 ghost use Rattle.std.specs.Prelude.{◌≡◌, ◌≤◌, ◌<◌, ◌++◌, ℕ, Bool, List, [], IfSome, None, Option, Some, true, false, slice_get};
 ghost use Rattle.std.proofs.Common.{suc};
 ghost use Rattle.std.specs.List.{All};
-ghost use Rattle.adf_base.specs.Words.{block};
-ghost use Rattle.adf_base.specs.declared.hash.Letters.{Letters};
-ghost use Rattle.adf_tree.specs.Additions.{Addition, IsTreeOfBy};
-ghost use Rattle.adf_tree.specs.declared.entry.Body.TheVariants.{File};
-ghost use Rattle.adf_blocks.specs.HeadBlock.{meta_stated};
-ghost use Rattle.adf_blocks.specs.Sizes.{blocks, is_allowed};
-ghost use Rattle.adf_volume.specs.Image.{name_of};
+ghost use Rattle.adf_base.specs.{Words.block, declared.hash.Letters.Letters};
+ghost use Rattle.adf_tree.specs.{Additions.Addition, Additions.IsTreeOfBy, declared.entry.Body.TheVariants.File, Tree.Tree};
+ghost use Rattle.adf_blocks.specs.{HeadBlock.meta_stated, Sizes.blocks, Sizes.is_allowed};
+ghost use Rattle.adf_volume.specs.{Image.name_of, Fits.Fits, Fits.FitsBy, Layout.Layout, Made.datas_in, Lists.At};
+ghost use Rattle.adf_volume.specs.{Types.letters_for, declared.types.Types.Types, Walk.FileAt, Walk.node_block, Walk.Walk};
 ghost use Rattle.adf_findings.specs.Files.{HasItsBlocks, IsSoundFile, file_content, file_in, grave};
-ghost use Rattle.adf_findings.specs.Members.{owning_entry, parent_node};
-ghost use Rattle.adf_findings.specs.Sound.{FileHolds, IsOfItsKind, IsSound};
-ghost use Rattle.adf_findings.specs.SoundMarks.{AreMarks};
-ghost use Rattle.adf_findings.specs.Survey.{FindingValue, IsSurvey};
-ghost use Rattle.adf_tree.specs.Tree.{Tree};
-ghost use Rattle.adf_volume.specs.Fits.{Fits, FitsBy};
-ghost use Rattle.adf_volume.specs.Layout.{Layout};
-ghost use Rattle.adf_volume.specs.Made.{datas_in};
-ghost use Rattle.adf_volume.specs.Lists.{At};
-ghost use Rattle.adf_volume.specs.Types.{letters_for};
-ghost use Rattle.adf_volume.specs.declared.types.Types.{Types};
-ghost use Rattle.adf_volume.specs.Walk.{FileAt, node_block, Walk};
+ghost use Rattle.adf_findings.specs.{Members.owning_entry, Members.parent_node, Sound.FileHolds, Sound.IsOfItsKind};
+ghost use Rattle.adf_findings.specs.{Sound.IsSound, SoundMarks.AreMarks, Survey.FindingValue, Survey.IsSurvey};
 ghost use Rattle.adf_build.specs.Laid.{IsLaid};
-ghost use Rattle.adf_rescue.specs.Doubts.{first_doubts_by};
-ghost use Rattle.adf_rescue.specs.Losses.{lost_blocks, lost_headers};
-ghost use Rattle.adf_rescue.specs.Lost.{has_lost};
+ghost use Rattle.adf_rescue.specs.{Doubts.first_doubts_by, Losses.lost_blocks, Losses.lost_headers, Lost.has_lost};
+ghost use Rattle.adf_rescue.specs.{Rescue.Verdict.adds, Salvage.are_data, declared.standing.Input.Input};
 ghost use Rattle.adf_rescue.specs.Rescue.{Basis, Verdict, as_accepted, at_path, before_first_by, first_verdicts_by, path_by};
 ghost use Rattle.adf_rescue.specs.Rescue.{verdict_additions, new_path, rescue_leaves_by, rescued_additions_by, rescued_tree_by};
 ghost use Rattle.adf_rescue.specs.Rescue.{second_verdicts_by, verdict_tree, verdict};
-ghost use Rattle.adf_rescue.specs.Rescue.Verdict.{adds};
-ghost use Rattle.adf_rescue.specs.Salvage.{are_data};
-ghost use Rattle.adf_rescue.specs.declared.standing.Input.{Input};
 
 /// The tree of a rescue is that of its additions.
 pub fn rescued_additions_have_their_tree()

@@ -1,8 +1,7 @@
 // What the survey of an image tells to be there: headers behind a chain that is broken, and blocks in use that no survey has.
 
-ghost use Rattle.std.specs.List.{cons_option};
+ghost use Rattle.std.specs.{List.cons_option, Option.option_and_then};
 ghost use Rattle.std.specs.Prelude.{◌≡◌, ◌++◌, ◌∷◌, [], IfOk, OnOk, cond, option_map, slice_get};
-ghost use Rattle.std.specs.Option.{option_and_then};
 ghost use Rattle.adf_findings.specs.Survey.{OnSurvey};
 ghost use Rattle.adf_rescue.specs.Losses.{is_second_block, is_unowned, lost_block, lost_blocks, lost_headers};
 ghost use Rattle.adf_rescue.specs.Rescue.{OnSecond};

@@ -4,13 +4,9 @@ ghost use Rattle.std.specs.Prelude.{◌≡◌, ◌<◌, ◌≤◌, ◌+◌, ◌=
 ghost use Rattle.std.specs.Option.{option_and_then};
 ghost use Rattle.adf_base.specs.Words.{block, long_sum};
 ghost use Rattle.adf_blocks.specs.declared.layout.TheConstants.{POINTERS, SECONDARY_TYPE, ST_DIR};
-ghost use Rattle.adf_blocks.specs.HeadBlock.{is_entry, is_link};
-ghost use Rattle.adf_blocks.specs.Sizes.{blocks, in_range};
-ghost use Rattle.adf_volume.specs.Image.{root_of, word_in};
-ghost use Rattle.adf_volume.specs.Start.{is_image_len};
-ghost use Rattle.adf_volume.specs.Walk.{heads, node_block};
-ghost use Rattle.adf_findings.specs.Members.{has_mark};
-ghost use Rattle.adf_findings.specs.Survey.{OnSurvey};
+ghost use Rattle.adf_blocks.specs.{HeadBlock.is_entry, HeadBlock.is_link, Sizes.blocks, Sizes.in_range};
+ghost use Rattle.adf_volume.specs.{Image.root_of, Image.word_in, Start.is_image_len, Walk.heads, Walk.node_block};
+ghost use Rattle.adf_findings.specs.{Members.has_mark, Survey.OnSurvey};
 ghost use Rattle.adf_rescue.specs.Broken.{broken_by};
 ghost use Rattle.adf_rescue.specs.Lost.{AreBroken, AreLost, AreOpen, IsEvidence, bit_stated, directory_at, directory_by};
 ghost use Rattle.adf_rescue.specs.Lost.{has_found_data, has_free_data, has_free_first, has_valid_flag, header_block};

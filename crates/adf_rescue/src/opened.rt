@@ -3,13 +3,10 @@
 ghost use Rattle.std.specs.Prelude.{◌≡◌, ◌<◌, ◌≤◌, ◌+◌, ◌*◌, ◌^◌, ◌∷◌, [], ℕ, List, IfOk, drop, false, length, slice_range, true};
 ghost use Rattle.adf_base.specs.Words.{word};
 ghost use Rattle.adf_blocks.specs.declared.layout.TheConstants.{BITMAP_FLAG, FIRST_MAP_EXT, FIRST_SLOT, SLOTS};
-ghost use Rattle.adf_blocks.specs.RootBlock.{label_stated, stamps_at};
-ghost use Rattle.adf_blocks.specs.Sizes.{blocks};
-ghost use Rattle.adf_volume.specs.Image.{root_of, word_in};
-ghost use Rattle.adf_volume.specs.Start.{is_image_len};
+ghost use Rattle.adf_blocks.specs.{RootBlock.label_stated, RootBlock.stamps_at, Sizes.blocks};
+ghost use Rattle.adf_volume.specs.{Image.root_of, Image.word_in, Start.is_image_len};
 ghost use Rattle.adf_findings.specs.Opening.{opening_in};
-ghost use Rattle.adf_names.specs.Meta.{AreStamps};
-ghost use Rattle.adf_names.specs.declared.meta.TheConstants.{NO_STAMPS};
+ghost use Rattle.adf_names.specs.{Meta.AreStamps, declared.meta.TheConstants.NO_STAMPS};
 ghost use Rattle.adf_rescue.specs.MadeRoot.{has_root, is_like_root, middle_block};
 ghost use Rattle.adf_rescue.specs.Opened.{has_data, is_mended, lacks_boot, lacks_root, opened, says_data, says_file};
 ghost use Rattle.adf_rescue.specs.Opened.{states_type, type_byte, with_boot_type};

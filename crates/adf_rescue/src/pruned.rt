@@ -4,8 +4,7 @@ ghost use Rattle.std.specs.Prelude.{◌≡◌, ◌<◌, ◌+◌, ◌⊎◌, ℕ,
 ghost use Rattle.adf_base.specs.Words.{block};
 ghost use Rattle.adf_blocks.specs.Sizes.{blocks};
 ghost use Rattle.adf_blocks.specs.declared.layout.TheConstants.{SECONDARY_TYPE, SLOTS, ST_DIR};
-ghost use Rattle.adf_volume.specs.Image.{root_of, word_in};
-ghost use Rattle.adf_volume.specs.Start.{is_image_len};
+ghost use Rattle.adf_volume.specs.{Image.root_of, Image.word_in, Start.is_image_len};
 ghost use Rattle.adf_rescue.specs.Pruned.{IsMended, chain_leads, chain_pruned, directory_typed, extension_pruned, has_directory_type, header_pruned};
 ghost use Rattle.adf_rescue.specs.Pruned.{is_child_of, is_in_doubt, leads_to_child, may_be_pruned, pruned, pruned_at};
 ghost use Rattle.adf_rescue.specs.Pruned.{homed, is_home, parent_summed, put_unless, slot_pruned, slots_pruned};

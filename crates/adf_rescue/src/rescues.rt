@@ -6,14 +6,11 @@ ghost use Rattle.adf_base.specs.declared.hash.Letters.{Letters};
 ghost use Rattle.adf_blocks.specs.Sizes.{blocks as blocks_in};
 ghost use Rattle.adf_volume.specs.Types.{letters_for};
 ghost use Rattle.adf_findings.specs.Survey.{OnSurvey};
-ghost use Rattle.adf_build.specs.Laid.{IsLaid};
-ghost use Rattle.adf_build.specs.Building.{IsBuildable};
-ghost use Rattle.adf_build.specs.Plan.{entries_blocks};
+ghost use Rattle.adf_build.specs.{Laid.IsLaid, Building.IsBuildable, Plan.entries_blocks};
 ghost use Rattle.adf_rescue.specs.Rescue.{Basis, OnBasis, OnSecond, StandsNothingBy, before_first_by, before_second_by};
 ghost use Rattle.adf_rescue.specs.Rescue.{first_verdicts_by, second_verdicts_by};
-ghost use Rattle.adf_rescue.specs.Rescued.{IsRescued};
+ghost use Rattle.adf_rescue.specs.{Rescued.IsRescued, declared.standing.Input.Input};
 ghost use Rattle.adf_rescue.specs.Salvage.{free_blocks as blocks_free, IsSalvage};
-ghost use Rattle.adf_rescue.specs.declared.standing.Input.{Input};
 
 use crate::doubts::{Doubtful, first_doubts, second_doubts};
 use crate::left_out::LeftOut;

@@ -3,8 +3,7 @@
 ghost use Rattle.std.specs.Prelude.{◌≡◌, ℕ, List, IfOk};
 ghost use Rattle.std.specs.String.{string_bytes};
 ghost use Rattle.adf_drafts.specs.Draft.{IsDirectoryOf};
-ghost use Rattle.adf_rescue.specs.Rescue.{lost_name, path_for, path_with_room};
-ghost use Rattle.adf_rescue.specs.Salvage.{IsRoomOf};
+ghost use Rattle.adf_rescue.specs.{Rescue.lost_name, Rescue.path_for, Rescue.path_with_room, Salvage.IsRoomOf};
 
 use adf_base::NoMemory;
 use adf_drafts::{Draft, Room};

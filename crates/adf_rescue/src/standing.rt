@@ -1,17 +1,13 @@
 // The entries that stand.
 
 ghost use Rattle.std.specs.Prelude.{◌≡◌, ◌==◌, ◌&&◌, ◌≤◌, ◌<◌, ◌+◌, ◌*◌, cond, List, IfOk, not};
-ghost use Rattle.adf_base.specs.Words.{block};
-ghost use Rattle.adf_base.specs.declared.hash.Letters.{Letters};
+ghost use Rattle.adf_base.specs.{Words.block, declared.hash.Letters.Letters};
 ghost use Rattle.adf_tree.specs.declared.entry.Body.TheVariants.{File};
-ghost use Rattle.adf_volume.specs.Image.{word_in};
-ghost use Rattle.adf_volume.specs.Walk.{heads, node_block};
-ghost use Rattle.adf_findings.specs.Files.{file_content};
-ghost use Rattle.adf_findings.specs.Survey.{FindingValue, IsSurvey, OnSurvey};
+ghost use Rattle.adf_volume.specs.{Image.word_in, Walk.heads, Walk.node_block};
+ghost use Rattle.adf_findings.specs.{Files.file_content, Survey.FindingValue, Survey.IsSurvey, Survey.OnSurvey};
 ghost use Rattle.adf_rescue.specs.Rescue.{Ground, OnBasis, added_marks, are_given, as_given, before_first_by, body_of};
 ghost use Rattle.adf_rescue.specs.Rescue.{body_of_type, entry_headed, entry_by, is_data, is_given, is_of_kept_entry};
-ghost use Rattle.adf_rescue.specs.Rescue.{is_same_block};
-ghost use Rattle.adf_rescue.specs.Salvage.{are_data};
+ghost use Rattle.adf_rescue.specs.{Rescue.is_same_block, Salvage.are_data};
 
 use crate::claims::claims_header;
 use crate::left_out::Why;

@@ -1,8 +1,7 @@
 -- How runs end in which no work is begun.
 use Rattle.std.proofs.Common.{◌≡◌, rules, inl, Bool, false, ℕ, List, Option, None, Some, IfSome, sym}
 use Rattle.adf_runs.specs.Commands.{Command, GetsAnswer, GetsFront, IsConsistent, RunEnds, bad_path}
-use Rattle.adf_runs.specs.Streams.{IsTold, Seen, still}
-use Rattle.adf_runs.specs.WorkFaults.{IsNoWork, refusal_line, refusal_status}
+use Rattle.adf_runs.specs.{Streams.IsTold, Streams.Seen, Streams.still, WorkFaults.IsNoWork, WorkFaults.refusal_line, WorkFaults.refusal_status}
 use Rattle.adf_runs.specs.declared.work_fault.WorkFault.{WorkFault, TheVariants.BadPath, TheVariants.NoMemory, TheVariants.Usage}
 use Rattle.adf_runs.proofs.PendingText.{appends_nil}
 

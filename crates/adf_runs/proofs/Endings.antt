@@ -1,11 +1,8 @@
 -- How a work ends, and by which answers.
 use Rattle.std.proofs.Common.{◌≡◌, ◌<◌, ◌+◌, ◌∙◌, inl, inr, ℕ, Bool, false, List, Option, Some, None, IfSome, Err, refl, subst, sym, arith, length, take}
-use Rattle.std.proofs.Common.{length-take}
-use Rattle.std.proofs.lemmas.Bool.{cases_lt}
-use Rattle.std.proofs.lemmas.List.{take_all}
-use Rattle.adf_runs.specs.Commands.{Reply, WritesFront}
+use Rattle.std.proofs.{Common.length-take, lemmas.Bool.cases_lt, lemmas.List.take_all}
+use Rattle.adf_runs.specs.{Commands.Reply, Commands.WritesFront, Streams.Seen, Streams.is_device, Streams.still}
 use Rattle.adf_runs.specs.Outcomes.{Does, DoesSilently, EndsBy, after_writing, outcome_text, status_of}
-use Rattle.adf_runs.specs.Streams.{Seen, is_device, still}
 use Rattle.adf_runs.specs.declared.outcome.Outcome.{Outcome, TheVariants.ReadFault, TheVariants.WriteFault, TheVariants.NoMemory}
 use Rattle.adf_runs.specs.declared.streams.StreamFault.{StreamFault, TheVariants.Device, TheVariants.NoMemory as StreamNoMemory}
 use Rattle.adf_runs.proofs.PendingText.{appends_nil}

@@ -2,10 +2,8 @@
 use Rattle.std.proofs.Common.{◌≡◌, ◌≤◌, ◌+◌, ◌-◌, ◌++◌, ap, length-drop, ◌∙◌, ℕ, List, Option, Some, None, IfSome, min, inl, inr, refl, sym, length, take, drop}
 use Rattle.std.proofs.Common.{arith, append_assoc, length-append, length-take, length-take-le}
 use Rattle.std.specs.Io.KnownBytes.{Appends, Consumes, Keeps}
-use Rattle.std.proofs.Math.Seq.{take-add, take-append-add, drop-append_seam}
+use Rattle.std.proofs.{Math.Seq.take-add, Math.Seq.take-append-add, Math.Seq.drop-append_seam, lemmas.Bool.cases_lt, Math.ListN.drop_of_length-le}
 use Rattle.std.proofs.lemmas.List.{take_all, take-append-le, nil_from_length}
-use Rattle.std.proofs.lemmas.Bool.{cases_lt}
-use Rattle.std.proofs.Math.ListN.{drop_of_length-le}
 use Rattle.adf_runs.specs.Streams.{IsExcerpt, PassesOver, TakesAtMost, TakesCount, TakesFirst}
 
 pub appends_two : (a b c : Option (List ℕ)) (bs cs all : List ℕ) → all ≡ bs ++ cs → Appends a b bs → Appends b c cs → Appends a c all

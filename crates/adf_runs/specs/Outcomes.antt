@@ -1,12 +1,9 @@
 -- How the work of a command went.
 use Rattle.std.specs.Prelude.{◌≡◌, ℕ, Bool, true, false, List, [], codes, ◌⊎◌, Option, IfSome, string_bytes}
 use Rattle.std.specs.Io.KnownBytes.{Appends}
-use Rattle.adf_runs.specs.Commands.{Reply, WritesFront}
-use Rattle.adf_runs.specs.Streams.{Seen}
+use Rattle.adf_runs.specs.{Commands.Reply, Commands.WritesFront, Streams.Seen, declared.outcome.Outcome.Outcome, declared.outcome.Outcome.TheVariants.NoMemory}
 use Rattle.adf_runs.specs.declared.streams.StreamFault.{StreamFault, TheVariants.Device, TheVariants.NoMemory as StreamNoMemory}
-use Rattle.adf_runs.specs.declared.outcome.Outcome.{Outcome}
 use Rattle.adf_runs.specs.declared.outcome.Outcome.TheVariants.{Done, FaultWritten, Refused, LeftOut, NoSuchPath, NotAFile, Damaged, ReadFault, WriteFault}
-use Rattle.adf_runs.specs.declared.outcome.Outcome.TheVariants.{NoMemory}
 
 -- the exit status of an outcome
 abbrev pub status_of : Outcome → ℕ

@@ -2,8 +2,7 @@
 
 ghost use Rattle.std.specs.Prelude.{◌≡◌, ◌≤◌, ℕ, Bool, false, is_err, IfOk, List, None, Option, true};
 ghost use Rattle.std.specs.Io.{ReadsAtMost, WritesAtMost, KnownBytes.ReadConsumes, KnownBytes.WriteAppends};
-ghost use Rattle.adf_runs.specs.Devices.{write_fails};
-ghost use Rattle.adf_runs.specs.Streams.{PassesOver, TakesAtMost};
+ghost use Rattle.adf_runs.specs.{Devices.write_fails, Streams.PassesOver, Streams.TakesAtMost};
 
 use crate::streams::CHUNK;
 use std::error::Error;

@@ -1,8 +1,7 @@
 // The input of a command.
 
 ghost use Rattle.std.specs.Prelude.{◌≡◌, ◌+◌, ◌<◌, ◌^◌, false, IfErr, IfOk, OnOk};
-ghost use Rattle.adf_runs.specs.Outcomes.{Blames, LacksInput};
-ghost use Rattle.adf_runs.specs.Streams.{AreFirst, TakesAtMost};
+ghost use Rattle.adf_runs.specs.{Outcomes.Blames, Outcomes.LacksInput, Streams.AreFirst, Streams.TakesAtMost};
 
 use crate::devices::Source;
 use crate::outcome::Outcome;

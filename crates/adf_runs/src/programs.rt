@@ -4,8 +4,7 @@ ghost use Rattle.std.specs.Prelude.{◌≡◌, ◌+◌, ◌<◌, ◌^◌, ℕ, L
 ghost use Rattle.adf_words.specs.CommandLine.{texts_of};
 ghost use Rattle.adf_runs.specs.Commands.{Command, IsConsistent, IsUnanswered, IsConsumed, RunEnds, TakesEnough};
 ghost use Rattle.adf_runs.specs.Outcomes.{Blames, EndsBy, is_read_fault};
-ghost use Rattle.adf_runs.specs.Streams.{TakesAtMost, at_hand, seen};
-ghost use Rattle.adf_runs.specs.WorkFaults.{IsNoWork};
+ghost use Rattle.adf_runs.specs.{Streams.TakesAtMost, Streams.at_hand, Streams.seen, WorkFaults.IsNoWork};
 
 use crate::devices::{Sink, Source};
 use crate::outcome::Outcome;

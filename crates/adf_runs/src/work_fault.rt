@@ -1,8 +1,7 @@
 // Why no work is begun.
 
 ghost use Rattle.std.specs.Prelude.{◌≡◌, false};
-ghost use Rattle.adf_runs.specs.Streams.{Says};
-ghost use Rattle.adf_runs.specs.WorkFaults.{refusal_line, refusal_status};
+ghost use Rattle.adf_runs.specs.{Streams.Says, WorkFaults.refusal_line, WorkFaults.refusal_status};
 
 use crate::devices::Sink;
 use crate::streams::say;

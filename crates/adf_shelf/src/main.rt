@@ -8,23 +8,13 @@ mod raw_words;
 
 use crate::closed::{Errors, Output};
 use crate::raw_words::{names_among, raw_words, stand_ins};
-use adf_file_runs::{About, NamedErrors, SystemFiles, tell, telling_asked};
+use adf_file_runs::{NamedErrors, SystemFiles, tell, telling_asked};
 use adf_runs::{Device, Outcome, Sink, command_words, refuse_words};
-use adf_shelf_cmd::{TextNames, parse, run};
+use adf_shelf_cmd::{ABOUT, TextNames, parse, run};
 use std::alloc::Global;
 use std::cell::Cell;
 use std::io::BufReader;
 use std::process::ExitCode;
-
-const ABOUT: About = About {
-    name: "adf-shelf",
-    help: "Checks many images, and writes for each its name, a tab, and the line of `adf check`.\n\n\
-    usage: adf-shelf [--null] [--any-type] [FILE..]\n\
-    \x20      adf-shelf --help, adf-shelf --version\n\n\
-    Without a FILE the names come on standard input, one a line; with --null each ends in a zero byte.\n\
-    With --any-type volumes of types 2 and 3 are checked too.\n\
-    man adf-shelf tells more.\n",
-};
 
 // Whether the words ask for any type; `None` if they ask for no verdicts.
 fn any_type_asked(alloc: Global, texts: &[&str]) -> Option<bool> {
@@ -94,7 +84,7 @@ fn run_raw<W: Sink, E: Sink>(
 fn status(rt: &HostRuntime) -> Result<u8, Outcome> {
     let closed = Cell::new(false);
     let mut output = Output::new(rt.stdout(), &closed);
-    let mut errors = NamedErrors::new("adf-shelf: ", Errors::new(rt.stderr(), &closed));
+    let mut errors = NamedErrors::new(ABOUT.name, Errors::new(rt.stderr(), &closed));
     match command_words(rt) {
         Ok(words) => {
             let texts: Vec<&str> = words.iter().map(|word| word.as_str()).collect(rt.alloc())?;
@@ -109,7 +99,7 @@ fn main(rt: HostRuntime) -> ExitCode {
     ExitCode::from(match status(&rt) {
         Ok(status) => status,
         Err(fault) => {
-            let mut errors = NamedErrors::new("adf-shelf: ", Device::new(rt.stderr()));
+            let mut errors = NamedErrors::new(ABOUT.name, Device::new(rt.stderr()));
             refuse_words(&fault, &mut errors)
         }
     })

@@ -1,9 +1,8 @@
 -- The names in bytes, one after another.
 use Rattle.std.proofs.Common.{◌≡◌, ◌≤◌, ◌<◌, ◌==◌, ℕ, zero, suc, Bool, true, false, List, [], ◌∷◌, ◌∙◌, length, if◌then◌else◌, Option, None, Some, IfSome}
-use Rattle.std.proofs.Common.{option_map, ap, refl, arith, Bor}
+use Rattle.std.proofs.{Common.option_map, Common.ap, Common.refl, Common.arith, Common.Bor, lemmas.Grind.common_steps}
 use Rattle.std.specs.Io.BufRead.{DropsThrough, drop_through, first_piece, strip_last, take_through}
 use Rattle.std.specs.Io.KnownBytes.{IsAtEnd}
-use Rattle.std.proofs.lemmas.Grind.{common_steps}
 use Rattle.adf_words.specs.CommandLine.{texts_of}
 use Rattle.adf_shelf_cmd.specs.Names.{AreGiven, are_unread, name_end, first_names, listed_names, names_or_input}
 

@@ -1,15 +1,12 @@
 -- What a run of names has done so far. `may` says what may be reported of the file of a name, `a` is what was left of the names before the run
 -- and `b` what is left, `o` and `o'` are what output held and holds, and `e` and `e'` what errors do.
 use Rattle.std.proofs.Common.{◌≡◌, ◌∙◌, ℕ, max, Bool, true, false, List, [], ◌∷◌, ◌++◌, Option, None, Some, IfSome, append-nil, append_assoc, inl, inr, refl}
-use Rattle.std.proofs.Common.{sym, ap, subst, arith}
+use Rattle.std.proofs.{Common.sym, Common.ap, Common.subst, Common.arith, lemmas.Grind.common_steps}
 use Rattle.std.specs.Io.KnownBytes.{Appends}
-use Rattle.std.proofs.lemmas.Grind.{common_steps}
 use Rattle.adf_volume.specs.declared.types.Types.{Types}
-use Rattle.adf_runs.proofs.KnownBytes.{appends_two}
-use Rattle.adf_runs.proofs.PendingText.{appends_nil, part_behind, part_of_more}
+use Rattle.adf_runs.proofs.{KnownBytes.appends_two, PendingText.appends_nil, PendingText.part_behind, PendingText.part_of_more}
 use Rattle.adf_runs.specs.Streams.{Says}
-use Rattle.adf_file_runs.specs.declared.files.Unopened.{Unopened}
-use Rattle.adf_file_runs.specs.Files.{why_line}
+use Rattle.adf_file_runs.specs.{declared.files.Unopened.Unopened, Files.why_line}
 use Rattle.adf_shelf_cmd.specs.Lines.{AreBatchLines, BreaksLine, IsOpenedReport, IsRunStatus, Reports, SaysMore, WritesLines, WritesPart, batch_line}
 use Rattle.adf_shelf_cmd.specs.Names.{AreGiven}
 

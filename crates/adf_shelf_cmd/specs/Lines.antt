@@ -1,15 +1,12 @@
 -- The lines of names. In each definition `may` says of a name, a status, a text and why its file could not be opened whether they may be reported
 -- of it, `o` and `o'` are what output held and holds, and `e` and `e'` what errors do. `said` is what is said on errors of files.
 use Rattle.std.specs.Prelude.{◌≡◌, ◌≢◌, ◌≤◌, ◌⊎◌, ℕ, max, Bool, true, false, List, [], ◌∷◌, ◌++◌, codes, Option, None, Some, IfSome, Result, Err, if◌then◌else◌}
-use Rattle.std.specs.Prelude.{string_bytes}
-use Rattle.std.specs.Io.KnownBytes.{Appends}
+use Rattle.std.specs.{Prelude.string_bytes, Io.KnownBytes.Appends}
 use Rattle.adf_volume.specs.declared.types.Types.{Types}
 use Rattle.adf_names.specs.Escapes.{escaped}
 use Rattle.adf_cmd.specs.Answers.{Checks}
-use Rattle.adf_runs.specs.Commands.{on_output}
-use Rattle.adf_runs.specs.Streams.{AppendsPart, IsTold, Says, Seen}
-use Rattle.adf_file_runs.specs.Files.{why_line}
-use Rattle.adf_file_runs.specs.declared.files.Unopened.{Unopened}
+use Rattle.adf_runs.specs.{Commands.on_output, Streams.AppendsPart, Streams.IsTold, Streams.Says, Streams.Seen}
+use Rattle.adf_file_runs.specs.{Files.why_line, declared.files.Unopened.Unopened}
 use Rattle.adf_shelf_cmd.specs.declared.report.Report.{Report, TheVariants.Checked, TheVariants.NotOpened, TheVariants.ReadFault, TheVariants.NoMemory}
 use Rattle.adf_shelf_cmd.specs.declared.batch.Stop.{Stop, TheVariants.ReadFault as NamesFault, TheVariants.WriteFault, TheVariants.NoMemory as StopNoMemory}
 

@@ -1,6 +1,6 @@
 -- The names of images.
 use Rattle.std.specs.Prelude.{◌≡◌, ℕ, zero, suc, Bool, true, false, List, [], ◌∷◌, ◌++◌, length, Option, None, Some, IfSome, option_map, if◌then◌else◌}
-use Rattle.adf_file_words.specs.ShelfLine.{ShelfOrder}
+use Rattle.adf_shelf_cmd.specs.CommandLine.{ShelfOrder}
 use Rattle.adf_volume.specs.declared.types.Types.{Types, TheVariants.Plain, TheVariants.WithInternational}
 use Rattle.std.specs.Io.BufRead.{drop_through, first_piece}
 

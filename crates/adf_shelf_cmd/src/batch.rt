@@ -3,8 +3,7 @@
 ghost use Rattle.std.specs.Prelude.{◌≡◌, ℕ, List, Option, false, IfOk, OnErr};
 ghost use Rattle.std.specs.Io.KnownBytes.{Appends};
 ghost use Rattle.adf_runs.specs.Streams.{Says};
-ghost use Rattle.adf_file_runs.specs.declared.files.Unopened.{Unopened};
-ghost use Rattle.adf_file_runs.specs.Files.{why_line};
+ghost use Rattle.adf_file_runs.specs.{declared.files.Unopened.Unopened, Files.why_line};
 ghost use Rattle.adf_shelf_cmd.specs.Lines.{BreaksLine, IsReportOf, IsRunStatus, SaysMore, WritesAll, WritesPart, is_names_stop};
 ghost use Rattle.adf_shelf_cmd.specs.Lines.{is_write_stop, batch_line, stop_line};
 

@@ -4,15 +4,15 @@ ghost use Rattle.std.specs.Prelude.{◌≡◌, ◌≢◌, ◌≤◌, Bool, [], c
 ghost use Rattle.adf_volume.specs.declared.types.Types.TheVariants.{Plain, WithInternational};
 ghost use Rattle.adf_words.specs.CommandLine.{texts_of};
 ghost use Rattle.adf_runs.specs.Streams.{IsTold, seen};
-ghost use Rattle.adf_file_words.specs.ShelfLine.{AsksShelf, AreRefusedByShelf, ShelfOrder};
+ghost use Rattle.adf_shelf_cmd.specs.CommandLine.{AsksShelf, AreRefusedByShelf, ShelfOrder};
 ghost use Rattle.adf_shelf_cmd.specs.Lines.{Ends, IsReportOf, IsRunStatus};
 ghost use Rattle.adf_shelf_cmd.specs.Names.{are_unread, name_end, names_asked, types_asked};
 
 use crate::batch::{Stop, say_more, write_verdicts};
+use crate::command_line::{Order, SHELF_USAGE as USAGE, parse_shelf};
 use crate::names::{Names, TextNames, WordNames};
 use crate::report::ImageChecks;
 use adf_file_runs::Files;
-use adf_file_words::{Order, SHELF_USAGE as USAGE, parse_shelf};
 use adf_runs::{Sink, say};
 use adf_volume::Types;
 use adf_words::ArgsError;

@@ -1,11 +1,8 @@
 -- The status of findings.
 -- Letters: all the findings as they are kept, and fs as they are told.
 use Rattle.std.proofs.Common.{ℕ, Bool, cond, ◌==◌, ◌≡◌, List, [], ◌∷◌, length, map, refl, sym, ap, ◌∙◌, arith}
-use Rattle.std.proofs.lemmas.Bool.Decides.{eqb_tells}
-use Rattle.std.proofs.lemmas.Grind.{common_steps}
-use Rattle.adf_findings.specs.declared.finding.Finding.{Finding}
-use Rattle.adf_findings.specs.Parts.{finding_value}
-use Rattle.adf_findings.specs.Survey.{FindingValue}
+use Rattle.std.proofs.{lemmas.Bool.Decides.eqb_tells, lemmas.Grind.common_steps}
+use Rattle.adf_findings.specs.{declared.finding.Finding.Finding, Parts.finding_value, Survey.FindingValue}
 use Rattle.adf_survey_cmd.specs.Answers.{findings_status, told_status}
 
 none_kept : (all : List Finding) → length all ≡ 0 → findings_status (map finding_value all) ≡ 0

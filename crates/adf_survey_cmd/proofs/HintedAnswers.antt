@@ -1,15 +1,12 @@
 -- Answers with the hint, and how a work ends with it.
 -- Letters: w an outcome; o and o' what output held before and after.
 use Rattle.std.proofs.Common.{◌≡◌, ◌==◌, ◌&&◌, ◌++◌, ◌∙◌, ◌*◌, ◌+◌, inl, inr, ℕ, Bool, true, false, List, [], Option, ap, arith, append-nil, refl, subst, sym}
-use Rattle.std.proofs.Common.{take}
+use Rattle.std.proofs.{Common.take, lemmas.Bool.cond_both, lemmas.Bool.cond-false, lemmas.Bool.cond-true, lemmas.List.take-take}
 use Rattle.std.specs.Io.KnownBytes.{Appends}
-use Rattle.std.proofs.lemmas.Bool.{cond_both, cond-false, cond-true}
-use Rattle.std.proofs.lemmas.List.{take-take}
 use Rattle.adf_blocks.specs.declared.layout.TheConstants.{MOST_BLOCKS}
 use Rattle.adf_partitions.specs.declared.layout.TheConstants.{RDSK_BLOCKS}
-use Rattle.adf_runs.specs.Commands.{Reply, WritesFront}
+use Rattle.adf_runs.specs.{Commands.Reply, Commands.WritesFront, Streams.AppendsPart}
 use Rattle.adf_runs.specs.Outcomes.{EndsBy, WritesOne, outcome_text, status_of}
-use Rattle.adf_runs.specs.Streams.{AppendsPart}
 use Rattle.adf_runs.specs.declared.outcome.Outcome.{Outcome, TheVariants.LeftOut, TheVariants.ReadFault, TheVariants.WriteFault, TheVariants.NoMemory}
 use Rattle.adf_survey_cmd.specs.Hints.{GetsHint, HasHint, Hinted, begins_disk, disk_hint, hinted, is_hard_disk}
 

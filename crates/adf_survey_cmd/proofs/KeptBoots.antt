@@ -2,36 +2,21 @@
 -- Letters: s, t what is surveyed; a the survey of an image, b the second one, if there is one; ls losses; r what a rescue gives;
 -- held the blocks that are held.
 use Rattle.std.proofs.Common.{◌≡◌, ◌≢◌, ◌∙◌, ◌++◌, ◌-◌, ◌/◌, ◌≤◌, ℕ, List, [], Option, true, inl, inr, ap, refl, subst, sym, length, replicate, take}
-use Rattle.std.proofs.Common.{append-nil, arith}
-use Rattle.std.proofs.lemmas.Bool.{and_parts, leb-true}
-use Rattle.std.proofs.lemmas.Grind.{common_steps}
-use Rattle.std.proofs.lemmas.List.{length-set}
+use Rattle.std.proofs.{Common.append-nil, Common.arith, lemmas.Bool.and_parts, lemmas.Bool.leb-true, lemmas.Grind.common_steps, lemmas.List.length-set}
 use Rattle.adf_base.specs.declared.hash.Letters.{Letters}
 use Rattle.adf_tree.specs.Tree.{Tree}
 use Rattle.adf_blocks.specs.Sizes.{blocks, is_allowed}
-use Rattle.adf_volume.specs.Fits.{FitsBy}
-use Rattle.adf_volume.specs.Layout.{Layout}
-use Rattle.adf_volume.specs.Types.{letters_for}
-use Rattle.adf_volume.specs.declared.types.Types.{Types}
-use Rattle.adf_boot_blocks.specs.BootBlocks.{begins_with_dos}
-use Rattle.adf_boot_blocks.specs.Writing.{HasBootOf, restored}
-use Rattle.adf_boot_blocks.specs.declared.boot.TheConstants.{BOOT_LEN}
+use Rattle.adf_volume.specs.{Fits.FitsBy, Layout.Layout, Types.letters_for, declared.types.Types.Types}
+use Rattle.adf_boot_blocks.specs.{BootBlocks.begins_with_dos, Writing.HasBootOf, Writing.restored, declared.boot.TheConstants.BOOT_LEN}
 use Rattle.adf_boot_blocks.proofs.CarrySums.{AreBytes}
 use Rattle.adf_boot_blocks.proofs.Restored.{front_are_bytes, front_begins, has_front, restored_fits, volume_has_boot}
-use Rattle.adf_build.specs.Laid.{IsLaid}
-use Rattle.adf_build.specs.Plan.{planned}
+use Rattle.adf_build.specs.{Laid.IsLaid, Plan.planned}
 use Rattle.adf_build.proofs.LaidFits.{laid_fits}
-use Rattle.adf_rescue.specs.Opened.{with_boot_type}
-use Rattle.adf_rescue.specs.Rescue.{Basis, rescued_tree_by}
-use Rattle.adf_rescue.specs.declared.standing.Input.{Input}
-use Rattle.adf_rescue.proofs.OpenedImages.{length_begun}
-use Rattle.adf_rescue.proofs.PrunedKeeps.{length_read}
-use Rattle.adf_survey_cmd.specs.Answers.{RescuesTyped}
-use Rattle.adf_survey_cmd.specs.Losses.{LossValue}
+use Rattle.adf_rescue.specs.{Opened.with_boot_type, Rescue.Basis, Rescue.rescued_tree_by, declared.standing.Input.Input}
+use Rattle.adf_rescue.proofs.{OpenedImages.length_begun, PrunedKeeps.length_read}
+use Rattle.adf_survey_cmd.specs.{Answers.RescuesTyped, Losses.LossValue, Subject.IsTyped, Subject.SubjectValue, Subject.sized}
 use Rattle.adf_survey_cmd.specs.Rescues.{GivesVolume, RescueValue, rescue_reply}
-use Rattle.adf_survey_cmd.specs.Subject.{IsTyped, SubjectValue, sized}
-use Rattle.adf_survey_cmd.proofs.SizedImages.{length_sized}
-use Rattle.adf_survey_cmd.proofs.Subjects.{typed_either}
+use Rattle.adf_survey_cmd.proofs.{SizedImages.length_sized, Subjects.typed_either}
 
 -- a volume has four blocks or more
 long_enough : (image : List ℕ) (n : ℕ) → is_allowed (blocks image) ≡ true → blocks image ≡ n / 512 → BOOT_LEN ≤ n

@@ -4,46 +4,25 @@
 use Rattle.std.proofs.Common.{◌≡◌, ◌<◌, ◌≤◌, ◌+◌, ◌-◌, ◌*◌, ◌∙◌, ◌++◌, true, false, inl, inr, ℕ, Bool, List, [], ◌∷◌, Option, None, Some, refl, ap, ap₂, arith}
 use Rattle.std.proofs.Common.{subst, sym, ◌==◌, ◌&&◌, cond, length, replicate, take}
 use Rattle.std.proofs.lemmas.Bool.{and_left, cond-false, false_from_ne_true}
-use Rattle.std.proofs.Math.Nat.{min-eq_left}
-use Rattle.std.proofs.lemmas.List.{take-take}
-use Rattle.std.proofs.lemmas.Grind.{common_steps}
-use Rattle.adf_blocks.specs.declared.layout.TheConstants.{MOST_BLOCKS}
-use Rattle.adf_blocks.specs.declared.cause.Cause.TheVariants.{BadSize}
-use Rattle.adf_volume.specs.Types.{letters_for}
-use Rattle.adf_volume.specs.declared.types.Types.{Types}
-use Rattle.adf_volume.specs.Walk.{Walk}
-use Rattle.adf_findings.specs.Files.{grave}
-use Rattle.adf_findings.specs.Lookup.{LeadsTo}
-use Rattle.adf_findings.specs.SoundMarks.{AreMarks}
+use Rattle.std.proofs.{Math.Nat.min-eq_left, lemmas.List.take-take, lemmas.Grind.common_steps}
+use Rattle.adf_blocks.specs.{declared.layout.TheConstants.MOST_BLOCKS, declared.cause.Cause.TheVariants.BadSize}
+use Rattle.adf_volume.specs.{Types.letters_for, declared.types.Types.Types, Walk.Walk, Start.is_image_len}
+use Rattle.adf_findings.specs.{Files.grave, Lookup.LeadsTo, SoundMarks.AreMarks, OwnKind.is_mistyped}
 use Rattle.adf_findings.specs.Survey.{FindingValue, IsSurvey, finding, IsSurvey.unread, UnreadTells.bad_boot}
-use Rattle.adf_findings.specs.OwnKind.{is_mistyped}
-use Rattle.adf_findings.proofs.OneSurvey.{one_survey}
-use Rattle.adf_findings.proofs.OwnKinds.{none_mistyped}
+use Rattle.adf_findings.proofs.{OneSurvey.one_survey, OwnKinds.none_mistyped}
 use Rattle.adf_runs.specs.Commands.{Reply, on_output}
-use Rattle.adf_volume.specs.Start.{is_image_len}
-use Rattle.adf_rescue.specs.Hung.{hung, second_image}
-use Rattle.adf_rescue.specs.Lost.{has_lost, is_open}
+use Rattle.adf_rescue.specs.{Hung.hung, Hung.second_image, Lost.has_lost, Lost.is_open, Pruned.image_read, Rescue.Basis, declared.standing.Input.Input}
 use Rattle.adf_rescue.specs.Opened.{lacks_boot, lacks_root, opened}
-use Rattle.adf_rescue.specs.Pruned.{image_read}
-use Rattle.adf_rescue.specs.Rescue.{Basis}
-use Rattle.adf_rescue.specs.declared.standing.Input.{Input}
-use Rattle.adf_rescue.proofs.OpenedImages.{length_opened}
-use Rattle.adf_rescue.proofs.PassedFindings.{unread_fault}
-use Rattle.adf_rescue.proofs.PrunedKeeps.{length_read}
+use Rattle.adf_rescue.proofs.{OpenedImages.length_opened, PassedFindings.unread_fault, PrunedKeeps.length_read}
 use Rattle.adf_rescue.proofs.MadeRoots.{sized as sized_len}
 use Rattle.adf_cmd.proofs.LongInputs.{long_fault, too_large}
 use Rattle.adf_survey_cmd.specs.Answers.{CopiesFound, CopiesFromSurvey, ListsSurvey, QuestionAnswer, SurveyAnswer, Surveys, TellsFound, told_status, types_kept}
-use Rattle.adf_survey_cmd.specs.Hints.{disk_hint}
-use Rattle.adf_survey_cmd.specs.Lengths.{blocks_read, stated_length}
+use Rattle.adf_survey_cmd.specs.{Hints.disk_hint, Lengths.blocks_read, Lengths.stated_length, Lines.findings_text, Lines.runs_from, Losses.LossValue}
 use Rattle.adf_survey_cmd.specs.Subject.{IsTyped, OfTyped, SubjectValue, begun_subject, behind_loss, behind_text, held_end, missing_text, other_type}
 use Rattle.adf_survey_cmd.specs.Subject.{IsOtherType, IsTypeTold, kind_image, sized, subject, subject_read, subject_text, typed_by}
-use Rattle.adf_file_words.specs.SurveyLine.{AreFew, InquiryValue, QuestionValue, cat, list, report, rescue}
-use Rattle.adf_survey_cmd.specs.Lines.{findings_text, runs_from}
-use Rattle.adf_survey_cmd.specs.Losses.{LossValue}
+use Rattle.adf_survey_cmd.specs.CommandLine.{AreFew, InquiryValue, QuestionValue, cat, list, report, rescue}
 use Rattle.adf_survey_cmd.specs.Rescues.{IsNoVolume, RescueValue, Rescues, RescuesBoth, RescuesFound}
-use Rattle.adf_survey_cmd.proofs.HintedAnswers.{same_disk}
-use Rattle.adf_survey_cmd.proofs.RescueAnswers.{none_fits_it}
-use Rattle.adf_survey_cmd.proofs.ReadLengths.{few_read, same_read, same_stated}
+use Rattle.adf_survey_cmd.proofs.{HintedAnswers.same_disk, RescueAnswers.none_fits_it, ReadLengths.few_read, ReadLengths.same_read, ReadLengths.same_stated}
 
 -- an input of a bad size has this finding
 bad_size : List FindingValue

@@ -3,36 +3,23 @@
 use Rattle.std.proofs.Common.{◌≡◌, ◌∙◌, ◌++◌, inl, inr, ℕ, Bool, true, false, List, [], ◌∷◌, Option, Some, sym, ap, subst, None, refl, arith}
 use Rattle.std.proofs.lemmas.Grind.{common_steps}
 use Rattle.adf_names.proofs.PathParts.{one_path}
-use Rattle.adf_volume.specs.Types.{letters_for}
-use Rattle.adf_volume.specs.declared.fault.Fault.{Fault}
-use Rattle.adf_volume.specs.declared.types.Types.{Types}
+use Rattle.adf_volume.specs.{Types.letters_for, declared.fault.Fault.Fault, declared.types.Types.Types}
 use Rattle.adf_volume.specs.Walk.{FileAt, FirstFaultBy, node_block, Walk}
-use Rattle.adf_findings.specs.Files.{grave}
-use Rattle.adf_findings.specs.Lookup.{LeadsTo}
-use Rattle.adf_findings.specs.OwnKind.{told_type}
-use Rattle.adf_findings.specs.SoundMarks.{AreMarks}
-use Rattle.adf_findings.specs.Survey.{FindingValue}
-use Rattle.adf_findings.proofs.OneSurvey.{one_survey}
-use Rattle.adf_rescue.specs.Hung.{second_image}
+use Rattle.adf_findings.specs.{Files.grave, Lookup.LeadsTo, OwnKind.told_type, SoundMarks.AreMarks, Survey.FindingValue}
+use Rattle.adf_findings.proofs.{OneSurvey.one_survey, Lookups.one_first}
+use Rattle.adf_rescue.specs.{Hung.second_image, Pruned.image_read, Rescue.IsSecond, Rescue.Basis, declared.standing.Input.Input}
 use Rattle.adf_rescue.specs.Opened.{lacks_root, opened}
-use Rattle.adf_rescue.specs.Pruned.{image_read}
-use Rattle.adf_rescue.specs.Rescue.{IsSecond, Basis}
-use Rattle.adf_rescue.specs.declared.standing.Input.{Input}
 use Rattle.adf_rescue.proofs.RescueLaws.{one_basis}
-use Rattle.adf_findings.proofs.Lookups.{one_first}
 use Rattle.adf_texts.specs.Lines.{fault_line}
 use Rattle.adf_runs.specs.Commands.{Reply, on_errors, on_output}
 use Rattle.adf_cmd.proofs.OneAnswer.{one_check, one_dates}
 use Rattle.adf_survey_cmd.specs.Answers.{CopiesEntry, CopiesFound, CopiesFromSurvey, IsWholeFile, ListsSurvey, QuestionAnswer, RescuesTyped, SurveyAnswer}
 use Rattle.adf_survey_cmd.specs.Answers.{Surveys, TellsFound, told_status, types_kept}
-use Rattle.adf_survey_cmd.specs.Hints.{hinted}
+use Rattle.adf_survey_cmd.specs.{Hints.hinted, Losses.LossValue, Losses.losses_text, Rescues.RescuesSome, Rescues.rescue_reply, FoundLines.listing_text}
 use Rattle.adf_survey_cmd.specs.Subject.{IsOtherType, IsTypeTold, IsTyped, OfTyped, SubjectValue, begun_subject, kind_image, sized, subject}
 use Rattle.adf_survey_cmd.specs.Subject.{typed_by, unless_own, with_kind_of}
-use Rattle.adf_survey_cmd.specs.Losses.{LossValue, losses_text}
 use Rattle.adf_survey_cmd.specs.Rescues.{GivesFault, IsRefusal, Replies, RescueValue, Rescues, RescuesBy, RescuesFound, RescuesIn, RescuesRead}
-use Rattle.adf_survey_cmd.specs.Rescues.{RescuesSome, rescue_reply}
-use Rattle.adf_file_words.specs.SurveyLine.{AsksSurvey, InquiryValue, QuestionValue, cat, list, report, rescue}
-use Rattle.adf_survey_cmd.specs.FoundLines.{listing_text}
+use Rattle.adf_survey_cmd.specs.CommandLine.{AsksSurvey, InquiryValue, QuestionValue, cat, list, report, rescue}
 use Rattle.adf_survey_cmd.proofs.FoundTexts.{same_tests}
 
 pub one_inquiry : (words : List (List ℕ)) (r q : InquiryValue) → AsksSurvey words r → AsksSurvey words q → r ≡ q

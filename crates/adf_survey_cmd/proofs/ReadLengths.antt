@@ -2,23 +2,16 @@
 -- Letters: image the front of an input, bytes all of it; asked the number of blocks that is asked for; n, k numbers of blocks; b the number of a block;
 -- m a number of bytes.
 use Rattle.std.proofs.Common.{◌≡◌, ◌≢◌, ◌<◌, ◌≤◌, ◌+◌, ◌-◌, ◌*◌, ◌/◌, ◌∙◌, ◌==◌, ◌&&◌, true, ℕ, Bool, List, Option, None, Some, ap, ap₂, arith, cond, drop, length}
-use Rattle.std.proofs.Common.{min, not, refl, sym, take}
-use Rattle.std.specs.Prelude.{IfSome}
-use Rattle.std.proofs.lemmas.Bool.{and_parts, cond_both, leb-true, Decides.nat_tests}
-use Rattle.std.proofs.lemmas.Grind.{common_steps}
-use Rattle.std.proofs.lemmas.List.{drop-take, take-take}
-use Rattle.std.proofs.Math.Nat.{min-eq_left}
-use Rattle.std.specs.Option.{option_or}
+use Rattle.std.proofs.{Common.min, Common.not, Common.refl, Common.sym, Common.take, lemmas.Bool.and_parts, lemmas.Bool.cond_both, lemmas.Bool.leb-true}
+use Rattle.std.proofs.{lemmas.Bool.Decides.nat_tests, lemmas.Grind.common_steps, lemmas.List.drop-take, lemmas.List.take-take, Math.Nat.min-eq_left}
+use Rattle.std.specs.{Prelude.IfSome, Option.option_or}
 use Rattle.adf_base.specs.Words.{block}
-use Rattle.adf_blocks.specs.declared.layout.TheConstants.{MOST_BLOCKS}
-use Rattle.adf_blocks.specs.Sizes.{blocks}
+use Rattle.adf_blocks.specs.{declared.layout.TheConstants.MOST_BLOCKS, Sizes.blocks}
 use Rattle.adf_partitions.specs.Summed.{holds}
-use Rattle.adf_file_words.specs.SurveyLine.{AreFew}
+use Rattle.adf_survey_cmd.specs.{CommandLine.AreFew, Lengths.other_length, Lengths.stated_length, Lengths.usual_length, Subject.as_long, Subject.meant}
+use Rattle.adf_survey_cmd.specs.{Subject.subject, Subject.subject_read, declared.lengths.TheConstants.DD_BLOCKS, declared.lengths.TheConstants.HD_BLOCKS}
 use Rattle.adf_rescue.specs.MadeRoot.{is_like_root}
 use Rattle.adf_survey_cmd.specs.Lengths.{are_asked, blocks_read, is_like_root_at, is_other_length, is_root_at, is_whole_root}
-use Rattle.adf_survey_cmd.specs.Lengths.{other_length, stated_length, usual_length}
-use Rattle.adf_survey_cmd.specs.Subject.{as_long, meant, subject, subject_read}
-use Rattle.adf_survey_cmd.specs.declared.lengths.TheConstants.{DD_BLOCKS, HD_BLOCKS}
 
 -- no more blocks are read than a volume may have
 

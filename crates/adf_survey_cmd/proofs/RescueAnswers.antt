@@ -2,45 +2,26 @@
 -- Letters: w the walk of a survey, fs its findings; a a survey, b the second one, if there is one; r what a rescue gives; p a prepared rescue; u why
 -- there is none; lost, front losses of blocks.
 use Rattle.std.proofs.Common.{◌≡◌, ◌≢◌, ◌∙◌, ◌/◌, ℕ, Bool, List, [], ap, sym, Option, None, Some, IfSome, inl, inr, is_some, option_map, length, subst}
-use Rattle.std.specs.Prelude.{Result, Ok, Err}
-use Rattle.std.specs.Result.{IsErrAnd}
+use Rattle.std.specs.{Prelude.Result, Prelude.Ok, Prelude.Err, Result.IsErrAnd}
 use Rattle.adf_base.specs.declared.hash.Letters.{Letters}
 use Rattle.adf_tree.specs.Tree.{Tree}
 use Rattle.adf_blocks.specs.Sizes.{blocks}
 use Rattle.adf_boot_blocks.specs.Writing.{restored}
-use Rattle.adf_build.specs.Building.{IsBuildable}
-use Rattle.adf_build.specs.Laid.{IsLaid}
-use Rattle.adf_volume.specs.Types.{letters_for}
-use Rattle.adf_volume.specs.declared.fault.Fault.{Fault}
-use Rattle.adf_volume.specs.declared.types.Types.{Types}
-use Rattle.adf_volume.specs.Walk.{Walk}
+use Rattle.adf_build.specs.{Building.IsBuildable, Laid.IsLaid}
+use Rattle.adf_volume.specs.{Types.letters_for, declared.fault.Fault.Fault, declared.types.Types.Types, Walk.Walk}
 use Rattle.adf_volume.proofs.NoneFits.{none_fits}
-use Rattle.adf_findings.specs.Files.{grave}
-use Rattle.adf_findings.specs.SoundMarks.{AreMarks}
-use Rattle.adf_findings.specs.Survey.{FindingValue, IsSurvey}
-use Rattle.adf_findings.specs.Types.{passed}
-use Rattle.adf_findings.proofs.FirstFindings.{finds_none}
-use Rattle.adf_findings.proofs.TypesRead.{types_read}
-use Rattle.adf_rescue.specs.declared.rescues.Rescued.{Rescued}
-use Rattle.adf_rescue.specs.declared.rescues.Terms.{Terms}
-use Rattle.adf_rescue.specs.Hung.{second_image}
-use Rattle.adf_rescue.specs.Losses.{lost_headers}
-use Rattle.adf_rescue.specs.Opened.{lacks_root}
-use Rattle.adf_rescue.specs.Pruned.{image_read}
-use Rattle.adf_rescue.specs.Rescue.{Basis, StandsNothingBy, rescued_tree_by}
-use Rattle.adf_rescue.specs.declared.standing.Input.{Input}
-use Rattle.adf_rescue.specs.Rescued.{IsRescued}
+use Rattle.adf_findings.specs.{Files.grave, SoundMarks.AreMarks, Survey.FindingValue, Survey.IsSurvey, Types.passed}
+use Rattle.adf_findings.proofs.{FirstFindings.finds_none, TypesRead.types_read}
+use Rattle.adf_rescue.specs.{declared.rescues.Rescued.Rescued, declared.rescues.Terms.Terms, Hung.second_image, Losses.lost_headers, Opened.lacks_root}
+use Rattle.adf_rescue.specs.{Pruned.image_read, Rescue.Basis, Rescue.rescued_tree_by, declared.standing.Input.Input, Rescued.IsRescued}
 use Rattle.adf_rescue.proofs.PrunedKeeps.{length_read}
-use Rattle.adf_runs.specs.Commands.{Reply, on_errors}
-use Rattle.adf_runs.specs.Outcomes.{EndsBy}
+use Rattle.adf_runs.specs.{Commands.Reply, Commands.on_errors, Outcomes.EndsBy}
 use Rattle.adf_runs.specs.declared.outcome.Outcome.{Outcome, TheVariants.LeftOut as Tells, TheVariants.NoMemory as OutOfMemory}
 use Rattle.adf_runs.proofs.PendingText.{appends_nil}
 use Rattle.adf_survey_cmd.specs.Losses.{LossValue, ToldValue, front_losses, input_losses, loss_values, losses_of, rescue_losses, runs_lost, told_by}
-use Rattle.adf_survey_cmd.specs.Losses.{told_value}
+use Rattle.adf_survey_cmd.specs.{Losses.told_value, declared.preparing.Begun.Begun, declared.preparing.Prepared.Prepared}
 use Rattle.adf_survey_cmd.specs.Prepared.{IsBegunInput, IsFault, IsToldRefusal, LaysFor, Prepares, RefusesFor, WritesPrepared, known_of}
-use Rattle.adf_survey_cmd.specs.Rescues.{IsRefusal, IsNoVolume, Replies, RescueValue, RescueValue.written, Rescues, RescuesBoth, RescuesBy, RescuesIn}
-use Rattle.adf_survey_cmd.specs.declared.preparing.Begun.{Begun}
-use Rattle.adf_survey_cmd.specs.declared.preparing.Prepared.{Prepared}
+use Rattle.adf_survey_cmd.specs.Rescues.{HoldsNothing, IsRefusal, IsNoVolume, Replies, RescueValue, RescueValue.written, Rescues, RescuesBoth, RescuesBy, RescuesIn}
 use Rattle.adf_survey_cmd.specs.declared.preparing.Unrescued.{Unrescued, TheVariants.NoMemory, TheVariants.Refused}
 
 -- what holds if there is a value holds of it
@@ -125,7 +106,7 @@ pub volume_prepared : (types : Types) (known : Input) (lost : List LossValue) (i
     (p : Prepared)
     → IsBuildable p.draft.tree p.blocks → p.draft.tree ≡ rescued_tree_by (letters_for types a.image) known a b → p.blocks ≡ blocks a.image
     → loss_values p.losses.items ≡ rescue_losses (letters_for types a.image) known lost input a b fs → a.walk ≢ []
-    → ¬ StandsNothingBy types known a b → Prepares (RescuesBy types known lost input a b fs) (Ok p)
+    → ¬ HoldsNothing types known input a b fs → Prepares (RescuesBy types known lost input a b fs) (Ok p)
 volume_prepared types known lost input a b fs p room tree size told read some = λ boot. (
   room,
   λ volume laid long. inr (

@@ -1,14 +1,11 @@
 -- Runs of findings, one after another, and their lines.
 -- Letters: w a walk, fs its findings, f one of them; r, s runs; k a place among the findings.
 use Rattle.std.proofs.Common.{◌≡◌, ◌∙◌, ◌++◌, ◌+◌, ◌≤◌, List, Some, None, [], ◌∷◌, ℕ, zero, suc, true, false, drop, length, refl, sym, ap, ap₂, append_assoc}
-use Rattle.std.proofs.Common.{append-nil, arith}
-use Rattle.std.specs.Prelude.{option_map, slice_get}
-use Rattle.std.specs.List.{flat_map}
-use Rattle.std.proofs.lemmas.List.{drop_all}
+use Rattle.std.proofs.{Common.append-nil, Common.arith, lemmas.List.drop_all}
+use Rattle.std.specs.{Prelude.option_map, Prelude.slice_get, List.flat_map}
 use Rattle.adf_volume.specs.Walk.{Walk}
 use Rattle.adf_findings.specs.Survey.{FindingValue}
-use Rattle.adf_survey_cmd.specs.Lines.{continues, findings_line, findings_text, run_of, runs, runs_from}
-use Rattle.adf_survey_cmd.specs.declared.runs.Run.{Run}
+use Rattle.adf_survey_cmd.specs.{Lines.continues, Lines.findings_line, Lines.findings_text, Lines.run_of, Lines.runs, Lines.runs_from, declared.runs.Run.Run}
 
 module _ (w : Walk) where
   -- a finding at a place

@@ -1,8 +1,6 @@
 -- Images that are taken as if they had so many blocks.
 use Rattle.std.proofs.Common.{◌≡◌, ◌≤◌, ◌-◌, ◌*◌, ◌++◌, ℕ, List, ap₂, arith, drop, length, replicate, take, min, length-append, length-take}
-use Rattle.std.proofs.lemmas.Bool.{cases_lt}
-use Rattle.std.proofs.lemmas.List.{length-replicate, take-append-le, take_all}
-use Rattle.std.proofs.lemmas.Grind.{common_steps}
+use Rattle.std.proofs.{lemmas.Bool.cases_lt, lemmas.List.length-replicate, lemmas.List.take-append-le, lemmas.List.take_all, lemmas.Grind.common_steps}
 use Rattle.adf_survey_cmd.specs.Subject.{sized}
 
 -- the bytes that are kept, and zeros up to the length

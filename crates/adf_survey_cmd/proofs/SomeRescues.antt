@@ -2,38 +2,22 @@
 -- Letters: w the walk of a survey, fs its findings; a the survey of an image, second the second one, if there is one; held the number of blocks
 -- that the input holds whole, known what is known of it; ls, lost losses; r what a rescue gives.
 use Rattle.std.proofs.Common.{◌≡◌, ◌≢◌, ◌≤◌, ◌⊎◌, ◌^◌, ℕ, Bool, true, false, List, [], ◌∷◌, Option, None, Some, inl, inr, length, refl, arith}
-use Rattle.std.specs.Prelude.{IfSome}
+use Rattle.std.specs.Prelude.{◌||◌, IfSome, not}
 use Rattle.std.proofs.lemmas.Bool.{and_parts, cond_both}
 use mathlib.Core.Logic.Dec.{and as dec_and}
 use Rattle.adf_base.proofs.ByteLists.{AreBytes}
 use Rattle.adf_base.specs.declared.hash.Letters.{Letters}
-use Rattle.adf_blocks.specs.Sizes.{blocks, is_allowed}
-use Rattle.adf_blocks.specs.declared.cause.Cause.{Cause}
+use Rattle.adf_blocks.specs.{Sizes.blocks, Sizes.is_allowed, declared.cause.Cause.Cause}
 use Rattle.adf_volume.proofs.NoneFits.{none_fits}
-use Rattle.adf_volume.specs.Types.{letters_for}
-use Rattle.adf_volume.specs.declared.types.Types.{Types}
-use Rattle.adf_volume.specs.Start.{is_image_len}
-use Rattle.adf_volume.specs.Walk.{Walk}
-use Rattle.adf_volume.specs.declared.fault.Fault.{Fault}
-use Rattle.adf_findings.proofs.FitsOrFault.{fits_or_fault_by}
-use Rattle.adf_findings.proofs.SomeMarks.{some_marks}
-use Rattle.adf_findings.proofs.SomeSurvey.{some_survey}
-use Rattle.adf_findings.proofs.Starts.{course_size}
-use Rattle.adf_findings.specs.Files.{grave}
-use Rattle.adf_findings.specs.Survey.{FindingValue, IsSurvey, IsSurvey.read, IsSurvey.unread}
-use Rattle.adf_findings.specs.Verdict.{FitsOrHasFaultBy}
-use Rattle.adf_rescue.proofs.MadeRoots.{sized}
-use Rattle.adf_rescue.proofs.PassedFindings.{unread_fault}
-use Rattle.adf_rescue.proofs.RescuedBytes.{hung_bytes, read_bytes}
+use Rattle.adf_volume.specs.{Types.letters_for, declared.types.Types.Types, Start.is_image_len, Walk.Walk, declared.fault.Fault.Fault}
+use Rattle.adf_findings.proofs.{FitsOrFault.fits_or_fault_by, SomeMarks.some_marks, SomeSurvey.some_survey, Starts.course_size}
+use Rattle.adf_findings.specs.{Files.grave, Survey.FindingValue, Survey.IsSurvey, Survey.IsSurvey.read, Survey.IsSurvey.unread, Verdict.FitsOrHasFaultBy}
+use Rattle.adf_rescue.proofs.{MadeRoots.sized, PassedFindings.unread_fault, RescuedBytes.hung_bytes, RescuedBytes.read_bytes}
 use Rattle.adf_rescue.proofs.RescuedVolumes.{AreSecondBytes, rescue_laid}
-use Rattle.adf_rescue.specs.Hung.{hung, second_image}
-use Rattle.adf_rescue.specs.Lost.{has_lost, is_open}
-use Rattle.adf_rescue.specs.Opened.{lacks_root}
-use Rattle.adf_rescue.specs.Pruned.{image_read}
+use Rattle.adf_rescue.specs.{Hung.hung, Hung.second_image, Lost.has_lost, Lost.is_open, Opened.lacks_root, Pruned.image_read, declared.standing.Input.Input}
 use Rattle.adf_rescue.specs.Rescue.{Basis, IsSecond, rescued_additions_by}
-use Rattle.adf_rescue.specs.declared.standing.Input.{Input}
 use Rattle.adf_survey_cmd.proofs.RescueAnswers.{none_fits_it}
-use Rattle.adf_survey_cmd.specs.Losses.{LossValue, rescue_losses}
+use Rattle.adf_survey_cmd.specs.{Losses.LossValue, Losses.rescue_losses, Rescues.is_type_alone}
 use Rattle.adf_survey_cmd.specs.Rescues.{GivesFault, IsRefusal, IsNoVolume, RescueValue, Rescues, RescuesBy, RescuesRead, RescuesSome}
 
 -- the second survey
@@ -75,9 +59,9 @@ pub dec_nil : {X : Type 0} (xs : List X) → Dec (xs ≡ [])
 dec_nil [] = yes refl
 dec_nil (x ∷ xs) = no (λ e. cc)
 
-dec_refused : (refused : Bool) → Dec (refused ≡ true)
-dec_refused true = yes refl
-dec_refused false = no (λ e. cc)
+dec_true : (is : Bool) → Dec (is ≡ true)
+dec_true true = yes refl
+dec_true false = no (λ e. cc)
 
 -- the answer
 
@@ -105,10 +89,11 @@ module _ (types : Types) (known : Input) (lost : List LossValue) (input : List �
   some_rescued : w ≢ [] → (r : RescueValue) × RescuesSome types known lost input first second fs boot r
   some_rescued some =
       let letters : Letters = letters_for types image in
-      elim (dec_and (dec_refused known.is_refused) (dec_nil (rescued_additions_by letters known first second))) [
+      let nothing = dec_and (dec_true known.is_refused) (dec_nil (rescued_additions_by letters known first second)) in
+      elim (dec_and nothing (dec_true (lacks_root input || not (is_type_alone fs)))) [
         | yes nothing ↦
             let (r, refuses) = fault_refused (rescue_losses letters known lost input first second fs) types known.is_refused input w fs refusal survey
-            (inl nothing.0) in (r, inl (nothing, refuses))
+            (inl nothing.0.0) in (r, inl (nothing, refuses))
         | no stands ↦
             let (volume, laid, size) = rescue_laid letters known first second (allowed_size image w fs survey some) are more in
             (_, inr (stands, (volume, laid, size, refl)))

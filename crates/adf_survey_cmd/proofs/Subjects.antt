@@ -1,26 +1,17 @@
 -- What is surveyed of an input.
 -- Letters: s, u what is surveyed; w the walk of a survey, fs its findings; t a type, o one, if there is one; n, k numbers.
 use Rattle.std.proofs.Common.{◌≡◌, ◌≤◌, ◌%◌, ◌==◌, ◌&&◌, ◌||◌, ◌∙◌, ℕ, Bool, List, Option, None, Some, [], true, false, cond, not, ap, refl, subst, sym}
-use Rattle.std.proofs.Common.{slice_index, length, arith}
+use Rattle.std.proofs.{Common.slice_index, Common.length, Common.arith, lemmas.Grind.common_steps}
 use Rattle.std.proofs.lemmas.Bool.{and_parts, cond-false, cond-true, cond_both, eq-eqb, leb-true}
-use Rattle.std.proofs.lemmas.Grind.{common_steps}
 use Rattle.adf_base.specs.declared.hash.Letters.{Letters, TheVariants.Ascii, TheVariants.International}
-use Rattle.adf_names.specs.VolumeTypes.{type_number}
-use Rattle.adf_names.specs.declared.kind.Kind.{Kind, TheVariants.Ofs, TheVariants.Ffs}
+use Rattle.adf_names.specs.{VolumeTypes.type_number, declared.kind.Kind.Kind, declared.kind.Kind.TheVariants.Ofs, declared.kind.Kind.TheVariants.Ffs}
 use Rattle.adf_blocks.specs.Sizes.{blocks, is_allowed}
-use Rattle.adf_volume.specs.Image.{kind_of, letters_of}
-use Rattle.adf_volume.specs.Walk.{Walk}
+use Rattle.adf_volume.specs.{Image.kind_of, Image.letters_of, Walk.Walk, Start.is_image_len}
 use Rattle.adf_findings.specs.OwnKind.{has_other_kind, has_other_letters, is_mistyped, other_kind, other_letters, told_type}
 use Rattle.adf_findings.specs.Survey.{FindingValue, IsSurvey, IsSurvey.read, IsSurvey.unread}
-use Rattle.adf_findings.proofs.OwnKinds.{none_mistyped}
-use Rattle.adf_findings.proofs.SomeSurvey.{some_survey}
-use Rattle.adf_findings.proofs.Starts.{course_size}
-use Rattle.adf_volume.specs.Start.{is_image_len}
-use Rattle.adf_rescue.specs.Lost.{has_lost}
-use Rattle.adf_rescue.specs.MadeRoot.{has_root}
-use Rattle.adf_rescue.specs.Opened.{is_mended, lacks_root, opened, states_type}
-use Rattle.adf_rescue.proofs.MadeRoots.{sized}
-use Rattle.adf_rescue.proofs.OpenedImages.{length_opened, opened_kept}
+use Rattle.adf_findings.proofs.{OwnKinds.none_mistyped, SomeSurvey.some_survey, Starts.course_size}
+use Rattle.adf_rescue.specs.{Lost.has_lost, MadeRoot.has_root, Opened.is_mended, Opened.lacks_root, Opened.opened, Opened.states_type}
+use Rattle.adf_rescue.proofs.{MadeRoots.sized, OpenedImages.length_opened, OpenedImages.opened_kept}
 use Rattle.adf_survey_cmd.specs.Subject.{IsOtherType, IsTypeTold, IsTyped, SubjectValue, kind_image, of_other_kind, other_type, retyped_subject}
 use Rattle.adf_survey_cmd.specs.Subject.{typed_by, unless_own, with_kind_of}
 

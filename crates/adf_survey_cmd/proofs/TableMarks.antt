@@ -1,8 +1,7 @@
 -- Blocks that begin with `RDSK`.
 -- Letters: b, n blocks; f a test of blocks.
 use Rattle.std.proofs.Common.{◌≡◌, ◌+◌, ◌-◌, ◌<◌, ◌≤◌, ◌∙◌, ◌||◌, inl, inr, ℕ, Bool, false, List, ap, arith, length, min, refl, suc, sym, take}
-use Rattle.std.proofs.lemmas.Bool.{cases_lt}
-use Rattle.std.proofs.lemmas.List.{take_all}
+use Rattle.std.proofs.{lemmas.Bool.cases_lt, lemmas.List.take_all}
 use Rattle.std.specs.List.{list_any, range_with_len}
 use Rattle.adf_partitions.specs.declared.layout.TheConstants.{RDSK_BLOCKS}
 use Rattle.adf_survey_cmd.specs.Hints.{begins_table, has_table}

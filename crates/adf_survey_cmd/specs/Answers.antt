@@ -5,21 +5,15 @@ use Rattle.adf_blocks.specs.declared.layout.TheConstants.{MOST_BLOCKS}
 use Rattle.adf_names.specs.PathTexts.{IsPathText, path_text}
 use Rattle.adf_volume.specs.Walk.{FileAt, Walk}
 use Rattle.adf_volume.specs.declared.types.Types.{Types, TheVariants.Plain, TheVariants.WithInternational}
-use Rattle.adf_findings.specs.Files.{IsSoundFile, file_content, file_in}
-use Rattle.adf_findings.specs.Lookup.{LeadsTo}
-use Rattle.adf_findings.specs.SoundMarks.{AreMarks}
-use Rattle.adf_findings.specs.Survey.{FindingValue, IsSurvey}
+use Rattle.adf_findings.specs.{Files.IsSoundFile, Files.file_content, Files.file_in, Lookup.LeadsTo, SoundMarks.AreMarks, Survey.FindingValue, Survey.IsSurvey}
 use Rattle.adf_base.specs.declared.dates.Stamp.{Stamp}
 use Rattle.adf_texts.specs.VolumeLines.{AreDates}
 use Rattle.adf_cmd.specs.Answers.{IsBadPath, RefusesPath}
 use Rattle.adf_runs.specs.Commands.{Command, Reply, on_errors, on_output}
 use Rattle.adf_file_runs.specs.FileRuns.{without_files}
-use Rattle.adf_file_words.specs.SurveyLine.{AreRefusedBySurvey, AsksSurvey, InquiryValue, QuestionValue, asked, cat, list, report, rescue, survey_file}
-use Rattle.adf_survey_cmd.specs.FoundLines.{has_its_data, listing_text}
-use Rattle.adf_survey_cmd.specs.Hints.{Hinted}
-use Rattle.adf_survey_cmd.specs.Remains.{WritesRemains}
-use Rattle.adf_survey_cmd.specs.Rescues.{Replies, RescueValue, Rescues}
-use Rattle.adf_survey_cmd.specs.Subject.{IsTyped, OfTyped, SubjectValue, sized, subject, subject_text}
+use Rattle.adf_survey_cmd.specs.CommandLine.{AreRefusedBySurvey, AsksSurvey, InquiryValue, QuestionValue, asked, cat, list, report, rescue, survey_file}
+use Rattle.adf_survey_cmd.specs.{FoundLines.has_its_data, FoundLines.listing_text, Hints.Hinted, Remains.WritesRemains, Rescues.Replies, Rescues.RescueValue}
+use Rattle.adf_survey_cmd.specs.{Rescues.Rescues, Subject.IsTyped, Subject.OfTyped, Subject.SubjectValue, Subject.sized, Subject.subject, Subject.subject_text}
 
 -- the status of findings: 0 where there is none
 abbrev pub findings_status : List FindingValue → ℕ

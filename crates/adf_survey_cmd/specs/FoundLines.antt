@@ -3,19 +3,11 @@
 -- entries.
 use Rattle.std.specs.Prelude.{ℕ, ◌==◌, ◌&&◌, ◌||◌, Bool, true, false, not, nat_lt, List, [], ◌∷◌, ◌++◌, codes}
 use Rattle.std.specs.List.{flat_map, list_all, range_with_len}
-use Rattle.adf_base.specs.Words.{block}
-use Rattle.adf_base.specs.declared.dates.Stamp.{Stamp}
-use Rattle.adf_blocks.specs.declared.layout.TheConstants.{SECONDARY_TYPE, ST_FILE}
-use Rattle.adf_blocks.specs.HeadBlock.{body_at, meta_stated}
-use Rattle.adf_volume.specs.Image.{word_in}
-use Rattle.adf_volume.specs.Made.{datas_in}
-use Rattle.adf_volume.specs.Walk.{heads, node_block, Walk}
-use Rattle.adf_findings.specs.Lookup.{path_to}
-use Rattle.adf_findings.specs.SoundMarks.{AreMarks}
-use Rattle.adf_findings.specs.Opening.{opening_in}
-use Rattle.adf_findings.specs.Survey.{FindingValue}
-use Rattle.adf_texts.specs.RowTexts.{head_lines}
-use Rattle.adf_texts.specs.VolumeLines.{AreDates, opening_lines}
+use Rattle.adf_base.specs.{Words.block, declared.dates.Stamp.Stamp}
+use Rattle.adf_blocks.specs.{declared.layout.TheConstants.SECONDARY_TYPE, declared.layout.TheConstants.ST_FILE, HeadBlock.body_at, HeadBlock.meta_stated}
+use Rattle.adf_volume.specs.{Image.word_in, Made.datas_in, Walk.heads, Walk.node_block, Walk.Walk}
+use Rattle.adf_findings.specs.{Lookup.path_to, SoundMarks.AreMarks, Opening.opening_in, Survey.FindingValue}
+use Rattle.adf_texts.specs.{RowTexts.head_lines, VolumeLines.AreDates, VolumeLines.opening_lines}
 use Rattle.adf_survey_cmd.specs.Subject.{SubjectValue, subject_text}
 
 -- the mark of an entry, on the left of eight places

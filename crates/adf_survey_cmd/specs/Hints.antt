@@ -4,10 +4,8 @@ use Rattle.std.specs.Prelude.{◌≡◌, ◌⊎◌, ◌*◌, ◌==◌, ◌&&◌,
 use Rattle.std.specs.List.{list_any, range_with_len}
 use Rattle.adf_base.specs.Words.{block, word}
 use Rattle.adf_boot_blocks.specs.BootBlocks.{begins_with_dos}
-use Rattle.adf_partitions.specs.Summed.{holds}
-use Rattle.adf_partitions.specs.declared.layout.TheConstants.{MARK, RDSK, RDSK_BLOCKS}
-use Rattle.adf_runs.specs.Commands.{Reply}
-use Rattle.adf_runs.specs.Outcomes.{outcome_text, status_of}
+use Rattle.adf_partitions.specs.{Summed.holds, declared.layout.TheConstants.MARK, declared.layout.TheConstants.RDSK, declared.layout.TheConstants.RDSK_BLOCKS}
+use Rattle.adf_runs.specs.{Commands.Reply, Outcomes.outcome_text, Outcomes.status_of}
 use Rattle.adf_runs.specs.declared.outcome.Outcome.{Outcome, TheVariants.LeftOut, TheVariants.NoMemory}
 
 -- the bytes hold the whole block b, and it begins with `RDSK`

@@ -3,8 +3,7 @@
 use Rattle.std.specs.Prelude.{ℕ, ◌/◌, ◌==◌, ◌&&◌, not, min, nat_le, Bool, true, cond, List, Option, None, Some, unwrap_or}
 use Rattle.std.specs.Option.{option_or}
 use Rattle.adf_base.specs.Words.{block, long_sum, word}
-use Rattle.adf_blocks.specs.declared.layout.TheConstants.{HASH_SIZE, MOST_BLOCKS, SLOTS}
-use Rattle.adf_blocks.specs.Sizes.{blocks}
+use Rattle.adf_blocks.specs.{declared.layout.TheConstants.HASH_SIZE, declared.layout.TheConstants.MOST_BLOCKS, declared.layout.TheConstants.SLOTS, Sizes.blocks}
 use Rattle.adf_findings.specs.Start.{has_root_type}
 use Rattle.adf_partitions.specs.Summed.{holds}
 use Rattle.adf_rescue.specs.MadeRoot.{is_like_root}

@@ -1,14 +1,11 @@
 -- The lines of findings.
 -- Letters: w the walk of an image's survey, fs its findings; f a finding; r, s runs; n, m entries' nodes; b a block.
 use Rattle.std.specs.Prelude.{ℕ, ◌+◌, ◌==◌, ◌&&◌, ◌||◌, Bool, true, false, List, [], ◌∷◌, ◌++◌, Option, Some, None, codes, if◌then◌else◌}
-use Rattle.std.specs.Fmt.{decimal}
-use Rattle.std.specs.List.{flat_map}
+use Rattle.std.specs.{Fmt.decimal, List.flat_map}
 use Rattle.adf_blocks.specs.Causes.{cause_number, cause_text}
 use Rattle.adf_volume.specs.Walk.{Walk}
 use Rattle.adf_findings.specs.declared.concern.Concern.{Concern, TheVariants.Entry, TheVariants.Within}
-use Rattle.adf_findings.specs.Concerned.{concern_of, taker_of}
-use Rattle.adf_findings.specs.Lookup.{path_to}
-use Rattle.adf_findings.specs.Survey.{FindingValue}
+use Rattle.adf_findings.specs.{Concerned.concern_of, Concerned.taker_of, Lookup.path_to, Survey.FindingValue}
 use Rattle.adf_texts.specs.Names.{names_text}
 use Rattle.adf_survey_cmd.specs.declared.runs.Run.{Run}
 

@@ -7,24 +7,14 @@ use Rattle.std.specs.List.{flat_map}
 use Rattle.adf_base.specs.declared.hash.Letters.{Letters}
 use Rattle.adf_blocks.specs.Sizes.{blocks, middle}
 use Rattle.adf_volume.specs.Walk.{heads, node_block, Walk}
-use Rattle.adf_findings.specs.Lookup.{path_to}
-use Rattle.adf_findings.specs.Survey.{FindingValue}
-use Rattle.adf_rescue.specs.Doubts.{first_doubts_by, second_doubts_by}
-use Rattle.adf_rescue.specs.Losses.{lost_blocks, lost_headers}
-use Rattle.adf_rescue.specs.Opened.{lacks_root, states_type}
-use Rattle.adf_rescue.specs.Rescue.{Basis, rescue_leaves_by, second_leaves_by}
-use Rattle.adf_rescue.specs.declared.left_out.LeftOut.{LeftOut}
-use Rattle.adf_rescue.specs.declared.left_out.Why.{Why}
+use Rattle.adf_findings.specs.{Lookup.path_to, Survey.FindingValue}
+use Rattle.adf_rescue.specs.{Doubts.first_doubts_by, Doubts.second_doubts_by, Losses.lost_blocks, Losses.lost_headers, Opened.lacks_root, Opened.states_type}
+use Rattle.adf_rescue.specs.{Rescue.Basis, Rescue.rescue_leaves_by, Rescue.second_leaves_by, declared.left_out.LeftOut.LeftOut, declared.left_out.Why.Why}
+use Rattle.adf_rescue.specs.{declared.doubts.Doubt.Doubt, declared.doubts.Doubtful.Doubtful, declared.rescues.Rescued.Rescued, declared.standing.Input.Input}
 use Rattle.adf_rescue.specs.declared.left_out.Why.TheVariants as why
-use Rattle.adf_rescue.specs.declared.doubts.Doubt.{Doubt}
 use Rattle.adf_rescue.specs.declared.doubts.Doubt.TheVariants as doubt
-use Rattle.adf_rescue.specs.declared.doubts.Doubtful.{Doubtful}
-use Rattle.adf_rescue.specs.declared.rescues.Rescued.{Rescued}
-use Rattle.adf_rescue.specs.declared.standing.Input.{Input}
 use Rattle.adf_texts.specs.Names.{names_text}
-use Rattle.adf_survey_cmd.specs.Lines.{blocks_text}
-use Rattle.adf_survey_cmd.specs.declared.losses.BlockRun.{BlockRun}
-use Rattle.adf_survey_cmd.specs.declared.losses.Loss.{Loss}
+use Rattle.adf_survey_cmd.specs.{Lines.blocks_text, declared.losses.BlockRun.BlockRun, declared.losses.Loss.Loss}
 use Rattle.adf_survey_cmd.specs.declared.losses.Reason.{Reason, TheVariants.Blocks, TheVariants.Damaged, TheVariants.FoundAgain, TheVariants.Headers}
 use Rattle.adf_survey_cmd.specs.declared.losses.Reason.{TheVariants.InDoubt, TheVariants.Link, TheVariants.Made, TheVariants.NoRoom}
 use Rattle.adf_survey_cmd.specs.declared.losses.Reason.{TheVariants.PerhapsDeleted}

@@ -3,23 +3,16 @@
 -- the new volume may have.
 use Rattle.std.specs.Prelude.{◌≡◌, ◌++◌, ℕ, false, List, Option, None, Some, is_some, Result, Ok, Err}
 use Rattle.adf_blocks.specs.Sizes.{blocks}
-use Rattle.adf_volume.specs.Types.{letters_for}
-use Rattle.adf_volume.specs.declared.fault.Fault.{Fault}
-use Rattle.adf_volume.specs.declared.types.Types.{Types}
-use Rattle.adf_volume.specs.Walk.{FirstFaultBy}
+use Rattle.adf_volume.specs.{Types.letters_for, declared.fault.Fault.Fault, declared.types.Types.Types, Walk.FirstFaultBy}
 use Rattle.adf_boot_blocks.specs.Writing.{restored}
-use Rattle.adf_build.specs.Building.{IsBuildable}
-use Rattle.adf_build.specs.Laid.{IsLaid}
-use Rattle.adf_rescue.specs.Opened.{lacks_root, states_type}
-use Rattle.adf_rescue.specs.Pruned.{image_read}
-use Rattle.adf_rescue.specs.declared.standing.Input.{Input}
+use Rattle.adf_build.specs.{Building.IsBuildable, Laid.IsLaid}
+use Rattle.adf_rescue.specs.{Opened.lacks_root, Opened.states_type, Pruned.image_read, declared.standing.Input.Input}
 use Rattle.adf_texts.specs.Lines.{fault_line}
 use Rattle.adf_runs.specs.Commands.{Reply}
 use Rattle.adf_runs.specs.declared.outcome.Outcome.{Outcome, TheVariants.LeftOut, TheVariants.NoMemory as OutOfMemory}
 use Rattle.adf_survey_cmd.specs.Losses.{LossValue, loss_values, losses_text, runs_lost}
 use Rattle.adf_survey_cmd.specs.Rescues.{IsRefusal, RescueValue, RescueValue.refused, RescueValue.written, rescue_reply}
-use Rattle.adf_survey_cmd.specs.declared.preparing.Begun.{Begun}
-use Rattle.adf_survey_cmd.specs.declared.preparing.Prepared.{Prepared}
+use Rattle.adf_survey_cmd.specs.{declared.preparing.Begun.Begun, declared.preparing.Prepared.Prepared}
 use Rattle.adf_survey_cmd.specs.declared.preparing.Unrescued.{Unrescued, TheVariants.NoMemory, TheVariants.Refused}
 
 -- the fault is the first one of an image where these types are accepted

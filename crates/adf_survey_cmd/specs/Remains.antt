@@ -2,12 +2,9 @@
 -- Letters: s what is surveyed; w the walk of its image's survey, fs its findings; n an entry's node, h the block of its header;
 -- g a run of bytes that are no data.
 use Rattle.std.specs.Prelude.{◌≡◌, ℕ, List, [], ◌∷◌, ◌++◌, codes}
-use Rattle.std.specs.Fmt.{decimal}
-use Rattle.std.specs.List.{flat_map}
+use Rattle.std.specs.{Fmt.decimal, List.flat_map}
 use Rattle.adf_volume.specs.Walk.{FileAt, Walk}
-use Rattle.adf_findings.specs.Remains.{gaps_of, left_of}
-use Rattle.adf_findings.specs.Survey.{FindingValue}
-use Rattle.adf_findings.specs.declared.remains.Gap.{Gap}
+use Rattle.adf_findings.specs.{Remains.gaps_of, Remains.left_of, Survey.FindingValue, declared.remains.Gap.Gap}
 use Rattle.adf_runs.specs.Commands.{Reply}
 use Rattle.adf_survey_cmd.specs.Subject.{SubjectValue}
 

@@ -2,25 +2,17 @@
 -- Letters: a the survey of an image, w its walk, fs its findings; b the second survey, if there is one; ls losses; f a fault; r what a rescue gives;
 -- types those that the new volume may have; known what is known of the input, held the number of blocks that it holds whole; lost the losses of blocks that are not read at
 -- all; boot the boot blocks of the input.
-use Rattle.std.specs.Prelude.{◌≡◌, ◌≢◌, ◌⊎◌, ℕ, Bool, true, false, List, [], ◌∷◌, ◌++◌, Option}
+use Rattle.std.specs.Prelude.{◌≡◌, ◌≢◌, ◌⊎◌, ◌==◌, ◌&&◌, ◌||◌, ℕ, Bool, true, false, List, [], ◌∷◌, ◌++◌, length, not, Option, None, Some}
+use Rattle.std.specs.Prelude.{slice_get}
 use Rattle.adf_tree.specs.Tree.{Tree}
 use Rattle.adf_blocks.specs.Sizes.{blocks}
 use Rattle.adf_boot_blocks.specs.Writing.{restored}
-use Rattle.adf_volume.specs.Fits.{FitsBy}
-use Rattle.adf_volume.specs.Layout.{Layout}
-use Rattle.adf_volume.specs.Types.{letters_for}
-use Rattle.adf_volume.specs.declared.fault.Fault.{Fault}
-use Rattle.adf_volume.specs.declared.types.Types.{Types}
+use Rattle.adf_volume.specs.{Fits.FitsBy, Layout.Layout, Types.letters_for, declared.fault.Fault.Fault, declared.types.Types.Types}
 use Rattle.adf_volume.specs.Walk.{FirstFaultBy, Walk}
-use Rattle.adf_findings.specs.Files.{grave}
-use Rattle.adf_findings.specs.SoundMarks.{AreMarks}
-use Rattle.adf_findings.specs.Survey.{FindingValue, IsSurvey}
+use Rattle.adf_findings.specs.{Files.grave, SoundMarks.AreMarks, Survey.FindingValue, Survey.IsSurvey}
 use Rattle.adf_build.specs.Laid.{IsLaid}
-use Rattle.adf_rescue.specs.Hung.{second_image}
-use Rattle.adf_rescue.specs.Opened.{lacks_root}
-use Rattle.adf_rescue.specs.Pruned.{image_read}
+use Rattle.adf_rescue.specs.{Hung.second_image, Opened.lacks_root, Pruned.image_read, declared.standing.Input.Input}
 use Rattle.adf_rescue.specs.Rescue.{IsSecond, Basis, StandsNothingBy, rescued_tree_by}
-use Rattle.adf_rescue.specs.declared.standing.Input.{Input}
 use Rattle.adf_texts.specs.Lines.{fault_line}
 use Rattle.adf_runs.specs.Commands.{Reply, on_errors}
 use Rattle.adf_survey_cmd.specs.Losses.{LossValue, losses_text, rescue_losses}
@@ -58,11 +50,24 @@ GivesVolume ls types known a b boot r =
 abbrev pub GivesFault : List LossValue → Types → List ℕ → RescueValue → Type 0
 GivesFault ls types input r = (f : Fault) × FirstFaultBy (letters_for types input) input f.block f.cause × (r ≡ refused f ls)
 
--- the rescue of an input of which something is surveyed: the volume, or where nothing stands the first fault
+-- a finding is at block 0: it is that of a type that is read by other rules
+abbrev pub is_of_type : Option FindingValue → Bool
+is_of_type None = false
+is_of_type (Some f) = f.block == 0
+
+-- there is no other finding
+abbrev pub is_type_alone : List FindingValue → Bool
+is_type_alone fs = is_of_type (slice_get fs 0) && (length fs == 1)
+
+-- nothing stands, and more is wrong than the type: the root was made, or there is another finding
+abbrev pub HoldsNothing : Types → Input → List ℕ → Basis → Option Basis → List FindingValue → Type 0
+HoldsNothing types known input a b fs = StandsNothingBy types known a b × ((lacks_root input || not (is_type_alone fs)) ≡ true)
+
+-- the rescue of an input of which something is surveyed: the volume, or where nothing stands and more is wrong than the type, the first fault
 abbrev pub RescuesSome : Types → Input → List LossValue → List ℕ → Basis → Option Basis → List FindingValue → (boot : List ℕ) → RescueValue → Type 0
 RescuesSome types known lost input a b fs boot r =
     let ls = rescue_losses (letters_for types a.image) known lost input a b fs in
-    (StandsNothingBy types known a b × GivesFault ls types input r) ⊎ ((¬ StandsNothingBy types known a b) × GivesVolume ls types known a b boot r)
+    (HoldsNothing types known input a b fs × GivesFault ls types input r) ⊎ ((¬ HoldsNothing types known input a b fs) × GivesVolume ls types known a b boot r)
 
 -- the rescue of an input by the surveys; where nothing is surveyed it is refused
 abbrev pub RescuesBy : Types → Input → List LossValue → List ℕ → Basis → Option Basis → List FindingValue → (boot : List ℕ) → RescueValue → Type 0

@@ -5,18 +5,13 @@ use Rattle.std.specs.Prelude.{◌≡◌, ◌+◌, ◌*◌, ◌-◌, ◌%◌, ◌
 use Rattle.std.specs.Prelude.{replicate, slice_index, take}
 use Rattle.adf_names.specs.VolumeTypes.{kind_text_by, letters_of_type}
 use Rattle.adf_names.specs.declared.kind.Kind.{Kind, TheVariants.Ofs, TheVariants.Ffs}
-use Rattle.adf_blocks.specs.declared.layout.TheConstants.{MOST_BLOCKS}
-use Rattle.adf_blocks.specs.Sizes.{blocks}
+use Rattle.adf_blocks.specs.{declared.layout.TheConstants.MOST_BLOCKS, Sizes.blocks}
 use Rattle.adf_volume.specs.Walk.{Walk}
-use Rattle.adf_findings.specs.OwnKind.{is_mistyped, retyped, told_type}
-use Rattle.adf_findings.specs.Survey.{FindingValue, IsSurvey}
-use Rattle.adf_rescue.specs.Hung.{second_image}
-use Rattle.adf_rescue.specs.Opened.{lacks_boot, lacks_root, opened, with_boot_type}
+use Rattle.adf_findings.specs.{OwnKind.is_mistyped, OwnKind.retyped, OwnKind.told_type, Survey.FindingValue, Survey.IsSurvey}
+use Rattle.adf_rescue.specs.{Hung.second_image, Opened.lacks_boot, Opened.lacks_root, Opened.opened, Opened.with_boot_type}
 use Rattle.adf_runs.specs.Commands.{Reply}
-use Rattle.adf_survey_cmd.specs.Lengths.{blocks_read, stated_length}
-use Rattle.adf_survey_cmd.specs.Lines.{blocks_text, findings_text}
+use Rattle.adf_survey_cmd.specs.{Lengths.blocks_read, Lengths.stated_length, Lines.blocks_text, Lines.findings_text, declared.subject.Subject.Subject}
 use Rattle.adf_survey_cmd.specs.Losses.{LossValue, run_loss, runs_lost}
-use Rattle.adf_survey_cmd.specs.declared.subject.Subject.{Subject}
 
 -- an image; the first block that the input does not hold; the lines in front of those of the findings; the losses of the blocks that it has not
 pub record SubjectValue : Type 0 where

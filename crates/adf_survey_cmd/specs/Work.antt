@@ -1,11 +1,10 @@
 -- What is done for words, once they and their path are read.
 use Rattle.std.specs.Prelude.{◌≡◌, ℕ, Bool, List}
 use Rattle.adf_names.specs.PathTexts.{IsPathText}
-use Rattle.adf_file_words.specs.SurveyLine.{AreFew, InquiryValue, QuestionValue, cat, list, report, rescue}
-use Rattle.adf_survey_cmd.specs.Answers.{types_kept}
+use Rattle.adf_survey_cmd.specs.CommandLine.{AreFew, InquiryValue, QuestionValue, cat, list, report, rescue}
+use Rattle.adf_survey_cmd.specs.{Answers.types_kept, declared.work.Work.Work}
 use Rattle.adf_survey_cmd.specs.declared.work.Task.{Task, TheVariants.Show, TheVariants.Rescue}
 use Rattle.adf_survey_cmd.specs.declared.work.View.{View, TheVariants.Findings, TheVariants.List as ListAll, TheVariants.Cat}
-use Rattle.adf_survey_cmd.specs.declared.work.Work.{Work}
 
 -- what is shown is what is asked, with the names of the path
 abbrev pub Shows : View → QuestionValue → Type 0

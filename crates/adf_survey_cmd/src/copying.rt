@@ -2,14 +2,11 @@
 
 ghost use Rattle.std.specs.Prelude.{◌≡◌, ◌++◌, IfOk, OnOk, false, true};
 ghost use Rattle.std.specs.List.{flat_map};
-ghost use Rattle.adf_findings.specs.Files.{file_content};
-ghost use Rattle.adf_findings.specs.Survey.{OnSurvey};
-ghost use Rattle.adf_runs.specs.Commands.{on_errors, on_output};
+ghost use Rattle.adf_findings.specs.{Files.file_content, Survey.OnSurvey};
+ghost use Rattle.adf_runs.specs.{Commands.on_errors, Commands.on_output, Streams.seen};
 ghost use Rattle.adf_survey_cmd.specs.Answers.{CopiesEntry, CopiesFound, no_path_line};
-ghost use Rattle.adf_survey_cmd.specs.Remains.{gap_line, remains_reply};
-ghost use Rattle.adf_survey_cmd.specs.Subject.{surveyed_as};
+ghost use Rattle.adf_survey_cmd.specs.{Remains.gap_line, Remains.remains_reply, Subject.surveyed_as};
 ghost use Rattle.adf_runs.specs.Outcomes.{Blames, Does, DoesSilently, EndsBy};
-ghost use Rattle.adf_runs.specs.Streams.{seen};
 
 use crate::found_lines::are_before;
 use crate::subject::Subject;

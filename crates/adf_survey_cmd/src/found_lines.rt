@@ -1,13 +1,10 @@
 // The lines of what is found.
 
 ghost use Rattle.std.specs.Prelude.{◌≡◌, ◌++◌, ◌≤◌, ℕ, Bool, List, IfOk, OnErr, OnOk, false, nat_lt};
-ghost use Rattle.std.specs.List.{list_all};
-ghost use Rattle.std.specs.Io.KnownBytes.{Appends};
+ghost use Rattle.std.specs.{List.list_all, Io.KnownBytes.Appends};
 ghost use Rattle.adf_base.specs.declared.dates.Stamp.{Stamp};
 ghost use Rattle.adf_volume.specs.Walk.{heads};
-ghost use Rattle.adf_findings.specs.Opening.{opening_in};
-ghost use Rattle.adf_findings.specs.SoundMarks.{AreMarks};
-ghost use Rattle.adf_findings.specs.Survey.{OnSurvey};
+ghost use Rattle.adf_findings.specs.{Opening.opening_in, SoundMarks.AreMarks, Survey.OnSurvey};
 ghost use Rattle.adf_texts.specs.VolumeLines.{AreDates};
 ghost use Rattle.adf_runs.specs.Streams.{AppendsPart, is_device};
 ghost use Rattle.adf_survey_cmd.specs.FoundLines.{InAnyTexts, found_lines, found_text, lines_of_found, mark_text, marked};

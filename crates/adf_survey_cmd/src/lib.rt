@@ -1,6 +1,7 @@
 //! The command `adf-survey`: all that is wrong in an image, and files that are sound all the same.
 #![tactic(auto)]
 
+mod command_line;
 mod copying;
 mod found_lines;
 mod hints;
@@ -17,6 +18,9 @@ mod runs;
 mod subject;
 mod work;
 
+pub use crate::command_line::{
+    Inquiry, Question, parse_survey as parse, survey_words_as_documented,
+};
 pub use crate::laws::rescued_volumes;
 pub use crate::lengths::{blocks_read, stated_length};
 pub use crate::losses::{BlockRun, Loss, Reason};
@@ -25,4 +29,3 @@ pub use crate::runner::{one_answer, run_files};
 pub use crate::runs::{Run, run_from};
 pub use crate::subject::Subject;
 pub use crate::work::{Task, View, Work};
-pub use adf_file_words::{Inquiry, Question, parse_survey as parse, survey_words_as_documented};

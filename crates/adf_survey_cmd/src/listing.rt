@@ -3,11 +3,8 @@
 ghost use Rattle.std.specs.Prelude.{◌≡◌, [], OnErr, OnOk, false};
 ghost use Rattle.std.specs.Io.KnownBytes.{Appends};
 ghost use Rattle.adf_findings.specs.Survey.{OnSurvey};
-ghost use Rattle.adf_runs.specs.Streams.{AppendsPart, is_device};
-ghost use Rattle.adf_survey_cmd.specs.Answers.{TellsFound};
-ghost use Rattle.adf_runs.specs.Outcomes.{Blames, EndsBy};
-ghost use Rattle.adf_survey_cmd.specs.FoundLines.{InAnyTexts, listing_text};
-ghost use Rattle.adf_survey_cmd.specs.Subject.{surveyed_as};
+ghost use Rattle.adf_runs.specs.{Streams.AppendsPart, Streams.is_device, Outcomes.Blames, Outcomes.EndsBy};
+ghost use Rattle.adf_survey_cmd.specs.{Answers.TellsFound, FoundLines.InAnyTexts, FoundLines.listing_text, Subject.surveyed_as};
 
 use crate::found_lines::write_found;
 use crate::reporting::is_clean;

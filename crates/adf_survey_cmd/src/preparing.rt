@@ -1,11 +1,11 @@
 // Rescues of which only the new volume is to be laid.
 
-ghost use Rattle.std.specs.Prelude.{◌≡◌, ℕ, List, Option, Some, IfOk, false, is_some, option_map};
-ghost use Rattle.adf_rescue.specs.Pruned.{image_read};
-ghost use Rattle.adf_rescue.specs.Rescue.{IsSecond, Basis, OnBasis, OnSecond};
+ghost use Rattle.std.specs.Prelude.{◌≡◌, ◌&&◌, ◌||◌, ℕ, List, Option, Some, IfOk, false, is_some, not, option_map};
+ghost use Rattle.adf_findings.specs.Survey.{OnSurvey};
+ghost use Rattle.adf_rescue.specs.{Pruned.image_read, Rescue.IsSecond, Rescue.Basis, Rescue.OnBasis, Rescue.OnSecond};
 ghost use Rattle.adf_survey_cmd.specs.Losses.{LossValue, front_losses, runs_lost};
 ghost use Rattle.adf_survey_cmd.specs.Prepared.{IsBegunInput, IsFault, IsFirstFault, Prepares, known_of};
-ghost use Rattle.adf_survey_cmd.specs.Rescues.{IsNoVolume, Rescues, RescuesBoth, RescuesBy};
+ghost use Rattle.adf_survey_cmd.specs.Rescues.{IsNoVolume, Rescues, RescuesBoth, RescuesBy, is_type_alone};
 
 use crate::losses::{BlockRun, Loss, rescue_losses};
 use crate::subject::Subject;
@@ -146,6 +146,25 @@ fn read_input(image: &mut [u8], is_refused: bool)
     }
 }
 
+// Whether the only finding is that of the type.
+fn is_type_alone(found: &Survey<'_>) -> bool
+    ensures { OnSurvey found.now.image (λ _ fs. result ≡ is_type_alone fs) }
+{
+    let findings = found.findings();
+    match findings.get(0) {
+        Some(finding) => finding.block == 0 && findings.len() == 1,
+        None => false,
+    }
+}
+
+// Whether nothing stands, and more is wrong than the type.
+fn holds_nothing(found: &Survey<'_>, stands_nothing: bool, made_root: bool) -> bool
+    ensures { OnSurvey found.now.image (λ _ fs. result
+        ≡ (stands_nothing && (made_root || not (is_type_alone fs)))) }
+{
+    stands_nothing && (made_root || !is_type_alone(found))
+}
+
 // Prepares a rescue by what is found in the image that is read of an input, and in a second one, if there is one.
 fn prepare_found(
     alloc: Global,
@@ -175,7 +194,7 @@ fn prepare_found(
     };
     let front = begun.runs(alloc, scope.held, rescued.blocks)?;
     let losses = rescue_losses(alloc, found, second, &rescued, &front)?;
-    if rescued.stands_nothing {
+    if holds_nothing(found, rescued.stands_nothing, begun.made_root) {
         let first = fault_of(alloc, scope.types, found.image(), begun.fault)?;
         return Err(Unrescued::Refused(first, losses));
     }
@@ -221,8 +240,8 @@ fn prepare_read(
     }
 }
 
-/// Prepares the rescue of what is surveyed of an input, and lets that go. `Refused` if nothing stands on it, and its image is no
-/// valid volume of these types. `NoMemory` if an allocation fails.
+/// Prepares the rescue of what is surveyed of an input, and lets that go. `Refused` if nothing stands on it, its image is no
+/// valid volume of these types, and more is wrong with it than its type. `NoMemory` if an allocation fails.
 pub fn prepare(alloc: Global, subject: Subject, types: Types) -> Result<Prepared, Unrescued>
     ensures { Prepares (Rescues types subject.end (runs_lost subject.lost.items) subject.image.items) result }
 {

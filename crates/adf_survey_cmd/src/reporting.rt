@@ -2,8 +2,7 @@
 
 ghost use Rattle.std.specs.Prelude.{◌≡◌, cond, false};
 ghost use Rattle.adf_findings.specs.Survey.{OnSurvey};
-ghost use Rattle.adf_survey_cmd.specs.Answers.{TellsFindings, told_status};
-ghost use Rattle.adf_survey_cmd.specs.Subject.{surveyed_as};
+ghost use Rattle.adf_survey_cmd.specs.{Answers.TellsFindings, Answers.told_status, Subject.surveyed_as};
 ghost use Rattle.adf_runs.specs.Outcomes.{Blames, EndsBy};
 
 use crate::runs::write_runs;

@@ -3,14 +3,11 @@
 ghost use Rattle.std.specs.Prelude.{◌≡◌, ◌≤◌, ◌++◌, ℕ, List, IfOk, false, length};
 ghost use Rattle.adf_blocks.specs.Sizes.{blocks as blocks_in};
 ghost use Rattle.adf_boot_blocks.specs.Writing.{restored};
-ghost use Rattle.adf_build.specs.Building.{IsBuildable};
-ghost use Rattle.adf_build.specs.Laid.{IsLaid};
-ghost use Rattle.adf_runs.specs.Outcomes.{Blames, Does, outcome_text, status_of};
-ghost use Rattle.adf_survey_cmd.specs.Losses.{loss_values, losses_text, runs_lost};
-ghost use Rattle.adf_survey_cmd.specs.Prepared.{IsToldRefusal, WritesPrepared};
-ghost use Rattle.adf_survey_cmd.specs.Rescues.{Replies, Rescues, text_status};
+ghost use Rattle.adf_build.specs.{Building.IsBuildable, Laid.IsLaid};
+ghost use Rattle.adf_runs.specs.{Outcomes.Blames, Outcomes.Does, Outcomes.outcome_text, Outcomes.status_of, Streams.seen};
+ghost use Rattle.adf_survey_cmd.specs.{Losses.loss_values, Losses.losses_text, Losses.runs_lost, Prepared.IsToldRefusal};
+ghost use Rattle.adf_survey_cmd.specs.{Prepared.WritesPrepared, Rescues.Replies, Rescues.Rescues, Rescues.text_status};
 ghost use Rattle.adf_texts.specs.Lines.{fault_line};
-ghost use Rattle.adf_runs.specs.Streams.{seen};
 
 use crate::loss_lines::push_losses;
 use crate::losses::Loss;
@@ -112,8 +109,8 @@ fn refused(alloc: Global, unrescued: Unrescued) -> Outcome
 
 /// Writes the new volume of all that stands on what is surveyed of an input, whose boot block and root may be overwritten, and of
 /// which the first blocks were there whole, with what no directory leads to any more; errors get the lines of what is not in
-/// it, or in doubt there. If nothing stands, and the image is no valid volume of these types, errors get the line of its first
-/// fault, then these lines. The new volume gets the boot blocks. The image is let go before it is laid.
+/// it, or in doubt there. If nothing stands, the image is no valid volume of these types, and more is wrong with it than its
+/// type, errors get the line of its first fault, then these lines. The new volume gets the boot blocks. The image is let go before it is laid.
 pub fn rescue_image<W: Sink>(
     alloc: Global,
     subject: Subject,

@@ -1,13 +1,10 @@
 // Runs of findings, and their lines.
 
 ghost use Rattle.std.specs.Prelude.{◌≡◌, ◌++◌, ◌∷◌, ◌<◌, ◌≤◌, ◌^◌, [], IfNone, IfSome, OnErr, OnOk, drop, false, length};
-ghost use Rattle.std.specs.Prelude.{option_map, slice_get};
-ghost use Rattle.std.specs.Io.KnownBytes.{Appends};
+ghost use Rattle.std.specs.{Prelude.option_map, Prelude.slice_get, Io.KnownBytes.Appends};
 ghost use Rattle.adf_volume.specs.Walk.{Walk};
 ghost use Rattle.adf_findings.specs.Concerned.{concern_of, taker_of};
-ghost use Rattle.adf_findings.specs.Lookup.{path_to};
-ghost use Rattle.adf_findings.specs.Parts.{finding_value};
-ghost use Rattle.adf_findings.specs.Survey.{OnSurvey};
+ghost use Rattle.adf_findings.specs.{Lookup.path_to, Parts.finding_value, Survey.OnSurvey};
 ghost use Rattle.adf_texts.specs.Names.{names_text};
 ghost use Rattle.adf_runs.specs.Streams.{AppendsPart, is_device};
 ghost use Rattle.adf_survey_cmd.specs.Lines.{are_owned_alike, are_one, blocks_text, concern_text, continues, is_beside};

@@ -2,10 +2,8 @@
 
 ghost use Rattle.std.specs.Prelude.{◌≡◌, ◌≤◌, ◌++◌, ℕ, IfOk, OnOk, length, true};
 ghost use Rattle.adf_blocks.specs.declared.layout.TheConstants.{MOST_BLOCKS};
-ghost use Rattle.adf_findings.specs.OwnKind.{told_type};
-ghost use Rattle.adf_findings.specs.Survey.{OnSurvey};
-ghost use Rattle.adf_rescue.specs.Hung.{second_image};
-ghost use Rattle.adf_rescue.specs.Opened.{lacks_root, opened};
+ghost use Rattle.adf_findings.specs.{OwnKind.told_type, Survey.OnSurvey};
+ghost use Rattle.adf_rescue.specs.{Hung.second_image, Opened.lacks_root, Opened.opened};
 ghost use Rattle.adf_survey_cmd.specs.Losses.{runs_lost};
 ghost use Rattle.adf_survey_cmd.specs.Subject.{IsOtherType, IsTyped, begun_subject, behind_loss, behind_text, changed, held_end, missing_text};
 ghost use Rattle.adf_survey_cmd.specs.Subject.{kind_image, other_type, retyped_subject, sized, subject, subject_read, subject_value};

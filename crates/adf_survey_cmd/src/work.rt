@@ -3,15 +3,13 @@
 ghost use Rattle.std.specs.Prelude.{◌≡◌, List, Some, false, IfErr, IfOk};
 ghost use Rattle.adf_findings.specs.Survey.{OnSurvey};
 ghost use Rattle.adf_rescue.specs.Opened.{is_mended};
-ghost use Rattle.adf_runs.specs.Outcomes.{Blames, Does, EndsBy};
-ghost use Rattle.adf_runs.specs.WorkFaults.{IsNoWork};
-ghost use Rattle.adf_runs.specs.Streams.{seen};
+ghost use Rattle.adf_runs.specs.{Outcomes.Blames, Outcomes.Does, Outcomes.EndsBy, WorkFaults.IsNoWork, Streams.seen};
 ghost use Rattle.adf_survey_cmd.specs.Answers.{HasBadSurveyPath, QuestionAnswer, RescuesTyped, SurveyAnswer, types_kept};
-ghost use Rattle.adf_file_words.specs.SurveyLine.{InquiryValue, QuestionValue, question_value};
-ghost use Rattle.adf_survey_cmd.specs.Rescues.{Replies};
+ghost use Rattle.adf_survey_cmd.specs.CommandLine.{InquiryValue, QuestionValue, question_value};
+ghost use Rattle.adf_survey_cmd.specs.{Rescues.Replies, Work.Answers, Work.Meets, Work.Shows};
 ghost use Rattle.adf_survey_cmd.specs.Subject.{IsTyped, SubjectValue, begun_subject, other_type, subject_value};
-ghost use Rattle.adf_survey_cmd.specs.Work.{Answers, Meets, Shows};
 
+use crate::command_line::{Question, SURVEY_USAGE as USAGE, parse_survey, survey_file};
 use crate::copying::{Asked, copy_found};
 use crate::hints::{hinted, is_hard_disk};
 use crate::listing::write_list;
@@ -20,7 +18,6 @@ use crate::rescuing::rescue_image;
 use crate::subject::{Subject, other_type};
 use adf_cmd::MOST_IMAGE_BYTES;
 use adf_file_runs::FileProgram;
-use adf_file_words::{Question, SURVEY_USAGE as USAGE, parse_survey, survey_file};
 use adf_findings::{Survey, some_survey, survey};
 use adf_rescue::is_mended;
 use adf_runs::{Outcome, Program, Sink, Source, WorkFault, read_input};
@@ -281,8 +278,7 @@ impl Work {
 impl Program for Work {
     ghost use Rattle.std.proofs.Common.{inl, refl, rules};
     ghost use Rattle.adf_runs.specs.Commands.{bad_path};
-    ghost use Rattle.adf_survey_cmd.specs.Answers.{survey_command};
-    ghost use Rattle.adf_file_words.specs.SurveyLine.{asked, cat};
+    ghost use Rattle.adf_survey_cmd.specs.{Answers.survey_command, CommandLine.asked, CommandLine.cat};
 
     ghost command = { survey_command };
 
@@ -330,7 +326,7 @@ impl Program for Work {
 }
 
 impl FileProgram for Work {
-    ghost use Rattle.adf_file_words.specs.SurveyLine.{survey_file};
+    ghost use Rattle.adf_survey_cmd.specs.CommandLine.{survey_file};
 
     ghost file_of = { survey_file };
 

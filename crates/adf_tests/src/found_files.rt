@@ -6,6 +6,7 @@ use adf_memory::{
     FoundPart, NO_BLOCK, escape_text, owners_of, put_found_blocks, put_found_parts, read_found,
     survey_owners,
 };
+use adf_volume::Types;
 use std::alloc::Global;
 use std::mem::size_of;
 
@@ -219,7 +220,7 @@ fn names_are_escaped(rt: HostRuntime) {
 // The roles of the blocks of an image by its check.
 fn checked_roles(alloc: Global, image: &[u8]) -> (u8, [u8; 17]) {
     let mut roles = [9; 17];
-    let number = owners_of(alloc, image, &mut roles);
+    let number = owners_of(alloc, Types::Plain, image, &mut roles);
     (number, roles)
 }
 

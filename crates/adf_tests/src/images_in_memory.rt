@@ -2,13 +2,15 @@
 // `short`, one byte. Their headers are blocks 2, 3 and 6, their data 4, 5 and 7.
 
 use crate::images::{Image, NOT_MOVED, built, with_bytes};
+use adf_base::Letters;
 use adf_file_runs::WithoutFiles;
 use adf_memory::{
     Contents, Date, FoundEntry, Moved, Surveyed, TableDisk, TableEntry, TableFinding,
-    TablePartition, Verdict, cause_text, check_image, check_image_types, disk_cause_text,
-    find_entry, find_entry_types, owners_of, owners_of_types, put_index, put_index_types,
-    put_survey, read_bytes, run_in_memory,
+    TablePartition, Verdict, cause_text, check_image, disk_cause_text, find_entry, owners_of,
+    put_index, put_survey, read_bytes, run_in_memory,
 };
+use adf_names::letters_of_type;
+use adf_volume::Types;
 use std::alloc::Global;
 use std::mem::size_of;
 
@@ -108,7 +110,14 @@ fn indexed(alloc: Global, image: &Image) -> IndexTables {
     let mut entries = [ENTRY; 3];
     let mut blocks = [9; 3];
     let mut contents = CONTENTS;
-    let cause = put_index(alloc, image, &mut entries, &mut blocks, &mut contents);
+    let cause = put_index(
+        alloc,
+        Types::Plain,
+        image,
+        &mut entries,
+        &mut blocks,
+        &mut contents,
+    );
     IndexTables {
         cause,
         entries,
@@ -120,14 +129,14 @@ fn indexed(alloc: Global, image: &Image) -> IndexTables {
 // What is told of an image, and its first fault.
 fn checked(alloc: Global, image: &Image) -> (u8, Verdict) {
     let mut verdict = VERDICT;
-    let cause = check_image(alloc, image, &mut verdict);
+    let cause = check_image(alloc, Types::Plain, image, &mut verdict);
     (cause, verdict)
 }
 
 // The roles of its blocks, and its first fault.
 fn roles(alloc: Global, image: &Image) -> (u8, [u8; 17]) {
     let mut roles = [9; 17];
-    let cause = owners_of(alloc, image, &mut roles);
+    let cause = owners_of(alloc, Types::Plain, image, &mut roles);
     (cause, roles)
 }
 
@@ -159,7 +168,7 @@ fn a_sound_image_is_checked(rt: HostRuntime) {
 fn typed(alloc: Global, dos_type: u8) -> (u8, u32, usize) {
     let image = with_bytes(&built(alloc, MANIFEST), &[(3, dos_type)]);
     let mut verdict = VERDICT;
-    let cause = check_image_types(alloc, &image, &mut verdict);
+    let cause = check_image(alloc, Types::WithInternational, &image, &mut verdict);
     (cause, verdict.kind, verdict.files)
 }
 
@@ -178,7 +187,7 @@ fn found(alloc: Global, path: &[u8], offset: usize) -> (u8, usize, usize, [u8; 4
     let image = built(alloc, MANIFEST);
     let index = indexed(alloc, &image);
     let mut node = 9;
-    let number = find_entry(alloc, &index.entries, path, &mut node);
+    let number = find_entry(alloc, Letters::Ascii, &index.entries, path, &mut node);
     let mut room = [9; 4];
     let count = read_bytes(
         &image,
@@ -215,11 +224,24 @@ fn found_raised(alloc: Global, dos_type: u8) -> (u8, u32, [(u8, usize); 2]) {
     let image = international(alloc, dos_type);
     let mut entries = [ENTRY; 1];
     let mut contents = CONTENTS;
-    let cause = put_index_types(alloc, &image, &mut entries, &mut [9; 1], &mut contents);
+    let cause = put_index(
+        alloc,
+        Types::WithInternational,
+        &image,
+        &mut entries,
+        &mut [9; 1],
+        &mut contents,
+    );
     let mut node = 9;
-    let found = find_entry_types(alloc, contents.kind, &entries, b"\\xc9", &mut node);
+    let found = find_entry(
+        alloc,
+        letters_of_type(contents.kind),
+        &entries,
+        b"\\xc9",
+        &mut node,
+    );
     let mut plain = 9;
-    let missed = find_entry(alloc, &entries, b"\\xc9", &mut plain);
+    let missed = find_entry(alloc, Letters::Ascii, &entries, b"\\xc9", &mut plain);
     (cause, contents.kind, [(found, node), (missed, plain)])
 }
 
@@ -234,7 +256,12 @@ fn a_name_is_found_by_the_letters_of_the_kind(rt: HostRuntime) {
 #[test]
 fn blocks_of_a_volume_of_other_letters_have_owners(rt: HostRuntime) {
     let mut roles = [9; 17];
-    let cause = owners_of_types(rt.alloc(), &international(rt.alloc(), 3), &mut roles);
+    let cause = owners_of(
+        rt.alloc(),
+        Types::WithInternational,
+        &international(rt.alloc(), 3),
+        &mut roles,
+    );
     assert!(rt; (cause, roles[2], roles[3], roles[8], roles[16]) == (0, 5, 7, 2, 9));
 }
 

@@ -4,8 +4,11 @@
 use crate::images::{Image, NOT_MOVED, built, with_bytes};
 use adf_file_runs::WithoutFiles;
 use adf_findings::survey;
-use adf_memory::{RescueTold, TableLoss, Verdict, check_image_types, rescue_volume, run_in_memory};
+use adf_memory::{
+    RescueTold, TableLoss, Verdict, check_image, rescue_volume, rescue_volume_types, run_in_memory,
+};
 use adf_rescue::hung_image;
+use adf_volume::Types;
 use std::alloc::Global;
 use std::mem::size_of;
 
@@ -161,8 +164,21 @@ fn typed(alloc: Global, volume: &Image) -> (u8, u32, usize) {
         files: 9,
         block: 9,
     };
-    let cause = check_image_types(alloc, volume, &mut verdict);
+    let cause = check_image(alloc, Types::WithInternational, volume, &mut verdict);
     (cause, verdict.kind, verdict.files)
+}
+
+// The volume of the rescue with the letters of an image.
+fn rescued_lettered(alloc: Global, image: &Image) -> Image {
+    let mut volume = [9; 8192];
+    let mut told = RescueTold {
+        losses: 9,
+        paths: 9,
+        blocks: 9,
+        block: 9,
+    };
+    rescue_volume_types(alloc, image, 0, &mut volume, &mut [], &mut [], &mut told);
+    volume
 }
 
 // A rescue of a volume of type 3 or 5 is one of type 1; with `--keep-type` it is one of type 3, with its letters. One whose name lies
@@ -178,6 +194,8 @@ fn letters_are_kept(rt: HostRuntime) {
         let (status, kept) = rescued_by(rt.alloc(), words, &image);
         assert!(rt; (status, slots(&kept)) == (0, (3, false, true)));
         assert!(rt; typed(rt.alloc(), &kept) == (0, 3, 1));
+        let called = rescued_lettered(rt.alloc(), &image);
+        assert!(rt; (slots(&called), typed(rt.alloc(), &called)) == ((3, false, true), (0, 3, 1)));
     }
     let sound = built(rt.alloc(), LETTERED);
     let (status, same) = rescued_by(rt.alloc(), words, &sound);

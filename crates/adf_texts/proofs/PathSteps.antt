@@ -1,14 +1,9 @@
 -- A path with one more name.
 use Rattle.std.proofs.Common.{◌≡◌, ◌<◌, ◌+◌, ◌++◌, ◌==◌, ◌∙◌, ℕ, List, [], ◌∷◌, Bool, true, false, if◌then◌else◌, ap, append_assoc, refl, sym, arith, get_or}
-use Rattle.std.proofs.Common.{length, map, nat_le, take}
-use Rattle.std.specs.Borrow.{Bor}
-use Rattle.std.specs.List.{All, join_with_byte, list_all}
-use Rattle.std.proofs.lemmas.Bool.{and_parts, ne_eqb}
+use Rattle.std.proofs.{Common.length, Common.map, Common.nat_le, Common.take, lemmas.Bool.and_parts, lemmas.Bool.ne_eqb, lemmas.Grind.common_steps}
+use Rattle.std.specs.{Borrow.Bor, List.All, List.join_with_byte, List.list_all}
 use Rattle.std.proofs.lemmas.List.{length-map, length-take-le, map-append, take_more, Elements.All-head, Elements.All-tail}
-use Rattle.std.proofs.lemmas.Grind.{common_steps}
-use Rattle.adf_names.specs.Escapes.{escape_of, escaped}
-use Rattle.adf_names.specs.PathTexts.{IsName, path_text, with_name}
-use Rattle.adf_names.specs.Texts.{is_name_byte}
+use Rattle.adf_names.specs.{Escapes.escape_of, Escapes.escaped, PathTexts.IsName, PathTexts.path_text, PathTexts.with_name, Texts.is_name_byte}
 use Rattle.adf_texts.specs.Names.{digits_of, name_bytes, names_text, spelled}
 
 -- a name behind a text

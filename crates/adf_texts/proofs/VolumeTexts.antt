@@ -2,11 +2,9 @@
 use Rattle.std.proofs.Common.{◌≡◌, ◌≤◌, ◌+◌, ℕ, List, [], ◌++◌, refl, arith}
 use Rattle.std.proofs.lemmas.Grind.{common_steps}
 use Rattle.adf_base.specs.declared.dates.Stamp.{Stamp}
-use Rattle.adf_tree.specs.declared.entry.Body.{Body, TheVariants.Dir, TheVariants.File}
-use Rattle.adf_tree.specs.declared.entry.Entry.{Entry}
+use Rattle.adf_tree.specs.{declared.entry.Body.Body, declared.entry.Body.TheVariants.Dir, declared.entry.Body.TheVariants.File, declared.entry.Entry.Entry}
 use Rattle.adf_names.specs.PathTexts.{path_text}
-use Rattle.adf_volume.specs.Rows.{row_of_body, row_of_entry}
-use Rattle.adf_volume.specs.declared.row.Row.{Row}
+use Rattle.adf_volume.specs.{Rows.row_of_body, Rows.row_of_entry, declared.row.Row.Row}
 use Rattle.adf_texts.proofs.Ranges.{flat_map_front, flat_map_next}
 use Rattle.adf_texts.specs.RowTexts.{row_size, row_word}
 use Rattle.adf_texts.specs.VolumeLines.{body_word, entry_lines, lines_of_entries, lines_of_entry, lines_with, size_text}

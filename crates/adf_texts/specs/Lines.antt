@@ -3,13 +3,9 @@ use Rattle.std.specs.Prelude.{ℕ, List, [], ◌∷◌, ◌++◌, codes}
 use Rattle.std.specs.Fmt.{decimal}
 use Rattle.adf_base.specs.declared.hash.Letters.{Letters, TheVariants.Ascii}
 use Rattle.adf_names.specs.VolumeTypes.{kind_text_by}
-use Rattle.adf_manifest.specs.Kinds.{manifest_fault_text}
-use Rattle.adf_manifest.specs.Texts.{hex_word}
-use Rattle.adf_manifest.specs.declared.manifest.ManifestFault.{ManifestFault}
-use Rattle.adf_volume.specs.declared.counts.Counts.{Counts}
+use Rattle.adf_manifest.specs.{Kinds.manifest_fault_text, Texts.hex_word, declared.manifest.ManifestFault.ManifestFault}
+use Rattle.adf_volume.specs.{declared.counts.Counts.Counts, Fault.fault_text, declared.fault.Fault.Fault}
 use Rattle.adf_build.specs.Building.{full_text}
-use Rattle.adf_volume.specs.Fault.{fault_text}
-use Rattle.adf_volume.specs.declared.fault.Fault.{Fault}
 
 -- the line of a sound volume with these letters
 abbrev pub ok_line_by : Letters → Counts → List ℕ

@@ -1,9 +1,7 @@
 -- The texts of names and paths that are read from a disk, where a name need not be valid.
 use Rattle.std.specs.Prelude.{◌≡◌, All, ℕ, List, [], ◌∷◌, ◌/◌, ◌%◌, map, if◌then◌else◌}
 use Rattle.std.specs.List.{flat_map, join_with_byte}
-use Rattle.adf_names.specs.Escapes.{escape_of, hex_digit}
-use Rattle.adf_names.specs.PathTexts.{IsName, path_text}
-use Rattle.adf_names.specs.Texts.{is_name_byte}
+use Rattle.adf_names.specs.{Escapes.escape_of, Escapes.hex_digit, PathTexts.IsName, PathTexts.path_text, Texts.is_name_byte}
 
 -- `\x` and the two digits of a byte
 abbrev pub digits_of : ℕ → List ℕ

@@ -1,19 +1,12 @@
 -- The lines of `list`. In each definition `date` is the text of a date.
 use Rattle.std.specs.Prelude.{ℕ, ◌-◌, ◌==◌, List, [], ◌++◌, codes, if◌then◌else◌, length, replicate, Some, None}
-use Rattle.std.specs.Fmt.{decimal}
-use Rattle.std.specs.List.{flat_map, range_with_len}
+use Rattle.std.specs.{Fmt.decimal, List.flat_map, List.range_with_len}
 use Rattle.adf_fields.specs.Dates.{IsStampText}
 use Rattle.adf_base.specs.declared.dates.Stamp.{Stamp}
-use Rattle.adf_names.specs.Escapes.{escaped}
-use Rattle.adf_names.specs.PathTexts.{path_text}
-use Rattle.adf_tree.specs.Paths.{names_of}
-use Rattle.adf_tree.specs.Tree.{Tree, entry}
+use Rattle.adf_names.specs.{Escapes.escaped, PathTexts.path_text, declared.kind.Kind.Kind, declared.meta.Meta.Meta, Kinds.kind_text}
+use Rattle.adf_tree.specs.{Paths.names_of, Tree.Tree, Tree.entry, declared.entry.Entry.Entry}
 use Rattle.adf_tree.specs.declared.entry.Body.{Body, TheVariants.Dir, TheVariants.File}
-use Rattle.adf_tree.specs.declared.entry.Entry.{Entry}
-use Rattle.adf_names.specs.declared.kind.Kind.{Kind}
-use Rattle.adf_names.specs.declared.meta.Meta.{Meta}
 use Rattle.adf_names.specs.declared.meta.Stamps.{Stamps}
-use Rattle.adf_names.specs.Kinds.{kind_text}
 use Rattle.adf_manifest.specs.Texts.{hex_word}
 
 -- each date has its text

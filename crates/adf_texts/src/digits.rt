@@ -3,8 +3,7 @@
 ghost use Rattle.std.specs.Prelude.{◌≡◌, ◌<◌, ◌≤◌, ◌++◌, [], ◌∷◌, drop, take, replicate};
 ghost use Rattle.std.specs.Fmt.{decimal};
 ghost use Rattle.adf_manifest.specs.Texts.{hex_word};
-ghost use Rattle.adf_texts.specs.Growth.{grown};
-ghost use Rattle.adf_texts.specs.VolumeLines.{right_in_ten};
+ghost use Rattle.adf_texts.specs.{Growth.grown, VolumeLines.right_in_ten};
 
 use adf_tree::hex_digit;
 use itoa::write_digits;

@@ -2,8 +2,7 @@
 
 ghost use Rattle.std.specs.Prelude.{◌≡◌, ◌++◌, [], ◌∷◌, OnOk, if◌then◌else◌, map};
 ghost use Rattle.std.specs.List.{list_all};
-ghost use Rattle.adf_names.specs.Escapes.{escape_of, escaped, is_plain};
-ghost use Rattle.adf_names.specs.PathTexts.{path_text};
+ghost use Rattle.adf_names.specs.{Escapes.escape_of, Escapes.escaped, Escapes.is_plain, PathTexts.path_text};
 ghost use Rattle.adf_texts.specs.Names.{ValidNamesAreAlike, digits_of, name_byte, name_bytes, names_text, spelled};
 
 use adf_tree::{Name, hex_digit, is_plain};

@@ -2,23 +2,16 @@
 -- Letters: l the letters whose case is ignored.
 use Rattle.std.proofs.Common.{◌≡◌, ℕ, ◌-◌, ◌<◌, List, [], ◌∷◌, length, get_or, true, false, Bool, Option, Some, None, Result, Ok, Err, arith, ◌==◌, refl, subst}
 use Rattle.std.proofs.Common.{if◌then◌else◌, zero, suc, take, ◌++◌, option_map}
-use Rattle.std.specs.Option.{unwrap_or}
-use Rattle.std.specs.List.{slice_get}
+use Rattle.std.specs.{Option.unwrap_or, List.slice_get}
 use Rattle.std.proofs.lemmas.Bool.{cases_Bool, and_from, eq-eqb, eqb-false, ne_eqb, both_ways}
-use Rattle.std.proofs.lemmas.List.{get_or_default, take_more, take_all}
-use Rattle.std.proofs.lemmas.Slice.Eq.{bytes_eq-Decides}
-use Rattle.std.proofs.lemmas.Grind.{common_steps}
+use Rattle.std.proofs.{lemmas.List.get_or_default, lemmas.List.take_more, lemmas.List.take_all, lemmas.Slice.Eq.bytes_eq-Decides, lemmas.Grind.common_steps}
 use Rattle.adf_base.specs.declared.hash.Letters.{Letters, TheVariants.Ascii}
-use Rattle.adf_tree.specs.declared.entry.Entry.{Entry}
-use Rattle.adf_names.specs.declared.kind.Kind.{Kind}
-use Rattle.adf_names.specs.declared.meta.Meta.{Meta}
-use Rattle.adf_names.specs.declared.meta.Stamps.{Stamps}
-use Rattle.adf_tree.specs.declared.entry.Body.{Body, TheVariants.Dir, TheVariants.File}
+use Rattle.adf_tree.specs.{declared.entry.Entry.Entry, declared.entry.Body.Body, declared.entry.Body.TheVariants.Dir, declared.entry.Body.TheVariants.File}
+use Rattle.adf_names.specs.{declared.kind.Kind.Kind, declared.meta.Meta.Meta, declared.meta.Stamps.Stamps}
 use Rattle.adf_tree.specs.declared.tree.RoomFault.{RoomFault, TheVariants.EmptyPath, TheVariants.NoParent, TheVariants.ParentIsFile, TheVariants.Exists}
 use Rattle.adf_tree.specs.Tree.{added_by, child, child_by, directory_from, directory_from_by, free_in, is_dir, is_dir_body, last_of, new_entry_by, parents_of}
 use Rattle.adf_tree.specs.Tree.{room_at, room_at_by, room_for, room_for_by, with_added, with_entry_by, AreApartBy, IsDir, IsTreeBy, MayAddBy, Tree, TreeEntries}
-use Rattle.adf_tree.proofs.TreeInvariant.{added_tree}
-use Rattle.adf_tree.proofs.ChildLookup.{none_is}
+use Rattle.adf_tree.proofs.{TreeInvariant.added_tree, ChildLookup.none_is}
 
 body_is_dir : (b : Body) → is_dir_body b ≡ true → b ≡ Dir
 body_is_dir Dir h = refl

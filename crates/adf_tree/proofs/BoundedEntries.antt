@@ -4,13 +4,9 @@ use Rattle.std.proofs.Common.{◌≡◌, ◌<◌, ◌-◌, ◌+◌, ℕ, true, L
 use Rattle.std.specs.List.{All}
 use Rattle.std.proofs.lemmas.List.Elements.{All-append, All-cons, All-drop, All-head, All-map, All-nil, All-tail, All-take, All-weaker}
 use Rattle.adf_base.specs.declared.hash.Letters.{Letters, TheVariants.Ascii}
-use Rattle.adf_names.specs.Meta.{IsBoundedMeta}
-use Rattle.adf_names.specs.PathTexts.{IsName}
-use Rattle.adf_names.specs.Texts.{is_name}
-use Rattle.adf_tree.specs.Additions.{Addition, entries_of_additions_by, with_addition_by}
-use Rattle.adf_tree.specs.Bounds.{IsBoundedEntry, IsData}
-use Rattle.adf_tree.specs.Tree.{added, added_by, last_of, new_entry_by, place_by, rank_by, moved_entry}
-use Rattle.adf_tree.specs.declared.entry.Entry.{Entry}
+use Rattle.adf_names.specs.{Meta.IsBoundedMeta, PathTexts.IsName, Texts.is_name}
+use Rattle.adf_tree.specs.{Additions.Addition, Additions.entries_of_additions_by, Additions.with_addition_by, Bounds.IsBoundedEntry, Bounds.IsData, Tree.added}
+use Rattle.adf_tree.specs.{Tree.added_by, Tree.last_of, Tree.new_entry_by, Tree.place_by, Tree.rank_by, Tree.moved_entry, declared.entry.Entry.Entry}
 
 -- the fields of an addition are within their bounds
 pub record IsBoundedAddition (x : Addition) : Type 0 where

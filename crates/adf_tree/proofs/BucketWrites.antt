@@ -1,9 +1,7 @@
 -- The buckets of a set of names, written back as a whole.
 use Rattle.std.proofs.Common.{◌≡◌, ◌++◌, ℕ, List, append-nil, arith, drop, length, take}
-use Rattle.std.proofs.lemmas.List.{drop_all, take_all}
-use Rattle.std.proofs.lemmas.Grind.{common_steps}
-use Rattle.adf_tree.specs.NameSet.{Names}
-use Rattle.adf_tree.specs.NameBuckets.{AreStored}
+use Rattle.std.proofs.{lemmas.List.drop_all, lemmas.List.take_all, lemmas.Grind.common_steps}
+use Rattle.adf_tree.specs.{NameSet.Names, NameBuckets.AreStored}
 
 -- what was lent is all that was held, and keeps its length
 pub whole_back : (len : ℕ) (old lent new : List ℕ) → lent ≡ old → length lent ≡ len → length new ≡ length lent

@@ -2,19 +2,12 @@
 -- Letters: l the letters whose case is ignored.
 use Rattle.std.proofs.Common.{◌≡◌, ℕ, ◌+◌, ◌-◌, ◌<◌, ◌≤◌, List, length, get_or, true, Some, arith, sym, ◌==◌, ◌↔◌}
 use Rattle.std.specs.List.{Contains}
-use Rattle.std.proofs.lemmas.Bool.{and_from, eq-eqb}
+use Rattle.std.proofs.{lemmas.Bool.and_from, lemmas.Bool.eq-eqb, lemmas.Grind.common_steps}
 use Rattle.std.proofs.lemmas.List.Elements.{Contains-get_or, filter_passes}
-use Rattle.std.proofs.lemmas.Grind.{common_steps}
-use Rattle.adf_base.specs.declared.hash.Letters.{Letters}
-use Rattle.adf_tree.specs.declared.entry.Entry.{Entry}
-use Rattle.adf_base.specs.Hash.{slot_by}
-use Rattle.adf_tree.specs.Chain.{in_chain_by, chain_by}
-use Rattle.adf_tree.specs.Tree.{child_by, IsTreeBy}
-use Rattle.adf_tree.specs.Laws.{IsChildBy, IsInBy}
-use Rattle.adf_tree.proofs.ChainOrder.{in_chain_rank_by}
+use Rattle.adf_base.specs.{declared.hash.Letters.Letters, Hash.slot_by}
+use Rattle.adf_tree.specs.{declared.entry.Entry.Entry, Chain.in_chain_by, Chain.chain_by, Tree.child_by, Tree.IsTreeBy, Laws.IsChildBy, Laws.IsInBy}
+use Rattle.adf_tree.proofs.{ChainOrder.in_chain_rank_by, PathContents.entry_at, Lists.contains_filter}
 use Rattle.adf_tree.proofs.ChildLookup.{same_slot_by, found_is_by, child_says_by, child_is_by, is_child_from_by}
-use Rattle.adf_tree.proofs.PathContents.{entry_at}
-use Rattle.adf_tree.proofs.Lists.{contains_filter}
 
 pub in_chain_from : (l : Letters) (p s : ℕ) (e : Entry) → e.parent ≡ p → slot_by l e.name ≡ s → in_chain_by l p s e ≡ true
 in_chain_from l p s e a b = and_from (e.parent == p) (slot_by l e.name == s) (eq-eqb e.parent p a) (eq-eqb (slot_by l e.name) s b)

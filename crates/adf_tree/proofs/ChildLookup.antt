@@ -2,21 +2,17 @@
 -- Letters: l the letters whose case is ignored.
 use Rattle.std.proofs.Common.{◌≡◌, ◌≢◌, ℕ, ◌+◌, ◌*◌, ◌%◌, ◌<◌, ◌≤◌, List, [], ◌∷◌, length, get_or, true, false, Bool, Some, None, arith, nat_lt, sym, refl, ◌∙◌}
 use Rattle.std.proofs.Common.{ap, ◌-◌, Option, ◌&&◌, fold, option_map, position}
-use Rattle.std.specs.List.{All, Sorted.IsNonDecreasingBy, Sorted.IsPartitionPoint}
-use Rattle.std.specs.Str.{bytes_eq}
+use Rattle.std.specs.{List.All, List.Sorted.IsNonDecreasingBy, List.Sorted.IsPartitionPoint, Str.bytes_eq}
 use Rattle.std.proofs.lemmas.Bool.{cases_lt, and_parts, eqb-true, ltb-true, and_from, eq-eqb, false_from_ne_true, lt-ltb, le-ltb, Decides.nat_tests}
 use Rattle.std.proofs.lemmas.List.{length-map, Sums.position_or_len_is, Quantifiers.position-Some}
-use Rattle.std.proofs.lemmas.Slice.Eq.{bytes_eq-Decides}
+use Rattle.std.proofs.{lemmas.Slice.Eq.bytes_eq-Decides, lemmas.Grind.common_steps}
 use Rattle.adf_base.specs.declared.hash.Letters.{Letters, TheVariants.Ascii, TheVariants.International}
-use Rattle.adf_tree.specs.declared.entry.Entry.{Entry}
+use Rattle.adf_tree.specs.{declared.entry.Entry.Entry, Tree.MayAddBy}
 use Rattle.adf_base.specs.Hash.{slot_by, upper_by}
 use Rattle.adf_names.specs.Texts.{uppers, uppers_by}
 use Rattle.adf_tree.specs.Tree.{rank_by, rank_of, is_child, is_child_by, child, child_by, place_by, moved_entry, moved, added_by, IsDir, IsTree, IsTreeBy}
-use Rattle.adf_tree.specs.Tree.{MayAddBy}
 use Rattle.adf_tree.proofs.TreeInvariant.{after, moved_same, moved_below, moved_above, moved_up, moved_near, added_tree, place_le_by, dir_before, at_place}
-use Rattle.adf_tree.proofs.TreeInvariant.{by_case, length_added, new_get}
-use Rattle.adf_tree.proofs.ChainOrder.{moved_test}
-use Rattle.std.proofs.lemmas.Grind.{common_steps}
+use Rattle.adf_tree.proofs.{TreeInvariant.by_case, TreeInvariant.length_added, TreeInvariant.new_get, ChainOrder.moved_test}
 use Rattle.adf_names.proofs.Positions.{fails_at_none}
 
 pub upper_twice : (l : Letters) (c : ℕ) → upper_by l (upper_by l c) ≡ upper_by l c

@@ -2,13 +2,10 @@
 -- Letters: l the letters whose case is ignored.
 use Rattle.std.proofs.Common.{◌≡◌, ℕ, ◌+◌, ◌-◌, ◌≤◌, List, [], ◌∷◌, length, get_or, Some, arith, sym, refl, ◌∙◌, ap, zero, suc, ◌++◌, map}
 use Rattle.adf_base.specs.declared.hash.Letters.{Letters}
-use Rattle.adf_tree.specs.declared.entry.Entry.{Entry}
+use Rattle.adf_tree.specs.{declared.entry.Entry.Entry, Paths.path_in_by, Paths.path_of_by, Paths.names_of, Tree.find_by, Tree.IsTreeBy, Tree.entry}
 use Rattle.adf_names.specs.Texts.{uppers_by}
-use Rattle.adf_tree.specs.Paths.{path_in_by, path_of_by, names_of}
-use Rattle.adf_tree.specs.Tree.{find_by, IsTreeBy, entry}
-use Rattle.adf_tree.proofs.ChildLookup.{upper_twice, child_is_by, is_child_from_by}
+use Rattle.adf_tree.proofs.{ChildLookup.upper_twice, ChildLookup.child_is_by, ChildLookup.is_child_from_by, Lists.map_agree, Lists.some_in}
 use Rattle.adf_tree.proofs.PathContents.{entry_at, find_snoc_by, path_past, entry_says, find_uppers_by, names_past, names_fuel, raised_names}
-use Rattle.adf_tree.proofs.Lists.{map_agree, some_in}
 use mathlib.Core.List.{map-map}
 
 pub uppers_twice : (l : Letters) (name : List ℕ) → uppers_by l (uppers_by l name) ≡ uppers_by l name

@@ -1,21 +1,13 @@
 -- The set of names in the last chain of a tree.
 -- Letters: l the letters whose case is ignored.
 use Rattle.std.proofs.Common.{◌≡◌, ℕ, List, [], ◌∷◌, length, get_or, true, false, Option, Some, None, Result, Ok, Err, arith, nat_lt, sym, refl, ◌∙◌}
-use Rattle.std.specs.List.{list_any, Sorted.IsPartitionPoint}
-use Rattle.std.specs.Option.{is_some}
-use Rattle.std.specs.Result.{is_err, OnOk}
+use Rattle.std.specs.{List.list_any, List.Sorted.IsPartitionPoint, Option.is_some, Result.is_err, Result.OnOk}
 use Rattle.std.proofs.lemmas.Bool.{and_parts, eqb-true, le-ltb, ltb-true}
-use Rattle.std.proofs.lemmas.List.Sums.{position_or_len_is}
-use Rattle.std.proofs.lemmas.List.Folds.{list_any_at, list_any_none}
-use Rattle.std.proofs.lemmas.Grind.{common_steps}
-use Rattle.adf_base.specs.Hash.{slot_by}
-use Rattle.adf_base.specs.declared.hash.Letters.{Letters}
-use Rattle.adf_tree.specs.declared.entry.Entry.{Entry}
-use Rattle.adf_tree.specs.declared.last_chain.LastChain.{LastChain}
+use Rattle.std.proofs.{lemmas.List.Sums.position_or_len_is, lemmas.List.Folds.list_any_at, lemmas.List.Folds.list_any_none, lemmas.Grind.common_steps}
+use Rattle.adf_base.specs.{Hash.slot_by, declared.hash.Letters.Letters}
+use Rattle.adf_tree.specs.{declared.entry.Entry.Entry, declared.last_chain.LastChain.LastChain, NameSet.has, LastChain.knows, LastChain.IsOfBy}
 use Rattle.adf_names.specs.Texts.{uppers_by}
 use Rattle.adf_tree.specs.Tree.{place_by, rank_by, rank_of, is_child_by, child_by}
-use Rattle.adf_tree.specs.NameSet.{has}
-use Rattle.adf_tree.specs.LastChain.{knows, IsOfBy}
 use Rattle.adf_tree.proofs.ChildLookup.{child_not_before_by, found_is_by, none_is}
 
 -- what is said of an Ok

@@ -1,8 +1,7 @@
 -- Lists after filter and map.
 use Rattle.std.proofs.Common.{◌≡◌, List, [], ◌∷◌, map, true, false, Bool, arith, ◌&&◌, inl, inr, sym, refl, ◌∙◌, ap, Some, length, ◌<◌, ◌++◌, slice_get}
 use Rattle.std.specs.List.{All, Contains, filter}
-use Rattle.std.proofs.Math.Bool.{and_comm}
-use Rattle.std.proofs.lemmas.Bool.{cases_Bool}
+use Rattle.std.proofs.{Math.Bool.and_comm, lemmas.Bool.cases_Bool}
 use Rattle.std.proofs.lemmas.List.Elements.{All-head, All-tail, Contains-append_cases, Contains-append_right, Contains-push_cases, filter_agree, All-pop}
 
 -- an element

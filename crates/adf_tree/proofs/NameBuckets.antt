@@ -1,20 +1,14 @@
 -- The buckets of names.
 use Rattle.std.proofs.Common.{◌≡◌, ◌==◌, ◌&&◌, ◌||◌, ◌⊎◌, inl, inr, ℕ, ◌+◌, ◌-◌, ◌<◌, ◌≤◌, List, [], ◌∷◌, ◌++◌, length, get_or, set, take, Bool, true, false}
 use Rattle.std.proofs.Common.{Option, Some, None, arith, sym, refl, zero, suc, ◌∙◌, ap, get_or-set_same, get_or-set_other, ◌^◌}
-use Rattle.std.specs.Ordering.{is_eq}
-use Rattle.std.specs.List.{slice_get}
-use Rattle.std.proofs.Math.Seq.{take-suc}
+use Rattle.std.specs.{Ordering.is_eq, List.slice_get}
+use Rattle.std.proofs.{Math.Seq.take-suc, lemmas.Option.get_or_from_slice_get, lemmas.Option.slice_get_within, lemmas.Grind.common_steps}
 use Rattle.std.proofs.lemmas.Bool.{cases_Bool, false_from_ne_true, lt-ltb, ltb-true}
 use Rattle.std.proofs.lemmas.List.{length-set, Folds.list_any-append, Folds.list_any_at}
-use Rattle.std.proofs.lemmas.Option.{get_or_from_slice_get, slice_get_within}
-use Rattle.std.proofs.lemmas.Grind.{common_steps}
-use Rattle.adf_tree.specs.declared.name_key.NameKey.{NameKey}
+use Rattle.adf_tree.specs.{declared.name_key.NameKey.NameKey, NameKeys.by_words, NameSet.is_among, NameSet.IsUnion, NameSet.IsWith, NameSet.Names}
 use Rattle.adf_tree.specs.declared.name_set.Probe.{Probe, TheVariants.Stored, TheVariants.Vacant, TheVariants.Full}
-use Rattle.adf_tree.specs.NameKeys.{by_words}
-use Rattle.adf_tree.specs.NameSet.{is_among, IsUnion, IsWith, Names}
 use Rattle.adf_tree.specs.NameBuckets.{holder_of, first_bucket_in, probe_at, probe_from, probe_of, probe_buckets, while_few, AreStored}
-use Rattle.adf_tree.proofs.NameKeys.{one_key, same_either, same_itself, same_words}
-use Rattle.adf_tree.proofs.Lists.{get_last}
+use Rattle.adf_tree.proofs.{NameKeys.one_key, NameKeys.same_either, NameKeys.same_itself, NameKeys.same_words, Lists.get_last}
 
 -- names and their places
 at_more : (xs ys : Names) (i : ℕ) (k : NameKey) → slice_get xs i ≡ Some k → slice_get (xs ++ ys) i ≡ Some k

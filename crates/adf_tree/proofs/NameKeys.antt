@@ -1,25 +1,16 @@
 -- The keys of names.
 use Rattle.std.proofs.Common.{◌≡◌, ◌==◌, ◌||◌, inl, inr, ℕ, ◌+◌, ◌-◌, ◌<◌, ◌≤◌, List, [], ◌∷◌, ◌++◌, length, take, drop, get_or, set, true, false, arith}
 use Rattle.std.proofs.Common.{nat_lt, nat_le, ◌&&◌, sym, refl, suc, ◌∙◌, ap, length-append, replicate}
-use Rattle.std.specs.Int.{to_be_bytes, w64}
-use Rattle.std.specs.List.{All, list_all}
+use Rattle.std.specs.{Int.to_be_bytes, Int.w64, List.All, List.list_all, declared.cmp.Ordering.Ordering, Str.bytes_eq, Cmp.both_ways}
 use Rattle.std.specs.Ordering.{is_eq, nat_cmp, ordering_then}
-use Rattle.std.specs.declared.cmp.Ordering.{Ordering}
-use Rattle.std.specs.Str.{bytes_eq}
-use Rattle.std.specs.Cmp.{both_ways}
 use Rattle.std.proofs.lemmas.Bool.{cases_Bool, cases_lt, and_parts, eq-eqb, eqb-true, false_from_ne_true, le-leb, leb-true, ltb-true, Decides.nat_tests}
-use Rattle.std.proofs.lemmas.List.Elements.{All-drop, All-take}
-use Rattle.std.proofs.Math.ListN.{get_or-eq_default}
-use Rattle.std.proofs.lemmas.Nat.{be_bytes_8}
-use Rattle.std.proofs.lemmas.Slice.Eq.{bytes_eq-Decides}
+use Rattle.std.proofs.{lemmas.List.Elements.All-drop, lemmas.List.Elements.All-take, Math.ListN.get_or-eq_default, lemmas.Nat.be_bytes_8}
+use Rattle.std.proofs.{lemmas.Slice.Eq.bytes_eq-Decides, Math.Seq.take-append_seam, Math.Seq.take-suc, lemmas.Grind.common_steps}
 use Rattle.std.proofs.lemmas.List.{map-append, length-map, length-take-le, take_all, take-append-drop, drop-drop, length-replicate, length-drop}
-use Rattle.std.proofs.Math.Seq.{take-append_seam, take-suc}
-use Rattle.std.proofs.lemmas.Grind.{common_steps}
 use Rattle.adf_base.specs.Hash.{upper_of}
 use Rattle.adf_names.specs.Texts.{uppers}
-use Rattle.adf_tree.specs.declared.name_key.NameKey.{NameKey}
+use Rattle.adf_tree.specs.{declared.name_key.NameKey.NameKey, NameSet.has, NameSet.is_among, NameSet.IsWith, NameSet.Names}
 use Rattle.adf_tree.specs.NameKeys.{by_words, is_short, key_of_name, padded, name_word}
-use Rattle.adf_tree.specs.NameSet.{has, is_among, IsWith, Names}
 
 upper_small : (c : ℕ) → c < 256 → nat_lt (upper_of c) 256 ≡ true
 upper_small c h = grind (arith, nat_tests)

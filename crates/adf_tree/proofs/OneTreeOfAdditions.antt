@@ -1,25 +1,15 @@
 -- Additions have at most one tree.
 -- Letters: l the letters whose case is ignored.
 use Rattle.std.proofs.Common.{◌≡◌, ℕ, ◌-◌, ◌≤◌, inl, inr, List, [], ◌∷◌, ◌++◌, length, get_or, map, true, false, Bool, cond, arith, sym, refl, ◌∙◌, ap, zero}
-use Rattle.std.proofs.Common.{suc}
+use Rattle.std.proofs.{Common.suc, lemmas.Bool.cases_Bool, lemmas.List.Sorted.IsNonDecreasingBy-drop, lemmas.Grind.common_steps}
 use Rattle.std.specs.List.{filter, All, Sorted.IsNonDecreasingBy}
-use Rattle.std.proofs.lemmas.Bool.{cases_Bool}
 use Rattle.std.proofs.lemmas.List.{append_assoc, append_cancel_left, map-append, get_or_append_left, get_or_at, length-append, drop_at}
 use Rattle.std.proofs.lemmas.List.Elements.{filter-append, filter_passes, All-filter}
-use Rattle.adf_base.specs.declared.hash.Letters.{Letters}
-use Rattle.adf_tree.specs.declared.entry.Entry.{Entry}
-use Rattle.adf_base.specs.Hash.{slot_by}
-use Rattle.adf_tree.specs.Chain.{chain_by, in_chain_by}
-use Rattle.adf_tree.specs.Paths.{entry_content, path_in_by, path_of_by, Content}
-use Rattle.adf_tree.specs.Tree.{rank_by, rank_of, IsTreeBy}
-use Rattle.adf_tree.specs.Additions.{Addition, IsTreeOfBy}
-use Rattle.adf_tree.proofs.TreeInvariant.{slot_small_by}
-use Rattle.adf_tree.proofs.ChainOrder.{chain_rank}
-use Rattle.adf_tree.proofs.ChainMembers.{in_chain_from}
-use Rattle.adf_tree.proofs.EntryPaths.{path_found}
+use Rattle.adf_base.specs.{declared.hash.Letters.Letters, Hash.slot_by}
+use Rattle.adf_tree.specs.{declared.entry.Entry.Entry, Chain.chain_by, Chain.in_chain_by, Paths.entry_content, Paths.path_in_by, Paths.path_of_by}
+use Rattle.adf_tree.specs.{Paths.Content, Tree.rank_by, Tree.rank_of, Tree.IsTreeBy, Additions.Addition, Additions.IsTreeOfBy}
+use Rattle.adf_tree.proofs.{TreeInvariant.slot_small_by, ChainOrder.chain_rank, ChainMembers.in_chain_from, EntryPaths.path_found}
 use Rattle.adf_tree.proofs.PathContents.{entry_at, path_past}
-use Rattle.std.proofs.lemmas.List.Sorted.{IsNonDecreasingBy-drop}
-use Rattle.std.proofs.lemmas.Grind.{common_steps}
 
 -- a path depends on the entries up to its own
 pub path_in_front : (l : Letters) (front rest : List Entry) (d : Entry) (f n : ℕ) → IsTreeBy l (front ++ rest) → n ≤ length front

@@ -2,25 +2,19 @@
 -- Letters: l the letters whose case is ignored.
 use Rattle.std.proofs.Common.{◌≡◌, ◌≢◌, ℕ, ◌+◌, ◌-◌, ◌<◌, ◌≤◌, inl, inr, List, [], ◌∷◌, ◌++◌, length, get_or, map, Option, Some, None, arith, sym, refl, ◌∙◌}
 use Rattle.std.proofs.Common.{ap, if◌then◌else◌, zero, suc, ◌==◌, ◌&&◌, Result, Ok, Err, option_map, position, OnOk, is_ok}
-use Rattle.std.specs.Option.{option_and_then}
-use Rattle.std.specs.Str.{bytes_eq}
-use Rattle.std.proofs.lemmas.Bool.{cases_eq, ne_eqb, cases_lt}
+use Rattle.std.specs.{Option.option_and_then, Str.bytes_eq}
+use Rattle.std.proofs.{lemmas.Bool.cases_eq, lemmas.Bool.ne_eqb, lemmas.Bool.cases_lt, lemmas.Grind.common_steps}
 use Rattle.std.proofs.lemmas.List.{append-nil, append_assoc, map-append}
 use Rattle.adf_base.specs.declared.hash.Letters.{Letters, TheVariants.Ascii}
-use Rattle.adf_tree.specs.declared.entry.Entry.{Entry}
-use Rattle.adf_names.specs.Texts.{uppers, uppers_by}
+use Rattle.adf_tree.specs.{declared.entry.Entry.Entry, Tree.new_entry_by, Tree.room_at_by, Tree.IsTreeBy, Tree.MayAddBy, declared.entry.Body.Body}
+use Rattle.adf_names.specs.{Texts.uppers, Texts.uppers_by, declared.meta.Meta.Meta}
 use Rattle.adf_tree.specs.Paths.{entry_content, content_at_by, path_in_by, path_of_by, AddsOneBy, names_in}
 use Rattle.adf_tree.specs.Tree.{place_by, rank_by, moved, added_by, entry, child, child_by, directory_from, directory_from_by, find_by, find_from, find_from_by}
-use Rattle.adf_tree.specs.Tree.{new_entry_by, room_at_by, IsTreeBy, MayAddBy}
 use Rattle.adf_tree.proofs.TreeInvariant.{moved_below, moved_above, moved_up, moved_near, length_added, at_place, place_le_by, new_get}
 use Rattle.adf_tree.proofs.ChildLookup.{child_new, found_is_by, child_says_by, parent_stays}
-use Rattle.adf_tree.proofs.PathLookup.{then_find, then_find_by, leads}
+use Rattle.adf_tree.proofs.{PathLookup.then_find, PathLookup.then_find_by, PathLookup.leads, ChainOrder.chain_added}
 use Rattle.adf_tree.proofs.AddRoom.{room_may_add_by, room_says_by, next_dir_by, IsNewBy}
-use Rattle.adf_tree.proofs.ChainOrder.{chain_added}
 use Rattle.std.proofs.lemmas.Option.{slice_get_within, get_or_from_slice_get, slice_get-get_or, slice_get_past}
-use Rattle.std.proofs.lemmas.Grind.{common_steps}
-use Rattle.adf_names.specs.declared.meta.Meta.{Meta}
-use Rattle.adf_tree.specs.declared.entry.Body.{Body}
 
 -- entries by number
 

@@ -5,12 +5,11 @@ use Rattle.std.specs.List.{AllPairs, insert, drop-map, Sorted.IsNonDecreasingBy}
 use Rattle.std.proofs.lemmas.Bool.{cases_lt, cases_order, ltb-true, ltb-false, Decides.nat_tests}
 use Rattle.std.proofs.lemmas.List.{get_or-map, length-map, get_or-take, length-take-le, take-map, Sorted.IsNonDecreasingBy-insert, Folds.map_fixed}
 use Rattle.std.proofs.lemmas.List.Edits.{length-insert, get_or-insert_below, get_or-insert_at, get_or-insert_above}
-use Rattle.std.proofs.lemmas.List.Sums.{fails_before_first, passes_at_first, prefix_len-le-length}
+use Rattle.std.proofs.{lemmas.List.Sums.fails_before_first, lemmas.List.Sums.passes_at_first, lemmas.List.Sums.prefix_len-le-length, lemmas.Grind.common_steps}
 use Rattle.adf_base.specs.declared.hash.Letters.{Letters, TheVariants.Ascii, TheVariants.International}
 use Rattle.adf_tree.specs.declared.entry.Entry.{Entry}
 use Rattle.adf_base.specs.Hash.{slot_by}
 use Rattle.adf_tree.specs.Tree.{place_by, rank_by, moved_entry, moved, added_by, IsTreeBy, IsDir, AreApartBy, MayAddBy}
-use Rattle.std.proofs.lemmas.Grind.{common_steps}
 
 -- numbers
 

@@ -1,13 +1,11 @@
 -- Where an entry is inserted in walk order, and the result of inserting and renumbering.
 -- Letters: l the letters whose case is ignored.
 use Rattle.std.proofs.Common.{◌≡◌, ℕ, ◌≤◌, List, [], ◌∷◌, length, true, false, arith, nat_lt, nat_le, ◌+◌, ◌++◌, take, drop, map}
-use Rattle.std.proofs.lemmas.Bool.{le-ltb, lt-ltb, leb-true, leb-false}
+use Rattle.std.proofs.{lemmas.Bool.le-ltb, lemmas.Bool.lt-ltb, lemmas.Bool.leb-true, lemmas.Bool.leb-false, lemmas.Grind.common_steps}
 use Rattle.adf_base.specs.declared.hash.Letters.{Letters}
-use Rattle.adf_tree.specs.declared.entry.Entry.{Entry}
-use Rattle.adf_tree.specs.Tree.{place_by, rank_by}
+use Rattle.adf_tree.specs.{declared.entry.Entry.Entry, Tree.place_by, Tree.rank_by}
 use Rattle.std.specs.List.{insert, Sorted.IsPartitionPoint}
 use Rattle.std.proofs.lemmas.List.{append_assoc, take_at, drop_at, length-take-le, drop_all, append-nil, take_all, length-append, Sums.position_or_len_is}
-use Rattle.std.proofs.lemmas.Grind.{common_steps}
 
 pub place_is_by : (l : Letters) (es : List Entry) (r i : ℕ) → i ≤ length es
     → IsPartitionPoint (λ e. nat_le (rank_by l e) r ≡ true) (λ e. nat_le (rank_by l e) r ≡ false) es i

@@ -1,17 +1,10 @@
 -- The tree of a list of additions.
 use Rattle.std.specs.Prelude.{◌≡◌, ◌≢◌, ℕ, ◌==◌, ◌&&◌, ◌<◌, Bool, List, [], Some, None, length, map, take, fold, slice_index_or, IsOk}
-use Rattle.std.specs.List.{All, filter}
-use Rattle.std.specs.Cmp.Lexicographic.{pointwise}
-use Rattle.std.specs.Str.{bytes_eq}
-use Rattle.adf_base.specs.Hash.{slot_by}
-use Rattle.adf_base.specs.declared.hash.Letters.{Letters, TheVariants.Ascii}
-use Rattle.adf_names.specs.Texts.{uppers_by}
-use Rattle.adf_tree.specs.declared.entry.Entry.{Entry}
-use Rattle.adf_names.specs.declared.meta.Meta.{Meta}
-use Rattle.adf_tree.specs.declared.entry.Body.{Body}
+use Rattle.std.specs.{List.All, List.filter, Cmp.Lexicographic.pointwise, Str.bytes_eq}
+use Rattle.adf_base.specs.{Hash.slot_by, declared.hash.Letters.Letters, declared.hash.Letters.TheVariants.Ascii}
+use Rattle.adf_names.specs.{Texts.uppers_by, declared.meta.Meta.Meta}
+use Rattle.adf_tree.specs.{declared.entry.Entry.Entry, declared.entry.Body.Body, Chain.chain_by, Paths.entry_content, Paths.content_at_by, Paths.Content}
 use Rattle.adf_tree.specs.Tree.{added_by, find_by, last_of, new_entry_by, parents_of, room_for_by, IsTreeBy}
-use Rattle.adf_tree.specs.Chain.{chain_by}
-use Rattle.adf_tree.specs.Paths.{entry_content, content_at_by, Content}
 
 -- a path to add, and its content
 pub record Addition : Type 0 where

@@ -2,10 +2,8 @@
 use Rattle.std.specs.Prelude.{◌≡◌, ◌<◌, ◌≤◌, ◌^◌, length, true}
 use Rattle.std.specs.List.{All}
 use Rattle.adf_tree.specs.declared.entry.Body.{Body, TheVariants.Dir, TheVariants.File}
-use Rattle.adf_tree.specs.declared.entry.Entry.{Entry}
-use Rattle.adf_names.specs.Meta.{AreStamps, IsBoundedMeta}
-use Rattle.adf_names.specs.Texts.{is_name}
-use Rattle.adf_tree.specs.Tree.{Tree}
+use Rattle.adf_tree.specs.{declared.entry.Entry.Entry, Tree.Tree}
+use Rattle.adf_names.specs.{Meta.AreStamps, Meta.IsBoundedMeta, Texts.is_name}
 
 -- a file has fewer than 2^63 bytes
 abbrev pub IsData : Body → Type 0

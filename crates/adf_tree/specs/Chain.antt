@@ -1,8 +1,7 @@
 -- The chains of a tree.
 use Rattle.std.specs.Prelude.{ℕ, ◌==◌, ◌&&◌, Bool, List}
 use Rattle.std.specs.List.{filter}
-use Rattle.adf_base.specs.Hash.{slot_by}
-use Rattle.adf_base.specs.declared.hash.Letters.{Letters, TheVariants.Ascii}
+use Rattle.adf_base.specs.{Hash.slot_by, declared.hash.Letters.Letters, declared.hash.Letters.TheVariants.Ascii}
 use Rattle.adf_tree.specs.declared.entry.Entry.{Entry}
 
 -- whether an entry has this parent and slot

@@ -1,8 +1,7 @@
 -- The numbers and texts of faults.
 use Rattle.std.specs.Prelude.{ℕ, List, codes}
-use Rattle.adf_tree.specs.declared.tree.AddFault.{AddFault}
+use Rattle.adf_tree.specs.{declared.tree.AddFault.AddFault, declared.tree.RoomFault.RoomFault}
 use Rattle.adf_tree.specs.declared.tree.AddFault.TheVariants as add
-use Rattle.adf_tree.specs.declared.tree.RoomFault.{RoomFault}
 use Rattle.adf_tree.specs.declared.tree.RoomFault.TheVariants as room
 
 -- the fault of `add` for a path that has no room

@@ -1,13 +1,9 @@
 -- The set of names in the last chain of a tree.
 use Rattle.std.specs.Prelude.{◌≡◌, ℕ, ◌==◌, ◌&&◌, Bool, List, true}
 use Rattle.std.specs.List.{list_any}
-use Rattle.adf_base.specs.Hash.{slot_by}
-use Rattle.adf_base.specs.declared.hash.Letters.{Letters}
+use Rattle.adf_base.specs.{Hash.slot_by, declared.hash.Letters.Letters}
 use Rattle.adf_names.specs.Texts.{uppers_by}
-use Rattle.adf_tree.specs.NameSet.{has, HasMore}
-use Rattle.adf_tree.specs.Tree.{is_child_by}
-use Rattle.adf_tree.specs.declared.entry.Entry.{Entry}
-use Rattle.adf_tree.specs.declared.last_chain.LastChain.{LastChain}
+use Rattle.adf_tree.specs.{NameSet.has, NameSet.HasMore, Tree.is_child_by, declared.entry.Entry.Entry, declared.last_chain.LastChain.LastChain}
 
 -- whether the names of this parent and slot are known
 abbrev pub knows : LastChain → ℕ → ℕ → Bool

@@ -1,12 +1,9 @@
 -- Laws of trees, each the contract of a function in `laws.rt`: by all letters.
 use Rattle.std.specs.Prelude.{◌≡◌, ℕ, ◌+◌, ◌-◌, ◌<◌, ◌≤◌, ◌↔◌, List, length, map, take, Some, slice_index_or, Contains, [], ◌∷◌, ◌++◌, IsOk}
-use Rattle.adf_base.specs.Hash.{slot_by}
-use Rattle.adf_base.specs.declared.hash.Letters.{Letters, TheVariants.Ascii}
+use Rattle.adf_base.specs.{Hash.slot_by, declared.hash.Letters.Letters, declared.hash.Letters.TheVariants.Ascii}
 use Rattle.adf_names.specs.Texts.{uppers_by}
-use Rattle.adf_tree.specs.declared.entry.Entry.{Entry}
+use Rattle.adf_tree.specs.{declared.entry.Entry.Entry, Chain.chain_by, Paths.names_of, Paths.path_of_by}
 use Rattle.adf_tree.specs.Tree.{added_by, child_by, entry, find_by, room_for_by, IsLastBy, IsTreeBy, MayAddBy}
-use Rattle.adf_tree.specs.Chain.{chain_by}
-use Rattle.adf_tree.specs.Paths.{names_of, path_of_by}
 use Rattle.adf_tree.specs.Additions.{entries_of_additions_by, with_addition_by, Addition, AllHaveRoomBy, IsTreeOfBy}
 
 -- an entry is in the chain of its parent and its name's slot, and in no other

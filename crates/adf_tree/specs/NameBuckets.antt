@@ -1,11 +1,8 @@
 -- The buckets of a set of names: a hash table with windows of eight.
 use Rattle.std.specs.Prelude.{◌≡◌, ℕ, ◌+◌, ◌-◌, ◌*◌, ◌/◌, ◌^◌, ◌++◌, zero, suc, false, List, length, Option, Some, None, if◌then◌else◌, slice_index, nat_lt}
-use Rattle.std.specs.List.{slice_get}
-use Rattle.std.specs.Ordering.{is_eq}
-use Rattle.adf_tree.specs.declared.name_key.NameKey.{NameKey}
+use Rattle.std.specs.{List.slice_get, Ordering.is_eq}
+use Rattle.adf_tree.specs.{declared.name_key.NameKey.NameKey, NameKeys.by_words, NameKeys.spread_of, NameSet.Names, NameSet.is_among}
 use Rattle.adf_tree.specs.declared.name_set.Probe.{Probe, TheVariants.Stored, TheVariants.Vacant, TheVariants.Full}
-use Rattle.adf_tree.specs.NameKeys.{by_words, spread_of}
-use Rattle.adf_tree.specs.NameSet.{Names, is_among}
 
 -- the first bucket of a name in a table of this size
 unfoldable pub first_bucket_in : ℕ → NameKey → ℕ

@@ -1,9 +1,6 @@
 -- Names as four numbers.
 use Rattle.std.specs.Prelude.{ℕ, ◌+◌, ◌*◌, ◌/◌, ◌%◌, ◌^◌, ◌-◌, ◌&&◌, nat_lt, nat_le, Bool, List, ◌∷◌, ◌++◌, length, take, drop, replicate}
-use Rattle.std.specs.List.{list_all}
-use Rattle.std.specs.Int.{from_be_bytes, w64, Bits.bit_xor}
-use Rattle.std.specs.Ordering.{nat_cmp, ordering_then}
-use Rattle.std.specs.declared.cmp.Ordering.{Ordering}
+use Rattle.std.specs.{List.list_all, Int.from_be_bytes, Int.w64, Int.Bits.bit_xor, Ordering.nat_cmp, Ordering.ordering_then, declared.cmp.Ordering.Ordering}
 use Rattle.adf_tree.specs.declared.name_key.NameKey.{NameKey}
 
 -- whether these are bytes, at most 30

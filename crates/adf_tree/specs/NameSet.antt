@@ -1,10 +1,7 @@
 -- Sets of names, ignoring case.
 use Rattle.std.specs.Prelude.{◌≡◌, ℕ, Bool, List, ◌||◌, ◌&&◌}
-use Rattle.std.specs.List.{list_any}
-use Rattle.std.specs.Ordering.{is_eq}
-use Rattle.std.specs.Str.{bytes_eq}
-use Rattle.adf_tree.specs.declared.name_key.NameKey.{NameKey}
-use Rattle.adf_tree.specs.NameKeys.{by_words, is_short, key_of_name}
+use Rattle.std.specs.{List.list_any, Ordering.is_eq, Str.bytes_eq}
+use Rattle.adf_tree.specs.{declared.name_key.NameKey.NameKey, NameKeys.by_words, NameKeys.is_short, NameKeys.key_of_name}
 
 -- names as keys
 abbrev pub Names : Type 0

@@ -1,19 +1,11 @@
 -- Trees. What depends on letters takes them first: those whose case is ignored in names.
 use Rattle.std.specs.Prelude.{◌≡◌, ℕ, ◌+◌, ◌-◌, ◌*◌, ◌<◌, ◌≤◌, ◌≢◌, ◌==◌, ◌&&◌, nat_lt, nat_le, Bool, List, [], ◌∷◌, ◌++◌, if◌then◌else◌, length, map, take}
 use Rattle.std.specs.Prelude.{drop, Option, Some, None, slice_index_or, position, option_map, ◌||◌, true, false, Result, Ok, Err, IsOk, MatchResult}
-use Rattle.std.specs.List.{position_or_len, All, AllPairs, slice_get, Sorted.IsNonDecreasingBy}
-use Rattle.std.specs.Str.{bytes_eq}
-use Rattle.adf_base.specs.Hash.{slot_by}
-use Rattle.adf_base.specs.declared.hash.Letters.{Letters, TheVariants.Ascii}
-use Rattle.adf_names.specs.Texts.{uppers_by}
-use Rattle.adf_tree.specs.declared.entry.Entry.{Entry}
-use Rattle.std.specs.Option.{unwrap_or}
-use Rattle.adf_tree.specs.Faults.{add_fault}
-use Rattle.adf_tree.specs.declared.tree.AddFault.{AddFault, TheVariants.NoMemory}
+use Rattle.std.specs.{List.position_or_len, List.All, List.AllPairs, List.slice_get, List.Sorted.IsNonDecreasingBy, Str.bytes_eq, Option.unwrap_or}
+use Rattle.adf_base.specs.{Hash.slot_by, declared.hash.Letters.Letters, declared.hash.Letters.TheVariants.Ascii}
+use Rattle.adf_names.specs.{Texts.uppers_by, declared.kind.Kind.Kind, declared.meta.Stamps.Stamps, declared.meta.Meta.Meta}
+use Rattle.adf_tree.specs.{declared.entry.Entry.Entry, Faults.add_fault, declared.tree.AddFault.AddFault, declared.tree.AddFault.TheVariants.NoMemory}
 use Rattle.adf_tree.specs.declared.tree.RoomFault.{RoomFault, TheVariants.EmptyPath, TheVariants.NoParent, TheVariants.ParentIsFile, TheVariants.Exists}
-use Rattle.adf_names.specs.declared.kind.Kind.{Kind}
-use Rattle.adf_names.specs.declared.meta.Stamps.{Stamps}
-use Rattle.adf_names.specs.declared.meta.Meta.{Meta}
 use Rattle.adf_tree.specs.declared.entry.Body.{Body, TheVariants.Dir, TheVariants.File}
 
 -- a tree: its kind, the letters whose case is ignored in its names, its label and dates, and its entries, numbered from 1

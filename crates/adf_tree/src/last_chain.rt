@@ -4,8 +4,7 @@ ghost use Rattle.std.specs.Prelude.{◌≡◌, ◌<◌, ◌≤◌, ℕ, List, le
 ghost use Rattle.std.specs.List.Sorted.{IsNonDecreasingBy};
 ghost use Rattle.adf_names.specs.Texts.{uppers_by};
 ghost use Rattle.adf_tree.specs.Tree.{added_by, place_by, rank_by, rank_of, IsTreeBy};
-ghost use Rattle.adf_tree.specs.NameSet.{has};
-ghost use Rattle.adf_tree.specs.LastChain.{knows, IsOfBy, Puts};
+ghost use Rattle.adf_tree.specs.{NameSet.has, LastChain.knows, LastChain.IsOfBy, LastChain.Puts};
 
 use crate::entry::{Entry, Node};
 use crate::name_set::NameSet;

@@ -1,11 +1,9 @@
 // Look-up of names and paths.
 
 ghost use Rattle.std.specs.Prelude.{◌≡◌};
-ghost use Rattle.std.specs.Option.{is_some, option_copied};
-ghost use Rattle.std.specs.List.Sorted.{IsNonDecreasingBy};
-ghost use Rattle.adf_tree.specs.LastChain.{IsOfBy};
+ghost use Rattle.std.specs.{Option.is_some, Option.option_copied, List.Sorted.IsNonDecreasingBy};
+ghost use Rattle.adf_tree.specs.{LastChain.IsOfBy, Tree.room_at_by};
 ghost use Rattle.adf_tree.specs.Tree.{child_by, directory_from_by, entry, find_by, is_child_by, is_dir, is_dir_body, rank_by};
-ghost use Rattle.adf_tree.specs.Tree.{room_at_by};
 
 use crate::entry::{Body, Entry, Node};
 use crate::last_chain::LastChain;

@@ -3,9 +3,8 @@
 ghost use Rattle.std.specs.Prelude.{◌≡◌, ◌<◌, ◌≤◌, ◌^◌, ◌++◌, [], ◌∷◌, ℕ, List, length, false, not, IfOk, OnErr, OnOk};
 ghost use Rattle.adf_names.specs.Texts.{uppers, uppers_by};
 ghost use Rattle.adf_tree.specs.NameSet.{has, is_among, HasMore, IsUnion, IsWith, Names};
-ghost use Rattle.adf_tree.specs.declared.name_key.NameKey.{NameKey};
+ghost use Rattle.adf_tree.specs.{declared.name_key.NameKey.NameKey, declared.name_set.Probe.TheVariants.Vacant};
 ghost use Rattle.adf_tree.specs.NameBuckets.{holder_of, first_bucket_in, probe_of, probe_buckets, AreStored};
-ghost use Rattle.adf_tree.specs.declared.name_set.Probe.TheVariants.{Vacant};
 
 use crate::name_key::NameKey;
 use adf_base::{Letters, NoMemory};
@@ -34,8 +33,7 @@ pub struct NameSet {
 
 impl Model for NameSet {
     ghost use Rattle.std.specs.Prelude.{◌++◌};
-    ghost use Rattle.adf_tree.specs.NameSet.{Names};
-    ghost use Rattle.adf_tree.specs.NameBuckets.{AreStored};
+    ghost use Rattle.adf_tree.specs.{NameSet.Names, NameBuckets.AreStored};
 
     ghost Value = { Names };
 

@@ -5,9 +5,7 @@ ghost use Rattle.std.specs.Option.{option_copied};
 ghost use Rattle.adf_base.specs.declared.hash.Letters.TheVariants.{Ascii};
 ghost use Rattle.adf_tree.specs.Tree.{entry, find_by, new_entry_by, room_for_by, with_entry_by, with_kind, with_last, IsAnswer};
 ghost use Rattle.adf_tree.specs.Tree.{IsLastBy, IsTree, IsTreeBy, MayAddBy};
-ghost use Rattle.adf_tree.specs.Faults.{add_fault_number};
-ghost use Rattle.adf_tree.specs.Bounds.{IsBounded};
-ghost use Rattle.adf_tree.specs.Paths.{AddsOneBy};
+ghost use Rattle.adf_tree.specs.{Faults.add_fault_number, Bounds.IsBounded, Paths.AddsOneBy};
 
 use crate::entry::{Body, Entry, Node};
 use crate::tree_entries::TreeEntries;

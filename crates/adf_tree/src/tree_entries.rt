@@ -1,12 +1,9 @@
 // The entries of a tree, by the letters whose case is ignored in their names.
 
 ghost use Rattle.std.specs.Prelude.{◌≡◌, [], length, is_ok, if◌then◌else◌, IfOk, OnOk};
-ghost use Rattle.std.specs.Option.{option_copied};
-ghost use Rattle.std.specs.List.{All};
+ghost use Rattle.std.specs.{Option.option_copied, List.All};
 ghost use Rattle.adf_tree.specs.Tree.{entry, find_by, new_entry_by, room_for_by, with_added, with_last_entry, IsAnswer, IsLastBy};
-ghost use Rattle.adf_tree.specs.Tree.{IsTreeBy, MayAddBy};
-ghost use Rattle.adf_tree.specs.Bounds.{IsBoundedEntry};
-ghost use Rattle.adf_tree.specs.Paths.{AddsOneBy};
+ghost use Rattle.adf_tree.specs.{Tree.IsTreeBy, Tree.MayAddBy, Bounds.IsBoundedEntry, Paths.AddsOneBy};
 
 use crate::bounds::entry_bounds;
 use crate::entry::{Body, Entry, Node};
@@ -28,8 +25,7 @@ pub struct TreeEntries {
 
 impl Model for TreeEntries {
     ghost use Rattle.adf_tree.specs.Tree as specs;
-    ghost use Rattle.adf_tree.specs.Tree.{IsTreeBy};
-    ghost use Rattle.adf_tree.specs.LastChain.{IsOfBy};
+    ghost use Rattle.adf_tree.specs.{Tree.IsTreeBy, LastChain.IsOfBy};
 
     ghost Value = { specs.TreeEntries };
 

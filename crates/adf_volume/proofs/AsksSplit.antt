@@ -3,12 +3,11 @@ use Rattle.std.proofs.Common.{◌≡◌, ◌≢◌, ℕ, zero, suc, List, ◌∷
 use Rattle.std.proofs.lemmas.Grind.{common_steps}
 use Rattle.adf_blocks.specs.declared.layout.TheConstants.{FIRST_SLOT, POINTERS, SLOTS}
 use Rattle.adf_blocks.specs.Sizes.{blocks, pages_needed}
-use Rattle.adf_volume.specs.Image.{word_in, table_word}
+use Rattle.adf_volume.specs.{Image.word_in, Image.table_word, Parts.renumbered}
 use Rattle.adf_volume.specs.Walk.{Role, Before, Same, HeadAt, DirAt, FileAt, MemberAt, NamesPage, Asks, data_count, first, heads, Walk}
 use Rattle.adf_volume.specs.Walk.Role.{Root, Page, MapExt, Head, Ext, Data}
 use Rattle.adf_volume.proofs.Gathered.{IsGathered, parent_asked}
 use Rattle.adf_volume.proofs.Roles.{dir_up, head_role, member_up, same_refl, typed_cases, typed_up}
-use Rattle.adf_volume.specs.Parts.{renumbered}
 
 module _ (image : List ℕ) (w : Walk) (r : Role) (b : ℕ) where
   -- what was asked for is asked for still

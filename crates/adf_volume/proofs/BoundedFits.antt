@@ -1,27 +1,15 @@
 -- The fields of a tree that fits an image of bytes are within their bounds. b is the block of a header, bs the bytes of a block.
 use Rattle.std.proofs.Common.{◌≡◌, ◌≤◌, ◌+◌, ℕ, suc, true, List, nat_le, arith, length, slice_index}
-use Rattle.std.proofs.lemmas.Bool.{and_parts, leb-true}
-use Rattle.std.proofs.lemmas.Grind.{common_steps}
-use Rattle.std.proofs.lemmas.List.{length-take}
-use Rattle.adf_base.specs.Dates.{IsStamp}
-use Rattle.adf_base.specs.Words.{block}
-use Rattle.adf_base.specs.declared.hash.Letters.{Letters}
+use Rattle.std.proofs.{lemmas.Bool.and_parts, lemmas.Bool.leb-true, lemmas.Grind.common_steps, lemmas.List.length-take}
+use Rattle.adf_base.specs.{Dates.IsStamp, Words.block, declared.hash.Letters.Letters}
 use Rattle.adf_base.proofs.ByteLists.{AreBytes, block_bytes, word_small}
-use Rattle.adf_names.specs.Meta.{AreStamps, IsBoundedMeta}
-use Rattle.adf_names.specs.Texts.{is_name}
-use Rattle.adf_names.specs.declared.kind.Kind.{Kind}
-use Rattle.adf_tree.specs.Bounds.{IsBounded, IsBoundedEntry, IsData}
-use Rattle.adf_tree.specs.Tree.{Tree}
+use Rattle.adf_names.specs.{Meta.AreStamps, Meta.IsBoundedMeta, Texts.is_name, declared.kind.Kind.Kind}
+use Rattle.adf_tree.specs.{Bounds.IsBounded, Bounds.IsBoundedEntry, Bounds.IsData, Tree.Tree, declared.entry.Entry.Entry}
 use Rattle.adf_tree.specs.declared.entry.Body.{Body, TheVariants.Dir, TheVariants.File}
-use Rattle.adf_tree.specs.declared.entry.Entry.{Entry}
-use Rattle.adf_blocks.specs.Forms.{stamp_at, text_at}
-use Rattle.adf_blocks.specs.declared.layout.TheConstants.{COMMENT, SIZE}
-use Rattle.adf_volume.specs.Demands.{AllHold, head_demands_by, root_demands}
-use Rattle.adf_volume.specs.Fits.{BodyFits, EntryFitsBy, FitsBy}
-use Rattle.adf_volume.specs.Image.{meta_of, name_of, root_of, stamps_of}
-use Rattle.adf_volume.specs.Layout.{Layout, at_node}
-use Rattle.adf_volume.proofs.FormDemands.{demanded}
-use Rattle.adf_volume.proofs.Lists.{at_index_or, at_some}
+use Rattle.adf_blocks.specs.{Forms.stamp_at, Forms.text_at, declared.layout.TheConstants.COMMENT, declared.layout.TheConstants.SIZE}
+use Rattle.adf_volume.specs.{Demands.AllHold, Demands.head_demands_by, Demands.root_demands, Fits.BodyFits, Fits.EntryFitsBy, Fits.FitsBy, Image.meta_of}
+use Rattle.adf_volume.specs.{Image.name_of, Image.root_of, Image.stamps_of, Layout.Layout, Layout.at_node}
+use Rattle.adf_volume.proofs.{FormDemands.demanded, Lists.at_index_or, Lists.at_some}
 
 -- texts within their fields
 

@@ -2,19 +2,11 @@
 use Rattle.std.proofs.Common.{◌≡◌, ℕ, zero, suc, List, [], ◌∷◌, ◌++◌, ◌⊎◌, inl, inr, ◌+◌, ◌<◌, ◌≤◌, length, refl, sym, ap, subst, ◌∙◌, arith, Bool, true, false}
 use Rattle.std.proofs.Common.{cond, rules, Some, ◌↔◌, map, append_assoc, ◌==◌, ◌&&◌}
 use Rattle.std.specs.List.{slice_get}
-use Rattle.adf_tree.specs.Tree.{entry, Tree}
-use Rattle.adf_tree.specs.Chain.{chain_by, in_chain_by}
-use Rattle.adf_volume.proofs.Lists.{snoc_length, at_fun, at_below, at_some}
-use Rattle.std.proofs.lemmas.Bool.Decides.{nat_tests}
-use Rattle.std.proofs.lemmas.Grind.{common_steps}
-use Rattle.adf_volume.specs.Lists.{At}
-use Rattle.adf_base.specs.Hash.{slot_by}
-use Rattle.adf_base.specs.declared.hash.Letters.{Letters}
-use Rattle.adf_tree.specs.declared.entry.Entry.{Entry}
-use Rattle.adf_volume.specs.Layout.{EntryAt, nodes_from_by, chain_nodes_by}
-use Rattle.adf_volume.proofs.TreeOrder.{Ordered}
-use Rattle.adf_volume.specs.Walk.{Before, Role.Head}
-use Rattle.adf_volume.proofs.Comparisons.{both_equal, equal_both}
+use Rattle.adf_tree.specs.{Tree.entry, Tree.Tree, Chain.chain_by, Chain.in_chain_by, declared.entry.Entry.Entry}
+use Rattle.adf_volume.proofs.{Lists.snoc_length, Lists.at_fun, Lists.at_below, Lists.at_some, TreeOrder.Ordered, Comparisons.both_equal, Comparisons.equal_both}
+use Rattle.std.proofs.{lemmas.Bool.Decides.nat_tests, lemmas.Grind.common_steps}
+use Rattle.adf_volume.specs.{Lists.At, Layout.EntryAt, Layout.nodes_from_by, Layout.chain_nodes_by, Walk.Before, Walk.Role.Head}
+use Rattle.adf_base.specs.{Hash.slot_by, declared.hash.Letters.Letters}
 
 -- a place in a list that begins with k where t holds
 at_kept : (t : Bool) (k : ℕ) (rest : List ℕ) (j n : ℕ) → At (cond t (k ∷ rest) rest) j n → ((t ≡ true) × (k ≡ n)) ⊎ ((i : ℕ) × At rest i n)

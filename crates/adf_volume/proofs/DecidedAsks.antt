@@ -5,11 +5,10 @@ use Rattle.std.proofs.lemmas.Grind.{common_steps}
 use Rattle.adf_blocks.specs.declared.layout.TheConstants.{EXTENSION, FIRST_MAP_EXT, FIRST_PAGE, FIRST_SLOT, MAP_EXT_NEXT, MAP_EXT_PAGES, NEXT_IN_CHAIN}
 use Rattle.adf_blocks.specs.declared.layout.TheConstants.{POINTERS, ROOT_PAGES, SECONDARY_TYPE, SLOTS, ST_DIR, ST_FILE}
 use Rattle.adf_blocks.specs.Sizes.{blocks, pages_needed}
-use Rattle.adf_volume.specs.Image.{root_of, word_in, table_word}
+use Rattle.adf_volume.specs.{Image.root_of, Image.word_in, Image.table_word, Parts.renumbered}
 use Rattle.adf_volume.specs.Walk.{Asks, Role, second, Has, heads, HeadAt, TypedAt, DirAt, FileAt, MemberAt, data_count, Walk}
 use Rattle.adf_volume.specs.Walk.Role.{Root, Page, MapExt, Head, Ext, Data}
 use Rattle.adf_volume.proofs.Roles.{dec_has, has_low, head_key, same_refl}
-use Rattle.adf_volume.specs.Parts.{renumbered}
 use Rattle.adf_volume.proofs.Gathered.{IsGathered, root_in, number_of, numbered, one_block, one_head, dir_one, file_one}
 
 -- whether what is unique passes a test

@@ -1,17 +1,12 @@
 -- A look-up in a chain finds the entry of the tree.
 use Rattle.std.proofs.Common.{◌≡◌, ◌≢◌, false, ℕ, zero, suc, List, sym, subst, arith, get_or, Some, None}
-use Rattle.std.proofs.lemmas.Bool.{false_from_ne_true}
-use Rattle.adf_base.specs.Hash.{slot_by}
-use Rattle.adf_base.specs.declared.hash.Letters.{Letters}
+use Rattle.std.proofs.{lemmas.Bool.false_from_ne_true, lemmas.Grind.common_steps}
+use Rattle.adf_base.specs.{Hash.slot_by, declared.hash.Letters.Letters}
 use Rattle.adf_names.specs.Texts.{uppers_by}
-use Rattle.adf_tree.specs.declared.entry.Entry.{Entry}
-use Rattle.adf_tree.specs.Tree.{Tree, IsTreeBy, child_by, is_child_by}
+use Rattle.adf_tree.specs.{declared.entry.Entry.Entry, Tree.Tree, Tree.IsTreeBy, Tree.child_by, Tree.is_child_by}
 use Rattle.adf_tree.proofs.ChildLookup.{child_says_by, is_child_from_by, child_is_by, no_children_by, same_slot_by}
-use Rattle.adf_volume.specs.Lists.{At}
-use Rattle.adf_volume.specs.Layout.{EntryAt, chain_nodes_by}
-use Rattle.adf_volume.proofs.Lists.{at_below, at_some, at_index_or}
-use Rattle.adf_volume.proofs.Chains.{entry_at, entry_fun, place_at}
-use Rattle.std.proofs.lemmas.Grind.{common_steps}
+use Rattle.adf_volume.specs.{Lists.At, Layout.EntryAt, Layout.chain_nodes_by}
+use Rattle.adf_volume.proofs.{Lists.at_below, Lists.at_some, Lists.at_index_or, Chains.entry_at, Chains.entry_fun, Chains.place_at}
 
 -- an entry of the directory with this name is the child
 pub child_yes : (letters : Letters) (t : Tree) (p : ℕ) (name : List ℕ) (n : ℕ) (e : Entry) → IsTreeBy letters t.entries → EntryAt t n e

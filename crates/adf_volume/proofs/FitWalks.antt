@@ -3,22 +3,12 @@ use Rattle.std.proofs.Common.{◌≡◌, ℕ, zero, suc, List, [], ◌∷◌, �
 use native.Mathlib.Decide.{dec_lt}
 use Rattle.adf_base.specs.declared.hash.Letters.{Letters}
 use Rattle.adf_tree.specs.Tree.{Tree}
-use Rattle.adf_volume.specs.Fits.{FitsBy}
-use Rattle.adf_volume.specs.Image.{letters_of, root_of, word_in}
-use Rattle.adf_volume.specs.Layout.{Layout, owned}
-use Rattle.adf_volume.specs.LayoutRoles.{LayoutHasBy, owner_of}
-use Rattle.adf_volume.specs.Lists.{In}
+use Rattle.adf_volume.specs.{Fits.FitsBy, Image.letters_of, Image.root_of, Image.word_in, Layout.Layout, Layout.owned, LayoutRoles.LayoutHasBy}
+use Rattle.adf_volume.specs.{LayoutRoles.owner_of, Lists.In, declared.owner.Owner.Owner, Parts.renumbered}
 use Rattle.adf_volume.specs.Walk.{Role, third, Before, Same, heads, Asks, Lacks, IsDue, IsWalkBy, IsWhole, Walk, Role.Root, IsWalkBy.start, IsWalkBy.step}
-use Rattle.adf_volume.specs.declared.owner.Owner.{Owner}
-use Rattle.adf_volume.proofs.DecidedAsks.{Asked, dec_asked}
-use Rattle.adf_volume.proofs.ImageStart.{own_letters}
-use Rattle.adf_volume.proofs.Walks.{of_walk}
-use Rattle.adf_volume.proofs.LayoutRoles.{owned_part, part_owned, same_owner}
-use Rattle.adf_volume.proofs.OneTree.{one_tree}
+use Rattle.adf_volume.proofs.{DecidedAsks.Asked, DecidedAsks.dec_asked, ImageStart.own_letters, Walks.of_walk, LayoutRoles.owned_part, LayoutRoles.part_owned}
+use Rattle.adf_volume.proofs.{LayoutRoles.same_owner, OneTree.one_tree, WalkOrder.before_trans, Roles.asks_next_number, Roles.dec_has, Roles.renumbered_same}
 use Rattle.adf_volume.proofs.WalkAgreement.{agreement, asked_part, due_is_part}
-use Rattle.adf_volume.proofs.WalkOrder.{before_trans}
-use Rattle.adf_volume.proofs.Roles.{asks_next_number, dec_has, renumbered_same}
-use Rattle.adf_volume.specs.Parts.{renumbered}
 
 dec_before : (r q : Role) → Dec (Before r q)
 dec_before r q = search (rules, dec_lt)

@@ -1,18 +1,11 @@
 -- Forms as demands, and the facts about headers that follow.
 use Rattle.std.proofs.Common.{◌≡◌, ℕ, List, [], ◌∷◌, ◌⊎◌, inl, inr, Bool, true, false, ◌||◌, not, Some, None, refl, ap, sym, subst, ◌∙◌, arith, ◌==◌}
-use Rattle.std.proofs.lemmas.Bool.{and_parts, eqb-true}
-use Rattle.std.proofs.lemmas.Grind.{common_steps}
-use Rattle.adf_blocks.specs.declared.cause.Cause.{Cause}
+use Rattle.std.proofs.{lemmas.Bool.and_parts, lemmas.Bool.eqb-true, lemmas.Grind.common_steps}
+use Rattle.adf_blocks.specs.{declared.cause.Cause.Cause, Forms.first_cause, HeadBlock.head_form_by}
 use Rattle.adf_blocks.specs.declared.layout.TheConstants.{SECONDARY_TYPE, ST_DIR, ST_FILE}
 use Rattle.adf_names.specs.declared.kind.Kind.{Kind}
-use Rattle.adf_base.specs.Words.{block}
-use Rattle.adf_volume.specs.Image.{word_in, name_of}
-use Rattle.adf_base.specs.Hash.{slot_by}
-use Rattle.adf_base.specs.declared.hash.Letters.{Letters}
-use Rattle.adf_volume.specs.Demands.{AllHold, FirstFails, demands_at}
-use Rattle.adf_volume.specs.Lists.{In}
-use Rattle.adf_blocks.specs.Forms.{first_cause}
-use Rattle.adf_blocks.specs.HeadBlock.{head_form_by}
+use Rattle.adf_base.specs.{Words.block, Hash.slot_by, declared.hash.Letters.Letters}
+use Rattle.adf_volume.specs.{Image.word_in, Image.name_of, Demands.AllHold, Demands.FirstFails, Demands.demands_at, Lists.In}
 
 -- where no test fails, each demand holds
 pub all_demanded : (b : ℕ) (form : List (Bool × Cause)) → first_cause form ≡ None → AllHold (demands_at b form)

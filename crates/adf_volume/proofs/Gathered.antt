@@ -3,11 +3,10 @@ use Rattle.std.proofs.lemmas.Bool.{eqb-true, Decides.eqb_tells}
 use Rattle.std.proofs.Common.{Bool, true, cond, eq-eqb, ◌≡◌, ℕ, zero, suc, List, [], ◌∷◌, inl, inr, ◌/◌, ◌<◌, ◌≤◌, ◌≢◌, refl, sym, ap, subst, ◌∙◌, arith, rules}
 use native.Mathlib.Decide.{dec_le, dec_lt}
 use Rattle.adf_blocks.specs.declared.layout.TheConstants.{POINTERS}
-use Rattle.adf_volume.specs.Image.{root_of}
+use Rattle.adf_volume.specs.{Image.root_of, Walk.Role.Root, Walk.Role.Page, Walk.Role.MapExt, Walk.Role.Head, Walk.Role.Ext, Walk.Role.Data}
 use Rattle.std.proofs.lemmas.Grind.{common_steps}
 use Rattle.adf_volume.specs.Walk.{first, ext_block_in, ext_block_of, ext_count, ext_count_of, member_block, node_block, node_block_of, Walk, Role, second, Same}
 use Rattle.adf_volume.specs.Walk.{Has, head_count, heads, HeadAt, NodeAt, DirAt, FileAt, MemberAt, NamesPage, Asks, Lacks}
-use Rattle.adf_volume.specs.Walk.Role.{Root, Page, MapExt, Head, Ext, Data}
 use Rattle.adf_volume.proofs.Roles.{asks_number, count_own, count_up, dir_is_node, dir_up, head_at, head_in, head_role, heads_up, new_number, no_head, same_of}
 use Rattle.adf_volume.proofs.Roles.{typed_up}
 

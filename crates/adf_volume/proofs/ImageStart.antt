@@ -1,17 +1,11 @@
 -- The size, boot bytes and root of an image.
 use Rattle.std.proofs.Common.{Some, None, cond, slice_index, ◌≡◌, ◌<◌, ◌≤◌, ℕ, List, ◌∷◌, ◌++◌, Bool, true, false, length, refl, ap, arith}
-use Rattle.std.proofs.lemmas.Bool.{le-ltb, lt-ltb, Decides.nat_tests}
-use Rattle.std.proofs.lemmas.Grind.{common_steps}
-use Rattle.adf_base.specs.Words.{block}
-use Rattle.adf_base.specs.declared.hash.Letters.{Letters, TheVariants.Ascii, TheVariants.International}
-use Rattle.adf_blocks.specs.declared.cause.Cause.{Cause, TheVariants.BadSize}
-use Rattle.adf_blocks.specs.Forms.{first_cause}
-use Rattle.adf_blocks.specs.RootBlock.{root_form}
+use Rattle.std.proofs.{lemmas.Bool.le-ltb, lemmas.Bool.lt-ltb, lemmas.Bool.Decides.nat_tests, lemmas.Grind.common_steps}
+use Rattle.adf_base.specs.{Words.block, declared.hash.Letters.Letters, declared.hash.Letters.TheVariants.Ascii, declared.hash.Letters.TheVariants.International}
+use Rattle.adf_blocks.specs.{declared.cause.Cause.Cause, declared.cause.Cause.TheVariants.BadSize, Forms.first_cause, RootBlock.root_form}
 use Rattle.adf_volume.specs.Demands.{AllHold, FirstFails, IsSize, boot_demands, boot_demands_by, boot_form_by, root_demands}
-use Rattle.adf_volume.specs.Image.{letters_of, root_of}
-use Rattle.adf_volume.proofs.Lists.{all_append, fails_left, fails_right}
-use Rattle.adf_volume.proofs.FormDemands.{all_demanded, first_demanded}
-use Rattle.adf_volume.specs.Start.{IsBegunBy, is_image_len, start_form_by}
+use Rattle.adf_volume.specs.{Image.letters_of, Image.root_of, Start.IsBegunBy, Start.is_image_len, Start.start_form_by}
+use Rattle.adf_volume.proofs.{Lists.all_append, Lists.fails_left, Lists.fails_right, FormDemands.all_demanded, FormDemands.first_demanded}
 
 -- a size is whole blocks
 size_is : (image : List ℕ) → is_image_len (length image) ≡ true → IsSize image

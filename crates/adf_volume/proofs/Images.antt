@@ -3,10 +3,9 @@ use Rattle.std.proofs.Common.{◌≡◌, ℕ, suc, List, [], ◌∷◌, ◌+◌,
 use Rattle.std.proofs.lemmas.Grind.{common_steps}
 use Rattle.adf_base.specs.Words.{block}
 use Rattle.adf_blocks.specs.declared.layout.TheConstants.{MAP_EXT_PAGES, PAGE_BITS, ROOT_PAGES, SIZE}
-use Rattle.adf_volume.specs.Lists.{At}
+use Rattle.adf_volume.specs.{Lists.At, Image.area, Image.joined, Image.content, Image.word_in, Image.map_exts_needed}
 use Rattle.adf_names.specs.declared.kind.Kind.{Kind, TheVariants.Ofs, TheVariants.Ffs}
 use Rattle.adf_blocks.specs.Sizes.{blocks, chunk, count, pages_needed}
-use Rattle.adf_volume.specs.Image.{area, joined, content, word_in, map_exts_needed}
 
 -- each of these blocks lies in the image
 abbrev pub AreIn : List ℕ → List ℕ → Type 0

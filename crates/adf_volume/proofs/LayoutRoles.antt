@@ -1,17 +1,13 @@
 -- The parts of a volume that a tree and a layout fit.
 use Rattle.std.proofs.Common.{◌≡◌, ℕ, zero, suc, List, [], ◌∷◌, ◌++◌, inl, inr, ◌+◌, ◌<◌, ◌≤◌, length, refl, sym, ap, subst, ◌∙◌, arith}
 use Rattle.std.proofs.lemmas.Grind.{common_steps}
-use Rattle.adf_volume.specs.Lists.{At, In, numbered}
+use Rattle.adf_volume.specs.{Lists.At, Lists.In, Lists.numbered, declared.owner.Owner.Owner, Fits.FitsBy, LayoutRoles.owner_of, LayoutRoles.LayoutHasBy}
 use Rattle.adf_blocks.specs.Sizes.{blocks}
-use Rattle.adf_base.specs.Hash.{slot_by}
-use Rattle.adf_base.specs.declared.hash.Letters.{Letters}
+use Rattle.adf_base.specs.{Hash.slot_by, declared.hash.Letters.Letters}
 use Rattle.adf_tree.specs.Tree.{Tree}
 use Rattle.adf_volume.specs.Layout.{Place, Layout, head_at, exts_at, datas_at, owned_from, owned}
-use Rattle.adf_volume.specs.declared.owner.Owner.{Owner}
 use Rattle.adf_volume.specs.declared.owner.Owner.TheVariants.{Root as TheRoot, Page as APage, MapExt as AMapExt, Head as AHead, Ext as AnExt, Data as AData}
-use Rattle.adf_volume.specs.Fits.{FitsBy}
 use Rattle.adf_volume.specs.Walk.{Role, Role.Root, Role.Page, Role.MapExt, Role.Head, Role.Ext, Role.Data}
-use Rattle.adf_volume.specs.LayoutRoles.{owner_of, LayoutHasBy}
 use Rattle.adf_volume.proofs.Lists.{in_left, in_right, in_numbered, one_member, in_cases, numbered_at}
 use Rattle.adf_volume.proofs.Chains.{entry_at, entry_below, entry_some, place_at, one_place}
 

@@ -1,8 +1,7 @@
 -- Positions and members of lists.
 use Rattle.std.proofs.Common.{◌≡◌, ℕ, zero, suc, List, [], ◌∷◌, ◌++◌, ◌⊎◌, inl, inr, ◌+◌, ◌<◌, ◌≤◌, ◌≢◌, length, refl, sym, ap, subst, ◌∙◌, arith, map}
 use Rattle.adf_blocks.specs.declared.cause.Cause.{Cause}
-use Rattle.adf_volume.specs.Lists.{At, In, Spelled, numbered, NoBlockTwice}
-use Rattle.adf_volume.specs.Demands.{Demand, AllHold, FirstFails}
+use Rattle.adf_volume.specs.{Lists.At, Lists.In, Lists.Spelled, Lists.numbered, Lists.NoBlockTwice, Demands.Demand, Demands.AllHold, Demands.FirstFails}
 use Rattle.std.specs.Prelude.{slice_get, slice_index, slice_index_or}
 use Rattle.std.proofs.lemmas.Grind.{common_steps}
 

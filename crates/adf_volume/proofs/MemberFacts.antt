@@ -3,21 +3,17 @@ use Rattle.std.proofs.Common.{◌≡◌, ℕ, zero, suc, List, [], ◌∷◌, in
 use native.Mathlib.Decide.{dec_le}
 use Rattle.adf_blocks.specs.declared.layout.TheConstants.{EXTENSION, FIRST_MAP_EXT, FIRST_POINTER, FIRST_SLOT, MAP_EXT_NEXT, MAP_EXT_PAGES, NEXT_IN_CHAIN}
 use Rattle.adf_blocks.specs.declared.layout.TheConstants.{POINTERS, ROOT_PAGES, SIZE, SLOTS}
-use Rattle.adf_volume.specs.Image.{word_in, root_of, kind_of, held, table_word, name_of}
+use Rattle.adf_volume.specs.{Image.word_in, Image.root_of, Image.kind_of, Image.held, Image.table_word, Image.name_of, Demands.AllHold, Demands.page_demands}
+use Rattle.adf_volume.specs.{Demands.head_demands_by, Demands.ext_demands, Demands.data_demands, Walk.next_data, Walk.IsWalkBy, Walk.Role.Root, Walk.Role.Page}
+use Rattle.adf_volume.specs.{Walk.Role.MapExt, Walk.Role.Head, Walk.Role.Ext, Walk.Role.Data, Walk.IsWalkBy.start, Walk.IsWalkBy.step}
 use Rattle.adf_blocks.specs.Sizes.{blocks, pages_needed}
 use Rattle.adf_base.specs.declared.hash.Letters.{Letters}
 use Rattle.adf_names.specs.Texts.{uppers_by}
-use Rattle.adf_volume.specs.Demands.{AllHold, page_demands, head_demands_by, ext_demands, data_demands}
 use Rattle.adf_volume.specs.Walk.{Role, second, Has, DirAt, FileAt, MemberAt, NamesPage, data_count, Asks, IsDue, ext_count, node_block, Walk, member_block}
-use Rattle.adf_volume.specs.Walk.{next_data, IsWalkBy}
-use Rattle.adf_volume.specs.Walk.Role.{Root, Page, MapExt, Head, Ext, Data}
-use Rattle.adf_volume.specs.Walk.IsWalkBy.{start, step}
 use Rattle.adf_volume.proofs.Gathered.{asked_file, ext_counted, member_is, node_is}
-use Rattle.adf_volume.proofs.PartDemands.{PartHoldsBy, part_holds_by}
+use Rattle.adf_volume.proofs.{PartDemands.PartHoldsBy, PartDemands.part_holds_by, Walks.file_is, Walks.is_there, Walks.of_walk}
 use Rattle.adf_volume.proofs.Roles.{count_up, dir_is_node, dir_up, member_up, typed_up}
-use Rattle.adf_volume.proofs.Walks.{file_is, is_there, of_walk}
-use Rattle.std.proofs.lemmas.Bool.{cond-true, cond-false, le-ltb, lt-ltb}
-use Rattle.std.proofs.lemmas.Grind.{common_steps}
+use Rattle.std.proofs.{lemmas.Bool.cond-true, lemmas.Bool.cond-false, lemmas.Bool.le-ltb, lemmas.Bool.lt-ltb, lemmas.Grind.common_steps}
 
 -- the word that names a header
 abbrev pub HeadNamed : List ℕ → Walk → ℕ → ℕ → ℕ → ℕ → Type 0

@@ -2,24 +2,13 @@
 use Rattle.std.proofs.Common.{ℕ, zero, suc, List, ◌+◌, ◌-◌, ◌/◌, ◌≤◌, arith}
 use Rattle.std.proofs.lemmas.Grind.{common_steps}
 use Rattle.adf_base.specs.declared.hash.Letters.{Letters}
-use Rattle.adf_blocks.specs.declared.layout.TheConstants.{PAGE_BITS}
-use Rattle.adf_blocks.specs.declared.cause.Cause.{Cause}
-use Rattle.adf_volume.specs.Lists.{In}
-use Rattle.adf_volume.specs.Image.{word_in}
-use Rattle.adf_blocks.specs.Sizes.{blocks}
-use Rattle.adf_volume.specs.Demands.{AllHold}
+use Rattle.adf_blocks.specs.{declared.layout.TheConstants.PAGE_BITS, declared.cause.Cause.Cause, Sizes.blocks}
+use Rattle.adf_volume.specs.{Lists.In, Image.word_in, Demands.AllHold, Layout.Layout, Layout.owned, declared.owner.Owner.Owner, Fits.FitsBy, Fits.IsFree}
+use Rattle.adf_volume.specs.{Walk.FirstFaultBy.at_boot, Walk.FirstFaultBy.at_due, Walk.FirstFaultBy.at_bitmap, LayoutRoles.owner_of}
 use Rattle.adf_tree.specs.Tree.{Tree}
-use Rattle.adf_volume.specs.Layout.{Layout, owned}
-use Rattle.adf_volume.specs.declared.owner.Owner.{Owner}
-use Rattle.adf_volume.specs.Fits.{FitsBy, IsFree}
 use Rattle.adf_volume.specs.Walk.{IsAbsent, IsFreeIn, demands_by, bitmap_demands, IsWalkBy, IsWhole, FirstFaultBy, Walk, Role.Page}
-use Rattle.adf_volume.specs.Walk.FirstFaultBy.{at_boot, at_due, at_bitmap}
-use Rattle.adf_volume.specs.LayoutRoles.{owner_of}
-use Rattle.adf_volume.proofs.Lists.{all_append, fails_not_all}
-use Rattle.adf_volume.proofs.LayoutRoles.{part_owned, owned_part}
-use Rattle.adf_volume.proofs.WalkAgreement.{agreement, due_is_part}
-use Rattle.adf_volume.proofs.WalkCompleteness.{part_walked}
-use Rattle.adf_volume.proofs.Sizes.{size_low}
+use Rattle.adf_volume.proofs.{Lists.all_append, Lists.fails_not_all, LayoutRoles.part_owned, LayoutRoles.owned_part, WalkAgreement.agreement}
+use Rattle.adf_volume.proofs.{WalkAgreement.due_is_part, WalkCompleteness.part_walked, Sizes.size_low}
 
 module _ {letters : Letters} (image : List ℕ) (t : Tree) (l : Layout) (fit : FitsBy letters image t l) (w : Walk) (v : IsWalkBy letters image w)
     (whole : IsWhole image w) where

@@ -3,19 +3,11 @@ use Rattle.std.proofs.Common.{◌≡◌, ℕ, suc, List, [], ◌∷◌, ◌++◌
 use Rattle.std.proofs.lemmas.Grind.{common_steps}
 use native.Mathlib.Decide.{dec_lt}
 use Rattle.adf_base.specs.declared.hash.Letters.{Letters}
-use Rattle.adf_blocks.specs.declared.cause.Cause.{Cause}
-use Rattle.adf_volume.specs.Image.{word_in, root_of}
-use Rattle.adf_blocks.specs.Sizes.{blocks}
-use Rattle.adf_volume.specs.Demands.{Demand, FirstFails, boot_demands_by, root_demands}
+use Rattle.adf_blocks.specs.{declared.cause.Cause.Cause, Sizes.blocks}
+use Rattle.adf_volume.specs.{Image.word_in, Image.root_of, Demands.Demand, Demands.FirstFails, Demands.boot_demands_by, Demands.root_demands, Walk.Role.Head}
+use Rattle.adf_volume.specs.{Walk.IsWalkBy.start, Walk.IsWalkBy.step, Walk.FirstFaultBy.at_boot, Walk.FirstFaultBy.at_due, Walk.FirstFaultBy.at_bitmap}
 use Rattle.adf_volume.specs.Walk.{Role, Before, Same, heads, Asks, IsDue, NoCauseBy, demands_by, bitmap_demands, IsWalkBy, IsWhole, FirstFaultBy, Walk}
-use Rattle.adf_volume.specs.Walk.Role.{Head}
-use Rattle.adf_volume.specs.Walk.IsWalkBy.{start, step}
-use Rattle.adf_volume.specs.Walk.FirstFaultBy.{at_boot, at_due, at_bitmap}
-use Rattle.adf_volume.proofs.Gathered.{asks_one}
-use Rattle.adf_volume.proofs.Walks.{of_walk}
-use Rattle.adf_volume.proofs.Lists.{fails_not_all}
-use Rattle.adf_volume.proofs.Roles.{asks_number, dec_same, same_role}
-use Rattle.adf_volume.proofs.WalkOrder.{before_total}
+use Rattle.adf_volume.proofs.{Gathered.asks_one, Walks.of_walk, Lists.fails_not_all, Roles.asks_number, Roles.dec_same, Roles.same_role, WalkOrder.before_total}
 
 pub fails_one : (xs : List Demand) (b : ℕ) (c : Cause) (b' : ℕ) (c' : Cause) → FirstFails xs b c → FirstFails xs b' c' → (b ≡ b') × (c ≡ c')
 fails_one [] b c b' c' h k = absurd h

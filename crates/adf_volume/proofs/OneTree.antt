@@ -2,22 +2,14 @@
 use Rattle.std.proofs.Common.{◌≡◌, ℕ, suc, List, ◌<◌, length, refl, sym, ap, subst, ◌∙◌, arith}
 use Rattle.std.proofs.lemmas.Grind.{common_steps}
 use Rattle.adf_blocks.specs.declared.layout.TheConstants.{SECONDARY_TYPE, ST_DIR, ST_FILE}
-use Rattle.adf_volume.specs.Lists.{At}
-use Rattle.adf_base.specs.Hash.{slot_by}
-use Rattle.adf_base.specs.declared.hash.Letters.{Letters}
-use Rattle.adf_volume.specs.Image.{name_of, word_in, meta_of}
+use Rattle.adf_volume.specs.{Lists.At, Image.name_of, Image.word_in, Image.meta_of, Fits.FitsBy, Fits.BodyFits, LayoutRoles.LayoutHasBy}
+use Rattle.adf_base.specs.{Hash.slot_by, declared.hash.Letters.Letters}
 use Rattle.adf_tree.specs.declared.entry.Body.{Body, TheVariants.Dir, TheVariants.File}
-use Rattle.adf_tree.specs.declared.entry.Entry.{Entry}
-use Rattle.adf_tree.specs.Tree.{Tree}
+use Rattle.adf_tree.specs.{declared.entry.Entry.Entry, Tree.Tree}
 use Rattle.adf_volume.specs.Layout.{EntryAt, Place, Layout, at_node, exts_of, datas_of}
-use Rattle.adf_volume.specs.Fits.{FitsBy, BodyFits}
 use Rattle.adf_volume.specs.Walk.{Role, heads, IsWalkBy, IsWhole, Walk, Role.Page, Role.MapExt, Role.Head, Role.Ext, Role.Data}
-use Rattle.adf_volume.specs.LayoutRoles.{LayoutHasBy}
-use Rattle.adf_volume.proofs.Lists.{at_below, at_some, same_list}
-use Rattle.adf_volume.proofs.Chains.{entry_at, entry_some, place_at}
-use Rattle.adf_volume.proofs.WalkAgreement.{agreement}
-use Rattle.adf_volume.proofs.WalkCompleteness.{part_walked, heads_walked}
-use Rattle.adf_volume.proofs.Places.{place_parts}
+use Rattle.adf_volume.proofs.{Lists.at_below, Lists.at_some, Lists.same_list, Chains.entry_at, Chains.entry_some, Chains.place_at, WalkAgreement.agreement}
+use Rattle.adf_volume.proofs.{WalkCompleteness.part_walked, WalkCompleteness.heads_walked, Places.place_parts}
 
 same_entry : (e f : Entry) → e.parent ≡ f.parent → e.name ≡ f.name → e.meta ≡ f.meta → e.body ≡ f.body → e ≡ f
 same_entry e f a b c d = λ i. record { parent = a i; name = b i; meta = c i; body = d i }

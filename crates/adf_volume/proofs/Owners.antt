@@ -1,12 +1,9 @@
 -- The owners of a layout are all different.
 use Rattle.std.proofs.Common.{◌≡◌, ℕ, suc, List, [], ◌∷◌, ◌++◌, inl, inr, refl, ap, ◌<◌, ◌≤◌, arith, rules}
 use Rattle.std.proofs.lemmas.Grind.{common_steps}
-use Rattle.adf_volume.specs.Lists.{In, numbered, NoBlockTwice}
+use Rattle.adf_volume.specs.{Lists.In, Lists.numbered, Lists.NoBlockTwice, Parts.entry_of, declared.owner.Owner.Owner}
 use Rattle.adf_volume.specs.Layout.{Place, Layout, owned_from, owned}
-use Rattle.adf_volume.specs.Parts.{entry_of}
-use Rattle.adf_volume.specs.declared.owner.Owner.{Owner}
-use Rattle.adf_volume.proofs.Lists.{in_cases, numbered_at}
-use Rattle.adf_volume.proofs.LayoutRoles.{Stands, owned_stands}
+use Rattle.adf_volume.proofs.{Lists.in_cases, Lists.numbered_at, LayoutRoles.Stands, LayoutRoles.owned_stands}
 
 -- no owner stands twice
 abbrev pub Once : List (Owner × ℕ) → Type 0

@@ -3,8 +3,7 @@ use Rattle.std.proofs.Common.{ℕ, List, ◌<◌, ◌≤◌, arith}
 use Rattle.std.proofs.lemmas.Grind.{common_steps}
 use Rattle.adf_base.specs.declared.hash.Letters.{Letters}
 use Rattle.adf_blocks.specs.Sizes.{blocks}
-use Rattle.adf_volume.specs.Demands.{AllHold}
-use Rattle.adf_volume.specs.Walk.{Role, Enough, IsAbsent, NewNameBy, demands_by, form_demands_by, Walk}
+use Rattle.adf_volume.specs.{Demands.AllHold, Walk.Role, Walk.Enough, Walk.IsAbsent, Walk.NewNameBy, Walk.demands_by, Walk.form_demands_by, Walk.Walk}
 use Rattle.adf_volume.proofs.Lists.{all_split}
 
 -- each demand of the role at block b holds, by these letters

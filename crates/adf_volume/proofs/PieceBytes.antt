@@ -1,17 +1,11 @@
 -- The pieces of a file joined are its content.
 use Rattle.std.proofs.Common.{◌≡◌, ℕ, zero, suc, List, [], ◌∷◌, ◌++◌, ◌+◌, ◌-◌, ◌*◌, ◌<◌, ◌≤◌, length, refl, sym, ap, subst, ◌∙◌, arith, rules, drop, get_or}
-use Rattle.std.proofs.Common.{take, take_all, slice_range}
+use Rattle.std.proofs.{Common.take, Common.take_all, Common.slice_range, lemmas.Bool.Decides.nat_tests, lemmas.List.take-take, lemmas.Grind.common_steps}
 use Rattle.std.specs.List.{concat}
-use Rattle.std.proofs.lemmas.Bool.Decides.{nat_tests}
-use Rattle.std.proofs.lemmas.List.{take-take}
-use Rattle.std.proofs.lemmas.Grind.{common_steps}
 use Rattle.adf_base.specs.Words.{block}
 use Rattle.adf_names.specs.declared.kind.Kind.{Kind, TheVariants.Ofs, TheVariants.Ffs}
-use Rattle.adf_blocks.specs.Sizes.{blocks, chunk, count}
-use Rattle.adf_blocks.specs.declared.layout.TheConstants.{SIZE}
-use Rattle.adf_volume.specs.Lists.{At}
-use Rattle.adf_volume.specs.Image.{word_in, held, area, joined, content, piece, pieces}
-use Rattle.adf_volume.specs.Pieces.{AreInside}
+use Rattle.adf_blocks.specs.{Sizes.blocks, Sizes.chunk, Sizes.count, declared.layout.TheConstants.SIZE}
+use Rattle.adf_volume.specs.{Lists.At, Image.word_in, Image.held, Image.area, Image.joined, Image.content, Image.piece, Image.pieces, Pieces.AreInside}
 use Rattle.adf_volume.proofs.Images.{area_length, AreIn}
 
 take_zero : (xs : List ℕ) → take 0 xs ≡ []

@@ -1,7 +1,6 @@
 -- The blocks in the places of a layout.
 use Rattle.std.proofs.Common.{◌≡◌, ℕ, zero, suc, List, [], ◌∷◌, ◌<◌, length, ap, arith}
-use Rattle.adf_volume.specs.Lists.{At}
-use Rattle.adf_volume.specs.Layout.{Place, head_at, exts_at, datas_at}
+use Rattle.adf_volume.specs.{Lists.At, Layout.Place, Layout.head_at, Layout.exts_at, Layout.datas_at}
 
 pub place_parts : (qs : List Place) (i : ℕ) (q : Place) → At qs i q → (head_at qs i ≡ q.head) × (exts_at qs i ≡ q.exts) × (datas_at qs i ≡ q.datas)
 place_parts [] i q h = absurd h

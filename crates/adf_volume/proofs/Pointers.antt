@@ -1,8 +1,7 @@
 -- The words that point to the next header of a chain, extension block of a file or page of the bitmap.
 -- Letters as in specs/Positions; v says that the walk's parts were asked for; m the number of a block of a file's table.
 use Rattle.std.proofs.Common.{◌≡◌, ◌≢◌, ℕ, zero, suc, List, inl, inr, ◌+◌, ◌-◌, ◌/◌, ◌%◌, ◌<◌, ◌≤◌, refl, sym, ap, ◌∙◌, arith}
-use Rattle.std.proofs.lemmas.Bool.Decides.{nat_tests}
-use Rattle.std.proofs.lemmas.Grind.{common_steps}
+use Rattle.std.proofs.{lemmas.Bool.Decides.nat_tests, lemmas.Grind.common_steps}
 use Rattle.adf_blocks.specs.declared.layout.TheConstants.{EXTENSION, MAP_EXT_PAGES, ROOT_PAGES, SLOTS}
 use Rattle.adf_blocks.specs.Sizes.{blocks, pages_needed}
 use Rattle.adf_volume.specs.Image.{word_in}

@@ -5,12 +5,10 @@ use Rattle.std.proofs.lemmas.Grind.{common_steps}
 use native.Mathlib.Decide.{ℕ_discrete}
 use Rattle.adf_blocks.specs.declared.layout.TheConstants.{SECONDARY_TYPE, ST_DIR, ST_FILE}
 use Rattle.adf_blocks.specs.Sizes.{blocks, pages_needed}
-use Rattle.adf_volume.specs.Image.{root_of, word_in}
+use Rattle.adf_volume.specs.{Image.root_of, Image.word_in, Walk.Role.Root, Walk.Role.Page, Walk.Role.MapExt, Walk.Role.Head, Walk.Role.Ext, Walk.Role.Data}
 use Rattle.adf_volume.specs.Walk.{Role, first, second, third, Before, Same, TypedAt, NodeAt, DirAt, FileAt, Asks, Lacks, heads, ext_count, Walk}
-use Rattle.adf_volume.specs.Walk.Role.{Root, Page, MapExt, Head, Ext, Data}
 use Rattle.adf_volume.specs.Positions.{Position, IsBelow, IsNoLater, IsUpTo, before_node, before_page, behind, in_map, position_of}
-use Rattle.adf_volume.proofs.AsksSplit.{gathered_split}
-use Rattle.adf_volume.proofs.FormDemands.{dir_not_file}
+use Rattle.adf_volume.proofs.{AsksSplit.gathered_split, FormDemands.dir_not_file}
 use Rattle.adf_volume.proofs.Gathered.{IsGathered, asked_dir, asked_file, dir_number, ext_counted, number_of, one_head}
 
 -- roles of one place have one position

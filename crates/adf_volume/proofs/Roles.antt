@@ -2,9 +2,7 @@
 use Rattle.std.proofs.Common.{◌≡◌, ℕ, zero, suc, List, [], ◌∷◌, ◌⊎◌, inl, inr, ◌<◌, ◌≤◌, refl, sym, ap, subst, arith, rules, eq-eqb}
 use Rattle.std.proofs.lemmas.Grind.{common_steps}
 use Rattle.adf_volume.specs.Walk.{Role, first, second, third, Same, Has, head_count, heads, HeadAt, TypedAt, NodeAt, DirAt, MemberAt, Asks, Lacks, Walk}
-use Rattle.adf_volume.specs.Walk.{ext_count_of}
-use Rattle.adf_volume.specs.Parts.{renumbered}
-use Rattle.adf_volume.specs.Walk.Role.{Root, Head, Ext}
+use Rattle.adf_volume.specs.{Walk.ext_count_of, Parts.renumbered, Walk.Role.Root, Walk.Role.Head, Walk.Role.Ext}
 
 -- two roles of one key, of which headers have one number, are one role
 pub same_role : (r q : Role) → Same r q → ((n m p s j : ℕ) → r ≡ Head n p s j → q ≡ Head m p s j → n ≡ m) → r ≡ q

@@ -4,21 +4,14 @@ use Rattle.std.proofs.lemmas.Grind.{common_steps}
 use Rattle.adf_base.specs.Words.{block, word, words}
 use Rattle.adf_base.specs.declared.hash.Letters.{Letters, TheVariants.Ascii, TheVariants.International}
 use Rattle.adf_names.specs.declared.kind.Kind.TheVariants.{Ffs}
-use Rattle.adf_tree.specs.declared.entry.Entry.{Entry}
-use Rattle.adf_tree.specs.Tree.{IsDir}
-use Rattle.adf_volume.specs.declared.owner.Owner.{Owner}
-use Rattle.adf_volume.specs.Lists.{At, In, NoBlockTwice}
-use Rattle.adf_volume.specs.Image.{word_in, root_of, kind_of, name_of, stamps_of, map_exts_needed, IsFreeAt}
+use Rattle.adf_tree.specs.{declared.entry.Entry.Entry, Tree.IsDir}
+use Rattle.adf_volume.specs.{declared.owner.Owner.Owner, Lists.At, Lists.In, Lists.NoBlockTwice, Image.word_in, Image.root_of, Image.kind_of, Image.name_of}
+use Rattle.adf_volume.specs.{Image.stamps_of, Image.map_exts_needed, Image.IsFreeAt, Layout.EntryAt, Layout.at_node, Layout.owned, Fits.Fits, Fits.FitsBy}
+use Rattle.adf_volume.specs.{Fits.IsFree, Samples.tiny, Samples.tiny_root, Samples.tiny_tree, Samples.tiny_layout, Walk.FirstFault, Walk.FirstFaultBy.at_boot}
 use Rattle.adf_blocks.specs.declared.cause.Cause.TheVariants.{International as OtherLetters}
-use Rattle.adf_blocks.specs.PageBlock.{page_form}
-use Rattle.adf_blocks.specs.RootBlock.{root_form}
+use Rattle.adf_blocks.specs.{PageBlock.page_form, RootBlock.root_form}
 use Rattle.adf_volume.specs.Demands.{AllHold, boot_demands_by, boot_form, boot_form_by, root_demands, page_demands}
-use Rattle.adf_volume.specs.Layout.{EntryAt, at_node, owned}
-use Rattle.adf_volume.specs.Fits.{Fits, FitsBy, IsFree}
-use Rattle.adf_volume.specs.Samples.{tiny, tiny_root, tiny_tree, tiny_layout}
-use Rattle.adf_volume.specs.Walk.{FirstFault, FirstFaultBy.at_boot}
-use Rattle.adf_volume.proofs.FormDemands.{all_demanded}
-use Rattle.adf_volume.proofs.Zeros.{zero_at}
+use Rattle.adf_volume.proofs.{FormDemands.all_demanded, Zeros.zero_at}
 
 slots_zero : (type s : ℕ) → s < 72 → word_in (tiny type) 2 (6 + s) ≡ 0
 unfolding tiny tiny_root block word

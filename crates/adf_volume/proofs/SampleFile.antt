@@ -2,28 +2,17 @@
 -- Letters: n an entry's number; e an entry; p a directory's node; s a slot; k, i indices; b, a blocks.
 use Rattle.std.proofs.Common.{◌≡◌, ◌≢◌, ℕ, zero, suc, List, [], ◌∷◌, inl, inr, ◌+◌, ◌-◌, ◌/◌, ◌%◌, ◌<◌, ◌≤◌, refl, sym, ap, subst, ◌∙◌, arith, false, map}
 use Rattle.std.specs.Prelude.{◌==◌, slice_index, slice_index_or}
-use Rattle.std.proofs.lemmas.Bool.{cases_lt, Decides.eqb_tells}
-use Rattle.std.proofs.lemmas.Grind.{common_steps}
-use Rattle.std.proofs.lemmas.List.Sorted.{IsNonDecreasingBy-short}
-use Rattle.adf_base.specs.Hash.{slot_of}
-use Rattle.adf_base.specs.Words.{block, word, words, with_bytes}
+use Rattle.std.proofs.{lemmas.Bool.cases_lt, lemmas.Bool.Decides.eqb_tells, lemmas.Grind.common_steps, lemmas.List.Sorted.IsNonDecreasingBy-short}
+use Rattle.adf_base.specs.{Hash.slot_of, Words.block, Words.word, Words.words, Words.with_bytes}
 use Rattle.adf_tree.specs.declared.entry.Body.{Body, TheVariants.Dir, TheVariants.File}
-use Rattle.adf_tree.specs.declared.entry.Entry.{Entry}
-use Rattle.adf_tree.specs.Tree.{IsDir, IsTree}
-use Rattle.adf_volume.specs.declared.owner.Owner.{Owner}
-use Rattle.adf_volume.specs.Lists.{At, In, Spelled, NoBlockTwice}
-use Rattle.adf_blocks.specs.Sizes.{chunk, count}
+use Rattle.adf_tree.specs.{declared.entry.Entry.Entry, Tree.IsDir, Tree.IsTree}
+use Rattle.adf_volume.specs.{declared.owner.Owner.Owner, Lists.At, Lists.In, Lists.Spelled, Lists.NoBlockTwice, Layout.EntryAt, Layout.at_node}
+use Rattle.adf_volume.specs.{Layout.chain_nodes, Layout.owned, Fits.Fits, Fits.EntryFits, Fits.FileFits, Fits.IsFree, Fits.TableAt}
+use Rattle.adf_blocks.specs.{Sizes.chunk, Sizes.count, DataBlock.data_form, HeadBlock.head_form, PageBlock.page_form, RootBlock.root_form}
 use Rattle.adf_volume.specs.Image.{word_in, root_of, kind_of, name_of, meta_of, stamps_of, content, area, held, table_word, map_exts_needed, IsFreeAt}
-use Rattle.adf_blocks.specs.DataBlock.{data_form}
-use Rattle.adf_blocks.specs.HeadBlock.{head_form}
-use Rattle.adf_blocks.specs.PageBlock.{page_form}
-use Rattle.adf_blocks.specs.RootBlock.{root_form}
 use Rattle.adf_volume.specs.Demands.{AllHold, boot_demands, boot_form, root_demands, page_demands, head_demands, data_demands}
-use Rattle.adf_volume.specs.Layout.{EntryAt, at_node, chain_nodes, owned}
-use Rattle.adf_volume.specs.Fits.{Fits, EntryFits, FileFits, IsFree, TableAt}
 use Rattle.adf_volume.specs.Samples.{one_file, one_file_tree, one_file_layout, file_a}
-use Rattle.adf_volume.proofs.FormDemands.{all_demanded}
-use Rattle.adf_volume.proofs.Zeros.{zero_at}
+use Rattle.adf_volume.proofs.{FormDemands.all_demanded, Zeros.zero_at}
 
 -- the block of a node
 abbrev node_at : ℕ → ℕ

@@ -3,21 +3,14 @@
 use Rattle.std.proofs.Common.{◌≡◌, ℕ, zero, suc, [], ◌∷◌, inl, inr, ◌+◌, ◌-◌, ◌%◌, ◌<◌, ◌≤◌, refl, sym, ap, subst, arith}
 use Rattle.std.proofs.lemmas.Grind.{common_steps}
 use Rattle.adf_base.specs.Words.{block, word, words, with_bytes}
-use Rattle.adf_blocks.specs.PageBlock.{page_form}
-use Rattle.adf_blocks.specs.RootBlock.{root_form}
-use Rattle.adf_blocks.specs.declared.cause.Cause.TheVariants.{LostBlock}
+use Rattle.adf_blocks.specs.{PageBlock.page_form, RootBlock.root_form, declared.cause.Cause.TheVariants.LostBlock}
 use Rattle.adf_blocks.specs.Sizes.{blocks, middle, pages_needed}
 use Rattle.adf_volume.specs.Image.{IsFreeAt, root_of, word_in}
 use Rattle.adf_volume.specs.Demands.{AllHold, FirstFails, boot_demands, boot_form, root_demands, page_demands}
-use Rattle.adf_volume.specs.Samples.{one_lost}
+use Rattle.adf_volume.specs.{Samples.one_lost, Walk.second, Walk.Walk, Walk.IsWalkBy.start, Walk.IsWalkBy.step, Walk.FirstFaultBy.at_bitmap}
 use Rattle.adf_volume.specs.Walk.{Asks, Before, FirstFault, Has, IsAbsent, IsDue, IsFreeIn, IsWalk, IsWhole, Lacks, NoCause, Role, TypedAt, bitmap_demands}
-use Rattle.adf_volume.specs.Walk.{second, Walk}
 use Rattle.adf_volume.specs.Walk.Role.{Root, Page, MapExt, Head, Ext, Data}
-use Rattle.adf_volume.specs.Walk.IsWalkBy.{start, step}
-use Rattle.adf_volume.specs.Walk.FirstFaultBy.{at_bitmap}
-use Rattle.adf_volume.proofs.FormDemands.{all_demanded}
-use Rattle.adf_volume.proofs.Lists.{all_append}
-use Rattle.adf_volume.proofs.Zeros.{zero_at}
+use Rattle.adf_volume.proofs.{FormDemands.all_demanded, Lists.all_append, Zeros.zero_at}
 
 boots : AllHold (boot_demands one_lost)
 unfolding one_lost block with_bytes

@@ -1,8 +1,7 @@
 -- An allowed size.
 use Rattle.std.proofs.Common.{◌≡◌, ℕ, ◌≤◌, arith, true}
 use Rattle.std.proofs.lemmas.Bool.Decides.{nat_tests}
-use Rattle.adf_blocks.specs.declared.layout.TheConstants.{MOST_BLOCKS}
-use Rattle.adf_blocks.specs.Sizes.{is_allowed}
+use Rattle.adf_blocks.specs.{declared.layout.TheConstants.MOST_BLOCKS, Sizes.is_allowed}
 
 pub size_low : (n : ℕ) → is_allowed n ≡ true → 4 ≤ n
 size_low n h = grind (arith, nat_tests)

@@ -2,13 +2,9 @@
 use Rattle.std.proofs.Common.{◌≡◌, ℕ, zero, suc, ◌+◌, ◌-◌, ◌*◌, ◌<◌, ◌≤◌, ◌≢◌, length, sym, ap, subst, ◌∙◌, arith, slice_index_or}
 use Rattle.std.proofs.lemmas.Grind.{common_steps}
 use native.Mathlib.Decide.{dec_lt, ℕ_discrete}
-use Rattle.adf_base.specs.Hash.{slot_by}
-use Rattle.adf_base.specs.declared.hash.Letters.{Letters}
-use Rattle.adf_tree.specs.declared.entry.Entry.{Entry}
-use Rattle.adf_tree.specs.declared.entry.Body.TheVariants.{Dir}
-use Rattle.adf_tree.specs.Tree.{Tree, IsDir, IsTreeBy, AreApartBy, rank_by}
-use Rattle.adf_volume.specs.Lists.{At}
-use Rattle.adf_volume.specs.Layout.{EntryAt}
+use Rattle.adf_base.specs.{Hash.slot_by, declared.hash.Letters.Letters}
+use Rattle.adf_tree.specs.{declared.entry.Entry.Entry, declared.entry.Body.TheVariants.Dir, Tree.Tree, Tree.IsDir, Tree.IsTreeBy, Tree.AreApartBy, Tree.rank_by}
+use Rattle.adf_volume.specs.{Lists.At, Layout.EntryAt}
 use Rattle.adf_volume.proofs.Lists.{at_fun, at_below, at_some, at_index_or}
 use Rattle.adf_tree.proofs.TreeInvariant.{slot_small_by}
 

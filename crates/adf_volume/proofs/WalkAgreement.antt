@@ -1,38 +1,24 @@
 -- Agreement: if a tree and a layout fit, each walk follows them.
 use Rattle.std.proofs.Common.{◌≡◌, ℕ, zero, suc, List, inl, inr, ◌+◌, ◌/◌, ◌<◌, ◌≤◌, ◌≢◌, length, refl, sym, ap, subst, ◌∙◌, arith, map, Bool, true, false}
-use Rattle.std.proofs.Common.{cond, slice_index, nat_lt}
+use Rattle.std.proofs.{Common.cond, Common.slice_index, Common.nat_lt, lemmas.Bool.ltb-false, lemmas.Bool.ltb-true, lemmas.Grind.common_steps}
 use Rattle.adf_blocks.specs.declared.layout.TheConstants.{EXTENSION, FIRST_SLOT, NEXT_IN_CHAIN, POINTERS, SECONDARY_TYPE, SIZE, SLOTS, ST_DIR, ST_FILE}
-use Rattle.adf_volume.specs.Lists.{At}
+use Rattle.adf_volume.specs.{Lists.At, Image.root_of, Image.name_of, Image.word_in, Image.kind_of, Image.table_word, Demands.AllHold, Demands.ext_demands}
+use Rattle.adf_volume.specs.{Fits.FitsBy, Fits.FileFits, Fits.BodyFits, Fits.TableAt, Walk.Role.Root, Walk.Role.Page, Walk.Role.MapExt, Walk.Role.Head}
+use Rattle.adf_volume.specs.{Walk.Role.Ext, Walk.Role.Data, Walk.IsWalkBy.start, Walk.IsWalkBy.step, LayoutRoles.LayoutHasBy, Parts.renumbered}
 use Rattle.adf_blocks.specs.Sizes.{blocks, count, pages_needed}
-use Rattle.adf_volume.specs.Image.{root_of, name_of, word_in, kind_of, table_word}
-use Rattle.adf_base.specs.Hash.{slot_by}
-use Rattle.adf_base.specs.declared.hash.Letters.{Letters}
+use Rattle.adf_base.specs.{Hash.slot_by, declared.hash.Letters.Letters}
 use Rattle.adf_names.specs.Texts.{uppers_by}
-use Rattle.adf_volume.specs.Demands.{AllHold, ext_demands}
 use Rattle.adf_tree.specs.declared.entry.Body.{Body, TheVariants.Dir, TheVariants.File}
-use Rattle.adf_tree.specs.declared.entry.Entry.{Entry}
-use Rattle.adf_tree.specs.Tree.{Tree}
+use Rattle.adf_tree.specs.{declared.entry.Entry.Entry, Tree.Tree}
 use Rattle.adf_volume.specs.Layout.{EntryAt, IsFile, chain_nodes_by, Layout, at_node, exts_of, datas_of}
 use Rattle.adf_volume.proofs.Gathered.{asked_file, ext_below, member_is, node_is, root_in, root_is}
-use Rattle.adf_volume.proofs.TreeOrder.{DirNode, ordered, is_dir}
-use Rattle.adf_volume.specs.Fits.{FitsBy, FileFits, BodyFits, TableAt}
+use Rattle.adf_volume.proofs.{TreeOrder.DirNode, TreeOrder.ordered, TreeOrder.is_dir, Images.map_exts_high, Lists.at_index, Lists.index_past, Roles.asks_number}
+use Rattle.adf_volume.proofs.{Roles.dir_is_node, Roles.head_at, Roles.head_key, Roles.head_role, Roles.same_of, Walks.number_of, Walks.numbered, Walks.file_is}
+use Rattle.adf_volume.proofs.{Walks.is_there, Walks.of_walk, LayoutRoles.part_range, LayoutRoles.one_part, Places.exts_below, FormDemands.dir_not_file}
 use Rattle.adf_volume.specs.Walk.{Role, Before, Has, heads, HeadAt, DirAt, FileAt, MemberAt, NamesPage, data_count, Asks, Lacks, IsDue, ext_count, Enough, Walk}
 use Rattle.adf_volume.specs.Walk.{NewNameBy, form_demands_by, node_block, member_block, next_data, NoCauseBy, IsWalkBy}
-use Rattle.adf_volume.specs.Walk.Role.{Root, Page, MapExt, Head, Ext, Data}
-use Rattle.adf_volume.specs.Walk.IsWalkBy.{start, step}
-use Rattle.adf_volume.specs.LayoutRoles.{LayoutHasBy}
-use Rattle.adf_volume.proofs.Images.{map_exts_high}
 use Rattle.adf_volume.proofs.Lists.{at_fun, at_below, at_some, at_before, at_map, at_unmap, spelled_first, spelled_next, spelled_word, spelled_link, all_append}
-use Rattle.adf_volume.proofs.Lists.{at_index, index_past}
 use Rattle.adf_volume.proofs.Chains.{entry_at, entry_below, entry_some, place_at, one_place, sorted_places, chain_rises}
-use Rattle.adf_volume.proofs.Roles.{asks_number, dir_is_node, head_at, head_key, head_role, same_of}
-use Rattle.adf_volume.specs.Parts.{renumbered}
-use Rattle.adf_volume.proofs.Walks.{number_of, numbered, file_is, is_there, of_walk}
-use Rattle.adf_volume.proofs.LayoutRoles.{part_range, one_part}
-use Rattle.std.proofs.lemmas.Bool.{ltb-false, ltb-true}
-use Rattle.std.proofs.lemmas.Grind.{common_steps}
-use Rattle.adf_volume.proofs.Places.{exts_below}
-use Rattle.adf_volume.proofs.FormDemands.{dir_not_file}
 use Rattle.adf_tree.proofs.TreeInvariant.{slot_small_by}
 
 module _ {letters : Letters} (image : List ℕ) (t : Tree) (l : Layout) (fit : FitsBy letters image t l) where

@@ -2,28 +2,18 @@
 use Rattle.std.proofs.Common.{◌≡◌, ℕ, zero, suc, List, ◌+◌, ◌*◌, ◌/◌, ◌<◌, ◌≤◌, length, refl, sym, subst, ◌∙◌, arith}
 use Rattle.std.proofs.lemmas.Grind.{common_steps}
 use Rattle.adf_blocks.specs.declared.layout.TheConstants.{EXTENSION, FIRST_MAP_EXT, MAP_EXT_NEXT, MAP_EXT_PAGES, POINTERS, ROOT_PAGES, SECONDARY_TYPE, ST_FILE}
-use Rattle.adf_volume.specs.Lists.{At}
+use Rattle.adf_volume.specs.{Lists.At, Image.root_of, Image.word_in, Image.table_word, Fits.FitsBy, Fits.BodyFits, LayoutRoles.LayoutHasBy}
 use Rattle.adf_blocks.specs.Sizes.{blocks, pages_needed}
-use Rattle.adf_volume.specs.Image.{root_of, word_in, table_word}
-use Rattle.adf_base.specs.Hash.{slot_by}
-use Rattle.adf_base.specs.declared.hash.Letters.{Letters}
+use Rattle.adf_base.specs.{Hash.slot_by, declared.hash.Letters.Letters}
 use Rattle.adf_tree.specs.declared.entry.Body.{Body, TheVariants.Dir, TheVariants.File}
-use Rattle.adf_tree.specs.declared.entry.Entry.{Entry}
-use Rattle.adf_tree.specs.Tree.{Tree}
+use Rattle.adf_tree.specs.{declared.entry.Entry.Entry, Tree.Tree}
 use Rattle.adf_volume.specs.Layout.{EntryAt, Layout, at_node, exts_of, datas_of}
-use Rattle.adf_volume.specs.Fits.{FitsBy, BodyFits}
 use Rattle.adf_volume.specs.Walk.{Role, Has, heads, FileAt, MemberAt, data_count, IsWalkBy, IsWhole, Walk}
 use Rattle.adf_volume.specs.Walk.Role.{Root, Page, MapExt, Head, Ext, Data}
-use Rattle.adf_volume.specs.LayoutRoles.{LayoutHasBy}
-use Rattle.adf_volume.proofs.Gathered.{root_in}
-use Rattle.adf_volume.proofs.Lists.{at_fun, at_below, at_some, at_before, spelled_word, spelled_link}
-use Rattle.adf_volume.proofs.Chains.{entry_at, entry_below, entry_some, place_at}
-use Rattle.adf_volume.proofs.Walks.{numbered, page_word, asked_block, of_walk}
-use Rattle.adf_volume.proofs.Images.{map_exts_high, map_exts_low}
-use Rattle.adf_volume.proofs.LayoutRoles.{part_range}
-use Rattle.adf_volume.proofs.Roles.{head_role}
+use Rattle.adf_volume.proofs.{Gathered.root_in, Lists.at_fun, Lists.at_below, Lists.at_some, Lists.at_before, Lists.spelled_word, Lists.spelled_link}
+use Rattle.adf_volume.proofs.{Chains.entry_at, Chains.entry_below, Chains.entry_some, Chains.place_at, Walks.numbered, Walks.page_word, Walks.asked_block}
+use Rattle.adf_volume.proofs.{Walks.of_walk, Images.map_exts_high, Images.map_exts_low, LayoutRoles.part_range, Roles.head_role, Places.datas_below}
 use Rattle.adf_volume.proofs.WalkAgreement.{next_lacks, agreement, file_agrees, fit_file, has_head, has_node, asks_next, is_file}
-use Rattle.adf_volume.proofs.Places.{datas_below}
 
 file_word : (image : List ℕ) (t : Tree) (l : Layout) (n : ℕ) (e : Entry) (b : Body) (bytes : List ℕ) → b ≡ e.body
     → BodyFits image t.kind l n (at_node image l n) b → e.body ≡ File bytes → word_in image (at_node image l n) SECONDARY_TYPE ≡ ST_FILE

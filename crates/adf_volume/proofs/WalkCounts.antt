@@ -1,10 +1,8 @@
 -- Counts of directories and files.
 use Rattle.std.proofs.Common.{◌≡◌, ℕ, suc, List, [], ◌∷◌, ◌+◌, ◌-◌, length, count_by, cond, Bool, refl, sym, ap, ◌∙◌, arith, not}
-use Rattle.std.proofs.lemmas.List.Filters.{length-filter_both}
-use Rattle.std.proofs.lemmas.List.Sums.{length-filter, sum_by-cons}
+use Rattle.std.proofs.{lemmas.List.Filters.length-filter_both, lemmas.List.Sums.length-filter, lemmas.List.Sums.sum_by-cons}
 use Rattle.adf_tree.specs.declared.entry.Entry.{Entry}
-use Rattle.adf_volume.specs.Counts.{is_directory}
-use Rattle.adf_volume.specs.Lists.{At}
+use Rattle.adf_volume.specs.{Counts.is_directory, Lists.At}
 
 -- two lists of one length whose members agree have one count
 pub same_count : {X Y : Type 0} (f : X → Bool) (g : Y → Bool) (xs : List X) (ys : List Y) → length xs ≡ length ys

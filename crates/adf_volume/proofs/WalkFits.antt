@@ -3,20 +3,14 @@ use Rattle.std.proofs.Common.{ℕ, zero, suc, List, ◌+◌, ◌-◌, ◌*◌, �
 use native.Mathlib.Decide.{ℕ_discrete}
 use Rattle.adf_base.specs.declared.hash.Letters.{Letters}
 use Rattle.adf_blocks.specs.declared.layout.TheConstants.{MAP_EXT_PAGES, PAGE_BITS, ROOT_PAGES}
-use Rattle.adf_volume.specs.Image.{root_of}
+use Rattle.adf_volume.specs.{Image.root_of, Fits.FitsBy, Fits.FileFits, Made.tree_in_by, Made.layout_in, LayoutRoles.owner_of}
 use Rattle.adf_blocks.specs.Sizes.{blocks}
 use Rattle.adf_volume.specs.Demands.{AllHold, boot_demands_by, root_demands}
-use Rattle.adf_volume.proofs.TreeOrder.{dir_node, is_tree_from}
-use Rattle.adf_volume.specs.Fits.{FitsBy, FileFits}
+use Rattle.adf_volume.proofs.{TreeOrder.dir_node, TreeOrder.is_tree_from, MemberFacts.kept, MemberFacts.in_range, WholeWalks.map_exts_length}
+use Rattle.adf_volume.proofs.{WholeWalks.pages_length, WholeWalks.root_names, WalkOwners.is_owned, WalkOwners.owned_has, WalkOwners.once, Sizes.size_low}
 use Rattle.adf_volume.specs.Walk.{IsAbsent, IsFreeIn, bitmap_demands, IsWalkBy, IsWhole, Walk, Role.Page, Role.MapExt}
-use Rattle.adf_volume.specs.Made.{tree_in_by, layout_in}
-use Rattle.adf_volume.specs.LayoutRoles.{owner_of}
-use Rattle.adf_volume.proofs.MemberFacts.{kept, in_range}
 use Rattle.adf_volume.proofs.WalkMembers.{entries_length, places_length, pages, map_exts}
 use Rattle.adf_volume.proofs.WholeWalks.{chains_spelled, content_long, entry_fits, ext_names, file_at, file_fits, head_is, is_tree, map_ext_next}
-use Rattle.adf_volume.proofs.WholeWalks.{map_exts_length, pages_length, root_names}
-use Rattle.adf_volume.proofs.WalkOwners.{is_owned, owned_has, once}
-use Rattle.adf_volume.proofs.Sizes.{size_low}
 
 module _ {letters : Letters} (image : List ℕ) (w : Walk) (v : IsWalkBy letters image w) (whole : IsWhole image w)
     (boots : AllHold (boot_demands_by letters image)) where

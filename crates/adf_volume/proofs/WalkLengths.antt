@@ -2,14 +2,9 @@
 use Rattle.std.proofs.Common.{◌≡◌, ℕ, List, [], ◌∷◌, inl, inr, ◌≤◌, length, refl, sym, ap, subst, ◌∙◌, arith}
 use Rattle.std.proofs.lemmas.Grind.{common_steps}
 use Rattle.adf_base.specs.declared.hash.Letters.{Letters}
-use Rattle.adf_volume.specs.Layout.{owned}
-use Rattle.adf_volume.specs.LayoutRoles.{owner_of}
-use Rattle.adf_volume.specs.Lists.{In, NoBlockTwice}
-use Rattle.adf_volume.specs.Made.{layout_in}
+use Rattle.adf_volume.specs.{Layout.owned, LayoutRoles.owner_of, Lists.In, Lists.NoBlockTwice, Made.layout_in}
 use Rattle.adf_volume.specs.Walk.{Role, Has, heads, IsWalkBy, IsWhole, Walk, IsWalkBy.start, IsWalkBy.step}
-use Rattle.adf_volume.proofs.FitWalks.{without}
-use Rattle.adf_volume.proofs.PartDemands.{part_holds_by}
-use Rattle.adf_volume.proofs.WalkOwners.{is_owned, once, owned_has}
+use Rattle.adf_volume.proofs.{FitWalks.without, PartDemands.part_holds_by, WalkOwners.is_owned, WalkOwners.once, WalkOwners.owned_has}
 
 -- a list in which no block stands twice is no longer than one that has its blocks
 pub no_longer : {X Y : Type 0} (block : Y → ℕ) (xs : List (X × ℕ)) (ys : List Y) → NoBlockTwice xs

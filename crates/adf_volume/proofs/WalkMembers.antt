@@ -1,30 +1,19 @@
 -- The tree and the layout of a walk list its members.
 use Rattle.std.proofs.Common.{◌≡◌, ℕ, zero, suc, List, [], ◌∷◌, ◌++◌, inl, inr, ◌+◌, ◌*◌, ◌/◌, ◌<◌, ◌≤◌, length, refl, sym, ap, subst, ◌∙◌, arith, Bool, true}
 use Rattle.std.proofs.Common.{false, cond, eq-eqb, append-nil, rules, ◌==◌, ◌&&◌}
-use Rattle.std.proofs.lemmas.Bool.{eqb-true}
-use Rattle.std.proofs.lemmas.Grind.{common_steps}
+use Rattle.std.proofs.{lemmas.Bool.eqb-true, lemmas.Grind.common_steps}
 use Rattle.adf_blocks.specs.declared.layout.TheConstants.{MAP_EXT_PAGES, POINTERS, ROOT_PAGES}
-use Rattle.adf_volume.specs.Lists.{At}
+use Rattle.adf_volume.specs.{Lists.At, Image.kind_of, Image.table_word, Image.name_of, Image.root_of, Layout.nodes_from_by, Walk.IsWalkBy, Walk.IsWalkBy.start}
+use Rattle.adf_volume.specs.{Walk.IsWalkBy.step, Made.push_head, Made.of_heads, Made.entries_in, Made.places_in}
 use Rattle.adf_blocks.specs.Sizes.{blocks, pages_needed}
-use Rattle.adf_volume.specs.Image.{kind_of, table_word, name_of, root_of}
-use Rattle.adf_base.specs.Hash.{slot_by}
-use Rattle.adf_base.specs.declared.hash.Letters.{Letters}
-use Rattle.adf_volume.specs.Layout.{nodes_from_by}
+use Rattle.adf_base.specs.{Hash.slot_by, declared.hash.Letters.Letters}
 use Rattle.adf_volume.specs.Walk.{Role, Has, HeadAt, head_count, heads, data_count, NamesPage, Asks, IsDue, Lacks, ext_count_of, Walk, ext_count, NoCauseBy}
-use Rattle.adf_volume.specs.Walk.{IsWalkBy}
 use Rattle.adf_volume.specs.Walk.Role.{Root, Page, MapExt, Head, Ext, Data}
-use Rattle.adf_volume.specs.Walk.IsWalkBy.{start, step}
 use Rattle.adf_volume.specs.Made.{picked, is_page, pages_in, is_map_ext, map_exts_in, is_ext_of, exts_in, push_ext, is_data_of, datas_in, entry_in, place_in}
-use Rattle.adf_volume.specs.Made.{push_head, of_heads, entries_in, places_in}
-use Rattle.adf_volume.proofs.Gathered.{ext_counted, next_ext}
-use Rattle.adf_volume.proofs.FormDemands.{head_slot_is}
-use Rattle.adf_volume.proofs.Lists.{at_below, at_some, at_old, at_new, at_snoc, snoc_length}
-use Rattle.adf_volume.proofs.Chains.{chain_snoc}
-use Rattle.adf_volume.proofs.Roles.{asks_number, head_at, head_in, head_role, new_number, no_head}
-use Rattle.adf_volume.proofs.Walks.{page_word, is_there, of_walk}
-use Rattle.adf_volume.proofs.MemberFacts.{kept, there, enough, map_ext_down}
-use Rattle.adf_volume.proofs.PartDemands.{part_holds_by}
-use Rattle.adf_volume.proofs.Comparisons.{both_equal, equal_both}
+use Rattle.adf_volume.proofs.{Gathered.ext_counted, Gathered.next_ext, FormDemands.head_slot_is, Lists.at_below, Lists.at_some, Lists.at_old, Lists.at_new}
+use Rattle.adf_volume.proofs.{Lists.at_snoc, Lists.snoc_length, Chains.chain_snoc, Roles.asks_number, Roles.head_at, Roles.head_in, Roles.head_role}
+use Rattle.adf_volume.proofs.{Roles.new_number, Roles.no_head, Walks.page_word, Walks.is_there, Walks.of_walk, MemberFacts.kept, MemberFacts.there}
+use Rattle.adf_volume.proofs.{MemberFacts.enough, MemberFacts.map_ext_down, PartDemands.part_holds_by, Comparisons.both_equal, Comparisons.equal_both}
 
 -- the blocks that a test picks are those of one kind of role, by their numbers
 pub record Lists (f : Role → Bool) (role : ℕ → Role) (w : Walk) : Type 0 where

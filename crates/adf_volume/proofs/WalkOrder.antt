@@ -2,12 +2,9 @@
 use Rattle.std.proofs.Common.{◌≡◌, ℕ, suc, List, [], ◌∷◌, inl, inr, ◌<◌, refl, ap, subst, arith}
 use Rattle.std.proofs.lemmas.Grind.{common_steps}
 use Rattle.adf_base.specs.declared.hash.Letters.{Letters}
-use Rattle.adf_volume.specs.Image.{root_of}
+use Rattle.adf_volume.specs.{Image.root_of, Walk.IsWalkBy.start, Walk.IsWalkBy.step}
 use Rattle.adf_volume.specs.Walk.{Role, Before, Same, Has, head_count, heads, HeadAt, Asks, Lacks, IsDue, IsWalkBy, Walk, Role.Root}
-use Rattle.adf_volume.specs.Walk.IsWalkBy.{start, step}
-use Rattle.adf_volume.proofs.AsksSplit.{gathered_split}
-use Rattle.adf_volume.proofs.Roles.{head_in, head_role, new_number, no_head}
-use Rattle.adf_volume.proofs.Walks.{number_of, of_walk}
+use Rattle.adf_volume.proofs.{AsksSplit.gathered_split, Roles.head_in, Roles.head_role, Roles.new_number, Roles.no_head, Walks.number_of, Walks.of_walk}
 
 pub before_trans : (x y z : Role) → Before x y → Before y z → Before x z
 before_trans x y z h k = (omega arith, (λ e. omega arith), (λ e f. omega arith))

@@ -2,21 +2,13 @@
 use Rattle.std.proofs.Common.{◌≡◌, ℕ, zero, suc, List, ◌<◌, length, sym, ap, subst, ◌∙◌, arith}
 use Rattle.std.proofs.lemmas.Grind.{common_steps}
 use Rattle.adf_base.specs.declared.hash.Letters.{Letters}
-use Rattle.adf_volume.specs.Lists.{At, In, NoBlockTwice}
-use Rattle.adf_volume.specs.Layout.{datas_at, exts_at, owned}
-use Rattle.adf_volume.specs.declared.owner.Owner.{Owner}
+use Rattle.adf_volume.specs.{Lists.At, Lists.In, Lists.NoBlockTwice, Layout.datas_at, Layout.exts_at, Layout.owned, declared.owner.Owner.Owner, Made.datas_in}
+use Rattle.adf_volume.specs.{Made.entries_in, Made.exts_in, Made.layout_in, Made.places_in, Made.tree_in_by, LayoutRoles.LayoutHasBy, LayoutRoles.owner_of}
 use Rattle.adf_volume.specs.Walk.{Role, Has, IsWalkBy, IsWhole, Walk, Role.Root, Role.Page, Role.MapExt, Role.Head, Role.Ext, Role.Data}
-use Rattle.adf_volume.specs.Made.{datas_in, entries_in, exts_in, layout_in, places_in, tree_in_by}
-use Rattle.adf_volume.specs.LayoutRoles.{LayoutHasBy, owner_of}
-use Rattle.adf_volume.proofs.Gathered.{root_in, root_is}
-use Rattle.adf_volume.proofs.Roles.{head_at}
+use Rattle.adf_volume.proofs.{Gathered.root_in, Gathered.root_is, Roles.head_at, LayoutRoles.owned_part, LayoutRoles.part_owned, Owners.once_owned}
+use Rattle.adf_volume.proofs.{Owners.blocks_once, MemberFacts.kept, WholeWalks.head_is, Places.exts_below, Places.datas_below}
 use Rattle.adf_volume.proofs.Walks.{numbered as numbers, one_role, ext_file, of_walk}
-use Rattle.adf_volume.proofs.LayoutRoles.{owned_part, part_owned}
-use Rattle.adf_volume.proofs.Owners.{once_owned, blocks_once}
-use Rattle.adf_volume.proofs.MemberFacts.{kept}
 use Rattle.adf_volume.proofs.WalkMembers.{chains, entries_length, places_length, ext_has, has_ext, data_has, has_data, pages, map_exts}
-use Rattle.adf_volume.proofs.WholeWalks.{head_is}
-use Rattle.adf_volume.proofs.Places.{exts_below, datas_below}
 
 module _ {letters : Letters} (image : List ℕ) (w : Walk) (v : IsWalkBy letters image w) (whole : IsWhole image w) where
   long : length (places_in w w) ≡ length (entries_in image w w)

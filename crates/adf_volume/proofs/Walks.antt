@@ -5,12 +5,9 @@ use native.Mathlib.Decide.{dec_lt}
 use Rattle.adf_base.specs.declared.hash.Letters.{Letters}
 use Rattle.adf_blocks.specs.declared.layout.TheConstants.{FIRST_PAGE, MAP_EXT_PAGES, ROOT_PAGES}
 use Rattle.adf_blocks.specs.Sizes.{blocks, pages_needed}
-use Rattle.adf_volume.specs.Image.{root_of}
+use Rattle.adf_volume.specs.{Image.root_of, Walk.Role.Page, Walk.Role.MapExt, Walk.Role.Head, Walk.Role.Ext, Walk.IsWalkBy.start, Walk.IsWalkBy.step}
 use Rattle.adf_volume.specs.Walk.{Role, second, Has, heads, HeadAt, FileAt, Asks, IsDue, IsWalkBy, IsWhole, Before, node_block, Walk}
-use Rattle.adf_volume.specs.Walk.Role.{Page, MapExt, Head, Ext}
-use Rattle.adf_volume.specs.Walk.IsWalkBy.{start, step}
-use Rattle.adf_volume.proofs.Roles.{dec_has, has_low, head_key}
-use Rattle.adf_volume.proofs.PartDemands.{part_holds_by}
+use Rattle.adf_volume.proofs.{Roles.dec_has, Roles.has_low, Roles.head_key, PartDemands.part_holds_by}
 use Rattle.adf_volume.proofs.Gathered as gathered
 use Rattle.adf_volume.proofs.Gathered.{IsGathered, IsGathered.start as gathered_start, IsGathered.step as gathered_step}
 

@@ -5,35 +5,26 @@ use Rattle.std.proofs.lemmas.Bool.{eqb-true}
 use native.Mathlib.Decide.{dec_lt}
 use Rattle.adf_blocks.specs.declared.layout.TheConstants.{EXTENSION, FIRST_MAP_EXT, FIRST_PAGE, FIRST_SLOT, MAP_EXT_NEXT, MAP_EXT_PAGES, NEXT_IN_CHAIN}
 use Rattle.adf_blocks.specs.declared.layout.TheConstants.{POINTERS, ROOT_PAGES, SECONDARY_TYPE, SIZE, SLOTS, ST_DIR, ST_FILE}
-use Rattle.adf_volume.specs.Lists.{At, Spelled}
+use Rattle.adf_volume.specs.{Lists.At, Lists.Spelled, Fits.EntryFitsBy, Fits.FileFits, Fits.BodyFits, Fits.TableAt}
 use Rattle.adf_blocks.specs.Sizes.{blocks, count, pages_needed}
 use Rattle.adf_volume.specs.Image.{word_in, root_of, map_exts_needed, kind_of, held, table_word, name_of, content}
-use Rattle.adf_base.specs.Hash.{slot_by}
-use Rattle.adf_base.specs.declared.hash.Letters.{Letters}
+use Rattle.adf_base.specs.{Hash.slot_by, declared.hash.Letters.Letters}
 use Rattle.adf_names.specs.Texts.{uppers_by}
 use Rattle.adf_volume.specs.Demands.{AllHold, boot_demands_by, head_demands_by, ext_demands, data_demands}
-use Rattle.adf_tree.specs.declared.entry.Entry.{Entry}
+use Rattle.adf_tree.specs.{declared.entry.Entry.Entry, declared.entry.Body.TheVariants.Dir, declared.entry.Body.TheVariants.File}
 use Rattle.adf_volume.specs.Layout.{EntryAt, nodes_from_by, chain_nodes_by, at_node, exts_of, datas_of}
-use Rattle.adf_volume.proofs.TreeOrder.{Ordered, DirNode}
-use Rattle.adf_tree.specs.declared.entry.Body.TheVariants.{Dir, File}
-use Rattle.adf_volume.specs.Fits.{EntryFitsBy, FileFits, BodyFits, TableAt}
+use Rattle.adf_volume.proofs.{TreeOrder.Ordered, TreeOrder.DirNode, FormDemands.head_type, FormDemands.dir_not_file, WalkOrder.in_order, Roles.head_at}
+use Rattle.adf_volume.proofs.{Roles.head_role, WalkMembers.chains, Places.place_parts, Sizes.size_low}
 use Rattle.adf_volume.specs.Walk.{Before, Has, heads, HeadAt, DirAt, FileAt, MemberAt, NamesPage, data_count, ext_count, IsWalkBy, IsWhole, Walk}
 use Rattle.adf_volume.specs.Walk.Role.{Page, MapExt, Head, Ext, Data}
 use Rattle.adf_volume.specs.Made.{pages_in, map_exts_in, exts_in, datas_in, body_in, entry_in, place_in, entries_in, places_in, tree_in_by, layout_in}
-use Rattle.adf_volume.proofs.FormDemands.{head_type, dir_not_file}
 use Rattle.adf_volume.proofs.Images.{content_length, map_exts_high, map_exts_low}
 use Rattle.adf_volume.proofs.Lists.{at_fun, at_below, at_some, at_unmap, spelled_from, at_index, index_past}
 use Rattle.adf_volume.proofs.Gathered.{file_one, parent_below, one_block, one_head, root_in, root_is}
 use Rattle.adf_volume.proofs.Walks.{of_walk, number_of, numbered, ext_file, asked_block, asked_header, page_word}
-use Rattle.adf_volume.proofs.WalkOrder.{in_order}
 use Rattle.adf_volume.proofs.MemberFacts.{kept, there, IsNext, new_names, in_range, map_ext_low}
-use Rattle.adf_volume.proofs.Roles.{head_at, head_role}
 use Rattle.adf_volume.proofs.WalkMembers.{entries_length, entry_has, place_has, exts_length, ext_has, has_ext, data_has, has_data, pages, map_exts, slot_is}
-use Rattle.adf_volume.proofs.WalkMembers.{chains}
-use Rattle.adf_volume.proofs.Places.{place_parts}
-use Rattle.std.proofs.lemmas.List.{length-map, nil_from_length}
-use Rattle.std.proofs.lemmas.Grind.{common_steps}
-use Rattle.adf_volume.proofs.Sizes.{size_low}
+use Rattle.std.proofs.{lemmas.List.length-map, lemmas.List.nil_from_length, lemmas.Grind.common_steps}
 use Rattle.adf_tree.proofs.ChildLookup.{same_slot_by}
 
 body_dir : (image : List ℕ) (w : Walk) (n b : ℕ) (x : Bool) → cond x Dir (File (content image (kind_of image) b (datas_in w n))) ≡ Dir

@@ -1,10 +1,8 @@
 -- What a volume has in all.
 use Rattle.std.specs.Prelude.{◌-◌, ℕ, Bool, not, List, length, count_by}
-use Rattle.adf_tree.specs.declared.entry.Entry.{Entry}
-use Rattle.adf_tree.specs.Tree.{Tree, is_dir_body}
+use Rattle.adf_tree.specs.{declared.entry.Entry.Entry, Tree.Tree, Tree.is_dir_body}
 use Rattle.adf_blocks.specs.Sizes.{blocks}
-use Rattle.adf_volume.specs.Layout.{Layout, owned}
-use Rattle.adf_volume.specs.declared.counts.Counts.{Counts}
+use Rattle.adf_volume.specs.{Layout.Layout, Layout.owned, declared.counts.Counts.Counts}
 
 -- whether an entry is a directory
 abbrev pub is_directory : Entry → Bool

@@ -4,13 +4,8 @@ use Rattle.adf_base.specs.Words.{block}
 use Rattle.adf_base.specs.declared.hash.Letters.{Letters, TheVariants.Ascii, TheVariants.International as InternationalLetters}
 use Rattle.adf_names.specs.declared.kind.Kind.{Kind, TheVariants.Ofs, TheVariants.Ffs}
 use Rattle.adf_blocks.specs.declared.cause.Cause.{Cause, TheVariants.BadSize, TheVariants.NotDos, TheVariants.International, TheVariants.DirCache}
-use Rattle.adf_blocks.specs.Forms.{Clause}
+use Rattle.adf_blocks.specs.{Forms.Clause, RootBlock.root_form, PageBlock.page_form, HeadBlock.head_form_by, ExtBlock.ext_form, DataBlock.data_form}
 use Rattle.adf_blocks.specs.Sizes.{blocks, is_allowed}
-use Rattle.adf_blocks.specs.RootBlock.{root_form}
-use Rattle.adf_blocks.specs.PageBlock.{page_form}
-use Rattle.adf_blocks.specs.HeadBlock.{head_form_by}
-use Rattle.adf_blocks.specs.ExtBlock.{ext_form}
-use Rattle.adf_blocks.specs.DataBlock.{data_form}
 
 -- a condition, the cause to report if it fails, and the block reported with it
 pub record Demand : Type 1 where

@@ -2,10 +2,8 @@
 use Rattle.std.specs.Prelude.{◌≡◌, ◌≢◌, ◌++◌, ℕ, List, codes}
 use Rattle.std.specs.Fmt.{decimal}
 use Rattle.adf_base.specs.declared.hash.Letters.{Letters}
-use Rattle.adf_blocks.specs.Causes.{cause_text}
-use Rattle.adf_blocks.specs.declared.cause.Cause.{Cause, TheVariants.NoMemory}
-use Rattle.adf_volume.specs.Walk.{FirstFaultBy}
-use Rattle.adf_volume.specs.declared.fault.Fault.{Fault}
+use Rattle.adf_blocks.specs.{Causes.cause_text, declared.cause.Cause.Cause, declared.cause.Cause.TheVariants.NoMemory}
+use Rattle.adf_volume.specs.{Walk.FirstFaultBy, declared.fault.Fault.Fault}
 
 -- a fault at a block
 abbrev pub fault : ℕ → Cause → Fault

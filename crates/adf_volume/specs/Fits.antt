@@ -4,20 +4,17 @@
 -- p a directory's node; s a slot; o an owner.
 use Rattle.std.specs.Prelude.{◌≡◌, ℕ, List, [], ◌+◌, ◌-◌, ◌*◌, ◌/◌, ◌%◌, ◌<◌, ◌≤◌, ◌↔◌, map, length, slice_index}
 use Rattle.std.proofs.Common.{zero, suc}
-use Rattle.adf_volume.specs.Lists.{At, In, Spelled, NoBlockTwice}
+use Rattle.adf_volume.specs.{Lists.At, Lists.In, Lists.Spelled, Lists.NoBlockTwice, declared.owner.Owner.Owner}
 use Rattle.adf_names.specs.declared.kind.Kind.{Kind}
 use Rattle.adf_blocks.specs.Sizes.{blocks, count, pages_needed}
 use Rattle.adf_volume.specs.Image.{word_in, root_of, map_exts_needed, kind_of, held, table_word, name_of, meta_of, stamps_of, content, IsFreeAt}
-use Rattle.adf_base.specs.Hash.{slot_by}
-use Rattle.adf_base.specs.declared.hash.Letters.{Letters, TheVariants.Ascii}
+use Rattle.adf_base.specs.{Hash.slot_by, declared.hash.Letters.Letters, declared.hash.Letters.TheVariants.Ascii}
 use Rattle.adf_blocks.specs.declared.layout.TheConstants.{EXTENSION, FIRST_MAP_EXT, FIRST_PAGE, FIRST_SLOT, MAP_EXT_NEXT, MAP_EXT_PAGES, NEXT_IN_CHAIN}
 use Rattle.adf_blocks.specs.declared.layout.TheConstants.{PAGE_BITS, POINTERS, ROOT_PAGES, SECONDARY_TYPE, SIZE, SLOTS, ST_DIR, ST_FILE}
 use Rattle.adf_volume.specs.Demands.{AllHold, boot_demands_by, root_demands, page_demands, head_demands_by, ext_demands, data_demands}
 use Rattle.adf_tree.specs.declared.entry.Body.{Body, TheVariants.Dir, TheVariants.File}
-use Rattle.adf_tree.specs.declared.entry.Entry.{Entry}
-use Rattle.adf_tree.specs.Tree.{Tree, IsDir, IsTreeBy}
+use Rattle.adf_tree.specs.{declared.entry.Entry.Entry, Tree.Tree, Tree.IsDir, Tree.IsTreeBy}
 use Rattle.adf_volume.specs.Layout.{EntryAt, chain_nodes_by, Layout, at_node, exts_of, datas_of, owned}
-use Rattle.adf_volume.specs.declared.owner.Owner.{Owner}
 
 -- block m of a file's table: the header (m = 0), then the extension blocks
 abbrev pub TableAt : List ℕ → Layout → ℕ → ℕ → ℕ → Type 0

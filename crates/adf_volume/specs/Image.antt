@@ -4,14 +4,9 @@ use Rattle.std.proofs.Common.{suc}
 use Rattle.adf_base.specs.Words.{block, word}
 use Rattle.adf_base.specs.declared.hash.Letters.{Letters, TheVariants.Ascii, TheVariants.International}
 use Rattle.adf_names.specs.declared.kind.Kind.{Kind, TheVariants.Ofs, TheVariants.Ffs}
-use Rattle.adf_names.specs.declared.meta.Meta.{Meta}
-use Rattle.adf_names.specs.declared.meta.Stamps.{Stamps}
+use Rattle.adf_names.specs.{declared.meta.Meta.Meta, declared.meta.Stamps.Stamps}
 use Rattle.adf_blocks.specs.declared.layout.TheConstants.{DATA_BYTES, FIRST_POINTER, MAP_EXT_PAGES, NAME, POINTERS, ROOT_PAGES, SIZE}
-use Rattle.adf_blocks.specs.Forms.{text_at}
-use Rattle.adf_blocks.specs.HeadBlock.{meta_at}
-use Rattle.adf_blocks.specs.PageBlock.{IsFreeBit}
-use Rattle.adf_blocks.specs.RootBlock.{stamps_at}
-use Rattle.adf_blocks.specs.Sizes.{blocks, chunk, middle}
+use Rattle.adf_blocks.specs.{Forms.text_at, HeadBlock.meta_at, PageBlock.IsFreeBit, RootBlock.stamps_at, Sizes.blocks, Sizes.chunk, Sizes.middle}
 
 -- word i of block b
 abbrev pub word_in : List ℕ → ℕ → ℕ → ℕ

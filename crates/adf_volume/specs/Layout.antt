@@ -2,13 +2,8 @@
 use Rattle.std.specs.Prelude.{◌≡◌, ℕ, List, [], ◌∷◌, ◌++◌, cond}
 use Rattle.std.proofs.Common.{zero, suc}
 use Rattle.adf_base.specs.declared.hash.Letters.{Letters, TheVariants.Ascii}
-use Rattle.adf_tree.specs.declared.entry.Entry.{Entry}
-use Rattle.adf_tree.specs.declared.entry.Body.TheVariants.{File}
-use Rattle.adf_tree.specs.Tree.{Tree}
-use Rattle.adf_tree.specs.Chain.{in_chain_by}
-use Rattle.adf_volume.specs.Lists.{At, numbered}
-use Rattle.adf_volume.specs.Image.{root_of}
-use Rattle.adf_volume.specs.declared.owner.Owner.{Owner}
+use Rattle.adf_tree.specs.{declared.entry.Entry.Entry, declared.entry.Body.TheVariants.File, Tree.Tree, Chain.in_chain_by}
+use Rattle.adf_volume.specs.{Lists.At, Lists.numbered, Image.root_of, declared.owner.Owner.Owner}
 use Rattle.adf_volume.specs.declared.owner.Owner.TheVariants.{Root, Page, MapExt, Head, Ext, Data}
 
 -- entry n of a tree, counted from 1

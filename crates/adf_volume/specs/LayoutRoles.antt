@@ -1,12 +1,10 @@
 -- The parts of a tree and a layout, by the roles of a walk.
 use Rattle.std.specs.Prelude.{◌≡◌, ℕ, List}
 use Rattle.std.proofs.Common.{zero, suc}
-use Rattle.adf_volume.specs.Lists.{At}
-use Rattle.adf_volume.specs.Image.{root_of}
+use Rattle.adf_volume.specs.{Lists.At, Image.root_of, declared.owner.Owner.Owner}
 use Rattle.adf_base.specs.declared.hash.Letters.{Letters, TheVariants.Ascii}
 use Rattle.adf_tree.specs.Tree.{Tree}
 use Rattle.adf_volume.specs.Layout.{Layout, chain_nodes_by, at_node, exts_of, datas_of}
-use Rattle.adf_volume.specs.declared.owner.Owner.{Owner}
 use Rattle.adf_volume.specs.declared.owner.Owner.TheVariants.{Root as TheRoot, Page as APage, MapExt as AMapExt, Head as AHead, Ext as AnExt, Data as AData}
 use Rattle.adf_volume.specs.Walk.{Role, Role.Root, Role.Page, Role.MapExt, Role.Head, Role.Ext, Role.Data}
 

@@ -4,10 +4,8 @@ use Rattle.adf_base.specs.declared.hash.Letters.{Letters, TheVariants.Ascii}
 use Rattle.adf_blocks.specs.declared.layout.TheConstants.{SECONDARY_TYPE, ST_DIR}
 use Rattle.adf_volume.specs.Image.{word_in, root_of, kind_of, name_of, meta_of, stamps_of, content}
 use Rattle.adf_tree.specs.declared.entry.Body.{Body, TheVariants.Dir, TheVariants.File}
-use Rattle.adf_tree.specs.declared.entry.Entry.{Entry}
-use Rattle.adf_tree.specs.Tree.{Tree}
-use Rattle.adf_volume.specs.Layout.{Place, Layout}
-use Rattle.adf_volume.specs.Walk.{Role, Walk, Role.Page, Role.MapExt, Role.Head, Role.Ext, Role.Data}
+use Rattle.adf_tree.specs.{declared.entry.Entry.Entry, Tree.Tree}
+use Rattle.adf_volume.specs.{Layout.Place, Layout.Layout, Walk.Role, Walk.Walk, Walk.Role.Page, Walk.Role.MapExt, Walk.Role.Head, Walk.Role.Ext, Walk.Role.Data}
 
 -- the blocks of the members that satisfy a test, in order
 abbrev pub picked : (Role → Bool) → Walk → List ℕ

@@ -1,9 +1,8 @@
 -- Parts as roles, and the entries that owners are parts of.
 use Rattle.std.specs.Prelude.{ℕ}
 use Rattle.adf_volume.specs.Walk.{Role, Role.Root, Role.Page, Role.MapExt, Role.Head, Role.Ext, Role.Data}
-use Rattle.adf_volume.specs.declared.owner.Owner.{Owner}
+use Rattle.adf_volume.specs.{declared.owner.Owner.Owner, declared.part.Part.Part}
 use Rattle.adf_volume.specs.declared.owner.Owner.TheVariants as owner
-use Rattle.adf_volume.specs.declared.part.Part.{Part}
 use Rattle.adf_volume.specs.declared.part.Part.TheVariants as part
 
 -- the part as a role

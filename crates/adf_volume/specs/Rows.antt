@@ -1,13 +1,10 @@
 -- The rows of entries.
 use Rattle.std.specs.Prelude.{ℕ, List, length}
-use Rattle.adf_blocks.specs.declared.layout.TheConstants.{NAME}
+use Rattle.adf_blocks.specs.{declared.layout.TheConstants.NAME, Forms.text_at, HeadBlock.body_at, HeadBlock.meta_at}
 use Rattle.adf_tree.specs.declared.entry.Body.{Body, TheVariants.Dir as ADir, TheVariants.File as AFile}
 use Rattle.adf_tree.specs.declared.entry.Entry.{Entry}
-use Rattle.adf_blocks.specs.Forms.{text_at}
-use Rattle.adf_blocks.specs.HeadBlock.{body_at, meta_at}
 use Rattle.adf_blocks.specs.declared.head.HeadBody.{HeadBody, TheVariants.Dir as HeadDir, TheVariants.File as HeadFile}
-use Rattle.adf_volume.specs.declared.row.Row.{Row}
-use Rattle.adf_volume.specs.declared.row.RowBody.{RowBody, TheVariants.Dir, TheVariants.File}
+use Rattle.adf_volume.specs.{declared.row.Row.Row, declared.row.RowBody.RowBody, declared.row.RowBody.TheVariants.Dir, declared.row.RowBody.TheVariants.File}
 
 -- the body of a row, from the body of a header
 abbrev pub row_body : HeadBody → RowBody

@@ -1,15 +1,9 @@
 -- Small images, for trying the definitions.
 use Rattle.std.specs.Prelude.{ℕ, List, [], ◌∷◌, ◌++◌, replicate}
 use Rattle.std.specs.List.{concat}
-use Rattle.adf_base.specs.Words.{with_word}
-use Rattle.adf_base.specs.declared.dates.Stamp.{Stamp}
-use Rattle.adf_base.specs.declared.hash.Letters.{Letters, TheVariants.Ascii}
-use Rattle.adf_names.specs.declared.kind.Kind.TheVariants.{Ofs, Ffs}
-use Rattle.adf_names.specs.Meta.{new_meta}
-use Rattle.adf_names.specs.declared.meta.Stamps.{Stamps}
-use Rattle.adf_tree.specs.declared.entry.Body.TheVariants.{File}
-use Rattle.adf_tree.specs.declared.entry.Entry.{Entry}
-use Rattle.adf_tree.specs.Tree.{Tree}
+use Rattle.adf_base.specs.{Words.with_word, declared.dates.Stamp.Stamp, declared.hash.Letters.Letters, declared.hash.Letters.TheVariants.Ascii}
+use Rattle.adf_names.specs.{declared.kind.Kind.TheVariants.Ofs, declared.kind.Kind.TheVariants.Ffs, Meta.new_meta, declared.meta.Stamps.Stamps}
+use Rattle.adf_tree.specs.{declared.entry.Body.TheVariants.File, declared.entry.Entry.Entry, Tree.Tree}
 use Rattle.adf_volume.specs.Layout.{Layout}
 
 -- the root of an empty volume of 4 blocks: words 0, 3, 5, 78, 79 and 127

@@ -1,11 +1,8 @@
 -- Images with a valid size, boot block and root.
 use Rattle.std.specs.Prelude.{◌≡◌, ◌/◌, ◌%◌, ◌==◌, ◌&&◌, Bool, ℕ, List, ◌∷◌, ◌++◌, length}
-use Rattle.adf_base.specs.Words.{block}
-use Rattle.adf_base.specs.declared.hash.Letters.{Letters, TheVariants.Ascii}
-use Rattle.adf_blocks.specs.declared.cause.Cause.TheVariants.{BadSize}
-use Rattle.adf_blocks.specs.Forms.{Clause}
+use Rattle.adf_base.specs.{Words.block, declared.hash.Letters.Letters, declared.hash.Letters.TheVariants.Ascii}
+use Rattle.adf_blocks.specs.{declared.cause.Cause.TheVariants.BadSize, Forms.Clause, Sizes.blocks, Sizes.is_allowed}
 use Rattle.adf_names.specs.declared.kind.Kind.{Kind}
-use Rattle.adf_blocks.specs.Sizes.{blocks, is_allowed}
 use Rattle.adf_volume.specs.Demands.{AllHold, boot_demands_by, boot_form_by, root_demands}
 use Rattle.adf_volume.specs.Image.{kind_of, letters_of, root_of}
 

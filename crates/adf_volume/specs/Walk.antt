@@ -4,16 +4,14 @@
 -- k the number of a page, an extension block or a data block; h a header's block.
 use Rattle.std.specs.Prelude.{◌≡◌, ℕ, List, [], ◌∷◌, ◌⊎◌, ◌+◌, ◌-◌, ◌*◌, ◌/◌, ◌%◌, ◌<◌, ◌≤◌, ◌≢◌, cond, ◌==◌, ◌++◌, nat_lt}
 use Rattle.std.proofs.Common.{zero, suc}
-use Rattle.adf_blocks.specs.declared.cause.Cause.{Cause}
+use Rattle.adf_blocks.specs.{declared.cause.Cause.Cause, Sizes.blocks, Sizes.count, Sizes.pages_needed}
 use Rattle.adf_blocks.specs.declared.cause.Cause.TheVariants.{OutOfRange, Taken, SameName, ShortFile, LostBlock, OwnedFree}
-use Rattle.adf_blocks.specs.Sizes.{blocks, count, pages_needed}
-use Rattle.adf_volume.specs.Image.{word_in, root_of, kind_of, held, table_word, name_of, IsFreeAt}
+use Rattle.adf_volume.specs.{Image.word_in, Image.root_of, Image.kind_of, Image.held, Image.table_word, Image.name_of, Image.IsFreeAt, Demands.data_demands}
 use Rattle.adf_blocks.specs.declared.layout.TheConstants.{EXTENSION, FIRST_MAP_EXT, FIRST_PAGE, FIRST_SLOT, MAP_EXT_NEXT, MAP_EXT_PAGES, NEXT_IN_CHAIN}
 use Rattle.adf_blocks.specs.declared.layout.TheConstants.{PAGE_BITS, POINTERS, ROOT_PAGES, SECONDARY_TYPE, SIZE, SLOTS, ST_DIR, ST_FILE}
 use Rattle.adf_base.specs.declared.hash.Letters.{Letters, TheVariants.Ascii}
 use Rattle.adf_names.specs.Texts.{uppers_by}
 use Rattle.adf_volume.specs.Demands.{Demand, demand, AllHold, FirstFails, boot_demands_by, root_demands, page_demands, head_demands_by, ext_demands}
-use Rattle.adf_volume.specs.Demands.{data_demands}
 
 -- Head n p s j is the header of node n, at position j of the chain of slot s of directory p.
 pub data Role : Type 0 where

@@ -2,8 +2,7 @@
 
 ghost use Rattle.std.specs.Prelude.{◌≡◌, ◌<◌, ◌≤◌};
 ghost use Rattle.adf_base.specs.Words.{block};
-ghost use Rattle.adf_blocks.specs.HeadBlock.{body_at};
-ghost use Rattle.adf_blocks.specs.Sizes.{blocks};
+ghost use Rattle.adf_blocks.specs.{HeadBlock.body_at, Sizes.blocks};
 ghost use Rattle.adf_volume.specs.Image.{kind_of, letters_of, root_of, word_in};
 ghost use Rattle.adf_volume.specs.Start.{IsImage, IsOwnBegun};
 

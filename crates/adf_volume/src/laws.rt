@@ -3,23 +3,15 @@
 ghost use Rattle.std.specs.Prelude.{◌≡◌, ◌<◌, ℕ, List, ◌*◌, ◌-◌, ◌↔◌, length, map, Some, None};
 ghost use Rattle.std.specs.List.{All, concat};
 ghost use Rattle.adf_base.specs.declared.hash.Letters.{Letters};
-ghost use Rattle.adf_tree.specs.declared.entry.Entry.{Entry};
+ghost use Rattle.adf_tree.specs.{declared.entry.Entry.Entry, Bounds.IsBounded, Chain.chain_by, Tree.Tree, Tree.entry};
 ghost use Rattle.adf_names.specs.declared.kind.Kind.{Kind};
-ghost use Rattle.adf_tree.specs.Bounds.{IsBounded};
-ghost use Rattle.adf_tree.specs.Chain.{chain_by};
-ghost use Rattle.adf_tree.specs.Tree.{Tree, entry};
-ghost use Rattle.adf_blocks.specs.declared.cause.Cause.{Cause};
+ghost use Rattle.adf_blocks.specs.{declared.cause.Cause.Cause, Forms.Clause, Forms.first_cause, Sizes.blocks};
 ghost use Rattle.adf_blocks.specs.declared.layout.TheConstants.{SIZE};
-ghost use Rattle.adf_blocks.specs.Forms.{Clause, first_cause};
-ghost use Rattle.adf_blocks.specs.Sizes.{blocks};
-ghost use Rattle.adf_volume.specs.Lists.{At};
+ghost use Rattle.adf_volume.specs.{Lists.At, Fits.FitsBy, LayoutRoles.LayoutHasBy, Made.layout_in, Made.tree_in_by};
 ghost use Rattle.adf_volume.specs.Image.{content, letters_of, pieces, root_of, word_in};
 ghost use Rattle.adf_volume.specs.Demands.{AllHold, FirstFails, boot_demands_by, root_demands, demands_at};
 ghost use Rattle.adf_volume.specs.Layout.{EntryAt, Layout, chain_nodes_by};
-ghost use Rattle.adf_volume.specs.Fits.{FitsBy};
 ghost use Rattle.adf_volume.specs.Walk.{FirstFaultBy, Has, IsDue, IsWalkBy, IsWhole, NoCauseBy, Role, bitmap_demands, Walk};
-ghost use Rattle.adf_volume.specs.LayoutRoles.{LayoutHasBy};
-ghost use Rattle.adf_volume.specs.Made.{layout_in, tree_in_by};
 
 /// The demands of a form all hold if and only if it has no first cause; the first that fails has its first cause.
 pub fn demanded_form()

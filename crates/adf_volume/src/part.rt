@@ -1,8 +1,7 @@
 // The parts of a volume.
 
 ghost use Rattle.std.specs.Prelude.{◌≡◌, ◌<◌, ◌^◌};
-ghost use Rattle.adf_volume.specs.LayoutRoles.{owner_of};
-ghost use Rattle.adf_volume.specs.Parts.{entry_of, renumbered, role_of};
+ghost use Rattle.adf_volume.specs.{LayoutRoles.owner_of, Parts.entry_of, Parts.renumbered, Parts.role_of};
 
 use crate::owner::Owner;
 use adf_tree::Node;

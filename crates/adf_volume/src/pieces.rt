@@ -1,11 +1,9 @@
 // The bytes of files, piece by piece.
 
 ghost use Rattle.std.specs.Prelude.{List, [], IsOk, ◌≡◌, ◌≤◌, length, IfOk};
-ghost use Rattle.std.specs.Iterator.{YieldsFirstRef, item_count};
-ghost use Rattle.std.specs.List.{concat};
+ghost use Rattle.std.specs.{Iterator.YieldsFirstRef, Iterator.item_count, List.concat};
 ghost use Rattle.adf_blocks.specs.Sizes.{chunk, count};
-ghost use Rattle.adf_volume.specs.Image.{held, piece, pieces};
-ghost use Rattle.adf_volume.specs.Pieces.{AreInside};
+ghost use Rattle.adf_volume.specs.{Image.held, Image.piece, Image.pieces, Pieces.AreInside};
 
 use adf_base::{Block, NoMemory};
 use adf_blocks::{DATA_BYTES, chunk_len, data_count};
@@ -25,8 +23,7 @@ pub struct Pieces<'a> {
 
 impl<'a> Model for Pieces<'a> {
     ghost use Rattle.std.specs.Prelude.{List, [], IsOk, ℕ};
-    ghost use Rattle.adf_volume.specs.Image.{pieces};
-    ghost use Rattle.adf_volume.specs.Pieces.{AreInside};
+    ghost use Rattle.adf_volume.specs.{Image.pieces, Pieces.AreInside};
 
     ghost Value = { List (List ℕ) };
 

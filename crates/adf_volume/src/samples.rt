@@ -2,9 +2,8 @@
 
 ghost use Rattle.adf_base.specs.declared.hash.Letters.TheVariants.{Ascii, International};
 ghost use Rattle.adf_blocks.specs.declared.cause.Cause.{Cause, TheVariants.LostBlock};
-ghost use Rattle.adf_volume.specs.Fits.{Fits, FitsBy};
+ghost use Rattle.adf_volume.specs.{Fits.Fits, Fits.FitsBy, Walk.FirstFault};
 ghost use Rattle.adf_volume.specs.Samples.{one_file, one_file_layout, one_file_tree, one_lost, tiny, tiny_layout, tiny_tree};
-ghost use Rattle.adf_volume.specs.Walk.{FirstFault};
 
 /// The empty tree fits an empty volume of 4 blocks.
 #[tactic(auto, using(crate::proofs::SampleEmpty::tiny_fits))]

@@ -5,8 +5,7 @@ ghost use Rattle.adf_base.specs.Words.{block};
 ghost use Rattle.adf_volume.specs.Demands.{AllHold, FirstFails, boot_demands, boot_demands_by, has_letters, is_dos, root_demands};
 ghost use Rattle.adf_volume.specs.Image.{kind_of, letters_of, root_of};
 ghost use Rattle.adf_volume.specs.Start.{IsBegunBy, is_image_len, start_form_by};
-ghost use Rattle.adf_blocks.specs.Forms.{ReadsForm};
-ghost use Rattle.adf_blocks.specs.Sizes.{blocks, is_allowed};
+ghost use Rattle.adf_blocks.specs.{Forms.ReadsForm, Sizes.blocks, Sizes.is_allowed};
 
 use crate::fault::{Fault, fault_at};
 use crate::image::Image;

@@ -1,12 +1,8 @@
 -- Places in the lists of all extension blocks and of all data blocks, and the owners that are kept by them.
 use Rattle.std.proofs.Common.{◌≡◌, ℕ, zero, suc, Bool, List, [], ◌∷◌, ◌+◌, ◌-◌, ◌<◌, ◌≤◌, length, get_or, true, false, leb, leb-true, nat_le, ap, arith}
-use Rattle.std.specs.Prelude.{count_by}
-use Rattle.std.specs.List.Sorted.{IsPartitionPoint}
-use Rattle.std.proofs.lemmas.Bool.{le-leb, lt-leb}
-use Rattle.std.proofs.lemmas.List.{get_or_default}
-use Rattle.std.proofs.lemmas.Grind.{common_steps}
-use Rattle.adf_walk.specs.declared.node_start.NodeStart.{NodeStart}
-use Rattle.adf_walk.specs.Places.{AreStarts, IsLastStart, last_start}
+use Rattle.std.specs.{Prelude.count_by, List.Sorted.IsPartitionPoint}
+use Rattle.std.proofs.{lemmas.Bool.le-leb, lemmas.Bool.lt-leb, lemmas.List.get_or_default, lemmas.Grind.common_steps}
+use Rattle.adf_walk.specs.{declared.node_start.NodeStart.NodeStart, Places.AreStarts, Places.IsLastStart, Places.last_start}
 
 -- the last of those that begin at a place or before it, by their number
 pub last_found : (first : NodeStart → ℕ) (starts : List NodeStart) (place r : ℕ) → AreStarts first starts → r ≤ length starts

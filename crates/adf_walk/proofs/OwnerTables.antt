@@ -1,11 +1,8 @@
 -- Tables of owners: a new one, and one after another claim.
 use Rattle.std.proofs.Common.{◌≡◌, ℕ, suc, List, ◌∷◌, ◌+◌, ◌-◌, ◌<◌, ◌≤◌, length, get_or, replicate, map, set, true, refl, sym, ap, ◌∙◌, zero, arith}
-use Rattle.std.proofs.lemmas.List.{get_or-map, get_or_default, length-map, map-set}
-use Rattle.std.proofs.lemmas.Grind.{common_steps}
-use Rattle.adf_walk.specs.declared.kept_owner.KeptOwner.{KeptOwner}
-use Rattle.adf_walk.specs.declared.kept_owner.PackedOwner.{PackedOwner}
+use Rattle.std.proofs.{lemmas.List.get_or-map, lemmas.List.get_or_default, lemmas.List.length-map, lemmas.List.map-set, lemmas.Grind.common_steps}
+use Rattle.adf_walk.specs.{declared.kept_owner.KeptOwner.KeptOwner, declared.kept_owner.PackedOwner.PackedOwner, OwnerTable.IsTable}
 use Rattle.adf_walk.specs.KeptOwner.{boot_owner, claimed_count, is_claimed, kept_at, no_owner, unpacked}
-use Rattle.adf_walk.specs.OwnerTable.{IsTable}
 
 -- a table is one still when a free block is claimed
 claimed : (t : List KeptOwner) (n m b : ℕ) (o : KeptOwner) → IsTable is_claimed boot_owner t n m → 2 ≤ b → b < length t → is_claimed o ≡ true

@@ -1,7 +1,6 @@
 -- The bits of a word of ones.
 use Rattle.std.proofs.Common.{◌≡◌, ◌<◌, ◌%◌, ◌^◌, ◌∙◌, ℕ, IsBitSet, arith, sym}
-use Rattle.std.proofs.lemmas.Nat.{and_comm, and_mask, pow_below, pow_pos}
-use Rattle.std.proofs.Math.Nat.{mod-eq_of_lt}
+use Rattle.std.proofs.{lemmas.Nat.and_comm, lemmas.Nat.and_mask, lemmas.Nat.pow_below, lemmas.Nat.pow_pos, Math.Nat.mod-eq_of_lt}
 
 -- each bit of a word of ones is set
 pub all_set : (bit : ℕ) → bit < 32 → IsBitSet 4294967295 bit

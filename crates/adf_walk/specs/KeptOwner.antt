@@ -1,7 +1,6 @@
 -- Owners as a check keeps them.
 use Rattle.std.specs.Prelude.{◌/◌, ◌%◌, ℕ, Bool, List, count_by, slice_index_or}
-use Rattle.adf_walk.specs.declared.kept_owner.KeptOwner.{KeptOwner}
-use Rattle.adf_walk.specs.declared.kept_owner.PackedOwner.{PackedOwner}
+use Rattle.adf_walk.specs.{declared.kept_owner.KeptOwner.KeptOwner, declared.kept_owner.PackedOwner.PackedOwner}
 use Rattle.adf_walk.specs.declared.owner_class.OwnerClass.TheVariants.{Free, Boot}
 use Rattle.adf_walk.specs.OwnerClass.{class_numbered, is_part_class}
 

@@ -4,11 +4,9 @@ use Rattle.std.specs.Prelude.{◌≡◌, ℕ, List, ◌+◌, ◌-◌, ◌<◌, �
 use Rattle.std.specs.List.Sorted.{IsNonDecreasingBy}
 use Rattle.adf_volume.specs.declared.owner.Owner.{Owner}
 use Rattle.adf_volume.specs.declared.owner.Owner.TheVariants as owner
-use Rattle.adf_walk.specs.declared.kept_owner.KeptOwner.{KeptOwner}
-use Rattle.adf_walk.specs.declared.node_start.NodeStart.{NodeStart}
+use Rattle.adf_walk.specs.{declared.kept_owner.KeptOwner.KeptOwner, declared.node_start.NodeStart.NodeStart, OwnerClass.class_of}
 use Rattle.adf_walk.specs.declared.owner_class.OwnerClass.{OwnerClass}
 use Rattle.adf_walk.specs.declared.owner_class.OwnerClass.TheVariants.{Free, Boot, Root, Page, MapExt, Head, Ext, Data}
-use Rattle.adf_walk.specs.OwnerClass.{class_of}
 
 -- where a node's extension blocks begin
 abbrev pub first_ext : NodeStart → ℕ

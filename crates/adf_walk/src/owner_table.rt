@@ -21,8 +21,7 @@ pub struct OwnerTable {
 impl Model for OwnerTable {
     ghost use Rattle.std.specs.Prelude.{List, map};
     ghost use Rattle.adf_walk.specs.KeptOwner.{boot_owner, is_claimed, unpacked};
-    ghost use Rattle.adf_walk.specs.OwnerTable.{IsTable};
-    ghost use Rattle.adf_walk.specs.declared.kept_owner.KeptOwner.{KeptOwner};
+    ghost use Rattle.adf_walk.specs.{OwnerTable.IsTable, declared.kept_owner.KeptOwner.KeptOwner};
 
     ghost Value = { List KeptOwner };
 

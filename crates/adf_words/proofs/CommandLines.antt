@@ -2,8 +2,7 @@
 -- Letters: a, s are what `old`, `sub` are, as clap reads them; r is the rule of the argument `arg`.
 use Rattle.std.proofs.Common.{◌≡◌, ◌∙◌, ap, ap₂, false}
 use Rattle.clap.specs.Words.{AddsArg, AddsSubcommand, App, Rule, app_of, rule_of, with_rule, with_subcommand}
-use Rattle.clap.specs.declared.builder.arg.Arg.{Arg}
-use Rattle.clap.specs.declared.builder.command.Command.{Command, TheViews.out-Command}
+use Rattle.clap.specs.{declared.builder.arg.Arg.Arg, declared.builder.command.Command.Command, declared.builder.command.Command.TheViews.out-Command}
 
 -- one more subcommand
 pub subcommand_added : (a s : App) (old sub : Command) → app_of old ≡ a → app_of sub ≡ s → (out-Command sub).has_globals ≡ false

@@ -1,26 +1,20 @@
 -- The command line of `adf`, as clap reads it, and the request that its matches name.
-use Rattle.std.specs.Prelude.{◌≡◌, ◌⊎◌, ℕ, List, [], Bool, true, Option, Some, None, codes, map, option_map, option_and_then, if◌then◌else◌}
-use Rattle.std.specs.Borrow.{Bor}
-use Rattle.std.specs.Str.{bytes_eq}
-use Rattle.clap.specs.Words.{App, Row, Rule, Text, fault_of, first_of, new_app, new_rule, subcommand_of, with_rule, with_subcommand}
-use Rattle.adf_names.specs.declared.kind.Kind.{Kind}
-use Rattle.adf_names.specs.Kinds.{kind_named}
-use Rattle.adf_words.specs.Arguments.{bare_app, cat_app, is_text, list_rule}
+use Rattle.std.specs.Prelude.{◌≡◌, ◌⊎◌, ℕ, List, [], Bool, Option, Some, None, codes, map, option_map, option_and_then, if◌then◌else◌}
+use Rattle.std.specs.{Borrow.Bor, Str.bytes_eq}
+use Rattle.clap.specs.Words.{App, Row, Text, fault_of, first_of, new_app, subcommand_of, with_rule, with_subcommand}
+use Rattle.adf_names.specs.{declared.kind.Kind.Kind, Kinds.kind_named}
+use Rattle.adf_words.specs.Arguments.{bare_app, cat_app, flag_rule, has_flag, required_rule}
 use Rattle.adf_words.specs.declared.command_line.Request.{Request}
 use Rattle.adf_words.specs.declared.command_line.Request.TheVariants.{Check, List as ListAll, Cat, Build, Convert}
 use Rattle.adf_words.specs.declared.command_line.ArgsError.{ArgsError, TheVariants.NoMemory, TheVariants.Usage}
 
--- the argument KIND
-abbrev pub kind_rule : Rule
-kind_rule = record (new_rule (codes "kind")) { required = true }
-
 -- build [--list]
 abbrev pub build_app : App
-build_app = with_rule (new_app (codes "build")) list_rule
+build_app = with_rule (new_app (codes "build")) (flag_rule (codes "list"))
 
 -- convert KIND
 abbrev pub convert_app : App
-convert_app = with_rule (new_app (codes "convert")) kind_rule
+convert_app = with_rule (new_app (codes "convert")) (required_rule (codes "kind"))
 
 -- one more subcommand, which has no argument
 abbrev pub with_plain : App → Text → App
@@ -48,7 +42,7 @@ request_named name rows =
     if bytes_eq name (codes "check") then Some check
     else (if bytes_eq name (codes "list") then Some list
     else (if bytes_eq name (codes "cat") then option_map cat (first_of (codes "path") rows)
-    else (if bytes_eq name (codes "build") then Some (build (is_text (codes "true") (first_of (codes "list") rows)))
+    else (if bytes_eq name (codes "build") then Some (build (has_flag (codes "list") rows))
     else (if bytes_eq name (codes "convert") then option_map convert (option_and_then kind_named (first_of (codes "kind") rows))
     else None))))
 
@@ -80,10 +74,10 @@ request_value (Cat p) = cat p.now
 request_value (Build b) = build b
 request_value (Convert k) = convert k
 
--- what an error of the arguments says of them
-abbrev pub ExplainsArgs : ArgsError → List Text → Type 0
-ExplainsArgs Usage args = AreRefused args
-ExplainsArgs NoMemory args = Unit {0}
+-- what an error of arguments says: that they are refused; of want of memory nothing
+abbrev pub ExplainsArgs : ArgsError → (refused : Type 0) → Type 0
+ExplainsArgs Usage refused = refused
+ExplainsArgs NoMemory refused = Unit {0}
 
 -- the text of the error
 abbrev pub args_error_text : ArgsError → List ℕ

@@ -1,12 +1,11 @@
 // What the command lines of the programs share, by clap.
 
-ghost use Rattle.std.specs.Prelude.{◌≡◌, [], IfErr, IfOk, codes, false, option_map, true};
+ghost use Rattle.std.specs.Prelude.{◌≡◌, ◌≤◌, [], IfErr, IfOk, IfSome, codes, false, option_map, true};
 ghost use Rattle.clap.specs.Words.{App, HasMatchesOf, Rule, app_of, fault_of, first_of, found_of, is_simple_and_free, rows_of};
 ghost use Rattle.clap.specs.Words.{rule_of, with_rule, with_subcommand};
 ghost use Rattle.clap.specs.declared.builder.command.Command.TheViews.{out-Command};
-ghost use Rattle.adf_words.specs.Arguments.{bare_app, cat_app, is_text, list_rule};
-ghost use Rattle.adf_words.specs.CommandLine.{texts_of};
-ghost use Rattle.adf_words.specs.declared.command_line.ArgsError.TheVariants.{Usage};
+ghost use Rattle.adf_words.specs.Arguments.{bare_app, cat_app, flag_rule, has_flag, number_named, required_rule};
+ghost use Rattle.adf_words.specs.{CommandLine.texts_of, declared.command_line.ArgsError.TheVariants.Usage};
 
 use crate::command_line::ArgsError;
 use clap::error::ErrorKind;
@@ -50,23 +49,28 @@ pub fn with_argument<'a>(
     command?.arg(argument)
 }
 
+/// The argument of this name, which must be there.
+pub fn required<'a>(alloc: Global, name: &'a str) -> Arg<'a>
+    ensures rule { rule_of result ≡ required_rule name.entry.now }
+    ensures local { result.global ≡ false }
+{
+    Arg::new(alloc, name).required(true)
+}
+
+/// The flag of this name, behind `--`.
+pub fn flag<'a>(alloc: Global, name: &'a str) -> Arg<'a>
+    ensures rule { rule_of result ≡ flag_rule name.entry.now }
+    ensures local { result.global ≡ false }
+{
+    Arg::new(alloc, name).long(name).action(ArgAction::SetTrue)
+}
+
 /// The command `cat PATH`. Fails if an allocation failed.
 pub fn cat_command<'a>(alloc: Global) -> Result<Command<'a>, AllocError>
     ensures app { IfOk result (λ c. app_of c ≡ cat_app) }
     ensures local { IfOk result (λ c. (out-Command c).has_globals ≡ false) }
 {
-    let path = Arg::new(alloc, "path").required(true);
-    Command::new(alloc, "cat").arg(path)
-}
-
-/// The flag `--list`.
-pub fn list_flag<'a>(alloc: Global) -> Arg<'a>
-    ensures rule { rule_of result ≡ list_rule }
-    ensures local { result.global ≡ false }
-{
-    Arg::new(alloc, "list")
-        .long("list")
-        .action(ArgAction::SetTrue)
+    Command::new(alloc, "cat").arg(required(alloc, "path"))
 }
 
 /// The matches of the arguments. `Usage` if and only if clap refuses them, `NoMemory` if an allocation failed.
@@ -95,10 +99,25 @@ pub fn first_text<'a>(found: &ArgMatches<'a>, id: &str) -> Option<&'a str>
 
 /// Whether a flag is among the matches.
 pub fn has_flag(found: &ArgMatches<'_>, id: &str) -> bool
-    ensures { result ≡ is_text (codes "true") (first_of id.now (rows_of (found_of found.now))) }
+    ensures { result ≡ has_flag id.now (rows_of (found_of found.now)) }
 {
     match first_text(found, id) {
         Some(text) => text == "true",
         None => false,
+    }
+}
+
+/// The number that a text is: decimal digits, up to this one.
+pub fn number_named(text: &str, most: u32) -> Option<u32>
+    ensures named { result ≡ number_named most text.now }
+    ensures few { IfSome result (λ n. n ≤ most) }
+{
+    let bytes = text.as_bytes();
+    if bytes.is_empty() || bytes[0] == b'+' {
+        return None;
+    }
+    match text.parse::<u32>() {
+        Ok(number) if number <= most => Some(number),
+        _ => None,
     }
 }

@@ -5,14 +5,13 @@ ghost use Rattle.clap.specs.Words.{app_of, fault_of, found_of, rows_of, subcomma
 ghost use Rattle.clap.specs.declared.builder.command.Command.TheViews.{out-Command};
 ghost use Rattle.adf_words.specs.CommandLine.{AsksFor, ExplainsArgs, AreRefused, adf_app, request_value, build, build_app, cat};
 ghost use Rattle.adf_words.specs.CommandLine.{check, convert, convert_app, list, met, plain_app, request_named, texts_of};
-ghost use Rattle.adf_words.specs.CommandLine.{with_plain};
-ghost use Rattle.adf_words.specs.declared.command_line.ArgsError.TheVariants.{Usage};
+ghost use Rattle.adf_words.specs.{CommandLine.with_plain, declared.command_line.ArgsError.TheVariants.Usage};
 
 use crate::arguments::{
-    bare_command, cat_command, first_text, has_flag, list_flag, matches_of, with_subcommand,
+    bare_command, cat_command, first_text, flag, has_flag, matches_of, required, with_subcommand,
 };
 use adf_names::Kind;
-use clap::{Arg, ArgMatches, Command};
+use clap::{ArgMatches, Command};
 use std::alloc::{AllocError, Global};
 use std::error::Error;
 use std::fmt;
@@ -73,7 +72,7 @@ fn build_command<'a>(alloc: Global) -> Result<Command<'a>, AllocError>
     ensures app { IfOk result (λ c. app_of c ≡ build_app) }
     ensures local { IfOk result (λ c. (out-Command c).has_globals ≡ false) }
 {
-    Command::new(alloc, "build").arg(list_flag(alloc))
+    Command::new(alloc, "build").arg(flag(alloc, "list"))
 }
 
 // The command `convert KIND`.
@@ -81,8 +80,7 @@ fn convert_command<'a>(alloc: Global) -> Result<Command<'a>, AllocError>
     ensures app { IfOk result (λ c. app_of c ≡ convert_app) }
     ensures local { IfOk result (λ c. (out-Command c).has_globals ≡ false) }
 {
-    let kind = Arg::new(alloc, "kind").required(true);
-    Command::new(alloc, "convert").arg(kind)
+    Command::new(alloc, "convert").arg(required(alloc, "kind"))
 }
 
 // The command line with one more subcommand, which has no argument.
@@ -170,7 +168,7 @@ fn adf_matches<'a>(alloc: Global, args: &'a [&str]) -> Result<ArgMatches<'a>, Ar
 pub fn parse<'a>(alloc: Global, args: &'a [&str]) -> Result<Request<'a>, ArgsError>
     ensures ok { IfOk result (λ request.
         AsksFor (texts_of args.entry.now) (request_value request)) }
-    ensures refused { IfErr result (λ fault. ExplainsArgs fault (texts_of args.entry.now)) }
+    ensures refused { IfErr result (λ fault. ExplainsArgs fault (AreRefused (texts_of args.entry.now))) }
 {
     let matches = adf_matches(alloc, args)?;
     request_in(&matches).ok_or(ArgsError::Usage)

@@ -37,6 +37,26 @@ extern "C" {
         paths_room: usize,
         told: *mut RescueTold,
     ) -> u8;
+    fn adf_rescue_types(
+        image: *const u8,
+        length: usize,
+        blocks: u32,
+        room: *mut u8,
+        room_length: usize,
+        losses: *mut LossRecord,
+        losses_room: usize,
+        paths: *mut u8,
+        paths_room: usize,
+        told: *mut RescueTold,
+    ) -> u8;
+}
+
+/// An image, read as if it had so many blocks unless they are 0, and whether its rescue keeps its letters.
+#[derive(Clone, Copy)]
+pub(crate) struct Damaged<'image> {
+    pub image: &'image [u8],
+    pub blocks: u32,
+    pub keeps_type: bool,
 }
 
 /// The volume of a rescue, and what is not in it, as `adf_rescue` tells.
@@ -67,16 +87,17 @@ impl Rooms {
 }
 
 /// Rescues an image, and fills tables with so much room: what the call answers, and the tables with the whole numbers.
-fn rescue_into(image: &[u8], blocks: u32, rooms: Rooms) -> Result<(u8, RescueTables), Refused> {
+fn rescue_into(damaged: Damaged<'_>, rooms: Rooms) -> Result<(u8, RescueTables), Refused> {
     let (mut volume, mut losses, mut paths) = (with_room(rooms.volume)?, with_room(rooms.losses)?, with_room(rooms.paths)?);
     let (volume_room, losses_room, paths_room) = (volume.capacity(), losses.capacity(), paths.capacity());
     let mut told = RescueTold::default();
+    let call = if damaged.keeps_type { adf_rescue_types } else { adf_rescue };
     // "A pointer to bytes has as many bytes as its length or room says", and "buffers and structs need not be initialised".
     let answer = unsafe {
-        adf_rescue(
-            image.as_ptr(),
-            image.len(),
-            blocks,
+        call(
+            damaged.image.as_ptr(),
+            damaged.image.len(),
+            damaged.blocks,
             volume.as_mut_ptr(),
             volume_room,
             losses.as_mut_ptr(),
@@ -98,12 +119,12 @@ fn rescue_into(image: &[u8], blocks: u32, rooms: Rooms) -> Result<(u8, RescueTab
     Ok((answer, RescueTables { told, volume, losses, paths }))
 }
 
-/// Rescues an image, as if it had so many blocks unless they are 0: its volume, which may be longer, and whole tables.
-pub(crate) fn rescue(image: &[u8], blocks: u32) -> Result<RescueTables, Refused> {
-    let volume = if blocks == 0 { image.len() } else { bytes_of(blocks) };
+/// Rescues an image: its volume, which may be longer, and whole tables.
+pub(crate) fn rescue(damaged: Damaged<'_>) -> Result<RescueTables, Refused> {
+    let volume = if damaged.blocks == 0 { damaged.image.len() } else { bytes_of(damaged.blocks) };
     let mut rooms = Rooms { volume, losses: 1024, paths: 1 << 16 };
     loop {
-        let (answer, tables) = rescue_into(image, blocks, rooms)?;
+        let (answer, tables) = rescue_into(damaged, rooms)?;
         let wanted = rooms.with_all(&tables.told);
         if wanted == rooms || (answer != 0 && answer != SMALL_ROOM) {
             let block = tables.told.block;

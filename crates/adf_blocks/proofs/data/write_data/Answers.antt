@@ -1,5 +1,4 @@
-use Rattle.std.proofs.Common.{arith}
-use Rattle.std.proofs.lemmas.Grind.{common_steps}
+use Rattle.std.proofs.{Common.arith, lemmas.Grind.common_steps}
 use Rattle.adf_blocks.specs.DataBlock.{data_fields}
 use Rattle.adf_blocks.proofs.DataLaws.{written_data_form}
 use Rattle.adf_blocks.proofs.data.write_data.Goals as goal

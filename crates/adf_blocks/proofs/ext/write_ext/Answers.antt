@@ -1,5 +1,4 @@
-use Rattle.std.proofs.Common.{arith}
-use Rattle.std.proofs.lemmas.Grind.{common_steps}
+use Rattle.std.proofs.{Common.arith, lemmas.Grind.common_steps}
 use Rattle.adf_blocks.specs.ExtBlock.{ext_fields}
 use Rattle.adf_blocks.proofs.ExtLaws.{written_ext_form}
 use Rattle.adf_blocks.proofs.ext.write_ext.Goals as goal

@@ -1,5 +1,4 @@
-use Rattle.std.proofs.lemmas.Grind.{common_steps}
-use Rattle.std.proofs.Common.{arith}
+use Rattle.std.proofs.{lemmas.Grind.common_steps, Common.arith}
 use Rattle.adf_blocks.proofs.head.read_head_at.Goals as goal
 
 pub returns-then-not-has_head_type : goal.returns-then-not-has_head_type

@@ -1,8 +1,7 @@
 use Rattle.std.proofs.Common.{◌<◌, ℕ, List, arith}
 use Rattle.std.specs.List.{All}
 use Rattle.std.proofs.lemmas.List.Elements.{All-get_or}
-use Rattle.adf_boot_blocks.proofs.CarrySums.{AreBytes}
-use Rattle.adf_boot_blocks.proofs.Restored.{has_boot, other_restored}
+use Rattle.adf_boot_blocks.proofs.{CarrySums.AreBytes, Restored.has_boot, Restored.other_restored}
 use Rattle.adf_boot_blocks.proofs.laws.boots_stay.Goals as goal
 
 are_bytes : (bs : List ℕ) → All (λ byte. byte < 256) bs → AreBytes bs

@@ -1,5 +1,5 @@
 use Rattle.std.proofs.Common.{ap}
-use Rattle.adf_file_words.specs.BootLine.{boot_request_value}
+use Rattle.adf_boot_cmd.specs.CommandLine.{boot_request_value}
 use Rattle.adf_boot_cmd.proofs.boot_file.work_for.Goals as goal
 
 pub returns-in-Err-clause-fault : goal.returns-in-Err-clause-fault

@@ -1,13 +1,10 @@
 use Rattle.std.proofs.Common.{◌≡◌, ◌∙◌, ℕ, List, Some, None, ap, inl, inr, option_map, subst, sym, rules}
-use Rattle.adf_file_words.specs.BootLine.{AreRefusedByBoot, AsksBoot, boot_file, boot_request_value}
+use Rattle.adf_boot_cmd.specs.CommandLine.{AreRefusedByBoot, AsksBoot, boot_file, boot_request_value}
 use Rattle.adf_words.specs.CommandLine.{texts_of}
-use Rattle.adf_runs.specs.Streams.{seen}
-use Rattle.adf_runs.specs.WorkFaults.{IsNoWork}
+use Rattle.adf_runs.specs.{Streams.seen, WorkFaults.IsNoWork}
 use Rattle.adf_file_runs.proofs.FileRuns.{no_work_on_files, on_file_ends, unopened_ends}
-use Rattle.adf_boot_cmd.specs.Answers.{boot_command}
-use Rattle.adf_boot_cmd.specs.Work.{order_of}
-use Rattle.adf_boot_cmd.proofs.Endings.{input_ends, no_words, work_ends}
-use Rattle.adf_boot_cmd.proofs.Commands.{consistent, taken}
+use Rattle.adf_boot_cmd.specs.{Answers.boot_command, Work.order_of}
+use Rattle.adf_boot_cmd.proofs.{Endings.input_ends, Endings.no_words, Endings.work_ends, Commands.consistent, Commands.taken}
 use Rattle.adf_boot_cmd.proofs.runner.run.Goals as goal
 
 pub returns-in-Err-clause-ends : goal.returns-in-Err-clause-ends

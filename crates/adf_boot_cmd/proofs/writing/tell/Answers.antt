@@ -1,7 +1,6 @@
 use Rattle.std.proofs.Common.{ap, sym, ◌∙◌}
 use Rattle.adf_runs.specs.Commands.{on_output}
-use Rattle.adf_boot_cmd.specs.Answers.{line_status}
-use Rattle.adf_boot_cmd.specs.Lines.{boot_line}
+use Rattle.adf_boot_cmd.specs.{Answers.line_status, Lines.boot_line}
 use Rattle.adf_runs.proofs.Endings.{does_same, silently}
 use Rattle.adf_boot_cmd.proofs.Replies.{told_long, told_short}
 use Rattle.adf_boot_cmd.proofs.writing.tell.Goals as goal

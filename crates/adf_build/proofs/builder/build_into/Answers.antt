@@ -1,5 +1,4 @@
-use Rattle.std.proofs.Common.{rules, arith}
-use Rattle.std.proofs.lemmas.Grind.{common_steps}
+use Rattle.std.proofs.{Common.rules, Common.arith, lemmas.Grind.common_steps}
 use Rattle.adf_build.proofs.WholeVolume.{is_laid, laid_as_planned, laid_bytes}
 use Rattle.adf_build.proofs.builder.build_into.Goals as goal
 

@@ -1,5 +1,4 @@
-use Rattle.std.proofs.Common.{arith}
-use Rattle.std.proofs.lemmas.Grind.{common_steps}
+use Rattle.std.proofs.{Common.arith, lemmas.Grind.common_steps}
 use Rattle.adf_build.proofs.Order.{low_step, mine_step, others_step}
 use Rattle.adf_build.proofs.chains.children_end.Goals as goal
 

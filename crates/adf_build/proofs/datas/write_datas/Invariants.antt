@@ -1,8 +1,7 @@
 use Rattle.std.proofs.Common.{◌≡◌, ◌-◌, ◌*◌, drop, map}
 use Rattle.std.specs.List.{range_with_len}
 use Rattle.adf_blocks.specs.Sizes.{chunk}
-use Rattle.adf_build.specs.Laid.{data_part, data_writes}
-use Rattle.adf_build.specs.Writes.{with_blocks}
+use Rattle.adf_build.specs.{Laid.data_part, Laid.data_writes, Writes.with_blocks}
 use Rattle.adf_build.proofs.datas.write_datas.Given as goal
 
 abbrev pub invariant-loop-j : goal.invariant-loop-j

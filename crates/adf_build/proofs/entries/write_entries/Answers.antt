@@ -1,9 +1,7 @@
 use Rattle.std.proofs.Common.{◌≡◌, ◌∷◌, ◌+◌, ◌∙◌, ℕ, List, drop, ap, refl, sym, arith, rules, slice_index}
 use Rattle.adf_tree.specs.declared.entry.Entry.{Entry}
-use Rattle.adf_build.specs.Laid.{first_block}
-use Rattle.adf_build.specs.Plan.{entry_blocks}
-use Rattle.adf_build.proofs.Order.{slots_are}
-use Rattle.adf_build.proofs.WriteSteps.{entry_step, room_step, nodes_length}
+use Rattle.adf_build.specs.{Laid.first_block, Plan.entry_blocks}
+use Rattle.adf_build.proofs.{Order.slots_are, WriteSteps.entry_step, WriteSteps.room_step, WriteSteps.nodes_length}
 use Rattle.std.proofs.lemmas.Grind.{common_steps}
 use Rattle.adf_build.proofs.entries.write_entries.Goals as goal
 

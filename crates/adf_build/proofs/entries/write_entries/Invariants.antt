@@ -1,9 +1,6 @@
 use Rattle.std.proofs.Common.{◌≡◌, ◌≤◌, ◌+◌, ◌*◌, ℕ, length, drop}
 use Rattle.adf_volume.specs.Layout.{nodes_from_by}
-use Rattle.adf_build.specs.Laid.{entries_writes}
-use Rattle.adf_build.specs.Writes.{with_blocks}
-use Rattle.adf_build.specs.Plan.{entries_blocks}
-use Rattle.adf_build.specs.Order.{RisesFromBy}
+use Rattle.adf_build.specs.{Laid.entries_writes, Writes.with_blocks, Plan.entries_blocks, Order.RisesFromBy}
 use Rattle.adf_build.proofs.entries.write_entries.Given as goal
 
 abbrev pub invariant-loop-i : goal.invariant-loop-i

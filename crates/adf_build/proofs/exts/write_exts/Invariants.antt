@@ -1,7 +1,6 @@
 use Rattle.std.proofs.Common.{◌≡◌, ◌-◌, map}
 use Rattle.std.specs.List.{range_with_len}
-use Rattle.adf_build.specs.Laid.{ext_part, ext_writes}
-use Rattle.adf_build.specs.Writes.{with_blocks}
+use Rattle.adf_build.specs.{Laid.ext_part, Laid.ext_writes, Writes.with_blocks}
 use Rattle.adf_build.proofs.exts.write_exts.Given as goal
 
 abbrev pub invariant-loop-j : goal.invariant-loop-j

@@ -1,7 +1,6 @@
 use Rattle.std.proofs.Common.{◌≡◌, ◌-◌, map}
 use Rattle.std.specs.List.{range_with_len}
-use Rattle.adf_build.specs.Laid.{map_ext_part, map_ext_writes}
-use Rattle.adf_build.specs.Writes.{with_blocks}
+use Rattle.adf_build.specs.{Laid.map_ext_part, Laid.map_ext_writes, Writes.with_blocks}
 use Rattle.adf_build.proofs.map_exts.write_map_exts.Given as goal
 
 abbrev pub invariant-loop-j : goal.invariant-loop-j

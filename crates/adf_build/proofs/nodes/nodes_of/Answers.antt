@@ -1,11 +1,9 @@
 use Rattle.std.proofs.Common.{◌≡◌, ◌+◌, ◌∷◌, ◌++◌, ◌≤◌, [], ℕ, List, append_assoc, append-nil, arith, drop, length}
-use Rattle.std.proofs.lemmas.List.{drop_all}
-use Rattle.std.proofs.lemmas.Grind.{common_steps}
+use Rattle.std.proofs.{lemmas.List.drop_all, lemmas.Grind.common_steps}
 use Rattle.adf_names.specs.declared.kind.Kind.{Kind}
 use Rattle.adf_tree.specs.declared.entry.Entry.{Entry}
 use Rattle.adf_volume.proofs.Sizes.{size_high}
-use Rattle.adf_build.specs.Laid.{heads_from}
-use Rattle.adf_build.specs.Plan.{entry_blocks, nth_free}
+use Rattle.adf_build.specs.{Laid.heads_from, Plan.entry_blocks, Plan.nth_free}
 use Rattle.adf_build.proofs.WriteSteps.{room_step}
 use Rattle.adf_build.proofs.nodes.nodes_of.Goals as goal
 

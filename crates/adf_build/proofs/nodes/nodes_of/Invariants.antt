@@ -1,6 +1,5 @@
 use Rattle.std.proofs.Common.{◌≡◌, ◌+◌, ◌++◌, drop}
-use Rattle.adf_build.specs.Laid.{heads_from, node_blocks}
-use Rattle.adf_build.specs.Plan.{entries_blocks}
+use Rattle.adf_build.specs.{Laid.heads_from, Laid.node_blocks, Plan.entries_blocks}
 use Rattle.adf_build.proofs.nodes.nodes_of.Given as goal
 
 abbrev pub invariant-loop-i : goal.invariant-loop-i

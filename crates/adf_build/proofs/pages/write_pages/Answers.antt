@@ -1,6 +1,5 @@
 use Rattle.std.proofs.Common.{◌≡◌, ap, arith}
-use Rattle.adf_blocks.specs.PageBlock.{page_block}
-use Rattle.adf_blocks.specs.Sizes.{pages_needed}
+use Rattle.adf_blocks.specs.{PageBlock.page_block, Sizes.pages_needed}
 use Rattle.adf_build.specs.Laid.{page_part}
 use Rattle.adf_build.proofs.Parts.{part_step}
 use Rattle.adf_build.proofs.pages.write_pages.Goals as goal

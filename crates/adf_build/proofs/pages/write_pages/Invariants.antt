@@ -1,8 +1,7 @@
 use Rattle.std.proofs.Common.{◌≡◌, ◌-◌, map}
 use Rattle.std.specs.List.{range_with_len}
 use Rattle.adf_blocks.specs.Sizes.{pages_needed}
-use Rattle.adf_build.specs.Laid.{page_part, page_writes}
-use Rattle.adf_build.specs.Writes.{with_blocks}
+use Rattle.adf_build.specs.{Laid.page_part, Laid.page_writes, Writes.with_blocks}
 use Rattle.adf_build.proofs.pages.write_pages.Given as goal
 
 abbrev pub invariant-loop-j : goal.invariant-loop-j

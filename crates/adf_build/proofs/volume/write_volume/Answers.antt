@@ -1,7 +1,5 @@
-use Rattle.std.proofs.Common.{arith}
-use Rattle.std.proofs.lemmas.Grind.{common_steps}
-use Rattle.adf_build.proofs.Order.{slots_are, tree_rises}
-use Rattle.adf_build.proofs.WriteSteps.{volume_step, nodes_length}
+use Rattle.std.proofs.{Common.arith, lemmas.Grind.common_steps}
+use Rattle.adf_build.proofs.{Order.slots_are, Order.tree_rises, WriteSteps.volume_step, WriteSteps.nodes_length}
 use Rattle.adf_build.proofs.volume.write_volume.Goals as goal
 
 pub write_the_root-requires-clause-slots : goal.write_the_root-requires-clause-slots

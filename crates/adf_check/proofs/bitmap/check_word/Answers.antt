@@ -1,7 +1,6 @@
 use Rattle.std.proofs.Common.{◌≡◌, ◌+◌, ◌-◌, ◌*◌, min, subst, ◌∙◌, arith, rules}
 use Rattle.adf_blocks.specs.Sizes.{blocks}
-use Rattle.adf_check.specs.Reading.{IsMapped}
-use Rattle.adf_check.specs.Store.{store_value}
+use Rattle.adf_check.specs.{Reading.IsMapped, Store.store_value}
 use Rattle.adf_check.proofs.BitmapSteps.{bit_agrees, bit_refused, word_agrees}
 use Rattle.adf_check.proofs.bitmap.check_word.Goals as goal
 

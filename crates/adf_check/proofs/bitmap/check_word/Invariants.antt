@@ -1,5 +1,4 @@
-use Rattle.adf_check.specs.Reading.{IsMapped}
-use Rattle.adf_check.specs.Store.{store_value}
+use Rattle.adf_check.specs.{Reading.IsMapped, Store.store_value}
 use Rattle.adf_check.proofs.bitmap.check_word.Given as goal
 
 abbrev pub invariant-loop-b : goal.invariant-loop-b

@@ -1,6 +1,5 @@
 use Rattle.std.proofs.Common.{◌≡◌, ◌+◌, suc, subst, arith}
-use Rattle.adf_check.specs.Reading.{IsAtSlot, sees_of}
-use Rattle.adf_check.specs.Store.{store_value}
+use Rattle.adf_check.specs.{Reading.IsAtSlot, Reading.sees_of, Store.store_value}
 use Rattle.adf_check.proofs.ChainSteps.{chain_ends}
 use Rattle.adf_check.proofs.chains.read_chain.Goals as goal
 

@@ -1,6 +1,4 @@
-use Rattle.adf_check.specs.Reading.{IsInChain, sees_of}
-use Rattle.adf_check.specs.Progress.{left}
-use Rattle.adf_check.specs.Store.{store_value}
+use Rattle.adf_check.specs.{Reading.IsInChain, Reading.sees_of, Progress.left, Store.store_value}
 use Rattle.adf_check.proofs.chains.read_chain.Given as goal
 
 abbrev pub invariant-loop-link : goal.invariant-loop-link

@@ -1,5 +1,4 @@
-use Rattle.adf_check.specs.Reading.{IsAtSlot}
-use Rattle.adf_check.specs.Store.{store_value}
+use Rattle.adf_check.specs.{Reading.IsAtSlot, Store.store_value}
 use Rattle.adf_check.proofs.chains.read_directory.Given as goal
 
 abbrev pub invariant-loop-slot : goal.invariant-loop-slot

@@ -1,16 +1,13 @@
 use Rattle.std.proofs.Common.{◌≡◌, ◌==◌, ◌+◌, ◌++◌, ◌∷◌, [], ℕ, suc, length, set, ap, refl, sym, ◌∙◌, arith, rules, true, false}
-use Rattle.std.proofs.lemmas.Bool.{not-false, not-true}
-use Rattle.std.proofs.lemmas.Grind.{common_steps}
+use Rattle.std.proofs.{lemmas.Bool.not-false, lemmas.Bool.not-true, lemmas.Grind.common_steps}
 use Rattle.adf_blocks.specs.declared.layout.TheConstants.{SECONDARY_TYPE, ST_DIR}
 use Rattle.adf_base.specs.Words.{word}
 use Rattle.adf_tree.specs.NameSet.{has}
 use Rattle.adf_names.specs.Texts.{uppers_by}
 use Rattle.adf_walk.specs.declared.owner_class.OwnerClass.TheVariants as class
 use Rattle.adf_check.specs.Store.{store_value}
-use Rattle.adf_check.proofs.NumberBounds.{entry_short, parent_short}
+use Rattle.adf_check.proofs.{NumberBounds.entry_short, NumberBounds.parent_short, ClaimSteps.claim_refused, StoreSteps.dirs_more}
 use Rattle.adf_check.proofs.ChainSteps.{head_named, head_fault, twice_fault, head_done}
-use Rattle.adf_check.proofs.ClaimSteps.{claim_refused}
-use Rattle.adf_check.proofs.StoreSteps.{dirs_more}
 use Rattle.adf_check.proofs.chains.read_header.Goals as goal
 
 pub returns-in_err-claim_named-clause-fault : goal.returns-in_err-claim_named-clause-fault

@@ -2,11 +2,7 @@ use Rattle.std.proofs.Common.{◌≢◌, subst}
 use Rattle.std.specs.Prelude.{IfErr}
 use Rattle.adf_blocks.specs.declared.cause.Cause.TheVariants.{NoMemory}
 use Rattle.adf_tree.specs.Tree.{Tree}
-use Rattle.adf_volume.specs.Fault.{IsTrueFaultBy}
-use Rattle.adf_volume.specs.Fits.{FitsBy}
-use Rattle.adf_volume.specs.Layout.{Layout}
-use Rattle.adf_volume.specs.Types.{letters_for}
-use Rattle.adf_volume.specs.Walk.{FirstFaultBy}
+use Rattle.adf_volume.specs.{Fault.IsTrueFaultBy, Fits.FitsBy, Layout.Layout, Types.letters_for, Walk.FirstFaultBy}
 use Rattle.adf_volume.proofs.NoneFits.{none_fits}
 use Rattle.adf_check.proofs.ClaimSteps.{if_err}
 use Rattle.adf_check.proofs.checker.check_types.Goals as goal

@@ -1,8 +1,7 @@
 use Rattle.std.proofs.Common.{◌≡◌, ◌+◌, ◌*◌, ◌<◌, ℕ, suc, length, min, refl, subst, arith}
 use Rattle.adf_volume.specs.Walk.{data_count}
-use Rattle.adf_check.specs.Reading.{IsAtNode}
+use Rattle.adf_check.specs.{Reading.IsAtNode, Store.store_value}
 use Rattle.adf_check.proofs.DataSteps.{datas_end, too_short}
-use Rattle.adf_check.specs.Store.{store_value}
 use Rattle.adf_check.proofs.datas.read_datas.Goals as goal
 
 pub returns-then-tables-table-clause-fault : goal.returns-then-tables-table-clause-fault

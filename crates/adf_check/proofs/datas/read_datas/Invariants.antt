@@ -1,6 +1,5 @@
 use Rattle.std.proofs.Common.{◌*◌, min}
-use Rattle.adf_check.specs.Reading.{IsInDatas}
-use Rattle.adf_check.specs.Store.{store_value}
+use Rattle.adf_check.specs.{Reading.IsInDatas, Store.store_value}
 use Rattle.adf_check.proofs.datas.read_datas.Given as goal
 
 abbrev pub invariant-loop-m : goal.invariant-loop-m

@@ -1,5 +1,4 @@
-use Rattle.adf_check.specs.Reading.{IsInDatas}
-use Rattle.adf_check.specs.Store.{store_value}
+use Rattle.adf_check.specs.{Reading.IsInDatas, Store.store_value}
 use Rattle.adf_check.proofs.datas.read_named.Given as goal
 
 abbrev pub invariant-loop-k : goal.invariant-loop-k

@@ -1,6 +1,4 @@
-use Rattle.adf_check.specs.Reading.{IsInExts}
-use Rattle.adf_check.specs.Progress.{left}
-use Rattle.adf_check.specs.Store.{store_value}
+use Rattle.adf_check.specs.{Reading.IsInExts, Progress.left, Store.store_value}
 use Rattle.adf_check.proofs.exts.read_exts.Given as goal
 
 abbrev pub invariant-loop-link : goal.invariant-loop-link

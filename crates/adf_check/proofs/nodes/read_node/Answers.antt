@@ -1,7 +1,5 @@
-use Rattle.std.proofs.Common.{arith}
-use Rattle.std.proofs.lemmas.Grind.{common_steps}
-use Rattle.adf_check.proofs.HeaderBodies.{dir_type, file_words}
-use Rattle.adf_check.proofs.NodeSteps.{directory_begins, file_begins, head_inside}
+use Rattle.std.proofs.{Common.arith, lemmas.Grind.common_steps}
+use Rattle.adf_check.proofs.{HeaderBodies.dir_type, HeaderBodies.file_words, NodeSteps.directory_begins, NodeSteps.file_begins, NodeSteps.head_inside}
 use Rattle.adf_check.proofs.nodes.read_node.Goals as goal
 
 pub block-requires : goal.block-requires

@@ -1,9 +1,6 @@
-use Rattle.std.proofs.Common.{subst, sym, refl, arith}
-use Rattle.std.proofs.lemmas.Grind.{common_steps}
-use Rattle.adf_check.specs.Reading.{IsInNode}
-use Rattle.adf_check.specs.Store.{store_value}
-use Rattle.adf_check.proofs.NodeSteps.{enter_node, all_read}
-use Rattle.adf_check.proofs.NumberBounds.{headers_within, lists_short}
+use Rattle.std.proofs.{Common.subst, Common.sym, Common.refl, Common.arith, lemmas.Grind.common_steps}
+use Rattle.adf_check.specs.{Reading.IsInNode, Store.store_value}
+use Rattle.adf_check.proofs.{NodeSteps.enter_node, NodeSteps.all_read, NumberBounds.headers_within, NumberBounds.lists_short}
 use Rattle.adf_check.proofs.nodes.read_nodes.Goals as goal
 
 pub enter-requires : goal.enter-requires

@@ -1,7 +1,6 @@
 use Rattle.std.proofs.Common.{suc, ◌-◌}
 use Rattle.adf_blocks.specs.Sizes.{blocks}
-use Rattle.adf_check.specs.Reading.{IsAtNode}
-use Rattle.adf_check.specs.Store.{store_value}
+use Rattle.adf_check.specs.{Reading.IsAtNode, Store.store_value}
 use Rattle.adf_check.proofs.nodes.read_nodes.Given as goal
 
 abbrev pub invariant-loop-node : goal.invariant-loop-node

@@ -1,6 +1,5 @@
 use Rattle.std.proofs.Common.{refl, rules}
-use Rattle.adf_check.proofs.ClaimSteps.{claim_refused}
-use Rattle.adf_check.proofs.PageSteps.{map_ext_done, map_ext_named}
+use Rattle.adf_check.proofs.{ClaimSteps.claim_refused, PageSteps.map_ext_done, PageSteps.map_ext_named}
 use Rattle.adf_check.proofs.pages.claim_map_ext.Goals as goal
 
 pub returns-in_err-claim_named-clause-fault : goal.returns-in_err-claim_named-clause-fault

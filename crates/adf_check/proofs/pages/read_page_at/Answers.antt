@@ -1,6 +1,5 @@
 use Rattle.std.proofs.Common.{refl, rules}
-use Rattle.adf_check.proofs.ClaimSteps.{claim_refused}
-use Rattle.adf_check.proofs.PageSteps.{page_by_number, page_done, page_fault, page_named}
+use Rattle.adf_check.proofs.{ClaimSteps.claim_refused, PageSteps.page_by_number, PageSteps.page_done, PageSteps.page_fault, PageSteps.page_named}
 use Rattle.adf_check.proofs.pages.read_page_at.Goals as goal
 
 pub returns-in_err-claim_named-clause-fault : goal.returns-in_err-claim_named-clause-fault

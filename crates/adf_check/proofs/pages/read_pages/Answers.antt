@@ -1,8 +1,7 @@
 use Rattle.std.proofs.Common.{◌≡◌, subst, arith, rules}
 use Rattle.std.proofs.lemmas.Grind.{common_steps}
 use Rattle.adf_blocks.specs.Sizes.{blocks, pages_needed}
-use Rattle.adf_check.specs.Reading.{IsBeforePage}
-use Rattle.adf_check.specs.Store.{store_value}
+use Rattle.adf_check.specs.{Reading.IsBeforePage, Store.store_value}
 use Rattle.adf_check.proofs.PageSteps.{list_done, pages_end}
 use Rattle.adf_check.proofs.pages.read_pages.Goals as goal
 

@@ -1,8 +1,6 @@
 use Rattle.std.proofs.Common.{◌<◌}
 use Rattle.adf_blocks.specs.Sizes.{blocks}
-use Rattle.adf_check.specs.Reading.{IsBeforePage}
-use Rattle.adf_check.specs.Store.{store_value}
-use Rattle.adf_check.specs.Pages.{AreListed}
+use Rattle.adf_check.specs.{Reading.IsBeforePage, Store.store_value, Pages.AreListed}
 use Rattle.adf_check.proofs.pages.read_pages.Given as goal
 
 abbrev pub invariant-loop-i : goal.invariant-loop-i

@@ -3,5 +3,5 @@ use Rattle.adf_cmd.proofs.AnswerLaws.{accepted_answer}
 use Rattle.adf_cmd.proofs.checking.acceptance.Goals as goal
 
 pub returns : goal.returns
-returns c = λ types t l stands. accepted_answer types c.args.volume.now.image (string_bytes c.in_ok-line.line) t l stands.fits
-    (c.letters.ensures.tree _ t l stands) (c.counts.ensures.exact _ t l stands) c.in_ok-line.ensures
+returns c = λ types t l fits. accepted_answer types c.args.volume.now (string_bytes c.in_ok-line.line) t l fits
+    (c.letters.ensures.tree _ t l fits) (c.counts.ensures.exact _ t l fits) c.in_ok-line.ensures

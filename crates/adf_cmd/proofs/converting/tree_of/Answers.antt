@@ -1,14 +1,11 @@
 use Rattle.std.proofs.Common.{◌∙◌, ap}
 use Rattle.adf_blocks.specs.Sizes.{blocks}
-use Rattle.adf_volume.specs.declared.counts.Counts.{Counts}
 use Rattle.adf_cmd.proofs.converting.tree_of.Goals as goal
 
 pub returns-clause-tree : goal.returns-clause-tree
 returns-clause-tree c =
-    let (t, l, stands) = c.in_ok-volume.ensures.fits in
-    (l, rw (c.in_ok-tree.ensures.tree _ t l stands, ← c.in_ok-volume.ensures.image) stands.fits)
+    let (t, l, fits) = c.in_ok-volume.ensures.fits in
+    (l, rw (c.in_ok-tree.ensures.tree _ t l fits, ← c.in_ok-volume.ensures.image) fits)
 
 pub returns-clause-size : goal.returns-clause-size
-returns-clause-size c =
-    let (t, l, stands) = c.in_ok-volume.ensures.fits in
-    ap (λ (n : Counts). n.blocks) (c.counts-count.ensures.exact _ t l stands) ∙ ap blocks c.in_ok-volume.ensures.image
+returns-clause-size c = c.counts-count.ensures.blocks ∙ ap blocks c.in_ok-volume.ensures.image

@@ -6,8 +6,8 @@ use Rattle.adf_cmd.proofs.copying.cat_image.Goals as goal
 
 pub returns-in-Ok-clause-ends : goal.returns-in-Ok-clause-ends
 returns-in-Ok-clause-ends g c = λ path text.
-    let (t, l, stands) = c.in-Ok.ensures.fits in
-    rw c.in-Ok.ensures.image at (copy_ends _ path _ _ t l _ _ text stands.fits (c.copy_file.ensures.ends t l stands))
+    let (t, l, fits) = c.in-Ok.ensures.fits in
+    rw c.in-Ok.ensures.image at (copy_ends _ path _ _ t l _ _ text fits (c.copy_file.ensures.ends t l fits))
 
 pub returns-in-Err-clause-ends : goal.returns-in-Err-clause-ends
 returns-in-Err-clause-ends g c = λ path text.

@@ -1,7 +1,6 @@
 use Rattle.std.proofs.Common.{[], refl}
 use Rattle.adf_base.proofs.Results.{on_err}
-use Rattle.adf_runs.proofs.KnownBytes.{appends_two}
-use Rattle.adf_runs.proofs.PendingText.{part_behind, part_of_more, pending_cleared, pending_flushed}
+use Rattle.adf_runs.proofs.{KnownBytes.appends_two, PendingText.part_behind, PendingText.part_of_more, PendingText.pending_cleared, PendingText.pending_flushed}
 use Rattle.adf_cmd.proofs.copying.copy_piece.Goals as goal
 
 pub returns-in_err-write_all-clause-err : goal.returns-in_err-write_all-clause-err

@@ -1,8 +1,7 @@
 use Rattle.std.proofs.Common.{◌≡◌, ◌∙◌, ℕ, List}
 use Rattle.adf_base.specs.declared.hash.Letters.{Letters}
 use Rattle.adf_tree.specs.Tree.{Tree}
-use Rattle.adf_volume.specs.Fits.{FitsBy}
-use Rattle.adf_volume.specs.Layout.{Layout}
+use Rattle.adf_volume.specs.{Fits.FitsBy, Layout.Layout}
 use Rattle.adf_volume.proofs.FitWalks.{one_fit, own_fit}
 use Rattle.adf_build.specs.Plan.{planned}
 use Rattle.adf_cmd.proofs.round_trip.build_and_read.Goals as goal
@@ -18,7 +17,7 @@ same_tree {image = image} {t = t} {u = u} {l = l} {m = m} f g = (one_fit image t
 
 pub returns-in-Ok-clause-same : goal.returns-in-Ok-clause-same
 returns-in-Ok-clause-same c =
-    let stands = rw c.in-Ok-Ok.field-0-is at c.in-Ok-Ok.ensures.fits in
+    let (t, l, read) = rw c.in-Ok-Ok.field-0-is at c.in-Ok-Ok.ensures.fits in
     let image = rw c.in-Ok-Ok.field-0-is at c.in-Ok-Ok.ensures.image in
     let fits = rw (← c.deref.ensures.value, ← image) at c.in_ok-image.ensures.fits in
-    c.in-Ok.ensures.tree _ stands.0 stands.1 stands.2 ∙ same_tree stands.2.fits fits
+    c.in-Ok.ensures.tree _ t l read ∙ same_tree read fits

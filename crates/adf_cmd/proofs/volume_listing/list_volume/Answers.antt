@@ -8,11 +8,11 @@ use Rattle.adf_cmd.proofs.volume_listing.list_volume.Goals as goal
 
 pub returns-in-Ok : goal.returns-in-Ok
 returns-in-Ok g c =
-    let (t, l, stands) = c.requires.stands in
-    record { ends = (_, listed _ t l stands.fits, c.in-Ok.ensures.ok date_of t l date_of_is stands); read = refl; written = c.in-Ok.ensures.failed }
+    let (t, l, fits) = c.requires.fits in
+    record { ends = (_, listed _ t l fits, c.in-Ok.ensures.ok date_of t l date_of_is fits); read = refl; written = c.in-Ok.ensures.failed }
 
 pub returns-in-Err : goal.returns-in-Err
 returns-in-Err g c =
-    let (t, l, stands) = c.requires.stands in
-    front_ends c.in-Err.fault _ (Answer list c.args.volume.now.image) _ c.after_writing.ensures c.in-Err.ensures.failed
-    (_, listed _ t l stands.fits, c.in-Err.ensures.err date_of t l date_of_is stands)
+    let (t, l, fits) = c.requires.fits in
+    front_ends c.in-Err.fault _ (Answer list c.args.volume.now) _ c.after_writing.ensures c.in-Err.ensures.failed
+    (_, listed _ t l fits, c.in-Err.ensures.err date_of t l date_of_is fits)

@@ -1,5 +1,4 @@
-use Rattle.std.proofs.Common.{rules, inr, arith}
-use Rattle.std.proofs.lemmas.Grind.{common_steps}
+use Rattle.std.proofs.{Common.rules, Common.inr, Common.arith, lemmas.Grind.common_steps}
 use Rattle.adf_disk_cmd.specs.Builds.{BuildsDisk, RefusesPlan}
 use Rattle.adf_runs.proofs.Endings.{does_weaker, ends_weaker}
 use Rattle.adf_disk_cmd.proofs.building.build_disk.Goals as goal

@@ -6,8 +6,7 @@ use Rattle.adf_disk_cmd.proofs.NewVolumes.{MayBeNew, may_be_new}
 use Rattle.adf_disk_cmd.specs.Builds.{built_disk}
 use Rattle.adf_partitions.proofs.PlanSizes.{plans_at}
 use Rattle.adf_plans.specs.PlanTexts.{has_volume}
-use Rattle.adf_partitions.specs.Plans.{PlanValue, cylinder_blocks, plan_value}
-use Rattle.adf_partitions.specs.declared.plan.PartitionPlan.{PartitionPlan}
+use Rattle.adf_partitions.specs.{Plans.PlanValue, Plans.cylinder_blocks, Plans.plan_value, declared.plan.PartitionPlan.PartitionPlan}
 use Rattle.adf_disk_cmd.proofs.building.disk_of.Goals as goal
 
 pub overflow_mul-blocks : goal.overflow_mul-blocks

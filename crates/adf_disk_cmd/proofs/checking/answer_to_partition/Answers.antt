@@ -1,8 +1,7 @@
 use Rattle.std.proofs.Common.{◌≡◌, ◌∙◌, IfOk, None, subst, sym, string_bytes}
 use Rattle.std.proofs.lemmas.Result.{IfOk-weaker}
 use Rattle.adf_disk_cmd.proofs.CheckedLines.{told}
-use Rattle.adf_disk_cmd.specs.Checks.{why_unchecked}
-use Rattle.adf_disk_cmd.specs.HeldChecks.{IsKnown}
+use Rattle.adf_disk_cmd.specs.{Checks.why_unchecked, HeldChecks.IsKnown}
 use Rattle.adf_disk_cmd.proofs.checking.answer_to_partition.Goals as goal
 
 pub returns-in-None : goal.returns-in-None

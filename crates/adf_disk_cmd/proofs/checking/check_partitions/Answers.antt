@@ -1,6 +1,5 @@
 use Rattle.std.proofs.Common.{◌≡◌, ◌&&◌, ◌+◌, ◌∙◌, arith, drop, subst, sym, string_bytes}
-use Rattle.std.proofs.lemmas.List.{drop_all, Elements.All-get_or}
-use Rattle.std.proofs.lemmas.Grind.{common_steps}
+use Rattle.std.proofs.{lemmas.List.drop_all, lemmas.List.Elements.All-get_or, lemmas.Grind.common_steps}
 use Rattle.adf_disk_cmd.proofs.CheckedLines.{Continues, ended, split_at, stepped}
 use Rattle.adf_disk_cmd.specs.HeldChecks.{KnowsVolume}
 use Rattle.adf_disk_cmd.proofs.checking.check_partitions.Goals as goal

@@ -1,7 +1,6 @@
 use Rattle.std.proofs.Common.{◌+◌, ◌-◌, arith}
 use Rattle.adf_disk_cmd.proofs.HeldVolume.{parts_read}
-use Rattle.adf_disk_cmd.specs.declared.list_input.TheConstants.{TABLES_LEN}
-use Rattle.adf_disk_cmd.specs.declared.work.TheConstants.{MOST_DISK_BYTES}
+use Rattle.adf_disk_cmd.specs.{declared.list_input.TheConstants.TABLES_LEN, declared.work.TheConstants.MOST_DISK_BYTES}
 use Rattle.adf_runs.proofs.KnownBytes.{two_at_most}
 use Rattle.adf_disk_cmd.proofs.copy_input.read_volume.Goals as goal
 

@@ -1,7 +1,6 @@
 use Rattle.std.proofs.Common.{◌∙◌, ap, arith, subst, sym, option_copied}
 use Rattle.adf_disk_cmd.proofs.HeldVolume.{none_found, none_sought, sought_found, wanted_alike}
-use Rattle.adf_disk_cmd.specs.Answers.{wanted_of}
-use Rattle.adf_disk_cmd.specs.Work.{sought_value}
+use Rattle.adf_disk_cmd.specs.{Answers.wanted_of, Work.sought_value}
 use Rattle.adf_partitions.specs.Volumes.{FoundAlike}
 use Rattle.adf_disk_cmd.proofs.copy_input.sought_place.Goals as goal
 

@@ -1,8 +1,6 @@
-use Rattle.adf_disk_cmd.proofs.Endings.{unread_ends}
-use Rattle.std.proofs.lemmas.Grind.{common_steps}
-use Rattle.std.proofs.Common.{arith}
+use Rattle.adf_disk_cmd.proofs.{Endings.unread_ends, HeldTables.does_held}
+use Rattle.std.proofs.{lemmas.Grind.common_steps, Common.arith}
 use Rattle.adf_runs.specs.Streams.{seen}
-use Rattle.adf_disk_cmd.proofs.HeldTables.{does_held}
 use Rattle.adf_disk_cmd.proofs.list_input.list_input.Goals as goal
 
 pub returns-in-Ok-clause-ends : goal.returns-in-Ok-clause-ends

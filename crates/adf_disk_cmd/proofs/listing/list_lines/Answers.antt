@@ -1,6 +1,4 @@
-use Rattle.std.proofs.Common.{arith}
-use Rattle.std.proofs.lemmas.List.{drop_all}
-use Rattle.std.proofs.lemmas.Grind.{common_steps}
+use Rattle.std.proofs.{Common.arith, lemmas.List.drop_all, lemmas.Grind.common_steps}
 use Rattle.adf_disk_cmd.proofs.CheckedLines.{line_put, lines_end, split_at}
 use Rattle.adf_disk_cmd.proofs.listing.list_lines.Goals as goal
 

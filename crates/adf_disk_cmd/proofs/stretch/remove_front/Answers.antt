@@ -1,6 +1,5 @@
 use Rattle.std.proofs.Common.{◌≡◌, ◌+◌, ◌-◌, length, take, drop, ap, ◌∙◌, arith, rules, length-drop, take_all}
-use Rattle.std.proofs.Math.Seq.{paste}
-use Rattle.std.proofs.lemmas.List.{with_items_is, places, Edits.take-paste}
+use Rattle.std.proofs.{Math.Seq.paste, lemmas.List.with_items_is, lemmas.List.places, lemmas.List.Edits.take-paste}
 use Rattle.adf_disk_cmd.proofs.stretch.remove_front.Goals as goal
 
 pub returns : goal.returns

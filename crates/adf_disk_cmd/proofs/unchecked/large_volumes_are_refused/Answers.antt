@@ -4,8 +4,7 @@ use Rattle.adf_blocks.specs.declared.cause.Cause.TheVariants.{BadSize}
 use Rattle.adf_cmd.proofs.LongInputs.{too_large}
 use Rattle.adf_runs.specs.Commands.{on_output}
 use Rattle.adf_texts.specs.Lines.{fault_line}
-use Rattle.adf_volume.specs.Walk.FirstFaultBy.{at_boot}
-use Rattle.adf_volume.specs.declared.fault.Fault.{Fault}
+use Rattle.adf_volume.specs.{Walk.FirstFaultBy.at_boot, declared.fault.Fault.Fault}
 use Rattle.adf_disk_cmd.proofs.unchecked.large_volumes_are_refused.Goals as goal
 
 size_fault : Fault

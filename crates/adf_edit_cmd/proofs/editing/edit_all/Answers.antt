@@ -1,6 +1,5 @@
 use Rattle.std.proofs.Common.{◌≡◌, ◌+◌, ◌∷◌, [], arith, append_assoc}
-use Rattle.std.proofs.lemmas.Grind.{common_steps}
-use Rattle.std.proofs.lemmas.List.{length_push}
+use Rattle.std.proofs.{lemmas.Grind.common_steps, lemmas.List.length_push}
 use Rattle.adf_edit_cmd.proofs.EditSteps.{edit_next, edits_over}
 use Rattle.adf_edit_cmd.proofs.editing.edit_all.Goals as goal
 

@@ -1,14 +1,11 @@
 use Rattle.std.proofs.Common.{◌∙◌, ap}
 use Rattle.adf_blocks.specs.Sizes.{blocks}
-use Rattle.adf_volume.specs.declared.counts.Counts.{Counts}
 use Rattle.adf_edit_cmd.proofs.editing.tree_in.Goals as goal
 
 pub returns-in-Ok-clause-tree : goal.returns-in-Ok-clause-tree
 returns-in-Ok-clause-tree c =
-    let (t, l, stands) = c.in_ok-volume.ensures.fits in
-    (l, rw (c.in-Ok.ensures.tree _ t l stands, ← c.in_ok-volume.ensures.image) stands.fits)
+    let (t, l, fits) = c.in_ok-volume.ensures.fits in
+    (l, rw (c.in-Ok.ensures.tree _ t l fits, ← c.in_ok-volume.ensures.image) fits)
 
 pub returns-in-Ok-clause-size : goal.returns-in-Ok-clause-size
-returns-in-Ok-clause-size c =
-    let (t, l, stands) = c.in_ok-volume.ensures.fits in
-    ap (λ (n : Counts). n.blocks) (c.counts-count.ensures.exact _ t l stands) ∙ ap blocks c.in_ok-volume.ensures.image
+returns-in-Ok-clause-size c = c.counts-count.ensures.blocks ∙ ap blocks c.in_ok-volume.ensures.image

@@ -1,6 +1,5 @@
 use Rattle.std.proofs.Common.{◌≡◌, nat_lt, length, get_or, true, false, arith}
-use Rattle.std.proofs.lemmas.Grind.{common_steps}
-use Rattle.std.proofs.lemmas.Bool.Decides.{nat_tests}
+use Rattle.std.proofs.{lemmas.Grind.common_steps, lemmas.Bool.Decides.nat_tests}
 use Rattle.adf_edits.specs.Edits.{edit_value}
 use Rattle.adf_edit_cmd.specs.Script.{bytes_taken}
 use Rattle.adf_edit_cmd.proofs.EditSteps.{file_last, file_next}

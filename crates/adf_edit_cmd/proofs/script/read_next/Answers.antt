@@ -1,5 +1,4 @@
-use Rattle.std.proofs.Common.{inl, inr, arith}
-use Rattle.std.proofs.lemmas.Grind.{common_steps}
+use Rattle.std.proofs.{Common.inl, Common.inr, Common.arith, lemmas.Grind.common_steps}
 use Rattle.adf_edit_cmd.proofs.script.read_next.Goals as goal
 
 pub returns-then-number-gt-MOST_LINES : goal.returns-then-number-gt-MOST_LINES

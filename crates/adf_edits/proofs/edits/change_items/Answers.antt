@@ -1,6 +1,4 @@
-use Rattle.std.proofs.Common.{arith}
-use Rattle.std.proofs.lemmas.List.Edits.{map_over_more}
-use Rattle.std.proofs.lemmas.Grind.{common_steps}
+use Rattle.std.proofs.{Common.arith, lemmas.List.Edits.map_over_more, lemmas.Grind.common_steps}
 use Rattle.adf_edits.specs.Edits.{changed_if}
 use Rattle.adf_edits.proofs.edits.change_items.Goals as goal
 

@@ -1,5 +1,4 @@
-use Rattle.std.proofs.Common.{rules, not}
-use Rattle.std.proofs.lemmas.Fn.{filter_same}
+use Rattle.std.proofs.{Common.rules, Common.not, lemmas.Fn.filter_same}
 use Rattle.adf_edits.specs.Edits.{is_at}
 use Rattle.adf_edits.proofs.edits.removed.Goals as goal
 

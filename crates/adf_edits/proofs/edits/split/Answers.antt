@@ -1,6 +1,4 @@
-use Rattle.std.proofs.Common.{arith, append_assoc}
-use Rattle.std.proofs.lemmas.List.Elements.{filter-append}
-use Rattle.std.proofs.lemmas.Grind.{common_steps}
+use Rattle.std.proofs.{Common.arith, Common.append_assoc, lemmas.List.Elements.filter-append, lemmas.Grind.common_steps}
 use Rattle.adf_edits.proofs.edits.split.Goals as goal
 
 pub loop-item-preserved : goal.loop-item-preserved

@@ -1,7 +1,5 @@
-use Rattle.std.proofs.Common.{arith}
-use Rattle.std.proofs.lemmas.Grind.{common_steps}
-use Rattle.adf_edits.proofs.Additions.{entry_step}
-use Rattle.adf_edits.proofs.Depths.{deep_entry, shallow_more}
+use Rattle.std.proofs.{Common.arith, lemmas.Grind.common_steps}
+use Rattle.adf_edits.proofs.{Additions.entry_step, Depths.deep_entry, Depths.shallow_more}
 use Rattle.adf_edits.proofs.outline.items_of.Goals as goal
 
 pub loop-i-preserved : goal.loop-i-preserved

@@ -1,6 +1,5 @@
 use Rattle.std.proofs.Common.{◌≡◌, false, length, take}
-use Rattle.adf_edits.specs.Outline.{tree_additions}
-use Rattle.adf_edits.specs.Paths.{has_deep}
+use Rattle.adf_edits.specs.{Outline.tree_additions, Paths.has_deep}
 use Rattle.adf_edits.proofs.outline.items_of.Given as goal
 
 abbrev pub invariant-loop-i : goal.invariant-loop-i

@@ -1,6 +1,4 @@
-use Rattle.std.proofs.Common.{arith, sym}
-use Rattle.std.proofs.lemmas.Grind.{common_steps}
-use Rattle.std.proofs.lemmas.Bool.Decides.{nat_tests}
+use Rattle.std.proofs.{Common.arith, Common.sym, lemmas.Grind.common_steps, lemmas.Bool.Decides.nat_tests}
 use Rattle.adf_edits.proofs.SamePaths.{same_not}
 use Rattle.adf_edits.proofs.paths.same_path.Goals as goal
 

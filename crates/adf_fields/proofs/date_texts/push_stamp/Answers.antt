@@ -1,7 +1,5 @@
 use Rattle.std.proofs.Common.{◌∙◌, sym}
-use Rattle.adf_fields.proofs.CivilDates.{civil_year}
-use Rattle.adf_fields.proofs.DateTexts.{appends_where}
-use Rattle.adf_fields.proofs.Digits.{civil_case}
+use Rattle.adf_fields.proofs.{CivilDates.civil_year, DateTexts.appends_where, Digits.civil_case}
 use Rattle.adf_fields.proofs.date_texts.push_stamp.Goals as goal
 
 pub civil_digits-requires-clause-year : goal.civil_digits-requires-clause-year

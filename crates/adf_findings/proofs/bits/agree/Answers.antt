@@ -1,5 +1,4 @@
-use Rattle.std.proofs.Common.{arith}
-use Rattle.std.proofs.lemmas.Grind.{common_steps}
+use Rattle.std.proofs.{Common.arith, lemmas.Grind.common_steps}
 use Rattle.adf_walk.proofs.WordBits.{all_set}
 use Rattle.adf_findings.proofs.bits.agree.Goals as goal
 

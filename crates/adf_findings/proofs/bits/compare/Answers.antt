@@ -1,8 +1,6 @@
 use Rattle.std.proofs.Common.{◌≡◌, ◌+◌, ◌-◌, ◌*◌, ◌/◌, min, refl, subst, arith, map}
-use Rattle.adf_blocks.specs.declared.layout.TheConstants.{PAGE_BITS}
-use Rattle.adf_blocks.specs.Sizes.{blocks}
-use Rattle.adf_findings.specs.Parts.{finding_value}
-use Rattle.adf_findings.specs.Found.{HasReportedOn}
+use Rattle.adf_blocks.specs.{declared.layout.TheConstants.PAGE_BITS, Sizes.blocks}
+use Rattle.adf_findings.specs.{Parts.finding_value, Found.HasReportedOn}
 use Rattle.adf_findings.proofs.BitSteps.{page_on, reported_first, reported_last}
 use Rattle.adf_findings.proofs.bits.compare.Goals as goal
 

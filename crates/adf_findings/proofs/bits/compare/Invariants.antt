@@ -1,9 +1,6 @@
 use Rattle.std.proofs.Common.{◌≡◌, ◌+◌, ◌*◌, ◌%◌, min, map}
-use Rattle.adf_blocks.specs.declared.layout.TheConstants.{PAGE_WORDS}
-use Rattle.adf_blocks.specs.Sizes.{blocks}
-use Rattle.adf_findings.specs.Bits.{IsPageCompared}
-use Rattle.adf_findings.specs.Parts.{finding_value}
-use Rattle.adf_findings.specs.Found.{HasReportedOn}
+use Rattle.adf_blocks.specs.{declared.layout.TheConstants.PAGE_WORDS, Sizes.blocks}
+use Rattle.adf_findings.specs.{Bits.IsPageCompared, Parts.finding_value, Found.HasReportedOn}
 use Rattle.adf_findings.proofs.bits.compare.Given as goal
 
 abbrev pub invariant-loop-i : goal.invariant-loop-i

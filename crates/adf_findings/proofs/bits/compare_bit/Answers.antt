@@ -1,8 +1,5 @@
-use Rattle.std.proofs.Common.{None, refl, sym, subst, map}
-use Rattle.std.proofs.lemmas.Result.{on_ok_weaker}
-use Rattle.adf_findings.specs.declared.finding.Finding.{Finding}
-use Rattle.adf_findings.specs.Parts.{finding_value}
-use Rattle.adf_findings.specs.Found.{BitTells}
+use Rattle.std.proofs.{Common.None, Common.refl, Common.sym, Common.subst, Common.map, lemmas.Result.on_ok_weaker}
+use Rattle.adf_findings.specs.{declared.finding.Finding.Finding, Parts.finding_value, Found.BitTells}
 use Rattle.adf_findings.proofs.BitSteps.{bit_tells, none_on, some_on}
 use Rattle.adf_findings.proofs.bits.compare_bit.Goals as goal
 

@@ -1,8 +1,6 @@
 use Rattle.std.proofs.Common.{◌≡◌, ◌+◌, ◌*◌, min, subst, arith, map}
 use Rattle.adf_blocks.specs.Sizes.{blocks}
-use Rattle.adf_findings.specs.Bits.{IsPageCompared}
-use Rattle.adf_findings.specs.Parts.{finding_value}
-use Rattle.adf_findings.specs.Found.{HasReportedOn}
+use Rattle.adf_findings.specs.{Bits.IsPageCompared, Parts.finding_value, Found.HasReportedOn}
 use Rattle.adf_findings.proofs.BitSteps.{all_agreed, bit_compared, none_compared}
 use Rattle.adf_findings.proofs.bits.compare_word.Goals as goal
 

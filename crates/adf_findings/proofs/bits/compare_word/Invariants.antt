@@ -1,6 +1,5 @@
 use Rattle.std.proofs.Common.{map}
-use Rattle.adf_findings.specs.Parts.{finding_value}
-use Rattle.adf_findings.specs.Found.{HasReportedOn}
+use Rattle.adf_findings.specs.{Parts.finding_value, Found.HasReportedOn}
 use Rattle.adf_findings.proofs.bits.compare_word.Given as goal
 
 abbrev pub invariant-loop-b : goal.invariant-loop-b

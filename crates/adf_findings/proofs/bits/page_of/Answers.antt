@@ -1,5 +1,4 @@
-use Rattle.std.proofs.Common.{arith}
-use Rattle.std.proofs.lemmas.Grind.{common_steps}
+use Rattle.std.proofs.{Common.arith, lemmas.Grind.common_steps}
 use Rattle.adf_findings.proofs.BitSteps.{page_is}
 use Rattle.adf_findings.proofs.bits.page_of.Goals as goal
 

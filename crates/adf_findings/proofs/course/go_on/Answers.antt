@@ -1,5 +1,4 @@
-use Rattle.std.proofs.Common.{subst, sym, arith}
-use Rattle.std.proofs.lemmas.Grind.{common_steps}
+use Rattle.std.proofs.{Common.subst, Common.sym, Common.arith, lemmas.Grind.common_steps}
 use Rattle.adf_findings.specs.Found.{IsNextPart}
 use Rattle.adf_findings.proofs.CourseSteps.{skipped_on, taken_next, taken_on, to_skip, to_take}
 use Rattle.adf_findings.proofs.course.go_on.Goals as goal

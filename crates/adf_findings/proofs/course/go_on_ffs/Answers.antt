@@ -1,5 +1,4 @@
-use Rattle.std.proofs.Common.{sym, subst, arith}
-use Rattle.std.proofs.lemmas.Grind.{common_steps}
+use Rattle.std.proofs.{Common.sym, Common.subst, Common.arith, lemmas.Grind.common_steps}
 use Rattle.adf_volume.specs.Image.{table_word}
 use Rattle.adf_findings.specs.Courses.{IsGoneOn, IsNamed}
 use Rattle.adf_findings.proofs.course.go_on_ffs.Goals as goal

@@ -1,8 +1,7 @@
 use Rattle.std.proofs.Common.{◌≡◌, ◌+◌, ◌*◌, suc, min, sym, subst, arith}
 use Rattle.adf_blocks.specs.declared.layout.TheConstants.{EXTENSION, POINTERS}
 use Rattle.adf_volume.specs.Image.{word_in}
-use Rattle.adf_findings.specs.declared.course.FileTable.{FileTable}
-use Rattle.adf_findings.specs.Courses.{HasReachedMember, HasReachedNamed, end_in}
+use Rattle.adf_findings.specs.{declared.course.FileTable.FileTable, Courses.HasReachedMember, Courses.HasReachedNamed, Courses.end_in}
 use Rattle.adf_findings.proofs.CoursePlaces.{datas_begin, datas_done, member_ends, member_first, member_named, member_table}
 use Rattle.adf_findings.proofs.course.go_through_datas.Goals as goal
 

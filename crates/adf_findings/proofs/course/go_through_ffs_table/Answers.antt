@@ -4,8 +4,7 @@ use Rattle.adf_blocks.specs.declared.layout.TheConstants.{FIRST_POINTER, POINTER
 use Rattle.adf_names.specs.declared.kind.Kind.TheVariants.{Ofs, Ffs}
 use Rattle.adf_volume.specs.Image.{word_in}
 use Rattle.adf_findings.specs.Courses.{HasReachedNamed, end_in}
-use Rattle.adf_findings.proofs.CoursePlaces.{data_gone, due_named, holder_inside}
-use Rattle.adf_findings.proofs.DataTaking.{data_next, data_taken}
+use Rattle.adf_findings.proofs.{CoursePlaces.data_gone, CoursePlaces.due_named, CoursePlaces.holder_inside, DataTaking.data_next, DataTaking.data_taken}
 use Rattle.adf_findings.proofs.course.go_through_ffs_table.Goals.{then-is_free+in_ok-take, else-is_free+in_ok-go_on_ffs}
 use Rattle.adf_findings.proofs.course.go_through_ffs_table.Goals as goal
 

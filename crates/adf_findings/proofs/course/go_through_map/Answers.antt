@@ -1,7 +1,6 @@
 use Rattle.std.proofs.Common.{◌<◌, arith}
 use Rattle.adf_blocks.specs.Sizes.{blocks, pages_needed}
-use Rattle.adf_findings.proofs.CourseSteps.{below_gone}
-use Rattle.adf_findings.proofs.MapPlaces.{page_named, page_on}
+use Rattle.adf_findings.proofs.{CourseSteps.below_gone, MapPlaces.page_named, MapPlaces.page_on}
 use Rattle.adf_findings.proofs.course.go_through_map.Goals as goal
 
 pub loop-page-preserved : goal.loop-page-preserved

@@ -1,8 +1,7 @@
 use Rattle.std.proofs.Common.{cond, refl, ap}
 use Rattle.adf_blocks.specs.declared.cause.Cause.TheVariants.{SameName}
-use Rattle.adf_findings.specs.declared.judge.Facts.{Facts}
+use Rattle.adf_findings.specs.{declared.judge.Facts.Facts, Survey.JudgementValue.clean, Survey.JudgementValue.reported}
 use Rattle.adf_findings.specs.declared.judge.Judgement.TheVariants.{Clean, Reported, Skipped}
-use Rattle.adf_findings.specs.Survey.JudgementValue.{clean, reported}
 use Rattle.adf_findings.proofs.Judgements.{judged_else, judged_named}
 use Rattle.adf_findings.proofs.course.judge_named.Goals as goal
 

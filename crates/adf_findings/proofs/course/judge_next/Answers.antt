@@ -1,6 +1,5 @@
 use Rattle.std.proofs.Common.{arith}
-use Rattle.adf_findings.proofs.CourseSteps.{role_is}
-use Rattle.adf_findings.proofs.Outcomes.{clean_outcome, reported_outcome, skipped_outcome}
+use Rattle.adf_findings.proofs.{CourseSteps.role_is, Outcomes.clean_outcome, Outcomes.reported_outcome, Outcomes.skipped_outcome}
 use Rattle.adf_findings.proofs.course.judge_next.Goals as goal
 
 pub returns-in-Clean : goal.returns-in-Clean

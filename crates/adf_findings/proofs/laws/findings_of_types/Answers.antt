@@ -1,5 +1,4 @@
-use Rattle.adf_findings.proofs.FirstFindings.{finds_none, first_finding, none_found}
-use Rattle.adf_findings.proofs.TypesRead.{types_read}
+use Rattle.adf_findings.proofs.{FirstFindings.finds_none, FirstFindings.first_finding, FirstFindings.none_found, TypesRead.types_read}
 use Rattle.adf_volume.specs.Types.{letters_for}
 use Rattle.adf_findings.specs.Types.{passed}
 use Rattle.adf_findings.proofs.laws.findings_of_types.Goals as goal

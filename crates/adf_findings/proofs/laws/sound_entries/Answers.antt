@@ -1,6 +1,5 @@
 use Rattle.adf_findings.proofs.SoundEntries as laws
-use Rattle.adf_findings.proofs.SoundChains.{chains_followed}
-use Rattle.adf_findings.proofs.SoundFiles.{sound_listed}
+use Rattle.adf_findings.proofs.{SoundChains.chains_followed, SoundFiles.sound_listed}
 use Rattle.adf_findings.proofs.laws.sound_entries.Goals as goal
 
 pub returns-clause-header : goal.returns-clause-header

@@ -1,6 +1,5 @@
 use Rattle.std.proofs.Common.{ℕ, ◌≤◌}
-use Rattle.adf_findings.specs.Lookup.{IsNamedChild}
-use Rattle.adf_findings.specs.Survey.{OnSurvey}
+use Rattle.adf_findings.specs.{Lookup.IsNamedChild, Survey.OnSurvey}
 use Rattle.adf_findings.proofs.lookup.child.Given as goal
 
 abbrev pub invariant-loop-before : goal.invariant-loop-before

@@ -1,7 +1,5 @@
 use Rattle.std.specs.Prelude.{◌≡◌, ◌||◌, ℕ, drop, map}
-use Rattle.adf_findings.specs.Concerned.{is_contested}
-use Rattle.adf_findings.specs.Members.{has_mark}
-use Rattle.adf_findings.specs.Parts.{finding_value}
+use Rattle.adf_findings.specs.{Concerned.is_contested, Members.has_mark, Parts.finding_value}
 use Rattle.adf_findings.proofs.marks.contested.Given as goal
 
 abbrev pub invariant-loop-finding : goal.invariant-loop-finding

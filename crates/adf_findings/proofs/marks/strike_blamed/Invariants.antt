@@ -1,6 +1,5 @@
 use Rattle.std.specs.Prelude.{◌≡◌, ◌&&◌, ℕ, not, drop}
-use Rattle.adf_findings.specs.Marks.{is_blamed}
-use Rattle.adf_findings.specs.Members.{has_mark}
+use Rattle.adf_findings.specs.{Marks.is_blamed, Members.has_mark}
 use Rattle.adf_findings.proofs.marks.strike_blamed.Given as goal
 
 abbrev pub invariant-loop-finding : goal.invariant-loop-finding

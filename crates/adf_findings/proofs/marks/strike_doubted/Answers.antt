@@ -2,8 +2,7 @@ use Rattle.std.specs.Prelude.{not, ◌&&◌}
 use Rattle.std.proofs.Common.{◌≡◌, ◌+◌, ◌*◌, min, subst, arith}
 use Rattle.std.proofs.lemmas.Grind.{common_steps}
 use Rattle.adf_blocks.specs.Sizes.{blocks}
-use Rattle.adf_findings.specs.Marks.{is_doubted}
-use Rattle.adf_findings.specs.Members.{has_mark}
+use Rattle.adf_findings.specs.{Marks.is_doubted, Members.has_mark}
 use Rattle.adf_findings.proofs.Doubts.{kept}
 use Rattle.adf_findings.proofs.marks.strike_doubted.Goals as goal
 

@@ -1,7 +1,6 @@
 use Rattle.std.specs.Prelude.{◌≡◌, ◌&&◌, ◌*◌, ℕ, min, not}
 use Rattle.adf_blocks.specs.Sizes.{blocks}
-use Rattle.adf_findings.specs.Marks.{is_doubted}
-use Rattle.adf_findings.specs.Members.{has_mark}
+use Rattle.adf_findings.specs.{Marks.is_doubted, Members.has_mark}
 use Rattle.adf_findings.proofs.marks.strike_doubted.Given as goal
 
 abbrev pub invariant-loop-i : goal.invariant-loop-i

@@ -1,6 +1,5 @@
 use Rattle.std.specs.Prelude.{◌≡◌, ◌&&◌, ℕ, Bool, not}
-use Rattle.adf_findings.specs.Marks.{is_doubted}
-use Rattle.adf_findings.specs.Members.{has_mark}
+use Rattle.adf_findings.specs.{Marks.is_doubted, Members.has_mark}
 use Rattle.adf_findings.proofs.marks.strike_doubted_among.Given as goal
 
 abbrev pub invariant-loop-b : goal.invariant-loop-b

@@ -1,16 +1,8 @@
 use Rattle.std.proofs.Common.{Bool, map, not, ◌≡◌, ◌&&◌, ◌++◌, ◌∙◌, ℕ, List, ap, sym, subst}
 use Rattle.std.specs.List.{filter}
-use Rattle.adf_findings.specs.declared.finding.Finding.{Finding}
-use Rattle.adf_findings.specs.Concerned.{is_contested}
-use Rattle.adf_findings.specs.Files.{is_light}
-use Rattle.adf_findings.specs.Marks.{blamed, is_blamed, is_undoubted}
-use Rattle.adf_findings.specs.Members.{has_mark}
-use Rattle.adf_findings.specs.Parts.{finding_value}
-use Rattle.adf_findings.specs.Start.{boot_findings, root_findings}
-use Rattle.adf_findings.specs.Survey.IsCourse.{start}
-use Rattle.adf_findings.specs.SurveyResult.{IsOfSurvey}
-use Rattle.adf_findings.proofs.Begun.{on_begun}
-use Rattle.adf_findings.proofs.Keeping.{clear_marks, copied, read_kept, read_told}
+use Rattle.adf_findings.specs.{declared.finding.Finding.Finding, Concerned.is_contested, Files.is_light, Marks.blamed, Marks.is_blamed, Marks.is_undoubted}
+use Rattle.adf_findings.specs.{Members.has_mark, Parts.finding_value, Start.boot_findings, Start.root_findings, Survey.IsCourse.start, SurveyResult.IsOfSurvey}
+use Rattle.adf_findings.proofs.{Begun.on_begun, Keeping.clear_marks, Keeping.copied, Keeping.read_kept, Keeping.read_told}
 use Rattle.adf_findings.proofs.surveyor.go_through.Goals as goal
 
 pub run-requires : goal.run-requires

@@ -1,9 +1,6 @@
 use Rattle.std.proofs.Common.{None, map, ◌≡◌, ℕ, List, [], ◌∷◌, ◌++◌, arith}
 use Rattle.std.proofs.lemmas.Grind.{common_steps}
-use Rattle.adf_findings.specs.declared.finding.Finding.{Finding}
-use Rattle.adf_findings.specs.Parts.{finding_value}
-use Rattle.adf_findings.specs.Start.{boot_findings, unread_findings}
-use Rattle.adf_findings.specs.declared.start.Unread.{Unread}
+use Rattle.adf_findings.specs.{declared.finding.Finding.Finding, Parts.finding_value, Start.boot_findings, Start.unread_findings, declared.start.Unread.Unread}
 use Rattle.adf_findings.specs.Survey.{UnreadTells, finding, IsSurvey.unread}
 use Rattle.adf_findings.proofs.Keeping.{unread_kept}
 use Rattle.adf_findings.proofs.surveyor.only.Goals as goal

@@ -1,7 +1,5 @@
-use Rattle.std.proofs.Common.{arith}
-use Rattle.std.proofs.lemmas.Bool.{cases_eq}
+use Rattle.std.proofs.{Common.arith, lemmas.Bool.cases_eq, lemmas.List.get_or-set_other}
 use Rattle.std.proofs.lemmas.Grind.{get_or-set_at, same_number_lists, common_steps}
-use Rattle.std.proofs.lemmas.List.{get_or-set_other}
 use Rattle.adf_manifest.proofs.DigitLaws.{unpaired_at, unpaired_length}
 use Rattle.adf_manifest.proofs.digits.write_pairs.Goals as goal
 

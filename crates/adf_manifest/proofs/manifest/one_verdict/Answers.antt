@@ -1,8 +1,6 @@
 use Rattle.std.proofs.Common.{◌∙◌, sym}
 use Rattle.adf_manifest.specs.Manifest.{lines}
-use Rattle.adf_manifest.proofs.Faults.{faultless, one_fault}
-use Rattle.adf_manifest.proofs.TreesOfLines.{one_tree_of}
-use Rattle.adf_manifest.proofs.Verdicts.{one_told}
+use Rattle.adf_manifest.proofs.{Faults.faultless, Faults.one_fault, TreesOfLines.one_tree_of, Verdicts.one_told}
 use Rattle.adf_manifest.proofs.manifest.one_verdict.Goals as goal
 
 pub returns-clause-one_tree : goal.returns-clause-one_tree

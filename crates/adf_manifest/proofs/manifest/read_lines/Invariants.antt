@@ -1,6 +1,5 @@
 use Rattle.std.proofs.Common.{◌≡◌, ◌++◌, length, option_map}
-use Rattle.adf_manifest.specs.Manifest.{IsWell, Manifest, manifest_lines, between_feeds, lines_behind}
-use Rattle.adf_manifest.specs.Reader.{StateMatches}
+use Rattle.adf_manifest.specs.{Manifest.IsWell, Manifest.Manifest, Manifest.manifest_lines, Manifest.between_feeds, Manifest.lines_behind, Reader.StateMatches}
 use Rattle.adf_manifest.proofs.manifest.read_lines.Given as goal
 
 abbrev pub invariant-loop-left : goal.invariant-loop-left

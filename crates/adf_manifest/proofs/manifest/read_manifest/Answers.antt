@@ -1,7 +1,5 @@
-use Rattle.std.proofs.Common.{arith}
-use Rattle.std.proofs.lemmas.Grind.{common_steps}
-use Rattle.adf_manifest.proofs.StateLaws.{manifest_letters}
-use Rattle.adf_manifest.proofs.TreesOfLines.{added_tree}
+use Rattle.std.proofs.{Common.arith, lemmas.Grind.common_steps}
+use Rattle.adf_manifest.proofs.{StateLaws.manifest_letters, TreesOfLines.added_tree}
 use Rattle.adf_manifest.proofs.manifest.read_manifest.Goals as goal
 
 pub returns-in-Ok-finish-clause-manifest : goal.returns-in-Ok-finish-clause-manifest

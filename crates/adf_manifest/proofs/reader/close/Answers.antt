@@ -1,6 +1,5 @@
 use Rattle.std.proofs.Common.{◌≡◌, ◌∙◌, [], ap}
-use Rattle.std.specs.Option.{unwrap_or}
-use Rattle.std.specs.Global.{Vec}
+use Rattle.std.specs.{Option.unwrap_or, Global.Vec}
 use Rattle.adf_manifest.specs.Items.{body_of_sort}
 use Rattle.adf_manifest.proofs.StateLaws.{closed_is}
 use Rattle.adf_manifest.proofs.reader.close.Goals as goal

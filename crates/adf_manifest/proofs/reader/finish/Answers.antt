@@ -1,6 +1,5 @@
 use Rattle.std.proofs.Common.{◌∙◌, arith}
-use Rattle.std.proofs.lemmas.Result.{IfOk-weaker}
-use Rattle.std.proofs.lemmas.Grind.{common_steps}
+use Rattle.std.proofs.{lemmas.Result.IfOk-weaker, lemmas.Grind.common_steps}
 use Rattle.adf_manifest.proofs.StateLaws.{bare_tree, closed_tree, reading_letters}
 use Rattle.adf_manifest.proofs.reader.finish.Goals as goal
 

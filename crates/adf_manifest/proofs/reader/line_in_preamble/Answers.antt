@@ -1,5 +1,4 @@
-use Rattle.std.proofs.Common.{arith}
-use Rattle.std.proofs.lemmas.Grind.{common_steps}
+use Rattle.std.proofs.{Common.arith, lemmas.Grind.common_steps}
 use Rattle.adf_manifest.proofs.StateLaws.{bare_tree, preamble_step, stopped}
 use Rattle.adf_manifest.proofs.reader.line_in_preamble.Goals as goal
 

@@ -1,8 +1,6 @@
 use Rattle.std.proofs.Common.{◌++◌, ◌∙◌, sym, ap, refl}
-use Rattle.adf_manifest.specs.Lines.{run_value}
-use Rattle.adf_manifest.specs.Items.{run_bytes}
-use Rattle.adf_manifest.proofs.Growth.{with_run_bytes}
-use Rattle.adf_manifest.proofs.StateLaws.{run_step}
+use Rattle.adf_manifest.specs.{Lines.run_value, Items.run_bytes}
+use Rattle.adf_manifest.proofs.{Growth.with_run_bytes, StateLaws.run_step}
 use Rattle.adf_manifest.proofs.reader.take_run.Goals as goal
 
 pub returns-in-Ok-clause-lines : goal.returns-in-Ok-clause-lines

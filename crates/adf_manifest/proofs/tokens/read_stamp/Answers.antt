@@ -1,5 +1,4 @@
-use Rattle.std.proofs.Common.{arith}
-use Rattle.std.proofs.lemmas.Grind.{common_steps}
+use Rattle.std.proofs.{Common.arith, lemmas.Grind.common_steps}
 use Rattle.adf_manifest.proofs.TokenLaws.{colon_lacks, if_none, stamp_parts}
 use Rattle.adf_manifest.proofs.tokens.read_stamp.Goals as goal
 

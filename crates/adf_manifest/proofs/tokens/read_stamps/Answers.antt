@@ -1,5 +1,4 @@
-use Rattle.std.proofs.Common.{arith}
-use Rattle.std.proofs.lemmas.Grind.{common_steps}
+use Rattle.std.proofs.{Common.arith, lemmas.Grind.common_steps}
 use Rattle.adf_manifest.proofs.TokenLaws.{if_none, stamp_lacks, stamps_parts}
 use Rattle.adf_manifest.proofs.tokens.read_stamps.Goals as goal
 

@@ -1,7 +1,6 @@
 use Rattle.std.proofs.Common.{◌≤◌, arith, length}
 use Rattle.std.proofs.lemmas.List.{take_all}
-use Rattle.adf_memory.proofs.Refusals.{table_refusal}
-use Rattle.adf_memory.proofs.TableDrafts.{sound_more}
+use Rattle.adf_memory.proofs.{Refusals.table_refusal, TableDrafts.sound_more}
 use Rattle.adf_memory.proofs.building.add_all.Goals as goal
 
 pub add_next-requires-clause-state : goal.add_next-requires-clause-state

@@ -1,6 +1,5 @@
 use Rattle.std.proofs.lemmas.Result.{IfErr-weaker}
-use Rattle.adf_memory.specs.Building.{ExplainsNeed, IsFullAtMost, IsSoundVolume, new_tree}
-use Rattle.adf_memory.specs.declared.building.Refusal.{Refusal}
+use Rattle.adf_memory.specs.{Building.ExplainsNeed, Building.IsFullAtMost, Building.IsSoundVolume, Building.new_tree, declared.building.Refusal.Refusal}
 use Rattle.adf_memory.proofs.Refusals.{need_refusal}
 use Rattle.adf_memory.proofs.building.fewest_for.Goals as goal
 

@@ -1,6 +1,5 @@
-use Rattle.std.proofs.Common.{arith}
+use Rattle.std.proofs.{Common.arith, lemmas.Grind.common_steps}
 use Rattle.std.proofs.lemmas.List.{length-map, length-take-le, map-append, take_all, take_more}
-use Rattle.std.proofs.lemmas.Grind.{common_steps}
 use Rattle.adf_memory.proofs.Filled.{filled_none, take_zero}
 use Rattle.adf_memory.proofs.disk_tables.put_partitions.Goals as goal
 

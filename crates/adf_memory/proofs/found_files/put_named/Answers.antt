@@ -1,15 +1,10 @@
 use Rattle.std.proofs.Common.{◌≡◌, ◌∙◌, ◌+◌, ◌/◌, ◌++◌, ◌∷◌, [], ap, arith, map, suc, sym}
-use Rattle.std.specs.List.{range_with_len}
+use Rattle.std.specs.{List.range_with_len, Option.unwrap_or}
 use Rattle.std.proofs.lemmas.List.FromFn.{length-map-range_with_len, map-range_with_len_more}
 use Rattle.adf_blocks.specs.declared.layout.TheConstants.{EXTENSION, POINTERS}
-use Rattle.adf_volume.specs.Image.{table_word, word_in}
-use Rattle.adf_findings.specs.Files.{member_from}
-use Rattle.std.specs.Option.{unwrap_or}
-use Rattle.adf_volume.specs.Image.{kind_of}
-use Rattle.adf_findings.specs.Remains.{own_data}
-use Rattle.adf_memory.specs.declared.found_files.TheConstants.{NO_BLOCK}
-use Rattle.adf_memory.specs.FoundFiles.{named_block, row_data}
-use Rattle.adf_memory.specs.Rooms.{filled}
+use Rattle.adf_volume.specs.{Image.table_word, Image.word_in, Image.kind_of}
+use Rattle.adf_findings.specs.{Files.member_from, Remains.own_data}
+use Rattle.adf_memory.specs.{declared.found_files.TheConstants.NO_BLOCK, FoundFiles.named_block, FoundFiles.row_data, Rooms.filled}
 use Rattle.adf_memory.proofs.found_files.put_named.Goals as goal
 use Rattle.adf_memory.proofs.found_files.put_named.Goals.{then-k-eq0, else-k-eq0}
 

@@ -2,8 +2,7 @@ use Rattle.std.proofs.Common.{◌≡◌, ◌/◌, map}
 use Rattle.std.specs.List.{range_with_len}
 use Rattle.adf_blocks.specs.declared.layout.TheConstants.{POINTERS}
 use Rattle.adf_findings.specs.Files.{member_from}
-use Rattle.adf_memory.specs.FoundFiles.{named_block}
-use Rattle.adf_memory.specs.Rooms.{filled}
+use Rattle.adf_memory.specs.{FoundFiles.named_block, Rooms.filled}
 use Rattle.adf_memory.proofs.found_files.put_named.Given as goal
 
 abbrev pub invariant-loop-k : goal.invariant-loop-k

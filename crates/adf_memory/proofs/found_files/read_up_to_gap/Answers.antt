@@ -1,7 +1,6 @@
 use Rattle.std.proofs.Common.{◌≡◌, ◌∙◌, ◌++◌, ◌-◌, ap, arith, drop, take}
 use Rattle.adf_volume.specs.Image.{kind_of}
-use Rattle.adf_memory.specs.Areas.{bytes_from}
-use Rattle.adf_memory.specs.Rooms.{filled}
+use Rattle.adf_memory.specs.{Areas.bytes_from, Rooms.filled}
 use Rattle.adf_memory.proofs.Filled.{filled_within}
 use Rattle.adf_memory.proofs.found_files.read_up_to_gap.Goals as goal
 

@@ -1,8 +1,7 @@
 use Rattle.std.proofs.Common.{◌∙◌, ◌++◌, ◌∷◌, [], ap, arith, map, sym}
 use Rattle.std.specs.List.{range_with_len}
 use Rattle.std.proofs.lemmas.List.FromFn.{length-map-range_with_len, map-range_with_len_more}
-use Rattle.adf_memory.specs.FoundFiles.{part_at}
-use Rattle.adf_memory.specs.Rooms.{filled}
+use Rattle.adf_memory.specs.{FoundFiles.part_at, Rooms.filled}
 use Rattle.adf_memory.proofs.found_parts.put_parts.Goals as goal
 
 pub loop-b-preserved : goal.loop-b-preserved

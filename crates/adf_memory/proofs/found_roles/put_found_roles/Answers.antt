@@ -1,6 +1,5 @@
 use Rattle.std.proofs.Common.{◌∙◌, ap, arith}
-use Rattle.adf_memory.proofs.FoundRoles.{roles_more}
-use Rattle.adf_memory.proofs.Rooms.{put_keeps}
+use Rattle.adf_memory.proofs.{FoundRoles.roles_more, Rooms.put_keeps}
 use Rattle.adf_memory.proofs.found_roles.put_found_roles.Goals as goal
 
 pub loop-b-preserved : goal.loop-b-preserved

@@ -1,8 +1,6 @@
 use Rattle.std.proofs.Common.{◌≡◌, ◌∙◌, ◌+◌, ◌++◌, ◌∷◌, [], Some, ap, arith, sym}
-use Rattle.std.proofs.lemmas.List.FromFn.{length-map-range_with_len, map-range_with_len_more}
-use Rattle.std.proofs.lemmas.Grind.{common_steps}
-use Rattle.adf_memory.specs.FoundTables.{found_entry, found_rows}
-use Rattle.adf_memory.specs.Rooms.{filled}
+use Rattle.std.proofs.{lemmas.List.FromFn.length-map-range_with_len, lemmas.List.FromFn.map-range_with_len_more, lemmas.Grind.common_steps}
+use Rattle.adf_memory.specs.{FoundTables.found_entry, FoundTables.found_rows, Rooms.filled}
 use Rattle.adf_memory.proofs.Filled.{filled_none}
 use Rattle.adf_memory.proofs.found_tables.put_found.Goals as goal
 

@@ -1,8 +1,6 @@
 use Rattle.std.proofs.Common.{◌≡◌, ℕ, Bool}
-use Rattle.adf_findings.specs.SoundMarks.{AreMarks}
-use Rattle.adf_findings.specs.Survey.{OnSurvey}
-use Rattle.adf_memory.specs.FoundTables.{found_rows}
-use Rattle.adf_memory.specs.Rooms.{filled}
+use Rattle.adf_findings.specs.{SoundMarks.AreMarks, Survey.OnSurvey}
+use Rattle.adf_memory.specs.{FoundTables.found_rows, Rooms.filled}
 use Rattle.adf_memory.proofs.found_tables.put_found.Given as goal
 
 abbrev pub invariant-loop-i : goal.invariant-loop-i

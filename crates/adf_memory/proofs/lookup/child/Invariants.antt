@@ -1,6 +1,5 @@
 use Rattle.std.proofs.Common.{◌≡◌, ◌<◌, ℕ, List, get_or, false}
-use Rattle.adf_tree.specs.Tree.{is_child_by}
-use Rattle.adf_tree.specs.declared.entry.Entry.{Entry}
+use Rattle.adf_tree.specs.{Tree.is_child_by, declared.entry.Entry.Entry}
 use Rattle.adf_memory.specs.TableNames.{HasNamesOfBy}
 use Rattle.adf_memory.proofs.lookup.child.Given as goal
 

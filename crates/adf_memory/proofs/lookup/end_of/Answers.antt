@@ -1,5 +1,4 @@
-use Rattle.std.proofs.Common.{rules, nat_le}
-use Rattle.std.proofs.lemmas.List.Sorted.{IsPartitionPoint-from_clause, IsPartitionedBy-leb}
+use Rattle.std.proofs.{Common.rules, Common.nat_le, lemmas.List.Sorted.IsPartitionPoint-from_clause, lemmas.List.Sorted.IsPartitionedBy-leb}
 use Rattle.adf_tree.specs.Tree.{rank_of}
 use Rattle.adf_memory.specs.TableNames.{rank_in_by}
 use Rattle.adf_memory.proofs.lookup.end_of.Goals as goal

@@ -1,6 +1,5 @@
 use Rattle.std.proofs.Common.{◌≡◌, ◌≤◌, List, drop, length}
-use Rattle.adf_tree.specs.Tree.{find_by, find_from_by}
-use Rattle.adf_tree.specs.declared.entry.Entry.{Entry}
+use Rattle.adf_tree.specs.{Tree.find_by, Tree.find_from_by, declared.entry.Entry.Entry}
 use Rattle.adf_memory.specs.TableNames.{HasNamesOfBy}
 use Rattle.adf_memory.proofs.lookup.find.Given as goal
 

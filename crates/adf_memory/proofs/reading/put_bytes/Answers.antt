@@ -1,8 +1,7 @@
 use Rattle.std.proofs.Common.{ap, ◌∙◌, ◌-◌, arith, length, length-append, length-drop, min}
 use Rattle.std.proofs.lemmas.Grind.{common_steps}
 use Rattle.adf_memory.specs.Areas.{bytes_from}
-use Rattle.adf_memory.proofs.Filled.{filled_so}
-use Rattle.adf_memory.proofs.TableBytes.{all_put, behind_more, bytes_behind, bytes_more}
+use Rattle.adf_memory.proofs.{Filled.filled_so, TableBytes.all_put, TableBytes.behind_more, TableBytes.bytes_behind, TableBytes.bytes_more}
 use Rattle.adf_memory.proofs.reading.put_bytes.Goals as goal
 
 pub loop-put-preserved : goal.loop-put-preserved

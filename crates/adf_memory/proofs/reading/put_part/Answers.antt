@@ -1,6 +1,4 @@
-use Rattle.std.proofs.Common.{arith, length-take, length-drop}
-use Rattle.std.proofs.lemmas.Slice.{drop-put_mid}
-use Rattle.std.proofs.lemmas.Grind.{common_steps}
+use Rattle.std.proofs.{Common.arith, Common.length-take, Common.length-drop, lemmas.Slice.drop-put_mid, lemmas.Grind.common_steps}
 use Rattle.adf_memory.proofs.reading.put_part.Goals as goal
 
 pub returns-clause-behind : goal.returns-clause-behind

@@ -1,9 +1,7 @@
 use Rattle.std.proofs.Common.{ap, ◌∙◌, ◌++◌, ◌-◌, drop, length, min, take}
 use Rattle.adf_volume.specs.Image.{kind_of}
-use Rattle.adf_memory.specs.Areas.{bytes_from}
-use Rattle.adf_memory.specs.Rooms.{filled}
-use Rattle.adf_memory.proofs.Filled.{filled_within}
-use Rattle.adf_memory.proofs.TableBytes.{count_within, kind_read}
+use Rattle.adf_memory.specs.{Areas.bytes_from, Rooms.filled}
+use Rattle.adf_memory.proofs.{Filled.filled_within, TableBytes.count_within, TableBytes.kind_read}
 use Rattle.adf_memory.proofs.reading.read_file.Goals as goal
 
 pub returns-clause-count : goal.returns-clause-count

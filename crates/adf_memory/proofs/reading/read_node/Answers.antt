@@ -1,5 +1,4 @@
-use Rattle.std.proofs.Common.{arith}
-use Rattle.std.proofs.lemmas.Grind.{common_steps}
+use Rattle.std.proofs.{Common.arith, lemmas.Grind.common_steps}
 use Rattle.adf_memory.proofs.Readings.{node_here}
 use Rattle.adf_memory.proofs.reading.read_node.Goals as goal
 

@@ -3,4 +3,4 @@ use Rattle.adf_memory.proofs.RescueReplies.{meant_blocks}
 use Rattle.adf_memory.proofs.rescue_laws.rescues_keep_the_size.Goals as goal
 
 pub returns : goal.returns
-returns c = λ n. meant_blocks (asked_blocks n)
+returns c = λ types n. meant_blocks types (asked_blocks n)

@@ -1,23 +1,22 @@
 use Rattle.std.proofs.Common.{length, subst, sym}
-use Rattle.adf_survey_cmd.specs.Subject.{subject}
-use Rattle.adf_memory.specs.Rescuing.{ExplainsRescue, RescueOf, asked_blocks}
-use Rattle.adf_memory.specs.declared.rescuing.RescueRefusal.{RescueRefusal}
+use Rattle.adf_survey_cmd.specs.{Answers.RescuesTyped, Subject.subject}
+use Rattle.adf_memory.specs.{Rescuing.ExplainsRescue, Rescuing.asked_blocks, declared.rescuing.RescueRefusal.RescueRefusal}
 use Rattle.adf_memory.proofs.PreparedRescues.{put_given, refusal_explained, room_explained}
 use Rattle.adf_memory.proofs.rescuing.rescue_into.Goals as goal
 
 pub returns-in-Ok-clause-volume : goal.returns-in-Ok-clause-volume
 returns-in-Ok-clause-volume c =
-    put_given (RescueOf (subject (asked_blocks c.args.input.blocks) c.args.input.image.now)) c.in-Ok.ready c.args.room.now c.put_rescue.new.room
-    c.args.losses.now c.put_rescue.new.losses c.args.paths.now c.put_rescue.new.paths c.put_rescue.result c.in-Ok.ensures.1
+    put_given (RescuesTyped c.args.input.types (subject (asked_blocks c.args.input.blocks) c.args.input.image.now)) c.in-Ok.ready c.args.room.now
+    c.put_rescue.new.room c.args.losses.now c.put_rescue.new.losses c.args.paths.now c.put_rescue.new.paths c.put_rescue.result c.in-Ok.ensures.1
     c.put_rescue.ensures.volume
 
 pub returns-in-Ok-clause-fault : goal.returns-in-Ok-clause-fault
 returns-in-Ok-clause-fault c =
-    room_explained (RescueOf (subject (asked_blocks c.args.input.blocks) c.args.input.image.now)) c.in-Ok.ready (length c.args.room.now)
+    room_explained (RescuesTyped c.args.input.types (subject (asked_blocks c.args.input.blocks) c.args.input.image.now)) c.in-Ok.ready (length c.args.room.now)
     c.put_rescue.result c.in-Ok.ensures c.put_rescue.ensures.fault
 
 pub returns-in-Err-clause-fault : goal.returns-in-Err-clause-fault
 returns-in-Err-clause-fault c =
-    let gives = RescueOf (subject (asked_blocks c.args.input.blocks) c.args.input.image.now) in
+    let gives = RescuesTyped c.args.input.types (subject (asked_blocks c.args.input.blocks) c.args.input.image.now) in
     subst (λ (r : RescueRefusal). ExplainsRescue gives (length c.args.room.now) r) (sym c.refusal_of.ensures)
     (refusal_explained gives (length c.args.room.now) c.in-Err.unrescued c.in-Err.ensures)

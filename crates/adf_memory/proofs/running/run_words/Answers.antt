@@ -1,6 +1,5 @@
 use Rattle.adf_words.specs.CommandLine.{texts_of}
-use Rattle.adf_memory.proofs.MemoryWords.{ends_in_memory, consumed_in_memory}
-use Rattle.adf_memory.proofs.WordParts.{read_as}
+use Rattle.adf_memory.proofs.{MemoryWords.ends_in_memory, MemoryWords.consumed_in_memory, WordParts.read_as}
 use Rattle.adf_memory.proofs.running.run_words.Goals as goal
 
 pub returns-in-Ok-clause-ends : goal.returns-in-Ok-clause-ends

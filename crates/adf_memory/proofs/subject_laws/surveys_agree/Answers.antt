@@ -1,6 +1,5 @@
 use Rattle.std.proofs.Common.{inl, inr}
-use Rattle.adf_survey_cmd.specs.Answers.{CopiesFromSurvey, ListsSurvey, Surveys}
-use Rattle.adf_survey_cmd.specs.Subject.{OfTyped, subject}
+use Rattle.adf_survey_cmd.specs.{Answers.CopiesFromSurvey, Answers.ListsSurvey, Answers.Surveys, Subject.OfTyped, Subject.subject}
 use Rattle.adf_memory.specs.Rescuing.{asked_blocks}
 use Rattle.adf_memory.proofs.SurveyedImages.{answers_agree}
 use Rattle.adf_memory.proofs.subject_laws.surveys_agree.Goals as goal

@@ -1,9 +1,7 @@
-use Rattle.std.proofs.Common.{List, Err, take, sym, get_or}
-use Rattle.std.proofs.lemmas.Result.{IfErr-weaker, on_ok_weaker}
+use Rattle.std.proofs.{Common.List, Common.Err, Common.take, Common.sym, Common.get_or, lemmas.Result.IfErr-weaker, lemmas.Result.on_ok_weaker}
 use Rattle.adf_tree.specs.Tree.{Tree}
 use Rattle.adf_memory.specs.TableAdditions.{IsNextAddition, IsNotAdded}
-use Rattle.adf_memory.specs.declared.table_additions.NotAdded.{NotAdded}
-use Rattle.adf_memory.specs.declared.table_additions.TableAddition.{TableAddition}
+use Rattle.adf_memory.specs.{declared.table_additions.NotAdded.NotAdded, declared.table_additions.TableAddition.TableAddition}
 use Rattle.adf_memory.proofs.TableDrafts.{directory_fault, next_is, next_more}
 use Rattle.adf_memory.proofs.table_additions.add_next.Goals as goal
 

@@ -1,21 +1,32 @@
-use Rattle.std.proofs.Common.{◌∙◌, ap, sym}
-use Rattle.adf_base.specs.declared.hash.Letters.TheVariants.{Ascii}
-use Rattle.adf_memory.specs.Verdicts.{accepted_by}
-use Rattle.adf_memory.specs.declared.verdict.Verdict.{Verdict}
-use Rattle.adf_memory.proofs.CheckedVolumes.{counts_stand}
-use Rattle.adf_memory.proofs.ToldCauses.{first_told, number_told}
+use Rattle.std.proofs.Common.{◌∙◌, ap, refl, subst, sym}
+use Rattle.adf_volume.specs.Types.{letters_for}
+use Rattle.adf_memory.specs.{CheckCalls.IsCheckedBy, Verdicts.accepted_by, Verdicts.refused, declared.verdict.Verdict.Verdict}
+use Rattle.adf_memory.proofs.{CheckedVolumes.acceptance_told, CheckedVolumes.counts_stand, ToldCauses.refusal_told, ToldCauses.some_number}
 use Rattle.adf_memory.proofs.verdict.check_image.Goals as goal
 
-pub returns-in-Ok-clause-counts : goal.returns-in-Ok-clause-counts
-returns-in-Ok-clause-counts c = λ _ t l fits.
-    c.accepted_by.ensures ∙ ap (accepted_by Ascii)
-    (counts_stand c.in-Ok.volume c.args.image.now c.counts.result c.in-Ok.ensures.image c.in-Ok.ensures.fits c.counts.ensures.exact t l fits)
+pub returns-in-Ok : goal.returns-in-Ok
+returns-in-Ok c =
+    let v = c.in-Ok.volume in
+    let image = c.args.image.now in
+    let is = c.in-Ok.ensures.image in
+    let (u, m, own) = c.in-Ok.ensures.fits in
+    let letters = c.letters.ensures.tree (letters_for c.args.types image) u m own ∙ own.letters in
+    record {
+      checked = acceptance_told v image c.accepted_by.result.block is (u, m, own);
+      counts = λ zero t l fits. c.accepted_by.ensures
+          ∙ (λ i. accepted_by (letters i) (counts_stand v image c.counts.result is c.counts.ensures.exact t l fits i));
+      refused = λ some. absurd (some refl);
+    }
 
-pub returns-in-Err-clause-number : goal.returns-in-Err-clause-number
-returns-in-Err-clause-number c = number_told c.in-Err.fault.cause c.number.result c.number.ensures
-
-pub returns-in-Err-clause-first : goal.returns-in-Err-clause-first
-returns-in-Err-clause-first c =
+pub returns-in-Err : goal.returns-in-Err
+returns-in-Err c =
     let f = c.in-Err.fault in
-    first_told c.args.image.now f.cause f.block c.refused.result.block c.number.result c.in-Err.ensures.first c.number.ensures
-    (sym (ap (λ (v : Verdict). v.block) c.refused.ensures))
+    let e = c.in-Err.ensures in
+    let image = c.args.image.now in
+    let block = ap (λ (v : Verdict). v.block) c.refused.ensures in
+    let told = refusal_told image f.cause f.block c.number.result c.number.ensures e.first e.none e.memory e.begun in
+    record {
+      checked = subst (λ b. IsCheckedBy (letters_for c.args.types image) image b c.number.result) (sym block) told;
+      counts = λ zero. absurd (some_number f.cause (sym c.number.ensures ∙ zero));
+      refused = λ some. c.refused.ensures ∙ ap refused (sym block);
+    }

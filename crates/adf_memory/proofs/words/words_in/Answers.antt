@@ -1,6 +1,5 @@
 use Rattle.std.proofs.Common.{◌≡◌, ◌++◌, ◌∷◌, [], ◌∙◌, List, ℕ, Bor, ap, sym, subst, map, if◌then◌else◌, arith}
-use Rattle.std.specs.List.{All}
-use Rattle.std.specs.Str.{IsUtf8}
+use Rattle.std.specs.{List.All, Str.IsUtf8}
 use Rattle.std.proofs.lemmas.Grind.{common_steps}
 use Rattle.adf_memory.specs.Words.{between_zeros}
 use Rattle.adf_memory.proofs.WordParts.{front_pushed, no_text, pushed_split, pushed_texts}

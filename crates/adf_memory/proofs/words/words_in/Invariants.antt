@@ -1,6 +1,5 @@
 use Rattle.std.proofs.Common.{◌≡◌, ◌++◌, length, map}
-use Rattle.std.specs.List.{All}
-use Rattle.std.specs.Str.{IsUtf8}
+use Rattle.std.specs.{List.All, Str.IsUtf8}
 use Rattle.adf_memory.specs.Words.{between_zeros}
 use Rattle.adf_memory.proofs.words.words_in.Given as goal
 

@@ -1,5 +1,4 @@
-use Rattle.std.proofs.Common.{arith}
-use Rattle.std.proofs.lemmas.Grind.{common_steps}
+use Rattle.std.proofs.{Common.arith, lemmas.Grind.common_steps}
 use Rattle.adf_names.proofs.escapes.read_byte.Goals as goal
 
 pub returns-in_ok-unescape-in-92-clause-some : goal.returns-in_ok-unescape-in-92-clause-some

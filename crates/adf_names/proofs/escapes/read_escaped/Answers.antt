@@ -1,8 +1,6 @@
 use Rattle.std.proofs.Common.{arith, ◌<◌, ◌≡◌, length, Result, Some, None, Ok, Err, sym, ◌∙◌, refl, OnOk, OnErr, IsOk}
 use Rattle.std.specs.Result.{result_ok}
-use Rattle.std.proofs.lemmas.Bool.Decides.{nat_tests}
-use Rattle.std.proofs.lemmas.List.{length-append}
-use Rattle.std.proofs.lemmas.Grind.{common_steps}
+use Rattle.std.proofs.{lemmas.Bool.Decides.nat_tests, lemmas.List.length-append, lemmas.Grind.common_steps}
 use Rattle.adf_names.proofs.Spellings.{read_more, no_spelling, too_many}
 use Rattle.adf_names.proofs.escapes.read_escaped.Goals as goal
 

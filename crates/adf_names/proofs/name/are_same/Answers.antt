@@ -1,5 +1,4 @@
-use Rattle.std.proofs.Common.{arith}
-use Rattle.std.proofs.lemmas.Grind.{common_steps}
+use Rattle.std.proofs.{Common.arith, lemmas.Grind.common_steps}
 use Rattle.adf_names.proofs.EqualNames.{ascii_no, ascii_yes}
 use Rattle.adf_names.proofs.name.are_same.Goals as goal
 

@@ -1,7 +1,6 @@
 use Rattle.std.proofs.Common.{◌≡◌, ◌++◌, ℕ, List, length, map}
 use Rattle.std.specs.List.{All}
-use Rattle.adf_names.specs.Escapes.{escaped}
-use Rattle.adf_names.specs.PathTexts.{between_slashes, IsName}
+use Rattle.adf_names.specs.{Escapes.escaped, PathTexts.between_slashes, PathTexts.IsName}
 use Rattle.adf_names.proofs.path_texts.has_names.Given as goal
 
 abbrev pub invariant-loop-after : goal.invariant-loop-after

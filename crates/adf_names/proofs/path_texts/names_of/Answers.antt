@@ -1,5 +1,4 @@
-use Rattle.std.proofs.Common.{arith}
-use Rattle.std.proofs.lemmas.Grind.{common_steps}
+use Rattle.std.proofs.{Common.arith, lemmas.Grind.common_steps}
 use Rattle.adf_names.proofs.PathParts.{name_steps}
 use Rattle.adf_names.proofs.path_texts.names_of.Goals as goal
 

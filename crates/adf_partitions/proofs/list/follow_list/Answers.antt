@@ -1,10 +1,7 @@
-use Rattle.std.proofs.Common.{sym, subst, arith}
-use Rattle.std.proofs.lemmas.List.{length_push}
-use Rattle.std.proofs.lemmas.Grind.{common_steps}
+use Rattle.std.proofs.{Common.sym, Common.subst, Common.arith, lemmas.List.length_push, lemmas.Grind.common_steps}
 use Rattle.adf_base.proofs.Results.{on_err}
 use Rattle.adf_partitions.specs.Disks.{IsFound, IsFound.start}
-use Rattle.adf_partitions.proofs.FoundSteps.{one_more}
-use Rattle.adf_partitions.proofs.NamedPartitions.{names_one}
+use Rattle.adf_partitions.proofs.{FoundSteps.one_more, NamedPartitions.names_one}
 use Rattle.adf_partitions.proofs.list.follow_list.Goals as goal
 
 pub loop-next-init : goal.loop-next-init

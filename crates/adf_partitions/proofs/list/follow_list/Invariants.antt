@@ -1,6 +1,5 @@
 use Rattle.std.proofs.Common.{◌-◌, length}
-use Rattle.adf_partitions.specs.Disks.{IsFound}
-use Rattle.adf_partitions.specs.declared.layout.TheConstants.{MOST_PARTITIONS}
+use Rattle.adf_partitions.specs.{Disks.IsFound, declared.layout.TheConstants.MOST_PARTITIONS}
 use Rattle.adf_partitions.proofs.list.follow_list.Given as goal
 
 abbrev pub invariant-loop-next : goal.invariant-loop-next

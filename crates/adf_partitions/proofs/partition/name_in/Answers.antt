@@ -1,8 +1,6 @@
 use Rattle.std.proofs.Common.{◌≡◌, ◌+◌, ◌-◌, ℕ, List, drop, inl, inr, refl, slice_index, take, arith, min, slice_range}
-use Rattle.std.proofs.lemmas.Bool.{cases_lt}
-use Rattle.std.proofs.lemmas.List.{length-take, take-take, take_all}
-use Rattle.adf_partitions.specs.declared.layout.TheConstants.{DRIVE_NAME}
-use Rattle.adf_partitions.specs.Partitions.{name_at}
+use Rattle.std.proofs.{lemmas.Bool.cases_lt, lemmas.List.length-take, lemmas.List.take-take, lemmas.List.take_all}
+use Rattle.adf_partitions.specs.{declared.layout.TheConstants.DRIVE_NAME, Partitions.name_at}
 use Rattle.adf_partitions.proofs.partition.name_in.Goals as goal
 
 first_bytes : (xs : List ℕ) (n : ℕ) → take (min n 31) xs ≡ take 31 (take n xs)

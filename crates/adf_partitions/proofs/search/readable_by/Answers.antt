@@ -1,9 +1,7 @@
-use Rattle.std.proofs.Common.{subst, sym}
-use Rattle.std.proofs.lemmas.Result.{IfOk-weaker, on_err_weaker}
+use Rattle.std.proofs.{Common.subst, Common.sym, lemmas.Result.IfOk-weaker, lemmas.Result.on_err_weaker}
 use Rattle.adf_base.proofs.Results.{on_err}
-use Rattle.adf_partitions.specs.Disks.{IsFollowed}
+use Rattle.adf_partitions.specs.{Disks.IsFollowed, declared.layout.TheConstants.MOST_TABLES}
 use Rattle.adf_partitions.specs.Searches.{AreReadable, with_all_lost, AreReadable.cut, AreReadable.whole}
-use Rattle.adf_partitions.specs.declared.layout.TheConstants.{MOST_TABLES}
 use Rattle.adf_partitions.proofs.NamedPartitions.{has_readable}
 use Rattle.adf_partitions.proofs.search.readable_by.Goals as goal
 

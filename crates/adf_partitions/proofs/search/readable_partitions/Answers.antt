@@ -1,5 +1,4 @@
-use Rattle.std.proofs.Common.{ap, inl, inr, subst, sym}
-use Rattle.std.proofs.lemmas.Result.{IfOk-weaker, on_err_weaker}
+use Rattle.std.proofs.{Common.ap, Common.inl, Common.inr, Common.subst, Common.sym, lemmas.Result.IfOk-weaker, lemmas.Result.on_err_weaker}
 use Rattle.adf_partitions.specs.Searches.{AreReadable, bare_partitions, AreReadable.bare, AreReadable.other}
 use Rattle.adf_partitions.specs.declared.fault.DiskFault.{DiskFault}
 use Rattle.adf_partitions.proofs.search.readable_partitions.Goals as goal

@@ -1,5 +1,4 @@
-use Rattle.std.proofs.Common.{arith}
-use Rattle.std.proofs.lemmas.Grind.{common_steps}
+use Rattle.std.proofs.{Common.arith, lemmas.Grind.common_steps}
 use Rattle.adf_base.proofs.Results.{on_err}
 use Rattle.adf_partitions.proofs.Searches.{none_searched, put_lost, put_none, some_lost}
 use Rattle.adf_partitions.proofs.search.with_all_lost.Goals.{then-is_lost_partition+in_ok-push}

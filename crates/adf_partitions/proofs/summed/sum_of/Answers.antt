@@ -1,5 +1,4 @@
-use Rattle.std.proofs.lemmas.Grind.{common_steps}
-use Rattle.std.proofs.Common.{arith}
+use Rattle.std.proofs.{lemmas.Grind.common_steps, Common.arith}
 use Rattle.adf_base.proofs.WordLaws.{no_words, sum_words_more}
 use Rattle.adf_partitions.proofs.summed.sum_of.Goals as goal
 

@@ -1,5 +1,4 @@
-use Rattle.std.proofs.lemmas.Grind.{common_steps}
-use Rattle.std.proofs.Common.{arith}
+use Rattle.std.proofs.{lemmas.Grind.common_steps, Common.arith}
 use Rattle.adf_partitions.proofs.tables.find_rdsk.Goals as goal
 
 pub returns-then-is_rdsk-clause-first : goal.returns-then-is_rdsk-clause-first

@@ -1,8 +1,6 @@
 use Rattle.std.proofs.Common.{◌≡◌, ◌+◌, ◌++◌, ap, arith, drop, rules, ◌∙◌}
-use Rattle.adf_partitions.specs.Plans.{plan_value}
-use Rattle.adf_partitions.specs.WrittenTables.{part_block, part_blocks, written_bytes}
-use Rattle.adf_partitions.proofs.PlanSizes.{cylinders_at, plans_at, cylinders_fit}
-use Rattle.adf_partitions.proofs.PlannedVolumes.{part_put, parts_end}
+use Rattle.adf_partitions.specs.{Plans.plan_value, WrittenTables.part_block, WrittenTables.part_blocks, WrittenTables.written_bytes}
+use Rattle.adf_partitions.proofs.{PlanSizes.cylinders_at, PlanSizes.plans_at, PlanSizes.cylinders_fit, PlannedVolumes.part_put, PlannedVolumes.parts_end}
 use Rattle.adf_partitions.proofs.tables_out.written_bytes.Goals as goal
 
 pub loop-i-preserved : goal.loop-i-preserved

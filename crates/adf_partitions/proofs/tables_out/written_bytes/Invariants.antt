@@ -1,6 +1,5 @@
 use Rattle.std.proofs.Common.{◌≡◌, ◌+◌, ◌++◌, drop}
-use Rattle.adf_partitions.specs.Plans.{cylinders_of, planned_cylinders, plan_value}
-use Rattle.adf_partitions.specs.WrittenTables.{part_blocks, written_bytes}
+use Rattle.adf_partitions.specs.{Plans.cylinders_of, Plans.planned_cylinders, Plans.plan_value, WrittenTables.part_blocks, WrittenTables.written_bytes}
 use Rattle.adf_partitions.proofs.tables_out.written_bytes.Given as goal
 
 abbrev pub invariant-loop-i : goal.invariant-loop-i

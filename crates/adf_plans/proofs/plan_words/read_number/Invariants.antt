@@ -1,6 +1,5 @@
 use Rattle.std.proofs.Common.{◌≡◌, ◌≤◌, drop}
-use Rattle.adf_plans.specs.PlanTexts.{number_from, decimal_number}
-use Rattle.adf_plans.specs.declared.plan_words.TheConstants.{MOST_NUMBER}
+use Rattle.adf_plans.specs.{PlanTexts.number_from, PlanTexts.decimal_number, declared.plan_words.TheConstants.MOST_NUMBER}
 use Rattle.adf_plans.proofs.plan_words.read_number.Given as goal
 
 abbrev pub invariant-loop-i : goal.invariant-loop-i

@@ -1,8 +1,7 @@
 use Rattle.std.proofs.Common.{◌≡◌, List, length, take}
 use Rattle.adf_findings.specs.Survey.{OnSurvey}
 use Rattle.adf_volume.specs.Walk.{heads}
-use Rattle.adf_rescue.specs.Doubts.{doubts_from, second_doubt}
-use Rattle.adf_rescue.specs.Rescue.{Verdict, added_marks}
+use Rattle.adf_rescue.specs.{Doubts.doubts_from, Doubts.second_doubt, Rescue.Verdict, Rescue.added_marks}
 use Rattle.adf_rescue.proofs.doubts.doubts_of_second.Given as goal
 
 abbrev pub invariant-loop-before : goal.invariant-loop-before

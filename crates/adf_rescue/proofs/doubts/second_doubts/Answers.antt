@@ -1,9 +1,8 @@
 use Rattle.std.proofs.Common.{◌≡◌, Option, Some, IfOk}
 use Rattle.adf_base.specs.declared.hash.Letters.{Letters}
 use Rattle.adf_volume.specs.Walk.{heads}
-use Rattle.adf_rescue.specs.Doubts.{second_doubts_by}
+use Rattle.adf_rescue.specs.{Doubts.second_doubts_by, declared.standing.Input.Input}
 use Rattle.adf_rescue.specs.Rescue.{Basis, added_marks, before_second_by, second_verdicts_by}
-use Rattle.adf_rescue.specs.declared.standing.Input.{Input}
 use Rattle.adf_rescue.proofs.Steps.{second_some, verdicts_count}
 use Rattle.adf_rescue.proofs.doubts.second_doubts.Goals as goal
 

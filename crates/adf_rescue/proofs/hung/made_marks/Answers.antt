@@ -3,8 +3,7 @@ use Rattle.std.proofs.lemmas.Grind.{common_steps}
 use Rattle.adf_blocks.specs.Sizes.{blocks}
 use Rattle.adf_rescue.specs.Hung.{AreMade}
 use Rattle.adf_rescue.proofs.HungImages.{made_first, made_marked, made_more, made_same}
-use Rattle.adf_rescue.proofs.LostHeaders.{unmarked}
-use Rattle.adf_rescue.proofs.hung.made_marks.Goals.{then-has_mark, else-has_mark}
+use Rattle.adf_rescue.proofs.{LostHeaders.unmarked, hung.made_marks.Goals.then-has_mark, hung.made_marks.Goals.else-has_mark}
 use Rattle.adf_rescue.proofs.hung.made_marks.Goals as goal
 
 pub loop-b-init : goal.loop-b-init

@@ -1,7 +1,6 @@
 use Rattle.std.proofs.Common.{ℕ, Bool}
 use Rattle.adf_findings.specs.Survey.{OnSurvey}
-use Rattle.adf_rescue.specs.Hung.{AreMade}
-use Rattle.adf_rescue.specs.Lost.{AreLost, IsEvidence}
+use Rattle.adf_rescue.specs.{Hung.AreMade, Lost.AreLost, Lost.IsEvidence}
 use Rattle.adf_rescue.proofs.hung.made_marks.Given as goal
 
 abbrev pub invariant-loop-b : goal.invariant-loop-b

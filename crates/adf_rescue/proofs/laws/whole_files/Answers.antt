@@ -1,6 +1,5 @@
 use Rattle.std.proofs.Common.{true}
-use Rattle.adf_findings.proofs.SoundEntries.{whole_file}
-use Rattle.adf_findings.proofs.SoundFiles.{file_told}
+use Rattle.adf_findings.proofs.{SoundEntries.whole_file, SoundFiles.file_told}
 use Rattle.adf_rescue.proofs.laws.whole_files.Goals as goal
 
 pub returns-clause-file : goal.returns-clause-file

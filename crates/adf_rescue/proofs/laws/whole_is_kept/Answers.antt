@@ -1,6 +1,5 @@
 use Rattle.adf_findings.proofs.PlainFindings.{finds_none}
-use Rattle.adf_rescue.proofs.RescueLaws.{nothing_lost}
-use Rattle.adf_rescue.proofs.WholeVolumes.{none_left, tree_kept}
+use Rattle.adf_rescue.proofs.{RescueLaws.nothing_lost, WholeVolumes.none_left, WholeVolumes.tree_kept}
 use Rattle.adf_rescue.proofs.laws.whole_is_kept.Goals as goal
 
 pub returns-clause-tree : goal.returns-clause-tree

@@ -1,6 +1,4 @@
-use Rattle.std.proofs.Common.{ap, arith, length}
-use Rattle.std.proofs.lemmas.List.{length-map}
-use Rattle.std.proofs.lemmas.Grind.{common_steps}
+use Rattle.std.proofs.{Common.ap, Common.arith, Common.length, lemmas.List.length-map, lemmas.Grind.common_steps}
 use Rattle.adf_findings.specs.Parts.{finding_value}
 use Rattle.adf_rescue.specs.Losses.{lost_block}
 use Rattle.adf_rescue.proofs.LossSteps.{all_told, one_more}

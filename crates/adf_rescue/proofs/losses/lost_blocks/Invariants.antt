@@ -1,8 +1,7 @@
 use Rattle.std.proofs.Common.{◌≡◌, take}
 use Rattle.std.specs.Prelude.{option_map}
 use Rattle.adf_findings.specs.Survey.{OnSurvey}
-use Rattle.adf_rescue.specs.Losses.{lost_blocks}
-use Rattle.adf_rescue.specs.Rescue.{OnSecond}
+use Rattle.adf_rescue.specs.{Losses.lost_blocks, Rescue.OnSecond}
 use Rattle.adf_rescue.proofs.losses.lost_blocks.Given as goal
 
 abbrev pub invariant-loop-k : goal.invariant-loop-k

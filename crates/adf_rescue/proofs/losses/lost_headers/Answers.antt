@@ -1,5 +1,4 @@
-use Rattle.std.proofs.Common.{ap, arith, length}
-use Rattle.std.proofs.lemmas.List.{length-map}
+use Rattle.std.proofs.{Common.ap, Common.arith, Common.length, lemmas.List.length-map}
 use Rattle.adf_findings.specs.Parts.{finding_value}
 use Rattle.adf_rescue.specs.Broken.{broken_by}
 use Rattle.adf_rescue.proofs.LossSteps.{all_behind, one_behind}

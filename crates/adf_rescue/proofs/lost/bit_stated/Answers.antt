@@ -1,7 +1,6 @@
 use Rattle.std.proofs.Common.{◌≡◌, ◌-◌, ◌/◌, Some, arith, true}
 use Rattle.std.proofs.lemmas.Grind.{common_steps}
-use Rattle.adf_blocks.specs.Sizes.{in_range}
-use Rattle.adf_blocks.specs.declared.layout.TheConstants.{PAGE_BITS}
+use Rattle.adf_blocks.specs.{Sizes.in_range, declared.layout.TheConstants.PAGE_BITS}
 use Rattle.adf_volume.specs.Walk.{Role.Page}
 use Rattle.adf_findings.specs.Members.{at_role}
 use Rattle.adf_rescue.specs.MadeRoot.{says_page}

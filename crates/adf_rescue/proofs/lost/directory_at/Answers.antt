@@ -1,5 +1,4 @@
-use Rattle.std.proofs.Common.{arith}
-use Rattle.std.proofs.lemmas.Grind.{common_steps}
+use Rattle.std.proofs.{Common.arith, lemmas.Grind.common_steps}
 use Rattle.adf_rescue.proofs.LostHeaders.{entry_in_it}
 use Rattle.adf_rescue.proofs.lost.directory_at.Goals as goal
 

@@ -1,5 +1,4 @@
-use Rattle.std.proofs.Common.{arith}
-use Rattle.std.proofs.lemmas.Grind.{common_steps}
+use Rattle.std.proofs.{Common.arith, lemmas.Grind.common_steps}
 use Rattle.adf_rescue.proofs.LostHeaders.{one_found}
 use Rattle.adf_rescue.proofs.lost.has_found_data.Goals as goal
 

@@ -1,5 +1,4 @@
-use Rattle.std.proofs.Common.{arith}
-use Rattle.std.proofs.lemmas.Grind.{common_steps}
+use Rattle.std.proofs.{Common.arith, lemmas.Grind.common_steps}
 use Rattle.adf_rescue.proofs.LostHeaders.{one_free}
 use Rattle.adf_rescue.proofs.lost.has_free_data.Goals as goal
 

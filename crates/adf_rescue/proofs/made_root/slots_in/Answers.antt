@@ -1,6 +1,5 @@
 use Rattle.std.proofs.Common.{◌≡◌, ◌+◌, ℕ, arith}
-use Rattle.std.proofs.lemmas.List.FromFn.{fill_by_all}
-use Rattle.std.proofs.lemmas.Grind.{common_steps}
+use Rattle.std.proofs.{lemmas.List.FromFn.fill_by_all, lemmas.Grind.common_steps}
 use Rattle.adf_base.specs.Words.{word}
 use Rattle.adf_blocks.specs.declared.layout.TheConstants.{FIRST_SLOT, SLOTS}
 use Rattle.adf_rescue.proofs.MadeRoots.{fill_step}

@@ -1,5 +1,4 @@
-use Rattle.std.proofs.Common.{arith}
-use Rattle.std.proofs.lemmas.Grind.{common_steps}
+use Rattle.std.proofs.{Common.arith, lemmas.Grind.common_steps}
 use Rattle.adf_rescue.proofs.OpenedImages.{one_says}
 use Rattle.adf_rescue.proofs.opened.has_data.Goals as goal
 

@@ -2,8 +2,7 @@ use Rattle.std.proofs.Common.{◌≡◌, ◌<◌, ◌≤◌, ◌+◌, ◌*◌, �
 use Rattle.std.proofs.lemmas.List.{length-take}
 use Rattle.adf_base.specs.Words.{block, checksum, sealed, word}
 use Rattle.adf_base.proofs.WordLaws.{length-block, length-with_word}
-use Rattle.adf_blocks.specs.Sizes.{blocks}
-use Rattle.adf_blocks.specs.declared.layout.TheConstants.{PARENT}
+use Rattle.adf_blocks.specs.{Sizes.blocks, declared.layout.TheConstants.PARENT}
 use Rattle.adf_rescue.proofs.pruned.parent_summed.Goals as goal
 
 -- all bytes of a block

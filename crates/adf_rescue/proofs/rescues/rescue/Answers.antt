@@ -1,8 +1,7 @@
 use Rattle.std.proofs.Common.{◌≡◌, ◌∙◌, ap, arith}
 use Rattle.std.proofs.lemmas.Grind.{common_steps}
 use Rattle.adf_base.proofs.Results.{on_err}
-use Rattle.adf_volume.specs.Types.{letters_for}
-use Rattle.adf_volume.specs.Walk.{heads}
+use Rattle.adf_volume.specs.{Types.letters_for, Walk.heads}
 use Rattle.adf_rescue.specs.Rescue.{Basis, before_first_by, first_verdicts_by}
 use Rattle.adf_rescue.proofs.Steps.{buildable, verdicts_count}
 use Rattle.adf_rescue.proofs.rescues.rescue.Goals as goal

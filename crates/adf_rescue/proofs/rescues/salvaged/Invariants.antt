@@ -1,5 +1,4 @@
-use Rattle.adf_rescue.specs.Rescue.{Ground, OnBasis, before_first_by, verdicts}
-use Rattle.adf_rescue.specs.Salvage.{IsSalvage}
+use Rattle.adf_rescue.specs.{Rescue.Ground, Rescue.OnBasis, Rescue.before_first_by, Rescue.verdicts, Salvage.IsSalvage}
 use Rattle.adf_rescue.proofs.rescues.salvaged.Given as goal
 
 abbrev pub invariant-loop-before : goal.invariant-loop-before

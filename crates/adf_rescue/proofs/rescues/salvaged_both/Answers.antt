@@ -2,8 +2,7 @@ use Rattle.std.proofs.Common.{ℕ, Bool, Option, None, Some, ap, ◌∙◌}
 use Rattle.adf_base.specs.declared.hash.Letters.{Letters}
 use Rattle.adf_tree.specs.Tree.{Tree}
 use Rattle.adf_findings.specs.SoundMarks.{whole_in}
-use Rattle.adf_rescue.specs.Rescue.{IsSecond, Basis, before_second_by, first_verdicts_by, second_verdicts_by}
-use Rattle.adf_rescue.specs.Salvage.{IsSalvage}
+use Rattle.adf_rescue.specs.{Rescue.IsSecond, Rescue.Basis, Rescue.before_second_by, Rescue.first_verdicts_by, Rescue.second_verdicts_by, Salvage.IsSalvage}
 use Rattle.adf_rescue.proofs.Steps.{own_terms, second_some, with_terms}
 use Rattle.adf_rescue.proofs.rescues.salvaged_both.Goals as goal
 

@@ -1,6 +1,5 @@
 use Rattle.std.proofs.Common.{◌∙◌, ap, length, sym, arith}
-use Rattle.std.proofs.lemmas.Bool.{eq-eqb, eqb-true}
-use Rattle.std.proofs.lemmas.Grind.{common_steps}
+use Rattle.std.proofs.{lemmas.Bool.eq-eqb, lemmas.Bool.eqb-true, lemmas.Grind.common_steps}
 use Rattle.adf_volume.specs.Types.{letters_for}
 use Rattle.adf_rescue.specs.Rescue.{before_second_by, second_verdicts_by}
 use Rattle.adf_rescue.proofs.Steps.{none_added}

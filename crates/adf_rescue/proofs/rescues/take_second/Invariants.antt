@@ -1,5 +1,4 @@
-use Rattle.adf_rescue.specs.Rescue.{Ground, OnBasis, before_second_by, verdicts}
-use Rattle.adf_rescue.specs.Salvage.{IsSalvage}
+use Rattle.adf_rescue.specs.{Rescue.Ground, Rescue.OnBasis, Rescue.before_second_by, Rescue.verdicts, Salvage.IsSalvage}
 use Rattle.adf_rescue.proofs.rescues.take_second.Given as goal
 
 abbrev pub invariant-loop-before : goal.invariant-loop-before

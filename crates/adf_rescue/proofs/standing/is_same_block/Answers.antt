@@ -1,7 +1,5 @@
 use Rattle.std.proofs.Common.{◌≡◌, ◌+◌, ◌*◌, ◌-◌, ℕ, Bool, List, arith, refl, drop, true, take_all, ◌&&◌, slice_range}
-use Rattle.std.proofs.lemmas.Bool.{le-leb}
-use Rattle.std.proofs.lemmas.List.{length-take}
-use Rattle.std.proofs.lemmas.Grind.{common_steps}
+use Rattle.std.proofs.{lemmas.Bool.le-leb, lemmas.List.length-take, lemmas.Grind.common_steps}
 use Rattle.adf_base.specs.Words.{block}
 use Rattle.adf_rescue.proofs.standing.is_same_block.Goals as goal
 

@@ -1,6 +1,5 @@
 use Rattle.std.proofs.Common.{◌≡◌, ◌≢◌, ◌<◌, List, ap, arith, drop, length, rules, ℕ, [], length-drop, length-take, sym, append-nil, take-append-drop}
-use Rattle.std.proofs.KnownBytes.{Appends-kept}
-use Rattle.std.proofs.lemmas.List.{take_rest}
+use Rattle.std.proofs.{KnownBytes.Appends-kept, lemmas.List.take_rest}
 use Rattle.adf_runs.proofs.KnownBytes.{appends_more, appends_two}
 use Rattle.adf_runs.proofs.streams.write_all.Goals as goal
 

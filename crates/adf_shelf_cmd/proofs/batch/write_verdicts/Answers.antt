@@ -1,7 +1,6 @@
 use Rattle.std.proofs.Common.{◌∷◌, [], arith, rules, subst, sym}
 use Rattle.adf_shelf_cmd.proofs.Progress.{Progress, broken, max_status, started, stepped, stopped}
-use Rattle.adf_shelf_cmd.specs.Lines.{IsReportOf, Reports}
-use Rattle.adf_shelf_cmd.specs.Names.{AreGiven}
+use Rattle.adf_shelf_cmd.specs.{Lines.IsReportOf, Lines.Reports, Names.AreGiven}
 use Rattle.adf_shelf_cmd.proofs.batch.write_verdicts.Goals as goal
 
 pub loop-name-init : goal.loop-name-init

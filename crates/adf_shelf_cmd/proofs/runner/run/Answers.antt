@@ -1,7 +1,6 @@
 use Rattle.std.proofs.Common.{◌≡◌, ◌∙◌, ℕ, Bool, false, List, [], ◌∷◌, inr, refl, sym}
-use Rattle.adf_shelf_cmd.specs.declared.batch.Stop.TheVariants.{NoMemory}
+use Rattle.adf_shelf_cmd.specs.{declared.batch.Stop.TheVariants.NoMemory, Names.are_unread}
 use Rattle.adf_shelf_cmd.proofs.Progress.{nothing_written}
-use Rattle.adf_shelf_cmd.specs.Names.{are_unread}
 use Rattle.adf_shelf_cmd.proofs.runner.run.Goals as goal
 
 -- names are read where nothing has failed

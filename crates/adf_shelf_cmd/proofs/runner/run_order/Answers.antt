@@ -1,9 +1,8 @@
 use Rattle.std.proofs.Common.{◌≡◌, ◌∙◌, [], ap, if◌then◌else◌, rules, sym, arith}
 use Rattle.std.proofs.lemmas.Grind.{common_steps}
-use Rattle.adf_file_words.specs.ShelfLine.{ShelfOrder}
+use Rattle.adf_shelf_cmd.specs.{CommandLine.ShelfOrder, Names.name_end, Names.types_asked}
 use Rattle.adf_volume.specs.declared.types.Types.TheVariants.{Plain, WithInternational}
 use Rattle.adf_words.specs.CommandLine.{texts_of}
-use Rattle.adf_shelf_cmd.specs.Names.{name_end, types_asked}
 use Rattle.adf_shelf_cmd.proofs.NameLists.{asked_in_input, asked_in_words, no_words, unread_in_input, unread_in_words}
 use Rattle.adf_shelf_cmd.proofs.runner.run_order.Goals as goal
 

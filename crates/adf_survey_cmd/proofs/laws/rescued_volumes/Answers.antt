@@ -2,17 +2,11 @@ use Rattle.std.proofs.Common.{arith, ◌≡◌, ◌≢◌, ◌∙◌, ◌<◌, �
 use Rattle.std.specs.List.{All}
 use Rattle.std.proofs.lemmas.List.Elements.{All-append, All-get_or, All-replicate, All-take}
 use Rattle.adf_boot_blocks.proofs.CarrySums.{AreBytes}
-use Rattle.adf_boot_blocks.specs.BootBlocks.{begins_with_dos}
-use Rattle.adf_boot_blocks.specs.Writing.{HasBootOf}
+use Rattle.adf_boot_blocks.specs.{BootBlocks.begins_with_dos, Writing.HasBootOf}
 use Rattle.adf_runs.specs.Commands.{Reply}
-use Rattle.adf_file_words.specs.SurveyLine.{asked, rescue}
+use Rattle.adf_survey_cmd.specs.{CommandLine.asked, CommandLine.rescue, Rescues.rescue_reply, Lengths.blocks_read, Subject.as_long, Subject.subject}
 use Rattle.adf_survey_cmd.specs.Answers.{SurveyAnswer, types_kept}
-use Rattle.adf_survey_cmd.specs.Rescues.{rescue_reply}
-use Rattle.adf_survey_cmd.specs.Lengths.{blocks_read}
-use Rattle.adf_survey_cmd.specs.Subject.{as_long, subject}
-use Rattle.adf_survey_cmd.proofs.HintedAnswers.{hinted_output}
-use Rattle.adf_survey_cmd.proofs.KeptBoots.{keeps_boot, written_fits}
-use Rattle.adf_survey_cmd.proofs.ReadLengths.{meant_image}
+use Rattle.adf_survey_cmd.proofs.{HintedAnswers.hinted_output, KeptBoots.keeps_boot, KeptBoots.written_fits, ReadLengths.meant_image}
 use Rattle.adf_survey_cmd.proofs.laws.rescued_volumes.Goals as goal
 
 -- the image that is meant is bytes

@@ -1,8 +1,6 @@
-use Rattle.std.proofs.Common.{refl}
-use Rattle.std.proofs.lemmas.Result.{on_ok_weaker, on_err_weaker}
+use Rattle.std.proofs.{Common.refl, lemmas.Result.on_ok_weaker, lemmas.Result.on_err_weaker}
 use Rattle.adf_base.proofs.Results.{on_err}
-use Rattle.adf_runs.proofs.KnownBytes.{appends_two}
-use Rattle.adf_runs.proofs.PendingText.{part_behind, part_of_more}
+use Rattle.adf_runs.proofs.{KnownBytes.appends_two, PendingText.part_behind, PendingText.part_of_more}
 use Rattle.adf_survey_cmd.proofs.listing.write_both.Goals as goal
 
 pub returns-clause-ok : goal.returns-clause-ok

@@ -1,10 +1,7 @@
 use Rattle.std.proofs.Common.{◌≡◌, ◌∙◌, ℕ, Bool, List, ap, arith, is_some, length, refl, subst}
-use Rattle.adf_rescue.specs.Opened.{lacks_root, states_type}
-use Rattle.adf_rescue.specs.Pruned.{image_read}
+use Rattle.adf_rescue.specs.{Opened.lacks_root, Opened.states_type, Pruned.image_read}
 use Rattle.adf_rescue.proofs.PrunedKeeps.{length_read}
-use Rattle.adf_survey_cmd.specs.Losses.{LossValue, runs_lost}
-use Rattle.adf_survey_cmd.specs.Prepared.{IsBegunInput, IsFault}
-use Rattle.adf_survey_cmd.specs.declared.preparing.Begun.{Begun}
+use Rattle.adf_survey_cmd.specs.{Losses.LossValue, Losses.runs_lost, Prepared.IsBegunInput, Prepared.IsFault, declared.preparing.Begun.Begun}
 use Rattle.adf_survey_cmd.proofs.SizedImages.{written_over}
 use Rattle.adf_survey_cmd.proofs.preparing.prepare.Goals as goal
 

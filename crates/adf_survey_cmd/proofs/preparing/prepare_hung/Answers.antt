@@ -1,10 +1,7 @@
 use Rattle.std.proofs.Common.{ℕ, List, Some, map, refl, sym, subst}
-use Rattle.adf_findings.specs.SoundMarks.{whole_in}
-use Rattle.adf_findings.specs.Parts.{finding_value}
-use Rattle.adf_findings.specs.Survey.{FindingValue, IsSurvey}
+use Rattle.adf_findings.specs.{SoundMarks.whole_in, Parts.finding_value, Survey.FindingValue, Survey.IsSurvey}
 use Rattle.adf_rescue.specs.Rescue.{IsBasis, Basis}
-use Rattle.adf_survey_cmd.specs.Prepared.{known_of}
-use Rattle.adf_survey_cmd.specs.Rescues.{RescuesBoth, RescuesBy}
+use Rattle.adf_survey_cmd.specs.{Prepared.known_of, Rescues.RescuesBoth, Rescues.RescuesBy}
 use Rattle.adf_survey_cmd.proofs.RescueAnswers.{none_prepared, prepares_weaker}
 use Rattle.adf_survey_cmd.proofs.preparing.prepare_hung.Goals as goal
 

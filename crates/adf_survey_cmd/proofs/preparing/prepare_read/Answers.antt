@@ -1,12 +1,7 @@
 use Rattle.std.proofs.Common.{◌≡◌, ◌∙◌, ℕ, Bool, List, None, Some, ap, map, subst, sym}
-use Rattle.adf_findings.specs.SoundMarks.{whole_in}
-use Rattle.adf_findings.specs.Parts.{finding_value}
-use Rattle.adf_findings.specs.Survey.{FindingValue, IsSurvey}
-use Rattle.adf_rescue.specs.Hung.{second_image}
-use Rattle.adf_rescue.specs.Opened.{lacks_root}
-use Rattle.adf_rescue.specs.Rescue.{Basis}
-use Rattle.adf_survey_cmd.specs.Prepared.{IsBegunInput, known_of}
-use Rattle.adf_survey_cmd.specs.Rescues.{Rescues, RescuesBoth, RescuesBy}
+use Rattle.adf_findings.specs.{SoundMarks.whole_in, Parts.finding_value, Survey.FindingValue, Survey.IsSurvey}
+use Rattle.adf_rescue.specs.{Hung.second_image, Opened.lacks_root, Rescue.Basis}
+use Rattle.adf_survey_cmd.specs.{Prepared.IsBegunInput, Prepared.known_of, Rescues.Rescues, Rescues.RescuesBoth, Rescues.RescuesBy}
 use Rattle.adf_survey_cmd.proofs.RescueAnswers.{found_gives, refusal_of_fault, none_prepared, prepares_weaker, second_is, second_none}
 use Rattle.adf_survey_cmd.proofs.preparing.prepare_read.Goals as goal
 

@@ -1,6 +1,5 @@
 use Rattle.std.proofs.Common.{◌∙◌, ap, arith, cond}
-use Rattle.std.proofs.lemmas.Bool.Decides.{eqb_tells}
-use Rattle.std.proofs.lemmas.Grind.{common_steps}
+use Rattle.std.proofs.{lemmas.Bool.Decides.eqb_tells, lemmas.Grind.common_steps}
 use Rattle.adf_survey_cmd.proofs.FindingStatus.{behind_none, behind_some}
 use Rattle.adf_survey_cmd.proofs.reporting.is_clean.Goals as goal
 

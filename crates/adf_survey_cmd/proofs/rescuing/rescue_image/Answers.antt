@@ -1,9 +1,6 @@
-use Rattle.std.proofs.Common.{arith}
-use Rattle.std.proofs.lemmas.Grind.{common_steps}
+use Rattle.std.proofs.{Common.arith, lemmas.Grind.common_steps}
 use Rattle.adf_runs.proofs.Endings.{does_weaker}
-use Rattle.adf_survey_cmd.specs.Losses.{runs_lost}
-use Rattle.adf_survey_cmd.specs.Prepared.{WritesPrepared}
-use Rattle.adf_survey_cmd.specs.Rescues.{Replies, Rescues}
+use Rattle.adf_survey_cmd.specs.{Losses.runs_lost, Prepared.WritesPrepared, Rescues.Replies, Rescues.Rescues}
 use Rattle.adf_survey_cmd.proofs.RescueAnswers.{refusal_ends, written_replies}
 use Rattle.adf_survey_cmd.proofs.rescuing.rescue_image.Goals as goal
 

@@ -1,7 +1,6 @@
 use Rattle.std.proofs.Common.{◌≡◌, ◌∙◌, List, Some, ap, subst, sym, true, ℕ}
 use Rattle.std.specs.Prelude.{IfOk, Result, Ok, Err}
-use Rattle.adf_findings.specs.OwnKind.{told_type}
-use Rattle.adf_findings.specs.Survey.{IsSurvey}
+use Rattle.adf_findings.specs.{OwnKind.told_type, Survey.IsSurvey}
 use Rattle.adf_rescue.specs.Hung.{second_image}
 use Rattle.adf_survey_cmd.specs.Subject.{IsOtherType, unless_own, with_kind_of}
 use Rattle.adf_survey_cmd.proofs.RescueAnswers.{second_is}

@@ -1,7 +1,6 @@
 use Rattle.std.proofs.Common.{rules, ap, Err}
 use Rattle.adf_runs.proofs.WorkFaults.{no_path}
-use Rattle.adf_survey_cmd.specs.Answers.{HasBadSurveyPath}
-use Rattle.adf_file_words.specs.SurveyLine.{question_value}
+use Rattle.adf_survey_cmd.specs.{Answers.HasBadSurveyPath, CommandLine.question_value}
 use Rattle.adf_survey_cmd.proofs.work.task_for.Goals as goal
 
 pub returns-in_err-names-in-Cat-clause-fault : goal.returns-in_err-names-in-Cat-clause-fault

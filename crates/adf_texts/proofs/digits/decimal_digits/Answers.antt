@@ -1,6 +1,5 @@
 use Rattle.std.proofs.Common.{◌∙◌, arith, lit<, lit≤}
-use Rattle.std.proofs.lemmas.Fmt.{length-decimal-le}
-use Rattle.std.proofs.lemmas.List.{take-replicate, take-set-le}
+use Rattle.std.proofs.{lemmas.Fmt.length-decimal-le, lemmas.List.take-replicate, lemmas.List.take-set-le}
 use Rattle.adf_texts.proofs.digits.decimal_digits.Goals as goal
 
 pub write_digits-at-requires : goal.write_digits-at-requires

@@ -1,6 +1,5 @@
 use Rattle.std.proofs.Common.{◌≡◌, ◌<◌, ◌+◌, ◌++◌, ℕ, List, arith, get_or, length, take}
-use Rattle.std.proofs.Math.Seq.{take-suc}
-use Rattle.std.proofs.lemmas.Grind.{common_steps}
+use Rattle.std.proofs.{Math.Seq.take-suc, lemmas.Grind.common_steps}
 use Rattle.adf_texts.specs.Names.{name_byte, name_bytes}
 use Rattle.adf_texts.proofs.escapes.push_name_bytes.Goals as goal
 

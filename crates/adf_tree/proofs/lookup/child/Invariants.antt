@@ -1,6 +1,5 @@
 use Rattle.std.proofs.Common.{◌≡◌, ◌<◌, ℕ, get_or, false}
-use Rattle.adf_tree.specs.Tree.{is_child_by}
-use Rattle.adf_tree.specs.declared.entry.Entry.{Entry}
+use Rattle.adf_tree.specs.{Tree.is_child_by, declared.entry.Entry.Entry}
 use Rattle.adf_tree.proofs.lookup.child.Given as goal
 
 abbrev pub invariant-loop-i : goal.invariant-loop-i

@@ -1,5 +1,4 @@
-use Rattle.std.proofs.lemmas.Grind.{elements}
-use Rattle.std.proofs.Common.{arith}
+use Rattle.std.proofs.{lemmas.Grind.elements, Common.arith}
 use Rattle.adf_tree.proofs.lookup.is_dir.Goals as goal
 
 pub returns-in-Some : goal.returns-in-Some

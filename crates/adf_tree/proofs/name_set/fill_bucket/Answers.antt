@@ -1,5 +1,4 @@
-use Rattle.std.proofs.Common.{arith}
-use Rattle.std.proofs.lemmas.Grind.{common_steps}
+use Rattle.std.proofs.{Common.arith, lemmas.Grind.common_steps}
 use Rattle.adf_tree.proofs.NameBuckets.{stored_new}
 use Rattle.adf_tree.proofs.name_set.fill_bucket.Goals as goal
 

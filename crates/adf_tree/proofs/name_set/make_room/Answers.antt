@@ -1,9 +1,6 @@
 use Rattle.std.proofs.Common.{◌≡◌, ◌++◌, ◌||◌, [], ℕ, List, Bool, true, false, Result, Ok, Err, OnOk, arith, rules, refl}
-use Rattle.std.proofs.lemmas.List.Folds.{list_any-append}
-use Rattle.std.proofs.lemmas.Grind.{common_steps}
-use Rattle.adf_tree.specs.declared.name_key.NameKey.{NameKey}
-use Rattle.adf_tree.specs.NameSet.{is_among, IsUnion, Names}
-use Rattle.adf_tree.specs.NameBuckets.{AreStored}
+use Rattle.std.proofs.{lemmas.List.Folds.list_any-append, lemmas.Grind.common_steps}
+use Rattle.adf_tree.specs.{declared.name_key.NameKey.NameKey, NameSet.is_among, NameSet.IsUnion, NameSet.Names, NameBuckets.AreStored}
 use Rattle.adf_tree.proofs.BucketWrites.{stored_back, whole_back}
 use Rattle.adf_tree.proofs.name_set.make_room.Goals as goal
 

@@ -1,8 +1,6 @@
 use Rattle.std.proofs.Common.{◌≡◌, ◌++◌, ◌||◌, Bool, true, false, Result, Ok, Err, OnErr, OnOk, refl, arith}
-use Rattle.std.proofs.lemmas.List.Folds.{list_any-append}
-use Rattle.std.proofs.lemmas.Grind.{common_steps}
-use Rattle.adf_tree.specs.declared.name_key.NameKey.{NameKey}
-use Rattle.adf_tree.specs.NameSet.{IsWith, Names}
+use Rattle.std.proofs.{lemmas.List.Folds.list_any-append, lemmas.Grind.common_steps}
+use Rattle.adf_tree.specs.{declared.name_key.NameKey.NameKey, NameSet.IsWith, NameSet.Names}
 use Rattle.adf_tree.proofs.NameBuckets.{stored_among, stored_overflow, with_new, with_same}
 use Rattle.adf_tree.proofs.name_set.place.Goals as goal
 

@@ -1,6 +1,5 @@
 use Rattle.std.proofs.Common.{◌++◌, ◌<◌, length, take}
-use Rattle.adf_tree.specs.NameSet.{IsUnion}
-use Rattle.adf_tree.specs.NameBuckets.{AreStored}
+use Rattle.adf_tree.specs.{NameSet.IsUnion, NameBuckets.AreStored}
 use Rattle.adf_tree.proofs.name_set.place_all.Given as goal
 
 abbrev pub invariant-loop-i : goal.invariant-loop-i

@@ -1,7 +1,5 @@
 use Rattle.std.proofs.Common.{◌≡◌, ◌||◌, ◌++◌, ◌<◌, length}
-use Rattle.adf_tree.specs.declared.name_key.NameKey.{NameKey}
-use Rattle.adf_tree.specs.NameSet.{is_among}
-use Rattle.adf_tree.specs.NameBuckets.{AreStored}
+use Rattle.adf_tree.specs.{declared.name_key.NameKey.NameKey, NameSet.is_among, NameBuckets.AreStored}
 use Rattle.adf_tree.proofs.name_set.place_overflow.Given as goal
 
 abbrev pub invariant-loop-name : goal.invariant-loop-name

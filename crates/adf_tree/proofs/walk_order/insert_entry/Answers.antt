@@ -1,5 +1,4 @@
-use Rattle.std.proofs.lemmas.Grind.{common_steps}
-use Rattle.std.proofs.Common.{arith}
+use Rattle.std.proofs.{lemmas.Grind.common_steps, Common.arith}
 use Rattle.adf_tree.proofs.WalkOrder.{inserted_mapped, written_whole}
 use Rattle.adf_tree.proofs.walk_order.insert_entry.Goals as goal
 

@@ -1,5 +1,4 @@
-use Rattle.std.proofs.Common.{arith}
-use Rattle.std.proofs.lemmas.Grind.{common_steps}
+use Rattle.std.proofs.{Common.arith, lemmas.Grind.common_steps}
 use Rattle.adf_volume.proofs.PieceBytes.{piece_ffs, piece_ofs}
 use Rattle.adf_volume.proofs.pieces.piece_of.Goals as goal
 

@@ -1,13 +1,8 @@
 use Rattle.std.proofs.Common.{◌≡◌, ◌++◌, ◌/◌, ℕ, List, None, Some, rules, sym, subst}
-use Rattle.adf_base.specs.Words.{block}
-use Rattle.adf_base.specs.declared.hash.Letters.{Letters}
-use Rattle.adf_blocks.specs.Forms.{first_cause}
-use Rattle.adf_blocks.specs.RootBlock.{root_form}
-use Rattle.adf_blocks.specs.Sizes.{blocks}
-use Rattle.adf_blocks.specs.declared.cause.Cause.{Cause}
+use Rattle.adf_base.specs.{Words.block, declared.hash.Letters.Letters}
+use Rattle.adf_blocks.specs.{Forms.first_cause, RootBlock.root_form, Sizes.blocks, declared.cause.Cause.Cause}
 use Rattle.adf_volume.specs.Demands.{FirstFails, boot_demands_by, root_demands}
-use Rattle.adf_volume.specs.Image.{letters_of, root_of}
-use Rattle.adf_volume.specs.Start.{IsBegunBy, IsOwnBegun, start_form_by}
+use Rattle.adf_volume.specs.{Image.letters_of, Image.root_of, Start.IsBegunBy, Start.IsOwnBegun, Start.start_form_by}
 use Rattle.adf_volume.proofs.ImageStart.{begins, boot_holds, fails_start, fails_root, own_letters}
 use Rattle.adf_volume.proofs.start.open_by.Goals as goal
 

@@ -1,9 +1,7 @@
 use Rattle.std.proofs.Common.{◌≤◌, ◌-◌, leb, rules}
 use Rattle.std.proofs.lemmas.List.Sorted.{IsPartitionPoint-from_clause, IsPartitionedBy-leb}
-use Rattle.adf_walk.specs.declared.node_start.NodeStart.{NodeStart}
-use Rattle.adf_walk.specs.Places.{IsLastStart, first_ext}
-use Rattle.adf_walk.proofs.KeptPlaces.{last_found, last_is}
-use Rattle.adf_walk.proofs.places.file_of_ext.Goals.{After-partition_point}
+use Rattle.adf_walk.specs.{declared.node_start.NodeStart.NodeStart, Places.IsLastStart, Places.first_ext}
+use Rattle.adf_walk.proofs.{KeptPlaces.last_found, KeptPlaces.last_is, places.file_of_ext.Goals.After-partition_point}
 use Rattle.adf_walk.proofs.places.file_of_ext.Goals as goal
 
 found : (c : After-partition_point)

@@ -1,6 +1,5 @@
 use Rattle.std.proofs.Common.{ap, ◌∙◌, true}
-use Rattle.clap.specs.Simple.{app_of_fields}
-use Rattle.clap.specs.Words.{App}
+use Rattle.clap.specs.{Simple.app_of_fields, Words.App}
 use Rattle.adf_words.proofs.arguments.bare_command.Goals as goal
 
 pub returns : goal.returns

@@ -1,5 +1,4 @@
-use Rattle.adf_words.specs.Arguments.{cat_app}
-use Rattle.adf_words.specs.CommandLine.{build_app, convert_app, plain_app}
+use Rattle.adf_words.specs.{Arguments.cat_app, CommandLine.build_app, CommandLine.convert_app, CommandLine.plain_app}
 use Rattle.adf_words.proofs.command_line.command.Goals as goal
 
 pub returns : goal.returns

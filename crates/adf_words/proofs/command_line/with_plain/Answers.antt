@@ -1,5 +1,4 @@
-use Rattle.std.proofs.Common.{refl}
-use Rattle.std.proofs.lemmas.Result.{IfOk-weaker}
+use Rattle.std.proofs.{Common.refl, lemmas.Result.IfOk-weaker}
 use Rattle.adf_words.proofs.CommandLines.{subcommand_added}
 use Rattle.adf_words.proofs.command_line.with_plain.Goals as goal
 

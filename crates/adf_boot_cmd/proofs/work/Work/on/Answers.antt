@@ -1,6 +1,5 @@
 use Rattle.std.proofs.Common.{ap, sym, ◌∙◌}
-use Rattle.adf_boot_cmd.specs.Answers.{boot_reply, reply_of, written}
-use Rattle.adf_boot_cmd.specs.Work.{order_of}
+use Rattle.adf_boot_cmd.specs.{Answers.boot_reply, Answers.reply_of, Answers.written, Work.order_of}
 use Rattle.adf_runs.proofs.Endings.{does_same}
 use Rattle.adf_boot_cmd.proofs.Replies.{counted}
 use Rattle.adf_boot_cmd.proofs.work.Work.on.Goals as goal

@@ -1,7 +1,6 @@
 use Rattle.std.proofs.Common.{◌∙◌, sym}
 use Rattle.adf_runs.proofs.Endings.{read_ends}
-use Rattle.adf_boot_cmd.specs.Answers.{BootAnswer}
-use Rattle.adf_boot_cmd.specs.Work.{order_of}
+use Rattle.adf_boot_cmd.specs.{Answers.BootAnswer, Work.order_of}
 use Rattle.adf_boot_blocks.specs.declared.refusal.TheConstants.{MOST_BYTES}
 use Rattle.adf_boot_cmd.proofs.Replies.{long_answers}
 use Rattle.adf_boot_cmd.proofs.work.Work.on_input.Goals as goal

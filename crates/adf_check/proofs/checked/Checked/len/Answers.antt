@@ -1,16 +1,16 @@
-use Rattle.std.proofs.Common.{subst}
-use Rattle.adf_volume.specs.Made.{layout_in, tree_in_by}
-use Rattle.adf_check.specs.Store.{store_value}
-use Rattle.adf_check.specs.Volumes.{StandsForBy, Volume}
-use Rattle.adf_check.proofs.StoreStands.{keeps}
+use Rattle.std.proofs.Common.{ℕ, List, subst, arith}
+use Rattle.adf_tree.specs.Tree.{Tree}
+use Rattle.adf_volume.specs.{Fits.FitsBy, Image.letters_of, Layout.Layout, Made.layout_in, Made.tree_in_by}
+use Rattle.adf_check.proofs.StoreStands.{stands_as}
 use Rattle.adf_check.proofs.checked.Checked.len.Goals as goal
-use Rattle.adf_volume.specs.Image.{letters_of}
 
-pub returns-clause-stands : goal.returns-clause-stands
-returns-clause-stands c =
+pub returns-clause-count : goal.returns-clause-count
+returns-clause-count c = λ letters t l fits.
+    omega (arith, c.len.ensures, (stands_as c.self.invariant.tells c.self.view_is fits).headers.count)
+
+pub returns-clause-fits : goal.returns-clause-fits
+returns-clause-fits c =
     let image = c.self.inside.image in
-    let store = store_value c.self.inside.store in
     let tells = c.self.invariant.tells in
-    let t = tree_in_by (letters_of image) image tells.walk in
-    let l = layout_in tells.walk in
-    (t, l, subst (λ (v : Volume). StandsForBy (letters_of v.image) v t l) c.self.view_is (keeps image store tells))
+    subst (λ (i : List ℕ). (t : Tree) × (l : Layout) × FitsBy (letters_of i) i t l) c.self.view_is
+    (tree_in_by (letters_of image) image tells.walk, layout_in tells.walk, tells.fits)

@@ -1,7 +1,5 @@
-use Rattle.std.proofs.Common.{set, arith}
-use Rattle.std.proofs.lemmas.Grind.{common_steps}
-use Rattle.adf_check.proofs.RootRead.{begun_with_root, root_is_free}
-use Rattle.adf_check.proofs.ClaimSteps.{on_ok}
+use Rattle.std.proofs.{Common.set, Common.arith, lemmas.Grind.common_steps}
+use Rattle.adf_check.proofs.{RootRead.begun_with_root, RootRead.root_is_free, ClaimSteps.on_ok}
 use Rattle.adf_check.proofs.store.Store.begin.Goals as goal
 
 pub returns : goal.returns

@@ -1,7 +1,6 @@
 use Rattle.std.proofs.Common.{subst, sym}
 use Rattle.adf_disk_cmd.proofs.Endings.{counted, disk_ends, plan_ends}
-use Rattle.adf_disk_cmd.specs.Answers.{DiskAnswer}
-use Rattle.adf_disk_cmd.specs.Jobs.{IsJobOf}
+use Rattle.adf_disk_cmd.specs.{Answers.DiskAnswer, Jobs.IsJobOf}
 use Rattle.adf_runs.specs.Outcomes.{EndsBy}
 use Rattle.adf_disk_cmd.proofs.job.JobProgram.on.Goals as goal
 

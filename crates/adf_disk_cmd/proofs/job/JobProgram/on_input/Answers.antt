@@ -1,6 +1,5 @@
 use Rattle.adf_disk_cmd.proofs.Endings.{long_answers}
-use Rattle.adf_disk_cmd.specs.Answers.{DiskAnswer}
-use Rattle.adf_disk_cmd.specs.declared.work.TheConstants.{MOST_DISK_BYTES}
+use Rattle.adf_disk_cmd.specs.{Answers.DiskAnswer, declared.work.TheConstants.MOST_DISK_BYTES}
 use Rattle.adf_runs.proofs.Endings.{read_ends}
 use Rattle.adf_disk_cmd.proofs.job.JobProgram.on_input.Goals as goal
 

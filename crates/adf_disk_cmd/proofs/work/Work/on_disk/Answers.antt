@@ -1,6 +1,5 @@
 use Rattle.std.proofs.Common.{subst, sym}
-use Rattle.adf_disk_cmd.proofs.Endings.{checks}
-use Rattle.adf_disk_cmd.proofs.HeldChecks.{knows_whole}
+use Rattle.adf_disk_cmd.proofs.{Endings.checks, HeldChecks.knows_whole}
 use Rattle.adf_disk_cmd.specs.Answers.{OfPartitions}
 use Rattle.adf_runs.specs.Outcomes.{EndsBy}
 use Rattle.adf_disk_cmd.proofs.work.Work.on_disk.Goals as goal

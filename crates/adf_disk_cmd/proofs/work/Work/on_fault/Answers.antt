@@ -1,5 +1,4 @@
-use Rattle.std.proofs.Common.{arith}
-use Rattle.std.proofs.lemmas.Grind.{common_steps}
+use Rattle.std.proofs.{Common.arith, lemmas.Grind.common_steps}
 use Rattle.adf_disk_cmd.proofs.Endings.{checks, surveys}
 use Rattle.adf_disk_cmd.proofs.work.Work.on_fault.Goals as goal
 

@@ -1,5 +1,4 @@
-use Rattle.std.proofs.Common.{arith}
-use Rattle.std.proofs.lemmas.Grind.{common_steps}
+use Rattle.std.proofs.{Common.arith, lemmas.Grind.common_steps}
 use Rattle.adf_drafts.proofs.ChildMaps.{in_bucket, no_bucket}
 use Rattle.adf_drafts.proofs.child_map.ChildMap.get.Goals as goal
 

@@ -1,5 +1,4 @@
-use Rattle.std.proofs.Common.{arith}
-use Rattle.std.proofs.lemmas.Grind.{common_steps}
+use Rattle.std.proofs.{Common.arith, lemmas.Grind.common_steps}
 use Rattle.adf_drafts.proofs.ChildMaps.{has_number, same_number_in}
 use Rattle.adf_drafts.proofs.child_map.ChildMap.put.Goals as goal
 

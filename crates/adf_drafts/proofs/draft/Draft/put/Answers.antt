@@ -1,6 +1,5 @@
 use Rattle.std.proofs.Common.{arith}
-use Rattle.adf_drafts.proofs.DraftInvariant.{kept_draft}
-use Rattle.adf_drafts.proofs.DraftDirectories.{put_count, put_directories, put_directory}
+use Rattle.adf_drafts.proofs.{DraftInvariant.kept_draft, DraftDirectories.put_count, DraftDirectories.put_directories, DraftDirectories.put_directory}
 use Rattle.adf_drafts.proofs.DraftRooms.{put_in, put_paths, put_tree, room_may, room_within}
 use Rattle.adf_drafts.proofs.draft.Draft.put.Goals as goal
 

@@ -1,5 +1,4 @@
-use Rattle.std.proofs.Common.{arith}
-use Rattle.std.proofs.lemmas.Grind.{common_steps}
+use Rattle.std.proofs.{Common.arith, lemmas.Grind.common_steps}
 use Rattle.adf_drafts.proofs.draft.Draft.room.Goals as goal
 
 pub returns-in_err-parent-clause-fault : goal.returns-in_err-parent-clause-fault

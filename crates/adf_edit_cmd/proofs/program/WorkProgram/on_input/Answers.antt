@@ -1,6 +1,5 @@
 use Rattle.adf_edit_cmd.proofs.AnswerLaws.{long_answers}
-use Rattle.adf_edit_cmd.specs.Answers.{EditAnswer}
-use Rattle.adf_edit_cmd.specs.declared.program.TheConstants.{MOST_INPUT_BYTES}
+use Rattle.adf_edit_cmd.specs.{Answers.EditAnswer, declared.program.TheConstants.MOST_INPUT_BYTES}
 use Rattle.adf_runs.proofs.Endings.{read_ends}
 use Rattle.adf_edit_cmd.proofs.program.WorkProgram.on_input.Goals as goal
 

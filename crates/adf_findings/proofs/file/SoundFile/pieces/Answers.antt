@@ -1,7 +1,6 @@
 use Rattle.std.proofs.Common.{◌<◌, ◌^◌, sym, subst, arith}
 use Rattle.adf_blocks.specs.declared.layout.TheConstants.{SIZE}
-use Rattle.adf_volume.specs.Image.{word_in}
-use Rattle.adf_volume.specs.Pieces.{AreInside}
+use Rattle.adf_volume.specs.{Image.word_in, Pieces.AreInside}
 use Rattle.adf_findings.specs.Files.{FileValue}
 use Rattle.adf_findings.proofs.SoundFiles.{blocks_inside}
 use Rattle.adf_findings.proofs.file.SoundFile.pieces.Goals as goal

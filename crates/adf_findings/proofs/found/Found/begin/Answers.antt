@@ -1,9 +1,8 @@
 use Rattle.std.proofs.Common.{◌≡◌, ◌<◌, ◌≤◌, ◌-◌, ◌++◌, ◌∷◌, [], refl, ap, subst, ◌∙◌, arith, replicate}
 use Rattle.adf_blocks.specs.Sizes.{blocks}
 use Rattle.adf_volume.specs.declared.owner.Owner.TheVariants.{Free, Boot}
-use Rattle.adf_findings.specs.declared.found.Found.{Found}
+use Rattle.adf_findings.specs.{declared.found.Found.Found, Found.IsOwned}
 use Rattle.adf_volume.specs.declared.part.Part.TheVariants.{Root as RootPart}
-use Rattle.adf_findings.specs.Found.{IsOwned}
 use Rattle.adf_findings.proofs.Begun.{root_next, stands_begun}
 use Rattle.adf_findings.proofs.found.Found.begin.Goals as goal
 

@@ -1,6 +1,4 @@
-use Rattle.std.proofs.Common.{arith}
-use Rattle.std.proofs.lemmas.List.{take_all}
-use Rattle.std.proofs.lemmas.Grind.{common_steps}
+use Rattle.std.proofs.{Common.arith, lemmas.List.take_all, lemmas.Grind.common_steps}
 use Rattle.adf_findings.proofs.GrownPlaces.{begun_grown}
 use Rattle.adf_findings.proofs.given_places.GivenPlaces.begin_more.Goals as goal
 

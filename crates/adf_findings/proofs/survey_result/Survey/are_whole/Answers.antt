@@ -1,8 +1,7 @@
 use Rattle.std.proofs.Common.{◌≡◌, ◌+◌, inl, inr, subst, arith}
 use Rattle.std.proofs.lemmas.Bool.{cases_lt}
 use Rattle.adf_volume.specs.Walk.{node_block}
-use Rattle.adf_findings.specs.Files.{grave}
-use Rattle.adf_findings.specs.Sound.{IsSound}
+use Rattle.adf_findings.specs.{Files.grave, Sound.IsSound}
 use Rattle.adf_findings.proofs.survey_result.Survey.are_whole.Goals as goal
 
 pub loop-n-init : goal.loop-n-init

@@ -1,8 +1,6 @@
 use Rattle.std.specs.Prelude.{◌≤◌, ℕ}
 use Rattle.adf_volume.specs.Walk.{node_block}
-use Rattle.adf_findings.specs.Files.{grave}
-use Rattle.adf_findings.specs.Sound.{IsSound}
-use Rattle.adf_findings.specs.Survey.{OnSurvey}
+use Rattle.adf_findings.specs.{Files.grave, Sound.IsSound, Survey.OnSurvey}
 use Rattle.adf_findings.proofs.survey_result.Survey.are_whole.Given as goal
 
 abbrev pub invariant-loop-n : goal.invariant-loop-n

@@ -1,11 +1,7 @@
 use Rattle.std.proofs.Common.{slice_index, ℕ, List, refl, sym, ap, subst, ◌∙◌, arith}
 use Rattle.std.proofs.lemmas.Grind.{common_steps}
-use Rattle.adf_findings.specs.Files.{FileValue}
-use Rattle.adf_findings.specs.Start.{unread_findings}
-use Rattle.adf_findings.specs.Survey.{UnreadTells}
-use Rattle.adf_findings.specs.SurveyResult.{IsOfSurvey}
-use Rattle.adf_findings.proofs.Openings.{entry_begun}
-use Rattle.adf_findings.proofs.SoundFiles.{file_is, has_its_blocks, type_is}
+use Rattle.adf_findings.specs.{Files.FileValue, Start.unread_findings, Survey.UnreadTells, SurveyResult.IsOfSurvey}
+use Rattle.adf_findings.proofs.{Openings.entry_begun, SoundFiles.file_is, SoundFiles.has_its_blocks, SoundFiles.type_is}
 use Rattle.adf_findings.proofs.survey_result.Survey.file_by.Goals as goal
 
 abbrev blocks_of : FileValue → List ℕ

@@ -1,6 +1,5 @@
 use Rattle.std.proofs.Common.{◌↔◌, drop, ℕ}
-use Rattle.adf_findings.specs.Lookup.{LeadsTo}
-use Rattle.adf_findings.specs.Survey.{OnSurvey}
+use Rattle.adf_findings.specs.{Lookup.LeadsTo, Survey.OnSurvey}
 use Rattle.adf_findings.proofs.survey_result.Survey.find.Given as goal
 
 abbrev pub invariant-loop-name : goal.invariant-loop-name

@@ -1,6 +1,5 @@
 use Rattle.std.specs.Prelude.{◌≡◌, ◌≤◌}
-use Rattle.adf_findings.specs.OwnKind.{is_full_file, passing}
-use Rattle.adf_findings.specs.Survey.{OnSurvey}
+use Rattle.adf_findings.specs.{OwnKind.is_full_file, OwnKind.passing, Survey.OnSurvey}
 use Rattle.adf_findings.proofs.survey_result.Survey.full_files.Given as goal
 
 abbrev pub invariant-loop-n : goal.invariant-loop-n

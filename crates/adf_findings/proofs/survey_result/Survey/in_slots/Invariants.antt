@@ -1,6 +1,5 @@
 use Rattle.std.specs.Prelude.{◌≡◌, ◌≤◌}
-use Rattle.adf_findings.specs.OwnKind.{is_in_slot, passing}
-use Rattle.adf_findings.specs.Survey.{OnSurvey}
+use Rattle.adf_findings.specs.{OwnKind.is_in_slot, OwnKind.passing, Survey.OnSurvey}
 use Rattle.adf_findings.proofs.survey_result.Survey.in_slots.Given as goal
 
 abbrev pub invariant-loop-n : goal.invariant-loop-n

@@ -1,7 +1,6 @@
 use Rattle.std.proofs.Common.{◌≡◌, sym, subst, ◌∙◌, arith}
 use Rattle.adf_volume.specs.Walk.{node_block}
-use Rattle.adf_findings.specs.Members.{has_mark}
-use Rattle.adf_findings.specs.SurveyResult.{IsOfSurvey}
+use Rattle.adf_findings.specs.{Members.has_mark, SurveyResult.IsOfSurvey}
 use Rattle.adf_findings.proofs.Keeping.{root_no_entry, tells_each}
 use Rattle.adf_findings.proofs.survey_result.Survey.is_clear.Goals as goal
 

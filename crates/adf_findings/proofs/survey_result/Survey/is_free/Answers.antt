@@ -1,7 +1,6 @@
 use Rattle.std.proofs.Common.{ap, subst, ◌∙◌, arith}
 use Rattle.adf_findings.specs.SurveyResult.{IsOfSurvey, block_at}
-use Rattle.adf_findings.proofs.BitsStated.{bit_stated}
-use Rattle.adf_findings.proofs.Keeping.{tells_each}
+use Rattle.adf_findings.proofs.{BitsStated.bit_stated, Keeping.tells_each}
 use Rattle.adf_findings.proofs.survey_result.Survey.is_free.Goals as goal
 
 pub returns-clause-some : goal.returns-clause-some

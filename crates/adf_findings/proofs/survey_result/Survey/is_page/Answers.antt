@@ -2,10 +2,7 @@ use Rattle.std.proofs.Common.{◌≡◌, ◌∙◌, ap, arith, below_more, false
 use Rattle.std.proofs.lemmas.Grind.{common_steps}
 use Rattle.adf_volume.specs.Walk.Role.{Page}
 use Rattle.adf_findings.specs.SurveyResult.{IsOfSurvey, block_at}
-use Rattle.adf_findings.proofs.BitSteps.{has_page}
-use Rattle.adf_findings.proofs.FoundPages.{found_at, page_low}
-use Rattle.adf_findings.proofs.Keeping.{tells_each}
-use Rattle.adf_findings.proofs.Openings.{page_begun}
+use Rattle.adf_findings.proofs.{BitSteps.has_page, FoundPages.found_at, FoundPages.page_low, Keeping.tells_each, Openings.page_begun}
 use Rattle.adf_findings.proofs.survey_result.Survey.is_page.Goals as goal
 
 pub returns-in_default : goal.returns-in_default

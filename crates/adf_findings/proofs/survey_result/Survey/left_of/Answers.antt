@@ -1,7 +1,6 @@
 use Rattle.std.proofs.Common.{slice_index, ◌≡◌, ◌+◌, ◌/◌, ◌++◌, ap, suc, sym, ◌∙◌, add-one, arith}
 use Rattle.adf_blocks.specs.declared.layout.TheConstants.{EXTENSION, POINTERS}
-use Rattle.adf_volume.specs.Image.{table_word, word_in}
-use Rattle.adf_volume.specs.Image.{kind_of}
+use Rattle.adf_volume.specs.{Image.table_word, Image.word_in, Image.kind_of}
 use Rattle.adf_findings.specs.Files.{member_from, named_from}
 use Rattle.adf_findings.specs.Remains.{below, bytes_in, bytes_left, data_at, gaps_left, named_below, own_data, with_lost}
 use Rattle.adf_findings.proofs.survey_result.Survey.left_of.Goals as goal

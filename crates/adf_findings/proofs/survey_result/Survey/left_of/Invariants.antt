@@ -1,7 +1,6 @@
 use Rattle.std.proofs.Common.{◌≡◌, ◌/◌}
 use Rattle.adf_blocks.specs.declared.layout.TheConstants.{POINTERS}
-use Rattle.adf_findings.specs.Files.{member_from}
-use Rattle.adf_findings.specs.Remains.{bytes_left, named_below, gaps_left}
+use Rattle.adf_findings.specs.{Files.member_from, Remains.bytes_left, Remains.named_below, Remains.gaps_left}
 use Rattle.adf_findings.proofs.survey_result.Survey.left_of.Given as goal
 
 abbrev pub invariant-loop-k : goal.invariant-loop-k

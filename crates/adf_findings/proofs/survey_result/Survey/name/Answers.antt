@@ -1,8 +1,7 @@
 use Rattle.std.proofs.Common.{min, slice_index, slice_range, ◌+◌, refl, ap, ◌∙◌}
 use Rattle.adf_blocks.specs.declared.layout.TheConstants.{NAME}
 use Rattle.adf_volume.specs.Walk.{node_block}
-use Rattle.adf_findings.proofs.Keeping.{header_inside}
-use Rattle.adf_findings.proofs.Names.{cut_name}
+use Rattle.adf_findings.proofs.{Keeping.header_inside, Names.cut_name}
 use Rattle.adf_findings.proofs.survey_result.Survey.name.Goals as goal
 
 pub returns-in-Some-clause-name : goal.returns-in-Some-clause-name

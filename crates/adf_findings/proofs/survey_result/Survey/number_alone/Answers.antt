@@ -1,7 +1,6 @@
 use Rattle.std.proofs.Common.{subst, ◌∙◌}
 use Rattle.adf_findings.specs.SurveyResult.{IsOfSurvey}
-use Rattle.adf_findings.proofs.Contested.{kept_alone}
-use Rattle.adf_findings.proofs.Keeping.{tells_each}
+use Rattle.adf_findings.proofs.{Contested.kept_alone, Keeping.tells_each}
 use Rattle.adf_findings.proofs.survey_result.Survey.number_alone.Goals as goal
 
 pub returns : goal.returns

@@ -1,6 +1,5 @@
 use Rattle.std.proofs.Common.{◌≡◌, map, reverse, ◌++◌}
-use Rattle.adf_findings.specs.Lookup.{path_to}
-use Rattle.adf_findings.specs.Survey.{OnSurvey}
+use Rattle.adf_findings.specs.{Lookup.path_to, Survey.OnSurvey}
 use Rattle.adf_findings.proofs.survey_result.Survey.path.Given as goal
 
 abbrev pub invariant-loop-name : goal.invariant-loop-name

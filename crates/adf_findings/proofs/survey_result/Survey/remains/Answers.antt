@@ -1,11 +1,7 @@
 use Rattle.std.proofs.Common.{ap, subst, ◌∙◌}
 use Rattle.adf_volume.specs.Walk.{node_block}
-use Rattle.adf_findings.specs.Start.{unread_findings}
-use Rattle.adf_findings.specs.Survey.{UnreadTells}
-use Rattle.adf_findings.specs.SurveyResult.{IsOfSurvey}
-use Rattle.adf_findings.proofs.DataFound.{file_at, left_is}
-use Rattle.adf_findings.proofs.Keeping.{tells_each}
-use Rattle.adf_findings.proofs.Openings.{entry_begun}
+use Rattle.adf_findings.specs.{Start.unread_findings, Survey.UnreadTells, SurveyResult.IsOfSurvey}
+use Rattle.adf_findings.proofs.{DataFound.file_at, DataFound.left_is, Keeping.tells_each, Openings.entry_begun}
 use Rattle.adf_findings.proofs.survey_result.Survey.remains.Goals as goal
 
 pub returns-in_default-clause-some : goal.returns-in_default-clause-some

@@ -1,9 +1,6 @@
 use Rattle.std.proofs.Common.{◌≤◌, ◌+◌, ap, sym, subst, ◌∙◌, arith}
-use Rattle.adf_findings.specs.declared.own_kind.Tally.{Tally}
-use Rattle.adf_findings.specs.OwnKind.{tallied}
-use Rattle.adf_findings.specs.SurveyResult.{IsOfSurvey}
-use Rattle.adf_findings.proofs.Keeping.{tells_each}
-use Rattle.adf_findings.proofs.OwnKinds.{few_tallied, more_tallied, tally_none}
+use Rattle.adf_findings.specs.{declared.own_kind.Tally.Tally, OwnKind.tallied, SurveyResult.IsOfSurvey}
+use Rattle.adf_findings.proofs.{Keeping.tells_each, OwnKinds.few_tallied, OwnKinds.more_tallied, OwnKinds.tally_none}
 use Rattle.adf_findings.proofs.survey_result.Survey.tally.Goals as goal
 
 pub loop-b-init : goal.loop-b-init

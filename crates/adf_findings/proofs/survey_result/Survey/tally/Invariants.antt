@@ -1,6 +1,5 @@
 use Rattle.std.specs.Prelude.{◌≡◌, ◌≤◌, ◌+◌}
-use Rattle.adf_findings.specs.OwnKind.{tally}
-use Rattle.adf_findings.specs.Survey.{OnSurvey}
+use Rattle.adf_findings.specs.{OwnKind.tally, Survey.OnSurvey}
 use Rattle.adf_findings.proofs.survey_result.Survey.tally.Given as goal
 
 abbrev pub invariant-loop-b : goal.invariant-loop-b

@@ -1,5 +1,4 @@
-use Rattle.std.proofs.Common.{arith}
-use Rattle.std.proofs.lemmas.Grind.{common_steps}
+use Rattle.std.proofs.{Common.arith, lemmas.Grind.common_steps}
 use Rattle.adf_findings.proofs.GrownPlaces.{part_kept}
 use Rattle.adf_findings.proofs.walk_owners.WalkOwners.are_parts.Goals as goal
 

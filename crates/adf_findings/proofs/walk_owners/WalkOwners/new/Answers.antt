@@ -1,5 +1,4 @@
-use Rattle.std.proofs.Common.{arith}
-use Rattle.std.proofs.lemmas.Grind.{common_steps}
+use Rattle.std.proofs.{Common.arith, lemmas.Grind.common_steps}
 use Rattle.adf_findings.proofs.GrownPlaces.{new_owners}
 use Rattle.adf_findings.proofs.walk_owners.WalkOwners.new.Goals as goal
 

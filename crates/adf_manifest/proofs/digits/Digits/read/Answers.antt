@@ -1,6 +1,5 @@
 use Rattle.std.proofs.Common.{◌≡◌, ◌%◌, ◌∙◌, arith, sym, length}
-use Rattle.std.proofs.lemmas.Bool.Decides.{nat_tests}
-use Rattle.std.proofs.lemmas.Grind.{common_steps}
+use Rattle.std.proofs.{lemmas.Bool.Decides.nat_tests, lemmas.Grind.common_steps}
 use Rattle.adf_manifest.proofs.DigitLaws.{pairs_of_digits}
 use Rattle.adf_manifest.proofs.digits.Digits.read.Goals as goal
 

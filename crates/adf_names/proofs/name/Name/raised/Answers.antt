@@ -1,5 +1,4 @@
-use Rattle.std.proofs.Common.{arith}
-use Rattle.std.proofs.lemmas.Grind.{common_steps}
+use Rattle.std.proofs.{Common.arith, lemmas.Grind.common_steps}
 use Rattle.adf_names.proofs.RaisedNames.{raised_steps}
 use Rattle.adf_names.proofs.name.Name.raised.Goals as goal
 

@@ -1,5 +1,4 @@
-use Rattle.std.proofs.lemmas.Grind.{common_steps}
-use Rattle.std.proofs.Common.{arith}
+use Rattle.std.proofs.{lemmas.Grind.common_steps, Common.arith}
 use Rattle.adf_partitions.proofs.disk.Disk.named.Goals as goal
 
 pub loop-partition-preserved : goal.loop-partition-preserved

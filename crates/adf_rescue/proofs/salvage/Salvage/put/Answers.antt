@@ -1,8 +1,7 @@
 use Rattle.std.proofs.Common.{◌≡◌, ◌≤◌, ◌<◌, ◌∙◌, ◌^◌, ℕ, List, Some, None, cond, ap, arith, length}
 use Rattle.std.proofs.lemmas.Result.{on_ok_weaker}
-use Rattle.adf_tree.specs.declared.entry.Body.TheVariants.{Dir}
+use Rattle.adf_tree.specs.{declared.entry.Body.TheVariants.Dir, Additions.Addition}
 use Rattle.adf_drafts.specs.Draft.{IsDirectoryOf}
-use Rattle.adf_tree.specs.Additions.{Addition}
 use Rattle.adf_rescue.proofs.Steps.{added_more, fits_not, new_place}
 use Rattle.adf_rescue.proofs.salvage.Salvage.put.Goals as goal
 

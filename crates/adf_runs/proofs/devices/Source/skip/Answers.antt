@@ -1,5 +1,4 @@
-use Rattle.std.proofs.Common.{ℕ, arith, rules, length-take}
-use Rattle.std.proofs.lemmas.Grind.{common_steps}
+use Rattle.std.proofs.{Common.ℕ, Common.arith, Common.rules, Common.length-take, lemmas.Grind.common_steps}
 use Rattle.adf_runs.proofs.KnownBytes.{counted_at_most, more_counted, still_at_most}
 use Rattle.adf_runs.proofs.devices.Source.skip.Goals as goal
 

@@ -1,7 +1,6 @@
 use Rattle.std.proofs.Common.{◌≡◌, ◌∙◌, ℕ, List, Option, None, ap₂, arith, sym}
 use Rattle.std.proofs.lemmas.Grind.{common_steps}
-use Rattle.adf_survey_cmd.specs.Lengths.{blocks_read, stated_length}
-use Rattle.adf_survey_cmd.specs.Subject.{subject_read}
+use Rattle.adf_survey_cmd.specs.{Lengths.blocks_read, Lengths.stated_length, Subject.subject_read}
 use Rattle.adf_survey_cmd.proofs.subject.Subject.of.Goals as goal
 
 pub returns-in_ok-to_vec-in-None : goal.returns-in_ok-to_vec-in-None

@@ -1,6 +1,5 @@
 use Rattle.std.proofs.Common.{◌≡◌, ◌∙◌, ℕ, List, Option, None, ap, sym}
-use Rattle.adf_survey_cmd.specs.Lengths.{blocks_read, stated_length}
-use Rattle.adf_survey_cmd.specs.Subject.{subject_read}
+use Rattle.adf_survey_cmd.specs.{Lengths.blocks_read, Lengths.stated_length, Subject.subject_read}
 use Rattle.adf_survey_cmd.proofs.subject.Subject.of_read.Goals as goal
 
 pub returns-in-None : goal.returns-in-None

@@ -1,6 +1,5 @@
 use Rattle.std.proofs.Common.{◌≡◌, ◌∙◌, List, None, ap, map, subst, sym, ℕ}
-use Rattle.adf_findings.specs.Parts.{finding_value}
-use Rattle.adf_findings.specs.Survey.{FindingValue, IsSurvey}
+use Rattle.adf_findings.specs.{Parts.finding_value, Survey.FindingValue, Survey.IsSurvey}
 use Rattle.adf_survey_cmd.specs.Subject.{IsTyped, other_type, subject_value}
 use Rattle.adf_survey_cmd.proofs.Subjects.{typed_same}
 use Rattle.adf_survey_cmd.proofs.work.View.of_begun.Goals as goal

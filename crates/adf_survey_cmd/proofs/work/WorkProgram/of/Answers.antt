@@ -1,5 +1,5 @@
 use Rattle.std.proofs.Common.{refl}
-use Rattle.adf_file_words.specs.SurveyLine.{inquiry_value}
+use Rattle.adf_survey_cmd.specs.CommandLine.{inquiry_value}
 use Rattle.adf_survey_cmd.proofs.work.WorkProgram.of.Goals as goal
 
 pub returns-clause-ok : goal.returns-clause-ok

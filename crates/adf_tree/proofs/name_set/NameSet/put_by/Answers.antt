@@ -3,11 +3,9 @@ use Rattle.std.specs.Ordering.{is_eq}
 use Rattle.std.proofs.lemmas.Grind.{common_steps}
 use Rattle.adf_base.specs.declared.NoMemory.{NoMemory}
 use Rattle.adf_names.specs.Texts.{uppers_by}
-use Rattle.adf_tree.specs.declared.name_key.NameKey.{NameKey}
-use Rattle.adf_tree.specs.NameKeys.{by_words, is_short, key_of_name}
+use Rattle.adf_tree.specs.{declared.name_key.NameKey.NameKey, NameKeys.by_words, NameKeys.is_short, NameKeys.key_of_name}
 use Rattle.adf_tree.specs.NameSet.{has, is_among, HasMore, IsWith, Names}
-use Rattle.adf_tree.proofs.BucketWrites.{stored_back}
-use Rattle.adf_tree.proofs.NameKeys.{has_key, has_more}
+use Rattle.adf_tree.proofs.{BucketWrites.stored_back, NameKeys.has_key, NameKeys.has_more}
 use Rattle.adf_tree.proofs.name_set.NameSet.put_by.Goals as goal
 
 -- a name is put by its key into a set with the same names

@@ -1,10 +1,8 @@
 use Rattle.std.proofs.Common.{sym, ◌∙◌, ℕ, List, rules}
 use Rattle.std.specs.Result.{is_ok}
 use Rattle.adf_base.specs.declared.hash.Letters.{Letters}
-use Rattle.adf_tree.specs.declared.entry.Entry.{Entry}
-use Rattle.adf_tree.specs.Tree.{parents_of}
-use Rattle.adf_tree.proofs.PathContents.{added_paths}
-use Rattle.adf_tree.proofs.AddRoom.{is_new, room_keeps, entries_left}
+use Rattle.adf_tree.specs.{declared.entry.Entry.Entry, Tree.parents_of}
+use Rattle.adf_tree.proofs.{PathContents.added_paths, AddRoom.is_new, AddRoom.room_keeps, AddRoom.entries_left}
 use Rattle.adf_tree.proofs.tree_entries.TreeEntries.add.Goals as goal
 
 pub room_for-requires-clause-order : goal.room_for-requires-clause-order

@@ -1,8 +1,7 @@
 use Rattle.std.proofs.Common.{sym, subst}
 use Rattle.std.specs.Result.{is_ok}
 use Rattle.adf_tree.specs.Tree.{IsLastBy, MayAddBy, TreeEntries}
-use Rattle.adf_tree.proofs.LastNames.{forgotten}
-use Rattle.adf_tree.proofs.TreePrefixes.{last_keeps}
+use Rattle.adf_tree.proofs.{LastNames.forgotten, TreePrefixes.last_keeps}
 use Rattle.adf_tree.proofs.tree_entries.TreeEntries.add_last.Goals as goal
 
 pub invariant_of-self : goal.invariant_of-self

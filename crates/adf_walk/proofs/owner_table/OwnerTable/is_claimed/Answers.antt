@@ -1,5 +1,4 @@
-use Rattle.std.proofs.Common.{arith}
-use Rattle.std.proofs.lemmas.Grind.{common_steps}
+use Rattle.std.proofs.{Common.arith, lemmas.Grind.common_steps}
 use Rattle.adf_walk.proofs.owner_table.OwnerTable.is_claimed.Goals as goal
 
 pub returns-in-Some : goal.returns-in-Some

@@ -1,5 +1,4 @@
-use Rattle.std.proofs.Common.{arith, replicate}
-use Rattle.std.proofs.lemmas.Grind.{common_steps}
+use Rattle.std.proofs.{Common.arith, Common.replicate, lemmas.Grind.common_steps}
 use Rattle.adf_walk.proofs.OwnerTables.{new_is, new_table}
 use Rattle.adf_walk.proofs.owner_table.OwnerTable.new.Goals as goal
 

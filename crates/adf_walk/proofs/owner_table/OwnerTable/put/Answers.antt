@@ -1,6 +1,5 @@
-use Rattle.std.proofs.Common.{arith}
+use Rattle.std.proofs.{Common.arith, lemmas.Grind.common_steps}
 use Rattle.adf_walk.proofs.OwnerTables.{put_kept}
-use Rattle.std.proofs.lemmas.Grind.{common_steps}
 use Rattle.adf_walk.proofs.owner_table.OwnerTable.put.Goals as goal
 
 pub invariant_of-self : goal.invariant_of-self

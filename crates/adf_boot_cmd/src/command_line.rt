@@ -1,0 +1,164 @@
+// The arguments of `adf-boot`, by clap.
+
+ghost use Rattle.std.specs.Prelude.{◌≡◌, ◌==◌, IfOk, IfErr, ℕ, List, [], ◌∷◌, None, Some, codes, false, option_map};
+ghost use Rattle.clap.specs.Words.{app_of, fault_of, found_of, matches_of, rows_of, subcommand_of, subcommand_rows_of};
+ghost use Rattle.clap.specs.declared.builder.command.Command.TheViews.{out-Command};
+ghost use Rattle.adf_boot_cmd.specs.CommandLine.{AreRefusedByBoot, AsksBoot, AsksBootOf, boot_app, boot_file, boot_met};
+ghost use Rattle.adf_boot_cmd.specs.CommandLine.{boot_request_named, boot_request_value, clear, copy};
+ghost use Rattle.adf_boot_cmd.specs.CommandLine.{copy_app, install, tell, told_app};
+ghost use Rattle.adf_words.specs.CommandLine.{ExplainsArgs, texts_of};
+ghost use Rattle.adf_words.specs.declared.command_line.ArgsError.TheVariants.{Usage};
+
+use adf_file_runs::About;
+use adf_words::{
+    ArgsError, bare_command, file_argument, file_met, first_text, matches_of, required,
+    with_argument, with_file, with_subcommand,
+};
+use clap::{ArgMatches, Command};
+use std::alloc::{AllocError, Global};
+
+/// What is said of arguments that are refused.
+pub const BOOT_USAGE: &str =
+    "usage: adf-boot [FILE]\n       adf-boot install [FILE] > NEW\n       adf-boot copy BOOTFILE [FILE] > NEW\n\
+    \x20      adf-boot clear [FILE] > NEW\nwithout a FILE the image comes on standard input; man adf-boot tells more\n";
+
+/// What the program tells of itself.
+pub const ABOUT: About = About {
+    name: "adf-boot",
+    help: "Tells whether an Amiga starts from an image, and writes images with other boot blocks.\n\n\
+    usage: adf-boot [FILE]                      the state, the type and the CRC-32 of the boot blocks\n\
+    \x20      adf-boot install [FILE] > NEW        with code that starts AmigaDOS\n\
+    \x20      adf-boot copy BOOTFILE [FILE] > NEW  with the first 1,024 bytes of another file\n\
+    \x20      adf-boot clear [FILE] > NEW          without code\n\
+    \x20      adf-boot --help, adf-boot --version\n\n\
+    Without a FILE the image comes on standard input. man adf-boot tells more.\n",
+    waits: None,
+};
+
+/// What a command line asks for.
+#[derive(Clone, Copy, Debug)]
+pub enum BootRequest<'a> {
+    /// What the boot blocks are.
+    Tell,
+    Install,
+    Clear,
+    /// The name of the boot file.
+    Copy(&'a str),
+}
+
+/// What a command line asks for, and the file that it names; `None` for standard input.
+#[derive(Clone, Copy, Debug)]
+pub struct BootWords<'a> {
+    pub request: BootRequest<'a>,
+    pub file: Option<&'a str>,
+}
+
+// The command `copy BOOTFILE [FILE]`.
+fn copy_command<'a>(alloc: Global) -> Result<Command<'a>, AllocError>
+    ensures app { IfOk result (λ c. app_of c ≡ copy_app) }
+    ensures local { IfOk result (λ c. (out-Command c).has_globals ≡ false) }
+{
+    let copies = with_argument(Ok(Command::new(alloc, "copy")), required(alloc, "boot"));
+    with_argument(copies, file_argument(alloc))
+}
+
+// The command line without its subcommands.
+fn told_command<'a>(alloc: Global) -> Result<Command<'a>, AllocError>
+    ensures { IfOk result (λ c. app_of c ≡ told_app) }
+{
+    bare_command(alloc, "adf-boot").arg(file_argument(alloc))
+}
+
+// The command line.
+fn command<'a>(alloc: Global) -> Result<Command<'a>, AllocError>
+    ensures { IfOk result (λ c. app_of c ≡ boot_app) }
+{
+    let installs = with_file(alloc, told_command(alloc), "install");
+    let clears = with_file(alloc, installs, "clear");
+    with_subcommand(clears, copy_command(alloc))
+}
+
+// The request that a subcommand's name and matches are.
+fn request_named<'a>(name: &str, found: &ArgMatches<'a>) -> Option<BootRequest<'a>>
+    ensures { option_map boot_request_value result
+        ≡ boot_request_named name.now (rows_of (found_of found.now)) }
+{
+    if name == "install" {
+        Some(BootRequest::Install)
+    } else if name == "clear" {
+        Some(BootRequest::Clear)
+    } else if name == "copy" {
+        match first_text(found, "boot") {
+            Some(text) => Some(BootRequest::Copy(text)),
+            None => None,
+        }
+    } else {
+        None
+    }
+}
+
+// The request that the matches are.
+fn request_in<'a>(matches: &ArgMatches<'a>) -> Option<BootRequest<'a>>
+    ensures { option_map boot_request_value result
+        ≡ boot_met (rows_of (found_of matches.now)) (subcommand_rows_of matches.now) }
+{
+    let excludes = first_text(matches, "file").is_some();
+    match matches.subcommand() {
+        Some(_) if excludes => None,
+        Some((name, found)) => request_named(name, found),
+        None => Some(BootRequest::Tell),
+    }
+}
+
+// The matches of the arguments.
+fn boot_matches<'a>(alloc: Global, args: &'a [&str]) -> Result<ArgMatches<'a>, ArgsError>
+    ensures taken { IfOk result (λ _. fault_of boot_app (texts_of args.entry.now) ≡ []) }
+    ensures rows { IfOk result (λ matches.
+        rows_of (found_of matches) ≡ matches_of boot_app (texts_of args.entry.now)) }
+    ensures subcommand { IfOk result (λ matches.
+        subcommand_rows_of matches ≡ subcommand_of boot_app (texts_of args.entry.now)) }
+    ensures refused { IfErr result (λ fault. fault ≡ Usage
+        → ¬ (fault_of boot_app (texts_of args.entry.now) ≡ [])) }
+{
+    matches_of(command(alloc)?, args)
+}
+
+/// Reads the arguments; the first one is the program's name. `Usage` if and only if clap refuses them or its matches lack the
+/// boot file or have a file before a command; `NoMemory` if an allocation failed.
+pub fn parse_boot<'a>(alloc: Global, args: &'a [&str]) -> Result<BootWords<'a>, ArgsError>
+    ensures ok { IfOk result (λ words.
+        AsksBoot (texts_of args.entry.now) (boot_request_value words.request)) }
+    ensures file { IfOk result (λ words.
+        option_map (λ s. s.now) words.file ≡ boot_file (texts_of args.entry.now)) }
+    ensures refused { IfErr result (λ fault. ExplainsArgs fault (AreRefusedByBoot (texts_of args.entry.now))) }
+{
+    let matches = boot_matches(alloc, args)?;
+    let request = request_in(&matches).ok_or(ArgsError::Usage)?;
+    Ok(BootWords {
+        request,
+        file: file_met(&matches),
+    })
+}
+
+/// The arguments of the documentation are taken with what they ask for and the file that they name, and other
+/// arguments are refused, calls for help among them.
+#[tactic(auto, unfolding(clap::proofs::OnLiterals::clap_on_literals))]
+pub fn boot_words_as_documented()
+    ensures tell { AsksBootOf (codes "adf-boot" ∷ []) tell None }
+    ensures file { AsksBootOf (codes "adf-boot" ∷ codes "a.adf" ∷ []) tell (Some (codes "a.adf")) }
+    ensures dash { AsksBootOf (codes "adf-boot" ∷ codes "-" ∷ []) tell None }
+    ensures install { AsksBootOf (codes "adf-boot" ∷ codes "install" ∷ []) install None }
+    ensures install_file { AsksBootOf (codes "adf-boot" ∷ codes "install" ∷ codes "a.adf" ∷ [])
+        install (Some (codes "a.adf")) }
+    ensures clear { AsksBootOf (codes "adf-boot" ∷ codes "clear" ∷ codes "a.adf" ∷ [])
+        clear (Some (codes "a.adf")) }
+    ensures copy { AsksBootOf (codes "adf-boot" ∷ codes "copy" ∷ codes "boot" ∷ [])
+        (copy (codes "boot")) None }
+    ensures copy_file { AsksBootOf
+        (codes "adf-boot" ∷ codes "copy" ∷ codes "boot" ∷ codes "a.adf" ∷ [])
+        (copy (codes "boot")) (Some (codes "a.adf")) }
+    ensures no_boot { AreRefusedByBoot (codes "adf-boot" ∷ codes "copy" ∷ []) }
+    ensures two_files { AreRefusedByBoot (codes "adf-boot" ∷ codes "a" ∷ codes "b" ∷ []) }
+    ensures unknown { AreRefusedByBoot (codes "adf-boot" ∷ codes "-x" ∷ []) }
+    ensures help { AreRefusedByBoot (codes "adf-boot" ∷ codes "--help" ∷ []) }
+{}

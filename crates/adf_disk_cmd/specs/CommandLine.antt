@@ -1,0 +1,82 @@
+-- The command line of `adf-disk`, as clap reads it, and what its matches ask for.
+use Rattle.std.specs.Prelude.{◌≡◌, ◌⊎◌, ℕ, List, [], Option, Some, None, codes, option_map, if◌then◌else◌}
+use Rattle.std.specs.{Option.option_and_then, Str.bytes_eq}
+use Rattle.clap.specs.Words.{App, Row, Text, fault_of, first_of, matches_of, new_app, subcommand_of, with_rule, with_subcommand}
+use Rattle.adf_words.specs.Arguments.{bare_app, number_named, required_rule}
+use Rattle.adf_words.specs.FileArguments.{file_met, file_rule, with_file}
+use Rattle.adf_blocks.specs.declared.layout.TheConstants.{MOST_BLOCKS}
+use Rattle.adf_disk_cmd.specs.declared.command_line.DiskRequest.{DiskRequest}
+use Rattle.adf_disk_cmd.specs.declared.command_line.DiskRequest.TheVariants.{List as ListAll, Check, Survey, Volume, Build}
+use Rattle.adf_disk_cmd.specs.declared.command_line.Wanted.{Wanted, TheVariants.Number, TheVariants.Name}
+
+-- volume NAME [FILE]
+abbrev pub volume_app : App
+volume_app = with_rule (with_rule (new_app (codes "volume")) (required_rule (codes "name"))) file_rule
+
+-- list [FILE], check [FILE]
+abbrev pub lists_and_checks : App
+lists_and_checks = with_file (with_file (bare_app (codes "adf-disk")) (codes "list")) (codes "check")
+
+-- the command line: these, survey [FILE], build [PLAN], and volume NAME [FILE]
+abbrev pub disk_app : App
+disk_app = with_subcommand (with_file (with_file lists_and_checks (codes "survey")) (codes "build")) volume_app.top
+
+-- a partition, by its number or its name
+pub data WantedValue : Type 0 where
+  number : ℕ → WantedValue
+  name : Text → WantedValue
+
+-- what a command line asks for
+pub data DiskRequestValue : Type 0 where
+  list : DiskRequestValue
+  check : DiskRequestValue
+  survey : DiskRequestValue
+  volume : WantedValue → DiskRequestValue
+  build : DiskRequestValue
+
+-- the partition that a text means: a number where it is one, else a name
+abbrev pub wanted_named : Text → WantedValue
+wanted_named text = elim (number_named MOST_BLOCKS text) [ Some n ↦ number n | None ↦ name text ]
+
+-- the request that a subcommand's name and matches are
+abbrev pub disk_request_named : Text → List Row → Option DiskRequestValue
+disk_request_named command rows =
+    if bytes_eq command (codes "list") then Some list
+    else (if bytes_eq command (codes "check") then Some check
+    else (if bytes_eq command (codes "survey") then Some survey
+    else (if bytes_eq command (codes "build") then Some build
+    else (if bytes_eq command (codes "volume") then option_map (λ text. volume (wanted_named text)) (first_of (codes "name") rows)
+    else None))))
+
+-- what the matches ask for
+abbrev pub disk_met : Option (Text × List Row) → Option DiskRequestValue
+disk_met = option_and_then (λ p. disk_request_named p.0 p.1)
+
+-- the file that the arguments name, if any
+abbrev pub disk_file : List Text → Option Text
+disk_file args = file_met (matches_of disk_app args) (subcommand_of disk_app args)
+
+-- clap takes the arguments, and its matches name the request
+abbrev pub AsksDisk : List Text → DiskRequestValue → Type 0
+AsksDisk args r = (fault_of disk_app args ≡ []) × (disk_met (subcommand_of disk_app args) ≡ Some r)
+
+-- the arguments name the request, of a file or of standard input
+abbrev pub AsksDiskOf : List Text → DiskRequestValue → Option Text → Type 0
+AsksDiskOf args r file = AsksDisk args r × (disk_file args ≡ file)
+
+-- clap refuses the arguments, or its matches lack the command or its value
+abbrev pub AreRefusedByDisk : List Text → Type 0
+AreRefusedByDisk args = (¬ (fault_of disk_app args ≡ [])) ⊎ (disk_met (subcommand_of disk_app args) ≡ None)
+
+-- a partition as the code has it
+abbrev pub wanted_value : Wanted → WantedValue
+wanted_value (Number n) = number n
+wanted_value (Name text) = name text.now
+
+-- the value of a request as the code has it
+abbrev pub disk_request_value : DiskRequest → DiskRequestValue
+disk_request_value ListAll = list
+disk_request_value Check = check
+disk_request_value Survey = survey
+disk_request_value (Volume wanted) = volume (wanted_value wanted)
+disk_request_value Build = build

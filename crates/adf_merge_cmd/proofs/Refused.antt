@@ -1,0 +1,114 @@
+-- Readings that are refused, and those that are not. Letters: first is the first reading, ns the names of the readings rs.
+use Rattle.std.proofs.Common.{◌≡◌, ◌≤◌, ◌<◌, ◌+◌, ◌/◌, ◌%◌, ◌==◌, ◌∙◌, ◌++◌, ℕ, zero, suc, Bool, true, false, not, if◌then◌else◌, List, [], ◌∷◌}
+use Rattle.std.proofs.Common.{All, IfSome, Option, take, None, Some, ap, sym, refl, arith, drop, get_or, length, eqb-true, Bor}
+use Rattle.std.proofs.{lemmas.Grind.common_steps, lemmas.List.drop_all, lemmas.List.get_or-map, lemmas.List.length-map, Math.Seq.drop-cons}
+use Rattle.clap.specs.Words.{Text}
+use Rattle.adf_names.specs.Escapes.{escaped}
+use Rattle.adf_words.specs.CommandLine.{texts_of}
+use Rattle.adf_boot_blocks.specs.{Refusals.has_image_size, declared.refusal.TheConstants.MOST_BYTES}
+use Rattle.adf_runs.specs.Streams.{AreFirst}
+use Rattle.adf_readings.specs.Merge.{HaveBlocks}
+use Rattle.adf_merge_cmd.specs.Answers.{differ_in_type, first_refused, merge_reply, reply_unless, reading_refusal, reading_refusal_text, refused_or}
+use Rattle.adf_merge_cmd.specs.declared.refusal.ReadingRefusal.{ReadingRefusal}
+
+next : {X : Type 0} (xs : List X) (i : ℕ) (x : X) → i < length xs → x ≡ get_or xs i x → drop i xs ≡ x ∷ drop (i + 1) xs
+next xs i x lt at =
+    drop-cons xs i x lt ∙ (ap (λ y. y ∷ drop (suc i) xs) (sym at) ∙ ap (λ k. x ∷ drop k xs) (let e : suc i ≡ i + 1 = omega arith in e))
+
+one_more : (first : List ℕ) (name : Text) (ns : List Text) (r : List ℕ) (rs : List (List ℕ))
+    → first_refused first (name ∷ ns) (r ∷ rs) ≡ refused_or (reading_refusal first r) name (first_refused first ns rs)
+unfolding first_refused
+one_more first name ns r rs = refl
+
+no_more : (first : List ℕ) (rs : List (List ℕ)) → first_refused first [] rs ≡ None
+unfolding first_refused
+no_more first rs = refl
+
+at_next : (first : List ℕ) (ns : List Text) (rs : List (List ℕ)) (i : ℕ) (name : Text) (r : List ℕ) → i < length ns → i < length rs
+    → name ≡ get_or ns i name → r ≡ get_or rs i r
+    → first_refused first (drop i ns) (drop i rs) ≡ refused_or (reading_refusal first r) name (first_refused first (drop (i + 1) ns) (drop (i + 1) rs))
+at_next first ns rs i name r lt less at is =
+    ap (λ x. first_refused first x (drop i rs)) (next ns i name lt at)
+    ∙ (ap (first_refused first (name ∷ drop (i + 1) ns)) (next rs i r less is) ∙ one_more first name (drop (i + 1) ns) r (drop (i + 1) rs))
+
+-- a reading that is refused, and one that is not
+pub refused_here : (first : List ℕ) (ns : List Text) (rs : List (List ℕ)) (i : ℕ) (name : Text) (r : List ℕ) (why : ReadingRefusal)
+    → i < length ns → i < length rs → name ≡ get_or ns i name → r ≡ get_or rs i r → reading_refusal first r ≡ Some why
+    → first_refused first (drop i ns) (drop i rs) ≡ Some (escaped name ++ reading_refusal_text why)
+refused_here first ns rs i name r why lt less at is e =
+    at_next first ns rs i name r lt less at is
+    ∙ ap (λ w. refused_or w name (first_refused first (drop (i + 1) ns) (drop (i + 1) rs))) e
+
+pub taken_here : (first : List ℕ) (ns : List Text) (rs : List (List ℕ)) (i : ℕ) (name : Text) (r : List ℕ)
+    → i < length ns → i < length rs → name ≡ get_or ns i name → r ≡ get_or rs i r → reading_refusal first r ≡ None
+    → first_refused first (drop (i + 1) ns) (drop (i + 1) rs) ≡ first_refused first (drop i ns) (drop i rs)
+taken_here first ns rs i name r lt less at is e =
+    sym (at_next first ns rs i name r lt less at is
+    ∙ ap (λ w. refused_or w name (first_refused first (drop (i + 1) ns) (drop (i + 1) rs))) e)
+
+pub all_taken : (first : List ℕ) (ns : List Text) (rs : List (List ℕ)) (i : ℕ) → length ns ≤ i → first_refused first (drop i ns) (drop i rs) ≡ None
+all_taken first ns rs i past = ap (λ x. first_refused first x (drop i rs)) (drop_all i ns past) ∙ no_more first (drop i rs)
+
+-- the name of a word
+pub named : (ws : List (Bor (List ℕ))) (i : ℕ) (w : Bor (List ℕ)) → i < length ws → w ≡ get_or ws i w → w.now ≡ get_or (texts_of ws) i w.now
+named ws i w lt at = ap (λ x. x.now) at ∙ sym (get_or-map (λ x. x.now) ws i w w.now lt)
+
+pub texts_long : (ws : List (Bor (List ℕ))) → length (texts_of ws) ≡ length ws
+texts_long ws = length-map ws (λ w. w.now)
+
+-- what is not refused
+sized : (a b c : Bool) → (if not a then Some ReadingRefusal.BadSize else (if not b then Some ReadingRefusal.OtherSize
+    else (if c then Some ReadingRefusal.OtherType else None))) ≡ None → (a ≡ true) × (b ≡ true)
+sized false b c e = absurd cc
+sized true false c e = absurd cc
+sized true true c e = (refl, refl)
+
+split : (w : Option ReadingRefusal) (name : Text) (others : Option (List ℕ)) → refused_or w name others ≡ None → (w ≡ None) × (others ≡ None)
+split None name others e = (refl, e)
+split (Some why) name others e = absurd cc
+
+all_cons : (P : List ℕ → Type 0) (r : List ℕ) (rs : List (List ℕ)) → P r → All P rs → All P (r ∷ rs)
+all_cons P r rs p ps zero d lt = p
+all_cons P r rs p ps (suc k) d lt = ps k d (omega arith)
+
+each_taken : (first : List ℕ) (ns : List Text) (rs : List (List ℕ)) → length ns ≡ length rs → first_refused first ns rs ≡ None
+    → All (λ r. reading_refusal first r ≡ None) rs
+each_taken first [] [] long none = λ k d lt. absurd (omega arith)
+each_taken first [] (r ∷ rs) long none = absurd (omega arith)
+each_taken first (name ∷ ns) [] long none = absurd (omega arith)
+each_taken first (name ∷ ns) (r ∷ rs) long none =
+    let both = split (reading_refusal first r) name (first_refused first ns rs) (sym (one_more first name ns r rs) ∙ none) in
+    all_cons (λ x. reading_refusal first x ≡ None) r rs both.0 (each_taken first ns rs (omega arith) both.1)
+
+image_size : (r : List ℕ) → has_image_size r ≡ true → (length r % 512 ≡ 0) × (length r ≤ MOST_BYTES)
+image_size r e = grind (arith, common_steps)
+
+taken_size : (first r : List ℕ) → reading_refusal first r ≡ None → (length r % 512 ≡ 0) × (length r ≤ MOST_BYTES) × (length r ≡ length first)
+taken_size first r e =
+    let both = sized (has_image_size r) (length r == length first) (differ_in_type first r) e in
+    let size = image_size r both.0 in
+    (size.0, size.1, eqb-true (length r) (length first) both.1)
+
+-- readings of which none is refused have so many blocks as the first one
+pub have_blocks : (first : List ℕ) (ns : List Text) (rs : List (List ℕ)) → length ns ≡ length rs → first_refused first ns rs ≡ None
+    → HaveBlocks (length first / 512) rs
+have_blocks first ns rs long none = λ k d lt.
+    let size = taken_size first (get_or rs k d) (each_taken first ns rs long none k d lt) in
+    omega (arith, size.0, size.2)
+
+pub few_blocks : (first : List ℕ) (ns : List Text) (rs : List (List ℕ)) → length ns ≡ length rs → first_refused first ns rs ≡ None
+    → 0 < length rs → first ≡ get_or rs 0 first → length first ≤ MOST_BYTES
+few_blocks first ns rs long none some is =
+    let size = taken_size first (get_or rs 0 first) (each_taken first ns rs long none 0 first some) in
+    omega (arith, size.1, size.2)
+
+pub reply_is : (first : List ℕ) (ns : List Text) (rs : List (List ℕ)) → 0 < length rs → first ≡ get_or rs 0 first
+    → merge_reply ns rs ≡ reply_unless (first_refused first ns rs) (length first / 512) rs
+reply_is first ns [] some is = absurd (omega arith)
+reply_is first ns (r ∷ rs) some is = ap (λ x. reply_unless (first_refused x ns (r ∷ rs)) (length x / 512) (r ∷ rs)) (sym is)
+
+-- the bytes of a file, where they are known
+pub file_bytes : (known left : Option (List ℕ)) (bytes : List ℕ) → IfSome known (λ all. left ≡ Some all) → AreFirst (MOST_BYTES + 1) left bytes
+    → IfSome known (λ all. bytes ≡ take (MOST_BYTES + 1) all)
+file_bytes None left bytes same first = tt
+file_bytes (Some all) left bytes same first = rw same at first

@@ -1,0 +1,92 @@
+// The lines of what is left to chance.
+
+ghost use Rattle.std.specs.Prelude.{◌≡◌, ◌++◌, ◌∷◌, [], IfOk, OnOk};
+ghost use Rattle.adf_merge_cmd.specs.Answers.{begun_stretch, differing_text, doubt_lines, goes_on, stretch_blocks, stretch_line};
+
+use adf_readings::Doubt;
+use adf_texts::push_number;
+use std::alloc::{AllocError, Global};
+
+/// Blocks that follow one another, each left to chance, from which as many readings differ.
+#[derive(Clone, Copy, Debug, PartialEq, Eq)]
+pub struct Stretch {
+    pub first: u32,
+    pub last: u32,
+    pub differing: u32,
+}
+
+impl Stretch {
+    // The stretch of one block.
+    fn begun_stretch(doubt: Doubt) -> Stretch
+        ensures { result ≡ begun_stretch doubt }
+    {
+        Stretch {
+            first: doubt.block,
+            last: doubt.block,
+            differing: doubt.differing,
+        }
+    }
+
+    // Whether it goes on with this block.
+    fn goes_on(self, doubt: Doubt) -> bool
+        ensures { result ≡ goes_on self doubt }
+    {
+        u64::from(doubt.block) == u64::from(self.last) + 1 && doubt.differing == self.differing
+    }
+
+    // Appends its blocks.
+    fn push_blocks(self, text: &mut Vec<u8>) -> Result<(), AllocError>
+        ensures { OnOk result (text.new.items ≡ text.old.items ++ (stretch_blocks self ++ 58 ∷ [])) }
+    {
+        if self.first == self.last {
+            text.extend_from_slice(b"block ")?;
+        } else {
+            text.extend_from_slice(b"blocks ")?;
+            push_number(text, self.first, b' ')?;
+            text.extend_from_slice(b"to ")?;
+        }
+        push_number(text, self.last, b':')
+    }
+
+    // Appends how many readings differ.
+    fn push_differing(self, text: &mut Vec<u8>) -> Result<(), AllocError>
+        ensures { OnOk result (text.new.items ≡ text.old.items ++ differing_text self.differing) }
+    {
+        if self.differing == 1 {
+            return text.extend_from_slice(b" 1 reading differs\n");
+        }
+        text.extend_from_slice(b" ")?;
+        push_number(text, self.differing, b' ')?;
+        text.extend_from_slice(b"readings differ\n")
+    }
+
+    // Appends its line.
+    fn push_line(self, text: &mut Vec<u8>) -> Result<(), AllocError>
+        ensures { OnOk result (text.new.items ≡ text.old.items ++ stretch_line self) }
+    {
+        self.push_blocks(text)?;
+        self.push_differing(text)
+    }
+}
+
+/// The lines of what is left to chance.
+pub fn doubt_lines(alloc: Global, doubts: &[Doubt]) -> Result<Vec<u8>, AllocError>
+    ensures { IfOk result (λ text. text.items ≡ doubt_lines doubts.now) }
+{
+    let mut text = Vec::new(alloc);
+    if doubts.is_empty() {
+        return Ok(text);
+    }
+    let mut stretch = Stretch::begun_stretch(doubts[0]);
+    for i in 1..doubts.len() {
+        let next = doubts[i];
+        if stretch.goes_on(next) {
+            stretch.last = next.block;
+        } else {
+            stretch.push_line(&mut text)?;
+            stretch = Stretch::begun_stretch(next);
+        }
+    }
+    stretch.push_line(&mut text)?;
+    Ok(text)
+}

@@ -1,0 +1,94 @@
+// The readings of names.
+
+ghost use Rattle.std.specs.Prelude.{◌≡◌, ◌⊎◌, ◌+◌, ◌++◌, Contains, IfErr, IfOk, IfSome, List, codes, false, take, ℕ};
+ghost use Rattle.adf_boot_blocks.specs.declared.refusal.TheConstants.{MOST_BYTES};
+ghost use Rattle.adf_runs.specs.Streams.{seen};
+ghost use Rattle.adf_words.specs.CommandLine.{texts_of};
+ghost use Rattle.adf_merge_cmd.specs.Answers.{AreReadings, IsUnreadAmong, IsUnreadOf, TellsUnread, unread_line};
+
+use adf_boot_blocks::MOST_BYTES;
+use adf_file_runs::{Files, Unopened, refuse_file};
+use adf_readings::Reading;
+use adf_runs::{Sink, StreamFault, read_all, say};
+use adf_texts::push_escaped;
+use std::alloc::{AllocError, Global};
+
+/// Why a reading is not had.
+#[derive(Clone, Copy, Debug)]
+pub enum Unread<'a> {
+    /// The file of this name could not be opened.
+    Unopened(&'a str, Unopened),
+    /// It failed.
+    Failed(&'a str),
+    /// Memory was refused.
+    NoMemory,
+}
+
+// The bytes of the file of a name.
+fn read_one<'a, F: Files>(alloc: Global, files: &F, name: &'a str) -> Result<Vec<u8>, Unread<'a>>
+    ensures ok { IfOk result (λ bytes. IfSome (F.bytes_of files.now name.entry.now) (λ all. bytes.items ≡ take (MOST_BYTES + 1) all)) }
+    ensures fault { IfErr result (IsUnreadOf name.entry.now) }
+{
+    match files.open(name.as_bytes()) {
+        Ok(mut source) => match read_all(alloc, &mut source, MOST_BYTES) {
+            Ok(bytes) => Ok(bytes),
+            Err(StreamFault::Device) => Err(Unread::Failed(name)),
+            Err(StreamFault::NoMemory) => Err(Unread::NoMemory),
+        },
+        Err(why) => Err(Unread::Unopened(name, why)),
+    }
+}
+
+/// The readings of names, in their order.
+pub fn read_names<'a, F: Files>(
+    alloc: Global,
+    files: &F,
+    names: &[&'a str],
+) -> Result<Vec<Reading>, Unread<'a>>
+    ensures ok { IfOk result (λ readings. AreReadings (F.bytes_of files.now) (texts_of names.now) readings.items) }
+    ensures fault { IfErr result (IsUnreadAmong (texts_of names.now)) }
+{
+    let mut readings = Vec::new(alloc);
+    for i in 0..names.len() {
+        let bytes = read_one(alloc, files, names[i])?;
+        if readings.push(Reading::new(bytes)).is_err() {
+            return Err(Unread::NoMemory);
+        }
+    }
+    Ok(readings)
+}
+
+// The line of a file that failed.
+fn unread_line(alloc: Global, name: &str) -> Result<Vec<u8>, AllocError>
+    ensures { IfOk result (λ line. line.items ≡ unread_line name.now) }
+{
+    let mut line = Vec::new(alloc);
+    push_escaped(&mut line, name.as_bytes())?;
+    line.extend_from_slice(b": read fault\n")?;
+    Ok(line)
+}
+
+impl Unread<'_> {
+    /// Says on errors why a reading is not had, and returns the status.
+    pub fn refuse<E: Sink>(self, alloc: Global, errors: &mut E) -> u8
+        requires { E.has_failed errors.old ≡ false }
+        ensures status { result ≡ 3 }
+        ensures said { (names : List (List ℕ)) → IsUnreadAmong names self.entry
+            → TellsUnread names (seen E.held E.has_failed errors.old errors.new) }
+    {
+        match self {
+            Unread::Unopened(name, why) => refuse_file(alloc, name, why, errors),
+            Unread::Failed(name) => {
+                match unread_line(alloc, name) {
+                    Ok(line) => say(errors, &line),
+                    Err(_) => say(errors, b"no memory\n"),
+                }
+                3
+            }
+            Unread::NoMemory => {
+                say(errors, b"no memory\n");
+                3
+            }
+        }
+    }
+}

@@ -1,0 +1,95 @@
+// Why readings are not merged.
+
+ghost use Rattle.std.specs.Prelude.{◌≡◌, ◌≤◌, ◌++◌, false, not, length, IfOk, option_map};
+ghost use Rattle.adf_boot_blocks.specs.Refusals.{has_image_size};
+ghost use Rattle.adf_words.specs.CommandLine.{texts_of};
+ghost use Rattle.adf_names.specs.Escapes.{escaped};
+ghost use Rattle.adf_merge_cmd.specs.Answers.{differ_in_type, first_refused, reading_refusal, reading_refusal_text};
+
+use adf_boot_blocks::{BootRefusal, begins_with_dos, image_refusal};
+use adf_readings::Reading;
+use adf_texts::push_escaped;
+use std::alloc::{AllocError, Global};
+
+/// Why a reading is not merged with the first one.
+#[derive(Clone, Copy, Debug, PartialEq, Eq)]
+pub enum ReadingRefusal {
+    /// It is not whole blocks, or has fewer than four, or more than the largest volume.
+    BadSize,
+    OtherSize,
+    OtherType,
+}
+
+impl ReadingRefusal {
+    // What is said behind the name.
+    fn text(self) -> &'static str
+        ensures { result.now ≡ reading_refusal_text self }
+    {
+        match self {
+            ReadingRefusal::BadSize => ": bad size\n",
+            ReadingRefusal::OtherSize => ": another size than the first reading\n",
+            ReadingRefusal::OtherType => ": another type than the first reading\n",
+        }
+    }
+}
+
+// Whether an image has no size of an image.
+fn has_bad_size(image: &[u8]) -> bool
+    ensures exact { result ≡ not (has_image_size image.now) }
+    ensures long { result ≡ false → 4 ≤ length image.now }
+{
+    matches!(image_refusal(image), Some(BootRefusal::BadSize))
+}
+
+// Whether both begin with `DOS`, and their types differ.
+fn differ_in_type(first: &[u8], other: &[u8]) -> bool
+    requires first { 4 ≤ length first.now }
+    requires other { 4 ≤ length other.now }
+    ensures { result ≡ differ_in_type first.now other.now }
+{
+    begins_with_dos(first) && begins_with_dos(other) && other[3] != first[3]
+}
+
+// Why a reading is not merged with the first one.
+fn reading_refusal(first: &[u8], other: &[u8]) -> Option<ReadingRefusal>
+    ensures { result ≡ reading_refusal first.now other.now }
+{
+    if has_bad_size(other) {
+        Some(ReadingRefusal::BadSize)
+    } else if other.len() != first.len() {
+        Some(ReadingRefusal::OtherSize)
+    } else if differ_in_type(first, other) {
+        Some(ReadingRefusal::OtherType)
+    } else {
+        None
+    }
+}
+
+// The line of a reading that is refused.
+fn refusal_line(alloc: Global, name: &str, why: ReadingRefusal) -> Result<Vec<u8>, AllocError>
+    ensures { IfOk result (λ line. line.items ≡ escaped name.now ++ reading_refusal_text why) }
+{
+    let mut line = Vec::new(alloc);
+    push_escaped(&mut line, name.as_bytes())?;
+    line.extend_from_slice(why.text().as_bytes())?;
+    Ok(line)
+}
+
+/// The line of the first reading that is refused, if one is.
+pub fn first_refused(
+    alloc: Global,
+    first: &[u8],
+    names: &[&str],
+    readings: &[Reading],
+) -> Result<Option<Vec<u8>>, AllocError>
+    requires { length names.now ≡ length readings.now }
+    ensures { IfOk result (λ line. option_map (λ l. l.items) line
+        ≡ first_refused first.now (texts_of names.now) readings.now) }
+{
+    for i in 0..readings.len() {
+        if let Some(why) = reading_refusal(first, readings[i].bytes()) {
+            return Ok(Some(refusal_line(alloc, names[i], why)?));
+        }
+    }
+    Ok(None)
+}

@@ -1,0 +1,43 @@
+// The whole command.
+
+ghost use Rattle.std.specs.Prelude.{◌≡◌, false};
+ghost use Rattle.adf_file_runs.specs.FileRuns.{known_files};
+ghost use Rattle.adf_runs.specs.Streams.{seen};
+ghost use Rattle.adf_words.specs.CommandLine.{texts_of};
+ghost use Rattle.adf_merge_cmd.specs.{Answers.MergeEnds, MergeLine.AreRefusedByMerge};
+
+use crate::line::{MERGE_USAGE as USAGE, parse_merge};
+use crate::merging::answer;
+use crate::names::read_names;
+use adf_file_runs::Files;
+use adf_runs::{Sink, WorkFault};
+use std::alloc::Global;
+
+/// Merges the readings that the words name; the first word is the program's name. Returns the status:
+///
+/// - 0 if the merged image is written, and nothing was left to chance;
+/// - 1 if it is written, and errors say which blocks were left to chance; or if a reading is refused, as errors say;
+/// - 2 if the words are not accepted, as errors say; nothing is read or written;
+/// - 3 if a file, output or an allocation failed, as errors say.
+pub fn run<F: Files, W: Sink, E: Sink>(
+    alloc: Global,
+    words: &[&str],
+    files: &F,
+    output: &mut W,
+    errors: &mut E,
+) -> u8
+    requires writes { W.has_failed output.old ≡ false }
+    requires tells { E.has_failed errors.old ≡ false }
+    ensures ends { MergeEnds (texts_of words.now) (known_files F.bytes_of F.may_fail F.may_open files.now) result
+        (seen W.held W.has_failed output.old output.new) (seen E.held E.has_failed errors.old errors.new) }
+    ensures untouched { AreRefusedByMerge (texts_of words.now) → output.new ≡ output.old }
+{
+    let names = match parse_merge(alloc, words) {
+        Ok(names) => names,
+        Err(fault) => return WorkFault::from(fault).refuse(USAGE, errors),
+    };
+    match read_names(alloc, files, &names) {
+        Ok(readings) => answer(alloc, &names, &readings, output).finish(errors),
+        Err(why) => why.refuse(alloc, errors),
+    }
+}

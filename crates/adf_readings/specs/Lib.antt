@@ -1,0 +1,3 @@
+-- All of it is the promise: which version of a block is taken, and what is left to chance.
+pub mod Versions
+pub mod Merge

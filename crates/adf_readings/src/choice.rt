@@ -1,0 +1,66 @@
+// Which version of a block is taken.
+
+ghost use Rattle.std.specs.Prelude.{◌≡◌, ◌≤◌, ◌<◌, ◌+◌, ◌*◌, ◌==◌, [], ◌∷◌, All, length, slice_index_or, if◌then◌else◌};
+ghost use Rattle.adf_base.specs.Words.{block};
+ghost use Rattle.adf_readings.specs.{Merge.doubt_at, Merge.versions, Versions.taken, Versions.weight};
+
+use crate::reading::Reading;
+use crate::versions::{credible_votes, is_credible, is_filled, votes};
+
+/// The most readings that are merged.
+pub const MOST_READINGS: usize = 100;
+
+// What the version of reading `i` weighs.
+fn weight(readings: &[Reading], b: u32, i: usize) -> usize
+    requires whole { All (λ r. b * 512 + 512 ≤ length r) readings.now }
+    requires few { length readings.now ≤ MOST_READINGS }
+    requires within { i < length readings.now }
+    ensures { result ≡ weight b (versions readings.now b) (block (slice_index_or readings.now i []) b) }
+{
+    let reading = &readings[i];
+    let credible = if is_credible(reading, b) {
+        2 * readings.len() + 2
+    } else {
+        0
+    };
+    let plain = if is_filled(reading, b) { 0 } else { 1 };
+    credible + (2 * votes(readings, b, reading.version(b)) + plain)
+}
+
+/// The first reading of those that have the version of block `b` that is taken.
+pub fn taken(readings: &[Reading], b: u32) -> usize
+    requires whole { All (λ r. b * 512 + 512 ≤ length r) readings.now }
+    requires some { 0 < length readings.now }
+    requires few { length readings.now ≤ MOST_READINGS }
+    ensures within { result < length readings.now }
+    ensures version { block (slice_index_or readings.now result []) b ≡ taken b (versions readings.now b) }
+{
+    if votes(readings, b, readings[0].version(b)) == readings.len() {
+        return 0;
+    }
+    let mut best = 0usize;
+    let mut most = weight(readings, b, 0);
+    for i in 1..readings.len() {
+        let next = weight(readings, b, i);
+        if most < next {
+            best = i;
+            most = next;
+        }
+    }
+    best
+}
+
+/// How many readings have another version of block `b` than the one taken, that of reading `i`; 0 if nothing is left to chance.
+pub fn doubtful(readings: &[Reading], b: u32, i: usize) -> u32
+    requires whole { All (λ r. b * 512 + 512 ≤ length r) readings.now }
+    requires few { length readings.now ≤ MOST_READINGS }
+    requires within { i < length readings.now }
+    requires taken { block (slice_index_or readings.now i []) b ≡ taken b (versions readings.now b) }
+    ensures { doubt_at readings.now b ≡ (if result == 0 then [] else record { block = b; differing = result } ∷ []) }
+{
+    let votes = votes(readings, b, readings[i].version(b));
+    if votes == readings.len() || votes == credible_votes(readings, b) {
+        return 0;
+    }
+    (readings.len() - votes) as u32
+}

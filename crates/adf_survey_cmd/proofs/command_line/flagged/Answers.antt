@@ -1,0 +1,14 @@
+use Rattle.std.proofs.Common.{◌≡◌, ◌∙◌, Some, ap, codes}
+use Rattle.clap.specs.{Words.Rule, Words.rule_of, declared.builder.arg.Arg.Arg}
+use Rattle.adf_words.specs.{Arguments.flag_rule, FileArguments.file_rule}
+use Rattle.adf_survey_cmd.specs.CommandLine.{blocks_rule}
+use Rattle.adf_survey_cmd.proofs.command_line.flagged.Goals as goal
+
+pub returns : goal.returns
+returns c =
+    let named : Rule → Rule = λ r. record r { long = Some (codes "blocks") } in
+    let rule : rule_of c.long-blocks.result ≡ blocks_rule = ap rule_of c.long-blocks.ensures ∙ ap named c.new.ensures.rule in
+    let local = ap (λ (a : Arg). a.global) c.long-blocks.ensures ∙ c.new.ensures.optional.1 in
+    let one = c.with_argument-numbered.ensures.app _ blocks_rule c.bare_command.ensures rule local in
+    let two = c.with_argument-listed.ensures.app _ (flag_rule (codes "list")) one c.flag.ensures.rule c.flag.ensures.local in
+    c.with_argument.ensures.app _ file_rule two c.file_argument.ensures.rule c.file_argument.ensures.local

@@ -1,0 +1,104 @@
+-- The command line of `adf-survey`, as clap reads it, and what its matches ask for.
+use Rattle.std.specs.Prelude.{◌≡◌, ◌⊎◌, ◌≤◌, ◌||◌, ℕ, List, [], Bool, Option, Some, None, IfSome, codes, is_some, option_map, if◌then◌else◌}
+use Rattle.std.specs.{Option.option_and_then, Str.bytes_eq}
+use Rattle.clap.specs.Words.{App, Row, Rule, Text, fault_of, first_of, matches_of, new_app, new_rule, subcommand_of, with_rule, with_subcommand}
+use Rattle.adf_blocks.specs.declared.layout.TheConstants.{MOST_BLOCKS}
+use Rattle.adf_words.specs.Arguments.{bare_app, cat_app, flag_rule, has_flag, number_named}
+use Rattle.adf_words.specs.FileArguments.{file_met, file_rule}
+use Rattle.adf_survey_cmd.specs.declared.command_line.Inquiry.{Inquiry}
+use Rattle.adf_survey_cmd.specs.declared.command_line.Question.{Question, TheVariants.Report, TheVariants.List as ListAll, TheVariants.Cat, TheVariants.Rescue}
+
+-- the option --blocks N
+abbrev pub blocks_rule : Rule
+blocks_rule = record (new_rule (codes "blocks")) { long = Some (codes "blocks") }
+
+-- cat [--damaged] PATH [FILE]
+abbrev pub survey_cat_app : App
+survey_cat_app = with_rule (with_rule cat_app (flag_rule (codes "damaged"))) file_rule
+
+-- rescue [--keep-type] [FILE]
+abbrev pub survey_rescue_app : App
+survey_rescue_app = with_rule (with_rule (new_app (codes "rescue")) (flag_rule (codes "keep-type"))) file_rule
+
+-- with the option, the flag and the file
+abbrev pub flagged_survey : App
+flagged_survey = with_rule (with_rule (with_rule (bare_app (codes "adf-survey")) blocks_rule) (flag_rule (codes "list"))) file_rule
+
+-- the command line: [--blocks N], and [--list] [FILE], cat [--damaged] PATH [FILE], or rescue [--keep-type] [FILE]
+abbrev pub survey_app : App
+survey_app = with_subcommand (with_subcommand flagged_survey survey_cat_app.top) survey_rescue_app.top
+
+-- what is asked of an image: all findings; these and what is found; the bytes of a file, which is sound or may be damaged; or a new
+-- volume of all that stands, which keeps the letters of the image, or has ASCII letters
+pub data QuestionValue : Type 0 where
+  report : QuestionValue
+  list : QuestionValue
+  cat : (damaged : Bool) → Text → QuestionValue
+  rescue : (keep_type : Bool) → QuestionValue
+
+-- what a command line asks for, of the image as it is or as if it had so many blocks
+pub record InquiryValue : Type 0 where
+  pub blocks : Option ℕ
+  pub question : QuestionValue
+
+-- a question of the image as it is, or as if it had so many blocks
+abbrev pub asked : Option ℕ → QuestionValue → InquiryValue
+asked blocks question = record { blocks = blocks; question = question }
+
+-- no more blocks than the largest volume has
+abbrev pub AreFew : Option ℕ → Type 0
+AreFew blocks = IfSome blocks (λ n. n ≤ MOST_BLOCKS)
+
+-- the blocks that the matches name, if any
+abbrev pub blocks_met : List Row → Option (Option ℕ)
+blocks_met rows = elim (first_of (codes "blocks") rows) [ None ↦ Some None | Some text ↦ option_map Some (number_named MOST_BLOCKS text) ]
+
+-- what a subcommand's name and matches ask
+abbrev pub question_named : Text → List Row → Option QuestionValue
+question_named name rows =
+    if bytes_eq name (codes "cat") then option_map (cat (has_flag (codes "damaged") rows)) (first_of (codes "path") rows)
+    else (if bytes_eq name (codes "rescue") then Some (rescue (has_flag (codes "keep-type") rows)) else None)
+
+-- the flag --list or a FILE is among the matches
+abbrev pub excludes_subcommand : List Row → Bool
+excludes_subcommand rows = has_flag (codes "list") rows || is_some (first_of (codes "file") rows)
+
+-- what the matches ask, by their own rows: with no subcommand the findings; no subcommand goes with the flag, or with a file before it
+abbrev pub question_met : List Row → Option (Text × List Row) → Option QuestionValue
+question_met rows None = Some (if has_flag (codes "list") rows then list else report)
+question_met rows (Some p) = if excludes_subcommand rows then None else question_named p.0 p.1
+
+-- what the matches ask for
+abbrev pub inquiry_met : List Row → Option (Text × List Row) → Option InquiryValue
+inquiry_met rows subcommand = option_and_then (λ blocks. option_map (asked blocks) (question_met rows subcommand)) (blocks_met rows)
+
+-- what the arguments ask for, where clap takes them
+abbrev pub inquiry_of : List Text → Option InquiryValue
+inquiry_of args = inquiry_met (matches_of survey_app args) (subcommand_of survey_app args)
+
+-- the file that the arguments name, if any
+abbrev pub survey_file : List Text → Option Text
+survey_file args = file_met (matches_of survey_app args) (subcommand_of survey_app args)
+
+-- clap takes the arguments, and its matches ask for this
+abbrev pub AsksSurvey : List Text → InquiryValue → Type 0
+AsksSurvey args r = (fault_of survey_app args ≡ []) × (inquiry_of args ≡ Some r)
+
+-- the arguments ask for this, of a file or of standard input
+abbrev pub AsksSurveyOf : List Text → InquiryValue → Option Text → Type 0
+AsksSurveyOf args r file = AsksSurvey args r × (survey_file args ≡ file)
+
+-- clap refuses the arguments, or its matches lack the path, have the flag or a file before a subcommand, or have another text than a number of blocks
+abbrev pub AreRefusedBySurvey : List Text → Type 0
+AreRefusedBySurvey args = (¬ (fault_of survey_app args ≡ [])) ⊎ (inquiry_of args ≡ None)
+
+-- the value of a question as the code has it
+abbrev pub question_value : Question → QuestionValue
+question_value Report = report
+question_value ListAll = list
+question_value (Cat path damaged) = cat damaged path.now
+question_value (Rescue keep_type) = rescue keep_type
+
+-- the value of an inquiry as the code has it
+abbrev pub inquiry_value : Inquiry → InquiryValue
+inquiry_value q = asked q.blocks (question_value q.question)

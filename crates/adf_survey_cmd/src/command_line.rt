@@ -1,0 +1,320 @@
+// The arguments of `adf-survey`, by clap.
+
+ghost use Rattle.std.specs.Prelude.{◌≡◌, ◌==◌, IfOk, IfErr, IfSome, ℕ, List, [], ◌∷◌, Some, None, codes, false, true, option_map};
+ghost use Rattle.clap.specs.Words.{app_of, fault_of, found_of, matches_of, rows_of, subcommand_of, subcommand_rows_of};
+ghost use Rattle.clap.specs.declared.builder.command.Command.TheViews.{out-Command};
+ghost use Rattle.adf_words.specs.{CommandLine.ExplainsArgs, CommandLine.texts_of, FileArguments.file_meant};
+ghost use Rattle.adf_words.specs.declared.command_line.ArgsError.TheVariants.{Usage};
+ghost use Rattle.adf_survey_cmd.specs.CommandLine.{AreFew, AsksSurvey, AsksSurveyOf, AreRefusedBySurvey, blocks_met, asked, cat};
+ghost use Rattle.adf_survey_cmd.specs.CommandLine.{flagged_survey, list, inquiry_met, inquiry_value, question_met};
+ghost use Rattle.adf_survey_cmd.specs.CommandLine.{question_named, question_value, report, rescue, survey_app, survey_cat_app};
+ghost use Rattle.adf_survey_cmd.specs.CommandLine.{survey_file, survey_rescue_app};
+
+use adf_blocks::MOST_BLOCKS;
+use adf_file_runs::About;
+use adf_words::{
+    ArgsError, bare_command, cat_command, file_argument, file_met, first_text, flag, has_flag,
+    matches_of, number_named, with_argument, with_subcommand,
+};
+use clap::{Arg, ArgMatches, Command};
+use std::alloc::{AllocError, Global};
+
+/// What is said of arguments that are refused.
+pub const SURVEY_USAGE: &str =
+    "usage: adf-survey [--blocks N] [--list] [FILE]\n       adf-survey [--blocks N] cat [--damaged] PATH [FILE]\n\
+    \x20      adf-survey [--blocks N] rescue [--keep-type] [FILE]\n\
+    without a FILE the image comes on standard input; man adf-survey tells more\n";
+
+/// What the program tells of itself.
+pub const ABOUT: About = About {
+    name: "adf-survey",
+    help: "Tells all that is wrong in an image of an Amiga floppy or hard disk, and reads what is sound.\n\n\
+    usage: adf-survey [--blocks N] [--list] [FILE]\n\
+    \x20          each finding; with --list each entry that is found too\n\
+    \x20      adf-survey [--blocks N] cat [--damaged] PATH [FILE]\n\
+    \x20          a sound file; with --damaged what is left of any file\n\
+    \x20      adf-survey [--blocks N] rescue [--keep-type] [FILE] > NEW\n\
+    \x20          a new volume of all that can be kept; with --keep-type of the letters of the image\n\
+    \x20      adf-survey --help, adf-survey --version\n\n\
+    Without a FILE, or with -, the image comes on standard input. --blocks N reads it as if it had N blocks.\n\
+    man adf-survey tells more.\n",
+    waits: Some("waiting for standard input; adf-survey --help tells more\n"),
+};
+
+/// What is asked of an image.
+#[derive(Clone, Copy, Debug)]
+pub enum Question<'a> {
+    /// All findings.
+    Report,
+    /// All findings, and what is found.
+    List,
+    /// The bytes of a file by the text of its path: of a sound one, or of one that may be damaged.
+    Cat { path: &'a str, damaged: bool },
+    /// A new volume of all that stands, and whether it keeps the letters of the image, or has ASCII letters.
+    Rescue { keep_type: bool },
+}
+
+/// What a command line asks for.
+#[derive(Clone, Copy, Debug)]
+pub struct Inquiry<'a> {
+    /// As if the image had so many blocks, at most those of the largest volume; `None`: as it is.
+    pub blocks: Option<u32>,
+    pub question: Question<'a>,
+}
+
+// The command line without its subcommands.
+fn flagged<'a>(alloc: Global) -> Result<Command<'a>, AllocError>
+    ensures { IfOk result (λ c. app_of c ≡ flagged_survey) }
+{
+    let blocks = Arg::new(alloc, "blocks").long("blocks");
+    let numbered = with_argument(Ok(bare_command(alloc, "adf-survey")), blocks);
+    let listed = with_argument(numbered, flag(alloc, "list"));
+    with_argument(listed, file_argument(alloc))
+}
+
+// The command `cat [--damaged] PATH [FILE]`.
+fn survey_cat_command<'a>(alloc: Global) -> Result<Command<'a>, AllocError>
+    ensures app { IfOk result (λ c. app_of c ≡ survey_cat_app) }
+    ensures local { IfOk result (λ c. (out-Command c).has_globals ≡ false) }
+{
+    let cats = with_argument(cat_command(alloc), flag(alloc, "damaged"));
+    with_argument(cats, file_argument(alloc))
+}
+
+// The command `rescue [--keep-type] [FILE]`.
+fn survey_rescue_command<'a>(alloc: Global) -> Result<Command<'a>, AllocError>
+    ensures app { IfOk result (λ c. app_of c ≡ survey_rescue_app) }
+    ensures local { IfOk result (λ c. (out-Command c).has_globals ≡ false) }
+{
+    let rescues = with_argument(Ok(Command::new(alloc, "rescue")), flag(alloc, "keep-type"));
+    with_argument(rescues, file_argument(alloc))
+}
+
+// The command line.
+fn command<'a>(alloc: Global) -> Result<Command<'a>, AllocError>
+    ensures { IfOk result (λ c. app_of c ≡ survey_app) }
+{
+    let cats = with_subcommand(flagged(alloc), survey_cat_command(alloc));
+    with_subcommand(cats, survey_rescue_command(alloc))
+}
+
+// The blocks that the matches name, if any.
+fn blocks_in(matches: &ArgMatches<'_>) -> Option<Option<u32>>
+    ensures met { result ≡ blocks_met (rows_of (found_of matches.now)) }
+    ensures few { IfSome result AreFew }
+{
+    match first_text(matches, "blocks") {
+        Some(text) => match number_named(text, MOST_BLOCKS) {
+            Some(blocks) => Some(Some(blocks)),
+            None => None,
+        },
+        None => Some(None),
+    }
+}
+
+// What a subcommand's name and matches ask.
+fn question_named<'a>(name: &str, found: &ArgMatches<'a>) -> Option<Question<'a>>
+    ensures { option_map question_value result
+        ≡ question_named name.now (rows_of (found_of found.now)) }
+{
+    if name == "cat" {
+        match first_text(found, "path") {
+            Some(path) => Some(Question::Cat {
+                path,
+                damaged: has_flag(found, "damaged"),
+            }),
+            None => None,
+        }
+    } else if name == "rescue" {
+        Some(Question::Rescue {
+            keep_type: has_flag(found, "keep-type"),
+        })
+    } else {
+        None
+    }
+}
+
+// What the matches ask.
+fn question_in<'a>(matches: &ArgMatches<'a>) -> Option<Question<'a>>
+    ensures { option_map question_value result
+        ≡ question_met (rows_of (found_of matches.now)) (subcommand_rows_of matches.now) }
+{
+    let list = has_flag(matches, "list");
+    let excludes = list || first_text(matches, "file").is_some();
+    match matches.subcommand() {
+        Some(_) if excludes => None,
+        Some((name, found)) => question_named(name, found),
+        None if list => Some(Question::List),
+        None => Some(Question::Report),
+    }
+}
+
+// What the matches ask for.
+fn inquiry_in<'a>(matches: &ArgMatches<'a>) -> Option<Inquiry<'a>>
+    ensures met { option_map inquiry_value result
+        ≡ inquiry_met (rows_of (found_of matches.now)) (subcommand_rows_of matches.now) }
+    ensures few { IfSome result (λ inquiry. AreFew inquiry.blocks) }
+{
+    match (blocks_in(matches), question_in(matches)) {
+        (Some(blocks), Some(question)) => Some(Inquiry { blocks, question }),
+        _ => None,
+    }
+}
+
+// The matches of the arguments.
+fn survey_matches<'a>(alloc: Global, args: &'a [&str]) -> Result<ArgMatches<'a>, ArgsError>
+    ensures taken { IfOk result (λ _. fault_of survey_app (texts_of args.entry.now) ≡ []) }
+    ensures rows { IfOk result (λ matches.
+        rows_of (found_of matches) ≡ matches_of survey_app (texts_of args.entry.now)) }
+    ensures subcommand { IfOk result (λ matches.
+        subcommand_rows_of matches ≡ subcommand_of survey_app (texts_of args.entry.now)) }
+    ensures refused { IfErr result (λ fault. fault ≡ Usage
+        → ¬ (fault_of survey_app (texts_of args.entry.now) ≡ [])) }
+{
+    matches_of(command(alloc)?, args)
+}
+
+/// Reads the arguments; the first one is the program's name. `Usage` if and only if clap refuses them or its matches lack the
+/// path, have `--list` or a file before a command, or have no number of blocks; `NoMemory` if an allocation failed.
+pub fn parse_survey<'a>(alloc: Global, args: &'a [&str]) -> Result<Inquiry<'a>, ArgsError>
+    ensures ok { IfOk result (λ inquiry.
+        AsksSurvey (texts_of args.entry.now) (inquiry_value inquiry)) }
+    ensures few { IfOk result (λ inquiry. AreFew inquiry.blocks) }
+    ensures refused { IfErr result (λ fault. ExplainsArgs fault (AreRefusedBySurvey (texts_of args.entry.now))) }
+{
+    let matches = survey_matches(alloc, args)?;
+    inquiry_in(&matches).ok_or(ArgsError::Usage)
+}
+
+/// The file that the arguments name, `None` if they name none or `-`, which is standard input. `Usage` if and only if clap
+/// refuses them, `NoMemory` if an allocation failed.
+pub fn survey_file<'a>(alloc: Global, args: &'a [&str]) -> Result<Option<&'a str>, ArgsError>
+    ensures ok { IfOk result (λ file.
+        option_map (λ s. s.now) file ≡ survey_file (texts_of args.entry.now)) }
+    ensures refused { IfErr result (λ fault. ExplainsArgs fault (AreRefusedBySurvey (texts_of args.entry.now))) }
+{
+    let matches = survey_matches(alloc, args)?;
+    Ok(file_met(&matches))
+}
+
+/// The arguments of the documentation are taken with what they ask for and the file that they name, and other
+/// arguments are refused, calls for help among them.
+#[tactic(auto, unfolding(clap::proofs::OnLiterals::clap_on_literals))]
+pub fn survey_words_as_documented()
+    ensures report { AsksSurveyOf (codes "adf-survey" ∷ []) (asked None report) None }
+    ensures no_args { AsksSurveyOf [] (asked None report) None }
+    ensures list { AsksSurveyOf (codes "adf-survey" ∷ codes "--list" ∷ []) (asked None list) None }
+    ensures cat { (first : ℕ) (rest : List ℕ) → (first == 45) ≡ false
+        → AsksSurveyOf (codes "adf-survey" ∷ codes "cat" ∷ (first ∷ rest) ∷ [])
+        (asked None (cat false (first ∷ rest))) None }
+    ensures cat_any { (path : List ℕ)
+        → AsksSurveyOf (codes "adf-survey" ∷ codes "cat" ∷ codes "--" ∷ path ∷ [])
+        (asked None (cat false path)) None }
+    ensures damaged { (first : ℕ) (rest : List ℕ) → (first == 45) ≡ false
+        → AsksSurveyOf (codes "adf-survey" ∷ codes "cat" ∷ codes "--damaged" ∷ (first ∷ rest) ∷ [])
+        (asked None (cat true (first ∷ rest))) None }
+    ensures damaged_behind { (first : ℕ) (rest : List ℕ) → (first == 45) ≡ false
+        → AsksSurveyOf (codes "adf-survey" ∷ codes "cat" ∷ (first ∷ rest) ∷ codes "--damaged" ∷ [])
+        (asked None (cat true (first ∷ rest))) None }
+    ensures damaged_any { (path : List ℕ) → AsksSurveyOf
+        (codes "adf-survey" ∷ codes "cat" ∷ codes "--damaged" ∷ codes "--" ∷ path ∷ [])
+        (asked None (cat true path)) None }
+    ensures rescue { AsksSurveyOf (codes "adf-survey" ∷ codes "rescue" ∷ []) (asked None (rescue false)) None }
+    ensures blocks { AsksSurveyOf (codes "adf-survey" ∷ codes "--blocks" ∷ codes "1760" ∷ [])
+        (asked (Some 1760) report) None }
+    ensures blocks_list { AsksSurveyOf
+        (codes "adf-survey" ∷ codes "--blocks" ∷ codes "1760" ∷ codes "--list" ∷ [])
+        (asked (Some 1760) list) None }
+    ensures blocks_cat { (path : List ℕ) → AsksSurveyOf
+        (codes "adf-survey" ∷ codes "--blocks" ∷ codes "1760" ∷ codes "cat" ∷ codes "--" ∷ path ∷ [])
+        (asked (Some 1760) (cat false path)) None }
+    ensures blocks_rescue { AsksSurveyOf
+        (codes "adf-survey" ∷ codes "--blocks" ∷ codes "1760" ∷ codes "rescue" ∷ [])
+        (asked (Some 1760) (rescue false)) None }
+    ensures most_blocks { AsksSurveyOf (codes "adf-survey" ∷ codes "--blocks" ∷ codes "1048576" ∷ [])
+        (asked (Some 1048576) report) None }
+    ensures file { AsksSurveyOf (codes "adf-survey" ∷ codes "a.adf" ∷ [])
+        (asked None report) (Some (codes "a.adf")) }
+    ensures input { AsksSurveyOf (codes "adf-survey" ∷ codes "-" ∷ []) (asked None report) None }
+    ensures any_file { (file : List ℕ) → AsksSurveyOf (codes "adf-survey" ∷ codes "--" ∷ file ∷ [])
+        (asked None report) (file_meant file) }
+    ensures file_named_so { AsksSurveyOf (codes "adf-survey" ∷ codes "./cat" ∷ [])
+        (asked None report) (Some (codes "./cat")) }
+    ensures list_file { AsksSurveyOf (codes "adf-survey" ∷ codes "--list" ∷ codes "a.adf" ∷ [])
+        (asked None list) (Some (codes "a.adf")) }
+    ensures blocks_file { AsksSurveyOf
+        (codes "adf-survey" ∷ codes "--blocks" ∷ codes "1760" ∷ codes "a.adf" ∷ [])
+        (asked (Some 1760) report) (Some (codes "a.adf")) }
+    ensures cat_file { (path file : List ℕ) → AsksSurveyOf
+        (codes "adf-survey" ∷ codes "cat" ∷ codes "--" ∷ path ∷ file ∷ [])
+        (asked None (cat false path)) (file_meant file) }
+    ensures cat_plain_file { AsksSurveyOf
+        (codes "adf-survey" ∷ codes "cat" ∷ codes "c/readme" ∷ codes "a.adf" ∷ [])
+        (asked None (cat false (codes "c/readme"))) (Some (codes "a.adf")) }
+    ensures cat_input { AsksSurveyOf
+        (codes "adf-survey" ∷ codes "cat" ∷ codes "c/readme" ∷ codes "-" ∷ [])
+        (asked None (cat false (codes "c/readme"))) None }
+    ensures damaged_file { AsksSurveyOf
+        (codes "adf-survey" ∷ codes "cat" ∷ codes "--damaged" ∷ codes "a" ∷ codes "a.adf" ∷ [])
+        (asked None (cat true (codes "a"))) (Some (codes "a.adf")) }
+    ensures rescue_file { AsksSurveyOf (codes "adf-survey" ∷ codes "rescue" ∷ codes "a.adf" ∷ [])
+        (asked None (rescue false)) (Some (codes "a.adf")) }
+    ensures rescue_any { (file : List ℕ) → AsksSurveyOf
+        (codes "adf-survey" ∷ codes "rescue" ∷ codes "--" ∷ file ∷ [])
+        (asked None (rescue false)) (file_meant file) }
+    ensures keep_type { AsksSurveyOf (codes "adf-survey" ∷ codes "rescue" ∷ codes "--keep-type" ∷ [])
+        (asked None (rescue true)) None }
+    ensures keep_type_file { AsksSurveyOf
+        (codes "adf-survey" ∷ codes "rescue" ∷ codes "--keep-type" ∷ codes "a.adf" ∷ [])
+        (asked None (rescue true)) (Some (codes "a.adf")) }
+    ensures keep_type_behind { AsksSurveyOf
+        (codes "adf-survey" ∷ codes "rescue" ∷ codes "a.adf" ∷ codes "--keep-type" ∷ [])
+        (asked None (rescue true)) (Some (codes "a.adf")) }
+    ensures blocks_keep_type { AsksSurveyOf
+        (codes "adf-survey" ∷ codes "--blocks" ∷ codes "1760" ∷ codes "rescue" ∷ codes "--keep-type" ∷ [])
+        (asked (Some 1760) (rescue true)) None }
+    ensures too_many { AreRefusedBySurvey
+        (codes "adf-survey" ∷ codes "--blocks" ∷ codes "1048577" ∷ []) }
+    ensures no_number { AreRefusedBySurvey (codes "adf-survey" ∷ codes "--blocks" ∷ []) }
+    ensures bad_number { AreRefusedBySurvey
+        (codes "adf-survey" ∷ codes "--blocks" ∷ codes "+4" ∷ []) }
+    ensures no_path { AreRefusedBySurvey (codes "adf-survey" ∷ codes "cat" ∷ []) }
+    ensures dash { AreRefusedBySurvey (codes "adf-survey" ∷ codes "cat" ∷ codes "-x" ∷ []) }
+    ensures two_files { AreRefusedBySurvey
+        (codes "adf-survey" ∷ codes "cat" ∷ codes "a" ∷ codes "b" ∷ codes "c" ∷ []) }
+    ensures three_files { AreRefusedBySurvey (codes "adf-survey" ∷ codes "a" ∷ codes "b" ∷ []) }
+    ensures file_cat { AreRefusedBySurvey
+        (codes "adf-survey" ∷ codes "a.adf" ∷ codes "cat" ∷ codes "a" ∷ []) }
+    ensures file_rescue { AreRefusedBySurvey
+        (codes "adf-survey" ∷ codes "-" ∷ codes "rescue" ∷ []) }
+    ensures list_twice { AreRefusedBySurvey
+        (codes "adf-survey" ∷ codes "--list" ∷ codes "--list" ∷ []) }
+    ensures list_cat { AreRefusedBySurvey
+        (codes "adf-survey" ∷ codes "--list" ∷ codes "cat" ∷ codes "a" ∷ []) }
+    ensures list_rescue { AreRefusedBySurvey
+        (codes "adf-survey" ∷ codes "--list" ∷ codes "rescue" ∷ []) }
+    ensures rescue_two { AreRefusedBySurvey
+        (codes "adf-survey" ∷ codes "rescue" ∷ codes "a" ∷ codes "b" ∷ []) }
+    ensures cat_list { AreRefusedBySurvey
+        (codes "adf-survey" ∷ codes "cat" ∷ codes "a" ∷ codes "--list" ∷ []) }
+    ensures damaged_cat { AreRefusedBySurvey
+        (codes "adf-survey" ∷ codes "--damaged" ∷ codes "cat" ∷ codes "a" ∷ []) }
+    ensures damaged_alone { AreRefusedBySurvey (codes "adf-survey" ∷ codes "--damaged" ∷ []) }
+    ensures damaged_rescue { AreRefusedBySurvey
+        (codes "adf-survey" ∷ codes "rescue" ∷ codes "--damaged" ∷ []) }
+    ensures damaged_no_path { AreRefusedBySurvey
+        (codes "adf-survey" ∷ codes "cat" ∷ codes "--damaged" ∷ []) }
+    ensures damaged_twice { AreRefusedBySurvey
+        (codes "adf-survey" ∷ codes "cat" ∷ codes "--damaged" ∷ codes "--damaged" ∷ codes "a" ∷ []) }
+    ensures keep_type_alone { AreRefusedBySurvey (codes "adf-survey" ∷ codes "--keep-type" ∷ []) }
+    ensures keep_type_front { AreRefusedBySurvey
+        (codes "adf-survey" ∷ codes "--keep-type" ∷ codes "rescue" ∷ []) }
+    ensures keep_type_cat { AreRefusedBySurvey
+        (codes "adf-survey" ∷ codes "cat" ∷ codes "--keep-type" ∷ codes "a" ∷ []) }
+    ensures keep_type_twice { AreRefusedBySurvey
+        (codes "adf-survey" ∷ codes "rescue" ∷ codes "--keep-type" ∷ codes "--keep-type" ∷ []) }
+    ensures short_list { AreRefusedBySurvey (codes "adf-survey" ∷ codes "-l" ∷ []) }
+    ensures flag { AreRefusedBySurvey (codes "adf-survey" ∷ codes "-x" ∷ []) }
+    ensures help { AreRefusedBySurvey (codes "adf-survey" ∷ codes "--help" ∷ []) }
+    ensures version { AreRefusedBySurvey (codes "adf-survey" ∷ codes "--version" ∷ []) }
+{}
