@@ -1,6 +1,6 @@
 // `adf-merge` over files in memory.
 
-ghost use Rattle.std.specs.Prelude.{None, true, ⊤};
+ghost use Rattle.std.specs.Prelude.{◌<◌, None, true, ⊤};
 
 use crate::memory::{Came, Given, Kept};
 use adf_file_runs::{Files, Unopened};
