@@ -474,9 +474,9 @@ class Rescue:
         return places
 
     def is_given(self, survey, b):
-        """A data block is held, and of an input that is refused it does not claim to be a header. Of a second survey it is also the same
-        in the image that is rescued; and there it is of no entry that is kept, and not free by the bitmap."""
-        is_data = b < self.held and not (self.is_refused and claims(self.given, b, 2))
+        """A data block is held, and of an input that is refused it claims to be neither a header nor a directory cache. Of a second survey
+        it is also the same in the image that is rescued; and there it is of no entry that is kept, and not free by the bitmap."""
+        is_data = b < self.held and not (self.is_refused and any(claims(self.given, b, first) for first in (2, 33)))
         if not is_data or survey is self.survey:
             return is_data
         place = slice(512 * b, 512 * b + 512)

@@ -18,7 +18,7 @@ use Rattle.adf_volume.specs.{Image.name_of, Image.word_in, Made.datas_in, Types.
 use Rattle.adf_findings.specs.{Files.file_content, Files.file_in, Files.grave, SoundMarks.AreMarks, Opening.opening_in, Survey.FindingValue, Survey.IsSurvey}
 use Rattle.adf_findings.specs.Members.{owning_entry, parent_node, has_mark}
 use Rattle.adf_build.specs.Plan.{blocks_needed}
-use Rattle.adf_rescue.specs.{Claims.claims_header, Lost.is_stated_free, declared.left_out.LeftOut.LeftOut, declared.standing.Input.Input}
+use Rattle.adf_rescue.specs.{Claims.claims_other, Lost.is_stated_free, declared.left_out.LeftOut.LeftOut, declared.standing.Input.Input}
 use Rattle.adf_rescue.specs.declared.left_out.Why.{Why, TheVariants.Damaged, TheVariants.Link, TheVariants.NoRoom}
 
 -- a survey as a rescue takes it: its image and walk, and whether an entry is whole
@@ -162,9 +162,9 @@ is_of_kept_entry g b = has_mark (added_marks g.verdicts) (unwrap_or (owning_entr
 abbrev pub as_accepted : ℕ → Input
 as_accepted held = record { held = held; is_refused = false }
 
--- block b of an image may be data: the input holds it; and if the input is refused, the block does not claim to be a header
+-- block b of an image may be data: the input holds it; and if the input is refused, the block claims to be neither a header nor a directory cache
 abbrev pub is_data : Input → List ℕ → ℕ → Bool
-is_data input image b = nat_lt b input.held && not (input.is_refused && claims_header image b)
+is_data input image b = nat_lt b input.held && not (input.is_refused && claims_other image b)
 
 -- data block b of an image was given: in the image that is rescued it may be data, and is the same; and there neither an entry that is kept
 -- has it, nor does the bitmap tell that it is free

@@ -9,7 +9,7 @@ ghost use Rattle.adf_rescue.specs.Rescue.{Ground, OnBasis, added_marks, are_give
 ghost use Rattle.adf_rescue.specs.Rescue.{body_of_type, entry_headed, entry_by, is_data, is_given, is_of_kept_entry};
 ghost use Rattle.adf_rescue.specs.{Rescue.is_same_block, Salvage.are_data};
 
-use crate::claims::claims_header;
+use crate::claims::claims_other;
 use crate::left_out::Why;
 use crate::lost::is_stated_free;
 use adf_base::{BLOCK_LEN, Block, NoMemory};
@@ -99,7 +99,7 @@ fn is_of_kept_entry(before: &Survey<'_>, kept: &Vec<bool>, b: u32) -> bool
 fn is_data(input: Input, image: &[u8], b: u32) -> bool
     ensures { result ≡ is_data input image.now b }
 {
-    (b as usize) < input.held && !(input.is_refused && claims_header(image, b))
+    (b as usize) < input.held && !(input.is_refused && claims_other(image, b))
 }
 
 // Whether a data block was given, by the survey before and the marks of its entries.
