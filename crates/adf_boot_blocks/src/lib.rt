@@ -15,4 +15,4 @@ pub use crate::crc::crc_32;
 pub use crate::laws::{boot_is_no_part, boots_stay, sums_are_right};
 pub use crate::refusal::{BootRefusal, LEAST_BYTES, MOST_BYTES, copy_refusal, image_refusal};
 pub use crate::standard::STANDARD_CODE;
-pub use crate::writing::{clear, copy, install, put_boot, restore};
+pub use crate::writing::{clear, copy, install, restore};

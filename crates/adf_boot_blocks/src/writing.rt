@@ -32,9 +32,9 @@ pub fn clear(image: &mut [u8])
     put_bytes(image, 4, &[0; BOOT_LEN - 4]);
 }
 
-/// Writes the boot blocks of another image behind the type, as they stand.
+// Writes the boot blocks of another image behind the type, as they stand.
 #[tactic(auto, using(crate::proofs::Writes::other_bytes, crate::proofs::Writes::same_boot))]
-pub fn put_boot(image: &mut [u8], boot: &[u8])
+fn put_boot(image: &mut [u8], boot: &[u8])
     requires whole { BOOT_LEN ≤ length image.old }
     requires boot { BOOT_LEN ≤ length boot.now }
     ensures exact { image.new ≡ with_boot image.old boot.now }

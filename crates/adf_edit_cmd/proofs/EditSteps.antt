@@ -2,16 +2,17 @@
 use Rattle.std.proofs.Common.{◌≡◌, ◌<◌, ◌≤◌, ◌+◌, ℕ, suc, List, [], ◌∷◌, ◌++◌, take, Option, Some, None, Result, Ok, Err, length, map, drop, get_or, nat_lt}
 use Rattle.std.proofs.Common.{true, false, ap, refl, sym, subst, inl, inr, arith, ◌∙◌}
 use Rattle.std.proofs.{Math.Seq.drop-cons, Math.Seq.take-append_seam, lemmas.List.drop_all, lemmas.List.length-map}
+use Rattle.std.specs.Option.{unwrap_or}
 use Rattle.adf_blocks.specs.Sizes.{blocks}
 use Rattle.adf_boot_blocks.proofs.OtherBoots.{other_fits_by}
-use Rattle.adf_boot_blocks.specs.BootBlocks.{IsOtherBoot}
+use Rattle.adf_boot_blocks.specs.{BootBlocks.IsOtherBoot, Writing.restored}
 use Rattle.adf_build.specs.{Building.IsBuildable, Laid.volume, Plan.planned}
 use Rattle.adf_edits.specs.{Edits.EditValue, Edits.edit_value, Edits.edited, declared.edits.Edit.Edit, declared.edits.EditFault.EditFault}
 use Rattle.adf_edits.specs.Outline.{IsWithoutRoomBy, OutlineValue, outline_of}
 use Rattle.adf_base.specs.declared.hash.Letters.{Letters}
 use Rattle.adf_tree.specs.{Tree.Tree, declared.tree.AddFault.AddFault}
-use Rattle.adf_volume.specs.{Fits.Fits, Fits.FitsBy, Layout.Layout}
-use Rattle.adf_edit_cmd.specs.Edited.{IsLaidOver, IsShallow, StopsOn, StopsTree, outline_after, next_outline, with_boot_by}
+use Rattle.adf_volume.specs.{Fits.FitsBy}
+use Rattle.adf_edit_cmd.specs.Edited.{IsLaidOver, IsShallow, IsVolume, StopsOn, StopsTree, outline_after, next_outline}
 use Rattle.adf_edit_cmd.specs.Script.{ScriptValue, behind_file, behind_files, bytes_taken}
 use Rattle.adf_edit_cmd.specs.declared.stop.Stop.{Stop, TheVariants.Line, TheVariants.NoRoom}
 
@@ -84,22 +85,22 @@ file_over es i given r le h = h ∙ (ap (λ fs. behind_files (map edit_value fs)
 -- what is laid with other boot blocks is a volume of the tree
 pub laid_over : (t : Tree) (n : ℕ) (image old new : List ℕ) → IsBuildable t n → old ≡ volume t n
     → FitsBy t.letters old t (planned t n) → IsOtherBoot old new
-    → new ≡ with_boot_by t.letters old image → IsLaidOver t n image new
+    → new ≡ restored old image → IsLaidOver t n image new
 laid_over t n image old new room is fits other put = record {
   room = room;
-  bytes = put ∙ ap (λ (v : List ℕ). with_boot_by t.letters v image) is;
+  bytes = put ∙ ap (λ (v : List ℕ). restored v image) is;
   fits = other_fits_by old new other t (planned t n) fits;
 }
 
-pub stops_on : (s : ScriptValue) (given image : List ℕ) (t : Tree) (l : Layout) (n : ℕ) (stop : Stop) → Fits image t l → n ≡ blocks image
+pub stops_on : (s : ScriptValue) (given image : List ℕ) (t : Tree) (n : ℕ) (stop : Stop) → IsVolume image t → n ≡ blocks image
     → StopsTree s given t n stop → StopsOn s given image stop
-stops_on s given image t l n stop fits is h = inr (t, l, fits, subst (λ k. StopsTree s given t k stop) is h)
+stops_on s given image t n stop fits is h = inr (t, fits, subst (λ k. StopsTree s given t k stop) is h)
 
--- the tree after all edits has no room by the letters of the script
-pub room_stop : (es : List Edit) (ls : Letters) (given : List ℕ) (t : Tree) (n : ℕ) (o p : OutlineValue) (k : ℕ) (f : AddFault)
-    → IsShallow t → o ≡ outline_of t → outline_after 1 (map edit_value es) given o ≡ Ok p → k ≡ length es → IsWithoutRoomBy ls p.additions f
-    → StopsTree (record { edits = map edit_value es; letters = ls }) given t n (NoRoom (k + 1) f)
-room_stop es ls given t n o p k f shallow is made lines h =
+-- the tree after all edits has no room by the letters of the new volume
+pub room_stop : (es : List Edit) (asked : Option Letters) (given : List ℕ) (t : Tree) (n : ℕ) (o p : OutlineValue) (k : ℕ) (f : AddFault)
+    → IsShallow t → o ≡ outline_of t → outline_after 1 (map edit_value es) given o ≡ Ok p → k ≡ length es → IsWithoutRoomBy (unwrap_or asked t.letters) p.additions f
+    → StopsTree (record { edits = map edit_value es; letters = asked }) given t n (NoRoom (k + 1) f)
+room_stop es asked given t n o p k f shallow is made lines h =
     let number : k + 1 ≡ length (map edit_value es) + 1 = ap (λ m. m + 1) (lines ∙ sym (length-map es edit_value)) in
     inr (shallow, inr (p, subst (λ (q : OutlineValue). outline_after 1 (map edit_value es) given q ≡ Ok p) is made, inl (number, h)))
 

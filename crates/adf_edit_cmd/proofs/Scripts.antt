@@ -1,5 +1,5 @@
 -- The lines of a script. left is what is left of a text, es are edits.
-use Rattle.std.proofs.Common.{◌≡◌, ◌<◌, ◌≤◌, ℕ, List, [], ◌∷◌, ◌++◌, Some, None, Ok, Err, length, map, ap, refl, sym, subst, arith, append-nil, append_assoc}
+use Rattle.std.proofs.Common.{◌≡◌, ◌<◌, ◌≤◌, ℕ, List, [], ◌∷◌, ◌++◌, Some, None, Ok, Err, length, map, ap, refl, sym, subst, arith, append-nil, append_assoc, Option}
 use Rattle.std.proofs.Common.{◌∙◌}
 use Rattle.std.proofs.lemmas.List.{length-map, map-append}
 use Rattle.adf_base.specs.declared.hash.Letters.{Letters}
@@ -68,7 +68,7 @@ next_fault text left line old new (BadLine n) all is few on h =
 next_fault text left line old new NoMemory all is few on h = tt
 next_fault text left line old new _ all is few on h = absurd h
 
-pub script_read : (text left rest : List ℕ) (es : List Edit) (letters : Letters) → Continues text (map edit_value es) left
+pub script_read : (text left rest : List ℕ) (es : List Edit) (letters : Option Letters) → Continues text (map edit_value es) left
     → length es ≤ MOST_LINES → ending left ≡ Some (letters, rest) → IsScript text (record { edits = map edit_value es; letters = letters }) rest
 script_read text left rest es letters all few ends =
     let same : length (map edit_value es) ≡ length es = length-map es edit_value in

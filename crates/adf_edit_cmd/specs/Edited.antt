@@ -2,12 +2,13 @@
 use Rattle.std.specs.Prelude.{◌≡◌, ◌<◌, ◌-◌, ◌+◌, ◌⊎◌, ℕ, List, [], ◌∷◌, Some, None, Result, Ok, Err, false, length, true}
 use Rattle.adf_blocks.specs.Sizes.{blocks}
 use Rattle.adf_build.specs.{Building.IsBuildable, Building.need_of, Laid.volume, Plan.blocks_needed, Plan.planned}
-use Rattle.adf_base.specs.declared.hash.Letters.{Letters, TheVariants.Ascii, TheVariants.International}
-use Rattle.adf_boot_blocks.specs.Writing.{restored, with_boot}
+use Rattle.adf_base.specs.declared.hash.Letters.{Letters}
+use Rattle.adf_boot_blocks.specs.Writing.{restored}
 use Rattle.adf_edits.specs.{Edits.EditValue, Edits.edited, Paths.has_deep, declared.edits.EditFault.EditFault}
 use Rattle.adf_edits.specs.Outline.{IsWithoutRoomBy, OutlineValue, outline_of, tree_of_outline_by}
 use Rattle.adf_tree.specs.{Additions.AllHaveRoomBy, Tree.Tree}
-use Rattle.adf_volume.specs.{Fits.Fits, Fits.FitsBy, Layout.Layout, Walk.FirstFault}
+use Rattle.adf_volume.specs.{Fits.FitsBy, Layout.Layout, Types.letters_for, Walk.FirstFaultBy, declared.types.Types.TheVariants.WithInternational}
+use Rattle.std.specs.Option.{unwrap_or}
 use Rattle.adf_edit_cmd.specs.{Script.IsScript, Script.IsScriptFault, Script.ScriptValue, Script.behind_file, Script.behind_files, declared.stop.Stop.Stop}
 use Rattle.adf_edit_cmd.specs.declared.stop.Stop.TheVariants.{Short, Image, TooDeep, Line, NoRoom, Full, NoMemory}
 
@@ -27,9 +28,13 @@ IsLineStop e given o n (Line m fault) = (m ≡ n) × (edited e given o ≡ Err f
 IsLineStop e given o n NoMemory = Unit {0}
 IsLineStop e given o n _ = ⊥
 
+-- an image is a volume of types 0 to 3 with this tree
+abbrev pub IsVolume : List ℕ → Tree → Type 0
+IsVolume image t = (l : Layout) × FitsBy (letters_for WithInternational image) image t l
+
 -- why an image has no tree
 abbrev pub IsImageFault : List ℕ → Stop → Type 0
-IsImageFault image (Image f) = FirstFault image f.block f.cause
+IsImageFault image (Image f) = FirstFaultBy (letters_for WithInternational image) image f.block f.cause
 IsImageFault image NoMemory = Unit {0}
 IsImageFault image _ = ⊥
 
@@ -43,16 +48,15 @@ IsDepthStop t TooDeep = has_deep (outline_of t).additions ≡ true
 IsDepthStop t NoMemory = Unit {0}
 IsDepthStop t _ = ⊥
 
--- a volume of these letters with the boot blocks of one of ASCII letters behind its own type: as they stand, but under international
--- letters, where the type is another, with a checksum that is right where theirs was
-abbrev pub with_boot_by : Letters → List ℕ → List ℕ → List ℕ
-with_boot_by Ascii = with_boot
-with_boot_by International = restored
+-- the letters of the new volume: those that the script asks for, or else those of the old one
+abbrev pub letters_after : ScriptValue → Tree → Letters
+letters_after s t = unwrap_or s.letters t.letters
 
--- the new image is that laid of the tree in n blocks, with the boot blocks of the old one, and a volume of the tree by its letters
+-- the new image is that laid of the tree in n blocks, with the boot blocks of the old one behind the type: as they stand, but where that is
+-- another, with a checksum that is right if theirs was. It is a volume of the tree by its letters
 pub record IsLaidOver (t : Tree) (n : ℕ) (image new : List ℕ) : Type 0 where
   pub room : IsBuildable t n
-  pub bytes : new ≡ with_boot_by t.letters (volume t n) image
+  pub bytes : new ≡ restored (volume t n) image
   pub fits : FitsBy t.letters new t (planned t n)
 
 -- why a tree is not laid
@@ -61,33 +65,34 @@ IsFullStop t n (Full need have) = (n - 2 < blocks_needed t n) × (need ≡ need_
 IsFullStop t n NoMemory = Unit {0}
 IsFullStop t n _ = ⊥
 
--- why the additions after edits have no tree by the letters of the script, which the line behind the edits asks for
-abbrev pub IsRoomStop : ScriptValue → OutlineValue → Stop → Type 0
-IsRoomStop s o (NoRoom n fault) = (n ≡ length s.edits + 1) × IsWithoutRoomBy s.letters o.additions fault
-IsRoomStop s o NoMemory = Unit {0}
-IsRoomStop s o _ = ⊥
+-- why the additions after edits have no tree by these letters; the line is that behind the edits
+abbrev pub IsRoomStop : Letters → ScriptValue → OutlineValue → Stop → Type 0
+IsRoomStop letters s o (NoRoom n fault) = (n ≡ length s.edits + 1) × IsWithoutRoomBy letters o.additions fault
+IsRoomStop letters s o NoMemory = Unit {0}
+IsRoomStop letters s o _ = ⊥
 
--- the new image is laid for the tree after all edits, by the letters of the script
+-- the new image is laid for the tree after all edits
 abbrev pub IsByTree : ScriptValue → List ℕ → Tree → ℕ → List ℕ → List ℕ → Type 0
 IsByTree s given t n image new =
-    IsShallow t × (o : OutlineValue) × (outline_after 1 s.edits given (outline_of t) ≡ Ok o) × AllHaveRoomBy s.letters o.additions
-    × IsLaidOver (tree_of_outline_by s.letters o) n image new
+    IsShallow t × (o : OutlineValue) × (outline_after 1 s.edits given (outline_of t) ≡ Ok o) × AllHaveRoomBy (letters_after s t) o.additions
+    × IsLaidOver (tree_of_outline_by (letters_after s t) o) n image new
 
 -- why there is none: the depth of the tree, a line, the letters, or the tree after all edits
 abbrev pub StopsTree : ScriptValue → List ℕ → Tree → ℕ → Stop → Type 0
 StopsTree s given t n stop =
     IsDepthStop t stop ⊎ (IsShallow t × ((outline_after 1 s.edits given (outline_of t) ≡ Err stop)
     ⊎ ((o : OutlineValue) × (outline_after 1 s.edits given (outline_of t) ≡ Ok o)
-    × (IsRoomStop s o stop ⊎ (AllHaveRoomBy s.letters o.additions × IsFullStop (tree_of_outline_by s.letters o) n stop)))))
+    × (IsRoomStop (letters_after s t) s o stop
+    ⊎ (AllHaveRoomBy (letters_after s t) o.additions × IsFullStop (tree_of_outline_by (letters_after s t) o) n stop)))))
 
--- the new image is laid for the tree of the image after all edits, by the letters of the script
+-- the new image is laid for the tree of the image after all edits
 abbrev pub IsByScript : ScriptValue → List ℕ → List ℕ → List ℕ → Type 0
-IsByScript s given image new = (t : Tree) × (l : Layout) × Fits image t l × IsByTree s given t (blocks image) image new
+IsByScript s given image new = (t : Tree) × IsVolume image t × IsByTree s given t (blocks image) image new
 
 -- why there is none: the image, or what the script makes of it
 abbrev pub StopsOn : ScriptValue → List ℕ → List ℕ → Stop → Type 0
 StopsOn s given image stop =
-    IsImageFault image stop ⊎ ((t : Tree) × (l : Layout) × Fits image t l × StopsTree s given t (blocks image) stop)
+    IsImageFault image stop ⊎ ((t : Tree) × IsVolume image t × StopsTree s given t (blocks image) stop)
 
 -- an input has this script, these bytes behind it, and this image behind those of its files
 pub record IsInput (input : List ℕ) (s : ScriptValue) (given image : List ℕ) : Type 0 where

@@ -7,10 +7,10 @@ use Rattle.adf_plans.specs.PlanTexts.{behind_line, first_line}
 use Rattle.adf_edit_cmd.specs.{Lines.SaysEdit, declared.script.TheConstants.MOST_LINES}
 use Rattle.adf_edit_cmd.specs.declared.stop.Stop.{Stop, TheVariants.BadLine, TheVariants.NoMemory}
 
--- a script: its edits, and the letters of the new volume
+-- a script: its edits, and the letters that it asks for
 pub record ScriptValue : Type 0 where
   pub edits : List EditValue
-  pub letters : Letters
+  pub letters : Option Letters
 
 -- the lines of these edits stand first, and `end` is left behind them
 unfoldable pub AreEdits : List ℕ → List EditValue → List ℕ → Type 0
@@ -27,12 +27,12 @@ letters_asked line =
     if bytes_eq line (codes "letters ascii") then Some Ascii
     else if bytes_eq line (codes "letters international") then Some International else None
 
--- what ends a script, where it is left: `end`, or a line that asks for letters and `end` behind it. The letters, and the bytes behind
-abbrev pub ending : List ℕ → Option (Letters × List ℕ)
+-- what ends a script, where it is left: `end`, or a line that asks for letters and `end` behind it. Its letters, and the bytes behind
+abbrev pub ending : List ℕ → Option (Option Letters × List ℕ)
 ending left =
     let next = behind_line left in
-    if is_end (first_line left) then Some (Ascii, next) else if is_end (first_line next)
-    then option_map (λ letters. (letters, behind_line next)) (letters_asked (first_line left)) else None
+    if is_end (first_line left) then Some (None, next) else if is_end (first_line next)
+    then option_map (λ letters. (Some letters, behind_line next)) (letters_asked (first_line left)) else None
 
 -- a text begins with a script, and these bytes are behind its line `end`
 pub record IsScript (text : List ℕ) (s : ScriptValue) (rest : List ℕ) : Type 0 where

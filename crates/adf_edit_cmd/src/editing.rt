@@ -4,29 +4,27 @@ ghost use Rattle.std.specs.Prelude.{◌≡◌, ◌≢◌, ◌≤◌, ◌*◌, If
 ghost use Rattle.adf_blocks.specs.Sizes.{blocks, is_allowed};
 ghost use Rattle.adf_edits.specs.{Edits.edit_value, Edits.edited, Outline.outline_of};
 ghost use Rattle.adf_tree.specs.Tree.{Tree as TreeValue};
-ghost use Rattle.adf_volume.specs.{Fits.Fits, Layout.Layout};
 ghost use Rattle.adf_edit_cmd.specs.Edited.{IsByScript, IsByTree, IsDepthStop, IsEdited, IsFullStop, IsImageFault, IsLaidOver};
-ghost use Rattle.adf_edit_cmd.specs.Edited.{IsLineStop, IsShallow, StopsInput, StopsOn, StopsTree, outline_after, with_boot_by};
-ghost use Rattle.adf_boot_blocks.specs.BootBlocks.{IsOtherBoot};
+ghost use Rattle.adf_edit_cmd.specs.Edited.{IsLineStop, IsShallow, IsVolume, StopsInput, StopsOn, StopsTree, outline_after};
 
 use crate::script::{Script, behind_file, behind_files, read_script};
 use crate::stop::Stop;
-use adf_base::Letters;
 use adf_blocks::Cause;
-use adf_boot_blocks::{put_boot, restore};
+use adf_boot_blocks::restore;
 use adf_build::{BuildFault, build};
-use adf_check::{Checked, check};
+use adf_check::{Checked, check_types};
 use adf_edits::{Edit, EditFault, Outline, OutlineFault};
 use adf_tree::{AddFault, Tree};
+use adf_volume::Types;
 use std::alloc::Global;
 
-// The volume of an image.
+// The volume of an image of types 0 to 3.
 fn volume_of<'a>(alloc: Global, image: &'a [u8]) -> Result<Checked<'a>, Stop>
     ensures image { IfOk result (λ v. v ≡ image.now) }
-    ensures fits { IfOk result (λ v. (t : TreeValue) × (l : Layout) × Fits v t l) }
+    ensures fits { IfOk result (λ v. (t : TreeValue) × IsVolume v t) }
     ensures refused { IfErr result (IsImageFault image.now) }
 {
-    match check(alloc, image) {
+    match check_types(alloc, Types::WithInternational, image) {
         Ok(volume) => Ok(volume),
         Err(fault) => match fault.cause {
             Cause::NoMemory => Err(Stop::NoMemory),
@@ -37,7 +35,7 @@ fn volume_of<'a>(alloc: Global, image: &'a [u8]) -> Result<Checked<'a>, Stop>
 
 // The tree of an image, and the number of its blocks.
 fn tree_in(alloc: Global, image: &[u8]) -> Result<(Tree, u32), Stop>
-    ensures tree { IfOk result (λ r. (l : Layout) × Fits image.now r.0 l) }
+    ensures tree { IfOk result (λ r. IsVolume image.now r.0) }
     ensures size { IfOk result (λ r. r.1 ≡ blocks image.now) }
     ensures refused { IfErr result (IsImageFault image.now) }
 {
@@ -91,20 +89,7 @@ fn edit_all(
     Ok(outline)
 }
 
-// Writes the boot blocks of an image of ASCII letters behind the type of a new one of these letters.
-fn keep_boot(new: &mut [u8], image: &[u8], letters: Letters)
-    requires whole { 1024 ≤ length new.old }
-    requires boot { 1024 ≤ length image.now }
-    ensures exact { new.new ≡ with_boot_by letters new.old image.now }
-    ensures other { IsOtherBoot new.old new.new }
-{
-    match letters {
-        Letters::Ascii => put_boot(new, image),
-        Letters::International => restore(new, image),
-    }
-}
-
-// Lays a tree in so many blocks, with the boot blocks of an image of ASCII letters behind the type.
+// Lays a tree in so many blocks, with the boot blocks of an image behind the type.
 fn lay(alloc: Global, tree: &Tree, blocks: u32, image: &[u8]) -> Result<Vec<u8>, Stop>
     requires allowed { is_allowed blocks ≡ true }
     requires boot { 1024 ≤ length image.now }
@@ -113,7 +98,7 @@ fn lay(alloc: Global, tree: &Tree, blocks: u32, image: &[u8]) -> Result<Vec<u8>,
 {
     match build(alloc, tree, blocks) {
         Ok(mut new) => {
-            keep_boot(&mut new, image, tree.letters());
+            restore(&mut new, image);
             Ok(new)
         }
         Err(BuildFault::BadSize) => unreachable!(),
@@ -150,9 +135,10 @@ fn by_tree(
     ensures stop { IfErr result (StopsTree script given.now tree.now blocks) }
 {
     let line = script.edits.len() + 1;
+    let letters = script.letters.unwrap_or(tree.letters());
     let outline = outline_of(alloc, tree)?;
     let outline = edit_all(alloc, outline, script.edits, given)?;
-    match outline.finish_by(alloc, script.letters) {
+    match outline.finish_by(alloc, letters) {
         Ok(tree) => lay(alloc, &tree, blocks, image),
         Err(AddFault::NoMemory) => Err(Stop::NoMemory),
         Err(fault) => Err(Stop::NoRoom(line, fault)),

@@ -17,11 +17,11 @@ use std::marker::Model;
 /// The most edits of a script, each a line.
 pub const MOST_LINES: usize = 1000;
 
-/// A script: its edits, and the letters of the new volume.
+/// A script: its edits, and the letters that it asks for.
 #[derive(Drop)]
 pub struct Script {
     pub edits: Vec<Edit>,
-    pub letters: Letters,
+    pub letters: Option<Letters>,
 }
 
 impl Model for Script {
@@ -54,21 +54,21 @@ fn letters_asked(line: &[u8]) -> Option<Letters>
     }
 }
 
-// The letters that the end of a script asks for, and the bytes behind it; `None` if it is not next.
-fn ending(left: &[u8]) -> Option<(Letters, &[u8])>
+// The letters that the end of a script asks for, if any, and the bytes behind it; `None` if it is not next.
+fn ending(left: &[u8]) -> Option<(Option<Letters>, &[u8])>
     ensures some { IfSome result (λ r. ending left.now ≡ Some (r.0, r.1.now)) }
     ensures none { IfNone result (ending left.now ≡ None) }
 {
     let (line, next) = cut_line(left);
     if is_end(line) {
-        return Some((Letters::Ascii, next));
+        return Some((None, next));
     }
     let (last, rest) = cut_line(next);
     if !is_end(last) {
         return None;
     }
     let letters = letters_asked(line)?;
-    Some((letters, rest))
+    Some((Some(letters), rest))
 }
 
 // Reads the next line as an edit, if the lines before it are not too many.

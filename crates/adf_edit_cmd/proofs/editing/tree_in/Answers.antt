@@ -4,7 +4,7 @@ use Rattle.adf_edit_cmd.proofs.editing.tree_in.Goals as goal
 
 pub returns-in-Ok-clause-tree : goal.returns-in-Ok-clause-tree
 returns-in-Ok-clause-tree c =
-    let (t, l, fits) = c.in_ok-volume.ensures.fits in
+    let (t, (l, fits)) = c.in_ok-volume.ensures.fits in
     (l, rw (c.in-Ok.ensures.tree _ t l fits, ← c.in_ok-volume.ensures.image) fits)
 
 pub returns-in-Ok-clause-size : goal.returns-in-Ok-clause-size
