@@ -15,8 +15,8 @@ abbrev pub type_name : ℕ → List ℕ
 type_name n =
     if n == 0 then codes "ofs"
     else (if n == 1 then codes "ffs"
-    else (if n == 2 then codes "ofs-intl"
-    else (if n == 3 then codes "ffs-intl"
+    else (if n == 2 then codes "ofs-international"
+    else (if n == 3 then codes "ffs-international"
     else (if n == 4 then codes "ofs-dc"
     else (if n == 5 then codes "ffs-dc" else codes "other")))))
 

@@ -31,8 +31,8 @@ fn type_name(number: u8) -> &'static str
     match number {
         0 => "ofs",
         1 => "ffs",
-        2 => "ofs-intl",
-        3 => "ffs-intl",
+        2 => "ofs-international",
+        3 => "ffs-international",
         4 => "ofs-dc",
         5 => "ffs-dc",
         _ => "other",

@@ -10,10 +10,10 @@ use Rattle.adf_edit_cmd.specs.declared.stop.Stop.TheVariants.{BadLine, Short, Im
 -- why no image is written
 abbrev pub stop_text : Stop → List ℕ
 stop_text (BadLine n) = decimal n ++ codes ": bad line"
-stop_text Short = codes "files end early"
-stop_text (Image fault) = fault_text fault
-stop_text TooDeep = codes "too deep"
+stop_text Short = codes "files end early: the script names more bytes than follow it"
+stop_text (Image fault) = codes "image behind the files: " ++ fault_text fault
+stop_text TooDeep = codes "image behind the files: too deep: 255 names at most"
 stop_text (Line n fault) = decimal n ++ (codes ": " ++ edit_fault_text fault)
-stop_text (NoRoom n fault) = decimal n ++ (codes ": " ++ add_fault_text fault)
+stop_text (NoRoom n fault) = decimal n ++ (codes ": by these letters: " ++ add_fault_text fault)
 stop_text (Full need have) = full_text need have
 stop_text NoMemory = codes "no memory"

@@ -37,11 +37,11 @@ impl fmt::Display for Stop {
     fn fmt<W: fmt::Write>(&self, f: &mut fmt::Formatter<W>) -> fmt::Result {
         match *self {
             Stop::BadLine(line) => write!(f, "{line}: bad line"),
-            Stop::Short => f.write_str("files end early"),
-            Stop::Image(fault) => write!(f, "{fault}"),
-            Stop::TooDeep => f.write_str("too deep"),
+            Stop::Short => f.write_str("files end early: the script names more bytes than follow it"),
+            Stop::Image(fault) => write!(f, "image behind the files: {fault}"),
+            Stop::TooDeep => f.write_str("image behind the files: too deep: 255 names at most"),
             Stop::Line(line, fault) => write!(f, "{line}: {fault}"),
-            Stop::NoRoom(line, fault) => write!(f, "{line}: {fault}"),
+            Stop::NoRoom(line, fault) => write!(f, "{line}: by these letters: {fault}"),
             Stop::Full { need, have } => write!(f, "full: need {need}, have {have}"),
             Stop::NoMemory => f.write_str("no memory"),
         }

@@ -169,11 +169,11 @@ edited edit given o = with_additions o (edited_label edit o.label) (edited_addit
 -- the text of a fault
 abbrev pub edit_fault_text : EditFault → List ℕ
 edit_fault_text NoSuchPath = codes "no such path"
-edit_fault_text NotEmpty = codes "not empty"
+edit_fault_text NotEmpty = codes "not empty: remove what is in it first"
 edit_fault_text WithinItself = codes "within itself"
 edit_fault_text EmptyPath = codes "no name"
-edit_fault_text NoParent = codes "no parent"
+edit_fault_text NoParent = codes "no parent: add the directory first"
 edit_fault_text ParentIsFile = codes "parent is file"
-edit_fault_text Exists = codes "exists"
-edit_fault_text TooDeep = codes "too deep"
+edit_fault_text Exists = codes "exists: remove it first, or take another name"
+edit_fault_text TooDeep = codes "too deep: 255 names at most"
 edit_fault_text NoMemory = codes "no memory"

@@ -74,13 +74,13 @@ impl fmt::Display for EditFault {
     fn fmt<W: fmt::Write>(&self, f: &mut fmt::Formatter<W>) -> fmt::Result {
         f.write_str(match self {
             EditFault::NoSuchPath => "no such path",
-            EditFault::NotEmpty => "not empty",
+            EditFault::NotEmpty => "not empty: remove what is in it first",
             EditFault::WithinItself => "within itself",
             EditFault::EmptyPath => "no name",
-            EditFault::NoParent => "no parent",
+            EditFault::NoParent => "no parent: add the directory first",
             EditFault::ParentIsFile => "parent is file",
-            EditFault::Exists => "exists",
-            EditFault::TooDeep => "too deep",
+            EditFault::Exists => "exists: remove it first, or take another name",
+            EditFault::TooDeep => "too deep: 255 names at most",
             EditFault::NoMemory => "no memory",
         })
     }

@@ -1,13 +1,12 @@
 -- Readings that are refused, and those that are not. Letters: first is the first reading, ns the names of the readings rs.
-use Rattle.std.proofs.Common.{◌≡◌, ◌≤◌, ◌<◌, ◌+◌, ◌/◌, ◌%◌, ◌==◌, ◌∙◌, ◌++◌, ℕ, zero, suc, Bool, true, false, not, if◌then◌else◌, List, [], ◌∷◌}
+use Rattle.std.proofs.Common.{◌≡◌, ◌≤◌, ◌<◌, ◌+◌, ◌/◌, ◌%◌, ◌==◌, ◌∙◌, ◌++◌, ℕ, suc, Bool, true, false, not, if◌then◌else◌, List, [], ◌∷◌}
 use Rattle.std.proofs.Common.{All, IfSome, Option, take, None, Some, ap, sym, refl, arith, drop, get_or, length, eqb-true, Bor}
-use Rattle.std.proofs.{lemmas.Grind.common_steps, lemmas.List.drop_all, lemmas.List.get_or-map, lemmas.List.length-map, Math.Seq.drop-cons}
+use Rattle.std.proofs.{lemmas.Grind.common_steps, lemmas.List.Elements.All-cons, lemmas.List.drop_all, lemmas.List.get_or-map, lemmas.List.length-map, Math.Seq.drop-cons}
 use Rattle.clap.specs.Words.{Text}
 use Rattle.adf_names.specs.Escapes.{escaped}
 use Rattle.adf_words.specs.CommandLine.{texts_of}
 use Rattle.adf_boot_blocks.specs.{Refusals.has_image_size, declared.refusal.TheConstants.MOST_BYTES}
 use Rattle.adf_runs.specs.Streams.{AreFirst}
-use Rattle.adf_readings.specs.Merge.{HaveBlocks}
 use Rattle.adf_merge_cmd.specs.Answers.{differ_in_type, first_refused, merge_reply, reply_unless, reading_refusal, reading_refusal_text, refused_or}
 use Rattle.adf_merge_cmd.specs.declared.refusal.ReadingRefusal.{ReadingRefusal}
 
@@ -67,40 +66,26 @@ split : (w : Option ReadingRefusal) (name : Text) (others : Option (List ℕ)) �
 split None name others e = (refl, e)
 split (Some why) name others e = absurd cc
 
-all_cons : (P : List ℕ → Type 0) (r : List ℕ) (rs : List (List ℕ)) → P r → All P rs → All P (r ∷ rs)
-all_cons P r rs p ps zero d lt = p
-all_cons P r rs p ps (suc k) d lt = ps k d (omega arith)
-
-each_taken : (first : List ℕ) (ns : List Text) (rs : List (List ℕ)) → length ns ≡ length rs → first_refused first ns rs ≡ None
-    → All (λ r. reading_refusal first r ≡ None) rs
-each_taken first [] [] long none = λ k d lt. absurd (omega arith)
-each_taken first [] (r ∷ rs) long none = absurd (omega arith)
-each_taken first (name ∷ ns) [] long none = absurd (omega arith)
-each_taken first (name ∷ ns) (r ∷ rs) long none =
-    let both = split (reading_refusal first r) name (first_refused first ns rs) (sym (one_more first name ns r rs) ∙ none) in
-    all_cons (λ x. reading_refusal first x ≡ None) r rs both.0 (each_taken first ns rs (omega arith) both.1)
-
 image_size : (r : List ℕ) → has_image_size r ≡ true → (length r % 512 ≡ 0) × (length r ≤ MOST_BYTES)
 image_size r e = grind (arith, common_steps)
 
-taken_size : (first r : List ℕ) → reading_refusal first r ≡ None → (length r % 512 ≡ 0) × (length r ≤ MOST_BYTES) × (length r ≡ length first)
+-- a reading that is not refused is whole blocks, not too many, and as long as the first one
+abbrev pub IsSized : List ℕ → List ℕ → Type 0
+IsSized first r = (length r % 512 ≡ 0) × (length r ≤ MOST_BYTES) × (length r ≡ length first)
+
+taken_size : (first r : List ℕ) → reading_refusal first r ≡ None → IsSized first r
 taken_size first r e =
     let both = sized (has_image_size r) (length r == length first) (differ_in_type first r) e in
     let size = image_size r both.0 in
     (size.0, size.1, eqb-true (length r) (length first) both.1)
 
--- readings of which none is refused have so many blocks as the first one
-pub have_blocks : (first : List ℕ) (ns : List Text) (rs : List (List ℕ)) → length ns ≡ length rs → first_refused first ns rs ≡ None
-    → HaveBlocks (length first / 512) rs
-have_blocks first ns rs long none = λ k d lt.
-    let size = taken_size first (get_or rs k d) (each_taken first ns rs long none k d lt) in
-    omega (arith, size.0, size.2)
-
-pub few_blocks : (first : List ℕ) (ns : List Text) (rs : List (List ℕ)) → length ns ≡ length rs → first_refused first ns rs ≡ None
-    → 0 < length rs → first ≡ get_or rs 0 first → length first ≤ MOST_BYTES
-few_blocks first ns rs long none some is =
-    let size = taken_size first (get_or rs 0 first) (each_taken first ns rs long none 0 first some) in
-    omega (arith, size.1, size.2)
+pub each_sized : (first : List ℕ) (ns : List Text) (rs : List (List ℕ)) → length ns ≡ length rs → first_refused first ns rs ≡ None
+    → All (IsSized first) rs
+each_sized first ns [] long none = λ k d lt. absurd (omega arith)
+each_sized first [] (r ∷ rs) long none = absurd (omega arith)
+each_sized first (name ∷ ns) (r ∷ rs) long none =
+    let both = split (reading_refusal first r) name (first_refused first ns rs) (sym (one_more first name ns r rs) ∙ none) in
+    All-cons (IsSized first) r rs (taken_size first r both.0) (each_sized first ns rs (omega arith) both.1)
 
 pub reply_is : (first : List ℕ) (ns : List Text) (rs : List (List ℕ)) → 0 < length rs → first ≡ get_or rs 0 first
     → merge_reply ns rs ≡ reply_unless (first_refused first ns rs) (length first / 512) rs

@@ -9,7 +9,7 @@ use Rattle.adf_readings.specs.{Merge.doubts, Merge.merged, declared.merging.Doub
 use Rattle.adf_runs.specs.{Commands.Reply, Commands.on_errors, Outcomes.Does, Outcomes.outcome_text, Outcomes.status_of, Streams.IsTold, Streams.Seen}
 use Rattle.adf_runs.specs.{WorkFaults.args_refused, WorkFaults.refusal_line, WorkFaults.refusal_status, declared.outcome.Outcome.Outcome}
 use Rattle.adf_file_runs.specs.{FileRuns.KnownFiles, FileRuns.unopened_line, declared.files.Unopened.Unopened}
-use Rattle.adf_merge_cmd.specs.{MergeLine.AsksMerge, MergeLine.ExplainsMergeArgs, declared.doubt_lines.Stretch.Stretch}
+use Rattle.adf_merge_cmd.specs.{CommandLine.AsksMerge, CommandLine.ExplainsMergeArgs, declared.doubt_lines.Stretch.Stretch}
 use Rattle.adf_merge_cmd.specs.declared.names.Unread.{Unread, TheVariants.Unopened as UnopenedReading, TheVariants.Failed, TheVariants.NoMemory}
 use Rattle.adf_merge_cmd.specs.declared.refusal.ReadingRefusal.{ReadingRefusal, TheVariants.BadSize, TheVariants.OtherSize, TheVariants.OtherType}
 

@@ -1,3 +1,3 @@
 -- All of it is the promise: the command line, what is said of a merge, and how a run ends.
-pub mod MergeLine
+pub mod CommandLine
 pub mod Answers

@@ -4,13 +4,13 @@ ghost use Rattle.std.specs.Prelude.{◌≡◌, false};
 ghost use Rattle.adf_file_runs.specs.FileRuns.{known_files};
 ghost use Rattle.adf_runs.specs.Streams.{seen};
 ghost use Rattle.adf_words.specs.CommandLine.{texts_of};
-ghost use Rattle.adf_merge_cmd.specs.{Answers.MergeEnds, MergeLine.AreRefusedByMerge};
+ghost use Rattle.adf_merge_cmd.specs.{Answers.MergeEnds, CommandLine.AreRefusedByMerge};
 
-use crate::line::{MERGE_USAGE as USAGE, parse_merge};
+use crate::command_line::{ABOUT, MERGE_USAGE as USAGE, parse_merge};
 use crate::merging::answer;
 use crate::names::read_names;
-use adf_file_runs::Files;
-use adf_runs::{Sink, WorkFault};
+use adf_file_runs::{About, Files, Invocation, SystemProgram};
+use adf_runs::{Sink, Source, WorkFault};
 use std::alloc::Global;
 
 /// Merges the readings that the words name; the first word is the program's name. Returns the status:
@@ -39,5 +39,26 @@ pub fn run<F: Files, W: Sink, E: Sink>(
     match read_names(alloc, files, &names) {
         Ok(readings) => answer(alloc, &names, &readings, output).finish(errors),
         Err(why) => why.refuse(alloc, errors),
+    }
+}
+
+/// The program; it reads no input.
+pub struct Merging;
+
+impl SystemProgram for Merging {
+    ghost ends = { λ words files input. MergeEnds words files };
+
+    fn about() -> About {
+        ABOUT
+    }
+
+    fn start<F: Files, R: Source, W: Sink, E: Sink>(
+        alloc: Global,
+        asked: &Invocation<'_, F>,
+        _input: &mut R,
+        output: &mut W,
+        errors: &mut E,
+    ) -> u8 {
+        run(alloc, asked.words, asked.files, output, errors)
     }
 }

@@ -5,7 +5,7 @@ use Rattle.adf_readings.specs.declared.choice.TheConstants.{MOST_READINGS}
 use Rattle.adf_runs.proofs.{Endings.does_same, PendingText.appends_nil}
 use Rattle.adf_runs.specs.{Streams.Says, WorkFaults.refusal_line, WorkFaults.refusal_status}
 use Rattle.adf_words.specs.CommandLine.{texts_of}
-use Rattle.adf_merge_cmd.specs.{Answers.AreReadings, Answers.IsUnreadAmong, Answers.merge_reply, Answers.merge_usage, MergeLine.are_enough}
+use Rattle.adf_merge_cmd.specs.{Answers.AreReadings, Answers.IsUnreadAmong, Answers.merge_reply, Answers.merge_usage, CommandLine.are_enough}
 use Rattle.adf_merge_cmd.proofs.{Refused.texts_long, Unread.as_many}
 use Rattle.adf_merge_cmd.proofs.runner.run.Goals as goal
 

@@ -1,8 +1,8 @@
 use Rattle.std.proofs.Common.{◌≡◌, ◌∙◌, Bool, Some, ap, true}
 use Rattle.clap.specs.{Simple.app_of_fields, Words.App, Words.Rule, Words.app_of, Words.rule_of, declared.builder.arg.Arg.Arg}
 use Rattle.clap.specs.declared.builder.action.ArgAction.TheVariants.{Append}
-use Rattle.adf_merge_cmd.specs.MergeLine.{bare_merge, readings_rule}
-use Rattle.adf_merge_cmd.proofs.line.command.Goals as goal
+use Rattle.adf_merge_cmd.specs.CommandLine.{bare_merge, readings_rule}
+use Rattle.adf_merge_cmd.proofs.command_line.command.Goals as goal
 
 pub returns : goal.returns
 returns c =

@@ -1,7 +1,7 @@
 use Rattle.std.proofs.Common.{◌∙◌}
 use Rattle.clap.specs.Words.{found_of}
 use Rattle.clap.proofs.WalkLemmas.{raw_values-rows}
-use Rattle.adf_merge_cmd.proofs.line.values.Goals as goal
+use Rattle.adf_merge_cmd.proofs.command_line.values.Goals as goal
 
 pub returns : goal.returns
 returns c = c.get_raw.ensures ∙ raw_values-rows (found_of c.args.found.now) c.args.id.now

@@ -3,8 +3,9 @@
 ghost use Rattle.std.specs.Prelude.{◌≡◌, IfErr, IfOk, [], ◌∷◌, codes, option_map, unwrap_or};
 ghost use Rattle.clap.specs.Words.{all_of, app_of, fault_of, found_of, matches_of, rows_of};
 ghost use Rattle.adf_words.specs.{CommandLine.texts_of, declared.command_line.ArgsError.TheVariants.Usage};
-ghost use Rattle.adf_merge_cmd.specs.MergeLine.{AreRefusedByMerge, AsksMerge, ExplainsMergeArgs, are_enough, merge_app, reading_names};
+ghost use Rattle.adf_merge_cmd.specs.CommandLine.{AreRefusedByMerge, AsksMerge, ExplainsMergeArgs, are_enough, merge_app, reading_names};
 
+use adf_file_runs::About;
 use adf_readings::MOST_READINGS;
 use adf_words::{ArgsError, matches_of, with_argument};
 use clap::{Arg, ArgAction, ArgMatches, Command};
@@ -13,6 +14,17 @@ use std::alloc::{AllocError, Global};
 /// What is said of arguments that are refused.
 pub const MERGE_USAGE: &str =
     "usage: adf-merge A B [C..] > NEW\n2 to 100 readings of one disk; man adf-merge tells more\n";
+
+/// What the program tells of itself.
+pub const ABOUT: About = About {
+    name: "adf-merge",
+    help: "Merges several readings of one disk, each with other bad blocks, into one image.\n\n\
+    usage: adf-merge A B [C..] > NEW\n\
+    \x20      adf-merge --help, adf-merge --version\n\n\
+    Each block of NEW is that of a reading. What is left to chance is said on standard error.\n\
+    man adf-merge tells more.\n",
+    waits: None,
+};
 
 // The command line. Arguments for help are refused like others, so that clap lays out no text for them.
 fn command<'a>(alloc: Global) -> Result<Command<'a>, AllocError>
