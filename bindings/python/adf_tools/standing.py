@@ -14,6 +14,7 @@ Source = Union[adf.Entry, adf.Found]
 SOUND, DAMAGED = "sound", "damaged"
 HARMLESS, FEW = {"not validated", "owned free", "international", "directory cache"}, 1000  # causes that lose no file; findings that are asked
 TELLS = {8: 1, 16: 125}  # the word that names the header of a file, by the type of its blocks: OFS data blocks, extension blocks
+HEADER, MOST_TYPE = 2, 33  # the first word of a header, and the highest of any block
 
 
 class Stood(NamedTuple):
@@ -62,30 +63,31 @@ class Standing:
         self.entries = list(self._entries())
 
     def _entries(self) -> Iterator[Stood]:
-        """The entries of the survey in its order, then those that only the rescue finds."""
+        """The entries of the survey in its order, but for those that the rescue finds elsewhere; then those that only the rescue finds."""
         why = {each.first: each.why for each in self.left_out if each.is_entry}
-        seen = set()
+        kept = {each.first for each in self.left_out if each.is_kept}
+        seen: Dict[int, int] = {}  # the numbers of entries by their headers
         for found in self.survey.entries:
             entry = None if self.volume is None else self.volume.entry_of(found)
-            if entry is None:
+            if entry is None and found.header not in kept:
                 yield Stood(found, found.header, why.get(found.header, DAMAGED))
-            else:
-                seen.add(entry.number)
+            elif entry is not None:
+                seen[found.header] = entry.number
                 is_whole = found.is_sound or found.is_file
                 yield Stood(entry, found.header, why.get(found.header, SOUND if is_whole else DAMAGED))
-        rest = [] if self.volume is None else [entry for entry in self.volume.entries if entry.number not in seen]
-        headers = self._headers_of(rest)
+        numbers = set(seen.values())
+        rest = [] if self.volume is None else [entry for entry in self.volume.entries if entry.number not in numbers]
+        headers = self._headers_of(rest, seen)
         yield from (Stood(entry, *headers.get(entry.number, (0, SOUND))) for entry in rest)
 
-    def _headers_of(self, rest: List[adf.Entry]) -> Dict[int, Tuple[int, str]]:
+    def _headers_of(self, rest: List[adf.Entry], seen: Dict[int, int]) -> Dict[int, Tuple[int, str]]:
         """The header and the mark of each entry that only the rescue finds. An entry whose name is used already, or is none, is called lost-
         and its block."""
         found: Dict[int, Tuple[int, str]] = {}
         waiting = {entry.raw_path: entry for entry in rest}
         called: Dict[bytes, List[bytes]] = {b"": [b""]}  # the paths of directories, by those that the lines tell
-        surveyed = {entry.header for entry in self.survey.entries}
         for each in self.left_out:
-            if each.is_kept and each.first not in surveyed:
+            if each.is_kept and each.first not in seen:
                 above, slash, name = each.raw_path.rpartition(b"/")
                 names = [front + slash + last for last in (b"lost-%d" % each.first, name) for front in called.get(above, [above])]
                 entry = next((waiting.pop(path) for path in names if path in waiting), None)
@@ -116,23 +118,39 @@ class Standing:
         surveyed = {entry.header for entry in self.survey.entries}
         if any(each.is_entry and not each.is_kept and each.first not in surveyed for each in self.left_out):
             return True
-        roles = self.survey.owners()  # the blocks of a file whose header's checksum is wrong are lost, and known to be of that file
+        roles = self._roles  # the blocks of a file whose header's checksum is wrong are lost, and known to be of that file
         return any(
             each.reason in (adf.Reason.HEADERS, adf.Reason.MADE) or any(not roles[block] for block in self._in_use(each)) for each in self.left_out
         )
+
+    @functools.cached_property
+    def _roles(self) -> bytes:
+        """The role of each block."""
+        return self.survey.owners()
 
     def _in_use(self, each: adf.LeftOut) -> range:
         """The blocks in use that are lost by a line; none, if it is about the boot block, or about what is behind the volume."""
         return each.blocks if each.first and each.first < len(self.survey.image) // adf.BLOCK else range(0)
 
     def _headers_told(self) -> Set[int]:
-        """The headers that are not found, but named by lost blocks: OFS data blocks and extension blocks say whose they are. A bitmap that has
-        zeros for a page tells nothing."""
+        """The headers that are not found, but that lost OFS data blocks or extension blocks name as theirs, and that were not deleted: a chain
+        leads to them, or a bitmap that is believed has them in use, and they hold no header."""
         image = self.survey.image
-        known = {stood.header for stood in self.entries} | {each.first for each in self.left_out if each.is_entry}
-        pages = [block for block, role in enumerate(self.survey.owners()) if adf.ROLES[role] == "page"]
-        if not all(first_word(image, page) for page in pages):
-            return set()
-        lost = (block for each in self.left_out for block in self._in_use(each) if first_word(image, block) in TELLS)
-        told = (words[TELLS[words[0]]] for words in map(functools.partial(words_of, image), lost) if sum(words) % 2**32 == 0)
-        return {header for header in told if 2 <= header < len(image) // adf.BLOCK} - known
+        lost = [self._in_use(each) for each in self.left_out]
+        telling = (words_of(image, block) for blocks in lost for block in blocks if first_word(image, block) in TELLS)
+        told = {words[TELLS[words[0]]] for words in telling if sum(words) % 2**32 == 0}
+        told -= {stood.header for stood in self.entries} | {each.first for each in self.left_out if each.is_entry}
+        led = {finding.first for finding in self.survey.findings[:FEW] if (finding.path or "").endswith("/")}
+        used = told.intersection(block for blocks in lost for block in blocks) if told and self._is_bitmap_believed else set()
+        return told & led | {block for block in used if first_word(image, block) != HEADER}
+
+    @property
+    def _is_bitmap_believed(self) -> bool:
+        """Whether nothing speaks against the bitmap: no page has a wrong checksum, or zeros or the first word of another block for one, and
+        nothing that is found is free, or perhaps deleted."""
+        findings, pages = self.survey.findings, [block for block, role in enumerate(self._roles) if adf.ROLES[role] == "page"]
+        if len(findings) > FEW or any(finding.cause == "owned free" for finding in findings):
+            return False
+        if any(each.reason == adf.Reason.PERHAPS_DELETED for each in self.left_out):
+            return False
+        return all(words[0] > MOST_TYPE and sum(words) % 2**32 == 0 for words in (words_of(self.survey.image, page) for page in pages))

@@ -25,6 +25,21 @@ def sealed(image, block, word=5):
     return bytes(copy)
 
 
+def with_word(image, block, place, value):
+    """The image with a word of a block, and no sum set."""
+    copy = bytearray(image)
+    struct.pack_into(">I", copy, 512 * block + 4 * place, value)
+    return bytes(copy)
+
+
+def without(image, path):
+    """The image without the header of a file in the root, and without the pointer to it."""
+    header = adf.Volume(image)[path].header
+    slot = next(place for place in range(6, 78) if struct.unpack_from(">I", image, 512 * 880 + 4 * place) == (header,))
+    cut = sealed(with_word(image, 880, slot, 0), 880)
+    return cut[: 512 * header] + bytes(512) + cut[512 * (header + 1) :]
+
+
 class Standing(Catalogues):
     """The entries of a refused image are those of its rescue."""
 
@@ -75,6 +90,26 @@ class Standing(Catalogues):
         index = Page("out/list-read-again.html").text.partition('id="images"')[2]
         self.assertLess(index.index("gone.adf"), index.index("named.adf"))
         self.assertIn(">at least 1<", index)
+
+    def test_counts_what_a_bitmap_has_in_use_only_if_nothing_speaks_against_it(self):
+        whole = volume(("a", b"x" * 1000), ("b", b"y" * 1000))
+        gone = without(whole, "a")
+        place, bit = divmod(adf.Volume(whole)["b"].header - 2, 32)
+        (word,) = struct.unpack_from(">I", gone, 512 * 881 + 4 * (1 + place))
+        written("disks/gone.adf", gone)
+        written("disks/old.adf", sealed(with_word(gone, 881, 1 + place, word | 1 << bit), 881, 0))
+        self.catalogue("disks", "out", status=1)
+        rows = self.asked("out", "SELECT name, lost, lost_least FROM images ORDER BY name")
+        self.assertEqual(rows, [("gone.adf", 1, 1), ("old.adf", 0, 1)])
+
+    def test_lists_a_file_once_that_is_found_again_elsewhere(self):
+        whole = volume(("one/f", b"x" * 10), dirs=("one", "two"))
+        header, other = (adf.Volume(whole)[path].header for path in ("one/f", "two"))
+        moved = sealed(with_word(whole, header, 125, other), header)
+        written("disks/moved.adf", with_word(moved, header, 125, adf.Volume(whole)["one"].header))
+        self.catalogue("disks", "out", status=1)
+        self.assertEqual(self.entries("moved.adf"), [("one", "sound", None), ("two", "sound", None), ("two/f", "found again", sum_of(b"x" * 10))])
+        self.assertEqual(self.asked("out", "SELECT lost FROM images"), [(0,)])
 
     def test_lists_the_worst_first(self):
         whole = volume(*((name, b"x" * 1000) for name in "abc"))
