@@ -8,7 +8,8 @@ use Rattle.adf_edits.specs.{Edits.EditValue, Edits.edited, Paths.has_deep, decla
 use Rattle.adf_edits.specs.Outline.{IsWithoutRoomBy, OutlineValue, outline_of, tree_of_outline_by}
 use Rattle.adf_tree.specs.{Additions.AllHaveRoomBy, Tree.Tree}
 use Rattle.adf_volume.specs.{Fits.Fits, Fits.FitsBy, Layout.Layout, Walk.FirstFault}
-use Rattle.adf_edit_cmd.specs.{Script.IsScript, Script.IsScriptFault, Script.ScriptValue, Script.behind_file, Script.behind_files, declared.stop.Stop.Stop}
+use Rattle.adf_edit_cmd.specs.{Script.IsScript, Script.IsScriptFault, Script.ScriptValue, Script.behind_file, Script.behind_files, Script.files_len}
+use Rattle.adf_edit_cmd.specs.declared.stop.Stop.{Stop}
 use Rattle.adf_edit_cmd.specs.declared.stop.Stop.TheVariants.{Short, Image, TooDeep, Line, NoRoom, Full, NoMemory}
 
 -- an outline goes on, or the edit of line n cannot be applied
@@ -100,7 +101,9 @@ IsEdited input new = (s : ScriptValue) × (given : List ℕ) × (image : List �
 
 -- behind the script there are fewer bytes than its files have
 abbrev pub EndsEarly : List ℕ → Stop → Type 0
-EndsEarly input stop = (s : ScriptValue) × (given : List ℕ) × IsScript input s given × (behind_files s.edits given ≡ None) × (stop ≡ Short)
+EndsEarly input stop =
+    (s : ScriptValue) × (given : List ℕ) × IsScript input s given × (behind_files s.edits given ≡ None)
+    × (stop ≡ Short (files_len s.edits) (length given))
 
 -- why there is none: the script, its files, the image, or what the script makes of it
 abbrev pub StopsInput : List ℕ → Stop → Type 0

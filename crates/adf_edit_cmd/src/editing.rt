@@ -9,7 +9,7 @@ ghost use Rattle.adf_edit_cmd.specs.Edited.{IsByScript, IsByTree, IsDepthStop, I
 ghost use Rattle.adf_edit_cmd.specs.Edited.{IsLineStop, IsShallow, StopsInput, StopsOn, StopsTree, outline_after, with_boot_by};
 ghost use Rattle.adf_boot_blocks.specs.BootBlocks.{IsOtherBoot};
 
-use crate::script::{Script, behind_file, behind_files, read_script};
+use crate::script::{Script, behind_file, behind_files, files_len, read_script};
 use crate::stop::Stop;
 use adf_base::Letters;
 use adf_blocks::Cause;
@@ -183,6 +183,9 @@ pub fn new_image(alloc: Global, input: &[u8]) -> Result<Vec<u8>, Stop>
     let (script, given) = read_script(alloc, input)?;
     match behind_files(&script.edits, given) {
         Some(image) => by_script(alloc, script, given, image),
-        None => Err(Stop::Short),
+        None => Err(Stop::Short {
+            need: files_len(&script.edits),
+            have: given.len() as u64,
+        }),
     }
 }
