@@ -90,7 +90,17 @@ const FAULTS: &[(&[u8], usize, TextKind)] = &[
         TextKind::BadLine,
     ),
     (b"disk 0 2\nend\n", 2, TextKind::TooLarge),
-    (b"disk 1 3\npartition A ofs 1\nend\n", 3, TextKind::TooLarge),
+    (b"disk 1 3\npartition A ofs 1\nend\n", 2, TextKind::BadVolume),
+    (
+        b"disk 1 3\npartition A ofs 2\npartition B ofs 1 given\npartition C ofs 1\nend\n",
+        4,
+        TextKind::BadVolume,
+    ),
+    (
+        b"disk 2 2\npartition abcdefghijklmnopqrstuvwxyz01234 ofs 1\nend\n",
+        2,
+        TextKind::LongName,
+    ),
     (
         b"disk 1048576 64\npartition A ofs 64 given\nend\n",
         3,

@@ -13,7 +13,7 @@ use Rattle.adf_base.specs.declared.hash.Letters.{Letters}
 use Rattle.adf_tree.specs.{Tree.Tree, declared.tree.AddFault.AddFault}
 use Rattle.adf_volume.specs.{Fits.FitsBy}
 use Rattle.adf_edit_cmd.specs.Edited.{IsLaidOver, IsShallow, IsVolume, StopsOn, StopsTree, outline_after, next_outline}
-use Rattle.adf_edit_cmd.specs.Script.{ScriptValue, behind_file, behind_files, bytes_taken}
+use Rattle.adf_edit_cmd.specs.Script.{ScriptValue, behind_file, behind_files, bytes_taken, files_len}
 use Rattle.adf_edit_cmd.specs.declared.stop.Stop.{Stop, TheVariants.Line, TheVariants.NoRoom}
 
 pub after_ok : (n : ℕ) (e : EditValue) (es : List EditValue) (given : List ℕ) (o p : OutlineValue) → edited e given o ≡ Ok p
@@ -81,6 +81,22 @@ file_last es i e given r lt is short h =
 pub file_over : (es : List Edit) (i : ℕ) (given : List ℕ) (r : Option (List ℕ)) → length es ≤ i
     → r ≡ behind_files (map edit_value (drop i es)) given → r ≡ Some given
 file_over es i given r le h = h ∙ (ap (λ fs. behind_files (map edit_value fs) given) (drop_all i es le) ∙ files_none given)
+
+-- how many bytes the files take from an edit on
+files_more : (e : EditValue) (es : List EditValue) → files_len (e ∷ es) ≡ bytes_taken e + files_len es
+unfolding files_len
+files_more e es = refl
+
+pub len_next : (es : List Edit) (i : ℕ) (e : Edit) → i < length es → get_or es i e ≡ e
+    → files_len (map edit_value (drop i es)) ≡ bytes_taken (edit_value e) + files_len (map edit_value (drop (i + 1) es))
+len_next es i e lt is = ap files_len (files_from es i e lt is) ∙ files_more (edit_value e) (map edit_value (drop (i + 1) es))
+
+pub len_over : (es : List Edit) (i : ℕ) → length es ≤ i → files_len (map edit_value (drop i es)) ≡ 0
+unfolding files_len
+len_over es i le = ap (λ fs. files_len (map edit_value fs)) (drop_all i es le)
+
+pub as_few : (es : List Edit) (most : ℕ) → length (map edit_value es) ≤ most → length es ≤ most
+as_few es most h = omega (arith, h, length-map es edit_value)
 
 -- what is laid with other boot blocks is a volume of the tree
 pub laid_over : (t : Tree) (n : ℕ) (image old new : List ℕ) → IsBuildable t n → old ≡ volume t n

@@ -9,7 +9,8 @@ use Rattle.adf_edits.specs.Outline.{IsWithoutRoomBy, OutlineValue, outline_of, t
 use Rattle.adf_tree.specs.{Additions.AllHaveRoomBy, Tree.Tree}
 use Rattle.adf_volume.specs.{Fits.FitsBy, Layout.Layout, Types.letters_for, Walk.FirstFaultBy, declared.types.Types.TheVariants.WithInternational}
 use Rattle.std.specs.Option.{unwrap_or}
-use Rattle.adf_edit_cmd.specs.{Script.IsScript, Script.IsScriptFault, Script.ScriptValue, Script.behind_file, Script.behind_files, declared.stop.Stop.Stop}
+use Rattle.adf_edit_cmd.specs.{Script.IsScript, Script.IsScriptFault, Script.ScriptValue, Script.behind_file, Script.behind_files, Script.files_len}
+use Rattle.adf_edit_cmd.specs.declared.stop.Stop.{Stop}
 use Rattle.adf_edit_cmd.specs.declared.stop.Stop.TheVariants.{Short, Image, TooDeep, Line, NoRoom, Full, NoMemory}
 
 -- an outline goes on, or the edit of line n cannot be applied
@@ -105,7 +106,9 @@ IsEdited input new = (s : ScriptValue) × (given : List ℕ) × (image : List �
 
 -- behind the script there are fewer bytes than its files have
 abbrev pub EndsEarly : List ℕ → Stop → Type 0
-EndsEarly input stop = (s : ScriptValue) × (given : List ℕ) × IsScript input s given × (behind_files s.edits given ≡ None) × (stop ≡ Short)
+EndsEarly input stop =
+    (s : ScriptValue) × (given : List ℕ) × IsScript input s given × (behind_files s.edits given ≡ None)
+    × (stop ≡ Short (files_len s.edits) (length given))
 
 -- why there is none: the script, its files, the image, or what the script makes of it
 abbrev pub StopsInput : List ℕ → Stop → Type 0

@@ -73,6 +73,11 @@ abbrev pub bytes_taken : EditValue → ℕ
 bytes_taken (file path size) = size
 bytes_taken _ = 0
 
+-- how many bytes the files of edits take
+unfoldable pub files_len : List EditValue → ℕ
+files_len [] = 0
+files_len (e ∷ es) = bytes_taken e + files_len es
+
 -- the bytes behind those that an edit takes
 abbrev pub behind_file : EditValue → List ℕ → List ℕ
 behind_file e given = drop (bytes_taken e) given

@@ -10,7 +10,7 @@ use Rattle.adf_edit_cmd.specs.declared.stop.Stop.TheVariants.{BadLine, Short, Im
 -- why no image is written
 abbrev pub stop_text : Stop → List ℕ
 stop_text (BadLine n) = decimal n ++ codes ": bad line"
-stop_text Short = codes "files end early: the script names more bytes than follow it"
+stop_text (Short need have) = codes "files: need " ++ (decimal need ++ (codes " bytes behind the script, have " ++ decimal have))
 stop_text (Image fault) = codes "image behind the files: " ++ fault_text fault
 stop_text TooDeep = codes "image behind the files: too deep: 255 names at most"
 stop_text (Line n fault) = decimal n ++ (codes ": " ++ edit_fault_text fault)

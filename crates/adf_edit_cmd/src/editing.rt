@@ -7,7 +7,7 @@ ghost use Rattle.adf_tree.specs.Tree.{Tree as TreeValue};
 ghost use Rattle.adf_edit_cmd.specs.Edited.{IsByScript, IsByTree, IsDepthStop, IsEdited, IsFullStop, IsImageFault, IsLaidOver};
 ghost use Rattle.adf_edit_cmd.specs.Edited.{IsLineStop, IsShallow, IsVolume, StopsInput, StopsOn, StopsTree, outline_after};
 
-use crate::script::{Script, behind_file, behind_files, read_script};
+use crate::script::{Script, behind_file, behind_files, files_len, read_script};
 use crate::stop::Stop;
 use adf_blocks::Cause;
 use adf_boot_blocks::restore;
@@ -169,6 +169,9 @@ pub fn new_image(alloc: Global, input: &[u8]) -> Result<Vec<u8>, Stop>
     let (script, given) = read_script(alloc, input)?;
     match behind_files(&script.edits, given) {
         Some(image) => by_script(alloc, script, given, image),
-        None => Err(Stop::Short),
+        None => Err(Stop::Short {
+            need: files_len(&script.edits),
+            have: given.len() as u64,
+        }),
     }
 }

@@ -1,8 +1,8 @@
 // Scripts: lines of edits, perhaps one that asks for letters, and a line `end`. Each ends in a line feed.
 
-ghost use Rattle.std.specs.Prelude.{◌≡◌, ◌≤◌, IfOk, IfErr, IfSome, IfNone, None, Some, length, map};
+ghost use Rattle.std.specs.Prelude.{◌≡◌, ◌<◌, ◌≤◌, ◌^◌, IfOk, IfErr, IfSome, IfNone, None, Some, length, map};
 ghost use Rattle.adf_edits.specs.Edits.{edit_value};
-ghost use Rattle.adf_edit_cmd.specs.Script.{IsNextRead, IsScript, IsScriptFault, behind_file, behind_files, ending, is_end};
+ghost use Rattle.adf_edit_cmd.specs.Script.{IsNextRead, IsScript, IsScriptFault, behind_file, behind_files, ending, files_len, is_end};
 ghost use Rattle.adf_edit_cmd.specs.{Script.letters_asked, Script.bytes_taken, declared.script.TheConstants.MOST_LINES};
 
 use crate::lines::read_edit;
@@ -111,12 +111,25 @@ pub fn read_script(alloc: Global, text: &[u8]) -> Result<(Script, &[u8]), Stop>
 
 // How many bytes an edit takes of those behind the script.
 fn bytes_taken(edit: &Edit) -> usize
-    ensures { result ≡ bytes_taken (edit_value edit.now) }
+    ensures exact { result ≡ bytes_taken (edit_value edit.now) }
+    ensures few { result < 2 ^ 32 }
 {
     match edit {
         Edit::File(_, size) => *size as usize,
         _ => 0,
     }
+}
+
+/// How many bytes the files of edits take.
+pub fn files_len(edits: &[Edit]) -> u64
+    requires { length edits.now ≤ MOST_LINES }
+    ensures { result ≡ files_len (map edit_value edits.now) }
+{
+    let mut len = 0;
+    for edit in edits {
+        len += bytes_taken(edit) as u64;
+    }
+    len
 }
 
 /// The bytes behind those that an edit takes; none if there are fewer.

@@ -13,7 +13,7 @@ pub enum Stop {
     /// The script's line of this number says no edit, or is one too many.
     BadLine(usize),
     /// Behind the script there are fewer bytes than its files have.
-    Short,
+    Short { need: u64, have: u64 },
     /// The image is refused.
     Image(Fault),
     /// An entry of the image is deeper than `adf_edits::MOST_DEPTH` names.
@@ -37,7 +37,9 @@ impl fmt::Display for Stop {
     fn fmt<W: fmt::Write>(&self, f: &mut fmt::Formatter<W>) -> fmt::Result {
         match *self {
             Stop::BadLine(line) => write!(f, "{line}: bad line"),
-            Stop::Short => f.write_str("files end early: the script names more bytes than follow it"),
+            Stop::Short { need, have } => {
+                write!(f, "files: need {need} bytes behind the script, have {have}")
+            }
             Stop::Image(fault) => write!(f, "image behind the files: {fault}"),
             Stop::TooDeep => f.write_str("image behind the files: too deep: 255 names at most"),
             Stop::Line(line, fault) => write!(f, "{line}: {fault}"),

@@ -2,3 +2,4 @@ pub mod Cuts
 pub mod TextLines
 pub mod OnePlan
 pub mod SomeTexts
+pub mod VolumeFaults

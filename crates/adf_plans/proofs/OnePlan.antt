@@ -1,13 +1,14 @@
 -- A text has one plan, or one fault. p, q are partitions, a, b plans, e, d what stands behind their lines.
-use Rattle.std.proofs.Common.{◌≡◌, ◌∙◌, ℕ, true, false, List, [], ◌∷◌, ap, ap₂, refl, sym, subst, inl, inr, arith}
-use Rattle.std.proofs.lemmas.Grind.{common_steps}
+use Rattle.std.proofs.Common.{◌≡◌, ◌∙◌, ℕ, true, false, List, [], ◌∷◌, None, Some, ap₂, refl, sym, subst, inl, inr, arith}
+use Rattle.std.proofs.{lemmas.Bool.and_parts, lemmas.Bool.Decides.nat_tests, lemmas.Grind.common_steps}
+use Rattle.std.specs.List.{list_all}
 use Rattle.adf_names.proofs.Spellings.{only_spelled}
-use Rattle.adf_plans.proofs.SomeTexts.{made, one_some}
-use Rattle.adf_partitions.specs.{declared.plan.PartitionPlan.PartitionPlan, Plans.PlanValue}
+use Rattle.adf_plans.proofs.{SomeTexts.made, SomeTexts.one_some, VolumeFaults.none_without}
+use Rattle.adf_partitions.specs.{declared.plan.PartitionPlan.PartitionPlan, Plans.PlanValue, Plans.cylinder_blocks}
 use Rattle.adf_plans.specs.declared.plan_text.TextFault.{TextFault}
-use Rattle.adf_plans.specs.declared.plan_text.TextKind.{TextKind, TheVariants.BadLine, TheVariants.NoEnd, TheVariants.NoMemory, TheVariants.TooLarge}
-use Rattle.adf_plans.specs.PlanTexts.{AreLines, HasLines, IsEndFault, IsPartitionLine, IsPartitionText, IsText, IsTextFault, HasNoPartition, before_byte}
-use Rattle.adf_plans.specs.PlanTexts.{behind_line, first_line, begins_with_end, is_plan, options_in}
+use Rattle.adf_plans.specs.declared.plan_text.TextKind.{TextKind}
+use Rattle.adf_plans.specs.PlanTexts.{AreLines, HasLines, IsPartitionLine, IsPartitionText, IsText, IsTextFault, HasNoPartition, before_byte}
+use Rattle.adf_plans.specs.PlanTexts.{behind_line, first_line, begins_with_end, has_size, has_volume, is_plan, options_in, plan_fault}
 
 one_partition : (text : List ℕ) (p q : PartitionPlan) → IsPartitionText text p → IsPartitionText text q → p ≡ q
 one_partition text p q h k =
@@ -40,28 +41,20 @@ no_end_in_nothing : begins_with_end [] ≡ false
 unfolding before_byte
 no_end_in_nothing = refl
 
-no_end_fault : (a : PlanValue) (e : List ℕ) (k : TextKind) → begins_with_end e ≡ true → is_plan a ≡ true → IsEndFault a e k → ⊥
-no_end_fault a e BadLine ends good h = let no = h.1 in absurd cc
-no_end_fault a e NoEnd ends good h = let no = ap begins_with_end h ∙ no_end_in_nothing in absurd cc
-no_end_fault a e TooLarge ends good h = let no = h.1 in absurd cc
-no_end_fault a e NoMemory ends good h = absurd h
+-- what ends a plan has no fault
+no_plan_fault : (a : PlanValue) (e : List ℕ) → begins_with_end e ≡ true → is_plan a ≡ true → plan_fault a e ≡ None
+no_plan_fault a [] ends good = let no = no_end_in_nothing in absurd cc
+no_plan_fault a (c ∷ cs) ends good =
+    let parts = and_parts (has_size a) (list_all (has_volume (cylinder_blocks a)) a.partitions) good in
+    let none = none_without (cylinder_blocks a) 2 a.partitions parts.1 in
+    let size = parts.0 in grind (arith, common_steps, nat_tests)
 
 pub no_text_fault : (text : List ℕ) (a : PlanValue) (c : List ℕ) (f : TextFault) → IsText text a c → IsTextFault text f → ⊥
 no_text_fault text a c f h (inl k) = k.2 a.sectors a.heads h.lines.0
-no_text_fault text a c f h (inr (b, d, lines, line, fault)) = grind (arith, common_steps, fault, one_end, no_end_fault)
-
-one_kind : (a : PlanValue) (e : List ℕ) (k j : TextKind) → IsEndFault a e k → IsEndFault a e j → k ≡ j
-one_kind a e BadLine BadLine h g = refl
-one_kind a e BadLine NoEnd h g = absurd (h.0 g)
-one_kind a e BadLine TooLarge h g = let x = h.1 in let y = g.0 in absurd cc
-one_kind a e NoEnd BadLine h g = absurd (g.0 h)
-one_kind a e NoEnd NoEnd h g = refl
-one_kind a e NoEnd TooLarge h g = let x = ap begins_with_end h ∙ no_end_in_nothing in let y = g.0 in absurd cc
-one_kind a e TooLarge BadLine h g = let x = h.0 in let y = g.1 in absurd cc
-one_kind a e TooLarge NoEnd h g = let x = ap begins_with_end g ∙ no_end_in_nothing in let y = h.0 in absurd cc
-one_kind a e TooLarge TooLarge h g = refl
-one_kind a e NoMemory j h g = absurd h
-one_kind a e k NoMemory h g = absurd g
+no_text_fault text a c f h (inr (b, d, lines, fault)) =
+    let same = one_end text a b h.end d h.lines lines in
+    let none = no_plan_fault a h.end h.ends h.good in
+    let here : plan_fault a h.end ≡ Some f = ap₂ plan_fault same.0 same.1 ∙ fault in absurd cc
 
 fault : ℕ → TextKind → TextFault
 fault line kind = record { line = line; kind = kind }
@@ -72,7 +65,7 @@ same_fault f g line kind = grind (arith, common_steps, fault, ap₂)
 
 pub one_text_fault : (text : List ℕ) (f g : TextFault) → IsTextFault text f → IsTextFault text g → f ≡ g
 one_text_fault text f g (inl h) (inl k) = same_fault f g (h.0 ∙ sym k.0) (h.1 ∙ sym k.1)
-one_text_fault text f g (inl h) (inr (b, d, lines, line, fault)) = absurd (h.2 b.sectors b.heads lines.0)
-one_text_fault text f g (inr (a, e, lines, line, fault)) (inl k) = absurd (k.2 a.sectors a.heads lines.0)
-one_text_fault text f g (inr (a, e, lines, line, fault)) (inr (b, d, others, at, other)) =
-    grind (arith, common_steps, fault, one_end, same_fault, one_kind)
+one_text_fault text f g (inl h) (inr (b, d, lines, fault)) = absurd (h.2 b.sectors b.heads lines.0)
+one_text_fault text f g (inr (a, e, lines, fault)) (inl k) = absurd (k.2 a.sectors a.heads lines.0)
+one_text_fault text f g (inr (a, e, lines, fault)) (inr (b, d, others, other)) =
+    let same = one_end text a b e d lines others in one_some _ f g fault (ap₂ plan_fault same.0 same.1 ∙ other)

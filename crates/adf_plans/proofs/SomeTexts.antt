@@ -1,5 +1,5 @@
 -- Every text has a plan, or a fault. k is how many bytes are left at most; t is a text, p a partition, ps partitions, e what is behind their lines.
-use Rattle.std.proofs.Common.{◌≡◌, ◌∙◌, ◌≤◌, ◌+◌, ◌⊎◌, ℕ, ℤ, zero, suc, Bool, true, false, List, [], ◌∷◌, Option, Some, arith, codes, inl, inr, length, refl}
+use Rattle.std.proofs.Common.{◌≡◌, ◌≢◌, ◌∙◌, ◌≤◌, ◌+◌, ◌==◌, ◌⊎◌, ℕ, ℤ, zero, suc, Bool, true, false, not, ◌&&◌, if◌then◌else◌, List, [], ◌∷◌, Option, None, Some, ap, arith, codes, inl, inr, length, refl}
 use Rattle.std.proofs.{Common.subst, Common.sym, Math.IntN.ℤ_discrete, lemmas.Int.SFits-int_wrap, lemmas.Int.int_wrap_fits}
 use Rattle.std.specs.{Prelude.FitsSigned, Int.int_wrap, Int.w8, List.list_all}
 use native.Mathlib.Decide.{dec_le, map_dec}
@@ -8,12 +8,14 @@ use Rattle.adf_base.specs.declared.hash.Letters.{Letters}
 use Rattle.adf_names.proofs.{SomeSpellings.Spells, SomeSpellings.spelt, Spellings.only_spelled}
 use Rattle.adf_names.specs.{Escapes.IsSpelling, VolumeTypes.kind_named_by, Texts.is_name_byte, declared.kind.Kind.Kind}
 use Rattle.adf_partitions.proofs.NamedPartitions.{none_or_some}
-use Rattle.adf_plans.proofs.TextLines.{line_taken}
-use Rattle.adf_partitions.specs.{declared.plan.PartitionPlan.PartitionPlan, Plans.PlanValue}
+use Rattle.adf_plans.proofs.{TextLines.line_taken, VolumeFaults.all_have}
+use Rattle.adf_partitions.specs.{declared.plan.PartitionPlan.PartitionPlan, Plans.PlanValue, Plans.cylinder_blocks}
 use Rattle.adf_plans.specs.{declared.plan_line.Options.Options, PlanTexts.options_in, PlanTexts.options_of}
 use Rattle.adf_plans.specs.declared.plan_text.TextKind.TheVariants.{BadLine, NoEnd, TooLarge}
+use Rattle.adf_plans.specs.{declared.plan_text.TextFault.TextFault, declared.plan_text.TextKind.TextKind}
 use Rattle.adf_plans.specs.PlanTexts.{AreLines, HasLines, HasPlanOrFault, IsDiskLine, IsPartitionLine, IsPartitionText, HasNoPartition, behind_line}
-use Rattle.adf_plans.specs.PlanTexts.{behind_word, ends_in_space, first_line, first_word, has_word, begins_with_end, is_plan, kind_word, decimal_number}
+use Rattle.adf_plans.specs.PlanTexts.{behind_word, ends_in_space, first_line, first_word, has_size, has_volume, has_word, begins_with_end, is_plan, kind_word, decimal_number}
+use Rattle.adf_plans.specs.PlanTexts.{first_volume_fault, plan_fault}
 
 -- whether two truth values are equal
 dec_is : (a b : Bool) → Dec (a ≡ b)
@@ -144,18 +146,33 @@ disk_line line = elim (dec_is (has_word (codes "disk") line) true) [
   ]
 ]
 
--- what is behind the lines of a plan ends it, or is a fault
+-- a plan without a fault, and what is behind its lines
+last_fault : (size : Bool) (at others : Option TextFault) → at ≢ None → (if not size then at else others) ≡ None → (size ≡ true) × (others ≡ None)
+last_fault true at others some none = (refl, none)
+last_fault false at others some none = absurd (some none)
+
+is_some : (f : TextFault) → Some f ≢ None
+is_some f e = absurd cc
+
+not_first : (empty : Bool) (at others : Option TextFault) → at ≢ None → (if empty then at else others) ≡ None → others ≡ None
+not_first true at others some none = absurd (some none)
+not_first false at others some none = none
+
+pub plan_ends : (plan : PlanValue) (e : List ℕ) → plan_fault plan e ≡ None → (begins_with_end e ≡ true) × (is_plan plan ≡ true)
+plan_ends plan e none =
+    let at : TextKind → TextFault = λ kind. record { line = length plan.partitions + 2; kind = kind } in
+    let volumes : Option TextFault = first_volume_fault (cylinder_blocks plan) 2 plan.partitions in
+    let sizes : Option TextFault = if not (has_size plan) then Some (at TooLarge) else volumes in
+    let some = not_first (length e == 0) (Some (at NoEnd)) (if not (begins_with_end e) then Some (at BadLine) else sizes) (is_some (at NoEnd)) none in
+    let ends = last_fault (begins_with_end e) (Some (at BadLine)) sizes (is_some (at BadLine)) some in
+    let size = last_fault (has_size plan) (Some (at TooLarge)) volumes (is_some (at TooLarge)) ends.1 in
+    (ends.0, ap (λ b. b && list_all (has_volume (cylinder_blocks plan)) plan.partitions) size.0 ∙ all_have (cylinder_blocks plan) 2 plan.partitions size.1)
+
 end_of_lines : (text : List ℕ) (plan : PlanValue) (e : List ℕ) → HasLines text plan e → HasPlanOrFault text
-end_of_lines text plan [] lines = inr (record { line = length plan.partitions + 2; kind = NoEnd }, inr (plan, [], lines, refl, refl))
-end_of_lines text plan (c ∷ cs) lines = elim (dec_is (begins_with_end (c ∷ cs)) true) [
-  | no bad ↦ inr (
-    record { line = length plan.partitions + 2; kind = BadLine },
-    inr (plan, c ∷ cs, lines, refl, ((λ h. absurd cc), not_true (begins_with_end (c ∷ cs)) bad)),
-  )
-  | yes ends ↦ elim (dec_is (is_plan plan) true) [
-    | yes good ↦ inl (plan, behind_line (c ∷ cs), record { end = c ∷ cs; lines = lines; ends = ends; good = good; behind = refl })
-    | no large ↦ inr (record { line = length plan.partitions + 2; kind = TooLarge }, inr (plan, c ∷ cs, lines, refl, (ends, not_true (is_plan plan) large)))
-  ]
+end_of_lines text plan e lines = elim (none_or_some (plan_fault plan e)) [
+  | inr (f, is) ↦ inr (f, inr (plan, e, lines, is))
+  | inl none ↦
+      let is = plan_ends plan e none in inl (plan, behind_line e, record { end = e; lines = lines; ends = is.0; good = is.1; behind = refl })
 ]
 
 pub some_text : (text : List ℕ) → HasPlanOrFault text

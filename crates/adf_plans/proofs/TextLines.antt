@@ -1,10 +1,9 @@
 -- The lines of a plan's text. left is what is left of a text, ps its partitions, e the text behind their lines.
-use Rattle.std.proofs.Common.{◌≡◌, ◌≢◌, ◌<◌, ◌+◌, ℕ, true, false, List, [], ◌∷◌, ◌++◌, length, ap, refl, subst, arith, append-nil, append_assoc, length-drop}
-use Rattle.std.proofs.Common.{◌==◌, All}
-use Rattle.std.proofs.{lemmas.Bool.and_parts, lemmas.Bool.leb-true, lemmas.Bool.ltb-true, lemmas.Bool.Decides.nat_tests, lemmas.Grind.common_steps}
+use Rattle.std.proofs.Common.{◌≡◌, ◌<◌, ℕ, true, List, [], ◌∷◌, ◌++◌, length, refl, subst, arith, append-nil, append_assoc, length-drop}
+use Rattle.std.proofs.Common.{All}
+use Rattle.std.proofs.{lemmas.Bool.and_parts, lemmas.Bool.leb-true, lemmas.Bool.ltb-true, lemmas.Grind.common_steps}
 use Rattle.adf_partitions.specs.{declared.plan.PartitionPlan.PartitionPlan, Plans.IsPartitionPlan, Plans.IsPlan, Plans.PlanValue}
-use Rattle.adf_plans.specs.{declared.plan_text.TextFault.TextFault, declared.plan_text.TextKind.TextKind}
-use Rattle.adf_plans.specs.PlanTexts.{AreLines, HasPartition, IsDiskLine, IsEndFault, IsTextFault, IsPartitionLine, IsPartitionText, HasNoPartition}
+use Rattle.adf_plans.specs.PlanTexts.{AreLines, HasPartition, IsPartitionLine, IsPartitionText}
 use Rattle.adf_plans.specs.PlanTexts.{before_byte, behind_byte, behind_line, first_line, is_plan}
 
 -- no line of a partition is empty
@@ -55,16 +54,3 @@ plans_of_lines left (p ∷ ps) e h = grind (arith, common_steps, first_and_other
 
 pub is_plan-tells : (plan : PlanValue) (left end : List ℕ) → AreLines left plan.partitions end → is_plan plan ≡ true → IsPlan plan
 is_plan-tells plan left end lines h = grind (arith, common_steps, and_parts, leb-true, plans_of_lines, ltb-true)
-
--- a fault behind the lines of a plan
-pub fault_behind : (text rest end : List ℕ) (plan : PlanValue) (f : TextFault) (kind : TextKind) → rest ≡ behind_line text
-    → IsDiskLine (first_line text) plan.sectors plan.heads → AreLines rest plan.partitions end → HasNoPartition end → f.line ≡ length plan.partitions + 2
-    → f.kind ≡ kind → IsEndFault plan end kind → IsTextFault text f
-fault_behind text rest end plan f kind e disk lines stops line is fault = grind (arith, common_steps)
-
-pub none_left : (xs : List ℕ) → (length xs == 0) ≡ true → xs ≡ []
-none_left [] h = refl
-none_left (x ∷ xs) h = let e : length (x ∷ xs) ≡ 0 = grind (arith, nat_tests) in absurd (omega arith)
-
-pub some_left : (xs : List ℕ) → (length xs == 0) ≡ false → xs ≢ []
-some_left xs h e = let n = ap length e in let y : (length xs == 0) ≡ true = grind (arith, nat_tests) in absurd cc

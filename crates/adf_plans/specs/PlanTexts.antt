@@ -1,20 +1,23 @@
 -- The text of a plan: lines, each ended by a line feed, of words with a space between them. `left` is what is left of a text from a
 -- line on, ps are partitions.
-use Rattle.std.specs.Prelude.{◌≡◌, ◌≢◌, ◌≤◌, ◌⊎◌, ◌+◌, ◌-◌, ◌*◌, ◌^◌, ◌==◌, ◌&&◌, ◌||◌, ℕ, ℤ, pos, neg_ℤ, nat_le, nat_lt, Bool, FitsSigned, true, false, List}
-use Rattle.std.specs.Prelude.{[], ◌∷◌, ◌++◌, codes, decimal, Option, Some, None, if◌then◌else◌, length, slice_index}
+use Rattle.std.specs.Prelude.{◌≡◌, ◌≤◌, ◌⊎◌, ◌+◌, ◌-◌, ◌*◌, ◌^◌, ◌==◌, ◌&&◌, ◌||◌, ℕ, ℤ, pos, neg_ℤ, nat_le, nat_lt, Bool, FitsSigned, true, false, List}
+use Rattle.std.specs.Prelude.{[], ◌∷◌, ◌++◌, codes, decimal, not, Option, Some, None, if◌then◌else◌, length, slice_index}
 use Rattle.std.specs.{Int.w8, List.after_first, List.before_first, List.list_all, Str.bytes_eq}
 use Rattle.adf_blocks.specs.Sizes.{is_allowed}
 use Rattle.adf_names.specs.{Escapes.IsSpelling, VolumeTypes.kind_named_by, Texts.is_name_byte}
 use Rattle.adf_partitions.specs.{declared.layout.TheConstants.MOST_PARTITIONS, declared.plan.PartitionPlan.PartitionPlan}
 use Rattle.adf_plans.specs.{declared.plan_line.Options.Options, declared.plan_text.TextFault.TextFault, declared.plan_words.TheConstants.MOST_NUMBER}
-use Rattle.adf_plans.specs.declared.plan_text.TextKind.{TextKind, TheVariants.BadLine, TheVariants.NoEnd, TheVariants.NoMemory, TheVariants.TooLarge}
+use Rattle.adf_plans.specs.declared.plan_text.TextKind.{TextKind, TheVariants.BadLine, TheVariants.BadVolume, TheVariants.LongName, TheVariants.NoEnd}
+use Rattle.adf_plans.specs.declared.plan_text.TextKind.TheVariants.{NoMemory, TooLarge}
 use Rattle.adf_partitions.specs.Plans.{PlanValue, cylinder_blocks, planned_blocks}
 
 -- what is wrong with the text of a plan
 abbrev pub text_kind_text : TextKind → List ℕ
 text_kind_text BadLine = codes "bad line"
 text_kind_text NoEnd = codes "no end"
-text_kind_text TooLarge = codes "too large"
+text_kind_text TooLarge = codes "too large, or without sectors or heads"
+text_kind_text BadVolume = codes "a new volume has an even number of blocks, 4 to 1048576"
+text_kind_text LongName = codes "the name of a new volume has 30 bytes at most"
 text_kind_text NoMemory = codes "no memory"
 
 -- the line and what is wrong
@@ -154,11 +157,30 @@ HasBegun text = (sectors : ℕ) × (heads : ℕ) × IsDiskLine (first_line text)
 abbrev pub has_volume : ℕ → PartitionPlan → Bool
 has_volume c p = p.given || (is_allowed (p.cylinders * c) && nat_le (length p.name) 30)
 
+-- why a partition has no volume
+abbrev pub volume_fault : ℕ → PartitionPlan → Option TextKind
+volume_fault c p =
+    if p.given then None
+    else (if not (is_allowed (p.cylinders * c)) then Some BadVolume else (if nat_le (length p.name) 30 then None else Some LongName))
+
+-- a fault of a line, or else what is said of the others
+abbrev pub fault_or : ℕ → Option TextKind → Option TextFault → Option TextFault
+fault_or line None others = others
+fault_or line (Some kind) others = Some (record { line = line; kind = kind })
+
+-- the line of the first partition without a volume, and why; the first partition has this line
+unfoldable pub first_volume_fault : ℕ → ℕ → List PartitionPlan → Option TextFault
+first_volume_fault c line [] = None
+first_volume_fault c line (p ∷ ps) = fault_or line (volume_fault c p) (first_volume_fault c (line + 1) ps)
+
+-- whether a disk has so many sectors, heads, partitions and blocks
+abbrev pub has_size : PlanValue → Bool
+has_size plan =
+    nat_le 1 plan.sectors && nat_le 1 plan.heads && nat_le (length plan.partitions) MOST_PARTITIONS && nat_lt (planned_blocks plan) (2 ^ 32)
+
 -- whether a disk can have this plan, and its new volumes too
 abbrev pub is_plan : PlanValue → Bool
-is_plan plan =
-    nat_le 1 plan.sectors && nat_le 1 plan.heads && nat_le (length plan.partitions) MOST_PARTITIONS && nat_lt (planned_blocks plan) (2 ^ 32)
-    && list_all (has_volume (cylinder_blocks plan)) plan.partitions
+is_plan plan = has_size plan && list_all (has_volume (cylinder_blocks plan)) plan.partitions
 
 -- a plan of these lines: `end` is the text from the line after them on
 abbrev pub HasLines : List ℕ → PlanValue → List ℕ → Type 0
@@ -177,18 +199,19 @@ pub record IsText (text : List ℕ) (plan : PlanValue) (rest : List ℕ) : Type 
   pub good : is_plan plan ≡ true
   pub behind : rest ≡ behind_line end
 
--- what is wrong behind the lines of a plan
-abbrev pub IsEndFault : PlanValue → List ℕ → TextKind → Type 0
-IsEndFault plan end NoEnd = end ≡ []
-IsEndFault plan end BadLine = (end ≢ []) × (begins_with_end end ≡ false)
-IsEndFault plan end TooLarge = (begins_with_end end ≡ true) × (is_plan plan ≡ false)
-IsEndFault plan end NoMemory = ⊥
+-- what is wrong at the line behind those of a plan, or else with the volume of a partition
+abbrev pub plan_fault : PlanValue → List ℕ → Option TextFault
+plan_fault plan end =
+    let at : TextKind → Option TextFault = λ kind. Some (record { line = length plan.partitions + 2; kind = kind }) in
+    if length end == 0 then at NoEnd
+    else (if not (begins_with_end end) then at BadLine
+    else (if not (has_size plan) then at TooLarge else first_volume_fault (cylinder_blocks plan) 2 plan.partitions))
 
--- the first line is none of a disk, or there is a fault behind the lines of a plan
+-- the first line is none of a disk, or there is a fault of a plan, or behind its lines
 abbrev pub IsTextFault : List ℕ → TextFault → Type 0
 IsTextFault text f =
     ((f.line ≡ 1) × (f.kind ≡ BadLine) × ((sectors heads : ℕ) → ¬ IsDiskLine (first_line text) sectors heads))
-    ⊎ ((plan : PlanValue) × (end : List ℕ) × HasLines text plan end × (f.line ≡ length plan.partitions + 2) × IsEndFault plan end f.kind)
+    ⊎ ((plan : PlanValue) × (end : List ℕ) × HasLines text plan end × (plan_fault plan end ≡ Some f))
 
 -- a text has one plan at most
 abbrev pub TextsHaveOnePlan : Type 0

@@ -1,12 +1,12 @@
 // The text of a plan.
 
-ghost use Rattle.std.specs.Prelude.{◌≡◌, ◌≢◌, ◌≤◌, ◌^◌, ℕ, List, IfErr, IfNone, IfOk, IfSome, OnErr, length, nat_lt, true};
-ghost use Rattle.std.specs.List.{list_all};
+ghost use Rattle.std.specs.Prelude.{◌≡◌, ◌≢◌, ◌≤◌, ◌*◌, ◌^◌, ℕ, List, IfErr, IfOk, IfSome, OnErr, length, nat_lt};
+ghost use Rattle.adf_blocks.specs.Sizes.{is_allowed};
 ghost use Rattle.adf_names.specs.VolumeTypes.{kind_text_by};
 ghost use Rattle.adf_partitions.specs.Plans.{IsPlan, cylinder_blocks, plan_value, planned_blocks, planned_type};
-ghost use Rattle.adf_plans.specs.PlanTexts.{AreLines, HasBegun, HasNoPartition, HasPartition, HasPlanOrFault, IsEndFault};
-ghost use Rattle.adf_plans.specs.PlanTexts.{IsPartitionText, IsText, IsTextFault, PlansHaveNoFault, TextsHaveOneFault};
-ghost use Rattle.adf_plans.specs.PlanTexts.{TextsHaveOnePlan, begins_with_end, has_volume, is_plan, kind_word, text_kind_text};
+ghost use Rattle.adf_plans.specs.PlanTexts.{AreLines, HasBegun, HasNoPartition, HasPartition, HasPlanOrFault, IsPartitionText};
+ghost use Rattle.adf_plans.specs.PlanTexts.{IsText, IsTextFault, PlansHaveNoFault, TextsHaveOneFault, TextsHaveOnePlan};
+ghost use Rattle.adf_plans.specs.PlanTexts.{first_volume_fault, has_size, kind_word, plan_fault, text_kind_text, volume_fault};
 ghost use Rattle.adf_partitions.specs.{declared.layout.TheConstants.MOST_PARTITIONS, declared.plan.PartitionPlan.PartitionPlan};
 ghost use Rattle.adf_plans.specs.declared.plan_text.TextKind.{TextKind};
 
@@ -24,10 +24,14 @@ pub enum TextKind {
     BadLine = 1,
     /// The text ends before a line `end`.
     NoEnd = 2,
-    /// No disk can have the plan, or a new volume cannot have the size or the label of its partition.
+    /// No disk has so many sectors, heads, partitions or blocks.
     TooLarge = 3,
     /// An allocation failed.
     NoMemory = 4,
+    /// No new volume has so many blocks.
+    BadVolume = 5,
+    /// No new volume has so long a name.
+    LongName = 6,
 }
 
 impl TextKind {
@@ -38,8 +42,10 @@ impl TextKind {
         match self {
             TextKind::BadLine => "bad line",
             TextKind::NoEnd => "no end",
-            TextKind::TooLarge => "too large",
+            TextKind::TooLarge => "too large, or without sectors or heads",
             TextKind::NoMemory => "no memory",
+            TextKind::BadVolume => "a new volume has an even number of blocks, 4 to 1048576",
+            TextKind::LongName => "the name of a new volume has 30 bytes at most",
         }
     }
 }
@@ -77,7 +83,7 @@ impl fmt::Display for TextFault {
 
 // A fault of a line.
 fn fault_at(line: usize, kind: TextKind) -> TextFault
-    ensures { (result.line ≡ line) × (result.kind ≡ kind) }
+    ensures { result ≡ record { line = line; kind = kind } }
 {
     TextFault { line, kind }
 }
@@ -101,31 +107,44 @@ fn read_lines(alloc: Global, text: &[u8]) -> Result<(Vec<PartitionPlan>, &[u8]),
     }
 }
 
-// Whether a volume of so many blocks may be made, or needs not.
-fn has_volume(partition: &PartitionPlan, cylinder: u64) -> bool
-    ensures { result ≡ has_volume cylinder partition.now }
+// Whether a new volume may have the size of a partition.
+fn is_allowed(partition: &PartitionPlan, cylinder: u64) -> bool
+    ensures { result ≡ is_allowed (partition.now.cylinders * cylinder) }
 {
-    if partition.given {
-        return true;
-    }
     match u64::from(partition.cylinders).checked_mul(cylinder) {
-        Some(blocks) => {
-            4 <= blocks
-                && blocks <= u64::from(MOST_BLOCKS)
-                && blocks % 2 == 0
-                && partition.name.bytes().len() <= 30
-        }
+        Some(blocks) => 4 <= blocks && blocks <= u64::from(MOST_BLOCKS) && blocks % 2 == 0,
         None => false,
     }
 }
 
-// Whether each of these partitions has a volume that is given or may be made.
-fn have_volumes(partitions: &[PartitionPlan], cylinder: u64) -> bool
-    ensures { result ≡ list_all (has_volume cylinder) partitions.now }
+// Why a partition has no volume, if it has none.
+fn volume_fault(partition: &PartitionPlan, cylinder: u64) -> Option<TextKind>
+    ensures exact { result ≡ volume_fault cylinder partition.now }
+    ensures memory { IfSome result (λ kind. kind ≢ TextKind.NoMemory) }
 {
-    partitions
-        .iter()
-        .all(|partition| has_volume(partition, cylinder))
+    if partition.given {
+        None
+    } else if !is_allowed(partition, cylinder) {
+        Some(TextKind::BadVolume)
+    } else if partition.name.bytes().len() <= 30 {
+        None
+    } else {
+        Some(TextKind::LongName)
+    }
+}
+
+// The first of these partitions without a volume, if there is one: its line, and why. The first partition has line 2.
+fn first_volume_fault(partitions: &[PartitionPlan], cylinder: u64) -> Option<TextFault>
+    requires { length partitions.now ≤ MOST_PARTITIONS }
+    ensures exact { result ≡ first_volume_fault cylinder 2 partitions.now }
+    ensures memory { IfSome result (λ fault. fault.kind ≢ TextKind.NoMemory) }
+{
+    for i in 0..partitions.len() {
+        if let Some(kind) = volume_fault(&partitions[i], cylinder) {
+            return Some(fault_at(i + 2, kind));
+        }
+    }
+    None
 }
 
 // Whether a disk of this plan has fewer blocks than 2^32.
@@ -149,33 +168,33 @@ fn is_small(plan: &DiskPlan, cylinder: u64) -> bool
     }
 }
 
-/// Whether a disk can have this plan, and its new volumes too.
-pub fn is_plan(plan: &DiskPlan) -> bool
-    ensures { result ≡ is_plan (plan_value plan.now) }
+// Whether a disk has so many sectors, heads, partitions and blocks.
+fn has_size(plan: &DiskPlan) -> bool
+    ensures { result ≡ has_size (plan_value plan.now) }
 {
     if plan.sectors < 1 || plan.heads < 1 || MOST_PARTITIONS < plan.partitions.len() {
         return false;
     }
-    let cylinder = u64::from(plan.heads) * u64::from(plan.sectors);
-    is_small(plan, cylinder) && have_volumes(&plan.partitions, cylinder)
+    is_small(plan, u64::from(plan.heads) * u64::from(plan.sectors))
 }
 
-// What is wrong behind the lines of a plan, if something is.
-fn end_fault(plan: &DiskPlan, end: &[u8]) -> Option<TextKind>
-    ensures some { IfSome result (λ kind. IsEndFault (plan_value plan.now) end.now kind) }
-    ensures none { IfNone result ((begins_with_end end.now ≡ true)
-        × (is_plan (plan_value plan.now) ≡ true)) }
+// What is wrong at the line behind those of a plan, or else with the volume of a partition, if something is.
+fn plan_fault(plan: &DiskPlan, end: &[u8]) -> Option<TextFault>
+    ensures exact { result ≡ plan_fault (plan_value plan.now) end.now }
+    ensures memory { IfSome result (λ fault. fault.kind ≢ TextKind.NoMemory) }
 {
     let (line, _rest) = cut_line(end);
-    if end.is_empty() {
-        Some(TextKind::NoEnd)
+    let kind = if end.is_empty() {
+        TextKind::NoEnd
     } else if line != b"end".as_slice() {
-        Some(TextKind::BadLine)
-    } else if !is_plan(plan) {
-        Some(TextKind::TooLarge)
+        TextKind::BadLine
+    } else if !has_size(plan) {
+        TextKind::TooLarge
     } else {
-        None
-    }
+        let cylinder = u64::from(plan.heads) * u64::from(plan.sectors);
+        return first_volume_fault(&plan.partitions, cylinder);
+    };
+    Some(fault_at(plan.partitions.len() + 2, kind))
 }
 
 /// Reads the text of a plan, whose lines end in a line feed, with one space between their words: a line `disk SECTORS HEADS`,
@@ -201,14 +220,13 @@ pub fn read_plan(alloc: Global, text: &[u8]) -> Result<(DiskPlan, &[u8]), TextFa
     let Ok((partitions, end)) = read_lines(alloc, rest) else {
         return Err(fault_at(0, TextKind::NoMemory));
     };
-    let number = partitions.len() + 2;
     let plan = DiskPlan {
         sectors,
         heads,
         partitions,
     };
-    match end_fault(&plan, end) {
-        Some(kind) => Err(fault_at(number, kind)),
+    match plan_fault(&plan, end) {
+        Some(fault) => Err(fault),
         None => Ok((plan, cut_line(end).1)),
     }
 }
