@@ -1,4 +1,4 @@
-"""What `adf-survey` surveys of an input, by its definition (crates/adf_survey_cmd), over bench/survey.py and bench/rescue.py."""
+"""What `adf-survey` surveys of an input, by its definition (crates/adf_subjects), over bench/survey.py and bench/rescue.py."""
 
 import sys
 

@@ -7,3 +7,5 @@ pub mod Images
 pub mod Builds
 pub mod Disks
 pub mod SurveyedImages
+-- calls over memory
+pub mod CallAnswers

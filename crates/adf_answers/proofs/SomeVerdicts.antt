@@ -20,7 +20,7 @@ use Rattle.adf_manifest.specs.declared.manifest.ManifestKind.TheVariants.{BadLin
 use Rattle.adf_manifest.proofs.Growth.{last_is, last_lines, last_well, new_item, new_lines, new_well, noted, noted_is, noted_lines, with_last, with_new}
 use Rattle.adf_manifest.proofs.{Growth.with_run, Growth.with_run_is, Growth.with_run_lines, Forms.line_same, TreesOfLines.adding_lines}
 use Rattle.adf_manifest.proofs.LastLines.{stamps_behind, with_label, with_stamps}
-use Rattle.adf_survey_cmd.proofs.SomeRescues.{dec_nil}
+use Rattle.adf_subjects.proofs.SomeRescues.{dec_nil}
 use Rattle.adf_answers.proofs.SomeForms.{dec_form, dec_volume}
 use Rattle.adf_manifest.proofs.StateLaws.{bare_lines, bare_well, filled_list, path_filled}
 

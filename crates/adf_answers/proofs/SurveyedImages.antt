@@ -14,12 +14,13 @@ use Rattle.adf_findings.proofs.{Decidability.dec_true, SomeMarks.dec_sound, Some
 use Rattle.adf_findings.proofs.SomeLookups.{dec_is_file, leads_or_not}
 use Rattle.adf_runs.specs.Commands.{Reply, bad_path, on_errors, on_output}
 use Rattle.adf_survey_cmd.specs.CommandLine.{QuestionValue, asked, cat, list, report, rescue}
-use Rattle.adf_survey_cmd.proofs.SomeRescues.{some_rescue as rescue_given}
-use Rattle.adf_survey_cmd.proofs.{SubjectBytes.subject_bytes, SubjectBytes.typed_bytes, Subjects.some_typed}
+use Rattle.adf_subjects.proofs.SomeRescues.{some_rescue as rescue_given}
+use Rattle.adf_subjects.proofs.{SubjectBytes.subject_bytes, SubjectBytes.typed_bytes, Subjects.some_typed}
 use Rattle.adf_survey_cmd.specs.Answers.{CopiesEntry, CopiesFound, CopiesFromSurvey, IsWholeFile, ListsSurvey, QuestionAnswer, Surveys, no_path_line}
-use Rattle.adf_survey_cmd.specs.{Answers.told_status, Answers.types_kept, Hints.hinted, Remains.remains_reply, Rescues.rescue_reply}
+use Rattle.adf_survey_cmd.specs.{Answers.told_status, Answers.types_kept, Hints.hinted, Remains.remains_reply}
+use Rattle.adf_subjects.specs.Rescues.{rescue_reply}
 use Rattle.adf_survey_cmd.specs.FoundLines.{has_its_data, listing_text}
-use Rattle.adf_survey_cmd.specs.Subject.{OfTyped, SubjectValue, begun_subject, sized, subject, subject_text}
+use Rattle.adf_subjects.specs.Subject.{OfTyped, SubjectValue, begun_subject, sized, subject, subject_text}
 use Rattle.adf_answers.specs.Answered.{HasSurveyAnswer}
 
 -- a question has an answer, to which the hint comes

@@ -7,7 +7,7 @@ use Rattle.adf_base.specs.Words.{block}
 use Rattle.adf_blocks.specs.declared.layout.TheConstants.{NAME}
 use Rattle.adf_volume.specs.{Image.name_of, Walk.Walk}
 use Rattle.adf_findings.specs.Survey.{FindingValue}
-use Rattle.adf_survey_cmd.specs.{declared.runs.Run.Run, Lines.runs}
+use Rattle.adf_subjects.specs.{declared.runs.Run.Run, Lines.runs}
 use Rattle.adf_memory.specs.{declared.found_tables.TableFinding.TableFinding, FoundTables.finding_row, FoundTables.finding_table, Rooms.filled}
 use Rattle.adf_memory.proofs.Filled.{filled_none}
 

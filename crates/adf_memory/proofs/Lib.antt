@@ -25,6 +25,6 @@ pub mod TableDrafts
 pub mod Refusals
 -- rescues
 pub mod PreparedRescues
-pub mod RescueReplies
+pub mod RescueSizes
 -- what is surveyed of an image
 pub mod SurveyedImages

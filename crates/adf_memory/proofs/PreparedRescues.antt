@@ -8,11 +8,11 @@ use Rattle.adf_build.specs.Laid.{volume}
 use Rattle.adf_build.proofs.{LaidWrites.CanHold, LaidWrites.volume_blocks, WholeVolume.volume_laid}
 use Rattle.adf_boot_blocks.specs.Writing.{restored}
 use Rattle.adf_boot_blocks.proofs.Restored.{other_restored}
-use Rattle.adf_survey_cmd.specs.{Answers.RescuesTyped, Losses.loss_values, Prepared.LaysFor, Prepared.Prepares, Prepared.RefusesFor, Subject.IsTyped}
-use Rattle.adf_survey_cmd.specs.{Subject.SubjectValue, Subject.sized, declared.preparing.Prepared.Prepared}
-use Rattle.adf_survey_cmd.specs.Rescues.{RescueValue, RescueValue.written, Rescues}
-use Rattle.adf_survey_cmd.specs.declared.preparing.Unrescued.{Unrescued, TheVariants.NoMemory, TheVariants.Refused}
-use Rattle.adf_survey_cmd.proofs.KeptBoots.{laid_long}
+use Rattle.adf_subjects.specs.{Rescues.RescuesTyped, Losses.loss_values, Prepared.LaysFor, Prepared.Prepares, Prepared.RefusesFor, Subject.IsTyped}
+use Rattle.adf_subjects.specs.{Subject.SubjectValue, Subject.sized, declared.preparing.Prepared.Prepared}
+use Rattle.adf_subjects.specs.Rescues.{RescueValue, RescueValue.written, Rescues}
+use Rattle.adf_subjects.specs.declared.preparing.Unrescued.{Unrescued, TheVariants.NoMemory, TheVariants.Refused}
+use Rattle.adf_subjects.proofs.KeptBoots.{laid_long}
 use Rattle.adf_memory.specs.Rescuing.{ExplainsRescue, HasRescue, IsPutOut, IsRoomRefusal, Readies, ready_table, told_volume, unrescued_refusal}
 use Rattle.adf_memory.specs.{declared.losses.TableLoss.TableLoss, declared.rescuing.Ready.Ready, declared.rescuing.RescueTold.RescueTold}
 use Rattle.adf_memory.specs.declared.rescuing.RescueRefusal.{RescueRefusal}

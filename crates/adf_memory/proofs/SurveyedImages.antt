@@ -12,14 +12,13 @@ use Rattle.adf_findings.specs.OwnKind.{retyped}
 use Rattle.adf_rescue.specs.{MadeRoot.has_root, Opened.lacks_boot, Opened.states_type, Opened.with_boot_type}
 use Rattle.adf_rescue.proofs.MadeRoots.{sized as sized_as}
 use Rattle.adf_rescue.proofs.OpenedImages.{length_begun}
-use Rattle.adf_runs.specs.Commands.{Reply}
-use Rattle.adf_survey_cmd.specs.{Hints.Hinted, Lengths.blocks_read, Lengths.other_length, Lengths.stated_length, Losses.LossValue, Losses.run_loss}
-use Rattle.adf_survey_cmd.specs.Subject.{IsTypeTold, IsTyped, OfTyped, SubjectValue, as_long, begun_subject, behind_loss, behind_text, changed, held_end, meant}
-use Rattle.adf_survey_cmd.specs.Subject.{missing_text, sized, subject, subject_read, type_line, type_word, typed_by}
-use Rattle.adf_survey_cmd.proofs.{OneAnswer.one_told, Subjects.told_either, Subjects.typed_either, SizedImages.length_sized}
+use Rattle.adf_subjects.specs.{Lengths.blocks_read, Lengths.other_length, Lengths.stated_length, Losses.LossValue, Losses.run_loss}
+use Rattle.adf_subjects.specs.Subject.{IsTypeTold, IsTyped, SubjectValue, as_long, begun_subject, behind_loss, behind_text, changed, held_end, meant}
+use Rattle.adf_subjects.specs.Subject.{missing_text, sized, subject, subject_read, type_line, type_word, typed_by}
+use Rattle.adf_subjects.proofs.{OneSubject.one_told, Subjects.told_either, Subjects.typed_either, SizedImages.length_sized}
 use Rattle.adf_memory.specs.{FoundTables.mark_number, Rescuing.asked_blocks, Rooms.filled, declared.subjects.SubjectTold.SubjectTold}
 use Rattle.adf_memory.specs.Subjects.{HasSubject, IsRetyped, blocks_lost, front_lines, of_read, surveyed_subject, subject_in}
-use Rattle.adf_survey_cmd.proofs.ReadLengths.{meant_image, read_anew}
+use Rattle.adf_subjects.proofs.ReadLengths.{meant_image, read_anew}
 use Rattle.adf_memory.proofs.TableNames.{text_there}
 
 -- a mark that is 0 is not set
@@ -302,14 +301,9 @@ module _ (n : ℕ) (input old new : List ℕ) (told : SubjectTold) (has : HasSub
       let lost = sym told_lost in
       λ i. record { image = image i; end = end i; front = front i; lost = lost i }
 
-  -- what is answered is that of the room
-  pub answers_agree : (answers : SubjectValue → Reply → Type 0) (reply : Reply)
-      → Hinted input (OfTyped (subject (asked_blocks n) input) answers) reply → Hinted input (answers (subject_in n (blocks input) new told)) reply
-  answers_agree answers reply (r, (t, typed, answer), e) = (
-    r,
-    subst (λ (u : SubjectValue). answers u r) (one_surveyed (subject (asked_blocks n) input) old new told has t typed ∙ subject_is) answer,
-    e,
-  )
+  -- what is surveyed in the end is that of the room
+  pub one_subject : (t : SubjectValue) → IsTyped (begun_subject (subject (asked_blocks n) input)) t → t ≡ subject_in n (blocks input) new told
+  one_subject t typed = one_surveyed (subject (asked_blocks n) input) old new told has t typed ∙ subject_is
 
   meant_is : (subject (asked_blocks n) input).image ≡ meant (asked_blocks n) input
   meant_is = meant_image (asked_blocks n) input

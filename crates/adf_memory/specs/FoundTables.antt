@@ -9,7 +9,7 @@ use Rattle.adf_names.specs.{declared.meta.Meta.Meta, VolumeTypes.type_number}
 use Rattle.adf_volume.specs.{Image.name_of, Walk.heads, Walk.node_block, Walk.Walk}
 use Rattle.adf_findings.specs.declared.concern.Concern.{Concern, TheVariants.Entry, TheVariants.Within}
 use Rattle.adf_findings.specs.{declared.opening.Opening.Opening, Members.parent_node, Opening.opening_in, Survey.FindingValue}
-use Rattle.adf_survey_cmd.specs.{declared.runs.Run.Run, Lines.runs}
+use Rattle.adf_subjects.specs.{declared.runs.Run.Run, Lines.runs}
 use Rattle.adf_memory.specs.{declared.found_tables.FoundEntry.FoundEntry, declared.found_tables.Surveyed.Surveyed, Tables.date_of, Tables.field}
 use Rattle.adf_memory.specs.declared.found_tables.TableFinding.{TableFinding}
 

@@ -1,7 +1,7 @@
 -- The table of what is not in the volume of a rescue.
 -- Letters: l a loss, ls losses; t a table.
 use Rattle.std.specs.Prelude.{ℕ, List, [], ◌∷◌, ◌++◌, length}
-use Rattle.adf_survey_cmd.specs.Losses.{LossValue}
+use Rattle.adf_subjects.specs.Losses.{LossValue}
 use Rattle.adf_memory.specs.{declared.losses.LossTable.LossTable, declared.losses.TableLoss.TableLoss}
 
 -- rows of losses, and the text of all their paths, one behind the other

@@ -5,9 +5,9 @@ use Rattle.adf_tree.specs.Tree.{Tree}
 use Rattle.adf_blocks.specs.{Causes.cause_number, Sizes.blocks}
 use Rattle.adf_boot_blocks.specs.{Writing.restored, declared.boot.TheConstants.BOOT_LEN}
 use Rattle.adf_build.specs.Laid.{IsLaid, IsWellFormed}
-use Rattle.adf_survey_cmd.specs.{Losses.LossValue, Losses.loss_values, Prepared.LaysFor, Prepared.RefusesFor}
-use Rattle.adf_survey_cmd.specs.Rescues.{RescueValue, RescueValue.refused, RescueValue.written}
-use Rattle.adf_survey_cmd.specs.declared.preparing.Unrescued.{Unrescued, TheVariants.NoMemory, TheVariants.Refused}
+use Rattle.adf_subjects.specs.{Losses.LossValue, Losses.loss_values, Prepared.LaysFor, Prepared.RefusesFor}
+use Rattle.adf_subjects.specs.Rescues.{RescueValue, RescueValue.refused, RescueValue.written}
+use Rattle.adf_subjects.specs.declared.preparing.Unrescued.{Unrescued, TheVariants.NoMemory, TheVariants.Refused}
 use Rattle.adf_memory.specs.{Losses.LossTableValue, Losses.table_of_losses, Rooms.filled, declared.losses.TableLoss.TableLoss, declared.rescuing.Ready.Ready}
 use Rattle.adf_memory.specs.{declared.rescuing.RescueRefusal.RescueRefusal, declared.rescuing.RescueTold.RescueTold}
 use Rattle.adf_memory.specs.declared.rescuing.RescueRefusal.TheVariants as refusal

@@ -4,8 +4,8 @@
 use Rattle.std.specs.Prelude.{◌≡◌, ◌≤◌, ◌/◌, ◌==◌, ◌&&◌, ◌∷◌, ◌++◌, ℕ, Bool, List, [], Option, codes, cond, is_some, length, min, slice_index, take}
 use Rattle.adf_blocks.specs.declared.layout.TheConstants.{MOST_BLOCKS}
 use Rattle.adf_rescue.specs.Opened.{lacks_boot}
-use Rattle.adf_survey_cmd.specs.Losses.{LossValue, run_loss}
-use Rattle.adf_survey_cmd.specs.Subject.{IsTypeTold, SubjectValue, begun_subject, behind_loss, behind_text, missing_text, type_line, typed_by}
+use Rattle.adf_subjects.specs.Losses.{LossValue, run_loss}
+use Rattle.adf_subjects.specs.Subject.{IsTypeTold, SubjectValue, begun_subject, behind_loss, behind_text, missing_text, type_line, typed_by}
 use Rattle.adf_memory.specs.{FoundTables.mark_number, Rooms.filled, declared.subjects.SubjectTold.SubjectTold}
 
 -- what is told beside the length where nothing is surveyed

@@ -5,7 +5,7 @@ use Rattle.adf_names.specs.PathTexts.{IsPathText}
 use Rattle.adf_blocks.specs.Sizes.{blocks as blocks_of}
 use Rattle.adf_volume.specs.{Walk.FileAt, declared.types.Types.Types}
 use Rattle.adf_findings.specs.{Lookup.LeadsTo, SoundMarks.AreMarks, Survey.OnSurvey}
-use Rattle.adf_survey_cmd.specs.{Answers.RescuesTyped, Subject.meant, Subject.subject}
+use Rattle.adf_subjects.specs.{Rescues.RescuesTyped, Subject.meant, Subject.subject}
 use Rattle.adf_memory.specs.FoundFiles.{file_block_count, found_blocks, found_from, found_part_table, lost_from, named_blocks}
 use Rattle.adf_memory.specs.{FoundRoles.IsFoundRole, Rooms.filled, Subjects.HasSubject, Subjects.untold, Verdicts.WantsMemory}
 use Rattle.adf_memory.specs.{declared.found_parts.FoundPart.FoundPart, declared.found_tables.FoundEntry.FoundEntry, declared.found_tables.Surveyed.Surveyed}

@@ -3,7 +3,7 @@
 ghost use Rattle.std.specs.Prelude.{◌≡◌, ◌≤◌, ◌++◌, ◌∷◌, ℕ, Bool, Option, Some, length};
 ghost use Rattle.adf_findings.specs.{SoundMarks.AreMarks, Survey.OnSurvey};
 ghost use Rattle.adf_volume.specs.Walk.{heads};
-ghost use Rattle.adf_survey_cmd.specs.Lines.{runs};
+ghost use Rattle.adf_subjects.specs.Lines.{runs};
 ghost use Rattle.adf_memory.specs.FoundTables.{body_number, body_size, concern_node, entry_row, finding_row, finding_table};
 ghost use Rattle.adf_memory.specs.FoundTables.{found_entry, found_table, within_number, mark_number, entry_number, surveyed_of};
 ghost use Rattle.adf_memory.specs.{FoundTables.unread, Rooms.filled};
@@ -13,7 +13,7 @@ use adf_base::Letters;
 use adf_blocks::HeadBody;
 use adf_findings::{Concern, Survey, some_survey};
 use adf_names::type_number;
-use adf_survey_cmd::{Run, run_from};
+use adf_subjects::{Run, run_from};
 use adf_tree::{Meta, Node};
 
 /// Findings of neighbouring blocks that have one cause and concern the same.

@@ -1,10 +1,10 @@
 // The table of what is not in the volume of a rescue.
 
 ghost use Rattle.std.specs.Prelude.{◌≡◌, IfOk, OnOk};
-ghost use Rattle.adf_survey_cmd.specs.Losses.{loss_value, loss_values};
+ghost use Rattle.adf_subjects.specs.Losses.{loss_value, loss_values};
 ghost use Rattle.adf_memory.specs.Losses.{loss_table, table_of_losses, with_loss};
 
-use adf_survey_cmd::Loss;
+use adf_subjects::Loss;
 use std::alloc::{AllocError, Global};
 
 /// Something of an image that is not in the volume of its rescue, or in doubt there.

@@ -3,7 +3,7 @@
 ghost use Rattle.std.specs.Prelude.{◌≡◌, ◌≤◌, ◌*◌, ◌<◌, List, ℕ, Err, IfErr, IfOk, Ok, OnErr, OnOk, length};
 ghost use Rattle.adf_boot_blocks.specs.declared.boot.TheConstants.{BOOT_LEN};
 ghost use Rattle.adf_volume.specs.declared.types.Types.TheVariants.{Plain, WithInternational};
-ghost use Rattle.adf_survey_cmd.specs.{Answers.RescuesTyped, Subject.subject, Subject.subject_value};
+ghost use Rattle.adf_subjects.specs.{Rescues.RescuesTyped, Subject.subject, Subject.subject_value};
 ghost use Rattle.adf_memory.specs.Rescuing.{ExplainsRescue, HasRescue, IsPutOut, IsRoomRefusal, IsVolumeOf, Readies};
 ghost use Rattle.adf_memory.specs.Rescuing.{asked_blocks, rescue_number, rescue_told, unrescued_refusal};
 ghost use Rattle.adf_memory.specs.{Rooms.filled, SurveyCalls.RescuesVolume};
@@ -14,7 +14,7 @@ use adf_base::{BLOCK_LEN, NoMemory};
 use adf_boot_blocks::restore;
 use adf_build::build_into;
 use adf_drafts::Draft;
-use adf_survey_cmd::{Prepared, Subject, Unrescued, prepare};
+use adf_subjects::{Prepared, Subject, Unrescued, prepare};
 use adf_tree::Tree;
 use adf_volume::{Fault, Types};
 use std::alloc::Global;

@@ -2,7 +2,7 @@
 
 ghost use Rattle.std.specs.Prelude.{◌≡◌, ◌≤◌, ◌<◌, IfOk, OnErr, OnOk, length};
 ghost use Rattle.adf_rescue.specs.Opened.{lacks_boot};
-ghost use Rattle.adf_survey_cmd.specs.Subject.{begun_subject, meant, subject, subject_value};
+ghost use Rattle.adf_subjects.specs.Subject.{begun_subject, meant, subject, subject_value};
 ghost use Rattle.adf_memory.specs.{Rescuing.asked_blocks, SurveyCalls.PutsSubject};
 ghost use Rattle.adf_memory.specs.Subjects.{HasSubject, IsRetyped, untold};
 
@@ -11,7 +11,7 @@ use crate::rescuing::{asked_blocks, put_bytes};
 use adf_base::{BLOCK_LEN, NoMemory};
 use adf_blocks::Cause;
 use adf_rescue::lacks_boot;
-use adf_survey_cmd::{Subject, blocks_read};
+use adf_subjects::{Subject, blocks_read};
 use std::alloc::{AllocError, Global};
 
 /// The number of a room that is smaller than the image that is surveyed.
@@ -98,7 +98,7 @@ fn put_surveyed(
 }
 
 // Writes what is surveyed of an image to the front of such a room.
-#[tactic(auto, using(adf_survey_cmd::proofs::ReadLengths::meant_image))]
+#[tactic(auto, using(adf_subjects::proofs::ReadLengths::meant_image))]
 fn put_meant(
     alloc: Global,
     image: &[u8],

@@ -1,17 +1,11 @@
 -- The lines of what is found.
 -- Letters: w the walk of a survey; k, n how many entries; i a number of an entry; text what stands in front.
-use Rattle.std.proofs.Common.{◌≡◌, ◌≤◌, ◌+◌, ◌++◌, ◌∙◌, ℕ, List, [], ◌∷◌, Bool, append_assoc, append-nil, arith, ap, refl, sym, true, false}
+use Rattle.std.proofs.Common.{◌≡◌, ◌≤◌, ◌+◌, ◌++◌, ◌∙◌, ℕ, List, [], ◌∷◌, Bool, append_assoc, append-nil, arith, ap, refl, sym}
 use Rattle.std.proofs.lemmas.Grind.{common_steps}
 use Rattle.adf_base.specs.declared.dates.Stamp.{Stamp}
 use Rattle.adf_volume.specs.Walk.{heads, Walk}
 use Rattle.adf_texts.proofs.Ranges.{flat_map_front, flat_map_next}
 use Rattle.adf_survey_cmd.specs.FoundLines.{found_lines, found_text, lines_of_found, opening_text}
-
--- two tests that hold of the same are one
-pub same_tests : (a b : Bool) → (a ≡ true → b ≡ true) → (b ≡ true → a ≡ true) → a ≡ b
-same_tests true b f g = sym (f refl)
-same_tests false true f g = let clash : false ≡ true = g refl in cc
-same_tests false false f g = refl
 
 module _ (date : Stamp → List ℕ) (sound : ℕ → Bool) (image : List ℕ) (w : Walk) where
   pub found_none : (text : List ℕ) → text ++ lines_of_found date sound image w 0 ≡ text

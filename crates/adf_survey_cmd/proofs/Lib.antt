@@ -1,15 +1,6 @@
-pub mod KeptBoots
 pub mod TableMarks
 pub mod HintedAnswers
-pub mod RunLines
-pub mod PendingLines
 pub mod FindingStatus
 pub mod FoundTexts
-pub mod ReadLengths
 pub mod LongSurveys
 pub mod OneAnswer
-pub mod RescueAnswers
-pub mod SizedImages
-pub mod Subjects
-pub mod SubjectBytes
-pub mod SomeRescues

@@ -17,12 +17,14 @@ use Rattle.adf_rescue.proofs.{OpenedImages.length_opened, PassedFindings.unread_
 use Rattle.adf_rescue.proofs.MadeRoots.{sized as sized_len}
 use Rattle.adf_cmd.proofs.LongInputs.{long_fault, too_large}
 use Rattle.adf_survey_cmd.specs.Answers.{CopiesFound, CopiesFromSurvey, ListsSurvey, QuestionAnswer, SurveyAnswer, Surveys, TellsFound, told_status, types_kept}
-use Rattle.adf_survey_cmd.specs.{Hints.disk_hint, Lengths.blocks_read, Lengths.stated_length, Lines.findings_text, Lines.runs_from, Losses.LossValue}
-use Rattle.adf_survey_cmd.specs.Subject.{IsTyped, OfTyped, SubjectValue, begun_subject, behind_loss, behind_text, held_end, missing_text, other_type}
-use Rattle.adf_survey_cmd.specs.Subject.{IsOtherType, IsTypeTold, kind_image, sized, subject, subject_read, subject_text, typed_by}
-use Rattle.adf_survey_cmd.specs.CommandLine.{AreFew, InquiryValue, QuestionValue, cat, list, report, rescue}
-use Rattle.adf_survey_cmd.specs.Rescues.{IsNoVolume, RescueValue, Rescues, RescuesBoth, RescuesFound}
-use Rattle.adf_survey_cmd.proofs.{HintedAnswers.same_disk, RescueAnswers.none_fits_it, ReadLengths.few_read, ReadLengths.same_read, ReadLengths.same_stated}
+use Rattle.adf_survey_cmd.specs.Hints.{disk_hint}
+use Rattle.adf_subjects.specs.{Lengths.AreFew, Lengths.blocks_read, Lengths.stated_length, Lines.findings_text, Lines.runs_from, Losses.LossValue}
+use Rattle.adf_subjects.specs.Subject.{IsTyped, OfTyped, SubjectValue, begun_subject, behind_loss, behind_text, held_end, missing_text, other_type}
+use Rattle.adf_subjects.specs.Subject.{IsOtherType, IsTypeTold, kind_image, sized, subject, subject_read, subject_text, typed_by}
+use Rattle.adf_survey_cmd.specs.CommandLine.{InquiryValue, QuestionValue, cat, list, report, rescue}
+use Rattle.adf_subjects.specs.Rescues.{IsNoVolume, RescueValue, Rescues, RescuesBoth, RescuesFound}
+use Rattle.adf_survey_cmd.proofs.HintedAnswers.{same_disk}
+use Rattle.adf_subjects.proofs.{RescueAnswers.none_fits_it, ReadLengths.few_read, ReadLengths.same_read, ReadLengths.same_stated}
 
 -- an input of a bad size has this finding
 bad_size : List FindingValue

@@ -5,22 +5,22 @@ use Rattle.std.proofs.lemmas.Grind.{common_steps}
 use Rattle.adf_names.proofs.PathParts.{one_path}
 use Rattle.adf_volume.specs.{Types.letters_for, declared.fault.Fault.Fault, declared.types.Types.Types}
 use Rattle.adf_volume.specs.Walk.{FileAt, FirstFaultBy, node_block, Walk}
-use Rattle.adf_findings.specs.{Files.grave, Lookup.LeadsTo, OwnKind.told_type, SoundMarks.AreMarks, Survey.FindingValue}
+use Rattle.adf_findings.specs.{Files.grave, Lookup.LeadsTo, Survey.FindingValue}
 use Rattle.adf_findings.proofs.{OneSurvey.one_survey, Lookups.one_first}
 use Rattle.adf_rescue.specs.{Hung.second_image, Pruned.image_read, Rescue.IsSecond, Rescue.Basis, declared.standing.Input.Input}
-use Rattle.adf_rescue.specs.Opened.{lacks_root, opened}
+use Rattle.adf_rescue.specs.Opened.{lacks_root}
 use Rattle.adf_rescue.proofs.RescueLaws.{one_basis}
 use Rattle.adf_texts.specs.Lines.{fault_line}
 use Rattle.adf_runs.specs.Commands.{Reply, on_errors, on_output}
 use Rattle.adf_cmd.proofs.OneAnswer.{one_check, one_dates}
-use Rattle.adf_survey_cmd.specs.Answers.{CopiesEntry, CopiesFound, CopiesFromSurvey, IsWholeFile, ListsSurvey, QuestionAnswer, RescuesTyped, SurveyAnswer}
+use Rattle.adf_survey_cmd.specs.Answers.{CopiesEntry, CopiesFound, CopiesFromSurvey, IsWholeFile, ListsSurvey, QuestionAnswer, SurveyAnswer}
 use Rattle.adf_survey_cmd.specs.Answers.{Surveys, TellsFound, told_status, types_kept}
-use Rattle.adf_survey_cmd.specs.{Hints.hinted, Losses.LossValue, Losses.losses_text, Rescues.RescuesSome, Rescues.rescue_reply, FoundLines.listing_text}
-use Rattle.adf_survey_cmd.specs.Subject.{IsOtherType, IsTypeTold, IsTyped, OfTyped, SubjectValue, begun_subject, kind_image, sized, subject}
-use Rattle.adf_survey_cmd.specs.Subject.{typed_by, unless_own, with_kind_of}
-use Rattle.adf_survey_cmd.specs.Rescues.{GivesFault, IsRefusal, Replies, RescueValue, Rescues, RescuesBy, RescuesFound, RescuesIn, RescuesRead}
+use Rattle.adf_survey_cmd.specs.{Hints.hinted, FoundLines.listing_text}
+use Rattle.adf_subjects.specs.{Losses.LossValue, Losses.losses_text, Rescues.RescuesSome, Rescues.rescue_reply}
+use Rattle.adf_subjects.specs.Subject.{OfTyped, SubjectValue, begun_subject, sized, subject}
+use Rattle.adf_subjects.specs.Rescues.{GivesFault, IsRefusal, Replies, RescueValue, Rescues, RescuesBy, RescuesFound, RescuesIn, RescuesRead, RescuesTyped}
+use Rattle.adf_subjects.proofs.OneSubject.{one_marks, one_typed}
 use Rattle.adf_survey_cmd.specs.CommandLine.{AsksSurvey, InquiryValue, QuestionValue, cat, list, report, rescue}
-use Rattle.adf_survey_cmd.proofs.FoundTexts.{same_tests}
 
 pub one_inquiry : (words : List (List ℕ)) (r q : InquiryValue) → AsksSurvey words r → AsksSurvey words q → r ≡ q
 one_inquiry words r q a b = grind (arith, common_steps)
@@ -61,10 +61,6 @@ module _ (s : SubjectValue) (w : Walk) where
 surveyed_once : (s : SubjectValue) (a b : Reply) → Surveys s a → Surveys s b → a ≡ b
 surveyed_once s a b (w, fs, h, x) (u, gs, t, y) = grind (arith, common_steps, one_survey)
 
-one_marks : (image : List ℕ) (w : Walk) (fs : List FindingValue) (sound others : ℕ → Bool) → AreMarks image w fs sound
-    → AreMarks image w fs others → sound ≡ others
-one_marks image w fs sound others p q = grind (arith, common_steps, same_tests)
-
 found_told_once : (s : SubjectValue) (w : Walk) (fs : List FindingValue) (a b : Reply) → TellsFound s w fs a → TellsFound s w fs b
     → a ≡ b
 found_told_once s w fs a b (date, dates, sound, marks, x) (other, others, tests, also, y) =
@@ -86,25 +82,7 @@ copied_once damaged path s a b (names, text, w, fs, h, x) (others, also, u, gs, 
     let path_is = one_path path names others text also in
     found_once s u damaged gs others a b (subst (λ (ns : List (List ℕ)). CopiesFound damaged s u gs ns a) path_is found) y
 
--- an input is surveyed as one thing
-
-one_other_type : (image : List ℕ) (w : Walk) (k : Option (List ℕ)) (o p : Option ℕ) → IsOtherType image w k o → IsOtherType image w k p → o ≡ p
-one_other_type image w None o p x y = x ∙ sym y
-one_other_type image w (Some hung) o p (u, gs, h, x) (v, hs, g, y) =
-    x ∙ ap (λ (u : Walk). unless_own image (with_kind_of (told_type image w) (told_type hung u))) (one_survey hung u v gs hs h g).0 ∙ sym y
-
-pub one_told : (input : List ℕ) (o p : Option ℕ) → IsTypeTold input o → IsTypeTold input p → o ≡ p
-one_told input o p (w, fs, h, x) (v, gs, g, y) =
-    let image : List ℕ = opened input in
-    let same = one_survey image w v fs gs h g in
-    let moved = subst (λ (u : Walk). IsOtherType image u (kind_image (lacks_root input) image u fs) o) same.0 x in
-    one_other_type image v (kind_image (lacks_root input) image v gs) o p
-    (subst (λ (hs : List FindingValue). IsOtherType image v (kind_image (lacks_root input) image v hs) o) same.1 moved) y
-
-one_typed : (s t u : SubjectValue) → IsTyped s t → IsTyped s u → t ≡ u
-one_typed s t u (o, is, x) (p, also, y) = x ∙ (ap (typed_by s) (one_told s.image o p is also) ∙ sym y)
-
--- so what has one answer of that has one of the input
+-- what has one answer of what is surveyed has one of the input
 typed_once : (s : SubjectValue) (answers : SubjectValue → Reply → Type 0)
     → ((t : SubjectValue) (a b : Reply) → answers t a → answers t b → a ≡ b) → (a b : Reply) → OfTyped s answers a → OfTyped s answers b → a ≡ b
 typed_once s answers once a b (t, is, x) (u, also, y) =

@@ -12,8 +12,8 @@ use Rattle.adf_cmd.specs.Answers.{IsBadPath, RefusesPath}
 use Rattle.adf_runs.specs.Commands.{Command, Reply, on_errors, on_output}
 use Rattle.adf_file_runs.specs.FileRuns.{without_files}
 use Rattle.adf_survey_cmd.specs.CommandLine.{AreRefusedBySurvey, AsksSurvey, InquiryValue, QuestionValue, asked, cat, list, report, rescue, survey_file}
-use Rattle.adf_survey_cmd.specs.{FoundLines.has_its_data, FoundLines.listing_text, Hints.Hinted, Remains.WritesRemains, Rescues.Replies, Rescues.RescueValue}
-use Rattle.adf_survey_cmd.specs.{Rescues.Rescues, Subject.IsTyped, Subject.OfTyped, Subject.SubjectValue, Subject.sized, Subject.subject, Subject.subject_text}
+use Rattle.adf_survey_cmd.specs.{FoundLines.has_its_data, FoundLines.listing_text, Hints.Hinted, Remains.WritesRemains}
+use Rattle.adf_subjects.specs.{Rescues.Replies, Rescues.RescuesTyped, Subject.OfTyped, Subject.SubjectValue, Subject.subject, Subject.subject_text}
 
 -- the status of findings: 0 where there is none
 abbrev pub findings_status : List FindingValue → ℕ
@@ -87,10 +87,6 @@ CopiesFromSurvey damaged path s reply =
 abbrev pub types_kept : (keep_type : Bool) → Types
 types_kept true = WithInternational
 types_kept false = Plain
-
--- `rescue` of what is surveyed, once it has the type that its files say: with its two boot blocks as they were before
-abbrev pub RescuesTyped : Types → SubjectValue → RescueValue → Type 0
-RescuesTyped types s r = (t : SubjectValue) × IsTyped s t × Rescues types t.end t.lost t.image (sized 2 s.image) r
 
 -- the answer to a question of what is surveyed: once it is begun, and has the type that its files say
 abbrev pub QuestionAnswer : QuestionValue → SubjectValue → Reply → Type 0

@@ -1,5 +1,5 @@
 -- The command line of `adf-survey`, as clap reads it, and what its matches ask for.
-use Rattle.std.specs.Prelude.{◌≡◌, ◌⊎◌, ◌≤◌, ◌||◌, ℕ, List, [], Bool, Option, Some, None, IfSome, codes, is_some, option_map, if◌then◌else◌}
+use Rattle.std.specs.Prelude.{◌≡◌, ◌⊎◌, ◌||◌, ℕ, List, [], Bool, Option, Some, None, codes, is_some, option_map, if◌then◌else◌}
 use Rattle.std.specs.{Option.option_and_then, Str.bytes_eq}
 use Rattle.clap.specs.Words.{App, Row, Rule, Text, fault_of, first_of, matches_of, new_app, new_rule, subcommand_of, with_rule, with_subcommand}
 use Rattle.adf_blocks.specs.declared.layout.TheConstants.{MOST_BLOCKS}
@@ -44,10 +44,6 @@ pub record InquiryValue : Type 0 where
 -- a question of the image as it is, or as if it had so many blocks
 abbrev pub asked : Option ℕ → QuestionValue → InquiryValue
 asked blocks question = record { blocks = blocks; question = question }
-
--- no more blocks than the largest volume has
-abbrev pub AreFew : Option ℕ → Type 0
-AreFew blocks = IfSome blocks (λ n. n ≤ MOST_BLOCKS)
 
 -- the blocks that the matches name, if any
 abbrev pub blocks_met : List Row → Option (Option ℕ)

@@ -8,7 +8,7 @@ use Rattle.adf_blocks.specs.{declared.layout.TheConstants.SECONDARY_TYPE, declar
 use Rattle.adf_volume.specs.{Image.word_in, Made.datas_in, Walk.heads, Walk.node_block, Walk.Walk}
 use Rattle.adf_findings.specs.{Lookup.path_to, SoundMarks.AreMarks, Opening.opening_in, Survey.FindingValue}
 use Rattle.adf_texts.specs.{RowTexts.head_lines, VolumeLines.AreDates, VolumeLines.opening_lines}
-use Rattle.adf_survey_cmd.specs.Subject.{SubjectValue, subject_text}
+use Rattle.adf_subjects.specs.Subject.{SubjectValue, subject_text}
 
 -- the mark of an entry, on the left of eight places
 abbrev pub mark_text : Bool → List ℕ

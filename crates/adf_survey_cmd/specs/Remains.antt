@@ -6,7 +6,7 @@ use Rattle.std.specs.{Fmt.decimal, List.flat_map}
 use Rattle.adf_volume.specs.Walk.{FileAt, Walk}
 use Rattle.adf_findings.specs.{Remains.gaps_of, Remains.left_of, Survey.FindingValue, declared.remains.Gap.Gap}
 use Rattle.adf_runs.specs.Commands.{Reply}
-use Rattle.adf_survey_cmd.specs.Subject.{SubjectValue}
+use Rattle.adf_subjects.specs.Subject.{SubjectValue}
 
 -- the line of bytes that are no data
 abbrev pub gap_line : Gap → List ℕ

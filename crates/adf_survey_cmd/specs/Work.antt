@@ -1,7 +1,8 @@
 -- What is done for words, once they and their path are read.
 use Rattle.std.specs.Prelude.{◌≡◌, ℕ, Bool, List}
 use Rattle.adf_names.specs.PathTexts.{IsPathText}
-use Rattle.adf_survey_cmd.specs.CommandLine.{AreFew, InquiryValue, QuestionValue, cat, list, report, rescue}
+use Rattle.adf_survey_cmd.specs.CommandLine.{InquiryValue, QuestionValue, cat, list, report, rescue}
+use Rattle.adf_subjects.specs.Lengths.{AreFew}
 use Rattle.adf_survey_cmd.specs.{Answers.types_kept, declared.work.Work.Work}
 use Rattle.adf_survey_cmd.specs.declared.work.Task.{Task, TheVariants.Show, TheVariants.Rescue}
 use Rattle.adf_survey_cmd.specs.declared.work.View.{View, TheVariants.Findings, TheVariants.List as ListAll, TheVariants.Cat}

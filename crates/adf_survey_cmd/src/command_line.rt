@@ -5,7 +5,8 @@ ghost use Rattle.clap.specs.Words.{app_of, fault_of, found_of, matches_of, rows_
 ghost use Rattle.clap.specs.declared.builder.command.Command.TheViews.{out-Command};
 ghost use Rattle.adf_words.specs.{CommandLine.ExplainsArgs, CommandLine.texts_of, FileArguments.file_meant};
 ghost use Rattle.adf_words.specs.declared.command_line.ArgsError.TheVariants.{Usage};
-ghost use Rattle.adf_survey_cmd.specs.CommandLine.{AreFew, AsksSurvey, AsksSurveyOf, AreRefusedBySurvey, blocks_met, asked, cat};
+ghost use Rattle.adf_survey_cmd.specs.CommandLine.{AsksSurvey, AsksSurveyOf, AreRefusedBySurvey, blocks_met, asked, cat};
+ghost use Rattle.adf_subjects.specs.Lengths.{AreFew};
 ghost use Rattle.adf_survey_cmd.specs.CommandLine.{flagged_survey, list, inquiry_met, inquiry_value, question_met};
 ghost use Rattle.adf_survey_cmd.specs.CommandLine.{question_named, question_value, report, rescue, survey_app, survey_cat_app};
 ghost use Rattle.adf_survey_cmd.specs.CommandLine.{survey_file, survey_rescue_app};

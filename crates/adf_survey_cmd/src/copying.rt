@@ -5,14 +5,15 @@ ghost use Rattle.std.specs.List.{flat_map};
 ghost use Rattle.adf_findings.specs.{Files.file_content, Survey.OnSurvey};
 ghost use Rattle.adf_runs.specs.{Commands.on_errors, Commands.on_output, Streams.seen};
 ghost use Rattle.adf_survey_cmd.specs.Answers.{CopiesEntry, CopiesFound, no_path_line};
-ghost use Rattle.adf_survey_cmd.specs.{Remains.gap_line, Remains.remains_reply, Subject.surveyed_as};
+ghost use Rattle.adf_survey_cmd.specs.Remains.{gap_line, remains_reply};
+ghost use Rattle.adf_subjects.specs.Subject.{surveyed_as};
 ghost use Rattle.adf_runs.specs.Outcomes.{Blames, Does, DoesSilently, EndsBy};
 
 use crate::found_lines::are_before;
-use crate::subject::Subject;
 use adf_cmd::{ROOM, write_through};
 use adf_findings::{Gap, Remains, SoundFile, Survey};
 use adf_runs::{Outcome, Sink, write_all};
+use adf_subjects::Subject;
 use adf_texts::push_number;
 use adf_tree::{Name, Node, write_path};
 use std::alloc::{AllocError, Global};

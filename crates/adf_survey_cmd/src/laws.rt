@@ -6,8 +6,9 @@ ghost use Rattle.adf_volume.specs.{Fits.FitsBy, Layout.Layout, Types.letters_for
 ghost use Rattle.adf_boot_blocks.specs.{BootBlocks.begins_with_dos, Writing.HasBootOf, declared.boot.TheConstants.BOOT_LEN};
 ghost use Rattle.adf_rescue.specs.{Rescue.Basis, Rescue.rescued_tree_by, declared.standing.Input.Input};
 ghost use Rattle.adf_runs.specs.Commands.{Reply};
-ghost use Rattle.adf_survey_cmd.specs.{CommandLine.asked, CommandLine.rescue, Answers.SurveyAnswer, Losses.LossValue};
-ghost use Rattle.adf_survey_cmd.specs.{Rescues.GivesVolume, Rescues.RescueValue, Rescues.rescue_reply, Subject.meant};
+ghost use Rattle.adf_survey_cmd.specs.{CommandLine.asked, CommandLine.rescue, Answers.SurveyAnswer};
+ghost use Rattle.adf_subjects.specs.{Losses.LossValue, Subject.meant};
+ghost use Rattle.adf_subjects.specs.Rescues.{GivesVolume, RescueValue, rescue_reply};
 
 /// The volume that a rescue writes fits the tree of all that stands, by its letters. It has the boot blocks of an image that
 /// begins with `DOS`: the bytes behind the checksum, the checksum unless it is right for another type, and it is bootable if

@@ -6,26 +6,16 @@ mod copying;
 mod found_lines;
 mod hints;
 mod laws;
-mod lengths;
 mod listing;
 mod loss_lines;
-mod losses;
-mod preparing;
 mod reporting;
 mod rescuing;
 mod runner;
-mod runs;
-mod subject;
 mod work;
 
 pub use crate::command_line::{
     Inquiry, Question, parse_survey as parse, survey_words_as_documented,
 };
 pub use crate::laws::rescued_volumes;
-pub use crate::lengths::{blocks_read, stated_length};
-pub use crate::losses::{BlockRun, Loss, Reason};
-pub use crate::preparing::{Prepared, Unrescued, prepare};
 pub use crate::runner::{one_answer, run_files};
-pub use crate::runs::{Run, run_from};
-pub use crate::subject::Subject;
 pub use crate::work::{Task, View, Work};

@@ -4,14 +4,14 @@ ghost use Rattle.std.specs.Prelude.{◌≡◌, [], OnErr, OnOk, false};
 ghost use Rattle.std.specs.Io.KnownBytes.{Appends};
 ghost use Rattle.adf_findings.specs.Survey.{OnSurvey};
 ghost use Rattle.adf_runs.specs.{Streams.AppendsPart, Streams.is_device, Outcomes.Blames, Outcomes.EndsBy};
-ghost use Rattle.adf_survey_cmd.specs.{Answers.TellsFound, FoundLines.InAnyTexts, FoundLines.listing_text, Subject.surveyed_as};
+ghost use Rattle.adf_survey_cmd.specs.{Answers.TellsFound, FoundLines.InAnyTexts, FoundLines.listing_text};
+ghost use Rattle.adf_subjects.specs.Subject.{surveyed_as};
 
 use crate::found_lines::write_found;
 use crate::reporting::is_clean;
-use crate::runs::write_runs;
-use crate::subject::Subject;
 use adf_findings::Survey;
 use adf_runs::{Outcome, Sink, StreamFault};
+use adf_subjects::{Subject, write_runs};
 use std::alloc::Global;
 
 // Writes the lines of the findings, and behind them those of what is found.

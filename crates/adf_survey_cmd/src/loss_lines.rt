@@ -1,11 +1,10 @@
 // The lines of what is not in the volume of a rescue, or in doubt there.
 
 ghost use Rattle.std.specs.Prelude.{◌≡◌, ◌++◌, OnOk};
-ghost use Rattle.adf_survey_cmd.specs.Losses.{path_line, headers_line, loss_line, loss_value, loss_values, losses_text};
-ghost use Rattle.adf_survey_cmd.specs.Losses.{number_text, reason_number};
+ghost use Rattle.adf_subjects.specs.Losses.{path_line, headers_line, loss_line, loss_value, loss_values, losses_text};
+ghost use Rattle.adf_subjects.specs.Losses.{number_text, reason_number};
 
-use crate::losses::{Loss, Reason};
-use crate::runs::push_blocks;
+use adf_subjects::{Loss, Reason, push_blocks};
 use std::alloc::AllocError;
 
 // Appends the word of a reason that stands in front of a path.

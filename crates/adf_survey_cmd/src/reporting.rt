@@ -2,13 +2,13 @@
 
 ghost use Rattle.std.specs.Prelude.{◌≡◌, cond, false};
 ghost use Rattle.adf_findings.specs.Survey.{OnSurvey};
-ghost use Rattle.adf_survey_cmd.specs.{Answers.TellsFindings, Answers.told_status, Subject.surveyed_as};
+ghost use Rattle.adf_survey_cmd.specs.Answers.{TellsFindings, told_status};
+ghost use Rattle.adf_subjects.specs.Subject.{surveyed_as};
 ghost use Rattle.adf_runs.specs.Outcomes.{Blames, EndsBy};
 
-use crate::runs::write_runs;
-use crate::subject::Subject;
 use adf_findings::Survey;
 use adf_runs::{Outcome, Sink};
+use adf_subjects::{Subject, write_runs};
 use std::alloc::Global;
 
 /// Whether there are no findings and no lines in front.

@@ -5,20 +5,18 @@ ghost use Rattle.adf_blocks.specs.Sizes.{blocks as blocks_in};
 ghost use Rattle.adf_boot_blocks.specs.Writing.{restored};
 ghost use Rattle.adf_build.specs.{Building.IsBuildable, Laid.IsLaid};
 ghost use Rattle.adf_runs.specs.{Outcomes.Blames, Outcomes.Does, Outcomes.outcome_text, Outcomes.status_of, Streams.seen};
-ghost use Rattle.adf_survey_cmd.specs.{Losses.loss_values, Losses.losses_text, Losses.runs_lost, Prepared.IsToldRefusal};
-ghost use Rattle.adf_survey_cmd.specs.{Prepared.WritesPrepared, Rescues.Replies, Rescues.Rescues, Rescues.text_status};
+ghost use Rattle.adf_subjects.specs.{Losses.loss_values, Losses.losses_text, Losses.runs_lost, Prepared.IsToldRefusal};
+ghost use Rattle.adf_subjects.specs.{Prepared.WritesPrepared, Rescues.Replies, Rescues.Rescues, Rescues.text_status};
 ghost use Rattle.adf_texts.specs.Lines.{fault_line};
 
 use crate::loss_lines::push_losses;
-use crate::losses::Loss;
-use crate::preparing::{Prepared, Unrescued, prepare};
-use crate::subject::Subject;
 use adf_base::NoMemory;
 use adf_boot_blocks::{BOOT_LEN, restore};
 use adf_cmd::refused_line;
 use adf_drafts::Draft;
 use adf_rescue::lay;
 use adf_runs::{Outcome, Sink, write_all};
+use adf_subjects::{Loss, Prepared, Subject, Unrescued, prepare};
 use adf_volume::{Fault, Types};
 use std::alloc::{AllocError, Global};
 
@@ -36,7 +34,7 @@ fn told(lines: Vec<u8>) -> Outcome
 }
 
 // Lays the volume of a tree that fits in so many blocks, and puts these boot blocks into it.
-#[tactic(auto, using(crate::proofs::KeptBoots::laid_long))]
+#[tactic(auto, using(adf_subjects::proofs::KeptBoots::laid_long))]
 fn lay_with(alloc: Global, draft: Draft, blocks: u32, boot: &[u8]) -> Result<Vec<u8>, NoMemory>
     requires fits { IsBuildable draft.tree blocks }
     requires boot { BOOT_LEN ≤ length boot.now }

@@ -2,7 +2,7 @@ use Rattle.std.proofs.Common.{◌≡◌, ◌∙◌, ◌≤◌, Some, ap, length,
 use Rattle.adf_volume.specs.Walk.{node_block}
 use Rattle.adf_memory.specs.FoundTables.{entry_row}
 use Rattle.adf_memory.proofs.FoundRows.{name_within}
-use Rattle.adf_survey_cmd.proofs.FoundTexts.{same_tests}
+use Rattle.adf_subjects.proofs.OneSubject.{same_tests}
 use Rattle.adf_memory.proofs.found_tables.found_entry.Goals as goal
 
 pub entry_row-requires : goal.entry_row-requires

@@ -1,5 +1,5 @@
 use Rattle.std.proofs.Common.{◌≡◌, drop}
-use Rattle.adf_survey_cmd.specs.Losses.{loss_values}
+use Rattle.adf_subjects.specs.Losses.{loss_values}
 use Rattle.adf_memory.specs.Losses.{loss_table, table_of_losses, with_losses}
 use Rattle.adf_memory.proofs.losses.table_of.Given as goal
 

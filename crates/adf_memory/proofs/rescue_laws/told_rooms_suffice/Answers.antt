@@ -1,7 +1,7 @@
 use Rattle.adf_blocks.specs.Sizes.{blocks}
-use Rattle.adf_survey_cmd.specs.Subject.{meant}
+use Rattle.adf_subjects.specs.Subject.{meant}
 use Rattle.adf_memory.specs.Rescuing.{asked_blocks}
-use Rattle.adf_memory.proofs.RescueReplies.{told_blocks, too_small}
+use Rattle.adf_memory.proofs.RescueSizes.{told_blocks, too_small}
 use Rattle.adf_memory.proofs.rescue_laws.told_rooms_suffice.Goals as goal
 
 pub returns-clause-told : goal.returns-clause-told

@@ -1,5 +1,5 @@
 use Rattle.std.proofs.Common.{◌∙◌, Option, ap, subst, ℕ}
-use Rattle.adf_survey_cmd.specs.{Answers.RescuesTyped, Subject.SubjectValue, Subject.subject}
+use Rattle.adf_subjects.specs.{Rescues.RescuesTyped, Subject.SubjectValue, Subject.subject}
 use Rattle.adf_memory.specs.Rescuing.{Readies, asked_blocks}
 use Rattle.adf_memory.proofs.PreparedRescues.{none_ready}
 use Rattle.adf_memory.proofs.rescuing.ready_image.Goals as goal

@@ -1,6 +1,6 @@
 use Rattle.std.proofs.Common.{◌≤◌, arith, length}
 use Rattle.adf_boot_blocks.specs.declared.boot.TheConstants.{BOOT_LEN}
-use Rattle.adf_survey_cmd.specs.Subject.{subject_value}
+use Rattle.adf_subjects.specs.Subject.{subject_value}
 use Rattle.adf_memory.proofs.PreparedRescues.{lays_typed, refuses_typed}
 use Rattle.adf_memory.proofs.rescuing.ready_subject.Goals as goal
 

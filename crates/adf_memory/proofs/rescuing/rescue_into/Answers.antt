@@ -1,5 +1,5 @@
 use Rattle.std.proofs.Common.{length, subst, sym}
-use Rattle.adf_survey_cmd.specs.{Answers.RescuesTyped, Subject.subject}
+use Rattle.adf_subjects.specs.{Rescues.RescuesTyped, Subject.subject}
 use Rattle.adf_memory.specs.{Rescuing.ExplainsRescue, Rescuing.asked_blocks, declared.rescuing.RescueRefusal.RescueRefusal}
 use Rattle.adf_memory.proofs.PreparedRescues.{put_given, refusal_explained, room_explained}
 use Rattle.adf_memory.proofs.rescuing.rescue_into.Goals as goal

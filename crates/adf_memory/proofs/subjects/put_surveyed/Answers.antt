@@ -1,6 +1,6 @@
 use Rattle.std.proofs.Common.{◌≡◌, ◌∙◌, ℕ, List, ap, arith, length}
 use Rattle.std.proofs.lemmas.Grind.{common_steps}
-use Rattle.adf_survey_cmd.specs.Subject.{subject_value}
+use Rattle.adf_subjects.specs.Subject.{subject_value}
 use Rattle.adf_memory.specs.Rooms.{filled}
 use Rattle.adf_memory.proofs.SurveyedImages.{subject_put}
 use Rattle.adf_memory.proofs.subjects.put_surveyed.Goals as goal

@@ -1,6 +1,6 @@
 use Rattle.std.proofs.Common.{◌≡◌, arith, length, nat_lt}
 use Rattle.std.proofs.lemmas.Grind.{common_steps}
-use Rattle.adf_survey_cmd.specs.Subject.{subject_value}
+use Rattle.adf_subjects.specs.Subject.{subject_value}
 use Rattle.adf_memory.proofs.SurveyedImages.{retyped_told}
 use Rattle.adf_memory.proofs.subjects.retype.Goals as goal
 

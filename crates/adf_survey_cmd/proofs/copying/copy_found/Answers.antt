@@ -1,7 +1,8 @@
 use Rattle.std.proofs.Common.{◌≡◌, true, false, inl, inr, subst, sym}
 use Rattle.adf_runs.proofs.Endings.{ends_weaker}
 use Rattle.adf_runs.specs.Commands.{on_errors}
-use Rattle.adf_survey_cmd.specs.{Answers.CopiesEntry, Answers.CopiesFound, Answers.no_path_line, Subject.surveyed_as}
+use Rattle.adf_survey_cmd.specs.Answers.{CopiesEntry, CopiesFound, no_path_line}
+use Rattle.adf_subjects.specs.Subject.{surveyed_as}
 use Rattle.adf_survey_cmd.proofs.copying.copy_found.Goals as goal
 
 pub returns-in-Some-clause-ends : goal.returns-in-Some-clause-ends

@@ -4,7 +4,8 @@ use Rattle.adf_base.proofs.Results.{on_err}
 use Rattle.adf_volume.specs.Walk.{heads}
 use Rattle.adf_runs.proofs.PendingText.{pending_begun, pending_end, pending_fails, pending_more}
 use Rattle.adf_survey_cmd.specs.FoundLines.{marked}
-use Rattle.adf_survey_cmd.proofs.{PendingLines.pending_stops, FoundTexts.found_front, FoundTexts.found_more, FoundTexts.found_none}
+use Rattle.adf_survey_cmd.proofs.FoundTexts.{found_front, found_more, found_none}
+use Rattle.adf_subjects.proofs.PendingLines.{pending_stops}
 use Rattle.adf_survey_cmd.proofs.found_lines.write_entries.Goals as goal
 
 pub loop-i-init : goal.loop-i-init

@@ -4,9 +4,11 @@ use Rattle.std.proofs.lemmas.List.Elements.{All-append, All-get_or, All-replicat
 use Rattle.adf_boot_blocks.proofs.CarrySums.{AreBytes}
 use Rattle.adf_boot_blocks.specs.{BootBlocks.begins_with_dos, Writing.HasBootOf}
 use Rattle.adf_runs.specs.Commands.{Reply}
-use Rattle.adf_survey_cmd.specs.{CommandLine.asked, CommandLine.rescue, Rescues.rescue_reply, Lengths.blocks_read, Subject.as_long, Subject.subject}
+use Rattle.adf_survey_cmd.specs.CommandLine.{asked, rescue}
+use Rattle.adf_subjects.specs.{Rescues.rescue_reply, Lengths.blocks_read, Subject.as_long, Subject.subject}
 use Rattle.adf_survey_cmd.specs.Answers.{SurveyAnswer, types_kept}
-use Rattle.adf_survey_cmd.proofs.{HintedAnswers.hinted_output, KeptBoots.keeps_boot, KeptBoots.written_fits, ReadLengths.meant_image}
+use Rattle.adf_survey_cmd.proofs.HintedAnswers.{hinted_output}
+use Rattle.adf_subjects.proofs.{KeptBoots.keeps_boot, KeptBoots.written_fits, ReadLengths.meant_image}
 use Rattle.adf_survey_cmd.proofs.laws.rescued_volumes.Goals as goal
 
 -- the image that is meant is bytes

@@ -3,7 +3,8 @@ use Rattle.adf_fields.proofs.DateTexts.{date_of, date_of_is}
 use Rattle.adf_findings.specs.SoundMarks.{mark_in}
 use Rattle.adf_runs.specs.{Commands.on_output, Streams.seen}
 use Rattle.adf_runs.proofs.Endings.{front_ends}
-use Rattle.adf_survey_cmd.specs.{Answers.TellsFound, FoundLines.listing_text, Subject.surveyed_as}
+use Rattle.adf_survey_cmd.specs.{Answers.TellsFound, FoundLines.listing_text}
+use Rattle.adf_subjects.specs.Subject.{surveyed_as}
 use Rattle.adf_survey_cmd.proofs.listing.write_list.Goals as goal
 
 pub returns-in-Ok-write_both-clause-ends : goal.returns-in-Ok-write_both-clause-ends

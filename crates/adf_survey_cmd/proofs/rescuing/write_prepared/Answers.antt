@@ -1,7 +1,7 @@
 use Rattle.std.proofs.Common.{◌∙◌, ℕ, Bool, List, refl, subst}
 use Rattle.adf_boot_blocks.specs.Writing.{restored}
 use Rattle.adf_runs.specs.Streams.{AppendsPart}
-use Rattle.adf_survey_cmd.specs.{Losses.loss_values, Rescues.RescueValue.written, Rescues.rescue_reply}
+use Rattle.adf_subjects.specs.{Losses.loss_values, Rescues.RescueValue.written, Rescues.rescue_reply}
 use Rattle.adf_survey_cmd.proofs.rescuing.write_prepared.Goals as goal
 
 pub returns : goal.returns

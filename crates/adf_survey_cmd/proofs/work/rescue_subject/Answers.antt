@@ -1,6 +1,6 @@
 use Rattle.std.proofs.Common.{◌∙◌}
 use Rattle.adf_runs.proofs.Endings.{does_weaker, nothing_done, silently}
-use Rattle.adf_survey_cmd.specs.{Answers.RescuesTyped, Rescues.Replies, Rescues.Rescues, Subject.sized, Subject.subject_value}
+use Rattle.adf_subjects.specs.{Rescues.RescuesTyped, Rescues.Replies, Rescues.Rescues, Subject.sized, Subject.subject_value}
 use Rattle.adf_survey_cmd.proofs.work.rescue_subject.Goals as goal
 
 pub returns-in-Ok-be_typed : goal.returns-in-Ok-be_typed

@@ -1,6 +1,7 @@
 use Rattle.std.proofs.Common.{subst, sym}
 use Rattle.adf_runs.proofs.Endings.{ends_weaker}
-use Rattle.adf_survey_cmd.specs.{Answers.QuestionAnswer, Answers.RescuesTyped, Rescues.Replies, Subject.subject_value, Work.Answers}
+use Rattle.adf_survey_cmd.specs.{Answers.QuestionAnswer, Work.Answers}
+use Rattle.adf_subjects.specs.{Rescues.RescuesTyped, Rescues.Replies, Subject.subject_value}
 use Rattle.adf_survey_cmd.proofs.work.Task.on_subject.Goals as goal
 
 pub returns-in-Rescue-clause-ends : goal.returns-in-Rescue-clause-ends

@@ -1,7 +1,7 @@
 use Rattle.std.proofs.Common.{◌≡◌, ◌∙◌, List, None, ap, map, subst, sym, ℕ}
 use Rattle.adf_findings.specs.{Parts.finding_value, Survey.FindingValue, Survey.IsSurvey}
-use Rattle.adf_survey_cmd.specs.Subject.{IsTyped, other_type, subject_value}
-use Rattle.adf_survey_cmd.proofs.Subjects.{typed_same}
+use Rattle.adf_subjects.specs.Subject.{IsTyped, other_type, subject_value}
+use Rattle.adf_subjects.proofs.Subjects.{typed_same}
 use Rattle.adf_survey_cmd.proofs.work.View.of_begun.Goals as goal
 
 pub returns-in-None-clause-ends : goal.returns-in-None-clause-ends

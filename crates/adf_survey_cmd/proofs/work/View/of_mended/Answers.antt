@@ -1,5 +1,5 @@
 use Rattle.std.proofs.Common.{subst}
-use Rattle.adf_survey_cmd.specs.Subject.{IsTyped, subject_value}
+use Rattle.adf_subjects.specs.Subject.{IsTyped, subject_value}
 use Rattle.adf_survey_cmd.proofs.work.View.of_mended.Goals as goal
 
 pub returns-in-Ok-clause-ends : goal.returns-in-Ok-clause-ends

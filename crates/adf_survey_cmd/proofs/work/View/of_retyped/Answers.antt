@@ -1,6 +1,6 @@
 use Rattle.std.proofs.Common.{subst}
-use Rattle.adf_survey_cmd.specs.Subject.{IsTyped, subject_value}
-use Rattle.adf_survey_cmd.proofs.Subjects.{other_long, typed_anew}
+use Rattle.adf_subjects.specs.Subject.{IsTyped, subject_value}
+use Rattle.adf_subjects.proofs.Subjects.{other_long, typed_anew}
 use Rattle.adf_survey_cmd.proofs.work.View.of_retyped.Goals as goal
 
 pub retype-requires : goal.retype-requires

@@ -1,4 +1,4 @@
-use Rattle.adf_survey_cmd.specs.Subject.{subject_value}
+use Rattle.adf_subjects.specs.Subject.{subject_value}
 use Rattle.adf_survey_cmd.proofs.work.View.of_subject.Goals as goal
 
 pub returns-in-Ok-of_begun-clause-ends : goal.returns-in-Ok-of_begun-clause-ends

@@ -1,6 +1,7 @@
 use Rattle.std.proofs.Common.{◌≡◌, inr, subst, sym}
 use Rattle.adf_runs.proofs.Endings.{ends_weaker}
-use Rattle.adf_survey_cmd.specs.{CommandLine.list, CommandLine.report, Subject.IsTyped, Subject.begun_subject, Subject.surveyed_as, Work.Shows}
+use Rattle.adf_survey_cmd.specs.{CommandLine.list, CommandLine.report, Work.Shows}
+use Rattle.adf_subjects.specs.Subject.{IsTyped, begun_subject, surveyed_as}
 use Rattle.adf_survey_cmd.specs.Answers.{CopiesFound, QuestionAnswer, TellsFindings, TellsFound}
 use Rattle.adf_survey_cmd.proofs.work.View.of_survey.Goals as goal
 

@@ -1,5 +1,6 @@
 use Rattle.std.proofs.Common.{◌≡◌, ◌∙◌, ℕ, List, Option, IfOk, ap, subst}
-use Rattle.adf_survey_cmd.specs.{Answers.QuestionAnswer, Hints.is_hard_disk, Subject.subject, Subject.subject_value}
+use Rattle.adf_survey_cmd.specs.{Answers.QuestionAnswer, Hints.is_hard_disk}
+use Rattle.adf_subjects.specs.Subject.{subject, subject_value}
 use Rattle.adf_survey_cmd.proofs.HintedAnswers.{hinted_ends}
 use Rattle.adf_survey_cmd.proofs.work.Work.on_read.Goals as goal
 

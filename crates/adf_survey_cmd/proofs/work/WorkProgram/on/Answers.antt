@@ -1,5 +1,6 @@
 use Rattle.std.proofs.Common.{◌≡◌, ℕ, List, Option, IfOk, subst}
-use Rattle.adf_survey_cmd.specs.{Answers.QuestionAnswer, Subject.subject, Subject.subject_value}
+use Rattle.adf_survey_cmd.specs.Answers.{QuestionAnswer}
+use Rattle.adf_subjects.specs.Subject.{subject, subject_value}
 use Rattle.adf_survey_cmd.proofs.HintedAnswers.{hinted_ends}
 use Rattle.adf_survey_cmd.proofs.work.WorkProgram.on.Goals as goal
 

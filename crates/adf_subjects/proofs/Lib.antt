@@ -1,0 +1,10 @@
+pub mod KeptBoots
+pub mod RunLines
+pub mod PendingLines
+pub mod ReadLengths
+pub mod OneSubject
+pub mod RescueAnswers
+pub mod SizedImages
+pub mod Subjects
+pub mod SubjectBytes
+pub mod SomeRescues

@@ -1,0 +1,141 @@
+-- What a rescue is prepared to give, and which images are no volumes.
+-- Letters: w the walk of a survey, fs its findings; a a survey, b the second one, if there is one; r what a rescue gives; p a prepared rescue; u why
+-- there is none; lost, front losses of blocks.
+use Rattle.std.proofs.Common.{◌≡◌, ◌≢◌, ◌∙◌, ◌/◌, ℕ, Bool, List, [], ap, sym, Option, None, Some, IfSome, inl, inr, is_some, option_map, length, subst}
+use Rattle.std.specs.{Prelude.Result, Prelude.Ok, Prelude.Err, Result.IsErrAnd}
+use Rattle.adf_base.specs.declared.hash.Letters.{Letters}
+use Rattle.adf_tree.specs.Tree.{Tree}
+use Rattle.adf_blocks.specs.Sizes.{blocks}
+use Rattle.adf_boot_blocks.specs.Writing.{restored}
+use Rattle.adf_build.specs.{Building.IsBuildable, Laid.IsLaid}
+use Rattle.adf_volume.specs.{Types.letters_for, declared.fault.Fault.Fault, declared.types.Types.Types, Walk.Walk}
+use Rattle.adf_volume.proofs.NoneFits.{none_fits}
+use Rattle.adf_findings.specs.{Files.grave, SoundMarks.AreMarks, Survey.FindingValue, Survey.IsSurvey, Types.passed}
+use Rattle.adf_findings.proofs.{FirstFindings.finds_none, TypesRead.types_read}
+use Rattle.adf_rescue.specs.{declared.rescues.Rescued.Rescued, declared.rescues.Terms.Terms, Hung.second_image, Losses.lost_headers, Opened.lacks_root}
+use Rattle.adf_rescue.specs.{Pruned.image_read, Rescue.Basis, Rescue.rescued_tree_by, declared.standing.Input.Input, Rescued.IsRescued}
+use Rattle.adf_rescue.proofs.PrunedKeeps.{length_read}
+use Rattle.adf_runs.specs.{Commands.Reply, Commands.on_errors, Outcomes.EndsBy}
+use Rattle.adf_runs.specs.declared.outcome.Outcome.{Outcome, TheVariants.LeftOut as Tells, TheVariants.NoMemory as OutOfMemory}
+use Rattle.adf_runs.proofs.PendingText.{appends_nil}
+use Rattle.adf_subjects.specs.Losses.{LossValue, ToldValue, front_losses, input_losses, loss_values, losses_of, rescue_losses, runs_lost, told_by}
+use Rattle.adf_subjects.specs.{Losses.told_value, declared.preparing.Begun.Begun, declared.preparing.Prepared.Prepared}
+use Rattle.adf_subjects.specs.Prepared.{IsBegunInput, IsFault, IsToldRefusal, LaysFor, Prepares, RefusesFor, WritesPrepared, known_of}
+use Rattle.adf_subjects.specs.Rescues.{HoldsNothing, IsRefusal, IsNoVolume, Replies, RescueValue, RescueValue.written, Rescues, RescuesBoth, RescuesBy, RescuesIn}
+use Rattle.adf_subjects.specs.declared.preparing.Unrescued.{Unrescued, TheVariants.NoMemory, TheVariants.Refused}
+
+-- what holds if there is a value holds of it
+pub if_some : {X : Type 0} (o : Option X) (x : X) (P : X → Type 0) → o ≡ Some x → IfSome o P → P x
+if_some o x P e h = subst (λ o. IfSome o P) e h
+
+-- what is given by the survey of an image that is read, and by that of a second one, if there is one
+pub found_gives : (types : Types) (known : Input) (lost : List LossValue) (input image : List ℕ) (w : Walk) (fs : List FindingValue) (sound : ℕ → Bool)
+    (second : Option (List ℕ)) (boot : List ℕ) (r : RescueValue)
+    → IsRefusal types input known.is_refused → image ≡ image_read known.is_refused input
+    → IsSurvey image w fs → AreMarks image w (grave fs) sound → second_image (lacks_root input) image w fs ≡ second
+    → RescuesBoth types known lost input (record { image = image; walk = w; sound = sound }) second fs boot r → Rescues types known.held lost input boot r
+found_gives types known lost input image w fs sound second boot r refusal same survey marks is by =
+    let a : Basis = record { image = image; walk = w; sound = sound } in (
+      known.is_refused,
+      refusal,
+      subst (λ (l : List ℕ). RescuesIn types known lost input l boot r) same
+          (w, fs, survey, (sound, marks, subst (λ (o : Option (List ℕ)). RescuesBoth types known lost input a o fs boot r) (sym is) by)),
+    )
+
+-- an input that has no fault is accepted, and one that has one is refused
+pub refusal_of_fault : (types : Types) (input : List ℕ) (fault : Option Fault) → IsFault types input fault → IsRefusal types input (is_some fault)
+refusal_of_fault types input None is = is
+refusal_of_fault types input (Some f) first = λ t l fits. none_fits input f.block f.cause t l first fits
+
+-- a second image is surveyed if there is one
+
+pub second_is : {X : Type 0} (items : X → List ℕ) (o : Option X) (x : X) (image : List ℕ) (second : Option (List ℕ)) → option_map items o ≡ second
+    → o ≡ Some x → image ≡ items x → second ≡ Some image
+second_is items o x image second told is same = sym told ∙ ap (option_map items) is ∙ ap (λ (l : List ℕ). Some l) (sym same)
+
+pub second_none : {X : Type 0} (items : X → List ℕ) (o : Option X) (second : Option (List ℕ)) → option_map items o ≡ second → o ≡ None → second ≡ None
+second_none items o second told is = sym told ∙ ap (option_map items) is
+
+-- an image that has a finding other than those that are passed is no volume
+pub none_fits_it : (types : Types) (image : List ℕ) (w : Walk) (fs : List FindingValue) → IsSurvey image w fs → fs ≢ passed types image
+    → IsNoVolume types image
+none_fits_it types image w fs survey some t l fits =
+    some (finds_none image (letters_for types image) (passed types image) (types_read image types) t l w fs fits survey)
+
+-- the terms of a rescue by what is told of its input
+abbrev pub terms_of : Types → (held : ℕ) → Begun → Terms
+terms_of types held b = record { types = types; input = known_of held b; made = b.made_root }
+
+-- what is known by a test is known
+pub on_terms : (types : Types) (held : ℕ) (begun : Begun) (refused : Bool) (a : Basis) (b : Option Basis) (fs : List FindingValue) (r : Rescued)
+    → refused ≡ is_some begun.fault
+    → IsRescued (record { types = types; input = record { held = held; is_refused = refused }; made = begun.made_root }) a b fs r
+    → IsRescued (terms_of types held begun) a b fs r
+on_terms types held begun refused a b fs r same is =
+    subst (λ (k : Bool). IsRescued (record { types = types; input = record { held = held; is_refused = k }; made = begun.made_root }) a b fs r) same is
+
+-- the same is told
+pub same_told : (terms : Terms) (a : Basis) (b : Option Basis) (fs : List FindingValue) (made : Bool) (r : Rescued) → terms.made ≡ made
+    → IsRescued terms a b fs r → told_value r ≡ told_by (letters_for terms.types a.image) terms.input made a b fs
+same_told terms a b fs made r same is =
+    let heads = is.lost_headers ∙ ap (λ (made : Bool). lost_headers made a.walk fs) same in
+    λ i. record {
+      left_out = is.left_out i;
+      second_left_out = is.second_left_out i;
+      doubts = is.doubts i;
+      second_doubts = is.second_doubts i;
+      lost_headers = heads i;
+      lost_blocks = is.lost_blocks i;
+    }
+
+-- the same blocks are lost in front
+pub same_front : (lost : List LossValue) (held n : ℕ) (input image : List ℕ) (types : Types) (b : Begun) → IsBegunInput types lost input image b
+    → n ≡ blocks image → front_losses (runs_lost b.lost.items) b.states_type b.made_root held n ≡ input_losses lost held input
+same_front lost held n input image types b is size =
+    let count : n ≡ blocks input = size ∙ ap (λ (l : List ℕ). length l / 512) is.reads ∙ ap (λ (k : ℕ). k / 512) (length_read (is_some b.fault) input) in
+    λ i. front_losses (is.runs i) (is.states i) (is.made i) held (count i)
+
+-- so all losses are
+pub same_losses : (letters : Letters) (known : Input) (lost front : List LossValue) (input : List ℕ) (a : Basis) (b : Option Basis) (fs : List FindingValue)
+    (t : ToldValue) → t ≡ told_by letters known (lacks_root input) a b fs → front ≡ input_losses lost known.held input
+    → losses_of a.image a.walk b t front ≡ rescue_losses letters known lost input a b fs
+same_losses letters known lost front input a b fs t told runs = λ i. losses_of a.image a.walk b (told i) (runs i)
+
+-- what stands is prepared as a volume
+pub volume_prepared : (types : Types) (known : Input) (lost : List LossValue) (input : List ℕ) (a : Basis) (b : Option Basis) (fs : List FindingValue)
+    (p : Prepared)
+    → IsBuildable p.draft.tree p.blocks → p.draft.tree ≡ rescued_tree_by (letters_for types a.image) known a b → p.blocks ≡ blocks a.image
+    → loss_values p.losses.items ≡ rescue_losses (letters_for types a.image) known lost input a b fs → a.walk ≢ []
+    → ¬ HoldsNothing types known input a b fs → Prepares (RescuesBy types known lost input a b fs) (Ok p)
+volume_prepared types known lost input a b fs p room tree size told read some = λ boot. (
+  room,
+  λ volume laid long. inr (
+    read,
+    inr (some, (volume, subst (λ (t : Tree). IsLaid volume t) tree laid, long ∙ size, ap (written (restored volume boot)) told)),
+  ),
+)
+
+-- a rescue that is prepared to give this is prepared to give what it is
+pub prepares_weaker : (few more : List ℕ → RescueValue → Type 0) (x : Result Prepared Unrescued)
+    → ((boot : List ℕ) (r : RescueValue) → few boot r → more boot r) → Prepares few x → Prepares more x
+prepares_weaker few more (Ok p) f h = λ boot. let (room, gives) = h boot in (room, λ volume laid long. f boot _ (gives volume laid long))
+prepares_weaker few more (Err (Refused fault ls)) f h = λ boot. f boot _ (h boot)
+prepares_weaker few more (Err NoMemory) f h = λ boot. tt
+
+-- where memory is refused, there is none
+pub none_prepared : (gives : List ℕ → RescueValue → Type 0) (x : Result Prepared Unrescued) → IsErrAnd x (λ u. u ≡ NoMemory) → Prepares gives x
+none_prepared gives (Ok p) is = absurd is
+none_prepared gives (Err u) is = rw is (λ boot. tt)
+
+-- what a prepared rescue writes replies to what it gives
+pub written_replies : (gives : RescueValue → Type 0) (p : Prepared) (boot : List ℕ) (reply : Reply) → LaysFor gives p boot → WritesPrepared p boot reply
+    → Replies gives reply
+written_replies gives p boot reply (room, lays) (volume, laid, size, is) = (_, lays volume laid size, is)
+
+-- so does the outcome that tells why there is no volume
+pub refusal_ends : (gives : RescueValue → Type 0) (u : Unrescued) (w : Outcome) (o : Option (List ℕ)) → RefusesFor gives u → IsToldRefusal u w
+    → EndsBy (Replies gives) w o o
+refusal_ends gives (Refused f ls) (Tells lines) o h is = ([], (_, h, ap (on_errors 1) is), appends_nil o)
+refusal_ends gives u OutOfMemory o h is = inl (appends_nil o)
+refusal_ends gives (Refused f ls) _ o h is = absurd is
+refusal_ends gives NoMemory _ o h is = absurd is

@@ -1,0 +1,8 @@
+-- The promise: what is surveyed, the lines of its findings, and what a rescue gives.
+pub mod Lengths
+pub mod Lines
+pub mod Subject
+pub mod Losses
+pub mod Rescues
+-- Rescues, between their surveys and their volumes.
+pub mod Prepared

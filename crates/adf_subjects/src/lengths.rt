@@ -1,0 +1,104 @@
+// The number of blocks that is read of an input.
+
+ghost use Rattle.std.specs.Prelude.{◌≡◌, ◌/◌};
+ghost use Rattle.adf_subjects.specs.Lengths.{are_asked, blocks_read, is_like_root_at, is_other_length, is_root_at};
+ghost use Rattle.adf_subjects.specs.Lengths.{is_whole_root, other_length, stated_length};
+
+use adf_base::{BLOCK_LEN, Block};
+use adf_blocks::{MOST_BLOCKS, SLOTS, has_root_type};
+use adf_rescue::is_like_root;
+
+/// The word of the root that holds the size of its table.
+const HASH_SIZE: usize = 3;
+
+/// The blocks of a floppy of double density.
+const DD_BLOCKS: u32 = 1_760;
+
+/// The blocks of a floppy of high density.
+const HD_BLOCKS: u32 = 3_520;
+
+// Whether the input holds a block that is like a root.
+fn is_like_root_at(input: &[u8], b: u32) -> bool
+    ensures { result ≡ is_like_root_at input.now b }
+{
+    match Block::at(input, b) {
+        Some(block) => is_like_root(&block),
+        None => false,
+    }
+}
+
+// Whether a block is a root: by the three words and the sum.
+fn is_whole_root(block: &Block<'_>) -> bool
+    ensures { result ≡ is_whole_root block.now }
+{
+    has_root_type(block) && block.word(HASH_SIZE) == SLOTS && block.long_sum() == 0
+}
+
+// Whether the input holds a block that is a root.
+fn is_root_at(input: &[u8], b: u32) -> bool
+    ensures { result ≡ is_root_at input.now b }
+{
+    match Block::at(input, b) {
+        Some(block) => is_whole_root(&block),
+        None => false,
+    }
+}
+
+/// The number of blocks that is stated: what is asked for, or what the input has, but at most as many as a volume may have.
+pub fn stated_length(asked: Option<u32>, input: &[u8]) -> u32
+    ensures { result ≡ stated_length asked input.now }
+{
+    let held = input.len() / BLOCK_LEN;
+    match asked {
+        Some(blocks) => blocks,
+        None if held < MOST_BLOCKS as usize => held as u32,
+        None => MOST_BLOCKS,
+    }
+}
+
+// Whether so many blocks are no more than are asked for.
+fn are_asked(asked: Option<u32>, blocks: u32) -> bool
+    ensures { result ≡ are_asked asked blocks }
+{
+    match asked {
+        Some(most) => blocks <= most,
+        None => true,
+    }
+}
+
+// Whether another number of blocks has a root in its middle: not the stated one, and no more than are asked for.
+fn is_other_length(asked: Option<u32>, input: &[u8], blocks: u32) -> bool
+    ensures { result ≡ is_other_length asked input.now blocks }
+{
+    blocks != stated_length(asked, input)
+        && are_asked(asked, blocks)
+        && is_root_at(input, blocks / 2)
+}
+
+// The number of blocks that is read in place of the stated one: where the middle of that is not like a root, the one usual
+// length with a root there.
+fn other_length(asked: Option<u32>, input: &[u8]) -> Option<u32>
+    ensures { result ≡ other_length asked input.now }
+{
+    if is_like_root_at(input, stated_length(asked, input) / 2) {
+        return None;
+    }
+    let is_dd = is_other_length(asked, input, DD_BLOCKS);
+    let is_hd = is_other_length(asked, input, HD_BLOCKS);
+    match (is_dd, is_hd) {
+        (true, false) => Some(DD_BLOCKS),
+        (false, true) => Some(HD_BLOCKS),
+        _ => None,
+    }
+}
+
+/// The number of blocks that the image is made to have: another length, or what is asked for. `None` if the input is read as
+/// it is.
+pub fn blocks_read(asked: Option<u32>, input: &[u8]) -> Option<u32>
+    ensures { result ≡ blocks_read asked input.now }
+{
+    match other_length(asked, input) {
+        Some(blocks) => Some(blocks),
+        None => asked,
+    }
+}

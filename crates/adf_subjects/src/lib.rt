@@ -1,0 +1,14 @@
+//! What is surveyed of an input, the runs of its findings, and its rescue up to the new volume.
+#![tactic(auto)]
+
+mod lengths;
+mod losses;
+mod preparing;
+mod runs;
+mod subject;
+
+pub use crate::lengths::{blocks_read, stated_length};
+pub use crate::losses::{BlockRun, Loss, Reason};
+pub use crate::preparing::{Prepared, Unrescued, prepare};
+pub use crate::runs::{Run, push_blocks, run_from, write_runs};
+pub use crate::subject::{Subject, other_type};

@@ -1,0 +1,265 @@
+// Rescues of which only the new volume is to be laid.
+
+ghost use Rattle.std.specs.Prelude.{◌≡◌, ◌&&◌, ◌||◌, ℕ, List, Option, Some, IfOk, false, is_some, not, option_map};
+ghost use Rattle.adf_findings.specs.Survey.{OnSurvey};
+ghost use Rattle.adf_rescue.specs.{Pruned.image_read, Rescue.IsSecond, Rescue.Basis, Rescue.OnBasis, Rescue.OnSecond};
+ghost use Rattle.adf_subjects.specs.Losses.{LossValue, front_losses, runs_lost};
+ghost use Rattle.adf_subjects.specs.Prepared.{IsBegunInput, IsFault, IsFirstFault, Prepares, known_of};
+ghost use Rattle.adf_subjects.specs.Rescues.{IsNoVolume, Rescues, RescuesBoth, RescuesBy, is_type_alone};
+
+use crate::losses::{BlockRun, Loss, rescue_losses};
+use crate::subject::Subject;
+use adf_base::NoMemory;
+use adf_blocks::Cause;
+use adf_check::check_types;
+use adf_drafts::Draft;
+use adf_findings::{Survey, some_survey, survey};
+use adf_rescue::{
+    Input, Terms, hung_image, lacks_root, open_image, prune_image, rescue, states_type,
+};
+use adf_volume::{Fault, Types};
+use std::alloc::{AllocError, Global};
+
+/// A rescue of which only the new volume is to be laid: the draft of its tree, the number of its blocks, and all that is not
+/// in it.
+#[derive(Drop)]
+pub struct Prepared {
+    pub draft: Draft,
+    pub blocks: u32,
+    pub losses: Vec<Loss>,
+}
+
+/// Why a rescue gives no volume.
+#[derive(Drop)]
+pub enum Unrescued {
+    /// Nothing stands on the input, which has this first fault; with all that is lost.
+    Refused(Fault, Vec<Loss>),
+    /// An allocation failed.
+    NoMemory,
+}
+
+impl From<AllocError> for Unrescued {
+    ghost use Rattle.adf_subjects.specs.declared.preparing.Unrescued.TheVariants.{NoMemory};
+
+    ghost from_gives = { λ _ u. u ≡ NoMemory };
+
+    fn from(_e: AllocError) -> Unrescued {
+        Unrescued::NoMemory
+    }
+}
+
+impl From<NoMemory> for Unrescued {
+    ghost use Rattle.adf_subjects.specs.declared.preparing.Unrescued.TheVariants.{NoMemory};
+
+    ghost from_gives = { λ _ u. u ≡ NoMemory };
+
+    fn from(_e: NoMemory) -> Unrescued {
+        Unrescued::NoMemory
+    }
+}
+
+// The types that the new volume of a rescue may have, and the number of blocks that the input holds whole.
+#[derive(Clone, Copy)]
+struct Scope {
+    types: Types,
+    held: usize,
+}
+
+// What is told of an input before an image is read of it: its first fault, if it is refused; whether it states a type; whether a
+// root is made; and the blocks of it that are not read at all.
+#[derive(Drop)]
+struct Begun {
+    fault: Option<Fault>,
+    states_type: bool,
+    made_root: bool,
+    lost: Vec<BlockRun>,
+}
+
+impl Begun {
+    // The blocks of an image of so many blocks that are not as they were: those that are not read at all; block 0, if no type is
+    // stated; the block of a root that is made; and those that the input does not hold.
+    fn runs(&self, alloc: Global, held: usize, blocks: u32) -> Result<Vec<BlockRun>, AllocError>
+        ensures { IfOk result (λ runs. runs_lost runs.items
+            ≡ front_losses (runs_lost self.now.lost.items) self.now.states_type self.now.made_root held blocks) }
+    {
+        let mut runs = self.lost.to_vec(alloc)?;
+        if !self.states_type {
+            runs.push(BlockRun::one(0))?;
+        }
+        if self.made_root {
+            runs.push(BlockRun::one(blocks / 2))?;
+        }
+        if held < blocks as usize {
+            runs.push(BlockRun {
+                first: held as u32,
+                last: blocks - 1,
+            })?;
+        }
+        Ok(runs)
+    }
+}
+
+// The first fault of an input, if it is refused.
+fn fault_in(alloc: Global, types: Types, image: &[u8]) -> Result<Option<Fault>, AllocError>
+    ensures { IfOk result (IsFault types image.now) }
+{
+    match check_types(alloc, types, image) {
+        Ok(_) => Ok(None),
+        Err(fault) => match fault.cause {
+            Cause::NoMemory => Err(AllocError),
+            _ => Ok(Some(fault)),
+        },
+    }
+}
+
+// The first fault of an image that is no volume of these types.
+fn first_fault(alloc: Global, types: Types, image: &[u8]) -> Result<Fault, AllocError>
+    requires { IsNoVolume types image.now }
+    ensures { IfOk result (IsFirstFault types image.now) }
+{
+    match fault_in(alloc, types, image)? {
+        Some(fault) => Ok(fault),
+        None => unreachable!(),
+    }
+}
+
+// The first fault of an input of which nothing is surveyed or stands.
+fn fault_of(
+    alloc: Global,
+    types: Types,
+    image: &[u8],
+    fault: Option<Fault>,
+) -> Result<Fault, AllocError>
+    requires { is_some fault ≡ false → IsNoVolume types image.now }
+    ensures { (input : List ℕ) → IsFault types input fault → image.now ≡ image_read (is_some fault) input
+        → IfOk result (IsFirstFault types input) }
+{
+    match fault {
+        Some(fault) => Ok(fault),
+        None => first_fault(alloc, types, image),
+    }
+}
+
+// Makes an input the image that a rescue reads of it.
+fn read_input(image: &mut [u8], is_refused: bool)
+    ensures { image.new ≡ image_read is_refused image.old }
+{
+    if is_refused {
+        open_image(image);
+        prune_image(image);
+    }
+}
+
+// Whether the only finding is that of the type.
+fn is_type_alone(found: &Survey<'_>) -> bool
+    ensures { OnSurvey found.now.image (λ _ fs. result ≡ is_type_alone fs) }
+{
+    let findings = found.findings();
+    match findings.get(0) {
+        Some(finding) => finding.block == 0 && findings.len() == 1,
+        None => false,
+    }
+}
+
+// Whether nothing stands, and more is wrong than the type.
+fn holds_nothing(found: &Survey<'_>, stands_nothing: bool, made_root: bool) -> bool
+    ensures { OnSurvey found.now.image (λ _ fs. result
+        ≡ (stands_nothing && (made_root || not (is_type_alone fs)))) }
+{
+    stands_nothing && (made_root || !is_type_alone(found))
+}
+
+// Prepares a rescue by what is found in the image that is read of an input, and in a second one, if there is one.
+fn prepare_found(
+    alloc: Global,
+    found: &Survey<'_>,
+    second: Option<&Survey<'_>>,
+    scope: Scope,
+    begun: &Begun,
+) -> Result<Prepared, Unrescued>
+    requires { (b : Option Basis) × IsSecond (option_map (λ s. s.now.image) second) b }
+    ensures { (lost : List LossValue) (input : List ℕ) → IsBegunInput scope.types lost input found.now.image begun.now
+        → OnBasis found.now.image (λ a fs. OnSecond (option_map (λ s. s.now.image) second.entry) (λ b.
+        Prepares (RescuesBy scope.types (known_of scope.held begun.now) lost input a b fs) result)) }
+{
+    found.whole_marks();
+    some_survey();
+    let terms = Terms {
+        types: scope.types,
+        input: Input {
+            held: scope.held,
+            is_refused: begun.fault.is_some(),
+        },
+        made: begun.made_root,
+    };
+    let Some(rescued) = rescue(alloc, found, second, terms)? else {
+        let first = fault_of(alloc, scope.types, found.image(), begun.fault)?;
+        return Err(Unrescued::Refused(first, Vec::new(alloc)));
+    };
+    let front = begun.runs(alloc, scope.held, rescued.blocks)?;
+    let losses = rescue_losses(alloc, found, second, &rescued, &front)?;
+    if holds_nothing(found, rescued.stands_nothing, begun.made_root) {
+        let first = fault_of(alloc, scope.types, found.image(), begun.fault)?;
+        return Err(Unrescued::Refused(first, losses));
+    }
+    Ok(Prepared {
+        draft: rescued.draft,
+        blocks: rescued.blocks,
+        losses,
+    })
+}
+
+// Prepares a rescue by what is found in the image that is read of an input, and in the hung one.
+fn prepare_hung(
+    alloc: Global,
+    found: &Survey<'_>,
+    hung: &[u8],
+    scope: Scope,
+    begun: &Begun,
+) -> Result<Prepared, Unrescued>
+    ensures { (lost : List LossValue) (input : List ℕ) → IsBegunInput scope.types lost input found.now.image begun.now
+        → OnBasis found.now.image (λ a fs.
+        Prepares (RescuesBoth scope.types (known_of scope.held begun.now) lost input a (Some hung.now) fs) result) }
+{
+    let second = survey(alloc, hung)?;
+    second.whole_marks();
+    prepare_found(alloc, found, Some(&second), scope, begun)
+}
+
+// Prepares a rescue by the image that is read of an input.
+fn prepare_read(
+    alloc: Global,
+    image: &[u8],
+    scope: Scope,
+    begun: &Begun,
+) -> Result<Prepared, Unrescued>
+    ensures { (lost : List LossValue) (input : List ℕ) → IsBegunInput scope.types lost input image.now begun.now
+        → Prepares (Rescues scope.types scope.held lost input) result }
+{
+    let found = survey(alloc, image)?;
+    found.whole_marks();
+    match hung_image(alloc, &found, begun.made_root)? {
+        Some(hung) => prepare_hung(alloc, &found, &hung, scope, begun),
+        None => prepare_found(alloc, &found, None, scope, begun),
+    }
+}
+
+/// Prepares the rescue of what is surveyed of an input, and lets that go. `Refused` if nothing stands on it, its image is no
+/// valid volume of these types, and more is wrong with it than its type. `NoMemory` if an allocation fails.
+pub fn prepare(alloc: Global, subject: Subject, types: Types) -> Result<Prepared, Unrescued>
+    ensures { Prepares (Rescues types subject.end (runs_lost subject.lost.items) subject.image.items) result }
+{
+    let mut image = subject.image;
+    let begun = Begun {
+        fault: fault_in(alloc, types, &image)?,
+        states_type: states_type(&image),
+        made_root: lacks_root(&image),
+        lost: subject.lost,
+    };
+    read_input(&mut image, begun.fault.is_some());
+    let scope = Scope {
+        types,
+        held: subject.end as usize,
+    };
+    prepare_read(alloc, &image, scope, &begun)
+}

@@ -1,0 +1,233 @@
+// Runs of findings, and their lines.
+
+ghost use Rattle.std.specs.Prelude.{◌≡◌, ◌++◌, ◌∷◌, ◌<◌, ◌≤◌, ◌^◌, [], IfNone, IfSome, OnErr, OnOk, drop, false, length};
+ghost use Rattle.std.specs.{Prelude.option_map, Prelude.slice_get, Io.KnownBytes.Appends};
+ghost use Rattle.adf_volume.specs.Walk.{Walk};
+ghost use Rattle.adf_findings.specs.Concerned.{concern_of, taker_of};
+ghost use Rattle.adf_findings.specs.{Lookup.path_to, Parts.finding_value, Survey.OnSurvey};
+ghost use Rattle.adf_texts.specs.Names.{names_text};
+ghost use Rattle.adf_runs.specs.Streams.{AppendsPart, is_device};
+ghost use Rattle.adf_subjects.specs.Lines.{are_owned_alike, are_one, blocks_text, concern_text, continues, is_beside};
+ghost use Rattle.adf_subjects.specs.Lines.{findings_line, findings_text, owner_text, run_of, runs};
+
+use adf_blocks::Cause;
+use adf_findings::{Concern, Finding, Survey};
+use adf_runs::{Sink, StreamFault, flush_long, write_all};
+use adf_texts::{push_names, push_number};
+use adf_tree::Node;
+use std::alloc::{AllocError, Global};
+
+/// Findings of neighbouring blocks, with one cause, that concern the same or nothing, and whose blocks one entry holds or none.
+#[derive(Clone, Copy, Debug, PartialEq, Eq)]
+pub struct Run {
+    pub first: u32,
+    pub last: u32,
+    pub cause: Cause,
+    pub concern: Option<Concern>,
+    pub owner: Option<Node>,
+}
+
+// Whether the findings concern the same, or nothing.
+fn are_one(a: Option<Concern>, b: Option<Concern>) -> bool
+    ensures { result ≡ are_one a b }
+{
+    match (a, b) {
+        (None, None) => true,
+        (Some(Concern::Entry(n)), Some(Concern::Entry(m))) => n == m,
+        (Some(Concern::Within(n)), Some(Concern::Within(m))) => n == m,
+        _ => false,
+    }
+}
+
+// Whether one entry holds the blocks, or none.
+fn are_owned_alike(a: Option<Node>, b: Option<Node>) -> bool
+    ensures { result ≡ are_owned_alike a b }
+{
+    match (a, b) {
+        (None, None) => true,
+        (Some(n), Some(m)) => n.0 == m.0,
+        _ => false,
+    }
+}
+
+impl Run {
+    // A finding by itself, with what it concerns and the entry that holds its block.
+    fn of(finding: &Finding, concern: Option<Concern>, owner: Option<Node>) -> Run
+        ensures { (w : Walk) → concern ≡ concern_of w (finding_value finding.now)
+            → owner ≡ taker_of w (finding_value finding.now)
+            → result ≡ run_of w (finding_value finding.now) }
+    {
+        Run {
+            first: finding.block,
+            last: finding.block,
+            cause: finding.cause,
+            concern,
+            owner,
+        }
+    }
+
+    // Whether the block is the one behind the run, or the run's only one.
+    fn is_beside(&self, block: u32) -> bool
+        ensures { result ≡ is_beside self.now block }
+    {
+        let is_next = block != 0 && block - 1 == self.last;
+        is_next || (self.first == block && self.last == block)
+    }
+
+    // Whether the run goes on with another, of one finding: the cause, what is concerned and the owner are the same, and
+    // the block is the one behind the run, or the run's only one.
+    fn continues(&self, next: &Run) -> bool
+        ensures { result ≡ continues self.now next.now }
+    {
+        let is_same = self.cause.number() == next.cause.number();
+        is_same
+            && are_one(self.concern, next.concern)
+            && are_owned_alike(self.owner, next.owner)
+            && self.is_beside(next.first)
+    }
+}
+
+// Finding `k` of a survey, counted from 0, as a run of one block; `None` past the last.
+fn run_at(survey: &Survey<'_>, k: usize) -> Option<Run>
+    ensures run { OnSurvey survey.now.image (λ w fs. result ≡ option_map (run_of w) (slice_get fs k)) }
+    ensures small { IfSome result (λ _. k < 2 ^ 63) }
+{
+    let finding = survey.findings().get(k)?;
+    Some(Run::of(finding, survey.concern_of(k), survey.owner_of(k)))
+}
+
+/// The run that begins with finding `k`, counted from 0, and the number of the finding after the run; `None` past the last.
+pub fn run_from(survey: &Survey<'_>, k: usize) -> Option<(Run, usize)>
+    ensures run { OnSurvey survey.now.image (λ w fs. IfSome result (λ next.
+        next.0 ∷ runs w (drop next.1 fs) ≡ runs w (drop k fs))) }
+    ensures none { OnSurvey survey.now.image (λ w fs. IfNone result (length fs ≤ k)) }
+    ensures behind { IfSome result (λ next. k < next.1) }
+{
+    let mut run = run_at(survey, k)?;
+    let mut next = k + 1;
+    while let Some(single) = run_at(survey, next) {
+        if !run.continues(&single) {
+            return Some((run, next));
+        }
+        run.last = single.last;
+        next += 1;
+    }
+    Some((run, next))
+}
+
+/// Appends the blocks of a run, then a byte.
+pub fn push_blocks(text: &mut Vec<u8>, first: u32, last: u32, end: u8) -> Result<(), AllocError>
+    ensures { OnOk result (text.new.items ≡ text.old.items ++ (blocks_text first last ++ end ∷ [])) }
+{
+    if first == last {
+        text.extend_from_slice(b"block ")?;
+    } else {
+        text.extend_from_slice(b"blocks ")?;
+        push_number(text, first, b' ')?;
+        text.extend_from_slice(b"to ")?;
+    }
+    push_number(text, last, end)
+}
+
+/// Appends the path of an entry, 0 for the root.
+pub fn push_path(
+    alloc: Global,
+    survey: &Survey<'_>,
+    n: Node,
+    text: &mut Vec<u8>,
+) -> Result<(), AllocError>
+    ensures { OnSurvey survey.now.image (λ w _. OnOk result
+        (text.new.items ≡ text.old.items ++ names_text (path_to survey.now.image w n))) }
+{
+    let Ok(path) = survey.path(alloc, n) else {
+        return Err(AllocError);
+    };
+    push_names(text, &path)
+}
+
+// Appends what is concerned, where there is something.
+fn push_concern(
+    alloc: Global,
+    survey: &Survey<'_>,
+    concern: Option<Concern>,
+    text: &mut Vec<u8>,
+) -> Result<(), AllocError>
+    ensures { OnSurvey survey.now.image (λ w _. OnOk result
+        (text.new.items ≡ text.old.items ++ concern_text survey.now.image w concern)) }
+{
+    match concern {
+        Some(Concern::Entry(n)) => {
+            text.extend_from_slice(b": ")?;
+            push_path(alloc, survey, Node(n as usize), text)
+        }
+        Some(Concern::Within(n)) => {
+            text.extend_from_slice(b": in ")?;
+            push_path(alloc, survey, Node(n as usize), text)?;
+            text.extend_from_slice(b"/")
+        }
+        None => Ok(()),
+    }
+}
+
+// Appends the entry that holds a block, where there is one.
+fn push_owner(
+    alloc: Global,
+    survey: &Survey<'_>,
+    owner: Option<Node>,
+    text: &mut Vec<u8>,
+) -> Result<(), AllocError>
+    ensures { OnSurvey survey.now.image (λ w _. OnOk result
+        (text.new.items ≡ text.old.items ++ owner_text survey.now.image w owner)) }
+{
+    let Some(n) = owner else {
+        return Ok(());
+    };
+    text.extend_from_slice(b": owned by ")?;
+    push_path(alloc, survey, n, text)
+}
+
+// Appends the line of a run.
+fn push_run(
+    alloc: Global,
+    survey: &Survey<'_>,
+    run: &Run,
+    text: &mut Vec<u8>,
+) -> Result<(), AllocError>
+    ensures { OnSurvey survey.now.image (λ w _. OnOk result
+        (text.new.items ≡ text.old.items ++ findings_line survey.now.image w run.now)) }
+{
+    push_blocks(text, run.first, run.last, b':')?;
+    text.extend_from_slice(b" ")?;
+    text.extend_from_slice(run.cause.text().as_bytes())?;
+    push_concern(alloc, survey, run.concern, text)?;
+    push_owner(alloc, survey, run.owner, text)?;
+    text.extend_from_slice(b"\n")
+}
+
+/// Writes the lines that wait, then those of the findings; those of neighbouring blocks are one. `Device` if the writer
+/// failed, `NoMemory` if an allocation failed; then a front part of the lines is written, and if the writer failed not all of
+/// them.
+pub fn write_runs<W: Sink>(
+    alloc: Global,
+    survey: &Survey<'_>,
+    mut text: Vec<u8>,
+    output: &mut W,
+) -> Result<(), StreamFault>
+    requires works { W.has_failed output.old ≡ false }
+    ensures ok { OnSurvey survey.now.image (λ w fs.
+        OnOk result (Appends (W.held output.old) (W.held output.new)
+        (text.items ++ findings_text survey.now.image w fs))) }
+    ensures err { OnSurvey survey.now.image (λ w fs. OnErr result (AppendsPart
+        (W.has_failed output.new) (W.held output.old) (W.held output.new)
+        (text.items ++ findings_text survey.now.image w fs))) }
+    ensures failed { W.has_failed output.new ≡ is_device result }
+{
+    let mut k = 0;
+    while let Some((run, next)) = run_from(survey, k) {
+        push_run(alloc, survey, &run, &mut text)?;
+        flush_long(output, &mut text)?;
+        k = next;
+    }
+    write_all(output, &text)?;
+    Ok(())
+}
