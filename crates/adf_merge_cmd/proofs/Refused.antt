@@ -1,7 +1,8 @@
 -- Readings that are refused, and those that are not. Letters: first is the first reading, ns the names of the readings rs.
 use Rattle.std.proofs.Common.{◌≡◌, ◌≤◌, ◌<◌, ◌+◌, ◌/◌, ◌%◌, ◌==◌, ◌∙◌, ◌++◌, ℕ, suc, Bool, true, false, not, if◌then◌else◌, List, [], ◌∷◌}
 use Rattle.std.proofs.Common.{All, IfSome, Option, take, None, Some, ap, sym, refl, arith, drop, get_or, length, eqb-true, Bor}
-use Rattle.std.proofs.{lemmas.Grind.common_steps, lemmas.List.Elements.All-cons, lemmas.List.drop_all, lemmas.List.get_or-map, lemmas.List.length-map, Math.Seq.drop-cons}
+use Rattle.std.proofs.{lemmas.Grind.common_steps, lemmas.List.Elements.All-cons, lemmas.List.drop_all, lemmas.List.get_or-map}
+use Rattle.std.proofs.{lemmas.List.length-map, Math.Seq.drop-cons}
 use Rattle.clap.specs.Words.{Text}
 use Rattle.adf_names.specs.Escapes.{escaped}
 use Rattle.adf_words.specs.CommandLine.{texts_of}

@@ -3,7 +3,8 @@
 ghost use Rattle.std.specs.Prelude.{◌≡◌, IfErr, IfOk, [], ◌∷◌, codes, option_map, unwrap_or};
 ghost use Rattle.clap.specs.Words.{all_of, app_of, fault_of, found_of, matches_of, rows_of};
 ghost use Rattle.adf_words.specs.{CommandLine.texts_of, declared.command_line.ArgsError.TheVariants.Usage};
-ghost use Rattle.adf_merge_cmd.specs.CommandLine.{AreRefusedByMerge, AsksMerge, ExplainsMergeArgs, are_enough, merge_app, reading_names};
+ghost use Rattle.adf_merge_cmd.specs.CommandLine.{AreRefusedByMerge, AsksMerge, ExplainsMergeArgs, are_enough, merge_app};
+ghost use Rattle.adf_merge_cmd.specs.CommandLine.{reading_names};
 
 use adf_file_runs::About;
 use adf_readings::MOST_READINGS;
@@ -90,7 +91,8 @@ pub fn parse_merge<'a>(alloc: Global, args: &'a [&str]) -> Result<Vec<&'a str>, 
 #[tactic(auto, unfolding(clap::proofs::OnLiterals::clap_on_literals))]
 pub fn merge_words_as_documented()
     ensures two { AsksMerge (codes "adf-merge" ∷ codes "a.adf" ∷ codes "b.adf" ∷ []) (codes "a.adf" ∷ codes "b.adf" ∷ []) }
-    ensures three { AsksMerge (codes "adf-merge" ∷ codes "a" ∷ codes "b" ∷ codes "c" ∷ []) (codes "a" ∷ codes "b" ∷ codes "c" ∷ []) }
+    ensures three { AsksMerge (codes "adf-merge" ∷ codes "a" ∷ codes "b" ∷ codes "c" ∷ [])
+        (codes "a" ∷ codes "b" ∷ codes "c" ∷ []) }
     ensures any_files { AsksMerge (codes "adf-merge" ∷ codes "--" ∷ codes "-a" ∷ codes "-b" ∷ []) (codes "-a" ∷ codes "-b" ∷ []) }
     ensures none { AreRefusedByMerge (codes "adf-merge" ∷ []) }
     ensures one { AreRefusedByMerge (codes "adf-merge" ∷ codes "a.adf" ∷ []) }

@@ -26,7 +26,8 @@ pub enum Unread<'a> {
 
 // The bytes of the file of a name.
 fn read_one<'a, F: Files>(alloc: Global, files: &F, name: &'a str) -> Result<Vec<u8>, Unread<'a>>
-    ensures ok { IfOk result (λ bytes. IfSome (F.bytes_of files.now name.entry.now) (λ all. bytes.items ≡ take (MOST_BYTES + 1) all)) }
+    ensures ok { IfOk result (λ bytes.
+        IfSome (F.bytes_of files.now name.entry.now) (λ all. bytes.items ≡ take (MOST_BYTES + 1) all)) }
     ensures fault { IfErr result (IsUnreadOf name.entry.now) }
 {
     match files.open(name.as_bytes()) {

@@ -1,5 +1,6 @@
 -- Every text has a plan, or a fault. k is how many bytes are left at most; t is a text, p a partition, ps partitions, e what is behind their lines.
-use Rattle.std.proofs.Common.{◌≡◌, ◌≢◌, ◌∙◌, ◌≤◌, ◌+◌, ◌==◌, ◌⊎◌, ℕ, ℤ, zero, suc, Bool, true, false, not, ◌&&◌, if◌then◌else◌, List, [], ◌∷◌, Option, None, Some, ap, arith, codes, inl, inr, length, refl}
+use Rattle.std.proofs.Common.{◌≡◌, ◌≢◌, ◌∙◌, ◌≤◌, ◌+◌, ◌==◌, ◌⊎◌, ℕ, ℤ, zero, suc, Bool, true, false, not, ◌&&◌, if◌then◌else◌, List, [], ◌∷◌, Option}
+use Rattle.std.proofs.Common.{None, Some, ap, arith, codes, inl, inr, length, refl}
 use Rattle.std.proofs.{Common.subst, Common.sym, Math.IntN.ℤ_discrete, lemmas.Int.SFits-int_wrap, lemmas.Int.int_wrap_fits}
 use Rattle.std.specs.{Prelude.FitsSigned, Int.int_wrap, Int.w8, List.list_all}
 use native.Mathlib.Decide.{dec_le, map_dec}
@@ -14,7 +15,8 @@ use Rattle.adf_plans.specs.{declared.plan_line.Options.Options, PlanTexts.option
 use Rattle.adf_plans.specs.declared.plan_text.TextKind.TheVariants.{BadLine, NoEnd, TooLarge}
 use Rattle.adf_plans.specs.{declared.plan_text.TextFault.TextFault, declared.plan_text.TextKind.TextKind}
 use Rattle.adf_plans.specs.PlanTexts.{AreLines, HasLines, HasPlanOrFault, IsDiskLine, IsPartitionLine, IsPartitionText, HasNoPartition, behind_line}
-use Rattle.adf_plans.specs.PlanTexts.{behind_word, ends_in_space, first_line, first_word, has_size, has_volume, has_word, begins_with_end, is_plan, kind_word, decimal_number}
+use Rattle.adf_plans.specs.PlanTexts.{behind_word, ends_in_space, first_line, first_word, has_size, has_volume, has_word, begins_with_end}
+use Rattle.adf_plans.specs.PlanTexts.{decimal_number, is_plan, kind_word}
 use Rattle.adf_plans.specs.PlanTexts.{first_volume_fault, plan_fault}
 
 -- whether two truth values are equal

@@ -23,7 +23,8 @@ joined_length f (suc n) each =
 
 -- the front of what is joined
 pub joined_front : (f : ℕ → List ℕ) (k m : ℕ) → (rest : List ℕ) × (flat_map f (range_with_len 0 (k + m)) ≡ flat_map f (range_with_len 0 k) ++ rest)
-joined_front f k zero = ([], ap (λ n. flat_map f (range_with_len 0 n)) (let e : k + 0 ≡ k = omega arith in e) ∙ sym (append-nil (flat_map f (range_with_len 0 k))))
+joined_front f k zero =
+    ([], ap (λ n. flat_map f (range_with_len 0 n)) (let e : k + 0 ≡ k = omega arith in e) ∙ sym (append-nil (flat_map f (range_with_len 0 k))))
 joined_front f k (suc m) =
     let front = joined_front f k m in (
       front.0 ++ f (k + m),
@@ -40,7 +41,8 @@ joined_block f n b lt each =
     let long : length before ≡ b * 512 = joined_length f b (λ k less. each k (omega arith)) in
     let one : length (f b) ≡ 512 = each b lt in
     let all : flat_map f (range_with_len 0 n) ≡ before ++ (f b ++ front.0) =
-    ap (λ k. flat_map f (range_with_len 0 k)) (let e : n ≡ b + 1 + (n - (b + 1)) = omega arith in e) ∙ (front.1 ∙ (ap (λ xs. xs ++ front.0) (joined_more f b) ∙ append_assoc before (f b) front.0)) in
+    ap (λ k. flat_map f (range_with_len 0 k)) (let e : n ≡ b + 1 + (n - (b + 1)) = omega arith in e)
+    ∙ (front.1 ∙ (ap (λ xs. xs ++ front.0) (joined_more f b) ∙ append_assoc before (f b) front.0)) in
     let behind : drop (b * 512) (flat_map f (range_with_len 0 n)) ≡ f b ++ front.0 =
     ap (drop (b * 512)) all ∙ (ap (λ k. drop k (before ++ (f b ++ front.0))) (sym long) ∙ drop-append_seam before (f b ++ front.0)) in
     ap (λ xs. take (b * 512 + 512 - b * 512) xs) behind

@@ -1,5 +1,6 @@
 -- A reading that prevails at a block. Letters: b the number of the block, rs the readings, r the one that prevails; v and w versions, vs all of them.
-use Rattle.std.proofs.Common.{◌≡◌, ◌≤◌, ◌<◌, ◌+◌, ◌-◌, ◌*◌, ◌⊎◌, ◌∙◌, ◌==◌, ◌||◌, ℕ, suc, Bool, true, false, if◌then◌else◌, List, [], ◌∷◌, Contains, ap, sym, refl, arith}
+use Rattle.std.proofs.Common.{◌≡◌, ◌≤◌, ◌<◌, ◌+◌, ◌-◌, ◌*◌, ◌⊎◌, ◌∙◌, ◌==◌, ◌||◌, ℕ, suc, Bool, true, false, if◌then◌else◌, List, [], ◌∷◌, Contains}
+use Rattle.std.proofs.Common.{ap, arith, refl, sym}
 use Rattle.std.proofs.{Common.inl, Common.inr, Common.count_by, Common.length, Common.subst, Common.eq-eqb, Common.ne_eqb, lemmas.List.Sums.count_by-le-length}
 use Rattle.std.specs.Str.{bytes_eq}
 use Rattle.adf_base.specs.Words.{block}
@@ -69,7 +70,8 @@ pub prevailing_taken : (b : ℕ) (r : List ℕ) (rs : List (List ℕ)) → Conta
 prevailing_taken b r rs contains (inl agree) =
     all_same b (block r b) (versions rs b) (each_version (λ w. w ≡ block r b) rs b agree) (has rs b r contains)
 prevailing_taken b r rs contains (inr credible) =
-    wins b (block r b) (versions rs b) (each_so (IsRival b (block r b)) (λ w. (w ≡ block r b) ⊎ (weight b (versions rs b) w < weight b (versions rs b) (block r b)))
+    wins b (block r b) (versions rs b)
+    (each_so (IsRival b (block r b)) (λ w. (w ≡ block r b) ⊎ (weight b (versions rs b) w < weight b (versions rs b) (block r b)))
     (versions rs b) (lighter b (versions rs b) (block r b) credible.0) (each_version (IsRival b (block r b)) rs b credible.1)) (has rs b r contains)
 
 settled_votes : (b : ℕ) (v : List ℕ) (vs : List (List ℕ)) → taken b vs ≡ v
