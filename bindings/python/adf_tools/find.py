@@ -18,9 +18,10 @@ from adf_tools.program import FAILED, NOT_FOUND, command_line, host_text, stop
 SUM_COLUMNS = {8: "crc32", 32: "md5", 40: "sha1", 64: "sha256"}
 SUM = re.compile("[0-9a-f]+")
 HIDDEN = re.compile("[\x7f-\x9f\u200b-\u200f\u2028-\u202e\u2060-\u206f\ufeff\ud800-\udfff]")  # what JSON has as it is, and no terminal shows
-FIELDS = "images.name AS image, entries.path, entries.kind, entries.size, entries.date, entries.state, entries.sha256"
+PLACE = "images.name AS image, entries.path"
+FIELDS = f"{PLACE}, entries.kind, entries.size, entries.date, entries.state, entries.sha256"
 OF_IMAGE = "images.name AS image, NULL AS path, kind, bytes AS size, altered AS date, verdict AS state, sha256"
-BY_ENTRY = f"""SELECT {FIELDS} FROM entry_words JOIN entries ON entries.id = entry_words.rowid JOIN images ON images.id = image
+BY_ENTRY = """SELECT {} FROM entry_words JOIN entries ON entries.id = entry_words.rowid JOIN images ON images.id = image
 WHERE entry_words MATCH ? ORDER BY images.name, images.number, entries.id"""
 BY_IMAGE = f"""SELECT {OF_IMAGE} FROM image_words JOIN images ON images.id = image_words.rowid
 WHERE image_words MATCH ? ORDER BY images.name, images.number"""
@@ -36,10 +37,10 @@ def query_of(texts: Sequence[str]) -> str:
     return " ".join(f'"{word}"*' for word in words)
 
 
-def by_words(connection: sqlite3.Connection, words: Sequence[str]) -> Iterator[sqlite3.Row]:
-    """The images whose name or label has the words, and then the entries whose path or comment has them."""
+def by_words(connection: sqlite3.Connection, words: Sequence[str], fields: str = FIELDS) -> Iterator[sqlite3.Row]:
+    """The images whose name or label has the words, and then the entries whose path or comment has them, with these fields."""
     yield from connection.execute(BY_IMAGE, (query_of(words),))
-    yield from connection.execute(BY_ENTRY, (query_of(words),))
+    yield from connection.execute(BY_ENTRY.format(fields), (query_of(words),))
 
 
 def by_text(connection: sqlite3.Connection, words: Sequence[str], out: str) -> Iterator[sqlite3.Row]:
@@ -59,6 +60,8 @@ def by_sum(connection: sqlite3.Connection, digits: str) -> Iterator[sqlite3.Row]
 
 def plain(text: object) -> str:
     """A text of a database in one line, of which a terminal shows all, and does nothing that it says."""
+    if isinstance(text, str) and text.isascii() and text.isprintable():
+        return text
     return HIDDEN.sub(lambda found: adf.escape(found[0].encode("utf-8", "replace")), one_line(text))
 
 
@@ -84,8 +87,10 @@ def work(words: argparse.Namespace) -> int:
     with database.asked(os.path.join(words.out, database.NAME)) as connection:
         if words.sum:
             rows = by_sum(connection, words.sum)
+        elif words.text:
+            rows = by_text(connection, words.words, words.out)
         else:
-            rows = by_text(connection, words.words, words.out) if words.text else by_words(connection, words.words)
+            rows = by_words(connection, words.words, FIELDS if words.json else PLACE)
         for row in rows:
             sys.stdout.buffer.write((line_of(row, words.json) + "\n").encode("utf-8", "backslashreplace"))
             count += 1
