@@ -90,7 +90,11 @@ const FAULTS: &[(&[u8], usize, TextKind)] = &[
         TextKind::BadLine,
     ),
     (b"disk 0 2\nend\n", 2, TextKind::TooLarge),
-    (b"disk 1 3\npartition A ofs 1\nend\n", 2, TextKind::BadVolume),
+    (
+        b"disk 1 3\npartition A ofs 1\nend\n",
+        2,
+        TextKind::BadVolume,
+    ),
     (
         b"disk 1 3\npartition A ofs 2\npartition B ofs 1 given\npartition C ofs 1\nend\n",
         4,
