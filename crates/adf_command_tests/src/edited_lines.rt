@@ -1,5 +1,5 @@
-// Lines of `adf-edit` without what they are about, and without a text. The slot of `a` is (13 + 0x41) % 72 = 6, word 12 of the root; the
-// length of a comment is byte 328 of its header, that of the label byte 432 of the root.
+// Lines of `adf-edit` without what they are about, and without a text. The slot of `a` is (13 + 0x41) % 72 = 6, word 12 of the root;
+// the length of a comment is byte 328 of its header, that of the label byte 432 of the root.
 
 use adf_build::build;
 use adf_edit_cmd::{Stop, new_image};
@@ -37,6 +37,14 @@ fn lines_without_what_they_are_about_are_bad(rt: HostRuntime) {
         let made = image_by(rt.alloc(), script).expect(&rt, "a volume");
         assert_eq!(rt; made.err(), Some(Stop::BadLine(*line)));
     }
+}
+
+#[test]
+fn bytes_of_files_are_counted(rt: HostRuntime) {
+    let script = b"file a:8000\nfile b:200\nend\n";
+    let made = image_by(rt.alloc(), script).expect(&rt, "a volume");
+    let (need, have) = (8200, 8192);
+    assert_eq!(rt; made.err(), Some(Stop::Short { need, have }));
 }
 
 // A byte of an image; 255 past its end.
