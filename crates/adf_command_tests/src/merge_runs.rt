@@ -7,7 +7,7 @@ use adf_file_runs::{Files, Unopened};
 use adf_merge_cmd::run;
 use std::alloc::Global;
 
-// A disk whose block 2 is an OFS data block with its checksum, and block 3 text, as three readings have it; and no readings.
+// Three readings of a disk whose block 2 is an OFS data block with its checksum, and block 3 text; and files that are none.
 #[derive(Drop)]
 struct Folder<'a> {
     whole: &'a [u8],
