@@ -580,8 +580,9 @@ uint8_t adf_rescue(const uint8_t *image, size_t length, uint32_t blocks, uint8_t
 /* The same, with the letters of the image, as `adf-survey rescue --keep-type` does: of an image of type 2 or 4 the volume is of type
  * 2, of one of type 3 or 5 of type 3, and adf_check_types accepts it. Others have the volume of adf_rescue.
  */
-uint8_t adf_rescue_types(const uint8_t *image, size_t length, uint32_t blocks, uint8_t *room, size_t room_length, struct adf_loss *losses,
-                         size_t losses_room, uint8_t *paths, size_t paths_room, struct adf_rescue_told *told);
+uint8_t adf_rescue_types(const uint8_t *image, size_t length, uint32_t blocks, uint8_t *room, size_t room_length,
+                         struct adf_loss *losses, size_t losses_room, uint8_t *paths, size_t paths_room,
+                         struct adf_rescue_told *told);
 
 /* Writes the escape form of a name to the front of the room, as far as it fits, and returns the length of the whole text, at most
  * four times that of the name: a byte outside 32 to 126, and the backslash, is \xHH, as in the paths of adf_find. A `/` or `:`, which

@@ -17,9 +17,9 @@ from adf.volumes import Volume
 
 
 class Rescued(Volume):
-    """The volume of what stands in an image that is refused: its rescue, in memory, with the letters of the image. `left_out` is what is not in it, and what is in it in
-    doubt, and `findings` all that is wrong with the image, by its `survey`; `refused` says why it is refused. Its blocks, and the headers
-    of its entries, are not those of the image. Refused if nothing stands."""
+    """The volume of what stands in an image that is refused: its rescue, in memory, with the letters of the image. `left_out` is what is not
+    in it, and what is in it in doubt, and `findings` all that is wrong with the image, by its `survey`; `refused` says why it is refused.
+    Its blocks, and the headers of its entries, are not those of the image. Refused if nothing stands."""
 
     _given: tuple[bytes, Path | None, int | None] | None
     _left_out: list[LeftOut]
