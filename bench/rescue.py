@@ -216,15 +216,33 @@ def is_child(image, b, t):
     return claims(image, t, 2) and words(image, t)[125] == b and sealed(image, t)
 
 
+def is_home(image, p):
+    return p == len(image) // 1024 or 2 <= p < len(image) // 512 and says_dir(image, p)
+
+
+def is_led(image, p, b):
+    """Header b is one of the first 72 members of the chain of directory p in the slot of its name."""
+    name = image[512 * b + 433 : 512 * b + 433 + image[512 * b + 432]]
+    if not is_name(name):
+        return False
+    at = words(image, p)[6 + slot(name, image[3] >= 2)]
+    for _ in range(SLOTS):
+        if at == b or not claims(image, at, 2):
+            return at == b
+        at = words(image, at)[124]
+    return False
+
+
 def pruned(image):
-    """The image in which each header with a wrong sum names another directory, if its sum is right then; or leads only to what says that it
-    is such a part, or else its chain is broken; and is a directory if it leads to a header that names it."""
+    """The image in which each header with a wrong sum names another directory, if its sum is right then, and if word 125 names none, or the
+    other one leads to it; or leads only to what says that it is such a part, or else its chain is broken; and is a directory if it leads
+    to a header that names it."""
     new, blocks = bytearray(image), len(image) // 512
     for b in range(2, blocks):
         if not claims(new, b, 2) or b == blocks // 2 or sealed(new, b):
             continue
         home = (words(new, b)[125] - sum(words(new, b))) % 2**32
-        if home == blocks // 2 or 2 <= home < blocks and says_dir(new, home):
+        if is_home(new, home) and (not is_home(new, words(new, b)[125]) or is_led(new, home, b)):
             pack_into(">I", new, 512 * b + 500, home)
             continue
         if words(new, b)[127] != DIR and any(is_child(new, b, t) for t in words(new, b)[6:78]):

@@ -29,6 +29,7 @@ mod walk_owners;
 pub use crate::concern::Concern;
 pub use crate::file::SoundFile;
 pub use crate::finding::Finding;
+pub use crate::header_name::slot_named;
 pub use crate::image::says_data_of;
 pub use crate::laws::{
     all_sound, directories_first, findings_of_types, first_finding, fits_or_fault,

@@ -4,8 +4,7 @@ ghost use Rattle.std.specs.Prelude.{◌≡◌, ◌≤◌, ◌<◌, ◌↔◌, �
 ghost use Rattle.std.specs.Prelude.{◌*◌, IfOk, IfSome, length};
 ghost use Rattle.std.specs.Option.{option_flatten};
 ghost use Rattle.adf_blocks.specs.{HeadBlock.body_at, HeadBlock.meta_stated, Sizes.blocks, Sizes.is_allowed};
-ghost use Rattle.adf_base.specs.{Hash.slot_by, Words.block};
-ghost use Rattle.adf_names.specs.Texts.{is_name};
+ghost use Rattle.adf_base.specs.Words.{block};
 ghost use Rattle.adf_volume.specs.Image.{letters_of, name_of};
 ghost use Rattle.adf_volume.specs.Walk.{FileAt, Has, heads, node_block, Role.Head};
 ghost use Rattle.adf_findings.specs.Concerned.{concern_of_nth, number_alone, taker_of_nth};
@@ -23,7 +22,7 @@ use crate::opening::Opening;
 use crate::owners::{data_number_of, entry_at, owner_nth};
 use crate::start::start;
 use crate::walk_owners::WalkOwners;
-use adf_base::{Block, Letters, NoMemory, slot_by};
+use adf_base::{Block, Letters, NoMemory};
 use adf_blocks::{HeadBody, SECONDARY_TYPE, ST_FILE, meta_stated};
 use adf_tree::{Meta, Name, Node};
 use adf_volume::letters_in;
@@ -238,24 +237,6 @@ impl Survey<'_> {
         match self.header(n) {
             Some(head) => Some(name_in(&head)),
             None => None,
-        }
-    }
-
-    /// The slot of the name in a block, by the letters of the volume; `None` if the name is not valid.
-    #[tactic(auto, using(crate::proofs::Names::cut_name))]
-    pub fn slot_named(&self, b: u32) -> Option<u8>
-        requires sized { length self.now.image ≡ 512 * blocks self.now.image }
-        requires inside { b < blocks self.now.image }
-        ensures some { IsSome result ↔ IsTrue (is_name (name_of self.now.image b)) }
-        ensures slot { IfSome result (λ s. s ≡ slot_by (letters_of self.now.image) (name_of self.now.image b)) }
-        ensures small { IfSome result (λ s. s < 72) }
-    {
-        let head = Block::at(self.image, b).unwrap();
-        let name = name_in(&head);
-        if Name::is_name(name) {
-            Some(slot_by(self.letters(), name))
-        } else {
-            None
         }
     }
 

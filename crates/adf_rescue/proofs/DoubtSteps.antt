@@ -1,7 +1,7 @@
 -- The entries kept in doubt, with one more verdict.
 -- Letters: doubt the doubt about each node; vs verdicts; n the node of the first one; k a number of verdicts.
-use Rattle.std.specs.{List.cons_option, Prelude.Option, Prelude.None}
-use Rattle.std.proofs.Common.{◌≡◌, ◌≤◌, ◌∙◌, ◌+◌, ℕ, Bool, false, zero, suc, List, [], ◌∷◌, ◌++◌, add-one, ap, arith, length, map, refl, take, take_all}
+use Rattle.std.specs.{List.cons_option, Prelude.Option}
+use Rattle.std.proofs.Common.{◌≡◌, ◌≤◌, ◌∙◌, ◌+◌, ℕ, Bool, zero, suc, List, [], ◌∷◌, ◌++◌, add-one, ap, arith, length, map, refl, take, take_all}
 use Rattle.std.proofs.lemmas.Grind.{common_steps}
 use Rattle.adf_findings.specs.Members.{has_mark}
 use Rattle.adf_rescue.specs.{Doubts.doubts_from, Doubts.kept_in_doubt, declared.doubts.Doubt.Doubt, declared.doubts.Doubtful.Doubtful}
@@ -9,9 +9,6 @@ use Rattle.adf_rescue.specs.Rescue.{Verdict, added_marks, is_added}
 use Rattle.adf_rescue.proofs.LossSteps.{cons_append}
 
 module _ (doubt : ℕ → Option Doubt) where
-  nothing_kept : (n : ℕ) (o : Option Doubt) → kept_in_doubt n o false ≡ None
-  nothing_kept n o = refl
-
   doubts_more : (n : ℕ) (vs : List Verdict) (k : ℕ) → doubts_from doubt n (take (suc k) vs)
       ≡ doubts_from doubt n (take k vs) ++ cons_option (kept_in_doubt (k + n) (doubt (k + n)) (has_mark (map is_added vs) k)) []
   doubts_more n [] zero = refl

@@ -3,7 +3,7 @@
 -- word; k that of one too, or a number of blocks or nodes;
 -- x, y, z images.
 use Rattle.std.proofs.Common.{◌==◌, ◌&&◌, ◌||◌, ◌%◌, ◌/◌, None, Some, cond, is_some, option_map, Option, replicate, slice_index, ◌≡◌, ◌≢◌, ◌≤◌, ◌<◌, ℕ}
-use Rattle.std.proofs.Common.{zero, suc, ◌*◌, ◌+◌, ◌-◌, ◌^◌, Bool, true, false, List, [], ◌∷◌, length, ◌∙◌, ap, arith, inl, inr, refl, subst, sym, ◌⊎◌}
+use Rattle.std.proofs.Common.{zero, suc, ◌*◌, ◌+◌, ◌^◌, Bool, true, false, List, [], ◌∷◌, length, ◌∙◌, ap, arith, inl, inr, refl, subst, sym, ◌⊎◌}
 use Rattle.std.specs.{Prelude.nat_le, Prelude.nat_lt, Option.unwrap_or}
 use Rattle.std.proofs.lemmas.Bool.{and_left, and_parts, and_right, cases_Bool, cond-false, cond-true, cond_both, not_from_true, or_left, or_right}
 use Rattle.std.proofs.{lemmas.Bool.eq-eqb, lemmas.Bool.eqb-true, lemmas.Bool.Decides.nat_tests, lemmas.List.length-replicate, lemmas.Grind.common_steps}
@@ -269,7 +269,8 @@ module _ (given : List ℕ) (w : Walk) (s : ℕ → Bool) (len : is_image_len (l
       ]))
       (λ out. keeps_all x))
       (λ free.
-      at_keeps x b p same inside loose p (slot_word given p b) (home_inside b p is) (slot_small given p b) (λ c apart at. apart.0 b (is ∙ ap (λ q. Some q) (sym at)))
+      at_keeps x b p same inside loose p (slot_word given p b) (home_inside b p is) (slot_small given p b)
+      (λ c apart at. apart.0 b (is ∙ ap (λ q. Some q) (sym at)))
       (λ before owned. let yes = subst (λ v. owns w v ≡ true) (sym (before p (slot_word given p b) owned)) owned.3 in cc))
 
   home_touches : (x : List ℕ) (b : ℕ) (o : Option ℕ) → length x ≡ length given → b < blocks given → home given w s b ≡ o

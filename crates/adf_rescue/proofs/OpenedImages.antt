@@ -5,11 +5,10 @@ use Rattle.std.proofs.Common.{take, drop, ◌∙◌, add-one, ap, arith, codes, 
 use Rattle.std.proofs.lemmas.Bool.{and_from, and_left, and_parts, and_right, cases_Bool, cases_lt, cond-false, cond-true, cond_both, not_from_false}
 use Rattle.std.proofs.{lemmas.Bool.not_from_true, lemmas.Bool.or_from, lemmas.Bool.or_left, lemmas.Bool.or_right, lemmas.Grind.common_steps}
 use Rattle.std.proofs.lemmas.List.{drop-drop, get_or-take, length-take, take_all}
-use Rattle.adf_base.specs.{Words.block, Words.long_sum, Words.with_bytes, Words.word, declared.hash.Letters.Letters}
-use Rattle.adf_tree.specs.Tree.{Tree}
+use Rattle.adf_base.specs.{Words.block, Words.long_sum, Words.with_bytes, Words.word}
 use Rattle.adf_blocks.specs.declared.layout.TheConstants.{BITMAP_FLAG, FIRST_MAP_EXT, FIRST_SLOT, SECONDARY_TYPE, SLOTS, ST_ROOT, TYPE, T_SHORT}
 use Rattle.adf_blocks.specs.{RootBlock.label_stated, RootBlock.stamps_at, Sizes.blocks, Sizes.middle}
-use Rattle.adf_volume.specs.{Fits.FitsBy, Image.root_of, Image.word_in, Layout.Layout, Start.is_image_len}
+use Rattle.adf_volume.specs.{Image.root_of, Image.word_in, Start.is_image_len}
 use Rattle.adf_findings.specs.{Opening.opening_in, Start.has_root_type}
 use Rattle.adf_names.specs.{Meta.AreStamps, declared.meta.TheConstants.NO_STAMPS}
 use Rattle.adf_rescue.specs.MadeRoot.{has_root, is_like_root, made_block, middle_block, rooted}
@@ -271,15 +270,3 @@ type_opened image len = elim (cases_Bool (is_mended image)) [
   | inl mended ↦ ap states_type (opened_mended image mended) ∙ type_rooted image len
   | inr kept ↦ ap states_type (opened_kept image kept) ∙ kept_type (is_image_len (length image)) (states_type image) (has_root image) kept len
 ]
-
--- an image that a tree fits is not mended
-
-type_tests : (a b c d : Bool) → (a && b && c && d) ≡ true → ((a && b && c) && d) ≡ true
-type_tests a b c d h = grind (arith, common_steps, and_parts, and_from)
-
-first_block : (image : List ℕ) → states_type (block image 0) ≡ states_type image
-unfolding block
-first_block image = first_bytes image 512 (omega arith)
-
-pub volumes_are_kept : (letters : Letters) (image : List ℕ) (t : Tree) (l : Layout) → FitsBy letters image t l → is_mended image ≡ false
-volumes_are_kept letters image t l fits = grind (arith, common_steps, first_block, type_tests, and_from, and_right, not_from_true)

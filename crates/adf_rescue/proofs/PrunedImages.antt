@@ -1,12 +1,14 @@
 -- Pruned images: the steps, and what stays.
 -- Letters: b, c blocks; i, j words; k, n numbers of slots or blocks; x, y images.
-use Rattle.std.proofs.Common.{◌≡◌, ◌<◌, ℕ, zero, suc, ◌+◌, true, false, List, length, add-one, ◌∙◌, ap, arith}
+use Rattle.std.proofs.Common.{◌≡◌, ◌==◌, ◌&&◌, ◌||◌, ◌<◌, ◌≤◌, ◌-◌, ℕ, zero, suc, ◌+◌, true, false, List, length, add-one, ◌∙◌, ap, arith}
 use Rattle.std.proofs.Common.{inl, inr, refl, subst}
-use Rattle.std.proofs.lemmas.Bool.{cases_lt, cond-false, cond-true, or_from, or_left, or_right}
-use Rattle.adf_blocks.specs.{declared.layout.TheConstants.FIRST_SLOT, Sizes.blocks}
+use Rattle.std.proofs.lemmas.Bool.{and_parts, cases_lt, cond-false, cond-true, eqb-true, or_cases, or_from, or_left, or_right}
+use Rattle.std.proofs.{lemmas.Bool.Decides.nat_tests, lemmas.Grind.common_steps}
+use Rattle.adf_blocks.specs.{declared.layout.TheConstants.FIRST_SLOT, declared.layout.TheConstants.NEXT_IN_CHAIN, declared.layout.TheConstants.SLOTS, Sizes.blocks}
 use Rattle.adf_volume.specs.{Image.word_in, Start.is_image_len}
-use Rattle.adf_rescue.specs.Pruned.{is_child_of}
+use Rattle.adf_rescue.specs.{Claims.claims_header, Pruned.chain_has, Pruned.is_child_of, Pruned.is_home}
 use Rattle.adf_rescue.specs.Pruned.{leads_to_child, pruned, pruned_at, pruned_first, slot_pruned, slots_pruned}
+use Rattle.adf_rescue.proofs.MadeRoots.{root_within}
 
 -- the steps
 
@@ -43,6 +45,34 @@ pub ruleset child_steps = (no_child_first, no_child_more, one_child)
 
 -- what a loop that prunes the slots needs
 pub ruleset slots_steps = (slots_first, slots_more)
+
+-- the members of a chain: k of them were read, c is the next
+
+module _ (image : List ℕ) (c b k : ℕ) where
+  pub chain_ends : SLOTS ≤ k → chain_has image (SLOTS - k) c b ≡ false
+  unfolding chain_has
+  chain_ends past = let none : SLOTS - k ≡ 0 = omega (arith, past) in rw none refl
+
+  chain_step : k < SLOTS → chain_has image (SLOTS - k) c b ≡ ((c == b) || claims_header image c && chain_has image (SLOTS - (k + 1)) (word_in image c NEXT_IN_CHAIN) b)
+  unfolding chain_has
+  chain_step lt = let more : SLOTS - k ≡ suc (SLOTS - (k + 1)) = omega (arith, lt) in rw more refl
+
+  pub chain_here : k < SLOTS → (c == b) ≡ true → chain_has image (SLOTS - k) c b ≡ true
+  chain_here lt here = chain_step lt ∙ or_left (c == b) _ here
+
+  pub chain_broken : k < SLOTS → (c == b) ≡ false → claims_header image c ≡ false → chain_has image (SLOTS - k) c b ≡ false
+  chain_broken lt other none = let step = chain_step lt in cc
+
+  pub chain_next : k < SLOTS → (c == b) ≡ false → claims_header image c ≡ true
+      → chain_has image (SLOTS - (k + 1)) (word_in image c NEXT_IN_CHAIN) b ≡ chain_has image (SLOTS - k) c b
+  chain_next lt other claims = let step = chain_step lt in cc
+
+-- what a loop over the members of a chain needs
+pub ruleset chain_steps = (chain_ends, chain_here, chain_broken, chain_next)
+
+-- a directory that a header may be in is in the image
+pub home_within : (image : List ℕ) (p : ℕ) → is_image_len (length image) ≡ true → is_home image p ≡ true → p < blocks image
+home_within image p len home = grind (arith, common_steps, nat_tests, or_cases, and_parts, eqb-true, root_within)
 
 pub none_pruned : (image : List ℕ) → pruned_first image 0 ≡ image
 unfolding pruned_first

@@ -5,12 +5,14 @@ use Rattle.std.proofs.Common.{◌⊎◌, inl, inr, refl, subst, sym}
 use Rattle.std.proofs.lemmas.Bool.{and_left, and_parts, and_right, cases_Bool, cases_lt, cond-false, cond-true, cond_both, eq-eqb, eqb-true, not_from_true}
 use Rattle.std.proofs.{lemmas.Bool.Decides.nat_tests, lemmas.Grind.common_steps}
 use Rattle.adf_base.specs.Words.{block, checksum, long_sum, with_word, word}
-use Rattle.adf_base.proofs.WordLaws.{block_other, block_written, length-block, length-with_bytes, length-with_word, sealed_block, word-with_word_other, word-with_word_same}
-use Rattle.adf_blocks.specs.declared.layout.TheConstants.{EXTENSION, FIRST_SLOT, NEXT_IN_CHAIN, OWN_KEY, PARENT, SECONDARY_TYPE, SLOTS, ST_DIR, TYPE, T_LIST, T_SHORT}
+use Rattle.adf_base.proofs.WordLaws.{block_other, block_written, length-block, length-with_bytes, length-with_word, sealed_block, word-with_word_other}
+use Rattle.adf_base.proofs.WordLaws.{word-with_word_same}
+use Rattle.adf_blocks.specs.declared.layout.TheConstants.{EXTENSION, FIRST_SLOT, NEXT_IN_CHAIN, OWN_KEY, PARENT, SECONDARY_TYPE, SLOTS, ST_DIR, TYPE}
+use Rattle.adf_blocks.specs.declared.layout.TheConstants.{T_LIST, T_SHORT}
 use Rattle.adf_blocks.specs.Sizes.{blocks}
 use Rattle.adf_volume.specs.{Image.root_of, Image.word_in, Start.is_image_len}
 use Rattle.adf_rescue.specs.{Hung.put_in, Claims.claims_header, Claims.claims_type, Pruned.chain_pruned, Pruned.directory_typed, Pruned.has_directory_type}
-use Rattle.adf_rescue.specs.{Opened.opened, Pruned.IsMended, Pruned.homed, Pruned.is_home, Pruned.parent_summed}
+use Rattle.adf_rescue.specs.{Opened.opened, Pruned.IsMended, Pruned.homed, Pruned.is_displaced}
 use Rattle.adf_rescue.specs.Pruned.{chain_leads, extension_leads, extension_pruned, put_unless, slot_leads, LeadsToParts}
 use Rattle.adf_rescue.specs.Pruned.{header_pruned, image_read, is_in_doubt, leads_to_child, may_be_pruned, pruned, pruned_at, pruned_first, slots_pruned}
 use Rattle.adf_rescue.proofs.{OpenedImages.length_opened, PrunedImages.all_pruned}
@@ -234,16 +236,16 @@ header_leads x b inside =
 
 -- the image with header b mended
 abbrev mended : List ℕ → ℕ → List ℕ
-mended x b = cond (is_home x (parent_summed x b)) (homed x b) (header_pruned x b)
+mended x b = cond (is_displaced x b) (homed x b) (header_pruned x b)
 
 mended_leads : (x : List ℕ) (b : ℕ) → b < blocks x → IsMended (mended x b) b
 mended_leads x b inside =
-    cond_both (is_home x (parent_summed x b)) (homed x b) (header_pruned x b) (λ y. IsMended y b)
+    cond_both (is_displaced x b) (homed x b) (header_pruned x b) (λ y. IsMended y b)
     (λ home. inl (sealed_block x b PARENT (whole x b inside) (omega arith))) (λ none. inr (header_leads x b inside))
 
 mended_prunes : (x : List ℕ) (b : ℕ) → b < blocks x → Prunes b x (mended x b)
 mended_prunes x b inside =
-    cond_both (is_home x (parent_summed x b)) (homed x b) (header_pruned x b) (Prunes b x)
+    cond_both (is_displaced x b) (homed x b) (header_pruned x b) (Prunes b x)
     (λ home. put_prunes x b PARENT (checksum PARENT (block x b)) inside (omega arith) refl
     (inl (word_other x b PARENT (checksum PARENT (block x b)) SECONDARY_TYPE inside (omega arith) (omega arith)))) (λ none. header_prunes x b inside)
 

@@ -1,13 +1,15 @@
 -- The images that a rescue makes of bytes are bytes.
 -- Letters: given the image of a survey, w its walk, s whether each directory is settled; b, p, e blocks; i the number of a word;
 -- k a number of blocks.
-use Rattle.std.proofs.Common.{◌<◌, ◌≤◌, ◌+◌, ◌*◌, ◌^◌, ◌++◌, ◌&&◌, cond, not, ℕ, zero, suc, Bool, true, false, List, [], ◌∷◌, arith, codes, decimal, drop, length, length-append, replicate}
+use Rattle.std.proofs.Common.{◌<◌, ◌≤◌, ◌+◌, ◌*◌, ◌^◌, ◌++◌, ◌&&◌, cond, not, ℕ, zero, suc, Bool, true, false, List, [], ◌∷◌, arith, codes, decimal, drop}
+use Rattle.std.proofs.Common.{length, length-append, replicate}
 use Rattle.std.proofs.{lemmas.Bool.cond_both, lemmas.Str.Parse.digit_at, lemmas.Grind.common_steps}
 use Rattle.std.proofs.lemmas.Fmt.{decimal_is_IsNumeral, length-decimal-le}
 use Rattle.std.proofs.lemmas.List.Elements.{All-append, All-cons, All-drop, All-from_get_or, All-from_recursion, All-nil, All-replicate, All-take}
 use Rattle.adf_base.specs.Words.{block, sealed, with_bytes, with_word}
 use Rattle.adf_base.proofs.ByteLists.{AreBytes, IsByte, block_bytes, block_written_bytes, range_bytes, sealed_bytes, word_written, written_bytes}
-use Rattle.adf_blocks.specs.declared.layout.TheConstants.{BITMAP_FLAG, CHECKSUM, EXTENSION, FIRST_SLOT, NAME, NEXT_IN_CHAIN, PARENT, SECONDARY_TYPE, SLOTS, ST_DIR}
+use Rattle.adf_blocks.specs.declared.layout.TheConstants.{BITMAP_FLAG, CHECKSUM, EXTENSION, FIRST_SLOT, NAME, NEXT_IN_CHAIN, PARENT, SECONDARY_TYPE}
+use Rattle.adf_blocks.specs.declared.layout.TheConstants.{SLOTS, ST_DIR}
 use Rattle.adf_blocks.specs.{Forms.text_at, HeadBlock.head_block, RootBlock.label_stated, RootBlock.root_block, Sizes.blocks}
 use Rattle.adf_blocks.proofs.ByteBlocks.{head_bytes, root_bytes}
 use Rattle.adf_volume.specs.{Image.root_of, Start.is_image_len, Walk.Walk}
@@ -16,7 +18,7 @@ use Rattle.adf_rescue.specs.{Hung.put_in, Hung.readied, Hung.ready_in, Hung.seal
 use Rattle.adf_rescue.specs.MadeRoot.{flag_in, has_root, is_like_root, label_in, made_block, made_root, middle_block, rooted}
 use Rattle.adf_rescue.specs.Opened.{with_boot_type, has_data, is_mended, opened, states_type, type_byte}
 use Rattle.adf_rescue.specs.Pruned.{chain_leads, chain_pruned, directory_typed, extension_leads, has_directory_type, header_pruned, homed, image_read}
-use Rattle.adf_rescue.specs.Pruned.{is_home, is_in_doubt, leads_to_child, parent_summed, pruned, pruned_at, pruned_first, put_unless, slot_leads, slots_pruned}
+use Rattle.adf_rescue.specs.Pruned.{is_displaced, is_in_doubt, leads_to_child, pruned, pruned_at, pruned_first, put_unless, slot_leads, slots_pruned}
 use Rattle.adf_rescue.proofs.MadeRoots.{made_fits}
 
 -- an image that is opened
@@ -150,8 +152,8 @@ header_pruned_bytes image b are =
 at_bytes : (image : List ℕ) (b : ℕ) → AreBytes image → AreBytes (pruned_at image b)
 unfolding pruned_at
 at_bytes image b are =
-    cond_both (is_in_doubt image b) (cond (is_home image (parent_summed image b)) (homed image b) (header_pruned image b)) image AreBytes
-    (λ e. cond_both (is_home image (parent_summed image b)) (homed image b) (header_pruned image b) AreBytes
+    cond_both (is_in_doubt image b) (cond (is_displaced image b) (homed image b) (header_pruned image b)) image AreBytes
+    (λ e. cond_both (is_displaced image b) (homed image b) (header_pruned image b) AreBytes
     (λ home. block_written_bytes image b (sealed PARENT (block image b)) are (sealed_bytes PARENT (block image b) (block_bytes image b are)))
     (λ none. header_pruned_bytes image b are)) (λ e. are)
 

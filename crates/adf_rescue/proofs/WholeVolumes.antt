@@ -20,7 +20,8 @@ use Rattle.adf_volume.proofs.{FitWalks.one_fit, Lists.at_index_or, Lists.get_bef
 use Rattle.adf_findings.specs.{Files.grave, Members.parent_node, Sound.IsOfItsKind, SoundMarks.AreMarks, Survey.FindingValue, Survey.IsSurvey, Types.passed}
 use Rattle.adf_findings.proofs.{FirstFindings.finds_none, FirstFindings.none_found, FirstFindings.shows_none, TypesRead.types_read}
 use Rattle.adf_build.specs.Plan.{blocks_needed, entries_blocks, reserved}
-use Rattle.adf_rescue.specs.Rescue.{as_accepted, Ground, Basis, Verdict, verdict_additions, before_first_by, before_second_by, directory_path, first_verdicts_by, fitting}
+use Rattle.adf_rescue.specs.Rescue.{as_accepted, Ground, Basis, Verdict, verdict_additions, before_first_by, before_second_by, directory_path}
+use Rattle.adf_rescue.specs.Rescue.{first_verdicts_by, fitting}
 use Rattle.adf_rescue.specs.Rescue.{left_out_from, path_by, path_for, new_path, rescue_leaves_by, rescued_tree_by, verdict_tree, verdict, verdicts}
 use Rattle.adf_rescue.specs.{Rescue.Verdict.adds, declared.standing.Input.Input}
 use Rattle.adf_rescue.proofs.{FitBlocks.fit_room, FitBlocks.front_blocks, PassedFindings.passed_grave, SoundHeaders.IsToldAs, SoundHeaders.label_whole}

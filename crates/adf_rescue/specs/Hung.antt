@@ -49,10 +49,13 @@ put_in image b i v = with_block image b (with_word (block image b) i v)
 abbrev pub sealed_in : List ℕ → ℕ → List ℕ
 sealed_in image b = with_block image b (sealed CHECKSUM (block image b))
 
+-- the block that directory p has in the slot of the name of header b
+abbrev pub slotted : List ℕ → (p b : ℕ) → ℕ
+slotted given p b = word_in given p (FIRST_SLOT + slot_by (letters_of given) (name_of given b))
+
 -- the table of directory p names header b, in the slot of its name
 abbrev pub is_named_by : List ℕ → (p b : ℕ) → Bool
-is_named_by given p b =
-    is_name (name_of given b) && (word_in given p (FIRST_SLOT + slot_by (letters_of given) (name_of given b)) == b)
+is_named_by given p b = is_name (name_of given b) && (slotted given p b == b)
 
 -- the word of the slot that block b is hung in, in directory p: one of the first half, if the table of p names it, else of the second
 abbrev pub slot_word : List ℕ → (p b : ℕ) → ℕ

@@ -1,6 +1,6 @@
 // The entries that a rescue keeps in doubt.
 
-ghost use Rattle.std.specs.Prelude.{◌≡◌, ◌≤◌, ℕ, List, IfOk, length, option_map};
+ghost use Rattle.std.specs.Prelude.{◌≡◌, ◌≤◌, List, IfOk, length, option_map};
 ghost use Rattle.adf_base.specs.declared.hash.Letters.{Letters};
 ghost use Rattle.adf_volume.specs.Walk.{heads};
 ghost use Rattle.adf_findings.specs.Survey.{OnSurvey};

@@ -1,6 +1,6 @@
 // Images whose boot block or root was overwritten.
 
-ghost use Rattle.std.specs.Prelude.{◌≡◌, ◌<◌, ◌≤◌, ◌+◌, ◌*◌, ◌^◌, ◌∷◌, [], ℕ, List, IfOk, drop, false, length, slice_range, true};
+ghost use Rattle.std.specs.Prelude.{◌≡◌, ◌<◌, ◌≤◌, ◌+◌, ◌*◌, ◌^◌, [], ℕ, List, IfOk, drop, false, length, slice_range, true};
 ghost use Rattle.adf_base.specs.Words.{word};
 ghost use Rattle.adf_blocks.specs.declared.layout.TheConstants.{BITMAP_FLAG, FIRST_MAP_EXT, FIRST_SLOT, SLOTS};
 ghost use Rattle.adf_blocks.specs.{RootBlock.label_stated, RootBlock.stamps_at, Sizes.blocks};

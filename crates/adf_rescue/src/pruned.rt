@@ -1,15 +1,18 @@
 // Headers whose checksums are wrong, pruned of what does not say of itself that it is their part.
 
-ghost use Rattle.std.specs.Prelude.{◌≡◌, ◌<◌, ◌+◌, ◌⊎◌, ℕ, Bool, List, cond, length, true, false};
+ghost use Rattle.std.specs.Prelude.{◌≡◌, ◌<◌, ◌+◌, ◌⊎◌, ℕ, List, cond, length, true, false};
 ghost use Rattle.adf_base.specs.Words.{block};
 ghost use Rattle.adf_blocks.specs.Sizes.{blocks};
 ghost use Rattle.adf_blocks.specs.declared.layout.TheConstants.{SECONDARY_TYPE, SLOTS, ST_DIR};
 ghost use Rattle.adf_volume.specs.{Image.root_of, Image.word_in, Start.is_image_len};
-ghost use Rattle.adf_rescue.specs.Pruned.{IsMended, chain_leads, chain_pruned, directory_typed, extension_pruned, has_directory_type, header_pruned};
-ghost use Rattle.adf_rescue.specs.Pruned.{is_child_of, is_in_doubt, leads_to_child, may_be_pruned, pruned, pruned_at};
-ghost use Rattle.adf_rescue.specs.Pruned.{homed, is_home, parent_summed, put_unless, slot_pruned, slots_pruned};
+ghost use Rattle.adf_rescue.specs.Pruned.{IsMended, chain_leads, chain_pruned, directory_typed, extension_pruned};
+ghost use Rattle.adf_rescue.specs.Pruned.{has_directory_type, header_pruned, is_child_of, is_in_doubt, leads_to_child};
+ghost use Rattle.adf_rescue.specs.Pruned.{may_be_pruned, pruned, pruned_at};
+ghost use Rattle.adf_rescue.specs.Pruned.{chain_has, homed, is_displaced, is_home, leads_to, parent_summed, put_unless};
+ghost use Rattle.adf_rescue.specs.Pruned.{slot_pruned, slots_pruned};
 
 use crate::claims::{claims_extension, claims_header};
+use crate::hung::slotted;
 use crate::image::{block_count, block_in, root_of};
 use crate::lost::{in_range, says_directory, word_in};
 use adf_base::{BLOCK_LEN, seal, seal_block, set_word};
@@ -158,13 +161,56 @@ fn is_home(image: &[u8], p: u32) -> bool
     p == root_of(image) || in_range(image, p) && says_directory(image, p)
 }
 
+// Whether block `b` is one of the first 72 members of the chain that begins with block `first`.
+#[tactic(auto, using(crate::proofs::PrunedImages::chain_steps))]
+fn chain_has(image: &[u8], first: u32, b: u32) -> bool
+    requires { is_image_len (length image.now) ≡ true }
+    ensures { result ≡ chain_has image.now SLOTS first b }
+{
+    let mut member = first;
+    for _ in 0..SLOTS as usize {
+        if member == b {
+            return true;
+        }
+        if !claims_header(image, member) {
+            return false;
+        }
+        member = word_in(image, member, NEXT_IN_CHAIN);
+    }
+    false
+}
+
+// Whether directory `p` leads to header `b`.
+fn leads_to(image: &[u8], p: u32, b: u32) -> bool
+    requires sized { is_image_len (length image.now) ≡ true }
+    requires inside { b < blocks image.now }
+    requires home { p < blocks image.now }
+    ensures { result ≡ leads_to image.now p b }
+{
+    match slotted(image, p, b) {
+        Some(first) => chain_has(image, first, b),
+        None => false,
+    }
+}
+
+// Whether header `b` belongs to another directory than it names.
+#[tactic(auto, using(crate::proofs::PrunedImages::home_within))]
+fn is_displaced(image: &[u8], b: u32) -> bool
+    requires sized { is_image_len (length image.now) ≡ true }
+    requires inside { b < blocks image.now }
+    ensures { result ≡ is_displaced image.now b }
+{
+    let home = parent_summed(image, b);
+    is_home(image, home) && (!is_home(image, word_in(image, b, PARENT)) || leads_to(image, home, b))
+}
+
 // Mends header `b`, which is in doubt.
 fn mend_header(image: &mut [u8], b: u32)
     requires sized { is_image_len (length image.old) ≡ true }
     requires inside { b < blocks image.old }
-    ensures { image.new ≡ cond (is_home image.old (parent_summed image.old b)) (homed image.old b) (header_pruned image.old b) }
+    ensures { image.new ≡ cond (is_displaced image.old b) (homed image.old b) (header_pruned image.old b) }
 {
-    if is_home(image, parent_summed(image, b)) {
+    if is_displaced(image, b) {
         seal(image, b, PARENT);
     } else {
         prune_header(image, b);
@@ -184,13 +230,14 @@ fn prune_at(image: &mut [u8], b: u32)
 }
 
 /// Mends the headers of an image whose checksums are wrong, but for the root: those of blocks that say by words 0 and 1 that
-/// they are headers. One whose checksum is right with the root, or a sound directory, in word 125 names that. The others are
-/// pruned. One that has a sound header in it, which words 6 to 77 lead to and which names it as its directory, is
-/// made a directory, by word 127. In a directory each of words 6 to 77 becomes 0 unless it leads to what says by words 0 and 1
-/// that it is a header, and in others all of them; likewise word 126 unless it leads to what says that it is an extension
-/// block. Word 124, the next in the chain, becomes 1, which is no header's block, unless it is 0 or leads to what says that it
-/// is a header. Nothing else changes, nor is a checksum. The headers are pruned in
-/// ascending order, each by the image as it stands then. An image of a length that no volume has stays as it is.
+/// they are headers. One whose checksum is right with the root, or a sound directory, in word 125 names that, if it names
+/// neither now, or if that one leads to it: by the chain in the slot of its name, of 72 members at most. The others are pruned.
+/// One that has a sound header in it, which words 6 to 77 lead to and which names it as its directory, is made a directory, by
+/// word 127. In a directory each of words 6 to 77 becomes 0 unless it leads to what says by words 0 and 1 that it is a header,
+/// and in others all of them; likewise word 126 unless it leads to what says that it is an extension block. Word 124, the next
+/// in the chain, becomes 1, which is no header's block, unless it is 0 or leads to what says that it is a header. Nothing else
+/// changes, nor is a checksum. The headers are pruned in ascending order, each by the image as it stands then. An image of a
+/// length that no volume has stays as it is.
 #[tactic(auto, using(crate::proofs::PrunedImages::pruned_steps))]
 pub fn prune(image: &mut [u8])
     ensures { image.new ≡ pruned image.old }

@@ -1,7 +1,7 @@
 // The rescue of an image.
 
-ghost use Rattle.std.specs.Prelude.{◌≡◌, ◌≢◌, ◌↔◌, ◌+◌, ℕ, [], IsNone, IsTrue, IfOk, IfSome, OnErr, OnOk, Option};
-ghost use Rattle.std.specs.Prelude.{Some, length, option_map};
+ghost use Rattle.std.specs.Prelude.{◌≡◌, ◌≢◌, ◌↔◌, ◌+◌, [], IsNone, IsTrue, IfOk, IfSome, OnErr, OnOk, Option};
+ghost use Rattle.std.specs.Prelude.{Some, option_map};
 ghost use Rattle.adf_base.specs.declared.hash.Letters.{Letters};
 ghost use Rattle.adf_blocks.specs.Sizes.{blocks as blocks_in};
 ghost use Rattle.adf_volume.specs.Types.{letters_for};

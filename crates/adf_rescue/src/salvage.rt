@@ -9,7 +9,7 @@ ghost use Rattle.adf_tree.specs.Tree.{is_dir_body};
 ghost use Rattle.adf_volume.specs.{Walk.heads, Walk.node_block, Walk.Walk, Image.name_of};
 ghost use Rattle.adf_findings.specs.{Members.parent_node, Opening.opening_in};
 ghost use Rattle.adf_findings.specs.Survey.{FindingValue, IsSurvey, OnSurvey};
-ghost use Rattle.adf_rescue.specs.Rescue.{Ground, Basis, OnBasis, Verdict, added_marks, as_given, before_first_by, body_of};
+ghost use Rattle.adf_rescue.specs.Rescue.{Ground, OnBasis, Verdict, added_marks, as_given, before_first_by, body_of};
 ghost use Rattle.adf_rescue.specs.Rescue.{entry_headed, fitting, path_by, new_path, verdict_tree, verdict};
 ghost use Rattle.adf_rescue.specs.{Rescue.Verdict.leaves, Rescue.Verdict.knows, declared.standing.Input.Input};
 ghost use Rattle.adf_rescue.specs.Salvage.{GoesOn, ComesNext, IsRoomOf, IsSalvage, entry_cost, free_blocks};

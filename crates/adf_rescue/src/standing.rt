@@ -1,6 +1,6 @@
 // The entries that stand.
 
-ghost use Rattle.std.specs.Prelude.{◌≡◌, ◌==◌, ◌&&◌, ◌≤◌, ◌<◌, ◌+◌, ◌*◌, cond, List, IfOk, not};
+ghost use Rattle.std.specs.Prelude.{◌≡◌, ◌==◌, ◌&&◌, ◌≤◌, ◌<◌, List, IfOk};
 ghost use Rattle.adf_base.specs.{Words.block, declared.hash.Letters.Letters};
 ghost use Rattle.adf_tree.specs.declared.entry.Body.TheVariants.{File};
 ghost use Rattle.adf_volume.specs.{Image.word_in, Walk.heads, Walk.node_block};
