@@ -1,5 +1,5 @@
 -- Readings that are refused, and those that are not. Letters: first is the first reading, ns the names of the readings rs.
-use Rattle.std.proofs.Common.{◌≡◌, ◌≤◌, ◌<◌, ◌+◌, ◌/◌, ◌%◌, ◌==◌, ◌∙◌, ◌++◌, ℕ, suc, Bool, true, false, not, if◌then◌else◌, List, [], ◌∷◌}
+use Rattle.std.proofs.Common.{◌≡◌, ◌≤◌, ◌<◌, ◌+◌, ◌%◌, ◌==◌, ◌∙◌, ◌++◌, ℕ, suc, Bool, true, false, not, if◌then◌else◌, List, [], ◌∷◌}
 use Rattle.std.proofs.Common.{All, IfSome, Option, take, None, Some, ap, sym, refl, arith, drop, get_or, length, eqb-true, Bor}
 use Rattle.std.proofs.{lemmas.Grind.common_steps, lemmas.List.Elements.All-cons, lemmas.List.drop_all, lemmas.List.get_or-map}
 use Rattle.std.proofs.{lemmas.List.length-map, Math.Seq.drop-cons}
@@ -8,7 +8,7 @@ use Rattle.adf_names.specs.Escapes.{escaped}
 use Rattle.adf_words.specs.CommandLine.{texts_of}
 use Rattle.adf_boot_blocks.specs.{Refusals.has_image_size, declared.refusal.TheConstants.MOST_BYTES}
 use Rattle.adf_runs.specs.Streams.{AreFirst}
-use Rattle.adf_merge_cmd.specs.Answers.{differ_in_type, first_refused, merge_reply, reply_unless, reading_refusal, reading_refusal_text, refused_or}
+use Rattle.adf_merge_cmd.specs.Answers.{differ_in_type, first_refused, reading_refusal, reading_refusal_text, refused_or}
 use Rattle.adf_merge_cmd.specs.declared.refusal.ReadingRefusal.{ReadingRefusal}
 
 next : {X : Type 0} (xs : List X) (i : ℕ) (x : X) → i < length xs → x ≡ get_or xs i x → drop i xs ≡ x ∷ drop (i + 1) xs
@@ -87,11 +87,6 @@ each_sized first [] (r ∷ rs) long none = absurd (omega arith)
 each_sized first (name ∷ ns) (r ∷ rs) long none =
     let both = split (reading_refusal first r) name (first_refused first ns rs) (sym (one_more first name ns r rs) ∙ none) in
     All-cons (IsSized first) r rs (taken_size first r both.0) (each_sized first ns rs (omega arith) both.1)
-
-pub reply_is : (first : List ℕ) (ns : List Text) (rs : List (List ℕ)) → 0 < length rs → first ≡ get_or rs 0 first
-    → merge_reply ns rs ≡ reply_unless (first_refused first ns rs) (length first / 512) rs
-reply_is first ns [] some is = absurd (omega arith)
-reply_is first ns (r ∷ rs) some is = ap (λ x. reply_unless (first_refused x ns (r ∷ rs)) (length x / 512) (r ∷ rs)) (sym is)
 
 -- the bytes of a file, where they are known
 pub file_bytes : (known left : Option (List ℕ)) (bytes : List ℕ) → IfSome known (λ all. left ≡ Some all) → AreFirst (MOST_BYTES + 1) left bytes

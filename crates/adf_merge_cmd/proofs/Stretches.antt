@@ -2,7 +2,7 @@
 use Rattle.std.proofs.Common.{◌≡◌, ◌≤◌, ◌<◌, ◌+◌, ◌∙◌, ◌++◌, ℕ, suc, true, false, if◌then◌else◌, List, [], ◌∷◌, ap, sym, refl, arith, drop, get_or, length}
 use Rattle.std.proofs.{Common.append_assoc, lemmas.List.drop_all, Math.Seq.drop-cons}
 use Rattle.adf_readings.specs.declared.merging.Doubt.{Doubt}
-use Rattle.adf_merge_cmd.specs.Answers.{begun_stretch, doubt_lines, goes_on, lines_from, stretch_line}
+use Rattle.adf_merge_cmd.specs.Answers.{begun_stretch, goes_on, lines_from, stretch_line}
 use Rattle.adf_merge_cmd.specs.declared.doubt_lines.Stretch.{Stretch}
 
 next : (ds : List Doubt) (i : ℕ) (d : Doubt) → i < length ds → d ≡ get_or ds i d → drop i ds ≡ d ∷ drop (i + 1) ds
@@ -20,11 +20,6 @@ on_no s d ds e = ap (λ c. if c then lines_from (record s { last = d.block }) ds
 last_one : (s : Stretch) → lines_from s [] ≡ stretch_line s
 unfolding lines_from
 last_one s = refl
-
--- the first of what is left begins
-pub lines_begin : (ds : List Doubt) (d : Doubt) → 0 < length ds → d ≡ get_or ds 0 d → lines_from (begun_stretch d) (drop 1 ds) ≡ doubt_lines ds
-lines_begin [] d lt at = absurd (omega arith)
-lines_begin (x ∷ ds) d lt at = ap (λ y. lines_from (begun_stretch y) ds) at
 
 -- a stretch goes on
 pub lines_go_on : (done : List ℕ) (s : Stretch) (ds : List Doubt) (i : ℕ) (d : Doubt) → i < length ds → d ≡ get_or ds i d → goes_on s d ≡ true

@@ -26,10 +26,6 @@ dec_is true false = no (λ e. absurd cc)
 dec_is false true = no (λ e. absurd cc)
 dec_is false false = yes refl
 
-not_true : (b : Bool) → ¬ (b ≡ true) → b ≡ false
-not_true true h = absurd (h refl)
-not_true false h = refl
-
 pub one_some : {A : Type 0} (o : Option A) (x y : A) → o ≡ Some x → o ≡ Some y → x ≡ y
 one_some o x y h k = cc
 

@@ -40,12 +40,7 @@ pub lighter_next : (weigh : List ℕ → ℕ) (v : List ℕ) (rs : List (List �
 lighter_next weigh v rs b i r lt at le =
     sym (ap (heaviest weigh v) (next_version rs b i r lt at) ∙ heavier_no weigh v (block r b) (drop (i + 1) (versions rs b)) le)
 
--- the search begins with the first reading, and ends behind the last
-pub search_begins : (rs : List (List ℕ)) (b : ℕ) (r : List ℕ) → 0 < length rs → r ≡ get_or rs 0 r
-    → heaviest (weight b (versions rs b)) (block r b) (drop 1 (versions rs b)) ≡ taken b (versions rs b)
-search_begins [] b r lt at = absurd (omega arith)
-search_begins (x ∷ rs) b r lt at = ap (λ y. heaviest (weight b (versions (x ∷ rs) b)) (block y b) (versions rs b)) at
-
+-- the search ends behind the last
 pub search_ends : (weigh : List ℕ → ℕ) (v : List ℕ) (rs : List (List ℕ)) (b i : ℕ) → length rs ≤ i → heaviest weigh v (drop i (versions rs b)) ≡ v
 search_ends weigh v rs b i past =
     ap (heaviest weigh v) (drop_all i (versions rs b) (subst (λ n. n ≤ i) (sym (length_versions rs b)) past)) ∙ no_heavier weigh v

@@ -21,7 +21,8 @@ use Rattle.adf_runs.proofs.PendingText.{appends_nil}
 use Rattle.adf_subjects.specs.Losses.{LossValue, ToldValue, front_losses, input_losses, loss_values, losses_of, rescue_losses, runs_lost, told_by}
 use Rattle.adf_subjects.specs.{Losses.told_value, declared.preparing.Begun.Begun, declared.preparing.Prepared.Prepared}
 use Rattle.adf_subjects.specs.Prepared.{IsBegunInput, IsFault, IsToldRefusal, LaysFor, Prepares, RefusesFor, WritesPrepared, known_of}
-use Rattle.adf_subjects.specs.Rescues.{HoldsNothing, IsRefusal, IsNoVolume, Replies, RescueValue, RescueValue.written, Rescues, RescuesBoth, RescuesBy, RescuesIn}
+use Rattle.adf_subjects.specs.Rescues.{HoldsNothing, IsRefusal, IsNoVolume, Replies, RescueValue, RescueValue.written, Rescues, RescuesBoth, RescuesBy}
+use Rattle.adf_subjects.specs.Rescues.{RescuesIn}
 use Rattle.adf_subjects.specs.declared.preparing.Unrescued.{Unrescued, TheVariants.NoMemory, TheVariants.Refused}
 
 -- what holds if there is a value holds of it
