@@ -281,7 +281,7 @@ struct adf_addition {
 
 /* A volume that is to be built. */
 struct adf_new_volume {
-    uint32_t kind;        /* ADF_OFS or ADF_FFS: no volume of another type is built */
+    uint32_t kind;        /* an adf_kind */
     uint32_t blocks;      /* all blocks: even, 4 to 1,048,576; adf_need does not look at it */
     struct adf_date root; /* the three dates of the root block, as in struct adf_contents */
     struct adf_date altered;
@@ -302,14 +302,14 @@ struct adf_built {
  * and last whether the tree fits. */
 enum adf_build_refusal {
     ADF_BUILD_DONE = 0,
-    ADF_BUILD_BAD_KIND = 1,       /* The kind is neither ADF_OFS nor ADF_FFS. */
+    ADF_BUILD_BAD_KIND = 1,       /* The kind is no adf_kind. */
     ADF_BUILD_BAD_LABEL = 2,      /* The label is longer than 30 bytes. */
     ADF_BUILD_BAD_SIZE = 3,       /* The number of blocks is not allowed. */
     ADF_BUILD_SMALL_ROOM = 4,     /* The room has fewer than blocks * 512 bytes. */
     ADF_BUILD_NO_PARENT = 5,      /* The directory of the addition does not stand before it. */
     ADF_BUILD_PARENT_IS_FILE = 6, /* The directory of the addition is a file. */
     ADF_BUILD_BAD_NAME = 7,       /* Its name is empty or too long, or has a `/` or `:`. */
-    ADF_BUILD_EXISTS = 8,         /* An earlier one has its directory and its name, ignoring the case of a to z. */
+    ADF_BUILD_EXISTS = 8,         /* An earlier one has its directory and its name, ignoring case as adf_find_types does. */
     ADF_BUILD_BAD_COMMENT = 9,    /* Its comment is longer than 79 bytes. */
     ADF_BUILD_PAST_CONTENTS = 10, /* Its bytes end past the contents. */
     ADF_BUILD_FULL = 11,          /* The tree needs more blocks than there are. */
@@ -319,7 +319,8 @@ enum adf_build_refusal {
 /* Builds a volume of these additions at the front of the room. Returns an adf_build_refusal.
  *
  * 0: the first blocks * 512 bytes of the room are the image of the volume that has these entries and no others, as `adf build` lays
- *    it: the same table gives the same bytes. adf_check accepts it. The rest of the room is unchanged.
+ *    it: the same table gives the same bytes. adf_check_types accepts it, and adf_check those of the kinds ADF_OFS and ADF_FFS. The rest
+ *    of the room is unchanged.
  * Another number: nothing is written to the room. If it is that of an addition, built->addition is the first one that has a fault,
  *    and the number is its first fault.
  *

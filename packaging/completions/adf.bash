@@ -79,7 +79,7 @@ _adf_files() {
         mkfs.affs:-*) COMPREPLY=($(compgen -W "-L -n -t -v -h --help --version" -- "$2")) ;;
         mkfs.affs:*) [[ $3 != -t ]] || COMPREPLY=($(compgen -W "ofs ffs" -- "$2")) ;;
         *:-*) COMPREPLY=($(compgen -W "-h --help --version" -- "$2")) ;;
-        adf-pack:*) ((COMP_CWORD > 1)) || COMPREPLY=($(compgen -W "ofs ffs" -- "$2")) ;;
+        adf-pack:*) ((COMP_CWORD > 1)) || COMPREPLY=($(compgen -W "ofs ffs ofs-international ffs-international" -- "$2")) ;;
     esac
 }
 

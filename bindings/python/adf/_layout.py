@@ -12,5 +12,6 @@ ROLES = ("free", "boot", "root", "page", "map extension", "header", "extension",
 FILE_TYPE = b"\xff\xff\xff\xfd"
 LONGEST_NAME, LONGEST_COMMENT = 30, 79
 CAPITALS = bytes(byte - 32 if 97 <= byte <= 122 else byte for byte in range(256))
+ALL_CAPITALS = bytes(byte - 32 if 224 <= byte <= 254 and byte != 247 else CAPITALS[byte] for byte in range(256))
 PART = 1 << 20  # bytes of a file that are read at once
 FIRST_ROOM = 2048  # rows of a table for which memory is taken first

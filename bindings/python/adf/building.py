@@ -7,7 +7,7 @@ from typing import Any, Iterable, NamedTuple, Sequence
 
 from adf import _arguments, _structs
 from adf._arguments import EntryPath, Image
-from adf._layout import BLOCK, CAPITALS, KINDS, MOST_BYTES
+from adf._layout import ALL_CAPITALS, BLOCK, CAPITALS, KINDS, MOST_BYTES, TYPES
 from adf._library import NO_MEMORY, calls
 from adf._texts import escape
 from adf.dates import Date
@@ -75,10 +75,11 @@ def _stamp(what: str, date: Date) -> Any:
 
 
 class Plan:
-    """The table of what is added, in order, and where the bytes of each file are in the contents, whose size is `size`."""
+    """The table of what is added to a volume of a kind, in order, and where the bytes of each file are in the contents, whose size is
+    `size`."""
 
-    def __init__(self) -> None:
-        self.size, self.largest = 0, 0
+    def __init__(self, kind: str) -> None:
+        self.size, self.largest, self.capitals = 0, 0, CAPITALS if kind in KINDS else ALL_CAPITALS
         self._rows: list[tuple[int, int, int | None, int, Any, bytes, bytes]] = []
 
     def __len__(self) -> int:
@@ -105,9 +106,9 @@ class Plan:
 
     def twin_of(self, number: int) -> bytes:
         """The path of the first addition in the directory of this one that has its name."""
-        parent, name = self._rows[number - 1][0], self._rows[number - 1][5].translate(CAPITALS)
+        parent, name = self._rows[number - 1][0], self._rows[number - 1][5].translate(self.capitals)
         rows = enumerate(self._rows[: number - 1], 1)
-        return next((self.path_of(each) for each, row in rows if row[0] == parent and row[5].translate(CAPITALS) == name), b"")
+        return next((self.path_of(each) for each, row in rows if row[0] == parent and row[5].translate(self.capitals) == name), b"")
 
     def table(self, is_shared: bool = False) -> Any:
         """The table for the library; if it is shared, the bytes of all files begin at the first one of the contents."""
@@ -121,12 +122,12 @@ class Plan:
 
 def new_volume(kind: str, blocks: int, label: str | bytes = b"", dates: Sequence[Date] = (NEVER, NEVER, NEVER)) -> Any:
     """A volume to build, as the library takes it."""
-    if kind not in KINDS:
-        raise ValueError(f"a kind is one of {', '.join(KINDS)}, and not {kind!r}")
+    if kind not in TYPES:
+        raise ValueError(f"a kind is one of {', '.join(TYPES)}, and not {kind!r}")
     if len(dates) != len(DATES):
         raise ValueError("the dates are three: of the root, of the last change, and of the creation")
     count = min(max(_arguments.whole("the number of blocks", blocks), 0), _arguments.MOST_NUMBER)
-    volume = _structs.NewVolume(KINDS.index(kind), count, *(_stamp(f"the date of the {name}", date) for name, date in zip(DATES, dates)))
+    volume = _structs.NewVolume(TYPES.index(kind), count, *(_stamp(f"the date of the {name}", date) for name, date in zip(DATES, dates)))
     volume.label_length = _filled(volume.label, _arguments.raw("the label", label))
     return volume
 
@@ -159,21 +160,21 @@ def build_into(room: Any, volume: Any, plan: Plan, contents: Any) -> None:
     _done(number, told, plan)
 
 
-def _planned(entries: Sequence[Addition]) -> tuple[Plan, list[memoryview]]:
-    """The plan of these entries, and the bytes of their files. TypeError and ValueError name the path of an entry that has a fault."""
-    plan, parts, numbers = Plan(), [], {b"": 0}  # type: Plan, list[memoryview], dict[bytes, int]
+def _planned(kind: str, entries: Sequence[Addition]) -> tuple[Plan, list[memoryview]]:
+    """The plan of these entries of a volume of a kind, and the bytes of their files. TypeError and ValueError name the path of an entry that has a fault."""
+    plan, parts, numbers = Plan(kind), [], {b"": 0}  # type: Plan, list[memoryview], dict[bytes, int]
     for number, entry in enumerate(entries, 1):
         try:
             path = _arguments.raw("the path", entry.path)
             above, slash, name = path.rpartition(b"/")
             content = None if entry.content is None else _arguments.view(entry.content)
-            parent = number if slash and not above else numbers.get(above.translate(CAPITALS), number)
+            parent = number if slash and not above else numbers.get(above.translate(plan.capitals), number)
             plan.put(parent, name, None if content is None else len(content), entry.comment, entry.protection, entry.date)
         except (TypeError, ValueError) as error:
-            kind = TypeError if isinstance(error, TypeError) else ValueError
-            raise kind(f"{_shown(entry.path, number)}: {error}") from None
+            raised = TypeError if isinstance(error, TypeError) else ValueError
+            raise raised(f"{_shown(entry.path, number)}: {error}") from None
         parts += [] if content is None else [content]
-        numbers.setdefault(path.translate(CAPITALS), number)
+        numbers.setdefault(path.translate(plan.capitals), number)
     return plan, parts
 
 
@@ -186,12 +187,12 @@ def build(
     kind: str, blocks: int | None, entries: Iterable[Addition], label: str | bytes = b"",
     dates: Sequence[Date] = (NEVER, NEVER, NEVER),
 ) -> bytes:
-    """The image of a volume with these entries, each directory before what is in it: the kind "ofs" or "ffs", the blocks (None for the
+    """The image of a volume with these entries, each directory before what is in it: the kind (one of TYPES), the blocks (None for the
     fewest), the label, and the dates of the root, of the last change and of the creation. NotBuilt if there is none."""
     given = [each._replace(path=_arguments.plain_path(each.path)) for each in (Addition(*entry) for entry in entries)]
-    plan, parts = _planned(given)
-    contents = b"".join(parts)
     volume = new_volume(kind, 0 if blocks is None else blocks, label, dates)
+    plan, parts = _planned(kind, given)
+    contents = b"".join(parts)
     try:
         if blocks is None:
             volume.blocks = need_of(volume, plan, contents)

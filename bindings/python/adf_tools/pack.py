@@ -245,6 +245,8 @@ def work(words: argparse.Namespace) -> int:
         stop(USAGE, "a manifest has no boot blocks: --bootable and --boot go with --image")
     if words.kind is None or words.blocks is None or words.size is not None:
         stop(USAGE, "without --image the words are KIND, BLOCKS and FOLDER, and no --size")
+    if words.kind not in adf.KINDS:
+        stop(USAGE, f"a manifest has no word for the letters of {words.kind}, which go with --image")
     if not 0 <= words.blocks <= adf.MOST_BYTES // adf.BLOCK:
         tried(head_of(words))
     lines = itertools.chain(head_of(words), Packer(words).lines(os.fsencode(words.folder)))
@@ -254,7 +256,7 @@ def work(words: argparse.Namespace) -> int:
 
 def main() -> None:
     line = command_line("adf-pack", "Writes a manifest of a folder on standard output, of which adf build makes a volume, or an image.")
-    line.add_argument("kind", metavar="KIND", nargs="?", choices=adf.KINDS, help="ofs or ffs; with --image it may be left out: ffs")
+    line.add_argument("kind", metavar="KIND", nargs="?", choices=adf.TYPES, help="ofs or ffs, and with --image ofs-international or ffs-international; there it may be left out: ffs")
     line.add_argument(
         "blocks", metavar="BLOCKS", nargs="?", type=number, help="blocks of 512 bytes; a floppy of 880 KB has 1760; not with --size")
     line.add_argument("folder", metavar="FOLDER")

@@ -14,14 +14,16 @@ from adf_tools.pack import Item, Packer, amiga_name, opened
 from adf_tools.program import REFUSED, Progress, host_text, new_file, open_input, stop
 from adf_tools.trees import Place
 
+DEFAULT_KIND = "ffs"
+
 
 def changed(place: Place, name: bytes) -> NoReturn:
     stop(REFUSED, f"{host_text(place.path_of(name))}: changed while it was read")
 
 
-def planned(packer: Packer, folder: bytes) -> tuple[building.Plan, list[Item]]:
-    """What is to be added, by the sizes of the files, and what was found."""
-    plan, found, above = building.Plan(), [], [0]
+def planned(kind: str, packer: Packer, folder: bytes) -> tuple[building.Plan, list[Item]]:
+    """What is to be added to a volume of a kind, by the sizes of the files, and what was found."""
+    plan, found, above = building.Plan(kind), [], [0]
     with Place(folder) as place:
         for item in packer.items(place):
             del above[item.depth + 1 :]
@@ -103,14 +105,14 @@ def filled(fd: int, size: int, volume: Any, plan: building.Plan, packer: Packer,
 
 def volume_of(words: argparse.Namespace) -> Any:
     label = amiga_name(os.fsencode(words.label), words.label, words.escape) if words.label else b""
-    return building.new_volume(words.kind or "ffs", 0, label, (words.date, words.altered, words.created))
+    return building.new_volume(words.kind or DEFAULT_KIND, 0, label, (words.date, words.altered, words.created))
 
 
 def write_image(words: argparse.Namespace) -> int:
     """Packs a folder into a new image. What does not fit is told before a file is read."""
     volume, packer, folder, boot = volume_of(words), Packer(words), os.fsencode(words.folder), boot_in(words.boot)
     try:
-        plan, found = planned(packer, folder)
+        plan, found = planned(words.kind or DEFAULT_KIND, packer, folder)
         least = fewest(volume, plan)
         wanted = next((blocks for blocks in (words.blocks, words.size) if blocks is not None), least)
         if wanted < least:

@@ -32,6 +32,21 @@ class Volumes(Folder):
             again = adf.build(kind, old.blocks, entries, old.raw_label, (old.date, old.altered, old.created))
             self.assertEqual(again, old.image)
 
+    def test_builds_volumes_with_international_letters(self):
+        names = [adf.Addition("\u00c9t\u00e9"), adf.Addition("\u00e9T\u00c9/a", b"A")]
+        for number, kind in enumerate(adf.TYPES):
+            entries = names if number >= 2 else [names[0], adf.Addition("\u00c9T\u00e9/a", b"A")]
+            image = adf.build(kind, None, entries, "W")
+            self.assertEqual((image[:4], adf.check(image, international=True).kind), (b"DOS" + bytes([number]), kind))
+            volume = adf.open(image)
+            self.assertEqual((volume.kind, [entry.path for entry in volume.entries]), (kind, ["\u00c9t\u00e9", "\u00c9t\u00e9/a"]))
+            again = adf.build(kind, volume.blocks, map(adf.Addition.of, volume.entries), volume.raw_label)
+            self.assertEqual(again, image)
+        twins = [adf.Addition("\u00e9"), adf.Addition("\u00c9")]
+        self.assertEqual(len(adf.Volume(adf.build("ffs", None, twins)).entries), 2)
+        with self.assertRaisesRegex(adf.NotBuilt, r"^\\xc9: exists, as \\xe9: the case of letters does not count$"):
+            adf.build("ffs-international", None, twins)
+
     def test_builds_what_a_manifest_does(self):
         volume = ["volume ffs 1760", "label W", "stamps 1:2:3 0:0:0 0:0:0", "dir 0:0:0 00000000 c", r"note ein <\xdcbel>"]
         wanted = built([*volume, "file 1:2:3 0000000f c/list", "note N", "fill 600 4c", "file 0:0:0 00000000 none"])
@@ -63,7 +78,7 @@ class Volumes(Folder):
         for blocks, label, why in ((7, "", "bad size"), (2**20 + 2, "", "bad size"), (1760, "a" * 31, "a label is longer")):
             with self.assertRaisesRegex(adf.NotBuilt, why):
                 adf.build("ofs", blocks, [], label)
-        for kind in ("pfs", "ffs-international", None, 0, ["ofs"]):
+        for kind in ("pfs", "ffs-cached", None, 0, ["ofs"]):
             self.assertRaises(ValueError, adf.build, kind, 1760, [])
         for blocks in (-1, 0, 2**32 + 1760, 2**64 + 1760):
             with self.assertRaisesRegex(adf.NotBuilt, "bad size"):
@@ -115,7 +130,7 @@ class Volumes(Folder):
                 adf.build("ofs", None, [], label)
 
     def test_writes_into_no_buffer_that_can_only_be_read(self):
-        room, plan = bytes(8192), building.Plan()
+        room, plan = bytes(8192), building.Plan("ofs")
         for wrong in (room, memoryview(room), memoryview(bytearray(16384))[::2]):
             self.assertRaises(TypeError, building.build_into, wrong, building.new_volume("ofs", 16), plan, b"")
         self.assertEqual(room, bytes(8192))

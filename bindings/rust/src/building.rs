@@ -111,7 +111,7 @@ pub struct Dates {
 /// # Ok::<(), Box<dyn std::error::Error>>(())
 /// ```
 pub fn build(kind: Kind, blocks: Option<u32>, entries: &[Addition<'_>], label: &[u8], dates: Dates) -> Result<Vec<u8>, NotBuilt> {
-    let (additions, contents) = table(entries);
+    let (additions, contents) = table(kind, entries);
     let mut volume = NewVolume {
         kind: kind.number(),
         root: dates.root,
@@ -133,12 +133,22 @@ pub fn build(kind: Kind, blocks: Option<u32>, entries: &[Addition<'_>], label: &
     Ok(image)
 }
 
-/// The table of the entries, and the contents of all files. A path without its directory before it gets a number that no entry has.
-fn table(entries: &[Addition<'_>]) -> (Vec<AdditionRecord>, Vec<u8>) {
+/// A path in upper case, by the letters of a kind.
+fn uppercase(kind: Kind, path: &[u8]) -> Vec<u8> {
+    let is_international = matches!(kind, Kind::OfsInternational | Kind::FfsInternational);
+    let upper = |byte: &u8| match byte {
+        0xe0..=0xf6 | 0xf8..=0xfe if is_international => byte - 32,
+        _ => byte.to_ascii_uppercase(),
+    };
+    path.iter().map(upper).collect()
+}
+
+/// The table of the entries of a volume of a kind, and the contents of all files. A path without its directory before it gets a number that no entry has.
+fn table(kind: Kind, entries: &[Addition<'_>]) -> (Vec<AdditionRecord>, Vec<u8>) {
     let (mut records, mut contents) = (Vec::new(), Vec::new());
     let mut numbers = HashMap::from([(Vec::new(), 0)]);
     for (place, entry) in entries.iter().enumerate() {
-        let path = entry.path.to_ascii_uppercase();
+        let path = uppercase(kind, entry.path);
         let slash = entry.path.iter().rposition(|byte| *byte == b'/');
         let parent = match slash {
             Some(0) => place + 1,

@@ -36,6 +36,18 @@ fn the_smallest_volume_is_built() {
 }
 
 #[test]
+fn international_letters_ignore_the_case_of_all() {
+    let twins = [Addition { path: &[0xe9], ..Addition::default() }, Addition { path: &[0xc9], ..Addition::default() }];
+    for (number, kind) in [(0, Kind::Ofs), (1, Kind::Ffs), (2, Kind::OfsInternational), (3, Kind::FfsInternational)] {
+        let inner = [&twins[..1], &[Addition { path: b"\xe9/a", ..Addition::default() }]].concat();
+        let image = build(kind, None, &inner, b"", Dates::default()).unwrap();
+        assert_eq!(image[..4], [b'D', b'O', b'S', number]);
+        let built = build(kind, None, &twins, b"", Dates::default());
+        assert_eq!(built.map_err(|fault| (fault.refusal, fault.number)).err(), (number >= 2).then_some((BuildRefusal::Exists, 2)));
+    }
+}
+
+#[test]
 fn a_fault_names_its_entry() {
     let fault = |path: &'static [u8]| {
         let all = [&entries()[..], &[Addition { path, ..Addition::default() }]].concat();

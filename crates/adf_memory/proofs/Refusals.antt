@@ -2,6 +2,7 @@
 use Rattle.std.proofs.Common.{◌≡◌, ◌≤◌, ◌<◌, ◌+◌, ◌-◌, ◌*◌, ◌++◌, ℕ, List, length, take, drop, get_or, Some, None, Bool, true, false, not, nat_lt}
 use Rattle.std.proofs.Common.{if◌then◌else◌, arith, refl, subst}
 use Rattle.std.proofs.{lemmas.Bool.Decides.nat_tests, lemmas.List.take_all}
+use Rattle.adf_base.specs.declared.hash.Letters.{Letters}
 use Rattle.adf_blocks.specs.Sizes.{is_allowed}
 use Rattle.adf_tree.specs.Tree.{Tree}
 use Rattle.adf_build.specs.{Building.IsBuildFault, declared.builder.BuildFault.BuildFault}
@@ -13,17 +14,18 @@ use Rattle.adf_memory.specs.declared.building.Refusal.TheVariants as refusal
 use Rattle.adf_memory.specs.declared.table_additions.NotAdded.{NotAdded, TheVariants.Fault, TheVariants.NoMemory}
 
 -- the addition at a place is the first that has a fault
-pub table_refusal : (bytes : List ℕ) (xs : List TableAddition) (i : ℕ) (e : NotAdded) → i < length xs → AreSoundBefore bytes xs i
-    → ((y : TableAddition) → IsNotAdded bytes (take i xs) (get_or xs i y) e) → IsTableRefusal bytes xs (refusal_of (i + 1) e)
-table_refusal bytes xs i (Fault why) lt sound is =
+pub table_refusal : (letters : Letters) (bytes : List ℕ) (xs : List TableAddition) (i : ℕ) (e : NotAdded) → i < length xs
+    → AreSoundBefore letters bytes xs i → ((y : TableAddition) → IsNotAdded letters bytes (take i xs) (get_or xs i y) e)
+    → IsTableRefusal letters bytes xs (refusal_of (i + 1) e)
+table_refusal letters bytes xs i (Fault why) lt sound is =
     let at : i ≡ i + 1 - 1 = omega arith in
     record {
       first = omega arith;
       within = omega arith;
-      sound = subst (λ (k : ℕ). AreSoundBefore bytes xs k) at sound;
-      fault = subst (λ (k : ℕ). (y : TableAddition) → fault_of bytes (take k xs) (get_or xs k y) ≡ Some why) at is;
+      sound = subst (λ (k : ℕ). AreSoundBefore letters bytes xs k) at sound;
+      fault = subst (λ (k : ℕ). (y : TableAddition) → fault_of letters bytes (take k xs) (get_or xs k y) ≡ Some why) at is;
     }
-table_refusal bytes xs i NoMemory lt sound is = tt
+table_refusal letters bytes xs i NoMemory lt sound is = tt
 
 pub build_refusal : (v : NewVolume) (bytes : List ℕ) (xs : List TableAddition) (room : ℕ) (t : Tree) (f : BuildFault) → t ≡ tree_of v bytes xs
     → IsSoundVolume v bytes xs → IsBuildFault t v.blocks f → ExplainsBuild v bytes xs room (refusal_by f)

@@ -3,9 +3,9 @@ use Rattle.std.proofs.Common.{◌≡◌, Some, None, Ok, Err, Result, ◌≤◌,
 use Rattle.std.proofs.Common.{sym, ap, inl, inr, nat_lt, suc, take, ◌⊎◌}
 use Rattle.std.proofs.{lemmas.Bool.cases_lt, lemmas.Bool.Decides.nat_tests, lemmas.Grind.common_steps}
 use Rattle.std.proofs.lemmas.List.{map-append, get_or_append_left, get_or_push, length_push, take_more, Sums.fold_push}
-use Rattle.adf_base.specs.declared.hash.Letters.TheVariants.{Ascii}
-use Rattle.adf_tree.specs.{declared.entry.Body.TheVariants.Dir, Additions.Addition, Additions.with_addition}
-use Rattle.adf_tree.specs.Tree.{Tree, room_for_by, with_entry, with_entry_by}
+use Rattle.adf_base.specs.declared.hash.Letters.{Letters}
+use Rattle.adf_tree.specs.{declared.entry.Body.TheVariants.Dir, Additions.Addition, Additions.entries_of_additions_by, Additions.with_addition_by}
+use Rattle.adf_tree.specs.Tree.{Tree, room_for_by, with_entry_by}
 use Rattle.adf_tree.specs.declared.tree.RoomFault.TheVariants as room
 use Rattle.adf_drafts.specs.{declared.draft.Room.Room, Draft.DraftValue, Draft.IsDirectoryOf, Draft.IsRoomFor}
 use Rattle.adf_memory.specs.TableAdditions.{IsDraftOf, IsNextAddition, additions_of, addition_body, directory_in, fault_in, fault_of, has_bytes, has_entry_name}
@@ -47,17 +47,23 @@ pub additions_more : (bytes : List ℕ) (xs : List TableAddition) (x : TableAddi
 additions_more bytes xs x = fold_push (with_next bytes) [] xs x
 
 pub tree_more : (t : Tree) (bytes : List ℕ) (xs : List TableAddition) (x : TableAddition)
-    → tree_with t bytes (xs ++ x ∷ []) ≡ with_entry (tree_with t bytes xs) (addition_path (additions_of bytes xs) x) (meta_in x) (addition_body bytes x)
+    → tree_with t bytes (xs ++ x ∷ [])
+    ≡ with_entry_by t.letters (tree_with t bytes xs) (addition_path (additions_of bytes xs) x) (meta_in x) (addition_body bytes x)
 tree_more t bytes xs x =
     let a : Addition = record { path = addition_path (additions_of bytes xs) x; meta = meta_in x; body = addition_body bytes x } in
-    rw (additions_more bytes xs x, fold_push with_addition [] (additions_of bytes xs) a) refl
+    rw (additions_more bytes xs x, fold_push (with_addition_by t.letters) [] (additions_of bytes xs) a) refl
 
 not_file : (bytes : List ℕ) (x : TableAddition) → nat_lt 0 x.is_file ≡ false → addition_body bytes x ≡ Dir
 not_file bytes x e = grind (arith, common_steps, nat_tests)
 
--- the draft has ASCII letters
-own_letters : (t : Tree) (bytes : List ℕ) (xs : List TableAddition) (d : DraftValue) → IsDraftOf t bytes xs d → d.tree.letters ≡ Ascii
-own_letters t bytes xs d is = ap (λ (s : Tree). s.letters) is.tree ∙ is.letters
+-- the draft has the letters of the tree
+own_letters : (t : Tree) (bytes : List ℕ) (xs : List TableAddition) (d : DraftValue) → IsDraftOf t bytes xs d → d.tree.letters ≡ t.letters
+own_letters t bytes xs d is = ap (λ (s : Tree). s.letters) is.tree
+
+-- drafts of one tree have the same letters
+pub same_letters : (t : Tree) (bytes : List ℕ) (xs ys : List TableAddition) (d e : DraftValue) → IsDraftOf t bytes xs d → IsDraftOf t bytes ys e
+    → d.tree.letters ≡ e.tree.letters
+same_letters t bytes xs ys d e one other = own_letters t bytes xs d one ∙ sym (own_letters t bytes ys e other)
 
 pub draft_more : (t : Tree) (bytes : List ℕ) (xs : List TableAddition) (x : TableAddition) (d e : DraftValue) → IsDraftOf t bytes xs d
     → e.tree ≡ with_entry_by d.tree.letters d.tree (addition_path (additions_of bytes xs) x) (meta_in x) (addition_body bytes x)
@@ -70,8 +76,7 @@ draft_more t bytes xs x d e is tree nodes kept_dirs new =
     let n = additions_count bytes xs in
     let plain = tree ∙ ap (λ l. with_entry_by l d.tree a.path a.meta a.body) (own_letters t bytes xs d is) in
     record {
-      letters = is.letters;
-      tree = plain ∙ (ap (λ (s : Tree). with_entry s a.path a.meta a.body) is.tree ∙ sym (tree_more t bytes xs x));
+      tree = plain ∙ (ap (λ (s : Tree). with_entry_by t.letters s a.path a.meta a.body) is.tree ∙ sym (tree_more t bytes xs x));
       count = omega (arith, nodes, is.count, length_push xs x);
       directories = λ m le dir. elim (cases_lt (length xs) m) [
         | inl past ↦
@@ -88,10 +93,10 @@ draft_more t bytes xs x d e is tree nodes kept_dirs new =
 
 -- the faults of one addition, in their order
 
-pub directory_fault : (bytes : List ℕ) (before : List TableAddition) (x : TableAddition) (r : Result ℕ AdditionFault) → directory_in before x ≡ r
-    → fault_of bytes before x ≡ fault_in bytes before x r
+pub directory_fault : (letters : Letters) (bytes : List ℕ) (before : List TableAddition) (x : TableAddition) (r : Result ℕ AdditionFault)
+    → directory_in before x ≡ r → fault_of letters bytes before x ≡ fault_in letters bytes before x r
 unfolding fault_of
-directory_fault bytes before x r e = ap (fault_in bytes before x) e
+directory_fault letters bytes before x r e = ap (fault_in letters bytes before x) e
 
 pub directory_is : (before : List TableAddition) (x : TableAddition) (p : ℕ) → directory_in before x ≡ Ok p
     → (p ≡ x.parent) × (p ≤ length before) × (is_file_at before p ≡ false)
@@ -99,40 +104,46 @@ directory_is before x p e = grind (arith, common_steps, nat_tests)
 
 module _ (t : Tree) (bytes : List ℕ) (before : List TableAddition) (x : TableAddition) (p : ℕ) (d : DraftValue)
     (is : IsNextAddition t bytes before x p d) where
-  at : fault_of bytes before x ≡ fault_in bytes before x (Ok p)
-  at = directory_fault bytes before x (Ok p) is.directory
+  at : fault_of d.tree.letters bytes before x ≡ fault_in d.tree.letters bytes before x (Ok p)
+  at = directory_fault d.tree.letters bytes before x (Ok p) is.directory
 
   pub in_directory : IsDirectoryOf d (path_numbered (additions_of bytes before) x.parent) p
   in_directory =
       let said = directory_is before x p is.directory in
       rw (← said.0) (is.draft.directories p said.1 said.2)
 
+  own_entries : d.tree.entries ≡ entries_of_additions_by d.tree.letters (additions_of bytes before)
+  own_entries =
+      ap (λ (s : Tree). s.entries) is.draft.tree
+      ∙ ap (λ l. entries_of_additions_by l (additions_of bytes before)) (sym (own_letters t bytes before d is.draft))
+
   pub room_none : room_for_by d.tree.letters d.tree.entries (addition_path (additions_of bytes before) x) ≡ Err room.Exists
-      → has_room bytes before x ≡ false
-  room_none e = let plain = rw (own_letters t bytes before d is.draft) at e in grind (arith, common_steps, is.draft.tree)
+      → has_room d.tree.letters bytes before x ≡ false
+  room_none e = let plain = rw own_entries at e in rw plain refl
 
-  pub room_some : (r : Room) → IsRoomFor d (addition_path (additions_of bytes before) x) r → has_room bytes before x ≡ true
-  room_some r e = let leads = rw (own_letters t bytes before d is.draft) at e.leads in grind (arith, common_steps, is.draft.tree)
+  pub room_some : (r : Room) → IsRoomFor d (addition_path (additions_of bytes before) x) r → has_room d.tree.letters bytes before x ≡ true
+  room_some r e = let leads = rw own_entries at e.leads in rw leads refl
 
-  pub bad_name : has_entry_name x ≡ false → fault_of bytes before x ≡ Some BadName
+  pub bad_name : has_entry_name x ≡ false → fault_of d.tree.letters bytes before x ≡ Some BadName
   bad_name e = rw (at, e) refl
 
-  pub taken : has_entry_name x ≡ true → has_room bytes before x ≡ false → fault_of bytes before x ≡ Some Exists
+  pub taken : has_entry_name x ≡ true → has_room d.tree.letters bytes before x ≡ false → fault_of d.tree.letters bytes before x ≡ Some Exists
   taken e r = rw (at, e, r) refl
 
-  pub bad_comment : has_entry_name x ≡ true → has_room bytes before x ≡ true → 79 < x.comment_length → fault_of bytes before x ≡ Some BadComment
+  pub bad_comment : has_entry_name x ≡ true → has_room d.tree.letters bytes before x ≡ true → 79 < x.comment_length
+      → fault_of d.tree.letters bytes before x ≡ Some BadComment
   bad_comment e r long = let test : nat_lt 79 x.comment_length ≡ true = grind (arith, nat_tests) in rw (at, e, r, test) refl
 
-  pub past : has_entry_name x ≡ true → has_room bytes before x ≡ true → x.comment_length ≤ 79 → has_bytes bytes x ≡ false
-      → fault_of bytes before x ≡ Some PastContents
+  pub past : has_entry_name x ≡ true → has_room d.tree.letters bytes before x ≡ true → x.comment_length ≤ 79 → has_bytes bytes x ≡ false
+      → fault_of d.tree.letters bytes before x ≡ Some PastContents
   past e r short b = let test : nat_lt 79 x.comment_length ≡ false = grind (arith, nat_tests) in rw (at, e, r, test, b) refl
 
-  pub sound : has_entry_name x ≡ true → has_room bytes before x ≡ true → x.comment_length ≤ 79 → has_bytes bytes x ≡ true
-      → fault_of bytes before x ≡ None
+  pub sound : has_entry_name x ≡ true → has_room d.tree.letters bytes before x ≡ true → x.comment_length ≤ 79 → has_bytes bytes x ≡ true
+      → fault_of d.tree.letters bytes before x ≡ None
   sound e r short b = let test : nat_lt 79 x.comment_length ≡ false = grind (arith, nat_tests) in rw (at, e, r, test, b) refl
 
-  pub not_copied : (e : NotAdded) → has_entry_name x ≡ true → has_room bytes before x ≡ true → x.comment_length ≤ 79
-      → (e ≡ NoMemory) ⊎ ((e ≡ Fault PastContents) × (has_bytes bytes x ≡ false)) → IsNotAdded bytes before x e
+  pub not_copied : (e : NotAdded) → has_entry_name x ≡ true → has_room d.tree.letters bytes before x ≡ true → x.comment_length ≤ 79
+      → (e ≡ NoMemory) ⊎ ((e ≡ Fault PastContents) × (has_bytes bytes x ≡ false)) → IsNotAdded d.tree.letters bytes before x e
   not_copied e n r short (inl m) = rw m tt
   not_copied e n r short (inr f) = rw f.0 (past n r short f.1)
 
@@ -150,9 +161,9 @@ next_more t bytes xs i x e lt at h =
     rw more h
 
 -- one addition more has no fault
-pub sound_more : (bytes : List ℕ) (xs : List TableAddition) (i : ℕ) → AreSoundBefore bytes xs i
-    → ((y : TableAddition) → fault_of bytes (take i xs) (get_or xs i y) ≡ None) → AreSoundBefore bytes xs (i + 1)
-sound_more bytes xs i before here j y lt = elim (cases_lt j i) [
+pub sound_more : (letters : Letters) (bytes : List ℕ) (xs : List TableAddition) (i : ℕ) → AreSoundBefore letters bytes xs i
+    → ((y : TableAddition) → fault_of letters bytes (take i xs) (get_or xs i y) ≡ None) → AreSoundBefore letters bytes xs (i + 1)
+sound_more letters bytes xs i before here j y lt = elim (cases_lt j i) [
   | inl lower ↦ before j y lower
   | inr at ↦ let same : j ≡ i = omega arith in rw same (here y)
 ]

@@ -1,27 +1,24 @@
 -- Volumes that are built from a table of additions.
 -- Letters: v a new volume; xs the table of its additions; bytes the contents of the files; t a tree; n a number of blocks.
 use Rattle.std.specs.Prelude.{◌≡◌, ◌≤◌, ◌<◌, ◌*◌, ◌-◌, ◌==◌, ℕ, true, false, not, nat_lt, if◌then◌else◌, Option, Some, None, List, [], length, take}
-use Rattle.adf_base.specs.declared.hash.Letters.TheVariants.{Ascii}
-use Rattle.adf_names.specs.declared.kind.Kind.{Kind, TheVariants.Ofs, TheVariants.Ffs}
+use Rattle.adf_base.specs.declared.hash.Letters.{Letters}
+use Rattle.adf_names.specs.VolumeTypes.{letters_of_type}
 use Rattle.adf_tree.specs.Tree.{Tree}
 use Rattle.adf_blocks.specs.{Sizes.is_allowed, declared.layout.TheConstants.MOST_BLOCKS}
 use Rattle.adf_build.specs.{declared.builder.BuildFault.BuildFault, Building.IsBuildable, Building.need_of, Laid.IsLaid}
 use Rattle.adf_build.specs.declared.builder.BuildFault.TheVariants as build
+use Rattle.adf_subjects.specs.Subject.{kind_of_type}
 use Rattle.adf_memory.specs.{Rooms.filled, declared.building.Built.Built, declared.building.NewVolume.NewVolume, declared.building.Refusal.Refusal}
 use Rattle.adf_memory.specs.{declared.table_additions.NotAdded.NotAdded, declared.table_additions.TableAddition.TableAddition}
 use Rattle.adf_memory.specs.TableAdditions.{AreSound, IsFirstAdditionFault, addition_fault_number, stamp_of, tree_with}
 use Rattle.adf_memory.specs.declared.building.Refusal.TheVariants as refusal
 use Rattle.adf_memory.specs.declared.table_additions.NotAdded.TheVariants as not_added
 
--- the kind with this number
-abbrev pub kind_by : ℕ → Kind
-kind_by n = if n == 0 then Ofs else Ffs
-
 -- the tree of a new volume, without entries
 abbrev pub new_tree : NewVolume → Tree
 new_tree v = record {
-  kind = kind_by v.kind;
-  letters = Ascii;
+  kind = kind_of_type v.kind;
+  letters = letters_of_type v.kind;
   label = take v.label_length v.label;
   stamps = record { root = stamp_of v.root; altered = stamp_of v.altered; created = stamp_of v.created };
   entries = [];
@@ -33,21 +30,21 @@ tree_of v bytes xs = tree_with (new_tree v) bytes xs
 
 -- the volume has a kind and a label, and no addition has a fault
 pub record IsSoundVolume (v : NewVolume) (bytes : List ℕ) (xs : List TableAddition) : Type 0 where
-  pub kind : v.kind ≤ 1
+  pub kind : v.kind ≤ 3
   pub label : v.label_length ≤ 30
-  pub additions : AreSound bytes xs
+  pub additions : AreSound (letters_of_type v.kind) bytes xs
 
 -- why no volume is begun: its kind, or its label
 abbrev pub IsBadVolume : NewVolume → Refusal → Type 0
-IsBadVolume v refusal.BadKind = 1 < v.kind
-IsBadVolume v refusal.BadLabel = (v.kind ≤ 1) × (30 < v.label_length)
+IsBadVolume v refusal.BadKind = 3 < v.kind
+IsBadVolume v refusal.BadLabel = (v.kind ≤ 3) × (30 < v.label_length)
 IsBadVolume v _ = ⊥
 
 -- why the additions of a table are not built: the first fault, or memory is refused
-abbrev pub IsTableRefusal : List ℕ → List TableAddition → Refusal → Type 0
-IsTableRefusal bytes xs (refusal.Addition n fault) = IsFirstAdditionFault bytes xs n fault
-IsTableRefusal bytes xs refusal.NoMemory = Unit {0}
-IsTableRefusal bytes xs _ = ⊥
+abbrev pub IsTableRefusal : Letters → List ℕ → List TableAddition → Refusal → Type 0
+IsTableRefusal letters bytes xs (refusal.Addition n fault) = IsFirstAdditionFault letters bytes xs n fault
+IsTableRefusal letters bytes xs refusal.NoMemory = Unit {0}
+IsTableRefusal letters bytes xs _ = ⊥
 
 -- not even the largest volume has room for a tree: the blocks that it needs there, and those of the volume
 abbrev pub IsFullAtMost : Tree → Refusal → Type 0
@@ -56,13 +53,13 @@ IsFullAtMost t _ = ⊥
 
 -- the volume has a kind and a label
 abbrev pub HasKindAndLabel : NewVolume → Type 0
-HasKindAndLabel v = (v.kind ≤ 1) × (v.label_length ≤ 30)
+HasKindAndLabel v = (v.kind ≤ 3) × (v.label_length ≤ 30)
 
 -- what a refusal means, where it is of the volume or of its additions
 abbrev pub Explains : NewVolume → List ℕ → List TableAddition → Refusal → Type 0
-Explains v bytes xs refusal.BadKind = 1 < v.kind
-Explains v bytes xs refusal.BadLabel = (v.kind ≤ 1) × (30 < v.label_length)
-Explains v bytes xs (refusal.Addition n fault) = HasKindAndLabel v × IsFirstAdditionFault bytes xs n fault
+Explains v bytes xs refusal.BadKind = 3 < v.kind
+Explains v bytes xs refusal.BadLabel = (v.kind ≤ 3) × (30 < v.label_length)
+Explains v bytes xs (refusal.Addition n fault) = HasKindAndLabel v × IsFirstAdditionFault (letters_of_type v.kind) bytes xs n fault
 Explains v bytes xs refusal.NoMemory = HasKindAndLabel v
 Explains v bytes xs _ = ⊥
 

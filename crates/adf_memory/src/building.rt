@@ -1,9 +1,11 @@
 // Volumes that are built from a table of additions.
 
 ghost use Rattle.std.specs.Prelude.{◌≡◌, ◌≤◌, ◌<◌, ◌*◌, ◌↔◌, [], List, ℕ, length, IsSome, IfSome, IfOk, IfErr, OnOk, OnErr};
+ghost use Rattle.adf_names.specs.VolumeTypes.{letters_of_type};
 ghost use Rattle.adf_tree.specs.Tree.{Tree as ATree};
 ghost use Rattle.adf_memory.specs.Building.{ExplainsBuild, ExplainsNeed, HasVolume, IsBadVolume, IsFewest};
-ghost use Rattle.adf_memory.specs.Building.{IsFullAtMost, IsSoundVolume, IsTableRefusal, bad_room, built_in, kind_by};
+ghost use Rattle.adf_memory.specs.Building.{IsFullAtMost, IsSoundVolume, IsTableRefusal, bad_room, built_in};
+ghost use Rattle.adf_subjects.specs.Subject.{kind_of_type};
 ghost use Rattle.adf_memory.specs.Building.{new_tree, refusal_by, refusal_number, refusal_of, told, tree_of};
 ghost use Rattle.adf_memory.specs.TableAdditions.{AreSound, IsDraftOf, tree_with};
 ghost use Rattle.adf_memory.specs.VolumeCalls.{BuildsVolume, NeedsBlocks};
@@ -14,6 +16,7 @@ use adf_base::BLOCK_LEN;
 use adf_blocks::{MOST_BLOCKS, is_allowed_size};
 use adf_build::{BuildFault, build_into, fewest_blocks, need};
 use adf_drafts::Draft;
+use adf_names::letters_of_type;
 use adf_tree::{Kind, Label, Stamps, Tree};
 use std::alloc::Global;
 
@@ -21,7 +24,7 @@ use std::alloc::Global;
 #[repr(C)]
 #[derive(Clone, Copy)]
 pub struct NewVolume {
-    /// 0 for OFS, 1 for FFS.
+    /// The type of the volume: 0 for OFS, 1 for FFS, 2 and 3 for these with international letters.
     pub kind: u32,
     /// All blocks, including the two boot blocks.
     pub blocks: u32,
@@ -51,7 +54,7 @@ pub struct Built {
 /// Why no volume is built.
 #[derive(Clone, Copy, Debug, PartialEq, Eq)]
 pub enum Refusal {
-    /// No kind has this number.
+    /// No volume of this type is built.
     BadKind,
     /// The label is longer than 30 bytes.
     BadLabel,
@@ -109,14 +112,14 @@ fn built_in(blocks: u32) -> Built
     }
 }
 
-// The kind with this number.
-fn kind_by(number: u32) -> Option<Kind>
-    ensures allowed { IsSome result ↔ (number ≤ 1) }
-    ensures kind { IfSome result (λ k. k ≡ kind_by number) }
+// The kind of a volume of this type; `None` if none is built.
+fn kind_of_type(number: u32) -> Option<Kind>
+    ensures allowed { IsSome result ↔ (number ≤ 3) }
+    ensures kind { IfSome result (λ k. k ≡ kind_of_type number) }
 {
     match number {
-        0 => Some(Kind::Ofs),
-        1 => Some(Kind::Ffs),
+        0 | 2 => Some(Kind::Ofs),
+        1 | 3 => Some(Kind::Ffs),
         _ => None,
     }
 }
@@ -124,10 +127,11 @@ fn kind_by(number: u32) -> Option<Kind>
 // The draft of a new volume, without entries.
 fn new_draft(alloc: Global, volume: &NewVolume) -> Result<Draft, Refusal>
     ensures draft { IfOk result (λ d. (bytes : List ℕ) → IsDraftOf (new_tree volume.now) bytes [] d) }
-    ensures sound { OnOk result ((volume.now.kind ≤ 1) × (volume.now.label_length ≤ 30)) }
+    ensures letters { IfOk result (λ d. d.tree.letters ≡ letters_of_type volume.now.kind) }
+    ensures sound { OnOk result ((volume.now.kind ≤ 3) × (volume.now.label_length ≤ 30)) }
     ensures fault { IfErr result (IsBadVolume volume.now) }
 {
-    let Some(kind) = kind_by(volume.kind) else {
+    let Some(kind) = kind_of_type(volume.kind) else {
         return Err(Refusal::BadKind);
     };
     let Some(label) = text_in(&volume.label, volume.label_length) else {
@@ -138,7 +142,9 @@ fn new_draft(alloc: Global, volume: &NewVolume) -> Result<Draft, Refusal>
         altered: stamp_of(volume.altered),
         created: stamp_of(volume.created),
     };
-    Ok(Draft::new(alloc, kind, Label::new(label).unwrap(), stamps))
+    let letters = letters_of_type(volume.kind);
+    let label = Label::new(label).unwrap();
+    Ok(Draft::with_letters(alloc, kind, letters, label, stamps))
 }
 
 // The refusal of the addition with this number.
@@ -161,8 +167,8 @@ fn add_all(
     requires { (t : ATree) × IsDraftOf t contents.now [] draft.old }
     ensures draft { OnOk result ((t : ATree) → IsDraftOf t contents.now [] draft.old
         → IsDraftOf t contents.now additions.now draft.new) }
-    ensures sound { OnOk result (AreSound contents.now additions.now) }
-    ensures fault { IfErr result (IsTableRefusal contents.now additions.now) }
+    ensures sound { OnOk result (AreSound draft.old.tree.letters contents.now additions.now) }
+    ensures fault { IfErr result (IsTableRefusal draft.old.tree.letters contents.now additions.now) }
 {
     for i in 0..additions.len() {
         match add_next(alloc, draft, additions, i, contents) {
@@ -183,8 +189,8 @@ fn tree_of(
     requires { (t : ATree) × IsDraftOf t contents.now [] draft }
     ensures tree { IfOk result (λ r. (t : ATree) → IsDraftOf t contents.now [] draft
         → r ≡ tree_with t contents.now additions.now) }
-    ensures sound { OnOk result (AreSound contents.now additions.now) }
-    ensures fault { IfErr result (IsTableRefusal contents.now additions.now) }
+    ensures sound { OnOk result (AreSound draft.tree.letters contents.now additions.now) }
+    ensures fault { IfErr result (IsTableRefusal draft.tree.letters contents.now additions.now) }
 {
     let mut draft = draft;
     add_all(alloc, &mut draft, additions, contents)?;

@@ -1,6 +1,6 @@
 // The tables of a survey, and how they are filled.
 
-ghost use Rattle.std.specs.Prelude.{◌≡◌, ◌≤◌, ◌++◌, ◌∷◌, ℕ, Bool, Option, Some, length};
+ghost use Rattle.std.specs.Prelude.{◌≡◌, ◌≤◌, ℕ, Bool, Option, Some, length};
 ghost use Rattle.adf_findings.specs.{SoundMarks.AreMarks, Survey.OnSurvey};
 ghost use Rattle.adf_volume.specs.Walk.{heads};
 ghost use Rattle.adf_subjects.specs.Lines.{runs};

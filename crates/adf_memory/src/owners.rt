@@ -1,9 +1,8 @@
 // The owners of blocks.
 
 ghost use Rattle.std.specs.Prelude.{◌≡◌, ◌≤◌, ◌<◌, ℕ, length, slice_index};
-ghost use Rattle.adf_tree.specs.Tree.{Tree};
 ghost use Rattle.adf_blocks.specs.Sizes.{blocks};
-ghost use Rattle.adf_volume.specs.{Layout.Layout, Types.letters_for};
+ghost use Rattle.adf_volume.specs.{Types.letters_for};
 ghost use Rattle.adf_memory.specs.{OwnerNumbers.IsOwnerNumber, CheckCalls.TellsOwners};
 
 use adf_check::{Checked, check_types};

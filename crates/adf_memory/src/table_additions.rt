@@ -43,7 +43,7 @@ pub enum AdditionFault {
     ParentIsFile = 6,
     /// Its name is empty or too long, or has a `/` or `:`.
     BadName = 7,
-    /// An addition before it has its directory and its name, ignoring case.
+    /// An addition before it has its directory and its name, ignoring the case of the volume's letters.
     Exists = 8,
     /// Its comment is longer than 79 bytes.
     BadComment = 9,
@@ -168,10 +168,10 @@ fn add_in(
         → IsDraftOf t contents.now (before ++ addition.now ∷ []) draft.new) }
     ensures sound { OnOk result ((t : Tree) (before : List TableAddition)
         → IsNextAddition t contents.now before addition.now directory draft.old
-        → fault_of contents.now before addition.now ≡ None) }
+        → fault_of draft.old.tree.letters contents.now before addition.now ≡ None) }
     ensures fault { IfErr result (λ e. (t : Tree) (before : List TableAddition)
         → IsNextAddition t contents.now before addition.now directory draft.old
-        → IsNotAdded contents.now before addition.now e) }
+        → IsNotAdded draft.old.tree.letters contents.now before addition.now e) }
 {
     let Some(name) = name_of(addition) else {
         return Err(NotAdded::Fault(AdditionFault::BadName));
@@ -213,9 +213,9 @@ pub fn add_next(
     ensures added { OnOk result ((t : Tree) → IsDraftOf t contents.now (take i additions.now) draft.old
         → IsDraftOf t contents.now (take (i + 1) additions.now) draft.new) }
     ensures sound { OnOk result ((d : TableAddition)
-        → fault_of contents.now (take i additions.now) (slice_index_or additions.now i d) ≡ None) }
+        → fault_of draft.old.tree.letters contents.now (take i additions.now) (slice_index_or additions.now i d) ≡ None) }
     ensures fault { IfErr result (λ e. (d : TableAddition)
-        → IsNotAdded contents.now (take i additions.now) (slice_index_or additions.now i d) e) }
+        → IsNotAdded draft.old.tree.letters contents.now (take i additions.now) (slice_index_or additions.now i d) e) }
 {
     let addition = addition_at(additions, i);
     match directory_of(additions, i) {

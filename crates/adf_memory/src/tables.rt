@@ -1,7 +1,6 @@
 // The tables of a volume, and how they are filled.
 
 ghost use Rattle.std.specs.Prelude.{◌≡◌, ◌<◌, ◌≤◌, ◌+◌, ◌++◌, ◌∷◌, [], ◌^◌, ℕ, List, length};
-ghost use Rattle.adf_base.specs.declared.hash.Letters.{Letters};
 ghost use Rattle.adf_tree.specs.{declared.entry.Body.Body, declared.entry.Entry.Entry, Tree.Tree, Tree.entry};
 ghost use Rattle.adf_volume.specs.{Image.letters_of, Rows.row_of_body, Rows.row_of_entry, Fits.FitsBy, Counts.counts_of};
 ghost use Rattle.adf_volume.specs.Layout.{Layout, at_node, owned};

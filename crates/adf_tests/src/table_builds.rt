@@ -153,7 +153,7 @@ fn changed(change: Change) -> (NewVolume, [TableAddition; 3]) {
 }
 
 const ROWS: &[(Change, u8, usize)] = &[
-    (Change::Kind(2), 1, 0),
+    (Change::Kind(4), 1, 0),
     (Change::Label(31), 2, 0),
     (Change::Blocks(15), 3, 0),
     (Change::Blocks(18), 4, 0),
@@ -190,6 +190,35 @@ fn a_name_stands_once(rt: HostRuntime) {
     additions[2].name_length = 4;
     let (number, told) = needed(rt.alloc(), &volume, &additions);
     assert!(rt; (number, told.addition, told.blocks) == (8, 3, 0));
+}
+
+// The number of two names of one directory that differ in the case of an accented letter, in a volume of this type, and its first bytes.
+fn accented(alloc: Global, kind: u32) -> (u8, [u8; 4]) {
+    let (mut volume, mut additions) = changed(Change::Name(1, [0xe9; 30]));
+    volume.kind = kind;
+    additions[1].name_length = 1;
+    additions[2].name = [0xc9; 30];
+    additions[2].name_length = 1;
+    let (number, _, room) = built(alloc, &volume, &additions);
+    (number, [room[0], room[1], room[2], room[3]])
+}
+
+#[test]
+fn letters_are_those_of_the_type(rt: HostRuntime) {
+    assert!(rt; accented(rt.alloc(), 0) == (0, *b"DOS\x00"));
+    assert!(rt; accented(rt.alloc(), 1) == (0, *b"DOS\x01"));
+    assert!(rt; accented(rt.alloc(), 2) == (8, [9; 4]));
+    assert!(rt; accented(rt.alloc(), 3) == (8, [9; 4]));
+}
+
+// A volume of type 2 or 3 begins with its type.
+#[test]
+fn each_type_is_built(rt: HostRuntime) {
+    for kind in 0..4u32 {
+        let (volume, additions) = changed(Change::Kind(kind));
+        let (number, _, room) = built(rt.alloc(), &volume, &additions);
+        assert!(rt; (number, room[3]) == (0, kind as u8));
+    }
 }
 
 // A tree that does not fit is told with both numbers.

@@ -25,7 +25,7 @@ returns-clause-fault c =
     let sound : IsSoundVolume c.args.volume.now c.args.contents.now c.args.additions.now = record {
       kind = c.in_ok-draft.ensures.sound.0;
       label = c.in_ok-draft.ensures.sound.1;
-      additions = c.in_ok-tree.ensures.sound;
+      additions = rw c.in_ok-draft.ensures.letters at c.in_ok-tree.ensures.sound;
     } in
     rw c.refusal_by.ensures (build_refusal c.args.volume.now c.args.contents.now c.args.additions.now
     (length c.args.room.now) c.in_ok-tree.tree c.in-Err.fault

@@ -15,7 +15,7 @@ returns-clause-fault c =
     let sound : IsSoundVolume c.args.volume.now c.args.contents.now c.args.additions.now = record {
       kind = c.in_ok-draft.ensures.sound.0;
       label = c.in_ok-draft.ensures.sound.1;
-      additions = c.in_ok-tree.ensures.sound;
+      additions = rw c.in_ok-draft.ensures.letters at c.in_ok-tree.ensures.sound;
     } in
     IfErr-weaker c.fewest_of.result (λ (r : Refusal). IsFullAtMost c.in_ok-tree.tree r)
     (λ (r : Refusal). ExplainsNeed c.args.volume.now c.args.contents.now c.args.additions.now r)

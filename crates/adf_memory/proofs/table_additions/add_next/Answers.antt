@@ -24,9 +24,9 @@ pub returns-in-Ok-clause-fault : goal.returns-in-Ok-clause-fault
 returns-in-Ok-clause-fault c = IfErr-weaker c.add_in.result
     (λ (e : NotAdded). (t : Tree) (before : List TableAddition)
     → IsNextAddition t c.args.contents.now before c.addition_at-addition.result.now c.in-Ok.directory c.args.draft.now
-    → IsNotAdded c.args.contents.now before c.addition_at-addition.result.now e)
-    (λ (e : NotAdded). (y : TableAddition) → IsNotAdded c.args.contents.now (take c.args.i c.args.additions.now)
-    (get_or c.args.additions.now c.args.i y) e)
+    → IsNotAdded c.args.draft.now.tree.letters c.args.contents.now before c.addition_at-addition.result.now e)
+    (λ (e : NotAdded). (y : TableAddition)
+    → IsNotAdded c.args.draft.now.tree.letters c.args.contents.now (take c.args.i c.args.additions.now) (get_or c.args.additions.now c.args.i y) e)
     (λ e is y.
     let s = c.requires.state in
     rw (← c.addition_at-addition.ensures y) (is s.0 (take c.args.i c.args.additions.now)
@@ -35,8 +35,8 @@ returns-in-Ok-clause-fault c = IfErr-weaker c.add_in.result
 
 pub returns-in-Err-clause-fault : goal.returns-in-Err-clause-fault
 returns-in-Err-clause-fault c = λ y.
-    directory_fault c.args.contents.now (take c.args.i c.args.additions.now) (get_or c.args.additions.now c.args.i y) (Err c.in-Err.fault)
-    (sym (c.in-Err.ensures y))
+    directory_fault c.args.draft.now.tree.letters c.args.contents.now (take c.args.i c.args.additions.now)
+    (get_or c.args.additions.now c.args.i y) (Err c.in-Err.fault) (sym (c.in-Err.ensures y))
 
 pub add_in-requires : goal.add_in-requires
 add_in-requires c =
