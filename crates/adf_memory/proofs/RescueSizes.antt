@@ -25,7 +25,8 @@ length_restored volume image tree laid =
     (other_restored volume (sized 2 image) (laid_long volume tree laid) whole).long
 
 given_blocks : (types : Types) (s : SubjectValue) (r : RescueValue) → RescuesTyped types s r → IsOfBlocks (blocks s.image) r
-given_blocks types s r (t, typed, (said, is, (w, fs, survey, (sound, marks, (b, second, inl (none, (f, first, e))))))) = subst (IsOfBlocks (blocks s.image)) (sym e) tt
+given_blocks types s r (t, typed, (said, is, (w, fs, survey, (sound, marks, (b, second, inl (none, (f, first, e))))))) =
+    subst (IsOfBlocks (blocks s.image)) (sym e) tt
 given_blocks types s r (t, typed, (said, is, (w, fs, survey, (sound, marks, (b, second, inr (read, inl (nothing, (f, first, e)))))))) =
     subst (IsOfBlocks (blocks s.image)) (sym e) tt
 given_blocks types s r (t, typed, (said, is, (w, fs, survey, (sound, marks, (b, second, inr (read, inr (stands, (volume, laid, size, e)))))))) =

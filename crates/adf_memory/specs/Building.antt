@@ -1,6 +1,6 @@
 -- Volumes that are built from a table of additions.
 -- Letters: v a new volume; xs the table of its additions; bytes the contents of the files; t a tree; n a number of blocks.
-use Rattle.std.specs.Prelude.{◌≡◌, ◌≤◌, ◌<◌, ◌*◌, ◌-◌, ◌==◌, ℕ, true, false, not, nat_lt, if◌then◌else◌, Option, Some, None, List, [], length, take}
+use Rattle.std.specs.Prelude.{◌≡◌, ◌≤◌, ◌<◌, ◌*◌, ◌-◌, ℕ, true, false, not, nat_lt, if◌then◌else◌, Option, Some, None, List, [], length, take}
 use Rattle.adf_base.specs.declared.hash.Letters.{Letters}
 use Rattle.adf_names.specs.VolumeTypes.{letters_of_type}
 use Rattle.adf_tree.specs.Tree.{Tree}

@@ -1,6 +1,6 @@
 -- What is surveyed of an image, in the memory of a caller.
--- Letters: s, t what is surveyed of an input; o the type that its entries tell, if it is another; n the number of blocks that is asked for, 0 for those that the image has;
--- given the blocks of the image.
+-- Letters: s, t what is surveyed of an input; o the type that its entries tell, if it is another; n the number of blocks that is asked for, 0 for those that
+-- the image has; given the blocks of the image.
 use Rattle.std.specs.Prelude.{◌≡◌, ◌≤◌, ◌/◌, ◌==◌, ◌&&◌, ◌∷◌, ◌++◌, ℕ, Bool, List, [], Option, codes, cond, is_some, length, min, slice_index, take}
 use Rattle.adf_blocks.specs.declared.layout.TheConstants.{MOST_BLOCKS}
 use Rattle.adf_rescue.specs.Opened.{lacks_boot}

@@ -79,8 +79,8 @@ IsRescueRefused types image asked room told n =
     (r : RescueRefusal) × (n ≡ rescue_number r) × (told ≡ rescue_told r)
     × ExplainsRescue (RescuesTyped types (subject (asked_blocks asked) image)) room r
 
--- adf_rescue, and adf_rescue_types, with the types that the new volume may have: at 0 the room begins with the volume that the rescue gives, and the tables have what is not in it, or in doubt there. Any other number is that
--- of a refusal, and nothing is written
+-- adf_rescue, and adf_rescue_types, with the types that the new volume may have: at 0 the room begins with the volume that the rescue gives, and the tables
+-- have what is not in it, or in doubt there. Any other number is that of a refusal, and nothing is written
 pub record RescuesVolume (types : Types) (image : List ℕ) (asked : ℕ) (old new : List ℕ) (old_rows new_rows : List TableLoss) (old_paths new_paths : List ℕ)
     (told : RescueTold) (n : ℕ) : Type 0 where
   pub volume : n ≡ 0 → HasRescue (RescuesTyped types (subject (asked_blocks asked) image)) old new old_rows new_rows old_paths new_paths told

@@ -31,8 +31,8 @@ first_given : (letters : Letters) (input : Input) (image : List ℕ) (b : ℕ) �
 first_given letters input image b lt whole = rw (same_itself image b lt whole, none_stated image b) (and-true (is_data input image b))
 
 -- of the first survey the data blocks that were given are those that may be data
-firsts_given : (letters : Letters) (input : Input) (image : List ℕ) (bs : List ℕ) → length image ≡ 512 * blocks image → ((k b : ℕ) → At bs k b → b < blocks image)
-    → are_given (before_first_by letters input image) image bs ≡ are_data input image bs
+firsts_given : (letters : Letters) (input : Input) (image : List ℕ) (bs : List ℕ) → length image ≡ 512 * blocks image
+    → ((k b : ℕ) → At bs k b → b < blocks image) → are_given (before_first_by letters input image) image bs ≡ are_data input image bs
 firsts_given letters input image [] whole inside = refl
 firsts_given letters input image (b ∷ bs) whole inside =
     rw (first_given letters input image b (inside 0 b refl) whole, firsts_given letters input image bs whole (λ k c at. inside (suc k) c at)) refl

@@ -72,7 +72,8 @@ keeps_boot types s r (t, typed, (refused, is, (w, fs, survey, (sound, marks, (b,
     absurd (some (ap (λ (r : RescueValue). (rescue_reply r).output) e))
 keeps_boot types s r (t, typed, (refused, is, (w, fs, survey, (sound, marks, (b, second, inr (read, inl (nothing, (f, first, e)))))))) some bytes begins =
     absurd (some (ap (λ (r : RescueValue). (rescue_reply r).output) e))
-keeps_boot types s r (t, typed, (refused, is, (w, fs, survey, (sound, marks, (b, second, inr (read, inr (stands, (volume, laid, size, e)))))))) some bytes begins =
+keeps_boot types s r (t, typed, (refused, is, (w, fs, survey, (sound, marks, (b, second, inr (read, inr (stands, (volume, laid, size, e))))))))
+    some bytes begins =
     let long : BOOT_LEN ≤ length s.image =
     omega (arith, long_enough volume (length s.image) laid.size (size ∙ ap (λ n. n / 512) (length_read refused t.image ∙ typed_length s t typed))) in
     subst (HasBootOf s.image) (sym (ap (λ (r : RescueValue). (rescue_reply r).output) e)) (put_boots s volume _ laid long bytes begins)

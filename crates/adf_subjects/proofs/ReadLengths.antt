@@ -1,7 +1,8 @@
 -- The number of blocks that is read of an input is told by its front.
 -- Letters: image the front of an input, bytes all of it; asked the number of blocks that is asked for; n, k numbers of blocks; b the number of a block;
 -- m a number of bytes.
-use Rattle.std.proofs.Common.{◌≡◌, ◌≢◌, ◌<◌, ◌≤◌, ◌+◌, ◌-◌, ◌*◌, ◌/◌, ◌∙◌, ◌==◌, ◌&&◌, true, ℕ, Bool, List, Option, None, Some, ap, ap₂, arith, cond, drop, length}
+use Rattle.std.proofs.Common.{◌≡◌, ◌≢◌, ◌<◌, ◌≤◌, ◌+◌, ◌-◌, ◌*◌, ◌/◌, ◌∙◌, ◌==◌, ◌&&◌, true, ℕ, Bool, List, Option, None, Some, ap, ap₂, arith}
+use Rattle.std.proofs.Common.{cond, drop, length}
 use Rattle.std.proofs.{Common.min, Common.not, Common.refl, Common.sym, Common.take, lemmas.Bool.and_parts, lemmas.Bool.cond_both, lemmas.Bool.leb-true}
 use Rattle.std.proofs.{lemmas.Bool.Decides.nat_tests, lemmas.Grind.common_steps, lemmas.List.drop-take, lemmas.List.take-take, Math.Nat.min-eq_left}
 use Rattle.std.specs.{Prelude.IfSome, Option.option_or}

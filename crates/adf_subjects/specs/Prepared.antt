@@ -1,6 +1,6 @@
 -- Rescues of which only the new volume is to be laid.
--- Letters: b what is told of an input; p a prepared rescue; u why there is none; w how a work ends; f a fault; ls losses; boot the boot blocks of the input; types those that
--- the new volume may have.
+-- Letters: b what is told of an input; p a prepared rescue; u why there is none; w how a work ends; f a fault; ls losses; boot the boot blocks of the input;
+-- types those that the new volume may have.
 use Rattle.std.specs.Prelude.{◌≡◌, ◌++◌, ℕ, false, List, Option, None, Some, is_some, Result, Ok, Err}
 use Rattle.adf_blocks.specs.Sizes.{blocks}
 use Rattle.adf_volume.specs.{Types.letters_for, declared.fault.Fault.Fault, declared.types.Types.Types, Walk.FirstFaultBy}

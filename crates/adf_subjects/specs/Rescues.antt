@@ -1,7 +1,7 @@
 -- What a rescue gives.
--- Letters: a the survey of an image, w its walk, fs its findings; b the second survey, if there is one; ls losses; f a fault; r what a rescue gives;
--- types those that the new volume may have; known what is known of the input, held the number of blocks that it holds whole; lost the losses of blocks that are not read at
--- all; boot the boot blocks of the input.
+-- Letters: a the survey of an image, w its walk, fs its findings; b the second survey, if there is one; ls losses; f a fault; r what a rescue gives; types
+-- those that the new volume may have; known what is known of the input, held the number of blocks that it holds whole; lost the losses of blocks that are not
+-- read at all; boot the boot blocks of the input.
 use Rattle.std.specs.Prelude.{◌≡◌, ◌≢◌, ◌⊎◌, ◌==◌, ◌&&◌, ◌||◌, ℕ, Bool, true, false, List, [], ◌∷◌, ◌++◌, length, not, Option, None, Some}
 use Rattle.std.specs.Prelude.{slice_get}
 use Rattle.adf_tree.specs.Tree.{Tree}

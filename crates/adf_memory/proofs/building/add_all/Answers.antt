@@ -1,4 +1,4 @@
-use Rattle.std.proofs.Common.{◌≡◌, ◌≤◌, [], arith, length, take}
+use Rattle.std.proofs.Common.{◌≤◌, [], arith, length, take}
 use Rattle.std.proofs.lemmas.List.{take_all}
 use Rattle.adf_memory.proofs.{Refusals.table_refusal, TableDrafts.same_letters, TableDrafts.sound_more}
 use Rattle.adf_memory.proofs.building.add_all.Goals as goal

@@ -11,4 +11,5 @@ returns c =
 
 pub returns-in_err-subject : goal.returns-in_err-subject
 returns-in_err-subject c =
-    none_ready (RescuesTyped c.args.input.types (subject (asked_blocks c.args.input.blocks) c.args.input.image.now)) c.from_residual.result c.from_residual.ensures.1
+    none_ready (RescuesTyped c.args.input.types (subject (asked_blocks c.args.input.blocks) c.args.input.image.now)) c.from_residual.result
+    c.from_residual.ensures.1

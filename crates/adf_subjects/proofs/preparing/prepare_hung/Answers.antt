@@ -33,4 +33,5 @@ returns c = λ lost input begun u gs sound found marks.
 pub returns-in_err-second : goal.returns-in_err-second
 returns-in_err-second c = λ lost input begun u gs sound found marks.
     let a : Basis = record { image = c.args.found.now.image; walk = u; sound = sound } in
-    none_prepared (RescuesBoth c.args.scope.types (known_of c.args.scope.held c.args.begun.now) lost input a (Some c.args.hung.now) gs) c.from_residual.result c.from_residual.ensures.1
+    none_prepared (RescuesBoth c.args.scope.types (known_of c.args.scope.held c.args.begun.now) lost input a (Some c.args.hung.now) gs)
+    c.from_residual.result c.from_residual.ensures.1
