@@ -38,7 +38,7 @@ class Volumes(Folder):
             entries = names if number >= 2 else [names[0], adf.Addition("\u00c9T\u00e9/a", b"A")]
             image = adf.build(kind, None, entries, "W")
             self.assertEqual((image[:4], adf.check(image, international=True).kind), (b"DOS" + bytes([number]), kind))
-            volume = adf.open(image)
+            volume = adf.Volume(image)
             self.assertEqual((volume.kind, [entry.path for entry in volume.entries]), (kind, ["\u00c9t\u00e9", "\u00c9t\u00e9/a"]))
             again = adf.build(kind, volume.blocks, map(adf.Addition.of, volume.entries), volume.raw_label)
             self.assertEqual(again, image)
@@ -209,7 +209,7 @@ class Images(Folder):
         for name in "abc":
             written(f"f/{name}", b"12345")
         packer = pack.Packer(argparse.Namespace(escape=False, no_uaem=False, blocks=None))
-        plan, found = packed_image.planned(packer, b"f")
+        plan, found = packed_image.planned("ffs", packer, b"f")
         view = memoryview(bytearray(plan.size))
         packed_image.read_all(view, packer, b"f", found)
         self.assertEqual(view, b"12345" * 3)
