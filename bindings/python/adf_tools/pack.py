@@ -256,7 +256,9 @@ def work(words: argparse.Namespace) -> int:
 
 def main() -> None:
     line = command_line("adf-pack", "Writes a manifest of a folder on standard output, of which adf build makes a volume, or an image.")
-    line.add_argument("kind", metavar="KIND", nargs="?", choices=adf.TYPES, help="ofs or ffs, and with --image ofs-international or ffs-international; there it may be left out: ffs")
+    line.add_argument(
+        "kind", metavar="KIND", nargs="?", choices=adf.TYPES,
+        help="ofs or ffs; with --image also ofs-international or ffs-international, and it may be left out: ffs")
     line.add_argument(
         "blocks", metavar="BLOCKS", nargs="?", type=number, help="blocks of 512 bytes; a floppy of 880 KB has 1760; not with --size")
     line.add_argument("folder", metavar="FOLDER")
