@@ -89,12 +89,20 @@ def is_filled(image, b):
     return image[512 * b : 512 * b + 256] == image[512 * b + 256 : 512 * b + 512]
 
 
+def is_silent(image, b):
+    """The block does not tell against OFS: it is filled with a pattern, or says that it is an OFS data block of a file."""
+    w = words(image, b)
+    h = w[1] if w[1] < len(image) // 512 else 0
+    names_file = words(image, h)[:2] == (2, h) and words(image, h)[127] == FILE
+    return is_filled(image, b) or w[0] == 8 and names_file and sealed(image, b)
+
+
 def told_type(image):
     """The type that the entries of the survey of an opened image tell."""
     sv, stated = Survey(image), image[3]
     if not sv.nodes:
         return stated
-    says = [said for b, role in sv.owner.items() if role[1] == "data" for said in [sv.says_data_of(*role[2:], b)] if said or not is_filled(sv.image, b)]
+    says = [said for b, role in sv.owner.items() if role[1] == "data" for said in [sv.says_data_of(*role[2:], b)] if said or not is_silent(sv.image, b)]
     full = [n for n in range(1, len(sv.nodes)) if sv.word(sv.block_of(n), 127) == FILE and sv.size(n)]
     if stated % 2:
         is_other = sum(says) > len(says) - sum(says)
@@ -249,7 +257,8 @@ def pruned(image):
             pack_into(">I", new, 512 * b + 4 * 127, DIR)
         is_directory = words(new, b)[127] == DIR
         for i in (*range(6, 78), 124, 126):
-            leads = claims(new, words(new, b)[i], 16 if i == 126 else 2) and (is_directory or i >= 124)
+            firsts = (16, 33) if i == 126 else (2,)
+            leads = any(claims(new, words(new, b)[i], first) for first in firsts) and (is_directory or i >= 124)
             if not leads:
                 pack_into(">I", new, 512 * b + 4 * i, int(i == 124 and words(new, b)[124] != 0))
     return bytes(new)

@@ -4,11 +4,12 @@
 use Rattle.std.specs.Prelude.{ℕ, ◌+◌, ◌-◌, ◌==◌, ◌&&◌, ◌||◌, Bool, true, false, cond, nat_le, nat_lt, not, List, Option, Some, None, set, slice_get}
 use Rattle.std.specs.{Prelude.slice_index, Prelude.slice_range, Option.unwrap_or, Str.bytes_eq}
 use Rattle.std.proofs.Common.{zero, suc}
-use Rattle.adf_base.specs.{Hash.slot_by, Words.block}
+use Rattle.adf_base.specs.{Hash.slot_by, Words.block, Words.long_sum}
 use Rattle.adf_base.specs.declared.hash.Letters.{Letters, TheVariants.Ascii, TheVariants.International}
 use Rattle.adf_names.specs.{Texts.is_name, VolumeTypes.type_number}
 use Rattle.adf_names.specs.declared.kind.Kind.{Kind, TheVariants.Ofs, TheVariants.Ffs}
-use Rattle.adf_blocks.specs.{Sizes.blocks, declared.layout.TheConstants.SECONDARY_TYPE, declared.layout.TheConstants.SIZE, declared.layout.TheConstants.ST_FILE}
+use Rattle.adf_blocks.specs.Sizes.{blocks}
+use Rattle.adf_blocks.specs.declared.layout.TheConstants.{DATA_HEAD, OWN_KEY, SECONDARY_TYPE, SIZE, ST_FILE, TYPE, T_DATA, T_SHORT}
 use Rattle.adf_volume.specs.{Image.kind_of, Image.letters_of, Image.name_of, Image.word_in, Walk.heads, Walk.node_block, Walk.Walk, Parts.entry_of}
 use Rattle.adf_walk.specs.Owners.{owner_at}
 use Rattle.adf_findings.specs.{WalkOwners.data_number_of, declared.found.ChainPlace.ChainPlace, declared.own_kind.Tally.Tally, Found.places_of}
@@ -19,9 +20,18 @@ use Rattle.adf_findings.specs.declared.own_kind.TheConstants.{FILES_THAT_TELL}
 abbrev pub is_filled : List ℕ → ℕ → Bool
 is_filled image b = nat_lt b (blocks image) && bytes_eq (slice_range (block image b) 0 256) (slice_range (block image b) 256 512)
 
--- whether block b says that it is OFS data block k of the file with its header at block h; nothing of one that does not and is filled
+-- block h claims to be a file's header
+abbrev pub claims_file : List ℕ → ℕ → Bool
+claims_file image h = (word_in image h TYPE == T_SHORT) && (word_in image h OWN_KEY == h) && (word_in image h SECONDARY_TYPE == ST_FILE)
+
+-- block b says that it is an OFS data block of a file
+abbrev pub says_data : List ℕ → ℕ → Bool
+says_data image b =
+    nat_lt b (blocks image) && (word_in image b TYPE == T_DATA) && claims_file image (word_in image b DATA_HEAD) && (long_sum (block image b) == 0)
+
+-- whether block b says that it is OFS data block k of the file with its header at block h; nothing of one that is filled, or is another one
 abbrev pub kind_said : List ℕ → (h k b : ℕ) → Option Bool
-kind_said image h k b = cond (says_data_of image h k b) (Some true) (cond (is_filled image b) None (Some false))
+kind_said image h k b = cond (says_data_of image h k b) (Some true) (cond (is_filled image b || says_data image b) None (Some false))
 
 -- the same of the data block of the walk at block b, of its file; nothing of other blocks
 abbrev pub said_at : List ℕ → Walk → ℕ → Option Bool
@@ -39,7 +49,7 @@ tallied t None = t
 tallied t (Some true) = record { says = t.says + 1; others = t.others }
 tallied t (Some false) = record { says = t.says; others = t.others + 1 }
 
--- how many of the data blocks at the first k blocks say so, and how many that are not filled do not
+-- how many of the data blocks at the first k blocks say so, and how many tell against it
 unfoldable pub tally : List ℕ → Walk → ℕ → Tally
 tally image w zero = record { says = 0; others = 0 }
 tally image w (suc k) = tallied (tally image w k) (said_at image w k)

@@ -4,8 +4,8 @@ ghost use Rattle.std.specs.Prelude.{◌≡◌, ◌≤◌, ◌<◌, ◌+◌, ◌-
 ghost use Rattle.adf_blocks.specs.Sizes.{blocks};
 ghost use Rattle.adf_volume.specs.Walk.{Role, heads, node_block};
 ghost use Rattle.adf_findings.specs.{Files.grave, Sound.IsSound, Survey.OnSurvey};
-ghost use Rattle.adf_findings.specs.OwnKind.{has_other_kind, has_other_letters, is_full_file, is_in_slot, is_mistyped};
-ghost use Rattle.adf_findings.specs.OwnKind.{is_filled, is_other_kind, kind_said, other_kind, other_letters, passing, retyped, said_in};
+ghost use Rattle.adf_findings.specs.OwnKind.{claims_file, has_other_kind, has_other_letters, is_full_file, is_in_slot, is_mistyped};
+ghost use Rattle.adf_findings.specs.OwnKind.{is_filled, is_other_kind, kind_said, other_kind, other_letters, passing, retyped, said_in, says_data};
 ghost use Rattle.adf_findings.specs.OwnKind.{slot_of_place, tallied, tally, told_type, type_with};
 
 use crate::found::ChainPlace;
@@ -14,14 +14,14 @@ use crate::owners::{data_number_of, entry_of};
 use crate::start::start;
 use crate::survey_result::{Survey, number_at};
 use adf_base::{Letters, slot_by};
-use adf_blocks::{SECONDARY_TYPE, SIZE, ST_FILE};
+use adf_blocks::{DATA_HEAD, OWN_KEY, SECONDARY_TYPE, SIZE, ST_FILE, T_DATA, T_SHORT, TYPE};
 use adf_names::type_number;
 use adf_tree::{Kind, Name, Node};
 
 /// How many files that are not empty show, without a data block, that an OFS volume is one of FFS.
 pub const FILES_THAT_TELL: usize = 4;
 
-/// How many data blocks say that they are OFS ones, and how many that are not filled do not.
+/// How many data blocks say that they are OFS ones of their files, and how many tell against it.
 #[derive(Clone, Copy, PartialEq, Eq, Drop)]
 pub struct Tally {
     pub says: u32,
@@ -115,12 +115,31 @@ fn is_filled(image: &SizedImage<'_>, b: u32) -> bool
     block.bytes(0, 256) == block.bytes(256, 256)
 }
 
-// Whether a block says that it is such an OFS data block; `None` of one that does not, and is filled.
+// Whether a block claims to be a file's header.
+fn claims_file(image: &SizedImage<'_>, head: u32) -> bool
+    ensures { result ≡ claims_file image.now head }
+{
+    image.word(head, TYPE) == T_SHORT
+        && image.word(head, OWN_KEY) == head
+        && image.word(head, SECONDARY_TYPE) == ST_FILE
+}
+
+// Whether a block says that it is an OFS data block of a file.
+fn says_data(image: &SizedImage<'_>, b: u32) -> bool
+    ensures { result ≡ says_data image.now b }
+{
+    b < image.blocks()
+        && image.word(b, TYPE) == T_DATA
+        && claims_file(image, image.word(b, DATA_HEAD))
+        && image.block(b).long_sum() == 0
+}
+
+// Whether a block says that it is such an OFS data block; `None` of one that does not, and is filled or another one.
 fn kind_said(image: &SizedImage<'_>, head: u32, number: u32, b: u32) -> Option<bool>
     ensures { result ≡ kind_said image.now head number b }
 {
     let says = image.says_data_of(head, number, b);
-    if !says && is_filled(image, b) {
+    if !says && (is_filled(image, b) || says_data(image, b)) {
         None
     } else {
         Some(says)
@@ -142,7 +161,7 @@ impl Survey<'_> {
         kind_said(image, head, number, b)
     }
 
-    // How many data blocks say so, and how many that are not filled do not.
+    // How many data blocks say so, and how many tell against it.
     fn tally(&self, image: &SizedImage<'_>) -> Tally
         ensures { OnSurvey self.now.image (λ w _. result ≡ tally image.now w (blocks image.now)) }
     {

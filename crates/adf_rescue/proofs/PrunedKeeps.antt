@@ -8,7 +8,7 @@ use Rattle.adf_base.specs.Words.{block, checksum, long_sum, with_word, word}
 use Rattle.adf_base.proofs.WordLaws.{block_other, block_written, length-block, length-with_bytes, length-with_word, sealed_block, word-with_word_other}
 use Rattle.adf_base.proofs.WordLaws.{word-with_word_same}
 use Rattle.adf_blocks.specs.declared.layout.TheConstants.{EXTENSION, FIRST_SLOT, NEXT_IN_CHAIN, OWN_KEY, PARENT, SECONDARY_TYPE, SLOTS, ST_DIR, TYPE}
-use Rattle.adf_blocks.specs.declared.layout.TheConstants.{T_LIST, T_SHORT}
+use Rattle.adf_blocks.specs.declared.layout.TheConstants.{T_DIR_CACHE, T_LIST, T_SHORT}
 use Rattle.adf_blocks.specs.Sizes.{blocks}
 use Rattle.adf_volume.specs.{Image.root_of, Image.word_in, Start.is_image_len}
 use Rattle.adf_rescue.specs.{Hung.put_in, Claims.claims_header, Claims.claims_type, Pruned.chain_pruned, Pruned.directory_typed, Pruned.has_directory_type}
@@ -144,12 +144,16 @@ module _ {c : ℕ} {x y : List ℕ} (h : Prunes c x y) (b : ℕ) where
             ∙ (ap (λ d. has_directory_type x b && d) claim ∙ is))
       ]
 
-  word_moves : (type i : ℕ) → word_in y b i ≡ word_in x b i → (word_in x b i ≡ 0) ⊎ (claims_type x type (word_in x b i) ≡ true)
-      → (word_in y b i ≡ 0) ⊎ (claims_type y type (word_in y b i) ≡ true)
-  word_moves type i same leads = elim leads [
-    | inl none ↦ inl (same ∙ none)
-    | inr is ↦ inr (same_claim h type (word_in y b i) ∙ (ap (claims_type x type) same ∙ is))
-  ]
+  extension_moves : word_in y b EXTENSION ≡ word_in x b EXTENSION → (word_in x b EXTENSION ≡ 0) ⊎ (extension_leads x b ≡ true)
+      → (word_in y b EXTENSION ≡ 0) ⊎ (extension_leads y b ≡ true)
+  extension_moves same leads =
+      let one = same_claim h T_LIST (word_in y b EXTENSION) ∙ ap (claims_type x T_LIST) same in
+      let other = same_claim h T_DIR_CACHE (word_in y b EXTENSION) ∙ ap (claims_type x T_DIR_CACHE) same in
+      elim leads [
+        | inl none ↦ inl (same ∙ none)
+        | inr is ↦ inr (ap (λ d. d || claims_type y T_DIR_CACHE (word_in y b EXTENSION)) one
+            ∙ (ap (λ d. claims_type x T_LIST (word_in x b EXTENSION) || d) other ∙ is))
+      ]
 
   chain_moves : word_in y b NEXT_IN_CHAIN ≡ word_in x b NEXT_IN_CHAIN → (word_in x b NEXT_IN_CHAIN ≡ 1) ⊎ (chain_leads x b ≡ true)
       → (word_in y b NEXT_IN_CHAIN ≡ 1) ⊎ (chain_leads y b ≡ true)
@@ -167,7 +171,7 @@ module _ {c : ℕ} {x y : List ℕ} (h : Prunes c x y) (b : ℕ) where
       record {
         slots = λ s lt. slot_moves s (ap (λ bs. word bs SECONDARY_TYPE) same) (ap (λ bs. word bs (FIRST_SLOT + s)) same) (leads.slots s lt);
         chain = chain_moves (ap (λ bs. word bs NEXT_IN_CHAIN) same) leads.chain;
-        extension = word_moves T_LIST EXTENSION (ap (λ bs. word bs EXTENSION) same) leads.extension;
+        extension = extension_moves (ap (λ bs. word bs EXTENSION) same) leads.extension;
       }
 
   mended_moves : b ≢ c → IsMended x b → IsMended y b

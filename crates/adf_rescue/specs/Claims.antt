@@ -17,6 +17,10 @@ claims_header image t = claims_type image T_SHORT t
 abbrev pub claims_extension : List ℕ → ℕ → Bool
 claims_extension image t = claims_type image T_LIST t
 
+-- block t claims to be a directory cache
+abbrev pub claims_cache : List ℕ → ℕ → Bool
+claims_cache image t = claims_type image T_DIR_CACHE t
+
 -- block t claims to be a header or a directory cache: it is no data
 abbrev pub claims_other : List ℕ → ℕ → Bool
-claims_other image t = claims_header image t || claims_type image T_DIR_CACHE t
+claims_other image t = claims_header image t || claims_cache image t

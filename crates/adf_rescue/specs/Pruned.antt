@@ -7,7 +7,7 @@ use Rattle.adf_blocks.specs.declared.layout.TheConstants.{EXTENSION, FIRST_SLOT,
 use Rattle.adf_blocks.specs.Sizes.{blocks, in_range}
 use Rattle.adf_volume.specs.{Image.name_of, Image.root_of, Image.word_in, Start.is_image_len}
 use Rattle.adf_names.specs.Texts.{is_name}
-use Rattle.adf_rescue.specs.{Claims.claims_extension, Claims.claims_header, Hung.put_in, Hung.slotted, Lost.says_directory, Opened.opened}
+use Rattle.adf_rescue.specs.{Claims.claims_cache, Claims.claims_extension, Claims.claims_header, Hung.put_in, Hung.slotted, Lost.says_directory, Opened.opened}
 
 -- block b is a header in doubt: it claims to be a header, is not the root, and its sum is wrong
 abbrev pub is_in_doubt : List ℕ → ℕ → Bool
@@ -42,9 +42,9 @@ slot_leads image b s = has_directory_type image b && claims_header image (word_i
 abbrev pub chain_leads : List ℕ → ℕ → Bool
 chain_leads image b = (word_in image b NEXT_IN_CHAIN == 0) || claims_header image (word_in image b NEXT_IN_CHAIN)
 
--- the extension block of block b claims to be one
+-- the extension block of block b claims to be one, or a directory cache
 abbrev pub extension_leads : List ℕ → ℕ → Bool
-extension_leads image b = claims_extension image (word_in image b EXTENSION)
+extension_leads image b = claims_extension image (word_in image b EXTENSION) || claims_cache image (word_in image b EXTENSION)
 
 -- the image with slot s of block b made 0, unless it leads so
 abbrev pub slot_pruned : List ℕ → ℕ → ℕ → List ℕ

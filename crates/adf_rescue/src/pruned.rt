@@ -11,7 +11,7 @@ ghost use Rattle.adf_rescue.specs.Pruned.{may_be_pruned, pruned, pruned_at};
 ghost use Rattle.adf_rescue.specs.Pruned.{chain_has, homed, is_displaced, is_home, leads_to, parent_summed, put_unless};
 ghost use Rattle.adf_rescue.specs.Pruned.{slot_pruned, slots_pruned};
 
-use crate::claims::{claims_extension, claims_header};
+use crate::claims::{claims_cache, claims_extension, claims_header};
 use crate::hung::slotted;
 use crate::image::{block_count, block_in, root_of};
 use crate::lost::{in_range, says_directory, word_in};
@@ -126,7 +126,8 @@ fn prune_extension(image: &mut [u8], b: u32)
     requires { b < blocks image.old }
     ensures { image.new ≡ extension_pruned image.old b }
 {
-    let keeps = claims_extension(image, word_in(image, b, EXTENSION));
+    let extension = word_in(image, b, EXTENSION);
+    let keeps = claims_extension(image, extension) || claims_cache(image, extension);
     put_unless(image, keeps, b, EXTENSION, 0);
 }
 
@@ -234,7 +235,8 @@ fn prune_at(image: &mut [u8], b: u32)
 /// neither now, or if that one leads to it: by the chain in the slot of its name, of 72 members at most. The others are pruned.
 /// One that has a sound header in it, which words 6 to 77 lead to and which names it as its directory, is made a directory, by
 /// word 127. In a directory each of words 6 to 77 becomes 0 unless it leads to what says by words 0 and 1 that it is a header,
-/// and in others all of them; likewise word 126 unless it leads to what says that it is an extension block. Word 124, the next
+/// and in others all of them; likewise word 126 unless it leads to what says that it is an extension block or a directory
+/// cache. Word 124, the next
 /// in the chain, becomes 1, which is no header's block, unless it is 0 or leads to what says that it is a header. Nothing else
 /// changes, nor is a checksum. The headers are pruned in ascending order, each by the image as it stands then. An image of a
 /// length that no volume has stays as it is.
