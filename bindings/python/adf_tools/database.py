@@ -14,7 +14,7 @@ import os
 import re
 import sqlite3
 import stat
-from typing import Iterator, List, NoReturn, Optional, Set, Tuple
+from typing import Iterator, NoReturn, Optional, Set, Tuple
 
 from adf_tools.names import one_line
 from adf_tools.program import FAILED, host_text, stop
