@@ -14,8 +14,7 @@ import os
 import re
 import sqlite3
 import stat
-import urllib.parse
-from typing import Iterator, List, NoReturn, Optional, Set, Tuple
+from typing import Iterator, NoReturn, Optional, Set, Tuple
 
 from adf_tools.names import one_line
 from adf_tools.program import FAILED, host_text, stop
@@ -23,6 +22,7 @@ from adf_tools.trees import identity, named
 
 NAME = "collection.sqlite"
 APPLICATION, WAIT = 0x61646643, 60.0  # adfC; so many seconds one program waits for another to end its transaction
+CACHE = 64 << 10  # KiB of a database that a process keeps that goes through all of it
 FIRST = """
 CREATE TABLE facts (name TEXT PRIMARY KEY, value TEXT NOT NULL) WITHOUT ROWID;
 CREATE TABLE runs (
@@ -170,11 +170,18 @@ def check_files(path: str) -> None:
             left(path, "its journal is of another program")
 
 
+def large_connection_to(path: str, mode: str) -> sqlite3.Connection:
+    """A connection by which all of a database is gone through, or written: of its pages more are kept."""
+    connection = connection_to(path, mode)
+    connection.execute(f"PRAGMA cache_size = -{CACHE}")
+    return connection
+
+
 def connection_to(path: str, mode: str) -> sqlite3.Connection:
     """A connection to the file of a database, which is made if the mode is `rwc`."""
     with named(path):
         check_files(path)
-    name = urllib.parse.quote(os.fsencode(os.path.abspath(path)))
+    name = "".join(map("%{:02x}".format, os.fsencode(os.path.abspath(path))))
     connection = sqlite3.connect(f"file:{name}?mode={mode}", uri=True, timeout=WAIT, isolation_level=None)
     connection.row_factory = sqlite3.Row
     add_functions(connection)
@@ -229,22 +236,20 @@ def version_of(connection: sqlite3.Connection, path: str) -> int:
     return int(version)
 
 
-@functools.lru_cache(maxsize=None)
-def type_checks() -> List[Tuple[str, str]]:
-    """The name of each table, and a query for a row with a value of another type than its column; SQLite has any in any column."""
-    with contextlib.closing(made_in_memory(len(STEPS))) as connection:
-        names = [name for kind, name, _, line in sorted(own_schema(len(STEPS))) if kind == "table" and line.startswith(f"CREATE TABLE {name} ")]
-        checks = [("text_words", TEXTS)]
-        for name in names:
+def type_checks(connection: sqlite3.Connection) -> Iterator[Tuple[str, str]]:
+    """The name of each table of a database of this version, and a query for a row with a value of another type than its column; SQLite has
+    any in any column."""
+    yield "text_words", TEXTS
+    for kind, name, _, line in sorted(own_schema(len(STEPS))):
+        if kind == "table" and line.startswith(f"CREATE TABLE {name} "):
             columns = [(row[1], TYPES[row[2]]) for row in connection.execute(f"PRAGMA table_info({name})")]
-            are_other = " OR ".join(f"typeof({column}) NOT IN ('{kind}', 'null')" for column, kind in columns)
-            checks.append((name, f"SELECT 1 FROM {name} WHERE {are_other} LIMIT 1"))
-        return checks
+            are_other = " OR ".join(f"typeof({column}) <> '{type_}' AND {column} IS NOT NULL" for column, type_ in columns)
+            yield name, f"SELECT 1 FROM {name} WHERE {are_other} LIMIT 1"
 
 
 def check_types(connection: sqlite3.Connection, path: str) -> None:
     """Each value is of the type of its column, or null."""
-    for name, query in type_checks():
+    for name, query in type_checks(connection):
         if connection.execute(query).fetchone() is not None:
             left(path, f"damaged: {name} has a value of another type than its column")
 
@@ -325,7 +330,7 @@ def opened(path: str, is_new: bool = False, folder: str = "") -> Iterator[sqlite
     """A database to write, which is made if it is new, and brought to this version if it is older. Errors are told as if it were in the
     given folder already."""
     with told(os.path.join(folder, NAME) if folder else path):
-        connection = connection_to(path, "rwc" if is_new else "rw")
+        connection = large_connection_to(path, "rwc" if is_new else "rw")
         try:
             if version_of(connection, path):
                 check_whole(connection, path)

@@ -3,21 +3,21 @@
 from __future__ import annotations
 
 import argparse
-import json
+import itertools
 import os
 import re
 import sqlite3
 import sys
 from typing import Iterator, Sequence
 
-import adf
 from adf_tools import database
-from adf_tools.names import one_line
+from adf_tools.names import digits_of, one_line
 from adf_tools.program import FAILED, NOT_FOUND, command_line, host_text, stop
 
 SUM_COLUMNS = {8: "crc32", 32: "md5", 40: "sha1", 64: "sha256"}
 SUM = re.compile("[0-9a-f]+")
 HIDDEN = re.compile("[\x7f-\x9f\u200b-\u200f\u2028-\u202e\u2060-\u206f\ufeff\ud800-\udfff]")  # what JSON has as it is, and no terminal shows
+PARTING, TOGETHER = {ord("\t"): None, ord("\n"): None}, 1000  # what parts places; so many of them are written at once
 PLACE = "images.name AS image, entries.path"
 FIELDS = f"{PLACE}, entries.kind, entries.size, entries.date, entries.state, entries.sha256"
 OF_IMAGE = "images.name AS image, NULL AS path, kind, bytes AS size, altered AS date, verdict AS state, sha256"
@@ -62,15 +62,23 @@ def plain(text: object) -> str:
     """A text of a database in one line, of which a terminal shows all, and does nothing that it says."""
     if isinstance(text, str) and text.isascii() and text.isprintable():
         return text
-    return HIDDEN.sub(lambda found: adf.escape(found[0].encode("utf-8", "replace")), one_line(text))
+    return HIDDEN.sub(lambda found: digits_of(found[0].encode("utf-8", "replace")), one_line(text))
 
 
-def line_of(row: sqlite3.Row, is_json: bool) -> str:
-    """The line of a place. A terminal shows all of it, and does nothing that it says."""
-    if is_json:
-        line_ = json.dumps({name: row[name] for name in row.keys() if row[name] is not None}, ensure_ascii=False, default=str)
-        return HIDDEN.sub(lambda found: json.dumps(found[0])[1:-1], line_)
-    return f"{plain(row['image'] or '')}\t{plain(row['path'] or '')}"
+def lines_of(rows: Sequence[sqlite3.Row]) -> str:
+    """The lines of places. A terminal shows all of them, and does nothing that they say; as a rule they have nothing else."""
+    lines = "".join([f"{row[0] or ''}\t{row[1] or ''}\n" for row in rows])
+    if lines.isascii() and lines.count("\t") == lines.count("\n") == len(rows) and lines.translate(PARTING).isprintable():
+        return lines
+    return "".join(f"{plain(row[0] or '')}\t{plain(row[1] or '')}\n" for row in rows)
+
+
+def json_lines_of(rows: Sequence[sqlite3.Row]) -> str:
+    """The lines of places as JSON objects."""
+    import json
+
+    lines = (json.dumps({name: row[name] for name in row.keys() if row[name] is not None}, ensure_ascii=False, default=str) for row in rows)
+    return "".join(HIDDEN.sub(lambda found: json.dumps(found[0])[1:-1], line_) + "\n" for line_ in lines)
 
 
 def checksum(text: str) -> str:
@@ -91,9 +99,9 @@ def work(words: argparse.Namespace) -> int:
             rows = by_text(connection, words.words, words.out)
         else:
             rows = by_words(connection, words.words, FIELDS if words.json else PLACE)
-        for row in rows:
-            sys.stdout.buffer.write((line_of(row, words.json) + "\n").encode("utf-8", "backslashreplace"))
-            count += 1
+        while some := list(itertools.islice(rows, TOGETHER)):
+            sys.stdout.buffer.write((json_lines_of if words.json else lines_of)(some).encode("utf-8", "backslashreplace"))
+            count += len(some)
     return 0 if count else NOT_FOUND
 
 

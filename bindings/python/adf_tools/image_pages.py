@@ -14,7 +14,7 @@ from adf_tools.advice import GROUPS
 from adf_tools.icons import MOST_SIDE, Icon, icon_picture, pixels_of
 from adf_tools.markup import Html, address, drawn, html, joined, link, shown
 from adf_tools.out_folder import PAGE_NAME
-from adf_tools.pages import cell, count_of, facts, long_table, page, paragraph, paragraphs_of_causes
+from adf_tools.pages import cell, count_of, facts, long_table, page, paragraph, paragraphs_of_causes, text_cell
 from adf_tools.picture import RUN, Fault, disk_picture, picture
 from adf_tools.protection import protection_text
 
@@ -68,8 +68,14 @@ def others(found: Optional[str], own: str, sum_: Optional[str]) -> Html:
     """Links to other images that hold the same bytes, and to all of them, if there are more."""
     pairs = [] if not found else linked_often(found) if len(found) < LONGEST_KEPT else linked(found)
     links = [link_ for page_, link_ in pairs if link_ and page_ != own]
-    every = [link(INDEX, "all", f"find={sum_}")] if len(pairs) > ALSO else []
+    every = [link_to_all(sum_)] if len(pairs) > ALSO else []
     return joined(links[:ALSO] + every, ", ")
+
+
+@functools.lru_cache(maxsize=4096, typed=True)
+def link_to_all(sum_: Optional[str]) -> Html:
+    """The link to all images that hold a sum, which is kept: it is on the page of each."""
+    return link(INDEX, "all", f"find={sum_}")
 
 
 def code(text: object) -> Html:
@@ -251,19 +257,18 @@ class ImagePage:
 
     def columns(self, row: Row) -> List[Html]:
         """What each entry has, found in a volume or in a refused image: path, kind, size, protection and date."""
-        protection = html("<code>{bits} {text}</code>", bits=f"{row['protection']:08x}", text=protection_text(row["protection"]))
         size = row["size"] if row["kind"] == "file" else ""
-        return [cell(shown(row["path"]), "text"), cell(shown(row["kind"])), cell(size, "number"), cell(protection, "nowrap wide"),
-                cell(shown(row["date"]), "nowrap wide")]  # fmt: skip
+        return [cell(shown(row["path"]), "text"), text_cell(row["kind"]), cell(size, "number"), protection_cell(row["protection"]),
+                text_cell(row["date"], "nowrap wide")]  # fmt: skip
 
     def entry_row(self, row: Row) -> Html:
         also = others(row["images"], self.image["page"], row["sha256"])
-        return joined((*self.columns(row), cell(row["header"], "number wide"), cell(shown(row["comment"]), "text wide"), cell(also, "text")))
+        return joined((*self.columns(row), cell(row["header"], "number wide"), text_cell(row["comment"], "text wide"), cell(also, "text")))
 
     def found_row(self, row: Row) -> Html:
         mark = shown(row["state"]) if row["state"] == "sound" else marked_as("note" if row["state"] in KEPT else "refused", row["state"])
         also = others(row["images"], self.image["page"], row["sha256"])
-        return joined((cell(mark), *self.columns(row), cell(shown(row["comment"]), "text wide"), cell(also, "text")))
+        return joined((cell(mark), *self.columns(row), text_cell(row["comment"], "text wide"), cell(also, "text")))
 
     def found_part(self, whole: int) -> Html:
         """The entries that are found in a refused image."""
@@ -289,6 +294,12 @@ class ImagePage:
         rows = [row_of(row["why"], row["path"]) for row in found]
         head, command = "Left out or in doubt" if kept else "Left out", f"adf-survey {self.option()}rescue < IMAGE"
         return joined((told, long_table(head, ("Why", "Path"), rows, len(rows), command) if rows else html("")))
+
+
+@functools.lru_cache(maxsize=4096, typed=True)
+def protection_cell(protection: int) -> Html:
+    """The cell of protection bits, which is kept."""
+    return cell(html("<code>{bits} {text}</code>", bits=f"{protection:08x}", text=protection_text(protection)), "nowrap wide")
 
 
 def icon_in(row: Row) -> Optional[Icon]:

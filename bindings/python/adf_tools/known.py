@@ -143,7 +143,8 @@ def note(connection: sqlite3.Connection) -> None:
         for image, title, game, name, status, _ in connection.execute(MATCHES):
             found.setdefault(image, Noted("known", called(name or game, title, status), status is None))
     with transaction(connection):
-        rows = connection.execute("SELECT id, name, sha256, judged, advice, known, known_as FROM images").fetchall()
+        others = "" if has_lists else "WHERE known IS NOT NULL OR known_as IS NOT NULL OR advice IS NOT judged"
+        rows = connection.execute(f"SELECT id, name, sha256, judged, advice, known, known_as FROM images {others}").fetchall()
         for row in rows:
             now = found.get(row["id"]) or (unmatched(connection, row) if has_lists and row["sha256"] else Noted(None, None))
             advice = PUBLISHED if now.is_good and row["judged"] not in ("sound", "not read") else row["judged"]

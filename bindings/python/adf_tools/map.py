@@ -42,7 +42,8 @@ def draw_volume(name: str, image: bytes, blocks: Optional[int] = None, size: Opt
         volume = adf.Volume(whole)
         write(picture(f"{name}: {volume.kind}, {volume.used} of {volume.blocks} blocks used{told}", without(volume.owners(), missing)))
     except adf.Refused as refused:
-        roles = without(roles_of_refused(adf.survey(image, blocks)), missing)
+        survey = adf.survey(image, blocks)
+        roles = without(roles_of_refused(survey, survey.owners()), missing)
         write(picture(f"{name}: refused, {refused}{told}", roles, Fault(refused.block, str(refused))))
         help_ = "" if missing else help_of(image, refused, size)
         status = refuse(name, foreign(image) or f"{refused}{help_}")

@@ -8,7 +8,7 @@ from typing import Iterable
 
 ESCAPED = {"&": "&amp;", "<": "&lt;", ">": "&gt;", '"': "&quot;", "'": "&#x27;"}
 HIDDEN = "\\x00-\\x08\\x0b-\\x1f\\x7f-\\x9f\\u2028\\u2029\\ud800-\\udfff"  # what no page has as it is
-ESCAPES = re.compile(f"[&<>\"'{HIDDEN}]")
+ESCAPES, HIDDEN_LETTER = re.compile(f"[&<>\"'{HIDDEN}]"), re.compile(f"[{HIDDEN}]")
 BREAKS = re.compile(r"(?<=[/_])(?=\w)")
 
 
@@ -37,14 +37,20 @@ def html(template: str, **values: object) -> Html:
     return Html(template.format_map({name: escaped(value) for name, value in values.items()}))
 
 
+def enclosed(begin: Html, value: object, end: Html) -> Html:
+    """A value, escaped, between two parts of a page."""
+    return Html(begin + escaped(value) + end)
+
+
 def joined(parts: Iterable[Html], between: str = "") -> Html:
     """Parts of a page, one behind the other."""
-    return Html(escaped(between).join(parts))
+    return Html((between and escaped(between)).join(parts))
 
 
 def shown(text: object) -> Html:
     """A text, which may break behind what parts it."""
-    return Html(BREAKS.sub("<wbr>", escaped(str(text))))
+    plain = escaped(str(text))
+    return Html(BREAKS.sub("<wbr>", plain)) if "/" in plain or "_" in plain else plain
 
 
 def address(path: str, fragment: str = "") -> Html:
@@ -65,4 +71,4 @@ def marked(text: str) -> Html:
 
 def drawn(picture: str) -> Html:
     """A picture as adf_tools/picture.py draws it, which escapes markup in what it names."""
-    return Html(re.sub(f"[{HIDDEN}]", escape_of, picture))
+    return Html(picture if picture.replace("\n", "").isprintable() else HIDDEN_LETTER.sub(escape_of, picture))

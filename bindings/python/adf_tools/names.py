@@ -16,9 +16,7 @@ import itertools
 import re
 import unicodedata
 import zlib
-from typing import Container, Iterator, List, NamedTuple, Sequence
-
-import adf
+from typing import Container, Iterator, List, NamedTuple, Sequence, Set
 
 LONGEST_HOST_NAME = 255
 DOTS = rb"\A\.(?=\.?\Z)|(?<=\A\.)\.\Z"
@@ -56,20 +54,31 @@ def bytes_of(text: bytes, is_escaped: bool = False) -> bytes:
 def host_letters(name: bytes) -> str:
     """A name of the host, of any bytes, as a text that can be printed: \\x and two digits for each byte of what cannot."""
     text = name.decode("utf-8", "surrogateescape")
-    plain = (c if c.isprintable() and c != "\\" else adf.escape(c.encode("utf-8", "surrogateescape")) for c in text)
+    if text.isprintable() and "\\" not in text:
+        return text
+    plain = (c if c.isprintable() and c != "\\" else digits_of(c.encode("utf-8", "surrogateescape")) for c in text)
     return "".join(plain)
 
 
+def digits_of(raw: bytes) -> str:
+    """What stands for bytes that cannot be printed: \\x and two digits for each."""
+    return "".join(map("\\x{:02x}".format, raw))
+
+
 class Form(NamedTuple):
-    """How names are written: what stands before two digits, and which bytes of a name have digits."""
+    """How names are written: what stands before two digits, and the pattern of the bytes of a name that have digits."""
 
     mark: bytes
-    has_digits: re.Pattern[bytes]
+    pattern: bytes
+
+    def with_digits(self, raw: bytes) -> Set[int]:
+        """The places in a name of the bytes that have digits."""
+        return {found.start() for found in re.finditer(self.pattern, raw, re.IGNORECASE)}
 
 
 def form_of(mark: bytes, *parts: bytes) -> Form:
     """The form in which bytes that fit one of these patterns have digits, and what no host takes."""
-    return Form(mark, re.compile(b"|".join((*parts, DEVICES, BESIDE)), re.IGNORECASE))
+    return Form(mark, b"|".join((*parts, DEVICES, BESIDE)))
 
 
 LETTERS = form_of(b"\\x", rb"[^ -~\xa0-\xff]|[/:\\]", DOTS)
@@ -79,7 +88,7 @@ UAEM = form_of(b"%", rb'[^ -~\xa0-\xff]|["%*/:<>?\\|]|[. ]\Z')
 
 def pieces_of(raw: bytes, form: Form) -> List[bytes]:
     """What stands in a name of the host for each byte of a name of an Amiga; for none the mark alone."""
-    digits = {found.start() for found in form.has_digits.finditer(raw)}
+    digits = form.with_digits(raw)
     pieces = (b"%s%02x" % (form.mark, byte) if at in digits else chr(byte).encode("utf-8") for at, byte in enumerate(raw))
     return list(pieces) or [form.mark]
 

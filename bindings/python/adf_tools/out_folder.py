@@ -30,6 +30,7 @@ PAGE_NAME = re.compile(rf"{PAGES}/[a-z0-9-]*-[0-9a-f]{{16}}\.(html|adf)")
 PART_NAME = re.compile(rf"{PARTS}/([a-z0-9_]{{3,20}}|i-[0-9]{{1,12}})\.js")
 LIST_NAME = re.compile(rf"(index|list-({LISTS}))(-[0-9]+)?\.html")
 WORKING_NAME = re.compile(rf"{re.escape(WORKING)}[0-9a-f]{{32}}/")
+MANY = 250  # names for which the folders inside are listed
 OTHER_NAMES = (f"{PAGES}/", f"{PARTS}/", IMAGES, ENTRIES, TWICE)
 
 
@@ -172,13 +173,18 @@ class OwnNames:
     def note(self, names: Iterable[str]) -> None:
         """Notes what is to be written. Nothing may have such a name that is not noted."""
         new = [name for name in names if name not in self.names]
-        for name in new:
+        for name in new if len(new) < MANY else self.perhaps_there(new):
             if self.out.status(name.rstrip("/")) is not None:
                 stop(FAILED, f"{host_text(self.out.path_of(name.rstrip('/')))}: {os.strerror(errno.EEXIST)}, and it is not of this catalogue")
         if new:
             with transaction(self.connection):
                 self.connection.executemany("INSERT OR IGNORE INTO written VALUES (?)", [(name,) for name in new])
             self.names.update(new)
+
+    def perhaps_there(self, names: Iterable[str]) -> Iterator[str]:
+        """These names without those of files that are not in the folders inside, which costs less than to ask for each."""
+        there = {f"{folder}/{name}" for folder in (PAGES, PARTS) for name in self.out.names(folder)}
+        return (name for name in names if name in there or name.endswith("/") or not name.startswith((f"{PAGES}/", f"{PARTS}/")))
 
     def take(self, names: Iterable[str]) -> None:
         """Notes what an earlier version has written, whose database does not name it."""

@@ -9,7 +9,7 @@ import os
 import re
 from typing import Iterable, Optional, Tuple
 
-from adf_tools.markup import Html, escaped, html, joined, marked, shown
+from adf_tools.markup import Html, enclosed, html, joined, marked, shown
 
 HERE = os.path.dirname(os.path.abspath(__file__))
 FAULTS = os.path.join(HERE, "FAULTS.md")
@@ -35,7 +35,7 @@ figure { display: inline-block; margin: 0 1.5em 1em 0; text-align: center } figc
 button { font: inherit; font-weight: bold; border: 0; background: none; color: inherit; padding: 0; cursor: pointer }
 [aria-sort=ascending] button::after { content: " \\25b2" } [aria-sort=descending] button::after { content: " \\25bc" }
 """)
-NO_SCRIPT, CELL_END = Html(""), Html("</td>")
+NO_SCRIPT, CELL_END, ROW_BEGIN, ROW_END = Html(""), Html("</td>"), Html("<tr>"), Html("</tr>\n")
 PAGE = """<!DOCTYPE html>
 <html lang="en"><head><meta charset="utf-8"><meta http-equiv="Content-Security-Policy" content="{policy}">
 <meta name="viewport" content="width=device-width"><title>{title}</title><style>{style}</style></head>
@@ -83,7 +83,7 @@ def table(name: str, heads: Iterable[str], rows: Iterable[Html]) -> Html:
     """A table with a name. A head that begins with `-` is hidden on a narrow screen, as its cells are."""
     wide, plain = '<th scope="col" class="wide">{text}</th>', '<th scope="col">{text}</th>'
     head = joined(html(wide if text.startswith("-") else plain, text=text.lstrip("-")) for text in heads)
-    body = joined(html("<tr>{row}</tr>\n", row=row) for row in rows)
+    body = joined([part for row in rows for part in (ROW_BEGIN, row, ROW_END)])
     form = '<div class="scroll"><table><caption>{name}</caption><thead><tr>{head}</tr></thead><tbody>\n{body}</tbody></table></div>\n'
     return html(form, name=name, head=head, body=body)
 
@@ -105,8 +105,14 @@ def long_table(name: str, heads: Iterable[str], rows: Iterable[Html], whole: int
 def cell(value: object, kind: str = "nowrap", key: object = None) -> Html:
     """A cell; where a table is to be sorted by something else than its text, that is the key."""
     if key is None:
-        return joined((cell_begin(kind), escaped(value), CELL_END))
+        return enclosed(cell_begin(kind), value, CELL_END)
     return html('<td class="{kind}" data-key="{key}">{value}</td>', kind=kind, key=key, value=value)
+
+
+@functools.lru_cache(maxsize=4096, typed=True)
+def text_cell(text: object, kind: str = "nowrap") -> Html:
+    """The cell of a text that many rows have, as a date, which is kept."""
+    return cell(shown(text), kind)
 
 
 @functools.lru_cache(maxsize=None)

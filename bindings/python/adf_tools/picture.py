@@ -3,9 +3,10 @@ each of its partitions' parts. adf-map and adf-catalogue draw them."""
 
 from __future__ import annotations
 
+import functools
+import html
 import re
 from typing import Any, Iterable, Mapping, NamedTuple, Sequence
-from xml.sax.saxutils import escape, quoteattr
 
 import adf
 
@@ -46,9 +47,9 @@ class Roles(NamedTuple):
 VOLUME = Roles(NAMES, COLOURS)
 
 
-def roles_of_refused(survey: adf.Survey) -> bytes:
-    """The roles of a refused image: what the survey finds at a block, that the block has a finding, or that nobody knows."""
-    roles = bytearray(role or UNKNOWN for role in survey.owners())
+def roles_of_refused(survey: adf.Survey, owners: bytes) -> bytes:
+    """The roles of a refused image: what its survey finds at a block, that the block has a finding, or that nobody knows."""
+    roles = bytearray(owners.replace(b"\0", bytes([UNKNOWN])))
     for blocks in survey.ranges():
         inside = range(blocks.start, min(blocks.stop, len(roles)))
         roles[blocks.start : blocks.start + len(inside)] = bytes([NOTED]) * len(inside)
@@ -72,10 +73,29 @@ def lines_of(roles: bytes, width: int) -> dict[int, str]:
     """For each role the path of its blocks: a line for each run in a row, which is dashed into squares."""
     found: dict[int, list[str]] = {}
     for top in range(0, len(roles), width):
-        y = top // width * STEP + SIDE / 2
-        for run in RUN.finditer(roles[top : top + width]):
-            found.setdefault(run[1][0], []).append(f"M{run.start() * STEP} {y}h{len(run[0]) * STEP}")
+        y = str(top // width * STEP + SIDE / 2)
+        for role, begin, length in runs_of(roles[top : top + width]):
+            found.setdefault(role, []).append(f"M{begin} {y}h{length}")
     return {role: "".join(found[role]) for role in sorted(found)}
+
+
+@functools.lru_cache(maxsize=1024)
+def runs_of(row: bytes) -> list[tuple[int, int, int]]:
+    """The runs of a row, which is kept, since most rows are like others: the role, where it begins, and how long it is."""
+    return [(run[1][0], run.start() * STEP, len(run[0]) * STEP) for run in RUN.finditer(row)]
+
+
+def escape(text: str) -> str:
+    """A text as the contents of an element. The module of XML that has this loads one for the network."""
+    return html.escape(text, quote=False)
+
+
+def attribute(text: str) -> str:
+    """A text as the value of an attribute, in quotes."""
+    plain = escape(text).replace("\n", "&#10;").replace("\r", "&#13;").replace("\t", "&#9;")
+    if '"' not in plain:
+        return f'"{plain}"'
+    return f"'{plain}'" if "'" not in plain else '"' + plain.replace('"', "&quot;") + '"'
 
 
 def mark(x: int, y: int) -> str:
@@ -105,7 +125,7 @@ def picture(title: str, roles: bytes, refused: Fault | None = None, name: str = 
     high = top + rows * STEP + LINE + len(parts) * LEGEND + MARGIN
     wide = 2 * MARGIN + max(width * STEP, *(8 * len(text) for text in (title, *(text for _, text in parts))))
     font = 'font-family="sans-serif" font-size="11"'
-    seen = f'role="img" aria-label={quoteattr(name or title)}'
+    seen = f'role="img" aria-label={attribute(name or title)}'
     lines = [f'<svg xmlns="http://www.w3.org/2000/svg" width="{wide}" height="{high}" viewBox="0 0 {wide} {high}" {font} {seen}>']
     lines.append('<rect width="100%" height="100%" fill="#ffffff"/>')
     if title:

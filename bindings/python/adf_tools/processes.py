@@ -11,25 +11,35 @@ import secrets
 import signal
 import sys
 import threading
-from typing import Any, Callable, Deque, Generator, Generic, Iterable, Optional, Sequence, TypeVar, Union
+from typing import Any, Callable, Deque, Generator, Generic, Iterable, List, Optional, Sequence, TypeVar, Union
 
 from adf_tools.program import FAILED, INTERRUPTS, stop, uninterrupted
 
 LARGE = 1 << 20  # bytes of an answer that waits in a file
-AHEAD = 16  # so many pieces for each process are given out before the first of them is done
+AHEAD, TOGETHER = 16, 8  # so many pieces for each process are given out before the first of them is done, and at most so many at once
 FILE = os.O_RDONLY | os.O_NOFOLLOW | os.O_CLOEXEC
 NEW_FILE = os.O_WRONLY | os.O_CREAT | os.O_EXCL | os.O_NOFOLLOW | os.O_CLOEXEC
 MEMORY, GROUP, OWN_GROUP = "/proc/meminfo", "/sys/fs/cgroup", "/proc/self/cgroup"
 Piece = TypeVar("Piece")
 Answer = TypeVar("Answer")
+_work: Optional[Packed[Any, Any]] = None  # what a process beside the program does
 
 
-def begin_process() -> None:
-    """A process beside the program: the program alone hears what interrupts both, and when it ends, the process does."""
+def begin_process(work: Packed[Any, Any]) -> None:
+    """A process beside the program, which does this work: the program alone hears what interrupts both, and when it ends, the process
+    does."""
+    global _work
+    _work = work
     signal.signal(signal.SIGINT, signal.SIG_IGN)
     signal.signal(signal.SIGTERM, signal.SIG_DFL)
     signal.pthread_sigmask(signal.SIG_UNBLOCK, INTERRUPTS)
     threading.Thread(target=end_with_program, daemon=True).start()
+
+
+def answers_of_process(pieces: Sequence[Any]) -> List[Union[bytes, str]]:
+    """What the work of a process answers of pieces. A process that is forked has the work, which is never packed."""
+    assert _work is not None
+    return list(map(_work, pieces))
 
 
 def end_with_program() -> None:
@@ -118,17 +128,18 @@ def in_order(work: Callable[[Piece], Answer], pieces: Sequence[Piece], need: int
     if count < 2:
         yield from map(work, pieces)
         return
-    waiting: Deque[concurrent.futures.Future[Union[bytes, str]]] = collections.deque()
+    waiting: Deque[concurrent.futures.Future[List[Union[bytes, str]]]] = collections.deque()
     packed: Packed[Piece, Answer] = Packed(work, folder)
-    with concurrent.futures.ProcessPoolExecutor(count, multiprocessing.get_context("fork"), begin_process) as pool:
+    together = max(1, min(TOGETHER, len(pieces) // (AHEAD * count)))
+    with concurrent.futures.ProcessPoolExecutor(count, multiprocessing.get_context("fork"), begin_process, (packed,)) as pool:
         try:
-            for piece in pieces:
+            for at in range(0, len(pieces), together):
                 with uninterrupted():  # what interrupts while processes begin would be lost
-                    waiting.append(pool.submit(packed, piece))
-                if len(waiting) > AHEAD * count:
-                    yield packed.answer(waiting.popleft().result())
+                    waiting.append(pool.submit(answers_of_process, pieces[at : at + together]))
+                if len(waiting) * together > AHEAD * count:
+                    yield from map(packed.answer, waiting.popleft().result())
             while waiting:
-                yield packed.answer(waiting.popleft().result())
+                yield from map(packed.answer, waiting.popleft().result())
         except concurrent.futures.process.BrokenProcessPool:
             stop(FAILED, "a process was ended from outside, perhaps for lack of memory")
         finally:

@@ -10,11 +10,9 @@ import re
 import signal
 import stat
 import sys
-import tempfile
 import time
-from typing import BinaryIO, Callable, Iterable, Iterator, NoReturn
+from typing import Any, BinaryIO, Callable, Iterable, Iterator, NoReturn
 
-import adf
 from adf_tools import trees
 from adf_tools.names import host_letters, one_line
 
@@ -45,10 +43,21 @@ class CommandLine(argparse.ArgumentParser):
         super().error(one_line(message))
 
 
+class Version(argparse.Action):
+    """Writes the version, which is that of the module adf: that is loaded where it is asked for."""
+
+    def __call__(self, parser: argparse.ArgumentParser, namespace: argparse.Namespace, values: Any, option_string: str | None = None) -> NoReturn:
+        import adf
+
+        print(f"{parser.prog} {adf.__version__}")
+        parser.exit()
+
+
 def command_line(program: str, does: str, more: str | None = None) -> argparse.ArgumentParser:
     """The command line of a program, to which its words are to be added. Wrong words end it with the usage, at status 2."""
     line = CommandLine(prog=program, description=does, epilog=more, allow_abbrev=False)
-    line.add_argument("--version", action="version", version=f"{program} {adf.__version__}")
+    told = "show program's version number and exit"
+    line.add_argument("--version", action=Version, nargs=0, dest=argparse.SUPPRESS, default=argparse.SUPPRESS, help=told)
     return line
 
 
@@ -74,11 +83,16 @@ def add_escape(line: argparse.ArgumentParser, what: str) -> None:
     line.add_argument("--escape", action="store_true", help=f"{what} in the escape form: \\x and two digits for bytes outside 32 to 126")
 
 
+def of_library(name: str) -> Any:
+    """A kind of errors of the module adf, for isinstance; if that is not loaded, it has raised none."""
+    return getattr(sys.modules.get("adf"), name, ())
+
+
 def why(error: BaseException) -> tuple[int, str]:
     """The status that a program ends with for an error, and what it says; an empty text if nobody reads on."""
     if isinstance(error, Stop):
         return error.status, error.text
-    if isinstance(error, adf.Refused):
+    if isinstance(error, of_library("Refused")):
         return REFUSED, str(error)
     if isinstance(error, BrokenPipeError):
         return FAILED, ""
@@ -125,7 +139,7 @@ def begin(line: argparse.ArgumentParser, work: Callable[[argparse.Namespace], in
             signal.signal(number, signal.SIG_DFL)
     except BaseException as error:
         status, text = why(error)
-        if sys.flags.dev_mode and not isinstance(error, (adf.Error, Stop, OSError, MemoryError, KeyboardInterrupt)):
+        if sys.flags.dev_mode and not isinstance(error, (of_library("Error"), Stop, OSError, MemoryError, KeyboardInterrupt)):
             raise
         if text:
             tell(line.prog.split()[0], text)
@@ -169,6 +183,8 @@ def uninterrupted() -> Iterator[None]:
 @contextlib.contextmanager
 def working_folder(above: str, path: str) -> Iterator[str]:
     """A folder in the one above, which is removed at the end; that it cannot be made is told of this path."""
+    import tempfile
+
     folder = ""
     try:
         with trees.named(path), uninterrupted():

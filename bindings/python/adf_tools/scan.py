@@ -39,7 +39,7 @@ class Part(NamedTuple):
     whole: int
 
     def has(self, name: bytes) -> bool:
-        return zlib.crc32(name) % self.whole == self.number - 1
+        return self.whole == 1 or zlib.crc32(name) % self.whole == self.number - 1
 
 
 class File(NamedTuple):
@@ -91,14 +91,14 @@ class Scan:
 
     def __init__(self, connection: sqlite3.Connection, folder: bytes, own_names: OwnNames, own: Container[Identity], options: Options) -> None:
         self.connection, self.folder, self.own_names, self.options = connection, folder, own_names, options
+        self.begin = os.path.join(folder, b"")
         self.passed: Counter[str] = Counter()
         paths = files_below(folder, own, self.pass_by, self.is_wanted)
         self.files = [File(path, host_letters(self.name_of(path)), store.stamp_of(path)) for path in paths]
 
     def name_of(self, path: bytes) -> bytes:
         """The name of a file in the folder."""
-        begin = os.path.join(self.folder, b"")
-        return path[len(begin) :] if path.startswith(begin) else b"."
+        return path[len(self.begin) :] if path.startswith(self.begin) else b"."
 
     def is_wanted(self, path: bytes) -> bool:
         """Whether a file is of the part that is read."""

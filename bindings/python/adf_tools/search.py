@@ -4,18 +4,18 @@
 from __future__ import annotations
 
 import functools
-import hashlib
 import itertools
 import json
 import operator
 import os
 import re
 import sqlite3
-from typing import Dict, Iterable, Iterator, List, NamedTuple, Sequence, Set, Tuple
+from typing import Container, Dict, Iterable, Iterator, List, NamedTuple, Optional, Sequence, Set, Tuple
 
 from adf_tools import database
 from adf_tools.image_pages import is_page
 from adf_tools.out_folder import PARTS
+from adf_tools.store import FILE_BITS, NAMES, number_of
 
 Part = Tuple[str, bytes]  # its name, and its bytes
 Place = Tuple[int, str, str]  # of a word: the row of an image, and the path and the comment of an entry in it; empty for the image itself
@@ -23,7 +23,6 @@ Terms = Tuple[List[Place], List[int]]  # of a word: its places, or the first of 
 MARKUP = re.compile("[<>&\x7f]")  # letters that a text of a script has by their numbers
 FRONT, LONGEST_FRONT = 3, 20  # letters of a word that name its part, and of a part of one that is too large
 MOST_PLACES, MOST_TERMS = 200, 2000  # places of a word that a part has; words of a part
-FILE_BITS = 32  # of the 40 bits of an image's number, those that do not name the file that has its name
 NO_LETTER, SUM = re.compile("[^a-z0-9]"), re.compile("[0-9a-f]{64}")
 AFTER, NO_ASCII, LAST = "\x01", "\x80", chr(0x10FFFF)  # what comes behind a word before all that is longer; other letters than those of ASCII
 BETWEEN = "{0} >= ?1 AND {0} < ?2".format
@@ -66,9 +65,9 @@ def named_image(row: sqlite3.Row) -> NamedImage:
     return NamedImage(row["name"], row["page"] if is_page(row["page"]) else "", number_of(row["name"], row["number"]), row["label"] or "")
 
 
-def number_of(name: str, number: int) -> int:
-    """What an image is called in the parts: a number of 40 bits that is the same in each run."""
-    return int.from_bytes(hashlib.sha256(f"{name}\0{number}".encode("utf-8", "replace")).digest()[:5], "big")
+def images_of(connection: sqlite3.Connection) -> Dict[int, NamedImage]:
+    """All images by their rows, as the parts have them."""
+    return {row["id"]: named_image(row) for row in connection.execute("SELECT id, name, page, number, label FROM images")}
 
 
 def limits_of(name: str) -> List[Tuple[str, str]]:
@@ -80,10 +79,9 @@ def limits_of(name: str) -> List[Tuple[str, str]]:
 class Places:
     """The places of words, as the parts have them: a number for each image, and the path in it."""
 
-    def __init__(self, connection: sqlite3.Connection) -> None:
+    def __init__(self, connection: sqlite3.Connection, images: Optional[Dict[int, NamedImage]] = None) -> None:
         self.connection = connection
-        rows = connection.execute("SELECT id, name, page, number, label FROM images")
-        self.images = {row["id"]: named_image(row) for row in rows}
+        self.images = images_of(connection) if images is None else images
 
     def steps(self, term: str) -> List[int]:
         """The numbers of the images of all places of a word, each as what it is more than the one before."""
@@ -149,14 +147,16 @@ class Places:
         """What a part has of the places of a word: the first of them, and, if there are more, all images."""
         return places[:MOST_PLACES], self.steps(term) if len(places) > MOST_PLACES else []
 
-    def names(self) -> Iterator[Part]:
-        """The names and pages of all images, in files by the first bits of their numbers."""
-        groups: Dict[int, Dict[int, Tuple[str, str]]] = {}
-        for image in sorted(self.images.values()):
-            groups.setdefault(image.number >> FILE_BITS, {})[image.number] = (image.name, image.page)
+    def names(self, wanted: Optional[Container[str]] = None) -> Iterator[Part]:
+        """The names and pages of images, in files by the first bits of their numbers: all, or those that are wanted."""
+        groups: Dict[int, List[NamedImage]] = {}
+        for image in self.images.values():
+            groups.setdefault(image.number >> FILE_BITS, []).append(image)
         for group, images in sorted(groups.items()):
-            name = f"i-{group}"
-            yield name, f"part({script_of([name, images, {}])});\n".encode("ascii")
+            name = f"{NAMES}{group}"
+            if wanted is None or name in wanted:
+                told = {image.number: (image.name, image.page) for image in sorted(images)}
+                yield name, f"part({script_of([name, told, {}])});\n".encode("ascii")
 
 
 def part_names(connection: sqlite3.Connection) -> List[str]:
@@ -165,20 +165,20 @@ def part_names(connection: sqlite3.Connection) -> List[str]:
 
 
 @functools.lru_cache(maxsize=1)
-def places_in(path: str, _process: int) -> Places:
-    """The places of words in a database, for one process, which only asks."""
-    return Places(database.connection_to(path, "ro"))
+def connection_of(path: str, _process: int) -> sqlite3.Connection:
+    """The connection of a process, which only asks."""
+    return database.large_connection_to(path, "ro")
 
 
 class PartMaker:
     """Makes the parts of these names from a database, each if a word has it."""
 
-    def __init__(self, path: str) -> None:
-        self.path = path
+    def __init__(self, path: str, images: Dict[int, NamedImage]) -> None:
+        self.path, self.images = path, images
 
     def __call__(self, names: Sequence[str]) -> List[Part]:
         with database.told(self.path):
-            places = places_in(self.path, os.getpid())
+            places = Places(connection_of(self.path, os.getpid()), self.images)
             return [part for name in names for part in places.one(name)]
 
 

@@ -17,14 +17,15 @@ from adf_tools import database, search, store, tables
 from adf_tools.database import transaction
 from adf_tools.image_pages import ALSO, MOST_BOOTS, ImagePage, is_page, pairs_of
 from adf_tools.lists import Lists
-from adf_tools.out_folder import ENTRIES, IMAGES, OTHER_NAMES, PAGES, PART_NAME, TWICE, WORKING_NAME, OutFolder, OwnNames
+from adf_tools.out_folder import ENTRIES, IMAGES, OTHER_NAMES, PAGES, PARTS, PART_NAME, TWICE, WORKING_NAME, OutFolder, OwnNames
 from adf_tools.pages import FAULTS, HERE
 from adf_tools.processes import in_order
 from adf_tools.program import Progress
 from adf_tools.scan import sum_of
+from adf_tools.store import NAMES
 from adf_tools.twice import Twice
 
-PIECE, MEMORY, NOTED = 50, 256 << 20, 100  # pages of a piece of work, and what it takes; parts that are noted together
+PIECE, MEMORY, NOTED = 50, 256 << 20, 500  # pages of a piece of work, and what it takes; parts that are noted together
 HOLDING = "SELECT image FROM entries WHERE sha256 = ?1 UNION SELECT id FROM images WHERE sha256 = ?1 UNION SELECT id FROM images WHERE tree = ?1"
 COUNTED = """SELECT touched.sha256, touched.name, holders.images, (SELECT COUNT(*) FROM (
     SELECT image FROM entries WHERE entries.sha256 = touched.sha256 UNION SELECT id FROM images WHERE images.sha256 = touched.sha256
@@ -40,7 +41,7 @@ FIRSTS = ALSO + 2  # images of a sum that are kept: those that a page links to, 
 @functools.lru_cache(maxsize=1)
 def connection_of(path: str, _process: int) -> sqlite3.Connection:
     """The connection of a process, which only asks."""
-    return database.connection_to(path, "ro")
+    return database.large_connection_to(path, "ro")
 
 
 def is_behind(name: str, images: Optional[str]) -> bool:
@@ -92,19 +93,22 @@ class Site:
             with transaction(self.connection):
                 self.connection.execute("UPDATE images SET is_shown = 0 WHERE is_shown")
                 self.connection.execute("DELETE FROM lists")
+                self.connection.execute("INSERT OR IGNORE INTO parts_due VALUES (?)", (TWICE,))
                 self.connection.execute("INSERT OR REPLACE INTO facts VALUES ('maker', ?)", (maker,))
 
     def note_holders(self) -> None:
         """Brings the table of the first images that hold a sum up to date; pages whose links change by that are made again."""
         if not store.is_noted(self.connection):
             self.note_sums()
-        found = [row for row in self.connection.execute(COUNTED) if not is_behind(row["name"], row["images"])]
+        touched = self.connection.execute(COUNTED).fetchall()
+        found = [row for row in touched if not is_behind(row["name"], row["images"])]
+        due = search.touched_parts(self.connection) | ({TWICE} if any(count > 1 or before for _, _, before, count in touched) else set())
         with transaction(self.connection):
             for digest, _, before, count in found:
                 now = self.first_holders(digest) if count > 1 else None
                 if now != before:
                     self.hold(digest, now)
-            self.connection.executemany("INSERT OR IGNORE INTO parts_due VALUES (?)", [(name,) for name in search.touched_parts(self.connection)])
+            self.connection.executemany("INSERT OR IGNORE INTO parts_due VALUES (?)", [(name,) for name in due])
             self.connection.execute("DELETE FROM touched")
             self.connection.execute("INSERT INTO touched_words (touched_words) VALUES ('delete-all')")
 
@@ -120,7 +124,13 @@ class Site:
             self.connection.execute("DELETE FROM holders WHERE sha256 = ?", (digest,))
         else:
             self.connection.execute("INSERT OR REPLACE INTO holders VALUES (?, ?)", (digest, now))
-        self.connection.execute(f"UPDATE images SET is_shown = 0 WHERE is_shown AND id IN ({HOLDING})", (digest,))
+        if self.is_any_shown:
+            self.connection.execute(f"UPDATE images SET is_shown = 0 WHERE is_shown AND id IN ({HOLDING})", (digest,))
+
+    @functools.cached_property
+    def is_any_shown(self) -> bool:
+        """Whether any page was there when the run began: before the first pages are made, none has to be made again."""
+        return self.connection.execute("SELECT 1 FROM images WHERE is_shown LIMIT 1").fetchone() is not None
 
     def first_holders(self, digest: str) -> str:
         """The first images, by name, that hold a sum, and one more than a page links to, as a text."""
@@ -159,23 +169,33 @@ class Site:
     def write_parts(self) -> None:
         """Writes the parts that the index searches: all, if the programs are other ones, else those that are due."""
         facts = dict(self.connection.execute("SELECT name, value FROM facts").fetchall())
-        is_whole = facts.get("parts") != facts["maker"]
-        due = search.part_names(self.connection) if is_whole else [row[0] for row in self.connection.execute("SELECT name FROM parts_due ORDER BY name")]
-        there, fronts = {search.part_in(name) for name in self.own.names if PART_NAME.fullmatch(name)}, set(due)
-        written = self.write_some(self.made_parts(due))
-        of_these = {name for name in there if is_whole or name[: search.FRONT] in fronts or name.startswith("i-")}
+        is_whole, noted = facts.get("parts") != facts["maker"], self.noted_due()
+        due = search.part_names(self.connection) if is_whole else sorted(name for name in noted if name != TWICE and not name.startswith(NAMES))
+        own = {search.part_in(name) for name in self.own.names if PART_NAME.fullmatch(name)}
+        lost = own - {search.part_in(f"{PARTS}/{name}") for name in self.out.names(PARTS)}
+        fronts, images = set(due), {name for name in noted | own if name.startswith(NAMES) and (is_whole or name in noted | lost)}
+        written = self.write_some(self.made_parts(due, None if is_whole else images))
+        of_these = {name for name in own if is_whole or name[: search.FRONT] in fronts or name in images}
         self.own.remove(search.file_of(name) for name in of_these - written)
         with transaction(self.connection):
-            self.connection.execute("DELETE FROM parts_due")
+            self.connection.execute("DELETE FROM parts_due WHERE name != ?", (TWICE,))
             self.connection.execute("INSERT OR REPLACE INTO facts VALUES ('parts', ?)", (facts["maker"],))
 
-    def made_parts(self, names: Sequence[str]) -> Iterator[search.Part]:
-        """The parts of these names, and those that name the images."""
+    def noted_due(self) -> Set[str]:
+        """The parts that are noted as due, and the page of what is there twice."""
+        return {str(row[0]) for row in self.connection.execute("SELECT name FROM parts_due")}
+
+    def made_parts(self, names: Sequence[str], images: Optional[Set[str]]) -> Iterator[search.Part]:
+        """The parts of these names, and those that name the images: all, or these."""
+        if not names and images is not None and not images:
+            return
+        places = search.Places(self.connection)
         pieces = [names[at : at + PIECE] for at in range(0, len(names), PIECE)]
-        with contextlib.closing(in_order(search.PartMaker(self.out.path_of(database.NAME)), pieces, MEMORY, self.out.work)) as answers:
+        maker = search.PartMaker(self.out.path_of(database.NAME), places.images)
+        with contextlib.closing(in_order(maker, pieces, MEMORY, self.out.work)) as answers:
             for parts in answers:
                 yield from parts
-        yield from search.Places(self.connection).names()
+        yield from places.names(images)
 
     def write_some(self, parts: Iterator[search.Part]) -> Set[str]:
         """Writes these parts, as far as there are such; gives their names."""
@@ -194,7 +214,8 @@ class Site:
         lists = Lists(self.connection, title[0] if title else "")
         names = [TWICE, *lists.names()]
         self.own.note(names)
-        self.out.write(TWICE, Twice(self.connection).page().encode("utf-8"))
+        if TWICE in self.noted_due() or not self.is_there(TWICE):
+            self.out.write(TWICE, Twice(self.connection).page().encode("utf-8"))
         known = dict(self.connection.execute("SELECT name, shows FROM lists").fetchall())
         made = []
         for each in lists.pages():
@@ -204,6 +225,7 @@ class Site:
                 made.append((each.name, each.shows))
         with transaction(self.connection):
             self.connection.executemany("INSERT OR REPLACE INTO lists VALUES (?, ?)", made)
+            self.connection.execute("DELETE FROM parts_due")
         return names
 
     def is_there(self, name: str) -> bool:

@@ -118,14 +118,14 @@ class Standing:
         surveyed = {entry.header for entry in self.survey.entries}
         if any(each.is_entry and not each.is_kept and each.first not in surveyed for each in self.left_out):
             return True
-        roles = self._roles  # the blocks of a file whose header's checksum is wrong are lost, and known to be of that file
+        roles = self.roles  # the blocks of a file whose header's checksum is wrong are lost, and known to be of that file
         return any(
             each.reason in (adf.Reason.HEADERS, adf.Reason.MADE) or any(not roles[block] for block in self._in_use(each)) for each in self.left_out
         )
 
     @functools.cached_property
-    def _roles(self) -> bytes:
-        """The role of each block."""
+    def roles(self) -> bytes:
+        """The role of each block, as the survey finds it."""
         return self.survey.owners()
 
     def _in_use(self, each: adf.LeftOut) -> range:
@@ -148,7 +148,7 @@ class Standing:
     def _is_bitmap_believed(self) -> bool:
         """Whether nothing speaks against the bitmap: no page has a wrong checksum, or zeros or the first word of another block for one, and
         nothing that is found is free, or perhaps deleted."""
-        findings, pages = self.survey.findings, [block for block, role in enumerate(self._roles) if adf.ROLES[role] == "page"]
+        findings, pages = self.survey.findings, [block for block, role in enumerate(self.roles) if adf.ROLES[role] == "page"]
         if len(findings) > FEW or any(finding.cause == "owned free" for finding in findings):
             return False
         if any(each.reason == adf.Reason.PERHAPS_DELETED for each in self.left_out):

@@ -2,12 +2,14 @@
 
 from __future__ import annotations
 
+import hashlib
 import json
 import os
 import sqlite3
 from collections import Counter
 from typing import Any, Dict, Iterable, NamedTuple, Optional, Sequence, Tuple
 
+from adf_tools.out_folder import TWICE
 from adf_tools.reader import Read
 from adf_tools.volumes import Record, Rows
 
@@ -38,6 +40,8 @@ COMING = (
 )
 SHOWN = """SELECT name, number, page, label, NULL AS path, NULL AS comment, sha256, tree FROM images WHERE file = ?1
     UNION ALL SELECT name, number, page, label, path, comment, entries.sha256, NULL FROM entries JOIN images ON images.id = image WHERE file = ?1"""
+LISTED = f"SELECT name, number, page, boot_crc32, boot FROM images WHERE {OF_FILES}"
+FILE_BITS, NAMES = 32, "i-"  # of the 40 bits of an image's number, those that do not name the part of the search that has its name; its begin
 TOUCH = "INSERT INTO touched VALUES (?, ?) ON CONFLICT (sha256) DO UPDATE SET name = MIN(name, excluded.name)"
 TOUCHED = (
     f"""INSERT INTO touched SELECT * FROM (
@@ -108,8 +112,31 @@ def is_noted(connection: sqlite3.Connection) -> bool:
 
 def remove(connection: sqlite3.Connection, files: Sequence[int]) -> None:
     """Takes files out, with all that is kept of their images. The words and sums that they had are noted."""
-    each_of(connection, TOUCHED if is_noted(connection) else (), files)
+    if is_noted(connection):
+        each_of(connection, TOUCHED, files)
+        note_listed(connection, listed_of(connection, files), [])
     each_of(connection, GOING, files)
+
+
+def number_of(name: str, number: int) -> int:
+    """What an image is called in the parts of the search: a number of 40 bits that is the same in each run."""
+    return int.from_bytes(hashlib.sha256(f"{name}\0{number}".encode("utf-8", "replace")).digest()[:5], "big")
+
+
+def names_part(name: str, number: int) -> str:
+    """The part of the search that has the name and the page of an image."""
+    return f"{NAMES}{number_of(name, number) >> FILE_BITS}"
+
+
+def listed_of(connection: sqlite3.Connection, files: Sequence[int]) -> Rows:
+    """What the pages that name all images of a kind tell of those in these files."""
+    return [tuple(row) for row in connection.execute(LISTED, (json.dumps(files),))]
+
+
+def note_listed(connection: sqlite3.Connection, before: Rows, after: Rows) -> None:
+    """Notes which of these pages are due, by the images that came or went."""
+    due = {names_part(row[0], row[1]) for row in changed(before, after)}
+    connection.executemany("INSERT OR IGNORE INTO parts_due VALUES (?)", [(name,) for name in sorted(due | {TWICE})] if due else [])
 
 
 def shown_of(connection: sqlite3.Connection, file: int) -> Rows:
@@ -128,10 +155,12 @@ def put(connection: sqlite3.Connection, files: Sequence[Tuple[Optional[int], Kep
     has_notes = is_noted(connection)
     known = [number for number, _ in files if number is not None]
     before = {number: shown_of(connection, number) for number in known} if has_notes else {}
+    listed = listed_of(connection, known) if has_notes else []
     each_of(connection, GOING, known)
     added = [(number, add(connection, kept, run)) for number, kept in files]
     each_of(connection, COMING, [new for _, new in added])
     if has_notes:
+        note_listed(connection, listed, listed_of(connection, [new for _, new in added]))
         each_of(connection, TOUCHED, [new for number, new in added if number is None])
         for number, new in added:
             if number is not None:

@@ -2,8 +2,10 @@
 
 from __future__ import annotations
 
+import functools
 import hashlib
 import itertools
+import operator
 import struct
 import zlib
 from typing import Any, Dict, Iterable, Iterator, List, NamedTuple, Optional, Sequence, Tuple
@@ -41,7 +43,12 @@ class Record(NamedTuple):
     def weight(self) -> int:
         """How many letters it has, roughly."""
         rows = (*self.entries, *self.findings, *self.left_out, *self.partitions, *self.texts)
-        return LINE + sum(LINE + sum(len(value) for value in row if isinstance(value, str)) for row in rows)
+        return LINE + sum(map(letters_of, rows))
+
+
+def letters_of(row: Tuple[Any, ...]) -> int:
+    """How many letters a row has, roughly."""
+    return LINE + sum([len(value) for value in row if isinstance(value, str)])
 
 
 def record(columns: Columns) -> Record:
@@ -53,7 +60,7 @@ def limited(rows: Iterable[Tuple[Any, ...]]) -> Rows:
     taken: Rows = []
     count = 0
     for row in rows:
-        count += LINE + sum(len(value) for value in row if isinstance(value, str))
+        count += letters_of(row)
         if count > MOST_LETTERS:
             break
         taken.append(row)
@@ -62,10 +69,22 @@ def limited(rows: Iterable[Tuple[Any, ...]]) -> Rows:
 
 def file_sum(entry: adf.Entry) -> str:
     """The SHA-256 of the bytes of a file."""
-    digest = hashlib.sha256()
+    digest, room = hashlib.sha256(), reading_room()
     for at in range(0, entry.size, adf.PART):
-        digest.update(entry.read(at, adf.PART))
+        digest.update(memoryview(room)[: entry.read_into(room, at)])
     return digest.hexdigest()
+
+
+@functools.lru_cache(maxsize=1)
+def reading_room() -> bytearray:
+    """Room for a part of a file, which is taken once: a disk has many small files."""
+    return bytearray(adf.PART)
+
+
+@functools.lru_cache(maxsize=4096)
+def date_text(date: adf.Date) -> str:
+    """A date as it is kept: many entries of a disk have the same one."""
+    return str(date)
 
 
 def path_of(entry: Source) -> str:
@@ -75,7 +94,7 @@ def path_of(entry: Source) -> str:
 
 def entry_row(entry: Source, header: int, state: str, digest: Optional[str]) -> Tuple[Any, ...]:
     kind, path, comment = "file" if entry.is_file else "dir", path_of(entry), letters(entry.comment)
-    return kind, path, entry.size, entry.protection, str(entry.date), comment, header, state, digest
+    return kind, path, entry.size, entry.protection, date_text(entry.date), comment, header, state, digest
 
 
 def volume_row(entry: adf.Entry) -> Tuple[Any, ...]:
@@ -96,7 +115,7 @@ def tree_sum(volume: adf.Volume, rows: Rows) -> str:
     """A sum of all that a volume is but its dates, its free blocks, and which blocks hold what."""
     digest = hashlib.sha256(volume.boot.raw)
     digest.update(repr((volume.kind, volume.blocks, volume.label)).encode())
-    for kind, path, size, protection, _, comment, _, _, content in sorted(rows, key=lambda row: str(row[1])):
+    for kind, path, size, protection, _, comment, _, _, content in sorted(rows, key=operator.itemgetter(1)):
         digest.update(repr((kind, path, size, protection, comment, content)).encode())
     return digest.hexdigest()
 
@@ -126,14 +145,15 @@ def text_rows(entries: Sequence[Source]) -> Iterator[Tuple[Any, ...]]:
 
 def volume_record(volume: adf.Volume, columns: Columns, has_texts: bool) -> Record:
     """What is kept of a volume."""
-    rows = limited(map(volume_row, volume.entries))
-    whole, files = len(volume.entries), sum(entry.is_file for entry in volume.entries)
+    entries = list(volume.entries)  # each is made when it is asked for
+    rows = limited(map(volume_row, entries))
+    whole, files = len(entries), sum(entry.is_file for entry in entries)
     numbers = {"kind": volume.kind, "blocks": volume.blocks, "used": volume.used, "free": volume.free, "type": volume.image[3]}
     counts = {"dirs": whole - files, "files": files, "faults": 0, "sound": whole, "lost": 0, "lost_least": 0, "unlisted": whole - len(rows)}
     tree = tree_sum(volume, rows) if len(rows) == whole else None
     told = {"verdict": "ok", "advice": sound_group(volume.kind), "label": letters(volume.label), "tree": tree, "roles": zlib.compress(volume.owners())}
-    texts = limited(text_rows(volume.entries[: len(rows)])) if has_texts else []
-    drawn = list(itertools.islice(icon_rows(volume.entries), MOST_ICONS))
+    texts = limited(text_rows(entries[: len(rows)])) if has_texts else []
+    drawn = list(itertools.islice(icon_rows(entries), MOST_ICONS))
     return record({**columns, **numbers, **counts, **dates_of(volume), **told})._replace(entries=rows, icons=drawn, texts=texts)
 
 
@@ -143,7 +163,7 @@ def refused_record(standing: Standing, refused: adf.Refused, columns: Columns, h
     rows, findings = limited(map(stood_row, standing.entries)), limited(finding_rows(survey))
     told = {"verdict": str(refused), "block": refused.block, "cause": refused.cause, "label": letters(survey.label), "fits": standing.fits}
     told.update(counts_of(standing), unlisted=len(sources) - len(rows), faults=len(survey.findings) - passed(survey))
-    told.update(advice=advice_of(refused, survey, columns), roles=zlib.compress(roles_of_refused(survey)))
+    told.update(advice=advice_of(refused, survey, columns), roles=zlib.compress(roles_of_refused(survey, standing.roles)))
     if survey.kind:
         told.update(kind=survey.kind, type=standing.type, blocks=(columns["bytes"] or 0) // adf.BLOCK, **dates_of(survey))
     left_out = limited((each.why, spelled_letters(each.path)) for each in standing.left_out)

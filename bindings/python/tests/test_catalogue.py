@@ -245,6 +245,11 @@ class Bounds(Catalogues):
             self.assertEqual(list(answers), [long_answer(piece) for piece in pieces[3:]])
             self.assertEqual(os.listdir("waiting"), [])
 
+    def test_gives_answers_in_order_however_many_there_are(self):
+        for count in (2, 70, 500):
+            with unittest.mock.patch.object(processes, "workers", lambda _pieces, _need: 2):
+                self.assertEqual(list(processes.in_order(str, range(count), 1)), list(map(str, range(count))))
+
     def test_knows_the_memory_of_its_group(self):
         for name, text in (("memory.max", "3000\n"), ("memory.current", "1000\n"), ("meminfo", "MemTotal: 9 kB\nMemAvailable:  7 kB\n")):
             written(name, text.encode())
@@ -387,6 +392,19 @@ class Again(Catalogues):
         self.agrees()
         os.remove(glob.glob("again/images/1*.html")[0])
         self.agrees()
+
+    def test_keeps_lists_of_all_images_up_to_date(self):
+        self.agrees()
+        for change in (
+            lambda: os.rename("disks/11.adf", "disks/0/eleven.adf"), lambda: written("disks/5.adf", changed(OFS, 1759, 0, 1)),
+            lambda: written("disks/6.adf", adf.with_standard_boot(OFS)), lambda: written("disks/5.adf", changed(OFS, 1759, 0, 2)),
+            lambda: os.remove("disks/1.adf"), lambda: written("disks/6.adf", OFS), lambda: written("disks/5.adf", BAD), lambda: os.remove("again/twice.html"),
+            lambda: os.remove(glob.glob("again/search/i-*.js")[0]),
+        ):  # fmt: skip
+            os.makedirs("disks/0", exist_ok=True)
+            change()
+            self.agrees()
+            self.assertEqual(self.asked("again", "SELECT COUNT(*) FROM parts_due"), [(0,)])
 
     def test_reads_a_floppy_that_was_swapped_under_one_date(self):
         self.agrees()

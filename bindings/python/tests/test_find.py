@@ -76,6 +76,10 @@ class Find(Asked):
         self.assertEqual(self.find("--text", "gr\xfc\xdfe", "out"), [("new.adf", "readme")])
         self.assertEqual(self.find("--text", "hello", "out"), [("a.zip/B\xfc.adf", "c/readme"), *startup[:2]])
 
+    def test_loads_what_it_needs_alone(self):
+        line = "import sys; from adf_tools import find; print([name for name in ('adf', 'ctypes', 'multiprocessing') if name in sys.modules])"
+        self.assertEqual(self.run_python("-c", line).stdout, b"[]\n")
+
     def test_leaves_a_database_that_cannot_be_asked(self):
         written("out/collection.sqlite", b"no database" * 99)
         self.refused(3, "out/collection.sqlite: damaged", "catalogue", "find", "a", "out")

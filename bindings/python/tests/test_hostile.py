@@ -81,6 +81,21 @@ class Links(Catalogues):
         os.remove(page)
         self.catalogue("disks", "out")
 
+    def test_leaves_it_where_many_pages_are_new(self):
+        line = "from adf_tools import catalogue, out_folder; out_folder.MANY = 3; catalogue.main()"
+        self.assertEqual(self.run_python("-c", line, "disks", "out").returncode, 0)
+        for name in "bcde":
+            written(f"disks/{name}.adf", OFS)
+        page = "out/" + page_name(b"d.adf", 0)
+        for make in (lambda: written(page, b"mine"), lambda: os.symlink("nix", page)):
+            make()
+            ran = self.run_python("-c", line, "disks", "out")
+            self.assertEqual(ran.returncode, 3)
+            self.assertIn(b"and it is not of this catalogue", ran.stderr)
+            os.remove(page)
+        self.assertEqual(self.run_python("-c", line, "disks", "out").returncode, 0)
+        self.assertEqual(len(glob.glob("out/images/*.html")), 5)
+
     def test_refuses_links_in_place_of_its_own_folders(self):
         self.catalogue("disks", "out")
         for name, told in (("images", "out/images: Not a directory"), ("search", "out/search: Not a directory"), (database.NAME, "not a file")):
