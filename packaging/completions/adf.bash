@@ -45,7 +45,7 @@ _adf_disk() {
 }
 
 _adf_boot() {
-    ((COMP_CWORD > 1)) || COMPREPLY=($(compgen -W "install copy clear --help --version" -- "$2"))
+    ((COMP_CWORD > 1)) || COMPREPLY=($(compgen -W "install copy clear --json --help --version" -- "$2"))
 }
 
 _adf_files() {
@@ -67,7 +67,7 @@ _adf_files() {
         adf-mount:-*) COMPREPLY=($(compgen -W "--partition --damaged --blocks --strict -f -o -h --help -V --version" -- "$2")) ;;
         adf-edit:-*) COMPREPLY=($(compgen -W "--help --version" -- "$2")) ;;
         adf-merge:-*) COMPREPLY=($(compgen -W "--help --version" -- "$2")) ;;
-        adf-shelf:-*) COMPREPLY=($(compgen -W "--null --any-type --help --version" -- "$2")) ;;
+        adf-shelf:-*) COMPREPLY=($(compgen -W "--null --any-type --json --help --version" -- "$2")) ;;
         adf-catalogue:-*) COMPREPLY=($(compgen -W "--tsv --rescue --fresh --escape --index-text --dat -h --help --version" -- "$2")) ;;
         adf-pack:-*)
             COMPREPLY=($(compgen -W "--image --size --bootable --boot --label --date --altered --created --no-uaem --escape -h --help --version" -- "$2"))

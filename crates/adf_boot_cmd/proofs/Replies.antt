@@ -8,7 +8,7 @@ use Rattle.adf_boot_blocks.specs.declared.refusal.BootRefusal.TheVariants.{BadSi
 use Rattle.adf_boot_blocks.proofs.Taken.{IsTaken, copy_taken, image_taken, large_refused}
 use Rattle.adf_runs.specs.Commands.{Reply, on_errors, on_output}
 use Rattle.adf_boot_cmd.specs.Answers.{BootAnswer, Order, changed_boot, line_status, boot_reply, order_refusal, boot_refusal_text, written}
-use Rattle.adf_boot_cmd.specs.{Answers.clear, Answers.copy, Answers.install, Answers.tell, Lines.boot_line, Work.HasBoot}
+use Rattle.adf_boot_cmd.specs.{Answers.clear, Answers.copy, Answers.install, Answers.tell, Lines.boot_text, Work.HasBoot}
 
 -- as many bytes are told of as boot blocks have
 pub counted : (bytes : List ℕ) (n : ℕ) → n ≡ min (length bytes) BOOT_LEN → take n bytes ≡ take BOOT_LEN bytes
@@ -16,11 +16,11 @@ counted bytes n e =
     let swapped : n ≡ min BOOT_LEN (length bytes) = omega (arith, e) in
     ap (λ (k : ℕ). take k bytes) swapped ∙ take_min BOOT_LEN bytes
 
-pub told_short : (image : List ℕ) → length image < BOOT_LEN → boot_reply image ≡ on_errors 1 (codes "bad size\n")
-told_short image lt = rw (lt-leb BOOT_LEN (length image) lt) refl
+pub told_short : (json : Bool) (image : List ℕ) → length image < BOOT_LEN → boot_reply json image ≡ on_errors 1 (codes "bad size\n")
+told_short json image lt = rw (lt-leb BOOT_LEN (length image) lt) refl
 
-pub told_long : (image : List ℕ) → BOOT_LEN ≤ length image → boot_reply image ≡ on_output (line_status (is_bootable image)) (boot_line image)
-told_long image le = rw (le-leb BOOT_LEN (length image) le) refl
+pub told_long : (json : Bool) (image : List ℕ) → BOOT_LEN ≤ length image → boot_reply json image ≡ on_output (line_status (is_bootable image)) (boot_text json image)
+told_long json image le = rw (le-leb BOOT_LEN (length image) le) refl
 
 pub refused : (order : Order) (image : List ℕ) (refusal : BootRefusal) → order_refusal order image ≡ Some refusal
     → written order image ≡ on_errors 1 (boot_refusal_text refusal ++ codes "\n")
@@ -36,7 +36,7 @@ pub record IsOrderTaken (order : Order) (image : List ℕ) : Type 0 where
   pub taken : IsTaken image
 
 pub taken : (order : Order) (image : List ℕ) → order_refusal order image ≡ None → IsOrderTaken order image
-taken tell image e = record { boot = tt; taken = image_taken image e }
+taken (tell json) image e = record { boot = tt; taken = image_taken image e }
 taken install image e = record { boot = tt; taken = image_taken image e }
 taken clear image e = record { boot = tt; taken = image_taken image e }
 taken (copy boot) image e = let both = copy_taken image boot e in record { boot = both.boot; taken = both.taken }
@@ -58,7 +58,7 @@ source_refused true false rest refusal e = refl
 source_refused false dos rest refusal e = refl
 
 large : (order : Order) (image : List ℕ) → MOST_BYTES < length image → order_refusal order image ≡ Some (large_refusal order)
-large tell image lt = large_refused image lt
+large (tell json) image lt = large_refused image lt
 large install image lt = large_refused image lt
 large clear image lt = large_refused image lt
 large (copy boot) image lt = source_refused (nat_le BOOT_LEN (length boot)) (begins_with_dos boot) _ BadSize (large_refused image lt)
@@ -70,8 +70,8 @@ same_refused order image bytes lt more =
 -- what is past one byte more than the largest image does not count
 pub long_answers : (order : Order) (image bytes : List ℕ) → image ≡ take (MOST_BYTES + 1) bytes → MOST_BYTES < length image → MOST_BYTES < length bytes
     → (reply : Reply) → BootAnswer order image reply → BootAnswer order bytes reply
-long_answers tell image bytes front lt more reply h =
-    h ∙ ap boot_reply (ap (take BOOT_LEN) front ∙ take-take BOOT_LEN (MOST_BYTES + 1) bytes (omega arith))
+long_answers (tell json) image bytes front lt more reply h =
+    h ∙ ap (boot_reply json) (ap (take BOOT_LEN) front ∙ take-take BOOT_LEN (MOST_BYTES + 1) bytes (omega arith))
 long_answers install image bytes front lt more reply h = h ∙ same_refused install image bytes lt more
 long_answers clear image bytes front lt more reply h = h ∙ same_refused clear image bytes lt more
 long_answers (copy boot) image bytes front lt more reply h = h ∙ same_refused (copy boot) image bytes lt more

@@ -1,5 +1,5 @@
 -- Images that are written have the tree of the image that they are made of.
-use Rattle.std.proofs.Common.{◌≡◌, ◌≢◌, ℕ, List, ◌++◌, ◌+◌, ◌-◌, ◌≤◌, Option, None, Some, sym, ◌∙◌, refl, arith, drop, take, length, replicate}
+use Rattle.std.proofs.Common.{◌≡◌, ◌≢◌, ℕ, Bool, List, ◌++◌, ◌+◌, ◌-◌, ◌≤◌, Option, None, Some, sym, ◌∙◌, refl, arith, drop, take, length, replicate}
 use Rattle.std.proofs.Common.{slice_range, subst, length-append, length-drop, length-take}
 use Rattle.std.proofs.lemmas.List.{drop_at, length-take-le, take-append-le, take-take}
 use Rattle.adf_base.specs.Words.{with_bytes, with_word}
@@ -38,7 +38,7 @@ other_installed front root code long room =
 
 -- the boot blocks that an order leaves, and what is behind them
 other_changed : (order : Order) (image : List ℕ) → BOOT_LEN ≤ length image → IsOtherBoot (take BOOT_LEN image) (changed_boot order image)
-other_changed tell image long = same_boot (take BOOT_LEN image)
+other_changed (tell json) image long = same_boot (take BOOT_LEN image)
 other_changed install image long =
     other_installed (take BOOT_LEN image) (middle (blocks image)) STANDARD_CODE (omega (arith, length-take-le BOOT_LEN image long)) (omega arith)
 other_changed clear image long = other_cleared (take BOOT_LEN image) (omega (arith, length-take-le BOOT_LEN image long))
@@ -63,9 +63,9 @@ written_fits order image t l None e s fit =
     (other_fits image (changed_boot order image ++ drop BOOT_LEN image)
     (other_image image (changed_boot order image) long (other_changed order image long)) t l fit)
 
-pub trees_stay : (order : Order) (image : List ℕ) (t : Tree) (l : Layout) → order ≢ tell → (reply_of order image).status ≡ 0
+pub trees_stay : (order : Order) (image : List ℕ) (t : Tree) (l : Layout) → ((json : Bool) → order ≢ tell json) → (reply_of order image).status ≡ 0
     → Fits image t l → Fits (reply_of order image).output t l
-trees_stay tell image t l writes s fit = absurd (writes refl)
+trees_stay (tell json) image t l writes s fit = absurd (writes json refl)
 trees_stay install image t l writes s fit = written_fits install image t l (order_refusal install image) refl s fit
 trees_stay clear image t l writes s fit = written_fits clear image t l (order_refusal clear image) refl s fit
 trees_stay (copy boot) image t l writes s fit = written_fits (copy boot) image t l (order_refusal (copy boot) image) refl s fit

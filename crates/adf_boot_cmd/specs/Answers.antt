@@ -6,14 +6,14 @@ use Rattle.adf_boot_blocks.specs.{declared.boot.TheConstants.BOOT_LEN, declared.
 use Rattle.adf_boot_blocks.specs.{declared.standard.TheConstants.STANDARD_CODE}
 use Rattle.adf_boot_blocks.specs.declared.refusal.BootRefusal.TheVariants.{BadSize, NotDos, BadSourceSize, SourceNotDos}
 use Rattle.std.specs.Io.KnownBytes.{Appends}
-use Rattle.adf_boot_cmd.specs.{CommandLine.AreRefusedByBoot, CommandLine.AsksBoot, CommandLine.BootRequestValue, CommandLine.boot_file, Lines.boot_line}
+use Rattle.adf_boot_cmd.specs.{CommandLine.AreRefusedByBoot, CommandLine.AsksBoot, CommandLine.BootRequestValue, CommandLine.boot_file, Lines.boot_text}
 use Rattle.adf_boot_cmd.specs.CommandLine.BootRequestValue.{tell as tells, install as installs, clear as clears, copy as copies}
 use Rattle.adf_file_runs.specs.{FileRuns.KnownFiles, FileRuns.RunEndsOnFiles, FileRuns.unopened_line, declared.files.Unopened.Unopened}
 use Rattle.adf_runs.specs.{Streams.IsTold, Streams.Seen, Commands.Command, Commands.Reply, Commands.on_errors, Commands.on_output}
 
--- what is asked of an image: what its boot blocks are, that they get standard code, none, or those of a boot file
+-- what is asked of an image: what its boot blocks are, as an object or not, that they get standard code, none, or those of a boot file
 pub data Order : Type 0 where
-  tell : Order
+  tell : (json : Bool) → Order
   install : Order
   clear : Order
   copy : (boot : List ℕ) → Order
@@ -22,14 +22,14 @@ pub data Order : Type 0 where
 abbrev pub line_status : Bool → ℕ
 line_status bootable = if bootable then 0 else 1
 
--- the line of an image, where it has boot blocks
-abbrev pub boot_reply : List ℕ → Reply
-boot_reply image =
-    if nat_le BOOT_LEN (length image) then on_output (line_status (is_bootable image)) (boot_line image) else on_errors 1 (codes "bad size\n")
+-- the line of an image or its object, where it has boot blocks
+abbrev pub boot_reply : (json : Bool) → List ℕ → Reply
+boot_reply json image =
+    if nat_le BOOT_LEN (length image) then on_output (line_status (is_bootable image)) (boot_text json image) else on_errors 1 (codes "bad size\n")
 
 -- the boot blocks that an order leaves
 abbrev pub changed_boot : Order → List ℕ → List ℕ
-changed_boot tell image = take BOOT_LEN image
+changed_boot (tell json) image = take BOOT_LEN image
 changed_boot install image = installed (take BOOT_LEN image) (middle (blocks image)) STANDARD_CODE
 changed_boot clear image = cleared (take BOOT_LEN image)
 changed_boot (copy boot) image = copied (take BOOT_LEN image) boot
@@ -56,7 +56,7 @@ written order image = written_unless (order_refusal order image) order image
 
 -- the answer to an order, of an image
 abbrev pub reply_of : Order → List ℕ → Reply
-reply_of tell image = boot_reply (take BOOT_LEN image)
+reply_of (tell json) image = boot_reply json (take BOOT_LEN image)
 reply_of order image = written order image
 
 -- the answer to an order and an input
@@ -65,7 +65,7 @@ BootAnswer order input reply = reply ≡ reply_of order input
 
 -- the order that a request is: where the bytes of the boot file are known, it copies the first of them
 abbrev pub IsOrderOf : (bytes_of : List ℕ → Option (List ℕ)) → BootRequestValue → Order → Type 0
-IsOrderOf bytes_of tells order = order ≡ tell
+IsOrderOf bytes_of (tells json) order = order ≡ tell json
 IsOrderOf bytes_of installs order = order ≡ install
 IsOrderOf bytes_of clears order = order ≡ clear
 IsOrderOf bytes_of (copies name) order = (boot : List ℕ) × (order ≡ copy boot) × IfSome (bytes_of name) (λ all. boot ≡ take BOOT_LEN all)
@@ -73,7 +73,7 @@ IsOrderOf bytes_of (copies name) order = (boot : List ℕ) × (order ≡ copy bo
 -- what errors get where the words are refused
 abbrev pub boot_usage : List ℕ
 boot_usage =
-    codes "usage: adf-boot [FILE]\n       adf-boot install [FILE] > NEW\n       adf-boot copy BOOTFILE [FILE] > NEW\n"
+    codes "usage: adf-boot [--json] [FILE]\n       adf-boot install [FILE] > NEW\n       adf-boot copy BOOTFILE [FILE] > NEW\n"
     ++ codes "       adf-boot clear [FILE] > NEW\nwithout a FILE the image comes on standard input; man adf-boot tells more\n"
 
 -- the command `adf-boot`, whose words have no path, over files of which some are known

@@ -1,25 +1,25 @@
 -- The command line of `adf-boot`, as clap reads it, and what its matches ask for.
-use Rattle.std.specs.Prelude.{◌≡◌, ◌⊎◌, List, [], Option, Some, None, codes, is_some, option_map, if◌then◌else◌}
+use Rattle.std.specs.Prelude.{◌≡◌, ◌⊎◌, ◌||◌, Bool, List, [], Option, Some, None, codes, is_some, option_map, if◌then◌else◌}
 use Rattle.std.specs.Str.{bytes_eq}
 use Rattle.clap.specs.Words.{App, Row, Text, fault_of, first_of, matches_of, new_app, subcommand_of, with_rule, with_subcommand}
-use Rattle.adf_words.specs.{Arguments.bare_app, Arguments.required_rule, FileArguments.file_met, FileArguments.file_rule, FileArguments.with_file}
+use Rattle.adf_words.specs.{Arguments.bare_app, Arguments.flag_rule, Arguments.has_flag, Arguments.required_rule, FileArguments.file_met, FileArguments.file_rule, FileArguments.with_file}
 use Rattle.adf_boot_cmd.specs.declared.command_line.BootRequest.{BootRequest, TheVariants.Tell, TheVariants.Install, TheVariants.Clear, TheVariants.Copy}
 
 -- copy BOOTFILE [FILE]
 abbrev pub copy_app : App
 copy_app = with_rule (with_rule (new_app (codes "copy")) (required_rule (codes "boot"))) file_rule
 
--- [FILE]
+-- [--json] [FILE]
 abbrev pub told_app : App
-told_app = with_rule (bare_app (codes "adf-boot")) file_rule
+told_app = with_rule (with_rule (bare_app (codes "adf-boot")) (flag_rule (codes "json"))) file_rule
 
--- the command line: [FILE], install [FILE], clear [FILE], or copy BOOTFILE [FILE]
+-- the command line: [--json] [FILE], install [FILE], clear [FILE], or copy BOOTFILE [FILE]
 abbrev pub boot_app : App
 boot_app = with_subcommand (with_file (with_file told_app (codes "install")) (codes "clear")) copy_app.top
 
--- what a command line asks for; `copy` names the boot file
+-- what a command line asks for; `tell` as an object or not; `copy` names the boot file
 pub data BootRequestValue : Type 0 where
-  tell : BootRequestValue
+  tell : (json : Bool) → BootRequestValue
   install : BootRequestValue
   clear : BootRequestValue
   copy : Text → BootRequestValue
@@ -32,10 +32,10 @@ boot_request_named name rows =
     else (if bytes_eq name (codes "copy") then option_map copy (first_of (codes "boot") rows)
     else None))
 
--- what the matches ask for, by their own rows: with no subcommand what is there; no subcommand goes with a file before it
+-- what the matches ask for, by their own rows: with no subcommand what is there; no subcommand goes with the flag, or with a file before it
 abbrev pub boot_met : List Row → Option (Text × List Row) → Option BootRequestValue
-boot_met rows None = Some tell
-boot_met rows (Some p) = if is_some (first_of (codes "file") rows) then None else boot_request_named p.0 p.1
+boot_met rows None = Some (tell (has_flag (codes "json") rows))
+boot_met rows (Some p) = if has_flag (codes "json") rows || is_some (first_of (codes "file") rows) then None else boot_request_named p.0 p.1
 
 -- the request of the arguments, where clap takes them
 abbrev pub boot_request_of : List Text → Option BootRequestValue
@@ -53,13 +53,13 @@ AsksBoot args r = (fault_of boot_app args ≡ []) × (boot_request_of args ≡ S
 abbrev pub AsksBootOf : List Text → BootRequestValue → Option Text → Type 0
 AsksBootOf args r file = AsksBoot args r × (boot_file args ≡ file)
 
--- clap refuses the arguments, or its matches lack the boot file or have a file before a subcommand
+-- clap refuses the arguments, or its matches lack the boot file or have the flag or a file before a subcommand
 abbrev pub AreRefusedByBoot : List Text → Type 0
 AreRefusedByBoot args = (¬ (fault_of boot_app args ≡ [])) ⊎ (boot_request_of args ≡ None)
 
 -- the value of a request as the code has it
 abbrev pub boot_request_value : BootRequest → BootRequestValue
-boot_request_value Tell = tell
+boot_request_value (Tell json) = tell json
 boot_request_value Install = install
 boot_request_value Clear = clear
 boot_request_value (Copy name) = copy name.now

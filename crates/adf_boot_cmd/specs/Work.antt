@@ -7,7 +7,7 @@ use Rattle.adf_boot_cmd.specs.declared.work.Work.{Work, TheVariants.Tell, TheVar
 
 -- the order that is done
 abbrev pub order_of : Work → Order
-order_of Tell = tell
+order_of (Tell json) = tell json
 order_of Install = install
 order_of Clear = clear
 order_of (Copy boot) = copy boot.items

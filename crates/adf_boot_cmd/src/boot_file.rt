@@ -52,7 +52,7 @@ pub fn work_for<'a, F: Files>(
         × IsBootFaultOf name fault) }
 {
     match request {
-        BootRequest::Tell => Ok(Work::Tell),
+        BootRequest::Tell { json } => Ok(Work::Tell { json }),
         BootRequest::Install => Ok(Work::Install),
         BootRequest::Clear => Ok(Work::Clear),
         BootRequest::Copy(name) => match boot_of(alloc, files, name) {

@@ -1,6 +1,6 @@
 // The arguments of `adf-boot`, by clap.
 
-ghost use Rattle.std.specs.Prelude.{◌≡◌, ◌==◌, IfOk, IfErr, ℕ, List, [], ◌∷◌, None, Some, codes, false, option_map};
+ghost use Rattle.std.specs.Prelude.{◌≡◌, ◌==◌, IfOk, IfErr, ℕ, List, [], ◌∷◌, None, Some, codes, false, option_map, true};
 ghost use Rattle.clap.specs.Words.{app_of, fault_of, found_of, matches_of, rows_of, subcommand_of, subcommand_rows_of};
 ghost use Rattle.clap.specs.declared.builder.command.Command.TheViews.{out-Command};
 ghost use Rattle.adf_boot_cmd.specs.CommandLine.{AreRefusedByBoot, AsksBoot, AsksBootOf, boot_app, boot_file, boot_met};
@@ -11,22 +11,22 @@ ghost use Rattle.adf_words.specs.declared.command_line.ArgsError.TheVariants.{Us
 
 use adf_file_runs::About;
 use adf_words::{
-    ArgsError, bare_command, file_argument, file_met, first_text, matches_of, required,
-    with_argument, with_file, with_subcommand,
+    ArgsError, bare_command, file_argument, file_met, first_text, flag, has_flag, matches_of,
+    required, with_argument, with_file, with_subcommand,
 };
 use clap::{ArgMatches, Command};
 use std::alloc::{AllocError, Global};
 
 /// What is said of arguments that are refused.
 pub const BOOT_USAGE: &str =
-    "usage: adf-boot [FILE]\n       adf-boot install [FILE] > NEW\n       adf-boot copy BOOTFILE [FILE] > NEW\n\
+    "usage: adf-boot [--json] [FILE]\n       adf-boot install [FILE] > NEW\n       adf-boot copy BOOTFILE [FILE] > NEW\n\
     \x20      adf-boot clear [FILE] > NEW\nwithout a FILE the image comes on standard input; man adf-boot tells more\n";
 
 /// What the program tells of itself.
 pub const ABOUT: About = About {
     name: "adf-boot",
     help: "Tells whether an Amiga starts from an image, and writes images with other boot blocks.\n\n\
-    usage: adf-boot [FILE]                      the state, the type and the CRC-32 of the boot blocks\n\
+    usage: adf-boot [--json] [FILE]             the state, the type and the CRC-32 of the boot blocks\n\
     \x20      adf-boot install [FILE] > NEW        with code that starts AmigaDOS\n\
     \x20      adf-boot copy BOOTFILE [FILE] > NEW  with the first 1,024 bytes of another file\n\
     \x20      adf-boot clear [FILE] > NEW          without code\n\
@@ -38,8 +38,8 @@ pub const ABOUT: About = About {
 /// What a command line asks for.
 #[derive(Clone, Copy, Debug)]
 pub enum BootRequest<'a> {
-    /// What the boot blocks are.
-    Tell,
+    /// What the boot blocks are: as a line, or as an object.
+    Tell { json: bool },
     Install,
     Clear,
     /// The name of the boot file.
@@ -66,7 +66,8 @@ fn copy_command<'a>(alloc: Global) -> Result<Command<'a>, AllocError>
 fn told_command<'a>(alloc: Global) -> Result<Command<'a>, AllocError>
     ensures { IfOk result (λ c. app_of c ≡ told_app) }
 {
-    bare_command(alloc, "adf-boot").arg(file_argument(alloc))
+    let flagged = with_argument(Ok(bare_command(alloc, "adf-boot")), flag(alloc, "json"));
+    with_argument(flagged, file_argument(alloc))
 }
 
 // The command line.
@@ -102,11 +103,12 @@ fn request_in<'a>(matches: &ArgMatches<'a>) -> Option<BootRequest<'a>>
     ensures { option_map boot_request_value result
         ≡ boot_met (rows_of (found_of matches.now)) (subcommand_rows_of matches.now) }
 {
-    let excludes = first_text(matches, "file").is_some();
+    let json = has_flag(matches, "json");
+    let excludes = json || first_text(matches, "file").is_some();
     match matches.subcommand() {
         Some(_) if excludes => None,
         Some((name, found)) => request_named(name, found),
-        None => Some(BootRequest::Tell),
+        None => Some(BootRequest::Tell { json }),
     }
 }
 
@@ -124,7 +126,7 @@ fn boot_matches<'a>(alloc: Global, args: &'a [&str]) -> Result<ArgMatches<'a>, A
 }
 
 /// Reads the arguments; the first one is the program's name. `Usage` if and only if clap refuses them or its matches lack the
-/// boot file or have a file before a command; `NoMemory` if an allocation failed.
+/// boot file or have a flag or a file before a command; `NoMemory` if an allocation failed.
 pub fn parse_boot<'a>(alloc: Global, args: &'a [&str]) -> Result<BootWords<'a>, ArgsError>
     ensures ok { IfOk result (λ words.
         AsksBoot (texts_of args.entry.now) (boot_request_value words.request)) }
@@ -144,9 +146,12 @@ pub fn parse_boot<'a>(alloc: Global, args: &'a [&str]) -> Result<BootWords<'a>, 
 /// arguments are refused, calls for help among them.
 #[tactic(auto, unfolding(clap::proofs::OnLiterals::clap_on_literals))]
 pub fn boot_words_as_documented()
-    ensures tell { AsksBootOf (codes "adf-boot" ∷ []) tell None }
-    ensures file { AsksBootOf (codes "adf-boot" ∷ codes "a.adf" ∷ []) tell (Some (codes "a.adf")) }
-    ensures dash { AsksBootOf (codes "adf-boot" ∷ codes "-" ∷ []) tell None }
+    ensures tell { AsksBootOf (codes "adf-boot" ∷ []) (tell false) None }
+    ensures file { AsksBootOf (codes "adf-boot" ∷ codes "a.adf" ∷ []) (tell false) (Some (codes "a.adf")) }
+    ensures dash { AsksBootOf (codes "adf-boot" ∷ codes "-" ∷ []) (tell false) None }
+    ensures json { AsksBootOf (codes "adf-boot" ∷ codes "--json" ∷ []) (tell true) None }
+    ensures json_file { AsksBootOf (codes "adf-boot" ∷ codes "a.adf" ∷ codes "--json" ∷ [])
+        (tell true) (Some (codes "a.adf")) }
     ensures install { AsksBootOf (codes "adf-boot" ∷ codes "install" ∷ []) install None }
     ensures install_file { AsksBootOf (codes "adf-boot" ∷ codes "install" ∷ codes "a.adf" ∷ [])
         install (Some (codes "a.adf")) }
@@ -157,6 +162,10 @@ pub fn boot_words_as_documented()
     ensures copy_file { AsksBootOf
         (codes "adf-boot" ∷ codes "copy" ∷ codes "boot" ∷ codes "a.adf" ∷ [])
         (copy (codes "boot")) (Some (codes "a.adf")) }
+    ensures json_install { AreRefusedByBoot
+        (codes "adf-boot" ∷ codes "--json" ∷ codes "install" ∷ []) }
+    ensures install_json { AreRefusedByBoot
+        (codes "adf-boot" ∷ codes "install" ∷ codes "--json" ∷ []) }
     ensures no_boot { AreRefusedByBoot (codes "adf-boot" ∷ codes "copy" ∷ []) }
     ensures two_files { AreRefusedByBoot (codes "adf-boot" ∷ codes "a" ∷ codes "b" ∷ []) }
     ensures unknown { AreRefusedByBoot (codes "adf-boot" ∷ codes "-x" ∷ []) }

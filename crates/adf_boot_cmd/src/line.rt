@@ -2,9 +2,11 @@
 
 ghost use Rattle.std.specs.Prelude.{◌≡◌, ◌≤◌, length, IfOk};
 ghost use Rattle.adf_boot_blocks.specs.declared.boot.TheConstants.{BOOT_LEN};
-ghost use Rattle.adf_boot_cmd.specs.Lines.{boot_line, state_text, type_of, type_name};
+ghost use Rattle.adf_boot_cmd.specs.Lines.{boot_line, boot_object, boot_text, state_text, type_of, type_name, type_value};
+ghost use Rattle.adf_json.specs.Objects.{value_value};
 
 use adf_boot_blocks::{BOOT_LEN, begins_with_dos, crc_32, has_no_code, has_right_sum};
+use adf_json::{Member, Value, push_object};
 use adf_texts::push_hex;
 use std::alloc::{AllocError, Global};
 
@@ -63,4 +65,46 @@ pub fn boot_line(alloc: Global, image: &[u8]) -> Result<Vec<u8>, AllocError>
     line.extend_from_slice(b" ")?;
     push_hex(&mut line, crc_32(&image[..BOOT_LEN]), b'\n')?;
     Ok(line)
+}
+
+// The type of an image as a value.
+fn type_value(image: &[u8]) -> Value<'static>
+    requires { BOOT_LEN ≤ length image.now }
+    ensures { value_value result ≡ type_value image.now }
+{
+    if begins_with_dos(image) {
+        Value::Bytes(type_name(image[3]).as_bytes())
+    } else {
+        Value::Nothing
+    }
+}
+
+// The object of the boot blocks of an image.
+fn boot_object(alloc: Global, image: &[u8]) -> Result<Vec<u8>, AllocError>
+    requires { BOOT_LEN ≤ length image.now }
+    ensures { IfOk result (λ object. object.items ≡ boot_object image.now) }
+{
+    let mut object = Vec::new(alloc);
+    push_object(
+        &mut object,
+        &[
+            Member::text("line", "boot"),
+            Member::text("state", state_text(image)),
+            Member::of("type", type_value(image)),
+            Member::number("crc", crc_32(&image[..BOOT_LEN])),
+        ],
+    )?;
+    Ok(object)
+}
+
+/// The line of the boot blocks of an image, or with `json` their object.
+pub fn boot_text(alloc: Global, image: &[u8], json: bool) -> Result<Vec<u8>, AllocError>
+    requires { BOOT_LEN ≤ length image.now }
+    ensures { IfOk result (λ text. text.items ≡ boot_text json image.now) }
+{
+    if json {
+        boot_object(alloc, image)
+    } else {
+        boot_line(alloc, image)
+    }
 }

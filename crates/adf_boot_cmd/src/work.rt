@@ -13,8 +13,8 @@ use std::alloc::Global;
 /// What is done with the boot blocks of an image.
 #[derive(Drop)]
 pub enum Work {
-    /// Their line is written.
-    Tell,
+    /// Their line is written, or their object.
+    Tell { json: bool },
     /// They get code that starts AmigaDOS.
     Install,
     /// They become zeros behind their type.
@@ -30,7 +30,7 @@ impl Work {
         ensures { Does (BootAnswer (order_of self.now) bytes.now) result (seen W.held W.has_failed output.old output.new) }
     {
         match self {
-            Work::Tell => tell(alloc, &bytes[..bytes.len().min(BOOT_LEN)], output),
+            Work::Tell { json } => tell(alloc, &bytes[..bytes.len().min(BOOT_LEN)], *json, output),
             Work::Copy(_) => self.write(alloc, bytes, output),
             Work::Install => self.write(alloc, bytes, output),
             Work::Clear => self.write(alloc, bytes, output),

@@ -6,7 +6,7 @@ ghost use Rattle.adf_runs.specs.{Commands.on_errors, Commands.on_output, Outcome
 ghost use Rattle.adf_boot_cmd.specs.Answers.{changed_boot, line_status, boot_reply, order_refusal, boot_refusal_text, written};
 ghost use Rattle.adf_boot_cmd.specs.Work.{HasBoot, order_of};
 
-use crate::line::boot_line;
+use crate::line::boot_text;
 use crate::work::Work;
 use adf_base::BLOCK_LEN;
 use adf_boot_blocks::{
@@ -39,15 +39,15 @@ fn write_line<W: Sink>(output: &mut W, line: &[u8], bootable: bool) -> Outcome
     }
 }
 
-/// Writes the line of the boot blocks of an image.
-pub fn tell<W: Sink>(alloc: Global, image: &[u8], output: &mut W) -> Outcome
+/// Writes the line of the boot blocks of an image, or their object.
+pub fn tell<W: Sink>(alloc: Global, image: &[u8], json: bool, output: &mut W) -> Outcome
     requires { W.has_failed output.old ≡ false }
-    ensures { Does (λ reply. reply ≡ boot_reply image.now) result (seen W.held W.has_failed output.old output.new) }
+    ensures { Does (λ reply. reply ≡ boot_reply json image.now) result (seen W.held W.has_failed output.old output.new) }
 {
     if image.len() < BOOT_LEN {
         return refuse(alloc, "bad size");
     }
-    match boot_line(alloc, image) {
+    match boot_text(alloc, image, json) {
         Ok(line) => write_line(output, &line, is_bootable(image)),
         Err(_) => Outcome::NoMemory,
     }
@@ -84,7 +84,7 @@ impl Work {
     {
         match self {
             Work::Copy(boot) => copy_refusal(image, boot),
-            Work::Tell => image_refusal(image),
+            Work::Tell { .. } => image_refusal(image),
             Work::Install => image_refusal(image),
             Work::Clear => image_refusal(image),
         }
@@ -100,7 +100,7 @@ impl Work {
         let mut boot = [0; BOOT_LEN];
         boot.copy_from_slice(&image[..BOOT_LEN]);
         match self {
-            Work::Tell => {}
+            Work::Tell { .. } => {}
             Work::Install => {
                 let root = (image.len() / BLOCK_LEN / 2) as u32;
                 install(&mut boot, root, &STANDARD_CODE);

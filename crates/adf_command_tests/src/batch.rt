@@ -130,7 +130,7 @@ const WORDS: &[Row<'static>] = &[
         b"sound",
         2,
         b"",
-        b"usage: adf-shelf [--null] [--any-type] [FILE..]\n",
+        b"usage: adf-shelf [--null] [--any-type] [--json] [FILE..]\n",
     ),
     (
         &["adf-shelf", "other"],

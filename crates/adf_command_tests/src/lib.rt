@@ -28,6 +28,8 @@ mod merge_runs;
 #[cfg(test)]
 mod named_errors;
 #[cfg(test)]
+mod objects;
+#[cfg(test)]
 mod operands;
 #[cfg(test)]
 mod planned_disks;

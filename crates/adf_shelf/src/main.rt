@@ -16,23 +16,34 @@ use std::cell::Cell;
 use std::io::BufReader;
 use std::process::ExitCode;
 
-// Whether the words ask for any type; `None` if they ask for no verdicts.
-fn any_type_asked(alloc: Global, texts: &[&str]) -> Option<bool> {
+/// What words ask for beside names: volumes of types 2 and 3 too, and objects.
+#[derive(Clone, Copy)]
+struct Options {
+    any_type: bool,
+    json: bool,
+}
+
+// The options of words; `None` if they ask for no verdicts.
+fn options_asked(alloc: Global, texts: &[&str]) -> Option<Options> {
     if telling_asked(texts).is_some() {
         return None;
     }
     match parse(alloc, texts) {
-        Ok(order) => Some(order.any_type),
+        Ok(order) => Some(Options {
+            any_type: order.any_type,
+            json: order.json,
+        }),
         Err(_) => None,
     }
 }
 
 // The words that ask for names that end in a zero byte.
-fn words_of_names(any_type: bool) -> &'static [&'static str] {
-    if any_type {
-        &["adf-shelf", "--null", "--any-type"]
-    } else {
-        &["adf-shelf", "--null"]
+fn words_of_names(options: Options) -> &'static [&'static str] {
+    match (options.any_type, options.json) {
+        (true, true) => &["adf-shelf", "--null", "--any-type", "--json"],
+        (true, false) => &["adf-shelf", "--null", "--any-type"],
+        (false, true) => &["adf-shelf", "--null", "--json"],
+        (false, false) => &["adf-shelf", "--null"],
     }
 }
 
@@ -65,7 +76,7 @@ fn run_raw<W: Sink, E: Sink>(
 {
     let words = raw_words(rt)?;
     let texts = stand_ins(rt.alloc(), &words)?;
-    let Some(any_type) = any_type_asked(rt.alloc(), &texts) else {
+    let Some(options) = options_asked(rt.alloc(), &texts) else {
         return run_words(rt, &texts, output, errors);
     };
     let names = names_among(rt.alloc(), &words)?;
@@ -73,7 +84,7 @@ fn run_raw<W: Sink, E: Sink>(
     let files = SystemFiles::new(rt);
     Ok(run(
         rt.alloc(),
-        words_of_names(any_type),
+        words_of_names(options),
         &mut input,
         &files,
         output,

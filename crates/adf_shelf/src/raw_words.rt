@@ -39,7 +39,7 @@ pub fn stand_ins(alloc: Global, words: &[Vec<u8>]) -> Result<Vec<&str>, AllocErr
 
 // Whether an argument before `--` is an option.
 fn is_option(text: &[u8]) -> bool {
-    text == b"--null".as_slice() || text == b"--any-type".as_slice()
+    text == b"--null".as_slice() || text == b"--any-type".as_slice() || text == b"--json".as_slice()
 }
 
 /// The arguments that are names, each followed by a zero byte.

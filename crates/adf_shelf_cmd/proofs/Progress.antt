@@ -7,7 +7,7 @@ use Rattle.adf_volume.specs.declared.types.Types.{Types}
 use Rattle.adf_runs.proofs.{KnownBytes.appends_two, PendingText.appends_nil, PendingText.part_behind, PendingText.part_of_more}
 use Rattle.adf_runs.specs.Streams.{Says}
 use Rattle.adf_file_runs.specs.{declared.files.Unopened.Unopened, Files.why_line}
-use Rattle.adf_shelf_cmd.specs.Lines.{AreBatchLines, BreaksLine, IsOpenedReport, IsRunStatus, Reports, SaysMore, WritesLines, WritesPart, batch_line}
+use Rattle.adf_shelf_cmd.specs.Lines.{AreBatchLines, BreaksLine, IsOpenedReport, IsRunStatus, Reports, SaysMore, WritesLines, WritesPart}
 use Rattle.adf_shelf_cmd.specs.Names.{AreGiven}
 
 -- what was said, and a text behind it
@@ -33,26 +33,26 @@ Progress may a b status o o' failed e e' =
 -- the line of a name was written, and what is said of its file was said
 abbrev pub Line : Reports → List ℕ → ℕ → Option (List ℕ) → Option (List ℕ) → Bool → Option (List ℕ) → Bool → Option (List ℕ) → Type 0
 Line may name status o o' failed e failed' e' =
-    (text : List ℕ) × (why : Option Unopened) × may name status text why × Appends o o' (batch_line name text)
+    (line : List ℕ) × (why : Option Unopened) × may name status line why × Appends o o' line
     × SaysMore failed e failed' e' (why_line name why)
 
 -- a line behind others
 lines_added : (may : Reports) (names : List (List ℕ)) (s t : ℕ) (output said name text : List ℕ) (why : Option Unopened)
     → AreBatchLines may names s output said → may name t text why
-    → AreBatchLines may (names ++ name ∷ []) (max s t) (output ++ batch_line name text) (said ++ why_line name why)
+    → AreBatchLines may (names ++ name ∷ []) (max s t) (output ++ text) (said ++ why_line name why)
 unfolding AreBatchLines
 lines_added may [] s t output said name text why h tells = grind (arith, common_steps, append-nil)
 lines_added may (n ∷ ns) s t output said name text why (a, b, line, rest, more, first, is_first, lines, e, whole, all) tells = (
   a,
   max b t,
   line,
-  rest ++ batch_line name text,
+  rest ++ text,
   more ++ why_line name why,
   first,
   is_first,
   lines_added may ns b t rest more name text why lines tells,
   omega (arith, e),
-  rw (whole) (append_assoc (batch_line n line) rest (batch_line name text)),
+  rw (whole) (append_assoc line rest text),
   rw (all) (append_assoc (why_line n first) more (why_line name why)),
 )
 
@@ -81,9 +81,9 @@ stepped may a b c s t o o' o'' failed failed' e e' e'' name (names, said, given,
       said ++ why_line name why,
       given_more a b c names (name ∷ []) given one,
       (
-        output ++ batch_line name text,
+        output ++ text,
         lines_added may names s t output said name text why lines tells,
-        appends_two o o' o'' output (batch_line name text) _ refl written more,
+        appends_two o o' o'' output text _ refl written more,
       ),
       says_more failed failed' e e' e'' said (why_line name why) says says_one,
     )

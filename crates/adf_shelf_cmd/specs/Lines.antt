@@ -1,8 +1,9 @@
--- The lines of names. In each definition `may` says of a name, a status, a text and why its file could not be opened whether they may be reported
--- of it, `o` and `o'` are what output held and holds, and `e` and `e'` what errors do. `said` is what is said on errors of files.
-use Rattle.std.specs.Prelude.{◌≡◌, ◌≢◌, ◌≤◌, ◌⊎◌, ℕ, max, Bool, true, false, List, [], ◌∷◌, ◌++◌, codes, Option, None, Some, IfSome, Result, Err, if◌then◌else◌}
+-- The lines of names. In each definition `may` says of a name, a status, a text or a line and why its file could not be opened whether they may be
+-- reported of it, `o` and `o'` are what output held and holds, and `e` and `e'` what errors do. `said` is what is said on errors of files.
+use Rattle.std.specs.Prelude.{◌≡◌, ◌≢◌, ◌≤◌, ◌⊎◌, ◌-◌, ℕ, max, Bool, true, false, List, [], ◌∷◌, ◌++◌, codes, Option, None, Some, IfSome, Result, Err, if◌then◌else◌, length, take}
 use Rattle.std.specs.{Prelude.string_bytes, Io.KnownBytes.Appends}
 use Rattle.adf_volume.specs.declared.types.Types.{Types}
+use Rattle.adf_json.specs.Objects.{characters, member, numeral, object_line}
 use Rattle.adf_names.specs.Escapes.{escaped}
 use Rattle.adf_cmd.specs.Answers.{Checks}
 use Rattle.adf_runs.specs.{Commands.on_output, Streams.AppendsPart, Streams.IsTold, Streams.Says, Streams.Seen}
@@ -13,6 +14,21 @@ use Rattle.adf_shelf_cmd.specs.declared.batch.Stop.{Stop, TheVariants.ReadFault 
 -- the line of a name: its escape form, a tab, and the text reported of its file
 abbrev pub batch_line : List ℕ → List ℕ → List ℕ
 batch_line name text = escaped name ++ (9 ∷ text)
+
+-- a text without its last byte, which is its line feed
+abbrev pub without_feed : List ℕ → List ℕ
+without_feed text = take (length text - 1) text
+
+-- the object of a name: its bytes, the status, and the text without its line feed
+abbrev pub shelf_object : List ℕ → ℕ → List ℕ → List ℕ
+shelf_object name status text = object_line
+    (member (codes "line") (characters (codes "image")) ∷ member (codes "file") (characters name) ∷ member (codes "status") (numeral status)
+    ∷ member (codes "verdict") (characters (without_feed text)) ∷ [])
+
+-- the line of a name, or its object
+abbrev pub line_of_name : (json : Bool) → List ℕ → ℕ → List ℕ → List ℕ
+line_of_name false name status text = batch_line name text
+line_of_name true name status text = shelf_object name status text
 
 -- the answer of a check for these types to bytes, to the known ones where some are
 abbrev pub ChecksKnown : Types → Option (List ℕ) → ℕ → List ℕ → Type 0
@@ -44,16 +60,20 @@ IsReportOf types bytes_of may_fail may_open name = IsReport types (bytes_of name
 abbrev pub IsRunStatus : ℕ → Type 0
 IsRunStatus status = (status ≤ 3) × (status ≢ 2)
 
--- whether a status, a text and why it could not be opened may be reported of the file of a name
+-- whether a status, a text or a line and why it could not be opened may be reported of the file of a name
 abbrev pub Reports : Type 1
 Reports = List ℕ → ℕ → List ℕ → Option Unopened → Type 0
+
+-- a line may be that of a name: by a text that may be reported of its file
+abbrev pub IsLineOf : (json : Bool) → Reports → Reports
+IsLineOf json may name status line why = (text : List ℕ) × may name status text why × (line ≡ line_of_name json name status text)
 
 -- the lines of names in order, the greatest status of one, and what is said on errors of their files
 unfoldable pub AreBatchLines : Reports → List (List ℕ) → ℕ → List ℕ → List ℕ → Type 0
 AreBatchLines may [] status output said = (status ≡ 0) × (output ≡ []) × (said ≡ [])
 AreBatchLines may (name ∷ names) status output said =
-    (s t : ℕ) × (text rest more : List ℕ) × (why : Option Unopened) × may name s text why × AreBatchLines may names t rest more
-    × (status ≡ max s t) × (output ≡ batch_line name text ++ rest) × (said ≡ why_line name why ++ more)
+    (s t : ℕ) × (line rest more : List ℕ) × (why : Option Unopened) × may name s line why × AreBatchLines may names t rest more
+    × (status ≡ max s t) × (output ≡ line ++ rest) × (said ≡ why_line name why ++ more)
 
 -- output got the lines of these names
 abbrev pub WritesLines : Reports → List (List ℕ) → ℕ → Option (List ℕ) → Option (List ℕ) → List ℕ → Type 0
@@ -65,8 +85,8 @@ WritesAll may known status o o' said = (names : List (List ℕ)) × IfSome known
 
 -- of the line of a name, output got a front part where it failed, but not all, and else nothing
 abbrev pub BreaksLine : Reports → List ℕ → Bool → Option (List ℕ) → Option (List ℕ) → Type 0
-BreaksLine may name true o o' = (status : ℕ) × (text : List ℕ) × (why : Option Unopened) × may name status text why
-    × AppendsPart true o o' (batch_line name text)
+BreaksLine may name true o o' = (status : ℕ) × (line : List ℕ) × (why : Option Unopened) × may name status line why
+    × AppendsPart true o o' line
 BreaksLine may name false o o' = o' ≡ o
 
 -- of the lines of names, output got a front part of the first where it failed, but not all, and else nothing

@@ -4,8 +4,8 @@ ghost use Rattle.std.specs.Prelude.{◌≡◌, ℕ, List, Option, false, IfOk, O
 ghost use Rattle.std.specs.Io.KnownBytes.{Appends};
 ghost use Rattle.adf_runs.specs.Streams.{Says};
 ghost use Rattle.adf_file_runs.specs.{declared.files.Unopened.Unopened, Files.why_line};
-ghost use Rattle.adf_shelf_cmd.specs.Lines.{BreaksLine, IsReportOf, IsRunStatus, SaysMore, WritesAll, WritesPart, is_names_stop};
-ghost use Rattle.adf_shelf_cmd.specs.Lines.{is_write_stop, batch_line, stop_line};
+ghost use Rattle.adf_shelf_cmd.specs.Lines.{BreaksLine, IsLineOf, IsReportOf, IsRunStatus, SaysMore, WritesAll, WritesPart};
+ghost use Rattle.adf_shelf_cmd.specs.Lines.{is_names_stop, is_write_stop, stop_line};
 
 use crate::names::Names;
 use crate::report::{ImageChecks, check_file, push_line, push_why};
@@ -65,14 +65,14 @@ fn write_line<F: Files, W: Sink, E: Sink>(
     errors: &mut E,
 ) -> Result<u8, Stop>
     requires { W.has_failed output.old ≡ false }
-    ensures ok { IfOk result (λ s. (text : List ℕ) × (why : Option Unopened)
-        × IsReportOf checks.types (F.bytes_of files.now) (F.may_fail files.now) (F.may_open files.now)
-        name.now s text why
-        × Appends (W.held output.old) (W.held output.new) (batch_line name.now text)
+    ensures ok { IfOk result (λ s. (line : List ℕ) × (why : Option Unopened)
+        × IsLineOf checks.json (IsReportOf checks.types (F.bytes_of files.now) (F.may_fail files.now) (F.may_open files.now))
+        name.now s line why
+        × Appends (W.held output.old) (W.held output.new) line
         × SaysMore (E.has_failed errors.old) (E.held errors.old)
         (E.has_failed errors.new) (E.held errors.new) (why_line name.now why)) }
     ensures err { OnErr result
-        (BreaksLine (IsReportOf checks.types (F.bytes_of files.now) (F.may_fail files.now) (F.may_open files.now))
+        (BreaksLine (IsLineOf checks.json (IsReportOf checks.types (F.bytes_of files.now) (F.may_fail files.now) (F.may_open files.now)))
         name.now (W.has_failed output.new) (W.held output.old) (W.held output.new)) }
     ensures unsaid { OnErr result (errors.new ≡ errors.old) }
     ensures status { IfOk result IsRunStatus }
@@ -81,7 +81,7 @@ fn write_line<F: Files, W: Sink, E: Sink>(
 {
     let report = check_file(checks, files, name, &mut buffers.image);
     buffers.line.clear();
-    if push_line(&mut buffers.line, name, &report).is_err() {
+    if push_line(&mut buffers.line, name, &report, checks.json).is_err() {
         return Err(Stop::NoMemory);
     }
     buffers.why.clear();
@@ -112,11 +112,11 @@ pub fn write_verdicts<N: Names, F: Files, W: Sink, E: Sink>(
     requires writes { W.has_failed output.old ≡ false }
     requires tells { E.has_failed errors.old ≡ false }
     ensures all { IfOk result (λ s. (said : List ℕ)
-        × WritesAll (IsReportOf checks.types (F.bytes_of files.now) (F.may_fail files.now) (F.may_open files.now))
+        × WritesAll (IsLineOf checks.json (IsReportOf checks.types (F.bytes_of files.now) (F.may_fail files.now) (F.may_open files.now)))
         (N.left names.old) s (W.held output.old) (W.held output.new) said
         × Says (E.has_failed errors.new) (E.held errors.old) (E.held errors.new) said) }
     ensures part { OnErr result ((said : List ℕ)
-        × WritesPart (IsReportOf checks.types (F.bytes_of files.now) (F.may_fail files.now) (F.may_open files.now))
+        × WritesPart (IsLineOf checks.json (IsReportOf checks.types (F.bytes_of files.now) (F.may_fail files.now) (F.may_open files.now)))
         (N.left names.old) (W.has_failed output.new) (W.held output.old) (W.held output.new) said
         × Says (E.has_failed errors.new) (E.held errors.old) (E.held errors.new) said) }
     ensures status { IfOk result IsRunStatus }

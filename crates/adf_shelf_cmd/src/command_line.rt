@@ -14,16 +14,16 @@ use std::alloc::{AllocError, Global};
 use std::marker::Model;
 
 /// What is said of arguments that are refused.
-pub const SHELF_USAGE: &str = "usage: adf-shelf [--null] [--any-type] [FILE..]\n";
+pub const SHELF_USAGE: &str = "usage: adf-shelf [--null] [--any-type] [--json] [FILE..]\n";
 
 /// What the program tells of itself.
 pub const ABOUT: About = About {
     name: "adf-shelf",
     help: "Checks many images, and writes for each its name, a tab, and the line of `adf check`.\n\n\
-    usage: adf-shelf [--null] [--any-type] [FILE..]\n\
+    usage: adf-shelf [--null] [--any-type] [--json] [FILE..]\n\
     \x20      adf-shelf --help, adf-shelf --version\n\n\
     Without a FILE the names come on standard input, one a line; with --null each ends in a zero byte.\n\
-    With --any-type volumes of types 2 and 3 are checked too.\n\
+    With --any-type volumes of types 2 and 3 are checked too; with --json each line is an object.\n\
     man adf-shelf tells more.\n",
     waits: None,
 };
@@ -35,6 +35,8 @@ pub struct Order<'a> {
     pub null: bool,
     /// Whether volumes of types 2 and 3 are accepted too.
     pub any_type: bool,
+    /// Whether objects are written in place of lines.
+    pub json: bool,
     /// The names; if there are none, they are read from the input.
     pub files: Vec<&'a str>,
 }
@@ -45,7 +47,7 @@ impl<'a> Model for Order<'a> {
 
     ghost Value = { ShelfOrder };
 
-    ghost view = { λ o. record { null = o.null; any_type = o.any_type; files = texts_of o.files.items } };
+    ghost view = { λ o. record { null = o.null; any_type = o.any_type; json = o.json; files = texts_of o.files.items } };
 }
 
 // The command line. Arguments for help are refused like others, so that clap lays out no text for them.
@@ -56,7 +58,8 @@ fn command<'a>(alloc: Global) -> Result<Command<'a>, AllocError>
     let bare = Command::new(alloc, "adf-shelf").disable_help_flag(true);
     let nulls = with_argument(Ok(bare), flag(alloc, "null"));
     let types = with_argument(nulls, flag(alloc, "any-type"));
-    with_argument(types, files)
+    let objects = with_argument(types, flag(alloc, "json"));
+    with_argument(objects, files)
 }
 
 // The values of an argument.
@@ -85,9 +88,11 @@ fn order_in<'a>(alloc: Global, found: &ArgMatches<'a>) -> Result<Order<'a>, Allo
     let files = names_in(alloc, found)?;
     let null = has_flag(found, "null");
     let any_type = has_flag(found, "any-type");
+    let json = has_flag(found, "json");
     Ok(Order {
         null,
         any_type,
+        json,
         files,
     })
 }
@@ -117,26 +122,32 @@ pub fn parse_shelf<'a>(alloc: Global, args: &'a [&str]) -> Result<Order<'a>, Arg
 /// calls for help among them.
 #[tactic(auto, unfolding(clap::proofs::OnLiterals::clap_on_literals))]
 pub fn shelf_words_as_documented()
-    ensures none { AsksShelf (codes "adf-shelf" ∷ []) (shelf_order false false []) }
-    ensures null { AsksShelf (codes "adf-shelf" ∷ codes "--null" ∷ []) (shelf_order true false []) }
-    ensures any_type { AsksShelf (codes "adf-shelf" ∷ codes "--any-type" ∷ []) (shelf_order false true []) }
+    ensures none { AsksShelf (codes "adf-shelf" ∷ []) (shelf_order false false false []) }
+    ensures null { AsksShelf (codes "adf-shelf" ∷ codes "--null" ∷ []) (shelf_order true false false []) }
+    ensures any_type { AsksShelf (codes "adf-shelf" ∷ codes "--any-type" ∷ []) (shelf_order false true false []) }
     ensures file { (first : ℕ) (rest : List ℕ) → (first == 45) ≡ false
-        → AsksShelf (codes "adf-shelf" ∷ (first ∷ rest) ∷ []) (shelf_order false false ((first ∷ rest) ∷ [])) }
+        → AsksShelf (codes "adf-shelf" ∷ (first ∷ rest) ∷ []) (shelf_order false false false ((first ∷ rest) ∷ [])) }
     ensures files { (first : ℕ) (rest : List ℕ) → (first == 45) ≡ false
         → AsksShelf (codes "adf-shelf" ∷ codes "a.adf" ∷ (first ∷ rest) ∷ [])
-        (shelf_order false false (codes "a.adf" ∷ (first ∷ rest) ∷ [])) }
+        (shelf_order false false false (codes "a.adf" ∷ (first ∷ rest) ∷ [])) }
     ensures null_file { AsksShelf (codes "adf-shelf" ∷ codes "--null" ∷ codes "a.adf" ∷ [])
-        (shelf_order true false (codes "a.adf" ∷ [])) }
+        (shelf_order true false false (codes "a.adf" ∷ [])) }
     ensures both_file { AsksShelf
         (codes "adf-shelf" ∷ codes "--any-type" ∷ codes "--null" ∷ codes "a.adf" ∷ [])
-        (shelf_order true true (codes "a.adf" ∷ [])) }
+        (shelf_order true true false (codes "a.adf" ∷ [])) }
+    ensures json { AsksShelf (codes "adf-shelf" ∷ codes "--json" ∷ []) (shelf_order false false true []) }
+    ensures all_file { AsksShelf
+        (codes "adf-shelf" ∷ codes "--json" ∷ codes "--any-type" ∷ codes "--null" ∷ codes "a.adf" ∷ [])
+        (shelf_order true true true (codes "a.adf" ∷ [])) }
     ensures any_files { (one two : List ℕ)
         → AsksShelf (codes "adf-shelf" ∷ codes "--" ∷ one ∷ two ∷ [])
-        (shelf_order false false (one ∷ two ∷ [])) }
-    ensures no_args { AsksShelf [] (shelf_order false false []) }
+        (shelf_order false false false (one ∷ two ∷ [])) }
+    ensures no_args { AsksShelf [] (shelf_order false false false []) }
     ensures dash { AreRefusedByShelf (codes "adf-shelf" ∷ codes "-x" ∷ []) }
     ensures null_twice { AreRefusedByShelf
         (codes "adf-shelf" ∷ codes "--null" ∷ codes "--null" ∷ []) }
+    ensures json_twice { AreRefusedByShelf
+        (codes "adf-shelf" ∷ codes "--json" ∷ codes "--json" ∷ []) }
     ensures help { AreRefusedByShelf (codes "adf-shelf" ∷ codes "--help" ∷ []) }
     ensures help_letter { AreRefusedByShelf (codes "adf-shelf" ∷ codes "-h" ∷ []) }
     ensures version { AreRefusedByShelf (codes "adf-shelf" ∷ codes "--version" ∷ []) }

@@ -2,11 +2,12 @@
 
 ghost use Rattle.std.specs.Prelude.{◌≡◌, ◌++◌, None, false, OnOk};
 ghost use Rattle.adf_shelf_cmd.specs.Lines.{IsOpenedReport, IsReport, IsRunStatus, is_unread, report_status, report_text};
-ghost use Rattle.adf_shelf_cmd.specs.Lines.{report_why, batch_line};
+ghost use Rattle.adf_shelf_cmd.specs.Lines.{report_why, batch_line, line_of_name, shelf_object, without_feed};
 ghost use Rattle.adf_file_runs.specs.Files.{why_line};
 
 use adf_cmd::{CheckAnswer, answer_to_input};
 use adf_file_runs::{Files, Unopened};
+use adf_json::{Member, push_object};
 use adf_runs::{Source, StreamFault};
 use adf_texts::push_escaped;
 use adf_volume::Types;
@@ -62,11 +63,12 @@ impl Report {
     }
 }
 
-/// How images are checked: those of the accepted types are sound.
+/// How images are checked: those of the accepted types are sound; and whether an object is written of each.
 #[derive(Clone, Copy)]
 pub struct ImageChecks {
     pub alloc: Global,
     pub types: Types,
+    pub json: bool,
 }
 
 // Reads an image into the buffer and checks it.
@@ -103,14 +105,55 @@ pub fn check_file<F: Files>(
     }
 }
 
-/// Appends the line of a name: its escape form, a tab, and what is reported of its file.
-pub fn push_line(text: &mut Vec<u8>, name: &[u8], report: &Report) -> Result<(), AllocError>
+// Appends the line of a name: its escape form, a tab, and what is reported of its file.
+fn push_text(text: &mut Vec<u8>, name: &[u8], report: &Report) -> Result<(), AllocError>
     ensures { OnOk result
         (text.new.items ≡ text.old.items ++ batch_line name.now (report_text report.now)) }
 {
     push_escaped(text, name)?;
     text.push(b'\t')?;
     text.extend_from_slice(report.text().as_bytes())
+}
+
+// What is reported of a file, without its line feed.
+fn verdict(report: &Report) -> &[u8]
+    ensures { result.now ≡ without_feed (report_text report.now) }
+{
+    let text = report.text().as_bytes();
+    &text[..text.len().saturating_sub(1)]
+}
+
+// Appends the object of a name.
+fn push_shelf_object(text: &mut Vec<u8>, name: &[u8], report: &Report) -> Result<(), AllocError>
+    ensures { OnOk result (text.new.items ≡ text.old.items
+        ++ shelf_object name.now (report_status report.now) (report_text report.now)) }
+{
+    push_object(
+        text,
+        &[
+            Member::text("line", "image"),
+            Member::bytes("file", name),
+            Member::number("status", u32::from(report.status())),
+            Member::bytes("verdict", verdict(report)),
+        ],
+    )
+}
+
+/// Appends the line of a name: its escape form, a tab, and what is reported of its file; or with `json` its object.
+pub fn push_line(
+    text: &mut Vec<u8>,
+    name: &[u8],
+    report: &Report,
+    json: bool,
+) -> Result<(), AllocError>
+    ensures { OnOk result (text.new.items ≡ text.old.items
+        ++ line_of_name json name.now (report_status report.now) (report_text report.now)) }
+{
+    if json {
+        push_shelf_object(text, name, report)
+    } else {
+        push_text(text, name, report)
+    }
 }
 
 /// Appends what is said on errors of a file that could not be opened: the escape form of its name, and

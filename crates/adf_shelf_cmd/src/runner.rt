@@ -5,7 +5,7 @@ ghost use Rattle.adf_volume.specs.declared.types.Types.TheVariants.{Plain, WithI
 ghost use Rattle.adf_words.specs.CommandLine.{texts_of};
 ghost use Rattle.adf_runs.specs.Streams.{IsTold, seen};
 ghost use Rattle.adf_shelf_cmd.specs.CommandLine.{AsksShelf, AreRefusedByShelf, ShelfOrder};
-ghost use Rattle.adf_shelf_cmd.specs.Lines.{Ends, IsReportOf, IsRunStatus};
+ghost use Rattle.adf_shelf_cmd.specs.Lines.{Ends, IsLineOf, IsReportOf, IsRunStatus};
 ghost use Rattle.adf_shelf_cmd.specs.Names.{are_unread, name_end, names_asked, types_asked};
 
 use crate::batch::{Stop, say_more, write_verdicts};
@@ -29,7 +29,7 @@ fn run_names<N: Names, F: Files, W: Sink, E: Sink>(
 ) -> u8
     requires writes { W.has_failed output.old ≡ false }
     requires tells { E.has_failed errors.old ≡ false }
-    ensures ends { Ends (IsReportOf checks.types (F.bytes_of files.now) (F.may_fail files.now) (F.may_open files.now))
+    ensures ends { Ends (IsLineOf checks.json (IsReportOf checks.types (F.bytes_of files.now) (F.may_fail files.now) (F.may_open files.now)))
         (N.left names.old) (N.has_failed names.new) result
         (seen W.held W.has_failed output.old output.new) (seen E.held E.has_failed errors.old errors.new) }
     ensures status { IsRunStatus result }
@@ -72,14 +72,19 @@ fn run_order<B: BufRead, F: Files, W: Sink, E: Sink>(
 ) -> u8
     requires writes { W.has_failed output.old ≡ false }
     requires tells { E.has_failed errors.old ≡ false }
-    ensures ends { Ends (IsReportOf (types_asked order.now) (F.bytes_of files.now) (F.may_fail files.now) (F.may_open files.now))
+    ensures ends { Ends (IsLineOf order.now.json
+        (IsReportOf (types_asked order.now) (F.bytes_of files.now) (F.may_fail files.now) (F.may_open files.now)))
         (names_asked order.now (B.remaining input.old.text)) (are_unread order.now.files input.new.failed) result
         (seen W.held W.has_failed output.old output.new) (seen E.held E.has_failed errors.old errors.new) }
     ensures status { IsRunStatus result }
     ensures unread { order.now.files ≢ [] → input.new ≡ input.old }
 {
     let types = types_asked(order.any_type);
-    let checks = ImageChecks { alloc, types };
+    let checks = ImageChecks {
+        alloc,
+        types,
+        json: order.json,
+    };
     if order.files.is_empty() {
         input.end = name_end(order.null);
         return run_names(checks, input, files, output, errors);
@@ -114,7 +119,8 @@ pub fn run<B: BufRead, F: Files, W: Sink, E: Sink>(
     // `read fault` if and only if the names could not be read.
     ensures ends { (order : ShelfOrder) → AsksShelf (texts_of words.now) order
         → (unread : Bool) × (input.old.failed ≡ false → unread ≡ are_unread order.files input.new.failed)
-        × Ends (IsReportOf (types_asked order) (F.bytes_of files.now) (F.may_fail files.now) (F.may_open files.now))
+        × Ends (IsLineOf order.json
+        (IsReportOf (types_asked order) (F.bytes_of files.now) (F.may_fail files.now) (F.may_open files.now)))
         (names_asked order (B.remaining input.old.text)) unread result
         (seen W.held W.has_failed output.old output.new) (seen E.held E.has_failed errors.old errors.new) }
 
@@ -128,7 +134,7 @@ pub fn run<B: BufRead, F: Files, W: Sink, E: Sink>(
     ensures untouched { AreRefusedByShelf (texts_of words.now)
         → (input.new ≡ input.old) × (output.new ≡ output.old) }
     ensures said { result ≡ 2 → IsTold (seen E.held E.has_failed errors.old errors.new)
-        (codes "usage: adf-shelf [--null] [--any-type] [FILE..]\n") }
+        (codes "usage: adf-shelf [--null] [--any-type] [--json] [FILE..]\n") }
     ensures memory { AreRefusedByShelf (texts_of words.now) → result ≡ 3
         → IsTold (seen E.held E.has_failed errors.old errors.new) (codes "no memory\n") }
 {

@@ -1,21 +1,21 @@
 use Rattle.std.proofs.Common.{◌∷◌, [], arith, rules, subst, sym}
 use Rattle.adf_shelf_cmd.proofs.Progress.{Progress, broken, max_status, started, stepped, stopped}
-use Rattle.adf_shelf_cmd.specs.{Lines.IsReportOf, Lines.Reports, Names.AreGiven}
+use Rattle.adf_shelf_cmd.specs.{Lines.IsLineOf, Lines.IsReportOf, Lines.Reports, Names.AreGiven}
 use Rattle.adf_shelf_cmd.proofs.batch.write_verdicts.Goals as goal
 
 pub loop-name-init : goal.loop-name-init
 loop-name-init g c = record {
   works = c.requires.writes;
   status = (omega arith, omega arith);
-  progress = started (IsReportOf c.args.checks.types
-      (g.F.Files.bytes_of c.args.files.now) (g.F.Files.may_fail c.args.files.now) (g.F.Files.may_open c.args.files.now))
+  progress = started (IsLineOf c.args.checks.json (IsReportOf c.args.checks.types
+      (g.F.Files.bytes_of c.args.files.now) (g.F.Files.may_fail c.args.files.now) (g.F.Files.may_open c.args.files.now)))
       _ _ _ _ c.requires.tells;
 }
 
 pub loop-name-preserved : goal.loop-name-preserved
 loop-name-preserved g c =
-    let may : Reports = IsReportOf c.args.checks.types (g.F.Files.bytes_of c.args.files.now) (g.F.Files.may_fail c.args.files.now)
-    (g.F.Files.may_open c.args.files.now) in
+    let may : Reports = IsLineOf c.args.checks.json (IsReportOf c.args.checks.types (g.F.Files.bytes_of c.args.files.now)
+    (g.F.Files.may_fail c.args.files.now) (g.F.Files.may_open c.args.files.now)) in
     record {
       works = search rules;
       status = max_status c.loop-name.status c.in-Ok.one c.max-status.result c.max-status.ensures c.loop-name.invariant.status c.in-Ok.ensures.status;
@@ -30,8 +30,8 @@ loop-name-preserved g c =
 
 pub returns-in-Err-clause-part : goal.returns-in-Err-clause-part
 returns-in-Err-clause-part g c =
-    let may : Reports = IsReportOf c.args.checks.types (g.F.Files.bytes_of c.args.files.now) (g.F.Files.may_fail c.args.files.now)
-    (g.F.Files.may_open c.args.files.now) in
+    let may : Reports = IsLineOf c.args.checks.json (IsReportOf c.args.checks.types (g.F.Files.bytes_of c.args.files.now)
+    (g.F.Files.may_fail c.args.files.now) (g.F.Files.may_open c.args.files.now)) in
     let given : AreGiven (g.N.Names.left c.loop-name.names) (g.N.Names.left c.next.new.self) (c.next.new.name.items ∷ []) = search rules in
     rw c.in-Err.ensures.unsaid (broken may _ _ _ c.loop-name.status _ _ _ _ _ _ _ c.next.new.name.items c.loop-name.invariant.progress given
     (rw c.deref.ensures.value at c.in-Err.ensures.err))

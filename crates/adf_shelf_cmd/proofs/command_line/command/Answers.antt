@@ -15,4 +15,5 @@ returns c =
     let files_local = ap (λ (a : Arg). a.global) c.action-files.ensures ∙ c.new.ensures.optional.1 in
     let one = c.with_argument-nulls.ensures.app _ (flag_rule (codes "null")) bare c.flag.ensures.rule c.flag.ensures.local in
     let two = c.with_argument-types.ensures.app _ (flag_rule (codes "any-type")) one c.flag-2.ensures.rule c.flag-2.ensures.local in
-    c.with_argument.ensures.app _ files_rule two files files_local
+    let three = c.with_argument-objects.ensures.app _ (flag_rule (codes "json")) two c.flag-3.ensures.rule c.flag-3.ensures.local in
+    c.with_argument.ensures.app _ files_rule three files files_local

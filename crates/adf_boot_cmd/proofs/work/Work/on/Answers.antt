@@ -6,7 +6,7 @@ use Rattle.adf_boot_cmd.proofs.work.Work.on.Goals as goal
 
 pub returns-in-Tell : goal.returns-in-Tell
 returns-in-Tell g c = does_same (ap (λ w. reply_of (order_of w) c.args.bytes.now) c.in-Tell.is
-    ∙ sym (ap boot_reply (counted c.args.bytes.now c.min.result c.min.ensures))) c.tell.ensures
+    ∙ sym (ap (boot_reply c.in-Tell.json) (counted c.args.bytes.now c.min.result c.min.ensures))) c.tell.ensures
 
 pub returns-in-Copy : goal.returns-in-Copy
 returns-in-Copy g c = does_same (ap (λ w. reply_of (order_of w) c.args.bytes.now) c.in-Copy.is

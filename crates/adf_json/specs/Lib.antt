@@ -1,0 +1,2 @@
+-- All of it is the promise: the lines of objects.
+pub mod Objects
