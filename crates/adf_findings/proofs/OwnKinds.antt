@@ -10,7 +10,7 @@ use Rattle.adf_volume.specs.{Image.kind_of, Walk.Has, Walk.heads, Walk.node_bloc
 use Rattle.adf_volume.proofs.Gathered.{number_of}
 use Rattle.adf_findings.specs.{declared.own_kind.Tally.Tally, Members.number_at, Members.owning_entry, OwnKind.tallied, OwnKind.tally, OwnKind.told_type}
 use Rattle.adf_findings.specs.{Sound.IsSound, Sound.says_data_of, WalkOwners.data_number_of, SurveyResult.SurveyValue, SurveyResult.TellsOf}
-use Rattle.adf_findings.specs.OwnKind.{has_other_kind, is_filled, is_full_file, is_mistyped, is_other_kind, kind_said, passing, said_at, said_in, says_data}
+use Rattle.adf_findings.specs.OwnKind.{has_other_kind, is_filled, is_full_file, is_mistyped, is_other_kind, kind_said, passing, said_at, said_in, claims_data}
 use Rattle.adf_findings.specs.Survey.{FindingValue, IsSurvey, IsSurvey.read, IsSurvey.unread}
 use Rattle.adf_walk.specs.Owners.{owner_at}
 use Rattle.adf_findings.proofs.{BlockOwners.held_data, OneSurvey.gathered, SoundMarks.taken_wanted}
@@ -64,9 +64,9 @@ module _ (image : List ℕ) (w : Walk) (fs gs : List FindingValue) (v : IsSurvey
     (sound : (n : ℕ) → 1 ≤ n → n ≤ heads w → IsSound image w gs n (node_block w n)) where
   not_said_of : (h k b : ℕ) → says_data_of image h k b ≡ false → kind_said image h k b ≡ Some true → ⊥
   not_said_of h k b other e =
-      let said : cond false (Some true) (cond (is_filled image b || says_data image b) None (Some false)) ≡ Some true =
-      ap (λ s. cond s (Some true) (cond (is_filled image b || says_data image b) None (Some false))) (sym other) ∙ e in
-      none_said_by (is_filled image b || says_data image b) said
+      let said : cond false (Some true) (cond (is_filled image b || claims_data image b) None (Some false)) ≡ Some true =
+      ap (λ s. cond s (Some true) (cond (is_filled image b || claims_data image b) None (Some false))) (sym other) ∙ e in
+      none_said_by (is_filled image b || claims_data image b) said
 
   none_said : (b : ℕ) → said_at image w b ≡ Some true → ⊥
   none_said b e = go (number_at w b) refl e

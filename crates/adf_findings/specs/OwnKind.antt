@@ -25,13 +25,13 @@ abbrev pub claims_file : List ℕ → ℕ → Bool
 claims_file image h = (word_in image h TYPE == T_SHORT) && (word_in image h OWN_KEY == h) && (word_in image h SECONDARY_TYPE == ST_FILE)
 
 -- block b says that it is an OFS data block of a file
-abbrev pub says_data : List ℕ → ℕ → Bool
-says_data image b =
+abbrev pub claims_data : List ℕ → ℕ → Bool
+claims_data image b =
     nat_lt b (blocks image) && (word_in image b TYPE == T_DATA) && claims_file image (word_in image b DATA_HEAD) && (long_sum (block image b) == 0)
 
 -- whether block b says that it is OFS data block k of the file with its header at block h; nothing of one that is filled, or is another one
 abbrev pub kind_said : List ℕ → (h k b : ℕ) → Option Bool
-kind_said image h k b = cond (says_data_of image h k b) (Some true) (cond (is_filled image b || says_data image b) None (Some false))
+kind_said image h k b = cond (says_data_of image h k b) (Some true) (cond (is_filled image b || claims_data image b) None (Some false))
 
 -- the same of the data block of the walk at block b, of its file; nothing of other blocks
 abbrev pub said_at : List ℕ → Walk → ℕ → Option Bool

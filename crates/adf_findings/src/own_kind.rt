@@ -5,7 +5,7 @@ ghost use Rattle.adf_blocks.specs.Sizes.{blocks};
 ghost use Rattle.adf_volume.specs.Walk.{Role, heads, node_block};
 ghost use Rattle.adf_findings.specs.{Files.grave, Sound.IsSound, Survey.OnSurvey};
 ghost use Rattle.adf_findings.specs.OwnKind.{claims_file, has_other_kind, has_other_letters, is_full_file, is_in_slot, is_mistyped};
-ghost use Rattle.adf_findings.specs.OwnKind.{is_filled, is_other_kind, kind_said, other_kind, other_letters, passing, retyped, said_in, says_data};
+ghost use Rattle.adf_findings.specs.OwnKind.{is_filled, is_other_kind, kind_said, other_kind, other_letters, passing, retyped, said_in, claims_data};
 ghost use Rattle.adf_findings.specs.OwnKind.{slot_of_place, tallied, tally, told_type, type_with};
 
 use crate::found::ChainPlace;
@@ -125,8 +125,8 @@ fn claims_file(image: &SizedImage<'_>, head: u32) -> bool
 }
 
 // Whether a block says that it is an OFS data block of a file.
-fn says_data(image: &SizedImage<'_>, b: u32) -> bool
-    ensures { result ≡ says_data image.now b }
+fn claims_data(image: &SizedImage<'_>, b: u32) -> bool
+    ensures { result ≡ claims_data image.now b }
 {
     b < image.blocks()
         && image.word(b, TYPE) == T_DATA
@@ -139,7 +139,7 @@ fn kind_said(image: &SizedImage<'_>, head: u32, number: u32, b: u32) -> Option<b
     ensures { result ≡ kind_said image.now head number b }
 {
     let says = image.says_data_of(head, number, b);
-    if !says && (is_filled(image, b) || says_data(image, b)) {
+    if !says && (is_filled(image, b) || claims_data(image, b)) {
         None
     } else {
         Some(says)
