@@ -115,20 +115,21 @@ class Judge:
     # What was there
 
     def judge_root(self) -> None:
-        """The label and the dates of the root are as they were, or a line names the root. Let off: another root stands in its place, an
-        older one of the volume, with a right sum."""
+        """The label and the dates of the root are as they were, or a line names the root. Let off: a root with a right sum says these, which
+        nothing else tells."""
         history = self.history
         as_it_was = (self.answer.label, self.answer.dates) == (history.label, history.dates)
         told = () in self.within or any(history.root in blocks for blocks in self.told)
-        if not as_it_was and not self.answer.refused and not told and not self.is_root_replaced():
+        if not as_it_was and not self.answer.refused and not told and not self.is_root_right():
             self.fail("wrong", "the label or the dates of the root")
 
-    def is_root_replaced(self) -> bool:
-        """What stands in the place of the root is a whole root, and stood in another block of the image."""
-        image, before, r = self.damaged.image, self.history.image, self.history.root
-        other = image[512 * r : 512 * r + 512]
-        whole = sealed(image, r) and (word(image, r, 0), word(image, r, 127)) == (2, 1)
-        return whole and other != before[512 * r : 512 * r + 512] and before.find(other) % 512 == 0
+    def is_root_right(self) -> bool:
+        """What stands in the place of the root is a root with a right sum, and says the label and the dates of the answer."""
+        image, r = self.damaged.image, self.history.root
+        label = image[512 * r + 433 : 512 * r + 433 + image[512 * r + 432]]
+        dates = tuple(tuple(word(image, r, i + k) for k in range(3)) for i in (105, 118, 121))
+        is_whole = sealed(image, r) and (word(image, r, 0), word(image, r, 127)) == (2, 1)
+        return is_whole and (self.answer.label, tuple(map(tuple, self.answer.dates))) == (label, dates)
 
     def is_untouched(self, thing: Thing) -> bool:
         """No fault touched its blocks, nor the headers of its directories."""
