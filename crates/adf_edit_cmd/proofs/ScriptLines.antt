@@ -1,14 +1,14 @@
 -- Lines that say no edit. text is what stands behind the first word of a line.
 use Rattle.std.proofs.Common.{◌≡◌, ◌≢◌, ◌<◌, ◌^◌, ℕ, List, Some, None, false, true, sym, ◌∙◌, subst, decimal}
 use Rattle.adf_base.specs.{Dates.IsStamp, Dates.plain_text, declared.dates.Stamp.Stamp}
-use Rattle.adf_edits.specs.Edits.{EditValue, change, dir, file, label, move, remove}
+use Rattle.adf_edits.specs.Edits.{EditValue, change, dir, file, label, move, remove, replace}
 use Rattle.adf_edits.specs.declared.edits.Change.TheVariants as what
 use Rattle.adf_manifest.specs.Texts.{hex_word}
 use Rattle.adf_names.specs.{Escapes.IsSpelling, PathTexts.IsPathText}
 use Rattle.adf_edit_cmd.specs.Lines.{SaysBehindVerb, SaysEdit, before_colon, has_byte, value_in, verb_of}
 use Rattle.adf_plans.specs.PlanTexts.{behind_word, first_word}
 use Rattle.adf_edit_cmd.specs.declared.lines.Verb.{Verb}
-use Rattle.adf_edit_cmd.specs.declared.lines.Verb.TheVariants.{Remove, Move, Dir, File, Note, Protect, Date, Label}
+use Rattle.adf_edit_cmd.specs.declared.lines.Verb.TheVariants.{Remove, Move, Dir, File, Replace, Note, Protect, Date, Label}
 
 -- no path has this text
 abbrev pub HasNoPath : List ℕ → Type 0
@@ -45,6 +45,14 @@ no_file text h _ s = s
 pub no_size : (text : List ℕ) → ((n : ℕ) → n < 2 ^ 32 → value_in text ≢ decimal n) → (e : EditValue) → ¬ SaysBehindVerb File text e
 no_size text h (file path size) s = h size s.1 s.2
 no_size text h _ s = s
+
+pub no_replaced : (text : List ℕ) → HasNoPath (before_colon text) → (e : EditValue) → ¬ SaysBehindVerb Replace text e
+no_replaced text h (replace path size) s = h path s.0
+no_replaced text h _ s = s
+
+pub no_new_size : (text : List ℕ) → ((n : ℕ) → n < 2 ^ 32 → value_in text ≢ decimal n) → (e : EditValue) → ¬ SaysBehindVerb Replace text e
+no_new_size text h (replace path size) s = h size s.1 s.2
+no_new_size text h _ s = s
 
 pub no_comment : (text : List ℕ) → has_byte 58 text ≡ false → (e : EditValue) → ¬ SaysBehindVerb Note text e
 no_comment text h (change path (what.Note note)) s = let clash : false ≡ true = sym h ∙ s.0 in absurd cc

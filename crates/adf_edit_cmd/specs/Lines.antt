@@ -2,21 +2,22 @@
 use Rattle.std.specs.Prelude.{◌≡◌, ◌<◌, ◌^◌, ℕ, Bool, List, Option, Some, None, true, codes, decimal, if◌then◌else◌, length, nat_lt}
 use Rattle.std.specs.Str.{bytes_eq}
 use Rattle.adf_base.specs.Dates.{IsStamp, plain_text}
-use Rattle.adf_edits.specs.Edits.{EditValue, change, dir, file, label, move, remove}
+use Rattle.adf_edits.specs.Edits.{EditValue, change, dir, file, label, move, remove, replace}
 use Rattle.adf_edits.specs.declared.edits.Change.TheVariants as what
 use Rattle.adf_manifest.specs.Texts.{hex_word}
 use Rattle.adf_names.specs.{Escapes.IsSpelling, PathTexts.IsPathText}
 use Rattle.adf_plans.specs.PlanTexts.{before_byte, behind_byte, behind_word, first_word}
 use Rattle.adf_edit_cmd.specs.declared.lines.Verb.{Verb}
-use Rattle.adf_edit_cmd.specs.declared.lines.Verb.TheVariants.{Remove, Move, Dir, File, Note, Protect, Date, Label}
+use Rattle.adf_edit_cmd.specs.declared.lines.Verb.TheVariants.{Remove, Move, Dir, File, Replace, Note, Protect, Date, Label}
 
 -- what the first word of a line asks for
 abbrev pub verb_of : List ℕ → Option Verb
 verb_of word =
     if bytes_eq word (codes "remove") then Some Remove else if bytes_eq word (codes "move") then Some Move
     else if bytes_eq word (codes "dir") then Some Dir else if bytes_eq word (codes "file") then Some File
-    else if bytes_eq word (codes "note") then Some Note else if bytes_eq word (codes "protect") then Some Protect
-    else if bytes_eq word (codes "date") then Some Date else if bytes_eq word (codes "label") then Some Label else None
+    else if bytes_eq word (codes "replace") then Some Replace else if bytes_eq word (codes "note") then Some Note
+    else if bytes_eq word (codes "protect") then Some Protect else if bytes_eq word (codes "date") then Some Date
+    else if bytes_eq word (codes "label") then Some Label else None
 
 -- whether a byte of this value stands in a text
 abbrev pub has_byte : ℕ → List ℕ → Bool
@@ -39,6 +40,8 @@ SaysBehindVerb Remove text (remove path) = IsPathText text path
 SaysBehindVerb Move text (move from to) = (has_value text ≡ true) × IsPathText (before_colon text) from × IsPathText (value_in text) to
 SaysBehindVerb Dir text (dir path) = IsPathText text path
 SaysBehindVerb File text (file path size) = IsPathText (before_colon text) path × (size < 2 ^ 32) × (value_in text ≡ decimal size)
+SaysBehindVerb Replace text (replace path size) =
+    IsPathText (before_colon text) path × (size < 2 ^ 32) × (value_in text ≡ decimal size)
 SaysBehindVerb Note text (change path (what.Note note)) =
     (has_value text ≡ true) × IsPathText (before_colon text) path × IsSpelling 79 (value_in text) note
 SaysBehindVerb Protect text (change path (what.Protect word)) = IsPathText (before_colon text) path × (word < 2 ^ 32) × (value_in text ≡ hex_word word)

@@ -2,7 +2,7 @@
 use Rattle.std.specs.Prelude.{◌≡◌, ◌≤◌, ◌⊎◌, ◌+◌, ℕ, Bool, List, [], ◌∷◌, ◌++◌, Option, Some, None, Result, Ok, Err, codes, drop, if◌then◌else◌, length, nat_lt}
 use Rattle.std.specs.{Prelude.option_map, Str.bytes_eq}
 use Rattle.adf_base.specs.declared.hash.Letters.{Letters, TheVariants.Ascii, TheVariants.International}
-use Rattle.adf_edits.specs.{Edits.EditValue, Edits.edit_value, Edits.file, declared.edits.Edit.Edit}
+use Rattle.adf_edits.specs.{Edits.EditValue, Edits.edit_value, Edits.file, Edits.replace, declared.edits.Edit.Edit}
 use Rattle.adf_plans.specs.PlanTexts.{behind_line, first_line}
 use Rattle.adf_edit_cmd.specs.{Lines.SaysEdit, declared.script.TheConstants.MOST_LINES}
 use Rattle.adf_edit_cmd.specs.declared.stop.Stop.{Stop, TheVariants.BadLine, TheVariants.NoMemory}
@@ -71,6 +71,7 @@ IsNextRead old new line (Err _) = ⊥
 -- how many bytes an edit takes of those behind the script
 abbrev pub bytes_taken : EditValue → ℕ
 bytes_taken (file path size) = size
+bytes_taken (replace path size) = size
 bytes_taken _ = 0
 
 -- how many bytes the files of edits take

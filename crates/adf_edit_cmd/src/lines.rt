@@ -18,6 +18,7 @@ pub enum Verb {
     Move,
     Dir,
     File,
+    Replace,
     Note,
     Protect,
     Date,
@@ -36,6 +37,8 @@ fn verb_of(word: &[u8]) -> Option<Verb>
         Some(Verb::Dir)
     } else if word == b"file".as_slice() {
         Some(Verb::File)
+    } else if word == b"replace".as_slice() {
+        Some(Verb::Replace)
     } else if word == b"note".as_slice() {
         Some(Verb::Note)
     } else if word == b"protect".as_slice() {
@@ -62,6 +65,13 @@ fn cut_at(text: &[u8], byte: u8) -> Option<(&[u8], &[u8])>
     } else {
         None
     }
+}
+
+/// Whether a byte of this value stands in a text.
+pub fn has_byte(text: &[u8], byte: u8) -> bool
+    ensures { result ≡ has_byte byte text.now }
+{
+    cut_at(text, byte).is_some()
 }
 
 // PATH
@@ -129,6 +139,21 @@ fn read_file(alloc: Global, text: &[u8]) -> Result<Edit, PathFault>
     Ok(Edit::File(path, size))
 }
 
+// PATH:SIZE
+#[tactic(auto, using(crate::proofs::ScriptLines::no_replaced, crate::proofs::ScriptLines::no_new_size))]
+fn read_replace(alloc: Global, text: &[u8]) -> Result<Edit, PathFault>
+    ensures ok { IfOk result (λ e. SaysBehindVerb Verb.Replace text.now (edit_value e)) }
+    ensures bad { IfErr result (λ f. f ≡ PathFault.BadText → (e : EditValue)
+        → ¬ SaysBehindVerb Verb.Replace text.now e) }
+{
+    let (path, size) = cut(text, b':');
+    let Some(size) = read_number(size) else {
+        return Err(PathFault::BadText);
+    };
+    let path = read_path(alloc, path)?;
+    Ok(Edit::Replace(path, size))
+}
+
 // PATH:TEXT
 #[tactic(auto, using(crate::proofs::ScriptLines::no_comment, crate::proofs::ScriptLines::no_noted, crate::proofs::ScriptLines::no_note))]
 fn read_note(alloc: Global, text: &[u8]) -> Result<Edit, PathFault>
@@ -187,6 +212,7 @@ fn read_verb(alloc: Global, verb: Verb, text: &[u8]) -> Result<Edit, PathFault>
         Verb::Move => read_move(alloc, text),
         Verb::Dir => read_dir(alloc, text),
         Verb::File => read_file(alloc, text),
+        Verb::Replace => read_replace(alloc, text),
         Verb::Note => read_note(alloc, text),
         Verb::Protect => read_protect(alloc, text),
         Verb::Date => read_date(alloc, text),

@@ -115,7 +115,7 @@ fn bytes_taken(edit: &Edit) -> usize
     ensures few { result < 2 ^ 32 }
 {
     match edit {
-        Edit::File(_, size) => *size as usize,
+        Edit::File(_, size) | Edit::Replace(_, size) => *size as usize,
         _ => 0,
     }
 }

@@ -6,8 +6,8 @@ use Rattle.std.proofs.{lemmas.Bool.cases_Bool, lemmas.List.Folds.list_any-append
 use Rattle.adf_tree.specs.Additions.{Addition}
 use Rattle.adf_edits.specs.{declared.edits.Change.Change, declared.edits.EditFault.EditFault, Paths.has_deep, Paths.is_deep}
 use Rattle.adf_edits.specs.Edits.{EditValue, change_fault, changed_at, edited_additions, gets_deep, is_within, move_fault, moved_additions, rebased}
-use Rattle.adf_edits.specs.Edits.{remove_fault, removed, room_fault, unless, with_new}
-use Rattle.adf_edits.proofs.{PlacedInOrder.any_fewer, PlacedInOrder.any_mapped, PlacedInOrder.same_place, RoomKept.made_is}
+use Rattle.adf_edits.specs.Edits.{refilled_at, remove_fault, removed, replace_fault, room_fault, unless, with_new}
+use Rattle.adf_edits.proofs.{PlacedInOrder.any_fewer, PlacedInOrder.any_mapped, PlacedInOrder.refilled_place, PlacedInOrder.same_place, RoomKept.made_is}
 
 -- what has room is not too deep
 room_shallow : (xs : List Addition) (path : List (List ℕ)) → room_fault xs path ≡ None → is_deep path ≡ false
@@ -23,6 +23,10 @@ remove_shallow path xs ys none h = grind (arith, common_steps, made_is, any_fewe
 change_shallow : (path : List (List ℕ)) (what : Change) (xs ys : List Addition) → has_deep xs ≡ false
     → unless (change_fault xs path) (changed_at path what xs) ≡ Ok ys → has_deep ys ≡ false
 change_shallow path what xs ys none h = grind (arith, common_steps, made_is, any_mapped, same_place)
+
+replace_shallow : (path : List (List ℕ)) (bytes : List ℕ) (xs ys : List Addition) → has_deep xs ≡ false
+    → unless (replace_fault xs path) (refilled_at path bytes xs) ≡ Ok ys → has_deep ys ≡ false
+replace_shallow path bytes xs ys none h = grind (arith, common_steps, made_is, any_mapped, refilled_place)
 
 label_shallow : (xs ys : List Addition) → has_deep xs ≡ false → (let r : Result (List Addition) EditFault = Ok xs in r ≡ Ok ys)
     → has_deep ys ≡ false
@@ -49,4 +53,4 @@ move_shallow from to xs ys none h =
 
 pub edit_shallow : (edit : EditValue) (given : List ℕ) (xs ys : List Addition) → has_deep xs ≡ false → edited_additions edit given xs ≡ Ok ys
     → has_deep ys ≡ false
-edit_shallow edit given xs ys h k = grind (arith, common_steps, remove_shallow, move_shallow, new_shallow, change_shallow, label_shallow)
+edit_shallow edit given xs ys h k = grind (arith, common_steps, remove_shallow, move_shallow, new_shallow, replace_shallow, change_shallow, label_shallow)

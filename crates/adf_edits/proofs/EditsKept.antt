@@ -4,11 +4,11 @@ use Rattle.std.proofs.lemmas.Grind.{common_steps}
 use Rattle.adf_tree.specs.Additions.{Addition, AllHaveRoom}
 use Rattle.adf_edits.specs.{declared.edits.EditFault.EditFault, Outline.OutlineValue}
 use Rattle.adf_edits.specs.Edits.{EditValue, edited, edited_additions, with_additions}
-use Rattle.adf_edits.proofs.{MovesKept.move_kept, RoomKept.change_kept, RoomKept.label_kept, RoomKept.new_kept, RoomKept.remove_kept}
+use Rattle.adf_edits.proofs.{MovesKept.move_kept, RoomKept.change_kept, RoomKept.label_kept, RoomKept.new_kept, RoomKept.remove_kept, RoomKept.replace_kept}
 
 pub edit_kept : (edit : EditValue) (given : List ℕ) (xs ys : List Addition) → AllHaveRoom xs → edited_additions edit given xs ≡ Ok ys
     → AllHaveRoom ys
-edit_kept edit given xs ys h k = grind (arith, common_steps, remove_kept, move_kept, new_kept, change_kept, label_kept)
+edit_kept edit given xs ys h k = grind (arith, common_steps, remove_kept, move_kept, new_kept, replace_kept, change_kept, label_kept)
 
 additions_made : (o p : OutlineValue) (text : List ℕ) (r : Result (List Addition) EditFault) → with_additions o text r ≡ Ok p
     → r ≡ Ok p.additions

@@ -1,15 +1,18 @@
 -- What each path leads to after a removal, an addition, a change or a new label.
 -- Letters: xs are additions, ys what the edit makes of them; x, y additions; q a path.
 use Rattle.std.proofs.Common.{◌≡◌, ◌≢◌, ℕ, List, [], ◌∷◌, inl, inr, map, refl, sym, ap, ◌∙◌, true, false, None, Ok, Some, Result, not, option_map, arith}
-use Rattle.std.specs.{List.find, Option.option_or}
+use Rattle.std.specs.{List.find, List.list_any, Option.option_or}
 use Rattle.std.proofs.lemmas.Bool.{cases_Bool, false_from_ne_true}
 use Rattle.std.proofs.{lemmas.Iterator.Adapters.option_map_id, lemmas.List.Folds.find-append, lemmas.Grind.common_steps}
 use Rattle.adf_names.specs.Texts.{uppers}
 use Rattle.adf_tree.specs.{Additions.Addition, Additions.AllHaveRoom, Additions.content_of, Additions.entries_of_additions, Paths.Content, Paths.content_at}
 use Rattle.adf_edits.specs.{declared.edits.Change.Change, declared.edits.EditFault.EditFault}
-use Rattle.adf_edits.specs.Edits.{change_fault, changed_meta, changed_at, changed_if, is_at, remove_fault, removed, unless, with_new}
+use Rattle.adf_tree.specs.declared.entry.Body.TheVariants.{File}
+use Rattle.adf_edits.specs.Edits.{change_fault, changed_meta, changed_at, changed_if, is_at, is_directory_at, is_file_named, refilled_at, refilled_if, remove_fault, removed}
+use Rattle.adf_edits.specs.Edits.{replace_fault, unless, with_new}
 use Rattle.adf_edits.proofs.FirstAt.{content_done, first_kept, first_left_out, first_mapped, none_first, or_nothing, told}
 use Rattle.adf_edits.proofs.{Places.same_paths, RoomKept.change_kept, RoomKept.made_is, RoomKept.new_kept, RoomKept.place_without_fault, RoomKept.remove_kept}
+use Rattle.adf_edits.proofs.RoomKept.{replace_kept}
 
 -- what has one path does not have another
 pub not_both : (a b : List (List ℕ)) (y : Addition) → map uppers a ≢ map uppers b → is_at a y ≡ true → is_at b y ≡ false
@@ -67,6 +70,43 @@ module _ (path : List (List ℕ)) (what : Change) (xs ys : List Addition) (room 
       after q
       ∙ (content_done (is_at q) (changed_if path what) (λ c. c) xs (λ y at. rw (not_both q path y far at) refl)
       ∙ (option_map_id (option_map content_of (find (is_at q) xs)) ∙ sym (told xs room q)))
+
+-- other bytes
+
+first_refilled : (path : List (List ℕ)) (bytes : List ℕ) (xs : List Addition) → list_any (is_directory_at path) xs ≡ false
+    → option_map content_of (option_map (refilled_if path bytes) (find (is_at path) xs))
+    ≡ option_map (λ (c : Content). record c { body = File bytes }) (option_map content_of (find (is_at path) xs))
+first_refilled path bytes [] none = refl
+first_refilled path bytes (x ∷ xs) none = grind (arith, common_steps, cases_Bool, first_refilled path bytes xs)
+
+module _ (path : List (List ℕ)) (bytes : List ℕ) (xs ys : List Addition) (room : AllHaveRoom xs)
+    (h : unless (replace_fault xs path) (refilled_at path bytes xs) ≡ Ok ys) where
+  refilled_same_at : (q : List (List ℕ)) (y : Addition) → is_at q (refilled_if path bytes y) ≡ is_at q y
+  refilled_same_at q y = elim (cases_Bool (is_file_named path y)) [ inl t ↦ rw t refl | inr f ↦ rw f refl ]
+
+  after_replace : (q : List (List ℕ))
+      → content_at (entries_of_additions ys) q ≡ option_map content_of (option_map (refilled_if path bytes) (find (is_at q) xs))
+  after_replace q = grind (arith, common_steps, told, replace_kept, option_map, made_is, first_mapped, refilled_same_at)
+
+  -- what has the path is a file
+  no_directory : list_any (is_directory_at path) xs ≡ false
+  no_directory = grind (arith, common_steps, cases_Bool, made_is (replace_fault xs path) (refilled_at path bytes xs) ys h)
+
+  pub replace_there : content_at (entries_of_additions ys) path
+      ≡ option_map (λ (c : Content). record c { body = File bytes }) (content_at (entries_of_additions xs) path)
+  replace_there =
+      after_replace path
+      ∙ (first_refilled path bytes xs no_directory ∙ ap (option_map (λ (c : Content). record c { body = File bytes })) (sym (told xs room path)))
+
+  pub unreplaced_kept : (q : List (List ℕ)) → map uppers q ≢ map uppers path
+      → content_at (entries_of_additions ys) q ≡ content_at (entries_of_additions xs) q
+  unreplaced_kept q far =
+      after_replace q
+      ∙ (content_done (is_at q) (refilled_if path bytes) (λ c. c) xs (λ y at. rw (not_at_file y at) refl)
+      ∙ (option_map_id (option_map content_of (find (is_at q) xs)) ∙ sym (told xs room q)))
+    where
+      not_at_file : (y : Addition) → is_at q y ≡ true → is_file_named path y ≡ false
+      not_at_file y at = grind (arith, cases_Bool, not_both q path y far at)
 
 -- labels
 

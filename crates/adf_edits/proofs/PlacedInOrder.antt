@@ -5,9 +5,10 @@ use Rattle.std.proofs.Common.{◌≡◌, ℕ, suc, List, [], ◌∷◌, ◌++◌
 use Rattle.std.proofs.{Common.cond, Math.Seq.take-append_seam, Math.Seq.get_or-append_seam, lemmas.Bool.cases_Bool, lemmas.Grind.common_steps}
 use Rattle.std.specs.List.{All, filter, list_any}
 use Rattle.std.proofs.lemmas.List.{append-nil, append_assoc, length-append, map-append, Elements.filter-append, Elements.filter-append}
-use Rattle.adf_tree.specs.{Additions.Addition, Additions.AllHaveRoom, Additions.entries_of_additions, Tree.parents_of, Tree.room_for}
+use Rattle.adf_tree.specs.{Additions.Addition, Additions.AllHaveRoom, Additions.entries_of_additions, Tree.is_dir_body, Tree.parents_of, Tree.room_for}
 use Rattle.adf_tree.proofs.TreeOfAdditions.{all_built}
-use Rattle.adf_edits.specs.{declared.edits.Change.Change, Edits.changed_at, Edits.changed_if, Edits.is_at, Edits.is_directory_at}
+use Rattle.adf_edits.specs.{declared.edits.Change.Change, Edits.changed_at, Edits.changed_if, Edits.is_at, Edits.is_directory_at, Edits.is_file_above}
+use Rattle.adf_edits.specs.Edits.{is_file_named, refilled_at, refilled_if}
 use Rattle.adf_edits.proofs.{Additions.room_more, Places.HasPlace, Places.place_from, Places.room_from}
 
 -- each addition has a place behind these and those before it
@@ -35,12 +36,32 @@ roomy front (x ∷ xs) before h =
 pub nothing_before : AllHaveRoom []
 nothing_before = λ i d lt. absurd (omega arith)
 
--- a change keeps paths and bodies
+-- what is done to each keeps paths and directories
 
 pub any_mapped : (p : Addition → Bool) (f : Addition → Addition) (xs : List Addition) → ((y : Addition) → p (f y) ≡ p y)
     → list_any p (map f xs) ≡ list_any p xs
 any_mapped p f [] h = refl
 any_mapped p f (x ∷ xs) h = rw (h x, any_mapped p f xs h) refl
+
+module _ (f : Addition → Addition) (paths : (y : Addition) → (f y).path ≡ y.path)
+    (directories : (y : Addition) → is_dir_body (f y).body ≡ is_dir_body y.body) where
+  same_directory : (dir : List (List ℕ)) (y : Addition) → is_directory_at dir (f y) ≡ is_directory_at dir y
+  same_directory dir y = grind (arith, common_steps, directories, paths)
+
+  same_above : (to : List (List ℕ)) (y : Addition) → is_file_above to (f y) ≡ is_file_above to y
+  same_above to y = grind (arith, common_steps, directories, paths)
+
+  mapped_place : (front : List Addition) (to : List (List ℕ)) → HasPlace front to → HasPlace (map f front) to
+  mapped_place front to h = grind (arith, common_steps, any_mapped, same_directory, same_above, paths)
+
+  pub mapped_after : (front xs : List Addition) → PlacedAfter front xs → PlacedAfter (map f front) (map f xs)
+  mapped_after front [] h = tt
+  mapped_after front (x ∷ xs) h = (
+    subst (HasPlace (map f front)) (sym (paths x)) (mapped_place front x.path h.0),
+    subst (λ us. PlacedAfter us (map f xs)) (map-append f front (x ∷ [])) (mapped_after (front ++ x ∷ []) xs h.1),
+  )
+
+-- a change keeps paths and bodies
 
 module _ (path : List (List ℕ)) (what : Change) where
   abbrev change : Addition → Addition
@@ -52,18 +73,24 @@ module _ (path : List (List ℕ)) (what : Change) where
   same_body : (y : Addition) → (change y).body ≡ y.body
   same_body y = elim (cases_Bool (is_at path y)) [ inl t ↦ rw t refl | inr f ↦ rw f refl ]
 
-  same_directory : (dir : List (List ℕ)) (y : Addition) → is_directory_at dir (change y) ≡ is_directory_at dir y
-  same_directory dir y = grind (arith, common_steps, same_body, same_place)
-
-  changed_place : (front : List Addition) (to : List (List ℕ)) → HasPlace front to → HasPlace (changed_at path what front) to
-  changed_place front to h = grind (arith, common_steps, any_mapped, same_directory, same_place)
-
   pub changed_after : (front xs : List Addition) → PlacedAfter front xs → PlacedAfter (changed_at path what front) (changed_at path what xs)
-  changed_after front [] h = tt
-  changed_after front (x ∷ xs) h = (
-    subst (HasPlace (map change front)) (sym (same_place x)) (changed_place front x.path h.0),
-    subst (λ us. PlacedAfter us (map change xs)) (map-append change front (x ∷ [])) (changed_after (front ++ x ∷ []) xs h.1),
-  )
+  changed_after = mapped_after change same_place (λ y. ap is_dir_body (same_body y))
+
+-- other bytes of a file
+
+module _ (path : List (List ℕ)) (bytes : List ℕ) where
+  abbrev refill : Addition → Addition
+  refill = refilled_if path bytes
+
+  pub refilled_place : (y : Addition) → (refill y).path ≡ y.path
+  refilled_place y = elim (cases_Bool (is_file_named path y)) [ inl t ↦ rw t refl | inr f ↦ rw f refl ]
+
+  refilled_directory : (y : Addition) → is_dir_body (refill y).body ≡ is_dir_body y.body
+  refilled_directory y = grind (arith, common_steps, cases_Bool)
+
+  pub refilled_after : (front xs : List Addition) → PlacedAfter front xs
+      → PlacedAfter (refilled_at path bytes front) (refilled_at path bytes xs)
+  refilled_after = mapped_after refill refilled_place refilled_directory
 
 -- what stays
 

@@ -9,9 +9,9 @@ use Rattle.adf_names.specs.Texts.{uppers}
 use Rattle.adf_tree.specs.{Additions.Addition, Additions.AllHaveRoom, Tree.parents_of}
 use Rattle.adf_tree.proofs.TreeOfAdditions.{all_built}
 use Rattle.adf_edits.specs.{declared.edits.EditFault.EditFault, declared.edits.Change.Change, Paths.is_under}
-use Rattle.adf_edits.specs.Edits.{change_fault, changed_at, has_under, is_at, remove_fault, removed, room_fault, unless, with_new}
+use Rattle.adf_edits.specs.Edits.{change_fault, changed_at, has_under, is_at, refilled_at, remove_fault, removed, replace_fault, room_fault, unless, with_new}
 use Rattle.adf_edits.proofs.{Additions.room_more, Places.HasPlace, Places.room_from, Places.same_paths}
-use Rattle.adf_edits.proofs.PlacedInOrder.{KeepsDirectory, changed_after, filtered_after, nothing_before, placed, roomy}
+use Rattle.adf_edits.proofs.PlacedInOrder.{KeepsDirectory, changed_after, filtered_after, nothing_before, placed, refilled_after, roomy}
 
 -- no fault
 
@@ -35,6 +35,13 @@ change_kept path what xs ys room h =
     let made = made_is (change_fault xs path) (changed_at path what xs) ys h in
     subst AllHaveRoom made.1
     (roomy [] (changed_at path what xs) nothing_before (changed_after path what [] xs (placed [] xs nothing_before room)))
+
+pub replace_kept : (path : List (List ℕ)) (bytes : List ℕ) (xs ys : List Addition) → AllHaveRoom xs
+    → unless (replace_fault xs path) (refilled_at path bytes xs) ≡ Ok ys → AllHaveRoom ys
+replace_kept path bytes xs ys room h =
+    let made = made_is (replace_fault xs path) (refilled_at path bytes xs) ys h in
+    subst AllHaveRoom made.1
+    (roomy [] (refilled_at path bytes xs) nothing_before (refilled_after path bytes [] xs (placed [] xs nothing_before room)))
 
 -- removal
 

@@ -9,7 +9,7 @@ use Rattle.adf_edits.specs.{Outline.OutlineValue, declared.edits.Edit.Edit, decl
 use Rattle.adf_edits.specs.Paths.{is_at_or_under, is_deep, is_under}
 use Rattle.adf_edits.specs.declared.edits.Change.{Change, TheVariants.Note, TheVariants.Protect, TheVariants.Date}
 use Rattle.adf_edits.specs.declared.edits.Edit.TheVariants as edit
-use Rattle.adf_edits.specs.declared.edits.EditFault.TheVariants.{NoSuchPath, NotEmpty, WithinItself, EmptyPath, NoParent, ParentIsFile, Exists, TooDeep}
+use Rattle.adf_edits.specs.declared.edits.EditFault.TheVariants.{NoSuchPath, NotAFile, NotEmpty, WithinItself, EmptyPath, NoParent, ParentIsFile, Exists, TooDeep}
 
 -- one edit of a tree
 pub data EditValue : Type 0 where
@@ -17,6 +17,7 @@ pub data EditValue : Type 0 where
   move : (from to : List (List ℕ)) → EditValue
   dir : (path : List (List ℕ)) → EditValue
   file : (path : List (List ℕ)) (size : ℕ) → EditValue
+  replace : (path : List (List ℕ)) (size : ℕ) → EditValue
   change : (path : List (List ℕ)) (what : Change) → EditValue
   label : (text : List ℕ) → EditValue
 
@@ -26,6 +27,7 @@ edit_value (edit.Remove path) = remove path.items
 edit_value (edit.Move from to) = move from.items to.items
 edit_value (edit.Dir path) = dir path.items
 edit_value (edit.File path size) = file path.items size
+edit_value (edit.Replace path size) = replace path.items size
 edit_value (edit.Change path what) = change path.items what
 edit_value (edit.Label text) = label text
 
@@ -40,6 +42,10 @@ is_within path x = is_at_or_under path x.path
 -- whether x is a directory with this path
 abbrev pub is_directory_at : List (List ℕ) → Addition → Bool
 is_directory_at path x = is_dir_body x.body && same_path x.path path
+
+-- whether x is a file with this path
+abbrev pub is_file_named : List (List ℕ) → Addition → Bool
+is_file_named path x = not (is_dir_body x.body) && same_path x.path path
 
 -- whether x is a file that the path leads through
 abbrev pub is_file_above : List (List ℕ) → Addition → Bool
@@ -108,6 +114,14 @@ changed_if path what x = if is_at path x then record x { meta = changed_meta wha
 abbrev pub changed_at : List (List ℕ) → Change → List Addition → List Addition
 changed_at path what xs = map (changed_if path what) xs
 
+-- x with these bytes if it is a file with this path
+abbrev pub refilled_if : List (List ℕ) → List ℕ → Addition → Addition
+refilled_if path bytes x = if is_file_named path x then record x { body = File bytes } else x
+
+-- a file with this path gets these bytes
+abbrev pub refilled_at : List (List ℕ) → List ℕ → List Addition → List Addition
+refilled_at path bytes xs = map (refilled_if path bytes) xs
+
 -- a fault, or else these additions
 abbrev pub unless : Option EditFault → List Addition → Result (List Addition) EditFault
 unless (Some fault) xs = Err fault
@@ -131,6 +145,10 @@ move_fault xs from to =
 abbrev pub change_fault : List Addition → List (List ℕ) → Option EditFault
 change_fault xs path = if has_path xs path then None else Some NoSuchPath
 
+-- why the bytes of the file with this path cannot be replaced
+abbrev pub replace_fault : List Addition → List (List ℕ) → Option EditFault
+replace_fault xs path = if not (has_path xs path) then Some NoSuchPath else if has_directory xs path then Some NotAFile else None
+
 -- a file of the first of these bytes
 abbrev pub file_of : ℕ → List ℕ → Body
 file_of size given = File (take size given)
@@ -149,6 +167,7 @@ edited_additions (remove path) given xs = unless (remove_fault xs path) (removed
 edited_additions (move from to) given xs = unless (move_fault xs from to) (moved_additions from to xs)
 edited_additions (dir path) given xs = with_new (new_addition path Dir) xs
 edited_additions (file path size) given xs = with_new (new_addition path (file_of size given)) xs
+edited_additions (replace path size) given xs = unless (replace_fault xs path) (refilled_at path (take size given) xs)
 edited_additions (change path what) given xs = unless (change_fault xs path) (changed_at path what xs)
 edited_additions (label text) given xs = Ok xs
 
@@ -169,6 +188,7 @@ edited edit given o = with_additions o (edited_label edit o.label) (edited_addit
 -- the text of a fault
 abbrev pub edit_fault_text : EditFault → List ℕ
 edit_fault_text NoSuchPath = codes "no such path"
+edit_fault_text NotAFile = codes "not a file"
 edit_fault_text NotEmpty = codes "not empty: remove what is in it first"
 edit_fault_text WithinItself = codes "within itself"
 edit_fault_text EmptyPath = codes "no name"

@@ -1,13 +1,13 @@
 // What an edit makes of a tree.
 
-ghost use Rattle.std.specs.Prelude.{◌≡◌, ◌≢◌, ◌≤◌, ◌++◌, ◌∷◌, [], None, Some, Ok, Err, IfOk, IfErr, OnOk, All, length, map, true};
+ghost use Rattle.std.specs.Prelude.{◌≡◌, ◌≢◌, ◌≤◌, ◌++◌, ◌∷◌, [], None, Some, Ok, Err, IfOk, IfErr, OnOk, All, length, map, take, true};
 ghost use Rattle.std.specs.List.{filter, list_any};
-ghost use Rattle.adf_tree.specs.Tree.{is_dir_body};
+ghost use Rattle.adf_tree.specs.{Tree.is_dir_body, declared.entry.Body.Body};
 ghost use Rattle.adf_edits.specs.Edits.{change_fault, changed_at, changed_if, changed_meta, edit_value, edited, edited_additions};
-ghost use Rattle.adf_edits.specs.Edits.{edited_label, file_of, gets_deep, has_directory, has_path, has_under, is_at};
-ghost use Rattle.adf_edits.specs.Edits.{is_directory_at, is_file_above, is_within, leads_through_file, leads_to_directory};
-ghost use Rattle.adf_edits.specs.Edits.{move_fault, moved_additions, new_addition, rebased, remove_fault, removed, room_fault};
-ghost use Rattle.adf_edits.specs.Edits.{without};
+ghost use Rattle.adf_edits.specs.Edits.{edited_label, gets_deep, has_directory, has_path, has_under, is_at, is_file_named};
+ghost use Rattle.adf_edits.specs.Edits.{is_directory_at, is_file_above, is_within, leads_through_file, leads_to_directory, refilled_at};
+ghost use Rattle.adf_edits.specs.Edits.{move_fault, moved_additions, new_addition, rebased, refilled_if, remove_fault, removed, room_fault};
+ghost use Rattle.adf_edits.specs.Edits.{replace_fault, without};
 
 use crate::outline::{Item, Outline};
 use crate::paths::{MOST_DEPTH, is_at_or_under, is_deep, is_under, push_names, same_path};
@@ -36,6 +36,8 @@ pub enum Edit {
     Dir(Vec<Name>),
     /// Adds a file of so many bytes, which are given.
     File(Vec<Name>, u32),
+    /// Gives a file other bytes, so many of the given ones.
+    Replace(Vec<Name>, u32),
     /// Changes the comment, the protection or the date of an entry.
     Change(Vec<Name>, Change),
     /// Changes the label.
@@ -47,6 +49,8 @@ pub enum Edit {
 pub enum EditFault {
     /// Nothing is there under the path.
     NoSuchPath,
+    /// The path is that of a directory.
+    NotAFile,
     /// Something is in the directory.
     NotEmpty,
     /// A directory would come into itself.
@@ -74,6 +78,7 @@ impl fmt::Display for EditFault {
     fn fmt<W: fmt::Write>(&self, f: &mut fmt::Formatter<W>) -> fmt::Result {
         f.write_str(match self {
             EditFault::NoSuchPath => "no such path",
+            EditFault::NotAFile => "not a file",
             EditFault::NotEmpty => "not empty: remove what is in it first",
             EditFault::WithinItself => "within itself",
             EditFault::EmptyPath => "no name",
@@ -125,6 +130,13 @@ fn is_directory_at(path: &[Name], item: &Item) -> bool
     ensures { result ≡ is_directory_at path.now item.now }
 {
     is_dir(&item.body) && same_path(&item.path, path)
+}
+
+// Whether an entry is a file with this path.
+fn is_file_named(path: &[Name], item: &Item) -> bool
+    ensures { result ≡ is_file_named path.now item.now }
+{
+    !is_dir(&item.body) && same_path(&item.path, path)
 }
 
 // Whether an entry is a file that the path leads through.
@@ -381,6 +393,63 @@ fn changed(items: Vec<Item>, path: &[Name], change: &Change) -> Result<Vec<Item>
     Ok(items)
 }
 
+// A copy of bytes.
+fn bytes_of(alloc: Global, bytes: &[u8]) -> Result<Bytes, NoMemory>
+    ensures { IfOk result (λ b. b ≡ bytes.now) }
+{
+    let mut copy = Vec::new(alloc);
+    copy.extend_from_slice(bytes)?;
+    Ok(Bytes::new(copy))
+}
+
+// Gives an entry these bytes if it is a file with this path.
+fn refill_item(alloc: Global, item: &mut Item, path: &[Name], bytes: &[u8]) -> Result<(), NoMemory>
+    ensures { OnOk result (item.new ≡ refilled_if path.now bytes.now item.old) }
+{
+    if is_file_named(path, item) {
+        item.body = Body::File(bytes_of(alloc, bytes)?);
+    }
+    Ok(())
+}
+
+// Gives the file with a path these bytes.
+fn refill_items(
+    alloc: Global,
+    items: &mut [Item],
+    path: &[Name],
+    bytes: &[u8],
+) -> Result<(), NoMemory>
+    ensures { OnOk result (items.new ≡ refilled_at path.now bytes.now items.old) }
+{
+    for item in items.iter_mut() {
+        refill_item(alloc, item, path, bytes)?;
+    }
+    Ok(())
+}
+
+// Replaces the bytes of the file that has a path.
+fn replaced(
+    alloc: Global,
+    items: Vec<Item>,
+    path: &[Name],
+    bytes: &[u8],
+) -> Result<Vec<Item>, EditFault>
+    ensures ok { IfOk result (λ xs. replace_fault items.items path.now ≡ None) }
+    ensures refilled { IfOk result (λ xs. xs.items ≡ refilled_at path.now bytes.now items.items) }
+    ensures fault { IfErr result (λ f. f ≢ EditFault.NoMemory
+        → replace_fault items.items path.now ≡ Some f) }
+{
+    if !has_path(&items, path) {
+        return Err(EditFault::NoSuchPath);
+    }
+    if has_directory(&items, path) {
+        return Err(EditFault::NotAFile);
+    }
+    let mut items = items;
+    refill_items(alloc, &mut items, path, bytes)?;
+    Ok(items)
+}
+
 // A new entry, with no comment, nothing forbidden and no date.
 fn new_item(path: Vec<Name>, body: Body) -> Item
     ensures { result ≡ new_addition path.items body }
@@ -393,14 +462,19 @@ fn new_item(path: Vec<Name>, body: Body) -> Item
     }
 }
 
-// A file of the first of the given bytes.
-fn new_file(alloc: Global, path: Vec<Name>, size: u32, given: &[u8]) -> Result<Item, NoMemory>
-    ensures { IfOk result (λ x. x ≡ new_addition path.items (file_of size given.now)) }
+// The first of the given bytes, as many as a file has.
+fn first_of(given: &[u8], size: u32) -> &[u8]
+    ensures { result.now ≡ take size given.now }
 {
-    let len = given.len().min(size as usize);
-    let mut bytes = Vec::new(alloc);
-    bytes.extend_from_slice(&given[..len])?;
-    Ok(new_item(path, Body::File(Bytes::new(bytes))))
+    &given[..given.len().min(size as usize)]
+}
+
+// A file of these bytes.
+fn new_file(alloc: Global, path: Vec<Name>, bytes: &[u8]) -> Result<Item, NoMemory>
+    ensures { IfOk result (λ x. x ≡ new_addition path.items (Body.File bytes.now)) }
+{
+    let bytes = bytes_of(alloc, bytes)?;
+    Ok(new_item(path, Body::File(bytes)))
 }
 
 // The additions after an edit.
@@ -419,9 +493,10 @@ fn edited_items(
         Edit::Move(from, to) => moved(alloc, items, &from, &to),
         Edit::Dir(path) => added(items, new_item(path, Body::Dir)),
         Edit::File(path, size) => {
-            let item = new_file(alloc, path, size, given)?;
+            let item = new_file(alloc, path, first_of(given, size))?;
             added(items, item)
         }
+        Edit::Replace(path, size) => replaced(alloc, items, &path, first_of(given, size)),
         Edit::Change(path, change) => changed(items, &path, &change),
         Edit::Label(_) => Ok(items),
     }

@@ -8,7 +8,7 @@ ghost use Rattle.adf_tree.specs.Additions.{Addition, AllHaveRoom, content_of, en
 ghost use Rattle.adf_tree.specs.Tree.{IsTree, Tree, last_of};
 ghost use Rattle.adf_edits.specs.{declared.edits.Change.Change, Paths.has_deep, Paths.is_at_or_under};
 ghost use Rattle.adf_edits.specs.Edits.{EditValue, changed_meta, edited, edited_additions, file_of, new_addition};
-ghost use Rattle.adf_edits.specs.Edits.EditValue.{change, dir, file, label, move, remove};
+ghost use Rattle.adf_edits.specs.Edits.EditValue.{change, dir, file, label, move, remove, replace};
 ghost use Rattle.adf_edits.specs.Outline.{OutlineValue, outline_of, tree_of_outline};
 
 /// The outline of a tree has that tree, and each of its additions has room.
@@ -57,6 +57,16 @@ pub fn files_keep_other_paths()
         → content_at (entries_of_additions ys) path ≡ Some (content_of (new_addition path (file_of size given))) }
     ensures others { (path : List (List ℕ)) (size : ℕ) (given : List ℕ) (xs ys : List Addition) → AllHaveRoom xs
         → edited_additions (file path size) given xs ≡ Ok ys → (q : List (List ℕ)) → map uppers q ≢ map uppers path
+        → content_at (entries_of_additions ys) q ≡ content_at (entries_of_additions xs) q }
+{}
+
+/// After its bytes are replaced a path leads to the same content but for the bytes, and each other path to what it led to.
+pub fn replacements_keep_other_paths()
+    ensures there { (path : List (List ℕ)) (size : ℕ) (given : List ℕ) (xs ys : List Addition) → AllHaveRoom xs
+        → edited_additions (replace path size) given xs ≡ Ok ys → content_at (entries_of_additions ys) path
+        ≡ option_map (λ (c : Content). record c { body = file_of size given }) (content_at (entries_of_additions xs) path) }
+    ensures others { (path : List (List ℕ)) (size : ℕ) (given : List ℕ) (xs ys : List Addition) → AllHaveRoom xs
+        → edited_additions (replace path size) given xs ≡ Ok ys → (q : List (List ℕ)) → map uppers q ≢ map uppers path
         → content_at (entries_of_additions ys) q ≡ content_at (entries_of_additions xs) q }
 {}
 

@@ -1,0 +1,80 @@
+-- Lines of words. lines are those of the edits before; edit are the words of the next one, as far as they were read.
+use Rattle.std.proofs.Common.{◌≡◌, ◌<◌, ◌≤◌, ◌+◌, ℕ, suc, List, [], ◌∷◌, ◌++◌, Bool, Option, Some, None, option_map, codes, length, map, drop, get_or, true, false}
+use Rattle.std.proofs.Common.{ap, refl, sym, arith, append_assoc, ◌∙◌, subst}
+use Rattle.std.proofs.{Math.Seq.drop-cons, lemmas.List.drop_all}
+use Rattle.std.specs.{Borrow.Bor, Str.bytes_eq}
+use Rattle.adf_words.specs.CommandLine.{texts_of}
+use Rattle.adf_edit_cmd.specs.Words.{AddsLine, IsWordRead, WordedLine, in_front, line_of, lines_from, with_line}
+
+one_more : (lines : List WordedLine) (line : WordedLine) (rest : Option (List WordedLine))
+    → in_front lines (with_line (Some line) rest) ≡ in_front (lines ++ line ∷ []) rest
+one_more lines line None = refl
+one_more lines line (Some more) = ap Some (sym (append_assoc lines (line ∷ []) more))
+
+pub none_before : (rest : Option (List WordedLine)) → rest ≡ in_front [] rest
+none_before None = refl
+none_before (Some more) = refl
+
+plus_ends : (edit rest : List (List ℕ)) (word : List ℕ) → bytes_eq word (codes "+") ≡ true
+    → lines_from edit (word ∷ rest) ≡ with_line (line_of edit) (lines_from [] rest)
+unfolding lines_from
+plus_ends edit rest word is = rw is refl
+
+word_adds : (edit rest : List (List ℕ)) (word : List ℕ) → bytes_eq word (codes "+") ≡ false
+    → lines_from edit (word ∷ rest) ≡ lines_from (edit ++ word ∷ []) rest
+unfolding lines_from
+word_adds edit rest word is = rw is refl
+
+-- a `+` ends an edit
+pub plus_read : (added : Bool) (lines new : List WordedLine) (edit more : List (List ℕ)) (word : List ℕ) → bytes_eq word (codes "+") ≡ true
+    → more ≡ [] → AddsLine added lines edit new → IsWordRead added lines edit word new more
+plus_read true lines new edit more word is none h = λ rest.
+    ap (in_front lines) (plus_ends edit rest word is ∙ ap (λ o. with_line o (lines_from [] rest)) h.1)
+    ∙ (one_more lines h.0 (lines_from [] rest) ∙ (ap (λ ls. in_front ls (lines_from [] rest)) (sym h.2)
+    ∙ ap (λ ws. in_front new (lines_from ws rest)) (sym none)))
+plus_read false lines new edit more word is none h = λ rest.
+    ap (in_front lines) (plus_ends edit rest word is ∙ ap (λ o. with_line o (lines_from [] rest)) h)
+
+-- any other word is one of the edit
+pub word_read : (lines new : List WordedLine) (edit more : List (List ℕ)) (word : List ℕ) → bytes_eq word (codes "+") ≡ false
+    → new ≡ lines → more ≡ edit ++ word ∷ [] → IsWordRead true lines edit word new more
+word_read lines new edit more word is same added = λ rest.
+    ap (in_front lines) (word_adds edit rest word is ∙ ap (λ ws. lines_from ws rest) (sym added))
+    ∙ ap (λ ls. in_front ls (lines_from more rest)) (sym same)
+
+-- the words from the next one on
+texts_from : (words : List (Bor (List ℕ))) (i : ℕ) (word : Bor (List ℕ)) → i < length words → get_or words i word ≡ word
+    → texts_of (drop i words) ≡ word.now ∷ texts_of (drop (i + 1) words)
+texts_from words i word lt is =
+    ap texts_of (drop-cons words i word lt ∙ (ap (λ x. x ∷ drop (suc i) words) is ∙ ap (λ k. word ∷ drop k words) (suc_plus i)))
+  where
+    suc_plus : (k : ℕ) → suc k ≡ k + 1
+    suc_plus k = omega arith
+
+pub words_next : (words : List (Bor (List ℕ))) (i : ℕ) (word : Bor (List ℕ)) (all : Option (List WordedLine)) (lines new : List WordedLine)
+    (edit more : List (List ℕ)) → i < length words → get_or words i word ≡ word → IsWordRead true lines edit word.now new more
+    → all ≡ in_front lines (lines_from edit (texts_of (drop i words))) → all ≡ in_front new (lines_from more (texts_of (drop (i + 1) words)))
+words_next words i word all lines new edit more lt is read h =
+    h ∙ (ap (λ ws. in_front lines (lines_from edit ws)) (texts_from words i word lt is) ∙ read (texts_of (drop (i + 1) words)))
+
+pub words_wrong : (words : List (Bor (List ℕ))) (i : ℕ) (word : Bor (List ℕ)) (all : Option (List WordedLine)) (lines new : List WordedLine)
+    (edit more : List (List ℕ)) → i < length words → get_or words i word ≡ word → IsWordRead false lines edit word.now new more
+    → all ≡ in_front lines (lines_from edit (texts_of (drop i words))) → None ≡ all
+words_wrong words i word all lines new edit more lt is read h =
+    sym (h ∙ (ap (λ ws. in_front lines (lines_from edit ws)) (texts_from words i word lt is) ∙ read (texts_of (drop (i + 1) words))))
+
+-- the last edit
+ends : (words : List (Bor (List ℕ))) (i : ℕ) (all : Option (List WordedLine)) (lines : List WordedLine) (edit : List (List ℕ)) → length words ≤ i
+    → all ≡ in_front lines (lines_from edit (texts_of (drop i words))) → all ≡ in_front lines (with_line (line_of edit) (Some []))
+unfolding lines_from
+ends words i all lines edit le h = h ∙ ap (λ (ws : List (Bor (List ℕ))). in_front lines (lines_from edit (texts_of ws))) (drop_all words i le)
+
+pub last_line : (words : List (Bor (List ℕ))) (i : ℕ) (all : Option (List WordedLine)) (lines new : List WordedLine) (edit : List (List ℕ))
+    → length words ≤ i → all ≡ in_front lines (lines_from edit (texts_of (drop i words))) → AddsLine true lines edit new → Some new ≡ all
+last_line words i all lines new edit le h added =
+    sym (ends words i all lines edit le h ∙ (ap (λ o. in_front lines (with_line o (Some []))) added.1 ∙ ap Some (sym added.2)))
+
+pub last_wrong : (words : List (Bor (List ℕ))) (i : ℕ) (all : Option (List WordedLine)) (lines new : List WordedLine) (edit : List (List ℕ))
+    → length words ≤ i → all ≡ in_front lines (lines_from edit (texts_of (drop i words))) → AddsLine false lines edit new → None ≡ all
+last_wrong words i all lines new edit le h none =
+    sym (ends words i all lines edit le h ∙ ap (λ o. in_front lines (with_line o (Some []))) none)

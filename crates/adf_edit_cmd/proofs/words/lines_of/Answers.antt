@@ -1,0 +1,12 @@
+use Rattle.std.proofs.Common.{◌≡◌, get_or, arith}
+use Rattle.std.proofs.lemmas.Grind.{common_steps}
+use Rattle.adf_edit_cmd.proofs.WordLines.{words_next, none_before}
+use Rattle.adf_edit_cmd.proofs.words.lines_of.Goals as goal
+
+pub loop-word-init : goal.loop-word-init
+loop-word-init c = none_before _
+
+pub loop-word-preserved : goal.loop-word-preserved
+loop-word-preserved c =
+    let is : get_or c.args.words.now c.loop-word.word-index c.word-item.result ≡ c.word-item.result = grind (arith, common_steps) in
+    words_next c.args.words.now c.loop-word.word-index c.word-item.result _ _ _ _ _ (omega arith) is ? c.loop-word.invariant
