@@ -52,15 +52,18 @@ texts_from words i word lt is =
     suc_plus k = omega arith
 
 pub words_next : (words : List (Bor (List ℕ))) (i : ℕ) (word : Bor (List ℕ)) (all : Option (List WordedLine)) (lines new : List WordedLine)
-    (edit more : List (List ℕ)) → i < length words → get_or words i word ≡ word → IsWordRead true lines edit word.now new more
-    → all ≡ in_front lines (lines_from edit (texts_of (drop i words))) → all ≡ in_front new (lines_from more (texts_of (drop (i + 1) words)))
-words_next words i word all lines new edit more lt is read h =
+    (edit more : List (List ℕ)) (goes_on : Bool) → i < length words → get_or words i word ≡ word → goes_on ≡ true
+    → IsWordRead goes_on lines edit word.now new more → all ≡ in_front lines (lines_from edit (texts_of (drop i words)))
+    → all ≡ in_front new (lines_from more (texts_of (drop (i + 1) words)))
+words_next words i word all lines new edit more false lt is yes read h = cc
+words_next words i word all lines new edit more true lt is yes read h =
     h ∙ (ap (λ ws. in_front lines (lines_from edit ws)) (texts_from words i word lt is) ∙ read (texts_of (drop (i + 1) words)))
 
 pub words_wrong : (words : List (Bor (List ℕ))) (i : ℕ) (word : Bor (List ℕ)) (all : Option (List WordedLine)) (lines new : List WordedLine)
-    (edit more : List (List ℕ)) → i < length words → get_or words i word ≡ word → IsWordRead false lines edit word.now new more
-    → all ≡ in_front lines (lines_from edit (texts_of (drop i words))) → None ≡ all
-words_wrong words i word all lines new edit more lt is read h =
+    (edit more : List (List ℕ)) (goes_on : Bool) → i < length words → get_or words i word ≡ word → goes_on ≡ false
+    → IsWordRead goes_on lines edit word.now new more → all ≡ in_front lines (lines_from edit (texts_of (drop i words))) → None ≡ all
+words_wrong words i word all lines new edit more true lt is no read h = cc
+words_wrong words i word all lines new edit more false lt is no read h =
     sym (h ∙ (ap (λ ws. in_front lines (lines_from edit ws)) (texts_from words i word lt is) ∙ read (texts_of (drop (i + 1) words))))
 
 -- the last edit
@@ -70,11 +73,15 @@ unfolding lines_from
 ends words i all lines edit le h = h ∙ ap (λ (ws : List (Bor (List ℕ))). in_front lines (lines_from edit (texts_of ws))) (drop_all words i le)
 
 pub last_line : (words : List (Bor (List ℕ))) (i : ℕ) (all : Option (List WordedLine)) (lines new : List WordedLine) (edit : List (List ℕ))
-    → length words ≤ i → all ≡ in_front lines (lines_from edit (texts_of (drop i words))) → AddsLine true lines edit new → Some new ≡ all
-last_line words i all lines new edit le h added =
+    (adds : Bool) → length words ≤ i → all ≡ in_front lines (lines_from edit (texts_of (drop i words))) → adds ≡ true → AddsLine adds lines edit new
+    → Some new ≡ all
+last_line words i all lines new edit false le h yes added = cc
+last_line words i all lines new edit true le h yes added =
     sym (ends words i all lines edit le h ∙ (ap (λ o. in_front lines (with_line o (Some []))) added.1 ∙ ap Some (sym added.2)))
 
 pub last_wrong : (words : List (Bor (List ℕ))) (i : ℕ) (all : Option (List WordedLine)) (lines new : List WordedLine) (edit : List (List ℕ))
-    → length words ≤ i → all ≡ in_front lines (lines_from edit (texts_of (drop i words))) → AddsLine false lines edit new → None ≡ all
-last_wrong words i all lines new edit le h none =
+    (adds : Bool) → length words ≤ i → all ≡ in_front lines (lines_from edit (texts_of (drop i words))) → adds ≡ false → AddsLine adds lines edit new
+    → None ≡ all
+last_wrong words i all lines new edit true le h no none = cc
+last_wrong words i all lines new edit false le h no none =
     sym (ends words i all lines edit le h ∙ ap (λ o. in_front lines (with_line o (Some []))) none)
