@@ -16,25 +16,30 @@ known_read None left n bytes same h = tt
 known_read (Some all) left n bytes same h = subst (λ (o : Option (List ℕ)). AreFirst n o bytes) same h
 
 -- a line without a host file
-pub plain_taken : (bytes_of : List ℕ → Option (List ℕ)) (line : WordedLine) (script given new more : List ℕ) → line.host ≡ None
-    → new ≡ script ++ (line.text ++ ([] ++ codes "\n")) → more ≡ given ++ [] → IsLineTaken bytes_of line script given new more
-plain_taken bytes_of line script given new more none s g =
-    ([], subst (λ h. TakesHost bytes_of h []) (sym none) refl, s ∙ ap (λ h. script ++ (line.text ++ line_end_of h [])) (sym none), g)
-
--- a line with one
-pub host_taken : (bytes_of : List ℕ → Option (List ℕ)) (line : WordedLine) (host end bytes script given new more : List ℕ) → line.host ≡ Some host
-    → AreRead bytes_of host bytes → end ≡ decimal (length bytes) → new ≡ script ++ (line.text ++ (end ++ codes "\n")) → more ≡ given ++ bytes
-    → IsLineTaken bytes_of line script given new more
-host_taken bytes_of line host end bytes script given new more some read size s g = (
-    bytes,
-    subst (λ h. TakesHost bytes_of h bytes) (sym some) read,
-    s ∙ (ap (λ e. script ++ (line.text ++ (e ++ codes "\n"))) size ∙ ap (λ h. script ++ (line.text ++ line_end_of h bytes)) (sym some)),
+pub plain_taken : (bytes_of : List ℕ → Option (List ℕ)) (line : WordedLine) (text script given new more : List ℕ) → line.host ≡ None
+    → text ≡ line.text → new ≡ script ++ (text ++ codes "\n") → more ≡ given ++ [] → IsLineTaken bytes_of line script given new more
+plain_taken bytes_of line text script given new more none same s g = (
+    [],
+    subst (λ h. TakesHost bytes_of h []) (sym none) refl,
+    s ∙ (ap (λ t. script ++ (t ++ codes "\n")) same ∙ ap (λ h. script ++ (line.text ++ line_end_of h [])) (sym none)),
     g,
   )
 
-pub taken_none : (bytes_of : List ℕ → Option (List ℕ)) → AreTaken bytes_of [] [] []
+-- a line with one
+pub host_taken : (bytes_of : List ℕ → Option (List ℕ)) (line : WordedLine) (text host end bytes part script given new more : List ℕ)
+    → line.host ≡ Some host → text ≡ line.text → AreRead bytes_of host bytes → end ≡ decimal (length bytes) → part ≡ bytes
+    → new ≡ script ++ (text ++ (end ++ codes "\n")) → more ≡ given ++ part → IsLineTaken bytes_of line script given new more
+host_taken bytes_of line text host end bytes part script given new more some same read size all s g = (
+    bytes,
+    subst (λ h. TakesHost bytes_of h bytes) (sym some) read,
+    s ∙ (ap (λ t. script ++ (t ++ (end ++ codes "\n"))) same ∙ (ap (λ e. script ++ (line.text ++ (e ++ codes "\n"))) size
+    ∙ ap (λ h. script ++ (line.text ++ line_end_of h bytes)) (sym some))),
+    g ∙ ap (λ b. given ++ b) all,
+  )
+
+pub taken_none : (bytes_of : List ℕ → Option (List ℕ)) (script given : List ℕ) → script ≡ [] → given ≡ [] → AreTaken bytes_of [] script given
 unfolding AreTaken
-taken_none bytes_of = (refl, refl)
+taken_none bytes_of script given s g = (s, g)
 
 taken_more : (bytes_of : List ℕ → Option (List ℕ)) (lines : List WordedLine) (line : WordedLine) (script given bytes : List ℕ)
     → AreTaken bytes_of lines script given → TakesHost bytes_of line.host bytes

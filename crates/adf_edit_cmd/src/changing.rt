@@ -47,7 +47,6 @@ struct Taken {
 }
 
 // Reads the file of a name.
-#[tactic(auto, using(crate::proofs::TakenLines::known_read))]
 fn read_file<'a, F: Files>(alloc: Global, files: &F, name: &'a str) -> Result<Vec<u8>, NoChange<'a>>
     ensures read { IfOk result (λ bytes. AreRead (F.bytes_of files.now) name.now bytes.items) }
     ensures fault { IfErr result (IsFileFault (known_files F.bytes_of F.may_fail F.may_open files.now)) }
@@ -76,7 +75,6 @@ fn push_line(taken: &mut Taken, text: &str, end: &str, bytes: &[u8]) -> Result<(
 }
 
 // Appends a line, and the bytes of its host file.
-#[tactic(auto, using(crate::proofs::TakenLines::plain_taken, crate::proofs::TakenLines::host_taken))]
 fn take_line<'a, F: Files>(
     alloc: Global,
     files: &F,
@@ -202,7 +200,6 @@ fn tell_no_change<E: Sink>(alloc: Global, why: NoChange<'_>, errors: &mut E) -> 
 
 /// Replaces the target of an order by the image that its edits make, and returns the status: 0 if that is done, 1 if the edits
 /// cannot be applied, 3 if a file or an allocation failed. If it is not 0, each file is as it was, and errors say why.
-#[tactic(auto, using(crate::proofs::TakenLines::target_replaced))]
 pub fn change_disk<F: ChangeFiles, E: Sink>(
     alloc: Global,
     order: &Order<'_>,

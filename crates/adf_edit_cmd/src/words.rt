@@ -130,16 +130,18 @@ fn line_of_host<'a>(
 }
 
 // The line of an edit.
+#[tactic(auto, using(crate::proofs::WordLines::no_line))]
 fn line_of<'a>(alloc: Global, edit: &[&'a str]) -> Result<Option<Line<'a>>, AllocError>
     ensures { IfOk result (λ line. line ≡ line_of (texts_of edit.now)) }
 {
     match edit {
-        [] | [_] | [_, _, _, _, ..] => Ok(None),
+        [] | [_] => Ok(None),
         [verb, text] => line_of_one(alloc, verb, text),
         [verb, first, second] => match line_of_two(alloc, verb, first, second)? {
             Some(line) => Ok(Some(line)),
             None => line_of_host(alloc, verb, first, second),
         },
+        [_, _, _, _, ..] => Ok(None),
     }
 }
 
@@ -187,7 +189,7 @@ fn read_word<'a>(
 }
 
 // The lines of edits with `+` between them; `None` if an edit has none.
-#[tactic(auto, using(crate::proofs::WordLines::last_line, crate::proofs::WordLines::last_wrong))]
+#[tactic(auto, using(crate::proofs::WordLines::words_wrong, crate::proofs::WordLines::last_line, crate::proofs::WordLines::last_wrong))]
 fn lines_of<'a>(
     alloc: Global,
     words: &'a [&'a str],

@@ -4,7 +4,7 @@ use Rattle.adf_edit_cmd.proofs.TakenLines.{taken_next, taken_none}
 use Rattle.adf_edit_cmd.proofs.changing.take_lines.Goals as goal
 
 pub loop-line-init : goal.loop-line-init
-loop-line-init g c = taken_none (g.F.Files.bytes_of c.args.files.now)
+loop-line-init g c = taken_none (g.F.Files.bytes_of c.args.files.now) _ _ c.new.ensures.items c.new-2.ensures.items
 
 pub loop-line-preserved : goal.loop-line-preserved
 loop-line-preserved g c =

@@ -1,13 +1,11 @@
-use Rattle.std.proofs.Common.{◌≡◌, get_or, arith, rules}
-use Rattle.std.proofs.lemmas.Grind.{common_steps}
-use Rattle.adf_edit_cmd.proofs.WordLines.{last_line, last_wrong, none_before, words_next, words_wrong}
+use Rattle.std.proofs.Common.{arith}
+use Rattle.adf_edit_cmd.proofs.WordLines.{none_read, words_next}
 use Rattle.adf_edit_cmd.proofs.words.lines_of.Goals as goal
 
 pub loop-word-init : goal.loop-word-init
-loop-word-init c = none_before _
+loop-word-init c = none_read _ _ _ c.new.ensures.items c.new-2.ensures.items
 
 pub loop-word-preserved : goal.loop-word-preserved
 loop-word-preserved c =
-    let is : get_or c.args.words.now c.loop-word.word-index c.word-item.result ≡ c.word-item.result = grind (arith, common_steps) in
-    words_next c.args.words.now c.loop-word.word-index c.word-item.result _ _ _ _ _ _ (omega arith) is (search rules) c.in_ok-read_word.ensures
-    c.loop-word.invariant
+    words_next c.args.words.now c.loop-word.word-index _ _ _ _ _ _ c.in_ok-read_word.field-0 (omega arith) c.if-not-branch.false
+    c.in_ok-read_word.ensures c.loop-word.invariant
