@@ -1,6 +1,6 @@
 -- Lines of words. lines are those of the edits before; edit are the words of the next one, as far as they were read.
-use Rattle.std.proofs.Common.{◌≡◌, ◌<◌, ◌≤◌, ◌+◌, ℕ, suc, List, [], ◌∷◌, ◌++◌, ◌≢◌, Bool, Option, Some, None, option_map, codes, length, map, drop, get_or, true, false}
-use Rattle.std.proofs.Common.{ap, refl, sym, arith, append_assoc, ◌∙◌, subst}
+use Rattle.std.proofs.Common.{◌≡◌, ◌<◌, ◌≤◌, ◌+◌, ℕ, suc, List, [], ◌∷◌, ◌++◌, ◌≢◌, Bool, Option, Some, None, codes, length, drop, get_or, true, false}
+use Rattle.std.proofs.Common.{ap, refl, sym, arith, append_assoc, ◌∙◌}
 use Rattle.std.proofs.{Math.Seq.drop-cons, lemmas.List.drop_all}
 use Rattle.std.specs.{Borrow.Bor, Str.bytes_eq}
 use Rattle.adf_words.specs.CommandLine.{texts_of}

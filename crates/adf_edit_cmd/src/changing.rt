@@ -116,7 +116,11 @@ fn take_lines<'a, F: Files>(
 }
 
 // The input that an order stands for.
-fn input_of<'a, F: Files>(alloc: Global, files: &F, order: &Order<'a>) -> Result<Vec<u8>, NoChange<'a>>
+fn input_of<'a, F: Files>(
+    alloc: Global,
+    files: &F,
+    order: &Order<'a>,
+) -> Result<Vec<u8>, NoChange<'a>>
     ensures input { IfOk result (λ input. IsInputOf (F.bytes_of files.now) order.now input.items) }
     ensures fault { IfErr result (IsFileFault (known_files F.bytes_of F.may_fail F.may_open files.now)) }
 {

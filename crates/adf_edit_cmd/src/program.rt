@@ -14,7 +14,9 @@ use crate::stop::Stop;
 use crate::words::order_of;
 use adf_file_changes::{ChangeFiles, Changing, ChangingProgram};
 use adf_file_runs::About;
-use adf_runs::{Outcome, Program, Sink, Source, WorkFault, read_input, run_program, say, write_all};
+use adf_runs::{
+    Outcome, Program, Sink, Source, WorkFault, read_input, run_program, say, write_all,
+};
 use std::alloc::Global;
 
 /// The most bytes of an input: 2^40.

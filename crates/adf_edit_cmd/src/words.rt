@@ -190,10 +190,7 @@ fn read_word<'a>(
 
 // The lines of edits with `+` between them; `None` if an edit has none.
 #[tactic(auto, using(crate::proofs::WordLines::words_wrong, crate::proofs::WordLines::last_line, crate::proofs::WordLines::last_wrong))]
-fn lines_of<'a>(
-    alloc: Global,
-    words: &'a [&'a str],
-) -> Result<Option<Vec<Line<'a>>>, AllocError>
+fn lines_of<'a>(alloc: Global, words: &'a [&'a str]) -> Result<Option<Vec<Line<'a>>>, AllocError>
     ensures { IfOk result (λ lines. option_map (λ ls. ls.items) lines ≡ lines_from [] (texts_of words.now)) }
 {
     let mut reading = Reading {
@@ -263,10 +260,7 @@ fn order_on<'a>(
 }
 
 /// What words ask for, behind the name of the program: `[-o NEW] IMAGE EDIT [+ EDIT]..`; `None` if they are refused.
-pub fn order_of<'a>(
-    alloc: Global,
-    words: &'a [&'a str],
-) -> Result<Option<Order<'a>>, AllocError>
+pub fn order_of<'a>(alloc: Global, words: &'a [&'a str]) -> Result<Option<Order<'a>>, AllocError>
     ensures { IfOk result (λ order. order ≡ order_of (texts_of words.now)) }
 {
     match words {

@@ -1,4 +1,4 @@
-use Rattle.std.proofs.Common.{◌≡◌, ◌∙◌, ℕ, List, None, Some, ap, arith, decimal, length}
+use Rattle.std.proofs.Common.{◌≡◌, ◌∙◌, None, Some, ap, arith, decimal, length}
 use Rattle.std.proofs.lemmas.Grind.{common_steps}
 use Rattle.adf_edit_cmd.specs.Words.{WordedLine}
 use Rattle.adf_edit_cmd.proofs.TakenLines.{host_taken, plain_taken}

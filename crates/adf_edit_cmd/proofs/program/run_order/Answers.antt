@@ -1,4 +1,4 @@
-use Rattle.std.proofs.Common.{◌≡◌, List, None, arith, refl}
+use Rattle.std.proofs.Common.{◌≡◌, None, arith, refl}
 use Rattle.std.proofs.lemmas.Grind.{common_steps}
 use Rattle.adf_edit_cmd.specs.{Changing.order_usage, Words.order_of}
 use Rattle.adf_edit_cmd.proofs.OrderedRuns.{words_refused}
