@@ -65,7 +65,12 @@ _adf_files() {
     esac
     case $1:$2 in
         adf-mount:-*) COMPREPLY=($(compgen -W "--partition --damaged --blocks --strict -f -o -h --help -V --version" -- "$2")) ;;
-        adf-edit:-*) COMPREPLY=($(compgen -W "--help --version" -- "$2")) ;;
+        adf-edit:-*) COMPREPLY=($(compgen -W "-o --help --version" -- "$2")) ;;
+        adf-edit:*)
+            if [[ $3 == + ]] || ((COMP_CWORD == 2)); then
+                COMPREPLY=($(compgen -W "put replace remove move dir note protect date label letters" -- "$2"))
+            fi
+            ;;
         adf-merge:-*) COMPREPLY=($(compgen -W "--help --version" -- "$2")) ;;
         adf-shelf:-*) COMPREPLY=($(compgen -W "--null --any-type --json --help --version" -- "$2")) ;;
         adf-catalogue:-*) COMPREPLY=($(compgen -W "--tsv --rescue --fresh --escape --index-text --dat -h --help --version" -- "$2")) ;;

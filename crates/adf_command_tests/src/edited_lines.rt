@@ -3,6 +3,7 @@
 
 use adf_build::build;
 use adf_edit_cmd::{Stop, new_image};
+use adf_edits::EditFault;
 use adf_tree::{Kind, Label, NO_STAMPS, Tree};
 use std::alloc::Global;
 
@@ -29,6 +30,7 @@ const BAD: &[(&[u8], usize)] = &[
     (b"dir a\nprotect a\nend\n", 2),
     (b"dir a\ndate a\nend\n", 2),
     (b"file a\nend\n", 1),
+    (b"file a:0\nreplace a\nend\n", 2),
 ];
 
 #[test]
@@ -45,6 +47,23 @@ fn bytes_of_files_are_counted(rt: HostRuntime) {
     let made = image_by(rt.alloc(), script).expect(&rt, "a volume");
     let (need, have) = (8200, 8192);
     assert_eq!(rt; made.err(), Some(Stop::Short { need, have }));
+}
+
+// The script, and why its last line cannot be applied.
+const NOT_REPLACED: &[(&[u8], Stop)] = &[
+    (b"replace a:0\nend\n", Stop::Line(1, EditFault::NoSuchPath)),
+    (
+        b"dir a\nreplace A:0\nend\n",
+        Stop::Line(2, EditFault::NotAFile),
+    ),
+];
+
+#[test]
+fn only_files_are_replaced(rt: HostRuntime) {
+    for (script, stop) in NOT_REPLACED {
+        let made = image_by(rt.alloc(), script).expect(&rt, "a volume");
+        assert_eq!(rt; made.err(), Some(*stop));
+    }
 }
 
 // A byte of an image; 255 past its end.
@@ -71,6 +90,21 @@ const MADE: &[(&[u8], u8, u8)] = &[
     (b"dir a\nlabel W\nend\n", 1, 0),
     (b"dir a\nnote a::\nlabel \nend\n", 0, 1),
 ];
+
+// The bytes of the files stand behind the script: `x`, then `yz`.
+const REPLACED: &[u8] = b"file a:1\nprotect a:0000000f\nnote a:abc\nreplace A:2\nend\nxyz";
+
+#[test]
+fn a_replaced_file_keeps_the_rest(rt: HostRuntime) {
+    let made = image_by(rt.alloc(), REPLACED).expect(&rt, "a volume");
+    let image = made.ok().expect(&rt, "an image");
+    let header = usize::from(byte_at(&image, ROOT + 4 * 12 + 3)) * 512;
+    assert_eq!(rt; byte_at(&image, header + 4 * 80 + 3), 15);
+    assert_eq!(rt; byte_at(&image, header + 4 * 81 + 3), 2);
+    assert_eq!(rt; text_lengths(&image), (4, 3));
+    let data = usize::from(byte_at(&image, header + 4 * 4 + 3)) * 512;
+    assert_eq!(rt; (byte_at(&image, data + 24), byte_at(&image, data + 25)), (b'y', b'z'));
+}
 
 #[test]
 fn empty_texts_are_set(rt: HostRuntime) {

@@ -1,10 +1,10 @@
-//! The tree of an Amiga volume, changed by a script and laid anew.
+//! The tree of an Amiga volume, changed by edits and laid anew.
 #![tactic(auto)]
 
 use adf_edit_cmd::Work;
-use adf_file_runs::main_of;
+use adf_file_changes::main_of_changing;
 use std::process::ExitCode;
 
 fn main(rt: HostRuntime) -> ExitCode {
-    main_of::<Work>(&rt)
+    main_of_changing::<Work>(&rt)
 }

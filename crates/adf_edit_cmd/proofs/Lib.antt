@@ -2,3 +2,6 @@ pub mod ScriptLines
 pub mod Scripts
 pub mod EditSteps
 pub mod AnswerLaws
+pub mod WordLines
+pub mod TakenLines
+pub mod OrderedRuns

@@ -14,12 +14,12 @@ Edits input reply =
 abbrev pub EditAnswer : List ℕ → Reply → Type 0
 EditAnswer input reply = Edits (take MOST_INPUT_BYTES input) reply
 
--- what errors get where there are words
+-- what errors get where words are refused
 abbrev pub edit_usage : List ℕ
 edit_usage =
-    codes "usage: adf-edit < INPUT > IMAGE\na script, the bytes of its files and an image come on standard input; man adf-edit tells more\n"
+    codes "usage: adf-edit [-o NEW] IMAGE EDIT [+ EDIT]..\n       adf-edit < INPUT > IMAGE\nman adf-edit tells more\n"
 
--- the command `adf-edit`, whose only word is its name
+-- the command `adf-edit` over an input, whose only word is its name
 abbrev pub edit_command : Command (List (List ℕ))
 edit_command = record {
   Request = Unit {0};

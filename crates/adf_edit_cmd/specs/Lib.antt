@@ -2,5 +2,7 @@
 pub mod Lines
 pub mod Script
 pub mod Edited
+pub mod Words
+pub mod Changing
 pub mod Answers
 pub mod Stops

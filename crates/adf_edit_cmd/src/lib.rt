@@ -1,11 +1,13 @@
 //! The command `adf-edit`: a script changes the tree of an image, which is laid anew.
 #![tactic(auto)]
 
+mod changing;
 mod editing;
 mod lines;
 mod program;
 mod script;
 mod stop;
+mod words;
 
 pub use crate::editing::new_image;
 pub use crate::program::{MOST_INPUT_BYTES, Work, run};

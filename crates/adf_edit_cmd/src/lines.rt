@@ -67,6 +67,13 @@ fn cut_at(text: &[u8], byte: u8) -> Option<(&[u8], &[u8])>
     }
 }
 
+/// Whether a byte of this value stands in a text.
+pub fn has_byte(text: &[u8], byte: u8) -> bool
+    ensures { result ≡ has_byte byte text.now }
+{
+    cut_at(text, byte).is_some()
+}
+
 // PATH
 #[tactic(auto, using(crate::proofs::ScriptLines::no_remove))]
 fn read_remove(alloc: Global, text: &[u8]) -> Result<Edit, PathFault>

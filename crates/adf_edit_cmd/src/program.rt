@@ -1,31 +1,52 @@
-// The program: its only word is its name. It reads an input, and writes a new image.
+// The program: with no word but its name it reads an input and writes a new image, with others it changes a disk.
 
 ghost use Rattle.std.specs.Prelude.{◌≡◌, ◌++◌, List, Option, codes, false, ℕ};
 ghost use Rattle.adf_edit_cmd.specs.{Answers.Edits, Answers.edit_command, Edited.StopsInput, Stops.stop_text};
 ghost use Rattle.adf_runs.specs.Commands.{IsUnanswered, RunEnds, TakesEnough, on_errors, on_output};
 ghost use Rattle.adf_runs.specs.{Outcomes.Blames, Outcomes.Does, Outcomes.DoesSilently, Outcomes.EndsBy, Streams.seen};
 ghost use Rattle.adf_words.specs.CommandLine.{texts_of};
+ghost use Rattle.adf_edit_cmd.specs.{Changing.EditEnds, Changing.OrderedEnds, Words.order_asked};
+ghost use Rattle.adf_file_runs.specs.FileRuns.{known_files};
 
+use crate::changing::change_disk;
 use crate::editing::new_image;
 use crate::stop::Stop;
-use adf_file_runs::{About, Files, Invocation, SystemProgram};
-use adf_runs::{Outcome, Program, Sink, Source, WorkFault, read_input, run_program, write_all};
+use crate::words::order_asked;
+use adf_file_changes::{ChangeFiles, Changing, ChangingProgram};
+use adf_file_runs::About;
+use adf_runs::{
+    Outcome, Program, Sink, Source, WorkFault, read_input, run_program, say, write_all,
+};
 use std::alloc::Global;
 
 /// The most bytes of an input: 2^40.
 pub const MOST_INPUT_BYTES: usize = 1 << 40;
 
 /// What is said of words that are refused.
-const USAGE: &str = "usage: adf-edit < INPUT > IMAGE\n\
-    a script, the bytes of its files and an image come on standard input; man adf-edit tells more\n";
+const USAGE: &str = "usage: adf-edit [-o NEW] IMAGE EDIT [+ EDIT]..\n\
+    \x20      adf-edit < INPUT > IMAGE\n\
+    man adf-edit tells more\n";
 
 /// What the program tells of itself.
 const ABOUT: About = About {
     name: "adf-edit",
     help: "Removes, moves, adds and changes entries of an Amiga volume, and lays its tree anew.\n\n\
-    usage: adf-edit < INPUT > IMAGE\n\
+    usage: adf-edit [-o NEW] IMAGE EDIT [+ EDIT]..\n\
+    \x20      adf-edit < INPUT > IMAGE\n\
     \x20      adf-edit --help, adf-edit --version\n\n\
-    The input is a script, whose last line is `end`, then the bytes of its files, then the image.\n\
+    An EDIT is one of:\n\
+    \x20 put HOST PATH        add a file with the bytes of the file HOST\n\
+    \x20 replace HOST PATH    give a file the bytes of HOST\n\
+    \x20 remove PATH          remove a file, or an empty directory\n\
+    \x20 move PATH NEW        give an entry another path\n\
+    \x20 dir PATH             add a directory\n\
+    \x20 note PATH TEXT       set a comment\n\
+    \x20 protect PATH WORD    set a protection, as 0000000f\n\
+    \x20 date PATH DATE       set a date\n\
+    \x20 label TEXT           set the label\n\
+    \x20 letters KIND         make it `international` or `ascii`; the last one\n\n\
+    The new disk takes the place of IMAGE, or of NEW, at once or not at all.\n\
+    INPUT is a script, whose last line is `end`, then the bytes of its files, then the image.\n\
     man adf-edit tells more.\n",
     waits: None,
 };
@@ -152,20 +173,50 @@ pub fn run<R: Source, W: Sink, E: Sink>(
     run_program::<Work, R, W, E>(alloc, words, input, output, errors)
 }
 
-impl SystemProgram for Work {
-    ghost ends = { λ words files. RunEnds edit_command words };
+// Does what words behind the name of the program ask for, and returns the status.
+#[tactic(auto, using(crate::proofs::OrderedRuns::words_refused, crate::proofs::OrderedRuns::no_memory))]
+fn run_order<F: ChangeFiles, E: Sink>(
+    alloc: Global,
+    words: &[&str],
+    files: &mut F,
+    errors: &mut E,
+) -> u8
+    requires { E.has_failed errors.old ≡ false }
+    ensures { OrderedEnds (order_asked (texts_of words.now))
+        (known_files F.Files.bytes_of F.Files.may_fail F.Files.may_open files.old) (F.Files.bytes_of files.new)
+        result (seen E.held E.has_failed errors.old errors.new) }
+{
+    match order_asked(alloc, words) {
+        Ok(Some(order)) => change_disk(alloc, &order, files, errors),
+        Ok(None) => {
+            say(errors, USAGE.as_bytes());
+            2
+        }
+        Err(_) => {
+            say(errors, b"no memory\n");
+            3
+        }
+    }
+}
+
+impl ChangingProgram for Work {
+    ghost ends = { EditEnds };
 
     fn about() -> About {
         ABOUT
     }
 
-    fn start<F: Files, R: Source, W: Sink, E: Sink>(
+    fn start<F: ChangeFiles, R: Source, W: Sink, E: Sink>(
         alloc: Global,
-        asked: &Invocation<'_, F>,
+        asked: &mut Changing<'_, F>,
         input: &mut R,
         output: &mut W,
         errors: &mut E,
     ) -> u8 {
-        run(alloc, asked.words, input, output, errors)
+        let words = asked.words;
+        match words {
+            [_, _, ..] => run_order(alloc, &words[1..], &mut asked.files, errors),
+            _ => run(alloc, words, input, output, errors),
+        }
     }
 }

@@ -1,0 +1,225 @@
+// A disk that is changed in its place, or into a new file.
+
+ghost use Rattle.std.specs.Prelude.{◌≡◌, ◌++◌, ℕ, List, codes, false, IfErr, IfOk, OnOk, string_bytes};
+ghost use Rattle.adf_edit_cmd.specs.Changing.{AreRead, AreTaken, IsFileFault, IsInputOf, IsLineTaken, IsNoChange, IsNoChangeTold, OrderEnds};
+ghost use Rattle.adf_edit_cmd.specs.{Changing.IsStopTold, Changing.change_stop_line};
+ghost use Rattle.adf_edit_cmd.specs.{Edited.IsEdited};
+ghost use Rattle.adf_file_runs.specs.FileRuns.{known_files};
+ghost use Rattle.adf_runs.specs.Streams.{seen};
+
+use crate::editing::new_image;
+use crate::program::MOST_INPUT_BYTES;
+use crate::stop::Stop;
+use crate::words::{Line, Order};
+use adf_file_changes::{ChangeFiles, refuse_change};
+use adf_file_runs::{Files, Unopened, refuse_file};
+use adf_runs::{Sink, StreamFault, read_all, say};
+use std::alloc::{AllocError, Global};
+
+/// Why there is no new image.
+#[derive(Drop)]
+pub enum NoChange<'a> {
+    /// The file of this name was not opened.
+    Unopened(&'a str, Unopened),
+    /// A file could not be read.
+    ReadFault,
+    /// An allocation failed.
+    NoMemory,
+    /// The edits cannot be applied.
+    Edits(Stop),
+}
+
+impl<'a> From<AllocError> for NoChange<'a> {
+    ghost use Rattle.adf_edit_cmd.specs.declared.changing.NoChange.TheVariants.{NoMemory};
+
+    ghost from_gives = { λ _ f. f ≡ NoMemory };
+
+    fn from(_e: AllocError) -> NoChange<'a> {
+        NoChange::NoMemory
+    }
+}
+
+/// The lines of a script, and the bytes of their host files.
+#[derive(Drop)]
+struct Taken {
+    script: Vec<u8>,
+    given: Vec<u8>,
+}
+
+// Reads the file of a name.
+fn read_file<'a, F: Files>(alloc: Global, files: &F, name: &'a str) -> Result<Vec<u8>, NoChange<'a>>
+    ensures read { IfOk result (λ bytes. AreRead (F.bytes_of files.now) name.now bytes.items) }
+    ensures fault { IfErr result (IsFileFault (known_files F.bytes_of F.may_fail F.may_open files.now)) }
+{
+    let mut source = match files.open(name.as_bytes()) {
+        Ok(source) => source,
+        Err(why) => return Err(NoChange::Unopened(name, why)),
+    };
+    match read_all(alloc, &mut source, MOST_INPUT_BYTES) {
+        Ok(bytes) => Ok(bytes),
+        Err(StreamFault::Device) => Err(NoChange::ReadFault),
+        Err(StreamFault::NoMemory) => Err(NoChange::NoMemory),
+    }
+}
+
+// Appends a line with this end, and these bytes.
+fn push_line(taken: &mut Taken, text: &str, end: &str, bytes: &[u8]) -> Result<(), AllocError>
+    ensures script { OnOk result
+        (taken.new.script.items ≡ taken.old.script.items ++ (text.now ++ (end.now ++ codes "\n"))) }
+    ensures given { OnOk result (taken.new.given.items ≡ taken.old.given.items ++ bytes.now) }
+{
+    taken.script.extend_from_slice(text.as_bytes())?;
+    taken.script.extend_from_slice(end.as_bytes())?;
+    taken.script.extend_from_slice(b"\n")?;
+    taken.given.extend_from_slice(bytes)
+}
+
+// Appends a line, and the bytes of its host file.
+fn take_line<'a, F: Files>(
+    alloc: Global,
+    files: &F,
+    line: &Line<'a>,
+    taken: &mut Taken,
+) -> Result<(), NoChange<'a>>
+    ensures taken { OnOk result (IsLineTaken (F.bytes_of files.now) line.now taken.old.script.items taken.old.given.items
+        taken.new.script.items taken.new.given.items) }
+    ensures fault { IfErr result (IsFileFault (known_files F.bytes_of F.may_fail F.may_open files.now)) }
+{
+    let Some(host) = line.host else {
+        push_line(taken, &line.text, "", b"")?;
+        return Ok(());
+    };
+    let bytes = read_file(alloc, files, host)?;
+    let size = bytes.len();
+    let end = format!(in alloc; "{size}")?;
+    push_line(taken, &line.text, &end, &bytes)?;
+    Ok(())
+}
+
+// The lines of an order, and the bytes of their host files.
+fn take_lines<'a, F: Files>(
+    alloc: Global,
+    files: &F,
+    lines: &[Line<'a>],
+) -> Result<Taken, NoChange<'a>>
+    ensures taken { IfOk result (λ taken. AreTaken (F.bytes_of files.now) lines.now taken.script.items taken.given.items) }
+    ensures fault { IfErr result (IsFileFault (known_files F.bytes_of F.may_fail F.may_open files.now)) }
+{
+    let mut taken = Taken {
+        script: Vec::new(alloc),
+        given: Vec::new(alloc),
+    };
+    for line in lines {
+        take_line(alloc, files, line, &mut taken)?;
+    }
+    Ok(taken)
+}
+
+// The input that an order stands for.
+fn input_of<'a, F: Files>(
+    alloc: Global,
+    files: &F,
+    order: &Order<'a>,
+) -> Result<Vec<u8>, NoChange<'a>>
+    ensures input { IfOk result (λ input. IsInputOf (F.bytes_of files.now) order.now input.items) }
+    ensures fault { IfErr result (IsFileFault (known_files F.bytes_of F.may_fail F.may_open files.now)) }
+{
+    let taken = take_lines(alloc, files, &order.lines)?;
+    let image = read_file(alloc, files, order.image)?;
+    let mut input = taken.script;
+    input.extend_from_slice(b"end\n")?;
+    input.extend_from_slice(&taken.given)?;
+    input.extend_from_slice(&image)?;
+    Ok(input)
+}
+
+// The new image.
+#[tactic(auto, using(crate::proofs::TakenLines::file_fault))]
+fn changed_image<'a, F: Files>(
+    alloc: Global,
+    files: &F,
+    order: &Order<'a>,
+) -> Result<Vec<u8>, NoChange<'a>>
+    ensures image { IfOk result (λ new. (input : List ℕ) × IsInputOf (F.bytes_of files.now) order.now input
+        × IsEdited input new.items) }
+    ensures fault { IfErr result (IsNoChange (known_files F.bytes_of F.may_fail F.may_open files.now) order.now) }
+{
+    let input = match input_of(alloc, files, order) {
+        Ok(input) => input,
+        Err(why) => return Err(why),
+    };
+    match new_image(alloc, &input) {
+        Ok(new) => Ok(new),
+        Err(Stop::NoMemory) => Err(NoChange::NoMemory),
+        Err(stop) => Err(NoChange::Edits(stop)),
+    }
+}
+
+// The line of why the edits cannot be applied.
+fn change_stop_line(alloc: Global, stop: Stop) -> Result<String, AllocError>
+    ensures { IfOk result (λ line. string_bytes line ≡ change_stop_line stop) }
+{
+    match stop {
+        Stop::Image(fault) => format!(in alloc; "image: {fault}\n"),
+        Stop::TooDeep => format!(in alloc; "image: too deep: 255 names at most\n"),
+        _ => format!(in alloc; "{stop}\n"),
+    }
+}
+
+// Says why the edits cannot be applied, and returns the status.
+fn tell_stop<E: Sink>(alloc: Global, stop: Stop, errors: &mut E) -> u8
+    requires { E.has_failed errors.old ≡ false }
+    ensures { IsStopTold stop result (seen E.held E.has_failed errors.old errors.new) }
+{
+    match change_stop_line(alloc, stop) {
+        Ok(line) => {
+            say(errors, line.as_bytes());
+            1
+        }
+        Err(_) => {
+            say(errors, b"no memory\n");
+            3
+        }
+    }
+}
+
+// Says why there is no new image, and returns the status.
+fn tell_no_change<E: Sink>(alloc: Global, why: NoChange<'_>, errors: &mut E) -> u8
+    requires { E.has_failed errors.old ≡ false }
+    ensures { IsNoChangeTold why.entry result (seen E.held E.has_failed errors.old errors.new) }
+{
+    match why {
+        NoChange::Unopened(name, why) => refuse_file(alloc, name, why, errors),
+        NoChange::ReadFault => {
+            say(errors, b"read fault\n");
+            3
+        }
+        NoChange::NoMemory => {
+            say(errors, b"no memory\n");
+            3
+        }
+        NoChange::Edits(stop) => tell_stop(alloc, stop, errors),
+    }
+}
+
+/// Replaces the target of an order by the image that its edits make, and returns the status: 0 if that is done, 1 if the edits
+/// cannot be applied, 3 if a file or an allocation failed. If it is not 0, each file is as it was, and errors say why.
+pub fn change_disk<F: ChangeFiles, E: Sink>(
+    alloc: Global,
+    order: &Order<'_>,
+    files: &mut F,
+    errors: &mut E,
+) -> u8
+    requires { E.has_failed errors.old ≡ false }
+    ensures { OrderEnds (known_files F.Files.bytes_of F.Files.may_fail F.Files.may_open files.old) (F.Files.bytes_of files.new)
+        order.now result (seen E.held E.has_failed errors.old errors.new) }
+{
+    let image = match changed_image(alloc, files, order) {
+        Ok(image) => image,
+        Err(why) => return tell_no_change(alloc, why, errors),
+    };
+    match files.replace(alloc, order.target.as_bytes(), &image) {
+        Ok(()) => 0,
+        Err(why) => refuse_change(alloc, order.target, why, errors),
+    }
+}

@@ -1,0 +1,157 @@
+// Files of the system that are replaced: a new file beside the old one takes its name.
+
+ghost use Rattle.std.specs.Prelude.{None, true};
+ghost use Rattle.adf_file_runs.specs.Files.{SystemOpens};
+
+use crate::changes::{ChangeFiles, Unwritten};
+use adf_file_runs::{Files, SystemFiles, Unopened};
+use std::alloc::Global;
+use std::fs::{self, File, OpenFile, OpenOptions, Permissions};
+use std::io::{self, ErrorKind, Write};
+use std::{rt, str};
+
+/// The most names that are tried for a new file beside the old one.
+const MOST_NAMES: u32 = 100;
+
+/// The files of the system, which may be replaced. Nothing is known of them, and each may fail.
+#[derive(Drop)]
+pub struct SystemChanges<'a, R: rt::Files> {
+    system: &'a R,
+}
+
+impl<'a, R: rt::Files> SystemChanges<'a, R> {
+    /// The files of this system.
+    pub fn new(system: &'a R) -> SystemChanges<'a, R> {
+        SystemChanges { system }
+    }
+}
+
+// Why the system wrote no file.
+fn reason(error: &io::Error) -> Unwritten {
+    match error.kind() {
+        ErrorKind::NotFound | ErrorKind::NotADirectory => Unwritten::NoFolder,
+        ErrorKind::PermissionDenied | ErrorKind::ReadOnlyFilesystem => Unwritten::Forbidden,
+        ErrorKind::StorageFull | ErrorKind::QuotaExceeded => Unwritten::NoSpace,
+        ErrorKind::OutOfMemory => Unwritten::NoMemory,
+        _ => Unwritten::Other,
+    }
+}
+
+/// Where a new file is to stand: its path over all links, and the permissions of the old file there.
+#[derive(Drop)]
+struct Target {
+    path: String,
+    permissions: Option<Permissions>,
+}
+
+// The target of the path of a file that is there, which may be written and is a plain one.
+fn old_target<R: rt::Files>(system: &R, alloc: Global, path: &str) -> Result<Target, Unwritten> {
+    let Ok(about) = fs::metadata(system, path) else {
+        return Err(Unwritten::NotPlain);
+    };
+    if !about.is_file() {
+        return Err(Unwritten::NotPlain);
+    }
+    if let Err(error) = OpenOptions::new().write(true).open(system, path) {
+        return Err(reason(&error));
+    }
+    match system.canonicalize(alloc, path) {
+        Ok(real) => Ok(Target {
+            path: real.into_string(),
+            permissions: Some(about.permissions()),
+        }),
+        Err(error) => Err(reason(&error)),
+    }
+}
+
+// The target of a path.
+fn target_of<R: rt::Files>(system: &R, alloc: Global, path: &str) -> Result<Target, Unwritten> {
+    if fs::symlink_metadata(system, path).is_ok() {
+        return old_target(system, alloc, path);
+    }
+    match String::from_str(alloc, path) {
+        Ok(path) => Ok(Target {
+            path,
+            permissions: None,
+        }),
+        Err(_) => Err(Unwritten::NoMemory),
+    }
+}
+
+// Writes all of a new file, to the disk itself.
+fn fill<H: Write + OpenFile + Drop>(file: H, target: &Target, bytes: &[u8]) -> io::Result<()> {
+    let mut file = file;
+    if let Some(permissions) = &target.permissions {
+        file.set_permissions(permissions.clone()?)?;
+    }
+    file.write_all(bytes)?;
+    file.sync_all()
+}
+
+// Gives the new file the name of the target once it is written; else there is no new file.
+fn put<R: rt::Files>(
+    system: &R,
+    file: R::File,
+    beside: &str,
+    target: &Target,
+    bytes: &[u8],
+) -> Result<(), Unwritten> {
+    let done = match fill(file, target, bytes) {
+        Ok(()) => fs::rename(system, beside, &target.path),
+        Err(error) => Err(error),
+    };
+    match done {
+        Ok(()) => Ok(()),
+        Err(error) => {
+            let _ = fs::remove_file(system, beside);
+            Err(reason(&error))
+        }
+    }
+}
+
+// Writes a new file beside the target, and puts it there.
+fn replace_target<R: rt::Files>(
+    system: &R,
+    alloc: Global,
+    target: &Target,
+    bytes: &[u8],
+) -> Result<(), Unwritten> {
+    for number in 0..MOST_NAMES {
+        let path = &target.path;
+        let Ok(beside) = format!(in alloc; "{path}.new-{number}") else {
+            return Err(Unwritten::NoMemory);
+        };
+        match File::create_new(system, &beside) {
+            Ok(file) => return put(system, file, &beside, target, bytes),
+            Err(error) => match error.kind() {
+                ErrorKind::AlreadyExists => {}
+                _ => return Err(reason(&error)),
+            },
+        }
+    }
+    Err(Unwritten::Other)
+}
+
+impl<'a, R: rt::Files> Files for SystemChanges<'a, R> {
+    type Opened = <SystemFiles<'a, R> as Files>::Opened;
+
+    ghost bytes_of = { λ _ _. None };
+
+    ghost may_fail = { λ _ _. true };
+
+    ghost may_open = { λ _ name why. SystemOpens name why };
+
+    fn open(&self, name: &[u8]) -> Result<<SystemFiles<'a, R> as Files>::Opened, Unopened> {
+        SystemFiles::new(self.system).open(name)
+    }
+}
+
+impl<R: rt::Files> ChangeFiles for SystemChanges<'_, R> {
+    fn replace(&mut self, alloc: Global, name: &[u8], bytes: &[u8]) -> Result<(), Unwritten> {
+        let Ok(path) = str::from_utf8(name) else {
+            return Err(Unwritten::Other);
+        };
+        let target = target_of(self.system, alloc, path)?;
+        replace_target(self.system, alloc, &target, bytes)
+    }
+}
