@@ -54,10 +54,10 @@ with_line (Some line) (Some lines) = Some (line ∷ lines)
 with_line _ _ = None
 
 -- the lines of edits with `+` between them; the words `edit` of the first one stand before the others
-unfoldable pub lines_behind : List (List ℕ) → List (List ℕ) → Option (List WordedLine)
-lines_behind edit [] = with_line (line_of edit) (Some [])
-lines_behind edit (word ∷ words) =
-    if bytes_eq word (codes "+") then with_line (line_of edit) (lines_behind [] words) else lines_behind (edit ++ word ∷ []) words
+unfoldable pub lines_worded : List (List ℕ) → List (List ℕ) → Option (List WordedLine)
+lines_worded edit [] = with_line (line_of edit) (Some [])
+lines_worded edit (word ∷ words) =
+    if bytes_eq word (codes "+") then with_line (line_of edit) (lines_worded [] words) else lines_worded (edit ++ word ∷ []) words
 
 -- lines in front of those that follow, if these are lines
 abbrev pub in_front : List WordedLine → Option (List WordedLine) → Option (List WordedLine)
@@ -71,8 +71,8 @@ AddsLine false lines edit new = line_of edit ≡ None
 -- behind these lines and the words of an edit a word was read: the lines and the words behind it are these, or the edit has no line
 abbrev pub IsWordRead : Bool → List WordedLine → List (List ℕ) → List ℕ → List WordedLine → List (List ℕ) → Type 0
 IsWordRead true lines edit word new more =
-    (rest : List (List ℕ)) → in_front lines (lines_behind edit (word ∷ rest)) ≡ in_front new (lines_behind more rest)
-IsWordRead false lines edit word new more = (rest : List (List ℕ)) → in_front lines (lines_behind edit (word ∷ rest)) ≡ None
+    (rest : List (List ℕ)) → in_front lines (lines_worded edit (word ∷ rest)) ≡ in_front new (lines_worded more rest)
+IsWordRead false lines edit word new more = (rest : List (List ℕ)) → in_front lines (lines_worded edit (word ∷ rest)) ≡ None
 
 -- what words ask for: the lines, the image that they are applied to, and the file that gets the new one
 pub record EditOrder : Type 0 where
@@ -94,7 +94,7 @@ operands (word ∷ words) = if bytes_eq word (codes "--") then words else if beg
 abbrev pub order_on : Option (List ℕ) → List (List ℕ) → Option EditOrder
 order_on target [] = None
 order_on target (image ∷ words) =
-    option_map (λ lines. record { lines = lines; image = image; target = unwrap_or target image }) (lines_behind [] words)
+    option_map (λ lines. record { lines = lines; image = image; target = unwrap_or target image }) (lines_worded [] words)
 
 -- [-o NEW] IMAGE EDIT [+ EDIT].., behind the name of the program
 abbrev pub order_asked : List (List ℕ) → Option EditOrder

@@ -2,7 +2,7 @@
 
 ghost use Rattle.std.specs.Prelude.{◌≡◌, IfOk, [], map, option_map, codes};
 ghost use Rattle.adf_edit_cmd.specs.Words.{begins_dash, host_verb, line_of, line_of_host, line_of_one, line_of_two};
-ghost use Rattle.adf_edit_cmd.specs.Words.{AddsLine, IsWordRead, lines_behind, may_end, may_lead, operands, order_asked, order_on, takes_one, takes_two};
+ghost use Rattle.adf_edit_cmd.specs.Words.{AddsLine, IsWordRead, lines_worded, may_end, may_lead, operands, order_asked, order_on, takes_one, takes_two};
 ghost use Rattle.adf_words.specs.CommandLine.{texts_of};
 
 use crate::lines::has_byte;
@@ -191,7 +191,7 @@ fn read_word<'a>(
 // The lines of edits with `+` between them; `None` if an edit has none.
 #[tactic(auto, using(crate::proofs::WordLines::words_wrong, crate::proofs::WordLines::last_line, crate::proofs::WordLines::last_wrong))]
 fn lines_of<'a>(alloc: Global, words: &'a [&'a str]) -> Result<Option<Vec<Line<'a>>>, AllocError>
-    ensures { IfOk result (λ lines. option_map (λ ls. ls.items) lines ≡ lines_behind [] (texts_of words.now)) }
+    ensures { IfOk result (λ lines. option_map (λ ls. ls.items) lines ≡ lines_worded [] (texts_of words.now)) }
 {
     let mut reading = Reading {
         lines: Vec::new(alloc),
