@@ -127,13 +127,18 @@ const MADE: &[(&[&str], &str, u8, u8)] = &[
     (&["x", "disk", "put", "host", "a"], "disk", 3, 0),
     (&["x", "-o", "new", "disk", "put", "host", "a"], "new", 3, 0),
     (
-        &["x", "--", "disk", "put", "host", "a", "+", "put", "host", "+a"],
+        &[
+            "x", "--", "disk", "put", "host", "a", "+", "put", "host", "+a",
+        ],
         "disk",
         3,
         0,
     ),
     (
-        &["x", "disk", "put", "empty", "b", "+", "protect", "b", "00000005", "+", "move", "b", "a", "+", "replace", "host", "A"],
+        &[
+            "x", "disk", "put", "empty", "b", "+", "protect", "b", "00000005", "+", "move", "b",
+            "a", "+", "replace", "host", "A",
+        ],
         "disk",
         3,
         5,
@@ -147,7 +152,10 @@ fn disks_are_changed(rt: HostRuntime) {
         let came = run_on(rt.alloc(), words, &disk);
         assert!(rt; came.status == 0 && came.errors.is_empty());
         assert!(rt; came.name.as_slice() == name.as_bytes() && came.written.len() == 8192);
-        assert_eq!(rt; length_and_protection(&came.written), (*length, *protection));
+        assert_eq!(rt;
+            length_and_protection(&came.written),
+            (*length, *protection)
+        );
     }
 }
 
@@ -164,14 +172,26 @@ const REFUSED: &[(&[&str], u8, &str)] = &[
     (&["x", "-o", "disk", "dir", "a"], 2, "usage: "),
     (&["x", "-q", "disk", "dir", "a"], 2, "usage: "),
     (&["x", "none", "dir", "a"], 3, "none: no such file\n"),
-    (&["x", "disk", "put", "none", "a"], 3, "none: no such file\n"),
+    (
+        &["x", "disk", "put", "none", "a"],
+        3,
+        "none: no such file\n",
+    ),
     (&["x", "disk", "put", "fails", "a"], 3, "read fault\n"),
     (&["x", "disk", "remove", "a"], 1, "1: no such path\n"),
-    (&["x", "disk", "dir", "b", "+", "replace", "host", "b"], 1, "2: not a file\n"),
+    (
+        &["x", "disk", "dir", "b", "+", "replace", "host", "b"],
+        1,
+        "2: not a file\n",
+    ),
     (&["x", "disk", "protect", "a", "rwed"], 1, "1: bad line\n"),
     (&["x", "host", "dir", "a"], 1, "image: "),
     (&["x", "locked", "dir", "a"], 3, "locked: no permission\n"),
-    (&["x", "-o", "locked", "disk", "dir", "a"], 3, "locked: no permission\n"),
+    (
+        &["x", "-o", "locked", "disk", "dir", "a"],
+        3,
+        "locked: no permission\n",
+    ),
 ];
 
 #[test]

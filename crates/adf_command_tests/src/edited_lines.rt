@@ -103,7 +103,10 @@ fn a_replaced_file_keeps_the_rest(rt: HostRuntime) {
     assert_eq!(rt; byte_at(&image, header + 4 * 81 + 3), 2);
     assert_eq!(rt; text_lengths(&image), (4, 3));
     let data = usize::from(byte_at(&image, header + 4 * 4 + 3)) * 512;
-    assert_eq!(rt; (byte_at(&image, data + 24), byte_at(&image, data + 25)), (b'y', b'z'));
+    assert_eq!(rt;
+        (byte_at(&image, data + 24), byte_at(&image, data + 25)),
+        (b'y', b'z')
+    );
 }
 
 #[test]
