@@ -74,13 +74,13 @@ USUAL = (1760, 3520)
 
 def length_of(given, blocks):
     """The blocks that are read: those that are stated; but if the middle of these is not like a root, and the middle of just one usual
-    length is a whole root, that length."""
+    length has the three words of a root, that length."""
     stated = len(given) // 512 if blocks is None else blocks
     held = min(stated, len(given) // 512)
     if stated // 2 < held and is_like_root(given, stated // 2):
         return stated
     allowed = [n for n in USUAL if n != stated and n // 2 < held and (blocks is None or n <= blocks)]
-    others = [n for n in allowed if is_like_root(given, n // 2) == 3 and sealed(given, n // 2)]
+    others = [n for n in allowed if is_like_root(given, n // 2) == 3]
     return others[0] if len(others) == 1 else stated
 
 
@@ -354,10 +354,8 @@ class Lost:
         return bytes(image)
 
     def hung_slot(self, b, home):
-        """One of the first half, if the directory names it in the slot of its name; else of the second."""
-        name = self.sv.text(b, 432)
-        is_named = is_name(name) and words(self.image, home)[6 + slot(name, self.sv.international)] == b
-        return b % (SLOTS // 2) + (0 if is_named else SLOTS // 2)
+        """One of the first half, if the directory leads to it; else of the second."""
+        return b % (SLOTS // 2) + (0 if is_led(self.image, home, b) else SLOTS // 2)
 
     def hang(self, image, b, home, ends):
         """First in the slot of its number, if the survey has nothing there; else behind the last header of the directory behind which it

@@ -35,23 +35,23 @@ of_typed s answers some =
 
 -- the findings
 
-some_findings : (t : SubjectValue) → (reply : Reply) × Surveys t reply
-some_findings t =
-    let (w, fs, survey) = some_survey t.image in (on_output (told_status t.front fs) (subject_text t w fs), (w, fs, survey, refl))
+some_findings : (json : Bool) (t : SubjectValue) → (reply : Reply) × Surveys json t reply
+some_findings json t =
+    let (w, fs, survey) = some_survey t.image in (on_output (told_status t.front fs) (subject_text json t w fs), (w, fs, survey, refl))
 
-some_report : (blocks : Option ℕ) (input : List ℕ) → IsAnswered report (subject blocks input)
-some_report blocks input = of_typed (subject blocks input) Surveys some_findings
+some_report : (json : Bool) (blocks : Option ℕ) (input : List ℕ) → IsAnswered (report json) (subject blocks input)
+some_report json blocks input = of_typed (subject blocks input) (Surveys json) (some_findings json)
 
 -- what is found
 
-some_listing : (t : SubjectValue) → (reply : Reply) × ListsSurvey t reply
-some_listing t =
+some_listing : (json : Bool) (t : SubjectValue) → (reply : Reply) × ListsSurvey json t reply
+some_listing json t =
     let (w, fs, survey) = some_survey t.image in
     let (sound, marks) = some_marks t.image w fs survey fs in
-    (on_output (told_status t.front fs) (listing_text date_of sound t w fs), (w, fs, survey, (date_of, date_of_is, sound, marks, refl)))
+    (on_output (told_status t.front fs) (listing_text json date_of sound t w fs), (w, fs, survey, (date_of, date_of_is, sound, marks, refl)))
 
-some_list : (blocks : Option ℕ) (input : List ℕ) → IsAnswered list (subject blocks input)
-some_list blocks input = of_typed (subject blocks input) ListsSurvey some_listing
+some_list : (json : Bool) (blocks : Option ℕ) (input : List ℕ) → IsAnswered (list json) (subject blocks input)
+some_list json blocks input = of_typed (subject blocks input) (ListsSurvey json) (some_listing json)
 
 -- the bytes under a path
 
@@ -111,8 +111,8 @@ some_rescue blocks keep_type input are =
 
 questioned : (blocks : Option ℕ) (q : QuestionValue) (input : List ℕ) → ((keep_type : Bool) → q ≡ rescue keep_type → AreBytes input)
     → IsAnswered q (subject blocks input)
-questioned blocks report input are = some_report blocks input
-questioned blocks list input are = some_list blocks input
+questioned blocks (report json) input are = some_report json blocks input
+questioned blocks (list json) input are = some_list json blocks input
 questioned blocks (cat damaged path) input are = some_copy blocks damaged path input
 questioned blocks (rescue keep_type) input are = some_rescue blocks keep_type input (are keep_type refl)
 

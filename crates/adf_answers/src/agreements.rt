@@ -14,18 +14,18 @@ ghost use Rattle.adf_memory.specs.{Subjects.HasSubject, Subjects.subject_in, dec
 ghost use Rattle.adf_memory.specs.{declared.rescuing.RescueTold.RescueTold, declared.subjects.SubjectTold.SubjectTold};
 ghost use Rattle.adf_memory.specs.declared.rescuing.RescueRefusal.TheVariants.{Fault as ForFault};
 
-/// `adf-survey` answers by the survey of what `put_subject` writes to the room: its lines are those of what is told, and of the
-/// findings of that survey; `--list` has its entries, of which only what is held is data; and `cat` the bytes of a file that
+/// `adf-survey` answers by the survey of what `put_subject` writes to the room: its lines, or its objects, are those of what is
+/// told, and of the findings of that survey; `--list` has its entries, of which only what is held is data; and `cat` the bytes of a file that
 /// it finds.
 pub fn surveys_agree()
-    ensures findings { (n : ℕ) (image old new : List ℕ) (told : SubjectTold) (reply : Reply)
+    ensures findings { (json : Bool) (n : ℕ) (image old new : List ℕ) (told : SubjectTold) (reply : Reply)
         → HasSubject (subject (asked_blocks n) image) old new told
-        → SurveyAnswer (asked (asked_blocks n) report) image reply
-        → Hinted image (Surveys (subject_in n (blocks image) new told)) reply }
-    ensures list { (n : ℕ) (image old new : List ℕ) (told : SubjectTold) (reply : Reply)
+        → SurveyAnswer (asked (asked_blocks n) (report json)) image reply
+        → Hinted image (Surveys json (subject_in n (blocks image) new told)) reply }
+    ensures list { (json : Bool) (n : ℕ) (image old new : List ℕ) (told : SubjectTold) (reply : Reply)
         → HasSubject (subject (asked_blocks n) image) old new told
-        → SurveyAnswer (asked (asked_blocks n) list) image reply
-        → Hinted image (ListsSurvey (subject_in n (blocks image) new told)) reply }
+        → SurveyAnswer (asked (asked_blocks n) (list json)) image reply
+        → Hinted image (ListsSurvey json (subject_in n (blocks image) new told)) reply }
     ensures cat { (n : ℕ) (image old new path : List ℕ) (damaged : Bool) (told : SubjectTold) (reply : Reply)
         → HasSubject (subject (asked_blocks n) image) old new told
         → (names : List (List ℕ)) → IsPathText path names

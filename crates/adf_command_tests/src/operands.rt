@@ -12,7 +12,7 @@ use std::alloc::Global;
 use std::cell::Cell;
 
 const SURVEY_USAGE: &str =
-    "usage: adf-survey [--blocks N] [--list] [FILE]\n       adf-survey [--blocks N] cat [--damaged] PATH [FILE]\n\
+    "usage: adf-survey [--blocks N] [--list] [--json] [FILE]\n       adf-survey [--blocks N] cat [--damaged] PATH [FILE]\n\
     \x20      adf-survey [--blocks N] rescue [--keep-type] [FILE]\n\
     without a FILE the image comes on standard input; man adf-survey tells more\n";
 
@@ -21,12 +21,34 @@ const PLAN: &[u8] = b"disk 32 2\npartition DH0 ffs 4\npartition DH1 ofs 4\nend\n
 
 const FILE: &[u8] = &[0x41; 489];
 
+// The objects of a sound image, and those of one whose end is missing.
+const LISTED: &[u8] = b"{\"line\":\"volume\",\"kind\":\"ofs\",\"blocks\":16,\"label\":\"\",\"root\":\"1978-01-01 00:00:00.00\",\
+    \"altered\":\"1978-01-01 00:00:00.00\",\"created\":\"1978-01-01 00:00:00.00\"}\n\
+    {\"line\":\"entry\",\"path\":\"a\",\"kind\":\"file\",\"sound\":true,\"size\":489,\"date\":\"1978-01-01 00:00:00.00\",\
+    \"protection\":0,\"comment\":\"\"}\n";
+const MISSING: &[u8] =
+    b"{\"line\":\"remark\",\"first\":16,\"last\":17,\"says\":\"no data\"}\n\
+    {\"line\":\"finding\",\"first\":9,\"last\":9,\"cause\":\"bad type\",\"path\":null,\"within\":false,\"owner\":null}\n";
+
 // The words, the status, and what output and errors get.
 type Row<'a> = (&'a [&'a str], u8, &'a [u8], &'a str);
 
 // Files beside an input that fails at its first read, so it is not read.
 const NAMED: &[Row<'static>] = &[
     (&["adf-survey", "sound"], 0, b"", ""),
+    (&["adf-survey", "--json", "sound"], 0, b"", ""),
+    (
+        &["adf-survey", "--json", "--list", "sound"],
+        0,
+        LISTED,
+        "",
+    ),
+    (
+        &["adf-survey", "--blocks", "18", "--json", "sound"],
+        1,
+        MISSING,
+        "",
+    ),
     (&["adf-survey", "cat", "a", "sound"], 0, FILE, ""),
     (
         &["adf-survey", "cat", "--damaged", "A", "sound"],
@@ -71,6 +93,7 @@ const NAMED: &[Row<'static>] = &[
     (&["adf-survey", "cat", "a//b", "gone"], 2, b"", "bad path\n"),
     (&["adf-survey", "sound", "gone"], 2, b"", SURVEY_USAGE),
     (&["adf-survey", "sound", "cat", "a"], 2, b"", SURVEY_USAGE),
+    (&["adf-survey", "--json", "cat", "a"], 2, b"", SURVEY_USAGE),
     (
         &["adf-disk", "list", "sound"],
         1,

@@ -1,7 +1,7 @@
 -- What is surveyed of an image, in the memory of a caller.
 -- Letters: s, t, u what is surveyed; o the type that its entries tell, if it is another; n the number of blocks that is asked for, 0 for those that the image
 -- has; k, read numbers of blocks.
-use Rattle.std.proofs.Common.{◌≡◌, ◌≤◌, ◌<◌, ◌∙◌, ◌==◌, ◌&&◌, ◌∷◌, ◌++◌, ℕ, Bool, true, false, List, [], None, Some, ap, append-nil, arith, codes, cond, drop}
+use Rattle.std.proofs.Common.{◌≡◌, ◌≤◌, ◌<◌, ◌∙◌, ◌==◌, ◌&&◌, ◌∷◌, ◌++◌, ℕ, Bool, true, false, List, [], None, Some, ap, append-nil, arith, cond, drop}
 use Rattle.std.proofs.Common.{◌≢◌, ◌*◌, ◌/◌, Option, ap₂, is_some, length, min, nat_lt, not, refl, slice_index, subst, sym, take}
 use Rattle.std.specs.{Prelude.IfSome, Option.option_or}
 use Rattle.adf_blocks.specs.{Sizes.blocks, declared.layout.TheConstants.MOST_BLOCKS}
@@ -13,11 +13,13 @@ use Rattle.adf_rescue.specs.{MadeRoot.has_root, Opened.lacks_boot, Opened.states
 use Rattle.adf_rescue.proofs.MadeRoots.{sized as sized_as}
 use Rattle.adf_rescue.proofs.OpenedImages.{length_begun}
 use Rattle.adf_subjects.specs.{Lengths.blocks_read, Lengths.other_length, Lengths.stated_length, Losses.LossValue, Losses.run_loss}
-use Rattle.adf_subjects.specs.Subject.{IsTypeTold, IsTyped, SubjectValue, as_long, begun_subject, behind_loss, behind_text, changed, held_end, meant}
-use Rattle.adf_subjects.specs.Subject.{missing_text, sized, subject, subject_read, type_line, type_word, typed_by}
+use Rattle.adf_subjects.specs.Subject.{IsTypeTold, IsTyped, SubjectValue, as_long, begun_subject, behind, behind_loss, changed, held_end, meant}
+use Rattle.adf_subjects.specs.Subject.{missing, sized, subject, subject_read, typed_by}
+use Rattle.adf_subjects.specs.{Remarks.remark, declared.remarks.Remark.Remark, declared.remarks.Saying.Saying}
+use Rattle.adf_subjects.specs.declared.remarks.Saying.TheVariants.{FilesOf, NotDos}
 use Rattle.adf_subjects.proofs.{OneSubject.one_told, Subjects.told_either, Subjects.typed_either, SizedImages.length_sized}
 use Rattle.adf_memory.specs.{FoundTables.mark_number, Rescuing.asked_blocks, Rooms.filled, declared.subjects.SubjectTold.SubjectTold}
-use Rattle.adf_memory.specs.Subjects.{HasSubject, IsRetyped, blocks_lost, front_lines, of_read, surveyed_subject, subject_in}
+use Rattle.adf_memory.specs.Subjects.{HasSubject, IsRetyped, blocks_lost, front_remarks, of_read, surveyed_subject, subject_in}
 use Rattle.adf_subjects.proofs.ReadLengths.{meant_image, read_anew}
 use Rattle.adf_memory.proofs.TableNames.{text_there}
 
@@ -28,23 +30,18 @@ unset false e = refl
 
 -- what is changed, or stays
 
-changed_front : (is : Bool) (s : SubjectValue) (image line : List ℕ)
-    → (cond is (changed s image line) s).front ≡ s.front ++ cond (mark_number is == 1) line []
-changed_front true s image line = refl
-changed_front false s image line = sym (append-nil s.front)
+changed_front : (is : Bool) (s : SubjectValue) (image : List ℕ) (says : Saying)
+    → (cond is (changed s image says) s).front ≡ s.front ++ cond (mark_number is == 1) (remark 0 0 says ∷ []) []
+changed_front true s image says = refl
+changed_front false s image says = sym (append-nil s.front)
 
-changed_end : (is : Bool) (s : SubjectValue) (image line : List ℕ) → (cond is (changed s image line) s).end ≡ s.end
-changed_end true s image line = refl
-changed_end false s image line = refl
+changed_end : (is : Bool) (s : SubjectValue) (image : List ℕ) (says : Saying) → (cond is (changed s image says) s).end ≡ s.end
+changed_end true s image says = refl
+changed_end false s image says = refl
 
--- the line of a type is one
-type_line_some : (t : ℕ) → 0 < length (type_line t)
-unfolding type_line
-type_line_some t = omega (arith, length-append (codes "block 0: files of ") (type_word t ++ codes "\n"))
-
--- so there is one more line if and only if the type is changed
+-- there is one more remark if and only if the type is changed
 longer : (s : SubjectValue) (o : Option ℕ) → nat_lt (length s.front) (length (typed_by s o).front) ≡ is_some o
-longer s (Some t) = grind (arith, nat_tests, length-append s.front (type_line t), type_line_some t)
+longer s (Some t) = grind (arith, nat_tests, length-append s.front (remark 0 0 (FilesOf t) ∷ []))
 longer s None = grind (arith, nat_tests)
 
 pub retyped_told : (s t : SubjectValue) (is : Bool) → IsTyped s t → is ≡ nat_lt (length s.front) (length t.front) → IsRetyped s t is
@@ -59,7 +56,7 @@ lacks_long image lacks =
 
 begun_length : (s : SubjectValue) → length (begun_subject s).image ≡ length s.image
 begun_length s =
-    cond_both (lacks_boot s.image) (changed s (with_boot_type s.image) (codes "block 0: not dos\n")) s
+    cond_both (lacks_boot s.image) (changed s (with_boot_type s.image) NotDos) s
     (λ (t : SubjectValue). length t.image ≡ length s.image) (λ lacks. length_begun s.image (lacks_long s.image lacks)) (λ e. refl)
 
 -- but for its first four bytes it stays
@@ -68,7 +65,7 @@ boot_rest image = cond_both (states_type image) image _ (λ (l : List ℕ). drop
 
 begun_rest : (s : SubjectValue) → drop 4 (begun_subject s).image ≡ drop 4 s.image
 begun_rest s =
-    cond_both (lacks_boot s.image) (changed s (with_boot_type s.image) (codes "block 0: not dos\n")) s
+    cond_both (lacks_boot s.image) (changed s (with_boot_type s.image) NotDos) s
     (λ (t : SubjectValue). drop 4 t.image ≡ drop 4 s.image) (λ lacks. boot_rest s.image) (λ e. refl)
 
 -- the type that the entries of an image tell that is begun
@@ -109,34 +106,34 @@ typed_end s None = refl
 
 surveyed_end : (s : SubjectValue) (o : Option ℕ) → (surveyed_subject s o).end ≡ s.end
 surveyed_end s o =
-    typed_end (begun_subject s) o ∙ changed_end (lacks_boot s.image) s (with_boot_type s.image) (codes "block 0: not dos\n")
+    typed_end (begun_subject s) o ∙ changed_end (lacks_boot s.image) s (with_boot_type s.image) NotDos
 
--- the lines of what is told
-abbrev begun_line : Bool → List ℕ
-begun_line is = cond (mark_number is == 1) (codes "block 0: not dos\n") []
+-- the remarks of what is told
+abbrev begun_remark : Bool → List Remark
+begun_remark is = cond (mark_number is == 1) (remark 0 0 NotDos ∷ []) []
 
--- that of a type, which the image has
-abbrev retyped_line : Bool → List ℕ → List ℕ
-retyped_line is image = cond (mark_number is == 1) (type_line (slice_index image 3)) []
+-- that on a type, which the image has
+abbrev retyped_remark : Bool → List ℕ → List Remark
+retyped_remark is image = cond (mark_number is == 1) (remark 0 0 (FilesOf (slice_index image 3)) ∷ []) []
 
 type_there : (image : List ℕ) (t : ℕ) → 4 ≤ length image → slice_index (retyped (with_boot_type image) t) 3 ≡ t
 type_there image t long = get_or-set_same (with_boot_type image) 3 t 0 (omega (arith, length_begun image long))
 
 typed_front : (s : SubjectValue) (o : Option ℕ) → IsTypeTold s.image o
-    → (typed_by s o).front ≡ s.front ++ retyped_line (is_some o) (typed_by s o).image
-typed_front s (Some t) h = ap (λ (t : ℕ). s.front ++ type_line t) (sym (type_there s.image t (told_either s.image t h).1))
+    → (typed_by s o).front ≡ s.front ++ retyped_remark (is_some o) (typed_by s o).image
+typed_front s (Some t) h = ap (λ (t : ℕ). s.front ++ remark 0 0 (FilesOf t) ∷ []) (sym (type_there s.image t (told_either s.image t h).1))
 typed_front s None h = sym (append-nil s.front)
 
 surveyed_front : (s : SubjectValue) (o : Option ℕ) → IsBegunTold s o
-    → (surveyed_subject s o).front ≡ (s.front ++ begun_line (lacks_boot s.image)) ++ retyped_line (is_some o) (surveyed_subject s o).image
+    → (surveyed_subject s o).front ≡ (s.front ++ begun_remark (lacks_boot s.image)) ++ retyped_remark (is_some o) (surveyed_subject s o).image
 surveyed_front s o h =
     typed_front (begun_subject s) o h
-    ∙ ap (λ (l : List ℕ). l ++ retyped_line (is_some o) (surveyed_subject s o).image)
-    (changed_front (lacks_boot s.image) s (with_boot_type s.image) (codes "block 0: not dos\n"))
+    ∙ ap (λ (l : List Remark). l ++ retyped_remark (is_some o) (surveyed_subject s o).image)
+    (changed_front (lacks_boot s.image) s (with_boot_type s.image) NotDos)
 
 -- the losses of blocks
 
-changed_lost : (is : Bool) (s : SubjectValue) (image line : List ℕ) → (cond is (changed s image line) s).lost ≡ s.lost
+changed_lost : (is : Bool) (s : SubjectValue) (image : List ℕ) (says : Saying) → (cond is (changed s image says) s).lost ≡ s.lost
 changed_lost true s image line = refl
 changed_lost false s image line = refl
 
@@ -149,7 +146,7 @@ surveyed_lost : (s : SubjectValue) (o : Option ℕ)
 surveyed_lost s o =
     typed_lost (begun_subject s) o
     ∙ ap (λ (ls : List LossValue). ls ++ cond (mark_number (is_some o) == 1) (run_loss 0 0 ∷ []) [])
-    (changed_lost (lacks_boot s.image) s (with_boot_type s.image) (codes "block 0: not dos\n"))
+    (changed_lost (lacks_boot s.image) s (with_boot_type s.image) NotDos)
 
 -- what is told of what is begun and retyped, by its numbers
 pub subject_put : (s t u : SubjectValue) (old new : List ℕ) (begun changed : Bool) (k b r : ℕ) → t ≡ begun_subject s → IsRetyped t u changed
@@ -217,7 +214,7 @@ module _ {X : Type 0} (nothing : X) (holds : (end read : ℕ) → X) (input : Li
   read_told false n is = as_asked n n (other_length (Some n) input) is
 
 front_read : (stated : ℕ) (read : Option ℕ) (input : List ℕ) (told : SubjectTold)
-    → (subject_read stated read input).front ≡ by_read [] (λ end k. missing_text end k ++ behind_text k stated) input told read
+    → (subject_read stated read input).front ≡ by_read [] (λ end k. missing end k ++ behind k stated) input told read
 front_read stated None input told = refl
 front_read stated (Some k) input told = refl
 
@@ -269,9 +266,9 @@ module _ (n : ℕ) (input old new : List ℕ) (told : SubjectTold) (has : HasSub
   told_is : tells {X = List ℕ} [] (λ end k. []) input told (stated_length (asked_blocks n) input) (blocks_read (asked_blocks n) input)
   told_is = (has_length s old new told has, told_end)
 
-  told_front : front_lines n (blocks input) (take told.length new) told ≡ (surveyed_subject s has.other).front
+  told_front : front_remarks n (blocks input) (take told.length new) told ≡ (surveyed_subject s has.other).front
   told_front =
-      let front = λ (stated : ℕ) (end k : ℕ). missing_text end k ++ behind_text k stated in
+      let front = λ (stated : ℕ) (end k : ℕ). missing end k ++ behind k stated in
       let read =
       front_read (stated_length (asked_blocks n) input) (blocks_read (asked_blocks n) input) input told
       ∙ read_told [] (front (stated_length (asked_blocks n) input)) input told (n == 0) n told_is
@@ -279,8 +276,8 @@ module _ (n : ℕ) (input old new : List ℕ) (told : SubjectTold) (has : HasSub
       let marks = has.tells in
       let image = room_image s old new told has in
       (λ i.
-      (sym read i ++ cond ((marks i).is_begun == 1) (codes "block 0: not dos\n") [])
-      ++ cond ((marks i).is_retyped == 1) (type_line (slice_index (image i) 3)) [])
+      (sym read i ++ cond ((marks i).is_begun == 1) (remark 0 0 NotDos ∷ []) [])
+      ++ cond ((marks i).is_retyped == 1) (remark 0 0 (FilesOf (slice_index (image i) 3)) ∷ []) [])
       ∙ sym (surveyed_front s has.other has.type)
 
   told_lost : blocks_lost n (blocks input) told ≡ (surveyed_subject s has.other).lost

@@ -7,7 +7,7 @@ use Rattle.adf_tree.specs.Tree.{Tree}
 use Rattle.adf_blocks.specs.{Sizes.is_allowed, declared.layout.TheConstants.MOST_BLOCKS}
 use Rattle.adf_build.specs.{declared.builder.BuildFault.BuildFault, Building.IsBuildable, Building.need_of, Laid.IsLaid}
 use Rattle.adf_build.specs.declared.builder.BuildFault.TheVariants as build
-use Rattle.adf_subjects.specs.Subject.{kind_of_type}
+use Rattle.adf_subjects.specs.Remarks.{kind_of_type}
 use Rattle.adf_memory.specs.{Rooms.filled, declared.building.Built.Built, declared.building.NewVolume.NewVolume, declared.building.Refusal.Refusal}
 use Rattle.adf_memory.specs.{declared.table_additions.NotAdded.NotAdded, declared.table_additions.TableAddition.TableAddition}
 use Rattle.adf_memory.specs.TableAdditions.{AreSound, IsFirstAdditionFault, addition_fault_number, stamp_of, tree_with}

@@ -1,11 +1,12 @@
 -- What is surveyed of an image, in the memory of a caller.
 -- Letters: s, t what is surveyed of an input; o the type that its entries tell, if it is another; n the number of blocks that is asked for, 0 for those that
 -- the image has; given the blocks of the image.
-use Rattle.std.specs.Prelude.{◌≡◌, ◌≤◌, ◌/◌, ◌==◌, ◌&&◌, ◌∷◌, ◌++◌, ℕ, Bool, List, [], Option, codes, cond, is_some, length, min, slice_index, take}
+use Rattle.std.specs.Prelude.{◌≡◌, ◌≤◌, ◌/◌, ◌==◌, ◌&&◌, ◌∷◌, ◌++◌, ℕ, Bool, List, [], Option, cond, is_some, length, min, slice_index, take}
 use Rattle.adf_blocks.specs.declared.layout.TheConstants.{MOST_BLOCKS}
 use Rattle.adf_rescue.specs.Opened.{lacks_boot}
 use Rattle.adf_subjects.specs.Losses.{LossValue, run_loss}
-use Rattle.adf_subjects.specs.Subject.{IsTypeTold, SubjectValue, begun_subject, behind_loss, behind_text, missing_text, type_line, typed_by}
+use Rattle.adf_subjects.specs.Subject.{IsTypeTold, SubjectValue, begun_subject, behind, behind_loss, missing, typed_by}
+use Rattle.adf_subjects.specs.{Remarks.remark, declared.remarks.Remark.Remark, declared.remarks.Saying.TheVariants.FilesOf, declared.remarks.Saying.TheVariants.NotDos}
 use Rattle.adf_memory.specs.{FoundTables.mark_number, Rooms.filled, declared.subjects.SubjectTold.SubjectTold}
 
 -- what is told beside the length where nothing is surveyed
@@ -46,12 +47,12 @@ of_read nothing holds n given told = cond ((n == 0) && (told.length / 512 == giv
 abbrev pub stated_blocks : (n given : ℕ) → ℕ
 stated_blocks n given = cond (n == 0) (min MOST_BLOCKS given) n
 
--- the lines in front of those of the findings, by what is told and the image, which has the type that is told
-abbrev pub front_lines : (n given : ℕ) → List ℕ → SubjectTold → List ℕ
-front_lines n given image told =
-    (of_read [] (λ end read. missing_text end read ++ behind_text read (stated_blocks n given)) n given told
-    ++ cond (told.is_begun == 1) (codes "block 0: not dos\n") [])
-    ++ cond (told.is_retyped == 1) (type_line (slice_index image 3)) []
+-- the remarks in front of the findings, by what is told and the image, which has the type that is told
+abbrev pub front_remarks : (n given : ℕ) → List ℕ → SubjectTold → List Remark
+front_remarks n given image told =
+    (of_read [] (λ end read. missing end read ++ behind read (stated_blocks n given)) n given told
+    ++ cond (told.is_begun == 1) (remark 0 0 NotDos ∷ []) [])
+    ++ cond (told.is_retyped == 1) (remark 0 0 (FilesOf (slice_index image 3)) ∷ []) []
 
 -- the losses of blocks that it has not, and of block 0, if the type was another
 abbrev pub blocks_lost : (n given : ℕ) → SubjectTold → List LossValue
@@ -63,6 +64,6 @@ abbrev pub subject_in : (n given : ℕ) → List ℕ → SubjectTold → Subject
 subject_in n given room told = record {
   image = take told.length room;
   end = told.held;
-  front = front_lines n given (take told.length room) told;
+  front = front_remarks n given (take told.length room) told;
   lost = blocks_lost n given told;
 }

@@ -16,8 +16,8 @@ use Rattle.adf_blocks.proofs.HeadLaws.{length_head_block}
 use Rattle.adf_volume.specs.{Image.kind_of, Image.root_of, Image.word_in, Start.is_image_len, Walk.heads, Walk.node_block, Walk.Walk}
 use Rattle.adf_findings.specs.Members.{role_entry, owning_entry, owns}
 use Rattle.adf_rescue.specs.Hung.{directory_end, home, hung, hung_at, hung_behind, hung_first, hung_in, hung_loose, is_container, is_loose, is_made}
-use Rattle.adf_rescue.specs.Hung.{is_named_by, last_open, made_header, put_in, readied, ready_in, sealed_in, slot_word}
-use Rattle.adf_rescue.specs.Lost.{directory_at, is_lost, is_vacant, says_directory}
+use Rattle.adf_rescue.specs.Hung.{last_open, made_header, put_in, readied, ready_in, sealed_in, slot_word}
+use Rattle.adf_rescue.specs.{Chains.leads_to, Lost.directory_at, Lost.is_lost, Lost.is_vacant, Lost.says_directory}
 use Rattle.adf_rescue.proofs.{HungImages.name_is_valid, LostHeaders.root_at, MadeRoots.root_within, MadeRoots.sized}
 
 -- only blocks b and p change
@@ -108,7 +108,7 @@ slot_below true m small = omega arith
 slot_below false m small = omega arith
 
 slot_small : (given : List ℕ) (p b : ℕ) → slot_word given p b < 128
-slot_small given p b = slot_below (is_named_by given p b) (b % (SLOTS / 2)) (omega arith)
+slot_small given p b = slot_below (leads_to given p b) (b % (SLOTS / 2)) (omega arith)
 
 -- what a choice of two gives is one of them
 one_of_two : (m l : Bool) (r q p : ℕ) → cond m (Some r) (cond l (Some q) None) ≡ Some p → ((m ≡ true) × (p ≡ r)) ⊎ ((l ≡ true) × (p ≡ q))

@@ -6,7 +6,7 @@ use Rattle.std.proofs.lemmas.Bool.{and_parts, cases_lt, cond-false, cond-true, e
 use Rattle.std.proofs.{lemmas.Bool.Decides.nat_tests, lemmas.Grind.common_steps}
 use Rattle.adf_blocks.specs.{declared.layout.TheConstants.FIRST_SLOT, declared.layout.TheConstants.NEXT_IN_CHAIN, declared.layout.TheConstants.SLOTS, Sizes.blocks}
 use Rattle.adf_volume.specs.{Image.word_in, Start.is_image_len}
-use Rattle.adf_rescue.specs.{Claims.claims_header, Pruned.chain_has, Pruned.is_child_of, Pruned.is_home}
+use Rattle.adf_rescue.specs.{Chains.chain_has, Claims.claims_header, Pruned.is_child_of, Pruned.is_home}
 use Rattle.adf_rescue.specs.Pruned.{leads_to_child, pruned, pruned_at, pruned_first, slot_pruned, slots_pruned}
 use Rattle.adf_rescue.proofs.MadeRoots.{root_within}
 

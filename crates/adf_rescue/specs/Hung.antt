@@ -4,13 +4,13 @@
 use Rattle.std.specs.Prelude.{◌≡◌, ◌<◌, ◌≤◌, ℕ, ◌==◌, ◌&&◌, ◌||◌, ◌+◌, ◌*◌, ◌/◌, ◌%◌, Bool, false, cond, List, [], length, replicate, Option, Some, None}
 use Rattle.std.specs.Prelude.{is_some, option_map, slice_index, unwrap_or}
 use Rattle.std.proofs.Common.{zero, suc}
-use Rattle.adf_base.specs.{Hash.slot_by, Words.block, Words.sealed, Words.with_block, Words.with_bytes, Words.with_word}
-use Rattle.adf_names.specs.{Texts.is_name, declared.meta.Meta.Meta}
+use Rattle.adf_base.specs.{Words.block, Words.sealed, Words.with_block, Words.with_bytes, Words.with_word}
+use Rattle.adf_names.specs.declared.meta.Meta.{Meta}
 use Rattle.adf_blocks.specs.declared.layout.TheConstants.{CHECKSUM, FIRST_SLOT, NEXT_IN_CHAIN, PARENT, SLOTS}
 use Rattle.adf_blocks.specs.{HeadBlock.HeadFields, HeadBlock.head_block, HeadBlock.BodyFields.DirFields, Sizes.blocks, Sizes.in_range}
-use Rattle.adf_volume.specs.{Image.letters_of, Image.name_of, Image.root_of, Image.word_in, Walk.heads, Walk.node_block, Walk.Walk}
+use Rattle.adf_volume.specs.{Image.root_of, Image.word_in, Walk.heads, Walk.node_block, Walk.Walk}
 use Rattle.adf_findings.specs.{Members.owns, Members.parent_node, Members.has_mark, Survey.FindingValue}
-use Rattle.adf_rescue.specs.{declared.hung.Loose.Loose, Rescue.lost_name}
+use Rattle.adf_rescue.specs.{Chains.leads_to, declared.hung.Loose.Loose, Rescue.lost_name}
 use Rattle.adf_rescue.specs.Lost.{AreLost, directory_at, has_lost, is_lost, is_open, is_vacant, says_directory}
 
 -- the directories that things are hung in
@@ -49,17 +49,9 @@ put_in image b i v = with_block image b (with_word (block image b) i v)
 abbrev pub sealed_in : List ℕ → ℕ → List ℕ
 sealed_in image b = with_block image b (sealed CHECKSUM (block image b))
 
--- the block that directory p has in the slot of the name of header b
-abbrev pub slotted : List ℕ → (p b : ℕ) → ℕ
-slotted given p b = word_in given p (FIRST_SLOT + slot_by (letters_of given) (name_of given b))
-
--- the table of directory p names header b, in the slot of its name
-abbrev pub is_named_by : List ℕ → (p b : ℕ) → Bool
-is_named_by given p b = is_name (name_of given b) && (slotted given p b == b)
-
--- the word of the slot that block b is hung in, in directory p: one of the first half, if the table of p names it, else of the second
+-- the word of the slot that block b is hung in, in directory p: one of the first half, if p leads to it, else of the second
 abbrev pub slot_word : List ℕ → (p b : ℕ) → ℕ
-slot_word given p b = FIRST_SLOT + cond (is_named_by given p b) 0 (SLOTS / 2) + b % (SLOTS / 2)
+slot_word given p b = FIRST_SLOT + cond (leads_to given p b) 0 (SLOTS / 2) + b % (SLOTS / 2)
 
 -- the image with block b, of directory p, where word i of block e leads to: what that led to is next in its chain
 unfoldable pub hung_at : List ℕ → ℕ → ℕ → ℕ → ℕ → List ℕ

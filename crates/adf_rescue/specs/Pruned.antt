@@ -5,9 +5,8 @@ use Rattle.std.proofs.Common.{zero, suc}
 use Rattle.adf_base.specs.Words.{block, long_sum, sealed, with_block, word}
 use Rattle.adf_blocks.specs.declared.layout.TheConstants.{EXTENSION, FIRST_SLOT, NEXT_IN_CHAIN, PARENT, SECONDARY_TYPE, SLOTS, ST_DIR}
 use Rattle.adf_blocks.specs.Sizes.{blocks, in_range}
-use Rattle.adf_volume.specs.{Image.name_of, Image.root_of, Image.word_in, Start.is_image_len}
-use Rattle.adf_names.specs.Texts.{is_name}
-use Rattle.adf_rescue.specs.{Claims.claims_cache, Claims.claims_extension, Claims.claims_header, Hung.put_in, Hung.slotted, Lost.says_directory, Opened.opened}
+use Rattle.adf_volume.specs.{Image.root_of, Image.word_in, Start.is_image_len}
+use Rattle.adf_rescue.specs.{Chains.leads_to, Claims.claims_cache, Claims.claims_extension, Claims.claims_header, Hung.put_in, Lost.says_directory, Opened.opened}
 
 -- block b is a header in doubt: it claims to be a header, is not the root, and its sum is wrong
 abbrev pub is_in_doubt : List ℕ → ℕ → Bool
@@ -77,15 +76,6 @@ parent_summed image b = word (sealed PARENT (block image b)) PARENT
 -- block p is the root, or says that it is a directory's header
 abbrev pub is_home : List ℕ → ℕ → Bool
 is_home image p = (p == root_of image) || in_range image p && says_directory image p
-
--- block b is one of the first k members of the chain that begins with block c
-unfoldable pub chain_has : List ℕ → (k c b : ℕ) → Bool
-chain_has image zero c b = false
-chain_has image (suc k) c b = (c == b) || claims_header image c && chain_has image k (word_in image c NEXT_IN_CHAIN) b
-
--- directory p leads to header b: by the first 72 members of its chain in the slot of the name
-abbrev pub leads_to : List ℕ → (p b : ℕ) → Bool
-leads_to image p b = is_name (name_of image b) && chain_has image SLOTS (slotted image p b) b
 
 -- header b belongs elsewhere: its sum is right with another directory in word 125, which names none, or that other one leads to it
 abbrev pub is_displaced : List ℕ → ℕ → Bool

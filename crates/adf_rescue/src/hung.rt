@@ -1,18 +1,18 @@
 // The hung image: each lost header hangs in the directory that it names, if that is found, lost itself or made.
 
-ghost use Rattle.std.specs.Prelude.{◌≡◌, ◌≢◌, ◌<◌, ◌≤◌, ◌||◌, ◌&&◌, ◌==◌, ◌↔◌, ℕ, Bool, List, Some, None, true, false, cond};
-ghost use Rattle.std.specs.Prelude.{length, is_some, option_map, slice_index, IfOk, IfSome, IsSome, IsTrue, OnErr, OnOk};
+ghost use Rattle.std.specs.Prelude.{◌≡◌, ◌≢◌, ◌<◌, ◌≤◌, ◌||◌, ◌&&◌, ◌==◌, ℕ, Bool, List, Some, None, true, false, cond};
+ghost use Rattle.std.specs.Prelude.{length, is_some, option_map, slice_index, IfOk, IfSome, OnErr, OnOk};
 ghost use Rattle.adf_base.specs.Words.{block, with_block};
-ghost use Rattle.adf_names.specs.Texts.{is_name};
 ghost use Rattle.adf_blocks.specs.{HeadBlock.head_block, Sizes.blocks};
 ghost use Rattle.adf_blocks.specs.declared.layout.TheConstants.{CHECKSUM, PARENT};
-ghost use Rattle.adf_volume.specs.{Image.kind_of, Image.name_of, Image.word_in, Start.is_image_len, Walk.heads, Walk.node_block, Walk.Walk};
+ghost use Rattle.adf_volume.specs.{Image.kind_of, Image.word_in, Start.is_image_len, Walk.heads, Walk.node_block, Walk.Walk};
 ghost use Rattle.adf_findings.specs.{Members.owning_entry, Members.owns, Members.has_mark, Survey.OnSurvey};
 ghost use Rattle.adf_rescue.specs.Lost.{AreLost, IsEvidence, directory_at, has_findings, is_vacant, lost_among};
 ghost use Rattle.adf_rescue.specs.{Rescue.lost_name, Hung.second_image, Hung.slot_word};
 ghost use Rattle.adf_rescue.specs.Hung.{AreEnds, AreLoose, directory_end, emptied, home, hung, hung_at, hung_in, hung_loose};
-ghost use Rattle.adf_rescue.specs.Hung.{is_container, is_loose, is_made, is_named_by, made_header, slotted, open_end, ready_in, readied};
+ghost use Rattle.adf_rescue.specs.Hung.{is_container, is_loose, is_made, made_header, open_end, ready_in, readied};
 
+use crate::chains::leads_to;
 use crate::image::{block_count, root_of};
 use crate::lost::{
     Evidence, directory_at, gather, in_range, is_vacant, lost, mark, says_directory, word_in,
@@ -21,41 +21,13 @@ use crate::opened::copied;
 use crate::rooms::lost_name;
 use adf_base::{NO_STAMP, NoMemory, seal, set_bytes, set_word};
 use adf_blocks::{FIRST_SLOT, HeadOut, HeadOutBody, NEXT_IN_CHAIN, PARENT, SLOTS, write_head};
-use adf_findings::{Survey, has_mark, slot_named};
+use adf_findings::{Survey, has_mark};
 use adf_tree::{Comment, Meta, Name, Node};
 use adf_volume::is_image_len;
 use std::alloc::Global;
 
 // The word of the checksum of a header and the root.
 const CHECKSUM: usize = 5;
-
-/// The block that directory `p` has in the slot of the name of header `b`; `None` if that name is not valid.
-#[tactic(auto, using(crate::proofs::MadeRoots::sized))]
-pub fn slotted(image: &[u8], p: u32, b: u32) -> Option<u32>
-    requires sized { is_image_len (length image.now) ≡ true }
-    requires inside { b < blocks image.now }
-    requires home { p < blocks image.now }
-    ensures some { IsSome result ↔ IsTrue (is_name (name_of image.now b)) }
-    ensures first { IfSome result (λ c. c ≡ slotted image.now p b) }
-{
-    match slot_named(image, b) {
-        Some(slot) => Some(word_in(image, p, FIRST_SLOT + usize::from(slot))),
-        None => None,
-    }
-}
-
-// Whether the table of directory `p` names header `b`, in the slot of its name.
-fn is_named_by(image: &[u8], p: u32, b: u32) -> bool
-    requires sized { is_image_len (length image.now) ≡ true }
-    requires inside { b < blocks image.now }
-    requires home { p < blocks image.now }
-    ensures { result ≡ is_named_by image.now p b }
-{
-    match slotted(image, p, b) {
-        Some(first) => first == b,
-        None => false,
-    }
-}
 
 // The word of the slot that block `b` is hung in, in directory `p`.
 fn slot_word(survey: &Survey<'_>, p: u32, b: u32) -> usize
@@ -65,7 +37,7 @@ fn slot_word(survey: &Survey<'_>, p: u32, b: u32) -> usize
     ensures exact { result ≡ slot_word survey.now.image p b }
     ensures small { result < 78 }
 {
-    let half = if is_named_by(survey.image(), p, b) {
+    let half = if leads_to(survey.image(), p, b) {
         0
     } else {
         SLOTS / 2

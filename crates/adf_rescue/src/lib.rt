@@ -2,6 +2,7 @@
 #![tactic(auto)]
 
 mod broken;
+mod chains;
 mod claims;
 mod doubts;
 mod hung;

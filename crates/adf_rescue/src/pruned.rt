@@ -8,11 +8,11 @@ ghost use Rattle.adf_volume.specs.{Image.root_of, Image.word_in, Start.is_image_
 ghost use Rattle.adf_rescue.specs.Pruned.{IsMended, chain_leads, chain_pruned, directory_typed, extension_pruned};
 ghost use Rattle.adf_rescue.specs.Pruned.{has_directory_type, header_pruned, is_child_of, is_in_doubt, leads_to_child};
 ghost use Rattle.adf_rescue.specs.Pruned.{may_be_pruned, pruned, pruned_at};
-ghost use Rattle.adf_rescue.specs.Pruned.{chain_has, homed, is_displaced, is_home, leads_to, parent_summed, put_unless};
+ghost use Rattle.adf_rescue.specs.Pruned.{homed, is_displaced, is_home, parent_summed, put_unless};
 ghost use Rattle.adf_rescue.specs.Pruned.{slot_pruned, slots_pruned};
 
+use crate::chains::leads_to;
 use crate::claims::{claims_cache, claims_extension, claims_header};
-use crate::hung::slotted;
 use crate::image::{block_count, block_in, root_of};
 use crate::lost::{in_range, says_directory, word_in};
 use adf_base::{BLOCK_LEN, seal, seal_block, set_word};
@@ -160,38 +160,6 @@ fn is_home(image: &[u8], p: u32) -> bool
     ensures { result ≡ is_home image.now p }
 {
     p == root_of(image) || in_range(image, p) && says_directory(image, p)
-}
-
-// Whether block `b` is one of the first 72 members of the chain that begins with block `first`.
-#[tactic(auto, using(crate::proofs::PrunedImages::chain_steps))]
-fn chain_has(image: &[u8], first: u32, b: u32) -> bool
-    requires { is_image_len (length image.now) ≡ true }
-    ensures { result ≡ chain_has image.now SLOTS first b }
-{
-    let mut member = first;
-    for _ in 0..SLOTS as usize {
-        if member == b {
-            return true;
-        }
-        if !claims_header(image, member) {
-            return false;
-        }
-        member = word_in(image, member, NEXT_IN_CHAIN);
-    }
-    false
-}
-
-// Whether directory `p` leads to header `b`.
-fn leads_to(image: &[u8], p: u32, b: u32) -> bool
-    requires sized { is_image_len (length image.now) ≡ true }
-    requires inside { b < blocks image.now }
-    requires home { p < blocks image.now }
-    ensures { result ≡ leads_to image.now p b }
-{
-    match slotted(image, p, b) {
-        Some(first) => chain_has(image, first, b),
-        None => false,
-    }
 }
 
 // Whether header `b` belongs to another directory than it names.

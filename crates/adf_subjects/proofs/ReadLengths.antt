@@ -12,7 +12,7 @@ use Rattle.adf_partitions.specs.Summed.{holds}
 use Rattle.adf_subjects.specs.{Lengths.AreFew, Lengths.other_length, Lengths.stated_length, Lengths.usual_length, Subject.as_long, Subject.meant}
 use Rattle.adf_subjects.specs.{Subject.subject, Subject.subject_read, declared.lengths.TheConstants.DD_BLOCKS, declared.lengths.TheConstants.HD_BLOCKS}
 use Rattle.adf_rescue.specs.MadeRoot.{is_like_root}
-use Rattle.adf_subjects.specs.Lengths.{are_asked, blocks_read, is_like_root_at, is_other_length, is_root_at, is_whole_root}
+use Rattle.adf_subjects.specs.Lengths.{are_asked, blocks_read, has_root_words, is_like_root_at, is_other_length, is_root_at}
 
 -- no more blocks are read than a volume may have
 
@@ -88,7 +88,7 @@ module _ (image bytes : List ℕ) (e : image ≡ take (512 * MOST_BLOCKS + 1) by
   same_like k low = ap₂ (λ (h : Bool) (l : List ℕ). h && is_like_root l) (same_held k low) (same_block k low)
 
   same_root : (k : ℕ) → k < MOST_BLOCKS → is_root_at image k ≡ is_root_at bytes k
-  same_root k low = ap₂ (λ (h : Bool) (l : List ℕ). h && is_whole_root l) (same_held k low) (same_block k low)
+  same_root k low = ap₂ (λ (h : Bool) (l : List ℕ). h && has_root_words l) (same_held k low) (same_block k low)
 
   pub same_stated : (asked : Option ℕ) → stated_length asked image ≡ stated_length asked bytes
   same_stated None = min-eq_left (omega arith) ∙ sym (min-eq_left (omega arith))

@@ -1,11 +1,11 @@
 -- Runs of findings, one after another, and their lines.
 -- Letters: w a walk, fs its findings, f one of them; r, s runs; k a place among the findings.
-use Rattle.std.proofs.Common.{◌≡◌, ◌∙◌, ◌++◌, ◌+◌, ◌≤◌, List, Some, None, [], ◌∷◌, ℕ, zero, suc, true, false, drop, length, refl, sym, ap, ap₂, append_assoc}
+use Rattle.std.proofs.Common.{◌≡◌, ◌∙◌, ◌++◌, ◌+◌, ◌≤◌, Bool, List, Some, None, [], ◌∷◌, ℕ, zero, suc, true, false, drop, length, refl, sym, ap, ap₂, append_assoc}
 use Rattle.std.proofs.{Common.append-nil, Common.arith, lemmas.List.drop_all}
 use Rattle.std.specs.{Prelude.option_map, Prelude.slice_get, List.flat_map}
 use Rattle.adf_volume.specs.Walk.{Walk}
 use Rattle.adf_findings.specs.Survey.{FindingValue}
-use Rattle.adf_subjects.specs.{Lines.continues, Lines.findings_line, Lines.findings_text, Lines.run_of, Lines.runs, Lines.runs_from, declared.runs.Run.Run}
+use Rattle.adf_subjects.specs.{Lines.continues, Lines.findings_text, Lines.run_line, Lines.run_of, Lines.runs, Lines.runs_from, declared.runs.Run.Run}
 
 module _ (w : Walk) where
   -- a finding at a place
@@ -59,15 +59,15 @@ module _ (w : Walk) where
   unfolding runs_from
   run_last fs k r at = let le = past fs k at in rw drop_all refl
 
-module _ (image : List ℕ) (w : Walk) where
+module _ (json : Bool) (image : List ℕ) (w : Walk) where
   -- the line of a run, and those that are to come
   pub line_first : (r : Run) (rest fs : List FindingValue) (text text' : List ℕ) → r ∷ runs w rest ≡ runs w fs
-      → text' ≡ text ++ findings_line image w r
-      → text' ++ findings_text image w rest ≡ text ++ findings_text image w fs
+      → text' ≡ text ++ run_line json image w r
+      → text' ++ findings_text json image w rest ≡ text ++ findings_text json image w fs
   line_first r rest fs text text' e t =
-      ap (λ l. l ++ findings_text image w rest) t ∙ append_assoc text (findings_line image w r) (findings_text image w rest)
-      ∙ ap (λ rs. text ++ flat_map (findings_line image w) rs) e
+      ap (λ l. l ++ findings_text json image w rest) t ∙ append_assoc text (run_line json image w r) (findings_text json image w rest)
+      ∙ ap (λ rs. text ++ flat_map (run_line json image w) rs) e
 
   -- no line is to come
-  pub lines_end : (fs : List FindingValue) (k : ℕ) (text : List ℕ) → length fs ≤ k → text ++ findings_text image w (drop k fs) ≡ text
+  pub lines_end : (fs : List FindingValue) (k : ℕ) (text : List ℕ) → length fs ≤ k → text ++ findings_text json image w (drop k fs) ≡ text
   lines_end fs k text le = rw drop_all (append-nil text)

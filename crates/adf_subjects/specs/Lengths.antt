@@ -2,7 +2,7 @@
 -- Letters: asked the number that is asked for, if there is one; n a number of blocks; b the number of a block.
 use Rattle.std.specs.Prelude.{ℕ, ◌≤◌, ◌/◌, ◌==◌, ◌&&◌, not, min, nat_le, Bool, true, cond, List, Option, None, Some, IfSome, unwrap_or}
 use Rattle.std.specs.Option.{option_or}
-use Rattle.adf_base.specs.Words.{block, long_sum, word}
+use Rattle.adf_base.specs.Words.{block, word}
 use Rattle.adf_blocks.specs.{declared.layout.TheConstants.HASH_SIZE, declared.layout.TheConstants.MOST_BLOCKS, declared.layout.TheConstants.SLOTS, Sizes.blocks}
 use Rattle.adf_findings.specs.Start.{has_root_type}
 use Rattle.adf_partitions.specs.Summed.{holds}
@@ -17,13 +17,13 @@ AreFew blocks = IfSome blocks (λ n. n ≤ MOST_BLOCKS)
 abbrev pub is_like_root_at : List ℕ → ℕ → Bool
 is_like_root_at input b = holds input b && is_like_root (block input b)
 
--- the bytes of a block are a root: by the three words and the sum
-abbrev pub is_whole_root : List ℕ → Bool
-is_whole_root b = has_root_type b && ((word b HASH_SIZE == SLOTS) && (long_sum b == 0))
+-- the bytes of a block have the three words of a root: its two types, and the size of its table
+abbrev pub has_root_words : List ℕ → Bool
+has_root_words b = has_root_type b && (word b HASH_SIZE == SLOTS)
 
--- the input holds block b, and it is a root
+-- the input holds block b, and it has the words of a root
 abbrev pub is_root_at : List ℕ → ℕ → Bool
-is_root_at input b = holds input b && is_whole_root (block input b)
+is_root_at input b = holds input b && has_root_words (block input b)
 
 -- the number of blocks that is stated: what is asked for, or what the input has, but at most as many as a volume may have
 abbrev pub stated_length : Option ℕ → List ℕ → ℕ

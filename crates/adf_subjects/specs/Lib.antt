@@ -1,5 +1,6 @@
 -- The promise: what is surveyed, the lines of its findings, and what a rescue gives.
 pub mod Lengths
+pub mod Remarks
 pub mod Lines
 pub mod Subject
 pub mod Losses

@@ -1,13 +1,14 @@
--- The lines of findings.
+-- The lines of findings, and their objects.
 -- Letters: w the walk of an image's survey, fs its findings; f a finding; r, s runs; n, m entries' nodes; b a block.
 use Rattle.std.specs.Prelude.{ℕ, ◌+◌, ◌==◌, ◌&&◌, ◌||◌, Bool, true, false, List, [], ◌∷◌, ◌++◌, Option, Some, None, codes, if◌then◌else◌}
-use Rattle.std.specs.{Fmt.decimal, List.flat_map}
+use Rattle.std.specs.List.{flat_map, join_with_byte}
 use Rattle.adf_blocks.specs.Causes.{cause_number, cause_text}
 use Rattle.adf_volume.specs.Walk.{Walk}
 use Rattle.adf_findings.specs.declared.concern.Concern.{Concern, TheVariants.Entry, TheVariants.Within}
 use Rattle.adf_findings.specs.{Concerned.concern_of, Concerned.taker_of, Lookup.path_to, Survey.FindingValue}
 use Rattle.adf_texts.specs.Names.{names_text}
-use Rattle.adf_subjects.specs.declared.runs.Run.{Run}
+use Rattle.adf_json.specs.Objects.{JsonValue, MemberValue, characters, member, nothing, numeral, object_line, truth}
+use Rattle.adf_subjects.specs.{Remarks.blocks_text, declared.runs.Run.Run}
 
 -- a finding by itself
 abbrev pub run_of : Walk → FindingValue → Run
@@ -45,11 +46,6 @@ abbrev pub runs : Walk → List FindingValue → List Run
 runs w [] = []
 runs w (f ∷ fs) = runs_from w (run_of w f) fs
 
--- the blocks of a run
-abbrev pub blocks_text : ℕ → ℕ → List ℕ
-blocks_text first last =
-    if first == last then codes "block " ++ decimal first else codes "blocks " ++ (decimal first ++ (codes " to " ++ decimal last))
-
 -- what a run concerns: the path of an entry, or of the directory in which a header was skipped, and `/` behind it
 abbrev pub concern_text : List ℕ → Walk → Option Concern → List ℕ
 concern_text image w None = []
@@ -67,6 +63,43 @@ findings_line image w r =
     blocks_text r.first r.last
     ++ (codes ": " ++ (cause_text r.cause ++ (concern_text image w r.concern ++ (owner_text image w r.owner ++ codes "\n"))))
 
--- the lines of findings
-abbrev pub findings_text : List ℕ → Walk → List FindingValue → List ℕ
-findings_text image w fs = flat_map (findings_line image w) (runs w fs)
+-- the names of the path of an entry, joined by `/`; empty where there is no entry
+abbrev pub entry_path : List ℕ → Walk → Option ℕ → List ℕ
+entry_path image w None = []
+entry_path image w (Some n) = join_with_byte 47 (path_to image w n)
+
+-- the value of the path of an entry, where there is one
+abbrev pub path_value : Option ℕ → (path : List ℕ) → JsonValue
+path_value None path = nothing
+path_value (Some n) path = characters path
+
+-- the entry that a run concerns, or the directory in which a header was skipped
+abbrev pub concerned : Option Concern → Option ℕ
+concerned None = None
+concerned (Some (Entry n)) = Some n
+concerned (Some (Within n)) = Some n
+
+-- a header was skipped
+abbrev pub is_within : Option Concern → Bool
+is_within (Some (Within n)) = true
+is_within _ = false
+
+-- the members of the object of a run, with the path of what it concerns and that of the entry that holds its blocks
+unfoldable pub run_members : Run → (path owner : List ℕ) → List MemberValue
+run_members r path owner = member (codes "line") (characters (codes "finding")) ∷ member (codes "first") (numeral r.first)
+    ∷ member (codes "last") (numeral r.last) ∷ member (codes "cause") (characters (cause_text r.cause))
+    ∷ member (codes "path") (path_value (concerned r.concern) path) ∷ member (codes "within") (truth (is_within r.concern))
+    ∷ member (codes "owner") (path_value r.owner owner) ∷ []
+
+-- the object of a run
+abbrev pub finding_object : List ℕ → Walk → Run → List ℕ
+finding_object image w r = object_line (run_members r (entry_path image w (concerned r.concern)) (entry_path image w r.owner))
+
+-- the line of a run, or with `json` its object
+abbrev pub run_line : (json : Bool) → List ℕ → Walk → Run → List ℕ
+run_line false image w r = findings_line image w r
+run_line true image w r = finding_object image w r
+
+-- the lines of findings, or with `json` their objects
+abbrev pub findings_text : (json : Bool) → List ℕ → Walk → List FindingValue → List ℕ
+findings_text json image w fs = flat_map (run_line json image w) (runs w fs)

@@ -14,7 +14,7 @@ use Rattle.adf_rescue.specs.{declared.doubts.Doubt.Doubt, declared.doubts.Doubtf
 use Rattle.adf_rescue.specs.declared.left_out.Why.TheVariants as why
 use Rattle.adf_rescue.specs.declared.doubts.Doubt.TheVariants as doubt
 use Rattle.adf_texts.specs.Names.{names_text}
-use Rattle.adf_subjects.specs.{Lines.blocks_text, declared.losses.BlockRun.BlockRun, declared.losses.Loss.Loss}
+use Rattle.adf_subjects.specs.{Remarks.blocks_text, declared.losses.BlockRun.BlockRun, declared.losses.Loss.Loss}
 use Rattle.adf_subjects.specs.declared.losses.Reason.{Reason, TheVariants.Blocks, TheVariants.Damaged, TheVariants.FoundAgain, TheVariants.Headers}
 use Rattle.adf_subjects.specs.declared.losses.Reason.{TheVariants.InDoubt, TheVariants.Link, TheVariants.Made, TheVariants.NoRoom}
 use Rattle.adf_subjects.specs.declared.losses.Reason.{TheVariants.PerhapsDeleted}

@@ -1,23 +1,23 @@
 -- What is surveyed of an input.
 -- Letters: s, t what is surveyed; w the walk of a survey; n a number of blocks; stated the number that is stated, asked the one that is asked for;
 -- end a block.
-use Rattle.std.specs.Prelude.{◌≡◌, ◌+◌, ◌*◌, ◌-◌, ◌%◌, ◌==◌, ◌++◌, ◌∷◌, ℕ, Bool, not, List, [], Option, None, Some, codes, cond, length, min, nat_lt}
+use Rattle.std.specs.Prelude.{◌≡◌, ◌+◌, ◌*◌, ◌-◌, ◌%◌, ◌==◌, ◌++◌, ◌∷◌, ℕ, Bool, not, List, [], Option, None, Some, cond, length, min, nat_lt}
 use Rattle.std.specs.Prelude.{replicate, slice_index, take}
-use Rattle.adf_names.specs.VolumeTypes.{kind_text_by, letters_of_type}
-use Rattle.adf_names.specs.declared.kind.Kind.{Kind, TheVariants.Ofs, TheVariants.Ffs}
 use Rattle.adf_blocks.specs.{declared.layout.TheConstants.MOST_BLOCKS, Sizes.blocks}
 use Rattle.adf_volume.specs.Walk.{Walk}
 use Rattle.adf_findings.specs.{OwnKind.is_mistyped, OwnKind.retyped, OwnKind.told_type, Survey.FindingValue, Survey.IsSurvey}
 use Rattle.adf_rescue.specs.{Hung.second_image, Opened.lacks_boot, Opened.lacks_root, Opened.opened, Opened.with_boot_type}
 use Rattle.adf_runs.specs.Commands.{Reply}
-use Rattle.adf_subjects.specs.{Lengths.blocks_read, Lengths.stated_length, Lines.blocks_text, Lines.findings_text, declared.subject.Subject.Subject}
+use Rattle.adf_subjects.specs.{Lengths.blocks_read, Lengths.stated_length, Lines.findings_text, declared.subject.Subject.Subject}
+use Rattle.adf_subjects.specs.{Remarks.remark, Remarks.remarks_text, declared.remarks.Remark.Remark, declared.remarks.Saying.Saying}
+use Rattle.adf_subjects.specs.declared.remarks.Saying.TheVariants.{NoData, Behind, NotDos, FilesOf}
 use Rattle.adf_subjects.specs.Losses.{LossValue, run_loss, runs_lost}
 
--- an image; the first block that the input does not hold; the lines in front of those of the findings; the losses of the blocks that it has not
+-- an image; the first block that the input does not hold; the remarks in front of the findings; the losses of the blocks that it has not
 pub record SubjectValue : Type 0 where
   pub image : List ℕ
   pub end : ℕ
-  pub front : List ℕ
+  pub front : List Remark
   pub lost : List LossValue
 
 -- the value of a subject
@@ -45,13 +45,13 @@ meant asked input = as_long (blocks_read asked input) input
 abbrev pub held_end : ℕ → List ℕ → ℕ
 held_end n input = min n (blocks input)
 
--- the line of the blocks of an image of n blocks that the input does not hold, if there are any
-abbrev pub missing_text : ℕ → ℕ → List ℕ
-missing_text end n = cond (nat_lt end n) (blocks_text end (n - 1) ++ codes ": no data\n") []
+-- the remark on the blocks of an image of n blocks that the input does not hold, if there are any
+abbrev pub missing : ℕ → ℕ → List Remark
+missing end n = cond (nat_lt end n) (remark end (n - 1) NoData ∷ []) []
 
--- the line of the blocks that are stated and not read, if there are any
-abbrev pub behind_text : ℕ → ℕ → List ℕ
-behind_text n stated = cond (nat_lt n stated) (blocks_text n (stated - 1) ++ codes ": behind the volume\n") []
+-- the remark on the blocks that are stated and not read, if there are any
+abbrev pub behind : ℕ → ℕ → List Remark
+behind n stated = cond (nat_lt n stated) (remark n (stated - 1) Behind ∷ []) []
 
 -- the loss of these blocks
 abbrev pub behind_loss : ℕ → ℕ → List LossValue
@@ -62,35 +62,23 @@ abbrev pub subject_read : (stated : ℕ) → Option ℕ → List ℕ → Subject
 subject_read stated None input = record { image = input; end = held_end MOST_BLOCKS input; front = []; lost = [] }
 subject_read stated (Some n) input =
     let end = held_end n input in
-    record { image = sized n input; end = end; front = missing_text end n ++ behind_text n stated; lost = behind_loss n stated }
+    record { image = sized n input; end = end; front = missing end n ++ behind n stated; lost = behind_loss n stated }
 
 -- what is surveyed of an input, as it is or as if it had so many blocks: of as many as are read
 abbrev pub subject : Option ℕ → List ℕ → SubjectValue
 subject asked input = subject_read (stated_length asked input) (blocks_read asked input) input
 
--- the lines of the findings, with those in front
-abbrev pub subject_text : SubjectValue → Walk → List FindingValue → List ℕ
-subject_text s w fs = s.front ++ findings_text s.image w fs
+-- the lines of the remarks and the findings, or with `json` their objects
+abbrev pub subject_text : (json : Bool) → SubjectValue → Walk → List FindingValue → List ℕ
+subject_text json s w fs = remarks_text json s.front ++ findings_text json s.image w fs
 
--- another image in its place, and one more line
-abbrev pub changed : SubjectValue → List ℕ → List ℕ → SubjectValue
-changed s image line = record { image = image; end = s.end; front = s.front ++ line; lost = s.lost }
+-- another image in its place, and one more remark on block 0
+abbrev pub changed : SubjectValue → List ℕ → Saying → SubjectValue
+changed s image says = record { image = image; end = s.end; front = s.front ++ remark 0 0 says ∷ []; lost = s.lost }
 
 -- with `DOS` and a type, where only the boot block is lost
 abbrev pub begun_subject : SubjectValue → SubjectValue
-begun_subject s = cond (lacks_boot s.image) (changed s (with_boot_type s.image) (codes "block 0: not dos\n")) s
-
--- the kind of a volume of this type: FFS if it is odd
-abbrev pub kind_of_type : ℕ → Kind
-kind_of_type type = cond (type % 2 == 0) Ofs Ffs
-
--- the word for the kind and the letters of a volume of this type, 0 to 3
-abbrev pub type_word : ℕ → List ℕ
-type_word type = kind_text_by (letters_of_type type) (kind_of_type type)
-
--- the line of a volume whose type is not the one that its files tell
-unfoldable pub type_line : ℕ → List ℕ
-type_line type = codes "block 0: files of " ++ (type_word type ++ codes "\n")
+begun_subject s = cond (lacks_boot s.image) (changed s (with_boot_type s.image) NotDos) s
 
 -- the type that the entries of an image tell, by the walk of its survey; none if it is the image's own
 abbrev pub other_type : List ℕ → Walk → Option ℕ
@@ -101,7 +89,7 @@ abbrev pub retyped_subject : SubjectValue → ℕ → SubjectValue
 retyped_subject s type = record {
   image = retyped (with_boot_type s.image) type;
   end = s.end;
-  front = s.front ++ type_line type;
+  front = s.front ++ remark 0 0 (FilesOf type) ∷ [];
   lost = s.lost ++ run_loss 0 0 ∷ [];
 }
 

@@ -2,7 +2,7 @@
 
 ghost use Rattle.std.specs.Prelude.{◌≡◌, ◌/◌};
 ghost use Rattle.adf_subjects.specs.Lengths.{are_asked, blocks_read, is_like_root_at, is_other_length, is_root_at};
-ghost use Rattle.adf_subjects.specs.Lengths.{is_whole_root, other_length, stated_length};
+ghost use Rattle.adf_subjects.specs.Lengths.{has_root_words, other_length, stated_length};
 
 use adf_base::{BLOCK_LEN, Block};
 use adf_blocks::{MOST_BLOCKS, SLOTS, has_root_type};
@@ -27,19 +27,19 @@ fn is_like_root_at(input: &[u8], b: u32) -> bool
     }
 }
 
-// Whether a block is a root: by the three words and the sum.
-fn is_whole_root(block: &Block<'_>) -> bool
-    ensures { result ≡ is_whole_root block.now }
+// Whether a block has the three words of a root.
+fn has_root_words(block: &Block<'_>) -> bool
+    ensures { result ≡ has_root_words block.now }
 {
-    has_root_type(block) && block.word(HASH_SIZE) == SLOTS && block.long_sum() == 0
+    has_root_type(block) && block.word(HASH_SIZE) == SLOTS
 }
 
-// Whether the input holds a block that is a root.
+// Whether the input holds a block that has the words of a root.
 fn is_root_at(input: &[u8], b: u32) -> bool
     ensures { result ≡ is_root_at input.now b }
 {
     match Block::at(input, b) {
-        Some(block) => is_whole_root(&block),
+        Some(block) => has_root_words(&block),
         None => false,
     }
 }

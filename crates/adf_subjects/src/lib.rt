@@ -4,11 +4,13 @@
 mod lengths;
 mod losses;
 mod preparing;
+mod remarks;
 mod runs;
 mod subject;
 
 pub use crate::lengths::{blocks_read, stated_length};
 pub use crate::losses::{BlockRun, Loss, Reason};
 pub use crate::preparing::{Prepared, Unrescued, prepare};
-pub use crate::runs::{Run, push_blocks, run_from, write_runs};
+pub use crate::remarks::{Remark, Saying, push_blocks};
+pub use crate::runs::{Run, run_from, write_runs};
 pub use crate::subject::{Subject, other_type};

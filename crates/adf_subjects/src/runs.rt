@@ -1,19 +1,22 @@
 // Runs of findings, and their lines.
 
-ghost use Rattle.std.specs.Prelude.{◌≡◌, ◌++◌, ◌∷◌, ◌<◌, ◌≤◌, ◌^◌, [], IfNone, IfSome, OnErr, OnOk, drop, false, length};
+ghost use Rattle.std.specs.Prelude.{◌≡◌, ◌++◌, ◌∷◌, ◌<◌, ◌≤◌, ◌^◌, [], IfNone, IfOk, IfSome, OnErr, OnOk, drop, false, length, map};
 ghost use Rattle.std.specs.{Prelude.option_map, Prelude.slice_get, Io.KnownBytes.Appends};
 ghost use Rattle.adf_volume.specs.Walk.{Walk};
 ghost use Rattle.adf_findings.specs.Concerned.{concern_of, taker_of};
 ghost use Rattle.adf_findings.specs.{Lookup.path_to, Parts.finding_value, Survey.OnSurvey};
 ghost use Rattle.adf_texts.specs.Names.{names_text};
 ghost use Rattle.adf_runs.specs.Streams.{AppendsPart, is_device};
-ghost use Rattle.adf_subjects.specs.Lines.{are_owned_alike, are_one, blocks_text, concern_text, continues, is_beside};
-ghost use Rattle.adf_subjects.specs.Lines.{findings_line, findings_text, owner_text, run_of, runs};
+ghost use Rattle.adf_json.specs.Objects.{member, member_value};
+ghost use Rattle.adf_subjects.specs.Lines.{are_owned_alike, are_one, concern_text, concerned, continues, finding_object, is_beside};
+ghost use Rattle.adf_subjects.specs.Lines.{findings_line, findings_text, is_within, entry_path, owner_text, path_value, run_line, run_members, run_of, runs};
 
+use crate::remarks::push_blocks;
 use adf_blocks::Cause;
 use adf_findings::{Concern, Finding, Survey};
+use adf_json::{Member, Value, joined, push_object};
 use adf_runs::{Sink, StreamFault, flush_long, write_all};
-use adf_texts::{push_names, push_number};
+use adf_texts::push_names;
 use adf_tree::Node;
 use std::alloc::{AllocError, Global};
 
@@ -115,20 +118,6 @@ pub fn run_from(survey: &Survey<'_>, k: usize) -> Option<(Run, usize)>
     Some((run, next))
 }
 
-/// Appends the blocks of a run, then a byte.
-pub fn push_blocks(text: &mut Vec<u8>, first: u32, last: u32, end: u8) -> Result<(), AllocError>
-    ensures { OnOk result (text.new.items ≡ text.old.items ++ (blocks_text first last ++ end ∷ [])) }
-{
-    if first == last {
-        text.extend_from_slice(b"block ")?;
-    } else {
-        text.extend_from_slice(b"blocks ")?;
-        push_number(text, first, b' ')?;
-        text.extend_from_slice(b"to ")?;
-    }
-    push_number(text, last, end)
-}
-
 /// Appends the path of an entry, 0 for the root.
 pub fn push_path(
     alloc: Global,
@@ -187,7 +176,7 @@ fn push_owner(
 }
 
 // Appends the line of a run.
-fn push_run(
+fn push_line(
     alloc: Global,
     survey: &Survey<'_>,
     run: &Run,
@@ -204,27 +193,120 @@ fn push_run(
     text.extend_from_slice(b"\n")
 }
 
-/// Writes the lines that wait, then those of the findings; those of neighbouring blocks are one. `Device` if the writer
+// The path of an entry, where there is one.
+fn path_of(alloc: Global, survey: &Survey<'_>, n: Option<Node>) -> Result<Vec<u8>, AllocError>
+    ensures { OnSurvey survey.now.image (λ w _. IfOk result (λ path. path.items ≡ entry_path survey.now.image w n)) }
+{
+    let Some(n) = n else {
+        return Ok(Vec::new(alloc));
+    };
+    match survey.path(alloc, n) {
+        Ok(names) => joined(alloc, &names),
+        Err(_) => Err(AllocError),
+    }
+}
+
+// The member of the path of an entry, where there is one.
+fn path_member<'a>(name: &'a str, n: Option<Node>, path: &'a [u8]) -> Member<'a>
+    ensures { member_value result ≡ member name.now (path_value n path.now) }
+{
+    match n {
+        Some(_) => Member::bytes(name, path),
+        None => Member::of(name, Value::Nothing),
+    }
+}
+
+// The entry that is concerned, or the directory in which a header was skipped.
+fn concerned(concern: Option<Concern>) -> Option<Node>
+    ensures { result ≡ concerned concern }
+{
+    match concern {
+        Some(Concern::Entry(n) | Concern::Within(n)) => Some(Node(n as usize)),
+        None => None,
+    }
+}
+
+// Whether a header was skipped.
+fn is_within(concern: Option<Concern>) -> bool
+    ensures { result ≡ is_within concern }
+{
+    match concern {
+        Some(Concern::Within(_)) => true,
+        _ => false,
+    }
+}
+
+// The members of the object of a run, with these paths.
+#[tactic(auto, unfolding(crate::specs::Lines::run_members))]
+fn run_members<'a>(run: &Run, path: &'a [u8], owner: &'a [u8]) -> [Member<'a>; 7]
+    ensures { map member_value result ≡ run_members run.now path.now owner.now }
+{
+    [
+        Member::text("line", "finding"),
+        Member::number("first", run.first),
+        Member::number("last", run.last),
+        Member::text("cause", run.cause.text()),
+        path_member("path", concerned(run.concern), path),
+        Member::of("within", Value::Truth(is_within(run.concern))),
+        path_member("owner", run.owner, owner),
+    ]
+}
+
+// Appends the object of a run.
+fn push_run_object(
+    alloc: Global,
+    survey: &Survey<'_>,
+    run: &Run,
+    text: &mut Vec<u8>,
+) -> Result<(), AllocError>
+    ensures { OnSurvey survey.now.image (λ w _. OnOk result
+        (text.new.items ≡ text.old.items ++ finding_object survey.now.image w run.now)) }
+{
+    let path = path_of(alloc, survey, concerned(run.concern))?;
+    let owner = path_of(alloc, survey, run.owner)?;
+    push_object(text, &run_members(run, &path, &owner))
+}
+
+// Appends the line of a run, or with `json` its object.
+fn push_run(
+    alloc: Global,
+    survey: &Survey<'_>,
+    run: &Run,
+    json: bool,
+    text: &mut Vec<u8>,
+) -> Result<(), AllocError>
+    ensures { OnSurvey survey.now.image (λ w _. OnOk result
+        (text.new.items ≡ text.old.items ++ run_line json survey.now.image w run.now)) }
+{
+    if json {
+        push_run_object(alloc, survey, run, text)
+    } else {
+        push_line(alloc, survey, run, text)
+    }
+}
+
+/// Writes the text that waits, then the lines of the findings, or with `json` their objects; those of neighbouring blocks are one. `Device` if the writer
 /// failed, `NoMemory` if an allocation failed; then a front part of the lines is written, and if the writer failed not all of
 /// them.
 pub fn write_runs<W: Sink>(
     alloc: Global,
     survey: &Survey<'_>,
     mut text: Vec<u8>,
+    json: bool,
     output: &mut W,
 ) -> Result<(), StreamFault>
     requires works { W.has_failed output.old ≡ false }
     ensures ok { OnSurvey survey.now.image (λ w fs.
         OnOk result (Appends (W.held output.old) (W.held output.new)
-        (text.items ++ findings_text survey.now.image w fs))) }
+        (text.items ++ findings_text json survey.now.image w fs))) }
     ensures err { OnSurvey survey.now.image (λ w fs. OnErr result (AppendsPart
         (W.has_failed output.new) (W.held output.old) (W.held output.new)
-        (text.items ++ findings_text survey.now.image w fs))) }
+        (text.items ++ findings_text json survey.now.image w fs))) }
     ensures failed { W.has_failed output.new ≡ is_device result }
 {
     let mut k = 0;
     while let Some((run, next)) = run_from(survey, k) {
-        push_run(alloc, survey, &run, &mut text)?;
+        push_run(alloc, survey, &run, json, &mut text)?;
         flush_long(output, &mut text)?;
         k = next;
     }

@@ -5,29 +5,28 @@ ghost use Rattle.adf_blocks.specs.declared.layout.TheConstants.{MOST_BLOCKS};
 ghost use Rattle.adf_findings.specs.{OwnKind.told_type, Survey.OnSurvey};
 ghost use Rattle.adf_rescue.specs.{Hung.second_image, Opened.lacks_root, Opened.opened};
 ghost use Rattle.adf_subjects.specs.Losses.{runs_lost};
-ghost use Rattle.adf_subjects.specs.Subject.{IsOtherType, IsTyped, begun_subject, behind_loss, behind_text, held_end, kind_image};
-ghost use Rattle.adf_subjects.specs.Subject.{missing_text, other_type, retyped_subject, sized, subject, subject_read};
-ghost use Rattle.adf_subjects.specs.Subject.{subject_value, type_line, type_word, unless_own, with_kind_of};
+ghost use Rattle.adf_subjects.specs.{Remarks.remark, Remarks.remarks_text};
+ghost use Rattle.adf_subjects.specs.Subject.{IsOtherType, IsTyped, begun_subject, behind, behind_loss, held_end, kind_image};
+ghost use Rattle.adf_subjects.specs.Subject.{missing, other_type, retyped_subject, sized, subject, subject_read};
+ghost use Rattle.adf_subjects.specs.Subject.{subject_value, unless_own, with_kind_of};
 
 use crate::lengths::{blocks_read, stated_length};
 use crate::losses::BlockRun;
-use crate::runs::push_blocks;
+use crate::remarks::{Remark, Saying, remarks_text};
 use adf_base::{BLOCK_LEN, NoMemory};
 use adf_blocks::MOST_BLOCKS;
 use adf_boot_blocks::BOOT_LEN;
 use adf_findings::{Survey, retype, some_survey, survey};
-use adf_names::{kind_text_by, letters_of_type};
 use adf_rescue::{begin_image, hung_image, is_mended, lacks_boot, lacks_root, open_image};
-use adf_tree::Kind;
 use std::alloc::{AllocError, Global};
 
-/// What is surveyed of an input: an image, the first block of it that the input does not hold, the lines in front of those
-/// of the findings, and the blocks that were stated and it does not have.
+/// What is surveyed of an input: an image, the first block of it that the input does not hold, the remarks in front of the
+/// findings, and the blocks that were stated and it does not have.
 #[derive(Drop)]
 pub struct Subject {
     pub image: Vec<u8>,
     pub end: u32,
-    pub front: Vec<u8>,
+    pub front: Vec<Remark>,
     pub lost: Vec<BlockRun>,
 }
 
@@ -57,30 +56,29 @@ fn held_end(blocks: u32, bytes: &[u8]) -> u32
     }
 }
 
-// The line of the blocks from `end` on that are not there.
-fn missing_line(alloc: Global, end: u32, blocks: u32) -> Result<Vec<u8>, AllocError>
-    ensures { IfOk result (λ text. text.items ≡ missing_text end blocks) }
+// The remarks on the blocks from `end` on that are not there, and on those that are stated behind so many.
+fn remarks_on(alloc: Global, end: u32, blocks: u32, stated: u32) -> Result<Vec<Remark>, AllocError>
+    ensures { IfOk result (λ remarks. remarks.items ≡ missing end blocks ++ behind blocks stated) }
 {
-    let mut text = Vec::new(alloc);
+    let mut remarks = Vec::new(alloc);
     if end < blocks {
-        push_blocks(&mut text, end, blocks - 1, b':')?;
-        text.extend_from_slice(b" no data\n")?;
+        remarks.push(Remark {
+            first: end,
+            last: blocks - 1,
+            says: Saying::NoData,
+        })?;
     }
-    Ok(text)
+    if blocks < stated {
+        remarks.push(Remark {
+            first: blocks,
+            last: stated - 1,
+            says: Saying::Behind,
+        })?;
+    }
+    Ok(remarks)
 }
 
-// Appends the line of the blocks that are stated behind so many, if there are any.
-fn push_behind(text: &mut Vec<u8>, blocks: u32, stated: u32) -> Result<(), AllocError>
-    ensures { OnOk result (text.new.items ≡ text.old.items ++ behind_text blocks stated) }
-{
-    if stated <= blocks {
-        return Ok(());
-    }
-    push_blocks(text, blocks, stated - 1, b':')?;
-    text.extend_from_slice(b" behind the volume\n")
-}
-
-// These blocks.
+// The blocks that are stated behind so many.
 fn behind_run(alloc: Global, blocks: u32, stated: u32) -> Result<Vec<BlockRun>, AllocError>
     ensures { IfOk result (λ runs. runs_lost runs.items ≡ behind_loss blocks stated) }
 {
@@ -94,26 +92,15 @@ fn behind_run(alloc: Global, blocks: u32, stated: u32) -> Result<Vec<BlockRun>, 
     Ok(runs)
 }
 
-// The word for the kind and the letters of a volume of a type, 0 to 3.
-fn type_word(number: u8) -> &'static str
-    ensures { result.now ≡ type_word number }
+// What is said of block 0.
+fn of_first(says: Saying) -> Remark
+    ensures { result ≡ remark 0 0 says }
 {
-    let kind = if number % 2 == 0 {
-        Kind::Ofs
-    } else {
-        Kind::Ffs
-    };
-    kind_text_by(letters_of_type(u32::from(number)), kind)
-}
-
-// Appends the line of a volume whose type is not the one that its files tell.
-#[tactic(auto, unfolding(crate::specs::Subject::type_line))]
-fn push_type_line(text: &mut Vec<u8>, type_told: u8) -> Result<(), AllocError>
-    ensures { OnOk result (text.new.items ≡ text.old.items ++ type_line type_told) }
-{
-    text.extend_from_slice(b"block 0: files of ")?;
-    text.extend_from_slice(type_word(type_told).as_bytes())?;
-    text.extend_from_slice(b"\n")
+    Remark {
+        first: 0,
+        last: 0,
+        says,
+    }
 }
 
 /// The type that the entries of a survey tell, if it is another than that of the image.
@@ -223,8 +210,7 @@ impl Subject {
         ensures { IfOk result (λ s. subject_value s ≡ subject_read stated (Some blocks) bytes.now) }
     {
         let end = held_end(blocks, bytes);
-        let mut front = missing_line(alloc, end, blocks)?;
-        push_behind(&mut front, blocks, stated)?;
+        let front = remarks_on(alloc, end, blocks, stated)?;
         Ok(Subject {
             image: sized(alloc, bytes, blocks)?,
             end,
@@ -253,11 +239,11 @@ impl Subject {
         }
     }
 
-    /// A copy of the lines in front.
-    pub fn lines(&self, alloc: Global) -> Result<Vec<u8>, AllocError>
-        ensures { IfOk result (λ text. text.items ≡ self.now.front.items) }
+    /// The lines of the remarks in front, or with `json` their objects.
+    pub fn lines(&self, alloc: Global, json: bool) -> Result<Vec<u8>, AllocError>
+        ensures { IfOk result (λ text. text.items ≡ remarks_text json self.now.front.items) }
     {
-        self.front.to_vec(alloc)
+        remarks_text(alloc, &self.front, json)
     }
 
     /// A copy of the boot blocks, with zeros for what is not there.
@@ -273,7 +259,7 @@ impl Subject {
         ensures { OnOk result (subject_value self.new ≡ begun_subject (subject_value self.old)) }
     {
         if lacks_boot(&self.image) {
-            self.front.extend_from_slice(b"block 0: not dos\n")?;
+            self.front.push(of_first(Saying::NotDos))?;
             begin_image(&mut self.image);
         }
         Ok(())
@@ -284,7 +270,7 @@ impl Subject {
         requires { 4 ≤ length self.old.image.items }
         ensures { OnOk result (subject_value self.new ≡ retyped_subject (subject_value self.old) type_told) }
     {
-        push_type_line(&mut self.front, type_told)?;
+        self.front.push(of_first(Saying::FilesOf(type_told)))?;
         self.lost.push(BlockRun::one(0))?;
         begin_image(&mut self.image);
         retype(&mut self.image, type_told);

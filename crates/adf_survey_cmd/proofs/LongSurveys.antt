@@ -18,8 +18,8 @@ use Rattle.adf_rescue.proofs.MadeRoots.{sized as sized_len}
 use Rattle.adf_cmd.proofs.LongInputs.{long_fault, too_large}
 use Rattle.adf_survey_cmd.specs.Answers.{CopiesFound, CopiesFromSurvey, ListsSurvey, QuestionAnswer, SurveyAnswer, Surveys, TellsFound, told_status, types_kept}
 use Rattle.adf_survey_cmd.specs.Hints.{disk_hint}
-use Rattle.adf_subjects.specs.{Lengths.AreFew, Lengths.blocks_read, Lengths.stated_length, Lines.findings_text, Lines.runs_from, Losses.LossValue}
-use Rattle.adf_subjects.specs.Subject.{IsTyped, OfTyped, SubjectValue, begun_subject, behind_loss, behind_text, held_end, missing_text, other_type}
+use Rattle.adf_subjects.specs.{Lengths.AreFew, Lengths.blocks_read, Lengths.stated_length, Lines.findings_text, Lines.runs_from, Losses.LossValue, Remarks.remarks_text}
+use Rattle.adf_subjects.specs.Subject.{IsTyped, OfTyped, SubjectValue, begun_subject, behind, behind_loss, held_end, missing, other_type}
 use Rattle.adf_subjects.specs.Subject.{IsOtherType, IsTypeTold, kind_image, sized, subject, subject_read, subject_text, typed_by}
 use Rattle.adf_survey_cmd.specs.CommandLine.{InquiryValue, QuestionValue, cat, list, report, rescue}
 use Rattle.adf_subjects.specs.Rescues.{IsNoVolume, RescueValue, Rescues, RescuesBoth, RescuesFound}
@@ -35,9 +35,10 @@ unfolding bad_size
 long_survey image h = unread (bad_boot (inl (too_large image h, refl, refl)) refl)
 
 -- one text, whatever the image
-same_text : (image bytes : List ℕ) → findings_text image [] bad_size ≡ findings_text bytes [] bad_size
+same_text : (json : Bool) (image bytes : List ℕ) → findings_text json image [] bad_size ≡ findings_text json bytes [] bad_size
 unfolding bad_size runs_from
-same_text image bytes = refl
+same_text false image bytes = refl
+same_text true image bytes = refl
 
 -- nothing is found, and so nothing is sound
 no_marks : (image : List ℕ) (fs : List FindingValue) → AreMarks image [] fs (λ n. false)
@@ -165,12 +166,13 @@ long_rescue types s t boot other a b r (refused, is, (w, fs, h, found)) =
 
 long_questions : (q : QuestionValue) (s t : SubjectValue) → s.front ≡ t.front → 512 * MOST_BLOCKS < length s.image
     → 512 * MOST_BLOCKS < length t.image → (reply : Reply) → QuestionAnswer q s reply → QuestionAnswer q t reply
-long_questions report s t front a b reply told = of_typed s t Surveys a b reply (λ x.
-    let e = of_long s.image x.0 x.1 (λ u gs. reply ≡ on_output (told_status s.front gs) (subject_text s u gs)) a x.2 x.3 in
-    ([], bad_size, long_survey t.image b, e ∙ ap₂ (λ f m. on_output (told_status f bad_size) (f ++ m)) front (same_text s.image t.image))) told
-long_questions list s t front a b reply told = of_typed s t ListsSurvey a b reply (λ x.
-    let (date, dates, sound, marks, e) = of_long s.image x.0 x.1 (λ u gs. TellsFound s u gs reply) a x.2 x.3 in
-    let same = ap₂ (λ f m. on_output (told_status f bad_size) ((f ++ m) ++ [])) front (same_text s.image t.image) in
+long_questions (report json) s t front a b reply told = of_typed s t (Surveys json) a b reply (λ x.
+    let e = of_long s.image x.0 x.1 (λ u gs. reply ≡ on_output (told_status s.front gs) (subject_text json s u gs)) a x.2 x.3 in
+    let same = ap₂ (λ f m. on_output (told_status f bad_size) (remarks_text json f ++ m)) front (same_text json s.image t.image) in
+    ([], bad_size, long_survey t.image b, e ∙ same)) told
+long_questions (list json) s t front a b reply told = of_typed s t (ListsSurvey json) a b reply (λ x.
+    let (date, dates, sound, marks, e) = of_long s.image x.0 x.1 (λ u gs. TellsFound json s u gs reply) a x.2 x.3 in
+    let same = ap₂ (λ f m. on_output (told_status f bad_size) ((remarks_text json f ++ m) ++ [])) front (same_text json s.image t.image) in
     ([], bad_size, long_survey t.image b, (date, dates, (λ n. false), no_marks t.image bad_size, e ∙ same))) told
 long_questions (cat damaged path) s t front a b reply (inl bad) = inl bad
 long_questions (cat damaged path) s t front a b reply (inr told) = inr (of_typed s t (CopiesFromSurvey damaged path) a b reply (λ x.
@@ -205,7 +207,7 @@ long_read stated (Some n) q image bytes few e a b reply h =
     λ i. record {
       image = same_sized n image bytes few e a b i;
       end = end i;
-      front = missing_text (end i) n ++ behind_text n stated;
+      front = missing (end i) n ++ behind n stated;
       lost = behind_loss n stated;
     } in
     subst (λ s. QuestionAnswer q s reply) same h

@@ -58,20 +58,20 @@ module _ (s : SubjectValue) (w : Walk) where
   found_once damaged fs names a b (inr (n, leads, x)) (inl (none, y)) = absurd (none n leads)
   found_once damaged fs names a b (inr (n, leads, x)) (inr (m, also, y)) = grind (arith, common_steps, one_lead, entry_once)
 
-surveyed_once : (s : SubjectValue) (a b : Reply) → Surveys s a → Surveys s b → a ≡ b
-surveyed_once s a b (w, fs, h, x) (u, gs, t, y) = grind (arith, common_steps, one_survey)
+surveyed_once : (json : Bool) (s : SubjectValue) (a b : Reply) → Surveys json s a → Surveys json s b → a ≡ b
+surveyed_once json s a b (w, fs, h, x) (u, gs, t, y) = grind (arith, common_steps, one_survey)
 
-found_told_once : (s : SubjectValue) (w : Walk) (fs : List FindingValue) (a b : Reply) → TellsFound s w fs a → TellsFound s w fs b
-    → a ≡ b
-found_told_once s w fs a b (date, dates, sound, marks, x) (other, others, tests, also, y) =
-    x ∙ ap (λ d. on_output (told_status s.front fs) (listing_text d sound s w fs)) (one_dates date other dates others)
-    ∙ ap (λ m. on_output (told_status s.front fs) (listing_text other m s w fs)) (one_marks s.image w fs sound tests marks also) ∙ sym y
+found_told_once : (json : Bool) (s : SubjectValue) (w : Walk) (fs : List FindingValue) (a b : Reply) → TellsFound json s w fs a
+    → TellsFound json s w fs b → a ≡ b
+found_told_once json s w fs a b (date, dates, sound, marks, x) (other, others, tests, also, y) =
+    x ∙ ap (λ d. on_output (told_status s.front fs) (listing_text json d sound s w fs)) (one_dates date other dates others)
+    ∙ ap (λ m. on_output (told_status s.front fs) (listing_text json other m s w fs)) (one_marks s.image w fs sound tests marks also) ∙ sym y
 
-listed_once : (s : SubjectValue) (a b : Reply) → ListsSurvey s a → ListsSurvey s b → a ≡ b
-listed_once s a b (w, fs, h, x) (u, gs, t, y) =
+listed_once : (json : Bool) (s : SubjectValue) (a b : Reply) → ListsSurvey json s a → ListsSurvey json s b → a ≡ b
+listed_once json s a b (w, fs, h, x) (u, gs, t, y) =
     let same = one_survey s.image w u fs gs h t in
-    let moved = subst (λ v. TellsFound s v fs a) same.0 x in
-    found_told_once s u gs a b (subst (λ hs. TellsFound s u hs a) same.1 moved) y
+    let moved = subst (λ v. TellsFound json s v fs a) same.0 x in
+    found_told_once json s u gs a b (subst (λ hs. TellsFound json s u hs a) same.1 moved) y
 
 copied_once : (damaged : Bool) (path : List ℕ) (s : SubjectValue) (a b : Reply) → CopiesFromSurvey damaged path s a
     → CopiesFromSurvey damaged path s b → a ≡ b
@@ -167,8 +167,8 @@ typed_rescued_once types s a b (r, (t, is, x), e) (q, (u, also, y), f) =
     (subst (λ (t : SubjectValue). Rescues types t.end t.lost t.image (sized 2 s.image) r) (one_typed s t u is also) x) y ∙ sym f
 
 one_question : (q : QuestionValue) (s : SubjectValue) (a b : Reply) → QuestionAnswer q s a → QuestionAnswer q s b → a ≡ b
-one_question report s a b x y = typed_once s Surveys surveyed_once a b x y
-one_question list s a b x y = typed_once s ListsSurvey listed_once a b x y
+one_question (report json) s a b x y = typed_once s (Surveys json) (surveyed_once json) a b x y
+one_question (list json) s a b x y = typed_once s (ListsSurvey json) (listed_once json) a b x y
 one_question (cat damaged path) s a b (inl (bad, x)) (inl (worse, y)) = x ∙ sym y
 one_question (cat damaged path) s a b (inl (bad, x)) (inr (t, is, h)) = absurd (bad h.0 h.1)
 one_question (cat damaged path) s a b (inr (t, is, h)) (inl (bad, y)) = absurd (bad h.0 h.1)

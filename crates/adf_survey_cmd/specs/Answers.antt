@@ -13,26 +13,26 @@ use Rattle.adf_runs.specs.Commands.{Command, Reply, on_errors, on_output}
 use Rattle.adf_file_runs.specs.FileRuns.{without_files}
 use Rattle.adf_survey_cmd.specs.CommandLine.{AreRefusedBySurvey, AsksSurvey, InquiryValue, QuestionValue, asked, cat, list, report, rescue, survey_file}
 use Rattle.adf_survey_cmd.specs.{FoundLines.has_its_data, FoundLines.listing_text, Hints.Hinted, Remains.WritesRemains}
-use Rattle.adf_subjects.specs.{Rescues.Replies, Rescues.RescuesTyped, Subject.OfTyped, Subject.SubjectValue, Subject.subject, Subject.subject_text}
+use Rattle.adf_subjects.specs.{declared.remarks.Remark.Remark, Rescues.Replies, Rescues.RescuesTyped, Subject.OfTyped, Subject.SubjectValue, Subject.subject, Subject.subject_text}
 
 -- the status of findings: 0 where there is none
 abbrev pub findings_status : List FindingValue → ℕ
 findings_status [] = 0
 findings_status (f ∷ fs) = 1
 
--- the status of findings with lines in front
-abbrev pub told_status : List ℕ → List FindingValue → ℕ
+-- the status of findings with remarks in front
+abbrev pub told_status : List Remark → List FindingValue → ℕ
 told_status [] fs = findings_status fs
-told_status (c ∷ front) fs = 1
+told_status (r ∷ front) fs = 1
 
--- the lines of the findings are told
-abbrev pub TellsFindings : SubjectValue → Walk → List FindingValue → Reply → Type 0
-TellsFindings s w fs reply = reply ≡ on_output (told_status s.front fs) (subject_text s w fs)
+-- the lines of the findings are told, or with `json` their objects
+abbrev pub TellsFindings : (json : Bool) → SubjectValue → Walk → List FindingValue → Reply → Type 0
+TellsFindings json s w fs reply = reply ≡ on_output (told_status s.front fs) (subject_text json s w fs)
 
--- the lines of the findings are told, and behind them those of what is found, in which each date has its text and the sound entries are marked
-abbrev pub TellsFound : SubjectValue → Walk → List FindingValue → Reply → Type 0
-TellsFound s w fs reply = (date : Stamp → List ℕ) × AreDates date × (sound : ℕ → Bool) × AreMarks s.image w fs sound
-    × (reply ≡ on_output (told_status s.front fs) (listing_text date sound s w fs))
+-- so they are, and behind them those of what is found, in which each date has its text and the sound entries are marked
+abbrev pub TellsFound : (json : Bool) → SubjectValue → Walk → List FindingValue → Reply → Type 0
+TellsFound json s w fs reply = (date : Stamp → List ℕ) × AreDates date × (sound : ℕ → Bool) × AreMarks s.image w fs sound
+    × (reply ≡ on_output (told_status s.front fs) (listing_text json date sound s w fs))
 
 -- what is said where nothing is under a path
 abbrev pub no_path_line : List (List ℕ) → List ℕ
@@ -70,12 +70,12 @@ CopiesFound damaged s w fs names reply =
     FindsNothing s w names reply ⊎ ((n : ℕ) × LeadsTo s.image w 0 names n × CopiesEntry damaged s w fs n reply)
 
 -- `adf-survey` tells the findings of the survey
-abbrev pub Surveys : SubjectValue → Reply → Type 0
-Surveys s reply = (w : Walk) × (fs : List FindingValue) × IsSurvey s.image w fs × TellsFindings s w fs reply
+abbrev pub Surveys : (json : Bool) → SubjectValue → Reply → Type 0
+Surveys json s reply = (w : Walk) × (fs : List FindingValue) × IsSurvey s.image w fs × TellsFindings json s w fs reply
 
 -- `adf-survey --list` tells the findings of the survey and what is found
-abbrev pub ListsSurvey : SubjectValue → Reply → Type 0
-ListsSurvey s reply = (w : Walk) × (fs : List FindingValue) × IsSurvey s.image w fs × TellsFound s w fs reply
+abbrev pub ListsSurvey : (json : Bool) → SubjectValue → Reply → Type 0
+ListsSurvey json s reply = (w : Walk) × (fs : List FindingValue) × IsSurvey s.image w fs × TellsFound json s w fs reply
 
 -- `cat` of a path that is read, in what is found
 abbrev pub CopiesFromSurvey : (damaged : Bool) → List ℕ → SubjectValue → Reply → Type 0
@@ -90,8 +90,8 @@ types_kept false = Plain
 
 -- the answer to a question of what is surveyed: once it is begun, and has the type that its files say
 abbrev pub QuestionAnswer : QuestionValue → SubjectValue → Reply → Type 0
-QuestionAnswer report s reply = OfTyped s Surveys reply
-QuestionAnswer list s reply = OfTyped s ListsSurvey reply
+QuestionAnswer (report json) s reply = OfTyped s (Surveys json) reply
+QuestionAnswer (list json) s reply = OfTyped s (ListsSurvey json) reply
 QuestionAnswer (cat damaged path) s reply = RefusesPath path reply ⊎ OfTyped s (CopiesFromSurvey damaged path) reply
 QuestionAnswer (rescue keep_type) s reply = Replies (RescuesTyped (types_kept keep_type) s) reply
 
@@ -110,7 +110,7 @@ InquiriesHaveOneAnswer = (r : InquiryValue) (input : List ℕ) (a b : Reply) →
 -- what errors get where the words are refused
 abbrev pub survey_usage : List ℕ
 survey_usage =
-    codes "usage: adf-survey [--blocks N] [--list] [FILE]\n       adf-survey [--blocks N] cat [--damaged] PATH [FILE]\n"
+    codes "usage: adf-survey [--blocks N] [--list] [--json] [FILE]\n       adf-survey [--blocks N] cat [--damaged] PATH [FILE]\n"
     ++ codes "       adf-survey [--blocks N] rescue [--keep-type] [FILE]\nwithout a FILE the image comes on standard input; man adf-survey tells more\n"
 
 -- a question for the bytes under a path that is not read

@@ -20,19 +20,23 @@ survey_cat_app = with_rule (with_rule cat_app (flag_rule (codes "damaged"))) fil
 abbrev pub survey_rescue_app : App
 survey_rescue_app = with_rule (with_rule (new_app (codes "rescue")) (flag_rule (codes "keep-type"))) file_rule
 
--- with the option, the flag and the file
-abbrev pub flagged_survey : App
-flagged_survey = with_rule (with_rule (with_rule (bare_app (codes "adf-survey")) blocks_rule) (flag_rule (codes "list"))) file_rule
+-- with the option
+abbrev pub numbered_survey : App
+numbered_survey = with_rule (bare_app (codes "adf-survey")) blocks_rule
 
--- the command line: [--blocks N], and [--list] [FILE], cat [--damaged] PATH [FILE], or rescue [--keep-type] [FILE]
+-- with the flags and the file
+abbrev pub flagged_survey : App
+flagged_survey = with_rule (with_rule (with_rule numbered_survey (flag_rule (codes "list"))) (flag_rule (codes "json"))) file_rule
+
+-- the command line: [--blocks N], and [--list] [--json] [FILE], cat [--damaged] PATH [FILE], or rescue [--keep-type] [FILE]
 abbrev pub survey_app : App
 survey_app = with_subcommand (with_subcommand flagged_survey survey_cat_app.top) survey_rescue_app.top
 
--- what is asked of an image: all findings; these and what is found; the bytes of a file, which is sound or may be damaged; or a new
+-- what is asked of an image: all findings; these and what is found, each as lines or as objects; the bytes of a file, which is sound or may be damaged; or a new
 -- volume of all that stands, which keeps the letters of the image, or has ASCII letters
 pub data QuestionValue : Type 0 where
-  report : QuestionValue
-  list : QuestionValue
+  report : (json : Bool) → QuestionValue
+  list : (json : Bool) → QuestionValue
   cat : (damaged : Bool) → Text → QuestionValue
   rescue : (keep_type : Bool) → QuestionValue
 
@@ -55,13 +59,13 @@ question_named name rows =
     if bytes_eq name (codes "cat") then option_map (cat (has_flag (codes "damaged") rows)) (first_of (codes "path") rows)
     else (if bytes_eq name (codes "rescue") then Some (rescue (has_flag (codes "keep-type") rows)) else None)
 
--- the flag --list or a FILE is among the matches
+-- the flag --list, the flag --json or a FILE is among the matches
 abbrev pub excludes_subcommand : List Row → Bool
-excludes_subcommand rows = has_flag (codes "list") rows || is_some (first_of (codes "file") rows)
+excludes_subcommand rows = has_flag (codes "list") rows || (has_flag (codes "json") rows || is_some (first_of (codes "file") rows))
 
--- what the matches ask, by their own rows: with no subcommand the findings; no subcommand goes with the flag, or with a file before it
+-- what the matches ask, by their own rows: with no subcommand the findings; no subcommand goes with such a flag, or with a file before it
 abbrev pub question_met : List Row → Option (Text × List Row) → Option QuestionValue
-question_met rows None = Some (if has_flag (codes "list") rows then list else report)
+question_met rows None = Some ((if has_flag (codes "list") rows then list else report) (has_flag (codes "json") rows))
 question_met rows (Some p) = if excludes_subcommand rows then None else question_named p.0 p.1
 
 -- what the matches ask for
@@ -84,14 +88,14 @@ AsksSurvey args r = (fault_of survey_app args ≡ []) × (inquiry_of args ≡ So
 abbrev pub AsksSurveyOf : List Text → InquiryValue → Option Text → Type 0
 AsksSurveyOf args r file = AsksSurvey args r × (survey_file args ≡ file)
 
--- clap refuses the arguments, or its matches lack the path, have the flag or a file before a subcommand, or have another text than a number of blocks
+-- clap refuses the arguments, or its matches lack the path, have such a flag or a file before a subcommand, or have another text than a number of blocks
 abbrev pub AreRefusedBySurvey : List Text → Type 0
 AreRefusedBySurvey args = (¬ (fault_of survey_app args ≡ [])) ⊎ (inquiry_of args ≡ None)
 
 -- the value of a question as the code has it
 abbrev pub question_value : Question → QuestionValue
-question_value Report = report
-question_value ListAll = list
+question_value (Report json) = report json
+question_value (ListAll json) = list json
 question_value (Cat path damaged) = cat damaged path.now
 question_value (Rescue keep_type) = rescue keep_type
 

@@ -9,8 +9,8 @@ use Rattle.adf_survey_cmd.specs.declared.work.View.{View, TheVariants.Findings, 
 
 -- what is shown is what is asked, with the names of the path
 abbrev pub Shows : View → QuestionValue → Type 0
-Shows Findings q = q ≡ report
-Shows ListAll q = q ≡ list
+Shows (Findings json) q = q ≡ report json
+Shows (ListAll json) q = q ≡ list json
 Shows (Cat names damaged) q = (path : List ℕ) × (q ≡ cat damaged path) × IsPathText path names.items
 
 -- the task is what is asked

@@ -22,7 +22,7 @@ use std::alloc::{AllocError, Global};
 
 /// What is said of arguments that are refused.
 pub const SURVEY_USAGE: &str =
-    "usage: adf-survey [--blocks N] [--list] [FILE]\n       adf-survey [--blocks N] cat [--damaged] PATH [FILE]\n\
+    "usage: adf-survey [--blocks N] [--list] [--json] [FILE]\n       adf-survey [--blocks N] cat [--damaged] PATH [FILE]\n\
     \x20      adf-survey [--blocks N] rescue [--keep-type] [FILE]\n\
     without a FILE the image comes on standard input; man adf-survey tells more\n";
 
@@ -30,8 +30,8 @@ pub const SURVEY_USAGE: &str =
 pub const ABOUT: About = About {
     name: "adf-survey",
     help: "Tells all that is wrong in an image of an Amiga floppy or hard disk, and reads what is sound.\n\n\
-    usage: adf-survey [--blocks N] [--list] [FILE]\n\
-    \x20          each finding; with --list each entry that is found too\n\
+    usage: adf-survey [--blocks N] [--list] [--json] [FILE]\n\
+    \x20          each finding; with --list each entry that is found too; with --json each line is an object\n\
     \x20      adf-survey [--blocks N] cat [--damaged] PATH [FILE]\n\
     \x20          a sound file; with --damaged what is left of any file\n\
     \x20      adf-survey [--blocks N] rescue [--keep-type] [FILE] > NEW\n\
@@ -45,10 +45,10 @@ pub const ABOUT: About = About {
 /// What is asked of an image.
 #[derive(Clone, Copy, Debug)]
 pub enum Question<'a> {
-    /// All findings.
-    Report,
-    /// All findings, and what is found.
-    List,
+    /// All findings, as lines or as objects.
+    Report { json: bool },
+    /// All findings, and what is found, as lines or as objects.
+    List { json: bool },
     /// The bytes of a file by the text of its path: of a sound one, or of one that may be damaged.
     Cat { path: &'a str, damaged: bool },
     /// A new volume of all that stands, and whether it keeps the letters of the image, or has ASCII letters.
@@ -70,7 +70,8 @@ fn flagged<'a>(alloc: Global) -> Result<Command<'a>, AllocError>
     let blocks = Arg::new(alloc, "blocks").long("blocks");
     let numbered = with_argument(Ok(bare_command(alloc, "adf-survey")), blocks);
     let listed = with_argument(numbered, flag(alloc, "list"));
-    with_argument(listed, file_argument(alloc))
+    let objects = with_argument(listed, flag(alloc, "json"));
+    with_argument(objects, file_argument(alloc))
 }
 
 // The command `cat [--damaged] PATH [FILE]`.
@@ -141,12 +142,13 @@ fn question_in<'a>(matches: &ArgMatches<'a>) -> Option<Question<'a>>
         ≡ question_met (rows_of (found_of matches.now)) (subcommand_rows_of matches.now) }
 {
     let list = has_flag(matches, "list");
-    let excludes = list || first_text(matches, "file").is_some();
+    let json = has_flag(matches, "json");
+    let excludes = list || json || first_text(matches, "file").is_some();
     match matches.subcommand() {
         Some(_) if excludes => None,
         Some((name, found)) => question_named(name, found),
-        None if list => Some(Question::List),
-        None => Some(Question::Report),
+        None if list => Some(Question::List { json }),
+        None => Some(Question::Report { json }),
     }
 }
 
@@ -176,7 +178,7 @@ fn survey_matches<'a>(alloc: Global, args: &'a [&str]) -> Result<ArgMatches<'a>,
 }
 
 /// Reads the arguments; the first one is the program's name. `Usage` if and only if clap refuses them or its matches lack the
-/// path, have `--list` or a file before a command, or have no number of blocks; `NoMemory` if an allocation failed.
+/// path, have `--list`, `--json` or a file before a command, or have no number of blocks; `NoMemory` if an allocation failed.
 pub fn parse_survey<'a>(alloc: Global, args: &'a [&str]) -> Result<Inquiry<'a>, ArgsError>
     ensures ok { IfOk result (λ inquiry.
         AsksSurvey (texts_of args.entry.now) (inquiry_value inquiry)) }
@@ -202,9 +204,9 @@ pub fn survey_file<'a>(alloc: Global, args: &'a [&str]) -> Result<Option<&'a str
 /// arguments are refused, calls for help among them.
 #[tactic(auto, unfolding(clap::proofs::OnLiterals::clap_on_literals))]
 pub fn survey_words_as_documented()
-    ensures report { AsksSurveyOf (codes "adf-survey" ∷ []) (asked None report) None }
-    ensures no_args { AsksSurveyOf [] (asked None report) None }
-    ensures list { AsksSurveyOf (codes "adf-survey" ∷ codes "--list" ∷ []) (asked None list) None }
+    ensures report { AsksSurveyOf (codes "adf-survey" ∷ []) (asked None (report false)) None }
+    ensures no_args { AsksSurveyOf [] (asked None (report false)) None }
+    ensures list { AsksSurveyOf (codes "adf-survey" ∷ codes "--list" ∷ []) (asked None (list false)) None }
     ensures cat { (first : ℕ) (rest : List ℕ) → (first == 45) ≡ false
         → AsksSurveyOf (codes "adf-survey" ∷ codes "cat" ∷ (first ∷ rest) ∷ [])
         (asked None (cat false (first ∷ rest))) None }
@@ -222,10 +224,10 @@ pub fn survey_words_as_documented()
         (asked None (cat true path)) None }
     ensures rescue { AsksSurveyOf (codes "adf-survey" ∷ codes "rescue" ∷ []) (asked None (rescue false)) None }
     ensures blocks { AsksSurveyOf (codes "adf-survey" ∷ codes "--blocks" ∷ codes "1760" ∷ [])
-        (asked (Some 1760) report) None }
+        (asked (Some 1760) (report false)) None }
     ensures blocks_list { AsksSurveyOf
         (codes "adf-survey" ∷ codes "--blocks" ∷ codes "1760" ∷ codes "--list" ∷ [])
-        (asked (Some 1760) list) None }
+        (asked (Some 1760) (list false)) None }
     ensures blocks_cat { (path : List ℕ) → AsksSurveyOf
         (codes "adf-survey" ∷ codes "--blocks" ∷ codes "1760" ∷ codes "cat" ∷ codes "--" ∷ path ∷ [])
         (asked (Some 1760) (cat false path)) None }
@@ -233,19 +235,23 @@ pub fn survey_words_as_documented()
         (codes "adf-survey" ∷ codes "--blocks" ∷ codes "1760" ∷ codes "rescue" ∷ [])
         (asked (Some 1760) (rescue false)) None }
     ensures most_blocks { AsksSurveyOf (codes "adf-survey" ∷ codes "--blocks" ∷ codes "1048576" ∷ [])
-        (asked (Some 1048576) report) None }
+        (asked (Some 1048576) (report false)) None }
     ensures file { AsksSurveyOf (codes "adf-survey" ∷ codes "a.adf" ∷ [])
-        (asked None report) (Some (codes "a.adf")) }
-    ensures input { AsksSurveyOf (codes "adf-survey" ∷ codes "-" ∷ []) (asked None report) None }
+        (asked None (report false)) (Some (codes "a.adf")) }
+    ensures input { AsksSurveyOf (codes "adf-survey" ∷ codes "-" ∷ []) (asked None (report false)) None }
     ensures any_file { (file : List ℕ) → AsksSurveyOf (codes "adf-survey" ∷ codes "--" ∷ file ∷ [])
-        (asked None report) (file_meant file) }
+        (asked None (report false)) (file_meant file) }
     ensures file_named_so { AsksSurveyOf (codes "adf-survey" ∷ codes "./cat" ∷ [])
-        (asked None report) (Some (codes "./cat")) }
+        (asked None (report false)) (Some (codes "./cat")) }
     ensures list_file { AsksSurveyOf (codes "adf-survey" ∷ codes "--list" ∷ codes "a.adf" ∷ [])
-        (asked None list) (Some (codes "a.adf")) }
+        (asked None (list false)) (Some (codes "a.adf")) }
+    ensures json { AsksSurveyOf (codes "adf-survey" ∷ codes "--json" ∷ []) (asked None (report true)) None }
+    ensures json_list_file { AsksSurveyOf
+        (codes "adf-survey" ∷ codes "--json" ∷ codes "--list" ∷ codes "a.adf" ∷ [])
+        (asked None (list true)) (Some (codes "a.adf")) }
     ensures blocks_file { AsksSurveyOf
         (codes "adf-survey" ∷ codes "--blocks" ∷ codes "1760" ∷ codes "a.adf" ∷ [])
-        (asked (Some 1760) report) (Some (codes "a.adf")) }
+        (asked (Some 1760) (report false)) (Some (codes "a.adf")) }
     ensures cat_file { (path file : List ℕ) → AsksSurveyOf
         (codes "adf-survey" ∷ codes "cat" ∷ codes "--" ∷ path ∷ file ∷ [])
         (asked None (cat false path)) (file_meant file) }
@@ -294,6 +300,10 @@ pub fn survey_words_as_documented()
         (codes "adf-survey" ∷ codes "--list" ∷ codes "cat" ∷ codes "a" ∷ []) }
     ensures list_rescue { AreRefusedBySurvey
         (codes "adf-survey" ∷ codes "--list" ∷ codes "rescue" ∷ []) }
+    ensures json_cat { AreRefusedBySurvey
+        (codes "adf-survey" ∷ codes "--json" ∷ codes "cat" ∷ codes "a" ∷ []) }
+    ensures json_rescue { AreRefusedBySurvey
+        (codes "adf-survey" ∷ codes "--json" ∷ codes "rescue" ∷ []) }
     ensures rescue_two { AreRefusedBySurvey
         (codes "adf-survey" ∷ codes "rescue" ∷ codes "a" ∷ codes "b" ∷ []) }
     ensures cat_list { AreRefusedBySurvey

@@ -1,20 +1,31 @@
 // The lines of what is found.
 
-ghost use Rattle.std.specs.Prelude.{◌≡◌, ◌++◌, ◌≤◌, ℕ, Bool, List, IfOk, OnErr, OnOk, false, nat_lt};
+ghost use Rattle.std.specs.Prelude.{◌≡◌, ◌++◌, ◌≤◌, ℕ, Bool, List, IfOk, OnErr, OnOk, false, map, nat_lt};
 ghost use Rattle.std.specs.{List.list_all, Io.KnownBytes.Appends};
 ghost use Rattle.adf_base.specs.declared.dates.Stamp.{Stamp};
 ghost use Rattle.adf_volume.specs.Walk.{heads};
-ghost use Rattle.adf_findings.specs.{Opening.opening_in, SoundMarks.AreMarks, Survey.OnSurvey};
+ghost use Rattle.adf_findings.specs.{SoundMarks.AreMarks, Survey.OnSurvey};
 ghost use Rattle.adf_texts.specs.VolumeLines.{AreDates};
 ghost use Rattle.adf_runs.specs.Streams.{AppendsPart, is_device};
-ghost use Rattle.adf_survey_cmd.specs.FoundLines.{InAnyTexts, found_lines, found_text, lines_of_found, mark_text, marked};
+ghost use Rattle.adf_texts.specs.RowTexts.{head_lines};
+ghost use Rattle.adf_survey_cmd.specs.FoundLines.{InAnyTexts, entry_text, found_lines, found_text, lines_of_found, mark_text, marked};
 ghost use Rattle.adf_survey_cmd.specs.FoundLines.{opening_text};
 
+use crate::found_objects::{FoundEntry, push_entry_object, push_volume_object};
 use adf_findings::{Opening, Survey};
 use adf_runs::{Sink, StreamFault, flush_long, write_all};
 use adf_texts::{push_head_lines, push_opening_lines};
 use adf_tree::Node;
 use std::alloc::{AllocError, Global};
+
+/// How entries are listed.
+#[derive(Clone, Copy, Debug)]
+pub struct ListForm {
+    /// A file with data from this block on is marked damaged.
+    pub end: u32,
+    /// Whether as objects, in place of lines.
+    pub json: bool,
+}
 
 // Appends the mark of an entry.
 fn push_mark(text: &mut Vec<u8>, is_sound: bool) -> Result<(), AllocError>
@@ -55,17 +66,44 @@ fn is_marked(alloc: Global, survey: &Survey<'_>, n: Node, end: u32) -> Result<bo
 }
 
 // Appends the mark and the lines of an entry.
+fn push_entry_lines(text: &mut Vec<u8>, entry: &FoundEntry<'_>) -> Result<(), AllocError>
+    ensures { (date : Stamp → List ℕ) → AreDates date → OnOk result (text.new.items ≡ text.old.items
+        ++ (mark_text entry.now.is_sound
+        ++ head_lines date (map (λ name. name.now) entry.now.path.now) entry.now.body entry.now.meta.now)) }
+{
+    push_mark(text, entry.is_sound)?;
+    push_head_lines(text, entry.body, entry.meta, entry.path)
+}
+
+// Appends the mark and the lines of an entry, or with `json` its object.
+fn push_entry(
+    alloc: Global,
+    entry: &FoundEntry<'_>,
+    json: bool,
+    text: &mut Vec<u8>,
+) -> Result<(), AllocError>
+    ensures { (date : Stamp → List ℕ) → AreDates date → OnOk result (text.new.items ≡ text.old.items
+        ++ entry_text json date entry.now.is_sound (map (λ name. name.now) entry.now.path.now) entry.now.body entry.now.meta.now) }
+{
+    if json {
+        push_entry_object(alloc, entry, text)
+    } else {
+        push_entry_lines(text, entry)
+    }
+}
+
+// Appends what is told of an entry.
 fn push_found(
     alloc: Global,
     survey: &Survey<'_>,
     n: Node,
-    end: u32,
+    form: ListForm,
     text: &mut Vec<u8>,
 ) -> Result<(), AllocError>
     ensures { OnSurvey survey.now.image (λ w fs.
         InAnyTexts survey.now.image w fs (λ date sound. 1 ≤ n → n ≤ heads w → OnOk result
         (text.new.items ≡ text.old.items
-        ++ found_lines date (marked sound end survey.now.image w) survey.now.image w n))) }
+        ++ found_lines form.json date (marked sound form.end survey.now.image w) survey.now.image w n))) }
 {
     let (Some(body), Some(meta)) = (survey.body(n), survey.meta(n)) else {
         return Ok(());
@@ -73,15 +111,20 @@ fn push_found(
     let Ok(path) = survey.path(alloc, n) else {
         return Err(AllocError);
     };
-    push_mark(text, is_marked(alloc, survey, n, end)?)?;
-    push_head_lines(text, body, &meta, &path)
+    let entry = FoundEntry {
+        is_sound: is_marked(alloc, survey, n, form.end)?,
+        body,
+        meta: &meta,
+        path: &path,
+    };
+    push_entry(alloc, &entry, form.json, text)
 }
 
 // Writes the text that waits, and the marks and lines of the entries behind it.
 fn write_entries<W: Sink>(
     alloc: Global,
     survey: &Survey<'_>,
-    end: u32,
+    form: ListForm,
     mut text: Vec<u8>,
     output: &mut W,
 ) -> Result<(), StreamFault>
@@ -89,27 +132,34 @@ fn write_entries<W: Sink>(
     ensures ok { OnSurvey survey.now.image (λ w fs.
         InAnyTexts survey.now.image w fs (λ date sound. OnOk result (Appends
         (W.held output.old) (W.held output.new)
-        (text.items ++ lines_of_found date (marked sound end survey.now.image w) survey.now.image w (heads w))))) }
+        (text.items ++ lines_of_found form.json date (marked sound form.end survey.now.image w) survey.now.image w (heads w))))) }
     ensures err { OnSurvey survey.now.image (λ w fs.
         InAnyTexts survey.now.image w fs (λ date sound. OnErr result (AppendsPart
         (W.has_failed output.new) (W.held output.old) (W.held output.new)
-        (text.items ++ lines_of_found date (marked sound end survey.now.image w) survey.now.image w (heads w))))) }
+        (text.items ++ lines_of_found form.json date (marked sound form.end survey.now.image w) survey.now.image w (heads w))))) }
     ensures failed { W.has_failed output.new ≡ is_device result }
 {
     for i in 0..survey.len() {
-        push_found(alloc, survey, Node(i + 1), end, &mut text)?;
+        push_found(alloc, survey, Node(i + 1), form, &mut text)?;
         flush_long(output, &mut text)?;
     }
     write_all(output, &text)?;
     Ok(())
 }
 
-// Appends the opening lines of the volume.
-fn push_opening(text: &mut Vec<u8>, opening: &Opening) -> Result<(), AllocError>
+// Appends the opening lines of the volume, or with `json` its object.
+fn push_opening(
+    alloc: Global,
+    opening: &Opening,
+    json: bool,
+    text: &mut Vec<u8>,
+) -> Result<(), AllocError>
     ensures { (date : Stamp → List ℕ) → AreDates date
-        → (image : List ℕ) → opening.now ≡ opening_in image
-        → OnOk result (text.new.items ≡ text.old.items ++ opening_text date image) }
+        → OnOk result (text.new.items ≡ text.old.items ++ opening_text json date opening.now) }
 {
+    if json {
+        return push_volume_object(alloc, opening, text);
+    }
     push_opening_lines(
         text,
         opening.kind,
@@ -119,29 +169,29 @@ fn push_opening(text: &mut Vec<u8>, opening: &Opening) -> Result<(), AllocError>
     )
 }
 
-/// Writes the lines of what is found: those that open `list` of the volume, then those of each entry, with its mark; none if
-/// the root is not taken. A file with data from block `end` on is marked damaged. `Device` if the writer failed, `NoMemory` if
+/// Writes the lines of what is found: those that open `list` of the volume, then those of each entry, with its mark; or their
+/// objects; none if the root is not taken. `Device` if the writer failed, `NoMemory` if
 /// an allocation failed; then a front part of the lines is written, and if the writer failed not all of them.
 pub fn write_found<W: Sink>(
     alloc: Global,
     survey: &Survey<'_>,
-    end: u32,
+    form: ListForm,
     output: &mut W,
 ) -> Result<(), StreamFault>
     requires works { W.has_failed output.old ≡ false }
     ensures ok { OnSurvey survey.now.image (λ w fs.
         InAnyTexts survey.now.image w fs (λ date sound. OnOk result (Appends
-        (W.held output.old) (W.held output.new) (found_text date (marked sound end survey.now.image w) survey.now.image w)))) }
+        (W.held output.old) (W.held output.new) (found_text form.json date (marked sound form.end survey.now.image w) survey.now.image w)))) }
     ensures err { OnSurvey survey.now.image (λ w fs.
         InAnyTexts survey.now.image w fs (λ date sound. OnErr result (AppendsPart
         (W.has_failed output.new) (W.held output.old) (W.held output.new)
-        (found_text date (marked sound end survey.now.image w) survey.now.image w)))) }
+        (found_text form.json date (marked sound form.end survey.now.image w) survey.now.image w)))) }
     ensures failed { W.has_failed output.new ≡ is_device result }
 {
     let Some(opening) = survey.opening() else {
         return Ok(());
     };
     let mut text = Vec::new(alloc);
-    push_opening(&mut text, &opening)?;
-    write_entries(alloc, survey, end, text, output)
+    push_opening(alloc, &opening, form.json, &mut text)?;
+    write_entries(alloc, survey, form, text, output)
 }

@@ -4,6 +4,7 @@
 mod command_line;
 mod copying;
 mod found_lines;
+mod found_objects;
 mod hints;
 mod laws;
 mod listing;

@@ -29,8 +29,8 @@ use std::alloc::{AllocError, Global};
 /// What is shown of the survey of an image.
 #[derive(Drop)]
 pub enum View {
-    Findings,
-    List,
+    Findings { json: bool },
+    List { json: bool },
     /// The names of the path, and whether the file may be damaged.
     Cat { names: Vec<Name>, damaged: bool },
 }
@@ -68,8 +68,8 @@ fn task_for(alloc: Global, question: Question<'_>) -> Result<Task, WorkFault>
         IsNoWork fault ⊥ (HasBadSurveyPath (question_value question.entry))) }
 {
     match question {
-        Question::Report => Ok(Task::Show(View::Findings)),
-        Question::List => Ok(Task::Show(View::List)),
+        Question::Report { json } => Ok(Task::Show(View::Findings { json })),
+        Question::List { json } => Ok(Task::Show(View::List { json })),
         Question::Cat { path, damaged } => {
             let names = read_path(alloc, path.as_bytes())?;
             Ok(Task::Show(View::Cat { names, damaged }))
@@ -96,8 +96,8 @@ impl View {
     {
         some_survey();
         match self {
-            View::Findings => write_findings(alloc, subject, survey, output),
-            View::List => write_list(alloc, subject, survey, output),
+            View::Findings { json } => write_findings(alloc, subject, survey, *json, output),
+            View::List { json } => write_list(alloc, subject, survey, *json, output),
             View::Cat { names, damaged } => {
                 let asked = Asked {
                     names,

@@ -6,10 +6,10 @@ use Rattle.adf_answers.proofs.CallAnswers.{answers_agree}
 use Rattle.adf_answers.proofs.agreements.surveys_agree.Goals as goal
 
 pub returns-clause-findings : goal.returns-clause-findings
-returns-clause-findings c = λ n image old new told reply has. answers_agree n image old new told has Surveys reply
+returns-clause-findings c = λ json n image old new told reply has. answers_agree n image old new told has (Surveys json) reply
 
 pub returns-clause-list : goal.returns-clause-list
-returns-clause-list c = λ n image old new told reply has. answers_agree n image old new told has ListsSurvey reply
+returns-clause-list c = λ json n image old new told reply has. answers_agree n image old new told has (ListsSurvey json) reply
 
 pub returns-clause-cat : goal.returns-clause-cat
 returns-clause-cat c = λ n image old new path damaged told reply has names text answer.

@@ -8,7 +8,7 @@ abbrev pub invariant-loop-run : goal.invariant-loop-run
 invariant-loop-run g l = record {
   works : g.W.Sink.has_failed l.output ≡ false;
   so_far : OnSurvey l.survey.image (λ w fs. Pending (g.W.Sink.held l.fn.output) (g.W.Sink.held l.output)
-      (l.text.items ++ findings_text l.survey.image w (drop l.k fs)) (l.fn.text.items ++ findings_text l.survey.image w fs));
+      (l.text.items ++ findings_text l.json l.survey.image w (drop l.k fs)) (l.fn.text.items ++ findings_text l.json l.survey.image w fs));
 }
 
 abbrev pub decreases-loop-run : goal.decreases-loop-run

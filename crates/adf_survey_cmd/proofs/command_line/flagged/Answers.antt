@@ -11,4 +11,5 @@ returns c =
     let local = ap (λ (a : Arg). a.global) c.long-blocks.ensures ∙ c.new.ensures.optional.1 in
     let one = c.with_argument-numbered.ensures.app _ blocks_rule c.bare_command.ensures rule local in
     let two = c.with_argument-listed.ensures.app _ (flag_rule (codes "list")) one c.flag.ensures.rule c.flag.ensures.local in
-    c.with_argument.ensures.app _ file_rule two c.file_argument.ensures.rule c.file_argument.ensures.local
+    let three = c.with_argument-objects.ensures.app _ (flag_rule (codes "json")) two c.flag-2.ensures.rule c.flag-2.ensures.local in
+    c.with_argument.ensures.app _ file_rule three c.file_argument.ensures.rule c.file_argument.ensures.local

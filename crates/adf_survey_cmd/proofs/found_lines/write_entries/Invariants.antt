@@ -9,5 +9,5 @@ invariant-loop-i g l = record {
   works : g.W.Sink.has_failed l.output ≡ false;
   so_far : OnSurvey l.survey.image (λ w fs. InAnyTexts l.survey.image w fs (λ date sound.
       Pending (g.W.Sink.held l.fn.output) (g.W.Sink.held l.output) l.text.items
-      (l.fn.text.items ++ lines_of_found date (marked sound l.end l.survey.image w) l.survey.image w l.i)));
+      (l.fn.text.items ++ lines_of_found l.form.json date (marked sound l.form.end l.survey.image w) l.survey.image w l.i)));
 }

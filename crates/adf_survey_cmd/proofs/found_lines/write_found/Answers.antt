@@ -7,14 +7,14 @@ pub returns-clause-ok : goal.returns-clause-ok
 returns-clause-ok g c = λ w fs survey date sound dates marks.
     let image = c.args.survey.now.image in
     let some : w ≡ [] → ⊥ = λ none. let clash : true ≡ false = (c.in-Some.ensures.some w fs survey).1 none in cc in
-    rw (found_begun date (marked sound c.args.end image w) image w some)
-    (rw (c.in_ok-push_opening.ensures date dates image c.in-Some.ensures.opening, c.new-text.ensures.items)
+    rw (found_begun c.args.form.json date (marked sound c.args.form.end image w) image w some)
+    (rw (c.in_ok-push_opening.ensures date dates, c.in-Some.ensures.opening, c.new-text.ensures.items)
     at (c.write_entries.ensures.ok w fs survey date sound dates marks))
 
 pub returns-clause-err : goal.returns-clause-err
 returns-clause-err g c = λ w fs survey date sound dates marks.
     let image = c.args.survey.now.image in
     let some : w ≡ [] → ⊥ = λ none. let clash : true ≡ false = (c.in-Some.ensures.some w fs survey).1 none in cc in
-    rw (found_begun date (marked sound c.args.end image w) image w some)
-    (rw (c.in_ok-push_opening.ensures date dates image c.in-Some.ensures.opening, c.new-text.ensures.items)
+    rw (found_begun c.args.form.json date (marked sound c.args.form.end image w) image w some)
+    (rw (c.in_ok-push_opening.ensures date dates, c.in-Some.ensures.opening, c.new-text.ensures.items)
     at (c.write_entries.ensures.err w fs survey date sound dates marks))

@@ -19,7 +19,7 @@ returns-in-Ok-write_both-clause-ends g c = λ w fs survey.
         date_of_is,
         sound,
         marks,
-        ap (λ k. on_output k (listing_text date_of sound (surveyed_as v.image c.args.subject.now) w fs)) status,
+        ap (λ k. on_output k (listing_text c.args.json date_of sound (surveyed_as v.image c.args.subject.now) w fs)) status,
       ),
       rw c.in-Ok.ensures at (c.in-Ok-write_both.ensures.ok w fs survey date_of sound date_of_is marks),
     )
@@ -36,7 +36,7 @@ returns-in-Ok-2-clause-ends g c = λ w fs survey.
         date_of_is,
         sound,
         marks,
-        ap (λ k. on_output k (listing_text date_of sound (surveyed_as v.image c.args.subject.now) w fs)) status,
+        ap (λ k. on_output k (listing_text c.args.json date_of sound (surveyed_as v.image c.args.subject.now) w fs)) status,
       ),
       rw c.in-Ok.ensures at (c.in-Ok-2.ensures.ok w fs survey date_of sound date_of_is marks),
     )
@@ -46,6 +46,6 @@ returns-in-Err-clause-ends g c = λ w fs survey.
     let v = c.args.survey.now in
     let sound = mark_in v in
     let marks = c.marks.ensures w fs survey in
-    (front_ends c.in-Err.fault _ (TellsFound (surveyed_as v.image c.args.subject.now) w fs)
+    (front_ends c.in-Err.fault _ (TellsFound c.args.json (surveyed_as v.image c.args.subject.now) w fs)
     (seen g.W.Sink.held g.W.Sink.has_failed c.args.output.now c.write_both.new.output) c.after_writing.ensures c.in-Err.ensures.failed
     (_, (date_of, date_of_is, sound, marks, refl), rw c.in-Ok.ensures at (c.in-Err.ensures.err w fs survey date_of sound date_of_is marks))).ends

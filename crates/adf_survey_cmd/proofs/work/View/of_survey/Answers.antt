@@ -11,8 +11,8 @@ returns-in-Findings-clause-ends g c = λ s q typed shows.
     let t = surveyed_as image c.args.subject.now in
     let is = subst (λ image. IsTyped (begun_subject s) (surveyed_as image c.args.subject.now)) (sym c.requires.image) typed in
     let (w, fs, survey) = c.some_survey.ensures image in
-    let asks : q ≡ report = subst (λ view. Shows view q) c.in-Findings.is shows in
-    ends_weaker (TellsFindings t w fs) (QuestionAnswer q s) _ _ _
+    let asks : q ≡ report c.in-Findings.json = subst (λ view. Shows view q) c.in-Findings.is shows in
+    ends_weaker (TellsFindings c.in-Findings.json t w fs) (QuestionAnswer q s) _ _ _
     (λ reply told. subst (λ x. QuestionAnswer x s reply) (sym asks) (t, is, (w, fs, survey, told))) (c.write_findings.ensures.ends w fs survey)
 
 pub returns-in-List-clause-ends : goal.returns-in-List-clause-ends
@@ -21,8 +21,8 @@ returns-in-List-clause-ends g c = λ s q typed shows.
     let t = surveyed_as image c.args.subject.now in
     let is = subst (λ image. IsTyped (begun_subject s) (surveyed_as image c.args.subject.now)) (sym c.requires.image) typed in
     let (w, fs, survey) = c.some_survey.ensures image in
-    let asks : q ≡ list = subst (λ view. Shows view q) c.in-List.is shows in
-    ends_weaker (TellsFound t w fs) (QuestionAnswer q s) _ _ _
+    let asks : q ≡ list c.in-List.json = subst (λ view. Shows view q) c.in-List.is shows in
+    ends_weaker (TellsFound c.in-List.json t w fs) (QuestionAnswer q s) _ _ _
     (λ reply told. subst (λ x. QuestionAnswer x s reply) (sym asks) (t, is, (w, fs, survey, told))) (c.write_list.ensures.ends w fs survey)
 
 pub returns-in-Cat-clause-ends : goal.returns-in-Cat-clause-ends
