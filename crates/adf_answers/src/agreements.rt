@@ -15,8 +15,8 @@ ghost use Rattle.adf_memory.specs.{declared.rescuing.RescueTold.RescueTold, decl
 ghost use Rattle.adf_memory.specs.declared.rescuing.RescueRefusal.TheVariants.{Fault as ForFault};
 
 /// `adf-survey` answers by the survey of what `put_subject` writes to the room: its lines, or its objects, are those of what is
-/// told, and of the findings of that survey; `--list` has its entries, of which only what is held is data; and `cat` the bytes of a file that
-/// it finds.
+/// told, and of the findings of that survey; `--list` has its entries, of which only what is held is data; and `cat` the bytes
+/// of a file that it finds.
 pub fn surveys_agree()
     ensures findings { (json : Bool) (n : ℕ) (image old new : List ℕ) (told : SubjectTold) (reply : Reply)
         → HasSubject (subject (asked_blocks n) image) old new told

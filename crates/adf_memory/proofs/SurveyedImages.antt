@@ -13,8 +13,8 @@ use Rattle.adf_rescue.specs.{MadeRoot.has_root, Opened.lacks_boot, Opened.states
 use Rattle.adf_rescue.proofs.MadeRoots.{sized as sized_as}
 use Rattle.adf_rescue.proofs.OpenedImages.{length_begun}
 use Rattle.adf_subjects.specs.{Lengths.blocks_read, Lengths.other_length, Lengths.stated_length, Losses.LossValue, Losses.run_loss}
-use Rattle.adf_subjects.specs.Subject.{IsTypeTold, IsTyped, SubjectValue, as_long, begun_subject, behind, behind_loss, changed, held_end, meant}
-use Rattle.adf_subjects.specs.Subject.{missing, sized, subject, subject_read, typed_by}
+use Rattle.adf_subjects.specs.Subject.{IsTypeTold, IsTyped, SubjectValue, as_long, begun_subject, behind_remarks, behind_loss, changed, held_end, meant}
+use Rattle.adf_subjects.specs.Subject.{missing_remarks, sized, subject, subject_read, typed_by}
 use Rattle.adf_subjects.specs.{Remarks.remark, declared.remarks.Remark.Remark, declared.remarks.Saying.Saying}
 use Rattle.adf_subjects.specs.declared.remarks.Saying.TheVariants.{FilesOf, NotDos}
 use Rattle.adf_subjects.proofs.{OneSubject.one_told, Subjects.told_either, Subjects.typed_either, SizedImages.length_sized}
@@ -214,7 +214,7 @@ module _ {X : Type 0} (nothing : X) (holds : (end read : ℕ) → X) (input : Li
   read_told false n is = as_asked n n (other_length (Some n) input) is
 
 front_read : (stated : ℕ) (read : Option ℕ) (input : List ℕ) (told : SubjectTold)
-    → (subject_read stated read input).front ≡ by_read [] (λ end k. missing end k ++ behind k stated) input told read
+    → (subject_read stated read input).front ≡ by_read [] (λ end k. missing_remarks end k ++ behind_remarks k stated) input told read
 front_read stated None input told = refl
 front_read stated (Some k) input told = refl
 
@@ -268,7 +268,7 @@ module _ (n : ℕ) (input old new : List ℕ) (told : SubjectTold) (has : HasSub
 
   told_front : front_remarks n (blocks input) (take told.length new) told ≡ (surveyed_subject s has.other).front
   told_front =
-      let front = λ (stated : ℕ) (end k : ℕ). missing end k ++ behind k stated in
+      let front = λ (stated : ℕ) (end k : ℕ). missing_remarks end k ++ behind_remarks k stated in
       let read =
       front_read (stated_length (asked_blocks n) input) (blocks_read (asked_blocks n) input) input told
       ∙ read_told [] (front (stated_length (asked_blocks n) input)) input told (n == 0) n told_is

@@ -5,8 +5,9 @@ use Rattle.std.specs.Prelude.{◌≡◌, ◌≤◌, ◌/◌, ◌==◌, ◌&&◌,
 use Rattle.adf_blocks.specs.declared.layout.TheConstants.{MOST_BLOCKS}
 use Rattle.adf_rescue.specs.Opened.{lacks_boot}
 use Rattle.adf_subjects.specs.Losses.{LossValue, run_loss}
-use Rattle.adf_subjects.specs.Subject.{IsTypeTold, SubjectValue, begun_subject, behind, behind_loss, missing, typed_by}
-use Rattle.adf_subjects.specs.{Remarks.remark, declared.remarks.Remark.Remark, declared.remarks.Saying.TheVariants.FilesOf, declared.remarks.Saying.TheVariants.NotDos}
+use Rattle.adf_subjects.specs.Subject.{IsTypeTold, SubjectValue, begun_subject, behind_remarks, behind_loss, missing_remarks, typed_by}
+use Rattle.adf_subjects.specs.{Remarks.remark, declared.remarks.Remark.Remark, declared.remarks.Saying.TheVariants.FilesOf}
+use Rattle.adf_subjects.specs.{declared.remarks.Saying.TheVariants.NotDos}
 use Rattle.adf_memory.specs.{FoundTables.mark_number, Rooms.filled, declared.subjects.SubjectTold.SubjectTold}
 
 -- what is told beside the length where nothing is surveyed
@@ -50,7 +51,7 @@ stated_blocks n given = cond (n == 0) (min MOST_BLOCKS given) n
 -- the remarks in front of the findings, by what is told and the image, which has the type that is told
 abbrev pub front_remarks : (n given : ℕ) → List ℕ → SubjectTold → List Remark
 front_remarks n given image told =
-    (of_read [] (λ end read. missing end read ++ behind read (stated_blocks n given)) n given told
+    (of_read [] (λ end read. missing_remarks end read ++ behind_remarks read (stated_blocks n given)) n given told
     ++ cond (told.is_begun == 1) (remark 0 0 NotDos ∷ []) [])
     ++ cond (told.is_retyped == 1) (remark 0 0 (FilesOf (slice_index image 3)) ∷ []) []
 

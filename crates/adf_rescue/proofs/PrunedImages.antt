@@ -4,7 +4,8 @@ use Rattle.std.proofs.Common.{◌≡◌, ◌==◌, ◌&&◌, ◌||◌, ◌<◌, 
 use Rattle.std.proofs.Common.{inl, inr, refl, subst}
 use Rattle.std.proofs.lemmas.Bool.{and_parts, cases_lt, cond-false, cond-true, eqb-true, or_cases, or_from, or_left, or_right}
 use Rattle.std.proofs.{lemmas.Bool.Decides.nat_tests, lemmas.Grind.common_steps}
-use Rattle.adf_blocks.specs.{declared.layout.TheConstants.FIRST_SLOT, declared.layout.TheConstants.NEXT_IN_CHAIN, declared.layout.TheConstants.SLOTS, Sizes.blocks}
+use Rattle.adf_blocks.specs.{declared.layout.TheConstants.FIRST_SLOT, declared.layout.TheConstants.NEXT_IN_CHAIN, declared.layout.TheConstants.SLOTS}
+use Rattle.adf_blocks.specs.{Sizes.blocks}
 use Rattle.adf_volume.specs.{Image.word_in, Start.is_image_len}
 use Rattle.adf_rescue.specs.{Chains.chain_has, Claims.claims_header, Pruned.is_child_of, Pruned.is_home}
 use Rattle.adf_rescue.specs.Pruned.{leads_to_child, pruned, pruned_at, pruned_first, slot_pruned, slots_pruned}
@@ -53,7 +54,8 @@ module _ (image : List ℕ) (c b k : ℕ) where
   unfolding chain_has
   chain_ends past = let none : SLOTS - k ≡ 0 = omega (arith, past) in rw none refl
 
-  chain_step : k < SLOTS → chain_has image (SLOTS - k) c b ≡ ((c == b) || claims_header image c && chain_has image (SLOTS - (k + 1)) (word_in image c NEXT_IN_CHAIN) b)
+  chain_step : k < SLOTS
+      → chain_has image (SLOTS - k) c b ≡ ((c == b) || claims_header image c && chain_has image (SLOTS - (k + 1)) (word_in image c NEXT_IN_CHAIN) b)
   unfolding chain_has
   chain_step lt = let more : SLOTS - k ≡ suc (SLOTS - (k + 1)) = omega (arith, lt) in rw more refl
 

@@ -6,7 +6,8 @@ use Rattle.adf_base.specs.Words.{block, long_sum, sealed, with_block, word}
 use Rattle.adf_blocks.specs.declared.layout.TheConstants.{EXTENSION, FIRST_SLOT, NEXT_IN_CHAIN, PARENT, SECONDARY_TYPE, SLOTS, ST_DIR}
 use Rattle.adf_blocks.specs.Sizes.{blocks, in_range}
 use Rattle.adf_volume.specs.{Image.root_of, Image.word_in, Start.is_image_len}
-use Rattle.adf_rescue.specs.{Chains.leads_to, Claims.claims_cache, Claims.claims_extension, Claims.claims_header, Hung.put_in, Lost.says_directory, Opened.opened}
+use Rattle.adf_rescue.specs.{Chains.leads_to, Claims.claims_cache, Claims.claims_extension, Claims.claims_header, Hung.put_in, Lost.says_directory}
+use Rattle.adf_rescue.specs.{Opened.opened}
 
 -- block b is a header in doubt: it claims to be a header, is not the root, and its sum is wrong
 abbrev pub is_in_doubt : List ℕ → ℕ → Bool

@@ -389,9 +389,8 @@ fn changed(alloc: Global, survey: &Survey<'_>, loose: &Loose) -> Result<Vec<u8>,
 /// no part of the survey. A block that is neither misses it if a trusted bitmap tells that it is in use, or, where none tells
 /// anything of it, if some directory is open: there a directory `lost-` and its number is made, in the root.
 ///
-/// A lost header whose directory is neither found, nor lost, nor made is not hung. Those that the table of their directory names, in
-/// the slot of their names, come before the others. No word that leads to a part of the survey is
-/// changed. `NoMemory` if an allocation fails, which can happen only if there is a finding.
+/// A lost header whose directory is neither found, nor lost, nor made is not hung. Those that their directory leads to come before
+/// the others. No word that leads to a part of the survey is changed. `NoMemory` if an allocation fails, which can happen only if there is a finding.
 pub fn hung(alloc: Global, survey: &Survey<'_>, made: bool) -> Result<Option<Vec<u8>>, NoMemory>
     ensures image { OnSurvey survey.now.image (λ w fs.
         IfOk result (λ r. option_map (λ v. v.items) r ≡ second_image made survey.now.image w fs)) }

@@ -1,11 +1,12 @@
 -- Runs of findings, one after another, and their lines.
 -- Letters: w a walk, fs its findings, f one of them; r, s runs; k a place among the findings.
-use Rattle.std.proofs.Common.{◌≡◌, ◌∙◌, ◌++◌, ◌+◌, ◌≤◌, Bool, List, Some, None, [], ◌∷◌, ℕ, zero, suc, true, false, drop, length, refl, sym, ap, ap₂, append_assoc}
+use Rattle.std.proofs.Common.{◌≡◌, ◌∙◌, ◌++◌, ◌+◌, ◌≤◌, Bool, List, Some, None, [], ◌∷◌, ℕ, zero, suc, true, false, drop, length, refl, sym, ap, ap₂}
+use Rattle.std.proofs.Common.{append_assoc}
 use Rattle.std.proofs.{Common.append-nil, Common.arith, lemmas.List.drop_all}
 use Rattle.std.specs.{Prelude.option_map, Prelude.slice_get, List.flat_map}
 use Rattle.adf_volume.specs.Walk.{Walk}
 use Rattle.adf_findings.specs.Survey.{FindingValue}
-use Rattle.adf_subjects.specs.{Lines.continues, Lines.findings_text, Lines.run_line, Lines.run_of, Lines.runs, Lines.runs_from, declared.runs.Run.Run}
+use Rattle.adf_subjects.specs.{Lines.continues, Lines.findings_text, Lines.line_of_run, Lines.run_of, Lines.runs, Lines.runs_from, declared.runs.Run.Run}
 
 module _ (w : Walk) where
   -- a finding at a place
@@ -62,11 +63,11 @@ module _ (w : Walk) where
 module _ (json : Bool) (image : List ℕ) (w : Walk) where
   -- the line of a run, and those that are to come
   pub line_first : (r : Run) (rest fs : List FindingValue) (text text' : List ℕ) → r ∷ runs w rest ≡ runs w fs
-      → text' ≡ text ++ run_line json image w r
+      → text' ≡ text ++ line_of_run json image w r
       → text' ++ findings_text json image w rest ≡ text ++ findings_text json image w fs
   line_first r rest fs text text' e t =
-      ap (λ l. l ++ findings_text json image w rest) t ∙ append_assoc text (run_line json image w r) (findings_text json image w rest)
-      ∙ ap (λ rs. text ++ flat_map (run_line json image w) rs) e
+      ap (λ l. l ++ findings_text json image w rest) t ∙ append_assoc text (line_of_run json image w r) (findings_text json image w rest)
+      ∙ ap (λ rs. text ++ flat_map (line_of_run json image w) rs) e
 
   -- no line is to come
   pub lines_end : (fs : List FindingValue) (k : ℕ) (text : List ℕ) → length fs ≤ k → text ++ findings_text json image w (drop k fs) ≡ text

@@ -80,15 +80,15 @@ concerned (Some (Entry n)) = Some n
 concerned (Some (Within n)) = Some n
 
 -- a header was skipped
-abbrev pub is_within : Option Concern → Bool
-is_within (Some (Within n)) = true
-is_within _ = false
+abbrev pub concerns_skipped : Option Concern → Bool
+concerns_skipped (Some (Within n)) = true
+concerns_skipped _ = false
 
 -- the members of the object of a run, with the path of what it concerns and that of the entry that holds its blocks
 unfoldable pub run_members : Run → (path owner : List ℕ) → List MemberValue
 run_members r path owner = member (codes "line") (characters (codes "finding")) ∷ member (codes "first") (numeral r.first)
     ∷ member (codes "last") (numeral r.last) ∷ member (codes "cause") (characters (cause_text r.cause))
-    ∷ member (codes "path") (path_value (concerned r.concern) path) ∷ member (codes "within") (truth (is_within r.concern))
+    ∷ member (codes "path") (path_value (concerned r.concern) path) ∷ member (codes "within") (truth (concerns_skipped r.concern))
     ∷ member (codes "owner") (path_value r.owner owner) ∷ []
 
 -- the object of a run
@@ -96,10 +96,10 @@ abbrev pub finding_object : List ℕ → Walk → Run → List ℕ
 finding_object image w r = object_line (run_members r (entry_path image w (concerned r.concern)) (entry_path image w r.owner))
 
 -- the line of a run, or with `json` its object
-abbrev pub run_line : (json : Bool) → List ℕ → Walk → Run → List ℕ
-run_line false image w r = findings_line image w r
-run_line true image w r = finding_object image w r
+abbrev pub line_of_run : (json : Bool) → List ℕ → Walk → Run → List ℕ
+line_of_run false image w r = findings_line image w r
+line_of_run true image w r = finding_object image w r
 
 -- the lines of findings, or with `json` their objects
 abbrev pub findings_text : (json : Bool) → List ℕ → Walk → List FindingValue → List ℕ
-findings_text json image w fs = flat_map (run_line json image w) (runs w fs)
+findings_text json image w fs = flat_map (line_of_run json image w) (runs w fs)

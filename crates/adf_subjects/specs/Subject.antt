@@ -46,12 +46,12 @@ abbrev pub held_end : ℕ → List ℕ → ℕ
 held_end n input = min n (blocks input)
 
 -- the remark on the blocks of an image of n blocks that the input does not hold, if there are any
-abbrev pub missing : ℕ → ℕ → List Remark
-missing end n = cond (nat_lt end n) (remark end (n - 1) NoData ∷ []) []
+abbrev pub missing_remarks : ℕ → ℕ → List Remark
+missing_remarks end n = cond (nat_lt end n) (remark end (n - 1) NoData ∷ []) []
 
 -- the remark on the blocks that are stated and not read, if there are any
-abbrev pub behind : ℕ → ℕ → List Remark
-behind n stated = cond (nat_lt n stated) (remark n (stated - 1) Behind ∷ []) []
+abbrev pub behind_remarks : ℕ → ℕ → List Remark
+behind_remarks n stated = cond (nat_lt n stated) (remark n (stated - 1) Behind ∷ []) []
 
 -- the loss of these blocks
 abbrev pub behind_loss : ℕ → ℕ → List LossValue
@@ -62,7 +62,7 @@ abbrev pub subject_read : (stated : ℕ) → Option ℕ → List ℕ → Subject
 subject_read stated None input = record { image = input; end = held_end MOST_BLOCKS input; front = []; lost = [] }
 subject_read stated (Some n) input =
     let end = held_end n input in
-    record { image = sized n input; end = end; front = missing end n ++ behind n stated; lost = behind_loss n stated }
+    record { image = sized n input; end = end; front = missing_remarks end n ++ behind_remarks n stated; lost = behind_loss n stated }
 
 -- what is surveyed of an input, as it is or as if it had so many blocks: of as many as are read
 abbrev pub subject : Option ℕ → List ℕ → SubjectValue

@@ -1,6 +1,7 @@
 // Runs of findings, and their lines.
 
-ghost use Rattle.std.specs.Prelude.{◌≡◌, ◌++◌, ◌∷◌, ◌<◌, ◌≤◌, ◌^◌, [], IfNone, IfOk, IfSome, OnErr, OnOk, drop, false, length, map};
+ghost use Rattle.std.specs.Prelude.{◌≡◌, ◌++◌, ◌∷◌, ◌<◌, ◌≤◌, ◌^◌, [], IfNone, IfOk, IfSome, OnErr, OnOk, drop, false, length};
+ghost use Rattle.std.specs.Prelude.{map};
 ghost use Rattle.std.specs.{Prelude.option_map, Prelude.slice_get, Io.KnownBytes.Appends};
 ghost use Rattle.adf_volume.specs.Walk.{Walk};
 ghost use Rattle.adf_findings.specs.Concerned.{concern_of, taker_of};
@@ -8,8 +9,10 @@ ghost use Rattle.adf_findings.specs.{Lookup.path_to, Parts.finding_value, Survey
 ghost use Rattle.adf_texts.specs.Names.{names_text};
 ghost use Rattle.adf_runs.specs.Streams.{AppendsPart, is_device};
 ghost use Rattle.adf_json.specs.Objects.{member, member_value};
-ghost use Rattle.adf_subjects.specs.Lines.{are_owned_alike, are_one, concern_text, concerned, continues, finding_object, is_beside};
-ghost use Rattle.adf_subjects.specs.Lines.{findings_line, findings_text, is_within, entry_path, owner_text, path_value, run_line, run_members, run_of, runs};
+ghost use Rattle.adf_subjects.specs.Lines.{are_owned_alike, are_one, concern_text, concerned, continues, finding_object};
+ghost use Rattle.adf_subjects.specs.Lines.{is_beside};
+ghost use Rattle.adf_subjects.specs.Lines.{findings_line, findings_text, concerns_skipped, entry_path, owner_text, path_value};
+ghost use Rattle.adf_subjects.specs.Lines.{line_of_run, run_members, run_of, runs};
 
 use crate::remarks::push_blocks;
 use adf_blocks::Cause;
@@ -227,8 +230,8 @@ fn concerned(concern: Option<Concern>) -> Option<Node>
 }
 
 // Whether a header was skipped.
-fn is_within(concern: Option<Concern>) -> bool
-    ensures { result ≡ is_within concern }
+fn concerns_skipped(concern: Option<Concern>) -> bool
+    ensures { result ≡ concerns_skipped concern }
 {
     match concern {
         Some(Concern::Within(_)) => true,
@@ -247,7 +250,7 @@ fn run_members<'a>(run: &Run, path: &'a [u8], owner: &'a [u8]) -> [Member<'a>; 7
         Member::number("last", run.last),
         Member::text("cause", run.cause.text()),
         path_member("path", concerned(run.concern), path),
-        Member::of("within", Value::Truth(is_within(run.concern))),
+        Member::of("within", Value::Truth(concerns_skipped(run.concern))),
         path_member("owner", run.owner, owner),
     ]
 }
@@ -276,7 +279,7 @@ fn push_run(
     text: &mut Vec<u8>,
 ) -> Result<(), AllocError>
     ensures { OnSurvey survey.now.image (λ w _. OnOk result
-        (text.new.items ≡ text.old.items ++ run_line json survey.now.image w run.now)) }
+        (text.new.items ≡ text.old.items ++ line_of_run json survey.now.image w run.now)) }
 {
     if json {
         push_run_object(alloc, survey, run, text)
@@ -285,9 +288,9 @@ fn push_run(
     }
 }
 
-/// Writes the text that waits, then the lines of the findings, or with `json` their objects; those of neighbouring blocks are one. `Device` if the writer
-/// failed, `NoMemory` if an allocation failed; then a front part of the lines is written, and if the writer failed not all of
-/// them.
+/// Writes the text that waits, then the lines of the findings, or with `json` their objects; those of neighbouring blocks are
+/// one. `Device` if the writer failed, `NoMemory` if an allocation failed; then a front part of the text is written, and if the
+/// writer failed not all of it.
 pub fn write_runs<W: Sink>(
     alloc: Global,
     survey: &Survey<'_>,

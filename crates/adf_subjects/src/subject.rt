@@ -6,8 +6,9 @@ ghost use Rattle.adf_findings.specs.{OwnKind.told_type, Survey.OnSurvey};
 ghost use Rattle.adf_rescue.specs.{Hung.second_image, Opened.lacks_root, Opened.opened};
 ghost use Rattle.adf_subjects.specs.Losses.{runs_lost};
 ghost use Rattle.adf_subjects.specs.{Remarks.remark, Remarks.remarks_text};
-ghost use Rattle.adf_subjects.specs.Subject.{IsOtherType, IsTyped, begun_subject, behind, behind_loss, held_end, kind_image};
-ghost use Rattle.adf_subjects.specs.Subject.{missing, other_type, retyped_subject, sized, subject, subject_read};
+ghost use Rattle.adf_subjects.specs.Subject.{IsOtherType, IsTyped, begun_subject, behind_remarks, behind_loss, held_end};
+ghost use Rattle.adf_subjects.specs.Subject.{kind_image};
+ghost use Rattle.adf_subjects.specs.Subject.{missing_remarks, other_type, retyped_subject, sized, subject, subject_read};
 ghost use Rattle.adf_subjects.specs.Subject.{subject_value, unless_own, with_kind_of};
 
 use crate::lengths::{blocks_read, stated_length};
@@ -58,7 +59,7 @@ fn held_end(blocks: u32, bytes: &[u8]) -> u32
 
 // The remarks on the blocks from `end` on that are not there, and on those that are stated behind so many.
 fn remarks_on(alloc: Global, end: u32, blocks: u32, stated: u32) -> Result<Vec<Remark>, AllocError>
-    ensures { IfOk result (λ remarks. remarks.items ≡ missing end blocks ++ behind blocks stated) }
+    ensures { IfOk result (λ remarks. remarks.items ≡ missing_remarks end blocks ++ behind_remarks blocks stated) }
 {
     let mut remarks = Vec::new(alloc);
     if end < blocks {

@@ -13,12 +13,14 @@ module _ (json : Bool) (date : Stamp → List ℕ) (sound : ℕ → Bool) (image
   unfolding lines_of_found
   found_none text = append-nil text
 
-  next_found : (k : ℕ) → lines_of_found json date sound image w (k + 1) ≡ lines_of_found json date sound image w k ++ found_lines json date sound image w (k + 1)
+  next_found : (k : ℕ)
+      → lines_of_found json date sound image w (k + 1) ≡ lines_of_found json date sound image w k ++ found_lines json date sound image w (k + 1)
   unfolding lines_of_found
   next_found k = flat_map_next (found_lines json date sound image w) 1 k (k + 1) (omega arith)
 
   pub found_more : (text : List ℕ) (i : ℕ)
-      → text ++ lines_of_found json date sound image w (i + 1) ≡ (text ++ lines_of_found json date sound image w i) ++ found_lines json date sound image w (i + 1)
+      → text ++ lines_of_found json date sound image w (i + 1)
+      ≡ (text ++ lines_of_found json date sound image w i) ++ found_lines json date sound image w (i + 1)
   found_more text i = grind (arith, common_steps, next_found, append_assoc)
 
   fewer : (k n : ℕ) → k ≤ n → (rest : List ℕ) × (lines_of_found json date sound image w n ≡ lines_of_found json date sound image w k ++ rest)

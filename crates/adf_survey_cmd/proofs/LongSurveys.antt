@@ -18,8 +18,9 @@ use Rattle.adf_rescue.proofs.MadeRoots.{sized as sized_len}
 use Rattle.adf_cmd.proofs.LongInputs.{long_fault, too_large}
 use Rattle.adf_survey_cmd.specs.Answers.{CopiesFound, CopiesFromSurvey, ListsSurvey, QuestionAnswer, SurveyAnswer, Surveys, TellsFound, told_status, types_kept}
 use Rattle.adf_survey_cmd.specs.Hints.{disk_hint}
-use Rattle.adf_subjects.specs.{Lengths.AreFew, Lengths.blocks_read, Lengths.stated_length, Lines.findings_text, Lines.runs_from, Losses.LossValue, Remarks.remarks_text}
-use Rattle.adf_subjects.specs.Subject.{IsTyped, OfTyped, SubjectValue, begun_subject, behind, behind_loss, held_end, missing, other_type}
+use Rattle.adf_subjects.specs.{Lengths.AreFew, Lengths.blocks_read, Lengths.stated_length, Lines.findings_text, Lines.runs_from, Losses.LossValue}
+use Rattle.adf_subjects.specs.{Remarks.remarks_text}
+use Rattle.adf_subjects.specs.Subject.{IsTyped, OfTyped, SubjectValue, begun_subject, behind_remarks, behind_loss, held_end, missing_remarks, other_type}
 use Rattle.adf_subjects.specs.Subject.{IsOtherType, IsTypeTold, kind_image, sized, subject, subject_read, subject_text, typed_by}
 use Rattle.adf_survey_cmd.specs.CommandLine.{InquiryValue, QuestionValue, cat, list, report, rescue}
 use Rattle.adf_subjects.specs.Rescues.{IsNoVolume, RescueValue, Rescues, RescuesBoth, RescuesFound}
@@ -207,7 +208,7 @@ long_read stated (Some n) q image bytes few e a b reply h =
     λ i. record {
       image = same_sized n image bytes few e a b i;
       end = end i;
-      front = missing (end i) n ++ behind n stated;
+      front = missing_remarks (end i) n ++ behind_remarks n stated;
       lost = behind_loss n stated;
     } in
     subst (λ s. QuestionAnswer q s reply) same h

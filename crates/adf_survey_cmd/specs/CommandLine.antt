@@ -32,7 +32,7 @@ flagged_survey = with_rule (with_rule (with_rule numbered_survey (flag_rule (cod
 abbrev pub survey_app : App
 survey_app = with_subcommand (with_subcommand flagged_survey survey_cat_app.top) survey_rescue_app.top
 
--- what is asked of an image: all findings; these and what is found, each as lines or as objects; the bytes of a file, which is sound or may be damaged; or a new
+-- what is asked of an image: all findings; these and what is found, both as lines or as objects; the bytes of a file, which is sound or may be damaged; or a new
 -- volume of all that stands, which keeps the letters of the image, or has ASCII letters
 pub data QuestionValue : Type 0 where
   report : (json : Bool) → QuestionValue

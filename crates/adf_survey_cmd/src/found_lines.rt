@@ -8,7 +8,8 @@ ghost use Rattle.adf_findings.specs.{SoundMarks.AreMarks, Survey.OnSurvey};
 ghost use Rattle.adf_texts.specs.VolumeLines.{AreDates};
 ghost use Rattle.adf_runs.specs.Streams.{AppendsPart, is_device};
 ghost use Rattle.adf_texts.specs.RowTexts.{head_lines};
-ghost use Rattle.adf_survey_cmd.specs.FoundLines.{InAnyTexts, entry_text, found_lines, found_text, lines_of_found, mark_text, marked};
+ghost use Rattle.adf_survey_cmd.specs.FoundLines.{InAnyTexts, entry_text, found_lines, found_text, lines_of_found, mark_text};
+ghost use Rattle.adf_survey_cmd.specs.FoundLines.{marked};
 ghost use Rattle.adf_survey_cmd.specs.FoundLines.{opening_text};
 
 use crate::found_objects::{FoundEntry, push_entry_object, push_volume_object};
@@ -83,7 +84,8 @@ fn push_entry(
     text: &mut Vec<u8>,
 ) -> Result<(), AllocError>
     ensures { (date : Stamp → List ℕ) → AreDates date → OnOk result (text.new.items ≡ text.old.items
-        ++ entry_text json date entry.now.is_sound (map (λ name. name.now) entry.now.path.now) entry.now.body entry.now.meta.now) }
+        ++ entry_text json date entry.now.is_sound (map (λ name. name.now) entry.now.path.now)
+        entry.now.body entry.now.meta.now) }
 {
     if json {
         push_entry_object(alloc, entry, text)
@@ -181,7 +183,8 @@ pub fn write_found<W: Sink>(
     requires works { W.has_failed output.old ≡ false }
     ensures ok { OnSurvey survey.now.image (λ w fs.
         InAnyTexts survey.now.image w fs (λ date sound. OnOk result (Appends
-        (W.held output.old) (W.held output.new) (found_text form.json date (marked sound form.end survey.now.image w) survey.now.image w)))) }
+        (W.held output.old) (W.held output.new)
+        (found_text form.json date (marked sound form.end survey.now.image w) survey.now.image w)))) }
     ensures err { OnSurvey survey.now.image (λ w fs.
         InAnyTexts survey.now.image w fs (λ date sound. OnErr result (AppendsPart
         (W.has_failed output.new) (W.held output.old) (W.held output.new)

@@ -82,7 +82,8 @@ impl EntryTexts {
 #[tactic(auto, unfolding(crate::specs::FoundLines::entry_members))]
 fn entry_members<'a>(entry: &FoundEntry<'_>, texts: &'a EntryTexts) -> [Member<'a>; 8]
     ensures { texts.now.comment.items ≡ entry.now.meta.now.comment → map member_value result
-        ≡ entry_members entry.now.is_sound texts.now.path.items texts.now.date.items (row_body entry.now.body) entry.now.meta.now }
+        ≡ entry_members entry.now.is_sound texts.now.path.items texts.now.date.items
+        (row_body entry.now.body) entry.now.meta.now }
 {
     let body = RowBody::of(entry.body);
     [

@@ -47,8 +47,8 @@ pub fn write_list<W: Sink>(
     output: &mut W,
 ) -> Outcome
     requires { W.has_failed output.old ≡ false }
-    ensures ends { OnSurvey survey.now.image (λ w fs. EndsBy (TellsFound json (surveyed_as survey.now.image subject.now) w fs) result
-        (W.held output.old) (W.held output.new)) }
+    ensures ends { OnSurvey survey.now.image (λ w fs. EndsBy (TellsFound json (surveyed_as survey.now.image subject.now) w fs)
+        result (W.held output.old) (W.held output.new)) }
     ensures blames { Blames result false (W.has_failed output.new) }
 {
     survey.marks();

@@ -38,7 +38,8 @@ returns-in_err-flush_long-clause-err g c = λ w fs survey date sound dates marks
     let more = pending_more _ _ _ _ _ _
     (found_more c.args.form.json date (marked sound c.args.form.end image w) image w c.args.text.items c.loop-i.i)
     (c.loop-i.invariant.so_far w fs survey date sound dates marks) in
-    let front = found_front c.args.form.json date (marked sound c.args.form.end image w) image w c.args.text.items (c.loop-i.i + 1) (heads w) (omega (arith, all)) in
+    let front = found_front c.args.form.json date (marked sound c.args.form.end image w) image w c.args.text.items
+    (c.loop-i.i + 1) (heads w) (omega (arith, all)) in
     let lines = c.in_ok-push_found.ensures w fs survey date sound dates marks (omega arith) (omega (arith, all)) in
     on_err c.from_residual-in_err-flush_long.result
     (pending_fails _ _ _ _ _ front.0 _ front.1 more (rw lines at c.in_err-flush_long.ensures.err))
@@ -51,7 +52,8 @@ returns-clause-ok g c = λ w fs survey date sound dates marks.
 
 pub returns-in_err-write_all-clause-err : goal.returns-in_err-write_all-clause-err
 returns-in_err-write_all-clause-err g c = λ w fs survey date sound dates marks.
-    let front = found_front c.args.form.json date (marked sound c.args.form.end c.args.survey.now.image w) c.args.survey.now.image w c.args.text.items c.loop-i.i (heads w)
+    let front = found_front c.args.form.json date (marked sound c.args.form.end c.args.survey.now.image w)
+    c.args.survey.now.image w c.args.text.items c.loop-i.i (heads w)
     (omega (arith, c.len-i-end.ensures w fs survey)) in
     on_err c.from_residual-in_err-write_all.result (pending_fails _ _ _ _ _ front.0 _ front.1
     (c.loop-i.invariant.so_far w fs survey date sound dates marks) (rw c.deref.ensures.value at c.in_err-write_all.ensures.err))
