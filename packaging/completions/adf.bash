@@ -45,7 +45,11 @@ _adf_disk() {
 }
 
 _adf_boot() {
-    ((COMP_CWORD > 1)) || COMPREPLY=($(compgen -W "install copy clear --json --help --version" -- "$2"))
+    if ((COMP_CWORD == 1)); then
+        COMPREPLY=($(compgen -W "install copy clear -i -o --json --help --version" -- "$2"))
+    elif [[ $COMP_CWORD:${COMP_WORDS[1]} == @(2:-i|3:-o) ]]; then
+        COMPREPLY=($(compgen -W "install copy clear" -- "$2"))
+    fi
 }
 
 _adf_files() {
