@@ -181,11 +181,7 @@ fn change_over(alloc: Global, words: &[&str], image: &[u8]) -> Changed {
 // whose first word is the root, and of the boot file.
 const REPLACED: &[(&[&str], &str, u8)] = &[
     (&["adf-boot", "-i", "clear", "image"], "image", 0),
-    (
-        &["adf-boot", "-i", "copy", "boot", "image"],
-        "image",
-        0x71,
-    ),
+    (&["adf-boot", "-i", "copy", "boot", "image"], "image", 0x71),
     (
         &["adf-boot", "-o", "new", "copy", "boot", "image"],
         "new",

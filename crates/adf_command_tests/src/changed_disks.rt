@@ -122,8 +122,24 @@ fn length_and_protection(image: &[u8]) -> (u8, u8) {
     )
 }
 
-// The words, the file that is replaced, and the length and the protection of `a` in it.
+// The words, the file that is replaced, and the length and the protection of `a` in it. Of `hsparwed` `h` is 128, `p` 32, `r` 8, `e` 2.
 const MADE: &[(&[&str], &str, u8, u8)] = &[
+    (
+        &[
+            "x", "disk", "put", "host", "a", "+", "protect", "a", "----rwed",
+        ],
+        "disk",
+        3,
+        0,
+    ),
+    (
+        &[
+            "x", "disk", "put", "host", "a", "+", "protect", "a", "h-p--w-d",
+        ],
+        "disk",
+        3,
+        170,
+    ),
     (&["x", "disk", "put", "host", "a"], "disk", 3, 0),
     (&["x", "-o", "new", "disk", "put", "host", "a"], "new", 3, 0),
     (
@@ -185,6 +201,11 @@ const REFUSED: &[(&[&str], u8, &str)] = &[
         "2: not a file\n",
     ),
     (&["x", "disk", "protect", "a", "rwed"], 1, "1: bad line\n"),
+    (
+        &["x", "disk", "dir", "a", "+", "protect", "a", "----rwex"],
+        1,
+        "2: bad line\n",
+    ),
     (&["x", "host", "dir", "a"], 1, "image: "),
     (&["x", "locked", "dir", "a"], 3, "locked: no permission\n"),
     (

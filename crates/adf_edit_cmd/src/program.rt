@@ -41,7 +41,7 @@ const ABOUT: About = About {
     \x20 move PATH NEW        give an entry another path\n\
     \x20 dir PATH             add a directory\n\
     \x20 note PATH TEXT       set a comment\n\
-    \x20 protect PATH WORD    set a protection, as 0000000f\n\
+    \x20 protect PATH FLAGS   set a protection, as ----rw-d or 0000000f\n\
     \x20 date PATH DATE       set a date\n\
     \x20 label TEXT           set the label\n\
     \x20 letters KIND         make it `international` or `ascii`; the last one\n\n\
