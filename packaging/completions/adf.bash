@@ -69,7 +69,7 @@ _adf_files() {
     esac
     case $1:$2 in
         adf-mount:-*) COMPREPLY=($(compgen -W "--partition --damaged --blocks --strict -f -o -h --help -V --version" -- "$2")) ;;
-        adf-edit:-*) COMPREPLY=($(compgen -W "-o --help --version" -- "$2")) ;;
+        adf-edit:-*) COMPREPLY=($(compgen -W "-o -f --help --version" -- "$2")) ;;
         adf-edit:*)
             if [[ $3 == + ]] || ((COMP_CWORD == 2)); then
                 COMPREPLY=($(compgen -W "put replace remove move dir note protect date label letters" -- "$2"))

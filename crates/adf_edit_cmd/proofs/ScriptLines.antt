@@ -4,7 +4,6 @@ use Rattle.std.proofs.lemmas.Bool.{cases_lt}
 use Rattle.adf_base.specs.{Dates.IsStamp, Dates.plain_text, declared.dates.Stamp.Stamp}
 use Rattle.adf_edits.specs.Edits.{EditValue, change, dir, file, label, move, remove, replace}
 use Rattle.adf_edits.specs.declared.edits.Change.TheVariants as what
-use Rattle.adf_manifest.specs.Texts.{hex_word}
 use Rattle.adf_names.specs.{Escapes.IsSpelling, PathTexts.IsPathText}
 use Rattle.adf_edit_cmd.specs.Lines.{SaysBehindVerb, SaysEdit, SaysProtection, before_colon, flags_text, has_byte, value_in, verb_of}
 use Rattle.adf_plans.specs.PlanTexts.{behind_word, first_word}
