@@ -98,8 +98,8 @@ fn image_from<R: Source>(alloc: Global, work: &Work, input: &mut R) -> Result<Ve
 }
 
 /// Gives the target of a change the image that its words make, and returns the status: 0 if that is done; 1 if the image or the
-/// boot file is refused; 2 if the words are; 3 if a file or an allocation failed. If it is not 0, each file is as it was, and errors
-/// say why.
+/// boot file is refused; 2 if the words are; 3 if a file or an allocation failed. If it is not 0, each file is as it was, and
+/// errors say why.
 pub fn change_boot<F: ChangeFiles, E: Sink>(
     alloc: Global,
     change: &BootChange<'_>,

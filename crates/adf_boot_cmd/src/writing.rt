@@ -2,7 +2,8 @@
 
 ghost use Rattle.std.specs.Prelude.{◌≡◌, ◌≢◌, ◌≤◌, ◌++◌, IfErr, IfOk, codes, false, length};
 ghost use Rattle.adf_boot_blocks.specs.{declared.boot.TheConstants.BOOT_LEN, declared.refusal.TheConstants.MOST_BYTES};
-ghost use Rattle.adf_runs.specs.{Commands.on_errors, Commands.on_output, Outcomes.Does, Outcomes.DoesSilently, Outcomes.status_of, Streams.seen};
+ghost use Rattle.adf_runs.specs.{Commands.on_errors, Commands.on_output, Streams.seen};
+ghost use Rattle.adf_runs.specs.Outcomes.{Does, DoesSilently, status_of};
 ghost use Rattle.adf_boot_cmd.specs.Answers.{changed_boot, line_status, boot_reply, order_refusal, boot_refusal_text, written};
 ghost use Rattle.adf_boot_cmd.specs.Work.{HasBoot, order_of};
 

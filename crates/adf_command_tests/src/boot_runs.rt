@@ -8,8 +8,8 @@ use adf_file_changes::{ChangeFiles, Changing, Unwritten, answer_changing};
 use adf_file_runs::{Files, Unopened};
 use std::alloc::Global;
 
-// A folder with an image, which a file has that may not be written too, a boot file, the front of one, and one that fails; and what
-// was put there.
+// A folder with an image, which a file has that may not be written too, a boot file, the front of one, and one that fails; and
+// what was put there.
 #[derive(Drop)]
 struct Folder<'a> {
     image: &'a [u8],
@@ -177,8 +177,7 @@ fn change_over(alloc: Global, words: &[&str], image: &[u8]) -> Changed {
     }
 }
 
-// Words, the file that is replaced, and its byte 8, the first one behind the checksum: of the image, of the code that is installed,
-// whose first word is the root, and of the boot file.
+// Words, the file that is replaced, and its byte 8, the first one behind the checksum: 0 without code, else that of the boot file.
 const REPLACED: &[(&[&str], &str, u8)] = &[
     (&["adf-boot", "-i", "clear", "image"], "image", 0),
     (&["adf-boot", "-i", "copy", "boot", "image"], "image", 0x71),

@@ -128,7 +128,8 @@ fn length_and_protection(image: &[u8]) -> (u8, u8) {
     )
 }
 
-// The words, the file that is replaced, and the length and the protection of `a` in it. Of `hsparwed` `h` is 128, `p` 32, `r` 8, `e` 2.
+// The words, the file that is replaced, and the length and the protection of `a` in it. Of `hsparwed` `h` is 128, `p` 32, `r` 8
+// and `e` 2.
 const MADE: &[(&[&str], &str, u8, u8)] = &[
     (&["x", "-f", "script", "disk"], "disk", 3, 170),
     (
