@@ -1,5 +1,6 @@
 -- Edits that stand in the lines of a file.
-use Rattle.std.proofs.Common.{◌≡◌, ◌+◌, ◌∙◌, ℕ, List, [], ◌∷◌, ◌++◌, Option, None, Some, Result, Ok, Err, Bor, IsUtf8, ap, append-nil, append_assoc, codes, inl, inr, refl, sym}
+use Rattle.std.proofs.Common.{◌≡◌, ◌+◌, ◌∙◌, ℕ, List, [], ◌∷◌, ◌++◌, Option, None, Some, Result}
+use Rattle.std.proofs.Common.{Ok, Err, Bor, IsUtf8, ap, append-nil, append_assoc, codes, inl, inr, refl, sym}
 use Rattle.std.proofs.Common.{◌⊎◌}
 use Rattle.std.specs.Str.Lines.{lines}
 use Rattle.adf_edit_cmd.specs.ScriptFile.{FiledEnds, ScriptEnds, ScriptOrder, WordsEnd, lines_filed, next_filed, words_in}

@@ -5,7 +5,8 @@ ghost use Rattle.adf_edit_cmd.specs.{Answers.Edits, Answers.edit_command, Edited
 ghost use Rattle.adf_runs.specs.Commands.{IsUnanswered, RunEnds, TakesEnough, on_errors, on_output};
 ghost use Rattle.adf_runs.specs.{Outcomes.Blames, Outcomes.Does, Outcomes.DoesSilently, Outcomes.EndsBy, Streams.seen};
 ghost use Rattle.adf_words.specs.CommandLine.{texts_of};
-ghost use Rattle.adf_edit_cmd.specs.{Changing.OrderedEnds, ScriptFile.EditEnds, ScriptFile.WordsEnd, ScriptFile.script_asked, Words.order_asked};
+ghost use Rattle.adf_edit_cmd.specs.{Changing.OrderedEnds, Words.order_asked};
+ghost use Rattle.adf_edit_cmd.specs.ScriptFile.{EditEnds, WordsEnd, script_asked};
 ghost use Rattle.adf_file_runs.specs.FileRuns.{known_files};
 
 use crate::changing::change_disk;

@@ -2,7 +2,8 @@
 
 ghost use Rattle.std.specs.Prelude.{◌≡◌, ◌≢◌, ◌⊎◌, Err, IfErr, IfOk, Ok, false, option_map};
 ghost use Rattle.std.specs.{Str.Lines.lines};
-ghost use Rattle.adf_edit_cmd.specs.ScriptFile.{FiledEnds, ScriptEnds, lines_filed, script_asked, script_behind, script_on, words_in};
+ghost use Rattle.adf_edit_cmd.specs.ScriptFile.{FiledEnds, ScriptEnds, lines_filed, script_asked};
+ghost use Rattle.adf_edit_cmd.specs.ScriptFile.{script_behind, script_on, words_in};
 ghost use Rattle.adf_edit_cmd.specs.{Changing.IsNoChangeTold, Words.AddsLine};
 ghost use Rattle.adf_file_runs.specs.FileRuns.{known_files};
 ghost use Rattle.adf_runs.specs.Streams.{seen};
