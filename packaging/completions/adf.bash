@@ -45,7 +45,11 @@ _adf_disk() {
 }
 
 _adf_boot() {
-    ((COMP_CWORD > 1)) || COMPREPLY=($(compgen -W "install copy clear --json --help --version" -- "$2"))
+    if ((COMP_CWORD == 1)); then
+        COMPREPLY=($(compgen -W "install copy clear -i -o --json --help --version" -- "$2"))
+    elif [[ $COMP_CWORD:${COMP_WORDS[1]} == @(2:-i|3:-o) ]]; then
+        COMPREPLY=($(compgen -W "install copy clear" -- "$2"))
+    fi
 }
 
 _adf_files() {
@@ -65,7 +69,7 @@ _adf_files() {
     esac
     case $1:$2 in
         adf-mount:-*) COMPREPLY=($(compgen -W "--partition --damaged --blocks --strict -f -o -h --help -V --version" -- "$2")) ;;
-        adf-edit:-*) COMPREPLY=($(compgen -W "-o --help --version" -- "$2")) ;;
+        adf-edit:-*) COMPREPLY=($(compgen -W "-o -f --help --version" -- "$2")) ;;
         adf-edit:*)
             if [[ $3 == + ]] || ((COMP_CWORD == 2)); then
                 COMPREPLY=($(compgen -W "put replace remove move dir note protect date label letters" -- "$2"))

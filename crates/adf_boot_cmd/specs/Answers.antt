@@ -74,7 +74,8 @@ IsOrderOf bytes_of (copies name) order = (boot : List ℕ) × (order ≡ copy bo
 abbrev pub boot_usage : List ℕ
 boot_usage =
     codes "usage: adf-boot [--json] [FILE]\n       adf-boot install [FILE] > NEW\n       adf-boot copy BOOTFILE [FILE] > NEW\n"
-    ++ codes "       adf-boot clear [FILE] > NEW\nwithout a FILE the image comes on standard input; man adf-boot tells more\n"
+    ++ codes "       adf-boot clear [FILE] > NEW\n       adf-boot -i COMMAND FILE\n       adf-boot -o NEW COMMAND FILE\n"
+    ++ codes "without a FILE the image comes on standard input; man adf-boot tells more\n"
 
 -- the command `adf-boot`, whose words have no path, over files of which some are known
 abbrev pub boot_command : (bytes_of : List ℕ → Option (List ℕ)) → Command (List (List ℕ))

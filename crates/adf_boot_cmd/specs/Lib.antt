@@ -1,6 +1,7 @@
--- The promise: the command line, the line of boot blocks, and what the command answers.
+-- The promise: the command line, the line of boot blocks, what the command answers, and what becomes of files.
 pub mod CommandLine
 pub mod Lines
 pub mod Answers
+pub mod Changing
 -- The work of the command, as the code has it.
 pub mod Work

@@ -20,7 +20,8 @@ use std::alloc::{AllocError, Global};
 /// What is said of arguments that are refused.
 pub const BOOT_USAGE: &str =
     "usage: adf-boot [--json] [FILE]\n       adf-boot install [FILE] > NEW\n       adf-boot copy BOOTFILE [FILE] > NEW\n\
-    \x20      adf-boot clear [FILE] > NEW\nwithout a FILE the image comes on standard input; man adf-boot tells more\n";
+    \x20      adf-boot clear [FILE] > NEW\n       adf-boot -i COMMAND FILE\n       adf-boot -o NEW COMMAND FILE\n\
+    without a FILE the image comes on standard input; man adf-boot tells more\n";
 
 /// What the program tells of itself.
 pub const ABOUT: About = About {
@@ -30,8 +31,11 @@ pub const ABOUT: About = About {
     \x20      adf-boot install [FILE] > NEW        with code that starts AmigaDOS\n\
     \x20      adf-boot copy BOOTFILE [FILE] > NEW  with the first 1,024 bytes of another file\n\
     \x20      adf-boot clear [FILE] > NEW          without code\n\
+    \x20      adf-boot -i COMMAND FILE             one of these commands, in FILE itself\n\
+    \x20      adf-boot -o NEW COMMAND FILE         one of these commands, into the file NEW\n\
     \x20      adf-boot --help, adf-boot --version\n\n\
-    Without a FILE the image comes on standard input. man adf-boot tells more.\n",
+    Without a FILE the image comes on standard input.\n\
+    With -i or -o the file is replaced at once or not at all. man adf-boot tells more.\n",
     waits: None,
 };
 

@@ -2,6 +2,7 @@
 #![tactic(auto)]
 
 mod boot_file;
+mod changing;
 mod command_line;
 mod laws;
 mod line;

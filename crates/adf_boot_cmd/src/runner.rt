@@ -2,14 +2,16 @@
 
 ghost use Rattle.std.specs.Prelude.{◌≡◌, false};
 ghost use Rattle.adf_file_runs.specs.FileRuns.{known_files};
-ghost use Rattle.adf_boot_cmd.specs.{CommandLine.AreRefusedByBoot, Answers.BootEnds};
+ghost use Rattle.adf_boot_cmd.specs.{CommandLine.AreRefusedByBoot, Answers.BootEnds, Changing.BootRunEnds};
 ghost use Rattle.adf_words.specs.CommandLine.{texts_of};
 ghost use Rattle.adf_runs.specs.Streams.{seen};
 
 use crate::boot_file::work_for;
+use crate::changing::{boot_change, change_boot};
 use crate::command_line::{ABOUT, BOOT_USAGE as USAGE, parse_boot};
 use crate::work::Work;
-use adf_file_runs::{About, Files, Invocation, SystemProgram, refuse_file};
+use adf_file_changes::{ChangeFiles, Changing, ChangingProgram};
+use adf_file_runs::{About, Files, refuse_file};
 use adf_runs::{Sink, Source, WorkFault};
 use std::alloc::Global;
 
@@ -54,20 +56,23 @@ pub fn run<F: Files, R: Source, W: Sink, E: Sink>(
     }
 }
 
-impl SystemProgram for Work {
-    ghost ends = { BootEnds };
+impl ChangingProgram for Work {
+    ghost ends = { BootRunEnds };
 
     fn about() -> About {
         ABOUT
     }
 
-    fn start<F: Files, R: Source, W: Sink, E: Sink>(
+    fn start<F: ChangeFiles, R: Source, W: Sink, E: Sink>(
         alloc: Global,
-        asked: &Invocation<'_, F>,
+        asked: &mut Changing<'_, F>,
         input: &mut R,
         output: &mut W,
         errors: &mut E,
     ) -> u8 {
-        run(alloc, asked.words, asked.files, input, output, errors)
+        match boot_change(asked.words) {
+            Some(change) => change_boot(alloc, &change, &mut asked.files, errors),
+            None => run(alloc, asked.words, &asked.files, input, output, errors),
+        }
     }
 }

@@ -1,8 +1,9 @@
 // Images with other boot blocks.
 
-ghost use Rattle.std.specs.Prelude.{◌≡◌, ◌≤◌, ◌++◌, codes, false, length};
+ghost use Rattle.std.specs.Prelude.{◌≡◌, ◌≢◌, ◌≤◌, ◌++◌, IfErr, IfOk, codes, false, length};
 ghost use Rattle.adf_boot_blocks.specs.{declared.boot.TheConstants.BOOT_LEN, declared.refusal.TheConstants.MOST_BYTES};
-ghost use Rattle.adf_runs.specs.{Commands.on_errors, Commands.on_output, Outcomes.Does, Outcomes.DoesSilently, Streams.seen};
+ghost use Rattle.adf_runs.specs.{Commands.on_errors, Commands.on_output, Streams.seen};
+ghost use Rattle.adf_runs.specs.Outcomes.{Does, DoesSilently, status_of};
 ghost use Rattle.adf_boot_cmd.specs.Answers.{changed_boot, line_status, boot_reply, order_refusal, boot_refusal_text, written};
 ghost use Rattle.adf_boot_cmd.specs.Work.{HasBoot, order_of};
 
@@ -14,7 +15,7 @@ use adf_boot_blocks::{
     is_bootable,
 };
 use adf_runs::{Outcome, Sink, write_all, write_both};
-use std::alloc::Global;
+use std::alloc::{AllocError, Global};
 
 /// Refuses with a text and a line feed on errors; output gets nothing.
 pub fn refuse(alloc: Global, text: &str) -> Outcome
@@ -63,6 +64,16 @@ fn write_parts<W: Sink>(boot: &[u8], behind: &[u8], output: &mut W) -> Outcome
         Ok(()) => Outcome::Done,
         Err(_) => Outcome::WriteFault,
     }
+}
+
+// Boot blocks, and what is behind those of an image.
+fn joined(alloc: Global, boot: &[u8], behind: &[u8]) -> Result<Vec<u8>, AllocError>
+    ensures { IfOk result (λ image. image.items ≡ boot.now ++ behind.now) }
+{
+    let mut image = Vec::new(alloc);
+    image.extend_from_slice(boot)?;
+    image.extend_from_slice(behind)?;
+    Ok(image)
 }
 
 // The text of a refusal.
@@ -123,6 +134,25 @@ impl Work {
             None => {
                 let boot = self.changed(image);
                 write_parts(&boot, &image[BOOT_LEN..], output)
+            }
+        }
+    }
+
+    /// The image with other boot blocks, if nothing refuses it; else how the work went.
+    #[tactic(auto, using(crate::proofs::Replies::taken))]
+    pub fn new_image(&self, alloc: Global, image: &[u8]) -> Result<Vec<u8>, Outcome>
+        ensures new { IfOk result (λ new. written (order_of self.now) image.now ≡ on_output 0 new.items) }
+        ensures silent { IfErr result (DoesSilently (λ reply. reply ≡ written (order_of self.now) image.now)) }
+        ensures refused { IfErr result (λ outcome. status_of outcome ≢ 0) }
+    {
+        match self.refusal(image) {
+            Some(refusal) => Err(refuse(alloc, boot_refusal_text(refusal))),
+            None => {
+                let boot = self.changed(image);
+                match joined(alloc, &boot, &image[BOOT_LEN..]) {
+                    Ok(new) => Ok(new),
+                    Err(_) => Err(Outcome::NoMemory),
+                }
             }
         }
     }

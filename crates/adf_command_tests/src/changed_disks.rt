@@ -14,7 +14,7 @@ use std::alloc::Global;
 // The first byte of the root of a volume of 16 blocks.
 const ROOT: usize = 8 * 512;
 
-// A folder with a disk and a host file of three bytes, and what was put there.
+// A folder with a disk, a host file of three bytes and files of edits, and what was put there.
 #[derive(Drop)]
 struct Folder<'a> {
     disk: &'a [u8],
@@ -36,6 +36,12 @@ impl<'a> Files for Folder<'a> {
             Ok(Given::new(self.disk, usize::MAX))
         } else if name == b"host".as_slice() {
             Ok(Given::new(b"xyz".as_slice(), usize::MAX))
+        } else if name == b"script".as_slice() {
+            Ok(Given::new(b"put host a\nprotect\ta\th-p--w-d\n", usize::MAX))
+        } else if name == b"wrong".as_slice() {
+            Ok(Given::new(b"dir b\nremove b b\n", usize::MAX))
+        } else if name == b"latin".as_slice() {
+            Ok(Given::new(b"dir \xe9\n", usize::MAX))
         } else if name == b"empty".as_slice() {
             Ok(Given::new(b"", usize::MAX))
         } else if name == b"fails".as_slice() {
@@ -122,8 +128,32 @@ fn length_and_protection(image: &[u8]) -> (u8, u8) {
     )
 }
 
-// The words, the file that is replaced, and the length and the protection of `a` in it.
+// The words, the file that is replaced, and the length and the protection of `a` in it. Of `hsparwed` `h` is 128, `p` 32, `r` 8
+// and `e` 2.
 const MADE: &[(&[&str], &str, u8, u8)] = &[
+    (&["x", "-f", "script", "disk"], "disk", 3, 170),
+    (
+        &["x", "-o", "new", "-f", "script", "--", "disk"],
+        "new",
+        3,
+        170,
+    ),
+    (
+        &[
+            "x", "disk", "put", "host", "a", "+", "protect", "a", "----rwed",
+        ],
+        "disk",
+        3,
+        0,
+    ),
+    (
+        &[
+            "x", "disk", "put", "host", "a", "+", "protect", "a", "h-p--w-d",
+        ],
+        "disk",
+        3,
+        170,
+    ),
     (&["x", "disk", "put", "host", "a"], "disk", 3, 0),
     (&["x", "-o", "new", "disk", "put", "host", "a"], "new", 3, 0),
     (
@@ -185,6 +215,22 @@ const REFUSED: &[(&[&str], u8, &str)] = &[
         "2: not a file\n",
     ),
     (&["x", "disk", "protect", "a", "rwed"], 1, "1: bad line\n"),
+    (
+        &["x", "disk", "dir", "a", "+", "protect", "a", "----rwex"],
+        1,
+        "2: bad line\n",
+    ),
+    (&["x", "-f", "wrong", "disk"], 1, "2: bad line\n"),
+    (&["x", "-f", "none", "disk"], 3, "none: no such file\n"),
+    (&["x", "-f", "fails", "disk"], 3, "read fault\n"),
+    (&["x", "-f", "latin", "disk"], 3, "latin: not UTF-8\n"),
+    (
+        &["x", "-f", "script", "locked"],
+        3,
+        "locked: no permission\n",
+    ),
+    (&["x", "-f", "script"], 2, "usage: "),
+    (&["x", "-f", "script", "disk", "dir", "a"], 2, "usage: "),
     (&["x", "host", "dir", "a"], 1, "image: "),
     (&["x", "locked", "dir", "a"], 3, "locked: no permission\n"),
     (

@@ -5,3 +5,5 @@ pub mod AnswerLaws
 pub mod WordLines
 pub mod TakenLines
 pub mod OrderedRuns
+-- edits in the lines of a file
+pub mod FiledLines

@@ -1,11 +1,11 @@
 -- Lines that say no edit. text is what stands behind the first word of a line.
-use Rattle.std.proofs.Common.{◌≡◌, ◌≢◌, ◌<◌, ◌^◌, ℕ, List, Some, None, false, true, sym, ◌∙◌, subst, decimal}
+use Rattle.std.proofs.Common.{◌≡◌, ◌≢◌, ◌<◌, ◌^◌, ℕ, List, Some, None, false, true, ◌+◌, arith, inl, inr, sym, ◌∙◌, subst, decimal}
+use Rattle.std.proofs.lemmas.Bool.{cases_lt}
 use Rattle.adf_base.specs.{Dates.IsStamp, Dates.plain_text, declared.dates.Stamp.Stamp}
 use Rattle.adf_edits.specs.Edits.{EditValue, change, dir, file, label, move, remove, replace}
 use Rattle.adf_edits.specs.declared.edits.Change.TheVariants as what
-use Rattle.adf_manifest.specs.Texts.{hex_word}
 use Rattle.adf_names.specs.{Escapes.IsSpelling, PathTexts.IsPathText}
-use Rattle.adf_edit_cmd.specs.Lines.{SaysBehindVerb, SaysEdit, before_colon, has_byte, value_in, verb_of}
+use Rattle.adf_edit_cmd.specs.Lines.{SaysBehindVerb, SaysEdit, SaysProtection, before_colon, flags_text, has_byte, value_in, verb_of}
 use Rattle.adf_plans.specs.PlanTexts.{behind_word, first_word}
 use Rattle.adf_edit_cmd.specs.declared.lines.Verb.{Verb}
 use Rattle.adf_edit_cmd.specs.declared.lines.Verb.TheVariants.{Remove, Move, Dir, File, Replace, Note, Protect, Date, Label}
@@ -70,9 +70,18 @@ pub no_protected : (text : List ℕ) → HasNoPath (before_colon text) → (e : 
 no_protected text h (change path (what.Protect word)) s = h path s.0
 no_protected text h _ s = s
 
-pub no_word : (text : List ℕ) → ((w : ℕ) → w < 2 ^ 32 → value_in text ≢ hex_word w) → (e : EditValue) → ¬ SaysBehindVerb Protect text e
-no_word text h (change path (what.Protect word)) s = h word s.1 s.2
-no_word text h _ s = s
+pub no_protection : (text : List ℕ) → ((word : ℕ) → ¬ SaysProtection (value_in text) word) → (e : EditValue)
+    → ¬ SaysBehindVerb Protect text e
+no_protection text h (change path (what.Protect word)) s = h word s.1
+no_protection text h _ s = s
+
+-- a text that is not that of the first flags, nor of the next ones
+pub no_next_flags : (text : List ℕ) (n : ℕ) → ((word : ℕ) → word < n → text ≢ flags_text word) → text ≢ flags_text n
+    → (word : ℕ) → word < n + 1 → text ≢ flags_text word
+no_next_flags text n before next word lt = elim (cases_lt word n) [
+  | inl less ↦ before word less
+  | inr more ↦ let same : word ≡ n = omega (arith, lt, more) in rw same next
+]
 
 pub no_dated : (text : List ℕ) → HasNoPath (before_colon text) → (e : EditValue) → ¬ SaysBehindVerb Date text e
 no_dated text h (change path (what.Date date)) s = h path s.0

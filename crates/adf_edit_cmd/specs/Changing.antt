@@ -1,13 +1,13 @@
 -- What becomes of files by an order. bytes_of tells the known bytes of each file, `script` are lines, `given` the bytes of their host files.
 use Rattle.std.specs.Prelude.{◌≡◌, ◌≢◌, ◌+◌, ◌⊎◌, ℕ, List, [], ◌∷◌, ◌++◌, Option, None, Some, codes, decimal, length, true}
-use Rattle.adf_edit_cmd.specs.{Edited.IsEdited, Edited.StopsInput, Stops.stop_text, Words.EditOrder, Words.WordedLine, Words.order_asked}
+use Rattle.adf_edit_cmd.specs.{Edited.IsEdited, Edited.StopsInput, Stops.stop_text, Words.EditOrder, Words.WordedLine}
 use Rattle.adf_edit_cmd.specs.{Answers.edit_command, declared.program.TheConstants.MOST_INPUT_BYTES}
 use Rattle.adf_edit_cmd.specs.declared.stop.Stop.{Stop, TheVariants.Image, TheVariants.NoMemory as StopNoMemory, TheVariants.TooDeep}
 use Rattle.adf_edit_cmd.specs.declared.changing.NoChange.{NoChange, TheVariants.Unopened, TheVariants.ReadFault, TheVariants.NoMemory, TheVariants.Edits}
 use Rattle.adf_file_changes.specs.{Changes.IsReplaced, Changes.unwritten_line, declared.changes.Unwritten.Unwritten}
 use Rattle.adf_file_runs.specs.{FileRuns.KnownFiles, FileRuns.unopened_line, declared.files.Unopened.Unopened as Reason}
 use Rattle.adf_volume.specs.Fault.{fault_text}
-use Rattle.adf_runs.specs.{Commands.RunEnds, Streams.AreFirst, Streams.IsTold, Streams.Seen}
+use Rattle.adf_runs.specs.Streams.{AreFirst, IsTold, Seen}
 
 -- the bytes of a file as they are read: all, where they are known and no more than an input may have
 abbrev pub AreRead : (List ℕ → Option (List ℕ)) → List ℕ → List ℕ → Type 0
@@ -111,9 +111,3 @@ OrderedEnds (Some order) files after n errors =
     OrderEnds files after order n errors ⊎ ((n ≡ 3) × (after ≡ files.bytes_of) × IsTold errors (codes "no memory\n"))
 OrderedEnds None files after n errors =
     (after ≡ files.bytes_of) × (((n ≡ 2) × IsTold errors order_usage) ⊎ ((n ≡ 3) × IsTold errors (codes "no memory\n")))
-
--- how a run with these words ends: with no word behind the name, over the input; else over files, and output gets nothing
-abbrev pub EditEnds : List (List ℕ) → KnownFiles → (List ℕ → Option (List ℕ)) → Seen → ℕ → Seen → Seen → Type 0
-EditEnds (name ∷ word ∷ words) files after input n output errors =
-    (output.after ≡ output.before) × OrderedEnds (order_asked (word ∷ words)) files after n errors
-EditEnds words files after input n output errors = RunEnds edit_command words input n output errors × (after ≡ files.bytes_of)

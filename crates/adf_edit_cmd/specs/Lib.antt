@@ -4,5 +4,6 @@ pub mod Script
 pub mod Edited
 pub mod Words
 pub mod Changing
+pub mod ScriptFile
 pub mod Answers
 pub mod Stops

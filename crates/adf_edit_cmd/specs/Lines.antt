@@ -1,5 +1,6 @@
 -- Lines of a script: a word, and behind a space what it is about. A value stands behind the first `:`, which no name has.
-use Rattle.std.specs.Prelude.{◌≡◌, ◌<◌, ◌^◌, ℕ, Bool, List, Option, Some, None, true, codes, decimal, if◌then◌else◌, length, nat_lt}
+use Rattle.std.specs.Prelude.{◌≡◌, ◌⊎◌, ◌<◌, ◌^◌, ◌==◌, ℕ, Bool, List, [], ◌∷◌}
+use Rattle.std.specs.Prelude.{Option, Some, None, true, bit_and, codes, decimal, if◌then◌else◌, length, nat_lt}
 use Rattle.std.specs.Str.{bytes_eq}
 use Rattle.adf_base.specs.Dates.{IsStamp, plain_text}
 use Rattle.adf_edits.specs.Edits.{EditValue, change, dir, file, label, move, remove, replace}
@@ -34,7 +35,25 @@ value_in text = behind_byte 58 text
 abbrev pub has_value : List ℕ → Bool
 has_value text = has_byte 58 text
 
--- the text behind a word says this edit: PATH, PATH:PATH, PATH:SIZE, PATH:TEXT, PATH:WORD, PATH:DATE, or TEXT
+-- a letter if its bit of a protection is set, else `-`
+abbrev pub letter_if_set : (letter bit word : ℕ) → ℕ
+letter_if_set letter bit word = if bit_and word bit == 0 then 45 else letter
+
+-- a letter if its bit is not set, since it forbids, else `-`
+abbrev pub letter_if_clear : (letter bit word : ℕ) → ℕ
+letter_if_clear letter bit word = if bit_and word bit == 0 then letter else 45
+
+-- the low eight bits of a protection, as AmigaDOS lists them: `hsparwed`, of which the last four forbid
+abbrev pub flags_text : ℕ → List ℕ
+flags_text word =
+    letter_if_set 104 128 word ∷ letter_if_set 115 64 word ∷ letter_if_set 112 32 word ∷ letter_if_set 97 16 word
+    ∷ letter_if_clear 114 8 word ∷ letter_if_clear 119 4 word ∷ letter_if_clear 101 2 word ∷ letter_if_clear 100 1 word ∷ []
+
+-- a text says this protection: eight hexadecimal digits, or the letters of one of eight bits
+abbrev pub SaysProtection : List ℕ → ℕ → Type 0
+SaysProtection text word = ((word < 2 ^ 32) × (text ≡ hex_word word)) ⊎ ((word < 256) × (text ≡ flags_text word))
+
+-- the text behind a word says this edit: PATH, PATH:PATH, PATH:SIZE, PATH:TEXT, PATH:PROTECTION, PATH:DATE, or TEXT
 abbrev pub SaysBehindVerb : Verb → List ℕ → EditValue → Type 0
 SaysBehindVerb Remove text (remove path) = IsPathText text path
 SaysBehindVerb Move text (move from to) = (has_value text ≡ true) × IsPathText (before_colon text) from × IsPathText (value_in text) to
@@ -44,7 +63,7 @@ SaysBehindVerb Replace text (replace path size) =
     IsPathText (before_colon text) path × (size < 2 ^ 32) × (value_in text ≡ decimal size)
 SaysBehindVerb Note text (change path (what.Note note)) =
     (has_value text ≡ true) × IsPathText (before_colon text) path × IsSpelling 79 (value_in text) note
-SaysBehindVerb Protect text (change path (what.Protect word)) = IsPathText (before_colon text) path × (word < 2 ^ 32) × (value_in text ≡ hex_word word)
+SaysBehindVerb Protect text (change path (what.Protect word)) = IsPathText (before_colon text) path × SaysProtection (value_in text) word
 SaysBehindVerb Date text (change path (what.Date date)) = IsPathText (before_colon text) path × IsStamp date × (value_in text ≡ plain_text date)
 SaysBehindVerb Label text (label bytes) = IsSpelling 30 text bytes
 SaysBehindVerb _ _ _ = ⊥

@@ -46,8 +46,12 @@ struct Taken {
     given: Vec<u8>,
 }
 
-// Reads the file of a name.
-fn read_file<'a, F: Files>(alloc: Global, files: &F, name: &'a str) -> Result<Vec<u8>, NoChange<'a>>
+/// Reads the file of a name.
+pub fn read_file<'a, F: Files>(
+    alloc: Global,
+    files: &F,
+    name: &'a str,
+) -> Result<Vec<u8>, NoChange<'a>>
     ensures read { IfOk result (λ bytes. AreRead (F.bytes_of files.now) name.now bytes.items) }
     ensures fault { IfErr result (IsFileFault (known_files F.bytes_of F.may_fail F.may_open files.now)) }
 {
@@ -183,8 +187,8 @@ fn tell_stop<E: Sink>(alloc: Global, stop: Stop, errors: &mut E) -> u8
     }
 }
 
-// Says why there is no new image, and returns the status.
-fn tell_no_change<E: Sink>(alloc: Global, why: NoChange<'_>, errors: &mut E) -> u8
+/// Says why there is no new image, and returns the status.
+pub fn tell_no_change<E: Sink>(alloc: Global, why: NoChange<'_>, errors: &mut E) -> u8
     requires { E.has_failed errors.old ≡ false }
     ensures { IsNoChangeTold why.entry result (seen E.held E.has_failed errors.old errors.new) }
 {

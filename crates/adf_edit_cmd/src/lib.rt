@@ -6,6 +6,7 @@ mod editing;
 mod lines;
 mod program;
 mod script;
+mod script_file;
 mod stop;
 mod words;
 

@@ -1,9 +1,10 @@
 // Lines of a script: a word, and what it is about. A value stands behind the first `:`, which no name has.
 
-ghost use Rattle.std.specs.Prelude.{◌≡◌, IfOk, IfErr, IfSome, IfNone, false, true};
+ghost use Rattle.std.specs.Prelude.{◌≡◌, ◌≢◌, ◌<◌, ℕ, IfOk, IfErr, IfSome, IfNone, false, true};
 ghost use Rattle.adf_edits.specs.Edits.{EditValue, edit_value};
 ghost use Rattle.adf_plans.specs.PlanTexts.{before_byte, behind_byte};
-ghost use Rattle.adf_edit_cmd.specs.Lines.{SaysBehindVerb, SaysEdit, has_byte, verb_of};
+ghost use Rattle.adf_edit_cmd.specs.Lines.{SaysBehindVerb, SaysEdit, SaysProtection, flags_text, has_byte, letter_if_clear};
+ghost use Rattle.adf_edit_cmd.specs.Lines.{letter_if_set, verb_of};
 
 use adf_edits::{Change, Edit};
 use adf_manifest::{read_number, read_stamp, read_word};
@@ -171,15 +172,69 @@ fn read_note(alloc: Global, text: &[u8]) -> Result<Edit, PathFault>
     Ok(Edit::Change(path, Change::Note(note)))
 }
 
-// PATH:WORD
-#[tactic(auto, using(crate::proofs::ScriptLines::no_protected, crate::proofs::ScriptLines::no_word))]
+// A letter if its bit of a protection is set, else `-`.
+fn letter_if_set(letter: u8, bit: u32, word: u32) -> u8
+    ensures { result ≡ letter_if_set letter bit word }
+{
+    if word & bit == 0 { b'-' } else { letter }
+}
+
+// A letter if its bit is not set, since it forbids, else `-`.
+fn letter_if_clear(letter: u8, bit: u32, word: u32) -> u8
+    ensures { result ≡ letter_if_clear letter bit word }
+{
+    if word & bit == 0 { letter } else { b'-' }
+}
+
+// The low eight bits of a protection, as AmigaDOS lists them.
+fn flags_text(word: u32) -> [u8; 8]
+    ensures { result ≡ flags_text word }
+{
+    [
+        letter_if_set(b'h', 128, word),
+        letter_if_set(b's', 64, word),
+        letter_if_set(b'p', 32, word),
+        letter_if_set(b'a', 16, word),
+        letter_if_clear(b'r', 8, word),
+        letter_if_clear(b'w', 4, word),
+        letter_if_clear(b'e', 2, word),
+        letter_if_clear(b'd', 1, word),
+    ]
+}
+
+// The protection of eight bits that is listed so.
+fn read_flags(text: &[u8]) -> Option<u32>
+    ensures some { IfSome result (λ word. (word < 256) × (text.now ≡ flags_text word)) }
+    ensures none { IfNone result ((word : ℕ) → word < 256 → text.now ≢ flags_text word) }
+{
+    for word in 0..256u32 {
+        if text == flags_text(word).as_slice() {
+            return Some(word);
+        }
+    }
+    None
+}
+
+// The protection that a text says.
+fn read_protection(text: &[u8]) -> Option<u32>
+    ensures some { IfSome result (λ word. SaysProtection text.now word) }
+    ensures none { IfNone result ((word : ℕ) → ¬ SaysProtection text.now word) }
+{
+    match read_word(text) {
+        Some(word) => Some(word),
+        None => read_flags(text),
+    }
+}
+
+// PATH:PROTECTION
+#[tactic(auto, using(crate::proofs::ScriptLines::no_protected, crate::proofs::ScriptLines::no_protection))]
 fn read_protect(alloc: Global, text: &[u8]) -> Result<Edit, PathFault>
     ensures ok { IfOk result (λ e. SaysBehindVerb Verb.Protect text.now (edit_value e)) }
     ensures bad { IfErr result (λ f. f ≡ PathFault.BadText → (e : EditValue)
         → ¬ SaysBehindVerb Verb.Protect text.now e) }
 {
     let (path, word) = cut(text, b':');
-    let Some(word) = read_word(word) else {
+    let Some(word) = read_protection(word) else {
         return Err(PathFault::BadText);
     };
     let path = read_path(alloc, path)?;

@@ -5,11 +5,13 @@ ghost use Rattle.adf_edit_cmd.specs.{Answers.Edits, Answers.edit_command, Edited
 ghost use Rattle.adf_runs.specs.Commands.{IsUnanswered, RunEnds, TakesEnough, on_errors, on_output};
 ghost use Rattle.adf_runs.specs.{Outcomes.Blames, Outcomes.Does, Outcomes.DoesSilently, Outcomes.EndsBy, Streams.seen};
 ghost use Rattle.adf_words.specs.CommandLine.{texts_of};
-ghost use Rattle.adf_edit_cmd.specs.{Changing.EditEnds, Changing.OrderedEnds, Words.order_asked};
+ghost use Rattle.adf_edit_cmd.specs.{Changing.OrderedEnds, Words.order_asked};
+ghost use Rattle.adf_edit_cmd.specs.ScriptFile.{EditEnds, WordsEnd, script_asked};
 ghost use Rattle.adf_file_runs.specs.FileRuns.{known_files};
 
 use crate::changing::change_disk;
 use crate::editing::new_image;
+use crate::script_file::{change_by_file, script_asked};
 use crate::stop::Stop;
 use crate::words::order_asked;
 use adf_file_changes::{ChangeFiles, Changing, ChangingProgram};
@@ -24,6 +26,7 @@ pub const MOST_INPUT_BYTES: usize = 1 << 40;
 
 /// What is said of words that are refused.
 const USAGE: &str = "usage: adf-edit [-o NEW] IMAGE EDIT [+ EDIT]..\n\
+    \x20      adf-edit [-o NEW] -f SCRIPT IMAGE\n\
     \x20      adf-edit < INPUT > IMAGE\n\
     man adf-edit tells more\n";
 
@@ -32,6 +35,7 @@ const ABOUT: About = About {
     name: "adf-edit",
     help: "Removes, moves, adds and changes entries of an Amiga volume, and lays its tree anew.\n\n\
     usage: adf-edit [-o NEW] IMAGE EDIT [+ EDIT]..\n\
+    \x20      adf-edit [-o NEW] -f SCRIPT IMAGE\n\
     \x20      adf-edit < INPUT > IMAGE\n\
     \x20      adf-edit --help, adf-edit --version\n\n\
     An EDIT is one of:\n\
@@ -41,11 +45,12 @@ const ABOUT: About = About {
     \x20 move PATH NEW        give an entry another path\n\
     \x20 dir PATH             add a directory\n\
     \x20 note PATH TEXT       set a comment\n\
-    \x20 protect PATH WORD    set a protection, as 0000000f\n\
+    \x20 protect PATH FLAGS   set a protection: hsparwed with - for a letter, or 0000000f\n\
     \x20 date PATH DATE       set a date\n\
     \x20 label TEXT           set the label\n\
     \x20 letters KIND         make it `international` or `ascii`; the last one\n\n\
     The new disk takes the place of IMAGE, or of NEW, at once or not at all.\n\
+    SCRIPT is a file with an EDIT on each line; if a line has a tab, tabs stand between its words.\n\
     INPUT is a script, whose last line is `end`, then the bytes of its files, then the image.\n\
     man adf-edit tells more.\n",
     waits: None,
@@ -199,6 +204,24 @@ fn run_order<F: ChangeFiles, E: Sink>(
     }
 }
 
+// Does what words behind the name of the program ask for, by a file of edits or by themselves, and returns the status.
+fn run_words<F: ChangeFiles, E: Sink>(
+    alloc: Global,
+    words: &[&str],
+    files: &mut F,
+    errors: &mut E,
+) -> u8
+    requires { E.has_failed errors.old ≡ false }
+    ensures { WordsEnd (script_asked (texts_of words.now)) (texts_of words.now)
+        (known_files F.Files.bytes_of F.Files.may_fail F.Files.may_open files.old) (F.Files.bytes_of files.new)
+        result (seen E.held E.has_failed errors.old errors.new) }
+{
+    match script_asked(words) {
+        Some(order) => change_by_file(alloc, &order, files, errors),
+        None => run_order(alloc, words, files, errors),
+    }
+}
+
 impl ChangingProgram for Work {
     ghost ends = { EditEnds };
 
@@ -215,7 +238,7 @@ impl ChangingProgram for Work {
     ) -> u8 {
         let words = asked.words;
         match words {
-            [_, _, ..] => run_order(alloc, &words[1..], &mut asked.files, errors),
+            [_, _, ..] => run_words(alloc, &words[1..], &mut asked.files, errors),
             _ => run(alloc, words, input, output, errors),
         }
     }

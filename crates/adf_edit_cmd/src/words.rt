@@ -145,8 +145,8 @@ fn line_of<'a>(alloc: Global, edit: &[&'a str]) -> Result<Option<Line<'a>>, Allo
     }
 }
 
-// Appends the line of an edit, and returns whether it has one.
-fn add_line<'a>(
+/// Appends the line of an edit, and returns whether it has one.
+pub fn add_line<'a>(
     alloc: Global,
     lines: &mut Vec<Line<'a>>,
     edit: &[&'a str],
@@ -219,8 +219,8 @@ fn begins_dash(word: &str) -> bool
     }
 }
 
-// The image and the edits: what stands behind `--`, or begins with no `-`.
-fn operands<'a>(words: &'a [&'a str]) -> &'a [&'a str]
+/// The image and the edits: what stands behind `--`, or begins with no `-`.
+pub fn operands<'a>(words: &'a [&'a str]) -> &'a [&'a str]
     ensures { texts_of result.now ≡ operands (texts_of words.now) }
 {
     match words {

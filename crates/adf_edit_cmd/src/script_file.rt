@@ -1,0 +1,183 @@
+// Edits in a file: each line has the words of one.
+
+ghost use Rattle.std.specs.Prelude.{◌≡◌, ◌≢◌, ◌⊎◌, Err, IfErr, IfOk, Ok, false, option_map};
+ghost use Rattle.std.specs.{Str.Lines.lines};
+ghost use Rattle.adf_edit_cmd.specs.ScriptFile.{FiledEnds, ScriptEnds, lines_filed, script_asked};
+ghost use Rattle.adf_edit_cmd.specs.ScriptFile.{script_behind, script_on, words_in};
+ghost use Rattle.adf_edit_cmd.specs.{Changing.IsNoChangeTold, Words.AddsLine};
+ghost use Rattle.adf_file_runs.specs.FileRuns.{known_files};
+ghost use Rattle.adf_runs.specs.Streams.{seen};
+ghost use Rattle.adf_words.specs.CommandLine.{texts_of};
+
+use crate::changing::{NoChange, change_disk, read_file, tell_no_change};
+use crate::lines::has_byte;
+use crate::stop::Stop;
+use crate::words::{Line, Order, add_line, operands};
+use adf_file_changes::ChangeFiles;
+use adf_file_runs::{Unopened, refuse_file};
+use adf_runs::Sink;
+use std::alloc::{AllocError, Global};
+use std::marker::Model;
+use std::str;
+
+/// What words ask for: the file of the edits, the image that they are applied to, and the file that gets the new one.
+#[derive(Drop)]
+pub struct ScriptOrder<'a> {
+    pub script: &'a str,
+    pub image: &'a str,
+    pub target: &'a str,
+}
+
+impl<'a> Model for ScriptOrder<'a> {
+    ghost use Rattle.adf_edit_cmd.specs.ScriptFile.{ScriptOrder as ScriptOrderValue};
+
+    ghost Value = { ScriptOrderValue };
+
+    ghost view = { λ s. record { script = s.script.now; image = s.image.now; target = s.target.now } };
+}
+
+// The words of a line.
+fn words_in<'a>(alloc: Global, line: &'a str) -> Result<Vec<&'a str>, AllocError>
+    ensures { IfOk result (λ words. texts_of words.items ≡ words_in line.now) }
+{
+    if has_byte(line.as_bytes(), b'\t') {
+        return line.split('\t').collect(alloc);
+    }
+    line.split(' ').collect(alloc)
+}
+
+// The lines of a text.
+fn text_lines<'a>(alloc: Global, text: &'a str) -> Result<Vec<&'a str>, AllocError>
+    ensures { IfOk result (λ found. texts_of found.items ≡ lines text.now) }
+{
+    text.lines().collect(alloc)
+}
+
+// Appends the edit of a line, and returns whether it is one.
+fn add_filed<'a>(
+    alloc: Global,
+    edits: &mut Vec<Line<'a>>,
+    line: &'a str,
+) -> Result<bool, AllocError>
+    ensures { IfOk result (λ added. AddsLine added edits.old.items (words_in line.now) edits.new.items) }
+{
+    let words = words_in(alloc, line)?;
+    add_line(alloc, edits, &words)
+}
+
+// The edits of lines. `BadLine` is the first line that is none.
+fn lines_filed<'a>(alloc: Global, lines: Vec<&'a str>) -> Result<Vec<Line<'a>>, Stop>
+    ensures ok { IfOk result (λ edits. lines_filed 1 (texts_of lines.entry.items) ≡ Ok edits.items) }
+    ensures fault { IfErr result (λ f. f ≢ Stop.NoMemory → lines_filed 1 (texts_of lines.entry.items) ≡ Err f) }
+{
+    let mut edits = Vec::new(alloc);
+    let mut number = 0usize;
+    for line in lines {
+        number += 1;
+        match add_filed(alloc, &mut edits, line) {
+            Ok(true) => {}
+            Ok(false) => return Err(Stop::BadLine(number)),
+            Err(_) => return Err(Stop::NoMemory),
+        }
+    }
+    Ok(edits)
+}
+
+// The edits of a text.
+fn edits_in<'a>(alloc: Global, text: &'a str) -> Result<Vec<Line<'a>>, Stop>
+    ensures ok { IfOk result (λ edits. lines_filed 1 (lines text.now) ≡ Ok edits.items) }
+    ensures fault { IfErr result (λ f. f ≢ Stop.NoMemory → lines_filed 1 (lines text.now) ≡ Err f) }
+{
+    match text_lines(alloc, text) {
+        Ok(lines) => lines_filed(alloc, lines),
+        Err(_) => Err(Stop::NoMemory),
+    }
+}
+
+// The order of a file of edits and these operands.
+fn script_on<'a>(
+    target: Option<&'a str>,
+    script: &'a str,
+    words: &'a [&'a str],
+) -> Option<ScriptOrder<'a>>
+    ensures { result ≡ script_on (option_map (λ s. s.now) target.entry) script.entry.now (texts_of words.now) }
+{
+    match words {
+        [image] => Some(ScriptOrder {
+            script,
+            image: *image,
+            target: target.unwrap_or(*image),
+        }),
+        _ => None,
+    }
+}
+
+// -f SCRIPT IMAGE
+fn script_behind<'a>(target: Option<&'a str>, words: &'a [&'a str]) -> Option<ScriptOrder<'a>>
+    ensures { result ≡ script_behind (option_map (λ s. s.now) target.entry) (texts_of words.now) }
+{
+    match words {
+        [flag, script, rest @ ..] if *flag == "-f" => script_on(target, *script, operands(rest)),
+        _ => None,
+    }
+}
+
+/// The order of a file of edits that words ask for, behind the name of the program: `[-o NEW] -f SCRIPT IMAGE`.
+pub fn script_asked<'a>(words: &'a [&'a str]) -> Option<ScriptOrder<'a>>
+    ensures { result ≡ script_asked (texts_of words.now) }
+{
+    match words {
+        [flag, target, rest @ ..] if *flag == "-o" => script_behind(Some(*target), rest),
+        [_, _, ..] => script_behind(None, words),
+        _ => None,
+    }
+}
+
+// Does what the text of a file of edits asks for, and returns the status.
+fn change_by_text<F: ChangeFiles, E: Sink>(
+    alloc: Global,
+    order: &ScriptOrder<'_>,
+    text: &str,
+    files: &mut F,
+    errors: &mut E,
+) -> u8
+    requires { E.has_failed errors.old ≡ false }
+    ensures { FiledEnds order.now (lines_filed 1 (lines text.now))
+        (known_files F.Files.bytes_of F.Files.may_fail F.Files.may_open files.old) (F.Files.bytes_of files.new)
+        result (seen E.held E.has_failed errors.old errors.new)
+        ⊎ ((F.Files.bytes_of files.new ≡ F.Files.bytes_of files.old)
+        × IsNoChangeTold NoChange.NoMemory result (seen E.held E.has_failed errors.old errors.new)) }
+{
+    let lines = match edits_in(alloc, text) {
+        Ok(lines) => lines,
+        Err(Stop::NoMemory) => return tell_no_change(alloc, NoChange::NoMemory, errors),
+        Err(stop) => return tell_no_change(alloc, NoChange::Edits(stop), errors),
+    };
+    let order = Order {
+        lines,
+        image: order.image,
+        target: order.target,
+    };
+    change_disk(alloc, &order, files, errors)
+}
+
+/// Does what an order of a file of edits asks for, and returns the status, as `change_disk` does.
+pub fn change_by_file<F: ChangeFiles, E: Sink>(
+    alloc: Global,
+    order: &ScriptOrder<'_>,
+    files: &mut F,
+    errors: &mut E,
+) -> u8
+    requires { E.has_failed errors.old ≡ false }
+    ensures { ScriptEnds order.now (known_files F.Files.bytes_of F.Files.may_fail F.Files.may_open files.old)
+        (F.Files.bytes_of files.new) result (seen E.held E.has_failed errors.old errors.new) }
+{
+    let bytes = match read_file(alloc, files, order.script) {
+        Ok(bytes) => bytes,
+        Err(why) => return tell_no_change(alloc, why, errors),
+    };
+    match str::from_utf8(&bytes) {
+        Ok(text) => change_by_text(alloc, order, text, files, errors),
+        Err(_) => refuse_file(alloc, order.script, Unopened::NotText, errors),
+    }
+}
