@@ -7,3 +7,5 @@ pub mod BuiltDisks
 pub mod HeldVolume
 pub mod Stretches
 pub mod HeldChecks
+pub mod Gathered
+pub mod HostRuns
