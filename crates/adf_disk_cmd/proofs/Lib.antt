@@ -9,3 +9,4 @@ pub mod Stretches
 pub mod HeldChecks
 pub mod Gathered
 pub mod HostRuns
+pub mod OtherBytes

@@ -3,7 +3,7 @@
 use Rattle.std.specs.Prelude.{◌≡◌, ◌+◌, ◌*◌, ◌==◌, ◌++◌, ◌||◌, ◌⊎◌, ℕ, Bool, true, false, List, [], ◌∷◌, Option, None, Some, codes, drop, length, nat_lt, take}
 use Rattle.std.specs.Prelude.{if◌then◌else◌}
 use Rattle.std.specs.{Fmt.decimal, Io.KnownBytes.Appends}
-use Rattle.adf_disk_cmd.specs.{Builds.RefusesPlan, Builds.plan_reply, CommandLine.AsksDiskOf, CommandLine.DiskRequestValue, CommandLine.build, Lines.type_text}
+use Rattle.adf_disk_cmd.specs.{Builds.BuildsDisk, Builds.RefusesPlan, Builds.plan_reply, CommandLine.AsksDiskOf, CommandLine.DiskRequestValue, CommandLine.build, Lines.type_text}
 use Rattle.adf_disk_cmd.specs.{Answers.disk_command, CommandLine.disk_file, declared.work.TheConstants.MOST_DISK_BYTES}
 use Rattle.adf_disk_cmd.specs.declared.gathering.NoGiven.{NoGiven, TheVariants.NoMemory as NoRoom, TheVariants.Fault}
 use Rattle.adf_disk_cmd.specs.declared.host_volumes.{HostFault.HostFault, NoVolume.NoVolume, VolumeRefusal.VolumeRefusal}
@@ -66,6 +66,12 @@ BuildsHosts bytes_of text plain reply =
     ((plan : PlanValue) × (left given : List ℕ) × IsText plain plan left
     × AreGathered bytes_of (cylinder_blocks plan) plan.partitions (behind_line text) left given × (reply ≡ plan_reply plan given))
     ⊎ RefusesPlan plain reply
+
+-- Any bytes can stand behind a text with a plan, and the answer is that of the plan and these bytes: so a plan whose lines name host files is answered as
+-- the one input of its plain text with the gathered volumes behind it.
+abbrev pub PlansTakeAnyBytes : Type 0
+PlansTakeAnyBytes = (plain left given : List ℕ) (plan : PlanValue) → IsText plain plan left
+    → (front : List ℕ) × (plain ≡ front ++ left) × BuildsDisk (front ++ given) (plan_reply plan given)
 
 -- why there is no volume of a host file
 abbrev pub IsNoVolume : KnownFiles → ℕ → PartitionPlan → List ℕ → NoVolume → Type 0

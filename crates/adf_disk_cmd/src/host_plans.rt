@@ -2,7 +2,7 @@
 
 ghost use Rattle.std.specs.Prelude.{◌≡◌, ◌++◌, ℕ, List, IfErr, IfOk, IfSome, None, Some, false};
 ghost use Rattle.adf_disk_cmd.specs.CommandLine.{AreRefusedByDisk, AsksDiskOf, build, disk_request_value};
-ghost use Rattle.adf_disk_cmd.specs.HostPlans.{DiskEnds, HostsEnd, IsNoGivenTold, is_build};
+ghost use Rattle.adf_disk_cmd.specs.HostPlans.{DiskEnds, HostsEnd, IsNoGivenTold, PlansTakeAnyBytes, is_build};
 ghost use Rattle.adf_file_runs.specs.FileRuns.{known_files};
 ghost use Rattle.adf_runs.specs.Streams.{Seen, seen};
 ghost use Rattle.adf_words.specs.CommandLine.{ExplainsArgs, texts_of};
@@ -133,3 +133,9 @@ pub fn run_plans<F: Files, R: Source, W: Sink, E: Sink>(
         Err(fault) => WorkFault::from(fault).refuse(Job::usage(), errors),
     }
 }
+
+/// A text with a plan can have any bytes behind it, so the answer to a plan whose lines name host files is that to one input: its
+/// plain text, and behind it the volumes that are gathered.
+pub fn plans_take_any_bytes()
+    ensures { PlansTakeAnyBytes }
+{}
