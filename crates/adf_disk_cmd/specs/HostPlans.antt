@@ -74,25 +74,25 @@ PlansTakeAnyBytes = (plain left given : List ℕ) (plan : PlanValue) → IsText 
     → (front : List ℕ) × (plain ≡ front ++ left) × BuildsDisk (front ++ given) (plan_reply plan given)
 
 -- why there is no volume of a host file
-abbrev pub IsNoVolume : KnownFiles → ℕ → PartitionPlan → List ℕ → NoVolume → Type 0
-IsNoVolume files need p host (Unopened why) = (files.may_fail host ≡ true) × files.may_open host (Some why)
-IsNoVolume files need p host ReadFault = Unit {0}
-IsNoVolume files need p host NoMemory = Unit {0}
-IsNoVolume files need p host (Refused why) =
+abbrev pub LacksHostVolume : KnownFiles → ℕ → PartitionPlan → List ℕ → NoVolume → Type 0
+LacksHostVolume files need p host (Unopened why) = (files.may_fail host ≡ true) × files.may_open host (Some why)
+LacksHostVolume files need p host ReadFault = Unit {0}
+LacksHostVolume files need p host NoMemory = Unit {0}
+LacksHostVolume files need p host (Refused why) =
     (bytes : List ℕ) × AreHostBytes files.bytes_of need host bytes × (volume_refusal need p bytes ≡ Some why)
 
 -- the fault of a partition, whose line has this number
-pub record IsFaultOf (files : KnownFiles) (need number : ℕ) (p : PartitionPlan) (line : List ℕ) (f : HostFault) : Type 0 where
+pub record IsFaultAtLine (files : KnownFiles) (need number : ℕ) (p : PartitionPlan) (line : List ℕ) (f : HostFault) : Type 0 where
   pub line_number : f.line ≡ number
   pub name : f.name.now ≡ p.name
   pub host : host_of line ≡ Some f.host.now
-  pub why : IsNoVolume files need p f.host.now f.why
+  pub why : LacksHostVolume files need p f.host.now f.why
 
 -- the fault of one of the partitions, the first of which has this line
 unfoldable pub IsHostFault : KnownFiles → ℕ → ℕ → List PartitionPlan → List ℕ → HostFault → Type 0
 IsHostFault files c number [] lines f = ⊥
 IsHostFault files c number (p ∷ ps) lines f =
-    IsFaultOf files (p.cylinders * c * 512) number p (first_line lines) f ⊎ IsHostFault files c (number + 1) ps (behind_line lines) f
+    IsFaultAtLine files (p.cylinders * c * 512) number p (first_line lines) f ⊎ IsHostFault files c (number + 1) ps (behind_line lines) f
 
 -- what is said behind the name of a host file whose bytes are refused
 abbrev pub refusal_end : VolumeRefusal → List ℕ
@@ -149,7 +149,7 @@ HostsEnd files text n output errors =
 -- why the volume of one partition is not had
 abbrev pub IsNoneOf : KnownFiles → ℕ → ℕ → PartitionPlan → List ℕ → NoGiven → Type 0
 IsNoneOf files need number p line NoRoom = Unit {0}
-IsNoneOf files need number p line (Fault f) = IsFaultOf files need number p line f
+IsNoneOf files need number p line (Fault f) = IsFaultAtLine files need number p line f
 
 -- why the given volumes of a plan are not had
 abbrev pub IsNoGiven : KnownFiles → PlanValue → List ℕ → NoGiven → Type 0

@@ -1,7 +1,7 @@
 // Volumes of host files that the lines of a plan name.
 
 ghost use Rattle.std.specs.Prelude.{◌≡◌, ◌++◌, ◌≤◌, ◌<◌, ◌^◌, IfErr, IfOk, None, OnOk, false, length, string_bytes};
-ghost use Rattle.adf_disk_cmd.specs.HostPlans.{AreHostBytes, IsNoVolume, boot_type, host_fault_line, no_volume_text};
+ghost use Rattle.adf_disk_cmd.specs.HostPlans.{AreHostBytes, LacksHostVolume, boot_type, host_fault_line, no_volume_text};
 ghost use Rattle.adf_disk_cmd.specs.HostPlans.{IsFaultTold, refusal_end, volume_refusal};
 ghost use Rattle.adf_file_runs.specs.FileRuns.{known_files, refusal_text as unopened_end};
 ghost use Rattle.adf_runs.specs.Streams.{seen};
@@ -104,7 +104,7 @@ pub fn read_volume<F: Files>(
     ensures read { IfOk result (λ bytes. AreHostBytes (F.bytes_of files.now) need host.now bytes.items) }
     ensures taken { IfOk result (λ bytes. volume_refusal need partition.now bytes.items ≡ None) }
     ensures fault { IfErr result
-        (IsNoVolume (known_files F.bytes_of F.may_fail F.may_open files.now) need partition.now host.now) }
+        (LacksHostVolume (known_files F.bytes_of F.may_fail F.may_open files.now) need partition.now host.now) }
 {
     let mut source = match files.open(host) {
         Ok(source) => source,
