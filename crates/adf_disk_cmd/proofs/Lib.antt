@@ -7,3 +7,6 @@ pub mod BuiltDisks
 pub mod HeldVolume
 pub mod Stretches
 pub mod HeldChecks
+pub mod Gathered
+pub mod HostRuns
+pub mod OtherBytes

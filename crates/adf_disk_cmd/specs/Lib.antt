@@ -8,3 +8,5 @@ pub mod Answers
 pub mod Work
 pub mod Jobs
 pub mod HeldChecks
+-- Plans whose lines name host files.
+pub mod HostPlans

@@ -105,8 +105,8 @@ fn refuse_given(alloc: Global, need: usize, have: usize) -> Outcome
     }
 }
 
-// Writes the disk of a plan, unless other bytes are there than those of its given volumes.
-fn write_plan<W: Sink>(alloc: Global, plan: &DiskPlan, given: &[u8], output: &mut W) -> Outcome
+/// Writes the disk of a plan, unless other bytes are there than those of its given volumes.
+pub fn write_plan<W: Sink>(alloc: Global, plan: &DiskPlan, given: &[u8], output: &mut W) -> Outcome
     requires works { W.has_failed output.old ≡ false }
     requires plan { IsPlan (plan_value plan.now) }
     requires good { is_plan (plan_value plan.now) ≡ true }
@@ -124,8 +124,8 @@ fn write_plan<W: Sink>(alloc: Global, plan: &DiskPlan, given: &[u8], output: &mu
     }
 }
 
-// Tells the fault of a text on errors.
-fn refuse_text(alloc: Global, fault: TextFault) -> Outcome
+/// Tells the fault of a text on errors.
+pub fn refuse_text(alloc: Global, fault: TextFault) -> Outcome
     ensures ends { (text : List ℕ) → (fault.kind ≢ TextKind.NoMemory → IsTextFault text fault)
         → (held : Option (List ℕ)) → EndsBy (RefusesPlan text) result held held }
     ensures blames { Blames result false false }

@@ -35,7 +35,8 @@ pub const ABOUT: About = About {
     \x20      adf-disk volume NAME [FILE]    the volume of a partition, by its name or its number\n\
     \x20      adf-disk build [PLAN] > DISK   a new disk\n\
     \x20      adf-disk --help, adf-disk --version\n\n\
-    Without a FILE, or with -, the disk or its plan comes on standard input. man adf-disk tells more.\n",
+    Without a FILE, or with -, the disk or its plan comes on standard input. A PLAN that is a file may name the file of a volume:\n\
+    partition DH0 ffs 20 work.hdf. man adf-disk tells more.\n",
     waits: Some("waiting for standard input; adf-disk --help tells more\n"),
 };
 

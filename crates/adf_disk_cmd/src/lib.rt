@@ -7,6 +7,9 @@ mod check_input;
 mod checking;
 mod command_line;
 mod copy_input;
+mod gathering;
+mod host_plans;
+mod host_volumes;
 mod job;
 mod list_input;
 mod listing;
@@ -21,6 +24,7 @@ mod work;
 
 pub use crate::building::built_disks;
 pub use crate::command_line::{DiskRequest, Wanted, disk_words_as_documented, parse_disk as parse};
+pub use crate::host_plans::{plans_take_any_bytes, run_plans};
 pub use crate::job::Job;
 pub use crate::runner::{one_answer, run_files};
 pub use crate::unchecked::large_volumes_are_refused;

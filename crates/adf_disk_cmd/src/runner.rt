@@ -5,9 +5,10 @@ ghost use Rattle.adf_disk_cmd.specs.Answers.{DiskRequestsHaveOneAnswer, WordsAsk
 ghost use Rattle.adf_runs.specs.{Commands.IsUnanswered, Commands.TakesEnough, Streams.seen};
 ghost use Rattle.adf_file_runs.specs.FileRuns.{RunEndsOnFiles, known_files};
 ghost use Rattle.adf_words.specs.CommandLine.{texts_of};
-ghost use Rattle.adf_disk_cmd.specs.CommandLine.{disk_file};
+ghost use Rattle.adf_disk_cmd.specs.{CommandLine.disk_file, HostPlans.DiskEnds};
 
 use crate::command_line::ABOUT;
+use crate::host_plans::run_plans;
 use crate::job::Job;
 use adf_file_runs::{About, Files, Invocation, SystemProgram, run_program_on_files};
 use adf_runs::{Sink, Source};
@@ -46,7 +47,7 @@ pub fn run_files<F: Files, R: Source, W: Sink, E: Sink>(
 }
 
 impl SystemProgram for Job {
-    ghost ends = { RunEndsOnFiles disk_command disk_file };
+    ghost ends = { DiskEnds };
 
     fn about() -> About {
         ABOUT
@@ -59,7 +60,7 @@ impl SystemProgram for Job {
         output: &mut W,
         errors: &mut E,
     ) -> u8 {
-        run_files(alloc, asked, input, output, errors)
+        run_plans(alloc, asked, input, output, errors)
     }
 }
 

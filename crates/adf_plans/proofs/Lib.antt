@@ -3,3 +3,4 @@ pub mod TextLines
 pub mod OnePlan
 pub mod SomeTexts
 pub mod VolumeFaults
+pub mod PlainTexts

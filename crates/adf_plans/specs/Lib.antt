@@ -1,2 +1,3 @@
 -- All of it is the promise.
 pub mod PlanTexts
+pub mod HostFiles

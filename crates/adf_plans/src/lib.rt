@@ -1,10 +1,12 @@
 //! The texts of plans of hard disks.
 #![tactic(auto)]
 
+mod host_files;
 mod plan_line;
 mod plan_text;
 mod plan_words;
 
+pub use crate::host_files::{host_of, names_hosts, one_plain_text, plain_text};
 pub use crate::plan_text::{
     TextFault, TextKind, kind_words_tell_types, one_text, read_plan, some_text,
 };

@@ -20,8 +20,8 @@ pub struct Options {
     pub given: bool,
 }
 
-// Whether a word comes first, and the text without it.
-fn take_word<'a>(text: &'a [u8], word: &[u8]) -> (bool, &'a [u8])
+/// Whether a word comes first, and the text without it.
+pub fn take_word<'a>(text: &'a [u8], word: &[u8]) -> (bool, &'a [u8])
     ensures has { result.0 ≡ has_word word.now text.now }
     ensures rest { result.1.now ≡ without_word word.now text.now }
 {
@@ -33,8 +33,8 @@ fn take_word<'a>(text: &'a [u8], word: &[u8]) -> (bool, &'a [u8])
     }
 }
 
-// The boot priority that comes first, or 0, and the text without it.
-fn take_priority(text: &[u8]) -> (Option<i8>, &[u8])
+/// The boot priority that comes first, or 0, and the text without it.
+pub fn take_priority(text: &[u8]) -> (Option<i8>, &[u8])
     ensures priority { result.0 ≡ option_priority text.now }
     ensures rest { result.1.now ≡ without_priority text.now }
 {

@@ -1,0 +1,59 @@
+use Rattle.std.proofs.Common.{◌≡◌, ◌∙◌, List, ℕ, inl, inr, sym}
+use Rattle.adf_disk_cmd.proofs.HostRuns.{no_given_ends}
+use Rattle.adf_disk_cmd.specs.{Builds.RefusesPlan, Builds.plan_reply, HostPlans.BuildsHosts}
+use Rattle.adf_file_runs.specs.FileRuns.{KnownFiles, known_files}
+use Rattle.adf_partitions.specs.Plans.{PlanValue, plan_value}
+use Rattle.adf_plans.specs.PlanTexts.{IsText}
+use Rattle.adf_runs.proofs.Endings.{does_weaker, ends_weaker}
+use Rattle.adf_disk_cmd.proofs.host_plans.build_hosts.Goals as goal
+
+pub returns-in-Err : goal.returns-in-Err
+returns-in-Err g c =
+    let text : List ℕ = c.args.text.now in
+    let plain : List ℕ = c.in-Ok.plain.items in
+    let bytes_of = g.F.Files.bytes_of c.args.files.now in
+    let held = g.W.Sink.held c.args.output.now in
+    let fault = rw c.deref.ensures.value at c.in-Err.ensures.fault in
+    let ends = ends_weaker (RefusesPlan plain) (BuildsHosts bytes_of text plain) c.refuse_text.result held held (λ reply h. inr h)
+    (c.refuse_text.ensures.ends plain fault held) in
+    inl (
+      plain,
+      c.in-Ok.ensures,
+      c.refuse_text.result,
+      record {
+        ends = ends;
+        read = sym c.refuse_text.ensures.blames.read;
+        written = c.requires.writes ∙ c.refuse_text.ensures.blames.written;
+      },
+      c.finish-in-Err.ensures.status,
+      c.finish-in-Err.ensures.said,
+    )
+
+pub returns-in-Ok-gather : goal.returns-in-Ok-gather
+returns-in-Ok-gather g c =
+    let text : List ℕ = c.args.text.now in
+    let plain : List ℕ = c.in-Ok.plain.items in
+    let bytes_of = g.F.Files.bytes_of c.args.files.now in
+    let plan : PlanValue = plan_value c.in-Ok-read_plan.read.0 in
+    let left : List ℕ = c.in-Ok-read_plan.read.1.now in
+    let given : List ℕ = c.in-Ok-gather.given.items in
+    let read : IsText plain plan left = rw c.deref.ensures.value at c.in-Ok-read_plan.ensures.text in
+    let does = rw c.deref-in-Ok-gather.ensures.value at c.write_plan.ensures in
+    inl (
+      plain,
+      c.in-Ok.ensures,
+      c.write_plan.result,
+      does_weaker (λ reply. reply ≡ plan_reply plan given) (BuildsHosts bytes_of text plain)
+          (λ reply e. inl (plan, left, given, read, c.in-Ok-gather.ensures.given, e)) does,
+      c.finish-in-Ok-gather.ensures.status,
+      c.finish-in-Ok-gather.ensures.said,
+    )
+
+pub returns : goal.returns
+returns g c =
+    let files : KnownFiles = known_files g.F.Files.bytes_of g.F.Files.may_fail g.F.Files.may_open c.args.files.now in
+    let plan : PlanValue = plan_value c.in-Ok-read_plan.read.0 in
+    let left : List ℕ = c.in-Ok-read_plan.read.1.now in
+    let read : IsText c.in-Ok.plain.items plan left = rw c.deref.ensures.value at c.in-Ok-read_plan.ensures.text in
+    no_given_ends files c.args.text.now c.in-Ok.plain.items left plan c.in-Err-gather.why c.tell_no_given.result (g.W.Sink.held c.args.output.now)
+    (g.W.Sink.has_failed c.args.output.now) _ c.in-Ok.ensures read c.in-Err-gather.ensures.fault c.tell_no_given.ensures
