@@ -24,6 +24,8 @@ mod edited_letters;
 #[cfg(test)]
 mod edited_lines;
 #[cfg(test)]
+mod host_plans;
+#[cfg(test)]
 mod memory;
 #[cfg(test)]
 mod merge_runs;
