@@ -22,13 +22,14 @@ const PLAN: &[u8] = b"disk 32 2\npartition DH0 ffs 4\npartition DH1 ofs 4\nend\n
 const FILE: &[u8] = &[0x41; 489];
 
 // The objects of a sound image, and those of one whose end is missing.
-const LISTED: &[u8] =
+const LISTED_OBJECTS: &[u8] =
     b"{\"line\":\"volume\",\"kind\":\"ofs\",\"blocks\":16,\"label\":\"\",\"root\":\"1978-01-01 00:00:00.00\",\
     \"altered\":\"1978-01-01 00:00:00.00\",\"created\":\"1978-01-01 00:00:00.00\"}\n\
     {\"line\":\"entry\",\"path\":\"a\",\"kind\":\"file\",\"sound\":true,\"size\":489,\"date\":\"1978-01-01 00:00:00.00\",\
     \"protection\":0,\"comment\":\"\"}\n";
 
-const MISSING: &[u8] = b"{\"line\":\"remark\",\"first\":16,\"last\":17,\"says\":\"no data\"}\n\
+const MISSING_OBJECTS: &[u8] =
+    b"{\"line\":\"remark\",\"first\":16,\"last\":17,\"says\":\"no data\"}\n\
     {\"line\":\"finding\",\"first\":9,\"last\":9,\"cause\":\"bad type\",\"path\":null,\"within\":false,\"owner\":null}\n";
 
 // The words, the status, and what output and errors get.
@@ -38,11 +39,16 @@ type Row<'a> = (&'a [&'a str], u8, &'a [u8], &'a str);
 const NAMED: &[Row<'static>] = &[
     (&["adf-survey", "sound"], 0, b"", ""),
     (&["adf-survey", "--json", "sound"], 0, b"", ""),
-    (&["adf-survey", "--json", "--list", "sound"], 0, LISTED, ""),
+    (
+        &["adf-survey", "--json", "--list", "sound"],
+        0,
+        LISTED_OBJECTS,
+        "",
+    ),
     (
         &["adf-survey", "--blocks", "18", "--json", "sound"],
         1,
-        MISSING,
+        MISSING_OBJECTS,
         "",
     ),
     (&["adf-survey", "cat", "a", "sound"], 0, FILE, ""),
