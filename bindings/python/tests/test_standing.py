@@ -106,9 +106,9 @@ class Standing(Catalogues):
         whole = volume(("one/f", b"x" * 10), dirs=("one", "two"))
         header, other = (adf.Volume(whole)[path].header for path in ("one/f", "two"))
         moved = sealed(with_word(whole, header, 125, other), header)
-        written("disks/moved.adf", with_word(moved, header, 125, adf.Volume(whole)["one"].header))
+        written("disks/moved.adf", with_word(moved, header, 125, 1))
         self.catalogue("disks", "out", status=1)
-        self.assertEqual(self.entries("moved.adf"), [("one", "sound", None), ("two", "sound", None), ("two/f", "found again", sum_of(b"x" * 10))])
+        self.assertEqual(self.entries("moved.adf"), [("one", "damaged", None), ("two", "sound", None), ("two/f", "found again", sum_of(b"x" * 10))])
         self.assertEqual(self.asked("out", "SELECT lost FROM images"), [(0,)])
 
     def test_lists_the_worst_first(self):
