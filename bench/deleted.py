@@ -3,26 +3,30 @@
 
     bench/deleted.py < IMAGE      a line for each deleted header: its path, its block, and what speaks for it
 
-A header is deleted if it says of itself that it is one, and neither the survey has its block, nor the second one, of the image with what
-is lost hung in it again, an entry with its header there: what a rescue finds is not deleted.
+The image is the one that a rescue reads of an input that is refused: opened, with headers in doubt pruned. A header is deleted if it
+says of itself that it is one, and neither the survey has its block, nor the second one, of the image with what is lost hung in it again,
+an entry with its header there: what a rescue finds is not deleted.
 """
 
 import sys
 from struct import unpack_from
 
 sys.dont_write_bytecode = True
-from rescue import Lost, claims, says_dir, says_header, sealed, words
+from rescue import Lost, claims, lacks_root, opened, pruned, says_dir, says_header, sealed, typed, words
 from survey import FILE, POINTERS, Survey, spelled
 
 
 class Deleted:
     def __init__(self, image):
+        image, _ = typed(bytes(image))
+        made = len(image) >= 2048 and lacks_root(image)
+        image = pruned(opened(image))
         self.image, self.sv = image, Survey(image)
-        self.headers, self.second = [], None
+        self.headers, self.second, self.is_volume = [], None, bool(self.sv.nodes)
         if not self.sv.nodes:
             return
         self.blocks = self.sv.blocks
-        self.first = Lost(self.sv, False)
+        self.first = Lost(self.sv, made)
         if self.first.lost and self.sv.findings:
             self.second = Survey(self.first.hung())
         self.reached = {*self.sv.owner, *(self.second.owner if self.second else ())}
@@ -115,7 +119,7 @@ class Deleted:
 
     def lines(self):
         for h in self.headers:
-            yield f"block {h}: deleted: {spelled(self.path(h))}: {self.state(h)}"
+            yield f"block {h}: {self.state(h)}: {spelled(self.path(h))}"
 
 
 def main():
