@@ -14,9 +14,9 @@ _adf() {
 }
 
 _adf_survey() {
-    local at=1 words="cat rescue --list --json --blocks --help --version"
+    local at=1 words="cat deleted rescue --list --json --blocks --help --version"
     if ((COMP_CWORD > 1)) && [[ ${COMP_WORDS[1]} == --blocks ]]; then
-        at=3 words="cat rescue --list --json"
+        at=3 words="cat deleted rescue --list --json"
     fi
     if [[ ${COMP_WORDS[COMP_CWORD - 1]} == [\<\>] ]]; then
         compopt -o default

@@ -1,6 +1,6 @@
 -- What is asked of an image has an answer of `adf-survey`.
 -- Letters: s, t what is surveyed; w the walk of its survey, fs the findings; n an entry's node.
-use Rattle.std.proofs.Common.{◌≡◌, ℕ, Bool, true, false, List, Option, codes, inl, inr, refl}
+use Rattle.std.proofs.Common.{◌≡◌, ℕ, Bool, true, false, List, Option, Some, None, codes, inl, inr, refl}
 use mathlib.Core.Logic.Dec.{and as dec_and}
 use native.Mathlib.Decide.{ℕ_discrete}
 use Rattle.adf_base.proofs.ByteLists.{AreBytes}
@@ -9,11 +9,11 @@ use Rattle.adf_fields.proofs.DateTexts.{date_of, date_of_is}
 use Rattle.adf_names.proofs.SomePaths.{path_or_none}
 use Rattle.adf_names.specs.PathTexts.{HasPathOrNone, IsPathText}
 use Rattle.adf_volume.specs.{Image.word_in, Walk.FileAt, Walk.node_block, Walk.Walk}
-use Rattle.adf_findings.specs.{Files.file_content, Files.file_in, Remains.gaps_of, Remains.left_of, Survey.FindingValue, Survey.IsSurvey}
+use Rattle.adf_findings.specs.{Files.file_content, Files.file_in, Files.grave, Remains.gaps_of, Remains.left_of, Survey.FindingValue, Survey.IsSurvey}
 use Rattle.adf_findings.proofs.{Decidability.dec_true, SomeMarks.dec_sound, SomeMarks.some_marks, SomeSurvey.some_survey}
 use Rattle.adf_findings.proofs.SomeLookups.{dec_is_file, leads_or_not}
 use Rattle.adf_runs.specs.Commands.{Reply, bad_path, on_errors, on_output}
-use Rattle.adf_survey_cmd.specs.CommandLine.{QuestionValue, asked, cat, list, report, rescue}
+use Rattle.adf_survey_cmd.specs.CommandLine.{QuestionValue, asked, cat, deleted, list, report, rescue}
 use Rattle.adf_subjects.proofs.SomeRescues.{some_rescue as rescue_given}
 use Rattle.adf_subjects.proofs.{SubjectBytes.subject_bytes, SubjectBytes.typed_bytes, Subjects.some_typed}
 use Rattle.adf_survey_cmd.specs.Answers.{CopiesEntry, CopiesFound, CopiesFromSurvey, IsWholeFile, ListsSurvey, QuestionAnswer, Surveys, no_path_line}
@@ -21,6 +21,11 @@ use Rattle.adf_survey_cmd.specs.{Answers.told_status, Answers.types_kept, Hints.
 use Rattle.adf_subjects.specs.Rescues.{rescue_reply}
 use Rattle.adf_survey_cmd.specs.FoundLines.{has_its_data, listing_text}
 use Rattle.adf_subjects.specs.Subject.{OfTyped, SubjectValue, begun_subject, sized, subject, subject_text}
+use Rattle.std.proofs.lemmas.Bool.{cases_Bool}
+use Rattle.adf_blocks.specs.Sizes.{blocks}
+use Rattle.adf_rescue.specs.{Hung.second_image, Opened.lacks_root, Opened.opened, Pruned.pruned, Rescue.Basis, Rescue.IsSecond}
+use Rattle.adf_deleted.specs.Known.{known_of}
+use Rattle.adf_survey_cmd.specs.Deletions.{ListsBy, deleted_lines, is_surveyed}
 use Rattle.adf_answers.specs.Answered.{HasSurveyAnswer}
 
 -- a question has an answer, to which the hint comes
@@ -107,6 +112,29 @@ some_rescue blocks keep_type input are =
     (typed_bytes (subject blocks input) t typed (subject_bytes blocks input are)) in
     (rescue_reply r, (r, (t, typed, told), refl))
 
+-- the deleted headers
+
+some_second : (o : Option (List ℕ)) → (l : Option Basis) × IsSecond o l
+some_second None = (None, tt)
+some_second (Some image) =
+    let (w, fs, survey) = some_survey image in
+    let (sound, marks) = some_marks image w fs survey (grave fs) in
+    (Some (record { image = image; walk = w; sound = sound }), record { of = refl; findings = fs; survey = survey; marks = marks })
+
+listed_by : (held : ℕ) (image : List ℕ) (w : Walk) (l : Option Basis) → (reply : Reply) × ListsBy held image w l reply
+listed_by held image w l = elim (cases_Bool (is_surveyed image w)) [
+  | inl is ↦ (on_output 0 (deleted_lines date_of (known_of image w l held) (blocks image)), inr (is, (date_of, date_of_is, refl)))
+  | inr none ↦ (on_errors 1 (codes "no volume\n"), inl (none, refl))
+]
+
+some_deleted : (blocks : Option ℕ) (input : List ℕ) → IsAnswered deleted (subject blocks input)
+some_deleted blocks input =
+    let (t, typed) = some_typed (subject blocks input) in
+    let image : List ℕ = pruned (opened t.image) in
+    let (w, fs, survey) = some_survey image in
+    let (l, second) = some_second (second_image (lacks_root t.image) image w fs) in
+    let (reply, told) = listed_by t.end image w l in (reply, (t, typed, (w, fs, survey, (l, second, told))))
+
 -- every question
 
 questioned : (blocks : Option ℕ) (q : QuestionValue) (input : List ℕ) → ((keep_type : Bool) → q ≡ rescue keep_type → AreBytes input)
@@ -114,6 +142,7 @@ questioned : (blocks : Option ℕ) (q : QuestionValue) (input : List ℕ) → ((
 questioned blocks (report json) input are = some_report json blocks input
 questioned blocks (list json) input are = some_list json blocks input
 questioned blocks (cat damaged path) input are = some_copy blocks damaged path input
+questioned blocks deleted input are = some_deleted blocks input
 questioned blocks (rescue keep_type) input are = some_rescue blocks keep_type input (are keep_type refl)
 
 pub some_answer : (blocks : Option ℕ) (q : QuestionValue) (input : List ℕ) → ((keep_type : Bool) → q ≡ rescue keep_type → AreBytes input)

@@ -20,7 +20,12 @@ use Rattle.adf_subjects.specs.{Losses.LossValue, Losses.losses_text, Rescues.Res
 use Rattle.adf_subjects.specs.Subject.{OfTyped, SubjectValue, begun_subject, sized, subject}
 use Rattle.adf_subjects.specs.Rescues.{GivesFault, IsRefusal, Replies, RescueValue, Rescues, RescuesBy, RescuesFound, RescuesIn, RescuesRead, RescuesTyped}
 use Rattle.adf_subjects.proofs.OneSubject.{one_marks, one_typed}
-use Rattle.adf_survey_cmd.specs.CommandLine.{AsksSurvey, InquiryValue, QuestionValue, cat, list, report, rescue}
+use Rattle.adf_survey_cmd.specs.CommandLine.{AsksSurvey, InquiryValue, QuestionValue, cat, deleted, list, report, rescue}
+use Rattle.adf_base.specs.declared.dates.Stamp.{Stamp}
+use Rattle.adf_blocks.specs.Sizes.{blocks}
+use Rattle.adf_deleted.specs.Known.{KnownValue, known_of}
+use Rattle.adf_rescue.specs.{Opened.opened, Pruned.pruned}
+use Rattle.adf_survey_cmd.specs.Deletions.{ListsBy, ListsDeleted, ListsSecond, ListsTold, ListsTyped, TellsDeleted, deleted_lines}
 
 pub one_inquiry : (words : List (List ℕ)) (r q : InquiryValue) → AsksSurvey words r → AsksSurvey words q → r ≡ q
 one_inquiry words r q a b = grind (arith, common_steps)
@@ -166,6 +171,35 @@ typed_rescued_once types s a b (r, (t, is, x), e) (q, (u, also, y), f) =
     e ∙ read_once types u.end u.lost u.image (sized 2 s.image) r q
     (subst (λ (t : SubjectValue). Rescues types t.end t.lost t.image (sized 2 s.image) r) (one_typed s t u is also) x) y ∙ sym f
 
+-- the deleted headers have one answer
+
+known_told_once : (k : KnownValue) (a b : Reply) → TellsDeleted k a → TellsDeleted k b → a ≡ b
+known_told_once k a b (date, dates, x) (other, others, y) =
+    x ∙ ap (λ (d : Stamp → List ℕ). on_output 0 (deleted_lines d k (blocks k.image))) (one_dates date other dates others) ∙ sym y
+
+by_once : (held : ℕ) (image : List ℕ) (w : Walk) (l : Option Basis) (a b : Reply) → ListsBy held image w l a → ListsBy held image w l b → a ≡ b
+by_once held image w l a b (inl (none, x)) (inl (also, y)) = x ∙ sym y
+by_once held image w l a b (inl (none, x)) (inr (some, y)) = let clash = sym none ∙ some in absurd cc
+by_once held image w l a b (inr (some, x)) (inl (none, y)) = let clash = sym none ∙ some in absurd cc
+by_once held image w l a b (inr (some, x)) (inr (also, y)) = known_told_once (known_of image w l held) a b x y
+
+second_listed_once : (held : ℕ) (image : List ℕ) (w : Walk) (second : Option (List ℕ)) (a b : Reply) → ListsSecond held image w second a
+    → ListsSecond held image w second b → a ≡ b
+second_listed_once held image w second a b (l, is, x) (m, also, y) =
+    by_once held image w m a b (subst (λ o. ListsBy held image w o a) (one_second second l m is also) x) y
+
+deleted_once : (made : Bool) (held : ℕ) (image : List ℕ) (a b : Reply) → ListsDeleted made held image a → ListsDeleted made held image b → a ≡ b
+deleted_once made held image a b (w, fs, h, x) (u, gs, t, y) =
+    let same = one_survey image w u fs gs h t in
+    let moved = subst (λ (v : Walk). ListsSecond held image v (second_image made image v fs) a) same.0 x in
+    second_listed_once held image u (second_image made image u gs) a b
+    (subst (λ (hs : List FindingValue). ListsSecond held image u (second_image made image u hs) a) same.1 moved) y
+
+typed_deleted_once : (s : SubjectValue) (a b : Reply) → ListsTyped s a → ListsTyped s b → a ≡ b
+typed_deleted_once s a b (t, is, x) (u, also, y) =
+    deleted_once (lacks_root u.image) u.end (pruned (opened u.image)) a b
+    (subst (λ (t : SubjectValue). ListsTold t a) (one_typed s t u is also) x) y
+
 one_question : (q : QuestionValue) (s : SubjectValue) (a b : Reply) → QuestionAnswer q s a → QuestionAnswer q s b → a ≡ b
 one_question (report json) s a b x y = typed_once s (Surveys json) (surveyed_once json) a b x y
 one_question (list json) s a b x y = typed_once s (ListsSurvey json) (listed_once json) a b x y
@@ -173,6 +207,7 @@ one_question (cat damaged path) s a b (inl (bad, x)) (inl (worse, y)) = x ∙ sy
 one_question (cat damaged path) s a b (inl (bad, x)) (inr (t, is, h)) = absurd (bad h.0 h.1)
 one_question (cat damaged path) s a b (inr (t, is, h)) (inl (bad, y)) = absurd (bad h.0 h.1)
 one_question (cat damaged path) s a b (inr h) (inr g) = typed_once s (CopiesFromSurvey damaged path) (copied_once damaged path) a b h g
+one_question deleted s a b x y = typed_deleted_once s a b x y
 one_question (rescue keep_type) s a b x y = typed_rescued_once (types_kept keep_type) s a b x y
 
 pub one_answer : (r : InquiryValue) (input : List ℕ) (a b : Reply) → SurveyAnswer r input a → SurveyAnswer r input b → a ≡ b

@@ -6,7 +6,7 @@ use Rattle.adf_blocks.specs.declared.layout.TheConstants.{MOST_BLOCKS}
 use Rattle.adf_words.specs.Arguments.{bare_app, cat_app, flag_rule, has_flag, number_named}
 use Rattle.adf_words.specs.FileArguments.{file_met, file_rule}
 use Rattle.adf_survey_cmd.specs.declared.command_line.Inquiry.{Inquiry}
-use Rattle.adf_survey_cmd.specs.declared.command_line.Question.{Question, TheVariants.Report, TheVariants.List as ListAll, TheVariants.Cat, TheVariants.Rescue}
+use Rattle.adf_survey_cmd.specs.declared.command_line.Question.{Question, TheVariants.Report, TheVariants.List as ListAll, TheVariants.Cat, TheVariants.Rescue, TheVariants.Deleted}
 
 -- the option --blocks N
 abbrev pub blocks_rule : Rule
@@ -20,6 +20,10 @@ survey_cat_app = with_rule (with_rule cat_app (flag_rule (codes "damaged"))) fil
 abbrev pub survey_rescue_app : App
 survey_rescue_app = with_rule (with_rule (new_app (codes "rescue")) (flag_rule (codes "keep-type"))) file_rule
 
+-- deleted [FILE]
+abbrev pub survey_deleted_app : App
+survey_deleted_app = with_rule (new_app (codes "deleted")) file_rule
+
 -- with the option
 abbrev pub numbered_survey : App
 numbered_survey = with_rule (bare_app (codes "adf-survey")) blocks_rule
@@ -28,17 +32,18 @@ numbered_survey = with_rule (bare_app (codes "adf-survey")) blocks_rule
 abbrev pub flagged_survey : App
 flagged_survey = with_rule (with_rule (with_rule numbered_survey (flag_rule (codes "list"))) (flag_rule (codes "json"))) file_rule
 
--- the command line: [--blocks N], and [--list] [--json] [FILE], cat [--damaged] PATH [FILE], or rescue [--keep-type] [FILE]
+-- the command line: [--blocks N], and [--list] [--json] [FILE], cat [--damaged] PATH [FILE], rescue [--keep-type] [FILE], or deleted [FILE]
 abbrev pub survey_app : App
-survey_app = with_subcommand (with_subcommand flagged_survey survey_cat_app.top) survey_rescue_app.top
+survey_app = with_subcommand (with_subcommand (with_subcommand flagged_survey survey_cat_app.top) survey_rescue_app.top) survey_deleted_app.top
 
--- what is asked of an image: all findings; these and what is found, both as lines or as objects; the bytes of a file, which is sound or may be damaged; or a new
--- volume of all that stands, which keeps the letters of the image, or has ASCII letters
+-- what is asked of an image: all findings; these and what is found, both as lines or as objects; the bytes of a file, which is sound or may be damaged; a new
+-- volume of all that stands, which keeps the letters of the image, or has ASCII letters; or the deleted headers
 pub data QuestionValue : Type 0 where
   report : (json : Bool) → QuestionValue
   list : (json : Bool) → QuestionValue
   cat : (damaged : Bool) → Text → QuestionValue
   rescue : (keep_type : Bool) → QuestionValue
+  deleted : QuestionValue
 
 -- what a command line asks for, of the image as it is or as if it had so many blocks
 pub record InquiryValue : Type 0 where
@@ -57,7 +62,8 @@ blocks_met rows = elim (first_of (codes "blocks") rows) [ None ↦ Some None | S
 abbrev pub question_named : Text → List Row → Option QuestionValue
 question_named name rows =
     if bytes_eq name (codes "cat") then option_map (cat (has_flag (codes "damaged") rows)) (first_of (codes "path") rows)
-    else (if bytes_eq name (codes "rescue") then Some (rescue (has_flag (codes "keep-type") rows)) else None)
+    else (if bytes_eq name (codes "rescue") then Some (rescue (has_flag (codes "keep-type") rows))
+    else (if bytes_eq name (codes "deleted") then Some deleted else None))
 
 -- the flag --list, the flag --json or a FILE is among the matches
 abbrev pub excludes_subcommand : List Row → Bool
@@ -98,6 +104,7 @@ question_value (Report json) = report json
 question_value (ListAll json) = list json
 question_value (Cat path damaged) = cat damaged path.now
 question_value (Rescue keep_type) = rescue keep_type
+question_value Deleted = deleted
 
 -- the value of an inquiry as the code has it
 abbrev pub inquiry_value : Inquiry → InquiryValue

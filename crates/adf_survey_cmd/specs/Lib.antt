@@ -1,5 +1,6 @@
 -- The promise: the command line, the lines, and what the command answers.
 pub mod CommandLine
+pub mod Deletions
 pub mod FoundLines
 pub mod Remains
 pub mod Hints

@@ -1,10 +1,10 @@
 -- What is done for words, once they and their path are read.
 use Rattle.std.specs.Prelude.{◌≡◌, ℕ, Bool, List}
 use Rattle.adf_names.specs.PathTexts.{IsPathText}
-use Rattle.adf_survey_cmd.specs.CommandLine.{InquiryValue, QuestionValue, cat, list, report, rescue}
+use Rattle.adf_survey_cmd.specs.CommandLine.{InquiryValue, QuestionValue, cat, deleted, list, report, rescue}
 use Rattle.adf_subjects.specs.Lengths.{AreFew}
 use Rattle.adf_survey_cmd.specs.{Answers.types_kept, declared.work.Work.Work}
-use Rattle.adf_survey_cmd.specs.declared.work.Task.{Task, TheVariants.Show, TheVariants.Rescue}
+use Rattle.adf_survey_cmd.specs.declared.work.Task.{Task, TheVariants.Show, TheVariants.Rescue, TheVariants.Deleted}
 use Rattle.adf_survey_cmd.specs.declared.work.View.{View, TheVariants.Findings, TheVariants.List as ListAll, TheVariants.Cat}
 
 -- what is shown is what is asked, with the names of the path
@@ -16,6 +16,7 @@ Shows (Cat names damaged) q = (path : List ℕ) × (q ≡ cat damaged path) × I
 -- the task is what is asked
 abbrev pub Answers : Task → QuestionValue → Type 0
 Answers (Show view) q = Shows view q
+Answers Deleted q = q ≡ deleted
 Answers (Rescue types) q = (keep_type : Bool) × (types ≡ types_kept keep_type) × (q ≡ rescue keep_type)
 
 -- the work is what is asked for, of as many blocks, if any are named

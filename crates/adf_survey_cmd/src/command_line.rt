@@ -8,8 +8,8 @@ ghost use Rattle.adf_words.specs.declared.command_line.ArgsError.TheVariants.{Us
 ghost use Rattle.adf_survey_cmd.specs.CommandLine.{AsksSurvey, AsksSurveyOf, AreRefusedBySurvey, blocks_met, asked, cat};
 ghost use Rattle.adf_subjects.specs.Lengths.{AreFew};
 ghost use Rattle.adf_survey_cmd.specs.CommandLine.{flagged_survey, list, inquiry_met, inquiry_value, question_met};
-ghost use Rattle.adf_survey_cmd.specs.CommandLine.{question_named, question_value, report, rescue, survey_app, survey_cat_app};
-ghost use Rattle.adf_survey_cmd.specs.CommandLine.{survey_file, survey_rescue_app};
+ghost use Rattle.adf_survey_cmd.specs.CommandLine.{deleted, question_named, question_value, report, rescue, survey_app, survey_cat_app};
+ghost use Rattle.adf_survey_cmd.specs.CommandLine.{survey_deleted_app, survey_file, survey_rescue_app};
 
 use adf_blocks::MOST_BLOCKS;
 use adf_file_runs::About;
@@ -24,6 +24,7 @@ use std::alloc::{AllocError, Global};
 pub const SURVEY_USAGE: &str =
     "usage: adf-survey [--blocks N] [--list] [--json] [FILE]\n       adf-survey [--blocks N] cat [--damaged] PATH [FILE]\n\
     \x20      adf-survey [--blocks N] rescue [--keep-type] [FILE]\n\
+    \x20      adf-survey [--blocks N] deleted [FILE]\n\
     without a FILE the image comes on standard input; man adf-survey tells more\n";
 
 /// What the program tells of itself.
@@ -36,6 +37,8 @@ pub const ABOUT: About = About {
     \x20          a sound file; with --damaged what is left of any file\n\
     \x20      adf-survey [--blocks N] rescue [--keep-type] [FILE] > NEW\n\
     \x20          a new volume of all that can be kept; with --keep-type of the letters of the image\n\
+    \x20      adf-survey [--blocks N] deleted [FILE]\n\
+    \x20          each deleted file and directory whose header still stands, and what speaks for it\n\
     \x20      adf-survey --help, adf-survey --version\n\n\
     Without a FILE, or with -, the image comes on standard input. --blocks N reads it as if it had N blocks.\n\
     man adf-survey tells more.\n",
@@ -53,6 +56,8 @@ pub enum Question<'a> {
     Cat { path: &'a str, damaged: bool },
     /// A new volume of all that stands, and whether it keeps the letters of the image, or has ASCII letters.
     Rescue { keep_type: bool },
+    /// The deleted headers.
+    Deleted,
 }
 
 /// What a command line asks for.
@@ -92,12 +97,21 @@ fn survey_rescue_command<'a>(alloc: Global) -> Result<Command<'a>, AllocError>
     with_argument(rescues, file_argument(alloc))
 }
 
+// The command `deleted [FILE]`.
+fn survey_deleted_command<'a>(alloc: Global) -> Result<Command<'a>, AllocError>
+    ensures app { IfOk result (λ c. app_of c ≡ survey_deleted_app) }
+    ensures local { IfOk result (λ c. (out-Command c).has_globals ≡ false) }
+{
+    with_argument(Ok(Command::new(alloc, "deleted")), file_argument(alloc))
+}
+
 // The command line.
 fn command<'a>(alloc: Global) -> Result<Command<'a>, AllocError>
     ensures { IfOk result (λ c. app_of c ≡ survey_app) }
 {
     let cats = with_subcommand(flagged(alloc), survey_cat_command(alloc));
-    with_subcommand(cats, survey_rescue_command(alloc))
+    let rescues = with_subcommand(cats, survey_rescue_command(alloc));
+    with_subcommand(rescues, survey_deleted_command(alloc))
 }
 
 // The blocks that the matches name, if any.
@@ -131,6 +145,8 @@ fn question_named<'a>(name: &str, found: &ArgMatches<'a>) -> Option<Question<'a>
         Some(Question::Rescue {
             keep_type: has_flag(found, "keep-type"),
         })
+    } else if name == "deleted" {
+        Some(Question::Deleted)
     } else {
         None
     }
@@ -280,6 +296,16 @@ pub fn survey_words_as_documented()
     ensures blocks_keep_type { AsksSurveyOf
         (codes "adf-survey" ∷ codes "--blocks" ∷ codes "1760" ∷ codes "rescue" ∷ codes "--keep-type" ∷ [])
         (asked (Some 1760) (rescue true)) None }
+    ensures deleted { AsksSurveyOf (codes "adf-survey" ∷ codes "deleted" ∷ []) (asked None deleted) None }
+    ensures deleted_file { AsksSurveyOf (codes "adf-survey" ∷ codes "deleted" ∷ codes "a.adf" ∷ [])
+        (asked None deleted) (Some (codes "a.adf")) }
+    ensures deleted_any { (file : List ℕ) → AsksSurveyOf
+        (codes "adf-survey" ∷ codes "deleted" ∷ codes "--" ∷ file ∷ [])
+        (asked None deleted) (file_meant file) }
+    ensures deleted_two { AreRefusedBySurvey
+        (codes "adf-survey" ∷ codes "deleted" ∷ codes "a" ∷ codes "b" ∷ []) }
+    ensures list_deleted { AreRefusedBySurvey
+        (codes "adf-survey" ∷ codes "--list" ∷ codes "deleted" ∷ []) }
     ensures too_many { AreRefusedBySurvey
         (codes "adf-survey" ∷ codes "--blocks" ∷ codes "1048577" ∷ []) }
     ensures no_number { AreRefusedBySurvey (codes "adf-survey" ∷ codes "--blocks" ∷ []) }

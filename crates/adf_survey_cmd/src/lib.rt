@@ -3,6 +3,7 @@
 
 mod command_line;
 mod copying;
+mod deleting;
 mod found_lines;
 mod found_objects;
 mod hints;

@@ -1,0 +1,65 @@
+-- The lines of deleted headers, and what `adf-survey deleted` answers.
+-- Letters: k what is known of an image; h the block of a deleted header, r that of its rival; b a block; w the walk of the survey of an image, l the
+-- second survey, if there is one; s, t what is surveyed; held the number of blocks that the input holds; made whether the root was made.
+use Rattle.std.specs.Prelude.{◌≡◌, ◌⊎◌, ◌++◌, ◌∷◌, ℕ, Bool, true, false, cond, codes, length, List, [], Option}
+use Rattle.std.specs.{Fmt.decimal, List.flat_map, List.range_with_len}
+use Rattle.adf_base.specs.{Words.block, declared.dates.Stamp.Stamp}
+use Rattle.adf_blocks.specs.{HeadBlock.body_at, HeadBlock.meta_stated, Sizes.blocks}
+use Rattle.adf_volume.specs.{Start.is_image_len, Walk.Walk}
+use Rattle.adf_findings.specs.Survey.{FindingValue, IsSurvey}
+use Rattle.adf_rescue.specs.{Hung.second_image, Opened.lacks_root, Opened.opened, Pruned.pruned, Rescue.Basis, Rescue.IsSecond}
+use Rattle.adf_deleted.specs.{Deletions.state_of, Known.KnownValue, Known.is_deleted, Known.known_of, Paths.path_of}
+use Rattle.adf_deleted.specs.declared.deletions.State.{State, TheVariants.Whole, TheVariants.Contested, TheVariants.Overwritten}
+use Rattle.adf_texts.specs.{RowTexts.head_lines, VolumeLines.AreDates, Names.names_text}
+use Rattle.adf_runs.specs.Commands.{Reply, on_errors, on_output}
+use Rattle.adf_subjects.specs.Subject.{IsTyped, SubjectValue}
+
+-- what speaks for a file
+abbrev pub state_text : List ℕ → State → List ℕ
+state_text image Whole = codes "whole"
+state_text image (Contested r) = codes "contested: " ++ names_text (path_of image r)
+state_text image (Overwritten lost asked) = codes "overwritten: " ++ (decimal lost ++ (codes " of " ++ (decimal asked ++ codes " blocks")))
+
+-- the line of a deleted header: its block, what speaks for it, and what it states, as in the lines of what is found
+abbrev pub deleted_line : (Stamp → List ℕ) → KnownValue → ℕ → List ℕ
+deleted_line date k h = codes "block " ++ (decimal h ++ (codes ": " ++ (state_text k.image (state_of k h) ++ (codes ": "
+    ++ head_lines date (path_of k.image h) (body_at (block k.image h)) (meta_stated (block k.image h))))))
+
+-- the line of block b, if it is a deleted header
+abbrev pub line_if_deleted : (Stamp → List ℕ) → KnownValue → ℕ → List ℕ
+line_if_deleted date k b = cond (is_deleted k b) (deleted_line date k b) []
+
+-- the lines of the deleted headers among the first n blocks
+unfoldable pub deleted_lines : (Stamp → List ℕ) → KnownValue → ℕ → List ℕ
+deleted_lines date k n = flat_map (line_if_deleted date k) (range_with_len 0 n)
+
+-- an image of an allowed size, of which something is surveyed
+abbrev pub is_surveyed : List ℕ → Walk → Bool
+is_surveyed image [] = false
+is_surveyed image (x ∷ w) = is_image_len (length image)
+
+-- the lines of the deleted headers
+abbrev pub TellsDeleted : KnownValue → Reply → Type 0
+TellsDeleted k reply = (date : Stamp → List ℕ) × AreDates date × (reply ≡ on_output 0 (deleted_lines date k (blocks k.image)))
+
+-- those by the surveys of an image; or that it is no volume
+abbrev pub ListsBy : ℕ → List ℕ → Walk → Option Basis → Reply → Type 0
+ListsBy held image w l reply = ((is_surveyed image w ≡ false) × (reply ≡ on_errors 1 (codes "no volume\n")))
+    ⊎ ((is_surveyed image w ≡ true) × TellsDeleted (known_of image w l held) reply)
+
+-- those by the survey of an image, and by that of a second image, if there is one
+abbrev pub ListsSecond : ℕ → List ℕ → Walk → Option (List ℕ) → Reply → Type 0
+ListsSecond held image w second reply = (l : Option Basis) × IsSecond second l × ListsBy held image w l reply
+
+-- those of an image, whose root was made or not, and of which the input holds so many blocks
+abbrev pub ListsDeleted : (made : Bool) → ℕ → List ℕ → Reply → Type 0
+ListsDeleted made held image reply =
+    (w : Walk) × (fs : List FindingValue) × IsSurvey image w fs × ListsSecond held image w (second_image made image w fs) reply
+
+-- those of the image that a rescue reads of an input that is refused
+abbrev pub ListsTold : SubjectValue → Reply → Type 0
+ListsTold t reply = ListsDeleted (lacks_root t.image) t.end (pruned (opened t.image)) reply
+
+-- those of what is surveyed, once it has the type that its files say
+abbrev pub ListsTyped : SubjectValue → Reply → Type 0
+ListsTyped s reply = (t : SubjectValue) × IsTyped s t × ListsTold t reply

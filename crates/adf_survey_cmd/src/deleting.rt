@@ -1,0 +1,246 @@
+// The lines of deleted headers.
+
+ghost use Rattle.std.specs.Prelude.{◌≡◌, ◌++◌, ◌<◌, ℕ, List, IfOk, OnOk, Some, codes, false, length, option_map, true};
+ghost use Rattle.adf_base.specs.declared.dates.Stamp.{Stamp};
+ghost use Rattle.adf_blocks.specs.Sizes.{blocks};
+ghost use Rattle.adf_volume.specs.Start.{is_image_len};
+ghost use Rattle.adf_findings.specs.Survey.{OnSurvey};
+ghost use Rattle.adf_rescue.specs.Rescue.{OnSecond};
+ghost use Rattle.adf_deleted.specs.Paths.{path_of};
+ghost use Rattle.adf_texts.specs.Names.{names_text};
+ghost use Rattle.adf_texts.specs.VolumeLines.{AreDates};
+ghost use Rattle.adf_runs.specs.{Commands.on_errors, Commands.on_output, Outcomes.Does, Outcomes.DoesSilently, Streams.seen};
+ghost use Rattle.adf_survey_cmd.specs.Deletions.{ListsBy, ListsDeleted, ListsSecond, ListsTold, ListsTyped, TellsDeleted, deleted_line};
+ghost use Rattle.adf_survey_cmd.specs.Deletions.{deleted_lines, is_surveyed, line_if_deleted, state_text};
+ghost use Rattle.adf_subjects.specs.Subject.{subject_value};
+
+use adf_blocks::{HeadBody, meta_stated};
+use adf_deleted::{Deletions, Known, State, know};
+use adf_findings::{Survey, survey};
+use adf_rescue::{hung_image, lacks_root, open_image, prune_image};
+use adf_runs::{Outcome, Sink, write_all};
+use adf_subjects::Subject;
+use adf_texts::{push_head_lines, push_names, push_number};
+use adf_volume::is_image_len;
+use std::alloc::{AllocError, Global};
+
+// Appends the path of a header.
+fn push_path(
+    alloc: Global,
+    deletions: &Deletions<'_>,
+    h: u32,
+    text: &mut Vec<u8>,
+) -> Result<(), AllocError>
+    ensures { OnOk result (text.new.items ≡ text.old.items ++ names_text (path_of deletions.now.image h)) }
+{
+    let Ok(path) = deletions.path(alloc, h) else {
+        return Err(AllocError);
+    };
+    push_names(text, &path)
+}
+
+// Appends what speaks for a file.
+fn push_state(
+    alloc: Global,
+    deletions: &Deletions<'_>,
+    state: State,
+    text: &mut Vec<u8>,
+) -> Result<(), AllocError>
+    ensures { OnOk result (text.new.items ≡ text.old.items ++ state_text deletions.now.image state) }
+{
+    match state {
+        State::Whole => text.extend_from_slice(b"whole"),
+        State::Contested(rival) => {
+            text.extend_from_slice(b"contested: ")?;
+            push_path(alloc, deletions, rival, text)
+        }
+        State::Overwritten(lost, asked) => {
+            text.extend_from_slice(b"overwritten: ")?;
+            push_number(text, lost, b' ')?;
+            text.extend_from_slice(b"of ")?;
+            push_number(text, asked, b' ')?;
+            text.extend_from_slice(b"blocks")
+        }
+    }
+}
+
+// Appends the line of a deleted header.
+fn push_deleted(
+    alloc: Global,
+    deletions: &Deletions<'_>,
+    h: u32,
+    text: &mut Vec<u8>,
+) -> Result<(), AllocError>
+    requires { h < blocks deletions.now.image }
+    ensures { (date : Stamp → List ℕ) → AreDates date
+        → OnOk result (text.new.items ≡ text.old.items ++ deleted_line date deletions.now h) }
+{
+    let (Ok(state), Ok(path)) = (deletions.state(alloc, h), deletions.path(alloc, h)) else {
+        return Err(AllocError);
+    };
+    let head = deletions.header(h);
+    text.extend_from_slice(b"block ")?;
+    push_number(text, h, b':')?;
+    text.extend_from_slice(b" ")?;
+    push_state(alloc, deletions, state, text)?;
+    text.extend_from_slice(b": ")?;
+    push_head_lines(text, HeadBody::of(&head), &meta_stated(&head), &path)
+}
+
+// Appends the line of a block, if it is a deleted header.
+fn push_if_deleted(
+    alloc: Global,
+    deletions: &Deletions<'_>,
+    b: u32,
+    text: &mut Vec<u8>,
+) -> Result<(), AllocError>
+    requires { b < blocks deletions.now.image }
+    ensures { (date : Stamp → List ℕ) → AreDates date
+        → OnOk result (text.new.items ≡ text.old.items ++ line_if_deleted date deletions.now b) }
+{
+    if deletions.is_deleted(b) {
+        return push_deleted(alloc, deletions, b, text);
+    }
+    Ok(())
+}
+
+// The lines of the deleted headers.
+#[tactic(auto, using(crate::proofs::DeletedTexts::line_steps))]
+fn deleted_lines(alloc: Global, deletions: &Deletions<'_>) -> Result<Vec<u8>, AllocError>
+    ensures { (date : Stamp → List ℕ) → AreDates date
+        → IfOk result (λ text. text.items ≡ deleted_lines date deletions.now (blocks deletions.now.image)) }
+{
+    let mut text = Vec::new(alloc);
+    for b in 0..deletions.blocks() {
+        push_if_deleted(alloc, deletions, b, &mut text)?;
+    }
+    Ok(text)
+}
+
+// Writes a text.
+fn write_text<W: Sink>(text: &Vec<u8>, output: &mut W) -> Outcome
+    requires { W.has_failed output.old ≡ false }
+    ensures { Does (λ reply. reply ≡ on_output 0 text.now.items) result (seen W.held W.has_failed output.old output.new) }
+{
+    match write_all(output, text) {
+        Ok(()) => Outcome::Done,
+        Err(_) => Outcome::WriteFault,
+    }
+}
+
+// Writes the lines of the deleted headers of an image of which this is known.
+fn write_known<W: Sink>(alloc: Global, known: Known<'_>, output: &mut W) -> Outcome
+    requires { W.has_failed output.old ≡ false }
+    ensures { Does (TellsDeleted known.entry) result (seen W.held W.has_failed output.old output.new) }
+{
+    let Ok(deletions) = Deletions::of(alloc, known) else {
+        return Outcome::NoMemory;
+    };
+    match deleted_lines(alloc, &deletions) {
+        Ok(text) => write_text(&text, output),
+        Err(_) => Outcome::NoMemory,
+    }
+}
+
+// Says that an image is no volume.
+fn no_volume(alloc: Global) -> Outcome
+    ensures { DoesSilently (λ reply. reply ≡ on_errors 1 (codes "no volume\n")) result }
+{
+    match format!(in alloc; "no volume\n") {
+        Ok(line) => Outcome::Refused(line),
+        Err(_) => Outcome::NoMemory,
+    }
+}
+
+// Whether an image has an allowed size, and something of it is surveyed.
+fn is_surveyed(survey: &Survey<'_>) -> bool
+    ensures surveyed { OnSurvey survey.now.image (λ w _. result ≡ is_surveyed survey.now.image w) }
+    ensures size { result ≡ true → is_image_len (length survey.now.image) ≡ true }
+{
+    is_image_len(survey.image().len()) && survey.opening().is_some()
+}
+
+// Writes the lines of the deleted headers by the surveys of an image of which the input holds so many blocks.
+fn write_by<W: Sink>(
+    alloc: Global,
+    survey: &Survey<'_>,
+    second: Option<&Survey<'_>>,
+    held: u32,
+    output: &mut W,
+) -> Outcome
+    requires { W.has_failed output.old ≡ false }
+    ensures { OnSurvey survey.now.image (λ w _. OnSecond (option_map (λ s. s.now.image) second.entry) (λ l.
+        Does (ListsBy held survey.now.image w l) result (seen W.held W.has_failed output.old output.new))) }
+{
+    if !is_surveyed(survey) {
+        return no_volume(alloc);
+    }
+    match know(alloc, survey, second, held) {
+        Ok(known) => write_known(alloc, known, output),
+        Err(_) => Outcome::NoMemory,
+    }
+}
+
+// Writes the lines of the deleted headers by the survey of an image, and by that of its hung image.
+fn write_hung<W: Sink>(
+    alloc: Global,
+    found: &Survey<'_>,
+    hung: &[u8],
+    held: u32,
+    output: &mut W,
+) -> Outcome
+    requires { W.has_failed output.old ≡ false }
+    ensures { OnSurvey found.now.image (λ w _. Does (ListsSecond held found.now.image w (Some hung.now)) result
+        (seen W.held W.has_failed output.old output.new)) }
+{
+    let Ok(second) = survey(alloc, hung) else {
+        return Outcome::NoMemory;
+    };
+    second.whole_marks();
+    write_by(alloc, found, Some(&second), held, output)
+}
+
+// Writes the lines of the deleted headers of an image, whose root was made or not, and of which the input holds so many blocks.
+fn write_read<W: Sink>(
+    alloc: Global,
+    image: &[u8],
+    made: bool,
+    held: u32,
+    output: &mut W,
+) -> Outcome
+    requires { W.has_failed output.old ≡ false }
+    ensures { Does (ListsDeleted made held image.now) result (seen W.held W.has_failed output.old output.new) }
+{
+    let Ok(found) = survey(alloc, image) else {
+        return Outcome::NoMemory;
+    };
+    match hung_image(alloc, &found, made) {
+        Ok(Some(hung)) => write_hung(alloc, &found, &hung, held, output),
+        Ok(None) => write_by(alloc, &found, None, held, output),
+        Err(_) => Outcome::NoMemory,
+    }
+}
+
+// Writes the lines of the deleted headers of the image that a rescue reads of what is surveyed.
+fn write_typed<W: Sink>(alloc: Global, subject: Subject, output: &mut W) -> Outcome
+    requires { W.has_failed output.old ≡ false }
+    ensures { Does (ListsTold (subject_value subject)) result (seen W.held W.has_failed output.old output.new) }
+{
+    let made = lacks_root(&subject.image);
+    let held = subject.end;
+    let mut image = subject.image;
+    open_image(&mut image);
+    prune_image(&mut image);
+    write_read(alloc, &image, made, held, output)
+}
+
+/// Writes the lines of the deleted headers of what is surveyed of an input, once its image has the type that its files say.
+pub fn list_deleted<W: Sink>(alloc: Global, mut subject: Subject, output: &mut W) -> Outcome
+    requires { W.has_failed output.old ≡ false }
+    ensures { Does (ListsTyped (subject_value subject)) result (seen W.held W.has_failed output.old output.new) }
+{
+    match subject.be_typed(alloc) {
+        Ok(()) => write_typed(alloc, subject, output),
+        Err(_) => Outcome::NoMemory,
+    }
+}
