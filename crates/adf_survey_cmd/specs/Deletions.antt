@@ -14,16 +14,31 @@ use Rattle.adf_texts.specs.{RowTexts.head_lines, VolumeLines.AreDates, Names.nam
 use Rattle.adf_runs.specs.Commands.{Reply, on_errors, on_output}
 use Rattle.adf_subjects.specs.Subject.{IsTyped, SubjectValue}
 
+-- another deleted header names a block of a file
+abbrev pub contested_text : List ℕ → ℕ → List ℕ
+contested_text image r = codes "contested: " ++ names_text (path_of image r)
+
+-- so many blocks of a file do not stand, of so many
+abbrev pub overwritten_text : (lost asked : ℕ) → List ℕ
+overwritten_text lost asked = codes "overwritten: " ++ (decimal lost ++ (codes " of " ++ (decimal asked ++ codes " blocks")))
+
 -- what speaks for a file
 abbrev pub state_text : List ℕ → State → List ℕ
 state_text image Whole = codes "whole"
-state_text image (Contested r) = codes "contested: " ++ names_text (path_of image r)
-state_text image (Overwritten lost asked) = codes "overwritten: " ++ (decimal lost ++ (codes " of " ++ (decimal asked ++ codes " blocks")))
+state_text image (Contested r) = contested_text image r
+state_text image (Overwritten lost asked) = overwritten_text lost asked
 
--- the line of a deleted header: its block, what speaks for it, and what it states, as in the lines of what is found
+-- a block in front of what is said of it
+abbrev pub block_text : ℕ → List ℕ
+block_text b = codes "block " ++ (decimal b ++ codes ": ")
+
+-- what header h says, as in the lines of what is found
+abbrev pub header_line : (Stamp → List ℕ) → List ℕ → ℕ → List ℕ
+header_line date image h = head_lines date (path_of image h) (body_at (block image h)) (meta_stated (block image h))
+
+-- the line of a deleted header: its block, what speaks for it, and what it says
 abbrev pub deleted_line : (Stamp → List ℕ) → KnownValue → ℕ → List ℕ
-deleted_line date k h = codes "block " ++ (decimal h ++ (codes ": " ++ (state_text k.image (state_of k h) ++ (codes ": "
-    ++ head_lines date (path_of k.image h) (body_at (block k.image h)) (meta_stated (block k.image h))))))
+deleted_line date k h = block_text h ++ (state_text k.image (state_of k h) ++ (codes ": " ++ header_line date k.image h))
 
 -- the line of block b, if it is a deleted header
 abbrev pub line_if_deleted : (Stamp → List ℕ) → KnownValue → ℕ → List ℕ

@@ -10,8 +10,8 @@ ghost use Rattle.adf_deleted.specs.Paths.{path_of};
 ghost use Rattle.adf_texts.specs.Names.{names_text};
 ghost use Rattle.adf_texts.specs.VolumeLines.{AreDates};
 ghost use Rattle.adf_runs.specs.{Commands.on_errors, Commands.on_output, Outcomes.Does, Outcomes.DoesSilently, Streams.seen};
-ghost use Rattle.adf_survey_cmd.specs.Deletions.{ListsBy, ListsDeleted, ListsSecond, ListsTold, ListsTyped, TellsDeleted, deleted_line};
-ghost use Rattle.adf_survey_cmd.specs.Deletions.{deleted_lines, is_surveyed, line_if_deleted, state_text};
+ghost use Rattle.adf_survey_cmd.specs.Deletions.{ListsBy, ListsDeleted, ListsSecond, ListsTold, ListsTyped, TellsDeleted, deleted_line, state_text};
+ghost use Rattle.adf_survey_cmd.specs.Deletions.{block_text, contested_text, deleted_lines, header_line, is_surveyed, line_if_deleted, overwritten_text};
 ghost use Rattle.adf_subjects.specs.Subject.{subject_value};
 
 use adf_blocks::{HeadBody, meta_stated};
@@ -39,6 +39,30 @@ fn push_path(
     push_names(text, &path)
 }
 
+// Appends that another header names a block of a file.
+fn push_contested(
+    alloc: Global,
+    deletions: &Deletions<'_>,
+    rival: u32,
+    text: &mut Vec<u8>,
+) -> Result<(), AllocError>
+    ensures { OnOk result (text.new.items ≡ text.old.items ++ contested_text deletions.now.image rival) }
+{
+    text.extend_from_slice(b"contested: ")?;
+    push_path(alloc, deletions, rival, text)
+}
+
+// Appends how many blocks of a file do not stand.
+fn push_overwritten(text: &mut Vec<u8>, lost: u32, asked: u32) -> Result<(), AllocError>
+    ensures { OnOk result (text.new.items ≡ text.old.items ++ overwritten_text lost asked) }
+{
+    text.extend_from_slice(b"overwritten: ")?;
+    push_number(text, lost, b' ')?;
+    text.extend_from_slice(b"of ")?;
+    push_number(text, asked, b' ')?;
+    text.extend_from_slice(b"blocks")
+}
+
 // Appends what speaks for a file.
 fn push_state(
     alloc: Global,
@@ -50,18 +74,36 @@ fn push_state(
 {
     match state {
         State::Whole => text.extend_from_slice(b"whole"),
-        State::Contested(rival) => {
-            text.extend_from_slice(b"contested: ")?;
-            push_path(alloc, deletions, rival, text)
-        }
-        State::Overwritten(lost, asked) => {
-            text.extend_from_slice(b"overwritten: ")?;
-            push_number(text, lost, b' ')?;
-            text.extend_from_slice(b"of ")?;
-            push_number(text, asked, b' ')?;
-            text.extend_from_slice(b"blocks")
-        }
+        State::Contested(rival) => push_contested(alloc, deletions, rival, text),
+        State::Overwritten(lost, asked) => push_overwritten(text, lost, asked),
     }
+}
+
+// Appends a block in front of what is said of it.
+fn push_block(text: &mut Vec<u8>, b: u32) -> Result<(), AllocError>
+    ensures { OnOk result (text.new.items ≡ text.old.items ++ block_text b) }
+{
+    text.extend_from_slice(b"block ")?;
+    push_number(text, b, b':')?;
+    text.extend_from_slice(b" ")
+}
+
+// Appends what a header says, as `list` writes it of an entry.
+fn push_header(
+    alloc: Global,
+    deletions: &Deletions<'_>,
+    h: u32,
+    text: &mut Vec<u8>,
+) -> Result<(), AllocError>
+    requires { h < blocks deletions.now.image }
+    ensures { (date : Stamp → List ℕ) → AreDates date
+        → OnOk result (text.new.items ≡ text.old.items ++ header_line date deletions.now.image h) }
+{
+    let Ok(path) = deletions.path(alloc, h) else {
+        return Err(AllocError);
+    };
+    let head = deletions.header(h);
+    push_head_lines(text, HeadBody::of(&head), &meta_stated(&head), &path)
 }
 
 // Appends the line of a deleted header.
@@ -75,16 +117,13 @@ fn push_deleted(
     ensures { (date : Stamp → List ℕ) → AreDates date
         → OnOk result (text.new.items ≡ text.old.items ++ deleted_line date deletions.now h) }
 {
-    let (Ok(state), Ok(path)) = (deletions.state(alloc, h), deletions.path(alloc, h)) else {
+    let Ok(state) = deletions.state(alloc, h) else {
         return Err(AllocError);
     };
-    let head = deletions.header(h);
-    text.extend_from_slice(b"block ")?;
-    push_number(text, h, b':')?;
-    text.extend_from_slice(b" ")?;
+    push_block(text, h)?;
     push_state(alloc, deletions, state, text)?;
     text.extend_from_slice(b": ")?;
-    push_head_lines(text, HeadBody::of(&head), &meta_stated(&head), &path)
+    push_header(alloc, deletions, h, text)
 }
 
 // Appends the line of a block, if it is a deleted header.

@@ -15,8 +15,10 @@ pub returns-in-Ok : goal.returns-in-Ok
 returns-in-Ok g c = λ w fs survey l second.
     let image = c.args.survey.now.image in
     does_weaker (TellsDeleted c.in-Ok.known) (ListsBy c.args.held image w l)
-    (λ reply told. inr (sym (c.is_surveyed.ensures.surveyed w fs survey) ∙ c.if-not-is_surveyed.false,
-    subst (λ k. TellsDeleted k reply) (c.in-Ok.ensures w fs survey l second) told)) c.write_known.ensures
+    (λ reply told. inr (
+      sym (c.is_surveyed.ensures.surveyed w fs survey) ∙ c.if-not-is_surveyed.false,
+      subst (λ k. TellsDeleted k reply) (c.in-Ok.ensures w fs survey l second) told,
+    )) c.write_known.ensures
 
 pub returns-in-Err : goal.returns-in-Err
 returns-in-Err g c = λ w fs survey l second. silently c.requires nothing_done

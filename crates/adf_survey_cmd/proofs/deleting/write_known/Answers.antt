@@ -10,7 +10,7 @@ pub returns-in-Ok-deleted_lines : goal.returns-in-Ok-deleted_lines
 returns-in-Ok-deleted_lines g c =
     let k = c.args.known in
     let lines : c.in-Ok-deleted_lines.text.items ≡ deleted_lines date_of k (blocks k.image) =
-        rw (c.in-Ok.ensures) at (c.in-Ok-deleted_lines.ensures date_of date_of_is) in
+    rw (c.in-Ok.ensures) at (c.in-Ok-deleted_lines.ensures date_of date_of_is) in
     does_weaker (λ reply. reply ≡ on_output 0 c.in-Ok-deleted_lines.text.items) (TellsDeleted k)
     (λ reply e. (date_of, date_of_is, e ∙ ap (on_output 0) lines)) c.write_text.ensures
 
