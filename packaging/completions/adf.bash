@@ -86,7 +86,7 @@ _adf_files() {
         adf-recipe:-*) COMPREPLY=($(compgen -W "--blocks --strict -h --help --version" -- "$2")) ;;
         fsck.affs:-*) COMPREPLY=($(compgen -W "-a -f -n -p -v -y --help --version" -- "$2")) ;;
         mkfs.affs:-*) COMPREPLY=($(compgen -W "-L -n -t -v -h --help --version" -- "$2")) ;;
-        mkfs.affs:*) [[ $3 != -t ]] || COMPREPLY=($(compgen -W "ofs ffs" -- "$2")) ;;
+        mkfs.affs:*) [[ $3 != -t ]] || COMPREPLY=($(compgen -W "ofs ffs ofs-international ffs-international" -- "$2")) ;;
         *:-*) COMPREPLY=($(compgen -W "-h --help --version" -- "$2")) ;;
         adf-pack:*) ((COMP_CWORD > 1)) || COMPREPLY=($(compgen -W "ofs ffs ofs-international ffs-international" -- "$2")) ;;
     esac
