@@ -55,11 +55,11 @@ _adf_boot() {
 _adf_files() {
     case $1:${COMP_WORDS[1]}:$2 in
         adf-catalogue:export:-*)
-            COMPREPLY=($(compgen -W "--sha256 --premis --dfxml --bagit -h --help --version" -- "$2"))
+            COMPREPLY=($(compgen -W "--sha256 --premis --dfxml --report --bagit -h --help --version" -- "$2"))
             return
             ;;
         adf-catalogue:scan:-*)
-            COMPREPLY=($(compgen -W "--index-text --fresh -h --help --version" -- "$2"))
+            COMPREPLY=($(compgen -W "--index-text --fresh --names -h --help --version" -- "$2"))
             return
             ;;
         adf-catalogue:merge:-*)
