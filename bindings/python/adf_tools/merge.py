@@ -90,7 +90,7 @@ def scan_line() -> argparse.ArgumentParser:
     parser.add_argument("out", metavar="DATABASE", help="the database of the part, which is created or brought up to date")
     parser.add_argument("--index-text", action="store_true", help="keep the contents of text files too")
     parser.add_argument("--fresh", action="store_true", help="read all files again, not only those that have changed")
-    parser.add_argument("--names", metavar="LIST", help="do not list the folder: LIST has the names of its files, as find FOLDER/ ! -type d -print0 writes them")
+    parser.add_argument("--names", metavar="LIST", help="do not list the folder: LIST has the names of its files, of find FOLDER/ ! -type d -print0")
     return parser
 
 

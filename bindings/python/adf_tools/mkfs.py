@@ -166,7 +166,8 @@ def work(words: argparse.Namespace) -> int:
 def main() -> None:
     line = command_line(PROGRAM, "Makes an empty volume of an Amiga on a file or a block device. What was there is lost.")
     line.add_argument("-L", dest="label", metavar="LABEL", help="the name of the volume")
-    line.add_argument("-t", dest="kind", metavar="KIND", choices=adf.TYPES, default="ffs", help=f"the kind of the volume, {', '.join(adf.TYPES)}; without it ffs")
+    kinds = ", ".join(adf.TYPES)
+    line.add_argument("-t", dest="kind", metavar="KIND", choices=adf.TYPES, default="ffs", help=f"the kind of the volume, {kinds}; without it ffs")
     line.add_argument("-n", dest="dry", action="store_true", help="write nothing, and say what would be made")
     line.add_argument("-v", dest="verbose", action="store_true", help="say what was made")
     line.add_argument("device", metavar="DEVICE", help="a block device or a file, which keeps its size")

@@ -3,7 +3,7 @@
 from __future__ import annotations
 
 import sqlite3
-from typing import Dict, Iterator, List, Tuple
+from typing import Dict, Iterator, Sequence, Tuple
 
 from adf_tools.advice import GROUPS, SOUND, Advice
 from adf_tools.image_pages import lost_text
@@ -81,7 +81,7 @@ class Report:
         return long_table(group.title, ("Image", "Verdict", "Lost"), map(image_row, rows), count, list_name(group_list(group), 1))
 
 
-def counted(name: str, heads: Tuple[str, ...], rows: List[Tuple[object, ...]]) -> Html:
+def counted(name: str, heads: Tuple[str, ...], rows: Sequence[Tuple[object, ...]]) -> Html:
     """A table of counts, where there is anything to be counted."""
     kinds = "text", "number", "text"
     lines = (joined(cell(shown(value), kind) for value, kind in zip(row, kinds)) for row in rows)

@@ -198,7 +198,8 @@ class Export(Asked):
             connection.execute("UPDATE facts SET value = '</title><script>' WHERE name = 'title'")
             connection.execute("UPDATE images SET name = '<b>' || CHAR(27) || 'a.adf' WHERE name = 'games/bad.adf'")
             connection.execute("UPDATE images SET advice = 'nothing that is known' WHERE name = 'tools.adf'")
-            line = "INSERT INTO images (file, name, number, advice, verdict, dirs, files, lost) SELECT file, ?, 0, 'read again', 'x', 1, 1, ? FROM images LIMIT 1"
+            line = """INSERT INTO images (file, name, number, advice, verdict, dirs, files, lost)
+                SELECT file, ?, 0, 'read again', 'x', 1, 1, ? FROM images LIMIT 1"""
             connection.executemany(line, [(f"more{number}.adf", number) for number in range(1, 61)])
         page = self.exported("report", "out").decode()
         self.assertNotIn("<script", page)
