@@ -163,7 +163,7 @@ class Export(Asked):
         self.refused(1, "1 file of the catalogue not there: tools.adf", "catalogue", "export", "--bagit", "bag", "out")
         self.assertFalse(os.path.exists("bag"))
 
-    def test_has_python3_bagit_look_at_a_bag(self):
+    def test_has_the_module_bagit_look_at_a_bag(self):
         seen = []
 
         class Bag:
