@@ -51,7 +51,7 @@ def names_in(path: str, folder: bytes) -> Names:
         stop(FAILED, f"{host_text(path)}: its last name does not end in a NUL: find -print0 writes such names")
     other = next((each for each in paths if not is_below(each, folder)), None)
     if other is not None:
-        stop(FAILED, f"{host_text(path)}: {host_text(other)} is not below {host_text(folder)}")
+        stop(FAILED, f"{host_text(path)}: {host_text(other) or 'an empty name'} is not below {host_text(folder)}")
     return Names(paths, hashlib.sha256(content).hexdigest())
 
 

@@ -63,7 +63,7 @@ class Machines(Asked):
         for content, told in (
             (b"disks/tools.adf", "its last name does not end in a NUL"), (b"disks/tools.adf\0/etc/passwd\0", "/etc/passwd is not below disks"),
             (b"disks/../outside.adf\0", "disks/../outside.adf is not below disks"), (b"disks/./a\0", "not below"), (b"disks//a\0", "not below"),
-            (b"disksa\0", "not below"), (b"\0", "not below"), (b"a\nb\0", "a\\x0ab is not below disks"),
+            (b"disksa\0", "not below"), (b"\0", "an empty name is not below disks"), (b"a\nb\0", "a\\x0ab is not below disks"),
         ):  # fmt: skip
             written("list", content)
             self.refused(3, told, "catalogue", "scan", "--names", "list", "1/1", "disks", "part")
