@@ -55,11 +55,11 @@ _adf_boot() {
 _adf_files() {
     case $1:${COMP_WORDS[1]}:$2 in
         adf-catalogue:export:-*)
-            COMPREPLY=($(compgen -W "--sha256 --premis --dfxml --bagit -h --help --version" -- "$2"))
+            COMPREPLY=($(compgen -W "--sha256 --premis --dfxml --report --bagit -h --help --version" -- "$2"))
             return
             ;;
         adf-catalogue:scan:-*)
-            COMPREPLY=($(compgen -W "--index-text --fresh -h --help --version" -- "$2"))
+            COMPREPLY=($(compgen -W "--index-text --fresh --names -h --help --version" -- "$2"))
             return
             ;;
         adf-catalogue:merge:-*)
@@ -86,7 +86,7 @@ _adf_files() {
         adf-recipe:-*) COMPREPLY=($(compgen -W "--blocks --strict -h --help --version" -- "$2")) ;;
         fsck.affs:-*) COMPREPLY=($(compgen -W "-a -f -n -p -v -y --help --version" -- "$2")) ;;
         mkfs.affs:-*) COMPREPLY=($(compgen -W "-L -n -t -v -h --help --version" -- "$2")) ;;
-        mkfs.affs:*) [[ $3 != -t ]] || COMPREPLY=($(compgen -W "ofs ffs" -- "$2")) ;;
+        mkfs.affs:*) [[ $3 != -t ]] || COMPREPLY=($(compgen -W "ofs ffs ofs-international ffs-international" -- "$2")) ;;
         *:-*) COMPREPLY=($(compgen -W "-h --help --version" -- "$2")) ;;
         adf-pack:*) ((COMP_CWORD > 1)) || COMPREPLY=($(compgen -W "ofs ffs ofs-international ffs-international" -- "$2")) ;;
     esac
