@@ -128,9 +128,9 @@ class History:
         parent = self.dice.choice(self.dirs())
         thing = v.unlinked(parent, self.name_in(parent), content)
         if self.dice.random() < 0.5:
-            v.limbo.append(Ghost(thing))
+            v.limbo.append(Ghost(thing, v.image, v.kind))
             return
-        whole = Ghost(thing)
+        whole = Ghost(thing, v.image, v.kind)
         v.limbo.append(whole)
         thing.exts, thing.datas, thing.content = [], [], b""
         v.head(thing)

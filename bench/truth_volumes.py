@@ -56,11 +56,12 @@ class Thing:
 
 
 class Ghost:
-    """What was deleted: its path then, its bytes and its words."""
+    """What was deleted: its path then, its bytes, and its blocks as they were in the image."""
 
-    def __init__(self, thing: Thing) -> None:
+    def __init__(self, thing: Thing, image: bytearray, kind: int) -> None:
         self.path, self.content, self.header = thing.path(), thing.content, thing.header
-        self.blocks, self.datas = thing.blocks(), list(thing.datas)
+        self.blocks, self.datas, self.kind = thing.blocks(), list(thing.datas), kind
+        self.stood = {b: bytes(image[512 * b : 512 * b + 512]) for b in self.blocks}
 
 
 class Volume:
@@ -70,10 +71,11 @@ class Volume:
         self.dice, self.blocks, self.root = dice, blocks, blocks // 2
         self.image = bytearray(self.filled(dice.choice(["zeros", "zeros", "counted", "noise"])))
         self.ghosts: List[Ghost] = []
+        self.former: Set[int] = set()
         self.limbo: List[Ghost] = []
         self.clock, self.fit = 3000 + dice.randrange(3000), dice.choice(["rover", "first"])
         self.deletes, self.links = "amiga", "amiga"
-        self.tree = Thing(b"", None, self.root)
+        self.tree, self.kind = Thing(b"", None, self.root), kind
         self.format(kind)
 
     def filled(self, how: str) -> bytes:
@@ -112,13 +114,14 @@ class Volume:
 
     def format(self, kind: int) -> None:
         """An empty volume of this type; what was on the disk stays in its blocks, as a quick format leaves it."""
-        self.ghosts += [Ghost(thing) for thing in self.tree.below()]
+        self.ghosts += [Ghost(thing, self.image, self.kind) for thing in self.tree.below()]
         self.kind, self.international, self.cached = kind, kind >= 2, kind >= 4
         self.chunk = 512 if kind % 2 else 488
         pages = -(-(self.blocks - 2) // PAGE_BITS)
         maps = max(0, -(-(pages - ROOT_PAGES) // MAP_PAGES))
         places = self.places(pages + maps)
         self.pages, self.maps = places[:pages], places[pages:]
+        self.former.update(places)
         self.used: Set[int] = {self.root, *self.pages, *self.maps}
         self.rover, self.tree = self.root, Thing(b"", None, self.root)
         self.image[:1024] = b"DOS" + bytes([kind]) + bytes(1020)
@@ -315,7 +318,7 @@ class Volume:
 
     def rewrite(self, thing: Thing, content: bytes) -> None:
         """Other content: the header stays, its old blocks are free first."""
-        self.ghosts.append(Ghost(thing))
+        self.ghosts.append(Ghost(thing, self.image, self.kind))
         self.used -= {*thing.exts, *thing.datas}
         thing.exts, thing.datas, thing.content = [], [], content
         self.image[512 * thing.header + 24 : 512 * thing.header + 312] = bytes(288)
@@ -336,7 +339,7 @@ class Volume:
 
     def remove(self, thing: Thing) -> None:
         """A file or an empty directory is deleted: out of its chain, its blocks free, what is in them stays."""
-        self.ghosts.append(Ghost(thing))
+        self.ghosts.append(Ghost(thing, self.image, self.kind))
         self.unlink(thing)
         self.used -= set(thing.blocks())
         if self.deletes == "adflib" and not thing.is_dir:
@@ -351,7 +354,7 @@ class Volume:
                 self.remove_tree(child, False)
         else:
             for child in thing.below():
-                self.ghosts.append(Ghost(child))
+                self.ghosts.append(Ghost(child, self.image, self.kind))
                 self.used -= set(child.blocks())
         self.remove(thing)
 

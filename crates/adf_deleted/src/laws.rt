@@ -1,0 +1,29 @@
+// The laws of deleted files. Each is the contract of a function that does nothing at run time.
+
+ghost use Rattle.std.specs.Prelude.{◌≡◌, ◌≢◌, ◌<◌, ℕ, List, Option, false, length, slice_index, true};
+ghost use Rattle.adf_names.specs.declared.kind.Kind.TheVariants.{Ffs};
+ghost use Rattle.adf_volume.specs.Image.{kind_of};
+ghost use Rattle.adf_findings.specs.Members.{has_mark};
+ghost use Rattle.adf_deleted.specs.{Claims.has_pointer, Deletions.state_of, Known.KnownValue, Known.is_deleted};
+ghost use Rattle.adf_deleted.specs.Known.{is_reached, known_of};
+ghost use Rattle.adf_rescue.specs.Rescue.{Basis};
+ghost use Rattle.adf_volume.specs.Walk.{Walk};
+ghost use Rattle.adf_deleted.specs.{Pointers.blocks_asked, Pointers.pointers, Standing.stands};
+ghost use Rattle.adf_deleted.specs.declared.deletions.State.TheVariants.{Whole};
+
+/// A whole file has all the blocks that its size needs, each stands, and no survey has one of them: so none is a block of what a
+/// directory leads to, or of what a rescue finds again. On FFS no other deleted header names one of them.
+#[tactic(auto, using(crate::proofs::WholeFiles::whole_named, crate::proofs::WholeFiles::whole_stands))]
+pub fn whole_files_lie_apart()
+    ensures named { (k : KnownValue) (h : ℕ) → state_of k h ≡ Whole
+        → length (pointers k.image h) ≡ blocks_asked k.image h }
+    ensures stands { (k : KnownValue) (h i : ℕ) → state_of k h ≡ Whole → i < length (pointers k.image h)
+        → stands k h i (slice_index (pointers k.image h) i) ≡ true }
+    ensures unreached { (k : KnownValue) (h i : ℕ) → state_of k h ≡ Whole → i < length (pointers k.image h)
+        → has_mark k.reached (slice_index (pointers k.image h) i) ≡ false }
+    ensures unowned { (image : List ℕ) (w : Walk) (l : Option Basis) (held h i : ℕ) → state_of (known_of image w l held) h ≡ Whole
+        → i < length (pointers image h) → is_reached w l (slice_index (pointers image h) i) ≡ false }
+    ensures alone { (k : KnownValue) (h g i : ℕ) → state_of k h ≡ Whole → kind_of k.image ≡ Ffs
+        → is_deleted k h ≡ true → is_deleted k g ≡ true → g ≢ h → i < length (pointers k.image h)
+        → has_pointer (pointers k.image g) (slice_index (pointers k.image h) i) ≡ false }
+{}

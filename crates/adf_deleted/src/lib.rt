@@ -1,0 +1,15 @@
+//! Deleted headers: those that say of themselves that they are one and that no survey has, and what stands of their files.
+#![tactic(auto)]
+
+mod claims;
+mod deletions;
+mod extensions;
+mod known;
+mod laws;
+mod paths;
+mod pointers;
+mod standing;
+
+pub use crate::deletions::{Deletions, State};
+pub use crate::known::{Known, know};
+pub use crate::laws::whole_files_lie_apart;
