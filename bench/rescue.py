@@ -14,7 +14,7 @@ from struct import pack_into, unpack_from
 from typing import NamedTuple
 
 sys.dont_write_bytecode = True
-from survey import DIR, FILE, LINKS, PAGE_BITS, POINTERS, ROOT_PAGES, SLOTS, Survey, page, slot, spelled
+from survey import DIR, FILE, LINKS, PAGE_BITS, POINTERS, ROOT_PAGES, SLOTS, Survey, page, slot, spelled, upper
 
 KIND_TEXTS = ("ofs", "ffs", "ofs-international", "ffs-international")
 HARMLESS = {"bad name", "bad comment", "wrong slot", "bad first", "same name"}
@@ -37,10 +37,6 @@ def put(image, b, i, value):
 
 def is_name(name):
     return 1 <= len(name) <= 30 and not {47, 58} & set(name)
-
-
-def upper(name):
-    return bytes(c - 32 if 97 <= c <= 122 else c for c in name)
 
 
 # The boot blocks
@@ -327,6 +323,19 @@ class Lost:
             return self.is_open(p) or self.is_used(b)
         return self.is_vacant(p) or 2 <= p < self.blocks and p not in self.sv.owner and p != self.sv.root and says_dir(self.image, p)
 
+    def outranked(self, survey):
+        """The headers of a survey that are free, while a header of a later date with the name and the directory of each is in use."""
+
+        def place(b):
+            return words(survey.image, b)[125], upper(survey.text(b, 432), False)
+
+        free = [h for h in map(survey.block_of, range(1, len(survey.nodes))) if self.is_free(h) and is_name(survey.text(h, 432))]
+        latest = {}
+        for b in range(2, self.blocks if free else 2):
+            if says_header(survey.image, b) and self.is_free(b) == 0 and is_name(survey.text(b, 432)):
+                latest[place(b)] = max(latest.get(place(b), ()), words(survey.image, b)[105:108])
+        return {h for h in free if words(survey.image, h)[105:108] < latest.get(place(h), ())}
+
     def hung(self):
         image, r, lost = bytearray(self.image), self.sv.root, set(self.lost)
         named = [words(self.image, b)[125] for b in self.lost]
@@ -424,9 +433,9 @@ class Rescue:
         pages = -(-(self.blocks - 2) // PAGE_BITS)
         self.left = self.blocks - 2 - 1 - pages - max(0, -(-(pages - 25) // 127))
         self.root, self.added, self.kept, self.kept_heads = Node((), None, None), [], set(), {True: set(), False: set()}
+        self.first = Lost(survey, self.root_made)
         places = self.take(survey, {survey.root: self.root})
         known = {survey.block_of(n): places.get(survey.block_of(n)) for n in range(len(survey.nodes))}
-        self.first = Lost(survey, self.root_made)
         self.lost = self.first.lost
         surveys = [survey]
         if self.lost and self.findings:
@@ -473,7 +482,7 @@ class Rescue:
     def take(self, survey, known):
         """Adds what stands of a survey; answers the places of its directories, by their blocks. Known blocks are passed by."""
         places, kept = dict(known), set()
-        bad = self.not_whole(survey)
+        bad, self.outranked = self.not_whole(survey), self.first.outranked(survey)
         for n in range(1, len(survey.nodes)):
             h, p = survey.block_of(n), survey.block_of(survey.nodes[n][2])
             if h in known:
@@ -535,8 +544,8 @@ class Rescue:
         return b"".join(out)
 
     def add(self, survey, h, parent, content):
-        for name in (survey.text(h, 432), b"lost-%d" % h):
-            if is_name(name) and upper(name) not in parent.index:
+        for name in (survey.text(h, 432), b"lost-%d" % h)[h in self.outranked :]:
+            if is_name(name) and upper(name, False) not in parent.index:
                 break
         else:
             return None
@@ -547,7 +556,7 @@ class Rescue:
         self.left -= cost
         w = words(survey.image, h)
         node = Node((*parent.path, name), (survey.text(h, 328)[:79], w[80], w[105:108]), content)
-        parent.index[upper(name)] = node
+        parent.index[upper(name, False)] = node
         self.added.append(node)
         return node
 

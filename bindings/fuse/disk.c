@@ -74,14 +74,14 @@ static unsigned long reserved_of(int file, const struct adf_partition *partition
     return (unsigned long)word[0] << 24 | (unsigned long)word[1] << 16 | (unsigned long)word[2] << 8 | word[3];
 }
 
-/* Why a partition cannot be read, as `adf-disk check` says it, or an empty text. Of the one that is wanted a type, and fields that are
- * not about its place, are left to the check of its volume. */
+/* Why a partition cannot be read, as `adf-disk check` says it, or an empty text. A type of 0 says nothing. Of the one that is wanted a
+ * type, and fields that are not about its place, are left to the check of its volume. */
 static void why_unread(int file, const struct adf_partition *partition, bool is_chosen, char why[LONGEST_TEXT]) {
     unsigned long reserved = reserved_of(file, partition);
     uint8_t type[4] = {partition->dos_type >> 24 & 255, partition->dos_type >> 16 & 255, partition->dos_type >> 8 & 255,
                        partition->dos_type & 255};
     *why = '\0';
-    if (!is_chosen && (partition->dos_type < DOS || partition->dos_type > DOS + MOST_TYPE))
+    if (!is_chosen && partition->dos_type != 0 && (partition->dos_type < DOS || partition->dos_type > DOS + MOST_TYPE))
         show_text(type, sizeof type, stpcpy(why, "type "));
     else if (partition->blocks == 0 || (!is_chosen && partition->fault != ADF_PARTITION_SOUND))
         why[adf_partition_fault_text(partition->fault, (uint8_t *)why, LONGEST_TEXT - 1)] = '\0';

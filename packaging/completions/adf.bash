@@ -39,6 +39,8 @@ _adf_disk() {
         compopt -o default
     elif ((COMP_CWORD == 1)); then
         COMPREPLY=($(compgen -W "list check survey volume build --help --version" -- "$2"))
+    elif [[ $2 == -* && ${COMP_WORDS[1]} == @(list|check|survey) ]]; then
+        COMPREPLY=($(compgen -W "--json" -- "$2"))
     elif [[ ${COMP_WORDS[1]} != volume ]] || ((COMP_CWORD > 2)); then
         compopt -o default
     fi
@@ -55,11 +57,11 @@ _adf_boot() {
 _adf_files() {
     case $1:${COMP_WORDS[1]}:$2 in
         adf-catalogue:export:-*)
-            COMPREPLY=($(compgen -W "--sha256 --premis --dfxml --bagit -h --help --version" -- "$2"))
+            COMPREPLY=($(compgen -W "--sha256 --premis --dfxml --report --bagit -h --help --version" -- "$2"))
             return
             ;;
         adf-catalogue:scan:-*)
-            COMPREPLY=($(compgen -W "--index-text --fresh -h --help --version" -- "$2"))
+            COMPREPLY=($(compgen -W "--index-text --fresh --names -h --help --version" -- "$2"))
             return
             ;;
         adf-catalogue:merge:-*)
@@ -86,7 +88,7 @@ _adf_files() {
         adf-recipe:-*) COMPREPLY=($(compgen -W "--blocks --strict -h --help --version" -- "$2")) ;;
         fsck.affs:-*) COMPREPLY=($(compgen -W "-a -f -n -p -v -y --help --version" -- "$2")) ;;
         mkfs.affs:-*) COMPREPLY=($(compgen -W "-L -n -t -v -h --help --version" -- "$2")) ;;
-        mkfs.affs:*) [[ $3 != -t ]] || COMPREPLY=($(compgen -W "ofs ffs" -- "$2")) ;;
+        mkfs.affs:*) [[ $3 != -t ]] || COMPREPLY=($(compgen -W "ofs ffs ofs-international ffs-international" -- "$2")) ;;
         *:-*) COMPREPLY=($(compgen -W "-h --help --version" -- "$2")) ;;
         adf-pack:*) ((COMP_CWORD > 1)) || COMPREPLY=($(compgen -W "ofs ffs ofs-international ffs-international" -- "$2")) ;;
     esac

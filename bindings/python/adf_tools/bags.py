@@ -21,7 +21,7 @@ NEW_FILE = os.O_WRONLY | os.O_CREAT | os.O_EXCL | os.O_NOFOLLOW | os.O_CLOEXEC
 
 
 def bagit_module() -> Optional[Any]:
-    """Debian's python3-bagit, if it is there."""
+    """Python's module bagit, if it is there."""
     try:
         return importlib.import_module("bagit")
     except ImportError:
@@ -88,7 +88,7 @@ def payload(bag: str, found: Sequence[File], known: Dict[str, str]) -> tuple[Lis
 
 
 def write(path: str, found: Sequence[File], known: Dict[str, str], totals: Dict[str, int]) -> None:
-    """Makes a bag of files whose checksums are known, and has python3-bagit look at it, if that is there."""
+    """Makes a bag of files whose checksums are known, and has the module bagit look at it, if that is there."""
     missing = sorted(set(known) - {file.name for file in found})
     if missing:
         stop(REFUSED, f"{count_of(len(missing), 'file')} of the catalogue not there: {host_text(missing[0])}")

@@ -6,7 +6,7 @@ import os
 import stat
 import sys
 from collections import Counter
-from typing import BinaryIO, Callable, Container, Iterator
+from typing import BinaryIO, Callable, Container, Iterable, Iterator
 
 from adf_tools.archives import (
     DMS, ENDINGS, FAULTS, GZIP, IMAGES, NO_FILE, Image, begins_as_volume, fault_of, form_named, images_in_archive, is_image, members_of, unforeseen, unread)
@@ -15,7 +15,7 @@ from adf_tools.names import host_letters
 from adf_tools.program import WORKING
 from adf_tools.trees import Identity
 
-__all__ = ["ARCHIVES", "Image", "fault_of", "files_below", "images_in", "kind_of", "kinds_passed", "opened", "unforeseen", "unread"]
+__all__ = ["ARCHIVES", "Image", "fault_of", "files_below", "files_named", "images_in", "is_below", "kind_of", "kinds_passed", "opened", "unforeseen", "unread"]
 ARCHIVES = tuple(ending for endings in ENDINGS.values() for ending in endings)
 LONGEST_KIND, NO_KIND, LINK = 16, "no ending", "link to a folder"
 FILE = os.O_RDONLY | os.O_NONBLOCK | os.O_NOCTTY | os.O_CLOEXEC
@@ -97,6 +97,28 @@ def files_below(
             if wants(path):
                 found.append(path)
     return sorted(found)
+
+
+def is_below(path: bytes, folder: bytes) -> bool:
+    """Whether a path leads below a folder, by its words."""
+    begin = os.path.join(folder, b"")
+    return path.startswith(begin) and not {b"", b".", b".."} & set(path[len(begin) :].split(b"/"))
+
+
+def files_named(
+    names: Iterable[bytes], note: Callable[[bytes, str], None] = passed_by, wants: Callable[[bytes], bool] = every
+) -> list[bytes]:
+    """Of these paths those of files that can have images, each once; of all others but folders the path and the kind are noted."""
+    found: list[bytes] = []
+    for path in sorted(set(filter(wants, names))):
+        if os.path.isdir(path):
+            if os.path.islink(path):
+                note(path, LINK)
+        elif is_candidate(path):
+            found.append(path)
+        else:
+            note(path, kind_of(os.path.basename(path)))
+    return found
 
 
 def kind_of(name: bytes) -> str:

@@ -1,4 +1,5 @@
-"""adf-catalogue export: what a catalogue has, in the forms of archives: a list for sha256sum, PREMIS, DFXML, and a bag (BagIt)."""
+"""adf-catalogue export: what a catalogue has, in the forms of archives: a list for sha256sum, PREMIS, DFXML, and a bag (BagIt); and as a
+page for print."""
 
 from __future__ import annotations
 
@@ -17,6 +18,7 @@ from adf_tools.advice import TITLES
 from adf_tools.image_pages import lost_text
 from adf_tools.names import bytes_of
 from adf_tools.program import command_line
+from adf_tools.report import Report
 from adf_tools.verify import files_in, folder_of
 
 PREMIS, XSI = "http://www.loc.gov/premis/v3", "http://www.w3.org/2001/XMLSchema-instance"
@@ -279,6 +281,8 @@ def work(words: argparse.Namespace) -> int:
             bags.write(words.bagit, found, known, totals(connection))
         elif words.sha256:
             write_sums(connection, sys.stdout.buffer)
+        elif words.report:
+            sys.stdout.buffer.write(Report(connection, totals(connection)).page().encode("utf-8"))
         else:
             writer: Any = Premis if words.premis else Dfxml
             writer(connection, sys.stdout.buffer).write()
@@ -292,6 +296,7 @@ def line() -> argparse.ArgumentParser:
     form.add_argument("--premis", action="store_true", help="PREMIS 3: each file with its checksums, and what was found of its images")
     form.add_argument("--dfxml", action="store_true", help="DFXML: each image, and the entries in it with their checksums")
     form.add_argument("--bagit", metavar="BAG", help="make a bag (BagIt) of the files in a new folder")
+    form.add_argument("--report", action="store_true", help="a page for print: the totals, and the images that want something done")
     parser.add_argument("out", metavar="OUT", help="the catalogue")
     parser.add_argument("folder", metavar="FOLDER", nargs="?", help="the images, for a bag, if they are no longer where they were read last")
     return parser

@@ -4,6 +4,7 @@ from __future__ import annotations
 
 import argparse
 import contextlib
+import hashlib
 import os
 import re
 import sqlite3
@@ -12,12 +13,13 @@ from typing import Any, Dict, Iterator, List, NamedTuple, Optional, Sequence, Tu
 
 import adf
 from adf_tools import database, store
+from adf_tools.collection import is_below
 from adf_tools.database import told, transaction
 from adf_tools.out_folder import OutFolder, OwnNames
 from adf_tools.names import one_line
-from adf_tools.program import FAILED, REFUSED, command_line, host_text, stop
+from adf_tools.program import FAILED, REFUSED, command_line, host_text, open_input, stop
 from adf_tools.reader import Read, most_common
-from adf_tools.scan import WEIGHT, Options, Part, Scan
+from adf_tools.scan import WEIGHT, Names, Options, Part, Scan
 from adf_tools.sums import Sums
 from adf_tools.volumes import Record, Rows, record
 
@@ -40,6 +42,19 @@ def part_of(text: str) -> Part:
 # Scan
 
 
+def names_in(path: str, folder: bytes) -> Names:
+    """The names in a file, as `find -print0` writes those of a folder."""
+    with open_input(path) as file:
+        content = file.read()
+    paths = content.split(b"\0")
+    if paths.pop():
+        stop(FAILED, f"{host_text(path)}: its last name does not end in a NUL: find -print0 writes such names")
+    other = next((each for each in paths if not is_below(each, folder)), None)
+    if other is not None:
+        stop(FAILED, f"{host_text(path)}: {host_text(other) or 'an empty name'} is not below {host_text(folder)}")
+    return Names(paths, hashlib.sha256(content).hexdigest())
+
+
 @contextlib.contextmanager
 def working_beside(path: str, connection: sqlite3.Connection) -> Iterator[OwnNames]:
     """A working folder beside the database of a part, which names it."""
@@ -57,11 +72,12 @@ def scan(words: argparse.Namespace) -> int:
     """Reads a part of the files into a database, or brings that up to date."""
     adf.load()
     os.listdir(os.fsencode(words.folder))
+    listed = None if words.names is None else names_in(words.names, os.fsencode(words.folder))
     with database.alone(words.out), database.opened(words.out, not os.path.exists(words.out)) as connection:
         with working_beside(words.out, connection) as names:
             out = names.out
             left_out = {out.identity} if out.status(database.NAME) else set()
-            options = Options(False, words.fresh, store.wants_texts(connection, words.index_text), words.part)
+            options = Options(False, words.fresh, store.wants_texts(connection, words.index_text), words.part, listed)
             Scan(connection, os.fsencode(words.folder), names, left_out, options).update()
         _, refused, unread = store.counts(connection)
     return FAILED if unread else REFUSED if refused else 0
@@ -74,6 +90,7 @@ def scan_line() -> argparse.ArgumentParser:
     parser.add_argument("out", metavar="DATABASE", help="the database of the part, which is created or brought up to date")
     parser.add_argument("--index-text", action="store_true", help="keep the contents of text files too")
     parser.add_argument("--fresh", action="store_true", help="read all files again, not only those that have changed")
+    parser.add_argument("--names", metavar="LIST", help="do not list the folder: LIST has the names of its files, of find FOLDER/ ! -type d -print0")
     return parser
 
 
@@ -104,9 +121,9 @@ def checked(parts: Sequence[OpenPart]) -> Dict[str, str]:
     each = [(part.path, facts_of(part.connection)) for part in parts]
     found = [PART.fullmatch(facts.get("part", "")) for _, facts in each]
     for (path, facts), which in zip(each, found):
-        pairs = [(facts.get(name), each[0][1].get(name)) for name in ("reader", "title")] + [(which and which[2], found[0] and found[0][2])]
+        pairs = [(facts.get(name), each[0][1].get(name)) for name in ("reader", "title", "names")] + [(which and which[2], found[0] and found[0][2])]
         if which is None or any(own != first for own, first in pairs):
-            stop(FAILED, f"{host_text(path)}: not a part of the same collection as the first one, read by the same program")
+            stop(FAILED, f"{host_text(path)}: not a part of the same collection as the first one, read by the same program, with the same list of names")
     whole, numbers = int(found[0][2]) if found[0] else 0, sorted(int(which[1]) for which in found if which)
     if numbers != list(range(1, whole + 1)):
         stop(FAILED, f"the parts of a whole are wanted, 1/{whole} to {whole}/{whole}, each once; these are {', '.join(map(str, numbers))}")

@@ -1,4 +1,4 @@
-"""mkfs.affs: makes an empty volume on a file or a block device (docs/mkfs.affs.8); adf build writes it."""
+"""mkfs.affs: makes an empty volume on a file or a block device (docs/mkfs.affs.8); the library builds it."""
 
 from __future__ import annotations
 
@@ -7,15 +7,12 @@ import contextlib
 import glob
 import os
 import re
-import shutil
 import stat
-import subprocess
-import sys
 import time
 from typing import Iterator, NamedTuple, Optional
 
 import adf
-from adf_tools.names import one_line
+from adf import building
 from adf_tools.pack import amiga_name, latest_stamp, stamp_of
 from adf_tools.program import REFUSED, begin, command_line, host_text, new_file, stop, tell
 from adf_tools.trees import named
@@ -62,27 +59,17 @@ def label_of(text: str) -> bytes:
     return amiga_name(name, text, False)
 
 
-def manifest_of(words: argparse.Namespace, blocks: int) -> bytes:
-    """The manifest of an empty volume, whose dates are now, or those that the environment has."""
+def volume_of(words: argparse.Namespace, target: Target) -> memoryview:
+    """The image of an empty volume, whose dates are now, or those that the environment has."""
     given = latest_stamp()
-    stamp = stamp_of(time.time_ns() if given is None else given)
-    label = label_of(words.label or "")
-    lines = [f"volume {words.kind} {blocks}", *([f"label {adf.escape(label)}"] if label else []), f"stamps {stamp} {stamp} {stamp}"]
-    return "".join(f"{line}\n" for line in lines).encode("ascii")
-
-
-def adf_program() -> str:
-    """The program adf: beside this one, or on the path."""
-    beside = os.path.dirname(os.path.abspath(sys.argv[0]))
-    return shutil.which("adf", path=os.pathsep.join((beside, os.environ.get("PATH", os.defpath)))) or stop(REFUSED, "the program adf is not on the path")
-
-
-def build(target: Target, manifest: bytes, output: int) -> None:
-    """Has `adf build` write the volume; of what it refuses it writes nothing."""
-    ran = subprocess.run([adf_program(), "build"], input=manifest, stdout=output, stderr=subprocess.PIPE, check=False)
-    if ran.returncode:
-        said = ran.stderr.decode("ascii", "replace").strip() or f"status {ran.returncode}"
-        stop(REFUSED, f"{target.name}: {target.blocks()} blocks: adf build: {one_line(said)}")
+    date = adf.Date.of(stamp_of(time.time_ns() if given is None else given))
+    volume = building.new_volume(words.kind, target.blocks(), label_of(words.label or ""), (date, date, date))
+    image = bytearray(adf.BLOCK * target.blocks())
+    try:
+        building.build_into(image, volume, building.Plan(words.kind), b"")
+    except adf.NotBuilt as error:
+        stop(REFUSED, f"{target.name}: {target.blocks()} blocks: {error}")
+    return memoryview(image)
 
 
 def mounted_on(path: bytes) -> Optional[bytes]:
@@ -146,7 +133,7 @@ def write_new(words: argparse.Namespace) -> Target:
     """Makes a volume in a new file."""
     target = Target(host_text(words.device), UNIT * words.blocks)
     if words.dry:
-        write(words, target, subprocess.DEVNULL)
+        volume_of(words, target)
     else:
         with new_file(words.device) as fd:
             write(words, target, fd)
@@ -154,10 +141,12 @@ def write_new(words: argparse.Namespace) -> Target:
 
 
 def write(words: argparse.Namespace, target: Target, fd: int) -> None:
-    """Writes the volume into an open file, and waits until it is there; it goes nowhere if that is wanted."""
-    build(target, manifest_of(words, target.blocks()), subprocess.DEVNULL if words.dry else fd)
+    """Writes the volume into an open file, and waits until it is there, if that is wanted."""
+    image, done = volume_of(words, target), 0
     if not words.dry:
         with named(words.device):
+            while done < len(image):
+                done += os.write(fd, image[done : done + adf.PART])
             os.fsync(fd)
 
 
@@ -177,7 +166,8 @@ def work(words: argparse.Namespace) -> int:
 def main() -> None:
     line = command_line(PROGRAM, "Makes an empty volume of an Amiga on a file or a block device. What was there is lost.")
     line.add_argument("-L", dest="label", metavar="LABEL", help="the name of the volume")
-    line.add_argument("-t", dest="kind", choices=adf.KINDS, default="ffs", help="the kind of the volume: ffs, unless ofs is given")
+    kinds = ", ".join(adf.TYPES)
+    line.add_argument("-t", dest="kind", metavar="KIND", choices=adf.TYPES, default="ffs", help=f"the kind of the volume, {kinds}; without it ffs")
     line.add_argument("-n", dest="dry", action="store_true", help="write nothing, and say what would be made")
     line.add_argument("-v", dest="verbose", action="store_true", help="say what was made")
     line.add_argument("device", metavar="DEVICE", help="a block device or a file, which keeps its size")

@@ -70,13 +70,13 @@ def day(date: Optional[str]) -> str:
 # Pages
 
 
-def page(title: str, body: Html, script: Html = NO_SCRIPT) -> Html:
+def page(title: str, body: Html, script: Html = NO_SCRIPT, style: Html = STYLE) -> Html:
     """A whole page. Its policy lets no script run but this one and those that it loads, and nothing else be loaded or sent."""
     digest = base64.b64encode(hashlib.sha256(script.encode()).digest()).decode()
     scripts = f"'sha256-{digest}' 'strict-dynamic'" if script else "'none'"
     policy = f"default-src 'none'; style-src 'unsafe-inline'; script-src {scripts}; form-action 'none'; base-uri 'none'"
     run = html("<script>{script}</script>", script=script) if script else script
-    return html(PAGE, policy=policy, title=title, style=STYLE, head=shown(title), body=body, script=run)
+    return html(PAGE, policy=policy, title=title, style=style, head=shown(title), body=body, script=run)
 
 
 def table(name: str, heads: Iterable[str], rows: Iterable[Html]) -> Html:

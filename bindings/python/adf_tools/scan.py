@@ -16,7 +16,7 @@ from typing import Container, Dict, Iterator, List, NamedTuple, Optional, Tuple
 
 import adf
 from adf_tools import store
-from adf_tools.collection import ARCHIVES, files_below
+from adf_tools.collection import ARCHIVES, files_below, files_named
 from adf_tools.database import transaction
 from adf_tools.names import host_letters
 from adf_tools.processes import in_order
@@ -50,14 +50,22 @@ class File(NamedTuple):
     stamp: Optional[store.Stamp]
 
 
+class Names(NamedTuple):
+    """The paths of all files below a folder, which were listed once for all parts, and a sum of them."""
+
+    paths: List[bytes]
+    sum: str
+
+
 class Options(NamedTuple):
     """What is wanted of the files: the new volumes of refused images; all read again; the contents of text files; a part of the files
-    alone."""
+    alone; and their names, where the folder is not to be listed."""
 
     rescues: bool = False
     is_fresh: bool = False
     has_texts: bool = False
     part: Part = Part(1, 1)
+    names: Optional[Names] = None
 
 
 def sum_of(path: str) -> str:
@@ -93,7 +101,10 @@ class Scan:
         self.connection, self.folder, self.own_names, self.options = connection, folder, own_names, options
         self.begin = os.path.join(folder, b"")
         self.passed: Counter[str] = Counter()
-        paths = files_below(folder, own, self.pass_by, self.is_wanted)
+        if options.names is None:
+            paths = files_below(folder, own, self.pass_by, self.is_wanted)
+        else:
+            paths = files_named(options.names.paths, self.pass_by, self.is_wanted)
         self.files = [File(path, host_letters(self.name_of(path)), store.stamp_of(path)) for path in paths]
 
     def name_of(self, path: bytes) -> bytes:
@@ -137,6 +148,8 @@ class Scan:
                 self.connection.execute("UPDATE files SET size = NULL")
             place = host_letters(os.path.abspath(self.folder))
             facts = {"reader": reader, "title": self.title(), "folder": place, "part": f"{self.options.part.number}/{self.options.part.whole}"}
+            facts.update({"names": self.options.names.sum} if self.options.names else {})
+            self.connection.execute("DELETE FROM facts WHERE name = 'names'")
             self.connection.executemany("INSERT OR REPLACE INTO facts VALUES (?, ?)", facts.items())
             line = "INSERT INTO runs (begun, program, files) VALUES (datetime('now'), ?, ?)"
             return self.connection.execute(line, (f"adf-catalogue {adf.__version__}", len(self.files))).lastrowid or 0

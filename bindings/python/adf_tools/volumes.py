@@ -18,7 +18,7 @@ from adf_tools.picture import roles_of_refused
 from adf_tools.standing import SOUND, Source, Standing, Stood
 from adf_tools.sums import boot_facts
 
-DOS = b"DOS"
+DOS, UNTYPED = b"DOS", adf.escape(bytes(4))  # how a volume begins; a type of 0, which parted writes
 MOST_LETTERS, MOST_FINDINGS, LINE = 64 << 20, 100_000, 100  # of the texts of one image; a row has so many letters beside them
 LONGEST_TEXT, MOST_ICONS, INFO = 1 << 16, 32, b".info"
 RESERVED, READ_RESERVED = 4 * 38, 2  # of a partition block: where the number of reserved blocks is, and that of volumes that are read
@@ -210,8 +210,8 @@ def disk_of(content: adf.Image) -> Optional[adf.Disk]:
 
 
 def is_volume(partition: adf.Partition) -> bool:
-    """Whether the volume of a partition is one of an Amiga, by its type."""
-    return partition.kind.startswith((*adf.KINDS, "DOS"))
+    """Whether the volume of a partition may be one of an Amiga, by its type; 0 says nothing, so it may."""
+    return partition.kind.startswith((*adf.KINDS, "DOS")) or partition.kind == UNTYPED
 
 
 def is_long(partition: adf.Partition) -> bool:

@@ -2,6 +2,7 @@
 
 import hashlib
 import os
+import re
 import shutil
 import subprocess
 import xml.etree.ElementTree
@@ -162,7 +163,7 @@ class Export(Asked):
         self.refused(1, "1 file of the catalogue not there: tools.adf", "catalogue", "export", "--bagit", "bag", "out")
         self.assertFalse(os.path.exists("bag"))
 
-    def test_has_python3_bagit_look_at_a_bag(self):
+    def test_has_the_module_bagit_look_at_a_bag(self):
         seen = []
 
         class Bag:
@@ -179,6 +180,32 @@ class Export(Asked):
         shutil.rmtree("bag")
         with self.assertRaises(Stop):
             bags.write("bag", [File(b"a.adf", "a.adf")], {"a.adf": "0" * 64}, {})
+
+    def test_writes_a_page_for_print(self):
+        self.catalogue("disks", "out", status=1)
+        page = self.exported("report", "out").decode()
+        self.assertEqual([word for word in ("<script", "href", "src=", "url(") if word in page], [])
+        rows = [re.sub("<[^>]*>", " ", row).split("  ") for row in page.split("<tr>")]
+        told = [[part.strip() for part in row if part.strip()] for row in rows]
+        for row in (["Images", "5 images, 3 sound"], ["Files lost at least", "0"], ["Sound", "3", "Nothing is to be done."], ["bad sum", "1"],
+                    ["games/bad.adf", "block 880: bad sum", "at least 0"]):  # fmt: skip
+            self.assertIn(row, told)
+        self.assertEqual(page, self.exported("report", "out").decode())
+
+    def test_names_the_first_images_of_a_group_for_print(self):
+        self.catalogue("disks", "out", status=1)
+        with database.opened(f"out/{database.NAME}") as connection:
+            connection.execute("UPDATE facts SET value = '</title><script>' WHERE name = 'title'")
+            connection.execute("UPDATE images SET name = '<b>' || CHAR(27) || 'a.adf' WHERE name = 'games/bad.adf'")
+            connection.execute("UPDATE images SET advice = 'nothing that is known' WHERE name = 'tools.adf'")
+            line = """INSERT INTO images (file, name, number, advice, verdict, dirs, files, lost)
+                SELECT file, ?, 0, 'read again', 'x', 1, 1, ? FROM images LIMIT 1"""
+            connection.executemany(line, [(f"more{number}.adf", number) for number in range(1, 61)])
+        page = self.exported("report", "out").decode()
+        self.assertNotIn("<script", page)
+        self.assertIn("11 more are left out: <code>list-read-again.html</code> has all", page)
+        names = re.findall(r">(more\d+\.adf)<", page)
+        self.assertEqual((names[0], len(names)), ("more60.adf", 50))
 
     def test_wants_one_form(self):
         for words in (["out"], ["--premis", "--dfxml", "out"], ["--bagit"]):

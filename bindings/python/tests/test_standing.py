@@ -181,16 +181,16 @@ class Groups(Catalogues):
 
     def test_calls_nothing_sound_that_was_not_read(self):
         os.mkdir("disks")
-        whole = disk(volume(blocks=64, label="Work"))
-        words = list(struct.unpack_from(">128I", whole, 512))
-        words[48], words[2] = 0, 0
-        words[2] = -sum(words) % 2**32
-        untyped = whole[:512] + struct.pack(">128I", *words) + whole[1024:]
-        written("disks/untyped.hdf", untyped)
+        whole, bad = (disk(each) for each in (volume(blocks=64, label="Work"), changed(volume(blocks=64), 32, 440, 1)))
         written("disks/whole.hdf", whole)
-        self.catalogue("disks", "out")
-        self.assertEqual(self.groups(), {"untyped.hdf": "volumes not read", "whole.hdf": "sound", "whole.hdf/DH0": "sound"})
-        self.assertIn("3 images, 2 sound", Page("out/index.html").text)
+        written("disks/other.hdf", typed(whole, 0x50465303))
+        written("disks/untyped.hdf", typed(whole, 0))
+        written("disks/untyped_bad.hdf", typed(bad, 0))
+        self.catalogue("disks", "out", status=1)
+        volumes = {"untyped.hdf/DH0": "sound", "untyped_bad.hdf/DH0": "read again", "whole.hdf/DH0": "sound"}
+        disks = {"other.hdf": "volumes not read", "untyped.hdf": "sound", "untyped_bad.hdf": "sound", "whole.hdf": "sound"}
+        self.assertEqual(self.groups(), {**disks, **volumes})
+        self.assertIn("7 images, 5 sound", Page("out/index.html").text)
 
     def test_reads_no_volume_that_is_too_long(self):
         os.mkdir("disks")
@@ -200,6 +200,14 @@ class Groups(Catalogues):
         self.assertEqual(self.groups(), {"large.hdf": "volumes not read", "large.hdf/DH0": "sound", "large.hdf/DH1": "too long"})
         rows = self.asked("out", "SELECT bytes, sha256, verdict FROM images WHERE name = 'large.hdf/DH1'")
         self.assertEqual(rows, [(131072, sum_of(volume(blocks=256, label="Large")), "block 0: bad size")])
+
+
+def typed(image, number):
+    """A hard disk whose only partition is of this type."""
+    words = list(struct.unpack_from(">128I", image, 512))
+    words[48], words[2] = number, 0
+    words[2] = -sum(words) % 2**32
+    return image[:512] + struct.pack(">128I", *words) + image[1024:]
 
 
 class Passed(Catalogues):

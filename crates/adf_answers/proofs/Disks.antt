@@ -10,8 +10,9 @@ use Rattle.adf_partitions.specs.{declared.partition.Partition.Partition, declare
 use Rattle.adf_plans.specs.PlanTexts.{HasPlanOrFault, text_fault_text}
 use Rattle.adf_runs.specs.Commands.{Reply, on_output}
 use Rattle.adf_disk_cmd.specs.CommandLine.{DiskRequestValue, WantedValue, build, check, list, survey, volume}
-use Rattle.adf_disk_cmd.specs.Answers.{DiskAnswer, OfDisk, OfFault, OfPartitions, disk_fault_line, volume_reply, wanted_of}
-use Rattle.adf_disk_cmd.specs.{Builds.BuildsDisk, Builds.plan_reply, Builds.refusal, Lines.list_lines, Lines.name_text, Lines.volume_at}
+use Rattle.adf_disk_cmd.specs.Answers.{DiskAnswer, OfDisk, OfFault, OfPartitions, volume_reply, wanted_of}
+use Rattle.adf_disk_cmd.specs.{Builds.BuildsDisk, Builds.plan_reply, Builds.refusal, Lines.volume_at}
+use Rattle.adf_disk_cmd.specs.Objects.{disk_fault_line, list_lines, verdict_line}
 use Rattle.adf_disk_cmd.specs.{declared.unchecked.Unchecked.Unchecked, declared.work.TheConstants.MOST_DISK_BYTES}
 use Rattle.adf_disk_cmd.specs.Checks.{AreChecked, TellsPlace, TellsVolume, check_status, unchecked_text, why_unchecked}
 
@@ -27,13 +28,13 @@ some_place : (bytes : List ℕ) (p : Partition) (place : Result Place PlaceFault
 some_place bytes p (Ok q) = some_volume (why_unchecked p q) (volume_at bytes q)
 some_place bytes p (Err f) = (false, place_fault_text f ++ codes "\n", (refl, refl))
 
-some_checks : (bytes : List ℕ) (ps : List Partition) → (sound : Bool) × (text : List ℕ) × AreChecked bytes ps sound text
+some_checks : (json : Bool) (bytes : List ℕ) (ps : List Partition) → (sound : Bool) × (text : List ℕ) × AreChecked json bytes ps sound text
 unfolding AreChecked
-some_checks bytes [] = (true, [], (refl, refl))
-some_checks bytes (p ∷ ps) =
+some_checks json bytes [] = (true, [], (refl, refl))
+some_checks json bytes (p ∷ ps) =
     let (one, line, tells) = some_place bytes p p.place in
-    let (others, rest, are) = some_checks bytes ps in
-    (one && others, (name_text p ++ line) ++ rest, (one, others, line, rest, tells, are, refl, refl))
+    let (others, rest, are) = some_checks json bytes ps in
+    (one && others, verdict_line json p one line ++ rest, (one, others, line, rest, tells, are, refl, refl))
 
 -- what answers partitions and faults answers a disk
 module _ (r : DiskRequestValue) (bytes : List ℕ) (of_list : (ps : List Partition) → (reply : Reply) × OfPartitions r bytes ps reply)
@@ -45,20 +46,20 @@ module _ (r : DiskRequestValue) (bytes : List ℕ) (of_list : (ps : List Partiti
   of_disk : (reply : Reply) × OfDisk r bytes reply
   of_disk = by_list (some_disk bytes (length bytes / 512))
 
-some_listing : (bytes : List ℕ) → (reply : Reply) × OfDisk list bytes reply
-some_listing bytes = of_disk list bytes (λ ps. (on_output 0 (list_lines 1 ps), refl)) (λ f. (refusal (disk_fault_text f), refl))
+some_listing : (json : Bool) (bytes : List ℕ) → (reply : Reply) × OfDisk (list json) bytes reply
+some_listing json bytes = of_disk (list json) bytes (λ ps. (on_output 0 (list_lines json 1 ps), refl)) (λ f. (refusal (disk_fault_text f), refl))
 
-some_check : (bytes : List ℕ) → (reply : Reply) × OfDisk check bytes reply
-some_check bytes =
-    of_disk check bytes
-    (λ ps. let (sound, text, are) = some_checks bytes ps in (on_output (check_status sound) text, (sound, text, are, refl)))
-    (λ f. (on_output 1 (disk_fault_line f), refl))
+some_check : (json : Bool) (bytes : List ℕ) → (reply : Reply) × OfDisk (check json) bytes reply
+some_check json bytes =
+    of_disk (check json) bytes
+    (λ ps. let (sound, text, are) = some_checks json bytes ps in (on_output (check_status sound) text, (sound, text, are, refl)))
+    (λ f. (on_output 1 (disk_fault_line json f), refl))
 
-some_survey : (bytes : List ℕ) → (reply : Reply) × OfDisk survey bytes reply
-some_survey bytes =
-    of_disk survey bytes (λ ps. (on_output 0 (list_lines 1 ps), refl))
+some_survey : (json : Bool) (bytes : List ℕ) → (reply : Reply) × OfDisk (survey json) bytes reply
+some_survey json bytes =
+    of_disk (survey json) bytes (λ ps. (on_output 0 (list_lines json 1 ps), refl))
     (λ f. let (ps, readable) = some_reading bytes (length bytes / 512) in
-    (on_output 1 (disk_fault_line f ++ list_lines 1 ps), (disk_fault_line f ++ list_lines 1 ps, (ps, readable, refl), refl)))
+    (on_output 1 (disk_fault_line json f ++ list_lines json 1 ps), (disk_fault_line json f ++ list_lines json 1 ps, (ps, readable, refl), refl)))
 
 some_copy : (bytes : List ℕ) (w : WantedValue) → (reply : Reply) × OfDisk (volume w) bytes reply
 some_copy bytes w =
@@ -69,8 +70,8 @@ built_by text (inl (plan, given, is)) = (plan_reply plan given, inl (plan, given
 built_by text (inr (f, is)) = (refusal (text_fault_text f), inr (f, is, refl))
 
 pub some_answer : (r : DiskRequestValue) (input : List ℕ) → (reply : Reply) × DiskAnswer r input reply
-some_answer list input = some_listing (take MOST_DISK_BYTES input)
-some_answer check input = some_check (take MOST_DISK_BYTES input)
-some_answer survey input = some_survey (take MOST_DISK_BYTES input)
+some_answer (list json) input = some_listing json (take MOST_DISK_BYTES input)
+some_answer (check json) input = some_check json (take MOST_DISK_BYTES input)
+some_answer (survey json) input = some_survey json (take MOST_DISK_BYTES input)
 some_answer (volume w) input = some_copy (take MOST_DISK_BYTES input) w
 some_answer build input = built_by (take MOST_DISK_BYTES input) (some_text (take MOST_DISK_BYTES input))

@@ -13,7 +13,7 @@ pub type Volume = [u8; 16384];
 
 /// What errors get where the words are refused.
 pub const USAGE: &str =
-    "usage: adf-disk list [FILE]\n       adf-disk check [FILE]\n       adf-disk survey [FILE]\n       \
+    "usage: adf-disk list [--json] [FILE]\n       adf-disk check [--json] [FILE]\n       adf-disk survey [--json] [FILE]\n       \
     adf-disk volume NAME [FILE]\n       adf-disk build [PLAN]\n\
     without a FILE the disk or its plan comes on standard input; man adf-disk tells more\n";
 
@@ -291,6 +291,87 @@ fn disks_are_listed_and_checked(rt: HostRuntime) {
     for (command, change, status, output, errors) in LINES {
         let wanted = (*status, output.as_bytes(), *errors);
         assert!(rt; answers(rt.alloc(), &["adf-disk", command], *change, wanted));
+    }
+}
+
+const DH0_OBJECT: &str =
+    "{\"line\":\"partition\",\"number\":1,\"name\":\"DH0\",\"type\":\"ffs\",\"first\":8,\"blocks\":32,\"no_place\":null,\
+    \"flags\":1,\"priority\":-5,\"fault\":null}\n";
+
+const DH1_OBJECT: &str =
+    "{\"line\":\"partition\",\"number\":2,\"name\":\"DH1\",\"type\":\"PFS\\u0003\",\"first\":40,\"blocks\":40,\"no_place\":null,\
+    \"flags\":2,\"priority\":3,\"fault\":null}\n";
+
+// DH1 over DH0, of a block that lacks its type.
+const OVER_OBJECT: &str =
+    "{\"line\":\"partition\",\"number\":2,\"name\":\"DH1\",\"type\":\"PFS\\u0003\",\"first\":null,\"blocks\":null,\
+    \"no_place\":\"over partition\",\"flags\":2,\"priority\":3,\"fault\":\"short environment\"}\n";
+
+// The name has a quotation mark and a backslash.
+const QUOTED_OBJECT: &str =
+    "{\"line\":\"partition\",\"number\":1,\"name\":\"D\\u0022\\u005c\",\"type\":\"ffs\",\"first\":8,\"blocks\":32,\"no_place\":null,\
+    \"flags\":1,\"priority\":-5,\"fault\":null}\n";
+
+const CHECK_OBJECTS: &str =
+    "{\"line\":\"verdict\",\"name\":\"DH0\",\"sound\":true,\"verdict\":\"ok ffs blocks 32 used 2 free 28 dirs 0 files 0\"}\n\
+    {\"line\":\"verdict\",\"name\":\"DH1\",\"sound\":false,\"verdict\":\"type PFS\\u005cx03\"}\n";
+
+const OUT_OF_RANGE: &str = "{\"line\":\"fault\",\"block\":2,\"cause\":\"out of range\"}\n";
+
+// The command with `--json`, a change, the status, and the objects on output in order.
+const OBJECTS: &[(&str, Change<'static>, u8, &[&str], &str)] = &[
+    ("list", NONE, 0, &[DH0_OBJECT, DH1_OBJECT], ""),
+    ("survey", NONE, 0, &[DH0_OBJECT, DH1_OBJECT], ""),
+    ("list", (0, &[(7, 0xFFFF_FFFF)]), 0, &[], ""),
+    (
+        "list",
+        (1, &[(32, 11), (41, 4)]),
+        0,
+        &[DH0_OBJECT, OVER_OBJECT],
+        "",
+    ),
+    (
+        "list",
+        (2, &[(9, 0x0344_225C)]),
+        0,
+        &[QUOTED_OBJECT, DH1_OBJECT],
+        "",
+    ),
+    ("list", (0, &[(0, 0)]), 1, &[], "block 0: no rigid disk\n"),
+    ("check", NONE, 1, &[CHECK_OBJECTS], ""),
+    ("check", (2, &[(4, 65_536)]), 1, &[OUT_OF_RANGE], ""),
+    (
+        "survey",
+        (2, &[(4, 65_536)]),
+        1,
+        &[OUT_OF_RANGE, DH0_OBJECT, DH1_OBJECT],
+        "",
+    ),
+    ("build", NONE, 2, &[], USAGE),
+];
+
+// The texts, one behind the other.
+fn texts(alloc: Global, parts: &[&str]) -> Result<Vec<u8>, AllocError> {
+    let mut text = Vec::new(alloc);
+    for part in parts {
+        text.extend_from_slice(part.as_bytes())?;
+    }
+    Ok(text)
+}
+
+#[test]
+fn disks_are_told_as_objects(rt: HostRuntime) {
+    for (command, change, status, objects, errors) in OBJECTS {
+        let output = texts(rt.alloc(), objects).expect(&rt, "memory");
+        let wanted = (*status, output.as_slice(), *errors);
+        assert!(rt;
+            answers(
+                rt.alloc(),
+                &["adf-disk", command, "--json"],
+                *change,
+                wanted
+            )
+        );
     }
 }
 

@@ -1,11 +1,12 @@
 // Volumes that get other letters by a script of `adf-edit`. The slots are those that Python computes: (13 + 0xE9) % 72 and
 // (13 + 0xC9) % 72.
 
+use crate::edited_lines::is_stopped;
 use adf_base::Letters;
 use adf_boot_blocks::{install, is_bootable};
 use adf_build::build;
 use adf_edit_cmd::{Stop, new_image};
-use adf_tree::{AddFault, Kind, Label, NO_STAMPS, Tree};
+use adf_tree::{Kind, Label, NO_STAMPS, Tree};
 use std::alloc::Global;
 
 // What a script makes of an empty OFS volume of 16 blocks, of these letters, that an Amiga starts from.
@@ -72,29 +73,29 @@ fn letters_are_given(rt: HostRuntime) {
 }
 
 // The letters of the old volume, the script, and why there is no new one.
-const REFUSED: &[(Letters, &[u8], Stop)] = &[
+const REFUSED: &[(Letters, &[u8], &str)] = &[
     (
         Letters::Ascii,
         b"dir \\xe9\ndir \\xc9\nletters international\nend\n",
-        Stop::NoRoom(3, AddFault::Exists),
+        "3: by these letters: exists",
     ),
     (
         Letters::International,
         b"dir \\xe9\ndir \\xc9\nend\n",
-        Stop::NoRoom(3, AddFault::Exists),
+        "3: by these letters: exists",
     ),
     (
         Letters::Ascii,
         b"letters international\ndir a\nend\n",
-        Stop::BadLine(1),
+        "1: bad line",
     ),
-    (Letters::Ascii, b"letters latin\nend\n", Stop::BadLine(1)),
+    (Letters::Ascii, b"letters latin\nend\n", "1: bad line"),
 ];
 
 #[test]
 fn letters_are_refused(rt: HostRuntime) {
     for (letters, script, stop) in REFUSED {
         let made = image_by(rt.alloc(), *letters, script).expect(&rt, "a volume");
-        assert_eq!(rt; made.err(), Some(*stop));
+        assert!(rt; is_stopped(rt.alloc(), made, stop));
     }
 }

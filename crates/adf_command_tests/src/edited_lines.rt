@@ -3,7 +3,6 @@
 
 use adf_build::build;
 use adf_edit_cmd::{Stop, new_image};
-use adf_edits::EditFault;
 use adf_tree::{Kind, Label, NO_STAMPS, Tree};
 use std::alloc::Global;
 
@@ -18,6 +17,17 @@ fn image_by(alloc: Global, script: &[u8]) -> Option<Result<Vec<u8>, Stop>> {
     input.extend_from_slice(script).ok()?;
     input.extend_from_slice(&image).ok()?;
     Some(new_image(alloc, &input))
+}
+
+/// Whether there is no image, for this reason.
+pub fn is_stopped(alloc: Global, made: Result<Vec<u8>, Stop>, text: &str) -> bool {
+    match made {
+        Ok(_) => false,
+        Err(stop) => match format!(in alloc; "{stop}") {
+            Ok(said) => said.as_str() == text,
+            Err(_) => false,
+        },
+    }
 }
 
 // The script, and the number of its line that says nothing.
@@ -37,7 +47,8 @@ const BAD: &[(&[u8], usize)] = &[
 fn lines_without_what_they_are_about_are_bad(rt: HostRuntime) {
     for (script, line) in BAD {
         let made = image_by(rt.alloc(), script).expect(&rt, "a volume");
-        assert_eq!(rt; made.err(), Some(Stop::BadLine(*line)));
+        let text = format!(in rt.alloc(); "{line}: bad line").expect(&rt, "memory");
+        assert!(rt; is_stopped(rt.alloc(), made, &text));
     }
 }
 
@@ -45,25 +56,54 @@ fn lines_without_what_they_are_about_are_bad(rt: HostRuntime) {
 fn bytes_of_files_are_counted(rt: HostRuntime) {
     let script = b"file a:8000\nfile b:200\nend\n";
     let made = image_by(rt.alloc(), script).expect(&rt, "a volume");
-    let (need, have) = (8200, 8192);
-    assert_eq!(rt; made.err(), Some(Stop::Short { need, have }));
+    let text = "files: need 8200 bytes behind the script, have 8192";
+    assert!(rt; is_stopped(rt.alloc(), made, text));
 }
 
 // The script, and why its last line cannot be applied.
-const NOT_REPLACED: &[(&[u8], Stop)] = &[
-    (b"replace a:0\nend\n", Stop::Line(1, EditFault::NoSuchPath)),
-    (
-        b"dir a\nreplace A:0\nend\n",
-        Stop::Line(2, EditFault::NotAFile),
-    ),
+const NOT_REPLACED: &[(&[u8], &str)] = &[
+    (b"replace a:0\nend\n", "1: no such path"),
+    (b"dir a\nreplace A:0\nend\n", "2: not a file"),
 ];
 
 #[test]
 fn only_files_are_replaced(rt: HostRuntime) {
     for (script, stop) in NOT_REPLACED {
         let made = image_by(rt.alloc(), script).expect(&rt, "a volume");
-        assert_eq!(rt; made.err(), Some(*stop));
+        assert!(rt; is_stopped(rt.alloc(), made, stop));
     }
+}
+
+// The script, and why its last line cannot be applied: the entry that stands there is named as it is written on the disk.
+const TAKEN: &[(&[u8], &str)] = &[
+    (
+        b"dir C\ndir C/Prog\nfile c/prog:0\nend\n",
+        "3: exists: remove it first, or take another name: C/Prog",
+    ),
+    (
+        b"dir a\ndir a\nend\n",
+        "2: exists: remove it first, or take another name: a",
+    ),
+    (
+        b"dir Disk\\xe9\ndir b\nmove b:DISK\\xe9\nend\n",
+        "3: exists: remove it first, or take another name: Disk\\xe9",
+    ),
+];
+
+#[test]
+fn the_entry_that_stands_there_is_named(rt: HostRuntime) {
+    for (script, stop) in TAKEN {
+        let made = image_by(rt.alloc(), script).expect(&rt, "a volume");
+        assert!(rt; is_stopped(rt.alloc(), made, stop));
+    }
+}
+
+// A name that differs only in its letters may take the place of the old one.
+#[test]
+fn an_entry_gets_other_letters(rt: HostRuntime) {
+    let script = b"dir prog\nmove prog:PROG\nend\n";
+    let made = image_by(rt.alloc(), script).expect(&rt, "a volume");
+    assert!(rt; made.is_ok());
 }
 
 // A byte of an image; 255 past its end.

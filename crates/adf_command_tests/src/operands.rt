@@ -132,6 +132,13 @@ const NAMED: &[Row<'static>] = &[
         b"",
         "odd: cannot be opened\n",
     ),
+    (
+        &["adf-disk", "check", "--json", "sound"],
+        1,
+        b"{\"line\":\"fault\",\"block\":0,\"cause\":\"no rigid disk\"}\n",
+        "",
+    ),
+    (&["adf-disk", "volume", "--json", "DH0"], 2, b"", DISK_USAGE),
     (&["adf-disk", "list", "fails"], 3, b"", "read fault\n"),
     (&["adf-disk", "list", "sound", "gone"], 2, b"", DISK_USAGE),
 ];

@@ -1,5 +1,5 @@
 -- How works end, and by which answers. `part` are the first bytes of an input, as many as count.
-use Rattle.std.proofs.Common.{◌≡◌, ◌+◌, ◌*◌, ◌-◌, ◌/◌, ◌∙◌, inl, inr, ℕ, List, Option, None, Some, IfSome, ap, arith, drop, length, min, subst, take}
+use Rattle.std.proofs.Common.{◌≡◌, ◌+◌, ◌*◌, ◌-◌, ◌/◌, ◌∙◌, inl, inr, ℕ, Bool, List, Option, None, Some, IfSome, ap, arith, drop, length, min, subst, take}
 use Rattle.std.proofs.lemmas.List.{drop_min, length-drop, take-take, take_all, take_min}
 use Rattle.adf_disk_cmd.specs.Answers.{DiskAnswer, OfBytes, OfDisk, OfFault, OfPartitions}
 use Rattle.adf_disk_cmd.specs.{Builds.BuildsDisk, Lines.volume_at, Work.IsWorkOf, declared.work.TheConstants.MOST_DISK_BYTES}
@@ -39,9 +39,9 @@ refused_ends r bytes f w o o' first h = ends_weaker (OfFault r bytes f) (OfDisk 
 
 -- an answer of a disk answers the request
 of_bytes : (r : DiskRequestValue) (bytes : List ℕ) (reply : Reply) → OfDisk r bytes reply → OfBytes r bytes reply
-of_bytes list bytes reply h = h
-of_bytes check bytes reply h = h
-of_bytes survey bytes reply h = h
+of_bytes (list json) bytes reply h = h
+of_bytes (check json) bytes reply h = h
+of_bytes (survey json) bytes reply h = h
 of_bytes (volume w) bytes reply h = h
 of_bytes build bytes reply (inl (t, ps, disk, never)) = absurd never
 of_bytes build bytes reply (inr (f, first, never)) = absurd never
@@ -58,11 +58,11 @@ plan_ends bytes part w o o' e h = ends_weaker (BuildsDisk part) (DiskAnswer buil
     (λ reply tells. subst (λ (l : List ℕ). BuildsDisk l reply) e tells) h
 
 -- the work of `check` is that of no other request, nor is that of `survey`
-pub checks : (work : Work) (r : DiskRequestValue) → work ≡ Check → IsWorkOf work r → r ≡ check
-checks work r e serves = subst (λ (w : Work). IsWorkOf w r) e serves
+pub checks : (json : Bool) (work : Work) (r : DiskRequestValue) → work ≡ Check json → IsWorkOf work r → r ≡ check json
+checks json work r e serves = subst (λ (w : Work). IsWorkOf w r) e serves
 
-pub surveys : (work : Work) (r : DiskRequestValue) → work ≡ Survey → IsWorkOf work r → r ≡ survey
-surveys work r e serves = subst (λ (w : Work). IsWorkOf w r) e serves
+pub surveys : (json : Bool) (work : Work) (r : DiskRequestValue) → work ≡ Survey json → IsWorkOf work r → r ≡ survey json
+surveys json work r e serves = subst (λ (w : Work). IsWorkOf w r) e serves
 
 -- a slice of a slice is the volume
 pub volume_is : (bytes : List ℕ) (q : Place) (first count : ℕ) → first ≡ min (q.first * 512) (length bytes)

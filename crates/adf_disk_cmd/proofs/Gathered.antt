@@ -1,9 +1,9 @@
 -- Volumes of a plan that are gathered. p is the plan of a partition, ps are partitions, c the number of blocks of a cylinder; `lines` is the text from the
 -- line of the first of ps on, `left` are the given bytes that are left, `given` the volumes so far.
-use Rattle.std.proofs.Common.{◌≡◌, ◌≢◌, ◌≤◌, ◌<◌, ◌+◌, ◌*◌, ◌∙◌, ◌++◌, ℕ, List, [], ◌∷◌, None, Option, Some, ap, append_assoc, arith, inl, inr, refl, subst, suc, sym, zero}
+use Rattle.std.proofs.Common.{◌≡◌, ◌≤◌, ◌<◌, ◌+◌, ◌*◌, ◌++◌, ℕ, List, [], ◌∷◌, None, Option, Some, append_assoc, arith, inl, inr, refl, subst, sym}
 use Rattle.std.proofs.{Common.drop, Common.get_or, Common.IfErr, Common.IfSome, Common.Result, Common.Ok, Common.Err, Common.length}
 use Rattle.std.{proofs.lemmas.List.drop_all, specs.Result.IsErrAnd}
-use Rattle.adf_disk_cmd.specs.HostPlans.{AreGathered, AreHostBytes, IsFaultAtLine, IsHostFault, IsNoGiven, IsNoneOf, TakesVolume, behind_left, left_volume}
+use Rattle.adf_disk_cmd.specs.HostPlans.{AreGathered, AreHostBytes, IsHostFault, IsNoGiven, IsNoneOf, TakesVolume, behind_left, left_volume}
 use Rattle.adf_disk_cmd.specs.HostPlans.{volume_refusal}
 use Rattle.adf_disk_cmd.specs.declared.gathering.NoGiven.{NoGiven, TheVariants.NoMemory, TheVariants.Fault}
 use Rattle.adf_disk_cmd.specs.declared.host_volumes.HostFault.{HostFault}

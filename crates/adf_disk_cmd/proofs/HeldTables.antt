@@ -2,7 +2,7 @@
 -- Letters: all is an input, bytes what is held of it, len how many it has; n is the number of its blocks that count.
 use Rattle.std.proofs.Common.{◌≡◌, ◌+◌, ◌/◌, ◌∙◌, ℕ, Bool, true, false, List, Option, None, Some, IfSome, ap, arith, length, length-take, min, refl, subst, sym}
 use Rattle.std.proofs.{Common.take, lemmas.List.take-take}
-use Rattle.adf_disk_cmd.specs.{Answers.DiskAnswer, Answers.OfFault, Answers.OfPartitions, Lines.list_lines, Work.TellsFault, Work.listing_request}
+use Rattle.adf_disk_cmd.specs.{Answers.DiskAnswer, Answers.OfFault, Answers.OfPartitions, Objects.list_lines, Work.TellsFault, Work.listing_request}
 use Rattle.adf_disk_cmd.specs.{declared.list_input.TheConstants.TABLES_LEN, declared.work.TheConstants.MOST_DISK_BYTES}
 use Rattle.adf_disk_cmd.proofs.Endings.{disk_ends, refused_ends, told_ends}
 use Rattle.adf_partitions.proofs.FirstBlocks.{first_disk, first_fault, first_readable}
@@ -52,23 +52,26 @@ module _ (all bytes : List ℕ) (len n : ℕ) (held : IsExcerpt 0 TABLES_LEN (MO
       (subst (λ (l : List ℕ). AreReadable l (length (disk_of all) / 512) ps) first_held (subst (λ (k : ℕ). AreReadable bytes k ps) blocks_held v))
 
   -- its partitions are listed
-  listed : (s : Bool) (ps : List Partition) (reply : Reply) → reply ≡ on_output 0 (list_lines 1 ps) → OfPartitions (listing_request s) (disk_of all) ps reply
-  listed true ps reply e = e
-  listed false ps reply e = e
+  listed : (s json : Bool) (ps : List Partition) (reply : Reply) → reply ≡ on_output 0 (list_lines json 1 ps)
+      → OfPartitions (listing_request s json) (disk_of all) ps reply
+  listed true json ps reply e = e
+  listed false json ps reply e = e
 
-  pub listed_ends : (s : Bool) (t : Tables) (ps : List Partition) (w : Outcome) (o o' : Option (List ℕ)) → IsDisk bytes n t ps
-      → EndsBy (λ reply. reply ≡ on_output 0 (list_lines 1 ps)) w o o' → EndsBy (DiskAnswer (listing_request s) all) w o o'
-  listed_ends s t ps w o o' disk h =
-      disk_ends (listing_request s) all (disk_of all) w o o' refl (told_ends (listing_request s) (disk_of all) t ps w o o' (disk_held disk)
-      (ends_weaker (λ reply. reply ≡ on_output 0 (list_lines 1 ps)) (OfPartitions (listing_request s) (disk_of all) ps) w o o' (listed s ps) h))
+  pub listed_ends : (s json : Bool) (t : Tables) (ps : List Partition) (w : Outcome) (o o' : Option (List ℕ)) → IsDisk bytes n t ps
+      → EndsBy (λ reply. reply ≡ on_output 0 (list_lines json 1 ps)) w o o' → EndsBy (DiskAnswer (listing_request s json) all) w o o'
+  listed_ends s json t ps w o o' disk h =
+      disk_ends (listing_request s json) all (disk_of all) w o o' refl (told_ends (listing_request s json) (disk_of all) t ps w o o' (disk_held disk)
+      (ends_weaker (λ reply. reply ≡ on_output 0 (list_lines json 1 ps)) (OfPartitions (listing_request s json) (disk_of all) ps) w o o'
+      (listed s json ps) h))
 
   -- or its fault is told
-  told : (s : Bool) (f : DiskFault) (reply : Reply) → TellsFault s bytes n f reply → OfFault (listing_request s) (disk_of all) f reply
-  told true f reply (text, (ps, readable, e), same) = (text, (ps, readable_held readable, e), same)
-  told false f reply e = e
+  told : (s json : Bool) (f : DiskFault) (reply : Reply) → TellsFault s json bytes n f reply → OfFault (listing_request s json) (disk_of all) f reply
+  told true json f reply (text, (ps, readable, e), same) = (text, (ps, readable_held readable, e), same)
+  told false json f reply e = e
 
-  pub fault_ends : (s : Bool) (f : DiskFault) (w : Outcome) (o o' : Option (List ℕ)) → FirstDiskFault bytes n f
-      → EndsBy (TellsFault s bytes n f) w o o' → EndsBy (DiskAnswer (listing_request s) all) w o o'
-  fault_ends s f w o o' first h =
-      disk_ends (listing_request s) all (disk_of all) w o o' refl (refused_ends (listing_request s) (disk_of all) f w o o' (fault_held first)
-      (ends_weaker (TellsFault s bytes n f) (OfFault (listing_request s) (disk_of all) f) w o o' (told s f) h))
+  pub fault_ends : (s json : Bool) (f : DiskFault) (w : Outcome) (o o' : Option (List ℕ)) → FirstDiskFault bytes n f
+      → EndsBy (TellsFault s json bytes n f) w o o' → EndsBy (DiskAnswer (listing_request s json) all) w o o'
+  fault_ends s json f w o o' first h =
+      disk_ends (listing_request s json) all (disk_of all) w o o' refl
+      (refused_ends (listing_request s json) (disk_of all) f w o o' (fault_held first)
+      (ends_weaker (TellsFault s json bytes n f) (OfFault (listing_request s json) (disk_of all) f) w o o' (told s json f) h))

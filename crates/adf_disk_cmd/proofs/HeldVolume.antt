@@ -161,7 +161,7 @@ module _ (all tables behind : List ℕ) (q : Place) (len : ℕ) (within : end_of
         (λ reply e. e ∙ answer) h))
 
     pub no_copy_ends : (f : DiskFault) (end : Outcome) (o o' : Option (List ℕ)) → FirstDiskFault tables n f
-        → EndsBy (TellsFault false tables n f) end o o' → EndsBy (DiskAnswer (volume w) all) end o o'
+        → EndsBy (TellsFault false false tables n f) end o o' → EndsBy (DiskAnswer (volume w) all) end o o'
     no_copy_ends f end o o' first h =
         disk_ends (volume w) all (disk_of all) end o o' refl
         (refused_ends (volume w) (disk_of all) f end o o' (fault_held all tables (length tables + len) n tables_part blocks_are first) h)

@@ -3,10 +3,10 @@
 use Rattle.std.proofs.Common.{◌≡◌, ◌&&◌, ◌++◌, ◌∙◌, ℕ, Bool, true, false, List, [], ◌∷◌, Option, None, Some, Result, Ok, Err, inl, inr, ap, ap₂, refl, sym}
 use Rattle.std.proofs.Common.{subst, length, ◌/◌, take, arith}
 use Rattle.std.proofs.lemmas.Grind.{common_steps}
-use Rattle.adf_disk_cmd.specs.Answers.{ChecksAll, DiskAnswer, OfBytes, OfDisk, OfFault, OfPartitions, TellsReadable, disk_fault_line}
+use Rattle.adf_disk_cmd.specs.Answers.{ChecksAll, DiskAnswer, OfBytes, OfDisk, OfFault, OfPartitions, TellsReadable}
 use Rattle.adf_disk_cmd.specs.Builds.{BuildsDisk, plan_reply, refusal}
 use Rattle.adf_disk_cmd.specs.Checks.{AreChecked, TellsPlace, TellsText, TellsVolume, check_status, unchecked_text, why_unchecked}
-use Rattle.adf_disk_cmd.specs.{Lines.name_text, Lines.volume_at, declared.unchecked.Unchecked.Unchecked, declared.work.TheConstants.MOST_DISK_BYTES}
+use Rattle.adf_disk_cmd.specs.{Objects.disk_fault_line, Objects.verdict_line, Lines.volume_at, declared.unchecked.Unchecked.Unchecked, declared.work.TheConstants.MOST_DISK_BYTES}
 use Rattle.adf_cmd.proofs.OneAnswer.{one_check}
 use Rattle.adf_volume.specs.declared.types.Types.TheVariants.{WithInternational}
 use Rattle.adf_partitions.proofs.OneAnswer.{no_fault, one_disk, one_fault, one_reading}
@@ -41,33 +41,33 @@ place_once : (bytes : List ℕ) (p : Partition) (place : Result Place PlaceFault
 place_once bytes p (Ok q) s t l m h g = volume_once (why_unchecked p q) (volume_at bytes q) s t l m h g
 place_once bytes p (Err f) s t l m h g = text_once (place_fault_text f) s t l m h g
 
-checked_once : (bytes : List ℕ) (ps : List Partition) (s t : Bool) (l m : List ℕ) → AreChecked bytes ps s l → AreChecked bytes ps t m
+checked_once : (json : Bool) (bytes : List ℕ) (ps : List Partition) (s t : Bool) (l m : List ℕ) → AreChecked json bytes ps s l → AreChecked json bytes ps t m
     → (s ≡ t) × (l ≡ m)
 unfolding AreChecked
-checked_once bytes [] s t l m h g = (h.0 ∙ sym g.0, h.1 ∙ sym g.1)
-checked_once bytes (p ∷ ps) s t l m (one, others, line, rest, tells, are, e, f) (one', others', line', rest', tells', are', e', f') =
+checked_once json bytes [] s t l m h g = (h.0 ∙ sym g.0, h.1 ∙ sym g.1)
+checked_once json bytes (p ∷ ps) s t l m (one, others, line, rest, tells, are, e, f) (one', others', line', rest', tells', are', e', f') =
     let told = place_once bytes p p.place one one' line line' tells tells' in
-    let more = checked_once bytes ps others others' rest rest' are are' in
-    (e ∙ ap₂ (λ (x y : Bool). x && y) told.0 more.0 ∙ sym e', f ∙ ap₂ (λ (x y : List ℕ). (name_text p ++ x) ++ y) told.1 more.1 ∙ sym f')
+    let more = checked_once json bytes ps others others' rest rest' are are' in
+    (e ∙ ap₂ (λ (x y : Bool). x && y) told.0 more.0 ∙ sym e', f ∙ ap₂ (λ (x y : List ℕ). x ++ y) (ap₂ (verdict_line json p) told.0 told.1) more.1 ∙ sym f')
 
-all_once : (bytes : List ℕ) (ps : List Partition) (a b : Reply) → ChecksAll bytes ps a → ChecksAll bytes ps b → a ≡ b
-all_once bytes ps a b (s, l, h, x) (t, m, g, y) = grind (arith, common_steps, checked_once, ap₂)
+all_once : (json : Bool) (bytes : List ℕ) (ps : List Partition) (a b : Reply) → ChecksAll json bytes ps a → ChecksAll json bytes ps b → a ≡ b
+all_once json bytes ps a b (s, l, h, x) (t, m, g, y) = grind (arith, common_steps, checked_once, ap₂)
 
 of_once : (r : DiskRequestValue) (bytes : List ℕ) (ps : List Partition) (a b : Reply) → OfPartitions r bytes ps a → OfPartitions r bytes ps b → a ≡ b
-of_once list bytes ps a b x y = x ∙ sym y
-of_once check bytes ps a b x y = all_once bytes ps a b x y
-of_once survey bytes ps a b x y = x ∙ sym y
+of_once (list json) bytes ps a b x y = x ∙ sym y
+of_once (check json) bytes ps a b x y = all_once json bytes ps a b x y
+of_once (survey json) bytes ps a b x y = x ∙ sym y
 of_once (volume w) bytes ps a b x y = x ∙ sym y
 of_once build bytes ps a b x y = absurd x
 
-readable_once : (bytes : List ℕ) (n : ℕ) (line a b : List ℕ) → TellsReadable bytes n line a → TellsReadable bytes n line b → a ≡ b
-readable_once bytes n line a b (ps, h, x) (qs, g, y) = grind (arith, common_steps, one_reading)
+readable_once : (json : Bool) (bytes : List ℕ) (n : ℕ) (line a b : List ℕ) → TellsReadable json bytes n line a → TellsReadable json bytes n line b → a ≡ b
+readable_once json bytes n line a b (ps, h, x) (qs, g, y) = grind (arith, common_steps, one_reading)
 
 fault_once : (r : DiskRequestValue) (bytes : List ℕ) (f : DiskFault) (a b : Reply) → OfFault r bytes f a → OfFault r bytes f b → a ≡ b
-fault_once list bytes f a b x y = x ∙ sym y
-fault_once check bytes f a b x y = x ∙ sym y
-fault_once survey bytes f a b (s, h, x) (t, g, y) =
-    x ∙ ap (λ (k : List ℕ). on_output 1 k) (readable_once bytes (length bytes / 512) (disk_fault_line f) s t h g) ∙ sym y
+fault_once (list json) bytes f a b x y = x ∙ sym y
+fault_once (check json) bytes f a b x y = x ∙ sym y
+fault_once (survey json) bytes f a b (s, h, x) (t, g, y) =
+    x ∙ ap (λ (k : List ℕ). on_output 1 k) (readable_once json bytes (length bytes / 512) (disk_fault_line json f) s t h g) ∙ sym y
 fault_once (volume w) bytes f a b x y = x ∙ sym y
 fault_once build bytes f a b x y = absurd x
 
@@ -90,9 +90,9 @@ build_once text a b (inr (f, fault, x)) (inr (g, also, y)) =
     x ∙ ap (λ (k : TextFault). refusal (text_fault_text k)) (one_text_fault text f g fault also) ∙ sym y
 
 bytes_once : (r : DiskRequestValue) (bytes : List ℕ) (a b : Reply) → OfBytes r bytes a → OfBytes r bytes b → a ≡ b
-bytes_once list bytes a b x y = disk_once list bytes a b x y
-bytes_once check bytes a b x y = disk_once check bytes a b x y
-bytes_once survey bytes a b x y = disk_once survey bytes a b x y
+bytes_once (list json) bytes a b x y = disk_once (list json) bytes a b x y
+bytes_once (check json) bytes a b x y = disk_once (check json) bytes a b x y
+bytes_once (survey json) bytes a b x y = disk_once (survey json) bytes a b x y
 bytes_once (volume w) bytes a b x y = disk_once (volume w) bytes a b x y
 bytes_once build bytes a b x y = build_once bytes a b x y
 

@@ -1,13 +1,13 @@
 -- Texts of plans with other bytes behind them. t, u are texts behind a line or behind lines, e what is left behind the lines of ps.
-use Rattle.std.proofs.Common.{◌≡◌, ◌<◌, ◌∙◌, ◌++◌, ◌==◌, ℕ, Bool, true, false, List, [], ◌∷◌, ap, append_assoc, arith, codes, get_or, inl, length, refl, subst, sym}
+use Rattle.std.proofs.Common.{◌≡◌, ◌<◌, ◌∙◌, ◌++◌, ◌==◌, ℕ, Bool, true, false, List, [], ◌∷◌, ap, append_assoc, arith, codes, get_or, inl, length, refl, sym}
 use Rattle.std.proofs.Common.{nat_lt, if◌then◌else◌}
 use Rattle.std.proofs.{lemmas.Bool.Decides.nat_tests, lemmas.Grind.common_steps}
 use Rattle.std.proofs.lemmas.List.Sums.{fails_before_first, passes_at_first, split_at_first}
 use Rattle.std.specs.{List.position_or_len, Str.bytes_eq}
 use Rattle.clap.proofs.CutLemmas.{Lacks, after_first-at, before_first-at}
-use Rattle.adf_disk_cmd.specs.{Builds.BuildsDisk, Builds.plan_reply, HostPlans.PlansTakeAnyBytes}
+use Rattle.adf_disk_cmd.specs.{HostPlans.PlansTakeAnyBytes}
 use Rattle.adf_partitions.specs.{Plans.PlanValue, declared.plan.PartitionPlan.PartitionPlan}
-use Rattle.adf_plans.specs.PlanTexts.{AreLines, HasNoPartition, IsDiskLine, IsPartitionLine, IsText, before_byte, begins_with_end, behind_byte}
+use Rattle.adf_plans.specs.PlanTexts.{AreLines, IsText, before_byte, begins_with_end, behind_byte}
 use Rattle.adf_plans.specs.PlanTexts.{behind_line, first_line, has_word}
 
 -- whether a line feed ends the first line

@@ -7,13 +7,14 @@ use Rattle.adf_partitions.specs.{Disks.FirstDiskFault, Disks.IsDisk, FaultTexts.
 use Rattle.adf_partitions.specs.{Searches.AreReadable, declared.fault.DiskFault.DiskFault, declared.partition.Partition.Partition, declared.place.Place.Place}
 use Rattle.adf_partitions.specs.{declared.place.PlaceFault.PlaceFault, declared.tables.Tables.Tables}
 use Rattle.adf_disk_cmd.specs.CommandLine.{AreRefusedByDisk, AsksDisk, DiskRequestValue, WantedValue, build, check, list, name, number, survey}
-use Rattle.adf_disk_cmd.specs.{CommandLine.volume, Builds.BuildsDisk, Builds.refusal, Checks.AreChecked, Checks.check_status, Lines.list_lines, Lines.volume_at}
+use Rattle.adf_disk_cmd.specs.{CommandLine.volume, Builds.BuildsDisk, Builds.refusal, Checks.AreChecked, Checks.check_status, Lines.volume_at}
+use Rattle.adf_disk_cmd.specs.Objects.{disk_fault_line, list_lines}
 use Rattle.adf_runs.specs.Commands.{Command, Reply, on_output}
 use Rattle.adf_disk_cmd.specs.declared.work.TheConstants.{MOST_DISK_BYTES}
 
 -- `check` writes the lines of all partitions, at status 0 where all of them are sound
-abbrev pub ChecksAll : List ℕ → List Partition → Reply → Type 0
-ChecksAll bytes ps reply = (sound : Bool) × (text : List ℕ) × AreChecked bytes ps sound text × (reply ≡ on_output (check_status sound) text)
+abbrev pub ChecksAll : (json : Bool) → List ℕ → List Partition → Reply → Type 0
+ChecksAll json bytes ps reply = (sound : Bool) × (text : List ℕ) × AreChecked json bytes ps sound text × (reply ≡ on_output (check_status sound) text)
 
 -- whether a text is the name of a partition, as `list` writes it or in the escape form, ignoring case
 abbrev pub is_called : List ℕ → Partition → Bool
@@ -45,26 +46,23 @@ volume_reply bytes w (Some p) = place_reply bytes p.place
 
 -- the answer to a request, of a disk with these partitions: `build` reads no disk
 abbrev pub OfPartitions : DiskRequestValue → List ℕ → List Partition → Reply → Type 0
-OfPartitions list bytes ps reply = reply ≡ on_output 0 (list_lines 1 ps)
-OfPartitions check bytes ps reply = ChecksAll bytes ps reply
-OfPartitions survey bytes ps reply = reply ≡ on_output 0 (list_lines 1 ps)
+OfPartitions (list json) bytes ps reply = reply ≡ on_output 0 (list_lines json 1 ps)
+OfPartitions (check json) bytes ps reply = ChecksAll json bytes ps reply
+OfPartitions (survey json) bytes ps reply = reply ≡ on_output 0 (list_lines json 1 ps)
 OfPartitions (volume w) bytes ps reply = reply ≡ volume_reply bytes w (wanted_of ps w)
 OfPartitions build bytes ps reply = ⊥
 
 -- a line, and the lines of the partitions that can be read of a disk of n blocks
-abbrev pub TellsReadable : List ℕ → ℕ → List ℕ → List ℕ → Type 0
-TellsReadable bytes n line text = (ps : List Partition) × AreReadable bytes n ps × (text ≡ line ++ list_lines 1 ps)
-
--- the line of a fault
-abbrev pub disk_fault_line : DiskFault → List ℕ
-disk_fault_line f = disk_fault_text f ++ codes "\n"
+abbrev pub TellsReadable : (json : Bool) → List ℕ → ℕ → List ℕ → List ℕ → Type 0
+TellsReadable json bytes n line text = (ps : List Partition) × AreReadable bytes n ps × (text ≡ line ++ list_lines json 1 ps)
 
 -- The answer of a disk whose tables have a fault: `check` tells it on output, `survey` with the partitions that can be read, the
 -- others on errors.
 abbrev pub OfFault : DiskRequestValue → List ℕ → DiskFault → Reply → Type 0
-OfFault list bytes f reply = reply ≡ refusal (disk_fault_text f)
-OfFault check bytes f reply = reply ≡ on_output 1 (disk_fault_line f)
-OfFault survey bytes f reply = (text : List ℕ) × TellsReadable bytes (length bytes / 512) (disk_fault_line f) text × (reply ≡ on_output 1 text)
+OfFault (list json) bytes f reply = reply ≡ refusal (disk_fault_text f)
+OfFault (check json) bytes f reply = reply ≡ on_output 1 (disk_fault_line json f)
+OfFault (survey json) bytes f reply =
+    (text : List ℕ) × TellsReadable json bytes (length bytes / 512) (disk_fault_line json f) text × (reply ≡ on_output 1 text)
 OfFault (volume w) bytes f reply = reply ≡ refusal (disk_fault_text f)
 OfFault build bytes f reply = ⊥
 
@@ -94,7 +92,8 @@ DiskRequestsHaveOneAnswer = (r : DiskRequestValue) (input : List ℕ) (a b : Rep
 -- what errors get where the words are refused
 abbrev pub disk_usage : List ℕ
 disk_usage =
-    codes "usage: adf-disk list [FILE]\n       adf-disk check [FILE]\n       adf-disk survey [FILE]\n       adf-disk volume NAME [FILE]\n"
+    codes "usage: adf-disk list [--json] [FILE]\n       adf-disk check [--json] [FILE]\n       adf-disk survey [--json] [FILE]\n"
+    ++ codes "       adf-disk volume NAME [FILE]\n"
     ++ codes "       adf-disk build [PLAN]\nwithout a FILE the disk or its plan comes on standard input; man adf-disk tells more\n"
 
 -- the command `adf-disk`, whose words have no path

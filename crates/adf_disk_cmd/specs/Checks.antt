@@ -6,7 +6,7 @@ use Rattle.adf_blocks.specs.declared.layout.TheConstants.{MOST_BLOCKS}
 use Rattle.adf_runs.specs.Commands.{on_output}
 use Rattle.adf_partitions.specs.{Faults.first_failed, FaultTexts.field_fault_text, FaultTexts.place_fault_text, declared.field_fault.FieldFault.FieldFault}
 use Rattle.adf_partitions.specs.{declared.partition.Partition.Partition, declared.place.Place.Place, declared.place.PlaceFault.PlaceFault}
-use Rattle.adf_disk_cmd.specs.{Lines.bytes_text, Lines.is_checked, Lines.name_text, Lines.volume_at, declared.unchecked.Unchecked.Unchecked}
+use Rattle.adf_disk_cmd.specs.{Lines.bytes_text, Lines.is_checked, Lines.volume_at, Objects.verdict_line, declared.unchecked.Unchecked.Unchecked}
 use Rattle.adf_cmd.specs.{Answers.Checks, CheckAnswers.IsCheckAnswer, declared.checking.CheckAnswer.CheckAnswer}
 use Rattle.adf_volume.specs.declared.types.Types.TheVariants.{WithInternational}
 use Rattle.adf_disk_cmd.specs.declared.unchecked.Unchecked.TheVariants.{OtherType, Fields, Reserved, OddBlocks, BadSize}
@@ -58,9 +58,9 @@ TellsPlace bytes p (Err f) sound line = TellsText (place_fault_text f) sound lin
 abbrev pub TellsPartition : List ℕ → Partition → Bool → List ℕ → Type 0
 TellsPartition bytes p sound line = TellsPlace bytes p p.place sound line
 
--- the lines of partitions in order, each behind its name, and whether all of them are sound
-unfoldable pub AreChecked : List ℕ → List Partition → Bool → List ℕ → Type 0
-AreChecked bytes [] sound text = (sound ≡ true) × (text ≡ [])
-AreChecked bytes (p ∷ ps) sound text =
-    (one others : Bool) × (line rest : List ℕ) × TellsPartition bytes p one line × AreChecked bytes ps others rest
-    × (sound ≡ (one && others)) × (text ≡ (name_text p ++ line) ++ rest)
+-- the lines of partitions in order, and whether all of them are sound
+unfoldable pub AreChecked : (json : Bool) → List ℕ → List Partition → Bool → List ℕ → Type 0
+AreChecked json bytes [] sound text = (sound ≡ true) × (text ≡ [])
+AreChecked json bytes (p ∷ ps) sound text =
+    (one others : Bool) × (line rest : List ℕ) × TellsPartition bytes p one line × AreChecked json bytes ps others rest
+    × (sound ≡ (one && others)) × (text ≡ verdict_line json p one line ++ rest)

@@ -1,8 +1,8 @@
 -- The command line of `adf-disk`, as clap reads it, and what its matches ask for.
-use Rattle.std.specs.Prelude.{◌≡◌, ◌⊎◌, ℕ, List, [], Option, Some, None, codes, option_map, if◌then◌else◌}
+use Rattle.std.specs.Prelude.{◌≡◌, ◌⊎◌, ℕ, Bool, List, [], Option, Some, None, codes, option_map, if◌then◌else◌}
 use Rattle.std.specs.{Option.option_and_then, Str.bytes_eq}
 use Rattle.clap.specs.Words.{App, Row, Text, fault_of, first_of, matches_of, new_app, subcommand_of, with_rule, with_subcommand}
-use Rattle.adf_words.specs.Arguments.{bare_app, number_named, required_rule}
+use Rattle.adf_words.specs.Arguments.{bare_app, flag_rule, has_flag, number_named, required_rule}
 use Rattle.adf_words.specs.FileArguments.{file_met, file_rule, with_file}
 use Rattle.adf_blocks.specs.declared.layout.TheConstants.{MOST_BLOCKS}
 use Rattle.adf_disk_cmd.specs.declared.command_line.DiskRequest.{DiskRequest}
@@ -13,24 +13,32 @@ use Rattle.adf_disk_cmd.specs.declared.command_line.Wanted.{Wanted, TheVariants.
 abbrev pub volume_app : App
 volume_app = with_rule (with_rule (new_app (codes "volume")) (required_rule (codes "name"))) file_rule
 
--- list [FILE], check [FILE]
-abbrev pub lists_and_checks : App
-lists_and_checks = with_file (with_file (bare_app (codes "adf-disk")) (codes "list")) (codes "check")
+-- a command that tells of a disk, as list [--json] [FILE]
+abbrev pub telling_app : Text → App
+telling_app name = with_rule (with_rule (new_app name) (flag_rule (codes "json"))) file_rule
 
--- the command line: these, survey [FILE], build [PLAN], and volume NAME [FILE]
+-- one more such command
+abbrev pub with_telling : App → Text → App
+with_telling app name = with_subcommand app (telling_app name).top
+
+-- list [--json] [FILE], check [--json] [FILE]
+abbrev pub lists_and_checks : App
+lists_and_checks = with_telling (with_telling (bare_app (codes "adf-disk")) (codes "list")) (codes "check")
+
+-- the command line: these, survey [--json] [FILE], build [PLAN], and volume NAME [FILE]
 abbrev pub disk_app : App
-disk_app = with_subcommand (with_file (with_file lists_and_checks (codes "survey")) (codes "build")) volume_app.top
+disk_app = with_subcommand (with_file (with_telling lists_and_checks (codes "survey")) (codes "build")) volume_app.top
 
 -- a partition, by its number or its name
 pub data WantedValue : Type 0 where
   number : ℕ → WantedValue
   name : Text → WantedValue
 
--- what a command line asks for
+-- what a command line asks for: what is told of a disk, as lines or as objects, or the bytes of a volume or of a new disk
 pub data DiskRequestValue : Type 0 where
-  list : DiskRequestValue
-  check : DiskRequestValue
-  survey : DiskRequestValue
+  list : (json : Bool) → DiskRequestValue
+  check : (json : Bool) → DiskRequestValue
+  survey : (json : Bool) → DiskRequestValue
   volume : WantedValue → DiskRequestValue
   build : DiskRequestValue
 
@@ -41,9 +49,9 @@ wanted_named text = elim (number_named MOST_BLOCKS text) [ Some n ↦ number n |
 -- the request that a subcommand's name and matches are
 abbrev pub disk_request_named : Text → List Row → Option DiskRequestValue
 disk_request_named command rows =
-    if bytes_eq command (codes "list") then Some list
-    else (if bytes_eq command (codes "check") then Some check
-    else (if bytes_eq command (codes "survey") then Some survey
+    if bytes_eq command (codes "list") then Some (list (has_flag (codes "json") rows))
+    else (if bytes_eq command (codes "check") then Some (check (has_flag (codes "json") rows))
+    else (if bytes_eq command (codes "survey") then Some (survey (has_flag (codes "json") rows))
     else (if bytes_eq command (codes "build") then Some build
     else (if bytes_eq command (codes "volume") then option_map (λ text. volume (wanted_named text)) (first_of (codes "name") rows)
     else None))))
@@ -75,8 +83,8 @@ wanted_value (Name text) = name text.now
 
 -- the value of a request as the code has it
 abbrev pub disk_request_value : DiskRequest → DiskRequestValue
-disk_request_value ListAll = list
-disk_request_value Check = check
-disk_request_value Survey = survey
+disk_request_value (ListAll json) = list json
+disk_request_value (Check json) = check json
+disk_request_value (Survey json) = survey json
 disk_request_value (Volume wanted) = volume (wanted_value wanted)
 disk_request_value Build = build

@@ -1,6 +1,7 @@
--- The promise: the command line, the lines, and what the command answers.
+-- The promise: the command line, the lines and objects, and what the command answers.
 pub mod CommandLine
 pub mod Lines
+pub mod Objects
 pub mod Checks
 pub mod Builds
 pub mod Answers

@@ -13,13 +13,21 @@ use Rattle.adf_disk_cmd.specs.declared.types.TheConstants.{DOS}
 abbrev pub bytes_text : ℕ → List ℕ
 bytes_text t = escaped (to_be_bytes w32 t)
 
--- a type: of `DOS\0` to `DOS\3` the word for its kind and letters, else its four bytes
+-- the word for the kind and the letters of a type, of `DOS\0` to `DOS\3`
+unfoldable pub word_of_type : ℕ → Option (List ℕ)
+word_of_type t =
+    if t == DOS then Some (kind_text_by Ascii Ofs)
+    else (if t == DOS + 1 then Some (kind_text_by Ascii Ffs)
+    else (if t == DOS + 2 then Some (kind_text_by International Ofs)
+    else (if t == DOS + 3 then Some (kind_text_by International Ffs) else None)))
+
+-- a type in a line: its word, else its four bytes in the escape form
 unfoldable pub type_text : ℕ → List ℕ
-type_text t =
-    if t == DOS then kind_text_by Ascii Ofs
-    else (if t == DOS + 1 then kind_text_by Ascii Ffs
-    else (if t == DOS + 2 then kind_text_by International Ofs
-    else (if t == DOS + 3 then kind_text_by International Ffs else bytes_text t)))
+type_text t = elim (word_of_type t) [ None ↦ bytes_text t | Some word ↦ word ]
+
+-- a type in an object: its word, else its four bytes
+unfoldable pub type_bytes : ℕ → List ℕ
+type_bytes t = elim (word_of_type t) [ None ↦ to_be_bytes w32 t | Some word ↦ word ]
 
 -- whether a volume of this type is checked: of `DOS\0` to `DOS\5`, and of 0, which says nothing of the volume
 abbrev pub is_checked : ℕ → Bool
@@ -48,11 +56,6 @@ words_text p =
 -- the line of partition n
 abbrev pub list_line : ℕ → Partition → List ℕ
 list_line n p = (decimal n ++ codes " ") ++ (name_text p ++ words_text p)
-
--- the lines of partitions, the first of which has the number n
-unfoldable pub list_lines : ℕ → List Partition → List ℕ
-list_lines n [] = []
-list_lines n (p ∷ ps) = list_line n p ++ list_lines (n + 1) ps
 
 -- the bytes of the volume that lies there
 unfoldable pub volume_at : List ℕ → Place → List ℕ

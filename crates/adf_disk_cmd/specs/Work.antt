@@ -6,7 +6,8 @@ use Rattle.adf_partitions.specs.{declared.place.Place.Place, declared.place.Plac
 use Rattle.adf_partitions.specs.FaultTexts.{disk_fault_text, place_fault_text}
 use Rattle.adf_runs.specs.{Commands.Reply, Commands.on_output, Streams.IsExcerpt}
 use Rattle.adf_disk_cmd.specs.CommandLine.{DiskRequestValue, WantedValue, check, list, name, number, survey, volume}
-use Rattle.adf_disk_cmd.specs.Answers.{TellsReadable, disk_fault_line, no_partition_text, wanted_of}
+use Rattle.adf_disk_cmd.specs.Answers.{TellsReadable, no_partition_text, wanted_of}
+use Rattle.adf_disk_cmd.specs.Objects.{disk_fault_line}
 use Rattle.adf_disk_cmd.specs.{Builds.refusal, declared.list_input.TheConstants.TABLES_LEN, declared.work.TheConstants.MOST_DISK_BYTES}
 use Rattle.adf_disk_cmd.specs.declared.copy_input.TheConstants.{MOST_DISK_BLOCKS}
 use Rattle.adf_disk_cmd.specs.declared.work.Sought.{Sought, TheVariants.Numbered, TheVariants.Named}
@@ -19,20 +20,20 @@ sought_value (Named text) = name (string_bytes text)
 
 -- the work is that of a request
 abbrev pub IsWorkOf : Work → DiskRequestValue → Type 0
-IsWorkOf ListAll r = r ≡ list
-IsWorkOf Check r = r ≡ check
-IsWorkOf Survey r = r ≡ survey
+IsWorkOf (ListAll json) r = r ≡ list json
+IsWorkOf (Check json) r = r ≡ check json
+IsWorkOf (Survey json) r = r ≡ survey json
 IsWorkOf (Volume sought) r = r ≡ volume (sought_value sought)
 
 -- the request to list partitions, or to survey the disk
-abbrev pub listing_request : Bool → DiskRequestValue
-listing_request true = survey
-listing_request false = list
+abbrev pub listing_request : (survey json : Bool) → DiskRequestValue
+listing_request true json = survey json
+listing_request false json = list json
 
 -- what each of them answers where the tables of a disk of n blocks have a fault
-abbrev pub TellsFault : Bool → List ℕ → ℕ → DiskFault → Reply → Type 0
-TellsFault true bytes n f reply = (text : List ℕ) × TellsReadable bytes n (disk_fault_line f) text × (reply ≡ on_output 1 text)
-TellsFault false bytes n f reply = reply ≡ refusal (disk_fault_text f)
+abbrev pub TellsFault : (survey json : Bool) → List ℕ → ℕ → DiskFault → Reply → Type 0
+TellsFault true json bytes n f reply = (text : List ℕ) × TellsReadable json bytes n (disk_fault_line json f) text × (reply ≡ on_output 1 text)
+TellsFault false json bytes n f reply = reply ≡ refusal (disk_fault_text f)
 
 -- where the volume of the partition that is wanted lies, if it has a place on a disk of so many blocks, however many
 abbrev pub IsSoughtPlace : List ℕ → WantedValue → Place → Type 0

@@ -7,6 +7,13 @@ ghost use Rattle.adf_runs.specs.{Commands.on_output, Outcomes.Does, Outcomes.Doe
 use adf_runs::{Outcome, Sink, write_all, write_both};
 use std::alloc::Global;
 
+/// How a disk is told of: as lines, or as objects.
+#[derive(Clone, Copy)]
+pub struct Telling {
+    pub alloc: Global,
+    pub json: bool,
+}
+
 /// Writes a text, at status 0 if all is sound, else at status 1.
 pub fn write_text<W: Sink>(output: &mut W, text: &[u8], sound: bool) -> Outcome
     requires { W.has_failed output.old ≡ false }

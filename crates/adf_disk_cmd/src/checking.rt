@@ -1,12 +1,13 @@
 // The command `check`.
 
 ghost use Rattle.std.specs.Prelude.{◌≡◌, ◌++◌, All, List, ℕ, false, find, option_copied, string_bytes, IfOk, OnOk};
-ghost use Rattle.adf_disk_cmd.specs.{Answers.ChecksAll, Lines.name_text, Lines.volume_at};
+ghost use Rattle.adf_disk_cmd.specs.{Answers.ChecksAll, Lines.volume_at, Objects.verdict_line};
 ghost use Rattle.adf_disk_cmd.specs.Checks.{AreChecked, TellsPartition, IsVolumeAnswer};
 ghost use Rattle.adf_disk_cmd.specs.HeldChecks.{IsAnswered, IsKnown, KnowsVolume, KnowsVolumes, lies_at};
 ghost use Rattle.adf_runs.specs.Outcomes.{Blames, EndsBy};
 
-use crate::answering::write_text;
+use crate::answering::{Telling, write_text};
+use crate::disk_objects::push_verdict_object;
 use crate::listing::push_name;
 use crate::unchecked::{unchecked_text, why_unchecked};
 use crate::volumes::volume_at;
@@ -85,34 +86,39 @@ fn answer_to_partition(
     Ok(CheckAnswer { sound: false, line })
 }
 
-// Appends the line of a partition: its name, and what is told of it.
+// Appends the line of a partition: its name, and what is told of it; or with `json` its object.
 fn push_line(
     text: &mut Vec<u8>,
     partition: &Partition,
     answer: &CheckAnswer,
+    json: bool,
 ) -> Result<(), AllocError>
-    ensures { OnOk result (text.new.items
-        ≡ text.old.items ++ (name_text partition.now ++ string_bytes answer.now.line)) }
+    ensures { OnOk result (text.new.items ≡ text.old.items
+        ++ verdict_line json partition.now answer.now.sound (string_bytes answer.now.line)) }
 {
+    if json {
+        let line = answer.line.as_bytes();
+        return push_verdict_object(text, partition, answer.sound, line);
+    }
     push_name(text, partition)?;
     text.extend_from_slice(answer.line.as_bytes())
 }
 
 // The lines of all partitions.
 fn check_partitions(
-    alloc: Global,
+    telling: Telling,
     bytes: &[u8],
     checked: &[CheckedVolume],
     partitions: &[Partition],
 ) -> Result<Checks, AllocError>
     ensures { (all : List ℕ) → KnowsVolumes all bytes.now checked.now partitions.now
-        → IfOk result (λ c. AreChecked all partitions.now c.sound c.text.items) }
+        → IfOk result (λ c. AreChecked telling.json all partitions.now c.sound c.text.items) }
 {
-    let mut text = Vec::new(alloc);
+    let mut text = Vec::new(telling.alloc);
     let mut sound = true;
     for partition in partitions {
-        let answer = answer_to_partition(alloc, bytes, checked, partition)?;
-        push_line(&mut text, partition, &answer)?;
+        let answer = answer_to_partition(telling.alloc, bytes, checked, partition)?;
+        push_line(&mut text, partition, &answer, telling.json)?;
         sound = sound && answer.sound;
     }
     Ok(Checks { sound, text })
@@ -120,7 +126,7 @@ fn check_partitions(
 
 /// Writes the lines of all partitions of a disk, of which these bytes are held and these volumes were checked.
 pub fn write_checks<W: Sink>(
-    alloc: Global,
+    telling: Telling,
     bytes: &[u8],
     checked: &[CheckedVolume],
     partitions: &[Partition],
@@ -128,10 +134,10 @@ pub fn write_checks<W: Sink>(
 ) -> Outcome
     requires { W.has_failed output.old ≡ false }
     ensures ends { (all : List ℕ) → KnowsVolumes all bytes.now checked.now partitions.now
-        → EndsBy (ChecksAll all partitions.now) result (W.held output.old) (W.held output.new) }
+        → EndsBy (ChecksAll telling.json all partitions.now) result (W.held output.old) (W.held output.new) }
     ensures blames { Blames result false (W.has_failed output.new) }
 {
-    match check_partitions(alloc, bytes, checked, partitions) {
+    match check_partitions(telling, bytes, checked, partitions) {
         Ok(checks) => write_text(output, &checks.text, checks.sound),
         Err(_) => Outcome::NoMemory,
     }

@@ -1,27 +1,27 @@
 // The arguments of `adf-disk`, by clap.
 
-ghost use Rattle.std.specs.Prelude.{◌≡◌, ◌==◌, IfOk, IfErr, ℕ, List, [], ◌∷◌, codes, false, option_map};
+ghost use Rattle.std.specs.Prelude.{◌≡◌, ◌==◌, IfOk, IfErr, ℕ, List, [], ◌∷◌, codes, false, option_map, true};
 ghost use Rattle.clap.specs.Words.{app_of, fault_of, found_of, matches_of, rows_of, subcommand_of, subcommand_rows_of};
 ghost use Rattle.clap.specs.declared.builder.command.Command.TheViews.{out-Command};
 ghost use Rattle.adf_words.specs.{CommandLine.ExplainsArgs, CommandLine.texts_of, FileArguments.file_meant};
 ghost use Rattle.adf_words.specs.declared.command_line.ArgsError.TheVariants.{Usage};
 ghost use Rattle.adf_disk_cmd.specs.CommandLine.{AreRefusedByDisk, AsksDisk, AsksDiskOf, disk_file, build};
 ghost use Rattle.adf_disk_cmd.specs.CommandLine.{check, disk_app, disk_met, disk_request_named, disk_request_value, list};
-ghost use Rattle.adf_disk_cmd.specs.CommandLine.{lists_and_checks, name, number, survey, volume, volume_app, wanted_named};
-ghost use Rattle.adf_disk_cmd.specs.CommandLine.{wanted_value};
+ghost use Rattle.adf_disk_cmd.specs.CommandLine.{lists_and_checks, name, number, survey, telling_app, volume, volume_app, wanted_named};
+ghost use Rattle.adf_disk_cmd.specs.CommandLine.{wanted_value, with_telling};
 
 use adf_blocks::MOST_BLOCKS;
 use adf_file_runs::About;
 use adf_words::{
-    ArgsError, bare_command, file_argument, file_met, first_text, matches_of, number_named,
-    required, with_argument, with_file, with_subcommand,
+    ArgsError, bare_command, file_argument, file_met, first_text, flag, has_flag, matches_of,
+    number_named, required, with_argument, with_file, with_subcommand,
 };
 use clap::{ArgMatches, Command};
 use std::alloc::{AllocError, Global};
 
 /// What is said of arguments that are refused.
 pub const DISK_USAGE: &str =
-    "usage: adf-disk list [FILE]\n       adf-disk check [FILE]\n       adf-disk survey [FILE]\n       \
+    "usage: adf-disk list [--json] [FILE]\n       adf-disk check [--json] [FILE]\n       adf-disk survey [--json] [FILE]\n       \
     adf-disk volume NAME [FILE]\n       adf-disk build [PLAN]\n\
     without a FILE the disk or its plan comes on standard input; man adf-disk tells more\n";
 
@@ -29,12 +29,13 @@ pub const DISK_USAGE: &str =
 pub const ABOUT: About = About {
     name: "adf-disk",
     help: "Lists and checks the partitions of a whole Amiga hard disk, cuts out its volumes, and builds a disk from a plan.\n\n\
-    usage: adf-disk list [FILE]           a line for each partition\n\
-    \x20      adf-disk check [FILE]          a verdict on each volume\n\
-    \x20      adf-disk survey [FILE]         the partitions of a damaged table\n\
-    \x20      adf-disk volume NAME [FILE]    the volume of a partition, by its name or its number\n\
-    \x20      adf-disk build [PLAN] > DISK   a new disk\n\
+    usage: adf-disk list [--json] [FILE]     a line for each partition\n\
+    \x20      adf-disk check [--json] [FILE]    a verdict on each volume\n\
+    \x20      adf-disk survey [--json] [FILE]   the partitions of a damaged table\n\
+    \x20      adf-disk volume NAME [FILE]       the volume of a partition, by its name or its number\n\
+    \x20      adf-disk build [PLAN] > DISK      a new disk\n\
     \x20      adf-disk --help, adf-disk --version\n\n\
+    With --json each line is an object.\n\
     Without a FILE, or with -, the disk or its plan comes on standard input. A PLAN that is a file may name the file of a volume:\n\
     partition DH0 ffs 20 work.hdf. man adf-disk tells more.\n",
     waits: Some("waiting for standard input; adf-disk --help tells more\n"),
@@ -52,9 +53,12 @@ pub enum Wanted<'a> {
 /// What a command line asks for.
 #[derive(Clone, Copy, Debug)]
 pub enum DiskRequest<'a> {
-    List,
-    Check,
-    Survey,
+    /// The partitions, as lines or as objects.
+    List { json: bool },
+    /// What a check says of each volume.
+    Check { json: bool },
+    /// The partitions, also of a damaged table.
+    Survey { json: bool },
     Volume(Wanted<'a>),
     Build,
 }
@@ -68,19 +72,30 @@ fn volume_command<'a>(alloc: Global) -> Result<Command<'a>, AllocError>
     with_argument(volumes, file_argument(alloc))
 }
 
+// A command that tells of a disk, as `list [--json] [FILE]`.
+fn telling_command<'a>(alloc: Global, name: &'a str) -> Result<Command<'a>, AllocError>
+    ensures app { IfOk result (λ c. app_of c ≡ telling_app name.entry.now) }
+    ensures local { IfOk result (λ c. (out-Command c).has_globals ≡ false) }
+{
+    let named = Ok(Command::new(alloc, name));
+    let tells = with_argument(named, flag(alloc, "json"));
+    with_argument(tells, file_argument(alloc))
+}
+
 // The subcommands `list` and `check`.
 fn lists_and_checks<'a>(alloc: Global) -> Result<Command<'a>, AllocError>
     ensures { IfOk result (λ c. app_of c ≡ lists_and_checks) }
 {
-    let lists = with_file(alloc, Ok(bare_command(alloc, "adf-disk")), "list");
-    with_file(alloc, lists, "check")
+    let bare = Ok(bare_command(alloc, "adf-disk"));
+    let lists = with_subcommand(bare, telling_command(alloc, "list"));
+    with_subcommand(lists, telling_command(alloc, "check"))
 }
 
 // The command line.
 fn command<'a>(alloc: Global) -> Result<Command<'a>, AllocError>
     ensures { IfOk result (λ c. app_of c ≡ disk_app) }
 {
-    let surveys = with_file(alloc, lists_and_checks(alloc), "survey");
+    let surveys = with_subcommand(lists_and_checks(alloc), telling_command(alloc, "survey"));
     let builds = with_file(alloc, surveys, "build");
     with_subcommand(builds, volume_command(alloc))
 }
@@ -101,11 +116,17 @@ fn request_named<'a>(command: &str, found: &ArgMatches<'a>) -> Option<DiskReques
         ≡ disk_request_named command.now (rows_of (found_of found.now)) }
 {
     if command == "list" {
-        Some(DiskRequest::List)
+        Some(DiskRequest::List {
+            json: has_flag(found, "json"),
+        })
     } else if command == "check" {
-        Some(DiskRequest::Check)
+        Some(DiskRequest::Check {
+            json: has_flag(found, "json"),
+        })
     } else if command == "survey" {
-        Some(DiskRequest::Survey)
+        Some(DiskRequest::Survey {
+            json: has_flag(found, "json"),
+        })
     } else if command == "build" {
         Some(DiskRequest::Build)
     } else if command == "volume" {
@@ -167,9 +188,9 @@ pub fn disk_file<'a>(alloc: Global, args: &'a [&str]) -> Result<Option<&'a str>,
 /// arguments are refused, calls for help among them. A name is any text that is no number.
 #[tactic(auto, unfolding(clap::proofs::OnLiterals::clap_on_literals))]
 pub fn disk_words_as_documented()
-    ensures list { AsksDiskOf (codes "adf-disk" ∷ codes "list" ∷ []) list None }
-    ensures check { AsksDiskOf (codes "adf-disk" ∷ codes "check" ∷ []) check None }
-    ensures survey { AsksDiskOf (codes "adf-disk" ∷ codes "survey" ∷ []) survey None }
+    ensures list { AsksDiskOf (codes "adf-disk" ∷ codes "list" ∷ []) (list false) None }
+    ensures check { AsksDiskOf (codes "adf-disk" ∷ codes "check" ∷ []) (check false) None }
+    ensures survey { AsksDiskOf (codes "adf-disk" ∷ codes "survey" ∷ []) (survey false) None }
     ensures build { AsksDiskOf (codes "adf-disk" ∷ codes "build" ∷ []) build None }
     ensures number { AsksDiskOf (codes "adf-disk" ∷ codes "volume" ∷ codes "2" ∷ []) (volume (number 2)) None }
     ensures name { AsksDiskOf (codes "adf-disk" ∷ codes "volume" ∷ codes "DH0" ∷ [])
@@ -181,14 +202,14 @@ pub fn disk_words_as_documented()
         → AsksDiskOf (codes "adf-disk" ∷ codes "volume" ∷ codes "--" ∷ text ∷ [])
         (volume (wanted_named text)) None }
     ensures list_file { AsksDiskOf (codes "adf-disk" ∷ codes "list" ∷ codes "a.hdf" ∷ [])
-        list (Some (codes "a.hdf")) }
-    ensures list_input { AsksDiskOf (codes "adf-disk" ∷ codes "list" ∷ codes "-" ∷ []) list None }
+        (list false) (Some (codes "a.hdf")) }
+    ensures list_input { AsksDiskOf (codes "adf-disk" ∷ codes "list" ∷ codes "-" ∷ []) (list false) None }
     ensures list_any { (file : List ℕ) → AsksDiskOf
-        (codes "adf-disk" ∷ codes "list" ∷ codes "--" ∷ file ∷ []) list (file_meant file) }
+        (codes "adf-disk" ∷ codes "list" ∷ codes "--" ∷ file ∷ []) (list false) (file_meant file) }
     ensures check_file { AsksDiskOf (codes "adf-disk" ∷ codes "check" ∷ codes "a.hdf" ∷ [])
-        check (Some (codes "a.hdf")) }
+        (check false) (Some (codes "a.hdf")) }
     ensures survey_file { AsksDiskOf (codes "adf-disk" ∷ codes "survey" ∷ codes "a.hdf" ∷ [])
-        survey (Some (codes "a.hdf")) }
+        (survey false) (Some (codes "a.hdf")) }
     ensures build_file { AsksDiskOf (codes "adf-disk" ∷ codes "build" ∷ codes "plan" ∷ [])
         build (Some (codes "plan")) }
     ensures volume_file { AsksDiskOf
@@ -197,6 +218,11 @@ pub fn disk_words_as_documented()
     ensures volume_any { (text file : List ℕ) → AsksDiskOf
         (codes "adf-disk" ∷ codes "volume" ∷ codes "--" ∷ text ∷ file ∷ [])
         (volume (wanted_named text)) (file_meant file) }
+    ensures list_json { AsksDiskOf (codes "adf-disk" ∷ codes "list" ∷ codes "--json" ∷ []) (list true) None }
+    ensures check_json { AsksDiskOf (codes "adf-disk" ∷ codes "check" ∷ codes "--json" ∷ codes "a.hdf" ∷ [])
+        (check true) (Some (codes "a.hdf")) }
+    ensures survey_json { AsksDiskOf (codes "adf-disk" ∷ codes "survey" ∷ codes "a.hdf" ∷ codes "--json" ∷ [])
+        (survey true) (Some (codes "a.hdf")) }
     ensures no_args { AreRefusedByDisk [] }
     ensures no_command { AreRefusedByDisk (codes "adf-disk" ∷ []) }
     ensures unknown { AreRefusedByDisk (codes "adf-disk" ∷ codes "frob" ∷ []) }
@@ -208,6 +234,12 @@ pub fn disk_words_as_documented()
         (codes "adf-disk" ∷ codes "list" ∷ codes "a" ∷ codes "b" ∷ []) }
     ensures build_two { AreRefusedByDisk
         (codes "adf-disk" ∷ codes "build" ∷ codes "a" ∷ codes "b" ∷ []) }
+    ensures json_twice { AreRefusedByDisk
+        (codes "adf-disk" ∷ codes "list" ∷ codes "--json" ∷ codes "--json" ∷ []) }
+    ensures json_list { AreRefusedByDisk (codes "adf-disk" ∷ codes "--json" ∷ codes "list" ∷ []) }
+    ensures json_volume { AreRefusedByDisk
+        (codes "adf-disk" ∷ codes "volume" ∷ codes "--json" ∷ codes "DH0" ∷ []) }
+    ensures json_build { AreRefusedByDisk (codes "adf-disk" ∷ codes "build" ∷ codes "--json" ∷ []) }
     ensures file_list { AreRefusedByDisk (codes "adf-disk" ∷ codes "a.hdf" ∷ codes "list" ∷ []) }
     ensures help { AreRefusedByDisk (codes "adf-disk" ∷ codes "--help" ∷ []) }
     ensures help_arg { AreRefusedByDisk (codes "adf-disk" ∷ codes "help" ∷ []) }

@@ -7,7 +7,7 @@ ghost use Rattle.adf_partitions.specs.Places.{end_of};
 ghost use Rattle.adf_runs.specs.Outcomes.{Blames, Does, DoesOn, EndsBy, LacksInput, is_read_fault};
 ghost use Rattle.adf_runs.specs.Streams.{TakesAtMost, seen};
 
-use crate::answering::{refuse, write_parts};
+use crate::answering::{Telling, refuse, write_parts};
 use crate::list_input::{TABLES_LEN, blocks_of, write_fault};
 use crate::volumes::volume_at;
 use crate::work::{MOST_DISK_BYTES, Sought, partition_sought, refuse_sought};
@@ -138,7 +138,10 @@ fn copy_held<W: Sink>(alloc: Global, held: &HeldVolume, sought: &Sought, output:
         }
         Err(fault) => match fault.cause {
             DiskCause::NoMemory => Outcome::NoMemory,
-            _ => write_fault(alloc, tables, blocks, false, fault, output),
+            _ => {
+                let telling = Telling { alloc, json: false };
+                write_fault(telling, tables, blocks, false, fault, output)
+            }
         },
     }
 }

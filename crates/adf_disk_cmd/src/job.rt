@@ -3,6 +3,7 @@
 ghost use Rattle.std.specs.Prelude.{IfOk};
 ghost use Rattle.adf_disk_cmd.specs.{Jobs.IsJobOf, CommandLine.disk_request_value};
 
+use crate::answering::Telling;
 use crate::building::build_disk;
 use crate::check_input::check_input;
 use crate::command_line::{DISK_USAGE as USAGE, DiskRequest, disk_file, parse_disk};
@@ -27,9 +28,9 @@ fn job_for(alloc: Global, request: DiskRequest<'_>) -> Result<Job, AllocError>
     ensures { IfOk result (λ job. IsJobOf job (disk_request_value request.entry)) }
 {
     Ok(match request {
-        DiskRequest::List => Job::Tell(Work::List),
-        DiskRequest::Check => Job::Tell(Work::Check),
-        DiskRequest::Survey => Job::Tell(Work::Survey),
+        DiskRequest::List { json } => Job::Tell(Work::List { json }),
+        DiskRequest::Check { json } => Job::Tell(Work::Check { json }),
+        DiskRequest::Survey { json } => Job::Tell(Work::Survey { json }),
         DiskRequest::Volume(wanted) => Job::Tell(Work::Volume(sought_for(alloc, wanted)?)),
         DiskRequest::Build => Job::Build,
     })
@@ -71,10 +72,16 @@ impl Program for Job {
         output: &mut W,
     ) -> Outcome {
         match self {
-            Job::Tell(Work::List) => list_input(alloc, input, false, output),
-            Job::Tell(Work::Survey) => list_input(alloc, input, true, output),
+            Job::Tell(Work::List { json }) => {
+                list_input(Telling { alloc, json: *json }, input, false, output)
+            }
+            Job::Tell(Work::Survey { json }) => {
+                list_input(Telling { alloc, json: *json }, input, true, output)
+            }
             Job::Tell(Work::Volume(sought)) => copy_input(alloc, input, sought, output),
-            Job::Tell(Work::Check) => check_input(alloc, input, output),
+            Job::Tell(Work::Check { json }) => {
+                check_input(Telling { alloc, json: *json }, input, output)
+            }
             Job::Build => match read_input(alloc, input, MOST_DISK_BYTES) {
                 Ok(bytes) => self.on(alloc, &bytes, output),
                 Err(outcome) => outcome,

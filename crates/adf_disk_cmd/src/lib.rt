@@ -7,6 +7,8 @@ mod check_input;
 mod checking;
 mod command_line;
 mod copy_input;
+mod disk_objects;
+mod faults;
 mod gathering;
 mod host_plans;
 mod host_volumes;

@@ -1,10 +1,12 @@
 // The command `list`.
 
 ghost use Rattle.std.specs.Prelude.{◌≡◌, ◌++◌, false, string_bytes, IfOk, OnOk};
-ghost use Rattle.adf_disk_cmd.specs.Lines.{fields_fault_text, list_line, list_lines, name_text, place_text, words_text};
+ghost use Rattle.adf_disk_cmd.specs.Lines.{fields_fault_text, list_line, name_text, place_text, words_text};
+ghost use Rattle.adf_disk_cmd.specs.Objects.{list_lines, partition_line};
 ghost use Rattle.adf_runs.specs.{Commands.on_output, Outcomes.Does, Streams.seen};
 
-use crate::answering::write_text;
+use crate::answering::{Telling, write_text};
+use crate::disk_objects::push_partition_object;
 use crate::types::type_text;
 use adf_partitions::{FieldFault, Partition, Place, PlaceFault};
 use adf_runs::{Outcome, Sink};
@@ -71,24 +73,40 @@ fn push_line(
     text.extend_from_slice(end.as_bytes())
 }
 
-/// The lines of all partitions.
-pub fn list_lines(alloc: Global, partitions: &[Partition]) -> Result<Vec<u8>, AllocError>
-    ensures { IfOk result (λ text. text.items ≡ list_lines 1 partitions.now) }
+// Appends the line of the partition with this number, or with `json` its object.
+fn push_partition(
+    telling: Telling,
+    number: usize,
+    partition: &Partition,
+    text: &mut Vec<u8>,
+) -> Result<(), AllocError>
+    ensures { OnOk result (text.new.items ≡ text.old.items ++ partition_line telling.json number partition.now) }
 {
-    let mut text = Vec::new(alloc);
+    if telling.json {
+        push_partition_object(telling.alloc, number, partition, text)
+    } else {
+        push_line(telling.alloc, number, partition, text)
+    }
+}
+
+/// The lines of all partitions, or with `json` their objects.
+pub fn list_lines(telling: Telling, partitions: &[Partition]) -> Result<Vec<u8>, AllocError>
+    ensures { IfOk result (λ text. text.items ≡ list_lines telling.json 1 partitions.now) }
+{
+    let mut text = Vec::new(telling.alloc);
     for (i, partition) in partitions.iter().enumerate() {
-        push_line(alloc, i + 1, partition, &mut text)?;
+        push_partition(telling, i + 1, partition, &mut text)?;
     }
     Ok(text)
 }
 
-/// Writes the lines of all partitions.
-pub fn write_list<W: Sink>(alloc: Global, partitions: &[Partition], output: &mut W) -> Outcome
+/// Writes the lines of all partitions, or with `json` their objects.
+pub fn write_list<W: Sink>(telling: Telling, partitions: &[Partition], output: &mut W) -> Outcome
     requires { W.has_failed output.old ≡ false }
-    ensures { Does (λ reply. reply ≡ on_output 0 (list_lines 1 partitions.now)) result
+    ensures { Does (λ reply. reply ≡ on_output 0 (list_lines telling.json 1 partitions.now)) result
         (seen W.held W.has_failed output.old output.new) }
 {
-    match list_lines(alloc, partitions) {
+    match list_lines(telling, partitions) {
         Ok(text) => write_text(output, &text, true),
         Err(_) => Outcome::NoMemory,
     }

@@ -1,7 +1,7 @@
 // The types of file systems.
 
-ghost use Rattle.std.specs.Prelude.{◌≡◌, string_bytes, IfNone, IfOk, IfSome};
-ghost use Rattle.adf_disk_cmd.specs.Lines.{bytes_text, is_checked, type_text};
+ghost use Rattle.std.specs.Prelude.{◌≡◌, string_bytes, IfOk, option_map};
+ghost use Rattle.adf_disk_cmd.specs.Lines.{bytes_text, is_checked, type_bytes, type_text, word_of_type};
 
 use adf_base::Letters;
 use adf_names::kind_text_by;
@@ -31,10 +31,9 @@ pub fn bytes_text(alloc: Global, dos_type: u32) -> Result<String, AllocError>
 }
 
 // The word for the kind and the letters of a type.
-#[tactic(auto, unfolding(crate::specs::Lines::type_text))]
-fn type_word(dos_type: u32) -> Option<&'static str>
-    ensures some { IfSome result (λ word. word.now ≡ type_text dos_type) }
-    ensures none { IfNone result (type_text dos_type ≡ bytes_text dos_type) }
+#[tactic(auto, unfolding(crate::specs::Lines::word_of_type))]
+fn word_of_type(dos_type: u32) -> Option<&'static str>
+    ensures { option_map (λ word. word.now) result ≡ word_of_type dos_type }
 {
     if dos_type == DOS {
         Some(kind_text_by(Letters::Ascii, Kind::Ofs))
@@ -49,12 +48,24 @@ fn type_word(dos_type: u32) -> Option<&'static str>
     }
 }
 
-/// A type: of `DOS\0` to `DOS\3` the word for its kind and letters, as `ffs-international`, else its four bytes.
+/// A type: of `DOS\0` to `DOS\3` the word for its kind and letters, as `ffs-international`, else its four bytes in the escape form.
+#[tactic(auto, unfolding(crate::specs::Lines::type_text))]
 pub fn type_text(alloc: Global, dos_type: u32) -> Result<String, AllocError>
     ensures { IfOk result (λ text. string_bytes text ≡ type_text dos_type) }
 {
-    match type_word(dos_type) {
+    match word_of_type(dos_type) {
         Some(word) => format!(in alloc; "{word}"),
         None => bytes_text(alloc, dos_type),
+    }
+}
+
+/// A type: of `DOS\0` to `DOS\3` the word for its kind and letters, else its four bytes.
+#[tactic(auto, unfolding(crate::specs::Lines::type_bytes))]
+pub fn type_bytes(alloc: Global, dos_type: u32) -> Result<Vec<u8>, AllocError>
+    ensures { IfOk result (λ bytes. bytes.items ≡ type_bytes dos_type) }
+{
+    match word_of_type(dos_type) {
+        Some(word) => Vec::from_slice(alloc, word.as_bytes()),
+        None => Vec::from_slice(alloc, &dos_type.to_be_bytes()),
     }
 }

@@ -6,9 +6,10 @@ ghost use Rattle.adf_disk_cmd.specs.{Builds.refusal, Work.IsWorkOf, Work.sought_
 ghost use Rattle.adf_runs.specs.{Outcomes.Blames, Outcomes.Does, Outcomes.DoesSilently, Outcomes.EndsBy, Streams.seen};
 ghost use Rattle.adf_disk_cmd.specs.CommandLine.{DiskRequestValue, wanted_value};
 
-use crate::answering::{refuse, write_text};
+use crate::answering::{Telling, refuse, write_text};
 use crate::checking::write_checks;
 use crate::command_line::Wanted;
+use crate::faults::write_fault_line;
 use crate::listing::write_list;
 use crate::names::partition_called;
 use crate::surveying::write_readable;
@@ -33,9 +34,12 @@ pub enum Sought {
 /// What is done with a disk.
 #[derive(Drop)]
 pub enum Work {
-    List,
-    Check,
-    Survey,
+    /// Its partitions are listed, as lines or as objects.
+    List { json: bool },
+    /// Their volumes are checked.
+    Check { json: bool },
+    /// It is listed, and if the tables have a fault, what can be read of them.
+    Survey { json: bool },
     /// Its volume is written.
     Volume(Sought),
 }
@@ -121,8 +125,13 @@ impl Work {
         ensures blames { Blames result false (W.has_failed output.new) }
     {
         match self {
-            Work::List | Work::Survey => write_list(alloc, &disk.partitions, output),
-            Work::Check => write_checks(alloc, bytes, &[], &disk.partitions, output),
+            Work::List { json } | Work::Survey { json } => {
+                write_list(Telling { alloc, json: *json }, &disk.partitions, output)
+            }
+            Work::Check { json } => {
+                let telling = Telling { alloc, json: *json };
+                write_checks(telling, bytes, &[], &disk.partitions, output)
+            }
             Work::Volume(sought) => match partition_sought(alloc, disk, sought) {
                 Ok(found) => write_volume(alloc, bytes, sought, found, output),
                 Err(_) => Outcome::NoMemory,
@@ -143,16 +152,18 @@ impl Work {
             → EndsBy (OfFault r bytes.now fault) result (W.held output.old) (W.held output.new) }
         ensures blames { Blames result false (W.has_failed output.new) }
     {
-        let Ok(line) = format!(in alloc; "{fault}\n") else {
-            return Outcome::NoMemory;
-        };
         match self {
-            Work::Check => write_text(output, line.as_bytes(), false),
-            Work::Survey => {
-                let blocks = (bytes.len() / BLOCK_LEN) as u64;
-                write_readable(alloc, bytes, blocks, line.as_bytes(), output)
+            Work::Check { json } => {
+                write_fault_line(Telling { alloc, json: *json }, fault, output)
             }
-            Work::List | Work::Volume(_) => Outcome::Refused(line),
+            Work::Survey { json } => {
+                let blocks = (bytes.len() / BLOCK_LEN) as u64;
+                write_readable(Telling { alloc, json: *json }, bytes, blocks, fault, output)
+            }
+            Work::List { .. } | Work::Volume(_) => match format!(in alloc; "{fault}\n") {
+                Ok(line) => Outcome::Refused(line),
+                Err(_) => Outcome::NoMemory,
+            },
         }
     }
 

@@ -1,5 +1,5 @@
--- The promise: what a draft is, and the tree that it gives.
+-- The promise: what a draft is, and the tree that it gives; and a map from parent and name to a number.
 pub mod Draft
--- The states of a draft, and of what sorts and groups its entries.
 pub mod ChildMap
+-- The states of what sorts and groups the entries of a draft.
 pub mod Groups

@@ -49,7 +49,7 @@ impl ChildKey {
 /// bucket; each bucket is sorted.
 #[derive(Drop)]
 pub struct ChildMap {
-    buckets: Vec<BTreeMap<ChildKey, usize>>,
+    pub buckets: Vec<BTreeMap<ChildKey, usize>>,
 }
 
 // Looks up a key in its bucket.

@@ -159,6 +159,13 @@ impl Draft {
         self.entries.len()
     }
 
+    /// The letters whose case is ignored in names.
+    pub fn letters(&self) -> Letters
+        ensures { result ≡ self.now.tree.letters }
+    {
+        self.letters
+    }
+
     /// The room for an entry of this name in a directory, by number of addition; `None` if the directory has an entry
     /// of this name. The cost does not depend on how deep the directory is.
     pub fn room_in(&self, directory: Node, name: &Name) -> Option<Room>

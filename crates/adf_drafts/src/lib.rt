@@ -5,4 +5,5 @@ mod child_map;
 mod draft;
 mod groups;
 
+pub use crate::child_map::ChildMap;
 pub use crate::draft::{Draft, Room};

@@ -8,7 +8,7 @@ use adf_volume::Fault;
 use std::fmt;
 
 /// Why no image is written.
-#[derive(Clone, Copy, Debug, PartialEq, Eq)]
+#[derive(Debug, Drop)]
 pub enum Stop {
     /// The script's line of this number says no edit, or is one too many.
     BadLine(usize),
@@ -35,7 +35,7 @@ impl fmt::Display for Stop {
     ghost output = { λ x. Some (stop_text x) };
 
     fn fmt<W: fmt::Write>(&self, f: &mut fmt::Formatter<W>) -> fmt::Result {
-        match *self {
+        match self {
             Stop::BadLine(line) => write!(f, "{line}: bad line"),
             Stop::Short { need, have } => {
                 write!(f, "files: need {need} bytes behind the script, have {have}")

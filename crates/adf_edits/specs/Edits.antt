@@ -1,8 +1,8 @@
 -- What an edit makes of a tree. xs are the additions of the tree, x is one of them.
 use Rattle.std.specs.Prelude.{◌==◌, ◌&&◌, ◌||◌, not, ℕ, Bool, List, [], ◌∷◌, ◌++◌, Option, Some, None, Result, Ok, Err, codes, drop, take, if◌then◌else◌}
-use Rattle.std.specs.{Prelude.length, Prelude.map, List.filter, List.list_any, Option.option_or}
+use Rattle.std.specs.{Prelude.find, Prelude.length, Prelude.map, List.filter, List.list_any, Option.option_or}
 use Rattle.adf_base.specs.declared.dates.TheConstants.{NO_STAMP}
-use Rattle.adf_names.specs.{Meta.new_meta, declared.meta.Meta.Meta}
+use Rattle.adf_names.specs.{Meta.new_meta, PathTexts.path_text, declared.meta.Meta.Meta}
 use Rattle.adf_tree.specs.declared.entry.Body.{Body, TheVariants.Dir, TheVariants.File}
 use Rattle.adf_tree.specs.{Additions.Addition, Additions.same_path, Tree.is_dir_body, Tree.parents_of}
 use Rattle.adf_edits.specs.{Outline.OutlineValue, declared.edits.Edit.Edit, declared.edits.EditFault.EditFault, declared.edits.EditFault.TheVariants.NoMemory}
@@ -71,13 +71,17 @@ has_directory xs path = list_any (is_directory_at path) xs
 abbrev pub leads_to_directory : List Addition → List (List ℕ) → Bool
 leads_to_directory xs path = (length path == 0) || has_directory xs path
 
+-- the text of the path of the first of xs that has this path
+unfoldable pub standing_text : List Addition → List (List ℕ) → List ℕ
+standing_text xs path = elim (find (is_at path) xs) [ Some x ↦ path_text x.path | None ↦ [] ]
+
 -- why nothing can be added under a path: it has no name, leads through a file or to no directory, something has it, or it is too deep
 abbrev pub room_fault : List Addition → List (List ℕ) → Option EditFault
 room_fault xs path =
     if length path == 0 then Some EmptyPath
     else if leads_through_file xs path then Some ParentIsFile
     else if not (leads_to_directory xs (parents_of path)) then Some NoParent
-    else if has_path xs path then Some Exists
+    else if has_path xs path then Some (Exists (standing_text xs path))
     else if is_deep path then Some TooDeep else None
 
 -- all but what has this path
@@ -194,6 +198,6 @@ edit_fault_text WithinItself = codes "within itself"
 edit_fault_text EmptyPath = codes "no name"
 edit_fault_text NoParent = codes "no parent: add the directory first"
 edit_fault_text ParentIsFile = codes "parent is file"
-edit_fault_text Exists = codes "exists: remove it first, or take another name"
+edit_fault_text (Exists text) = codes "exists: remove it first, or take another name: " ++ text
 edit_fault_text TooDeep = codes "too deep: 255 names at most"
 edit_fault_text NoMemory = codes "no memory"

@@ -1,15 +1,16 @@
 // What an edit makes of a tree.
 
-ghost use Rattle.std.specs.Prelude.{◌≡◌, ◌≢◌, ◌≤◌, ◌++◌, ◌∷◌, [], None, Some, Ok, Err, IfOk, IfErr, OnOk, All, length, map, take, true};
+ghost use Rattle.std.specs.Prelude.{◌≡◌, ◌≢◌, ◌≤◌, ◌++◌, ◌∷◌, [], None, Some, Ok, Err, IfOk, IfErr, OnOk, All, find, length, map, option_copied, take, true};
 ghost use Rattle.std.specs.List.{filter, list_any};
 ghost use Rattle.adf_tree.specs.{Tree.is_dir_body, declared.entry.Body.Body};
 ghost use Rattle.adf_edits.specs.Edits.{change_fault, changed_at, changed_if, changed_meta, edit_value, edited, edited_additions};
 ghost use Rattle.adf_edits.specs.Edits.{edited_label, gets_deep, has_directory, has_path, has_under, is_at, is_file_named};
 ghost use Rattle.adf_edits.specs.Edits.{is_directory_at, is_file_above, is_within, leads_through_file, leads_to_directory, refilled_at};
 ghost use Rattle.adf_edits.specs.Edits.{move_fault, moved_additions, new_addition, rebased, refilled_if, remove_fault, removed, room_fault};
-ghost use Rattle.adf_edits.specs.Edits.{replace_fault, without};
+ghost use Rattle.adf_edits.specs.Edits.{replace_fault, standing_text, without};
 
 use crate::outline::{Item, Outline};
+use crate::path_text::PathText;
 use crate::paths::{MOST_DEPTH, is_at_or_under, is_deep, is_under, push_names, same_path};
 use adf_base::{NO_STAMP, NoMemory, Stamp};
 use adf_names::{Comment, Label, Meta, Name};
@@ -45,7 +46,7 @@ pub enum Edit {
 }
 
 /// Why an edit cannot be applied.
-#[derive(Clone, Copy, Debug, PartialEq, Eq)]
+#[derive(Debug, Drop)]
 pub enum EditFault {
     /// Nothing is there under the path.
     NoSuchPath,
@@ -61,8 +62,8 @@ pub enum EditFault {
     NoParent,
     /// A name before the last of the new path is that of a file.
     ParentIsFile,
-    /// An entry has the new path.
-    Exists,
+    /// An entry has the new path, perhaps in other letters: the text of its own.
+    Exists(PathText),
     /// A new path would have more than `MOST_DEPTH` names.
     TooDeep,
     /// An allocation failed.
@@ -76,18 +77,21 @@ impl fmt::Display for EditFault {
     ghost output = { λ x. Some (edit_fault_text x) };
 
     fn fmt<W: fmt::Write>(&self, f: &mut fmt::Formatter<W>) -> fmt::Result {
-        f.write_str(match self {
-            EditFault::NoSuchPath => "no such path",
-            EditFault::NotAFile => "not a file",
-            EditFault::NotEmpty => "not empty: remove what is in it first",
-            EditFault::WithinItself => "within itself",
-            EditFault::EmptyPath => "no name",
-            EditFault::NoParent => "no parent: add the directory first",
-            EditFault::ParentIsFile => "parent is file",
-            EditFault::Exists => "exists: remove it first, or take another name",
-            EditFault::TooDeep => "too deep: 255 names at most",
-            EditFault::NoMemory => "no memory",
-        })
+        match self {
+            EditFault::NoSuchPath => f.write_str("no such path"),
+            EditFault::NotAFile => f.write_str("not a file"),
+            EditFault::NotEmpty => f.write_str("not empty: remove what is in it first"),
+            EditFault::WithinItself => f.write_str("within itself"),
+            EditFault::EmptyPath => f.write_str("no name"),
+            EditFault::NoParent => f.write_str("no parent: add the directory first"),
+            EditFault::ParentIsFile => f.write_str("parent is file"),
+            EditFault::Exists(path) => {
+                let path = path.as_str();
+                write!(f, "exists: remove it first, or take another name: {path}")
+            }
+            EditFault::TooDeep => f.write_str("too deep: 255 names at most"),
+            EditFault::NoMemory => f.write_str("no memory"),
+        }
     }
 }
 
@@ -181,26 +185,50 @@ fn leads_to_directory(items: &[Item], path: &[Name]) -> bool
     path.is_empty() || has_directory(items, path)
 }
 
-// Why no entry can be added under a path.
-fn room_fault(items: &[Item], path: &[Name]) -> Option<EditFault>
-    ensures { result ≡ room_fault items.now path.now }
+// The first entry that has this path.
+fn first_at<'a>(items: &'a [Item], path: &[Name]) -> Option<&'a Item>
+    ensures { option_copied result ≡ find (is_at path.now) items.now }
 {
-    if path.is_empty() {
-        return Some(EditFault::EmptyPath);
-    }
-    if leads_through_file(items, path) {
-        return Some(EditFault::ParentIsFile);
-    }
-    if !leads_to_directory(items, &path[..path.len() - 1]) {
-        return Some(EditFault::NoParent);
-    }
-    if has_path(items, path) {
-        return Some(EditFault::Exists);
-    }
-    if is_deep(path) {
-        return Some(EditFault::TooDeep);
+    for item in items {
+        if is_at(path, item) {
+            return Some(item);
+        }
     }
     None
+}
+
+// The text of its path.
+#[tactic(auto, unfolding(crate::specs::Edits::standing_text))]
+fn standing_text(alloc: Global, items: &[Item], path: &[Name]) -> Result<PathText, NoMemory>
+    ensures { IfOk result (λ t. t ≡ standing_text items.now path.now) }
+{
+    match first_at(items, path) {
+        Some(item) => PathText::of(alloc, &item.path),
+        None => PathText::of(alloc, &[]),
+    }
+}
+
+// Why no entry can be added under a path.
+fn room_fault(alloc: Global, items: &[Item], path: &[Name]) -> Result<Option<EditFault>, NoMemory>
+    ensures { IfOk result (λ fault. fault ≡ room_fault items.now path.now) }
+{
+    if path.is_empty() {
+        return Ok(Some(EditFault::EmptyPath));
+    }
+    if leads_through_file(items, path) {
+        return Ok(Some(EditFault::ParentIsFile));
+    }
+    if !leads_to_directory(items, &path[..path.len() - 1]) {
+        return Ok(Some(EditFault::NoParent));
+    }
+    if has_path(items, path) {
+        let text = standing_text(alloc, items, path)?;
+        return Ok(Some(EditFault::Exists(text)));
+    }
+    if is_deep(path) {
+        return Ok(Some(EditFault::TooDeep));
+    }
+    Ok(None)
 }
 
 // The same entry with the path `to` in the place of its first names, as many as `from` has.
@@ -304,7 +332,7 @@ fn moved(
         return Err(EditFault::WithinItself);
     }
     let (mut rest, within) = split(alloc, items, from)?;
-    if let Some(fault) = room_fault(&rest, to) {
+    if let Some(fault) = room_fault(alloc, &rest, to)? {
         return Err(fault);
     }
     if any_gets_deep(&within, from, to) {
@@ -332,13 +360,13 @@ fn removed(items: Vec<Item>, path: &[Name]) -> Result<Vec<Item>, EditFault>
 }
 
 // Adds an entry.
-fn added(items: Vec<Item>, item: Item) -> Result<Vec<Item>, EditFault>
+fn added(alloc: Global, items: Vec<Item>, item: Item) -> Result<Vec<Item>, EditFault>
     ensures ok { IfOk result (λ xs. room_fault items.items item.path ≡ None) }
     ensures added { IfOk result (λ xs. xs.items ≡ items.items ++ item ∷ []) }
     ensures fault { IfErr result (λ f. f ≢ EditFault.NoMemory
         → room_fault items.items item.path ≡ Some f) }
 {
-    if let Some(fault) = room_fault(&items, &item.path) {
+    if let Some(fault) = room_fault(alloc, &items, &item.path)? {
         return Err(fault);
     }
     let mut items = items;
@@ -491,10 +519,10 @@ fn edited_items(
     match edit {
         Edit::Remove(path) => removed(items, &path),
         Edit::Move(from, to) => moved(alloc, items, &from, &to),
-        Edit::Dir(path) => added(items, new_item(path, Body::Dir)),
+        Edit::Dir(path) => added(alloc, items, new_item(path, Body::Dir)),
         Edit::File(path, size) => {
             let item = new_file(alloc, path, first_of(given, size))?;
-            added(items, item)
+            added(alloc, items, item)
         }
         Edit::Replace(path, size) => replaced(alloc, items, &path, first_of(given, size)),
         Edit::Change(path, change) => changed(items, &path, &change),

@@ -4,6 +4,7 @@
 mod edits;
 mod laws;
 mod outline;
+mod path_text;
 mod paths;
 
 pub use crate::edits::{Change, Edit, EditFault};
@@ -13,4 +14,5 @@ pub use crate::laws::{
     removals_keep_other_paths, replacements_keep_other_paths,
 };
 pub use crate::outline::{Item, Outline, OutlineFault};
+pub use crate::path_text::PathText;
 pub use crate::paths::MOST_DEPTH;

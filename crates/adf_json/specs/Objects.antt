@@ -1,15 +1,16 @@
 -- The lines of objects in JSON.
-use Rattle.std.specs.Prelude.{ℕ, ◌/◌, ◌%◌, ◌==◌, ◌&&◌, not, Bool, true, false, List, [], ◌∷◌, ◌++◌, codes, if◌then◌else◌, map}
-use Rattle.std.specs.{Fmt.decimal, List.flat_map, List.join_with_byte}
+use Rattle.std.specs.Prelude.{ℕ, ℤ, ◌/◌, ◌%◌, ◌-◌, ◌==◌, ◌&&◌, not, Bool, true, false, List, [], ◌∷◌, ◌++◌, codes, if◌then◌else◌, length, map, take}
+use Rattle.std.specs.{Fmt.decimal, Fmt.signed_decimal, List.flat_map, List.join_with_byte}
 use Rattle.adf_names.specs.Escapes.{hex_digit, is_plain}
 use Rattle.adf_json.specs.declared.objects.Member.{Member}
-use Rattle.adf_json.specs.declared.objects.Value.{Value, TheVariants.Nothing, TheVariants.Truth, TheVariants.Number, TheVariants.Bytes}
+use Rattle.adf_json.specs.declared.objects.Value.{Value, TheVariants.Nothing, TheVariants.Truth, TheVariants.Number, TheVariants.Signed, TheVariants.Bytes}
 
--- the value of a member: null, true or false, a number, or a string with a character U+0000 to U+00FF for each byte
+-- the value of a member: null, true or false, a number, perhaps with a sign, or a string with a character U+0000 to U+00FF for each byte
 pub data JsonValue : Type 0 where
   nothing : JsonValue
   truth : Bool → JsonValue
   numeral : ℕ → JsonValue
+  integer : ℤ → JsonValue
   characters : List ℕ → JsonValue
 
 -- a member of an object
@@ -39,6 +40,7 @@ value_text nothing = codes "null"
 value_text (truth true) = codes "true"
 value_text (truth false) = codes "false"
 value_text (numeral n) = decimal n
+value_text (integer n) = signed_decimal n
 value_text (characters bytes) = string_text bytes
 
 -- the text of a member
@@ -54,8 +56,13 @@ abbrev pub value_value : Value → JsonValue
 value_value Nothing = nothing
 value_value (Truth is) = truth is
 value_value (Number n) = numeral n
+value_value (Signed n) = integer n
 value_value (Bytes bytes) = characters bytes.now
 
 -- a member as the code has it
 abbrev pub member_value : Member → MemberValue
 member_value m = member m.name.now (value_value m.value)
+
+-- a text without its last byte, which is its line feed
+abbrev pub without_feed : List ℕ → List ℕ
+without_feed text = take (length text - 1) text

@@ -4,5 +4,5 @@
 mod objects;
 mod paths;
 
-pub use crate::objects::{Member, Value, push_object};
+pub use crate::objects::{Member, Value, push_object, without_feed};
 pub use crate::paths::joined;

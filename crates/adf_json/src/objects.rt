@@ -1,9 +1,9 @@
 // The line of an object.
 
 ghost use Rattle.std.specs.Prelude.{◌≡◌, ◌++◌, ◌∷◌, [], OnOk, if◌then◌else◌, map};
-ghost use Rattle.std.specs.Fmt.{decimal};
+ghost use Rattle.std.specs.Fmt.{decimal, signed_decimal};
 ghost use Rattle.adf_json.specs.Objects.{byte_in_string, is_plain_in_string, member, member_text, member_value, object_line};
-ghost use Rattle.adf_json.specs.Objects.{characters, numeral, string_text, value_text, value_value};
+ghost use Rattle.adf_json.specs.Objects.{characters, integer, numeral, string_text, value_text, value_value, without_feed};
 
 use adf_names::{hex_digit, is_plain};
 use itoa::Buffer;
@@ -15,6 +15,7 @@ pub enum Value<'a> {
     Nothing,
     Truth(bool),
     Number(u64),
+    Signed(i32),
     /// A string with a character U+0000 to U+00FF for each byte.
     Bytes(&'a [u8]),
 }
@@ -54,6 +55,16 @@ impl<'a> Member<'a> {
         Member {
             name,
             value: Value::Number(u64::from(number)),
+        }
+    }
+
+    /// A member with a number that may have a sign.
+    pub fn signed(name: &'a str, number: i32) -> Member<'a>
+        ensures { member_value result ≡ member name.now (integer number) }
+    {
+        Member {
+            name,
+            value: Value::Signed(number),
         }
     }
 
@@ -103,6 +114,14 @@ fn push_decimal(text: &mut Vec<u8>, number: u64) -> Result<(), AllocError>
     text.extend_from_slice(buffer.format(number).as_bytes())
 }
 
+// Appends a number in decimal, after a `-` if it is negative.
+fn push_signed(text: &mut Vec<u8>, number: i32) -> Result<(), AllocError>
+    ensures { OnOk result (text.new.items ≡ text.old.items ++ signed_decimal number) }
+{
+    let mut buffer = Buffer::new();
+    text.extend_from_slice(buffer.format(number).as_bytes())
+}
+
 // Appends a value.
 fn push_value(text: &mut Vec<u8>, value: Value<'_>) -> Result<(), AllocError>
     ensures { OnOk result (text.new.items ≡ text.old.items ++ value_text (value_value value.entry)) }
@@ -112,6 +131,7 @@ fn push_value(text: &mut Vec<u8>, value: Value<'_>) -> Result<(), AllocError>
         Value::Truth(true) => text.extend_from_slice(b"true"),
         Value::Truth(false) => text.extend_from_slice(b"false"),
         Value::Number(number) => push_decimal(text, number),
+        Value::Signed(number) => push_signed(text, number),
         Value::Bytes(bytes) => push_string(text, bytes),
     }
 }
@@ -139,4 +159,11 @@ pub fn push_object(text: &mut Vec<u8>, members: &[Member<'_>]) -> Result<(), All
         push_member(text, &members[i], i == 0)?;
     }
     text.extend_from_slice(b"}\n")
+}
+
+/// A text without its last byte, which is its line feed.
+pub fn without_feed(text: &[u8]) -> &[u8]
+    ensures { result.now ≡ without_feed text.now }
+{
+    &text[..text.len().saturating_sub(1)]
 }

@@ -27,10 +27,10 @@ body_at_path : (t : Tree) (n : ℕ) (meta : Meta) (body : Body) (o : Option (Lis
     → x.body ≡ body
 body_at_path t n meta body o x h = grind (arith, common_steps, fitting_is)
 
-body_in_verdict : (image : List ℕ) (n : ℕ) (t : Tree) (dir : Option (List (List ℕ))) (h : ℕ) (r : Result Body Why) (x : Addition)
-    → by_body image n t dir h r ≡ adds x → r ≡ Ok x.body
-body_in_verdict image n t dir h (Err why) x is = absurd cc
-body_in_verdict image n t dir h (Ok body) x is = ap (λ y. let r : Result Body Why = Ok y in r) (sym (body_at_path t n _ body _ x is))
+body_in_verdict : (image : List ℕ) (n : ℕ) (t : Tree) (dir : Option (List (List ℕ))) (name : List ℕ) (h : ℕ) (r : Result Body Why) (x : Addition)
+    → by_body image n t dir name h r ≡ adds x → r ≡ Ok x.body
+body_in_verdict image n t dir name h (Err why) x is = absurd cc
+body_in_verdict image n t dir name h (Ok body) x is = ap (λ y. let r : Result Body Why = Ok y in r) (sym (body_at_path t n _ body _ x is))
 
 pub unless_adds : (g : Ground) (o : Option ℕ) (v : Verdict) (x : Addition) → unless_known g o v ≡ adds x → v ≡ adds x
 unless_adds g None v x is = is

@@ -30,6 +30,8 @@ pub mod MadeRoots
 pub mod OpenedImages
 -- lost headers
 pub mod LostHeaders
+-- headers that another one outranks
+pub mod OutrankedHeaders
 -- hung images
 pub mod HungImages
 -- what stays in a hung image

@@ -65,7 +65,7 @@ module _ (image : List ℕ) (w : Walk) where
     | inr from ↦ let same : b ≡ d = omega arith in subst (λ a. IsFreeIn image w a → IsAbsent w a) same all.1.0
   ]
 
-  used : AllHold (bitmap_demands image w 2 (blocks image - 2)) → (b : ℕ) → (IsAbsent w b → ⊥) → is_stated_free image w b ≡ false
+  pub used : AllHold (bitmap_demands image w 2 (blocks image - 2)) → (b : ℕ) → (IsAbsent w b → ⊥) → is_stated_free image w b ≡ false
   used all b has = false_from_ne_true _ (λ e.
       let free = told_free b e in
       let lo : 2 ≤ b = grind (arith, nat_tests) in

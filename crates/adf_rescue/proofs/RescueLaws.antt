@@ -4,13 +4,14 @@ use Rattle.std.proofs.{Math.Bool.and-false, lemmas.Bool.and_from, lemmas.Bool.eq
 use Rattle.adf_base.specs.{Words.block, declared.hash.Letters.Letters}
 use Rattle.adf_tree.specs.{declared.entry.Body.TheVariants.File, Tree.Tree}
 use Rattle.adf_blocks.specs.{HeadBlock.meta_stated, Sizes.blocks}
-use Rattle.adf_volume.specs.{Image.name_of, Made.datas_in, Walk.node_block, Walk.Walk}
+use Rattle.adf_volume.specs.{Made.datas_in, Walk.node_block, Walk.Walk}
 use Rattle.adf_findings.specs.Files.{IsSoundFile, file_content, file_in, grave}
 use Rattle.adf_findings.specs.{Members.parent_node, SoundMarks.AreMarks, Survey.FindingValue, Survey.IsSurvey}
 use Rattle.adf_findings.proofs.{OneSurvey.one_survey, SoundFiles.file_told}
 use Rattle.adf_rescue.specs.{Lost.has_lost, Salvage.are_data, declared.standing.Input.Input}
 use Rattle.adf_rescue.proofs.GivenBlocks.{first_given_all}
-use Rattle.adf_rescue.specs.Rescue.{IsBasis, Basis, Verdict, as_given, at_path, before_first_by, by_body, body_of, path_by, new_path, verdict_tree, verdict}
+use Rattle.adf_rescue.specs.Rescue.{IsBasis, Basis, Verdict, as_given, at_path, before_first_by, by_body, body_of}
+use Rattle.adf_rescue.specs.Rescue.{name_for, path_by, new_path, verdict_tree, verdict}
 
 -- a sound file stands with its content, if its blocks may be data
 pub sound_stands : (letters : Letters) (input : Input) (l : Basis) (fs : List FindingValue) (n : ℕ) → IsSurvey l.image l.walk fs
@@ -26,10 +27,11 @@ pub sound_verdict : (letters : Letters) (input : Input) (a : Basis) (fs : List F
     → AreMarks a.image a.walk (grave fs) a.sound → IsSoundFile a.image a.walk (grave fs) n → are_data input a.image (datas_in a.walk n) ≡ true
     → (let t = verdict_tree (before_first_by letters input a.image) vs in verdict (before_first_by letters input a.image) a vs n
     ≡ at_path t (blocks a.image) (meta_stated (block a.image (node_block a.walk n))) (File (file_content (file_in a.image a.walk n)))
-    (path_by t (new_path vs (parent_node a.walk n)) (name_of a.image (node_block a.walk n)) (node_block a.walk n)))
+    (path_by t (new_path vs (parent_node a.walk n)) (name_for letters a.image a.walk (node_block a.walk n)) (node_block a.walk n)))
 sound_verdict letters input a fs n vs survey marks is all =
     let t : Tree = verdict_tree (before_first_by letters input a.image) vs in
-    ap (by_body a.image (blocks a.image) t (new_path vs (parent_node a.walk n)) (node_block a.walk n)) (sound_stands letters input a fs n survey marks is all)
+    ap (by_body a.image (blocks a.image) t (new_path vs (parent_node a.walk n)) (name_for letters a.image a.walk (node_block a.walk n))
+    (node_block a.walk n)) (sound_stands letters input a fs n survey marks is all)
 
 -- the marks of a survey are one function, so there is one list of verdicts
 pub same_basis : (image : List ℕ) (w : Walk) (fs : List FindingValue) (s t : ℕ → Bool) → AreMarks image w fs s → AreMarks image w fs t

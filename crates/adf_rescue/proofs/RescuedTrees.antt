@@ -10,10 +10,12 @@ use Rattle.adf_tree.specs.Additions.{Addition, IsTreeOfBy, entries_of_additions_
 use Rattle.adf_tree.proofs.TreeOfAdditions.{grown, nothing_added_by}
 use Rattle.adf_blocks.specs.Sizes.{blocks}
 use Rattle.adf_volume.specs.Walk.{heads, node_block}
+use Rattle.adf_findings.specs.Members.{parent_node}
 use Rattle.adf_rescue.specs.{declared.left_out.Why.Why, declared.left_out.Why.TheVariants.NoRoom, Rescue.verdict_anew, Rescue.verdicts, Rescue.Verdict.adds}
 use Rattle.adf_rescue.specs.{Rescue.Verdict.knows, Rescue.Verdict.leaves, declared.standing.Input.Input}
 use Rattle.adf_rescue.specs.Rescue.{Ground, Basis, Verdict, verdict_addition, verdict_additions, at_path, before_first_by, before_second_by, by_body}
-use Rattle.adf_rescue.specs.Rescue.{entry_headed, path_by, path_with_room, rescued_additions_by, rescued_tree_by, verdict_tree, unless_known, verdict}
+use Rattle.adf_rescue.specs.Rescue.{as_given, body_of, entry_headed, name_for, new_path, path_by, path_with_room}
+use Rattle.adf_rescue.specs.Rescue.{rescued_additions_by, rescued_tree_by, verdict_tree, unless_known, verdict}
 use Rattle.adf_rescue.proofs.Steps.{additions_more, tree_more}
 
 -- a path that an entry gets has room
@@ -49,10 +51,10 @@ room_at_path : (t : Tree) (n : ℕ) (meta : Meta) (body : Body) (o : Option (Lis
 room_at_path t n meta body None x room h = absurd cc
 room_at_path t n meta body (Some path) x room h = grind (arith, common_steps, fitting_is)
 
-room_of_body : (image : List ℕ) (n : ℕ) (t : Tree) (dir : Option (List (List ℕ))) (h : ℕ) (b : Result Body Why) (x : Addition)
-    → by_body image n t dir h b ≡ adds x → IsOk (room_for_by t.letters t.entries x.path)
-room_of_body image n t dir h (Err why) x is = absurd cc
-room_of_body image n t dir h (Ok body) x is = room_at_path t n _ body _ x (room_by t dir _ h) is
+room_of_body : (image : List ℕ) (n : ℕ) (t : Tree) (dir : Option (List (List ℕ))) (name : List ℕ) (h : ℕ) (b : Result Body Why) (x : Addition)
+    → by_body image n t dir name h b ≡ adds x → IsOk (room_for_by t.letters t.entries x.path)
+room_of_body image n t dir name h (Err why) x is = absurd cc
+room_of_body image n t dir name h (Ok body) x is = room_at_path t n _ body _ x (room_by t dir _ h) is
 
 room_unless : (g : Ground) (o : Option ℕ) (v : Verdict) (t : Tree) (x : Addition)
     → ((y : Addition) → v ≡ adds y → IsOk (room_for_by t.letters t.entries y.path))
@@ -64,7 +66,8 @@ room_of_verdict : (g : Ground) (l : Basis) (vs : List Verdict) (n : ℕ) (x : Ad
     → IsOk (room_for_by g.letters (verdict_tree g vs).entries x.path)
 room_of_verdict g l vs n x is =
     room_unless g (entry_headed g.walk (node_block l.walk n)) (verdict_anew g l vs n) (verdict_tree g vs) x
-    (room_of_body l.image (blocks g.given) (verdict_tree g vs) _ _ _) is
+    (room_of_body l.image (blocks g.given) (verdict_tree g vs) (new_path vs (parent_node l.walk n))
+    (name_for g.letters l.image l.walk (node_block l.walk n)) (node_block l.walk n) (body_of (as_given g l) n)) is
 
 -- one more verdict
 

@@ -15,14 +15,14 @@ use Rattle.adf_tree.proofs.BoundedEntries.{IsBoundedAddition, bounded_additions_
 use Rattle.adf_drafts.proofs.NextEntries.{last_is}
 use Rattle.adf_blocks.specs.declared.layout.TheConstants.{ALTERED, COMMENT, CREATED, DATE, NAME, PROTECTION}
 use Rattle.adf_blocks.specs.{Forms.text_at, HeadBlock.meta_stated, Sizes.blocks, Sizes.is_allowed}
-use Rattle.adf_volume.specs.{Image.content, Image.name_of, Image.root_of, Walk.heads, Walk.node_block}
+use Rattle.adf_volume.specs.{Image.content, Image.root_of, Walk.heads, Walk.node_block}
 use Rattle.adf_volume.proofs.{Sizes.size_low, BoundedFits.stamp_small}
 use Rattle.adf_findings.specs.{Files.file_content, Files.file_in, Members.parent_node}
 use Rattle.adf_build.specs.{Laid.IsLaid, Laid.volume, Plan.blocks_needed}
 use Rattle.adf_build.proofs.{AllocatedBlocks.reserved_below, LaidWrites.CanHold, LaidWrites.volume_blocks, WholeVolume.volume_laid}
 use Rattle.adf_rescue.specs.declared.left_out.Why.{Why, TheVariants.NoRoom}
 use Rattle.adf_rescue.specs.Rescue.{Basis, Ground, Verdict, verdict_addition, verdict_additions, as_given, at_path, before_first_by, before_second_by, body_of}
-use Rattle.adf_rescue.specs.Rescue.{body_of_type, by_body, first_verdicts_by, lost_name, path_by, path_with_room, new_path, rescued_additions_by}
+use Rattle.adf_rescue.specs.Rescue.{body_of_type, by_body, first_verdicts_by, lost_name, name_for, path_by, path_with_room, new_path, rescued_additions_by}
 use Rattle.adf_rescue.specs.Rescue.{rescued_tree_by, second_verdicts_by, verdict_tree, verdict, verdicts}
 use Rattle.adf_rescue.specs.{Rescue.Verdict.adds, Rescue.Verdict.knows, Rescue.Verdict.leaves, declared.standing.Input.Input}
 use Rattle.adf_rescue.proofs.RescuedTrees.{fitting_is, or_else, tree_of_rescue}
@@ -60,15 +60,15 @@ added_at : (t : Tree) (n : ℕ) (meta : Meta) (body : Body) (o : Option (List (L
     → IsAdded t n o meta (Ok body) x
 added_at t n meta body o x h = grind (arith, common_steps, fitting_is, fits_so, nat_tests)
 
-added_by : (image : List ℕ) (n : ℕ) (t : Tree) (dir : Option (List (List ℕ))) (h : ℕ) (b : Result Body Why) (x : Addition)
-    → by_body image n t dir h b ≡ adds x → IsAdded t n (path_by t dir (name_of image h) h) (meta_stated (block image h)) b x
-added_by image n t dir h (Err why) x is = absurd cc
-added_by image n t dir h (Ok body) x is = added_at t n (meta_stated (block image h)) body (path_by t dir (name_of image h) h) x is
+added_by : (image : List ℕ) (n : ℕ) (t : Tree) (dir : Option (List (List ℕ))) (name : List ℕ) (h : ℕ) (b : Result Body Why)
+    (x : Addition) → by_body image n t dir name h b ≡ adds x → IsAdded t n (path_by t dir name h) (meta_stated (block image h)) b x
+added_by image n t dir name h (Err why) x is = absurd cc
+added_by image n t dir name h (Ok body) x is = added_at t n (meta_stated (block image h)) body (path_by t dir name h) x is
 
 module _ (g : Ground) (l : Basis) where
   abbrev path_of : List Verdict → ℕ → Option (List (List ℕ))
   path_of vs n =
-      path_by (verdict_tree g vs) (new_path vs (parent_node l.walk n)) (name_of l.image (node_block l.walk n)) (node_block l.walk n)
+      path_by (verdict_tree g vs) (new_path vs (parent_node l.walk n)) (name_for g.letters l.image l.walk (node_block l.walk n)) (node_block l.walk n)
 
   added_so : (vs : List Verdict) (n : ℕ) (x : Addition) → verdict g l vs n ≡ adds x
       → IsAdded (verdict_tree g vs) (blocks g.given) (path_of vs n) (meta_stated (block l.image (node_block l.walk n))) (body_of (as_given g l) n) x
@@ -100,7 +100,7 @@ module _ (g : Ground) (l : Basis) (are : AreBytes l.image) where
       let h : ℕ = node_block l.walk n in
       let added = added_so g l vs n x is in
       record {
-        name = named_by (verdict_tree g vs) (new_path vs (parent_node l.walk n)) (name_of l.image h) h x.path added.path;
+        name = named_by (verdict_tree g vs) (new_path vs (parent_node l.walk n)) (name_for g.letters l.image l.walk h) h x.path added.path;
         meta = subst IsBoundedMeta (sym added.meta) (meta_bounded (block l.image h) (block_bytes l.image h are));
         body = body_bounded (as_given g l) n x.body are added.body;
       }

@@ -1,5 +1,6 @@
 -- The state of a rescue after one more verdict.
 use Rattle.std.proofs.Common.{add-one, ◌≡◌, ℕ, ◌+◌, ◌-◌, ◌<◌, ◌≤◌, inl, inr, List, [], ◌∷◌, ◌++◌, Option, Some, None, Result, Ok, Err, length, get_or, arith}
+use Rattle.std.specs.{Global.Vec, Prelude.Bool}
 use Rattle.std.proofs.Common.{refl, sym, ◌∙◌, ap, subst, zero, suc, length-append, IfOk, cond, true, false, min, ◌^◌}
 use Rattle.std.proofs.lemmas.Bool.{cases_lt, le-leb, lt-leb}
 use Rattle.std.proofs.{lemmas.List.Sums.fold_push, lemmas.Grind.flat_map-append, lemmas.Grind.common_steps, lemmas.Option.slice_get_past}
@@ -11,14 +12,15 @@ use Rattle.adf_names.specs.declared.meta.Meta.{Meta}
 use Rattle.adf_base.specs.{Words.block, declared.hash.Letters.Letters}
 use Rattle.adf_blocks.specs.{HeadBlock.meta_stated, Sizes.blocks, Sizes.is_allowed}
 use Rattle.adf_build.specs.{Building.IsBuildable, Plan.blocks_needed, Plan.entries_blocks, Plan.reserved}
-use Rattle.adf_volume.specs.{Image.name_of, Walk.heads, Walk.node_block}
+use Rattle.adf_volume.specs.{Image.name_of, Walk.heads, Walk.node_block, Walk.Walk}
 use Rattle.adf_volume.proofs.Lists.{get_before}
 use Rattle.adf_findings.specs.Members.{parent_node}
 use Rattle.adf_rescue.specs.declared.left_out.Why.{Why, TheVariants.NoRoom}
 use Rattle.adf_rescue.specs.{declared.salvage.Salvage.Salvage, Rescue.Verdict.adds, Rescue.Verdict.leaves, declared.standing.Input.Input}
 use Rattle.adf_rescue.specs.Rescue.{Ground, IsSecond, Basis, OnBasis, Verdict, added_marks, verdict_addition, verdict_additions, as_given, at_path}
-use Rattle.adf_rescue.specs.Rescue.{before_second_by, body_of, by_body, directory_path, entry_headed, fitting, is_added, left_out_by, left_out_from, path_by}
-use Rattle.adf_rescue.specs.Rescue.{path_for, new_path, second_verdicts_by, verdict_tree, unless_known, verdict, verdict_anew, verdicts}
+use Rattle.adf_rescue.specs.Rescue.{before_second_by, body_of, by_body, directory_path, entry_headed, fitting, is_added, left_out_by, left_out_from}
+use Rattle.adf_rescue.specs.{Outranked.is_outranked, Rescue.lost_name, Rescue.path_with_room}
+use Rattle.adf_rescue.specs.Rescue.{name_for, path_by, path_for, new_path, second_verdicts_by, verdict_tree, unless_known, verdict, verdict_anew, verdicts}
 use Rattle.adf_rescue.specs.Salvage.{ComesNext, IsPlace, IsRoomOf, IsSalvage, entry_cost, free_blocks}
 use Rattle.adf_rescue.proofs.TreeBlocks.{added_blocks}
 use Rattle.adf_tree.proofs.Lists.{get_last}
@@ -78,6 +80,31 @@ pub room_in_place : {E : Type 0} (d : DraftValue) (t : Tree) (o : Option (List (
 room_in_place d t None m name own b h r tree place e1 e2 found = absurd place
 room_in_place d t (Some dir) m name own b h r tree place e1 e2 found = rw (← tree, ← e1, ← e2) (found dir place)
 
+-- the path of `lost-` and a block
+lost_path : (t : Tree) (dir : List (List ℕ)) (b : ℕ) → path_for t dir (lost_name b) b ≡ path_with_room t dir (lost_name b)
+lost_path t dir b = either (path_with_room t dir (lost_name b)) (path_with_room t dir (lost_name b)) refl
+  where
+    either : (o other : Option (List (List ℕ))) → other ≡ o → elim o [ Some path ↦ Some path | None ↦ other ] ≡ o
+    either (Some path) other e = refl
+    either None other e = e
+
+-- the place of the path that an entry asks for, if it is outranked and if it is not
+module _ (d : DraftValue) (t : Tree) (o : Option (List (List ℕ))) (m b h : ℕ) (tree : d.tree ≡ t) (place : IsPlace d o (Some m)) (same : b ≡ h) where
+  pub outranked_room : {E : Type 0} (ls : Letters) (image : List ℕ) (w : Walk) (r : Result (Option Room) E) → true ≡ is_outranked ls image w h
+      → ((dir : List (List ℕ)) → IsDirectoryOf d dir m → IfOk r (IsRoomOf d (path_with_room d.tree dir (lost_name b))))
+      → IfOk r (IsRoomOf d (path_by t o (name_for ls image w h) h))
+  outranked_room ls image w r is found =
+      let own : lost_name b ≡ name_for ls image w h = ap lost_name same ∙ ap (λ u. cond u (lost_name h) (name_of image h)) is in
+      room_in_place d t o m (lost_name b) (name_for ls image w h) b h r tree place own same (λ dir at. rw (lost_path d.tree dir b) (found dir at))
+
+  pub own_room : {E : Type 0} (ls : Letters) (image : List ℕ) (w : Walk) (name : List ℕ) (r : Result (Option Room) E)
+      → false ≡ is_outranked ls image w h → name ≡ name_of image h
+      → ((dir : List (List ℕ)) → IsDirectoryOf d dir m → IfOk r (IsRoomOf d (path_for d.tree dir name b)))
+      → IfOk r (IsRoomOf d (path_by t o (name_for ls image w h) h))
+  own_room ls image w name r is named found =
+      let own : name ≡ name_for ls image w h = named ∙ ap (λ u. cond u (lost_name h) (name_of image h)) is in
+      room_in_place d t o m name (name_for ls image w h) b h r tree place own same found
+
 -- the verdict on an entry that is not known and stands, by its path
 module _ (g : Ground) (l : Basis) (vs : List Verdict) (n : ℕ) (new : entry_headed g.walk (node_block l.walk n) ≡ None) where
   pub anew : verdict g l vs n ≡ verdict_anew g l vs n
@@ -88,10 +115,12 @@ module _ (g : Ground) (l : Basis) (vs : List Verdict) (n : ℕ) (new : entry_hea
 
   module _ (body : Body) (stands : body_of (as_given g l) n ≡ Ok body) where
     abbrev path_of_entry : Option (List (List ℕ))
-    path_of_entry = path_by (verdict_tree g vs) (new_path vs (parent_node l.walk n)) (name_of l.image (node_block l.walk n)) (node_block l.walk n)
+    path_of_entry =
+        path_by (verdict_tree g vs) (new_path vs (parent_node l.walk n)) (name_for g.letters l.image l.walk (node_block l.walk n)) (node_block l.walk n)
 
     on_path : verdict g l vs n ≡ at_path (verdict_tree g vs) (blocks g.given) (meta_stated (block l.image (node_block l.walk n))) body path_of_entry
-    on_path = anew ∙ ap (by_body l.image (blocks g.given) (verdict_tree g vs) (new_path vs (parent_node l.walk n)) (node_block l.walk n)) stands
+    on_path = anew ∙ ap (by_body l.image (blocks g.given) (verdict_tree g vs) (new_path vs (parent_node l.walk n))
+        (name_for g.letters l.image l.walk (node_block l.walk n)) (node_block l.walk n)) stands
 
     pub verdict_at : (path : List (List ℕ)) (meta : Meta) → path_of_entry ≡ Some path → meta ≡ meta_stated (block l.image (node_block l.walk n))
         → verdict g l vs n ≡ fitting (verdict_tree g vs) (blocks g.given) (record { path = path; meta = meta; body = body })
@@ -106,6 +135,23 @@ pub new_place : (d : DraftValue) (path : List (List ℕ)) (meta : Meta) (body : 
     → IsPlace d (directory_path (adds (record { path = path; meta = meta; body = body }))) place
 new_place d path meta Dir m place is dir = rw is (dir refl)
 new_place d path meta (File bytes) m place is dir = rw is tt
+
+-- the state before a survey, with the marks of its entries
+pub with_marks : (g : Ground) (vs : List Verdict) (r : Salvage) (marks : Vec Bool) → IsSalvage g vs r → IsSalvage g vs (record r { outranked = marks })
+with_marks g vs r marks is = record {
+  tree = is.tree;
+  kind = is.kind;
+  input = is.input;
+  count = is.count;
+  nodes = is.nodes;
+  known = is.known;
+  places = is.places;
+  kept = is.kept;
+  added = is.added;
+  left = is.left;
+  left_before = is.left_before;
+  left_out = is.left_out;
+}
 
 -- an entry adds nothing
 pub none_more : (g : Ground) (vs : List Verdict) (r s : Salvage) (n : ℕ) (v : Verdict) (place : Option ℕ) → IsSalvage g vs r → n ≡ length vs + 1

@@ -15,14 +15,14 @@ use Rattle.adf_tree.proofs.{TreePrefixes.first_tree, TreePrefixes.is_next, Lists
 use Rattle.adf_blocks.specs.Sizes.{blocks}
 use Rattle.adf_volume.specs.{Demands.AllHold, Demands.root_demands, Fits.FitsBy, Layout.Layout, Made.entries_in, Made.layout_in, Made.tree_in_by}
 use Rattle.adf_volume.specs.{Types.letters_for, declared.types.Types.Types, Walk.IsWalkBy, Walk.heads, Walk.node_block, Walk.Walk}
-use Rattle.adf_volume.specs.Image.{kind_of, name_of, root_of, stamps_of}
+use Rattle.adf_volume.specs.Image.{kind_of, root_of, stamps_of}
 use Rattle.adf_volume.proofs.{FitWalks.one_fit, Lists.at_index_or, Lists.get_before, WalkMembers.entries_length}
 use Rattle.adf_findings.specs.{Files.grave, Members.parent_node, Sound.IsOfItsKind, SoundMarks.AreMarks, Survey.FindingValue, Survey.IsSurvey, Types.passed}
 use Rattle.adf_findings.proofs.{FirstFindings.finds_none, FirstFindings.none_found, FirstFindings.shows_none, TypesRead.types_read}
 use Rattle.adf_build.specs.Plan.{blocks_needed, entries_blocks, reserved}
 use Rattle.adf_rescue.specs.Rescue.{as_accepted, Ground, Basis, Verdict, verdict_additions, before_first_by, before_second_by, directory_path}
 use Rattle.adf_rescue.specs.Rescue.{first_verdicts_by, fitting}
-use Rattle.adf_rescue.specs.Rescue.{left_out_from, path_by, path_for, new_path, rescue_leaves_by, rescued_tree_by, verdict_tree, verdict, verdicts}
+use Rattle.adf_rescue.specs.Rescue.{left_out_from, name_for, path_by, path_for, new_path, rescue_leaves_by, rescued_tree_by, verdict_tree, verdict, verdicts}
 use Rattle.adf_rescue.specs.{Rescue.Verdict.adds, declared.standing.Input.Input}
 use Rattle.adf_rescue.proofs.{FitBlocks.fit_room, FitBlocks.front_blocks, PassedFindings.passed_grave, SoundHeaders.IsToldAs, SoundHeaders.label_whole}
 use Rattle.adf_rescue.proofs.{SoundHeaders.told, Steps.additions_more, Steps.left_out_more, Steps.verdict_at, RescuedTrees.or_else}
@@ -119,7 +119,7 @@ tree_so_far ls input a vs = verdict_tree (before_first_by ls input a.image) vs
 module _ (ls : Letters) (input : Input) (a : Basis) (vs : List Verdict) (n : ℕ) (e : Entry) (is : IsToldAs ls input a n e) (dir : List (List ℕ))
     (at : new_path vs e.parent ≡ Some dir) where
   entry_path : room_for_by ls (tree_so_far ls input a vs).entries (dir ++ e.name ∷ []) ≡ Ok e.parent
-      → path_by (tree_so_far ls input a vs) (new_path vs (parent_node a.walk n)) (name_of a.image (node_block a.walk n)) (node_block a.walk n)
+      → path_by (tree_so_far ls input a vs) (new_path vs (parent_node a.walk n)) (name_for ls a.image a.walk (node_block a.walk n)) (node_block a.walk n)
       ≡ Some (dir ++ e.name ∷ [])
   entry_path room = grind (arith, common_steps, tree_so_far, own_path)
 

@@ -6,6 +6,7 @@ pub mod Hung
 pub mod Lost
 pub mod MadeRoot
 pub mod Opened
+pub mod Outranked
 pub mod Pruned
 pub mod Rescue
 pub mod Losses

@@ -18,7 +18,7 @@ use Rattle.adf_volume.specs.{Image.name_of, Image.word_in, Made.datas_in, Types.
 use Rattle.adf_findings.specs.{Files.file_content, Files.file_in, Files.grave, SoundMarks.AreMarks, Opening.opening_in, Survey.FindingValue, Survey.IsSurvey}
 use Rattle.adf_findings.specs.Members.{owning_entry, parent_node, has_mark}
 use Rattle.adf_build.specs.Plan.{blocks_needed}
-use Rattle.adf_rescue.specs.{Claims.claims_other, Lost.is_stated_free, declared.left_out.LeftOut.LeftOut, declared.standing.Input.Input}
+use Rattle.adf_rescue.specs.{Claims.claims_other, Lost.is_stated_free, Outranked.is_outranked, declared.left_out.LeftOut.LeftOut, declared.standing.Input.Input}
 use Rattle.adf_rescue.specs.declared.left_out.Why.{Why, TheVariants.Damaged, TheVariants.Link, TheVariants.NoRoom}
 
 -- a survey as a rescue takes it: its image and walk, and whether an entry is whole
@@ -117,7 +117,7 @@ path_with_room t dir name = cond (is_name name && is_ok (room_for_by t.letters t
 abbrev pub lost_name : ℕ → List ℕ
 lost_name h = codes "lost-" ++ decimal h
 
--- the path of an entry in its directory: by the name in its header, or else by `lost-` and the header's block
+-- the path of an entry in its directory: by this name, or else by `lost-` and the header's block
 abbrev pub path_for : Tree → List (List ℕ) → List ℕ → ℕ → Option (List (List ℕ))
 path_for t dir name h = elim (path_with_room t dir name) [ Some path ↦ Some path | None ↦ path_with_room t dir (lost_name h) ]
 
@@ -135,10 +135,14 @@ abbrev pub at_path : Tree → ℕ → Meta → Body → Option (List (List ℕ))
 at_path t n meta body None = leaves NoRoom
 at_path t n meta body (Some path) = fitting t n (record { path = path; meta = meta; body = body })
 
--- the verdict on an entry in a directory, by its body; n is the number of blocks of the new volume
-abbrev pub by_body : List ℕ → ℕ → Tree → Option (List (List ℕ)) → ℕ → Result Body Why → Verdict
-by_body image n t dir h (Ok body) = at_path t n (meta_stated (block image h)) body (path_by t dir (name_of image h) h)
-by_body image n t dir h (Err why) = leaves why
+-- the verdict on an entry in a directory, by its name and its body; n is the number of blocks of the new volume
+abbrev pub by_body : List ℕ → ℕ → Tree → Option (List (List ℕ)) → List ℕ → ℕ → Result Body Why → Verdict
+by_body image n t dir name h (Ok body) = at_path t n (meta_stated (block image h)) body (path_by t dir name h)
+by_body image n t dir name h (Err why) = leaves why
+
+-- the name that an entry asks for: its own, unless another header outranks it
+abbrev pub name_for : Letters → List ℕ → Walk → ℕ → List ℕ
+name_for letters image w h = cond (is_outranked letters image w h) (lost_name h) (name_of image h)
 
 -- both images have this block, with the same bytes
 abbrev pub is_same_block : List ℕ → List ℕ → ℕ → Bool
@@ -183,7 +187,8 @@ as_given g l = record l { sound = λ n. l.sound n && are_given g l.image (datas_
 -- the verdict on an entry that is not known
 abbrev pub verdict_anew : Ground → Basis → List Verdict → ℕ → Verdict
 verdict_anew g l vs n =
-    by_body l.image (blocks g.given) (verdict_tree g vs) (new_path vs (parent_node l.walk n)) (node_block l.walk n) (body_of (as_given g l) n)
+    let h = node_block l.walk n in
+    by_body l.image (blocks g.given) (verdict_tree g vs) (new_path vs (parent_node l.walk n)) (name_for g.letters l.image l.walk h) h (body_of (as_given g l) n)
 
 -- block b is the header of entry n
 abbrev pub is_header_at : Walk → ℕ → ℕ → Bool

@@ -6,7 +6,7 @@ ghost use Rattle.std.specs.List.{All};
 ghost use Rattle.adf_base.specs.{Words.block, declared.hash.Letters.Letters};
 ghost use Rattle.adf_tree.specs.{Additions.Addition, Additions.IsTreeOfBy, declared.entry.Body.TheVariants.File, Tree.Tree};
 ghost use Rattle.adf_blocks.specs.{HeadBlock.meta_stated, Sizes.blocks, Sizes.is_allowed};
-ghost use Rattle.adf_volume.specs.{Image.name_of, Fits.Fits, Fits.FitsBy, Layout.Layout, Made.datas_in, Lists.At};
+ghost use Rattle.adf_volume.specs.{Fits.Fits, Fits.FitsBy, Layout.Layout, Made.datas_in, Lists.At};
 ghost use Rattle.adf_volume.specs.{Types.letters_for, declared.types.Types.Types, Walk.FileAt, Walk.node_block, Walk.Walk};
 ghost use Rattle.adf_findings.specs.Files.{HasItsBlocks, IsSoundFile, file_content, file_in, grave};
 ghost use Rattle.adf_findings.specs.{Members.owning_entry, Members.parent_node, Sound.FileHolds, Sound.IsOfItsKind};
@@ -14,8 +14,8 @@ ghost use Rattle.adf_findings.specs.{Sound.IsSound, SoundMarks.AreMarks, Survey.
 ghost use Rattle.adf_build.specs.Laid.{IsLaid};
 ghost use Rattle.adf_rescue.specs.{Doubts.first_doubts_by, Losses.lost_blocks, Losses.lost_headers, Lost.has_lost};
 ghost use Rattle.adf_rescue.specs.{Rescue.Verdict.adds, Salvage.are_data, declared.standing.Input.Input};
-ghost use Rattle.adf_rescue.specs.Rescue.{Basis, Verdict, as_accepted, at_path, before_first_by, first_verdicts_by, path_by};
-ghost use Rattle.adf_rescue.specs.Rescue.{verdict_additions, new_path, rescue_leaves_by, rescued_additions_by, rescued_tree_by};
+ghost use Rattle.adf_rescue.specs.Rescue.{Basis, Verdict, as_accepted, at_path, before_first_by, first_verdicts_by};
+ghost use Rattle.adf_rescue.specs.Rescue.{name_for, path_by, verdict_additions, new_path, rescue_leaves_by, rescued_additions_by, rescued_tree_by};
 ghost use Rattle.adf_rescue.specs.Rescue.{second_verdicts_by, verdict_tree, verdict};
 
 /// The tree of a rescue is that of its additions.
@@ -32,8 +32,9 @@ pub fn rescues_are_laid()
 {}
 
 /// A sound file is whole, and a whole file of which each data block may be data stands: the verdict on it is that of its
-/// path, with its content and what its header says of it. So it is kept in the place of its directory, by its name or else by
-/// `lost-` and its block, or has no room. What a second survey adds comes after all that the first one adds.
+/// path, with its content and what its header says of it. So it is kept in the place of its directory, by its name, unless
+/// another header outranks it, or else by `lost-` and its block, or has no room. What a second survey adds comes after all that
+/// the first one adds.
 pub fn sound_files_stand()
     ensures whole { (image : List ℕ) (w : Walk) (fs : List FindingValue) (n : ℕ)
         → IsSoundFile image w fs n → IsSoundFile image w (grave fs) n }
@@ -45,7 +46,7 @@ pub fn sound_files_stand()
         (meta_stated (block a.image (node_block a.walk n)))
         (File (file_content (file_in a.image a.walk n)))
         (path_by (verdict_tree (before_first_by letters input a.image) vs) (new_path vs (parent_node a.walk n))
-        (name_of a.image (node_block a.walk n)) (node_block a.walk n)) }
+        (name_for letters a.image a.walk (node_block a.walk n)) (node_block a.walk n)) }
     ensures front { (letters : Letters) (input : Input) (a : Basis) (b : Option Basis) → rescued_additions_by letters input a b
         ≡ verdict_additions (first_verdicts_by letters input a) ++ verdict_additions (second_verdicts_by letters input a b) }
 {}

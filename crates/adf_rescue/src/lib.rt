@@ -13,6 +13,7 @@ mod losses;
 mod lost;
 mod made_root;
 mod opened;
+mod outranked;
 mod pruned;
 mod rescues;
 mod rooms;

@@ -9,7 +9,8 @@ ghost use Rattle.adf_volume.specs.{Image.root_of, Image.word_in, Start.is_image_
 ghost use Rattle.adf_findings.specs.{Members.has_mark, Survey.OnSurvey};
 ghost use Rattle.adf_rescue.specs.Broken.{broken_by};
 ghost use Rattle.adf_rescue.specs.Lost.{AreBroken, AreLost, AreOpen, IsEvidence, bit_stated, directory_at, directory_by};
-ghost use Rattle.adf_rescue.specs.Lost.{has_found_data, has_free_data, has_free_first, has_valid_flag, header_block};
+ghost use Rattle.adf_rescue.specs.Lost.{has_found_data, has_free_data, has_free_first, has_free_header};
+ghost use Rattle.adf_rescue.specs.Lost.{has_valid_flag, header_block};
 ghost use Rattle.adf_rescue.specs.Lost.{is_directory_header, is_freed, is_gone, is_lost, is_missed, is_no_part, is_open};
 ghost use Rattle.adf_rescue.specs.Lost.{is_stated_free, is_stated_used, is_trusted, is_in_use, is_vacant, is_break_in};
 ghost use Rattle.adf_rescue.specs.Lost.{may_have_been, may_lose, says_directory, says_header, table_count};
@@ -119,21 +120,25 @@ fn has_free_header(survey: &Survey<'_>, n: Node) -> bool
     }
 }
 
-// Whether the bitmap is trusted.
+/// Whether the bitmap tells of a header of the survey that it is free.
 #[tactic(auto, using(crate::proofs::LostHeaders::trusted_steps))]
+pub fn has_free_headers(survey: &Survey<'_>) -> bool
+    ensures { OnSurvey survey.now.image (λ w _. result ≡ has_free_header survey.now.image w (heads w)) }
+{
+    for before in 0..survey.len() {
+        if has_free_header(survey, Node(before + 1)) {
+            return true;
+        }
+    }
+    false
+}
+
+// Whether the bitmap is trusted.
 fn is_trusted(survey: &Survey<'_>) -> bool
     requires { is_image_len (length survey.now.image) ≡ true }
     ensures { OnSurvey survey.now.image (λ w _. result ≡ is_trusted survey.now.image w) }
 {
-    if !has_valid_flag(survey.image()) {
-        return false;
-    }
-    for before in 0..survey.len() {
-        if has_free_header(survey, Node(before + 1)) {
-            return false;
-        }
-    }
-    true
+    has_valid_flag(survey.image()) && !has_free_headers(survey)
 }
 
 // How many data blocks the table of a header names.

@@ -15,6 +15,7 @@ ghost use Rattle.adf_rescue.specs.Salvage.{free_blocks as blocks_free, IsSalvage
 use crate::doubts::{Doubtful, first_doubts, second_doubts};
 use crate::left_out::LeftOut;
 use crate::losses::{lost_blocks, lost_headers};
+use crate::outranked::outranked;
 use crate::salvage::Salvage;
 use crate::standing::Input;
 use adf_base::NoMemory;
@@ -61,6 +62,7 @@ fn salvaged(alloc: Global, survey: &Survey<'_>, begun: Salvage) -> Result<Salvag
     survey.whole_marks();
     some_survey();
     let mut salvage = begun;
+    salvage.outranked = outranked(alloc, salvage.draft.letters(), survey)?;
     for before in 0..survey.len() {
         salvage.take(alloc, survey, Node(before + 1))?;
     }
@@ -83,6 +85,7 @@ fn take_second(
     survey.whole_marks();
     second.whole_marks();
     some_survey();
+    salvage.outranked = outranked(alloc, salvage.draft.letters(), second)?;
     for before in 0..second.len() {
         salvage.take_second(alloc, survey, second, Node(before + 1))?;
     }
@@ -131,12 +134,12 @@ fn stands_nothing(salvage: &Salvage, terms: Terms) -> bool
 /// not claim to be headers; and its directories, as the draft of a tree that fits in as many blocks, with the letters by which
 /// the image is read where `terms.types` are accepted; and what stands beside these by a second survey, if there is one, of the
 /// image with what was lost hung in it again: each entry whose header is not that of an entry of the first survey, but a file
-/// only if its data blocks are also as they were given, of no entry that is kept, and not free by the bitmap. With it come the
-/// entries that are left out; those that are kept in doubt: of the first survey those whose header has a wrong checksum, or is free by the bitmap,
-/// and of the second one all; the directories in which headers are lost, as the findings of the first survey report, and the root
-/// if it was made (`terms.made`); and the blocks in use that no entry has. Nothing stands if the
-/// input is refused, and there is no addition. `None` if nothing of the image is surveyed. `NoMemory` if an allocation fails,
-/// which can happen only if something of the image is surveyed.
+/// only if its data blocks are also as they were given, of no entry that is kept, and not free by the bitmap. An entry that
+/// another header outranks is called by its block. With it come the entries that are left out; those that are kept in doubt: of
+/// the first survey those whose header has a wrong checksum, or is free by the bitmap, and of the second one all; the directories
+/// in which headers are lost, as the findings of the first survey report, and the root if it was made (`terms.made`); and the
+/// blocks in use that no entry has. Nothing stands if the input is refused, and there is no addition. `None` if nothing of the
+/// image is surveyed. `NoMemory` if an allocation fails, which can happen only if something of the image is surveyed.
 pub fn rescue(
     alloc: Global,
     survey: &Survey<'_>,

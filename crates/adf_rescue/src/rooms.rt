@@ -26,6 +26,21 @@ pub fn lost_name(alloc: Global, block: u32) -> Result<String, NoMemory>
     Ok(format!(in alloc; "lost-{block}")?)
 }
 
+/// The room in a directory of `lost-` and the block of a header; `None` if an entry has that name. `NoMemory` if an allocation
+/// fails.
+pub fn lost_room(
+    alloc: Global,
+    draft: &Draft,
+    directory: Node,
+    block: u32,
+) -> Result<Option<Room>, NoMemory>
+    ensures { (dir : List (List ℕ)) → IsDirectoryOf draft.now dir directory
+        → IfOk result (IsRoomOf draft.now (path_with_room draft.now.tree dir (lost_name block))) }
+{
+    let name = lost_name(alloc, block)?;
+    Ok(room_named(draft, directory, name.as_bytes()))
+}
+
 /// The room of an entry in a directory: of this name, or else of `lost-` and the block of its header; `None` if the
 /// directory has room for neither. `NoMemory` if an allocation fails.
 pub fn room_of(
@@ -41,6 +56,5 @@ pub fn room_of(
     if let Some(room) = room_named(draft, directory, name) {
         return Ok(Some(room));
     }
-    let lost = lost_name(alloc, block)?;
-    Ok(room_named(draft, directory, lost.as_bytes()))
+    lost_room(alloc, draft, directory, block)
 }

@@ -6,27 +6,29 @@ ghost use Rattle.adf_base.specs.declared.hash.Letters.{Letters};
 ghost use Rattle.adf_drafts.specs.Draft.{IsRoomFor};
 ghost use Rattle.adf_blocks.specs.Sizes.{blocks};
 ghost use Rattle.adf_tree.specs.Tree.{is_dir_body};
-ghost use Rattle.adf_volume.specs.{Walk.heads, Walk.node_block, Walk.Walk, Image.name_of};
+ghost use Rattle.adf_volume.specs.{Walk.heads, Walk.node_block, Walk.Walk};
 ghost use Rattle.adf_findings.specs.{Members.parent_node, Opening.opening_in};
 ghost use Rattle.adf_findings.specs.Survey.{FindingValue, IsSurvey, OnSurvey};
 ghost use Rattle.adf_rescue.specs.Rescue.{Ground, OnBasis, Verdict, added_marks, as_given, before_first_by, body_of};
-ghost use Rattle.adf_rescue.specs.Rescue.{entry_headed, fitting, path_by, new_path, verdict_tree, verdict};
+ghost use Rattle.adf_rescue.specs.Outranked.{AreOutranked};
+ghost use Rattle.adf_rescue.specs.Rescue.{entry_headed, fitting, name_for, path_by, new_path, verdict_tree, verdict};
 ghost use Rattle.adf_rescue.specs.{Rescue.Verdict.leaves, Rescue.Verdict.knows, declared.standing.Input.Input};
 ghost use Rattle.adf_rescue.specs.Salvage.{GoesOn, ComesNext, IsRoomOf, IsSalvage, entry_cost, free_blocks};
 
 use crate::left_out::{LeftOut, Why};
-use crate::rooms::room_of;
+use crate::rooms::{lost_room, room_of};
 use crate::standing::{Input, are_given, body_of, bytes_of, entry_at, other_body};
 use adf_base::{Letters, NoMemory};
 use adf_build::{data_blocks, ext_count};
 use adf_drafts::{Draft, Room};
-use adf_findings::{Opening, Survey};
+use adf_findings::{Opening, Survey, has_mark};
 use adf_tree::{Body, Kind, Meta, Node};
 use std::alloc::Global;
 
 /// What is kept so far: what is known of the input; the draft of the new tree; for each node of the survey
 /// before, and of this one, from the root on, its directory in the draft, if it is one that is kept, and whether it is added;
-/// the number of free blocks that are left; and the entries of the survey before, and of this one, that are left out.
+/// the number of free blocks that are left; the entries of the survey before, and of this one, that are left out; and whether
+/// each entry of this one is outranked.
 #[derive(Drop)]
 pub struct Salvage {
     pub kind: Kind,
@@ -39,6 +41,7 @@ pub struct Salvage {
     pub left: u32,
     pub left_before: Vec<LeftOut>,
     pub left_out: Vec<LeftOut>,
+    pub outranked: Vec<bool>,
 }
 
 // The number of blocks of an entry with this body; `u64::MAX` on overflow.
@@ -122,6 +125,7 @@ impl Salvage {
             left: free,
             left_before: Vec::new(alloc),
             left_out: Vec::new(alloc),
+            outranked: Vec::new(alloc),
         })
     }
 
@@ -152,6 +156,7 @@ impl Salvage {
             left,
             left_before: left_out,
             left_out: Vec::new(alloc),
+            outranked: Vec::new(alloc),
         })
     }
 
@@ -184,8 +189,9 @@ impl Salvage {
 
     // Keeps the place of the next entry, which is known as this one.
     fn keep_known(&mut self, m: Node) -> Result<(), NoMemory>
-        ensures { (g : Ground) (vs : List Verdict) → IsSalvage g vs self.old
+        ensures state { (g : Ground) (vs : List Verdict) → IsSalvage g vs self.old
             → OnOk result (IsSalvage g (vs ++ knows (new_path g.verdicts m) ∷ []) self.new) }
+        ensures same { self.new.outranked ≡ self.old.outranked }
     {
         let place = self.place_before(m);
         self.keep_place(place, false)
@@ -193,9 +199,10 @@ impl Salvage {
 
     // Leaves out the next entry.
     fn leave(&mut self, n: Node, why: Why) -> Result<(), NoMemory>
-        ensures { (g : Ground) (vs : List Verdict) → IsSalvage g vs self.old
+        ensures state { (g : Ground) (vs : List Verdict) → IsSalvage g vs self.old
             → n ≡ length vs + 1
             → OnOk result (IsSalvage g (vs ++ leaves why ∷ []) self.new) }
+        ensures same { self.new.outranked ≡ self.old.outranked }
     {
         self.keep_place(None, false)?;
         Ok(self.left_out.push(LeftOut { entry: n, why })?)
@@ -204,12 +211,13 @@ impl Salvage {
     // Puts the next entry in a room, if the blocks suffice; else leaves it out.
     fn put(&mut self, n: Node, room: &Room, meta: Meta, body: Body) -> Result<(), NoMemory>
         requires { (path : List (List ℕ)) × IsRoomFor self.old.draft path room.now }
-        ensures { (g : Ground) (vs : List Verdict) (path : List (List ℕ))
+        ensures state { (g : Ground) (vs : List Verdict) (path : List (List ℕ))
             → IsSalvage g vs self.old → IsRoomFor self.old.draft path room.now
             → n ≡ length vs + 1
             → OnOk result (IsSalvage g
             (vs ++ fitting (verdict_tree g vs) (blocks g.given)
             (record { path = path; meta = meta; body = body }) ∷ []) self.new) }
+        ensures same { self.new.outranked ≡ self.old.outranked }
     {
         let cost = cost_of(self.kind, &body);
         if cost > u64::from(self.left) {
@@ -223,7 +231,6 @@ impl Salvage {
     }
 
     // The room of an entry, if its directory is kept and has one.
-    #[tactic(auto, using(crate::proofs::Steps::room_in_place))]
     fn room_of_entry(
         &self,
         alloc: Global,
@@ -232,15 +239,18 @@ impl Salvage {
     ) -> Result<Option<Room>, NoMemory>
         ensures { (g : Ground) (w : Walk) (fs : List FindingValue) (vs : List Verdict)
             → IsSurvey survey.now.image w fs → IsSalvage g vs self.now
-            → 1 ≤ n → n ≤ heads w
+            → AreOutranked g.letters survey.now.image w self.now.outranked.items → 1 ≤ n → n ≤ heads w
             → IfOk result (IsRoomOf self.now.draft
             (path_by (verdict_tree g vs) (new_path vs (parent_node w n))
-            (name_of survey.now.image (node_block w n)) (node_block w n))) }
+            (name_for g.letters survey.now.image w (node_block w n)) (node_block w n))) }
     {
         let (Some(name), Some(block)) = (survey.name(n), survey.block_of(n)) else {
             return Ok(None);
         };
         match self.place_of(survey.directory_of(n)) {
+            Some(directory) if has_mark(&self.outranked, n.0) => {
+                lost_room(alloc, &self.draft, directory, block)
+            }
             Some(directory) => room_of(alloc, &self.draft, directory, name, block),
             None => Ok(None),
         }
@@ -255,13 +265,15 @@ impl Salvage {
         standing: Result<Body, Why>,
     ) -> Result<(), NoMemory>
         requires { GoesOn survey.now.image n self.old }
-        ensures { (g : Ground) (w : Walk) (fs : List FindingValue) (sound : ℕ → Bool)
+        ensures state { (g : Ground) (w : Walk) (fs : List FindingValue) (sound : ℕ → Bool)
             (vs : List Verdict)
             → IsSurvey survey.now.image w fs → IsSalvage g vs self.old → ComesNext w vs n
+            → AreOutranked g.letters survey.now.image w self.old.outranked.items
             → entry_headed g.walk (node_block w n) ≡ None
             → standing ≡ body_of (as_given g (record { image = survey.now.image; walk = w; sound = sound })) n
             → OnOk result (IsSalvage g
             (vs ++ verdict g (record { image = survey.now.image; walk = w; sound = sound }) vs n ∷ []) self.new) }
+        ensures same { self.new.outranked ≡ self.old.outranked }
     {
         let body = match standing {
             Ok(body) => body,
@@ -280,10 +292,12 @@ impl Salvage {
     /// state is of no use.
     pub fn take(&mut self, alloc: Global, survey: &Survey<'_>, n: Node) -> Result<(), NoMemory>
         requires { GoesOn survey.now.image n self.old }
-        ensures { OnBasis survey.now.image (λ a _. (letters : Letters) (input : Input) (vs : List Verdict)
+        ensures state { OnBasis survey.now.image (λ a _. (letters : Letters) (input : Input) (vs : List Verdict)
             → IsSalvage (before_first_by letters input a.image) vs self.old → ComesNext a.walk vs n
+            → AreOutranked letters a.image a.walk self.old.outranked.items
             → OnOk result (IsSalvage (before_first_by letters input a.image)
             (vs ++ verdict (before_first_by letters input a.image) a vs n ∷ []) self.new)) }
+        ensures same { self.new.outranked ≡ self.old.outranked }
     {
         let standing = body_of(alloc, self.input, survey, n)?;
         self.keep(alloc, survey, n, standing)
@@ -325,10 +339,12 @@ impl Salvage {
         n: Node,
     ) -> Result<(), NoMemory>
         requires { GoesOn survey.now.image n self.old }
-        ensures { OnBasis survey.now.image (λ b _. (g : Ground) (fs : List FindingValue) (vs : List Verdict)
+        ensures state { OnBasis survey.now.image (λ b _. (g : Ground) (fs : List FindingValue) (vs : List Verdict)
             → g.given ≡ before.now.image → IsSurvey g.given g.walk fs
             → IsSalvage g vs self.old → ComesNext b.walk vs n
+            → AreOutranked g.letters b.image b.walk self.old.outranked.items
             → OnOk result (IsSalvage g (vs ++ verdict g b vs n ∷ []) self.new)) }
+        ensures same { self.new.outranked ≡ self.old.outranked }
     {
         match known_as(before, survey, n) {
             Some(m) => self.keep_known(m),

@@ -1,9 +1,9 @@
 -- The lines of names. In each definition `may` says of a name, a status, a text or a line and why its file could not be opened whether they may be
 -- reported of it, `o` and `o'` are what output held and holds, and `e` and `e'` what errors do. `said` is what is said on errors of files.
-use Rattle.std.specs.Prelude.{◌≡◌, ◌≢◌, ◌≤◌, ◌⊎◌, ◌-◌, ℕ, max, Bool, true, false, List, [], ◌∷◌, ◌++◌, codes, Option, None, Some, IfSome, Result, Err, if◌then◌else◌, length, take}
+use Rattle.std.specs.Prelude.{◌≡◌, ◌≢◌, ◌≤◌, ◌⊎◌, ℕ, max, Bool, true, false, List, [], ◌∷◌, ◌++◌, codes, Option, None, Some, IfSome, Result, Err, if◌then◌else◌}
 use Rattle.std.specs.{Prelude.string_bytes, Io.KnownBytes.Appends}
 use Rattle.adf_volume.specs.declared.types.Types.{Types}
-use Rattle.adf_json.specs.Objects.{characters, member, numeral, object_line}
+use Rattle.adf_json.specs.Objects.{characters, member, numeral, object_line, without_feed}
 use Rattle.adf_names.specs.Escapes.{escaped}
 use Rattle.adf_cmd.specs.Answers.{Checks}
 use Rattle.adf_runs.specs.{Commands.on_output, Streams.AppendsPart, Streams.IsTold, Streams.Says, Streams.Seen}
@@ -14,10 +14,6 @@ use Rattle.adf_shelf_cmd.specs.declared.batch.Stop.{Stop, TheVariants.ReadFault 
 -- the line of a name: its escape form, a tab, and the text reported of its file
 abbrev pub batch_line : List ℕ → List ℕ → List ℕ
 batch_line name text = escaped name ++ (9 ∷ text)
-
--- a text without its last byte, which is its line feed
-abbrev pub without_feed : List ℕ → List ℕ
-without_feed text = take (length text - 1) text
 
 -- the object of a name: its bytes, the status, and the text without its line feed
 abbrev pub shelf_object : List ℕ → ℕ → List ℕ → List ℕ

@@ -2,12 +2,13 @@
 
 ghost use Rattle.std.specs.Prelude.{◌≡◌, ◌++◌, None, false, OnOk};
 ghost use Rattle.adf_shelf_cmd.specs.Lines.{IsOpenedReport, IsReport, IsRunStatus, is_unread, report_status, report_text};
-ghost use Rattle.adf_shelf_cmd.specs.Lines.{report_why, batch_line, line_of_name, shelf_object, without_feed};
+ghost use Rattle.adf_shelf_cmd.specs.Lines.{report_why, batch_line, line_of_name, shelf_object};
+ghost use Rattle.adf_json.specs.Objects.{without_feed};
 ghost use Rattle.adf_file_runs.specs.Files.{why_line};
 
 use adf_cmd::{CheckAnswer, answer_to_input};
 use adf_file_runs::{Files, Unopened};
-use adf_json::{Member, push_object};
+use adf_json::{Member, push_object, without_feed};
 use adf_runs::{Source, StreamFault};
 use adf_texts::push_escaped;
 use adf_volume::Types;
@@ -119,8 +120,7 @@ fn push_text(text: &mut Vec<u8>, name: &[u8], report: &Report) -> Result<(), All
 fn verdict(report: &Report) -> &[u8]
     ensures { result.now ≡ without_feed (report_text report.now) }
 {
-    let text = report.text().as_bytes();
-    &text[..text.len().saturating_sub(1)]
+    without_feed(report.text().as_bytes())
 }
 
 // Appends the object of a name.

@@ -12,13 +12,13 @@ loop-partition-preserved c = λ all knows.
     let p = c.partition-item.result in
     let one = c.in_ok-answer.answer.sound in
     let split = split_at ps i p c.loop-partition-test.true c.partition-item.is in
-    let before = subst (λ left. Continues all ps left c.loop-partition.sound c.loop-partition.text.items) split
+    let before = subst (λ left. Continues c.args.telling.json all ps left c.loop-partition.sound c.loop-partition.text.items) split
     (c.loop-partition.invariant all knows) in
     let known = subst (KnowsVolume all c.args.bytes.now c.args.checked.now) (sym c.partition-item.is)
     (All-get_or (KnowsVolume all c.args.bytes.now c.args.checked.now) ps i p c.loop-partition-test.true knows.known) in
     let sound : c.if-sound.sound ≡ (c.loop-partition.sound && one) =
     elim c.if-sound.branch [ then-sound w ↦ rw w.if-sound.true w.sound-is | else-sound w ↦ rw w.if-sound.false (w.sound-is ∙ w.if-sound.false) ] in
-    stepped all ps (drop (i + 1) ps) p c.loop-partition.sound one c.if-sound.sound c.loop-partition.text.items
+    stepped c.args.telling.json all ps (drop (i + 1) ps) p c.loop-partition.sound one c.if-sound.sound c.loop-partition.text.items
     (string_bytes c.in_ok-answer.answer.line) c.push_line.new.text.items before (c.in_ok-answer.ensures all knows.answered known) sound
     c.in_ok-push_line.ensures
 

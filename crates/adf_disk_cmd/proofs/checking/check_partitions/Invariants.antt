@@ -6,4 +6,4 @@ use Rattle.adf_disk_cmd.proofs.checking.check_partitions.Given as goal
 abbrev pub invariant-loop-partition : goal.invariant-loop-partition
 invariant-loop-partition l =
     (all : List ℕ) → KnowsVolumes all l.bytes l.checked l.partitions
-    → Continues all l.partitions (drop l.partition-index l.partitions) l.sound l.text.items
+    → Continues l.telling.json all l.partitions (drop l.partition-index l.partitions) l.sound l.text.items

@@ -1,4 +1,4 @@
-use Rattle.std.proofs.Common.{◌≡◌, ◌++◌, ◌∙◌, ap, option_copied}
+use Rattle.std.proofs.Common.{◌++◌, ◌∙◌, ap, option_copied}
 use Rattle.adf_disk_cmd.specs.Work.{held_place_reply, held_reply, sought_value}
 use Rattle.adf_runs.proofs.Endings.{does_same, silently}
 use Rattle.adf_disk_cmd.proofs.copy_input.write_held.Goals as goal

@@ -1,4 +1,4 @@
-use Rattle.std.proofs.Common.{◌≡◌, ◌+◌, ◌∙◌, List, ℕ, inl, inr, sym}
+use Rattle.std.proofs.Common.{◌+◌, ◌∙◌, List, ℕ, inl, inr, sym}
 use Rattle.adf_disk_cmd.proofs.Gathered.{file_read}
 use Rattle.adf_disk_cmd.proofs.HostRuns.{disk_consistent, no_hosts_named, read_status, text_ends, unread_ends}
 use Rattle.adf_disk_cmd.specs.{Answers.disk_command, CommandLine.disk_file, declared.work.TheConstants.MOST_DISK_BYTES}

@@ -1,4 +1,4 @@
-use Rattle.std.proofs.Common.{◌≡◌, ◌∙◌, ap, option_copied}
+use Rattle.std.proofs.Common.{◌∙◌, ap, option_copied}
 use Rattle.adf_disk_cmd.specs.{Answers.place_reply, Answers.volume_reply, Work.sought_value}
 use Rattle.adf_runs.proofs.Endings.{does_same, silently}
 use Rattle.adf_disk_cmd.proofs.work.write_volume.Goals as goal

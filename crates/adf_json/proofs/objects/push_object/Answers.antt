@@ -1,4 +1,4 @@
-use Rattle.std.proofs.Common.{[], append_assoc, arith, refl}
+use Rattle.std.proofs.Common.{[], append_assoc, arith}
 use Rattle.std.proofs.lemmas.Grind.{common_steps}
 use Rattle.std.proofs.lemmas.Simd.{map-map}
 use Rattle.adf_json.specs.{Objects.member_text, Objects.member_value, declared.objects.Member.Member, declared.objects.Value.TheVariants.Nothing}

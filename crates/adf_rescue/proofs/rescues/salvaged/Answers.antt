@@ -1,12 +1,16 @@
-use Rattle.std.proofs.Common.{◌≡◌, arith}
+use Rattle.std.proofs.Common.{◌≡◌, [], arith, subst, sym}
 use Rattle.adf_volume.specs.Walk.{heads}
 use Rattle.adf_findings.specs.SoundMarks.{whole_in}
 use Rattle.adf_rescue.specs.Rescue.{Ground, Basis, before_first_by, verdicts}
-use Rattle.adf_rescue.proofs.Steps.{next_is, verdicts_more}
+use Rattle.adf_rescue.specs.Outranked.{AreOutranked}
+use Rattle.adf_rescue.proofs.Steps.{next_is, verdicts_more, with_marks}
 use Rattle.adf_rescue.proofs.rescues.salvaged.Goals as goal
 
 pub loop-before-init : goal.loop-before-init
-loop-before-init c = λ w fs sound survey marks. c.requires
+loop-before-init c = λ w fs sound survey marks. (
+  with_marks _ [] c.args.begun _ c.requires,
+  rw c.letters.ensures at (c.in_ok-salvage.ensures w fs survey),
+)
 
 pub take-requires : goal.take-requires
 take-requires c =
@@ -22,7 +26,8 @@ take-requires c =
       findings = some.1;
       verdicts = verdicts g a c.loop-before.before;
       survey = some.2;
-      state = c.loop-before.invariant some.0 some.1 a.sound some.2 marks;
+      state = (c.loop-before.invariant some.0 some.1 a.sound some.2 marks).0;
+      ranks = (c.loop-before.invariant some.0 some.1 a.sound some.2 marks).1;
       next = next_is g a c.loop-before.before (omega (arith, all));
     }
 
@@ -32,10 +37,12 @@ loop-before-preserved c = λ w fs sound survey marks.
     let all = c.len-before-end.ensures w fs survey in
     let a : Basis = record { image = image; walk = w; sound = sound } in
     let next = next_is (before_first_by c.args.begun.draft.tree.letters c.args.begun.input image) a c.loop-before.before (omega (arith, all)) in
-    rw verdicts_more (c.in_ok-take.ensures w fs sound survey marks c.args.begun.draft.tree.letters c.args.begun.input _
-    (c.loop-before.invariant w fs sound survey marks) next)
+    let before = c.loop-before.invariant w fs sound survey marks in (
+      rw verdicts_more (c.in_ok-take.ensures.state w fs sound survey marks c.args.begun.draft.tree.letters c.args.begun.input _ before.0 next before.1),
+      subst (λ v. AreOutranked c.args.begun.draft.tree.letters image w v.items) (sym c.in_ok-take.ensures.same) before.1,
+    )
 
 pub returns : goal.returns
 returns c = λ w fs sound survey marks.
     let last : c.loop-before.before ≡ heads w = omega (arith, c.len-before-end.ensures w fs survey) in
-    rw last at (c.loop-before.invariant w fs sound survey marks)
+    rw last at (c.loop-before.invariant w fs sound survey marks).0

@@ -1,12 +1,16 @@
-use Rattle.std.proofs.Common.{◌≡◌, arith, refl}
+use Rattle.std.proofs.Common.{◌≡◌, [], arith, refl, subst, sym}
 use Rattle.adf_volume.specs.Walk.{heads}
 use Rattle.adf_findings.specs.SoundMarks.{whole_in}
 use Rattle.adf_rescue.specs.Rescue.{Ground, Basis, before_second_by, verdicts}
-use Rattle.adf_rescue.proofs.Steps.{next_is, verdicts_more}
+use Rattle.adf_rescue.specs.Outranked.{AreOutranked}
+use Rattle.adf_rescue.proofs.Steps.{next_is, verdicts_more, with_marks}
 use Rattle.adf_rescue.proofs.rescues.take_second.Goals as goal
 
 pub loop-before-init : goal.loop-before-init
-loop-before-init c = λ v gs before first marks w fs sound survey whole. c.requires v gs before first marks
+loop-before-init c = λ v gs before first marks w fs sound survey whole. (
+  with_marks _ [] c.args.salvage.now _ (c.requires v gs before first marks),
+  rw c.letters.ensures at (c.in_ok-salvage.ensures w fs survey),
+)
 
 pub take_second-requires : goal.take_second-requires
 take_second-requires c =
@@ -24,7 +28,8 @@ take_second-requires c =
       findings = other.1;
       verdicts = verdicts g b c.loop-before.before;
       survey = other.2;
-      state = c.loop-before.invariant one.0 one.1 a.sound one.2 marks other.0 other.1 (whole_in c.args.second.now) other.2 whole;
+      state = (c.loop-before.invariant one.0 one.1 a.sound one.2 marks other.0 other.1 (whole_in c.args.second.now) other.2 whole).0;
+      ranks = (c.loop-before.invariant one.0 one.1 a.sound one.2 marks other.0 other.1 (whole_in c.args.second.now) other.2 whole).1;
       next = next_is g b c.loop-before.before (omega (arith, all));
     }
 
@@ -35,10 +40,12 @@ loop-before-preserved c = λ v gs before first marks w fs sound survey whole.
     let b : Basis = record { image = c.args.second.now.image; walk = w; sound = sound } in
     let g : Ground = before_second_by c.args.salvage.now.draft.tree.letters c.args.salvage.now.input a in
     let next = next_is g b c.loop-before.before (omega (arith, all)) in
-    rw verdicts_more (c.in_ok-take_second.ensures w fs sound survey whole g gs _ refl first
-    (c.loop-before.invariant v gs before first marks w fs sound survey whole) next)
+    let kept = c.loop-before.invariant v gs before first marks w fs sound survey whole in (
+      rw verdicts_more (c.in_ok-take_second.ensures.state w fs sound survey whole g gs _ refl first kept.0 next kept.1),
+      subst (λ v. AreOutranked g.letters b.image w v.items) (sym c.in_ok-take_second.ensures.same) kept.1,
+    )
 
 pub returns : goal.returns
 returns c = λ v gs before first marks w fs sound survey whole.
     let last : c.loop-before.before ≡ heads w = omega (arith, c.len-before-end.ensures w fs survey) in
-    rw last at (c.loop-before.invariant v gs before first marks w fs sound survey whole)
+    rw last at (c.loop-before.invariant v gs before first marks w fs sound survey whole).0

@@ -9,5 +9,5 @@ returns-in-Check-clause-ends g c = λ r serves.
     let bytes = c.args.bytes.now in
     let ps = c.args.disk.now.partitions.items in
     subst (λ k. EndsBy (OfPartitions k bytes ps) c.write_checks.result (g.W.Sink.held c.args.output.now) (g.W.Sink.held c.write_checks.new.output))
-    (sym (checks c.args.self.now r c.in-Check.is serves))
+    (sym (checks c.in-Check.json c.args.self.now r c.in-Check.is serves))
     (rw c.deref.ensures.value at (c.write_checks.ensures.ends bytes (knows_whole bytes c.deref.result.now)))

@@ -4,8 +4,8 @@ use Rattle.adf_rescue.specs.Rescue.{new_path, Verdict.knows}
 use Rattle.adf_rescue.proofs.Steps.{none_more}
 use Rattle.adf_rescue.proofs.salvage.Salvage.keep_known.Goals as goal
 
-pub returns : goal.returns
-returns c = λ g vs is.
+pub returns-clause-state : goal.returns-clause-state
+returns-clause-state c = λ g vs is.
     let rest = c.keep_place.ensures.rest in
     let place = c.place_before-place.result in
     let new = rw (← c.place_before-place.ensures) at (is.known c.args.m) in

@@ -5,14 +5,14 @@ use Rattle.adf_drafts.specs.Draft.{IsDirectoryOf}
 use Rattle.adf_rescue.proofs.Steps.{added_more, fits_not, new_place}
 use Rattle.adf_rescue.proofs.salvage.Salvage.put.Goals as goal
 
-pub returns-then-cost-from : goal.returns-then-cost-from
-returns-then-cost-from c = λ g vs path is room at.
+pub returns-then-cost-from-clause-state : goal.returns-then-cost-from-clause-state
+returns-then-cost-from-clause-state c = λ g vs path is room at.
     let x : Addition = record { path = path; meta = c.args.meta; body = c.args.body } in
     let short : c.args.self.now.left < c.cost_of-cost.result = omega arith in
-    rw (fits_not g vs c.args.self.now x is c.cost_of-cost.result c.cost_of-cost.ensures short) (c.leave.ensures g vs is at)
+    rw (fits_not g vs c.args.self.now x is c.cost_of-cost.result c.cost_of-cost.ensures short) (c.leave.ensures.state g vs is at)
 
-pub returns : goal.returns
-returns c = λ g vs path is room at.
+pub returns-clause-state : goal.returns-clause-state
+returns-clause-state c = λ g vs path is room at.
     let x : Addition = record { path = path; meta = c.args.meta; body = c.args.body } in
     let small : c.args.self.now.left < 2 ^ 32 = omega arith in
     let enough : c.cost_of-cost.result ≤ c.args.self.now.left = omega arith in

@@ -5,13 +5,13 @@ use Rattle.adf_findings.specs.Survey.{IsSurvey}
 use Rattle.adf_rescue.specs.Rescue.{entry_headed}
 use Rattle.adf_rescue.proofs.salvage.Salvage.take_second.Goals as goal
 
-pub returns-in-Some : goal.returns-in-Some
-returns-in-Some c = λ w fs sound survey marks g hs vs given first is next.
+pub returns-in-Some-clause-state : goal.returns-in-Some-clause-state
+returns-in-Some-clause-state c = λ w fs sound survey marks g hs vs given first is next ranks.
     let low : 1 ≤ c.args.n = omega (arith, next.number) in
     let here = subst (λ image. IsSurvey image g.walk hs) given first in
     let known : entry_headed g.walk (node_block w c.args.n) ≡ Some c.in-Some.m =
     sym (c.known_as.ensures g.walk hs here w fs survey low next.within) ∙ c.in-Some.is in
-    rw known (c.keep_known.ensures g vs is)
+    rw known (c.keep_known.ensures.state g vs is)
 
-pub returns-in_ok-standing-in-None : goal.returns-in_ok-standing-in-None
-returns-in_ok-standing-in-None c = grind (arith, common_steps)
+pub returns-in_ok-standing-in-None-clause-state : goal.returns-in_ok-standing-in-None-clause-state
+returns-in_ok-standing-in-None-clause-state c = grind (arith, common_steps)

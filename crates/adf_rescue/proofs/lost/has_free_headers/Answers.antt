@@ -1,9 +1,8 @@
 use Rattle.std.proofs.Common.{◌≡◌, ◌<◌, ◌∙◌, add-one, arith, subst, sym, true}
-use Rattle.std.proofs.lemmas.Bool.{and_right, not_from_true}
 use Rattle.adf_volume.specs.Walk.{heads, node_block}
-use Rattle.adf_rescue.specs.Lost.{has_free_header, has_valid_flag, is_stated_free}
+use Rattle.adf_rescue.specs.Lost.{is_stated_free}
 use Rattle.adf_rescue.proofs.LostHeaders.{one_free_header}
-use Rattle.adf_rescue.proofs.lost.is_trusted.Goals as goal
+use Rattle.adf_rescue.proofs.lost.has_free_headers.Goals as goal
 
 pub returns-then-has_free_header : goal.returns-then-has_free_header
 returns-then-has_free_header c = λ w fs survey.
@@ -12,4 +11,4 @@ returns-then-has_free_header c = λ w fs survey.
     let lt : k < heads w = omega (arith, c.loop-before-test.true, c.len-before-end.ensures w fs survey) in
     let told = sym (c.has_free_header.ensures w fs survey (omega arith) (omega arith)) ∙ c.if-has_free_header.true in
     let free = subst (λ m. is_stated_free image w (node_block w m) ≡ true) (add-one k) told in
-    sym (and_right (has_valid_flag image) _ (not_from_true (has_free_header image w (heads w)) (one_free_header image w k (heads w) lt free)))
+    sym (one_free_header image w k (heads w) lt free)
