@@ -18,9 +18,13 @@ use Rattle.adf_subjects.specs.Subject.{IsTyped, SubjectValue}
 abbrev pub contested_text : List ℕ → ℕ → List ℕ
 contested_text image r = codes "contested: " ++ names_text (path_of image r)
 
+-- of so many blocks
+abbrev pub of_text : ℕ → List ℕ
+of_text asked = codes "of " ++ (decimal asked ++ codes " blocks")
+
 -- so many blocks of a file do not stand, of so many
 abbrev pub overwritten_text : (lost asked : ℕ) → List ℕ
-overwritten_text lost asked = codes "overwritten: " ++ (decimal lost ++ (codes " of " ++ (decimal asked ++ codes " blocks")))
+overwritten_text lost asked = codes "overwritten: " ++ (decimal lost ++ (codes " " ++ of_text asked))
 
 -- what speaks for a file
 abbrev pub state_text : List ℕ → State → List ℕ

@@ -5,13 +5,13 @@ ghost use Rattle.adf_base.specs.declared.dates.Stamp.{Stamp};
 ghost use Rattle.adf_blocks.specs.Sizes.{blocks};
 ghost use Rattle.adf_volume.specs.Start.{is_image_len};
 ghost use Rattle.adf_findings.specs.Survey.{OnSurvey};
-ghost use Rattle.adf_rescue.specs.Rescue.{OnSecond};
+ghost use Rattle.adf_rescue.specs.{Opened.opened, Pruned.pruned, Rescue.OnSecond};
 ghost use Rattle.adf_deleted.specs.Paths.{path_of};
 ghost use Rattle.adf_texts.specs.Names.{names_text};
 ghost use Rattle.adf_texts.specs.VolumeLines.{AreDates};
 ghost use Rattle.adf_runs.specs.{Commands.on_errors, Commands.on_output, Outcomes.Does, Outcomes.DoesSilently, Streams.seen};
 ghost use Rattle.adf_survey_cmd.specs.Deletions.{ListsBy, ListsDeleted, ListsSecond, ListsTold, ListsTyped, TellsDeleted, deleted_line, state_text};
-ghost use Rattle.adf_survey_cmd.specs.Deletions.{block_text, contested_text, deleted_lines, header_line, is_surveyed, line_if_deleted, overwritten_text};
+ghost use Rattle.adf_survey_cmd.specs.Deletions.{block_text, contested_text, deleted_lines, header_line, is_surveyed, line_if_deleted, of_text, overwritten_text};
 ghost use Rattle.adf_subjects.specs.Subject.{subject_value};
 
 use adf_blocks::{HeadBody, meta_stated};
@@ -52,15 +52,22 @@ fn push_contested(
     push_path(alloc, deletions, rival, text)
 }
 
+// Appends that there are so many blocks.
+fn push_of(text: &mut Vec<u8>, asked: u32) -> Result<(), AllocError>
+    ensures { OnOk result (text.new.items ≡ text.old.items ++ of_text asked) }
+{
+    text.extend_from_slice(b"of ")?;
+    push_number(text, asked, b' ')?;
+    text.extend_from_slice(b"blocks")
+}
+
 // Appends how many blocks of a file do not stand.
 fn push_overwritten(text: &mut Vec<u8>, lost: u32, asked: u32) -> Result<(), AllocError>
     ensures { OnOk result (text.new.items ≡ text.old.items ++ overwritten_text lost asked) }
 {
     text.extend_from_slice(b"overwritten: ")?;
     push_number(text, lost, b' ')?;
-    text.extend_from_slice(b"of ")?;
-    push_number(text, asked, b' ')?;
-    text.extend_from_slice(b"blocks")
+    push_of(text, asked)
 }
 
 // Appends what speaks for a file.
@@ -260,6 +267,14 @@ fn write_read<W: Sink>(
     }
 }
 
+// Makes an image the one that a rescue reads of it where it is refused.
+fn read_refused(image: &mut [u8])
+    ensures { image.new ≡ pruned (opened image.old) }
+{
+    open_image(image);
+    prune_image(image);
+}
+
 // Writes the lines of the deleted headers of the image that a rescue reads of what is surveyed.
 fn write_typed<W: Sink>(alloc: Global, subject: Subject, output: &mut W) -> Outcome
     requires { W.has_failed output.old ≡ false }
@@ -268,8 +283,7 @@ fn write_typed<W: Sink>(alloc: Global, subject: Subject, output: &mut W) -> Outc
     let made = lacks_root(&subject.image);
     let held = subject.end;
     let mut image = subject.image;
-    open_image(&mut image);
-    prune_image(&mut image);
+    read_refused(&mut image);
     write_read(alloc, &image, made, held, output)
 }
 

@@ -1,7 +1,6 @@
-use Rattle.std.proofs.Common.{◌≡◌, ◌∙◌, codes, false, inl, inr, subst, sym, true}
+use Rattle.std.proofs.Common.{◌≡◌, ◌∙◌, codes, inl, inr, subst, sym}
 use Rattle.adf_runs.specs.Commands.{on_errors}
 use Rattle.adf_runs.proofs.Endings.{does_weaker, nothing_done, silently}
-use Rattle.adf_deleted.specs.Known.{known_of}
 use Rattle.adf_survey_cmd.specs.Deletions.{ListsBy, TellsDeleted}
 use Rattle.adf_survey_cmd.proofs.deleting.write_by.Goals as goal
 

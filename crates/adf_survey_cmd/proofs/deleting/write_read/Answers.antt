@@ -1,4 +1,4 @@
-use Rattle.std.proofs.Common.{◌≡◌, ◌∙◌, ℕ, List, None, Some, map, subst, sym}
+use Rattle.std.proofs.Common.{ℕ, List, None, Some, map, subst, sym}
 use Rattle.adf_findings.specs.{Parts.finding_value, Survey.FindingValue, Survey.IsSurvey}
 use Rattle.adf_runs.proofs.Endings.{does_weaker, nothing_done, silently}
 use Rattle.adf_subjects.proofs.RescueAnswers.{second_is, second_none}
@@ -32,6 +32,3 @@ returns-in-Ok-None g c =
 
 pub returns-in_default : goal.returns-in_default
 returns-in_default g c = silently c.requires nothing_done
-
-pub returns-in-Err : goal.returns-in-Err
-returns-in-Err g c = silently c.requires nothing_done
