@@ -185,7 +185,7 @@ class Export(Asked):
         self.catalogue("disks", "out", status=1)
         page = self.exported("report", "out").decode()
         self.assertEqual([word for word in ("<script", "href", "src=", "url(") if word in page], [])
-        rows = [re.sub("<[^>]*>", " ", row).split("  ") for row in page.replace("<wbr>", "").split("<tr>")]
+        rows = [re.sub("<[^>]*>", " ", row).split("  ") for row in re.findall("<tr>(.*?)</tr>", page.replace("<wbr>", ""), re.S)]
         told = [[part.strip() for part in row if part.strip()] for row in rows]
         for row in (["Images", "5 images, 3 sound"], ["Files lost at least", "0"], ["Sound", "3", "Nothing is to be done."], ["bad sum", "1"]):
             self.assertIn(row, told)
