@@ -24,7 +24,7 @@ use Rattle.adf_subjects.specs.Subject.{OfTyped, SubjectValue, begun_subject, siz
 use Rattle.std.proofs.lemmas.Bool.{cases_Bool}
 use Rattle.adf_blocks.specs.Sizes.{blocks}
 use Rattle.adf_rescue.specs.{Hung.second_image, Opened.lacks_root, Opened.opened, Pruned.pruned, Rescue.Basis, Rescue.IsSecond}
-use Rattle.adf_deleted.specs.Known.{known_of}
+use Rattle.adf_deleted.specs.Known.{known_blocks}
 use Rattle.adf_survey_cmd.specs.Deletions.{ListsBy, deleted_lines, is_surveyed}
 use Rattle.adf_answers.specs.Answered.{HasSurveyAnswer}
 
@@ -123,7 +123,7 @@ some_second (Some image) =
 
 listed_by : (held : ℕ) (image : List ℕ) (w : Walk) (l : Option Basis) → (reply : Reply) × ListsBy held image w l reply
 listed_by held image w l = elim (cases_Bool (is_surveyed image w)) [
-  | inl is ↦ (on_output 0 (deleted_lines date_of (known_of image w l held) (blocks image)), inr (is, (date_of, date_of_is, refl)))
+  | inl is ↦ (on_output 0 (deleted_lines date_of (known_blocks image w l held) (blocks image)), inr (is, (date_of, date_of_is, refl)))
   | inr none ↦ (on_errors 1 (codes "no volume\n"), inl (none, refl))
 ]
 

@@ -1,7 +1,8 @@
 -- Whole files: their blocks stand, and no other deleted header names them.
 -- Letters: k what is known of an image; h, g, x the blocks of headers; c the claims on a block; b a block, bs those of a file; i, n numbers of blocks; r a
 -- rival.
-use Rattle.std.proofs.Common.{◌≡◌, ◌≢◌, ◌<◌, ◌≤◌, ℕ, zero, suc, ◌+◌, ◌-◌, ◌==◌, ◌&&◌, ◌||◌, Bool, true, false, cond, List, length, add-one, arith, inl, inr, refl, subst, sym, ap, ◌∙◌}
+use Rattle.std.proofs.Common.{◌≡◌, ◌≢◌, ◌<◌, ◌≤◌, ℕ, zero, suc, ◌+◌, ◌-◌, ◌==◌, ◌&&◌, ◌||◌, Bool, true, false, cond}
+use Rattle.std.proofs.Common.{List, length, add-one, arith, inl, inr, refl, subst, sym, ap, ◌∙◌}
 use Rattle.std.specs.Prelude.{◌⊎◌, ◌∷◌, [], min, nat_le, nat_lt, not, slice_index}
 use Rattle.std.proofs.lemmas.{Grind.common_steps, Bool.and_left, Bool.and_parts, Bool.and_from, Bool.cases_Bool, Bool.cases_lt, Bool.cond_both, Bool.cond-false}
 use Rattle.std.proofs.lemmas.Bool.{cond-true, eqb-true, eq-eqb, ne_eqb, or_left, or_right, or_cases, false_from_ne_true, Decides.nat_tests}
@@ -17,7 +18,7 @@ use Rattle.adf_deleted.specs.declared.deletions.State.{State, TheVariants.Whole,
 use Rattle.std.specs.Prelude.{Option}
 use Rattle.adf_volume.specs.Walk.{Walk}
 use Rattle.adf_rescue.specs.Rescue.{Basis}
-use Rattle.adf_deleted.specs.Known.{is_reached, known_of}
+use Rattle.adf_deleted.specs.Known.{is_reached, known_blocks}
 use Rattle.adf_deleted.proofs.{Marks.mark_of, Tables.length_pointers}
 
 -- a state that is whole
@@ -209,11 +210,11 @@ module _ (k : KnownValue) where
       (all_kept b (blocks k.image) g (deleted_inside g dg).1 (and_from (is_deleted k g) _ dg names)) ne)
 
 -- no survey has a block of a whole file
-pub whole_unowned : (image : List ℕ) (w : Walk) (l : Option Basis) (held h i : ℕ) → state_of (known_of image w l held) h ≡ Whole
+pub whole_unowned : (image : List ℕ) (w : Walk) (l : Option Basis) (held h i : ℕ) → state_of (known_blocks image w l held) h ≡ Whole
     → i < length (pointers image h) → is_reached w l (slice_index (pointers image h) i) ≡ false
 whole_unowned image w l held h i whole inside =
     let b : ℕ = slice_index (pointers image h) i in
-    let range = (and_parts (in_range image b) _ (whole_stands (known_of image w l held) h whole i inside)).0 in
+    let range = (and_parts (in_range image b) _ (whole_stands (known_blocks image w l held) h whole i inside)).0 in
     let high = (and_parts (nat_le 2 b) (nat_lt b (blocks image)) range).1 in
     let lt : b < blocks image = grind (arith, nat_tests) in
-    sym (mark_of image (is_reached w l) b lt) ∙ whole_unreached (known_of image w l held) h whole i inside
+    sym (mark_of image (is_reached w l) b lt) ∙ whole_unreached (known_blocks image w l held) h whole i inside

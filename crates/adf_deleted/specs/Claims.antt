@@ -14,14 +14,14 @@ has_pointer [] b = false
 has_pointer (p ∷ ps) b = (p == b) || has_pointer ps b
 
 -- number x comes behind y, or they are the same and the rest decides
-abbrev pub is_after : ℕ → ℕ → Bool → Bool
-is_after x y rest = nat_lt y x || (x == y) && rest
+abbrev pub ranks_after : ℕ → ℕ → Bool → Bool
+ranks_after x y rest = nat_lt y x || (x == y) && rest
 
 -- header h has a later date than header g: by its days, then its minutes, then its ticks
 abbrev pub is_later : List ℕ → ℕ → ℕ → Bool
 is_later image h g =
-    is_after (word_in image h DATE) (word_in image g DATE)
-    (is_after (word_in image h (DATE + 1)) (word_in image g (DATE + 1)) (nat_lt (word_in image g (DATE + 2)) (word_in image h (DATE + 2))))
+    ranks_after (word_in image h DATE) (word_in image g DATE)
+    (ranks_after (word_in image h (DATE + 1)) (word_in image g (DATE + 1)) (nat_lt (word_in image g (DATE + 2)) (word_in image h (DATE + 2))))
 
 -- header h comes before g, which is 0 where there is none
 abbrev pub precedes : List ℕ → ℕ → ℕ → Bool

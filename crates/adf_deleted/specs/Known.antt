@@ -39,8 +39,8 @@ abbrev pub marks_of : List ℕ → (ℕ → Bool) → List Bool
 marks_of image f = map f (range_with_len 0 (blocks image))
 
 -- what is known of an image by its survey, and by that of the image with what is lost hung in it again, if the input holds so many blocks
-abbrev pub known_of : List ℕ → Walk → Option Basis → (held : ℕ) → KnownValue
-known_of image w l held = record {
+abbrev pub known_blocks : List ℕ → Walk → Option Basis → (held : ℕ) → KnownValue
+known_blocks image w l held = record {
   image = image;
   found = marks_of image (is_found w l);
   reached = marks_of image (is_reached w l);

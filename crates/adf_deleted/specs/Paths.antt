@@ -22,5 +22,5 @@ path_down image (suc f) b =
     cond (is_below_root image b) (path_down image f (word_in image b PARENT) ++ name_of image b ∷ []) (path_end image b)
 
 -- the names from the root to header h, at most 256 directories up
-abbrev pub path_of : List ℕ → ℕ → List (List ℕ)
-path_of image h = path_down image 256 (word_in image h PARENT) ++ name_of image h ∷ []
+abbrev pub former_path : List ℕ → ℕ → List (List ℕ)
+former_path image h = path_down image 256 (word_in image h PARENT) ++ name_of image h ∷ []

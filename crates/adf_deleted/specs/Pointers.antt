@@ -22,12 +22,12 @@ extensions_among image h zero = 0
 extensions_among image h (suc n) = extensions_among image h n + cond (is_extension_of image h n) 1 0
 
 -- the block behind block e of the table, if it says that it is an extension block of the file; else 0
-abbrev pub next_of : List ℕ → ℕ → ℕ → ℕ
-next_of image h e = let next = word_in image e EXTENSION in cond (is_extension_of image h next) next 0
+abbrev pub next_extension : List ℕ → ℕ → ℕ → ℕ
+next_extension image h e = let next = word_in image e EXTENSION in cond (is_extension_of image h next) next 0
 
 -- the same of any block of the table, which is 0 past the last
 abbrev pub behind_of : List ℕ → ℕ → ℕ → ℕ
-behind_of image h e = cond (e == 0) 0 (next_of image h e)
+behind_of image h e = cond (e == 0) 0 (next_extension image h e)
 
 -- block m of the table: the header, then its extension blocks; 0 past the last
 unfoldable pub table_block : List ℕ → ℕ → ℕ → ℕ

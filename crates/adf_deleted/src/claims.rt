@@ -3,7 +3,7 @@
 ghost use Rattle.std.specs.Prelude.{◌≡◌, ◌<◌, ◌==◌, ◌&&◌, Bool, ℕ, IfOk, OnOk, cond, length, slice_index_or, true};
 ghost use Rattle.adf_blocks.specs.Sizes.{blocks};
 ghost use Rattle.adf_volume.specs.Start.{is_image_len};
-ghost use Rattle.adf_deleted.specs.Claims.{AreClaims, claim_at, claims_on, has_pointer, is_after, is_later, other_claimant};
+ghost use Rattle.adf_deleted.specs.Claims.{AreClaims, claim_at, claims_on, has_pointer, ranks_after, is_later, other_claimant};
 ghost use Rattle.adf_deleted.specs.Claims.{precedes, rival_among, unclaimed, with_claim};
 ghost use Rattle.adf_deleted.specs.{Deletions.AreExtensions, Known.is_deleted, Pointers.pointers};
 
@@ -31,8 +31,8 @@ const UNCLAIMED: Claim = Claim {
 };
 
 // Whether a number comes behind another, or they are the same and the rest decides.
-fn is_after(x: u32, y: u32, rest: bool) -> bool
-    ensures { result ≡ is_after x y rest }
+fn ranks_after(x: u32, y: u32, rest: bool) -> bool
+    ensures { result ≡ ranks_after x y rest }
 {
     y < x || x == y && rest
 }
@@ -43,12 +43,12 @@ fn is_later(image: &[u8], h: u32, g: u32) -> bool
     ensures { result ≡ is_later image.now h g }
 {
     let ticks = word_of(image, g, DATE + 2) < word_of(image, h, DATE + 2);
-    let minutes = is_after(
+    let minutes = ranks_after(
         word_of(image, h, DATE + 1),
         word_of(image, g, DATE + 1),
         ticks,
     );
-    is_after(word_of(image, h, DATE), word_of(image, g, DATE), minutes)
+    ranks_after(word_of(image, h, DATE), word_of(image, g, DATE), minutes)
 }
 
 // Whether header `h` comes before header `g`, which is 0 where there is none.

@@ -3,14 +3,15 @@
 ghost use Rattle.std.specs.Prelude.{◌≡◌, ◌<◌, ℕ, IfOk, length, map, true};
 ghost use Rattle.adf_base.specs.Words.{block};
 ghost use Rattle.adf_blocks.specs.Sizes.{blocks};
-ghost use Rattle.adf_deleted.specs.{Deletions.rival_by, Deletions.state_of, Deletions.unless_contested_by, Known.is_deleted, Paths.path_of};
+ghost use Rattle.adf_deleted.specs.{Deletions.rival_by, Deletions.state_of, Deletions.unless_contested_by};
+ghost use Rattle.adf_deleted.specs.{Known.is_deleted, Paths.former_path};
 ghost use Rattle.adf_deleted.specs.Pointers.{pointers};
 ghost use Rattle.adf_volume.specs.Image.{kind_of};
 
 use crate::claims::Claim;
 use crate::extensions::extensions;
 use crate::known::Known;
-use crate::paths::path_of;
+use crate::paths::former_path;
 use crate::pointers::{blocks_asked, pointers};
 use adf_base::{Block, NoMemory};
 use adf_rescue::{block_count, block_in};
@@ -101,9 +102,9 @@ impl Deletions<'_> {
     /// The names from the root to a header, as far as they are known; `?` in place of what is above. `NoMemory` if an allocation
     /// fails.
     pub fn path(&self, alloc: Global, h: u32) -> Result<Vec<&[u8]>, NoMemory>
-        ensures { IfOk result (λ v. map (λ x. x.now) v.items ≡ path_of self.now.image h) }
+        ensures { IfOk result (λ v. map (λ x. x.now) v.items ≡ former_path self.now.image h) }
     {
-        path_of(alloc, self.known.image, h)
+        former_path(alloc, self.known.image, h)
     }
 
     // The other deleted header that names one of the blocks of a file; 0 if there is none.

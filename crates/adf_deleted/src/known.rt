@@ -4,7 +4,8 @@ ghost use Rattle.std.specs.Prelude.{◌≡◌, IfOk, length, option_map, true};
 ghost use Rattle.adf_volume.specs.Start.{is_image_len};
 ghost use Rattle.adf_findings.specs.Survey.{OnSurvey};
 ghost use Rattle.adf_rescue.specs.{Lost.is_stated_used, Rescue.OnSecond};
-ghost use Rattle.adf_deleted.specs.Known.{is_deleted, is_found, is_second_header, is_reached, is_second_part, known_of, marks_of};
+ghost use Rattle.adf_deleted.specs.Known.{is_deleted, is_found, is_second_header, is_reached, is_second_part};
+ghost use Rattle.adf_deleted.specs.Known.{known_blocks, marks_of};
 
 use adf_base::NoMemory;
 use adf_findings::{Survey, has_mark};
@@ -137,7 +138,7 @@ pub fn know<'i>(
 ) -> Result<Known<'i>, NoMemory>
     requires { is_image_len (length survey.now.image) ≡ true }
     ensures { OnSurvey survey.now.image (λ w _. OnSecond (option_map (λ s. s.now.image) second.entry) (λ l.
-        IfOk result (λ k. k ≡ known_of survey.now.image w l held))) }
+        IfOk result (λ k. k ≡ known_blocks survey.now.image w l held))) }
 {
     Ok(Known {
         found: found(alloc, survey, second)?,

@@ -5,7 +5,7 @@ ghost use Rattle.adf_names.specs.declared.kind.Kind.TheVariants.{Ffs};
 ghost use Rattle.adf_volume.specs.Image.{kind_of};
 ghost use Rattle.adf_findings.specs.Members.{has_mark};
 ghost use Rattle.adf_deleted.specs.{Claims.has_pointer, Deletions.state_of, Known.KnownValue, Known.is_deleted};
-ghost use Rattle.adf_deleted.specs.Known.{is_reached, known_of};
+ghost use Rattle.adf_deleted.specs.Known.{is_reached, known_blocks};
 ghost use Rattle.adf_rescue.specs.Rescue.{Basis};
 ghost use Rattle.adf_volume.specs.Walk.{Walk};
 ghost use Rattle.adf_deleted.specs.{Pointers.blocks_asked, Pointers.pointers, Standing.stands};
@@ -21,8 +21,9 @@ pub fn whole_files_lie_apart()
         → stands k h i (slice_index (pointers k.image h) i) ≡ true }
     ensures unreached { (k : KnownValue) (h i : ℕ) → state_of k h ≡ Whole → i < length (pointers k.image h)
         → has_mark k.reached (slice_index (pointers k.image h) i) ≡ false }
-    ensures unowned { (image : List ℕ) (w : Walk) (l : Option Basis) (held h i : ℕ) → state_of (known_of image w l held) h ≡ Whole
-        → i < length (pointers image h) → is_reached w l (slice_index (pointers image h) i) ≡ false }
+    ensures unowned { (image : List ℕ) (w : Walk) (l : Option Basis) (held h i : ℕ)
+        → state_of (known_blocks image w l held) h ≡ Whole → i < length (pointers image h)
+        → is_reached w l (slice_index (pointers image h) i) ≡ false }
     ensures alone { (k : KnownValue) (h g i : ℕ) → state_of k h ≡ Whole → kind_of k.image ≡ Ffs
         → is_deleted k h ≡ true → is_deleted k g ≡ true → g ≢ h → i < length (pointers k.image h)
         → has_pointer (pointers k.image g) (slice_index (pointers k.image h) i) ≡ false }

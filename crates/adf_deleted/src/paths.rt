@@ -4,7 +4,7 @@ ghost use Rattle.std.specs.Prelude.{◌≡◌, ◌<◌, IfOk, length, map, true}
 ghost use Rattle.adf_base.specs.Words.{block};
 ghost use Rattle.adf_blocks.specs.Sizes.{blocks};
 ghost use Rattle.adf_volume.specs.{Image.name_of, Start.is_image_len};
-ghost use Rattle.adf_deleted.specs.Paths.{is_below_root, path_of};
+ghost use Rattle.adf_deleted.specs.Paths.{is_below_root, former_path};
 
 use crate::extensions::word_of;
 use adf_base::{Block, NoMemory};
@@ -44,9 +44,9 @@ fn is_below_root(image: &[u8], b: u32) -> bool
 
 /// The names from the root to header `h`, at most 256 directories up; `?` in place of what is above a block that does not say
 /// that it is a directory. `NoMemory` if an allocation fails.
-pub fn path_of<'i>(alloc: Global, image: &'i [u8], h: u32) -> Result<Vec<&'i [u8]>, NoMemory>
+pub fn former_path<'i>(alloc: Global, image: &'i [u8], h: u32) -> Result<Vec<&'i [u8]>, NoMemory>
     requires { is_image_len (length image.now) ≡ true }
-    ensures { IfOk result (λ v. map (λ x. x.now) v.items ≡ path_of image.now h) }
+    ensures { IfOk result (λ v. map (λ x. x.now) v.items ≡ former_path image.now h) }
 {
     let mut path = Vec::new(alloc);
     path.push(name_of(image, h))?;

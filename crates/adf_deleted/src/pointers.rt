@@ -4,7 +4,8 @@ ghost use Rattle.std.specs.Prelude.{◌≡◌, ◌<◌, ◌≤◌, ◌^◌, IfOk
 ghost use Rattle.adf_blocks.specs.Sizes.{blocks};
 ghost use Rattle.adf_volume.specs.Start.{is_image_len};
 ghost use Rattle.adf_deleted.specs.{Deletions.AreExtensions};
-ghost use Rattle.adf_deleted.specs.Pointers.{behind_of, blocks_asked, blocks_named, next_of, pointer_in, pointers, pointers_of};
+ghost use Rattle.adf_deleted.specs.Pointers.{behind_of, blocks_asked, blocks_named, next_extension};
+ghost use Rattle.adf_deleted.specs.Pointers.{pointer_in, pointers, pointers_of};
 
 use crate::extensions::{is_extension_of, word_of};
 use adf_base::NoMemory;
@@ -13,9 +14,9 @@ use adf_volume::{count_of, kind_in};
 use std::alloc::Global;
 
 // The block behind block `e` of a table, if it says that it is an extension block of the file; else 0.
-fn next_of(image: &[u8], h: u32, e: u32) -> u32
+fn next_extension(image: &[u8], h: u32, e: u32) -> u32
     requires { is_image_len (length image.now) ≡ true }
-    ensures { result ≡ next_of image.now h e }
+    ensures { result ≡ next_extension image.now h e }
 {
     let next = word_of(image, e, EXTENSION);
     if is_extension_of(image, h, next) {
@@ -30,7 +31,11 @@ fn behind_of(image: &[u8], h: u32, e: u32) -> u32
     requires { is_image_len (length image.now) ≡ true }
     ensures { result ≡ behind_of image.now h e }
 {
-    if e == 0 { 0 } else { next_of(image, h, e) }
+    if e == 0 {
+        0
+    } else {
+        next_extension(image, h, e)
+    }
 }
 
 // The pointer to data block `i`, counted from 0, in block `e` of a table; 0 where there is none.

@@ -23,7 +23,7 @@ use Rattle.adf_subjects.proofs.OneSubject.{one_marks, one_typed}
 use Rattle.adf_survey_cmd.specs.CommandLine.{AsksSurvey, InquiryValue, QuestionValue, cat, deleted, list, report, rescue}
 use Rattle.adf_base.specs.declared.dates.Stamp.{Stamp}
 use Rattle.adf_blocks.specs.Sizes.{blocks}
-use Rattle.adf_deleted.specs.Known.{KnownValue, known_of}
+use Rattle.adf_deleted.specs.Known.{KnownValue, known_blocks}
 use Rattle.adf_rescue.specs.{Opened.opened, Pruned.pruned}
 use Rattle.adf_survey_cmd.specs.Deletions.{ListsBy, ListsDeleted, ListsSecond, ListsTold, ListsTyped, TellsDeleted, deleted_lines}
 
@@ -181,7 +181,7 @@ by_once : (held : ℕ) (image : List ℕ) (w : Walk) (l : Option Basis) (a b : R
 by_once held image w l a b (inl (none, x)) (inl (also, y)) = x ∙ sym y
 by_once held image w l a b (inl (none, x)) (inr (some, y)) = let clash = sym none ∙ some in absurd cc
 by_once held image w l a b (inr (some, x)) (inl (none, y)) = let clash = sym none ∙ some in absurd cc
-by_once held image w l a b (inr (some, x)) (inr (also, y)) = known_told_once (known_of image w l held) a b x y
+by_once held image w l a b (inr (some, x)) (inr (also, y)) = known_told_once (known_blocks image w l held) a b x y
 
 second_listed_once : (held : ℕ) (image : List ℕ) (w : Walk) (second : Option (List ℕ)) (a b : Reply) → ListsSecond held image w second a
     → ListsSecond held image w second b → a ≡ b

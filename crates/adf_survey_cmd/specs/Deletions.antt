@@ -8,7 +8,7 @@ use Rattle.adf_blocks.specs.{HeadBlock.body_at, HeadBlock.meta_stated, Sizes.blo
 use Rattle.adf_volume.specs.{Start.is_image_len, Walk.Walk}
 use Rattle.adf_findings.specs.Survey.{FindingValue, IsSurvey}
 use Rattle.adf_rescue.specs.{Hung.second_image, Opened.lacks_root, Opened.opened, Pruned.pruned, Rescue.Basis, Rescue.IsSecond}
-use Rattle.adf_deleted.specs.{Deletions.state_of, Known.KnownValue, Known.is_deleted, Known.known_of, Paths.path_of}
+use Rattle.adf_deleted.specs.{Deletions.state_of, Known.KnownValue, Known.is_deleted, Known.known_blocks, Paths.former_path}
 use Rattle.adf_deleted.specs.declared.deletions.State.{State, TheVariants.Whole, TheVariants.Contested, TheVariants.Overwritten}
 use Rattle.adf_texts.specs.{RowTexts.head_lines, VolumeLines.AreDates, Names.names_text}
 use Rattle.adf_runs.specs.Commands.{Reply, on_errors, on_output}
@@ -16,7 +16,7 @@ use Rattle.adf_subjects.specs.Subject.{IsTyped, SubjectValue}
 
 -- another deleted header names a block of a file
 abbrev pub contested_text : List ℕ → ℕ → List ℕ
-contested_text image r = codes "contested: " ++ names_text (path_of image r)
+contested_text image r = codes "contested: " ++ names_text (former_path image r)
 
 -- of so many blocks
 abbrev pub of_text : ℕ → List ℕ
@@ -27,10 +27,10 @@ abbrev pub overwritten_text : (lost asked : ℕ) → List ℕ
 overwritten_text lost asked = codes "overwritten: " ++ (decimal lost ++ (codes " " ++ of_text asked))
 
 -- what speaks for a file
-abbrev pub state_text : List ℕ → State → List ℕ
-state_text image Whole = codes "whole"
-state_text image (Contested r) = contested_text image r
-state_text image (Overwritten lost asked) = overwritten_text lost asked
+abbrev pub what_stands_text : List ℕ → State → List ℕ
+what_stands_text image Whole = codes "whole"
+what_stands_text image (Contested r) = contested_text image r
+what_stands_text image (Overwritten lost asked) = overwritten_text lost asked
 
 -- a block in front of what is said of it
 abbrev pub block_text : ℕ → List ℕ
@@ -38,11 +38,11 @@ block_text b = codes "block " ++ (decimal b ++ codes ": ")
 
 -- what header h says, as in the lines of what is found
 abbrev pub header_line : (Stamp → List ℕ) → List ℕ → ℕ → List ℕ
-header_line date image h = head_lines date (path_of image h) (body_at (block image h)) (meta_stated (block image h))
+header_line date image h = head_lines date (former_path image h) (body_at (block image h)) (meta_stated (block image h))
 
 -- the line of a deleted header: its block, what speaks for it, and what it says
 abbrev pub deleted_line : (Stamp → List ℕ) → KnownValue → ℕ → List ℕ
-deleted_line date k h = block_text h ++ (state_text k.image (state_of k h) ++ (codes ": " ++ header_line date k.image h))
+deleted_line date k h = block_text h ++ (what_stands_text k.image (state_of k h) ++ (codes ": " ++ header_line date k.image h))
 
 -- the line of block b, if it is a deleted header
 abbrev pub line_if_deleted : (Stamp → List ℕ) → KnownValue → ℕ → List ℕ
@@ -64,7 +64,7 @@ TellsDeleted k reply = (date : Stamp → List ℕ) × AreDates date × (reply �
 -- those by the surveys of an image; or that it is no volume
 abbrev pub ListsBy : ℕ → List ℕ → Walk → Option Basis → Reply → Type 0
 ListsBy held image w l reply = ((is_surveyed image w ≡ false) × (reply ≡ on_errors 1 (codes "no volume\n")))
-    ⊎ ((is_surveyed image w ≡ true) × TellsDeleted (known_of image w l held) reply)
+    ⊎ ((is_surveyed image w ≡ true) × TellsDeleted (known_blocks image w l held) reply)
 
 -- those by the survey of an image, and by that of a second image, if there is one
 abbrev pub ListsSecond : ℕ → List ℕ → Walk → Option (List ℕ) → Reply → Type 0

@@ -6,11 +6,11 @@ ghost use Rattle.adf_blocks.specs.Sizes.{blocks};
 ghost use Rattle.adf_volume.specs.Start.{is_image_len};
 ghost use Rattle.adf_findings.specs.Survey.{OnSurvey};
 ghost use Rattle.adf_rescue.specs.{Opened.opened, Pruned.pruned, Rescue.OnSecond};
-ghost use Rattle.adf_deleted.specs.Paths.{path_of};
+ghost use Rattle.adf_deleted.specs.Paths.{former_path};
 ghost use Rattle.adf_texts.specs.Names.{names_text};
 ghost use Rattle.adf_texts.specs.VolumeLines.{AreDates};
 ghost use Rattle.adf_runs.specs.{Commands.on_errors, Commands.on_output, Outcomes.Does, Outcomes.DoesSilently, Streams.seen};
-ghost use Rattle.adf_survey_cmd.specs.Deletions.{ListsBy, ListsDeleted, ListsSecond, ListsTold, ListsTyped, TellsDeleted, deleted_line, state_text};
+ghost use Rattle.adf_survey_cmd.specs.Deletions.{ListsBy, ListsDeleted, ListsSecond, ListsTold, ListsTyped, TellsDeleted, deleted_line, what_stands_text};
 ghost use Rattle.adf_survey_cmd.specs.Deletions.{block_text, contested_text, deleted_lines, header_line, is_surveyed, line_if_deleted, of_text, overwritten_text};
 ghost use Rattle.adf_subjects.specs.Subject.{subject_value};
 
@@ -31,7 +31,7 @@ fn push_path(
     h: u32,
     text: &mut Vec<u8>,
 ) -> Result<(), AllocError>
-    ensures { OnOk result (text.new.items ≡ text.old.items ++ names_text (path_of deletions.now.image h)) }
+    ensures { OnOk result (text.new.items ≡ text.old.items ++ names_text (former_path deletions.now.image h)) }
 {
     let Ok(path) = deletions.path(alloc, h) else {
         return Err(AllocError);
@@ -77,7 +77,7 @@ fn push_state(
     state: State,
     text: &mut Vec<u8>,
 ) -> Result<(), AllocError>
-    ensures { OnOk result (text.new.items ≡ text.old.items ++ state_text deletions.now.image state) }
+    ensures { OnOk result (text.new.items ≡ text.old.items ++ what_stands_text deletions.now.image state) }
 {
     match state {
         State::Whole => text.extend_from_slice(b"whole"),
