@@ -11,7 +11,8 @@ use Rattle.adf_texts.specs.VolumeLines.{AreDates}
 use Rattle.adf_cmd.specs.Answers.{IsBadPath, RefusesPath}
 use Rattle.adf_runs.specs.Commands.{Command, Reply, on_errors, on_output}
 use Rattle.adf_file_runs.specs.FileRuns.{without_files}
-use Rattle.adf_survey_cmd.specs.CommandLine.{AreRefusedBySurvey, AsksSurvey, InquiryValue, QuestionValue, asked, cat, deleted, list, report, rescue, survey_file}
+use Rattle.adf_survey_cmd.specs.CommandLine.{AreRefusedBySurvey, AsksSurvey, InquiryValue, QuestionValue, asked, cat, deleted, list, report}
+use Rattle.adf_survey_cmd.specs.CommandLine.{rescue, survey_file}
 use Rattle.adf_survey_cmd.specs.{Deletions.ListsTyped, FoundLines.has_its_data, FoundLines.listing_text, Hints.Hinted, Remains.WritesRemains}
 use Rattle.adf_subjects.specs.{declared.remarks.Remark.Remark, Rescues.Replies, Rescues.RescuesTyped, Subject.OfTyped, Subject.SubjectValue, Subject.subject}
 use Rattle.adf_subjects.specs.{Subject.subject_text}

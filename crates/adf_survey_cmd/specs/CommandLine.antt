@@ -6,7 +6,8 @@ use Rattle.adf_blocks.specs.declared.layout.TheConstants.{MOST_BLOCKS}
 use Rattle.adf_words.specs.Arguments.{bare_app, cat_app, flag_rule, has_flag, number_named}
 use Rattle.adf_words.specs.FileArguments.{file_met, file_rule}
 use Rattle.adf_survey_cmd.specs.declared.command_line.Inquiry.{Inquiry}
-use Rattle.adf_survey_cmd.specs.declared.command_line.Question.{Question, TheVariants.Report, TheVariants.List as ListAll, TheVariants.Cat, TheVariants.Rescue, TheVariants.Deleted}
+use Rattle.adf_survey_cmd.specs.declared.command_line.Question.{Question, TheVariants.Report, TheVariants.List as ListAll}
+use Rattle.adf_survey_cmd.specs.declared.command_line.Question.TheVariants.{Cat, Rescue, Deleted}
 
 -- the option --blocks N
 abbrev pub blocks_rule : Rule

@@ -8,7 +8,8 @@ ghost use Rattle.adf_words.specs.declared.command_line.ArgsError.TheVariants.{Us
 ghost use Rattle.adf_survey_cmd.specs.CommandLine.{AsksSurvey, AsksSurveyOf, AreRefusedBySurvey, blocks_met, asked, cat};
 ghost use Rattle.adf_subjects.specs.Lengths.{AreFew};
 ghost use Rattle.adf_survey_cmd.specs.CommandLine.{flagged_survey, list, inquiry_met, inquiry_value, question_met};
-ghost use Rattle.adf_survey_cmd.specs.CommandLine.{deleted, question_named, question_value, report, rescue, survey_app, survey_cat_app};
+ghost use Rattle.adf_survey_cmd.specs.CommandLine.{deleted, question_named, question_value, report, rescue};
+ghost use Rattle.adf_survey_cmd.specs.CommandLine.{survey_app, survey_cat_app};
 ghost use Rattle.adf_survey_cmd.specs.CommandLine.{survey_deleted_app, survey_file, survey_rescue_app};
 
 use adf_blocks::MOST_BLOCKS;

@@ -10,8 +10,10 @@ ghost use Rattle.adf_deleted.specs.Paths.{former_path};
 ghost use Rattle.adf_texts.specs.Names.{names_text};
 ghost use Rattle.adf_texts.specs.VolumeLines.{AreDates};
 ghost use Rattle.adf_runs.specs.{Commands.on_errors, Commands.on_output, Outcomes.Does, Outcomes.DoesSilently, Streams.seen};
-ghost use Rattle.adf_survey_cmd.specs.Deletions.{ListsBy, ListsDeleted, ListsSecond, ListsTold, ListsTyped, TellsDeleted, deleted_line, what_stands_text};
-ghost use Rattle.adf_survey_cmd.specs.Deletions.{block_text, contested_text, deleted_lines, header_line, is_surveyed, line_if_deleted, of_text, overwritten_text};
+ghost use Rattle.adf_survey_cmd.specs.Deletions.{ListsBy, ListsDeleted, ListsSecond, ListsTold, ListsTyped};
+ghost use Rattle.adf_survey_cmd.specs.Deletions.{TellsDeleted, deleted_line, what_stands_text};
+ghost use Rattle.adf_survey_cmd.specs.Deletions.{block_text, contested_text, deleted_lines, header_line};
+ghost use Rattle.adf_survey_cmd.specs.Deletions.{is_surveyed, line_if_deleted, of_text, overwritten_text};
 ghost use Rattle.adf_subjects.specs.Subject.{subject_value};
 
 use adf_blocks::{HeadBody, meta_stated};
