@@ -79,7 +79,7 @@ impl<'a> SizedImage<'a> {
         ensures blocks { result ≡ blocks self.now }
         ensures allowed { is_allowed result ≡ true }
         ensures many { 4 ≤ result }
-        ensures few { result ≤ 1048576 }
+        ensures few { result ≤ 8388608 }
     {
         self.blocks
     }

@@ -1,6 +1,7 @@
 -- The types of volumes that are accepted.
 use Rattle.std.specs.Prelude.{ℕ, List}
 use Rattle.adf_base.specs.declared.hash.Letters.{Letters, TheVariants.Ascii}
+use Rattle.adf_blocks.specs.declared.layout.TheConstants.{MOST_BLOCKS, MOST_PLAIN_BLOCKS}
 use Rattle.adf_volume.specs.Image.{letters_of}
 use Rattle.adf_volume.specs.declared.types.Types.{Types, TheVariants.Plain, TheVariants.WithInternational}
 
@@ -8,3 +9,8 @@ use Rattle.adf_volume.specs.declared.types.Types.{Types, TheVariants.Plain, TheV
 abbrev pub letters_for : Types → List ℕ → Letters
 letters_for Plain image = Ascii
 letters_for WithInternational image = letters_of image
+
+-- the most blocks of a volume where these types are accepted
+abbrev pub most_blocks : Types → ℕ
+most_blocks Plain = MOST_PLAIN_BLOCKS
+most_blocks WithInternational = MOST_BLOCKS
