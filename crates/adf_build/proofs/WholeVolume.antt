@@ -25,6 +25,7 @@ is_laid t n e can = subst (λ im. IsLaid im t) (sym e) (volume_laid can)
 pub laid_as_planned : {image : List ℕ} (t : Tree) (n : ℕ) → image ≡ volume t n → CanHold t n → FitsBy t.letters image t (planned t n)
 laid_as_planned t n e can = subst (λ im. FitsBy t.letters im t (planned t n)) (sym e) (volume_fits can)
 
--- what fits a tree of ASCII letters by the letters of the tree fits it
-pub fits_plain : {image : List ℕ} {t : Tree} {l : Layout} → t.letters ≡ Ascii → FitsBy t.letters image t l → Fits image t l
-fits_plain {image} {t} {l} letters fits = subst (λ ls. FitsBy ls image t l) letters fits
+-- a plain volume that fits a tree of ASCII letters by the letters of the tree fits it
+pub fits_plain : {image : List ℕ} {t : Tree} {l : Layout} → blocks image ≤ MOST_PLAIN_BLOCKS → t.letters ≡ Ascii → FitsBy t.letters image t l
+    → Fits image t l
+fits_plain {image} {t} {l} few letters fits = (few, subst (λ ls. FitsBy ls image t l) letters fits)

@@ -1,6 +1,7 @@
 -- The types of volumes that are accepted.
-use Rattle.std.specs.Prelude.{ℕ, List}
+use Rattle.std.specs.Prelude.{ℕ, Bool, List, ◌&&◌, nat_le}
 use Rattle.adf_base.specs.declared.hash.Letters.{Letters, TheVariants.Ascii}
+use Rattle.adf_blocks.specs.Sizes.{is_allowed}
 use Rattle.adf_blocks.specs.declared.layout.TheConstants.{MOST_BLOCKS, MOST_PLAIN_BLOCKS}
 use Rattle.adf_volume.specs.Image.{letters_of}
 use Rattle.adf_volume.specs.declared.types.Types.{Types, TheVariants.Plain, TheVariants.WithInternational}
@@ -14,3 +15,7 @@ letters_for WithInternational image = letters_of image
 abbrev pub most_blocks : Types → ℕ
 most_blocks Plain = MOST_PLAIN_BLOCKS
 most_blocks WithInternational = MOST_BLOCKS
+
+-- whether a volume may have n blocks where these types are accepted
+abbrev pub is_size_of : Types → ℕ → Bool
+is_size_of types n = is_allowed n && nat_le n (most_blocks types)

@@ -1,11 +1,11 @@
 // The types of volumes that a check accepts.
 
 ghost use Rattle.std.specs.Prelude.{◌≡◌};
-ghost use Rattle.adf_volume.specs.Types.{letters_for, most_blocks};
+ghost use Rattle.adf_volume.specs.Types.{is_size_of, letters_for, most_blocks};
 
 use crate::start::letters_in;
 use adf_base::Letters;
-use adf_blocks::{MOST_BLOCKS, MOST_PLAIN_BLOCKS};
+use adf_blocks::{MOST_BLOCKS, MOST_PLAIN_BLOCKS, is_allowed_size};
 
 /// The types of volumes that are accepted, and with them the most blocks. Those of directory caches, 4 and 5, are accepted by none.
 #[derive(Clone, Copy, Debug, PartialEq, Eq)]
@@ -35,5 +35,12 @@ impl Types {
             Types::Plain => MOST_PLAIN_BLOCKS,
             Types::WithInternational => MOST_BLOCKS,
         }
+    }
+
+    /// Whether a volume may have this number of blocks where these types are accepted: even, 4 to the most.
+    pub fn is_size(self, blocks: u32) -> bool
+        ensures { result ≡ is_size_of self blocks }
+    {
+        is_allowed_size(blocks) && blocks <= self.most_blocks()
     }
 }
