@@ -34,7 +34,7 @@ impl<'a> Model for SizedImage<'a> {
 
 impl<'a> SizedImage<'a> {
     // The image, with its kind and its number of blocks.
-    pub fn new(bytes: &'a [u8], kind: Kind, blocks: u32) -> SizedImage<'a>
+    pub(crate) fn new(bytes: &'a [u8], kind: Kind, blocks: u32) -> SizedImage<'a>
         requires { IsSized bytes.now kind blocks }
         ensures { result ≡ bytes.now }
     {

@@ -33,17 +33,17 @@ pub struct Remains {
     pub gaps: Vec<Gap>,
 }
 
-// How many bytes of a file its header states.
-fn size_stated(image: &SizedImage<'_>, head: u32) -> u32
+/// How many bytes of a file its header states, but no more than the image has.
+pub fn size_stated(image: &SizedImage<'_>, head: u32) -> u32
     ensures size { result ≡ size_stated image.now head }
     ensures small { result ≤ 2 ^ 29 }
 {
     image.word(head, SIZE).min(image.len())
 }
 
-// The number of data blocks of so many bytes.
+/// The number of data blocks of so many bytes, which an image can have.
 #[tactic(auto, unfolding(adf_blocks::specs::Sizes::count, adf_blocks::specs::Sizes::chunk))]
-fn count_stated(kind: Kind, size: u32) -> u32
+pub fn count_stated(kind: Kind, size: u32) -> u32
     requires { size ≤ 2 ^ 29 }
     ensures count { result ≡ count kind size }
     ensures few { result ≤ 2 ^ 21 }
@@ -118,8 +118,9 @@ fn push_zeros(bytes: &mut Vec<u8>, count: u32) -> Result<(), AllocError>
 }
 
 impl Remains {
-    // Appends data block `k`, counted from 0, of a file of `size` bytes: the bytes in its block, or zeros.
-    fn add(
+    /// Appends data block `k`, counted from 0, of a file of `size` bytes: the bytes in its block, or zeros and the run of them if no
+    /// block is found. `AllocError` if an allocation fails.
+    pub fn add(
         &mut self,
         image: &SizedImage<'_>,
         size: u32,
