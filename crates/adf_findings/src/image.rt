@@ -85,11 +85,11 @@ impl<'a> SizedImage<'a> {
     }
 
     /// The number of bytes.
-    pub fn len(&self) -> u32
+    pub fn len(&self) -> u64
         ensures length { result ≡ length self.now }
-        ensures few { result ≤ 2 ^ 29 }
+        ensures few { result ≤ 2 ^ 32 }
     {
-        self.blocks * BLOCK_LEN as u32
+        u64::from(self.blocks) * BLOCK_LEN as u64
     }
 
     /// The block of the root.
