@@ -1,8 +1,9 @@
 -- The built volume of a tree as a whole.
-use Rattle.std.proofs.Common.{◌≡◌, ◌*◌, ℕ, List, refl, sym, subst, arith, replicate}
+use Rattle.std.proofs.Common.{◌≡◌, ◌≤◌, ◌*◌, ℕ, List, refl, sym, subst, arith, replicate}
 use Rattle.std.proofs.lemmas.Grind.{common_steps}
 use Rattle.adf_base.specs.declared.hash.Letters.TheVariants.{Ascii}
 use Rattle.adf_tree.specs.{Bounds.IsBounded, Tree.IsTreeBy, Tree.Tree}
+use Rattle.adf_blocks.specs.{declared.layout.TheConstants.MOST_PLAIN_BLOCKS, Sizes.blocks}
 use Rattle.adf_volume.specs.{Fits.Fits, Fits.FitsBy, Layout.Layout}
 use Rattle.adf_build.specs.{Laid.IsLaid, Laid.IsWellFormed, Laid.writes, Laid.volume, Writes.with_blocks, Plan.planned}
 use Rattle.adf_build.proofs.{LaidFits.volume_fits, LaidWrites.CanHold, LaidWrites.volume_blocks}

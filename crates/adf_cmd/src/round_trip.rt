@@ -14,7 +14,7 @@ use std::alloc::Global;
 /// The image that was built is never refused, unless memory runs out.
 pub fn build_and_read(alloc: Global, tree: &Tree, blocks: u32) -> Result<Tree, BuildFault>
     ensures same { IfOk result (λ t. t ≡ tree.now) }
-    ensures fault { IfErr result (IsBuildFault tree.now blocks) }
+    ensures fault { IfErr result (IsBuildFault Plain tree.now blocks) }
 {
     let image = build(alloc, tree, blocks)?;
     let volume = match checked(alloc, Types::WithInternational, &image) {

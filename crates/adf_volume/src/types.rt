@@ -5,7 +5,7 @@ ghost use Rattle.adf_volume.specs.Types.{is_size_of, letters_for, most_blocks};
 
 use crate::start::letters_in;
 use adf_base::Letters;
-use adf_blocks::{MOST_BLOCKS, MOST_PLAIN_BLOCKS, is_allowed_size};
+use adf_blocks::{MOST_BLOCKS, MOST_PLAIN_BLOCKS, is_allowed_size, is_plain_size};
 
 /// The types of volumes that are accepted, and with them the most blocks. Those of directory caches, 4 and 5, are accepted by none.
 #[derive(Clone, Copy, Debug, PartialEq, Eq)]
@@ -41,6 +41,9 @@ impl Types {
     pub fn is_size(self, blocks: u32) -> bool
         ensures { result ≡ is_size_of self blocks }
     {
-        is_allowed_size(blocks) && blocks <= self.most_blocks()
+        match self {
+            Types::Plain => is_plain_size(blocks),
+            Types::WithInternational => is_allowed_size(blocks),
+        }
     }
 }
