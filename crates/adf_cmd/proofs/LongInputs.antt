@@ -23,7 +23,7 @@ too_large : (types : Types) (image : List ℕ) (t : Tree) (l : Layout) → most_
 too_large types image t l h (few, fits) = let size : length image ≡ 512 * blocks image = fits.boots.0.0 in omega (arith, few, size, h)
 
 -- a size that is not whole blocks is none either
-bad_size : (types : Types) (image : List ℕ) → most_image_bytes types < length image → FirstFaultOf types image 0 BadSize
+pub bad_size : (types : Types) (image : List ℕ) → most_image_bytes types < length image → FirstFaultOf types image 0 BadSize
 bad_size types image h =
     elim (cases_lt (most_blocks types) (blocks image)) [
       | inl large ↦ inl (large, refl, refl)

@@ -2,6 +2,7 @@
 
 ghost use Rattle.std.specs.Prelude.{◌≡◌, IfOk, IfErr};
 ghost use Rattle.adf_build.specs.Building.{IsBuildFault};
+ghost use Rattle.adf_volume.specs.declared.types.Types.TheVariants.{Plain};
 
 use crate::images::checked;
 use adf_build::{BuildFault, build};
