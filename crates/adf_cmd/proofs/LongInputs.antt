@@ -1,6 +1,6 @@
 -- What is answered to the front of an input that is longer than the limit is answered to the whole of it.
 use Rattle.std.proofs.Common.{◌≡◌, ◌≢◌, ◌<◌, ◌+◌, ◌*◌, ◌∙◌, inl, inr, ℕ, List, Option, Some, None, IfSome, refl, subst, sym, arith, length, take, length-take}
-use Rattle.std.proofs.{lemmas.Bool.cases_lt, lemmas.List.take_all, lemmas.Grind.common_steps}
+use Rattle.std.proofs.{lemmas.Bool.cases_lt, lemmas.List.take_all}
 use Rattle.adf_blocks.specs.{Sizes.blocks, declared.cause.Cause.TheVariants.BadSize}
 use Rattle.adf_volume.specs.{Fits.FitsOf, Layout.Layout, Walk.FirstFaultOf, Walk.FirstFaultBy.at_boot}
 use Rattle.adf_volume.specs.{Types.most_blocks, declared.fault.Fault.Fault}
