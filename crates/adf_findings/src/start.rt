@@ -50,8 +50,8 @@ fn judge_boot(bytes: &[u8]) -> Result<Option<Cause>, Cause>
     }
 }
 
-// The image, of an allowed size.
-fn sized<'a>(bytes: &'a [u8]) -> SizedImage<'a>
+/// The image of these bytes, of an allowed size.
+pub fn sized<'a>(bytes: &'a [u8]) -> SizedImage<'a>
     requires { IsSize bytes.now }
     ensures { result ≡ bytes.now }
 {
