@@ -4,7 +4,7 @@ use Rattle.std.specs.Prelude.{if◌then◌else◌, map, slice_index, Bool, false
 use Rattle.std.specs.Str.{bytes_eq}
 use Rattle.std.proofs.Common.{◌≡◌, ℕ, List, [], ◌∷◌, ◌++◌, drop, ◌+◌, ◌-◌, ◌==◌, ◌<◌, ◌≤◌, ◌&&◌, cond, length, add-one, arith, refl, subst, sym}
 use Rattle.std.proofs.Common.{zero, suc, ◌∙◌, ap, inl, inr}
-use Rattle.std.proofs.lemmas.Bool.{Decides.nat_tests, and_left, and_parts, cases_Bool, cases_lt, eqb-true}
+use Rattle.std.proofs.lemmas.Bool.{Decides.nat_tests, and_left, and_parts, and_right, cases_Bool, cases_lt, eqb-true}
 use Rattle.std.proofs.{lemmas.Slice.Eq.bytes_eq-Decides, lemmas.Grind.common_steps, lemmas.List.length-drop, lemmas.List.length-take}
 use Rattle.std.proofs.lemmas.List.{get_or_append_left, get_or_push}
 use Rattle.std.proofs.lemmas.List.FromFn.{get_or-map-range_with_len, length-map-range_with_len}
@@ -13,7 +13,7 @@ use Rattle.adf_base.specs.{Words.block, declared.hash.Letters.Letters}
 use Rattle.adf_names.specs.Texts.{is_name, uppers_by}
 use Rattle.adf_drafts.specs.ChildMap.{AddsNumber, Numbers, number_in}
 use Rattle.adf_blocks.specs.{Forms.text_at, Sizes.blocks, Sizes.in_range, declared.layout.TheConstants.NAME, declared.layout.TheConstants.PARENT}
-use Rattle.adf_volume.specs.{Image.name_of, Image.word_in, Walk.heads, Walk.node_block, Walk.Walk}
+use Rattle.adf_volume.specs.{Image.name_of, Image.word_in, Start.is_image_len, Walk.heads, Walk.node_block, Walk.Walk}
 use Rattle.adf_rescue.specs.Lost.{has_free_header, is_stated_free}
 use Rattle.adf_rescue.specs.Outranked.{AreLatest, AreUntold, is_after, is_claimant, is_claimant_as, is_outranked, is_untold, latest, none_untold}
 use Rattle.adf_rescue.proofs.LostHeaders.{mapped_more, one_free_header}
@@ -38,8 +38,14 @@ pub ruleset names = (name_is, long_name)
 
 -- the marks of the headers that are untold
 module _ (given : List ℕ) (v : Walk) where
+  pub none_without_image : is_image_len (length given) ≡ false → AreUntold (is_untold given v) []
+  unfolding is_untold
+  none_without_image none = λ b. sym (and_left (is_image_len (length given)) _ none)
+
   untold_outside : (b : ℕ) → blocks given ≤ b → is_untold given v b ≡ false
-  untold_outside b out = and_left _ _ (and_left _ _ (and_left (in_range given b) _ (grind (arith, nat_tests))))
+  unfolding is_untold
+  untold_outside b out =
+      and_right (is_image_len (length given)) _ (and_left _ _ (and_left _ _ (and_left (in_range given b) _ (grind (arith, nat_tests)))))
 
   pub untold_marked : (marks : List Bool) → marks ≡ map (is_untold given v) (range_with_len 0 (blocks given)) → AreUntold (is_untold given v) marks
   untold_marked marks e = λ b. grind (arith, common_steps, cases_lt, get_or-map-range_with_len, length-map-range_with_len, untold_outside)

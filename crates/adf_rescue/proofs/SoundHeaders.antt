@@ -1,7 +1,7 @@
 -- The entries of a survey with no finding but that of an accepted type: what their headers tell is what the tree of the walk has.
 -- Letters: w the walk of the survey, fs its findings; sound the marks; n a node, i its index; b the block of its header; bs a block's bytes.
 use Rattle.std.proofs.Common.{◌≡◌, ◌⊎◌, ◌∙◌, ℕ, suc, List, inl, inr, ◌<◌, ◌≤◌, ap, subst, arith, Bool, true, false, cond, Result, Ok, Err}
-use Rattle.std.proofs.{lemmas.Bool.and_from, lemmas.Bool.and_left, lemmas.Bool.and_right, lemmas.Bool.eq-eqb, lemmas.Bool.ne_eqb}
+use Rattle.std.proofs.{lemmas.Bool.and_from, lemmas.Bool.and_right, lemmas.Bool.eq-eqb, lemmas.Bool.ne_eqb}
 use Rattle.std.proofs.{lemmas.List.take_all, lemmas.Grind.common_steps}
 use Rattle.adf_base.specs.{Words.block, declared.hash.Letters.Letters}
 use Rattle.adf_tree.specs.{declared.entry.Body.Body, declared.entry.Body.TheVariants.Dir, declared.entry.Entry.Entry}
@@ -18,7 +18,7 @@ use Rattle.adf_findings.specs.Survey.{FindingValue, IsSurvey}
 use Rattle.adf_findings.proofs.{FirstFindings.shows_none, Keeping.parent_is, Lookups.header_at, SoundFiles.file_told, TypesRead.types_read}
 use Rattle.adf_rescue.specs.declared.left_out.Why.{Why, TheVariants.Damaged, TheVariants.Link}
 use Rattle.adf_rescue.specs.Rescue.{Basis, as_accepted, are_given, as_given, before_first_by, body_of, body_of_type, lost_name, name_for}
-use Rattle.adf_rescue.specs.{Lost.is_stated_free, Outranked.is_outranked, Outranked.none_untold}
+use Rattle.adf_rescue.specs.{Outranked.is_outranked, Outranked.none_untold}
 use Rattle.adf_rescue.specs.declared.standing.Input.{Input}
 use Rattle.adf_rescue.proofs.{PassedFindings.typed_sound, PlainVolumes.used, GivenBlocks.all_data, GivenBlocks.first_given_all, OutrankedHeaders.not_outranked}
 

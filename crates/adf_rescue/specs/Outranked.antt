@@ -23,13 +23,13 @@ is_before image a b = is_earlier (meta_stated (block image a)).stamp (meta_state
 
 -- the directory that header b names leads to it
 abbrev pub is_led : (given : List ℕ) → ℕ → Bool
-is_led given b =
-    is_image_len (length given) && (in_range given (word_in given b PARENT) && leads_to given (word_in given b PARENT) b)
+is_led given b = in_range given (word_in given b PARENT) && leads_to given (word_in given b PARENT) b
 
 -- header b is untold: nothing tells whether it was deleted, since no part of the survey before is there, no bitmap tells of it, and its directory
 -- does not lead to it
-abbrev pub is_untold : (given : List ℕ) → (v : Walk) → ℕ → Bool
-is_untold given v b = in_range given b && not (owns v b) && not (is_some (bit_stated given v b)) && not (is_led given b)
+unfoldable pub is_untold : (given : List ℕ) → (v : Walk) → ℕ → Bool
+is_untold given v b =
+    is_image_len (length given) && (in_range given b && not (owns v b) && not (is_some (bit_stated given v b)) && not (is_led given b))
 
 -- before the survey of the image nothing is untold
 abbrev pub none_untold : ℕ → Bool
@@ -68,11 +68,14 @@ abbrev pub is_behind : List ℕ → (h : ℕ) → Option ℕ → Bool
 is_behind image h None = false
 is_behind image h (Some b) = is_before image h b
 
--- header h is outranked: the bitmap has it free, or it is untold; and a later one claims its name in its directory
+-- header h is older than the latest one that claims its name in its directory
+abbrev pub is_older : Letters → (u : ℕ → Bool) → List ℕ → Walk → ℕ → Bool
+is_older ls u image w h =
+    is_name (name_of image h) && is_behind image h (latest ls u image w (blocks image) (word_in image h PARENT) (uppers_by ls (name_of image h)))
+
+-- header h is outranked: the bitmap has it free, or it is untold; and it is older than one that claims its name
 abbrev pub is_outranked : Letters → (u : ℕ → Bool) → List ℕ → Walk → ℕ → Bool
-is_outranked ls u image w h =
-    in_range image h && (is_stated_free image w h || u h) && (is_name (name_of image h)
-    && is_behind image h (latest ls u image w (blocks image) (word_in image h PARENT) (uppers_by ls (name_of image h))))
+is_outranked ls u image w h = in_range image h && (is_stated_free image w h || u h) && is_older ls u image w h
 
 -- the marks of the entries: whether each is outranked
 abbrev pub AreOutranked : Letters → (u : ℕ → Bool) → List ℕ → Walk → List Bool → Type 0

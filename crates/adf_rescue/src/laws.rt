@@ -3,7 +3,7 @@
 ghost use Rattle.std.specs.Prelude.{◌≡◌, ◌≤◌, ◌<◌, ◌++◌, ℕ, Bool, List, [], IfSome, None, Option, Some, true, false, slice_get};
 ghost use Rattle.std.proofs.Common.{suc};
 ghost use Rattle.std.specs.List.{All};
-ghost use Rattle.adf_base.specs.{Words.block, declared.hash.Letters.Letters};
+ghost use Rattle.adf_base.specs.{Words.block, declared.hash.Letters.Letters, declared.hash.Letters.TheVariants.Ascii};
 ghost use Rattle.adf_tree.specs.{Additions.Addition, Additions.IsTreeOfBy, declared.entry.Body.TheVariants.File, Tree.Tree};
 ghost use Rattle.adf_blocks.specs.{HeadBlock.meta_stated, Sizes.blocks, Sizes.is_allowed};
 ghost use Rattle.adf_volume.specs.{Fits.FitsBy, Layout.Layout, Made.datas_in, Lists.At};

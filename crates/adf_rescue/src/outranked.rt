@@ -1,14 +1,14 @@
 // Headers that another one of the same directory and name outranks.
 
-ghost use Rattle.std.specs.Prelude.{◌≡◌, ◌≤◌, ◌<◌, ◌+◌, ◌↔◌, ℕ, Bool, List, IfOk, IfSome, IsSome, IsTrue, OnOk, length};
+ghost use Rattle.std.specs.Prelude.{◌≡◌, ◌≤◌, ◌<◌, ◌+◌, ◌↔◌, ℕ, Bool, List, IfOk, IfSome, IsSome, IsTrue, OnOk, length, true};
 ghost use Rattle.adf_base.specs.Words.{block};
 ghost use Rattle.adf_blocks.specs.{HeadBlock.meta_stated, Sizes.blocks as blocks_in};
 ghost use Rattle.adf_names.specs.Texts.{is_name, uppers_by};
 ghost use Rattle.adf_blocks.specs.declared.layout.TheConstants.{PARENT};
-ghost use Rattle.adf_volume.specs.{Image.name_of, Image.word_in, Start.is_image_len, Walk.heads, Walk.node_block};
+ghost use Rattle.adf_volume.specs.{Image.name_of, Image.word_in, Start.is_image_len, Walk.heads, Walk.node_block, Walk.Walk};
 ghost use Rattle.adf_findings.specs.{Members.has_mark, Survey.OnSurvey};
 ghost use Rattle.adf_rescue.specs.Outranked.{AreLatest, AreOutranked, AreUntold, is_after, is_before, is_behind, is_earlier};
-ghost use Rattle.adf_rescue.specs.Outranked.{is_claimant, is_led, is_outranked, is_untold, latest};
+ghost use Rattle.adf_rescue.specs.Outranked.{is_claimant, is_led, is_older, is_outranked, is_untold, latest};
 
 use crate::chains::leads_to;
 use crate::image::{block_count, block_in, name_of};
@@ -66,15 +66,18 @@ fn is_behind(image: &[u8], h: usize, known: Option<Node>) -> bool
 
 // Whether the directory that header `b` names leads to it.
 fn is_led(image: &[u8], b: u32) -> bool
-    requires { b < blocks_in image.now }
+    requires sized { is_image_len (length image.now) ≡ true }
+    requires inside { b < blocks_in image.now }
     ensures { result ≡ is_led image.now b }
 {
     let p = word_in(image, b, PARENT);
-    is_image_len(image.len()) && in_range(image, p) && leads_to(image, p, b)
+    in_range(image, p) && leads_to(image, p, b)
 }
 
 // Whether header `b` is untold: nothing of the survey tells whether it was deleted.
+#[tactic(auto, unfolding(crate::specs::Outranked::is_untold))]
 fn is_untold(survey: &Survey<'_>, b: u32) -> bool
+    requires { is_image_len (length survey.now.image) ≡ true }
     ensures { OnSurvey survey.now.image (λ v _. result ≡ is_untold survey.now.image v b) }
 {
     let image = survey.image();
@@ -85,11 +88,14 @@ fn is_untold(survey: &Survey<'_>, b: u32) -> bool
 }
 
 /// The marks of the blocks: whether each header is untold, by the survey before. `NoMemory` if an allocation fails.
-#[tactic(auto, using(crate::proofs::OutrankedHeaders::untold_more, crate::proofs::OutrankedHeaders::untold_marked))]
+#[tactic(auto, using(crate::proofs::OutrankedHeaders::none_without_image, crate::proofs::OutrankedHeaders::untold_more, crate::proofs::OutrankedHeaders::untold_marked))]
 pub fn untold(alloc: Global, survey: &Survey<'_>) -> Result<Vec<bool>, NoMemory>
     ensures { OnSurvey survey.now.image (λ v _.
         IfOk result (λ marks. AreUntold (is_untold survey.now.image v) marks.items)) }
 {
+    if !is_image_len(survey.image().len()) {
+        return Ok(Vec::new(alloc));
+    }
     let blocks = block_count(survey.image());
     let mut marks = Vec::with_capacity(alloc, blocks as usize)?;
     for b in 0..blocks {
@@ -169,6 +175,21 @@ fn latest(
     Ok(latest)
 }
 
+// Whether header `h` is older than the latest one of its directory and name.
+fn is_older(latest: &ChildMap, letters: Letters, image: &[u8], h: u32) -> bool
+    requires { h < blocks_in image.now }
+    ensures { (u : ℕ → Bool) (w : Walk) → AreLatest letters u image.now w (blocks_in image.now) latest.now.buckets.items
+        → result ≡ is_older letters u image.now w h }
+{
+    match name_of(image, h as usize) {
+        Some(name) => {
+            let known = latest.get(letters, directory_named(image, h), &name);
+            is_behind(image, h as usize, known)
+        }
+        None => false,
+    }
+}
+
 // Whether header `h` is outranked, by the latest ones.
 fn is_outranked(
     latest: &ChildMap,
@@ -181,17 +202,9 @@ fn is_outranked(
         AreLatest letters u survey.now.image w (blocks_in survey.now.image) latest.now.buckets.items
         → result ≡ is_outranked letters u survey.now.image w h) }
 {
-    let image = survey.image();
-    if !in_range(image, h) || !(is_stated_free(survey, h) || has_mark(untold, h as usize)) {
-        return false;
-    }
-    match name_of(image, h as usize) {
-        Some(name) => {
-            let known = latest.get(letters, directory_named(image, h), &name);
-            is_behind(image, h as usize, known)
-        }
-        None => false,
-    }
+    in_range(survey.image(), h)
+        && (is_stated_free(survey, h) || has_mark(untold, h as usize))
+        && is_older(latest, letters, survey.image(), h)
 }
 
 // Whether an entry is outranked, by the latest ones.

@@ -9,7 +9,7 @@ use Rattle.adf_rescue.proofs.rescues.salvaged.Goals as goal
 pub loop-before-init : goal.loop-before-init
 loop-before-init c = λ w fs sound survey marks. (
   with_marks _ [] c.args.begun _ c.requires,
-  rw c.letters.ensures at (c.in_ok-salvage.ensures none_untold (λ b. refl) w fs survey),
+  rw c.letters.ensures at (c.in_ok-salvage.ensures none_untold (λ b. rw c.new.ensures.items refl) w fs survey),
 )
 
 pub take-requires : goal.take-requires

@@ -9,7 +9,7 @@ use Rattle.adf_rescue.proofs.rescues.take_second.Goals as goal
 pub loop-before-init : goal.loop-before-init
 loop-before-init c = λ v gs before first marks w fs sound survey whole. (
   with_marks _ [] c.args.salvage.now _ (c.requires v gs before first marks),
-  rw c.letters.ensures at (c.in_ok-salvage.ensures _ (c.in_ok-untold.ensures v gs before) w fs survey),
+  rw c.letters.ensures at (c.in_ok-salvage.ensures _ (c.in_ok-untold.ensures v gs first) w fs survey),
 )
 
 pub take_second-requires : goal.take_second-requires
