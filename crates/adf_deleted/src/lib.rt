@@ -6,6 +6,7 @@ mod deletions;
 mod extensions;
 mod known;
 mod laws;
+mod left;
 mod paths;
 mod pointers;
 mod standing;

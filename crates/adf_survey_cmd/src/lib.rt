@@ -10,6 +10,7 @@ mod hints;
 mod laws;
 mod listing;
 mod loss_lines;
+mod recovering;
 mod reporting;
 mod rescuing;
 mod runner;

@@ -1,0 +1,40 @@
+// What is left of deleted files.
+
+ghost use Rattle.std.specs.Prelude.{◌≡◌, ◌<◌, ◌+◌, ◌^◌, ℕ, IfOk, IfSome};
+ghost use Rattle.adf_blocks.specs.Sizes.{blocks};
+ghost use Rattle.adf_deleted.specs.{Left.deleted_bytes, Left.deleted_gaps, Left.if_stands, Pointers.pointers};
+
+use crate::known::Known;
+use adf_base::NoMemory;
+use adf_findings::{Remains, count_stated, size_stated, sized_image};
+use std::alloc::Global;
+
+impl Known<'_> {
+    // Block `b`, if data block `i`, counted from 0, of the file with header `h` stands there.
+    fn if_stands(&self, h: u32, i: u32, b: u32) -> Option<u32>
+        requires { i + 1 < 2 ^ 32 }
+        ensures stands { result ≡ if_stands self.now h i b }
+        ensures inside { IfSome result (λ b. b < blocks self.now.image) }
+    {
+        if self.stands(h, i, b) { Some(b) } else { None }
+    }
+
+    /// What is left of the file with header `h`, where its table names these blocks. `NoMemory` if an allocation fails.
+    pub(crate) fn left_of(&self, alloc: Global, h: u32, blocks: &[u32]) -> Result<Remains, NoMemory>
+        requires { blocks.now ≡ pointers self.now.image h }
+        ensures bytes { IfOk result (λ r. r.bytes.items ≡ deleted_bytes self.now h) }
+        ensures gaps { IfOk result (λ r. r.gaps.items ≡ deleted_gaps self.now h) }
+    {
+        let image = sized_image(self.image);
+        let size = size_stated(&image, h);
+        let mut remains = Remains {
+            bytes: Vec::new(alloc),
+            gaps: Vec::new(alloc),
+        };
+        for i in 0..count_stated(image.kind(), size) {
+            let b = blocks.get(i as usize).copied().unwrap_or(0);
+            remains.add(&image, size, i, self.if_stands(h, i, b))?;
+        }
+        Ok(remains)
+    }
+}
