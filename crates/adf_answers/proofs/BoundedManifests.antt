@@ -6,7 +6,7 @@ use Rattle.std.proofs.lemmas.List.{length-replicate, length-take, Elements.All-c
 use Rattle.std.proofs.lemmas.List.Splits.{join_with_byte-slice_split}
 use Rattle.adf_base.specs.Dates.{IsStamp}
 use Rattle.adf_names.specs.{Meta.AreStamps, declared.meta.Stamps.Stamps, declared.meta.TheConstants.NO_STAMPS}
-use Rattle.adf_blocks.specs.Sizes.{is_allowed}
+use Rattle.adf_blocks.specs.Sizes.{is_plain_size}
 use Rattle.adf_tree.specs.{Bounds.IsBounded, Bounds.IsBoundedEntry, Bounds.IsData, Tree.IsTree, Tree.Tree, Tree.new_entry}
 use Rattle.adf_tree.proofs.BoundedEntries.{bounded_added, last_is_name}
 use Rattle.adf_manifest.specs.{Lines.DataRun, Lines.FillRun, Lines.IsRun, Lines.RunValue, Lines.most_fill, Lines.run_line, Texts.pairs, Items.run_bytes}
@@ -125,7 +125,7 @@ tree_bounded m text w e le =
       entries = entries_bounded (preamble_tree m.preamble) items (All-nil IsBoundedEntry) short;
     }
 
-pub manifest_bounded : (text : List ℕ) (tree : Tree) (n : ℕ) → IsManifest text tree n → IsTree tree.entries × IsBounded tree × (is_allowed n ≡ true)
+pub manifest_bounded : (text : List ℕ) (tree : Tree) (n : ℕ) → IsManifest text tree n → IsTree tree.entries × IsBounded tree × (is_plain_size n ≡ true)
 manifest_bounded text tree n (le, (m, w, e, is, size)) =
     let same : tree ≡ manifest_tree m = one_tree_of m tree (manifest_tree m) is (adding_lines m w) in
     (is.entries.tree, subst IsBounded (sym same) (tree_bounded m text w e le), rw size w.preamble.size)

@@ -1,7 +1,7 @@
 -- What is asked of a disk has an answer of `adf-disk`. ps are its partitions, p is one of them.
 use Rattle.std.proofs.Common.{◌&&◌, ◌++◌, ◌/◌, ℕ, Bool, true, false, List, [], ◌∷◌, Option, None, Some, Result, Ok, Err, codes, inl, inr, length, refl, take}
-use Rattle.adf_findings.proofs.FitsOrFault.{fits_or_fault_by}
-use Rattle.adf_findings.specs.Verdict.{FitsOrHasFaultBy}
+use Rattle.adf_findings.proofs.FitsOrFault.{fits_or_fault_of}
+use Rattle.adf_findings.specs.Verdict.{FitsOrHasFaultOf}
 use Rattle.adf_volume.specs.declared.types.Types.TheVariants.{WithInternational}
 use Rattle.adf_partitions.proofs.SomeReadings.{some_disk, some_reading}
 use Rattle.adf_plans.proofs.SomeTexts.{some_text}
@@ -16,12 +16,12 @@ use Rattle.adf_disk_cmd.specs.Objects.{disk_fault_line, list_lines, verdict_line
 use Rattle.adf_disk_cmd.specs.{declared.unchecked.Unchecked.Unchecked, declared.work.TheConstants.MOST_DISK_BYTES}
 use Rattle.adf_disk_cmd.specs.Checks.{AreChecked, TellsPlace, TellsVolume, check_status, unchecked_text, why_unchecked}
 
-told_by : (image : List ℕ) → FitsOrHasFaultBy WithInternational image → (sound : Bool) × (line : List ℕ) × TellsVolume image None sound line
+told_by : (image : List ℕ) → FitsOrHasFaultOf WithInternational image → (sound : Bool) × (line : List ℕ) × TellsVolume image None sound line
 told_by image (inl (t, l, fits)) = (true, _, inl (t, l, fits, refl))
 told_by image (inr (b, c, first)) = (false, _, inr (record { block = b; cause = c }, first, refl))
 
 some_volume : (why : Option Unchecked) (image : List ℕ) → (sound : Bool) × (line : List ℕ) × TellsVolume image why sound line
-some_volume None image = told_by image (fits_or_fault_by WithInternational image)
+some_volume None image = told_by image (fits_or_fault_of WithInternational image)
 some_volume (Some why) image = (false, unchecked_text why ++ codes "\n", (refl, refl))
 
 some_place : (bytes : List ℕ) (p : Partition) (place : Result Place PlaceFault) → (sound : Bool) × (line : List ℕ) × TellsPlace bytes p place sound line

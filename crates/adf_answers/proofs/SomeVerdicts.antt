@@ -6,7 +6,7 @@ use mathlib.Core.Logic.Dec.{and as dec_and}
 use native.Mathlib.Decide.{dec_le}
 use Rattle.adf_names.specs.{Escapes.IsSpelling, Escapes.escaped, PathTexts.IsPathText, declared.kind.Kind.Kind}
 use Rattle.adf_names.proofs.{SomePaths.path_or_none, SomeSpellings.dec_spelling}
-use Rattle.adf_blocks.specs.Sizes.{is_allowed}
+use Rattle.adf_blocks.specs.Sizes.{is_plain_size}
 use Rattle.adf_tree.specs.{Tree.room_for, declared.tree.RoomFault.RoomFault}
 use Rattle.adf_tree.specs.declared.tree.RoomFault.TheVariants as room
 use Rattle.adf_tree.proofs.AddRoom.{no_room}
@@ -199,10 +199,10 @@ first_fault text rest kind fault = inr (1, kind, inl (record { text = text; rest
 all_lines : (text : List ℕ) (rest : List (List ℕ)) → Verdict (text ∷ rest)
 all_lines text rest = elim (dec_volume text) [
   | no none ↦ first_fault text rest BadLine none
-  | yes (kind, n, lt, e) ↦ by_size kind n lt e (is_allowed n) refl
+  | yes (kind, n, lt, e) ↦ by_size kind n lt e (is_plain_size n) refl
 ]
   where
-    by_size : (kind : Kind) (n : ℕ) → n < 2 ^ 32 → text ≡ volume_line kind n → (b : Bool) → is_allowed n ≡ b → Verdict (text ∷ rest)
+    by_size : (kind : Kind) (n : ℕ) → n < 2 ^ 32 → text ≡ volume_line kind n → (b : Bool) → is_plain_size n ≡ b → Verdict (text ∷ rest)
     by_size kind n lt e false bad = first_fault text rest BadSize (kind, n, lt, e, bad)
     by_size kind n lt e true good =
         let h : Preamble = record { kind = kind; blocks = n; label = None; stamps = None } in

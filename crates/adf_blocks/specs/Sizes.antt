@@ -1,11 +1,15 @@
 -- The sizes of volumes and files, and the numbers of blocks that follow.
 use Rattle.std.specs.Prelude.{ℕ, ◌+◌, ◌-◌, ◌/◌, ◌%◌, ◌==◌, ◌&&◌, nat_le, nat_lt, Bool, List, length}
 use Rattle.adf_names.specs.declared.kind.Kind.{Kind, TheVariants.Ofs, TheVariants.Ffs}
-use Rattle.adf_blocks.specs.declared.layout.TheConstants.{DATA_ROOM, MOST_BLOCKS, PAGE_BITS}
+use Rattle.adf_blocks.specs.declared.layout.TheConstants.{DATA_ROOM, MOST_BLOCKS, MOST_PLAIN_BLOCKS, PAGE_BITS}
 
 -- an allowed size, in blocks: even, 4 to MOST_BLOCKS
 abbrev pub is_allowed : ℕ → Bool
 is_allowed n = nat_le 4 n && nat_le n MOST_BLOCKS && (n % 2 == 0)
+
+-- an allowed size of a volume of plain types: even, 4 to MOST_PLAIN_BLOCKS
+abbrev pub is_plain_size : ℕ → Bool
+is_plain_size n = is_allowed n && nat_le n MOST_PLAIN_BLOCKS
 
 -- the number of blocks of an image
 abbrev pub blocks : List ℕ → ℕ

@@ -11,7 +11,8 @@ use std::fmt;
 /// Within one block, the tests run in ascending order of these numbers.
 #[derive(Clone, Copy, Debug, PartialEq, Eq)]
 pub enum Cause {
-    /// The length is not a multiple of 512, or the number of blocks is not even or not 4 to 1,048,576.
+    /// The length is not a multiple of 512, or the number of blocks is not even, or not 4 to 1,048,576; where types 2 and 3 are
+    /// accepted too, not 4 to 8,388,608.
     BadSize = 1,
     /// The first three bytes are not `DOS`, or byte 3, the type, is above 5.
     NotDos = 2,

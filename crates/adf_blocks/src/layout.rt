@@ -1,7 +1,10 @@
 // The offsets of fields in blocks, and the constants of the format. Words are numbered from 0.
 
-/// The most blocks of a volume: 259 bitmap pages. The root points to 25, two bitmap extension blocks to the rest.
-pub const MOST_BLOCKS: u32 = 1_048_576;
+/// The most blocks of a volume: 4 GiB, with 2,065 bitmap pages. The root points to 25, 17 bitmap extension blocks to the rest.
+pub const MOST_BLOCKS: u32 = 8_388_608;
+
+/// The most blocks of a volume of plain types, as a check, a build and a manifest take it: 512 MiB, with 259 bitmap pages.
+pub const MOST_PLAIN_BLOCKS: u32 = 1_048_576;
 
 /// The bitmap pages that the root points to.
 pub const ROOT_PAGES: usize = 25;

@@ -9,7 +9,7 @@ use Rattle.adf_names.specs.declared.kind.Kind.{Kind, TheVariants.Ofs, TheVariant
 use Rattle.adf_blocks.specs.{DataBlock.data_form, ExtBlock.ext_form, Forms.text_at, HeadBlock.head_form_by, HeadBlock.meta_at, PageBlock.IsFreeBit}
 use Rattle.adf_blocks.specs.{PageBlock.page_form, RootBlock.root_form, RootBlock.stamps_at, Sizes.blocks, Sizes.middle, Sizes.pages_needed}
 use Rattle.adf_blocks.specs.declared.layout.TheConstants.{EXTENSION, FIRST_MAP_EXT, FIRST_PAGE, FIRST_SLOT, MAP_EXT_NEXT, NAME, NEXT_IN_CHAIN, PAGE_BITS}
-use Rattle.adf_blocks.specs.declared.layout.TheConstants.{POINTERS, SECONDARY_TYPE, SIZE, SLOTS}
+use Rattle.adf_blocks.specs.declared.layout.TheConstants.{MOST_PLAIN_BLOCKS, POINTERS, SECONDARY_TYPE, SIZE, SLOTS}
 use Rattle.adf_tree.specs.{Tree.IsDir, Tree.Tree, declared.entry.Entry.Entry}
 use Rattle.adf_tree.specs.declared.entry.Body.{Body, TheVariants.Dir, TheVariants.File}
 use Rattle.adf_volume.specs.Demands.{AllHold, boot_demands_by, data_demands, demands_at, root_demands}
@@ -235,7 +235,6 @@ module _ (image other : List ℕ) (o : IsOtherBoot image other) where
           bitmap = same_bitmap;
         }
 
--- by ASCII letters
-
+-- the same of plain volumes
 pub other_fits : (image other : List ℕ) → IsOtherBoot image other → (t : Tree) (l : Layout) → Fits image t l → Fits other t l
-other_fits image other o t l fit = other_fits_by image other o t l fit
+other_fits image other o t l (few, fit) = (subst (λ n. n ≤ MOST_PLAIN_BLOCKS) (sym (same_blocks image other o)) few, other_fits_by image other o t l fit)

@@ -3,6 +3,7 @@ use Rattle.std.specs.Prelude.{◌≡◌, ◌≤◌, ◌<◌, ◌-◌, ◌^◌, �
 use Rattle.std.specs.Fmt.{decimal}
 use Rattle.adf_tree.specs.Tree.{Tree}
 use Rattle.adf_blocks.specs.Sizes.{is_allowed}
+use Rattle.adf_volume.specs.{Types.is_size_of, declared.types.Types.Types}
 use Rattle.adf_build.specs.Plan.{blocks_needed}
 use Rattle.adf_build.specs.declared.builder.BuildFault.{BuildFault, TheVariants.BadSize, TheVariants.Full, TheVariants.NoMemory}
 
@@ -31,8 +32,8 @@ build_fault_text BadSize = codes "bad size"
 build_fault_text (Full need have) = full_text need have
 build_fault_text NoMemory = codes "no memory"
 
--- why the tree cannot be built in n blocks: the size is not allowed; else no room, with both numbers; else memory
-abbrev pub IsBuildFault : Tree → ℕ → BuildFault → Type 0
-IsBuildFault tree n BadSize = is_allowed n ≡ false
-IsBuildFault tree n (Full need have) = (is_allowed n ≡ true) × (need ≡ need_of tree n) × (have ≡ n - 2) × (have < need)
-IsBuildFault tree n NoMemory = IsBuildable tree n
+-- why the tree cannot be built in n blocks as a volume of these types: the size is not allowed; else no room, with both numbers; else memory
+abbrev pub IsBuildFault : Types → Tree → ℕ → BuildFault → Type 0
+IsBuildFault types tree n BadSize = is_size_of types n ≡ false
+IsBuildFault types tree n (Full need have) = (is_size_of types n ≡ true) × (need ≡ need_of tree n) × (have ≡ n - 2) × (have < need)
+IsBuildFault types tree n NoMemory = IsBuildable tree n

@@ -1,7 +1,9 @@
 // The builder.
 
-ghost use Rattle.std.specs.Prelude.{◌≡◌, ◌*◌, IfOk, IfErr, OnOk, OnErr, length, replicate, vec_len};
-ghost use Rattle.adf_volume.specs.Fits.{FitsBy};
+ghost use Rattle.std.specs.Prelude.{◌≡◌, ◌*◌, true, IfOk, IfErr, OnOk, OnErr, length, replicate, vec_len};
+ghost use Rattle.adf_blocks.specs.Sizes.{is_plain_size};
+ghost use Rattle.adf_volume.specs.{Fits.FitsBy, Types.is_size_of};
+ghost use Rattle.adf_volume.specs.declared.types.Types.TheVariants.{Plain, WithInternational};
 ghost use Rattle.adf_build.specs.{Laid.IsLaid, Laid.IsWellFormed, Laid.node_blocks, Laid.volume, Plan.entries_blocks};
 ghost use Rattle.adf_build.specs.{Plan.planned, Building.IsBuildable, Building.IsBuildFault, Building.build_fault_number};
 
@@ -11,6 +13,7 @@ use crate::plan::Plan;
 use crate::volume::write_volume;
 use adf_base::BLOCK_LEN;
 use adf_tree::Tree;
+use adf_volume::Types;
 use std::alloc::Global;
 use std::error::Error;
 use std::fmt;
@@ -18,7 +21,7 @@ use std::fmt;
 /// Why an image cannot be built.
 #[derive(Clone, Copy, Debug, PartialEq, Eq)]
 pub enum BuildFault {
-    /// The number of blocks is not allowed (even, 4 to 1,048,576).
+    /// The number of blocks is not allowed: even, from 4 to 1,048,576, or to 8,388,608 where all types are accepted.
     BadSize,
     /// The tree needs more blocks than the volume has, not counting the two boot blocks.
     Full { need: u64, have: u64 },
@@ -72,15 +75,16 @@ struct Prepared {
     total: u32,
 }
 
-// Plans the volume of a tree, if it has room.
-fn prepare(alloc: Global, tree: &Tree, blocks: u32) -> Result<Prepared, BuildFault>
+// Plans the volume of a tree, if these types may have so many blocks, and they are enough.
+fn prepare(alloc: Global, types: Types, tree: &Tree, blocks: u32) -> Result<Prepared, BuildFault>
     ensures plan { IfOk result (λ p. p.plan.blocks ≡ blocks) }
     ensures nodes { IfOk result (λ p. p.nodes.items ≡ node_blocks tree.now blocks) }
     ensures total { IfOk result (λ p. p.total ≡ entries_blocks tree.now.kind tree.now.entries) }
     ensures room { OnOk result (IsBuildable tree.now blocks) }
-    ensures fault { IfErr result (IsBuildFault tree.now blocks) }
+    ensures size { OnOk result (is_size_of types blocks ≡ true) }
+    ensures fault { IfErr result (IsBuildFault types tree.now blocks) }
 {
-    let Some(plan) = Plan::new(blocks) else {
+    let Some(plan) = Plan::of(types, blocks) else {
         return Err(BuildFault::BadSize);
     };
     let total = count_entries(tree);
@@ -99,17 +103,36 @@ fn prepare(alloc: Global, tree: &Tree, blocks: u32) -> Result<Prepared, BuildFau
     }
 }
 
-/// Builds the image of a tree in a volume of `blocks` blocks: the root in the middle, the bitmap pages and bitmap
-/// extension blocks after it, the entries in walk order in the remaining blocks, and 0 in all other bytes.
+/// Builds the image of a tree in a volume of `blocks` blocks, even, 4 to 1,048,576: the root in the middle, the bitmap
+/// pages and bitmap extension blocks after it, the entries in walk order in the remaining blocks, and 0 in all other bytes.
 pub fn build(alloc: Global, tree: &Tree, blocks: u32) -> Result<Vec<u8>, BuildFault>
     ensures laid { IfOk result (λ image. IsLaid image.items tree.now) }
     ensures fits { IfOk result (λ image. FitsBy tree.now.letters image.items tree.now (planned tree.now blocks)) }
     ensures bytes { IfOk result (λ image. image.items ≡ volume tree.now blocks) }
     ensures len { IfOk result (λ image. vec_len image ≡ blocks * 512) }
     ensures room { OnOk result (IsBuildable tree.now blocks) }
-    ensures fault { IfErr result (IsBuildFault tree.now blocks) }
+    ensures size { OnOk result (is_plain_size blocks ≡ true) }
+    ensures fault { IfErr result (IsBuildFault Plain tree.now blocks) }
 {
-    let prepared = prepare(alloc, tree, blocks)?;
+    build_types(alloc, Types::Plain, tree, blocks)
+}
+
+/// Builds the image of a tree, as `build` does, in as many blocks as volumes of these types may have.
+pub fn build_types(
+    alloc: Global,
+    types: Types,
+    tree: &Tree,
+    blocks: u32,
+) -> Result<Vec<u8>, BuildFault>
+    ensures laid { IfOk result (λ image. IsLaid image.items tree.now) }
+    ensures fits { IfOk result (λ image. FitsBy tree.now.letters image.items tree.now (planned tree.now blocks)) }
+    ensures bytes { IfOk result (λ image. image.items ≡ volume tree.now blocks) }
+    ensures len { IfOk result (λ image. vec_len image ≡ blocks * 512) }
+    ensures room { OnOk result (IsBuildable tree.now blocks) }
+    ensures size { OnOk result (is_size_of types blocks ≡ true) }
+    ensures fault { IfErr result (IsBuildFault types tree.now blocks) }
+{
+    let prepared = prepare(alloc, types, tree, blocks)?;
     let Ok(mut image) = vec![in alloc; 0u8; blocks as usize * BLOCK_LEN] else {
         return Err(BuildFault::NoMemory);
     };
@@ -131,8 +154,8 @@ fn clear(room: &mut [u8])
     room.fill(0);
 }
 
-/// Builds the image of a tree, as `build` does, in memory of the caller, which has exactly as many bytes. On a fault
-/// nothing is written.
+/// Builds the image of a tree, as `build_types` does for all types, in memory of the caller, which has exactly as many
+/// bytes. On a fault nothing is written.
 pub fn build_into(
     alloc: Global,
     tree: &Tree,
@@ -143,10 +166,10 @@ pub fn build_into(
     ensures laid { OnOk result (IsLaid room.new tree.now) }
     ensures fits { OnOk result (FitsBy tree.now.letters room.new tree.now (planned tree.now blocks)) }
     ensures bytes { OnOk result (room.new ≡ volume tree.now blocks) }
-    ensures fault { IfErr result (IsBuildFault tree.now blocks) }
+    ensures fault { IfErr result (IsBuildFault WithInternational tree.now blocks) }
     ensures unchanged { OnErr result (room.new ≡ room.old) }
 {
-    let prepared = prepare(alloc, tree, blocks)?;
+    let prepared = prepare(alloc, Types::WithInternational, tree, blocks)?;
     clear(room);
     write_volume(room, prepared.plan, tree, &prepared.nodes, prepared.total);
     fields_fit(tree);

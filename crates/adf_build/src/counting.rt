@@ -2,7 +2,8 @@
 
 ghost use Rattle.std.specs.Prelude.{◌≡◌, ◌≤◌, ◌↔◌, ◌+◌, ◌-◌, ◌^◌, ℕ, IfNone, IfSome, IsTrue, true, min};
 ghost use Rattle.std.specs.Option.{SomeIff};
-ghost use Rattle.adf_blocks.specs.Sizes.{is_allowed};
+ghost use Rattle.adf_blocks.specs.Sizes.{is_allowed, is_plain_size};
+ghost use Rattle.adf_volume.specs.Types.{is_size_of};
 ghost use Rattle.adf_build.specs.Plan.{data_blocks, entries_blocks, entry_blocks, exts_needed, reserved};
 ghost use Rattle.adf_build.specs.Building.{IsBuildable, need_of};
 ghost use Rattle.adf_tree.specs.Tree.{Tree};
@@ -10,6 +11,7 @@ ghost use Rattle.adf_tree.specs.Tree.{Tree};
 use crate::plan::Plan;
 use adf_blocks::{MOST_BLOCKS, POINTERS, data_count};
 use adf_tree::{Body, Entry, Kind, Node, Tree};
+use adf_volume::Types;
 
 /// The number of data blocks of a body.
 pub fn data_blocks(kind: Kind, body: &Body) -> usize
@@ -54,11 +56,19 @@ pub fn count_entries(tree: &Tree) -> u64
 }
 
 /// The blocks that a tree needs in a volume of `blocks` blocks: the root, the bitmap pages, the bitmap extension
-/// blocks and all blocks of the entries; `u64::MAX` on overflow. `None` if the number of blocks is not allowed.
+/// blocks and all blocks of the entries; `u64::MAX` on overflow. `None` if the number of blocks is not allowed: even,
+/// 4 to 1,048,576.
 pub fn need(tree: &Tree, blocks: u32) -> Option<u64>
-    ensures { SomeIff result (is_allowed blocks ≡ true) (need_of tree.now blocks) }
+    ensures { SomeIff result (is_plain_size blocks ≡ true) (need_of tree.now blocks) }
 {
-    let plan = Plan::new(blocks)?;
+    need_types(Types::Plain, tree, blocks)
+}
+
+/// The same where these types are accepted, with the most blocks that they may have.
+pub fn need_types(types: Types, tree: &Tree, blocks: u32) -> Option<u64>
+    ensures { SomeIff result (is_size_of types blocks ≡ true) (need_of tree.now blocks) }
+{
+    let plan = Plan::of(types, blocks)?;
     Some(plan.need(count_entries(tree)))
 }
 

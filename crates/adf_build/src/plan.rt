@@ -1,12 +1,13 @@
 // The plan of a volume: where its parts are.
 
-ghost use Rattle.std.specs.Prelude.{◌≡◌, ◌≤◌, ◌<◌, ◌+◌, ◌-◌, ◌^◌, false, true, min, take, IfSome, IfNone};
+ghost use Rattle.std.specs.Prelude.{◌≡◌, ◌≤◌, ◌<◌, ◌+◌, ◌-◌, ◌^◌, false, true, min, take, IfSome, IfNone, OnSome};
 ghost use Rattle.std.specs.List.{range_with_len};
 ghost use Rattle.adf_blocks.specs.Sizes.{is_allowed, middle, pages_needed};
-ghost use Rattle.adf_volume.specs.Image.{map_exts_needed};
+ghost use Rattle.adf_volume.specs.{Image.map_exts_needed, Types.is_size_of};
 ghost use Rattle.adf_build.specs.{Laid.map_ext_or_none, Laid.nth_free_or_none, Plan.nth_free, Plan.reserved, Plan.allocated};
 
 use adf_blocks::{MAP_EXT_PAGES, POINTERS, ROOT_PAGES, is_allowed_size, page_count};
+use adf_volume::Types;
 
 /// A volume of `blocks` blocks: the root in the middle, then the bitmap pages, then the bitmap extension blocks; all
 /// other blocks from 2 on are free for entries.
@@ -29,6 +30,19 @@ impl Plan {
         }
     }
 
+    /// The plan of a volume of `blocks` blocks where these types are accepted; `None` if it may not have so many.
+    pub fn of(types: Types, blocks: u32) -> Option<Plan>
+        ensures some { IfSome result (λ plan. plan.blocks ≡ blocks) }
+        ensures size { OnSome result (is_size_of types blocks ≡ true) }
+        ensures none { IfNone result (is_size_of types blocks ≡ false) }
+    {
+        if types.is_size(blocks) {
+            Plan::new(blocks)
+        } else {
+            None
+        }
+    }
+
     /// The block of the root.
     pub fn root(self) -> u32
         ensures { result ≡ middle self.blocks }
@@ -36,10 +50,10 @@ impl Plan {
         self.blocks / 2
     }
 
-    /// The number of bitmap pages, 1 to 259.
+    /// The number of bitmap pages, 1 to 2,065.
     pub fn pages(self) -> u32
         ensures exact { result ≡ pages_needed self.blocks }
-        ensures few { result ≤ 259 }
+        ensures few { result ≤ 2065 }
     {
         page_count(self.blocks)
     }

@@ -7,7 +7,6 @@ ghost use Rattle.adf_base.specs.declared.hash.Letters.TheVariants.{Ascii};
 ghost use Rattle.adf_cmd.specs.Answers.{adf_command};
 ghost use Rattle.adf_names.specs.VolumeTypes.{letters_of_type};
 ghost use Rattle.adf_survey_cmd.specs.Answers.{survey_without_files};
-ghost use Rattle.adf_volume.specs.Image.{letters_of};
 ghost use Rattle.adf_volume.specs.declared.types.Types.TheVariants.{Plain, WithInternational};
 ghost use Rattle.adf_memory.specs.CheckCalls.{ChecksImage, FillsTables, FindsEntry, ReadsFile, TellsOwners};
 ghost use Rattle.adf_memory.specs.SurveyCalls.{FillsFound, FillsParts, FillsSurvey, FindsFound, PutsSubject};
@@ -68,28 +67,28 @@ pub extern "C" fn adf_escape(name: &[u8], room: &mut [u8]) -> usize
 
 #[unsafe(no_mangle)]
 pub extern "C" fn adf_check(alloc: Global, image: &[u8], verdict: &mut Verdict) -> u8
-    ensures { ChecksImage Ascii image.now verdict.new result }
+    ensures { ChecksImage Plain image.now verdict.new result }
 {
     check_image(alloc, Types::Plain, image, verdict)
 }
 
 #[unsafe(no_mangle)]
 pub extern "C" fn adf_check_types(alloc: Global, image: &[u8], verdict: &mut Verdict) -> u8
-    ensures { ChecksImage (letters_of image.now) image.now verdict.new result }
+    ensures { ChecksImage WithInternational image.now verdict.new result }
 {
     check_image(alloc, Types::WithInternational, image, verdict)
 }
 
 #[unsafe(no_mangle)]
 pub extern "C" fn adf_owners(alloc: Global, image: &[u8], roles: &mut [u8]) -> u8
-    ensures { TellsOwners Ascii image.now roles.old roles.new result }
+    ensures { TellsOwners Plain image.now roles.old roles.new result }
 {
     owners_of(alloc, Types::Plain, image, roles)
 }
 
 #[unsafe(no_mangle)]
 pub extern "C" fn adf_owners_types(alloc: Global, image: &[u8], roles: &mut [u8]) -> u8
-    ensures { TellsOwners (letters_of image.now) image.now roles.old roles.new result }
+    ensures { TellsOwners WithInternational image.now roles.old roles.new result }
 {
     owners_of(alloc, Types::WithInternational, image, roles)
 }
@@ -102,7 +101,7 @@ pub extern "C" fn adf_index(
     blocks: &mut [u32],
     contents: &mut Contents,
 ) -> u8
-    ensures { FillsTables Ascii image.now entries.old entries.new blocks.old blocks.new contents.new result }
+    ensures { FillsTables Plain image.now entries.old entries.new blocks.old blocks.new contents.new result }
 {
     put_index(alloc, Types::Plain, image, entries, blocks, contents)
 }
@@ -115,7 +114,7 @@ pub extern "C" fn adf_index_types(
     blocks: &mut [u32],
     contents: &mut Contents,
 ) -> u8
-    ensures { FillsTables (letters_of image.now) image.now entries.old entries.new blocks.old blocks.new contents.new result }
+    ensures { FillsTables WithInternational image.now entries.old entries.new blocks.old blocks.new contents.new result }
 {
     put_index(
         alloc,

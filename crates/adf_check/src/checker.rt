@@ -1,11 +1,13 @@
 // The whole check.
 
-ghost use Rattle.adf_volume.specs.{Fault.IsTrueFaultBy, Image.letters_of, Image.root_of, Fits.Fits, Fits.FitsBy, Layout.Layout};
-ghost use Rattle.adf_volume.specs.{Walk.FirstFault, Walk.FirstFaultBy, Types.letters_for};
+ghost use Rattle.adf_volume.specs.{Fault.IsTrueFaultBy, Image.letters_of, Image.root_of, Fits.Fits, Fits.FitsBy, Fits.FitsOf, Layout.Layout};
+ghost use Rattle.adf_volume.specs.Walk.{FirstFault, FirstFaultBy, FirstFaultOf};
 ghost use Rattle.adf_base.specs.Words.{block};
-ghost use Rattle.std.specs.Prelude.{◌≡◌, ◌≢◌, IfOk, IfErr};
+ghost use Rattle.adf_blocks.specs.Sizes.{blocks};
+ghost use Rattle.adf_volume.specs.Types.{most_blocks};
+ghost use Rattle.std.specs.Prelude.{◌≡◌, ◌≢◌, IfOk, IfErr, nat_lt};
 ghost use Rattle.adf_tree.specs.Tree.{Tree};
-ghost use Rattle.adf_volume.specs.Start.{IsBegun, IsBegunBy, IsOwnBegun};
+ghost use Rattle.adf_volume.specs.Start.{IsBegun, IsBegunBy, IsBegunOf, IsOwnBegun};
 ghost use Rattle.adf_check.specs.Own.{IsOwnFault};
 
 use crate::bitmap::check_bitmap;
@@ -13,9 +15,9 @@ use crate::checked::Checked;
 use crate::nodes::read_nodes;
 use crate::pages::read_pages;
 use crate::store::Store;
-use adf_base::Letters;
+use adf_base::{BLOCK_LEN, Letters};
 use adf_blocks::Cause;
-use adf_volume::{Fault, Opened, Types, open_by};
+use adf_volume::{Fault, Opened, Types, fault_at, open_by};
 use std::alloc::Global;
 
 /// Checks an image of type 0 or 1. Returns its volume, or the first fault and its block.
@@ -44,20 +46,43 @@ pub fn check<'a>(alloc: Global, image: &'a [u8]) -> Result<Checked<'a>, Fault>
     check_types(alloc, Types::Plain, image)
 }
 
-/// Checks an image of one of the accepted types, in the same order, by the letters of its type. `NoMemory` as in `check`.
+/// Checks an image of one of the accepted types, in the same order, by the letters of its type. `BadSize` at block 0 if it
+/// is larger than they may be. `NoMemory` as in `check`.
 pub fn check_types<'a>(alloc: Global, types: Types, image: &'a [u8]) -> Result<Checked<'a>, Fault>
     ensures image { IfOk result (λ v. v ≡ image.now) }
-    ensures fits { IfOk result (λ v.
-        (t : Tree) × (l : Layout) × FitsBy (letters_for types image.now) v t l) }
+    ensures fits { IfOk result (λ v. (t : Tree) × (l : Layout) × FitsOf types v t l) }
     ensures first { IfErr result (λ f. f.cause ≢ Cause.NoMemory
-        → FirstFaultBy (letters_for types image.now) image.now f.block f.cause) }
+        → FirstFaultOf types image.now f.block f.cause) }
     ensures none { IfErr result (λ f. f.cause ≢ Cause.NoMemory → (t : Tree) (l : Layout)
-        → FitsBy (letters_for types image.now) image.now t l → ⊥) }
+        → FitsOf types image.now t l → ⊥) }
     ensures memory { IfErr result (λ f. f.cause ≡ Cause.NoMemory → f.block ≡ 0) }
-    ensures begun { IfErr result (λ f. f.cause ≡ Cause.NoMemory
-        → IsBegunBy (letters_for types image.now) image.now) }
+    ensures begun { IfErr result (λ f. f.cause ≡ Cause.NoMemory → IsBegunOf types image.now) }
 {
-    check_all(alloc, types.letters_for(image), image)
+    if is_too_large(types, image) {
+        return Err(fault_at(0, Cause::BadSize));
+    }
+    check_by(alloc, types.letters_for(image), image)
+}
+
+/// Checks an image of a volume whose names have these letters, in the same order, up to 4 GiB. `NoMemory` as in `check`.
+pub fn check_by<'a>(alloc: Global, letters: Letters, image: &'a [u8]) -> Result<Checked<'a>, Fault>
+    ensures image { IfOk result (λ v. v ≡ image.now) }
+    ensures fits { IfOk result (λ v. (t : Tree) × (l : Layout) × FitsBy letters v t l) }
+    ensures first { IfErr result (λ f. f.cause ≢ Cause.NoMemory
+        → FirstFaultBy letters image.now f.block f.cause) }
+    ensures none { IfErr result (λ f. f.cause ≢ Cause.NoMemory → (t : Tree) (l : Layout)
+        → FitsBy letters image.now t l → ⊥) }
+    ensures memory { IfErr result (λ f. f.cause ≡ Cause.NoMemory → f.block ≡ 0) }
+    ensures begun { IfErr result (λ f. f.cause ≡ Cause.NoMemory → IsBegunBy letters image.now) }
+{
+    check_all(alloc, letters, image)
+}
+
+// Whether an image has more blocks than a volume of these types may have.
+fn is_too_large(types: Types, image: &[u8]) -> bool
+    ensures { result ≡ nat_lt (most_blocks types) (blocks image.now) }
+{
+    image.len() / BLOCK_LEN > types.most_blocks() as usize
 }
 
 // Checks an image of a volume with these letters: any fault is the first one.

@@ -1,13 +1,14 @@
 -- From outcomes to answers.
-use Rattle.std.proofs.Common.{◌≡◌, ◌∙◌, ap, inl, inr, ℕ, Bool, false, List, [], Option, None, Some, refl, sym, subst, arith, string_bytes}
+use Rattle.std.proofs.Common.{◌≡◌, ◌≤◌, ◌*◌, length, true, ◌∙◌, ap, inl, inr, ℕ, Bool, false, List, [], Option, None, Some, refl, sym, subst, arith, string_bytes}
 use Rattle.std.specs.Prelude.{codes, option_map}
 use Rattle.std.proofs.lemmas.Grind.{common_steps}
 use Rattle.adf_base.specs.declared.hash.Letters.{Letters, TheVariants.Ascii}
 use Rattle.adf_fields.proofs.DateTexts.{date_of, date_of_is}
 use Rattle.adf_names.specs.{PathTexts.IsPathText, declared.kind.Kind.Kind}
 use Rattle.adf_tree.specs.Tree.{Tree, entry, find, with_kind}
-use Rattle.adf_blocks.specs.Sizes.{blocks}
-use Rattle.adf_volume.specs.{Fits.Fits, Fits.FitsBy, Layout.Layout, Walk.FirstFaultBy, Counts.counts_of, Types.letters_for, declared.counts.Counts.Counts}
+use Rattle.adf_blocks.specs.{declared.layout.TheConstants.MOST_PLAIN_BLOCKS, Sizes.blocks, Sizes.is_plain_size}
+use Rattle.adf_volume.proofs.Sizes.{plain_size_high}
+use Rattle.adf_volume.specs.{Fits.Fits, Fits.FitsBy, Fits.FitsOf, Layout.Layout, Walk.FirstFaultOf, Counts.counts_of, declared.counts.Counts.Counts}
 use Rattle.adf_volume.specs.{declared.fault.Fault.Fault, declared.types.Types.Types}
 use Rattle.adf_build.specs.{Laid.IsLaid, Laid.volume, Plan.planned, Building.IsBuildable}
 use Rattle.adf_build.proofs.WholeVolume.{fits_plain}
@@ -22,16 +23,16 @@ use Rattle.adf_runs.specs.declared.outcome.Outcome.{Outcome, TheVariants.Refused
 use Rattle.adf_runs.proofs.{Endings.does_weaker, Endings.ends_weaker, PendingText.appends_nil}
 
 -- the line of the first fault of an image answers a check
-pub refused_answer : (types : Types) (image line : List ℕ) (f : Fault) → FirstFaultBy (letters_for types image) image f.block f.cause
+pub refused_answer : (types : Types) (image line : List ℕ) (f : Fault) → FirstFaultOf types image f.block f.cause
     → line ≡ fault_line f → Checks types image (on_output 1 line)
 refused_answer types image line f first e = inr (f, first, ap (on_output 1) e)
 
 -- so does the line of the numbers of a tree and a layout that fit it
 pub accepted_answer : (types : Types) (image line : List ℕ) (t : Tree) (l : Layout) {letters : Letters} {n : Counts}
-    → FitsBy (letters_for types image) image t l → letters ≡ t.letters → n ≡ counts_of image t l → line ≡ ok_line_by letters n
+    → FitsOf types image t l → letters ≡ t.letters → n ≡ counts_of image t l → line ≡ ok_line_by letters n
     → Checks types image (on_output 0 line)
 accepted_answer types image line t l fits by counted e =
-    inl (t, l, fits, ap (on_output 0) (e ∙ (λ i. ok_line_by ((by ∙ fits.letters) i) (counted i))))
+    inl (t, l, fits, ap (on_output 0) (e ∙ (λ i. ok_line_by ((by ∙ fits.1.letters) i) (counted i))))
 
 -- what is said of a refused image is one of the answers that refuse it so
 pub refused_image_ends : (w : Outcome) (image : List ℕ) (answers : Reply → Type 0)
@@ -57,11 +58,13 @@ fault_ends NoMemory lines input f why h = record { ends = λ o. inl (appends_nil
 fault_ends _ lines input f why h = absurd h
 
 -- an image that was built of a tree is the one that is laid of it
-pub is_built : (image : List ℕ) (tree : Tree) (n : ℕ) → image ≡ volume tree n → IsBuildable tree n → IsLaid image tree
+pub is_built : (image : List ℕ) (tree : Tree) (n : ℕ) → image ≡ volume tree n → length image ≡ n * 512 → IsBuildable tree n
+    → is_plain_size n ≡ true → IsLaid image tree
     → tree.letters ≡ Ascii → FitsBy tree.letters image tree (planned tree n)
     → IsBuilt tree n
-is_built image tree n e room laid letters fits =
-    let plain : Fits image tree (planned tree n) = fits_plain letters fits in grind (arith, common_steps)
+is_built image tree n e long room size laid letters fits =
+    let few : blocks image ≤ MOST_PLAIN_BLOCKS = omega (arith, long, plain_size_high n size) in
+    let plain : Fits image tree (planned tree n) = fits_plain few letters fits in grind (arith, common_steps)
 
 -- what builds the tree of a manifest answers its building
 pub build_ends : {w : Outcome} {output : Seen} (lines : Bool) (input : List ℕ) (tree : Tree) (n : ℕ) → IsManifest input tree n

@@ -3,13 +3,13 @@ use Rattle.std.proofs.Common.{◌≡◌, ◌≢◌, ◌∙◌, ◌⊎◌, inl, i
 use Rattle.std.proofs.lemmas.Grind.{common_steps}
 use mathlib.Core.Path.{fun_ext}
 use Rattle.adf_fields.proofs.DateTexts.{one_text}
-use Rattle.adf_base.specs.{declared.dates.Stamp.Stamp, declared.hash.Letters.Letters}
+use Rattle.adf_base.specs.declared.dates.Stamp.{Stamp}
 use Rattle.adf_tree.specs.Tree.{Tree, with_kind}
 use Rattle.adf_names.specs.declared.kind.Kind.{Kind}
 use Rattle.adf_names.proofs.PathParts.{one_path}
 use Rattle.adf_blocks.specs.{Sizes.blocks, declared.cause.Cause.Cause}
-use Rattle.adf_volume.specs.{Counts.counts_of, Fits.Fits, Layout.Layout, Walk.FirstFault, Walk.FirstFaultBy, Types.letters_for, declared.fault.Fault.Fault}
-use Rattle.adf_volume.proofs.{FitWalks.one_fit, NoneFits.none_fits, OneFault.one_fault}
+use Rattle.adf_volume.specs.{Counts.counts_of, Fits.Fits, Layout.Layout, Walk.FirstFault, Walk.FirstFaultOf, Types.letters_for, declared.fault.Fault.Fault}
+use Rattle.adf_volume.proofs.{FitWalks.one_fit, TypeLaws.none_fits_of, TypeLaws.one_fault_of}
 use Rattle.adf_volume.specs.declared.types.Types.{Types, TheVariants.Plain}
 use Rattle.adf_manifest.specs.Manifest.{ExplainsKind, IsManifest, lines}
 use Rattle.adf_manifest.specs.declared.manifest.ManifestKind.{ManifestKind, TheVariants.NoMemory, TheVariants.TooLong}
@@ -25,28 +25,28 @@ pub one_request : (words : List (List ℕ)) (r r' : RequestValue) → AsksFor wo
 one_request words r r' a b = grind (arith, common_steps)
 
 -- the first fault of an image has one line
-one_line : {letters : Letters} (input : List ℕ) (f g : Fault) → FirstFaultBy letters input f.block f.cause
-    → FirstFaultBy letters input g.block g.cause → fault_line f ≡ fault_line g
-one_line input f g p q =
+one_line : (types : Types) (input : List ℕ) (f g : Fault) → FirstFaultOf types input f.block f.cause
+    → FirstFaultOf types input g.block g.cause → fault_line f ≡ fault_line g
+one_line types input f g p q =
     let by : ℕ → Cause → List ℕ = λ b c. fault_line (record { block = b; cause = c }) in
-    let same = one_fault input f.block f.cause g.block g.cause p q in
+    let same = one_fault_of types input f.block f.cause g.block g.cause p q in
     ap (λ b. by b f.cause) same.0 ∙ ap (λ c. by g.block c) same.1
 
 -- an image is not refused where a tree fits
 not_both : (input : List ℕ) (f : Fault) (t : Tree) (l : Layout) → FirstFault input f.block f.cause → Fits input t l → ⊥
-not_both input f t l first fits = none_fits input f.block f.cause t l first fits
+not_both input f t l first fits = none_fits_of Plain input f.block f.cause t l first fits
 
 pub refused_once : (input : List ℕ) (a b : Reply) → RefusesImage input a → RefusesImage input b → a ≡ b
-refused_once input a b (f, first, x) (g, also, y) = x ∙ ap (on_errors 1) (one_line input f g first also) ∙ sym y
+refused_once input a b (f, first, x) (g, also, y) = x ∙ ap (on_errors 1) (one_line Plain input f g first also) ∙ sym y
 
 -- a check has one answer
 pub one_check : (types : Types) (input : List ℕ) (a b : Reply) → Checks types input a → Checks types input b → a ≡ b
 one_check types input a b (inl (t, l, fits, x)) (inl (u, m, also, y)) =
-    let same = one_fit input t u l m fits also in
+    let same = one_fit input t u l m fits.1 also.1 in
     x ∙ (λ i. on_output 0 (ok_line_by (letters_for types input) (counts_of input (same.0 i) (same.1 i)))) ∙ sym y
-one_check types input a b (inl (t, l, fits, x)) (inr (f, first, y)) = absurd (none_fits input f.block f.cause t l first fits)
-one_check types input a b (inr (f, first, x)) (inl (t, l, fits, y)) = absurd (none_fits input f.block f.cause t l first fits)
-one_check types input a b (inr (f, first, x)) (inr (g, also, y)) = x ∙ ap (on_output 1) (one_line input f g first also) ∙ sym y
+one_check types input a b (inl (t, l, fits, x)) (inr (f, first, y)) = absurd (none_fits_of types input f.block f.cause t l first fits)
+one_check types input a b (inr (f, first, x)) (inl (t, l, fits, y)) = absurd (none_fits_of types input f.block f.cause t l first fits)
+one_check types input a b (inr (f, first, x)) (inr (g, also, y)) = x ∙ ap (on_output 1) (one_line types input f g first also) ∙ sym y
 
 -- dates have one text each
 pub one_dates : (date other : Stamp → List ℕ) → AreDates date → AreDates other → date ≡ other
@@ -54,7 +54,7 @@ one_dates date other p q = fun_ext (λ s. one_text s (date s) (other s) (p s) (q
 
 listed_once : (input : List ℕ) (a b : Reply) → Lists input a → Lists input b → a ≡ b
 listed_once input a b (t, l, fits, date, dates, x) (u, m, also, other, others, y) =
-    let same = one_fit input t u l m fits also in
+    let same = one_fit input t u l m fits.1 also.1 in
     x ∙ ap (λ v. on_output 0 (volume_lines date v (blocks input))) same.0
     ∙ ap (λ d. on_output 0 (volume_lines d u (blocks input))) (one_dates date other dates others) ∙ sym y
 
@@ -103,7 +103,7 @@ copied_once (Some (Some bytes)) a b x y = x ∙ sym y
 copied_from_once : (path input : List ℕ) (a b : Reply) → CopiesFrom path input a → CopiesFrom path input b
     → a ≡ b
 copied_from_once path input a b (names, text, t, l, fits, h) (others, also, u, m, only, g) =
-    let same = one_fit input t u l m fits only in
+    let same = one_fit input t u l m fits.1 only.1 in
     let found : contents_at t names ≡ contents_at u others =
     ap (λ v. contents_at v names) same.0 ∙ ap (λ (ns : List (List ℕ)). contents_at u ns) (one_path path names others text also) in
     copied_once (contents_at u others) a b (subst (λ x. Copies x a) found h) g
@@ -111,7 +111,7 @@ copied_from_once path input a b (names, text, t, l, fits, h) (others, also, u, m
 converted_once : (kind : Kind) (input : List ℕ) (a b : Reply) → Converts kind input a → Converts kind input b
     → a ≡ b
 converted_once kind input a b (t, l, fits, h) (u, m, also, g) =
-    let same = one_fit input t u l m fits also in
+    let same = one_fit input t u l m fits.1 also.1 in
     built_once false (with_kind u kind) (blocks input) a b (subst (λ (v : Tree). BuildsOrIsFull false (with_kind v kind) (blocks input) a) same.0 h) g
 
 -- what one command tells of a tree that fits an image, or that the image is refused

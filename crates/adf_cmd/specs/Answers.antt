@@ -1,10 +1,10 @@
 -- What the command answers to its words and its input.
 use Rattle.std.specs.Prelude.{◌≡◌, ◌≢◌, ◌++◌, ◌<◌, ◌-◌, ◌*◌, ◌⊎◌, ℕ, Bool, false, List, codes, Option, None, Some, option_map}
-use Rattle.adf_blocks.specs.{declared.layout.TheConstants.MOST_BLOCKS, Sizes.blocks}
-use Rattle.adf_base.specs.{declared.dates.Stamp.Stamp, declared.hash.Letters.Letters}
+use Rattle.adf_blocks.specs.Sizes.{blocks}
+use Rattle.adf_base.specs.declared.dates.Stamp.{Stamp}
 use Rattle.adf_names.specs.{PathTexts.IsPathText, declared.kind.Kind.Kind}
 use Rattle.adf_tree.specs.Tree.{Tree, entry, find, with_kind}
-use Rattle.adf_volume.specs.{Fits.Fits, Fits.FitsBy, Layout.Layout, Walk.FirstFault, Walk.FirstFaultBy, Counts.counts_of, Types.letters_for}
+use Rattle.adf_volume.specs.{Fits.Fits, Fits.FitsOf, Layout.Layout, Walk.FirstFault, Walk.FirstFaultOf, Counts.counts_of, Types.letters_for, Types.most_blocks}
 use Rattle.adf_volume.specs.{declared.fault.Fault.Fault, declared.types.Types.Types, declared.types.Types.TheVariants.Plain}
 use Rattle.adf_build.specs.{Laid.IsLaid, Laid.volume, Plan.blocks_needed, Plan.planned, Building.IsBuildable, Building.need_of}
 use Rattle.adf_check.specs.Pieces.{bytes_of}
@@ -15,18 +15,18 @@ use Rattle.adf_manifest.specs.{Manifest.ExplainsFault, Manifest.IsManifest, Mani
 use Rattle.adf_texts.specs.{Lines.fault_line, Lines.full_line, Lines.manifest_fault_line, Lines.ok_line_by, VolumeLines.AreDates, VolumeLines.volume_lines}
 use Rattle.adf_manifest.specs.declared.manifest.ManifestKind.TheVariants.{NoMemory as ManifestNoMemory}
 
--- `check` at status 0 tells the numbers of the tree and the layout that fit the image by these letters
-abbrev pub AcceptsBy : Letters → List ℕ → Reply → Type 0
-AcceptsBy letters input reply =
-    (t : Tree) × (l : Layout) × FitsBy letters input t l × (reply ≡ on_output 0 (ok_line_by letters (counts_of input t l)))
+-- `check` at status 0 tells the numbers of the tree and the layout that fit the image where these types are accepted
+abbrev pub Accepts : Types → List ℕ → Reply → Type 0
+Accepts types input reply =
+    (t : Tree) × (l : Layout) × FitsOf types input t l × (reply ≡ on_output 0 (ok_line_by (letters_for types input) (counts_of input t l)))
 
--- the first fault of the image by these letters is told on output, with status 1
-abbrev pub RefusesBy : Letters → List ℕ → Reply → Type 0
-RefusesBy letters input reply = (f : Fault) × FirstFaultBy letters input f.block f.cause × (reply ≡ on_output 1 (fault_line f))
+-- the first fault of the image where these types are accepted is told on output, with status 1
+abbrev pub Refuses : Types → List ℕ → Reply → Type 0
+Refuses types input reply = (f : Fault) × FirstFaultOf types input f.block f.cause × (reply ≡ on_output 1 (fault_line f))
 
 -- what is told of an image where these types are accepted
 abbrev pub Checks : Types → List ℕ → Reply → Type 0
-Checks types input reply = AcceptsBy (letters_for types input) input reply ⊎ RefusesBy (letters_for types input) input reply
+Checks types input reply = Accepts types input reply ⊎ Refuses types input reply
 
 -- the image that is laid of a tree in n blocks, or the lines of its words
 abbrev pub built_output : Bool → Tree → ℕ → List ℕ
@@ -117,10 +117,14 @@ WordsAskForOneRequest = (words : List (List ℕ)) (r r' : RequestValue) → Asks
 abbrev pub RequestsHaveOneAnswer : Type 0
 RequestsHaveOneAnswer = (r : RequestValue) (input : List ℕ) (a b : Reply) → Answer r input a → Answer r input b → a ≡ b
 
+-- the most bytes of an image where these types are accepted
+abbrev pub most_image_bytes : Types → ℕ
+most_image_bytes types = 512 * most_blocks types
+
 -- the most bytes of the input that belong to an answer: those of the largest image or manifest
 abbrev pub limit_of : RequestValue → ℕ
 limit_of (build lines) = most_bytes
-limit_of _ = 512 * MOST_BLOCKS
+limit_of _ = most_image_bytes Plain
 
 -- what errors get where the words are refused
 abbrev pub usage_line : List ℕ

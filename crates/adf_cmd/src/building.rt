@@ -3,7 +3,7 @@
 ghost use Rattle.std.specs.Prelude.{◌≡◌, ◌<◌, ◌^◌, true, false, length, OnOk, OnErr};
 ghost use Rattle.std.specs.Io.KnownBytes.{Appends};
 ghost use Rattle.adf_base.specs.declared.hash.Letters.TheVariants.{Ascii};
-ghost use Rattle.adf_blocks.specs.Sizes.{is_allowed};
+ghost use Rattle.adf_blocks.specs.Sizes.{is_plain_size};
 ghost use Rattle.adf_cmd.specs.{Answers.Answer, Answers.BuildsOrIsFull, Listing.image_or_lines};
 ghost use Rattle.adf_words.specs.CommandLine.{build};
 ghost use Rattle.adf_cmd.specs.Refusals.{IsFaultOutcome, IsFullOutcome};
@@ -59,7 +59,7 @@ pub fn build_tree<W: Sink>(
     output: &mut W,
 ) -> Outcome
     requires works { W.has_failed output.old ≡ false }
-    requires size { is_allowed blocks ≡ true }
+    requires size { is_plain_size blocks ≡ true }
     requires letters { tree.now.letters ≡ Ascii }
     ensures { Does (BuildsOrIsFull lines tree.now blocks) result (seen W.held W.has_failed output.old output.new) }
 {

@@ -2,13 +2,13 @@
 
 ghost use Rattle.std.specs.Prelude.{◌≡◌, ◌+◌, false, IfOk, List, string_bytes, true, ℕ};
 ghost use Rattle.adf_tree.specs.Tree.{Tree};
-ghost use Rattle.adf_volume.specs.{Fits.FitsBy, Layout.Layout, Walk.FirstFaultBy, Types.letters_for, declared.types.Types.Types};
-ghost use Rattle.adf_cmd.specs.{Answers.Answer, Answers.limit_of, CheckAnswers.IsCheckAnswer, CheckAnswers.IsCheckAnswerTo};
+ghost use Rattle.adf_volume.specs.{Fits.FitsOf, Layout.Layout, Walk.FirstFaultOf, declared.types.Types.Types};
+ghost use Rattle.adf_cmd.specs.{Answers.Answer, Answers.most_image_bytes, CheckAnswers.IsCheckAnswer, CheckAnswers.IsCheckAnswerTo};
 ghost use Rattle.adf_words.specs.CommandLine.{check};
 ghost use Rattle.adf_runs.specs.{Streams.TakesAtMost, Streams.is_device, Streams.seen, Outcomes.Does};
 ghost use Rattle.adf_texts.specs.Lines.{ok_line_by};
 
-use crate::images::{MOST_IMAGE_BYTES, checked, refused_line};
+use crate::images::{checked, most_image_bytes, refused_line};
 use adf_base::Letters;
 use adf_check::{Checked, Counts, Fault};
 use adf_runs::{Outcome, Sink, Source, StreamFault, read_into, write_all};
@@ -37,7 +37,7 @@ pub struct CheckAnswer {
 // The answer to an accepted image.
 fn acceptance(alloc: Global, volume: &Checked<'_>) -> Result<CheckAnswer, AllocError>
     ensures { (types : Types) (t : Tree) (l : Layout)
-        → FitsBy (letters_for types volume.now) volume.now t l
+        → FitsOf types volume.now t l
         → IfOk result (IsCheckAnswer types volume.now) }
 {
     let line = accepted_line(alloc, volume.letters(), &volume.counts())?;
@@ -47,7 +47,7 @@ fn acceptance(alloc: Global, volume: &Checked<'_>) -> Result<CheckAnswer, AllocE
 // The answer to an image with this first fault.
 fn refusal(alloc: Global, fault: Fault) -> Result<CheckAnswer, AllocError>
     ensures { (types : Types) (image : List ℕ)
-        → FirstFaultBy (letters_for types image) image fault.block fault.cause
+        → FirstFaultOf types image fault.block fault.cause
         → IfOk result (IsCheckAnswer types image) }
 {
     let line = refused_line(alloc, fault)?;
@@ -76,10 +76,10 @@ pub fn answer_to_input<R: Source>(
     ensures answer { IfOk result (IsCheckAnswerTo types (R.left input.old)) }
     ensures failed { R.has_failed input.new ≡ is_device result }
     ensures reliable { R.may_fail input.old ≡ false → R.has_failed input.new ≡ false }
-    ensures at_most { TakesAtMost (limit_of check + 1)
+    ensures at_most { TakesAtMost (most_image_bytes types + 1)
         (R.left input.old) (R.left input.new) }
 {
-    let count = read_into(input, MOST_IMAGE_BYTES, buffer)?;
+    let count = read_into(input, most_image_bytes(types), buffer)?;
     let answer = answer_to_image(alloc, types, &buffer[..count])?;
     Ok(answer)
 }

@@ -3,7 +3,7 @@
 ghost use Rattle.std.specs.Prelude.{◌≡◌, true, false, IfErr, IfOk};
 ghost use Rattle.adf_base.specs.declared.hash.Letters.TheVariants.{Ascii};
 ghost use Rattle.adf_tree.specs.Tree.{with_kind};
-ghost use Rattle.adf_blocks.specs.Sizes.{blocks, is_allowed};
+ghost use Rattle.adf_blocks.specs.Sizes.{blocks, is_plain_size};
 ghost use Rattle.adf_volume.specs.{Fits.Fits, Layout.Layout};
 ghost use Rattle.adf_cmd.specs.{Answers.Answer, Answers.BuildsOrIsFull, Refusals.IsRefusedImage};
 ghost use Rattle.adf_words.specs.CommandLine.{convert};
@@ -47,7 +47,7 @@ fn convert_tree<W: Sink>(
     output: &mut W,
 ) -> Outcome
     requires works { W.has_failed output.old ≡ false }
-    requires size { is_allowed blocks ≡ true }
+    requires size { is_plain_size blocks ≡ true }
     requires letters { tree.letters ≡ Ascii }
     ensures { Does (BuildsOrIsFull false (with_kind tree kind) blocks) result (seen W.held W.has_failed output.old output.new) }
 {

@@ -2,21 +2,25 @@
 
 ghost use Rattle.std.specs.Prelude.{◌≡◌, false, IfErr, IfOk, string_bytes};
 ghost use Rattle.adf_tree.specs.Tree.{Tree};
-ghost use Rattle.adf_volume.specs.{Fits.Fits, Fits.FitsBy, Layout.Layout, Walk.FirstFaultBy, Types.letters_for};
-ghost use Rattle.adf_cmd.specs.Refusals.{IsRefusedImage};
+ghost use Rattle.adf_volume.specs.{Fits.Fits, Fits.FitsOf, Layout.Layout, Walk.FirstFaultOf};
+ghost use Rattle.adf_cmd.specs.{Answers.most_image_bytes, Refusals.IsRefusedImage};
 ghost use Rattle.adf_texts.specs.Lines.{fault_line};
 ghost use Rattle.adf_runs.specs.Outcomes.{Blames};
 
 use adf_base::BLOCK_LEN;
-use adf_blocks::{Cause, MOST_BLOCKS};
+use adf_blocks::Cause;
 use adf_check::{Checked, Fault, check_types};
 use adf_runs::Outcome;
 use adf_texts::push_fault;
 use adf_volume::Types;
 use std::alloc::{AllocError, Global};
 
-/// The most bytes of an image.
-pub const MOST_IMAGE_BYTES: usize = MOST_BLOCKS as usize * BLOCK_LEN;
+/// The most bytes of an image where these types are accepted.
+pub fn most_image_bytes(types: Types) -> usize
+    ensures { result ≡ most_image_bytes types }
+{
+    types.most_blocks() as usize * BLOCK_LEN
+}
 
 /// The line of a refused image.
 pub fn refused_line(alloc: Global, fault: Fault) -> Result<String, AllocError>
@@ -36,11 +40,11 @@ pub fn checked<'a>(
 ) -> Result<Result<Checked<'a>, Fault>, AllocError>
     ensures image { IfOk result (λ r. IfOk r (λ v. v ≡ image.now)) }
     ensures fits { IfOk result (λ r. IfOk r (λ v.
-        (t : Tree) × (l : Layout) × FitsBy (letters_for types image.now) v t l)) }
+        (t : Tree) × (l : Layout) × FitsOf types v t l)) }
     ensures first { IfOk result (λ r. IfErr r (λ f.
-        FirstFaultBy (letters_for types image.now) image.now f.block f.cause)) }
+        FirstFaultOf types image.now f.block f.cause)) }
     ensures none { IfOk result (λ r. IfErr r (λ _. (t : Tree) (l : Layout)
-        → FitsBy (letters_for types image.now) image.now t l → ⊥)) }
+        → FitsOf types image.now t l → ⊥)) }
 {
     match check_types(alloc, types, image) {
         Ok(volume) => Ok(Ok(volume)),

@@ -14,7 +14,7 @@ mod work;
 
 pub use crate::checking::{CheckAnswer, answer_to_image, answer_to_input};
 pub use crate::copying::{ROOM, write_through};
-pub use crate::images::{MOST_IMAGE_BYTES, checked, refused_line};
+pub use crate::images::{checked, most_image_bytes, refused_line};
 pub use crate::listing::write_listing;
 pub use crate::round_trip::build_and_read;
 pub use crate::runner::{one_answer, run};

@@ -2,6 +2,7 @@
 
 ghost use Rattle.std.specs.Prelude.{◌≡◌, IfOk, IfErr};
 ghost use Rattle.adf_build.specs.Building.{IsBuildFault};
+ghost use Rattle.adf_volume.specs.declared.types.Types.TheVariants.{Plain};
 
 use crate::images::checked;
 use adf_build::{BuildFault, build};
@@ -14,7 +15,7 @@ use std::alloc::Global;
 /// The image that was built is never refused, unless memory runs out.
 pub fn build_and_read(alloc: Global, tree: &Tree, blocks: u32) -> Result<Tree, BuildFault>
     ensures same { IfOk result (λ t. t ≡ tree.now) }
-    ensures fault { IfErr result (IsBuildFault tree.now blocks) }
+    ensures fault { IfErr result (IsBuildFault Plain tree.now blocks) }
 {
     let image = build(alloc, tree, blocks)?;
     let volume = match checked(alloc, Types::WithInternational, &image) {

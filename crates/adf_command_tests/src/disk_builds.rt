@@ -106,7 +106,7 @@ const REFUSED: &[(&[u8], &str)] = &[
     (b"disk 4 2\npartition DH0 ffs 4\n", "line 3: no end\n"),
     (
         b"disk 1 3\npartition DH0 ofs 1\nend\n",
-        "line 2: a new volume has an even number of blocks, 4 to 1048576\n",
+        "line 2: a new volume has an even number of blocks, 4 to 8388608\n",
     ),
     (
         b"disk 4 2\npartition DH0 ffs 4 given\nend\nshort",

@@ -62,7 +62,7 @@ module _ (image : List ℕ) (h : ℕ) where
 
 -- counts that are kept of few blocks can grow by one
 pub counts_fit : (image : List ℕ) (counts : List ℕ) (n h : ℕ) → length counts ≡ blocks image
-    → ((g : ℕ) → g < blocks image → slice_index counts g ≡ extensions_among image g n) → n < 2 ^ 20 → slice_index counts h + 1 < 2 ^ 32
+    → ((g : ℕ) → g < blocks image → slice_index counts g ≡ extensions_among image g n) → n < 2 ^ 23 → slice_index counts h + 1 < 2 ^ 32
 counts_fit image counts n h long are small = elim (cases_lt h (blocks image)) [
   | inl inside ↦ omega (arith, are h inside, few_extensions image h n)
   | inr past ↦ omega (arith, get_or_past counts h 0 (omega arith))

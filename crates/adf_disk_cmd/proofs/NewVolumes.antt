@@ -18,7 +18,7 @@ use Rattle.adf_tree.proofs.TreeOfAdditions.{nothing_added_by}
 use Rattle.adf_tree.specs.Tree.{Tree}
 use Rattle.adf_runs.specs.Commands.{on_output}
 use Rattle.adf_texts.specs.Lines.{ok_line_by}
-use Rattle.adf_volume.proofs.{FitWalks.own_fit, ImageStart.own_letters, Sizes.size_low}
+use Rattle.adf_volume.proofs.{ImageStart.own_letters, Sizes.size_low, TypeLaws.own_fit_of}
 
 -- the label fits, and the size is allowed
 pub record MayBeNew (n : ℕ) (p : PartitionPlan) : Type 0 where
@@ -58,7 +58,7 @@ accepted : (letters : Letters) (image : List ℕ) (t : Tree) (l : Layout) → Fi
     → Checks WithInternational image (on_output 0 (ok_line_by letters (counts_of image t l)))
 accepted letters image t l fits =
     let own : letters_of image ≡ letters = own_letters letters image fits.boots in
-    inl (t, l, own_fit fits, ap (λ x. on_output 0 (ok_line_by x (counts_of image t l))) (sym own))
+    inl (t, l, own_fit_of fits, ap (λ x. on_output 0 (ok_line_by x (counts_of image t l))) (sym own))
 
 pub new_volume : (n : ℕ) (p : PartitionPlan) → MayBeNew n p → IsNewVolume n p (volume (planned_tree p) n)
 new_volume n p may =
@@ -73,7 +73,7 @@ pub length_new : (n : ℕ) (p : PartitionPlan) → MayBeNew n p → length (volu
 length_new n p may = volume_long (can_hold n p may)
 
 -- no room is lacking
-pub never_full : (t : Tree) (n need have : ℕ) → t.entries ≡ [] → IsBuildFault t n (Full need have) → ⊥
+pub never_full : (t : Tree) (n need have : ℕ) → t.entries ≡ [] → IsBuildFault WithInternational t n (Full need have) → ⊥
 never_full t n need have none h = let fits = room t n none h.0 in omega (arith, h.1, h.2)
 
 new_by : (given size label : Bool) → (given || (size && label)) ≡ true → given ≡ false → (size ≡ true) × (label ≡ true)

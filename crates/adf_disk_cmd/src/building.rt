@@ -14,11 +14,12 @@ ghost use Rattle.adf_runs.specs.Outcomes.{Blames, Does, DoesSilently, EndsBy};
 
 use crate::answering::write_text;
 use adf_base::BLOCK_LEN;
-use adf_build::{BuildFault, build};
+use adf_build::{BuildFault, build_types};
 use adf_partitions::{DiskPlan, PartitionPlan, cylinder_blocks, write_tables};
 use adf_plans::{TextFault, TextKind, read_plan};
 use adf_runs::{Outcome, Sink};
 use adf_tree::{Label, NO_STAMPS, Tree};
+use adf_volume::Types;
 use std::alloc::{AllocError, Global};
 
 // How many bytes the given volumes have.
@@ -43,7 +44,7 @@ fn new_volume(alloc: Global, partition: &PartitionPlan, blocks: u32) -> Result<V
 {
     let label = Label::new(partition.name.bytes()).unwrap();
     let tree = Tree::with_letters(alloc, partition.kind, partition.letters, label, NO_STAMPS);
-    match build(alloc, &tree, blocks) {
+    match build_types(alloc, Types::WithInternational, &tree, blocks) {
         Ok(bytes) => Ok(bytes),
         Err(BuildFault::BadSize) => unreachable!(),
         Err(BuildFault::Full { .. }) => unreachable!(),

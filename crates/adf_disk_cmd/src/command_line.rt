@@ -44,7 +44,7 @@ pub const ABOUT: About = About {
 /// A partition, by its number or its name.
 #[derive(Clone, Copy, Debug)]
 pub enum Wanted<'a> {
-    /// A number: the text has decimal digits alone, and is at most 1,048,576.
+    /// A number: the text has decimal digits alone, and is at most 8,388,608.
     Number(u32),
     /// The text of a name: any other text.
     Name(&'a str),

@@ -11,8 +11,8 @@ use crate::script::{Script, behind_file, behind_files, files_len, read_script};
 use crate::stop::Stop;
 use adf_blocks::Cause;
 use adf_boot_blocks::restore;
-use adf_build::{BuildFault, build};
-use adf_check::{Checked, check_types};
+use adf_build::{BuildFault, build_types};
+use adf_check::{Checked, check_by};
 use adf_edits::{Edit, EditFault, Outline, OutlineFault};
 use adf_tree::{AddFault, Tree};
 use adf_volume::Types;
@@ -24,7 +24,7 @@ fn volume_of<'a>(alloc: Global, image: &'a [u8]) -> Result<Checked<'a>, Stop>
     ensures fits { IfOk result (λ v. (t : TreeValue) × IsVolume v t) }
     ensures refused { IfErr result (IsImageFault image.now) }
 {
-    match check_types(alloc, Types::WithInternational, image) {
+    match check_by(alloc, Types::WithInternational.letters_for(image), image) {
         Ok(volume) => Ok(volume),
         Err(fault) => match fault.cause {
             Cause::NoMemory => Err(Stop::NoMemory),
@@ -96,7 +96,7 @@ fn lay(alloc: Global, tree: &Tree, blocks: u32, image: &[u8]) -> Result<Vec<u8>,
     ensures laid { IfOk result (λ new. IsLaidOver tree.now blocks image.now new.items) }
     ensures full { IfErr result (IsFullStop tree.now blocks) }
 {
-    match build(alloc, tree, blocks) {
+    match build_types(alloc, Types::WithInternational, tree, blocks) {
         Ok(mut new) => {
             restore(&mut new, image);
             Ok(new)

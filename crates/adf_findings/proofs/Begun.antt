@@ -77,10 +77,10 @@ module _ (image : List ℕ) (fs : List FindingValue) where
   no_names names name m p s j b valid e f h = absurd (omega arith)
 
   -- the course begins at the first page, whose block the root names
-  begun_at : (f : Progress) → fs ≡ noted f → IsCourse image (begun image fs) → Stands image f.found (begun image fs) → blocks image ≤ 1048576
+  begun_at : (f : Progress) → fs ≡ noted f → IsCourse image (begun image fs) → Stands image f.found (begun image fs) → blocks image ≤ 8388608
       → HasReachedPage image f 0 (root_of image)
   begun_at f told course st small = grind (arith, common_steps, with_root, no_names)
 
-  pub on_begun : (f : Progress) → fs ≡ noted f → IsCourse image (begun image fs) → Stands image f.found (begun image []) → blocks image ≤ 1048576
+  pub on_begun : (f : Progress) → fs ≡ noted f → IsCourse image (begun image fs) → Stands image f.found (begun image []) → blocks image ≤ 8388608
       → HasReachedPage image f 0 (root_of image)
   on_begun f told course st small = begun_at f told course (stands_but image f.found f.found (begun image []) [] fs refl st st.skipped) small

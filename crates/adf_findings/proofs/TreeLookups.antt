@@ -7,7 +7,7 @@ use Rattle.adf_names.specs.Texts.{uppers_by}
 use Rattle.adf_tree.specs.{declared.entry.Body.TheVariants.Dir, declared.entry.Body.TheVariants.File, declared.entry.Entry.Entry}
 use Rattle.adf_tree.specs.Tree.{IsTree, Tree, child, entry, find, find_from, find_from_by, is_child}
 use Rattle.adf_tree.proofs.ChildLookup.{child_is, child_says, found_is, is_child_from}
-use Rattle.adf_volume.specs.{Fits.Fits, Image.content, Image.kind_of, Image.letters_of, Image.name_of, Image.root_of, Image.word_in, Layout.Layout, Lists.At}
+use Rattle.adf_volume.specs.{Fits.FitsBy, Image.content, Image.kind_of, Image.letters_of, Image.name_of, Image.root_of, Image.word_in, Layout.Layout, Lists.At}
 use Rattle.adf_volume.specs.{Made.datas_in, Made.entries_in, Made.entry_in, Made.layout_in, Made.tree_in, Demands.boot_demands, Demands.root_demands}
 use Rattle.adf_volume.specs.Walk.{Has, HeadAt, IsWalk, IsWhole, heads, node_block, Walk, Role.Head}
 use Rattle.adf_volume.proofs.{Chains.entry_is_at, FitWalks.one_fit, ImageStart.plain_letters, Lists.all_split, Lists.at_below, Lists.at_index_or, Roles.head_at}
@@ -102,7 +102,7 @@ module _ (image : List ℕ) (w : Walk) (v : IsWalk image w) (tree : IsTree (entr
         ap (λ h. content image (kind_of image) h (datas_in w n)) here ∙ sym x.2,
       )
 
-module _ (image : List ℕ) (t : Tree) (l : Layout) (w : Walk) (fs : List FindingValue) (fit : Fits image t l)
+module _ (image : List ℕ) (t : Tree) (l : Layout) (w : Walk) (fs : List FindingValue) (fit : FitsBy Ascii image t l)
     (survey : IsSurvey image w fs) where
   none : fs ≡ []
   none = finds_none image t l w fs fit survey
@@ -110,7 +110,7 @@ module _ (image : List ℕ) (t : Tree) (l : Layout) (w : Walk) (fs : List Findin
   clean : IsSurvey image w []
   clean = subst (IsSurvey image w) none survey
 
-  made : Fits image (tree_in image w) (layout_in w)
+  made : FitsBy Ascii image (tree_in image w) (layout_in w)
   made = none_found image w clean
 
   plain : letters_of image ≡ Ascii

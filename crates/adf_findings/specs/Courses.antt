@@ -25,7 +25,7 @@ pub record Holds (image : List ℕ) (f : Progress) (k : Position) (s : Course) :
   pub stands : Stands image f.found s
   pub up_to : IsUpTo image s.walk s.skipped k
   pub names : AreNamed image s.walk k f.found.names
-  pub small : blocks image ≤ 1048576
+  pub small : blocks image ≤ 8388608
 
 -- some course has reached a position
 abbrev pub HasReached : List ℕ → Progress → Position → Type 0

@@ -306,7 +306,7 @@ fn go_through_exts(
 ) -> Result<u32, NoMemory>
     requires { HasReachedFile image.now progress.old node b }
     ensures datas { IfOk result (λ exts. HasReachedData image.now progress.new node b exts) }
-    ensures few { IfOk result (λ exts. exts ≤ 1048576) }
+    ensures few { IfOk result (λ exts. exts ≤ 8388608) }
 {
     let mut holder = b;
     let mut exts = 0;
@@ -362,7 +362,7 @@ fn data_due(table: &FileTable, k: u32, next: u32) -> Due
 
 // How many data blocks of a file are visited with block `m` of its table.
 fn table_end(table: &FileTable, m: u32) -> u32
-    requires { m ≤ 1048576 }
+    requires { m ≤ 8388608 }
     ensures { result ≡ end_in table.now (m + 1) }
 {
     table.count.min(table.room).min(POINTERS as u32 * (m + 1))
@@ -404,7 +404,7 @@ fn go_through_ffs_table(
 ) -> Result<(), NoMemory>
     requires kind { kind_of image.now ≡ Ffs }
     requires whole { table.now.count ≤ table.now.room }
-    requires few { member.now.number ≤ 1048576 }
+    requires few { member.now.number ≤ 8388608 }
     requires some { POINTERS * member.now.number < end_in table.now (member.now.number + 1) }
     requires at { HasReachedNamed image.now progress.old table.now
         member.now.number member.now.block (POINTERS * member.now.number) }
@@ -432,7 +432,7 @@ fn go_through_any_table(
     table: &FileTable,
     member: &Member,
 ) -> Result<(), NoMemory>
-    requires few { member.now.number ≤ 1048576 }
+    requires few { member.now.number ≤ 8388608 }
     requires some { POINTERS * member.now.number < end_in table.now (member.now.number + 1) }
     requires at { HasReachedNamed image.now progress.old table.now
         member.now.number member.now.block (POINTERS * member.now.number) }
@@ -473,7 +473,7 @@ fn go_through_table(
     table: &FileTable,
     member: &Member,
 ) -> Result<(), NoMemory>
-    requires few { member.now.number ≤ 1048576 }
+    requires few { member.now.number ≤ 8388608 }
     requires some { POINTERS * member.now.number < end_in table.now (member.now.number + 1) }
     requires at { HasReachedNamed image.now progress.old table.now
         member.now.number member.now.block (POINTERS * member.now.number) }
@@ -495,7 +495,7 @@ fn go_through_datas(
     b: u32,
     exts: u32,
 ) -> Result<(), NoMemory>
-    requires few { exts ≤ 1048576 }
+    requires few { exts ≤ 8388608 }
     requires at { HasReachedData image.now progress.old node b exts }
     ensures { OnOk result (HasReached image.now progress.new (before_node (node + 1))) }
 {

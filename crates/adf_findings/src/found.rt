@@ -64,7 +64,7 @@ impl Found {
     #[tactic(auto, using(crate::proofs::Begun::stands_begun))]
     pub fn begin(alloc: Global, image: &SizedImage<'_>) -> Result<Found, NoMemory>
         ensures stands { IfOk result (λ f. Stands image.now f (begun image.now [])) }
-        ensures few { blocks image.now ≤ 1048576 }
+        ensures few { blocks image.now ≤ 8388608 }
         ensures left { IfOk result (λ f. f.left + 1 ≡ blocks image.now) }
     {
         let root = image.root();

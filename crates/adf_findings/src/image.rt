@@ -79,17 +79,17 @@ impl<'a> SizedImage<'a> {
         ensures blocks { result ≡ blocks self.now }
         ensures allowed { is_allowed result ≡ true }
         ensures many { 4 ≤ result }
-        ensures few { result ≤ 1048576 }
+        ensures few { result ≤ 8388608 }
     {
         self.blocks
     }
 
     /// The number of bytes.
-    pub fn len(&self) -> u32
+    pub fn len(&self) -> u64
         ensures length { result ≡ length self.now }
-        ensures few { result ≤ 2 ^ 29 }
+        ensures few { result ≤ 2 ^ 32 }
     {
-        self.blocks * BLOCK_LEN as u32
+        u64::from(self.blocks) * BLOCK_LEN as u64
     }
 
     /// The block of the root.

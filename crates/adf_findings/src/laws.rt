@@ -1,15 +1,16 @@
 // The laws of surveys. Each is the contract of a function that does nothing at run time.
 
 ghost use Rattle.std.specs.Prelude.{◌≡◌, ◌<◌, ◌↔◌, ℕ, Bool, List, [], ◌∷◌, ◌++◌, Some};
+ghost use Rattle.adf_base.specs.declared.hash.Letters.TheVariants.{Ascii};
 ghost use Rattle.adf_tree.specs.declared.entry.Body.TheVariants.{File};
 ghost use Rattle.adf_tree.specs.{declared.entry.Entry.Entry, Tree.Tree, Tree.entry, Tree.find};
-ghost use Rattle.adf_volume.specs.{Fits.Fits, Fits.FitsBy, Image.name_of, Image.word_in, Layout.Layout, Walk.Role.Data};
+ghost use Rattle.adf_volume.specs.{Fits.FitsBy, Image.name_of, Image.word_in, Layout.Layout, Walk.Role.Data};
 ghost use Rattle.adf_volume.specs.{Walk.Role.Head, Types.letters_for, declared.types.Types.Types};
 ghost use Rattle.adf_volume.specs.Made.{layout_in, tree_in, tree_in_by};
-ghost use Rattle.adf_volume.specs.Walk.{Asks, FileAt, FirstFault, FirstFaultBy, Has, HeadAt, NodeAt, Role, Walk};
+ghost use Rattle.adf_volume.specs.Walk.{Asks, FileAt, FirstFaultBy, Has, HeadAt, NodeAt, Role, Walk};
 ghost use Rattle.adf_findings.specs.Files.{IsSoundFile, file_content, file_in, grave, named_from};
 ghost use Rattle.adf_findings.specs.{Lookup.LeadsTo, Lookup.path_to, Remains.data_found, Remains.gaps_of, Remains.left_of};
-ghost use Rattle.adf_findings.specs.{SoundMarks.AreMarks, Types.passed, Verdict.FitsOrHasFault, Verdict.FitsOrHasFaultBy};
+ghost use Rattle.adf_findings.specs.{SoundMarks.AreMarks, Types.passed, Verdict.FitsOrHasFault, Verdict.FitsOrHasFaultBy, Verdict.FitsOrHasFaultOf};
 ghost use Rattle.adf_findings.specs.Survey.{FindingValue, IsSurvey, OnSurvey};
 ghost use Rattle.adf_findings.specs.Sound.{DatasInOrder, FileHolds, HeaderHolds, IsOfItsKind, IsSound};
 
@@ -29,18 +30,20 @@ pub fn one_survey()
         → (w ≡ u) × (fs ≡ gs) }
 {}
 
-/// The first finding of an image is its first fault.
+/// The first finding of an image is its first fault by ASCII letters.
 pub fn first_finding()
     ensures { (image : List ℕ) (w : Walk) (f : FindingValue) (fs : List FindingValue)
         → IsSurvey image w (f ∷ fs)
-        → FirstFault image f.block f.cause }
+        → FirstFaultBy Ascii image f.block f.cause }
 {}
 
-/// An image without findings is a volume, with the tree and the layout of the walk; and a volume has no findings.
+/// An image without findings is a volume of type 0 or 1, of any size, with the tree and the layout of the walk; and such a
+/// volume has no findings.
 pub fn no_finding()
     ensures fits { (image : List ℕ) (w : Walk) → IsSurvey image w []
-        → Fits image (tree_in image w) (layout_in w) }
-    ensures none { (image : List ℕ) (t : Tree) (l : Layout) (w : Walk) (fs : List FindingValue) → Fits image t l
+        → FitsBy Ascii image (tree_in image w) (layout_in w) }
+    ensures none { (image : List ℕ) (t : Tree) (l : Layout) (w : Walk) (fs : List FindingValue)
+        → FitsBy Ascii image t l
         → IsSurvey image w fs → fs ≡ [] }
 {}
 
@@ -56,10 +59,12 @@ pub fn findings_of_types()
         → IsSurvey image w fs → fs ≡ passed types image }
 {}
 
-/// Every image is that of a volume, or has a first fault, where volumes of these types are accepted.
+/// Every image is that of a volume, or has a first fault, where volumes of these types are accepted; so also by their letters alone,
+/// whatever the size.
 pub fn fits_or_fault()
     ensures plain { (image : List ℕ) → FitsOrHasFault image }
-    ensures types { (types : Types) (image : List ℕ) → FitsOrHasFaultBy types image }
+    ensures types { (types : Types) (image : List ℕ) → FitsOrHasFaultOf types image }
+    ensures letters { (types : Types) (image : List ℕ) → FitsOrHasFaultBy types image }
 {}
 
 /// Of each survey it is decided which entries are sound, by all findings and by the grave ones.
@@ -124,15 +129,18 @@ pub fn all_sound()
 /// On a volume, a path leads to the same entry in the survey as in the tree. Where no data block of an FFS volume says that it is
 /// an OFS one, each file of the tree is a sound one with the same bytes; and there are no others.
 pub fn found_as_in_the_tree()
-    ensures paths { (image : List ℕ) (t : Tree) (l : Layout) (w : Walk) (fs : List FindingValue) → Fits image t l
+    ensures paths { (image : List ℕ) (t : Tree) (l : Layout) (w : Walk) (fs : List FindingValue)
+        → FitsBy Ascii image t l
         → IsSurvey image w fs
         → (path : List (List ℕ)) (n : ℕ) → LeadsTo image w 0 path n ↔ (find t.entries path ≡ Some n) }
-    ensures files { (image : List ℕ) (t : Tree) (l : Layout) (w : Walk) (fs : List FindingValue) → Fits image t l
+    ensures files { (image : List ℕ) (t : Tree) (l : Layout) (w : Walk) (fs : List FindingValue)
+        → FitsBy Ascii image t l
         → IsSurvey image w fs → IsOfItsKind image w
         → (n : ℕ) (e : Entry) (bytes : List ℕ) → entry t.entries n ≡ Some e
         → e.body ≡ File bytes
         → IsSoundFile image w fs n × (file_content (file_in image w n) ≡ bytes) }
-    ensures entries { (image : List ℕ) (t : Tree) (l : Layout) (w : Walk) (fs : List FindingValue) → Fits image t l
+    ensures entries { (image : List ℕ) (t : Tree) (l : Layout) (w : Walk) (fs : List FindingValue)
+        → FitsBy Ascii image t l
         → IsSurvey image w fs
         → (n : ℕ) → IsSoundFile image w fs n
         → (e : Entry) × (entry t.entries n ≡ Some e)

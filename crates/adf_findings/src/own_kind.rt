@@ -31,8 +31,8 @@ pub struct Tally {
 impl Tally {
     // A tally with one more block.
     fn with(self, said: Option<bool>) -> Tally
-        requires says { self.says < 1048576 }
-        requires others { self.others < 1048576 }
+        requires says { self.says < 8388608 }
+        requires others { self.others < 8388608 }
         ensures { result ≡ tallied self said }
     {
         match said {

@@ -35,18 +35,16 @@ pub struct Remains {
 
 /// How many bytes of a file its header states, but no more than the image has.
 pub fn size_stated(image: &SizedImage<'_>, head: u32) -> u32
-    ensures size { result ≡ size_stated image.now head }
-    ensures small { result ≤ 2 ^ 29 }
+    ensures { result ≡ size_stated image.now head }
 {
-    image.word(head, SIZE).min(image.len())
+    u64::from(image.word(head, SIZE)).min(image.len()) as u32
 }
 
-/// The number of data blocks of so many bytes, which an image can have.
+/// The number of data blocks of so many bytes.
 #[tactic(auto, unfolding(adf_blocks::specs::Sizes::count, adf_blocks::specs::Sizes::chunk))]
 pub fn count_stated(kind: Kind, size: u32) -> u32
-    requires { size ≤ 2 ^ 29 }
     ensures count { result ≡ count kind size }
-    ensures few { result ≤ 2 ^ 21 }
+    ensures few { result ≤ 2 ^ 24 }
 {
     count_of(kind, size)
 }
@@ -55,7 +53,7 @@ pub fn count_stated(kind: Kind, size: u32) -> u32
 #[tactic(auto, unfolding(adf_blocks::specs::Sizes::chunk))]
 fn data_in<'i>(image: &SizedImage<'i>, b: u32, size: u32, k: u32) -> &'i [u8]
     requires inside { b < blocks image.now }
-    requires few { k < 2 ^ 21 }
+    requires few { k < 2 ^ 24 }
     ensures { result.now ≡ piece (kind_of image.now) size (k + 1) (block image.now b) }
 {
     let kind = image.kind();
@@ -67,9 +65,9 @@ fn data_in<'i>(image: &SizedImage<'i>, b: u32, size: u32, k: u32) -> &'i [u8]
 }
 
 // The bytes of data block `k`, by the first and the last.
-#[tactic(auto, unfolding(adf_blocks::specs::Sizes::chunk))]
+#[tactic(auto, unfolding(adf_blocks::specs::Sizes::chunk, adf_blocks::specs::Sizes::count))]
 fn gap_at(image: &SizedImage<'_>, size: u32, k: u32) -> Gap
-    requires { k < 2 ^ 21 }
+    requires { k < count (kind_of image.now) size }
     ensures { result ≡ gap_at image.now size k }
 {
     let first = chunk_len(image.kind()) as u32 * k;
@@ -127,7 +125,7 @@ impl Remains {
         k: u32,
         found: Option<u32>,
     ) -> Result<(), AllocError>
-        requires few { k < 2 ^ 21 }
+        requires few { k < count (kind_of image.now) size }
         requires inside { IfSome found (λ b. b < blocks image.now) }
         ensures bytes { OnOk result (self.new.bytes.items
             ≡ self.old.bytes.items ++ bytes_in image.now size k found) }
@@ -158,7 +156,7 @@ fn below(end: u32, found: Option<u32>) -> Option<u32>
 impl<'i> Survey<'i> {
     // A block, if it is taken as data block `k`, counted from 0, of an entry, and no other part asks for it.
     fn data_at(&self, image: &SizedImage<'_>, n: Node, k: u32, b: u32) -> Option<u32>
-        requires { k < 2 ^ 21 }
+        requires { k < 2 ^ 24 }
         ensures data { result ≡ data_at image.now self.now n k b }
         ensures inside { IfSome result (λ b. b < blocks image.now) }
     {
@@ -173,7 +171,7 @@ impl<'i> Survey<'i> {
 
     // The block of data block `k`, counted from 0, of a file that is left, where its table names a block as this one.
     fn own_at(&self, image: &SizedImage<'_>, n: Node, k: u32, b: u32) -> Option<u32>
-        requires small { k < 2 ^ 21 }
+        requires small { k < 2 ^ 24 }
         requires named { b ≡ named_from image.now (slice_index self.now.nodes n) k }
         ensures own { result ≡ own_data (kind_of image.now) image.now (slice_index self.now.nodes n) k
             (data_at image.now self.now n k b) }

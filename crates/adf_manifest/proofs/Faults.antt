@@ -6,7 +6,7 @@ use Rattle.adf_tree.specs.{Tree.Tree, Tree.room_for, declared.tree.RoomFault.Roo
 use Rattle.adf_names.specs.declared.kind.Kind.{Kind}
 use Rattle.adf_tree.specs.declared.tree.RoomFault.TheVariants as room
 use Rattle.adf_names.proofs.PathParts.{one_path}
-use Rattle.adf_blocks.specs.Sizes.{is_allowed}
+use Rattle.adf_blocks.specs.Sizes.{is_plain_size}
 use Rattle.adf_manifest.specs.Lines.{IsLine, LineValue, LabelLine, StampsLine, EntryLine, NoteLine, RunLine, line_text, volume_line}
 use Rattle.adf_manifest.specs.{Items.item_lines, declared.manifest.ManifestKind.ManifestKind}
 use Rattle.std.specs.List.{flat_map}
@@ -135,7 +135,7 @@ later_good m n text rest kind w v e f =
     (later_kind i.before text kind (subst (λ (x : Manifest). IsLaterFault x text kind) (sym same) f))
 
 -- a first line of an allowed size has no fault
-first_good : (kind' : Kind) (n' : ℕ) (line : List ℕ) (kind : ManifestKind) → is_allowed n' ≡ true → line ≡ volume_line kind' n'
+first_good : (kind' : Kind) (n' : ℕ) (line : List ℕ) (kind : ManifestKind) → is_plain_size n' ≡ true → line ≡ volume_line kind' n'
     → IsFirstLineFault line kind → ⊥
 first_good kind' n' line BadLine h e f = f (kind', n', small n' h, e)
 first_good kind' n' line BadSize h e f = grind (arith, common_steps, one_volume, small)

@@ -4,7 +4,7 @@ use Rattle.std.proofs.{Common.length-append, Common.codes, lemmas.Bool.Decides.n
 use Rattle.std.proofs.lemmas.List.{append_cancel_left, same_from_push}
 use Rattle.adf_names.specs.{Escapes.IsSpelling, declared.kind.Kind.Kind}
 use Rattle.adf_names.proofs.{Spellings.only_spelled, PathParts.one_path}
-use Rattle.adf_blocks.specs.Sizes.{is_allowed}
+use Rattle.adf_blocks.specs.Sizes.{is_plain_size}
 use Rattle.adf_manifest.specs.Lines.{LineValue, LabelLine, StampsLine, EntryLine, NoteLine, RunLine, line_text, volume_line}
 use Rattle.adf_manifest.specs.{Manifest.Entries, Manifest.IsWell, Manifest.Manifest, Manifest.manifest_lines, Reader.bare, declared.reader.Preamble.Preamble}
 use Rattle.adf_manifest.proofs.{Forms.line_same, LastLines.Adds, LastLines.IsFirst, LastLines.IsNext, LastLines.last_line}
@@ -15,7 +15,7 @@ heads e = cc
 pub rests : {a b : List ℕ} {x y : List (List ℕ)} → a ∷ x ≡ b ∷ y → x ≡ y
 rests e = cc
 
-pub small : (n : ℕ) → is_allowed n ≡ true → n < 2 ^ 32
+pub small : (n : ℕ) → is_plain_size n ≡ true → n < 2 ^ 32
 small n h = grind (arith, nat_tests)
 
 -- a volume line has one kind and one number

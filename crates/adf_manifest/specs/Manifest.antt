@@ -7,7 +7,7 @@ use Rattle.adf_names.specs.{Escapes.IsSpelling, Escapes.escaped, PathTexts.IsPat
 use Rattle.adf_tree.specs.{Additions.IsTreeOf, Bounds.IsBounded, Tree.IsTree, Tree.Tree, Tree.room_for, declared.tree.RoomFault.RoomFault}
 use Rattle.adf_names.specs.declared.meta.TheConstants.{NO_STAMPS}
 use Rattle.adf_tree.specs.declared.tree.RoomFault.TheVariants as room
-use Rattle.adf_blocks.specs.Sizes.{is_allowed}
+use Rattle.adf_blocks.specs.Sizes.{is_plain_size}
 use Rattle.adf_manifest.specs.Lines.{IsLine, IsVolumeLine, LineValue, LabelLine, StampsLine, EntryLine, NoteLine, RunLine, label_line, line_text, stamps_line}
 use Rattle.adf_manifest.specs.{Lines.volume_line, Items.HaveRoom, Items.IsItem, Items.Item, Items.addition_of, Items.item_lines, Items.items_tree}
 use Rattle.adf_manifest.specs.{declared.lines.Sort.TheVariants.File, declared.reader.Preamble.Preamble, declared.manifest.ManifestFault.ManifestFault}
@@ -55,7 +55,7 @@ IsGivenLabel label = (0 < length label) × IsSpelling 30 (escaped label) label
 
 -- the fields of a preamble are within their limits
 pub record IsPreamble (h : Preamble) : Type 0 where
-  pub size : is_allowed h.blocks ≡ true
+  pub size : is_plain_size h.blocks ≡ true
   pub label : IfSome h.label IsGivenLabel
   pub stamps : IfSome h.stamps AreStamps
 
@@ -151,7 +151,7 @@ IsFaultOf tree line _ = ⊥
 -- the fault of a first line
 abbrev pub IsFirstLineFault : List ℕ → ManifestKind → Type 0
 IsFirstLineFault text BadLine = ¬ IsVolumeLine text
-IsFirstLineFault text BadSize = (kind : Kind) × (n : ℕ) × (n < 2 ^ 32) × (text ≡ volume_line kind n) × (is_allowed n ≡ false)
+IsFirstLineFault text BadSize = (kind : Kind) × (n : ℕ) × (n < 2 ^ 32) × (text ≡ volume_line kind n) × (is_plain_size n ≡ false)
 IsFirstLineFault text _ = ⊥
 
 -- a text is a line that is allowed after the lines of a manifest
@@ -243,7 +243,7 @@ ManifestsAreOfOneTree = (bytes : List ℕ) (tree tree' : Tree) (n n' : ℕ) → 
 
 -- the tree of a manifest is a tree whose fields are within their bounds, and its number of blocks is allowed
 abbrev pub ManifestsAreBounded : Type 0
-ManifestsAreBounded = (bytes : List ℕ) (tree : Tree) (n : ℕ) → IsManifest bytes tree n → IsTree tree.entries × IsBounded tree × (is_allowed n ≡ true)
+ManifestsAreBounded = (bytes : List ℕ) (tree : Tree) (n : ℕ) → IsManifest bytes tree n → IsTree tree.entries × IsBounded tree × (is_plain_size n ≡ true)
 
 -- adding the entry lines of a manifest one after another gives its tree
 abbrev pub AddingLinesGivesTheTree : Type 0

@@ -16,7 +16,7 @@ use crate::lines::{EntryText, Line, Run, Sort, line_of};
 use crate::manifest::ManifestKind;
 use crate::tokens::{after, read_number};
 use adf_base::{NoMemory, Stamp};
-use adf_blocks::is_allowed_size;
+use adf_blocks::is_plain_size;
 use adf_drafts::{Draft, Room};
 use adf_tree::{
     Body, Bytes, Comment, Kind, Label, Meta, NO_STAMPS, PathFault, RoomFault, Stamps, Tree,
@@ -90,7 +90,7 @@ fn read_volume(line: &[u8]) -> Result<Preamble, ManifestKind>
     let Some((kind, blocks)) = volume_of(line) else {
         return Err(ManifestKind::BadLine);
     };
-    if !is_allowed_size(blocks) {
+    if !is_plain_size(blocks) {
         return Err(ManifestKind::BadSize);
     }
     Ok(Preamble {

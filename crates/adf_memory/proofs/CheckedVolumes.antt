@@ -3,19 +3,19 @@ use Rattle.std.proofs.Common.{◌≡◌, ◌≤◌, ◌<◌, ℕ, List, Option, 
 use Rattle.adf_base.specs.declared.hash.Letters.{Letters}
 use Rattle.adf_tree.specs.Tree.{Tree}
 use Rattle.adf_blocks.specs.Sizes.{blocks}
-use Rattle.adf_volume.specs.{Counts.counts_of, declared.counts.Counts.Counts, declared.owner.Owner.Owner, Fits.FitsBy, Layout.Layout, Layout.owned, Lists.In}
+use Rattle.adf_volume.specs.{Counts.counts_of, declared.counts.Counts.Counts, declared.owner.Owner.Owner, declared.types.Types.Types, Fits.FitsBy, Fits.FitsOf, Layout.Layout, Layout.owned, Lists.In}
 use Rattle.adf_walk.specs.OwnerClass.{class_number, class_of}
 use Rattle.adf_walk.specs.declared.owner_class.OwnerClass.{OwnerClass, TheVariants.Free, TheVariants.Boot}
 use Rattle.adf_check.specs.Volumes.{OnVolume}
-use Rattle.adf_memory.specs.{CheckCalls.IsCheckedBy, OwnerNumbers.IsOwnerNumber, Verdicts.WantsMemory}
+use Rattle.adf_memory.specs.{CheckCalls.IsCheckedOf, OwnerNumbers.IsOwnerNumber, Verdicts.WantsMemory}
 
 -- a check that accepts its image answers 0
-pub acceptance_told : {ls : Letters} (v image : List ℕ) (b : ℕ) → v ≡ image → (t : Tree) × (l : Layout) × FitsBy ls v t l → IsCheckedBy ls image b 0
-acceptance_told {ls} v image b is (t, l, fits) =
+pub acceptance_told : {types : Types} (v image : List ℕ) (b : ℕ) → v ≡ image → (t : Tree) × (l : Layout) × FitsOf types v t l → IsCheckedOf types image b 0
+acceptance_told {types} v image b is (t, l, fits) =
     let nothing : (X : Type 0) → WantsMemory 0 → X = λ X e. absurd (omega (arith, e)) in
     record {
       number = inl refl;
-      fits = λ zero. (t, l, subst (λ (i : List ℕ). FitsBy ls i t l) is fits);
+      fits = λ zero. (t, l, subst (λ (i : List ℕ). FitsOf types i t l) is fits);
       first = λ some. absurd (some refl);
       none = λ some. absurd (some refl);
       memory = nothing _;

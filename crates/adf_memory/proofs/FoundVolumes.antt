@@ -18,7 +18,7 @@ use Rattle.adf_names.specs.declared.kind.Kind.{Kind}
 use Rattle.adf_rescue.proofs.FitBlocks.{fit_room}
 use Rattle.adf_tree.specs.declared.entry.Body.{Body, TheVariants.Dir, TheVariants.File}
 use Rattle.adf_tree.specs.{declared.entry.Entry.Entry, Tree.Tree}
-use Rattle.adf_volume.specs.{Fits.BodyFits, Fits.Fits, Fits.FitsBy, Image.kind_of, Image.word_in, LayoutRoles.LayoutHas, LayoutRoles.owner_of, Lists.At}
+use Rattle.adf_volume.specs.{Fits.BodyFits, Fits.FitsBy, Image.kind_of, Image.word_in, LayoutRoles.LayoutHas, LayoutRoles.owner_of, Lists.At}
 use Rattle.adf_volume.specs.Layout.{EntryAt, Layout, at_node, datas_of, head_at}
 use Rattle.adf_volume.specs.Walk.{Role, Has, HeadAt, Walk, Role.Data, Role.Head}
 use Rattle.adf_volume.proofs.{Chains.place_at, FitWalks.one_fit, WalkAgreement.agreement, WalkCompleteness.part_walked}
@@ -52,17 +52,17 @@ none_missing image (d ∷ ds) zero inside = sym (cond_below d (blocks image) 0 (
 none_missing image (d ∷ ds) (suc j) inside = none_missing image ds j (λ i b at. inside (suc i) b at)
 
 module _ (image : List ℕ) (w : Walk) (fs : List FindingValue) (survey : IsSurvey image w fs) where
-  clean : (t : Tree) (l : Layout) → Fits image t l → IsSurvey image w []
+  clean : (t : Tree) (l : Layout) → FitsBy Ascii image t l → IsSurvey image w []
   clean t l fit = subst (IsSurvey image w) (finds_none image t l w fs fit survey) survey
 
   -- the walk has the parts of the layout, and no others
-  has_part : (t : Tree) (l : Layout) → Fits image t l → (r : Role) (b : ℕ) → LayoutHas image t l r b → Has w r b
+  has_part : (t : Tree) (l : Layout) → FitsBy Ascii image t l → (r : Role) (b : ℕ) → LayoutHas image t l r b → Has w r b
   has_part t l fit r b h = let s = shown image (clean t l fit) in part_walked image t l fit w s.1 s.2 r b h
 
-  is_part : (t : Tree) (l : Layout) → Fits image t l → (r : Role) (b : ℕ) → Has w r b → LayoutHas image t l r b
+  is_part : (t : Tree) (l : Layout) → FitsBy Ascii image t l → (r : Role) (b : ℕ) → Has w r b → LayoutHas image t l r b
   is_part t l fit r b h = agreement image t l fit w r b (shown image (clean t l fit)).1 h
 
-  module _ (t : Tree) (l : Layout) (fit : Fits image t l) (i : ℕ) (e : Entry) (bytes : List ℕ)
+  module _ (t : Tree) (l : Layout) (fit : FitsBy Ascii image t l) (i : ℕ) (e : Entry) (bytes : List ℕ)
       (at : At t.entries i e) (body : e.body ≡ File bytes) where
     abbrev n : ℕ
     n = suc i
@@ -162,29 +162,29 @@ module _ (image : List ℕ) (w : Walk) (fs : List FindingValue) (survey : IsSurv
         ∙ none_behind (kind_of image) (file_size image head) from
 
   -- the same of an entry by its node
-  pub blocks_as_laid : (t : Tree) (l : Layout) → Fits image t l → (n : ℕ) (e : Entry) (bytes : List ℕ) → EntryAt t n e → e.body ≡ File bytes
+  pub blocks_as_laid : (t : Tree) (l : Layout) → FitsBy Ascii image t l → (n : ℕ) (e : Entry) (bytes : List ℕ) → EntryAt t n e → e.body ≡ File bytes
       → found_blocks image w fs n (at_node image l n) ≡ datas_of l n
   blocks_as_laid t l fit zero e bytes at body = absurd at
   blocks_as_laid t l fit (suc i) e bytes at body = blocks_found t l fit i e bytes at body
 
-  pub bytes_as_laid : (t : Tree) (l : Layout) → Fits image t l → (n : ℕ) (e : Entry) (bytes : List ℕ) → EntryAt t n e → e.body ≡ File bytes
+  pub bytes_as_laid : (t : Tree) (l : Layout) → FitsBy Ascii image t l → (n : ℕ) (e : Entry) (bytes : List ℕ) → EntryAt t n e → e.body ≡ File bytes
       → (from : ℕ) → found_from image (at_node image l n) (found_blocks image w fs n (at_node image l n)) from ≡ drop from (bytes_at t n)
   bytes_as_laid t l fit zero e bytes at body from = absurd at
   bytes_as_laid t l fit (suc i) e bytes at body from = bytes_found t l fit i e bytes at body from
 
-  pub none_lost_of : (t : Tree) (l : Layout) → Fits image t l → (n : ℕ) (e : Entry) (bytes : List ℕ) → EntryAt t n e → e.body ≡ File bytes
+  pub none_lost_of : (t : Tree) (l : Layout) → FitsBy Ascii image t l → (n : ℕ) (e : Entry) (bytes : List ℕ) → EntryAt t n e → e.body ≡ File bytes
       → (from : ℕ) → lost_from image (at_node image l n) (found_blocks image w fs n (at_node image l n)) from ≡ 0
   none_lost_of t l fit zero e bytes at body from = absurd at
   none_lost_of t l fit (suc i) e bytes at body from = none_lost t l fit i e bytes at body from
 
   -- what fits by other letters fits by these
-  as_plain : (t : Tree) (l : Layout) → Fits image t l → (letters : Letters) (u : Tree) (m : Layout) → FitsBy letters image u m → Fits image u m
+  as_plain : (t : Tree) (l : Layout) → FitsBy Ascii image t l → (letters : Letters) (u : Tree) (m : Layout) → FitsBy letters image u m → FitsBy Ascii image u m
   as_plain t l fit letters u m other =
       let same = one_fit image t u l m fit other in
-      subst (λ (x : Tree). Fits image x m) same.0 (subst (λ (n : Layout). Fits image t n) same.1 fit)
+      subst (λ (x : Tree). FitsBy Ascii image x m) same.0 (subst (λ (n : Layout). FitsBy Ascii image t n) same.1 fit)
 
   -- the role of a block is the number of its owner
-  pub role_found : (t : Tree) (l : Layout) → Fits image t l → (b r : ℕ) → IsFoundRole w b r → IsOwnerNumber image b r
+  pub role_found : (t : Tree) (l : Layout) → FitsBy Ascii image t l → (b r : ℕ) → IsFoundRole w b r → IsOwnerNumber image b r
   role_found t l fit b r (c, is, number) = record {
     part = (λ letters u m o other h.
         let plain = as_plain t l fit letters u m other in

@@ -5,6 +5,7 @@ use Rattle.std.proofs.{lemmas.Bool.Decides.nat_tests, lemmas.List.take_all}
 use Rattle.adf_base.specs.declared.hash.Letters.{Letters}
 use Rattle.adf_blocks.specs.Sizes.{is_allowed}
 use Rattle.adf_tree.specs.Tree.{Tree}
+use Rattle.adf_volume.specs.declared.types.Types.TheVariants.{WithInternational}
 use Rattle.adf_build.specs.{Building.IsBuildFault, declared.builder.BuildFault.BuildFault}
 use Rattle.adf_build.specs.declared.builder.BuildFault.TheVariants as build
 use Rattle.adf_memory.specs.{Rooms.filled, TableAdditions.AreSoundBefore, TableAdditions.IsNotAdded, TableAdditions.fault_of}
@@ -28,7 +29,7 @@ table_refusal letters bytes xs i (Fault why) lt sound is =
 table_refusal letters bytes xs i NoMemory lt sound is = tt
 
 pub build_refusal : (v : NewVolume) (bytes : List ℕ) (xs : List TableAddition) (room : ℕ) (t : Tree) (f : BuildFault) → t ≡ tree_of v bytes xs
-    → IsSoundVolume v bytes xs → IsBuildFault t v.blocks f → ExplainsBuild v bytes xs room (refusal_by f)
+    → IsSoundVolume v bytes xs → IsBuildFault WithInternational t v.blocks f → ExplainsBuild v bytes xs room (refusal_by f)
 build_refusal v bytes xs room t build.BadSize at sound is = ((sound.kind, sound.label), is)
 build_refusal v bytes xs room t (build.Full need have) at sound is = (sound, rw at at is.1, is.2, is.3)
 build_refusal v bytes xs room t build.NoMemory at sound is = (sound.kind, sound.label)

@@ -1,12 +1,11 @@
 -- What a number tells of a check.
--- Letters: ls the letters of names; b a block; n the number.
+-- Letters: b a block; n the number.
 use Rattle.std.proofs.Common.{◌≡◌, ◌≢◌, ℕ, List, ◌∙◌, ap, arith, sym, inr}
 use Rattle.std.proofs.lemmas.Grind.{common_steps}
-use Rattle.adf_base.specs.declared.hash.Letters.{Letters}
 use Rattle.adf_blocks.specs.{Causes.cause_number, declared.cause.Cause.Cause, declared.cause.Cause.TheVariants.NoMemory}
 use Rattle.adf_tree.specs.Tree.{Tree}
-use Rattle.adf_volume.specs.{Fits.FitsBy, Layout.Layout, Start.IsBegunBy, Walk.FirstFaultBy}
-use Rattle.adf_memory.specs.{CheckCalls.IsCheckedBy, Verdicts.WantsMemory}
+use Rattle.adf_volume.specs.{Fits.FitsOf, Layout.Layout, Start.IsBegunOf, Walk.FirstFaultOf, declared.types.Types.Types}
+use Rattle.adf_memory.specs.{CheckCalls.IsCheckedOf, Verdicts.WantsMemory}
 
 -- no cause has the number 0
 pub some_number : (cause : Cause) → cause_number cause ≡ 0 → ⊥
@@ -17,10 +16,10 @@ pub same_cause : (c d : Cause) → cause_number c ≡ cause_number d → c ≡ d
 same_cause c d is = grind (arith, common_steps)
 
 -- a check that refuses an image at a block answers the number of the cause
-pub refusal_told : {ls : Letters} (image : List ℕ) (cause : Cause) (b n : ℕ) → n ≡ cause_number cause
-    → (cause ≢ NoMemory → FirstFaultBy ls image b cause) → (cause ≢ NoMemory → (t : Tree) (l : Layout) → FitsBy ls image t l → ⊥)
-    → (cause ≡ NoMemory → b ≡ 0) → (cause ≡ NoMemory → IsBegunBy ls image) → IsCheckedBy ls image b n
-refusal_told {ls} image cause b n is fault nothing zero start =
+pub refusal_told : {types : Types} (image : List ℕ) (cause : Cause) (b n : ℕ) → n ≡ cause_number cause
+    → (cause ≢ NoMemory → FirstFaultOf types image b cause) → (cause ≢ NoMemory → (t : Tree) (l : Layout) → FitsOf types image t l → ⊥)
+    → (cause ≡ NoMemory → b ≡ 0) → (cause ≡ NoMemory → IsBegunOf types image) → IsCheckedOf types image b n
+refusal_told {types} image cause b n is fault nothing zero start =
     let wants : WantsMemory n → cause ≡ NoMemory = λ e. same_cause cause NoMemory (sym is ∙ e) in
     let other : ¬ WantsMemory n → cause ≢ NoMemory = λ no e. no (is ∙ ap cause_number e) in
     record {

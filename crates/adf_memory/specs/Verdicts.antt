@@ -3,7 +3,7 @@ use Rattle.std.specs.Prelude.{◌≡◌, ◌⊎◌, ℕ, List}
 use Rattle.adf_base.specs.declared.hash.Letters.{Letters}
 use Rattle.adf_names.specs.VolumeTypes.{type_number}
 use Rattle.adf_blocks.specs.{Causes.cause_number, declared.cause.Cause.Cause, declared.cause.Cause.TheVariants.NoMemory}
-use Rattle.adf_volume.specs.{Walk.FirstFaultBy, declared.counts.Counts.Counts}
+use Rattle.adf_volume.specs.{Walk.FirstFaultOf, declared.counts.Counts.Counts, declared.types.Types.Types}
 use Rattle.adf_memory.specs.declared.verdict.Verdict.{Verdict}
 
 -- an accepted image with these letters: its numbers, and no block of a fault
@@ -34,6 +34,6 @@ WantsMemory n = n ≡ cause_number NoMemory
 abbrev pub OnFault : ℕ → Type 0 → Type 0
 OnFault n holds = ¬ (n ≡ 0) → ¬ WantsMemory n → holds
 
--- n is the number of the cause of the first fault of the image as a volume with these letters, which stands at block b
-abbrev pub IsFirstCauseBy : Letters → List ℕ → ℕ → ℕ → Type 0
-IsFirstCauseBy letters image b n = (c : Cause) × (cause_number c ≡ n) × FirstFaultBy letters image b c
+-- n is the number of the cause of the first fault of the image as a volume of these types, which stands at block b
+abbrev pub IsFirstCauseOf : Types → List ℕ → ℕ → ℕ → Type 0
+IsFirstCauseOf types image b n = (c : Cause) × (cause_number c ≡ n) × FirstFaultOf types image b c

@@ -14,10 +14,11 @@ use crate::table_additions::{AdditionFault, NotAdded, TableAddition, add_next, s
 use crate::tables::Date;
 use adf_base::BLOCK_LEN;
 use adf_blocks::{MOST_BLOCKS, is_allowed_size};
-use adf_build::{BuildFault, build_into, fewest_blocks, need};
+use adf_build::{BuildFault, build_into, fewest_blocks, need_types};
 use adf_drafts::Draft;
 use adf_names::letters_of_type;
 use adf_tree::{Kind, Label, Stamps, Tree};
+use adf_volume::Types;
 use std::alloc::Global;
 
 /// A volume that is to be built.
@@ -258,7 +259,7 @@ fn fewest_of(tree: &Tree) -> Result<u32, Refusal>
     if let Some(blocks) = fewest_blocks(tree) {
         return Ok(blocks);
     }
-    let need = need(tree, MOST_BLOCKS).unwrap();
+    let need = need_types(Types::WithInternational, tree, MOST_BLOCKS).unwrap();
     Err(Refusal::Full(need, u64::from(MOST_BLOCKS - 2)))
 }
 

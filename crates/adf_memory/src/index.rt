@@ -4,7 +4,7 @@ ghost use Rattle.std.specs.Prelude.{◌≡◌, ◌<◌, ◌+◌};
 ghost use Rattle.adf_base.specs.declared.hash.Letters.{Letters};
 ghost use Rattle.adf_names.specs.VolumeTypes.{letters_of_type};
 ghost use Rattle.adf_tree.specs.Tree.{Tree};
-ghost use Rattle.adf_volume.specs.{Fits.FitsBy, Layout.Layout, Types.letters_for};
+ghost use Rattle.adf_volume.specs.{Fits.FitsBy, Layout.Layout};
 ghost use Rattle.adf_check.specs.Volumes.{OnVolume};
 ghost use Rattle.adf_memory.specs.{Rooms.filled, CheckCalls.FillsTables};
 ghost use Rattle.adf_memory.specs.Tables.{block_table, contents_of, entry_table};
@@ -46,7 +46,7 @@ pub fn put_index(
     blocks: &mut [u32],
     contents: &mut Contents,
 ) -> u8
-    ensures { FillsTables (letters_for types image.now) image.now entries.old entries.new blocks.old blocks.new
+    ensures { FillsTables types image.now entries.old entries.new blocks.old blocks.new
         contents.new result }
 {
     match check_types(alloc, types, image) {

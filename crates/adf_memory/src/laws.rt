@@ -1,8 +1,9 @@
 // The laws of the files that a survey finds. Each is the contract of a function that does nothing.
 
 ghost use Rattle.std.specs.Prelude.{◌≡◌, ◌≤◌, ◌+◌, ℕ, List, [], drop};
+ghost use Rattle.adf_base.specs.declared.hash.Letters.TheVariants.{Ascii};
 ghost use Rattle.adf_tree.specs.{declared.entry.Body.TheVariants.File, declared.entry.Entry.Entry, Tree.Tree};
-ghost use Rattle.adf_volume.specs.{Fits.Fits, Lists.In, Walk.FileAt, Walk.Walk};
+ghost use Rattle.adf_volume.specs.{Fits.FitsBy, Lists.In, Walk.FileAt, Walk.Walk};
 ghost use Rattle.adf_volume.specs.Layout.{EntryAt, Layout, at_node, datas_of};
 ghost use Rattle.adf_findings.specs.{declared.remains.Gap.Gap, Survey.FindingValue, Survey.IsSurvey};
 ghost use Rattle.adf_memory.specs.FoundFiles.{found_blocks, found_from, lost_from};
@@ -29,18 +30,18 @@ pub fn found_files_are_what_is_left()
 /// survey is the number of its owner.
 pub fn found_files_are_those_of_the_tree()
     ensures blocks { (image : List ℕ) (t : Tree) (l : Layout) (w : Walk) (fs : List FindingValue)
-        (n : ℕ) (e : Entry) (bytes : List ℕ) → Fits image t l → IsSurvey image w fs
+        (n : ℕ) (e : Entry) (bytes : List ℕ) → FitsBy Ascii image t l → IsSurvey image w fs
         → EntryAt t n e → e.body ≡ File bytes
         → found_blocks image w fs n (at_node image l n) ≡ datas_of l n }
     ensures bytes { (image : List ℕ) (t : Tree) (l : Layout) (w : Walk) (fs : List FindingValue)
-        (n at : ℕ) (e : Entry) (bytes : List ℕ) → Fits image t l → IsSurvey image w fs
+        (n at : ℕ) (e : Entry) (bytes : List ℕ) → FitsBy Ascii image t l → IsSurvey image w fs
         → EntryAt t n e → e.body ≡ File bytes
         → found_from image (at_node image l n) (found_blocks image w fs n (at_node image l n)) at
         ≡ drop at (bytes_at t n) }
     ensures none_lost { (image : List ℕ) (t : Tree) (l : Layout) (w : Walk) (fs : List FindingValue)
-        (n at : ℕ) (e : Entry) (bytes : List ℕ) → Fits image t l → IsSurvey image w fs
+        (n at : ℕ) (e : Entry) (bytes : List ℕ) → FitsBy Ascii image t l → IsSurvey image w fs
         → EntryAt t n e → e.body ≡ File bytes
         → lost_from image (at_node image l n) (found_blocks image w fs n (at_node image l n)) at ≡ 0 }
     ensures roles { (image : List ℕ) (t : Tree) (l : Layout) (w : Walk) (fs : List FindingValue)
-        (b r : ℕ) → Fits image t l → IsSurvey image w fs → IsFoundRole w b r → IsOwnerNumber image b r }
+        (b r : ℕ) → FitsBy Ascii image t l → IsSurvey image w fs → IsFoundRole w b r → IsOwnerNumber image b r }
 {}

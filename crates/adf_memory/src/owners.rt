@@ -2,7 +2,6 @@
 
 ghost use Rattle.std.specs.Prelude.{◌≡◌, ◌≤◌, ◌<◌, ℕ, length, slice_index};
 ghost use Rattle.adf_blocks.specs.Sizes.{blocks};
-ghost use Rattle.adf_volume.specs.{Types.letters_for};
 ghost use Rattle.adf_memory.specs.{OwnerNumbers.IsOwnerNumber, CheckCalls.TellsOwners};
 
 use adf_check::{Checked, check_types};
@@ -37,7 +36,7 @@ fn put_roles(volume: &Checked<'_>, roles: &mut [u8])
 /// block, as far as `roles` has room. Returns 0 if the image is accepted, otherwise the number of a cause: that of the first
 /// fault, or `NoMemory` if memory ran out.
 pub fn owners_of(alloc: Global, types: Types, image: &[u8], roles: &mut [u8]) -> u8
-    ensures { TellsOwners (letters_for types image.now) image.now roles.old roles.new result }
+    ensures { TellsOwners types image.now roles.old roles.new result }
 {
     match check_types(alloc, types, image) {
         Ok(volume) => {

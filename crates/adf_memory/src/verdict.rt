@@ -2,7 +2,6 @@
 
 ghost use Rattle.std.specs.Prelude.{◌≡◌};
 ghost use Rattle.adf_memory.specs.{Verdicts.accepted_by, Verdicts.refused, CheckCalls.ChecksImage};
-ghost use Rattle.adf_volume.specs.Types.{letters_for};
 
 use adf_base::Letters;
 use adf_check::{Counts, check_types};
@@ -62,7 +61,7 @@ fn refused(block: u32) -> Verdict
 /// Checks an image as a volume of these types, by its letters, and fills in the verdict. Returns 0 if the image is accepted,
 /// otherwise the number of a cause: that of the first fault, or `NoMemory` if memory ran out.
 pub fn check_image(alloc: Global, types: Types, image: &[u8], verdict: &mut Verdict) -> u8
-    ensures { ChecksImage (letters_for types image.now) image.now verdict.new result }
+    ensures { ChecksImage types image.now verdict.new result }
 {
     match check_types(alloc, types, image) {
         Ok(volume) => {

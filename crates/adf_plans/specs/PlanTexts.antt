@@ -16,7 +16,7 @@ abbrev pub text_kind_text : TextKind → List ℕ
 text_kind_text BadLine = codes "bad line"
 text_kind_text NoEnd = codes "no end"
 text_kind_text TooLarge = codes "too large, or without sectors or heads"
-text_kind_text BadVolume = codes "a new volume has an even number of blocks, 4 to 1048576"
+text_kind_text BadVolume = codes "a new volume has an even number of blocks, 4 to 8388608"
 text_kind_text LongName = codes "the name of a new volume has 30 bytes at most"
 text_kind_text NoMemory = codes "no memory"
 

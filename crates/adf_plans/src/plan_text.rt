@@ -44,7 +44,7 @@ impl TextKind {
             TextKind::NoEnd => "no end",
             TextKind::TooLarge => "too large, or without sectors or heads",
             TextKind::NoMemory => "no memory",
-            TextKind::BadVolume => "a new volume has an even number of blocks, 4 to 1048576",
+            TextKind::BadVolume => "a new volume has an even number of blocks, 4 to 8388608",
             TextKind::LongName => "the name of a new volume has 30 bytes at most",
         }
     }

@@ -34,7 +34,7 @@ pub record IsRootWithin (image : List ℕ) : Type 0 where
   pub low : 2 ≤ root_of image
   pub within : root_of image < blocks image
   pub whole : root_of image * 512 + 512 ≤ length image
-  pub small : root_of image < 2 ^ 20
+  pub small : root_of image < 2 ^ 23
 
 pub root_within : (image : List ℕ) → is_image_len (length image) ≡ true → IsRootWithin image
 root_within image h = grind (arith, common_steps, sized)

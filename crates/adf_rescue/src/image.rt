@@ -27,7 +27,7 @@ pub fn root_of(image: &[u8]) -> u32
     ensures exact { result ≡ root_of image.now }
     ensures within { result < blocks image.now }
     ensures whole { result * 512 + 512 ≤ length image.now }
-    ensures small { result < 2 ^ 20 }
+    ensures small { result < 2 ^ 23 }
 {
     (image.len() / BLOCK_LEN / 2) as u32
 }
@@ -37,7 +37,7 @@ pub fn root_of(image: &[u8]) -> u32
 pub fn block_count(image: &[u8]) -> u32
     requires { is_image_len (length image.now) ≡ true }
     ensures exact { result ≡ blocks image.now }
-    ensures small { result ≤ 2 ^ 20 }
+    ensures small { result ≤ 2 ^ 23 }
 {
     (image.len() / BLOCK_LEN) as u32
 }

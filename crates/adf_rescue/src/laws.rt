@@ -6,7 +6,7 @@ ghost use Rattle.std.specs.List.{All};
 ghost use Rattle.adf_base.specs.{Words.block, declared.hash.Letters.Letters};
 ghost use Rattle.adf_tree.specs.{Additions.Addition, Additions.IsTreeOfBy, declared.entry.Body.TheVariants.File, Tree.Tree};
 ghost use Rattle.adf_blocks.specs.{HeadBlock.meta_stated, Sizes.blocks, Sizes.is_allowed};
-ghost use Rattle.adf_volume.specs.{Fits.Fits, Fits.FitsBy, Layout.Layout, Made.datas_in, Lists.At};
+ghost use Rattle.adf_volume.specs.{Fits.FitsBy, Layout.Layout, Made.datas_in, Lists.At};
 ghost use Rattle.adf_volume.specs.{Types.letters_for, declared.types.Types.Types, Walk.FileAt, Walk.node_block, Walk.Walk};
 ghost use Rattle.adf_findings.specs.Files.{HasItsBlocks, IsSoundFile, file_content, file_in, grave};
 ghost use Rattle.adf_findings.specs.{Members.owning_entry, Members.parent_node, Sound.FileHolds, Sound.IsOfItsKind};
@@ -76,7 +76,7 @@ pub fn whole_is_kept()
         → IsOfItsKind image w → AreMarks image w (grave fs) sound
         → rescue_leaves_by (letters_for types image) (as_accepted held) (record { image = image; walk = w; sound = sound }) ≡ [] }
     ensures lost { (image : List ℕ) (t : Tree) (l : Layout) (w : Walk) (fs : List FindingValue)
-        → Fits image t l → IsSurvey image w fs → (made : Bool) → has_lost made image w fs ≡ false }
+        → FitsBy Ascii image t l → IsSurvey image w fs → (made : Bool) → has_lost made image w fs ≡ false }
 {}
 
 /// A whole file is there: each data block, by its size, is in the walk, at the block in the file's table, and in the image; and

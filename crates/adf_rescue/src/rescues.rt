@@ -19,7 +19,7 @@ use crate::outranked::outranked;
 use crate::salvage::Salvage;
 use crate::standing::Input;
 use adf_base::NoMemory;
-use adf_build::{build, free_blocks};
+use adf_build::{build_types, free_blocks};
 use adf_drafts::Draft;
 use adf_findings::{Survey, some_survey};
 use adf_tree::Node;
@@ -190,7 +190,7 @@ pub fn lay(alloc: Global, draft: Draft, blocks: u32) -> Result<Vec<u8>, NoMemory
     ensures size { IfOk result (λ image. blocks_in image.items ≡ blocks) }
 {
     let tree = draft.finish(alloc)?;
-    match build(alloc, &tree, blocks) {
+    match build_types(alloc, Types::WithInternational, &tree, blocks) {
         Ok(image) => Ok(image),
         Err(_) => Err(NoMemory),
     }

@@ -11,7 +11,7 @@ use crate::losses::{BlockRun, Loss, rescue_losses};
 use crate::subject::Subject;
 use adf_base::NoMemory;
 use adf_blocks::Cause;
-use adf_check::check_types;
+use adf_check::check_by;
 use adf_drafts::Draft;
 use adf_findings::{Survey, some_survey, survey};
 use adf_rescue::{
@@ -103,7 +103,7 @@ impl Begun {
 fn fault_in(alloc: Global, types: Types, image: &[u8]) -> Result<Option<Fault>, AllocError>
     ensures { IfOk result (IsFault types image.now) }
 {
-    match check_types(alloc, types, image) {
+    match check_by(alloc, types.letters_for(image), image) {
         Ok(_) => Ok(None),
         Err(fault) => match fault.cause {
             Cause::NoMemory => Err(AllocError),

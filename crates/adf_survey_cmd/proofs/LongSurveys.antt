@@ -6,7 +6,10 @@ use Rattle.std.proofs.Common.{subst, sym, ◌==◌, ◌&&◌, cond, length, repl
 use Rattle.std.proofs.lemmas.Bool.{and_left, cond-false, false_from_ne_true}
 use Rattle.std.proofs.{Math.Nat.min-eq_left, lemmas.List.take-take, lemmas.Grind.common_steps}
 use Rattle.adf_blocks.specs.{declared.layout.TheConstants.MOST_BLOCKS, declared.cause.Cause.TheVariants.BadSize}
-use Rattle.adf_volume.specs.{Types.letters_for, declared.types.Types.Types, Walk.Walk, Start.is_image_len}
+use Rattle.adf_base.specs.declared.hash.Letters.{Letters}
+use Rattle.adf_volume.specs.{Demands.IsSize, Types.letters_for, declared.fault.Fault.Fault, declared.types.Types.Types, Start.is_image_len}
+use Rattle.adf_volume.specs.Walk.{FirstFaultBy, Walk, FirstFaultBy.at_boot}
+use Rattle.adf_volume.proofs.{OneFault.one_fault, Sizes.size_high}
 use Rattle.adf_findings.specs.{Files.grave, Lookup.LeadsTo, SoundMarks.AreMarks, OwnKind.is_mistyped}
 use Rattle.adf_findings.specs.Survey.{FindingValue, IsSurvey, finding, IsSurvey.unread, UnreadTells.bad_boot}
 use Rattle.adf_findings.proofs.{OneSurvey.one_survey, OwnKinds.none_mistyped}
@@ -15,7 +18,6 @@ use Rattle.adf_rescue.specs.{Hung.hung, Hung.second_image, Lost.has_lost, Lost.i
 use Rattle.adf_rescue.specs.Opened.{lacks_boot, lacks_root, opened}
 use Rattle.adf_rescue.proofs.{OpenedImages.length_opened, PassedFindings.unread_fault, PrunedKeeps.length_read}
 use Rattle.adf_rescue.proofs.MadeRoots.{sized as sized_len}
-use Rattle.adf_cmd.proofs.LongInputs.{long_fault, too_large}
 use Rattle.adf_survey_cmd.specs.Answers.{CopiesFound, CopiesFromSurvey, ListsSurvey, QuestionAnswer, SurveyAnswer, Surveys, TellsFound, told_status, types_kept}
 use Rattle.adf_survey_cmd.specs.Deletions.{TellsBy, TellsRead, TellsRefused, TellsSecond}
 use Rattle.adf_survey_cmd.specs.Hints.{disk_hint}
@@ -27,6 +29,21 @@ use Rattle.adf_survey_cmd.specs.CommandLine.{InquiryValue, QuestionValue, cat, d
 use Rattle.adf_subjects.specs.Rescues.{IsNoVolume, RescueValue, Rescues, RescuesBoth, RescuesFound}
 use Rattle.adf_survey_cmd.proofs.HintedAnswers.{same_disk}
 use Rattle.adf_subjects.proofs.{RescueAnswers.none_fits_it, ReadLengths.few_read, ReadLengths.same_read, ReadLengths.same_stated}
+
+-- a size above that of the largest volume is none
+too_large : (image : List ℕ) → 512 * MOST_BLOCKS < length image → IsSize image → ⊥
+too_large image h size = grind (arith, common_steps, size_high)
+
+size_fault : (letters : Letters) (image : List ℕ) → 512 * MOST_BLOCKS < length image → FirstFaultBy letters image 0 BadSize
+size_fault letters image h = at_boot (inl (too_large image h, refl, refl))
+
+-- the first fault of the front of a long image is that of the whole, whatever the letters of either
+long_fault : (letters others : Letters) (image bytes : List ℕ) (f : Fault) → 512 * MOST_BLOCKS < length image
+    → 512 * MOST_BLOCKS < length bytes → FirstFaultBy letters image f.block f.cause → FirstFaultBy others bytes f.block f.cause
+long_fault letters others image bytes f front long first =
+    let same = one_fault image f.block f.cause 0 BadSize first (size_fault letters image front) in
+    subst (λ b. FirstFaultBy others bytes b f.cause) (sym same.0)
+    (subst (λ c. FirstFaultBy others bytes 0 c) (sym same.1) (size_fault others bytes long))
 
 -- an input of a bad size has this finding
 bad_size : List FindingValue

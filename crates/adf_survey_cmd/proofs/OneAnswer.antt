@@ -12,7 +12,8 @@ use Rattle.adf_rescue.specs.Opened.{lacks_root}
 use Rattle.adf_rescue.proofs.RescueLaws.{one_basis}
 use Rattle.adf_texts.specs.Lines.{fault_line}
 use Rattle.adf_runs.specs.Commands.{Reply, on_errors, on_output}
-use Rattle.adf_cmd.proofs.OneAnswer.{one_check, one_dates}
+use Rattle.adf_volume.proofs.OneFault.{one_fault}
+use Rattle.adf_cmd.proofs.OneAnswer.{one_dates}
 use Rattle.adf_survey_cmd.specs.Answers.{CopiesEntry, CopiesFound, CopiesFromSurvey, IsWholeFile, ListsSurvey, QuestionAnswer, SurveyAnswer}
 use Rattle.adf_survey_cmd.specs.Answers.{Surveys, TellsFound, told_status, types_kept}
 use Rattle.adf_survey_cmd.specs.{Hints.hinted, FoundLines.listing_text}
@@ -97,8 +98,7 @@ typed_once s answers once a b (t, is, x) (u, also, y) =
 one_fault_line : (types : Types) (input : List ℕ) (f g : Fault) → FirstFaultBy (letters_for types input) input f.block f.cause
     → FirstFaultBy (letters_for types input) input g.block g.cause → fault_line f ≡ fault_line g
 one_fault_line types input f g first fault =
-    ap (λ (r : Reply). r.output)
-    (one_check types input (on_output 1 (fault_line f)) (on_output 1 (fault_line g)) (inr (f, first, refl)) (inr (g, fault, refl)))
+    let same = one_fault input f.block f.cause g.block g.cause first fault in λ i. fault_line (record { block = same.0 i; cause = same.1 i })
 
 -- what a rescue gives has one reply
 

@@ -281,8 +281,8 @@ pub fn survey_words_as_documented()
     ensures blocks_rescue { AsksSurveyOf
         (codes "adf-survey" ∷ codes "--blocks" ∷ codes "1760" ∷ codes "rescue" ∷ [])
         (asked (Some 1760) (rescue false)) None }
-    ensures most_blocks { AsksSurveyOf (codes "adf-survey" ∷ codes "--blocks" ∷ codes "1048576" ∷ [])
-        (asked (Some 1048576) (report false)) None }
+    ensures most_blocks { AsksSurveyOf (codes "adf-survey" ∷ codes "--blocks" ∷ codes "8388608" ∷ [])
+        (asked (Some 8388608) (report false)) None }
     ensures file { AsksSurveyOf (codes "adf-survey" ∷ codes "a.adf" ∷ [])
         (asked None (report false)) (Some (codes "a.adf")) }
     ensures input { AsksSurveyOf (codes "adf-survey" ∷ codes "-" ∷ []) (asked None (report false)) None }
@@ -350,7 +350,7 @@ pub fn survey_words_as_documented()
     ensures list_deleted { AreRefusedBySurvey
         (codes "adf-survey" ∷ codes "--list" ∷ codes "deleted" ∷ []) }
     ensures too_many { AreRefusedBySurvey
-        (codes "adf-survey" ∷ codes "--blocks" ∷ codes "1048577" ∷ []) }
+        (codes "adf-survey" ∷ codes "--blocks" ∷ codes "8388609" ∷ []) }
     ensures no_number { AreRefusedBySurvey (codes "adf-survey" ∷ codes "--blocks" ∷ []) }
     ensures bad_number { AreRefusedBySurvey
         (codes "adf-survey" ∷ codes "--blocks" ∷ codes "+4" ∷ []) }

@@ -17,7 +17,7 @@ use crate::hints::{hinted, is_hard_disk};
 use crate::listing::write_list;
 use crate::reporting::write_findings;
 use crate::rescuing::rescue_image;
-use adf_cmd::MOST_IMAGE_BYTES;
+use adf_cmd::most_image_bytes;
 use adf_file_runs::FileProgram;
 use adf_findings::{Survey, some_survey, survey};
 use adf_rescue::is_mended;
@@ -304,7 +304,7 @@ impl Program for Work {
     }
 
     fn limit(&self) -> usize {
-        MOST_IMAGE_BYTES
+        most_image_bytes(Types::WithInternational)
     }
 
     fn on<W: Sink>(&self, alloc: Global, bytes: &[u8], output: &mut W) -> Outcome {
@@ -319,7 +319,7 @@ impl Program for Work {
         input: &mut R,
         output: &mut W,
     ) -> Outcome {
-        match read_input(alloc, input, MOST_IMAGE_BYTES) {
+        match read_input(alloc, input, most_image_bytes(Types::WithInternational)) {
             Ok(bytes) => self.on_read(alloc, bytes, output),
             Err(outcome) => outcome,
         }

@@ -38,6 +38,7 @@ pub mod Memory
 pub mod NoneFits
 pub mod OneFault
 pub mod OneTree
+pub mod TypeLaws
 pub mod WalkAgreement
 pub mod WalkCompleteness
 pub mod WalkCounts

@@ -101,7 +101,7 @@ fits_of_type letters type boots kind = record {
 
 pub tiny_fits : Fits (tiny 1) (tiny_tree Ascii) tiny_layout
 unfolding tiny tiny_root block kind_of
-tiny_fits = fits_of_type Ascii 1 ((refl, refl), all_demanded 0 (boot_form (block (tiny 1) 0)) refl) refl
+tiny_fits = (let size : blocks (tiny 1) ≡ 4 = refl in omega (arith, size), fits_of_type Ascii 1 ((refl, refl), all_demanded 0 (boot_form (block (tiny 1) 0)) refl) refl)
 
 pub international_fits : FitsBy International (tiny 3) (tiny_tree International) tiny_layout
 unfolding tiny tiny_root block kind_of
@@ -109,4 +109,4 @@ international_fits = fits_of_type International 3 ((refl, refl), all_demanded 0 
 
 pub international_refused : FirstFault (tiny 3) 0 OtherLetters
 unfolding tiny tiny_root block
-international_refused = at_boot (inr ((refl, refl), inr (refl, inl ((λ h. let e : false ≡ true = h in cc), refl, refl))))
+international_refused = inr (let size : blocks (tiny 3) ≡ 4 = refl in omega (arith, size), at_boot (inr ((refl, refl), inr (refl, inl ((λ h. let e : false ≡ true = h in cc), refl, refl)))))

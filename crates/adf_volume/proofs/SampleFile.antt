@@ -3,12 +3,13 @@
 use Rattle.std.proofs.Common.{◌≡◌, ◌≢◌, ℕ, zero, suc, List, [], ◌∷◌, inl, inr, ◌+◌, ◌-◌, ◌/◌, ◌%◌, ◌<◌, ◌≤◌, refl, sym, ap, subst, ◌∙◌, arith, false, map}
 use Rattle.std.specs.Prelude.{◌==◌, slice_index, slice_index_or}
 use Rattle.std.proofs.{lemmas.Bool.cases_lt, lemmas.Bool.Decides.eqb_tells, lemmas.Grind.common_steps, lemmas.List.Sorted.IsNonDecreasingBy-short}
+use Rattle.adf_base.specs.declared.hash.Letters.TheVariants.{Ascii}
 use Rattle.adf_base.specs.{Hash.slot_of, Words.block, Words.word, Words.words, Words.with_bytes}
 use Rattle.adf_tree.specs.declared.entry.Body.{Body, TheVariants.Dir, TheVariants.File}
 use Rattle.adf_tree.specs.{declared.entry.Entry.Entry, Tree.IsDir, Tree.IsTree}
 use Rattle.adf_volume.specs.{declared.owner.Owner.Owner, Lists.At, Lists.In, Lists.Spelled, Lists.NoBlockTwice, Layout.EntryAt, Layout.at_node}
-use Rattle.adf_volume.specs.{Layout.chain_nodes, Layout.owned, Fits.Fits, Fits.EntryFits, Fits.FileFits, Fits.IsFree, Fits.TableAt}
-use Rattle.adf_blocks.specs.{Sizes.chunk, Sizes.count, DataBlock.data_form, HeadBlock.head_form, PageBlock.page_form, RootBlock.root_form}
+use Rattle.adf_volume.specs.{Layout.chain_nodes, Layout.owned, Fits.Fits, Fits.FitsBy, Fits.EntryFits, Fits.FileFits, Fits.IsFree, Fits.TableAt}
+use Rattle.adf_blocks.specs.{Sizes.blocks, Sizes.chunk, Sizes.count, DataBlock.data_form, HeadBlock.head_form, PageBlock.page_form, RootBlock.root_form}
 use Rattle.adf_volume.specs.Image.{word_in, root_of, kind_of, name_of, meta_of, stamps_of, content, area, held, table_word, map_exts_needed, IsFreeAt}
 use Rattle.adf_volume.specs.Demands.{AllHold, boot_demands, boot_form, root_demands, page_demands, head_demands, data_demands}
 use Rattle.adf_volume.specs.Samples.{one_file, one_file_tree, one_file_layout, file_a}
@@ -192,9 +193,9 @@ clear_bit _ l u h = omega arith
 none_free : (b : ℕ) → 2 ≤ b → b < 6 → IsFree one_file one_file_layout.pages b → ⊥
 none_free b l u f = grind (arith, common_steps, page_at, clear_bit)
 
-pub one_file_fits : Fits one_file one_file_tree one_file_layout
+one_file_fits_by : FitsBy Ascii one_file one_file_tree one_file_layout
 unfolding one_file block word with_bytes kind_of name_of stamps_of map_exts_needed
-one_file_fits = record {
+one_file_fits_by = record {
   boots = boots;
   kind = refl;
   letters = refl;
@@ -217,3 +218,7 @@ one_file_fits = record {
   range = range;
   bitmap = (λ b l u. ((λ f. absurd (none_free b l u f)), (λ f. absurd (all_owned b l u f))));
 }
+
+pub one_file_fits : Fits one_file one_file_tree one_file_layout
+unfolding one_file
+one_file_fits = (let size : blocks one_file ≡ 6 = refl in omega (arith, size), one_file_fits_by)

@@ -144,6 +144,9 @@ fails =
 
 pub lost_first : FirstFault one_lost 5 LostBlock
 lost_first =
-    at_bitmap (all_append (boot_demands one_lost) (root_demands one_lost (root_of one_lost)) boots
-    (subst (λ b. AllHold (root_demands one_lost b)) (sym at_root) root_holds)) both walk whole
-    (subst (λ n. FirstFails (bitmap_demands one_lost both 2 n) 5 LostBlock) (sym (ap (λ n. n - 2) size)) fails)
+    let begun : AllHold (boot_demands one_lost ++ root_demands one_lost (root_of one_lost)) =
+    all_append (boot_demands one_lost) (root_demands one_lost (root_of one_lost)) boots
+    (subst (λ b. AllHold (root_demands one_lost b)) (sym at_root) root_holds) in
+    let lost : FirstFails (bitmap_demands one_lost both 2 (blocks one_lost - 2)) 5 LostBlock =
+    subst (λ n. FirstFails (bitmap_demands one_lost both 2 n) 5 LostBlock) (sym (ap (λ n. n - 2) size)) fails in
+    inr (omega (arith, size), at_bitmap begun both walk whole lost)

@@ -14,6 +14,7 @@ use Rattle.adf_blocks.specs.declared.layout.TheConstants.{PAGE_BITS, POINTERS, R
 use Rattle.adf_volume.specs.Demands.{AllHold, boot_demands_by, root_demands, page_demands, head_demands_by, ext_demands, data_demands}
 use Rattle.adf_tree.specs.declared.entry.Body.{Body, TheVariants.Dir, TheVariants.File}
 use Rattle.adf_tree.specs.{declared.entry.Entry.Entry, Tree.Tree, Tree.IsDir, Tree.IsTreeBy}
+use Rattle.adf_volume.specs.{Types.letters_for, Types.most_blocks, declared.types.Types.Types, declared.types.Types.TheVariants.Plain}
 use Rattle.adf_volume.specs.Layout.{EntryAt, chain_nodes_by, Layout, at_node, exts_of, datas_of, owned}
 
 -- block m of a file's table: the header (m = 0), then the extension blocks
@@ -77,6 +78,10 @@ pub record FitsBy (ls : Letters) (image : List ℕ) (t : Tree) (l : Layout) : Ty
   pub range : (o : Owner) (b : ℕ) → In (owned image l) (o, b) → (2 ≤ b) × (b < blocks image)
   pub bitmap : (b : ℕ) → 2 ≤ b → b < blocks image → IsFree image l.pages b ↔ ((o : Owner) → In (owned image l) (o, b) → ⊥)
 
--- the image is a volume of type 0 or 1 with this tree, at the blocks of this layout
+-- the image is a volume of these types with this tree, at the blocks of this layout, and no larger than they may be
+abbrev pub FitsOf : Types → List ℕ → Tree → Layout → Type 0
+FitsOf types image t l = (blocks image ≤ most_blocks types) × FitsBy (letters_for types image) image t l
+
+-- the same of type 0 or 1, in at most MOST_PLAIN_BLOCKS blocks
 abbrev pub Fits : List ℕ → Tree → Layout → Type 0
-Fits = FitsBy Ascii
+Fits = FitsOf Plain

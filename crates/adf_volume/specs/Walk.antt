@@ -5,12 +5,13 @@
 use Rattle.std.specs.Prelude.{◌≡◌, ℕ, List, [], ◌∷◌, ◌⊎◌, ◌+◌, ◌-◌, ◌*◌, ◌/◌, ◌%◌, ◌<◌, ◌≤◌, ◌≢◌, cond, ◌==◌, ◌++◌, nat_lt}
 use Rattle.std.proofs.Common.{zero, suc}
 use Rattle.adf_blocks.specs.{declared.cause.Cause.Cause, Sizes.blocks, Sizes.count, Sizes.pages_needed}
-use Rattle.adf_blocks.specs.declared.cause.Cause.TheVariants.{OutOfRange, Taken, SameName, ShortFile, LostBlock, OwnedFree}
+use Rattle.adf_blocks.specs.declared.cause.Cause.TheVariants.{BadSize, OutOfRange, Taken, SameName, ShortFile, LostBlock, OwnedFree}
 use Rattle.adf_volume.specs.{Image.word_in, Image.root_of, Image.kind_of, Image.held, Image.table_word, Image.name_of, Image.IsFreeAt, Demands.data_demands}
 use Rattle.adf_blocks.specs.declared.layout.TheConstants.{EXTENSION, FIRST_MAP_EXT, FIRST_PAGE, FIRST_SLOT, MAP_EXT_NEXT, MAP_EXT_PAGES, NEXT_IN_CHAIN}
 use Rattle.adf_blocks.specs.declared.layout.TheConstants.{PAGE_BITS, POINTERS, ROOT_PAGES, SECONDARY_TYPE, SIZE, SLOTS, ST_DIR, ST_FILE}
 use Rattle.adf_base.specs.declared.hash.Letters.{Letters, TheVariants.Ascii}
 use Rattle.adf_names.specs.Texts.{uppers_by}
+use Rattle.adf_volume.specs.{Types.letters_for, Types.most_blocks, declared.types.Types.Types, declared.types.Types.TheVariants.Plain}
 use Rattle.adf_volume.specs.Demands.{Demand, demand, AllHold, FirstFails, boot_demands_by, root_demands, page_demands, head_demands_by, ext_demands}
 
 -- Head n p s j is the header of node n, at position j of the chain of slot s of directory p.
@@ -265,6 +266,12 @@ pub data FirstFaultBy (letters : Letters) (image : List ℕ) (b : ℕ) (c : Caus
   at_bitmap : AllHold (boot_demands_by letters image ++ root_demands image (root_of image)) → (w : Walk) → IsWalkBy letters image w
       → IsWhole image w → FirstFails (bitmap_demands image w 2 (blocks image - 2)) b c → FirstFaultBy letters image b c
 
--- the first fault of a volume of type 0 or 1
+-- the first fault of an image as a volume of these types: more blocks than they may have; else the first one by their letters
+abbrev pub FirstFaultOf : Types → List ℕ → ℕ → Cause → Type 0
+FirstFaultOf types image b c =
+    ((most_blocks types < blocks image) × (b ≡ 0) × (c ≡ BadSize))
+    ⊎ ((blocks image ≤ most_blocks types) × FirstFaultBy (letters_for types image) image b c)
+
+-- the same of type 0 or 1
 abbrev pub FirstFault : List ℕ → ℕ → Cause → Type 0
-FirstFault = FirstFaultBy Ascii
+FirstFault = FirstFaultOf Plain

@@ -80,7 +80,7 @@ impl<'a> Image<'a> {
         ensures blocks { result ≡ blocks self.now }
         ensures begun { IsOwnBegun self.now }
         ensures many { 4 ≤ result }
-        ensures few { result ≤ 1048576 }
+        ensures few { result ≤ 8388608 }
     {
         self.blocks
     }

@@ -7,11 +7,12 @@ ghost use Rattle.adf_tree.specs.{declared.entry.Entry.Entry, Bounds.IsBounded, C
 ghost use Rattle.adf_names.specs.declared.kind.Kind.{Kind};
 ghost use Rattle.adf_blocks.specs.{declared.cause.Cause.Cause, Forms.Clause, Forms.first_cause, Sizes.blocks};
 ghost use Rattle.adf_blocks.specs.declared.layout.TheConstants.{SIZE};
-ghost use Rattle.adf_volume.specs.{Lists.At, Fits.FitsBy, LayoutRoles.LayoutHasBy, Made.layout_in, Made.tree_in_by};
+ghost use Rattle.adf_volume.specs.{Lists.At, Fits.FitsBy, Fits.FitsOf, LayoutRoles.LayoutHasBy, Made.layout_in, Made.tree_in_by};
 ghost use Rattle.adf_volume.specs.Image.{content, letters_of, pieces, root_of, word_in};
 ghost use Rattle.adf_volume.specs.Demands.{AllHold, FirstFails, boot_demands_by, root_demands, demands_at};
+ghost use Rattle.adf_volume.specs.declared.types.Types.{Types};
 ghost use Rattle.adf_volume.specs.Layout.{EntryAt, Layout, chain_nodes_by};
-ghost use Rattle.adf_volume.specs.Walk.{FirstFaultBy, Has, IsDue, IsWalkBy, IsWhole, NoCauseBy, Role, bitmap_demands, Walk};
+ghost use Rattle.adf_volume.specs.Walk.{FirstFaultBy, FirstFaultOf, Has, IsDue, IsWalkBy, IsWhole, NoCauseBy, Role, bitmap_demands, Walk};
 
 /// The demands of a form all hold if and only if it has no first cause; the first that fails has its first cause.
 pub fn demanded_form()
@@ -40,10 +41,12 @@ pub fn completeness()
         → (r : Role) (b : ℕ) → LayoutHasBy letters image t l r b → Has w r b }
 {}
 
-/// If an image has a first fault, no tree fits it.
+/// If an image has a first fault, no tree fits it; so also where some types are accepted.
 pub fn none_fits()
-    ensures { (letters : Letters) (image : List ℕ) (b : ℕ) (c : Cause)
+    ensures by { (letters : Letters) (image : List ℕ) (b : ℕ) (c : Cause)
         → FirstFaultBy letters image b c → (t : Tree) (l : Layout) → FitsBy letters image t l → ⊥ }
+    ensures of { (types : Types) (image : List ℕ) (b : ℕ) (c : Cause)
+        → FirstFaultOf types image b c → (t : Tree) (l : Layout) → FitsOf types image t l → ⊥ }
 {}
 
 /// If a tree and a layout fit, there is a whole walk.
@@ -84,10 +87,12 @@ pub fn layout_of_walk_fits()
         → FitsBy letters image (tree_in_by letters image w) (layout_in w) }
 {}
 
-/// An image has at most one first fault.
+/// An image has at most one first fault; so also where some types are accepted.
 pub fn one_fault()
-    ensures { (letters : Letters) (image : List ℕ) (b d : ℕ) (c e : Cause)
+    ensures by { (letters : Letters) (image : List ℕ) (b d : ℕ) (c e : Cause)
         → FirstFaultBy letters image b c → FirstFaultBy letters image d e → (b ≡ d) × (c ≡ e) }
+    ensures of { (types : Types) (image : List ℕ) (b d : ℕ) (c e : Cause)
+        → FirstFaultOf types image b c → FirstFaultOf types image d e → (b ≡ d) × (c ≡ e) }
 {}
 
 /// The numbers of a chain are those of its entries.

@@ -1,10 +1,10 @@
-use Rattle.std.proofs.Common.{◌≡◌, ◌++◌, ap, arith, codes, inl, inr, refl}
+use Rattle.std.proofs.Common.{◌≡◌, ◌++◌, ap, arith, codes, inr, refl}
 use Rattle.std.proofs.lemmas.Fmt.{decimal_digit}
 use Rattle.adf_blocks.specs.declared.cause.Cause.TheVariants.{BadSize}
-use Rattle.adf_cmd.proofs.LongInputs.{too_large}
+use Rattle.adf_cmd.proofs.LongInputs.{bad_size}
 use Rattle.adf_runs.specs.Commands.{on_output}
 use Rattle.adf_texts.specs.Lines.{fault_line}
-use Rattle.adf_volume.specs.{Walk.FirstFaultBy.at_boot, declared.fault.Fault.Fault}
+use Rattle.adf_volume.specs.{declared.fault.Fault.Fault, declared.types.Types.TheVariants.WithInternational}
 use Rattle.adf_disk_cmd.proofs.unchecked.large_volumes_are_refused.Goals as goal
 
 size_fault : Fault
@@ -16,4 +16,4 @@ told = rw (decimal_digit 0 (omega arith)) refl
 
 pub returns : goal.returns
 unfolding size_fault
-returns c = λ volume large. inr (size_fault, at_boot (inl (too_large volume large, refl, refl)), ap (on_output 1) told)
+returns c = λ volume large. inr (size_fault, bad_size WithInternational volume large, ap (on_output 1) told)

@@ -1,6 +1,6 @@
 use Rattle.std.proofs.Common.{◌∙◌, ap, refl, subst, sym}
 use Rattle.adf_volume.specs.Types.{letters_for}
-use Rattle.adf_memory.specs.{CheckCalls.IsCheckedBy, Verdicts.accepted_by, Verdicts.refused, declared.verdict.Verdict.Verdict}
+use Rattle.adf_memory.specs.{CheckCalls.IsCheckedOf, Verdicts.accepted_by, Verdicts.refused, declared.verdict.Verdict.Verdict}
 use Rattle.adf_memory.proofs.{CheckedVolumes.acceptance_told, CheckedVolumes.counts_stand, ToldCauses.refusal_told, ToldCauses.some_number}
 use Rattle.adf_memory.proofs.verdict.check_image.Goals as goal
 
@@ -10,11 +10,11 @@ returns-in-Ok c =
     let image = c.args.image.now in
     let is = c.in-Ok.ensures.image in
     let (u, m, own) = c.in-Ok.ensures.fits in
-    let letters = c.letters.ensures.tree (letters_for c.args.types image) u m own ∙ own.letters in
+    let letters = c.letters.ensures.tree (letters_for c.args.types image) u m own.1 ∙ own.1.letters in
     record {
       checked = acceptance_told v image c.accepted_by.result.block is (u, m, own);
       counts = λ zero t l fits. c.accepted_by.ensures
-          ∙ (λ i. accepted_by (letters i) (counts_stand v image c.counts.result is c.counts.ensures.exact t l fits i));
+          ∙ (λ i. accepted_by (letters i) (counts_stand v image c.counts.result is c.counts.ensures.exact t l fits.1 i));
       refused = λ some. absurd (some refl);
     }
 
@@ -26,7 +26,7 @@ returns-in-Err c =
     let block = ap (λ (v : Verdict). v.block) c.refused.ensures in
     let told = refusal_told image f.cause f.block c.number.result c.number.ensures e.first e.none e.memory e.begun in
     record {
-      checked = subst (λ b. IsCheckedBy (letters_for c.args.types image) image b c.number.result) (sym block) told;
+      checked = subst (λ b. IsCheckedOf c.args.types image b c.number.result) (sym block) told;
       counts = λ zero. absurd (some_number f.cause (sym c.number.ensures ∙ zero));
       refused = λ some. c.refused.ensures ∙ ap refused (sym block);
     }
