@@ -13,4 +13,4 @@ mod standing;
 
 pub use crate::deletions::{Deletions, State};
 pub use crate::known::{Known, know};
-pub use crate::laws::whole_files_lie_apart;
+pub use crate::laws::{deleted_bytes_lie_apart, whole_files_lie_apart};
