@@ -15,7 +15,7 @@ use Rattle.adf_findings.specs.Members.{has_mark}
 use Rattle.adf_findings.specs.Remains.{blocks_stated, bytes_in, bytes_left, gaps_left, size_stated, with_lost}
 use Rattle.adf_rescue.specs.Rescue.{Basis}
 use Rattle.adf_deleted.specs.{Deletions.state_of, Known.KnownValue, Known.is_reached, Known.known_blocks, Pointers.blocks_asked, Pointers.pointers}
-use Rattle.adf_deleted.specs.{Left.data_standing, Left.deleted_bytes, Left.deleted_gaps, Left.says_file, Standing.stands}
+use Rattle.adf_deleted.specs.{Left.data_standing, Left.deleted_bytes, Left.deleted_gaps, Left.has_file_type, Standing.stands}
 use Rattle.adf_deleted.specs.declared.deletions.State.TheVariants.{Whole}
 use Rattle.adf_deleted.proofs.{Marks.mark_of, WholeFiles.whole_named, WholeFiles.whole_stands}
 
@@ -74,9 +74,9 @@ unfolding count chunk
 no_more Ofs m n le = omega arith
 no_more Ffs m n le = omega arith
 
-module _ (k : KnownValue) (h : ℕ) (file : says_file k.image h ≡ true) (whole : state_of k h ≡ Whole) where
+module _ (k : KnownValue) (h : ℕ) (file : has_file_type k.image h ≡ true) (whole : state_of k h ≡ Whole) where
   named : length (pointers k.image h) ≡ data_count k.image h
-  named = whole_named k h whole ∙ cond-true (says_file k.image h) (data_count k.image h) 0 file
+  named = whole_named k h whole ∙ cond-true (has_file_type k.image h) (data_count k.image h) 0 file
 
   few : blocks_stated k.image h ≤ data_count k.image h
   few = no_more (kind_of k.image) (size_stated k.image h) (word_in k.image h SIZE) (omega arith)

@@ -6,13 +6,13 @@ use Rattle.adf_volume.specs.Image.{word_in}
 use Rattle.adf_findings.specs.{declared.remains.Gap.Gap, Remains.blocks_stated, Remains.bytes_left, Remains.gaps_left, Remains.size_stated}
 use Rattle.adf_deleted.specs.{Known.KnownValue, Known.is_deleted, Pointers.pointers, Standing.stands}
 
--- block h says that it is the header of a file, if it is a header
-abbrev pub says_file : List ℕ → ℕ → Bool
-says_file image h = word_in image h SECONDARY_TYPE == ST_FILE
+-- block h has the second type of a file, as the header of one has
+abbrev pub has_file_type : List ℕ → ℕ → Bool
+has_file_type image h = word_in image h SECONDARY_TYPE == ST_FILE
 
 -- block h is the header of a deleted file
 abbrev pub is_deleted_file : KnownValue → ℕ → Bool
-is_deleted_file k h = is_deleted k h && says_file k.image h
+is_deleted_file k h = is_deleted k h && has_file_type k.image h
 
 -- block b, if data block i of the file stands there
 abbrev pub if_stands : KnownValue → ℕ → ℕ → ℕ → Option ℕ

@@ -9,7 +9,7 @@ ghost use Rattle.adf_deleted.specs.{Claims.has_pointer, Deletions.state_of, Know
 ghost use Rattle.adf_deleted.specs.Known.{is_reached, known_blocks};
 ghost use Rattle.adf_rescue.specs.Rescue.{Basis};
 ghost use Rattle.adf_volume.specs.Walk.{Walk};
-ghost use Rattle.adf_deleted.specs.Left.{data_standing, deleted_bytes, deleted_gaps, says_file};
+ghost use Rattle.adf_deleted.specs.Left.{data_standing, deleted_bytes, deleted_gaps, has_file_type};
 ghost use Rattle.adf_deleted.specs.{Pointers.blocks_asked, Pointers.pointers, Standing.stands};
 ghost use Rattle.adf_deleted.specs.declared.deletions.State.TheVariants.{Whole};
 
@@ -39,8 +39,8 @@ pub fn deleted_bytes_lie_apart()
     ensures unreached { (k : KnownValue) (h i b : ℕ) → data_standing k h i ≡ Some b → has_mark k.reached b ≡ false }
     ensures unowned { (image : List ℕ) (w : Walk) (l : Option Basis) (held h i b : ℕ)
         → data_standing (known_blocks image w l held) h i ≡ Some b → is_reached w l b ≡ false }
-    ensures whole { (k : KnownValue) (h : ℕ) → says_file k.image h ≡ true → state_of k h ≡ Whole → deleted_gaps k h ≡ [] }
-    ensures content { (k : KnownValue) (h : ℕ) → says_file k.image h ≡ true → state_of k h ≡ Whole
+    ensures whole { (k : KnownValue) (h : ℕ) → has_file_type k.image h ≡ true → state_of k h ≡ Whole → deleted_gaps k h ≡ [] }
+    ensures content { (k : KnownValue) (h : ℕ) → has_file_type k.image h ≡ true → state_of k h ≡ Whole
         → length k.image ≡ 512 * blocks k.image → word_in k.image h SIZE ≤ length k.image
         → deleted_bytes k h ≡ content k.image (kind_of k.image) h (pointers k.image h) }
 {}

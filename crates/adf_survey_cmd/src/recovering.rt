@@ -23,11 +23,16 @@ fn push_state_line(
     ensures { OnOk result (text.new.items ≡ text.old.items ++ state_line deletions.now.image state) }
 {
     match state {
-        State::Whole => return Ok(()),
-        State::Contested(rival) => push_contested(alloc, deletions, rival, text)?,
-        State::Overwritten(lost, asked) => push_overwritten(text, lost, asked)?,
+        State::Whole => Ok(()),
+        State::Contested(rival) => {
+            push_contested(alloc, deletions, rival, text)?;
+            text.extend_from_slice(b"\n")
+        }
+        State::Overwritten(lost, asked) => {
+            push_overwritten(text, lost, asked)?;
+            text.extend_from_slice(b"\n")
+        }
     }
-    text.extend_from_slice(b"\n")
 }
 
 // The lines of what of the file with header `h` is no data, and of what speaks for it, if it is not whole.
