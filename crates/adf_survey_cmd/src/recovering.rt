@@ -3,8 +3,8 @@
 ghost use Rattle.std.specs.Prelude.{◌≡◌, ◌++◌, ◌<◌, IfOk, OnOk, false};
 ghost use Rattle.adf_blocks.specs.Sizes.{blocks};
 ghost use Rattle.adf_deleted.specs.Left.{deleted_bytes, deleted_gaps};
-ghost use Rattle.adf_runs.specs.{Outcomes.Does, Outcomes.DoesSilently, Streams.seen};
-ghost use Rattle.adf_survey_cmd.specs.Deletions.{left_reply, left_text, no_file_reply, state_line, with_lines};
+ghost use Rattle.adf_runs.specs.{Commands.on_errors, Outcomes.Does, Outcomes.DoesSilently, Streams.seen};
+ghost use Rattle.adf_survey_cmd.specs.Deletions.{left_reply, left_text, no_file_reply, no_header_line, state_line, with_lines};
 
 use crate::copying::gap_lines;
 use crate::deleting::{push_contested, push_overwritten};
@@ -83,6 +83,16 @@ fn write_left<W: Sink>(alloc: Global, deletions: &Deletions<'_>, h: u32, output:
     }
 }
 
+// Says that no deleted header stands in block `b`.
+fn no_header(alloc: Global, b: u32) -> Outcome
+    ensures { DoesSilently (λ reply. reply ≡ on_errors 1 (no_header_line b)) result }
+{
+    match format!(in alloc; "no deleted header in block {b}\n") {
+        Ok(line) => Outcome::Refused(line),
+        Err(_) => Outcome::NoMemory,
+    }
+}
+
 // Says that block `b` is no header of a deleted file.
 fn no_file(alloc: Global, deletions: &Deletions<'_>, b: u32) -> Outcome
     ensures { DoesSilently (λ reply. reply ≡ no_file_reply deletions.now b) result }
@@ -90,10 +100,7 @@ fn no_file(alloc: Global, deletions: &Deletions<'_>, b: u32) -> Outcome
     if deletions.is_deleted(b) {
         return Outcome::NotAFile;
     }
-    match format!(in alloc; "no deleted header in block {b}\n") {
-        Ok(line) => Outcome::Refused(line),
-        Err(_) => Outcome::NoMemory,
-    }
+    no_header(alloc, b)
 }
 
 /// Writes what is left of the deleted file with its header in block `b`, and tells what is not whole.
