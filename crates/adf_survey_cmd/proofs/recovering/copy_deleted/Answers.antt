@@ -14,8 +14,8 @@ returns-then-is_file g c =
     does_weaker (λ reply. reply ≡ left) (λ reply. reply ≡ left_reply k b)
     (λ reply e. e ∙ sym (cond-true (is_deleted_file k b) left (no_file_reply k b) is)) c.write_left.ensures
 
-pub returns-else-is_file : goal.returns-else-is_file
-returns-else-is_file g c =
+pub returns : goal.returns
+returns g c =
     let k = c.args.deletions.now in
     let b = c.args.b in
     let left = with_lines (deleted_bytes k b) (left_text k b) in
