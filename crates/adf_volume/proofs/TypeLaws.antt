@@ -11,7 +11,7 @@ use Rattle.adf_volume.proofs.{FitWalks.own_fit, NoneFits.none_fits, OneFault.one
 -- no tree fits an image with a first fault
 pub none_fits_of : (types : Types) (image : List ℕ) (b : ℕ) (c : Cause) (t : Tree) (l : Layout) → FirstFaultOf types image b c
     → FitsOf types image t l → ⊥
-none_fits_of types image b c t l (inl (large, first)) (few, fits) = omega (arith, large, few)
+none_fits_of types image b c t l (inl (large, at, cause)) (few, fits) = omega (arith, large, few)
 none_fits_of types image b c t l (inr (few, first)) (also, fits) = none_fits image b c t l first fits
 
 -- what fits by some letters fits as a volume of its own type
@@ -22,6 +22,6 @@ own_fit_of {image = image} fits = (size_high (blocks image) fits.boots.0.1, own_
 pub one_fault_of : (types : Types) (image : List ℕ) (b : ℕ) (c : Cause) (b' : ℕ) (c' : Cause) → FirstFaultOf types image b c
     → FirstFaultOf types image b' c' → (b ≡ b') × (c ≡ c')
 one_fault_of types image b c b' c' (inl (large, at, cause)) (inl (also, there, same)) = (at ∙ sym there, cause ∙ sym same)
-one_fault_of types image b c b' c' (inl (large, at)) (inr (few, first)) = absurd (omega (arith, large, few))
-one_fault_of types image b c b' c' (inr (few, first)) (inl (large, at)) = absurd (omega (arith, large, few))
+one_fault_of types image b c b' c' (inl (large, at, cause)) (inr (few, first)) = absurd (omega (arith, large, few))
+one_fault_of types image b c b' c' (inr (few, first)) (inl (large, at, cause)) = absurd (omega (arith, large, few))
 one_fault_of types image b c b' c' (inr (few, first)) (inr (also, other)) = one_fault image b c b' c' first other
