@@ -2,7 +2,7 @@
 -- Letters: k what is known of an image; h the block of a file's header; i the number of a data block, from 0; b, c blocks, bs those of a file; n, j
 -- numbers of data blocks; found the block of each data block, if any; t a test.
 use Rattle.std.proofs.Common.{◌≡◌, ◌<◌, ◌≤◌, ℕ, zero, suc, ◌+◌, ◌*◌, ◌∙◌, Bool, true, false, cond, List, [], ◌∷◌, ◌++◌, length, arith, refl, sym, ap, subst}
-use Rattle.std.specs.Prelude.{◌==◌, ◌&&◌, Option, None, Some, min, nat_le, nat_lt, slice_index}
+use Rattle.std.specs.Prelude.{Option, None, Some, nat_le, nat_lt, slice_index}
 use Rattle.std.specs.List.{concat}
 use Rattle.std.proofs.lemmas.{Grind.common_steps, Bool.and_parts, Bool.cond-true, Bool.Decides.nat_tests, List.append_assoc, List.append-nil}
 use Rattle.std.proofs.Math.Nat.{min-eq_left}
@@ -14,7 +14,7 @@ use Rattle.adf_volume.proofs.{Lists.at_below, Lists.at_index_or, PieceBytes.piec
 use Rattle.adf_findings.specs.Members.{has_mark}
 use Rattle.adf_findings.specs.Remains.{blocks_stated, bytes_in, bytes_left, gaps_left, size_stated, with_lost}
 use Rattle.adf_rescue.specs.Rescue.{Basis}
-use Rattle.adf_deleted.specs.{Deletions.state_of, Known.KnownValue, Known.is_reached, Known.known_blocks, Pointers.blocks_asked, Pointers.pointers}
+use Rattle.adf_deleted.specs.{Deletions.state_of, Known.KnownValue, Known.is_reached, Known.known_blocks, Pointers.pointers}
 use Rattle.adf_deleted.specs.{Left.data_standing, Left.deleted_bytes, Left.deleted_gaps, Left.has_file_type, Standing.stands}
 use Rattle.adf_deleted.specs.declared.deletions.State.TheVariants.{Whole}
 use Rattle.adf_deleted.proofs.{Marks.mark_of, WholeFiles.whole_named, WholeFiles.whole_stands}

@@ -10,12 +10,11 @@ ghost use Rattle.adf_deleted.specs.Pointers.{pointers};
 ghost use Rattle.adf_volume.specs.Image.{kind_of};
 
 use crate::claims::Claim;
-use crate::extensions::{extensions, word_of};
+use crate::extensions::extensions;
 use crate::known::Known;
 use crate::paths::former_path;
 use crate::pointers::{blocks_asked, pointers};
 use adf_base::{Block, NoMemory};
-use adf_blocks::{SECONDARY_TYPE, ST_FILE};
 use adf_findings::Remains;
 use adf_rescue::{block_count, block_in};
 use adf_tree::Kind;
@@ -115,7 +114,7 @@ impl Deletions<'_> {
         ensures exact { result ≡ is_deleted_file self.now h }
         ensures inside { result ≡ true → h < blocks self.now.image }
     {
-        self.known.is_deleted(h) && word_of(self.known.image, h, SECONDARY_TYPE) == ST_FILE
+        self.known.is_file(h)
     }
 
     /// What is left of the file with header `h`: the bytes of each data block that stands, and zeros for the others; as many as its

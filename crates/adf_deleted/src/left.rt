@@ -1,15 +1,26 @@
 // What is left of deleted files.
 
-ghost use Rattle.std.specs.Prelude.{◌≡◌, ◌<◌, ◌+◌, ◌^◌, ℕ, IfOk, IfSome};
+ghost use Rattle.std.specs.Prelude.{◌≡◌, ◌<◌, ◌+◌, ◌^◌, ℕ, IfOk, IfSome, true};
 ghost use Rattle.adf_blocks.specs.Sizes.{blocks};
-ghost use Rattle.adf_deleted.specs.{Left.deleted_bytes, Left.deleted_gaps, Left.if_stands, Pointers.pointers};
+ghost use Rattle.adf_deleted.specs.Left.{deleted_bytes, deleted_gaps, if_stands, is_deleted_file};
+ghost use Rattle.adf_deleted.specs.Pointers.{pointers};
 
+use crate::extensions::word_of;
 use crate::known::Known;
 use adf_base::NoMemory;
+use adf_blocks::{SECONDARY_TYPE, ST_FILE};
 use adf_findings::{Remains, count_stated, size_stated, sized_image};
 use std::alloc::Global;
 
 impl Known<'_> {
+    /// Whether block `h` is the header of a deleted file.
+    pub(crate) fn is_file(&self, h: u32) -> bool
+        ensures exact { result ≡ is_deleted_file self.now h }
+        ensures inside { result ≡ true → h < blocks self.now.image }
+    {
+        self.is_deleted(h) && word_of(self.image, h, SECONDARY_TYPE) == ST_FILE
+    }
+
     // Block `b`, if data block `i`, counted from 0, of the file with header `h` stands there.
     fn if_stands(&self, h: u32, i: u32, b: u32) -> Option<u32>
         requires { i + 1 < 2 ^ 32 }
