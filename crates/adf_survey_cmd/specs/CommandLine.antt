@@ -67,7 +67,7 @@ cat_asked deleted_one damaged text =
     if deleted_one then (if damaged then None else option_map (λ b. deleted (Some b)) (number_named MOST_BLOCKS text)) else Some (cat damaged text)
 
 -- the same by the matches, with their path
-abbrev pub cat_met : List Row → Option QuestionValue
+unfoldable pub cat_met : List Row → Option QuestionValue
 cat_met rows = option_and_then (cat_asked (has_flag (codes "deleted") rows) (has_flag (codes "damaged") rows)) (first_of (codes "path") rows)
 
 -- what a subcommand's name and matches ask

@@ -153,6 +153,7 @@ fn cat_asked(deleted_one: bool, damaged: bool, text: &str) -> Option<Question<'_
 }
 
 // What the matches of `cat` ask.
+#[tactic(auto, unfolding(crate::specs::CommandLine::cat_met))]
 fn cat_in<'a>(found: &ArgMatches<'a>) -> Option<Question<'a>>
     ensures { option_map question_value result ≡ cat_met (rows_of (found_of found.now)) }
 {
@@ -249,7 +250,7 @@ pub fn survey_file<'a>(alloc: Global, args: &'a [&str]) -> Result<Option<&'a str
 
 /// The arguments of the documentation are taken with what they ask for and the file that they name, and other
 /// arguments are refused, calls for help among them.
-#[tactic(auto, unfolding(clap::proofs::OnLiterals::clap_on_literals))]
+#[tactic(auto, unfolding(clap::proofs::OnLiterals::clap_on_literals, crate::specs::CommandLine::cat_met))]
 pub fn survey_words_as_documented()
     ensures report { AsksSurveyOf (codes "adf-survey" ∷ []) (asked None (report false)) None }
     ensures no_args { AsksSurveyOf [] (asked None (report false)) None }
