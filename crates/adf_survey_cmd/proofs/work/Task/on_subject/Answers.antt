@@ -8,7 +8,7 @@ pub returns-in-Deleted-clause-ends : goal.returns-in-Deleted-clause-ends
 returns-in-Deleted-clause-ends g c = λ q answers.
     let s = subject_value c.args.subject in
     let asks = subst (λ task. Answers task q) c.in-Deleted.is answers in
-    ends_weaker (TellsTyped c.in-Deleted.file s) (QuestionAnswer q s) _ _ _ (λ reply told. subst (λ q. QuestionAnswer q s reply) (sym asks) told)
+    ends_weaker (TellsTyped _ s) (QuestionAnswer q s) _ _ _ (λ reply told. subst (λ q. QuestionAnswer q s reply) (sym asks) told)
     c.tell_deleted.ensures.ends
 
 pub returns-in-Rescue-clause-ends : goal.returns-in-Rescue-clause-ends
