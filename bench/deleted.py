@@ -1,7 +1,8 @@
 #!/usr/bin/env python3
 """The deleted headers of an image by their definition (crates/adf_deleted), over bench/survey.py and bench/rescue.py.
 
-    bench/deleted.py < IMAGE      a line for each deleted header: its path, its block, and what speaks for it
+    bench/deleted.py < IMAGE            a line for each deleted header: its path, its block, and what speaks for it
+    bench/deleted.py BLOCK < IMAGE      the bytes of the deleted file with its header in a block, and on errors the lines of what is not whole
 
 The image is the one that a rescue reads of an input that is refused: opened, with headers in doubt pruned. A header is deleted if it
 says of itself that it is one, and neither the survey has its block, nor the second one, of the image with what is lost hung in it again,
@@ -9,6 +10,7 @@ an entry with its header there: what a rescue finds is not deleted.
 """
 
 import sys
+from itertools import zip_longest
 from struct import unpack_from
 
 sys.dont_write_bytecode = True
@@ -22,7 +24,7 @@ class Deleted:
         made = len(image) >= 2048 and lacks_root(image)
         image = pruned(opened(image))
         self.image, self.sv = image, Survey(image)
-        self.headers, self.second, self.is_volume = [], None, bool(self.sv.nodes)
+        self.headers, self.named, self.second, self.is_volume = [], {}, None, bool(self.sv.nodes)
         if not self.sv.nodes:
             return
         self.blocks = self.sv.blocks
@@ -101,11 +103,46 @@ class Deleted:
         rival = self.rival(h)
         return "whole" if rival is None else f"contested: {spelled(self.path(rival))}"
 
+    def is_file(self, h):
+        return h in self.named and words(self.image, h)[127] == FILE
+
+    def size(self, h):
+        """How many bytes of the file are given: as many as its header says, but no more than the image has."""
+        return min(words(self.image, h)[81], len(self.image))
+
+    def left(self, h):
+        """The block of each data block of these bytes; None where it does not stand."""
+        pairs = zip_longest(range(-(-self.size(h) // self.sv.chunk)), self.named[h])
+        return [b if b is not None and self.stands(h, k, b) else None for k, b in pairs if k is not None]
+
     def content(self, h):
-        """The bytes of a file whose data blocks all stand."""
-        size, chunk = words(self.image, h)[81], self.sv.chunk
-        pieces = [self.image[512 * b + self.sv.offset : 512 * b + self.sv.offset + chunk] for b in self.named[h]]
-        return b"".join(pieces)[:size]
+        """The bytes of the file, with zeros for the data blocks that do not stand."""
+        chunk, offset = self.sv.chunk, self.sv.offset
+        pieces = [bytes(chunk) if b is None else self.image[512 * b + offset : 512 * b + offset + chunk] for b in self.left(h)]
+        return b"".join(pieces)[: self.size(h)]
+
+    def gaps(self, h):
+        """The runs of these zeros, each by its first byte and its last."""
+        gaps = []
+        for k, b in enumerate(self.left(h)):
+            first, last = k * self.sv.chunk, min((k + 1) * self.sv.chunk, self.size(h)) - 1
+            if b is None and gaps and gaps[-1][1] + 1 == first:
+                gaps[-1] = gaps[-1][0], last
+            elif b is None:
+                gaps.append((first, last))
+        return gaps
+
+    def reply(self, h):
+        """The answer of `adf-survey cat --deleted`: its status, the bytes, and the lines of errors. It is 0 if the file is whole."""
+        if not self.is_volume:
+            return 1, b"", "no volume\n"
+        if h not in self.named:
+            return 1, b"", f"no deleted header in block {h}\n"
+        if not self.is_file(h):
+            return 1, b"", "not a file\n"
+        state = self.state(h)
+        lines = "".join(f"bytes {first} to {last}: no data\n" for first, last in self.gaps(h))
+        return int(state != "whole"), self.content(h), lines + ("" if state == "whole" else f"{state}\n")
 
     def path(self, h):
         """Its names, as far up as headers say that they are directories; `?` in place of what is above them, and 256 steps up."""
@@ -123,9 +160,14 @@ class Deleted:
 
 
 def main():
-    if len(sys.argv) > 1:
+    if len(sys.argv) > 2 or sys.argv[1:] and not sys.argv[1].isdigit():
         sys.exit(__doc__)
-    for line in Deleted(sys.stdin.buffer.read()).lines():
+    deleted = Deleted(sys.stdin.buffer.read())
+    if sys.argv[1:]:
+        status, content, lines = deleted.reply(int(sys.argv[1]))
+        sys.stdout.buffer.write(content)
+        sys.exit(lines or status)
+    for line in deleted.lines():
         print(line)
 
 

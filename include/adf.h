@@ -745,10 +745,13 @@ uint8_t adf_run(const uint8_t *words, size_t words_length, const uint8_t *input,
  * are read: those of the image, or N with `--blocks N`, or those of a floppy, as for adf_survey_subject. adf-survey(1) has what it writes.
  *
  * 0: there is no finding, and output is empty; for `cat`, output has the bytes of the file, which is sound, or with `--damaged`
- *    has lost none; for `rescue`, it has the new volume, and nothing is left out or in doubt. Errors are empty.
+ *    has lost none, or with `--deleted` is whole; for `rescue`, it has the new volume, and nothing is left out or in doubt; for
+ *    `deleted`, it has a line for each deleted header. Errors are empty.
  * 1: output has the lines of the findings; for `cat`, it is empty, and errors say `no such path: PATH`, `not a file` or
  *    `damaged`.
  *    For `cat --damaged`, output has what is left of the file, and errors a line for each range of bytes that are lost, and zeros.
+ *    For `cat --deleted`, the same of a deleted file, with the line of its state behind them; or output is empty, and errors say
+ *    `no deleted header in block B` or `not a file`. Where nothing is surveyed, these and `deleted` say `no volume`.
  *    With `--list` the lines of what is found follow those of the findings, at status 0 too.
  *    For `rescue`, output has the new volume, and errors a line for each entry that it leaves out or keeps in doubt, and for what is
  *    lost; or output is empty, and errors have the line of the first finding, and these lines behind it. If errors_full is set, call

@@ -21,6 +21,7 @@
     found = adf.survey(image)                       # of a damaged image: found.findings, found.entries, found.read("c/list")
     left, lost = found.remains("c/list")            # what is left of a damaged file, and the ranges of its bytes that are lost
     pieces = found.entries[0].pieces()              # the same by number: each run of bytes that is found, with its place in the file
+    whole = [each.read() for each in found.deleted if each.is_whole and each.is_file]   # what was deleted and still stands
     new, left_out = adf.rescue(image)               # a sound volume of all that stands; what it leaves out, and what it keeps in doubt
     image = adf.build("ffs", None, [adf.Addition("c"), adf.Addition("c/list", b"..")], "Work")  # a new volume, here as small as may be
     image = adf.with_boot(image, volume.boot)       # with the boot blocks of another: .is_bootable, .has_code, .crc
@@ -51,6 +52,7 @@ from adf.building import Addition, NotBuilt, build
 from adf.checks import Verdict, check
 from adf.commands import Answer, run
 from adf.dates import Date
+from adf.deleted import Deleted
 from adf.disks import Disk, Partition, partitions
 from adf.entries import Entries, Entry, File
 from adf.errors import Closed, Damaged, DamagedWarning, Error, NoLibrary, NoMemory, NoSuchPath, NotAFile, NotUnpacked, Refused
@@ -67,8 +69,8 @@ from adf._library import SONAME as SONAME
 from adf.dates import EPOCH as EPOCH
 
 __all__ = [
-    "Addition", "Answer", "BLOCK", "BadBoot", "Boot", "Buffer", "Closed", "Damaged", "DamagedWarning", "Date", "Disk", "Entries",
-    "Entry", "EntryPath", "Error", "File", "Finding", "Findings", "Found", "Image", "KINDS", "LETTERS", "LeftOut", "MOST_BYTES",
+    "Addition", "Answer", "BLOCK", "BadBoot", "Boot", "Buffer", "Closed", "Damaged", "DamagedWarning", "Date", "Deleted", "Disk",
+    "Entries", "Entry", "EntryPath", "Error", "File", "Finding", "Findings", "Found", "Image", "KINDS", "LETTERS", "LeftOut", "MOST_BYTES",
     "NoLibrary", "NoMemory", "NoSuchPath", "NotAFile", "NotBuilt", "NotUnpacked", "PART", "Partition", "Path", "ROLES", "Reason",
     "Refused", "Rescued", "Source", "Survey", "TYPES", "Verdict", "Volume", "build", "check", "escape", "library_path",
     "library_version", "load", "open", "open_image", "partitions", "read_image", "rescue", "run", "survey", "unescape", "with_boot",

@@ -30,6 +30,7 @@ CALLS = {
     "adf_cause_text": (SIZE, BYTE, POINTER, SIZE),
     "adf_version": (WORD,),
     "adf_run": (BYTE, *(POINTER, SIZE) * 4, POINTER),
+    "adf_survey_run": (BYTE, *(POINTER, SIZE) * 4, POINTER),
     "adf_survey_subject": (BYTE, POINTER, SIZE, WORD, POINTER, SIZE, POINTER),
     "adf_survey_index": (BYTE, POINTER, SIZE, POINTER, SIZE, POINTER, SIZE, POINTER),
     "adf_survey_parts": (BYTE, *(POINTER, SIZE) * 2),

@@ -1,4 +1,4 @@
-"""The command `adf`, run over memory: adf.run and adf.Answer."""
+"""Programs that are run over memory: adf.run and adf.Answer."""
 
 from __future__ import annotations
 
@@ -23,8 +23,16 @@ class Answer(NamedTuple):
 def run(words: Iterable[str], given: Image = b"") -> Answer:
     """Runs the command `adf` with these words over the input. An output of more than 4 GiB is cut there, with status 3 and
     `write fault` on errors."""
-    all_words, given = ("adf", *words), _arguments.plain(given)
-    if isinstance(words, (str, bytes)) or not all(isinstance(word, str) for word in all_words):
+    if isinstance(words, (str, bytes)):
+        raise TypeError('words are a list of str, as ["cat", "c/list"]')
+    return run_program("adf", words, given)
+
+
+def run_program(program: str, words: Iterable[str], given: Image) -> Answer:
+    """The same of `adf` or of `adf-survey`."""
+    call = {"adf": calls().adf_run, "adf-survey": calls().adf_survey_run}[program]
+    all_words, given = (program, *words), _arguments.plain(given)
+    if not all(isinstance(word, str) for word in all_words):
         raise TypeError('words are a list of str, as ["cat", "c/list"]')
     line = b"".join(word.encode() + b"\0" for word in all_words)
     if line.count(b"\0") != len(all_words):
@@ -33,7 +41,7 @@ def run(words: Iterable[str], given: Image = b"") -> Answer:
     while True:
         output, errors = ctypes.create_string_buffer(most_output), ctypes.create_string_buffer(most_errors)
         rooms = (output, most_output, errors, most_errors, ctypes.byref(moved))
-        status = calls().adf_run(line, len(line), given, len(given), *rooms)
+        status = call(line, len(line), given, len(given), *rooms)
         more_output = moved.output_full and most_output < MOST_OUTPUT
         more_errors = moved.errors_full and most_errors < MOST_OUTPUT
         if not more_output and not more_errors:

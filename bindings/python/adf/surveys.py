@@ -15,6 +15,7 @@ from adf._library import NO_MEMORY, NOT_DOS, SMALL_ROOM, calls, cause_text
 from adf._read_only import ReadOnly
 from adf._texts import escape
 from adf.dates import Date, date_of
+from adf.deleted import Deleted, deleted_of
 from adf.errors import Damaged, NoMemory, NoSuchPath, NotAFile
 from adf.findings import Finding, Findings, Found
 
@@ -124,6 +125,11 @@ class Survey(ReadOnly):
     @property
     def findings(self) -> Findings:
         return Findings(self)
+
+    @functools.cached_property
+    def deleted(self) -> list[Deleted]:
+        """What was deleted from the image, and whose header still stands; for it the image is surveyed again."""
+        return list(deleted_of(self))
 
     @functools.cached_property
     def _parts(self) -> Any:

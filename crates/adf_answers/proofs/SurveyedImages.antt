@@ -24,8 +24,8 @@ use Rattle.adf_subjects.specs.Subject.{OfTyped, SubjectValue, begun_subject, siz
 use Rattle.std.proofs.lemmas.Bool.{cases_Bool}
 use Rattle.adf_blocks.specs.Sizes.{blocks}
 use Rattle.adf_rescue.specs.{Hung.second_image, Opened.lacks_root, Opened.opened, Pruned.pruned, Rescue.Basis, Rescue.IsSecond}
-use Rattle.adf_deleted.specs.Known.{known_blocks}
-use Rattle.adf_survey_cmd.specs.Deletions.{ListsBy, deleted_lines, is_surveyed}
+use Rattle.adf_deleted.specs.Known.{KnownValue, known_blocks}
+use Rattle.adf_survey_cmd.specs.Deletions.{TellsBy, TellsDeleted, deleted_lines, is_surveyed, left_reply}
 use Rattle.adf_answers.specs.Answered.{HasSurveyAnswer}
 
 -- a question has an answer, to which the hint comes
@@ -121,19 +121,23 @@ some_second (Some image) =
     let (sound, marks) = some_marks image w fs survey (grave fs) in
     (Some (record { image = image; walk = w; sound = sound }), record { of = refl; findings = fs; survey = survey; marks = marks })
 
-listed_by : (held : ℕ) (image : List ℕ) (w : Walk) (l : Option Basis) → (reply : Reply) × ListsBy held image w l reply
-listed_by held image w l = elim (cases_Bool (is_surveyed image w)) [
-  | inl is ↦ (on_output 0 (deleted_lines date_of (known_blocks image w l held) (blocks image)), inr (is, (date_of, date_of_is, refl)))
+told_of : (file : Option ℕ) (k : KnownValue) → (reply : Reply) × TellsDeleted file k reply
+told_of None k = (on_output 0 (deleted_lines date_of k (blocks k.image)), (date_of, date_of_is, refl))
+told_of (Some h) k = (left_reply k h, refl)
+
+told_by : (file : Option ℕ) (held : ℕ) (image : List ℕ) (w : Walk) (l : Option Basis) → (reply : Reply) × TellsBy file held image w l reply
+told_by file held image w l = elim (cases_Bool (is_surveyed image w)) [
+  | inl is ↦ let (reply, told) = told_of file (known_blocks image w l held) in (reply, inr (is, told))
   | inr none ↦ (on_errors 1 (codes "no volume\n"), inl (none, refl))
 ]
 
-some_deleted : (blocks : Option ℕ) (input : List ℕ) → IsAnswered deleted (subject blocks input)
-some_deleted blocks input =
+some_deleted : (blocks file : Option ℕ) (input : List ℕ) → IsAnswered (deleted file) (subject blocks input)
+some_deleted blocks file input =
     let (t, typed) = some_typed (subject blocks input) in
     let image : List ℕ = pruned (opened t.image) in
     let (w, fs, survey) = some_survey image in
     let (l, second) = some_second (second_image (lacks_root t.image) image w fs) in
-    let (reply, told) = listed_by t.end image w l in (reply, (t, typed, (w, fs, survey, (l, second, told))))
+    let (reply, told) = told_by file t.end image w l in (reply, (t, typed, (w, fs, survey, (l, second, told))))
 
 -- every question
 
@@ -142,7 +146,7 @@ questioned : (blocks : Option ℕ) (q : QuestionValue) (input : List ℕ) → ((
 questioned blocks (report json) input are = some_report json blocks input
 questioned blocks (list json) input are = some_list json blocks input
 questioned blocks (cat damaged path) input are = some_copy blocks damaged path input
-questioned blocks deleted input are = some_deleted blocks input
+questioned blocks (deleted file) input are = some_deleted blocks file input
 questioned blocks (rescue keep_type) input are = some_rescue blocks keep_type input (are keep_type refl)
 
 pub some_answer : (blocks : Option ℕ) (q : QuestionValue) (input : List ℕ) → ((keep_type : Bool) → q ≡ rescue keep_type → AreBytes input)

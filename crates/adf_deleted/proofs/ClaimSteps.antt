@@ -1,8 +1,8 @@
 -- Claims on blocks.
 -- Letters: h, g the blocks of headers; c the claims on a block; b a block, bs blocks.
-use Rattle.std.proofs.Common.{◌≡◌, ◌<◌, ◌≤◌, ℕ, zero, suc, ◌+◌, ◌==◌, ◌&&◌, ◌||◌, Bool, true, false, cond, List, [], ◌∷◌, ◌++◌, length}
+use Rattle.std.proofs.Common.{◌≡◌, ◌<◌, ℕ, ◌+◌, ◌==◌, ◌&&◌, ◌||◌, Bool, true, false, cond, List, [], ◌∷◌, ◌++◌, length}
 use Rattle.std.proofs.Common.{take, get_or, add-one, arith, refl, sym, ap, ◌∙◌, inl, inr, replicate}
-use Rattle.std.proofs.lemmas.{Grind.common_steps, Bool.cond_both, Bool.cases_Bool, Bool.eq-eqb, Bool.or_left, Bool.or_right, Bool.cond-true, Bool.cond-false}
+use Rattle.std.proofs.lemmas.{Grind.common_steps, Bool.cond_both, Bool.eq-eqb, Bool.or_left, Bool.or_right, Bool.cond-true, Bool.cond-false}
 use Rattle.std.proofs.lemmas.{List.take_more, List.take_all, List.get_or_past, List.get_or-replicate, List.length-replicate, Bool.cases_lt, Bool.Decides.nat_tests}
 use Rattle.std.specs.Prelude.{slice_index, nat_lt}
 use Rattle.adf_blocks.specs.Sizes.{blocks}

@@ -10,3 +10,5 @@ pub mod States
 pub mod PathSteps
 -- whole files
 pub mod WholeFiles
+-- what is left of files
+pub mod LeftBytes

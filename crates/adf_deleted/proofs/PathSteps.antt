@@ -1,6 +1,6 @@
 -- The names above a header.
 -- Letters: d the block of a directory, p that above it; f a number of steps; xs the names below, from the last one; path all names.
-use Rattle.std.proofs.Common.{◌≡◌, ◌≢◌, ◌<◌, ◌≤◌, ℕ, zero, suc, ◌+◌, ◌-◌, ◌==◌, Bool, true, false, cond}
+use Rattle.std.proofs.Common.{◌≡◌, ◌≢◌, ◌<◌, ◌≤◌, ℕ, zero, suc, ◌-◌, ◌==◌, true, false}
 use Rattle.std.proofs.Common.{codes, List, [], ◌∷◌, ◌++◌, map, reverse, append_assoc, arith, refl, sym, ap, ◌∙◌}
 use Rattle.std.proofs.lemmas.{List.map-append, List.reverse-append, Grind.common_steps, Bool.cond-true, Bool.cond-false, Bool.eq-eqb, Bool.ne_eqb}
 use Rattle.adf_blocks.specs.declared.layout.TheConstants.{PARENT}

@@ -1,10 +1,10 @@
 -- What stands of a file.
 -- Letters: k what is known of an image; h the block of the file's header; bs its blocks; n a number of them.
-use Rattle.std.proofs.Common.{◌≡◌, ◌<◌, ◌≤◌, ℕ, zero, suc, ◌+◌, Bool, true, false, cond, List, [], length, take, ◌*◌, ◌-◌, ◌∙◌, ap, sym, add-one, arith, refl}
-use Rattle.std.proofs.lemmas.{Grind.common_steps, List.drop_all}
+use Rattle.std.proofs.Common.{◌≡◌, ◌≤◌, ℕ, zero, suc, ◌+◌, true, cond, List, [], length, take, ◌*◌, ◌-◌, ◌∙◌, ap, sym, add-one, arith, refl}
+use Rattle.std.proofs.lemmas.{List.drop_all}
 use Rattle.std.specs.Prelude.{slice_index, slice_range, min}
 use Rattle.adf_base.specs.Words.{block}
-use Rattle.adf_blocks.specs.{Forms.text_at, declared.layout.TheConstants.NAME, Sizes.blocks}
+use Rattle.adf_blocks.specs.{Forms.text_at, declared.layout.TheConstants.NAME}
 use Rattle.adf_volume.specs.{Image.name_of, Start.is_image_len}
 use Rattle.adf_findings.proofs.Names.{cut_name}
 use Rattle.adf_rescue.proofs.MadeRoots.{sized}

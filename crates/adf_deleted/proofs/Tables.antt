@@ -1,7 +1,7 @@
 -- The tables of files, and how many blocks say that they are extension blocks of each.
 -- Letters: h the block of a file's header; m a position in its table; n a number of blocks.
-use Rattle.std.proofs.Common.{◌≡◌, ◌<◌, ◌≤◌, ℕ, zero, suc, ◌+◌, ◌*◌, ◌/◌, ◌==◌, ◌&&◌, Bool, true, false, cond, List, [], ◌∷◌, ◌++◌, length}
-use Rattle.std.proofs.Common.{min, add-one, arith, refl, sym, ap, ◌∙◌, ◌%◌, ◌^◌, inl, inr, replicate}
+use Rattle.std.proofs.Common.{◌≡◌, ◌<◌, ◌≤◌, ℕ, zero, suc, ◌+◌, ◌/◌, Bool, true, false, cond, List, [], ◌∷◌, ◌++◌, length}
+use Rattle.std.proofs.Common.{add-one, arith, refl, sym, ap, ◌∙◌, ◌%◌, ◌^◌, inl, inr, replicate}
 use Rattle.std.proofs.lemmas.{Grind.common_steps, Bool.cases_lt, List.get_or_past, List.get_or-replicate, List.length-replicate}
 use Rattle.std.specs.Prelude.{slice_index}
 use Rattle.adf_blocks.specs.declared.layout.TheConstants.{POINTERS}

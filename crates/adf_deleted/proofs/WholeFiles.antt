@@ -1,12 +1,12 @@
 -- Whole files: their blocks stand, and no other deleted header names them.
 -- Letters: k what is known of an image; h, g, x the blocks of headers; c the claims on a block; b a block, bs those of a file; i, n numbers of blocks; r a
 -- rival.
-use Rattle.std.proofs.Common.{◌≡◌, ◌≢◌, ◌<◌, ◌≤◌, ℕ, zero, suc, ◌+◌, ◌-◌, ◌==◌, ◌&&◌, ◌||◌, Bool, true, false, cond}
-use Rattle.std.proofs.Common.{List, length, add-one, arith, inl, inr, refl, subst, sym, ap, ◌∙◌}
-use Rattle.std.specs.Prelude.{◌⊎◌, ◌∷◌, [], min, nat_le, nat_lt, not, slice_index}
-use Rattle.std.proofs.lemmas.{Grind.common_steps, Bool.and_left, Bool.and_parts, Bool.and_from, Bool.cases_Bool, Bool.cases_lt, Bool.cond_both, Bool.cond-false}
-use Rattle.std.proofs.lemmas.Bool.{cond-true, eqb-true, eq-eqb, ne_eqb, or_left, or_right, or_cases, false_from_ne_true, Decides.nat_tests}
-use Rattle.adf_names.specs.declared.kind.Kind.{Kind, TheVariants.Ffs, TheVariants.Ofs}
+use Rattle.std.proofs.Common.{◌≡◌, ◌≢◌, ◌<◌, ◌≤◌, ℕ, zero, suc, ◌==◌, ◌&&◌, ◌||◌, Bool, true, false, cond}
+use Rattle.std.proofs.Common.{List, length, arith, inl, inr, refl, subst, sym, ap, ◌∙◌}
+use Rattle.std.specs.Prelude.{◌⊎◌, nat_le, nat_lt, slice_index}
+use Rattle.std.proofs.lemmas.{Grind.common_steps, Bool.and_parts, Bool.and_from, Bool.cases_Bool, Bool.cases_lt, Bool.cond_both, Bool.cond-false}
+use Rattle.std.proofs.lemmas.Bool.{cond-true, eqb-true, eq-eqb, or_left, or_cases, false_from_ne_true, Decides.nat_tests}
+use Rattle.adf_names.specs.declared.kind.Kind.{TheVariants.Ffs}
 use Rattle.adf_blocks.specs.Sizes.{blocks, in_range}
 use Rattle.adf_volume.specs.Image.{kind_of}
 use Rattle.adf_findings.specs.Members.{has_mark}

@@ -1,16 +1,14 @@
 -- What speaks for a deleted file.
 -- Letters: k what is known of an image; h the block of the file's header, g that of another one; r its rival; i the number of a data block, from 0; b
 -- a block.
-use Rattle.std.specs.Prelude.{◌≡◌, ◌≢◌, ◌<◌, ℕ, nat_lt, true, false, cond, List, length, slice_index, ◌==◌}
+use Rattle.std.specs.Prelude.{◌≡◌, ◌<◌, ℕ, nat_lt, cond, List, length, slice_index, ◌==◌}
 use Rattle.std.specs.List.{filter, range_with_len}
 use Rattle.adf_names.specs.declared.kind.Kind.{Kind, TheVariants.Ofs, TheVariants.Ffs}
 use Rattle.adf_blocks.specs.Sizes.{blocks}
 use Rattle.adf_volume.specs.Image.{kind_of}
-use Rattle.adf_findings.specs.Members.{has_mark}
-use Rattle.adf_deleted.specs.declared.claims.Claim.{Claim}
 use Rattle.adf_deleted.specs.declared.deletions.State.{State, TheVariants.Whole, TheVariants.Contested, TheVariants.Overwritten}
-use Rattle.adf_deleted.specs.{Claims.claims_among, Claims.has_pointer, Claims.rival_among, Known.KnownValue, Known.is_deleted, Pointers.blocks_asked}
-use Rattle.adf_deleted.specs.{Pointers.extensions_among, Pointers.pointers, Standing.overwritten, Standing.stands}
+use Rattle.adf_deleted.specs.{Claims.rival_among, Known.KnownValue, Known.is_deleted, Pointers.blocks_asked}
+use Rattle.adf_deleted.specs.{Pointers.extensions_among, Pointers.pointers, Standing.overwritten}
 
 -- the deleted headers of an image, in order
 abbrev pub headers_of : KnownValue → List ℕ

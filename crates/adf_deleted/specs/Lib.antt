@@ -4,4 +4,5 @@ pub mod Pointers
 pub mod Standing
 pub mod Claims
 pub mod Deletions
+pub mod Left
 pub mod Paths

@@ -5,6 +5,7 @@ ghost use Rattle.adf_base.specs.Words.{block};
 ghost use Rattle.adf_blocks.specs.Sizes.{blocks};
 ghost use Rattle.adf_deleted.specs.{Deletions.rival_by, Deletions.state_of, Deletions.unless_contested_by};
 ghost use Rattle.adf_deleted.specs.{Known.is_deleted, Paths.former_path};
+ghost use Rattle.adf_deleted.specs.Left.{deleted_bytes, deleted_gaps, is_deleted_file};
 ghost use Rattle.adf_deleted.specs.Pointers.{pointers};
 ghost use Rattle.adf_volume.specs.Image.{kind_of};
 
@@ -14,6 +15,7 @@ use crate::known::Known;
 use crate::paths::former_path;
 use crate::pointers::{blocks_asked, pointers};
 use adf_base::{Block, NoMemory};
+use adf_findings::Remains;
 use adf_rescue::{block_count, block_in};
 use adf_tree::Kind;
 use adf_volume::kind_in;
@@ -105,6 +107,25 @@ impl Deletions<'_> {
         ensures { IfOk result (λ v. map (λ x. x.now) v.items ≡ former_path self.now.image h) }
     {
         former_path(alloc, self.known.image, h)
+    }
+
+    /// Whether block `h` is the header of a deleted file.
+    pub fn is_file(&self, h: u32) -> bool
+        ensures exact { result ≡ is_deleted_file self.now h }
+        ensures inside { result ≡ true → h < blocks self.now.image }
+    {
+        self.known.is_file(h)
+    }
+
+    /// What is left of the file with header `h`: the bytes of each data block that stands, and zeros for the others; as many as its
+    /// header says, but no more than the image has. `NoMemory` if an allocation fails.
+    pub fn remains(&self, alloc: Global, h: u32) -> Result<Remains, NoMemory>
+        requires { h < blocks self.now.image }
+        ensures bytes { IfOk result (λ r. r.bytes.items ≡ deleted_bytes self.now h) }
+        ensures gaps { IfOk result (λ r. r.gaps.items ≡ deleted_gaps self.now h) }
+    {
+        let blocks = pointers(alloc, self.known.image, &self.extensions, h)?;
+        self.known.left_of(alloc, h, &blocks)
     }
 
     // The other deleted header that names one of the blocks of a file; 0 if there is none.

@@ -6,10 +6,11 @@ mod deletions;
 mod extensions;
 mod known;
 mod laws;
+mod left;
 mod paths;
 mod pointers;
 mod standing;
 
 pub use crate::deletions::{Deletions, State};
 pub use crate::known::{Known, know};
-pub use crate::laws::whole_files_lie_apart;
+pub use crate::laws::{deleted_bytes_lie_apart, whole_files_lie_apart};

@@ -4,5 +4,7 @@ pub mod FindingStatus
 pub mod FoundTexts
 -- the lines of deleted headers
 pub mod DeletedTexts
+-- the status of what is left of deleted files
+pub mod WholeReplies
 pub mod LongSurveys
 pub mod OneAnswer

@@ -19,7 +19,7 @@ use Rattle.adf_rescue.specs.Opened.{lacks_boot, lacks_root, opened}
 use Rattle.adf_rescue.proofs.{OpenedImages.length_opened, PassedFindings.unread_fault, PrunedKeeps.length_read}
 use Rattle.adf_rescue.proofs.MadeRoots.{sized as sized_len}
 use Rattle.adf_survey_cmd.specs.Answers.{CopiesFound, CopiesFromSurvey, ListsSurvey, QuestionAnswer, SurveyAnswer, Surveys, TellsFound, told_status, types_kept}
-use Rattle.adf_survey_cmd.specs.Deletions.{ListsBy, ListsDeleted, ListsSecond, ListsTold}
+use Rattle.adf_survey_cmd.specs.Deletions.{TellsBy, TellsRead, TellsRefused, TellsSecond}
 use Rattle.adf_survey_cmd.specs.Hints.{disk_hint}
 use Rattle.adf_subjects.specs.{Lengths.AreFew, Lengths.blocks_read, Lengths.stated_length, Lines.findings_text, Lines.runs_from, Losses.LossValue}
 use Rattle.adf_subjects.specs.{Remarks.remarks_text}
@@ -160,17 +160,17 @@ long_typed : (s : SubjectValue) → 512 * MOST_BLOCKS < length s.image → IsTyp
 long_typed s long = subst (λ (u : SubjectValue). IsTyped u s) (sym (long_begun s long)) (is_typed s long)
 
 -- nothing is surveyed of an image of this length, so it is no volume
-same_deleted : (made other : Bool) (held end : ℕ) (image bytes : List ℕ) → 512 * MOST_BLOCKS < length image → 512 * MOST_BLOCKS < length bytes
-    → (reply : Reply) → ListsDeleted made held image reply → ListsDeleted other end bytes reply
-same_deleted made other held end image bytes a b reply (w, fs, h, second) =
-    let found = of_long image w fs (λ u gs. ListsSecond held image u (second_image made image u gs) reply) a h second in
-    let by : ListsBy held image [] found.0 reply = found.2 in
-    let lists : ListsBy end bytes [] None reply = elim by [
+same_deleted : (file : Option ℕ) (made other : Bool) (held end : ℕ) (image bytes : List ℕ) → 512 * MOST_BLOCKS < length image → 512 * MOST_BLOCKS < length bytes
+    → (reply : Reply) → TellsRead file made held image reply → TellsRead file other end bytes reply
+same_deleted file made other held end image bytes a b reply (w, fs, h, second) =
+    let found = of_long image w fs (λ u gs. TellsSecond file held image u (second_image made image u gs) reply) a h second in
+    let by : TellsBy file held image [] found.0 reply = found.2 in
+    let lists : TellsBy file end bytes [] None reply = elim by [
       | inl none ↦ inl none
       | inr some ↦ let clash : false ≡ true = some.0 in absurd (let none : ⊥ = cc in none)
     ] in
     let none = sym (none_second other bytes [] bad_size b) in
-    ([], bad_size, long_survey bytes b, subst (λ o. ListsSecond end bytes [] o reply) none (None, tt, lists))
+    ([], bad_size, long_survey bytes b, subst (λ o. TellsSecond file end bytes [] o reply) none (None, tt, lists))
 
 -- so what is answered to one long input is answered to another
 of_typed : (s t : SubjectValue) (answers : SubjectValue → Reply → Type 0) → 512 * MOST_BLOCKS < length s.image → 512 * MOST_BLOCKS < length t.image
@@ -210,13 +210,13 @@ long_questions (cat damaged path) s t front a b reply (inl bad) = inl bad
 long_questions (cat damaged path) s t front a b reply (inr told) = inr (of_typed s t (CopiesFromSurvey damaged path) a b reply (λ x.
     let found = of_long s.image x.2 x.3 (λ u gs. CopiesFound damaged s u gs x.0 reply) a x.4 x.5 in
     (x.0, x.1, [], bad_size, long_survey t.image b, same_found damaged s t x.0 reply found)) told)
-long_questions deleted s t front a b reply (u, is, lists) =
-    let told : ListsTold s reply = subst (λ (u : SubjectValue). ListsTold u reply) (typed_so s u a is) lists in
+long_questions (deleted file) s t front a b reply (u, is, lists) =
+    let told : TellsRefused file s reply = subst (λ (u : SubjectValue). TellsRefused file u reply) (typed_so s u a is) lists in
     let here = long_image true s.image a in
     let there = long_image true t.image b in (
       t,
       is_typed t b,
-      same_deleted (lacks_root s.image) (lacks_root t.image) s.end t.end (image_read true s.image) (image_read true t.image) here there reply told,
+      same_deleted file (lacks_root s.image) (lacks_root t.image) s.end t.end (image_read true s.image) (image_read true t.image) here there reply told,
     )
 long_questions (rescue keep_type) s t front a b reply (r, (u, is, told), same) =
     let rescues = subst (λ (u : SubjectValue). Rescues (types_kept keep_type) u.end u.lost u.image (sized 2 s.image) r) (typed_so s u a is) told in

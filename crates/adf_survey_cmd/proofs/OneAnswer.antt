@@ -26,7 +26,7 @@ use Rattle.adf_base.specs.declared.dates.Stamp.{Stamp}
 use Rattle.adf_blocks.specs.Sizes.{blocks}
 use Rattle.adf_deleted.specs.Known.{KnownValue, known_blocks}
 use Rattle.adf_rescue.specs.{Opened.opened, Pruned.pruned}
-use Rattle.adf_survey_cmd.specs.Deletions.{ListsBy, ListsDeleted, ListsSecond, ListsTold, ListsTyped, TellsDeleted, deleted_lines}
+use Rattle.adf_survey_cmd.specs.Deletions.{TellsBy, TellsDeleted, TellsRead, TellsRefused, TellsSecond, TellsTyped, deleted_lines}
 
 pub one_inquiry : (words : List (List ℕ)) (r q : InquiryValue) → AsksSurvey words r → AsksSurvey words q → r ≡ q
 one_inquiry words r q a b = grind (arith, common_steps)
@@ -173,32 +173,35 @@ typed_rescued_once types s a b (r, (t, is, x), e) (q, (u, also, y), f) =
 
 -- the deleted headers have one answer
 
-known_told_once : (k : KnownValue) (a b : Reply) → TellsDeleted k a → TellsDeleted k b → a ≡ b
-known_told_once k a b (date, dates, x) (other, others, y) =
+known_told_once : (file : Option ℕ) (k : KnownValue) (a b : Reply) → TellsDeleted file k a → TellsDeleted file k b → a ≡ b
+known_told_once None k a b (date, dates, x) (other, others, y) =
     x ∙ ap (λ (d : Stamp → List ℕ). on_output 0 (deleted_lines d k (blocks k.image))) (one_dates date other dates others) ∙ sym y
+known_told_once (Some h) k a b x y = x ∙ sym y
 
-by_once : (held : ℕ) (image : List ℕ) (w : Walk) (l : Option Basis) (a b : Reply) → ListsBy held image w l a → ListsBy held image w l b → a ≡ b
-by_once held image w l a b (inl (none, x)) (inl (also, y)) = x ∙ sym y
-by_once held image w l a b (inl (none, x)) (inr (some, y)) = let clash = sym none ∙ some in absurd cc
-by_once held image w l a b (inr (some, x)) (inl (none, y)) = let clash = sym none ∙ some in absurd cc
-by_once held image w l a b (inr (some, x)) (inr (also, y)) = known_told_once (known_blocks image w l held) a b x y
+module _ (file : Option ℕ) where
+  by_once : (held : ℕ) (image : List ℕ) (w : Walk) (l : Option Basis) (a b : Reply) → TellsBy file held image w l a → TellsBy file held image w l b
+      → a ≡ b
+  by_once held image w l a b (inl (none, x)) (inl (also, y)) = x ∙ sym y
+  by_once held image w l a b (inl (none, x)) (inr (some, y)) = let clash = sym none ∙ some in absurd cc
+  by_once held image w l a b (inr (some, x)) (inl (none, y)) = let clash = sym none ∙ some in absurd cc
+  by_once held image w l a b (inr (some, x)) (inr (also, y)) = known_told_once file (known_blocks image w l held) a b x y
 
-second_listed_once : (held : ℕ) (image : List ℕ) (w : Walk) (second : Option (List ℕ)) (a b : Reply) → ListsSecond held image w second a
-    → ListsSecond held image w second b → a ≡ b
-second_listed_once held image w second a b (l, is, x) (m, also, y) =
-    by_once held image w m a b (subst (λ o. ListsBy held image w o a) (one_second second l m is also) x) y
+  second_told_once : (held : ℕ) (image : List ℕ) (w : Walk) (second : Option (List ℕ)) (a b : Reply) → TellsSecond file held image w second a
+      → TellsSecond file held image w second b → a ≡ b
+  second_told_once held image w second a b (l, is, x) (m, also, y) =
+      by_once held image w m a b (subst (λ o. TellsBy file held image w o a) (one_second second l m is also) x) y
 
-deleted_once : (made : Bool) (held : ℕ) (image : List ℕ) (a b : Reply) → ListsDeleted made held image a → ListsDeleted made held image b → a ≡ b
-deleted_once made held image a b (w, fs, h, x) (u, gs, t, y) =
-    let same = one_survey image w u fs gs h t in
-    let moved = subst (λ (v : Walk). ListsSecond held image v (second_image made image v fs) a) same.0 x in
-    second_listed_once held image u (second_image made image u gs) a b
-    (subst (λ (hs : List FindingValue). ListsSecond held image u (second_image made image u hs) a) same.1 moved) y
+  deleted_once : (made : Bool) (held : ℕ) (image : List ℕ) (a b : Reply) → TellsRead file made held image a → TellsRead file made held image b → a ≡ b
+  deleted_once made held image a b (w, fs, h, x) (u, gs, t, y) =
+      let same = one_survey image w u fs gs h t in
+      let moved = subst (λ (v : Walk). TellsSecond file held image v (second_image made image v fs) a) same.0 x in
+      second_told_once held image u (second_image made image u gs) a b
+      (subst (λ (hs : List FindingValue). TellsSecond file held image u (second_image made image u hs) a) same.1 moved) y
 
-typed_deleted_once : (s : SubjectValue) (a b : Reply) → ListsTyped s a → ListsTyped s b → a ≡ b
-typed_deleted_once s a b (t, is, x) (u, also, y) =
-    deleted_once (lacks_root u.image) u.end (pruned (opened u.image)) a b
-    (subst (λ (t : SubjectValue). ListsTold t a) (one_typed s t u is also) x) y
+  typed_deleted_once : (s : SubjectValue) (a b : Reply) → TellsTyped file s a → TellsTyped file s b → a ≡ b
+  typed_deleted_once s a b (t, is, x) (u, also, y) =
+      deleted_once (lacks_root u.image) u.end (pruned (opened u.image)) a b
+      (subst (λ (t : SubjectValue). TellsRefused file t a) (one_typed s t u is also) x) y
 
 one_question : (q : QuestionValue) (s : SubjectValue) (a b : Reply) → QuestionAnswer q s a → QuestionAnswer q s b → a ≡ b
 one_question (report json) s a b x y = typed_once s (Surveys json) (surveyed_once json) a b x y
@@ -207,7 +210,7 @@ one_question (cat damaged path) s a b (inl (bad, x)) (inl (worse, y)) = x ∙ sy
 one_question (cat damaged path) s a b (inl (bad, x)) (inr (t, is, h)) = absurd (bad h.0 h.1)
 one_question (cat damaged path) s a b (inr (t, is, h)) (inl (bad, y)) = absurd (bad h.0 h.1)
 one_question (cat damaged path) s a b (inr h) (inr g) = typed_once s (CopiesFromSurvey damaged path) (copied_once damaged path) a b h g
-one_question deleted s a b x y = typed_deleted_once s a b x y
+one_question (deleted file) s a b x y = typed_deleted_once file s a b x y
 one_question (rescue keep_type) s a b x y = typed_rescued_once (types_kept keep_type) s a b x y
 
 pub one_answer : (r : InquiryValue) (input : List ℕ) (a b : Reply) → SurveyAnswer r input a → SurveyAnswer r input b → a ≡ b

@@ -13,9 +13,9 @@ use Rattle.adf_survey_cmd.specs.declared.command_line.Question.TheVariants.{Cat,
 abbrev pub blocks_rule : Rule
 blocks_rule = record (new_rule (codes "blocks")) { long = Some (codes "blocks") }
 
--- cat [--damaged] PATH [FILE]
+-- cat [--damaged] PATH [FILE], or cat --deleted BLOCK [FILE]
 abbrev pub survey_cat_app : App
-survey_cat_app = with_rule (with_rule cat_app (flag_rule (codes "damaged"))) file_rule
+survey_cat_app = with_rule (with_rule (with_rule cat_app (flag_rule (codes "damaged"))) (flag_rule (codes "deleted"))) file_rule
 
 -- rescue [--keep-type] [FILE]
 abbrev pub survey_rescue_app : App
@@ -33,18 +33,20 @@ numbered_survey = with_rule (bare_app (codes "adf-survey")) blocks_rule
 abbrev pub flagged_survey : App
 flagged_survey = with_rule (with_rule (with_rule numbered_survey (flag_rule (codes "list"))) (flag_rule (codes "json"))) file_rule
 
--- the command line: [--blocks N], and [--list] [--json] [FILE], cat [--damaged] PATH [FILE], rescue [--keep-type] [FILE], or deleted [FILE]
+-- the command line: [--blocks N], and [--list] [--json] [FILE], cat [--damaged] PATH [FILE], cat --deleted BLOCK [FILE], rescue
+-- [--keep-type] [FILE], or deleted [FILE]
 abbrev pub survey_app : App
 survey_app = with_subcommand (with_subcommand (with_subcommand flagged_survey survey_cat_app.top) survey_rescue_app.top) survey_deleted_app.top
 
 -- what is asked of an image: all findings; these and what is found, both as lines or as objects; the bytes of a file, which is sound or may be damaged; a new
--- volume of all that stands, which keeps the letters of the image, or has ASCII letters; or the deleted headers
+-- volume of all that stands, which keeps the letters of the image, or has ASCII letters; or the deleted headers, or the
+-- bytes of the file of one, by its block
 pub data QuestionValue : Type 0 where
   report : (json : Bool) → QuestionValue
   list : (json : Bool) → QuestionValue
   cat : (damaged : Bool) → Text → QuestionValue
   rescue : (keep_type : Bool) → QuestionValue
-  deleted : QuestionValue
+  deleted : (file : Option ℕ) → QuestionValue
 
 -- what a command line asks for, of the image as it is or as if it had so many blocks
 pub record InquiryValue : Type 0 where
@@ -59,12 +61,21 @@ asked blocks question = record { blocks = blocks; question = question }
 abbrev pub blocks_met : List Row → Option (Option ℕ)
 blocks_met rows = elim (first_of (codes "blocks") rows) [ None ↦ Some None | Some text ↦ option_map Some (number_named MOST_BLOCKS text) ]
 
+-- what `cat` asks of the file under a path, or with --deleted of the one whose header is in a block; not with --damaged too
+abbrev pub cat_asked : (deleted_one damaged : Bool) → Text → Option QuestionValue
+cat_asked deleted_one damaged text =
+    if deleted_one then (if damaged then None else option_map (λ b. deleted (Some b)) (number_named MOST_BLOCKS text)) else Some (cat damaged text)
+
+-- the same by the matches, with their path
+unfoldable pub cat_met : List Row → Option QuestionValue
+cat_met rows = option_and_then (cat_asked (has_flag (codes "deleted") rows) (has_flag (codes "damaged") rows)) (first_of (codes "path") rows)
+
 -- what a subcommand's name and matches ask
 abbrev pub question_named : Text → List Row → Option QuestionValue
 question_named name rows =
-    if bytes_eq name (codes "cat") then option_map (cat (has_flag (codes "damaged") rows)) (first_of (codes "path") rows)
+    if bytes_eq name (codes "cat") then cat_met rows
     else (if bytes_eq name (codes "rescue") then Some (rescue (has_flag (codes "keep-type") rows))
-    else (if bytes_eq name (codes "deleted") then Some deleted else None))
+    else (if bytes_eq name (codes "deleted") then Some (deleted None) else None))
 
 -- the flag --list, the flag --json or a FILE is among the matches
 abbrev pub excludes_subcommand : List Row → Bool
@@ -95,7 +106,8 @@ AsksSurvey args r = (fault_of survey_app args ≡ []) × (inquiry_of args ≡ So
 abbrev pub AsksSurveyOf : List Text → InquiryValue → Option Text → Type 0
 AsksSurveyOf args r file = AsksSurvey args r × (survey_file args ≡ file)
 
--- clap refuses the arguments, or its matches lack the path, have such a flag or a file before a subcommand, or have another text than a number of blocks
+-- clap refuses the arguments, or its matches lack the path, have such a flag or a file before a subcommand, have another text than a number of
+-- blocks or of a block, or have --damaged beside --deleted
 abbrev pub AreRefusedBySurvey : List Text → Type 0
 AreRefusedBySurvey args = (¬ (fault_of survey_app args ≡ [])) ⊎ (inquiry_of args ≡ None)
 
@@ -105,7 +117,7 @@ question_value (Report json) = report json
 question_value (ListAll json) = list json
 question_value (Cat path damaged) = cat damaged path.now
 question_value (Rescue keep_type) = rescue keep_type
-question_value Deleted = deleted
+question_value (Deleted file) = deleted file
 
 -- the value of an inquiry as the code has it
 abbrev pub inquiry_value : Inquiry → InquiryValue

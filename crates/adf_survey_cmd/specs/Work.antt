@@ -16,7 +16,7 @@ Shows (Cat names damaged) q = (path : List ℕ) × (q ≡ cat damaged path) × I
 -- the task is what is asked
 abbrev pub Answers : Task → QuestionValue → Type 0
 Answers (Show view) q = Shows view q
-Answers Deleted q = q ≡ deleted
+Answers (Deleted file) q = q ≡ deleted file
 Answers (Rescue types) q = (keep_type : Bool) × (types ≡ types_kept keep_type) × (q ≡ rescue keep_type)
 
 -- the work is what is asked for, of as many blocks, if any are named

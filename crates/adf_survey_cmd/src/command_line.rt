@@ -5,9 +5,9 @@ ghost use Rattle.clap.specs.Words.{app_of, fault_of, found_of, matches_of, rows_
 ghost use Rattle.clap.specs.declared.builder.command.Command.TheViews.{out-Command};
 ghost use Rattle.adf_words.specs.{CommandLine.ExplainsArgs, CommandLine.texts_of, FileArguments.file_meant};
 ghost use Rattle.adf_words.specs.declared.command_line.ArgsError.TheVariants.{Usage};
-ghost use Rattle.adf_survey_cmd.specs.CommandLine.{AsksSurvey, AsksSurveyOf, AreRefusedBySurvey, blocks_met, asked, cat};
+ghost use Rattle.adf_survey_cmd.specs.CommandLine.{AsksSurvey, AsksSurveyOf, AreRefusedBySurvey, asked, blocks_met, cat, cat_asked};
 ghost use Rattle.adf_subjects.specs.Lengths.{AreFew};
-ghost use Rattle.adf_survey_cmd.specs.CommandLine.{flagged_survey, list, inquiry_met, inquiry_value, question_met};
+ghost use Rattle.adf_survey_cmd.specs.CommandLine.{cat_met, flagged_survey, list, inquiry_met, inquiry_value, question_met};
 ghost use Rattle.adf_survey_cmd.specs.CommandLine.{deleted, question_named, question_value, report, rescue};
 ghost use Rattle.adf_survey_cmd.specs.CommandLine.{survey_app, survey_cat_app};
 ghost use Rattle.adf_survey_cmd.specs.CommandLine.{survey_deleted_app, survey_file, survey_rescue_app};
@@ -24,6 +24,7 @@ use std::alloc::{AllocError, Global};
 /// What is said of arguments that are refused.
 pub const SURVEY_USAGE: &str =
     "usage: adf-survey [--blocks N] [--list] [--json] [FILE]\n       adf-survey [--blocks N] cat [--damaged] PATH [FILE]\n\
+    \x20      adf-survey [--blocks N] cat --deleted BLOCK [FILE]\n\
     \x20      adf-survey [--blocks N] rescue [--keep-type] [FILE]\n\
     \x20      adf-survey [--blocks N] deleted [FILE]\n\
     without a FILE the image comes on standard input; man adf-survey tells more\n";
@@ -36,6 +37,8 @@ pub const ABOUT: About = About {
     \x20          each finding; with --list each entry that is found too; with --json each line is an object\n\
     \x20      adf-survey [--blocks N] cat [--damaged] PATH [FILE]\n\
     \x20          a sound file; with --damaged what is left of any file\n\
+    \x20      adf-survey [--blocks N] cat --deleted BLOCK [FILE]\n\
+    \x20          what is left of the deleted file whose header is in this block\n\
     \x20      adf-survey [--blocks N] rescue [--keep-type] [FILE] > NEW\n\
     \x20          a new volume of all that can be kept; with --keep-type of the letters of the image\n\
     \x20      adf-survey [--blocks N] deleted [FILE]\n\
@@ -57,8 +60,8 @@ pub enum Question<'a> {
     Cat { path: &'a str, damaged: bool },
     /// A new volume of all that stands, and whether it keeps the letters of the image, or has ASCII letters.
     Rescue { keep_type: bool },
-    /// The deleted headers.
-    Deleted,
+    /// The deleted headers, or the bytes of the file of one, by its block.
+    Deleted { file: Option<u32> },
 }
 
 /// What a command line asks for.
@@ -80,12 +83,13 @@ fn flagged<'a>(alloc: Global) -> Result<Command<'a>, AllocError>
     with_argument(objects, file_argument(alloc))
 }
 
-// The command `cat [--damaged] PATH [FILE]`.
+// The command `cat [--damaged] PATH [FILE]`, or `cat --deleted BLOCK [FILE]`.
 fn survey_cat_command<'a>(alloc: Global) -> Result<Command<'a>, AllocError>
     ensures app { IfOk result (λ c. app_of c ≡ survey_cat_app) }
     ensures local { IfOk result (λ c. (out-Command c).has_globals ≡ false) }
 {
-    let cats = with_argument(cat_command(alloc), flag(alloc, "damaged"));
+    let damaged = with_argument(cat_command(alloc), flag(alloc, "damaged"));
+    let cats = with_argument(damaged, flag(alloc, "deleted"));
     with_argument(cats, file_argument(alloc))
 }
 
@@ -129,25 +133,51 @@ fn blocks_in(matches: &ArgMatches<'_>) -> Option<Option<u32>>
     }
 }
 
+// What `cat` asks of the file under a path, or with `--deleted` of the one whose header is in a block.
+fn cat_asked(deleted_one: bool, damaged: bool, text: &str) -> Option<Question<'_>>
+    ensures { option_map question_value result ≡ cat_asked deleted_one damaged text.now }
+{
+    if !deleted_one {
+        return Some(Question::Cat {
+            path: text,
+            damaged,
+        });
+    }
+    if damaged {
+        return None;
+    }
+    match number_named(text, MOST_BLOCKS) {
+        Some(block) => Some(Question::Deleted { file: Some(block) }),
+        None => None,
+    }
+}
+
+// What the matches of `cat` ask.
+#[tactic(auto, unfolding(crate::specs::CommandLine::cat_met))]
+fn cat_in<'a>(found: &ArgMatches<'a>) -> Option<Question<'a>>
+    ensures { option_map question_value result ≡ cat_met (rows_of (found_of found.now)) }
+{
+    let deleted_one = has_flag(found, "deleted");
+    let damaged = has_flag(found, "damaged");
+    match first_text(found, "path") {
+        Some(text) => cat_asked(deleted_one, damaged, text),
+        None => None,
+    }
+}
+
 // What a subcommand's name and matches ask.
 fn question_named<'a>(name: &str, found: &ArgMatches<'a>) -> Option<Question<'a>>
     ensures { option_map question_value result
         ≡ question_named name.now (rows_of (found_of found.now)) }
 {
     if name == "cat" {
-        match first_text(found, "path") {
-            Some(path) => Some(Question::Cat {
-                path,
-                damaged: has_flag(found, "damaged"),
-            }),
-            None => None,
-        }
+        cat_in(found)
     } else if name == "rescue" {
         Some(Question::Rescue {
             keep_type: has_flag(found, "keep-type"),
         })
     } else if name == "deleted" {
-        Some(Question::Deleted)
+        Some(Question::Deleted { file: None })
     } else {
         None
     }
@@ -195,7 +225,8 @@ fn survey_matches<'a>(alloc: Global, args: &'a [&str]) -> Result<ArgMatches<'a>,
 }
 
 /// Reads the arguments; the first one is the program's name. `Usage` if and only if clap refuses them or its matches lack the
-/// path, have `--list`, `--json` or a file before a command, or have no number of blocks; `NoMemory` if an allocation failed.
+/// path, have `--list`, `--json` or a file before a command, have no number of blocks or of a block, or `--damaged` beside
+/// `--deleted`; `NoMemory` if an allocation failed.
 pub fn parse_survey<'a>(alloc: Global, args: &'a [&str]) -> Result<Inquiry<'a>, ArgsError>
     ensures ok { IfOk result (λ inquiry.
         AsksSurvey (texts_of args.entry.now) (inquiry_value inquiry)) }
@@ -219,7 +250,7 @@ pub fn survey_file<'a>(alloc: Global, args: &'a [&str]) -> Result<Option<&'a str
 
 /// The arguments of the documentation are taken with what they ask for and the file that they name, and other
 /// arguments are refused, calls for help among them.
-#[tactic(auto, unfolding(clap::proofs::OnLiterals::clap_on_literals))]
+#[tactic(auto, unfolding(clap::proofs::OnLiterals::clap_on_literals, crate::specs::CommandLine::cat_met))]
 pub fn survey_words_as_documented()
     ensures report { AsksSurveyOf (codes "adf-survey" ∷ []) (asked None (report false)) None }
     ensures no_args { AsksSurveyOf [] (asked None (report false)) None }
@@ -297,12 +328,24 @@ pub fn survey_words_as_documented()
     ensures blocks_keep_type { AsksSurveyOf
         (codes "adf-survey" ∷ codes "--blocks" ∷ codes "1760" ∷ codes "rescue" ∷ codes "--keep-type" ∷ [])
         (asked (Some 1760) (rescue true)) None }
-    ensures deleted { AsksSurveyOf (codes "adf-survey" ∷ codes "deleted" ∷ []) (asked None deleted) None }
+    ensures deleted { AsksSurveyOf (codes "adf-survey" ∷ codes "deleted" ∷ []) (asked None (deleted None)) None }
     ensures deleted_file { AsksSurveyOf (codes "adf-survey" ∷ codes "deleted" ∷ codes "a.adf" ∷ [])
-        (asked None deleted) (Some (codes "a.adf")) }
+        (asked None (deleted None)) (Some (codes "a.adf")) }
     ensures deleted_any { (file : List ℕ) → AsksSurveyOf
         (codes "adf-survey" ∷ codes "deleted" ∷ codes "--" ∷ file ∷ [])
-        (asked None deleted) (file_meant file) }
+        (asked None (deleted None)) (file_meant file) }
+    ensures deleted_block { AsksSurveyOf
+        (codes "adf-survey" ∷ codes "cat" ∷ codes "--deleted" ∷ codes "412" ∷ codes "a.adf" ∷ [])
+        (asked None (deleted (Some 412))) (Some (codes "a.adf")) }
+    ensures deleted_block_behind { AsksSurveyOf
+        (codes "adf-survey" ∷ codes "cat" ∷ codes "412" ∷ codes "--deleted" ∷ [])
+        (asked None (deleted (Some 412))) None }
+    ensures deleted_name { AreRefusedBySurvey
+        (codes "adf-survey" ∷ codes "cat" ∷ codes "--deleted" ∷ codes "readme" ∷ []) }
+    ensures deleted_damaged { AreRefusedBySurvey
+        (codes "adf-survey" ∷ codes "cat" ∷ codes "--deleted" ∷ codes "--damaged" ∷ codes "412" ∷ []) }
+    ensures deleted_no_block { AreRefusedBySurvey
+        (codes "adf-survey" ∷ codes "cat" ∷ codes "--deleted" ∷ []) }
     ensures deleted_two { AreRefusedBySurvey
         (codes "adf-survey" ∷ codes "deleted" ∷ codes "a" ∷ codes "b" ∷ []) }
     ensures list_deleted { AreRefusedBySurvey

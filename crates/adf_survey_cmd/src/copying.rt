@@ -64,8 +64,8 @@ fn push_gap(text: &mut Vec<u8>, gap: Gap) -> Result<(), AllocError>
     text.extend_from_slice(b" no data\n")
 }
 
-// The lines of bytes that are no data.
-fn gap_lines(alloc: Global, gaps: &[Gap]) -> Result<Vec<u8>, AllocError>
+/// The lines of bytes that are no data.
+pub fn gap_lines(alloc: Global, gaps: &[Gap]) -> Result<Vec<u8>, AllocError>
     ensures { IfOk result (λ text. text.items ≡ flat_map gap_line gaps.now) }
 {
     let mut text = Vec::new(alloc);

@@ -10,12 +10,13 @@ ghost use Rattle.adf_deleted.specs.Paths.{former_path};
 ghost use Rattle.adf_texts.specs.Names.{names_text};
 ghost use Rattle.adf_texts.specs.VolumeLines.{AreDates};
 ghost use Rattle.adf_runs.specs.{Commands.on_errors, Commands.on_output, Outcomes.Does, Outcomes.DoesSilently, Streams.seen};
-ghost use Rattle.adf_survey_cmd.specs.Deletions.{ListsBy, ListsDeleted, ListsSecond, ListsTold, ListsTyped};
+ghost use Rattle.adf_survey_cmd.specs.Deletions.{ListsHeaders, TellsBy, TellsRead, TellsSecond, TellsRefused, TellsTyped};
 ghost use Rattle.adf_survey_cmd.specs.Deletions.{TellsDeleted, deleted_line, what_stands_text};
 ghost use Rattle.adf_survey_cmd.specs.Deletions.{block_text, contested_text, deleted_lines, header_line};
 ghost use Rattle.adf_survey_cmd.specs.Deletions.{is_surveyed, line_if_deleted, of_text, overwritten_text};
 ghost use Rattle.adf_subjects.specs.Subject.{subject_value};
 
+use crate::recovering::copy_deleted;
 use adf_blocks::{HeadBody, meta_stated};
 use adf_deleted::{Deletions, Known, State, know};
 use adf_findings::{Survey, survey};
@@ -41,8 +42,8 @@ fn push_path(
     push_names(text, &path)
 }
 
-// Appends that another header names a block of a file.
-fn push_contested(
+/// Appends that another header names a block of a file.
+pub fn push_contested(
     alloc: Global,
     deletions: &Deletions<'_>,
     rival: u32,
@@ -63,8 +64,8 @@ fn push_of(text: &mut Vec<u8>, asked: u32) -> Result<(), AllocError>
     text.extend_from_slice(b"blocks")
 }
 
-// Appends how many blocks of a file do not stand.
-fn push_overwritten(text: &mut Vec<u8>, lost: u32, asked: u32) -> Result<(), AllocError>
+/// Appends how many blocks of a file do not stand.
+pub fn push_overwritten(text: &mut Vec<u8>, lost: u32, asked: u32) -> Result<(), AllocError>
     ensures { OnOk result (text.new.items ≡ text.old.items ++ overwritten_text lost asked) }
 {
     text.extend_from_slice(b"overwritten: ")?;
@@ -176,17 +177,33 @@ fn write_text<W: Sink>(text: &Vec<u8>, output: &mut W) -> Outcome
     }
 }
 
-// Writes the lines of the deleted headers of an image of which this is known.
-fn write_known<W: Sink>(alloc: Global, known: Known<'_>, output: &mut W) -> Outcome
+// Writes the lines of the deleted headers.
+fn list_headers<W: Sink>(alloc: Global, deletions: &Deletions<'_>, output: &mut W) -> Outcome
     requires { W.has_failed output.old ≡ false }
-    ensures { Does (TellsDeleted known.entry) result (seen W.held W.has_failed output.old output.new) }
+    ensures { Does (ListsHeaders deletions.now) result (seen W.held W.has_failed output.old output.new) }
+{
+    match deleted_lines(alloc, deletions) {
+        Ok(text) => write_text(&text, output),
+        Err(_) => Outcome::NoMemory,
+    }
+}
+
+// Tells what is asked of the deleted headers of an image of which this is known.
+fn tell_known<W: Sink>(
+    alloc: Global,
+    known: Known<'_>,
+    file: Option<u32>,
+    output: &mut W,
+) -> Outcome
+    requires { W.has_failed output.old ≡ false }
+    ensures { Does (TellsDeleted file known.entry) result (seen W.held W.has_failed output.old output.new) }
 {
     let Ok(deletions) = Deletions::of(alloc, known) else {
         return Outcome::NoMemory;
     };
-    match deleted_lines(alloc, &deletions) {
-        Ok(text) => write_text(&text, output),
-        Err(_) => Outcome::NoMemory,
+    match file {
+        None => list_headers(alloc, &deletions, output),
+        Some(b) => copy_deleted(alloc, &deletions, b, output),
     }
 }
 
@@ -208,63 +225,71 @@ fn is_surveyed(survey: &Survey<'_>) -> bool
     is_image_len(survey.image().len()) && survey.opening().is_some()
 }
 
-// Writes the lines of the deleted headers by the surveys of an image of which the input holds so many blocks.
-fn write_by<W: Sink>(
+// What is asked of the deleted headers: what is left of the file of one, by its block, or their lines; and how many blocks of
+// the image the input holds.
+#[derive(Clone, Copy)]
+struct Wish {
+    file: Option<u32>,
+    held: u32,
+}
+
+// Tells what is asked of the deleted headers by the surveys of an image.
+fn tell_by<W: Sink>(
     alloc: Global,
     survey: &Survey<'_>,
     second: Option<&Survey<'_>>,
-    held: u32,
+    wish: Wish,
     output: &mut W,
 ) -> Outcome
     requires { W.has_failed output.old ≡ false }
     ensures { OnSurvey survey.now.image (λ w _. OnSecond (option_map (λ s. s.now.image) second.entry) (λ l.
-        Does (ListsBy held survey.now.image w l) result (seen W.held W.has_failed output.old output.new))) }
+        Does (TellsBy wish.file wish.held survey.now.image w l) result (seen W.held W.has_failed output.old output.new))) }
 {
     if !is_surveyed(survey) {
         return no_volume(alloc);
     }
-    match know(alloc, survey, second, held) {
-        Ok(known) => write_known(alloc, known, output),
+    match know(alloc, survey, second, wish.held) {
+        Ok(known) => tell_known(alloc, known, wish.file, output),
         Err(_) => Outcome::NoMemory,
     }
 }
 
-// Writes the lines of the deleted headers by the survey of an image, and by that of its hung image.
-fn write_hung<W: Sink>(
+// Tells what is asked of the deleted headers by the survey of an image, and by that of its hung image.
+fn tell_hung<W: Sink>(
     alloc: Global,
     found: &Survey<'_>,
     hung: &[u8],
-    held: u32,
+    wish: Wish,
     output: &mut W,
 ) -> Outcome
     requires { W.has_failed output.old ≡ false }
-    ensures { OnSurvey found.now.image (λ w _. Does (ListsSecond held found.now.image w (Some hung.now)) result
+    ensures { OnSurvey found.now.image (λ w _. Does (TellsSecond wish.file wish.held found.now.image w (Some hung.now)) result
         (seen W.held W.has_failed output.old output.new)) }
 {
     let Ok(second) = survey(alloc, hung) else {
         return Outcome::NoMemory;
     };
     second.whole_marks();
-    write_by(alloc, found, Some(&second), held, output)
+    tell_by(alloc, found, Some(&second), wish, output)
 }
 
-// Writes the lines of the deleted headers of an image, whose root was made or not, and of which the input holds so many blocks.
-fn write_read<W: Sink>(
+// Tells what is asked of the deleted headers of an image, whose root was made or not.
+fn tell_read<W: Sink>(
     alloc: Global,
     image: &[u8],
     made: bool,
-    held: u32,
+    wish: Wish,
     output: &mut W,
 ) -> Outcome
     requires { W.has_failed output.old ≡ false }
-    ensures { Does (ListsDeleted made held image.now) result (seen W.held W.has_failed output.old output.new) }
+    ensures { Does (TellsRead wish.file made wish.held image.now) result (seen W.held W.has_failed output.old output.new) }
 {
     let Ok(found) = survey(alloc, image) else {
         return Outcome::NoMemory;
     };
     match hung_image(alloc, &found, made) {
-        Ok(Some(hung)) => write_hung(alloc, &found, &hung, held, output),
-        Ok(None) => write_by(alloc, &found, None, held, output),
+        Ok(Some(hung)) => tell_hung(alloc, &found, &hung, wish, output),
+        Ok(None) => tell_by(alloc, &found, None, wish, output),
         Err(_) => Outcome::NoMemory,
     }
 }
@@ -277,25 +302,39 @@ fn read_refused(image: &mut [u8])
     prune_image(image);
 }
 
-// Writes the lines of the deleted headers of the image that a rescue reads of what is surveyed.
-fn write_typed<W: Sink>(alloc: Global, subject: Subject, output: &mut W) -> Outcome
+// Tells what is asked of the deleted headers of the image that a rescue reads of what is surveyed.
+fn tell_typed<W: Sink>(
+    alloc: Global,
+    subject: Subject,
+    file: Option<u32>,
+    output: &mut W,
+) -> Outcome
     requires { W.has_failed output.old ≡ false }
-    ensures { Does (ListsTold (subject_value subject)) result (seen W.held W.has_failed output.old output.new) }
+    ensures { Does (TellsRefused file (subject_value subject)) result (seen W.held W.has_failed output.old output.new) }
 {
     let made = lacks_root(&subject.image);
-    let held = subject.end;
+    let wish = Wish {
+        file,
+        held: subject.end,
+    };
     let mut image = subject.image;
     read_refused(&mut image);
-    write_read(alloc, &image, made, held, output)
+    tell_read(alloc, &image, made, wish, output)
 }
 
-/// Writes the lines of the deleted headers of what is surveyed of an input, once its image has the type that its files say.
-pub fn list_deleted<W: Sink>(alloc: Global, mut subject: Subject, output: &mut W) -> Outcome
+/// Writes the lines of the deleted headers of what is surveyed of an input, once its image has the type that its files say; or
+/// what is left of the file of one, by its block, and errors get the lines of what is not whole.
+pub fn tell_deleted<W: Sink>(
+    alloc: Global,
+    mut subject: Subject,
+    file: Option<u32>,
+    output: &mut W,
+) -> Outcome
     requires { W.has_failed output.old ≡ false }
-    ensures { Does (ListsTyped (subject_value subject)) result (seen W.held W.has_failed output.old output.new) }
+    ensures { Does (TellsTyped file (subject_value subject)) result (seen W.held W.has_failed output.old output.new) }
 {
     match subject.be_typed(alloc) {
-        Ok(()) => write_typed(alloc, subject, output),
+        Ok(()) => tell_typed(alloc, subject, file, output),
         Err(_) => Outcome::NoMemory,
     }
 }

@@ -1,12 +1,14 @@
-// The laws of rescues that are written. Each is the contract of a function that does nothing at run time.
+// The laws of rescues and of deleted files that are written. Each is the contract of a function that does nothing at run time.
 
-ghost use Rattle.std.specs.Prelude.{◌≡◌, ◌≢◌, ◌<◌, ◌≤◌, ℕ, Bool, List, [], Option, length, true};
+ghost use Rattle.std.specs.Prelude.{◌≡◌, ◌≢◌, ◌<◌, ◌≤◌, ◌↔◌, ℕ, Bool, List, [], Option, length, true};
 ghost use Rattle.std.specs.List.{All};
 ghost use Rattle.adf_volume.specs.{Fits.FitsBy, Layout.Layout, Types.letters_for, declared.types.Types.Types};
 ghost use Rattle.adf_boot_blocks.specs.{BootBlocks.begins_with_dos, Writing.HasBootOf, declared.boot.TheConstants.BOOT_LEN};
 ghost use Rattle.adf_rescue.specs.{Rescue.Basis, Rescue.rescued_tree_by, declared.standing.Input.Input};
+ghost use Rattle.adf_deleted.specs.{Deletions.state_of, Known.KnownValue, Left.is_deleted_file};
+ghost use Rattle.adf_deleted.specs.declared.deletions.State.TheVariants.{Whole};
 ghost use Rattle.adf_runs.specs.Commands.{Reply};
-ghost use Rattle.adf_survey_cmd.specs.{CommandLine.asked, CommandLine.rescue, Answers.SurveyAnswer};
+ghost use Rattle.adf_survey_cmd.specs.{CommandLine.asked, CommandLine.rescue, Answers.SurveyAnswer, Deletions.left_reply};
 ghost use Rattle.adf_subjects.specs.{Losses.LossValue, Subject.meant};
 ghost use Rattle.adf_subjects.specs.Rescues.{GivesVolume, RescueValue, rescue_reply};
 
@@ -22,4 +24,9 @@ pub fn rescued_volumes()
         → SurveyAnswer (asked blocks (rescue keep_type)) input reply → reply.output ≢ []
         → All (λ byte. byte < 256) input → begins_with_dos (meant blocks input) ≡ true
         → HasBootOf (meant blocks input) reply.output }
+{}
+
+/// What is left of a deleted file is written with status 0 if and only if the file is whole: then there is no line.
+pub fn status_tells_whole()
+    ensures { (k : KnownValue) (h : ℕ) → is_deleted_file k h ≡ true → ((left_reply k h).status ≡ 0) ↔ (state_of k h ≡ Whole) }
 {}

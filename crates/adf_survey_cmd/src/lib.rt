@@ -10,6 +10,7 @@ mod hints;
 mod laws;
 mod listing;
 mod loss_lines;
+mod recovering;
 mod reporting;
 mod rescuing;
 mod runner;
@@ -18,6 +19,6 @@ mod work;
 pub use crate::command_line::{
     Inquiry, Question, parse_survey as parse, survey_words_as_documented,
 };
-pub use crate::laws::rescued_volumes;
+pub use crate::laws::{rescued_volumes, status_tells_whole};
 pub use crate::runner::{one_answer, run_files};
 pub use crate::work::{Task, View, Work};

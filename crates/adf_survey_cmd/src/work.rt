@@ -12,7 +12,7 @@ ghost use Rattle.adf_subjects.specs.Subject.{IsTyped, SubjectValue, begun_subjec
 
 use crate::command_line::{Question, SURVEY_USAGE as USAGE, parse_survey, survey_file};
 use crate::copying::{Asked, copy_found};
-use crate::deleting::list_deleted;
+use crate::deleting::tell_deleted;
 use crate::hints::{hinted, is_hard_disk};
 use crate::listing::write_list;
 use crate::reporting::write_findings;
@@ -42,7 +42,8 @@ pub enum Task {
     Show(View),
     /// The volume may have these types.
     Rescue(Types),
-    Deleted,
+    /// The deleted headers, or what is left of the file of one, by its block.
+    Deleted(Option<u32>),
 }
 
 /// What is done with an image as it is, or as if it had so many blocks.
@@ -77,7 +78,7 @@ fn task_for(alloc: Global, question: Question<'_>) -> Result<Task, WorkFault>
             Ok(Task::Show(View::Cat { names, damaged }))
         }
         Question::Rescue { keep_type } => Ok(Task::Rescue(types_kept(keep_type))),
-        Question::Deleted => Ok(Task::Deleted),
+        Question::Deleted { file } => Ok(Task::Deleted(file)),
     }
 }
 
@@ -242,7 +243,7 @@ impl Task {
         match self {
             Task::Show(view) => view.of_subject(alloc, subject, output),
             Task::Rescue(types) => rescue_subject(alloc, subject, *types, output),
-            Task::Deleted => list_deleted(alloc, subject, output),
+            Task::Deleted(file) => tell_deleted(alloc, subject, *file, output),
         }
     }
 }

@@ -1,5 +1,5 @@
 use Rattle.std.proofs.Common.{◌∙◌, arith, refl}
-use Rattle.adf_deleted.proofs.ClaimSteps.{claim_first, claim_last, claim_more}
+use Rattle.adf_deleted.proofs.ClaimSteps.{claim_first, claim_more}
 use Rattle.adf_deleted.proofs.claims.claim_all.Goals as goal
 
 pub loop-i-init : goal.loop-i-init

@@ -1,6 +1,3 @@
-use Rattle.std.proofs.Common.{◌≡◌, ◌∙◌, ap, arith, map}
-use Rattle.std.specs.List.{range_with_len}
-use Rattle.adf_blocks.specs.Sizes.{blocks}
 use Rattle.adf_deleted.specs.Known.{is_found}
 use Rattle.adf_deleted.proofs.Marks.{marks_more}
 use Rattle.adf_deleted.proofs.known.found.Goals as goal

@@ -1,4 +1,3 @@
-use Rattle.std.proofs.Common.{map}
 use Rattle.adf_rescue.specs.Lost.{is_stated_used}
 use Rattle.adf_deleted.proofs.Marks.{marks_more}
 use Rattle.adf_deleted.proofs.known.used.Goals as goal

@@ -1,5 +1,5 @@
-use Rattle.std.proofs.Common.{◌≡◌, ◌++◌, ◌∷◌, ◌∙◌, [], List, ℕ, arith, codes, map, refl, reverse, sym, ap}
-use Rattle.std.proofs.lemmas.{Grind.common_steps, List.map-append}
+use Rattle.std.proofs.Common.{◌≡◌, ◌++◌, ◌∷◌, ◌∙◌, [], arith, codes, map, refl, reverse, sym, ap}
+use Rattle.std.proofs.lemmas.{List.map-append}
 use Rattle.adf_deleted.specs.Paths.{path_down, path_end, former_path}
 use Rattle.adf_deleted.proofs.PathSteps.{ends_at_root, ends_unknown, names_turned, path_known, path_on, path_unknown, stop_at_end, stop_at_steps}
 use Rattle.adf_deleted.proofs.paths.former_path.Goals.{then-loop-steps-test+else-is_below_root, else-loop-steps-test}

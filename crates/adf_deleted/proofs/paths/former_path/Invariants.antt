@@ -1,4 +1,4 @@
-use Rattle.std.proofs.Common.{◌≡◌, ◌++◌, ◌≤◌, map, reverse, ℕ}
+use Rattle.std.proofs.Common.{◌≡◌, ◌++◌, map, reverse}
 use Rattle.adf_deleted.specs.Paths.{path_down, former_path}
 use Rattle.adf_deleted.proofs.paths.former_path.Given as goal
 

@@ -1,6 +1,5 @@
-use Rattle.std.proofs.Common.{◌≡◌, ◌+◌, ◌/◌, arith}
+use Rattle.std.proofs.Common.{◌≡◌, ◌+◌, arith}
 use Rattle.std.proofs.lemmas.Grind.{common_steps}
-use Rattle.adf_blocks.specs.declared.layout.TheConstants.{POINTERS}
 use Rattle.adf_deleted.specs.Pointers.{pointers_of}
 use Rattle.adf_deleted.proofs.Tables.{more_pointers, table_kept, table_turned}
 use Rattle.adf_deleted.proofs.pointers.pointers_of.Goals.{then-i-eq0, else-i-eq0}

@@ -1,4 +1,4 @@
-use Rattle.std.proofs.Common.{◌≡◌, ◌/◌, ◌≤◌}
+use Rattle.std.proofs.Common.{◌≡◌, ◌/◌}
 use Rattle.adf_blocks.specs.declared.layout.TheConstants.{POINTERS}
 use Rattle.adf_deleted.specs.Pointers.{pointers_of, table_block}
 use Rattle.adf_deleted.proofs.pointers.pointers_of.Given as goal

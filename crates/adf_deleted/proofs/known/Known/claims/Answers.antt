@@ -1,4 +1,4 @@
-use Rattle.std.proofs.Common.{◌≡◌, ◌∙◌, ◌&&◌, arith, ap, cond, sym}
+use Rattle.std.proofs.Common.{◌∙◌, ◌&&◌, arith, ap, cond, sym}
 use Rattle.adf_blocks.specs.Sizes.{blocks}
 use Rattle.adf_deleted.specs.{Claims.has_pointer, Claims.with_claim, Known.is_deleted, Pointers.pointers}
 use Rattle.adf_deleted.proofs.ClaimSteps.{more_claims, none_claimed}

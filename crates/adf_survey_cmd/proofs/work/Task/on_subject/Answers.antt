@@ -1,6 +1,6 @@
 use Rattle.std.proofs.Common.{subst, sym}
 use Rattle.adf_runs.proofs.Endings.{ends_weaker}
-use Rattle.adf_survey_cmd.specs.{Answers.QuestionAnswer, Deletions.ListsTyped, Work.Answers}
+use Rattle.adf_survey_cmd.specs.{Answers.QuestionAnswer, Deletions.TellsTyped, Work.Answers}
 use Rattle.adf_subjects.specs.{Rescues.RescuesTyped, Rescues.Replies, Subject.subject_value}
 use Rattle.adf_survey_cmd.proofs.work.Task.on_subject.Goals as goal
 
@@ -8,8 +8,8 @@ pub returns-in-Deleted-clause-ends : goal.returns-in-Deleted-clause-ends
 returns-in-Deleted-clause-ends g c = λ q answers.
     let s = subject_value c.args.subject in
     let asks = subst (λ task. Answers task q) c.in-Deleted.is answers in
-    ends_weaker (ListsTyped s) (QuestionAnswer q s) _ _ _ (λ reply told. subst (λ q. QuestionAnswer q s reply) (sym asks) told)
-    c.list_deleted.ensures.ends
+    ends_weaker (TellsTyped _ s) (QuestionAnswer q s) _ _ _ (λ reply told. subst (λ q. QuestionAnswer q s reply) (sym asks) told)
+    c.tell_deleted.ensures.ends
 
 pub returns-in-Rescue-clause-ends : goal.returns-in-Rescue-clause-ends
 returns-in-Rescue-clause-ends g c = λ q answers.

@@ -1,18 +1,18 @@
-use Rattle.std.proofs.Common.{◌≡◌, ◌∙◌, Bool, List, ℕ, ap, arith, length, subst, true}
+use Rattle.std.proofs.Common.{◌≡◌, ◌∙◌, Bool, List, Option, ℕ, ap, arith, length, subst, true}
 use Rattle.adf_rescue.specs.{Opened.lacks_root, Opened.opened, Pruned.pruned}
 use Rattle.adf_rescue.proofs.PrunedKeeps.{length_read}
 use Rattle.adf_runs.specs.Commands.{Reply}
 use Rattle.adf_runs.proofs.Endings.{does_weaker}
 use Rattle.adf_subjects.specs.Subject.{subject_value}
 use Rattle.adf_subjects.proofs.SizedImages.{written_over}
-use Rattle.adf_survey_cmd.specs.Deletions.{ListsDeleted, ListsTold}
-use Rattle.adf_survey_cmd.proofs.deleting.write_typed.Goals as goal
+use Rattle.adf_survey_cmd.specs.Deletions.{TellsRead, TellsRefused}
+use Rattle.adf_survey_cmd.proofs.deleting.tell_typed.Goals as goal
 
 -- what is listed is listed of the same image, and with the same root
-told_of : (made : Bool) (held : ℕ) (image input : List ℕ) (reply : Reply) → made ≡ lacks_root input → image ≡ pruned (opened input)
-    → ListsDeleted made held image reply → ListsDeleted (lacks_root input) held (pruned (opened input)) reply
-told_of made held image input reply root same lists =
-    subst (λ made. ListsDeleted made held (pruned (opened input)) reply) root (subst (λ image. ListsDeleted made held image reply) same lists)
+told_of : (file : Option ℕ) (made : Bool) (held : ℕ) (image input : List ℕ) (reply : Reply) → made ≡ lacks_root input → image ≡ pruned (opened input)
+    → TellsRead file made held image reply → TellsRead file (lacks_root input) held (pruned (opened input)) reply
+told_of file made held image input reply root same lists =
+    subst (λ made. TellsRead file made held (pruned (opened input)) reply) root (subst (λ image. TellsRead file made held image reply) same lists)
 
 pub returns : goal.returns
 returns g c =
@@ -26,4 +26,5 @@ returns g c =
     let size = ap length read ∙ length_read true s.image in
     let same : image ≡ pruned (opened s.image) =
     c.deref-2.ensures.value ∙ written_over c.read_refused.new.image s.image c.args.subject.image.len size count ∙ read in
-    does_weaker (ListsDeleted made s.end image) (ListsTold s) (λ reply lists. told_of made s.end image s.image reply root same lists) c.write_read.ensures
+    does_weaker (TellsRead c.args.file made s.end image) (TellsRefused c.args.file s)
+    (λ reply lists. told_of c.args.file made s.end image s.image reply root same lists) c.tell_read.ensures

@@ -1,0 +1,107 @@
+"""What was deleted: adf.Deleted, a row for each deleted header that still stands."""
+
+from __future__ import annotations
+
+import errno
+import os
+import re
+from typing import TYPE_CHECKING, Any, Iterator, NamedTuple
+
+from adf import _texts, commands
+from adf.dates import Date
+from adf.entries import row_of
+from adf.errors import Damaged, NoMemory, NotAFile
+
+if TYPE_CHECKING:
+    from adf.surveys import Survey
+
+LINE = re.compile(
+    r"block (\d+): (whole|contested: [^:]*|overwritten: \d+ of \d+ blocks): (file|dir ) ([0-9a-f]{8}) +(\d+|-) (\d+:\d+:\d+|\S+ \S+) (.*)"
+)
+NOTE = "note "
+GAP = re.compile(r"^bytes (\d+) to (\d+): no data$", re.M)
+NO_MEMORY = 3
+
+
+class _Fields(NamedTuple):
+    survey: Survey
+    block: int
+    state: str
+    size: int
+    protection: int
+    date: Date
+    is_file: bool
+    path: str
+    raw_comment: bytes
+
+
+class Deleted(_Fields):
+    """A deleted header as `adf-survey deleted` tells it: its block; `state`, what speaks for its file: `whole`, `contested: PATH` where a
+    later deleted header names one of its blocks, or `overwritten: N of M blocks`; and what it says. `path` is where it was, spelled as by
+    `adf-survey`, with `?` in place of what is above a directory that is gone."""
+
+    __slots__ = ()
+
+    def _asdict(self) -> dict[str, Any]:
+        """The header as a row, as for a table of pandas: its date as `civil`, and no bytes."""
+        return {**row_of(self), "block": self.block, "state": self.state}
+
+    @property
+    def name(self) -> str:
+        return self.path.rpartition("/")[2]
+
+    @property
+    def raw_path(self) -> bytes:
+        return _texts.raw_path(self.path)
+
+    @property
+    def raw_name(self) -> bytes:
+        return _texts.raw_name(self.name)
+
+    @property
+    def comment(self) -> str:
+        return self.raw_comment.decode("latin-1")
+
+    @property
+    def is_whole(self) -> bool:
+        return self.state == "whole"
+
+    def __repr__(self) -> str:
+        return f"<adf.Deleted {self.path!r}: {self.state}>"
+
+    def read(self) -> bytes:
+        """The bytes of a whole file. NotAFile if it is a directory or a link, Damaged if it is not whole."""
+        left, _ = self.remains()
+        if not self.is_whole:
+            raise Damaged(errno.EIO, self.state, self.path)
+        return left
+
+    def remains(self) -> tuple[bytes, list[range]]:
+        """What is left of a file: its bytes, with zeros for those that are lost, and the ranges of these; of a contested one they may be
+        those of the other. NotAFile if it is a directory or a link."""
+        status, left, errors = _answer(self.survey, "cat", "--deleted", str(self.block))
+        if status == 1 and errors == b"not a file\n":
+            raise NotAFile(errno.EISDIR, os.strerror(errno.EISDIR), self.path)
+        return left, [range(int(first), int(last) + 1) for first, last in GAP.findall(errors.decode("ascii"))]
+
+
+def _answer(survey: Survey, *words: str) -> commands.Answer:
+    """What `adf-survey` answers to these words about the image that was surveyed."""
+    image, blocks = survey._given
+    front = () if blocks is None else ("--blocks", str(blocks))
+    answer = commands.run_program("adf-survey", (*front, *words), image)
+    if answer.status == NO_MEMORY:
+        raise NoMemory
+    return answer
+
+
+def deleted_of(survey: Survey) -> Iterator[Deleted]:
+    """The deleted headers of the image that was surveyed, in the order of their blocks."""
+    lines = _answer(survey, "deleted").output.decode("ascii").splitlines()
+    for line, behind in zip(lines, (*lines[1:], "")):
+        found = LINE.fullmatch(line)
+        if found:
+            block, state, kind, protection, size, date, path = found.groups()
+            note = _texts.unescape(behind[len(NOTE) :]) if behind.startswith(NOTE) else b""
+            told = 0 if size == "-" else int(size), int(protection, 16), Date.of(date), kind == "file", path, note
+            yield Deleted(survey, int(block), state, *told)
