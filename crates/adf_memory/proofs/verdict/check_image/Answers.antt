@@ -1,5 +1,5 @@
-use Rattle.std.proofs.Common.{◌∙◌, ap, refl, subst, sym}
-use Rattle.adf_volume.specs.Types.{letters_for}
+use Rattle.std.proofs.Common.{◌∙◌, ap, refl, subst, sym, ℕ, List}
+use Rattle.adf_volume.specs.{Fits.FitsBy, Types.letters_for}
 use Rattle.adf_memory.specs.{CheckCalls.IsCheckedOf, Verdicts.accepted_by, Verdicts.refused, declared.verdict.Verdict.Verdict}
 use Rattle.adf_memory.proofs.{CheckedVolumes.acceptance_told, CheckedVolumes.counts_stand, ToldCauses.refusal_told, ToldCauses.some_number}
 use Rattle.adf_memory.proofs.verdict.check_image.Goals as goal
@@ -10,7 +10,8 @@ returns-in-Ok c =
     let image = c.args.image.now in
     let is = c.in-Ok.ensures.image in
     let (u, m, own) = c.in-Ok.ensures.fits in
-    let letters = c.letters.ensures.tree (letters_for c.args.types image) u m own.1 ∙ own.1.letters in
+    let by : FitsBy (letters_for c.args.types image) v u m = subst (λ (i : List ℕ). FitsBy (letters_for c.args.types i) v u m) is own.1 in
+    let letters = c.letters.ensures.tree (letters_for c.args.types image) u m by ∙ by.letters in
     record {
       checked = acceptance_told v image c.accepted_by.result.block is (u, m, own);
       counts = λ zero t l fits. c.accepted_by.ensures

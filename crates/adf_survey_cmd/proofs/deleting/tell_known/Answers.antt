@@ -10,8 +10,8 @@ returns-in-None g c =
     (λ reply told. subst (λ file. TellsDeleted file c.args.known reply) (sym c.in-None.is)
     (subst (λ k. ListsHeaders k reply) c.in-Ok.ensures told)) c.list_headers.ensures
 
-pub returns-in-Some : goal.returns-in-Some
-returns-in-Some g c =
+pub returns : goal.returns
+returns g c =
     let k = c.in-Ok.deletions in
     does_weaker (λ reply. reply ≡ left_reply k c.in-Some.b) (TellsDeleted c.args.file c.args.known)
     (λ reply told. subst (λ file. TellsDeleted file c.args.known reply) (sym c.in-Some.is)
