@@ -1,7 +1,7 @@
 -- What is surveyed of an image, in the memory of a caller.
 -- Letters: s, t, u what is surveyed; o the type that its entries tell, if it is another; n the number of blocks that is asked for, 0 for those that the image
 -- has; k, read numbers of blocks.
-use Rattle.std.proofs.Common.{◌≡◌, ◌≤◌, ◌<◌, ◌∙◌, ◌==◌, ◌&&◌, ◌∷◌, ◌++◌, ℕ, Bool, true, false, List, [], None, Some, ap, append-nil, arith, cond, drop}
+use Rattle.std.proofs.Common.{◌≡◌, ◌≤◌, ◌∙◌, ◌==◌, ◌&&◌, ◌∷◌, ◌++◌, ℕ, Bool, true, false, List, [], None, Some, ap, append-nil, arith, cond, drop}
 use Rattle.std.proofs.Common.{◌≢◌, ◌*◌, ◌/◌, Option, ap₂, is_some, length, min, nat_lt, not, refl, slice_index, subst, sym, take}
 use Rattle.std.specs.{Prelude.IfSome, Option.option_or}
 use Rattle.adf_blocks.specs.{Sizes.blocks, declared.layout.TheConstants.MOST_BLOCKS}

@@ -1,7 +1,7 @@
 -- The lines of deleted headers.
 -- Letters: k what is known of an image; h the block of a deleted header, s what speaks for its file; b a block; n a number of blocks; t a text, and
 -- the same with one part more, and with two, three and four.
-use Rattle.std.proofs.Common.{◌≡◌, ◌∙◌, ◌+◌, ◌++◌, ℕ, Bool, List, [], ap, append_assoc, arith, codes, cond, map, refl, sym, true}
+use Rattle.std.proofs.Common.{◌≡◌, ◌∙◌, ◌+◌, ◌++◌, ℕ, Bool, List, [], ap, append_assoc, arith, codes, cond, refl, sym, true}
 use Rattle.adf_base.specs.{Words.block, declared.dates.Stamp.Stamp}
 use Rattle.adf_blocks.specs.HeadBlock.{body_at, meta_stated}
 use Rattle.adf_blocks.specs.declared.head.HeadBody.{HeadBody}
