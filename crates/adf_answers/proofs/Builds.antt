@@ -1,5 +1,6 @@
 -- Whatever is asked of bytes has an answer of `adf`.
-use Rattle.std.proofs.Common.{◌≡◌, ◌-◌, ℕ, Bool, true, false, List, arith, inl, inr, refl, subst, sym}
+use Rattle.std.proofs.Common.{◌≡◌, ◌≤◌, ◌-◌, ℕ, Bool, true, false, List, arith, inl, inr, refl, subst, sym}
+use Rattle.std.proofs.lemmas.Bool.Decides.{nat_tests}
 use native.Mathlib.Decide.{dec_le}
 use Rattle.adf_base.specs.declared.hash.Letters.TheVariants.{Ascii}
 use Rattle.adf_base.proofs.ByteLists.{AreBytes}
@@ -7,8 +8,9 @@ use Rattle.adf_blocks.specs.{declared.layout.TheConstants.MOST_PLAIN_BLOCKS, Siz
 use Rattle.adf_names.specs.declared.kind.Kind.{Kind}
 use Rattle.adf_tree.specs.{Bounds.IsBounded, Tree.IsTree, Tree.IsTreeBy, Tree.Tree, Tree.with_kind}
 use Rattle.adf_volume.proofs.BoundedFits.{fits_bounded}
-use Rattle.adf_build.specs.{Building.need_of, Plan.blocks_needed}
-use Rattle.adf_build.proofs.{LaidWrites.CanHold, WholeVolume.fits_plain, WholeVolume.laid_as_planned, WholeVolume.volume_laid, WholeVolume.well_formed}
+use Rattle.adf_build.specs.{Building.need_of, Laid.volume, Plan.blocks_needed}
+use Rattle.adf_build.proofs.{LaidWrites.CanHold, LaidWrites.volume_blocks}
+use Rattle.adf_build.proofs.WholeVolume.{fits_plain, laid_as_planned, volume_laid, well_formed}
 use Rattle.adf_findings.proofs.FitsOrFault.{fits_or_fault}
 use Rattle.adf_findings.specs.Verdict.{FitsOrHasFault}
 use Rattle.adf_manifest.specs.Manifest.{IsManifestOrHasFault}
