@@ -17,6 +17,37 @@ Buffer = Union[bytearray, memoryview, mmap.mmap]
 MOST_NUMBER = 2**32 - 1
 
 
+class _View(ctypes.Structure):
+    """A Py_buffer: where the bytes begin, and what else it has."""
+
+    _fields_ = [("begin", ctypes.c_void_p), ("rest", ctypes.c_void_p * 15)]
+
+
+class Mapped(mmap.mmap):
+    """The first bytes of a file, which nothing else may write while they are used: to read only, also for the library. They stay until
+    nothing refers to them."""
+
+    @property
+    def _as_parameter_(self) -> int | None:
+        """Where the library reads them."""
+        view, interface = _View(), ctypes.pythonapi
+        interface.PyObject_GetBuffer(ctypes.py_object(self), ctypes.byref(view), 0)
+        begin: int | None = view.begin
+        interface.PyBuffer_Release(ctypes.byref(view))
+        return begin
+
+    def close(self) -> None:
+        """Nothing: a volume may be of them."""
+
+    def __exit__(self, *_error: object) -> None:
+        """Nothing, too."""
+
+
+def mapped(descriptor: int, count: int) -> Mapped:
+    """The first bytes of an open file that has at least so many."""
+    return Mapped(descriptor, count, access=mmap.ACCESS_READ)
+
+
 def whole(what: str, given: Any) -> int:
     """A whole number, of any size. TypeError if it is another thing, as a bool."""
     if isinstance(given, bool) or not hasattr(type(given), "__index__"):
@@ -59,9 +90,9 @@ def raw(what: str, given: Any) -> bytes:
         raise ValueError(f"{what} has a letter that is not in Latin-1: {given[error.start]!r}") from None
 
 
-def plain(image: Image) -> bytes:
-    """The bytes that a buffer shows: bytes themselves, and a copy of anything else."""
-    return image if type(image) is bytes else bytes(memoryview(image))
+def plain(image: Image) -> Any:
+    """The bytes that a buffer shows: bytes themselves, those of a file that is mapped, and a copy of anything else."""
+    return image if type(image) in (bytes, Mapped) else bytes(memoryview(image))
 
 
 def view(image: Image) -> memoryview:
@@ -75,6 +106,8 @@ def view(image: Image) -> memoryview:
 
 def to_read(image: Image) -> tuple[Any, int]:
     """A buffer as the library reads it, and how many bytes. It can be neither closed nor resized while they are held."""
+    if type(image) is Mapped:
+        return image, len(image)
     shown = view(image)
     if not shown.readonly:
         return to_write(shown)

@@ -5,6 +5,7 @@ from __future__ import annotations
 import bisect
 import ctypes
 import functools
+import mmap
 from typing import Any, Iterator, Sequence
 
 from adf import _arguments, _structs
@@ -30,7 +31,7 @@ class Volume(ReadOnly):
     They can only be read. Once it is closed, its image is empty and nothing more is read of it: ValueError.
     """
 
-    image: bytes
+    image: bytes | mmap.mmap
     kind: str
     letters: str
     blocks: int
@@ -71,7 +72,7 @@ class Volume(ReadOnly):
 
     def __reduce__(self) -> Any:
         """Pickled as its image, which is checked again."""
-        return Volume, (self._tables[0][0],)
+        return Volume, (self._tables[0][0][:],)
 
     def __enter__(self) -> Volume:
         self._accept_open()

@@ -36,8 +36,8 @@ class Arguments(unittest.TestCase):
         self.assertRaises(TypeError, _arguments.to_write, b"read only")
 
     def test_takes_numbers_of_blocks(self):
-        self.assertEqual((number_of_blocks("1"), number_of_blocks("1048576")), (1, 1048576))
-        for text in ("0", "-1", "1048577", "1e3", "", " 1", "\u0661", "9" * 30):
+        self.assertEqual((number_of_blocks("1"), number_of_blocks("8388608")), (1, 8388608))
+        for text in ("0", "-1", "8388609", "1e3", "", " 1", "\u0661", "9" * 30):
             self.assertRaises(argparse.ArgumentTypeError, number_of_blocks, text)
 
 
