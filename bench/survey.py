@@ -99,7 +99,7 @@ class Survey:
 
     def boot_demands(self):
         size = len(self.image)
-        yield "bad size", 0, lambda: size % 1024 == 0 and 4 <= self.blocks <= 1048576
+        yield "bad size", 0, lambda: size % 1024 == 0 and 4 <= self.blocks <= 8388608
         yield "not dos", 0, lambda: self.image[:3] == b"DOS" and self.image[3] <= 5
         yield "international", 0, lambda: self.image[3] not in (2, 3)
         yield "directory cache", 0, lambda: self.image[3] not in (4, 5)
