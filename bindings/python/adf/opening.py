@@ -16,7 +16,8 @@ from adf.volumes import Volume
 
 def open(source: Source, *, strict: bool = False, blocks: int | None = None) -> Volume:
     """The volume of an image in a file, or in an open one, as `open_image` of its bytes: also of a packed image (.adz, .gz, .zip, .dms,
-    .lha), and of "games.zip/disk1.adf". OSError if the file cannot be read, NotUnpacked if it cannot be unpacked."""
+    .lha), and of "games.zip/disk1.adf". A file of more than 512 MiB is mapped: nothing may write it while the volume is open. OSError if it
+    cannot be read, NotUnpacked if it cannot be unpacked."""
     blocks = _sizes.number_of_blocks(blocks)
     with _sources.opened(source) as (file, member, name):
         image = _sources.image_in(file, member, name, blocks)
