@@ -386,6 +386,7 @@ def main(kind: str, blocks: str, path: str) -> None:
 
     volume = Volume(random.Random(1), int(kind), int(blocks), empty_image(int(blocks)))
     volume.make_file(volume.tree, b"large", bytes(int(blocks) * 48))
+    parent = volume.tree
     for i in range(300):
         parent = volume.make_dir(volume.tree, b"drawer%d" % i) if i % 20 == 0 else parent
         volume.make_file(parent, b"file%d" % i, volume.some_content(60000))

@@ -63,7 +63,7 @@ class Given(NamedTuple):
 
     def volume(self, strict: bool) -> adf.Volume:
         """The volume of the image, or of what stands of it; where nothing does, the program ends."""
-        if len(self.content) > adf.LARGE and not strict and disk_of(self.content) is None:
+        if adf.LARGE < len(self.content) <= adf.MOST_BYTES and not strict and disk_of(self.content) is None:
             self.accept_memory()
         with warnings.catch_warnings():
             warnings.simplefilter("ignore", adf.DamagedWarning)

@@ -139,7 +139,8 @@ def write_new(words: argparse.Namespace) -> Target:
         volume_of(words, target)
     else:
         with new_file(words.device) as fd:
-            os.ftruncate(fd, adf.BLOCK * target.blocks())
+            with named(words.device):
+                os.ftruncate(fd, adf.BLOCK * target.blocks())
             write(words, target, fd)
     return target
 

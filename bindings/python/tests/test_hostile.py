@@ -347,9 +347,9 @@ class Templates(unittest.TestCase):
 
 
 class Disks(Catalogues):
-    """Hard disks that are larger than the largest volume, which is a small one here."""
+    """Hard disks that are not read into memory, which are small ones here."""
 
-    SMALL = "import adf, os; adf.MOST_BYTES = 1 << 20; from adf_tools import archives, catalogue, collection; {}; catalogue.main()"
+    SMALL = "import adf, os; adf.LARGE = 1 << 20; from adf_tools import archives, catalogue, collection; {}; catalogue.main()"
 
     def setUp(self):
         super().setUp()
@@ -377,7 +377,7 @@ class Disks(Catalogues):
         written("disks/b.hdf.gz", gzip.compress(self.disk))
         ran = self.run_python("-c", self.SMALL.format("archives.MOST_UNPACKED = 1500000"), "disks", "out")
         self.assertEqual(ran.returncode, 3)
-        self.assertEqual(self.rows(), [("b.hdf.gz", None, "read fault: a hard disk of more than 1500000 bytes is not unpacked", None)])
+        self.assertEqual(self.rows(), [("b.hdf.gz", None, "read fault: more than 1500000 bytes are not unpacked", None)])
 
     def test_cost_one_file_if_they_are_cut_while_they_are_read(self):
         written("disks/a.hdf", self.disk)
