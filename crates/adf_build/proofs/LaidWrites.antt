@@ -68,7 +68,7 @@ module _ {t : Tree} {n : ℕ} (can : CanHold t n) where
   pub four : 4 ≤ n
   four = size_low n can.allowed
 
-  pub small : n * 512 < 2 ^ 32
+  pub small : n * 512 ≤ 2 ^ 32
   small = omega (arith, size_high n can.allowed)
 
   pub has_free : HasFree n (entries_blocks t.kind t.entries)

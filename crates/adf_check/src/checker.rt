@@ -1,6 +1,7 @@
 // The whole check.
 
-ghost use Rattle.adf_volume.specs.{Fault.IsTrueFaultBy, Image.letters_of, Image.root_of, Fits.Fits, Fits.FitsBy, Fits.FitsOf, Layout.Layout};
+ghost use Rattle.adf_volume.specs.{Fault.IsTrueFaultBy, Image.letters_of, Image.root_of, Layout.Layout};
+ghost use Rattle.adf_volume.specs.Fits.{Fits, FitsBy, FitsOf};
 ghost use Rattle.adf_volume.specs.Walk.{FirstFault, FirstFaultBy, FirstFaultOf};
 ghost use Rattle.adf_base.specs.Words.{block};
 ghost use Rattle.adf_blocks.specs.Sizes.{blocks};

@@ -1,5 +1,6 @@
 -- From outcomes to answers.
-use Rattle.std.proofs.Common.{◌≡◌, ◌≤◌, ◌*◌, length, true, ◌∙◌, ap, inl, inr, ℕ, Bool, false, List, [], Option, None, Some, refl, sym, subst, arith, string_bytes}
+use Rattle.std.proofs.Common.{◌≤◌, ◌*◌, length, true}
+use Rattle.std.proofs.Common.{◌≡◌, ◌∙◌, ap, inl, inr, ℕ, Bool, false, List, [], Option, None, Some, refl, sym, subst, arith, string_bytes}
 use Rattle.std.specs.Prelude.{codes, option_map}
 use Rattle.std.proofs.lemmas.Grind.{common_steps}
 use Rattle.adf_base.specs.declared.hash.Letters.{Letters, TheVariants.Ascii}

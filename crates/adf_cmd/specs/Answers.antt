@@ -16,17 +16,17 @@ use Rattle.adf_texts.specs.{Lines.fault_line, Lines.full_line, Lines.manifest_fa
 use Rattle.adf_manifest.specs.declared.manifest.ManifestKind.TheVariants.{NoMemory as ManifestNoMemory}
 
 -- `check` at status 0 tells the numbers of the tree and the layout that fit the image where these types are accepted
-abbrev pub Accepts : Types → List ℕ → Reply → Type 0
-Accepts types input reply =
+abbrev pub AcceptsOf : Types → List ℕ → Reply → Type 0
+AcceptsOf types input reply =
     (t : Tree) × (l : Layout) × FitsOf types input t l × (reply ≡ on_output 0 (ok_line_by (letters_for types input) (counts_of input t l)))
 
 -- the first fault of the image where these types are accepted is told on output, with status 1
-abbrev pub Refuses : Types → List ℕ → Reply → Type 0
-Refuses types input reply = (f : Fault) × FirstFaultOf types input f.block f.cause × (reply ≡ on_output 1 (fault_line f))
+abbrev pub RefusesOf : Types → List ℕ → Reply → Type 0
+RefusesOf types input reply = (f : Fault) × FirstFaultOf types input f.block f.cause × (reply ≡ on_output 1 (fault_line f))
 
 -- what is told of an image where these types are accepted
 abbrev pub Checks : Types → List ℕ → Reply → Type 0
-Checks types input reply = Accepts types input reply ⊎ Refuses types input reply
+Checks types input reply = AcceptsOf types input reply ⊎ RefusesOf types input reply
 
 -- the image that is laid of a tree in n blocks, or the lines of its words
 abbrev pub built_output : Bool → Tree → ℕ → List ℕ

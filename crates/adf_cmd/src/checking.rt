@@ -3,7 +3,8 @@
 ghost use Rattle.std.specs.Prelude.{◌≡◌, ◌+◌, false, IfOk, List, string_bytes, true, ℕ};
 ghost use Rattle.adf_tree.specs.Tree.{Tree};
 ghost use Rattle.adf_volume.specs.{Fits.FitsOf, Layout.Layout, Walk.FirstFaultOf, declared.types.Types.Types};
-ghost use Rattle.adf_cmd.specs.{Answers.Answer, Answers.most_image_bytes, CheckAnswers.IsCheckAnswer, CheckAnswers.IsCheckAnswerTo};
+ghost use Rattle.adf_cmd.specs.{Answers.Answer, Answers.most_image_bytes};
+ghost use Rattle.adf_cmd.specs.CheckAnswers.{IsCheckAnswer, IsCheckAnswerTo};
 ghost use Rattle.adf_words.specs.CommandLine.{check};
 ghost use Rattle.adf_runs.specs.{Streams.TakesAtMost, Streams.is_device, Streams.seen, Outcomes.Does};
 ghost use Rattle.adf_texts.specs.Lines.{ok_line_by};

@@ -14,6 +14,7 @@ use crate::volume_listing::list_image;
 use adf_manifest::MOST_BYTES;
 use adf_runs::{Outcome, Program, Sink, Source, WorkFault, read_input};
 use adf_tree::{Kind, Name, read_path};
+use adf_volume::Types;
 use adf_words::{Request, USAGE, parse};
 use std::alloc::Global;
 

@@ -3,7 +3,7 @@ use Rattle.std.proofs.Common.{◌≡◌, ◌≤◌, ◌-◌, ◌*◌, ◌∙◌,
 use Rattle.std.proofs.lemmas.Grind.{common_steps}
 use Rattle.adf_base.specs.{Dates.IsStamp, Words.with_bytes, Words.word}
 use Rattle.adf_base.specs.declared.hash.Letters.{Letters, TheVariants.Ascii, TheVariants.International}
-use Rattle.adf_blocks.specs.{Fields.block_of_fields, Sizes.blocks, Sizes.is_allowed}
+use Rattle.adf_blocks.specs.{Fields.block_of_fields, Sizes.is_allowed}
 use Rattle.adf_build.proofs.{AllocatedBlocks.reserved_below, LaidFits.volume_fits, LaidWrites.CanHold, LaidWrites.holds_boot, LaidWrites.volume_long}
 use Rattle.adf_build.specs.{Building.IsBuildFault, Laid.boot_bytes_by, Laid.volume, Plan.blocks_needed, Plan.planned}
 use Rattle.adf_build.specs.declared.builder.BuildFault.TheVariants.{Full}
@@ -18,7 +18,7 @@ use Rattle.adf_tree.proofs.TreeOfAdditions.{nothing_added_by}
 use Rattle.adf_tree.specs.Tree.{Tree}
 use Rattle.adf_runs.specs.Commands.{on_output}
 use Rattle.adf_texts.specs.Lines.{ok_line_by}
-use Rattle.adf_volume.proofs.{FitWalks.own_fit, ImageStart.own_letters, Sizes.size_high, Sizes.size_low}
+use Rattle.adf_volume.proofs.{ImageStart.own_letters, Sizes.size_low, TypeLaws.own_fit_of}
 
 -- the label fits, and the size is allowed
 pub record MayBeNew (n : ℕ) (p : PartitionPlan) : Type 0 where
@@ -58,7 +58,7 @@ accepted : (letters : Letters) (image : List ℕ) (t : Tree) (l : Layout) → Fi
     → Checks WithInternational image (on_output 0 (ok_line_by letters (counts_of image t l)))
 accepted letters image t l fits =
     let own : letters_of image ≡ letters = own_letters letters image fits.boots in
-    inl (t, l, size_high (blocks image) fits.boots.0.1, own_fit fits, ap (λ x. on_output 0 (ok_line_by x (counts_of image t l))) (sym own))
+    inl (t, l, own_fit_of fits, ap (λ x. on_output 0 (ok_line_by x (counts_of image t l))) (sym own))
 
 pub new_volume : (n : ℕ) (p : PartitionPlan) → MayBeNew n p → IsNewVolume n p (volume (planned_tree p) n)
 new_volume n p may =

@@ -2,7 +2,8 @@
 use Rattle.std.proofs.Common.{ℕ, List, [], ◌∷◌, ◌++◌, inl, inr, append-nil, refl, subst}
 use Rattle.std.proofs.lemmas.Bool.{cases_lt}
 use Rattle.adf_blocks.specs.{Sizes.blocks, declared.cause.Cause.TheVariants.BadSize}
-use Rattle.adf_volume.specs.{Made.layout_in, Made.tree_in_by, Walk.Walk, Types.letters_for, Types.most_blocks, declared.types.Types.Types, declared.types.Types.TheVariants.Plain}
+use Rattle.adf_volume.specs.{Made.layout_in, Made.tree_in_by, Walk.Walk, Types.letters_for, Types.most_blocks}
+use Rattle.adf_volume.specs.declared.types.Types.{Types, TheVariants.Plain}
 use Rattle.adf_findings.proofs.{FirstFindings.first_finding, FirstFindings.none_found, FirstFindings.shown, SomeSurvey.some_survey, TypesRead.types_read}
 use Rattle.adf_findings.specs.{Survey.FindingValue, Survey.IsSurvey, Types.passed, Verdict.FitsOrHasFault, Verdict.FitsOrHasFaultBy, Verdict.FitsOrHasFaultOf}
 

@@ -10,7 +10,8 @@ ghost use Rattle.adf_volume.specs.Made.{layout_in, tree_in, tree_in_by};
 ghost use Rattle.adf_volume.specs.Walk.{Asks, FileAt, FirstFaultBy, Has, HeadAt, NodeAt, Role, Walk};
 ghost use Rattle.adf_findings.specs.Files.{IsSoundFile, file_content, file_in, grave, named_from};
 ghost use Rattle.adf_findings.specs.{Lookup.LeadsTo, Lookup.path_to, Remains.data_found, Remains.gaps_of, Remains.left_of};
-ghost use Rattle.adf_findings.specs.{SoundMarks.AreMarks, Types.passed, Verdict.FitsOrHasFault, Verdict.FitsOrHasFaultBy, Verdict.FitsOrHasFaultOf};
+ghost use Rattle.adf_findings.specs.{SoundMarks.AreMarks, Types.passed};
+ghost use Rattle.adf_findings.specs.Verdict.{FitsOrHasFault, FitsOrHasFaultBy, FitsOrHasFaultOf};
 ghost use Rattle.adf_findings.specs.Survey.{FindingValue, IsSurvey, OnSurvey};
 ghost use Rattle.adf_findings.specs.Sound.{DatasInOrder, FileHolds, HeaderHolds, IsOfItsKind, IsSound};
 
@@ -59,8 +60,8 @@ pub fn findings_of_types()
         → IsSurvey image w fs → fs ≡ passed types image }
 {}
 
-/// Every image is that of a volume, or has a first fault, where volumes of these types are accepted; so also by their letters alone,
-/// whatever the size.
+/// Every image is that of a volume, or has a first fault, where volumes of these types are accepted; so also by their letters
+/// alone, whatever the size.
 pub fn fits_or_fault()
     ensures plain { (image : List ℕ) → FitsOrHasFault image }
     ensures types { (types : Types) (image : List ℕ) → FitsOrHasFaultOf types image }

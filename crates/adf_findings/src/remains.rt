@@ -116,8 +116,8 @@ fn push_zeros(bytes: &mut Vec<u8>, count: u32) -> Result<(), AllocError>
 }
 
 impl Remains {
-    /// Appends data block `k`, counted from 0, of a file of `size` bytes: the bytes in its block, or zeros and the run of them if no
-    /// block is found. `AllocError` if an allocation fails.
+    /// Appends data block `k`, counted from 0, of a file of `size` bytes: the bytes in its block, or zeros and the run of them
+    /// if no block is found. `AllocError` if an allocation fails.
     pub fn add(
         &mut self,
         image: &SizedImage<'_>,

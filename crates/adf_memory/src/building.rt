@@ -18,6 +18,7 @@ use adf_build::{BuildFault, build_into, fewest_blocks, need_types};
 use adf_drafts::Draft;
 use adf_names::letters_of_type;
 use adf_tree::{Kind, Label, Stamps, Tree};
+use adf_volume::Types;
 use std::alloc::Global;
 
 /// A volume that is to be built.

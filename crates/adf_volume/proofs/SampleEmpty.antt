@@ -9,7 +9,7 @@ use Rattle.adf_volume.specs.{declared.owner.Owner.Owner, Lists.At, Lists.In, Lis
 use Rattle.adf_volume.specs.{Image.stamps_of, Image.map_exts_needed, Image.IsFreeAt, Layout.EntryAt, Layout.at_node, Layout.owned, Fits.Fits, Fits.FitsBy}
 use Rattle.adf_volume.specs.{Fits.IsFree, Samples.tiny, Samples.tiny_root, Samples.tiny_tree, Samples.tiny_layout, Walk.FirstFault, Walk.FirstFaultBy.at_boot}
 use Rattle.adf_blocks.specs.declared.cause.Cause.TheVariants.{International as OtherLetters}
-use Rattle.adf_blocks.specs.{PageBlock.page_form, RootBlock.root_form}
+use Rattle.adf_blocks.specs.{PageBlock.page_form, RootBlock.root_form, Sizes.blocks}
 use Rattle.adf_volume.specs.Demands.{AllHold, boot_demands_by, boot_form, boot_form_by, root_demands, page_demands}
 use Rattle.adf_volume.proofs.{FormDemands.all_demanded, Zeros.zero_at}
 
@@ -101,7 +101,9 @@ fits_of_type letters type boots kind = record {
 
 pub tiny_fits : Fits (tiny 1) (tiny_tree Ascii) tiny_layout
 unfolding tiny tiny_root block kind_of
-tiny_fits = (let size : blocks (tiny 1) ≡ 4 = refl in omega (arith, size), fits_of_type Ascii 1 ((refl, refl), all_demanded 0 (boot_form (block (tiny 1) 0)) refl) refl)
+tiny_fits =
+    let size : blocks (tiny 1) ≡ 4 = refl in
+    (omega (arith, size), fits_of_type Ascii 1 ((refl, refl), all_demanded 0 (boot_form (block (tiny 1) 0)) refl) refl)
 
 pub international_fits : FitsBy International (tiny 3) (tiny_tree International) tiny_layout
 unfolding tiny tiny_root block kind_of
@@ -109,4 +111,6 @@ international_fits = fits_of_type International 3 ((refl, refl), all_demanded 0 
 
 pub international_refused : FirstFault (tiny 3) 0 OtherLetters
 unfolding tiny tiny_root block
-international_refused = inr (let size : blocks (tiny 3) ≡ 4 = refl in omega (arith, size), at_boot (inr ((refl, refl), inr (refl, inl ((λ h. let e : false ≡ true = h in cc), refl, refl)))))
+international_refused =
+    let size : blocks (tiny 3) ≡ 4 = refl in
+    inr (omega (arith, size), at_boot (inr ((refl, refl), inr (refl, inl ((λ h. let e : false ≡ true = h in cc), refl, refl)))))

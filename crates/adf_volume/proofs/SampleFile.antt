@@ -220,5 +220,5 @@ one_file_fits_by = record {
 }
 
 pub one_file_fits : Fits one_file one_file_tree one_file_layout
-unfolding one_file
+unfolding one_file with_bytes
 one_file_fits = (let size : blocks one_file ≡ 6 = refl in omega (arith, size), one_file_fits_by)

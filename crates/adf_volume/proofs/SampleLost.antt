@@ -1,6 +1,6 @@
 -- The first fault of an empty volume with a lost block.
 -- Letters: q a role; a, b, c blocks; i, k words; p a directory's node; s a slot.
-use Rattle.std.proofs.Common.{◌≡◌, ℕ, zero, suc, [], ◌∷◌, inl, inr, ◌+◌, ◌-◌, ◌%◌, ◌<◌, ◌≤◌, refl, sym, ap, subst, arith}
+use Rattle.std.proofs.Common.{◌≡◌, ◌++◌, ℕ, zero, suc, [], ◌∷◌, inl, inr, ◌+◌, ◌-◌, ◌%◌, ◌<◌, ◌≤◌, refl, sym, ap, subst, arith}
 use Rattle.std.proofs.lemmas.Grind.{common_steps}
 use Rattle.adf_base.specs.Words.{block, word, words, with_bytes}
 use Rattle.adf_blocks.specs.{PageBlock.page_form, RootBlock.root_form, declared.cause.Cause.TheVariants.LostBlock}

@@ -20,9 +20,9 @@ returns c = λ date t l dates fits.
     let named : c.deref.result.now ≡ names_of t.entries c.args.n = c.deref.ensures.value ∙ c.in_ok-path.ensures t l fits in
     of_row (entry t.entries c.args.n) c.in-Some.row
     (λ (lines : List ℕ). OnOk c.push_entry_lines.result (c.push_entry_lines.new.text.items ≡ c.args.text.now.items ++ lines))
-    (entry_lines date (names_of t.entries c.args.n)) (c.in-Some.ensures _ t l fits)
+    (entry_lines date (names_of t.entries c.args.n)) (c.in-Some.ensures _ t l fits.1)
     (λ e same. rw named at c.push_entry_lines.ensures date e dates same)
 
 pub returns-in_default : goal.returns-in_default
 returns-in_default c = λ date t l dates fits.
-    no_row (entry t.entries c.args.n) c.args.text.now.items (entry_lines date (names_of t.entries c.args.n)) (c.in_default.ensures _ t l fits)
+    no_row (entry t.entries c.args.n) c.args.text.now.items (entry_lines date (names_of t.entries c.args.n)) (c.in_default.ensures _ t l fits.1)

@@ -23,16 +23,16 @@ pub returns-in_err-list_entry-clause-err : goal.returns-in_err-list_entry-clause
 returns-in_err-list_entry-clause-err g c = λ date t l dates fits.
     let more = pending_more _ _ _ _ _ _ (entries_more date t.entries c.args.text.items c.loop-i.i)
     (c.loop-i.invariant.so_far date t l dates fits) in
-    let front = entries_front date t c.args.text.items (c.loop-i.i + 1) (omega (arith, c.len-i-end.ensures.count _ t l fits)) in
+    let front = entries_front date t c.args.text.items (c.loop-i.i + 1) (omega (arith, c.len-i-end.ensures.count _ t l fits.1)) in
     on_err c.from_residual.result (pending_fails _ _ _ _ _ front.0 _ front.1 more (c.in_err-list_entry.ensures.err date t l dates fits))
 
 pub returns-clause-ok : goal.returns-clause-ok
 returns-clause-ok g c = λ date t l dates fits.
-    let last : c.loop-i.i ≡ length t.entries = omega (arith, c.len-i-end.ensures.count _ t l fits) in
+    let last : c.loop-i.i ≡ length t.entries = omega (arith, c.len-i-end.ensures.count _ t l fits.1) in
     pending_end _ _ _ _ _ (rw last at (c.loop-i.invariant.so_far date t l dates fits)) (rw c.deref.ensures.value at c.in_ok-write_all.ensures.ok)
 
 pub returns-in_err-write_all-clause-err : goal.returns-in_err-write_all-clause-err
 returns-in_err-write_all-clause-err g c = λ date t l dates fits.
-    let front = entries_front date t c.args.text.items c.loop-i.i (omega (arith, c.len-i-end.ensures.count _ t l fits)) in
+    let front = entries_front date t c.args.text.items c.loop-i.i (omega (arith, c.len-i-end.ensures.count _ t l fits.1)) in
     on_err c.from_residual-in_err-write_all.result (pending_fails _ _ _ _ _ front.0 _ front.1 (c.loop-i.invariant.so_far date t l dates fits)
     (rw c.deref.ensures.value at c.in_err-write_all.ensures.err))
