@@ -14,7 +14,7 @@ Path = Union[str, bytes, "os.PathLike[str]", "os.PathLike[bytes]"]
 EntryPath = Union[str, bytes, pathlib.PurePath]
 Image = Union[bytes, bytearray, memoryview, mmap.mmap]
 Buffer = Union[bytearray, memoryview, mmap.mmap]
-MOST_NUMBER = 2**32 - 1
+MOST_NUMBER, PART, PRIVATE = 2**32 - 1, 1 << 20, mmap.MAP_PRIVATE | mmap.MAP_ANONYMOUS
 
 
 class _View(ctypes.Structure):
@@ -112,6 +112,16 @@ def to_read(image: Image) -> tuple[Any, int]:
     if not shown.readonly:
         return to_write(shown)
     return (image if type(image) is bytes else bytes(shown)), len(shown)
+
+
+def room_of(count: int) -> Any:
+    """Room for so many bytes that the library writes. A large one takes memory only where it is written."""
+    return ctypes.create_string_buffer(count or 1) if count <= PART else (ctypes.c_char * count).from_buffer(mmap.mmap(-1, count, PRIVATE))
+
+
+def taken(room: Any, count: int) -> bytes:
+    """The first bytes of a room, as many as there may be; ctypes.string_at cuts the number to 31 bits."""
+    return bytes(memoryview(room)[:count])
 
 
 def to_write(room: Buffer) -> tuple[Any, int]:

@@ -31,13 +31,13 @@ def _subject(image: bytes | Mapped, blocks: int | None) -> tuple[bytes | Mapped,
     """The image that `adf-survey` surveys of one that is cut to so many blocks, and what is told of it."""
     told, length, wanted = _structs.Subject(), -1, len(image) if blocks is None else BLOCK * blocks
     while length != wanted:
-        length, room = wanted, ctypes.create_string_buffer(wanted or 1)
+        length, room = wanted, _arguments.room_of(wanted)
         number = calls().adf_survey_subject(image, len(image), blocks or 0, room, length, ctypes.byref(told))
         wanted = max(length, told.length)
         if number != 0 and (number != SMALL_ROOM or wanted == length):
             raise NoMemory
     is_given = told.length == len(image) and not told.is_begun and not told.is_retyped
-    return image if is_given else ctypes.string_at(room, told.length), told
+    return image if is_given else _arguments.taken(room, told.length), told
 
 
 def _front(image: bytes | Mapped, told: Any, stated: int) -> Iterator[tuple[int, int, str]]:

@@ -67,7 +67,7 @@ def volume_of(words: argparse.Namespace, target: Target) -> mmap.mmap:
     date = adf.Date.of(stamp_of(time.time_ns() if given is None else given))
     volume = building.new_volume(words.kind, target.blocks(), label_of(words.label or ""), (date, date, date))
     accept_memory(adf.BLOCK * target.blocks())
-    image = mmap.mmap(-1, max(adf.BLOCK * target.blocks(), adf.BLOCK))
+    image = mmap.mmap(-1, max(adf.BLOCK * target.blocks(), adf.BLOCK), mmap.MAP_PRIVATE | mmap.MAP_ANONYMOUS)
     try:
         building.build_into(image, volume, building.Plan(words.kind), b"")
     except adf.NotBuilt as error:

@@ -71,7 +71,7 @@ def read_all(view: memoryview, packer: Packer, folder: bytes, found: list[Item])
 
 def fewest(volume: Any, plan: building.Plan) -> int:
     """The fewest blocks of a volume in which the files have room. Their bytes do not count, and zeros stand for them."""
-    return building.need_of(volume, plan, mmap.mmap(-1, plan.largest) if plan.largest else b"", is_shared=True)
+    return building.need_of(volume, plan, mmap.mmap(-1, plan.largest, mmap.MAP_PRIVATE | mmap.MAP_ANONYMOUS) if plan.largest else b"", is_shared=True)
 
 
 def boot_in(path: Optional[str]) -> Optional[adf.Boot]:
@@ -114,7 +114,7 @@ def write_image(words: argparse.Namespace) -> int:
     volume, packer, folder, boot = volume_of(words), Packer(words), os.fsencode(words.folder), boot_in(words.boot)
     try:
         plan, found = planned(words.kind or DEFAULT_KIND, packer, folder)
-        accept_memory(plan.size + plan.largest + ROW * len(plan))
+        accept_memory(plan.size + ROW * len(plan))
         least = fewest(volume, plan)
         wanted = next((blocks for blocks in (words.blocks, words.size) if blocks is not None), least)
         if wanted < least:
