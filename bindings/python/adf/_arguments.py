@@ -45,7 +45,7 @@ class Mapped(mmap.mmap):
 
 def mapped(descriptor: int, count: int) -> Mapped:
     """The first bytes of an open file that has at least so many."""
-    return Mapped(descriptor, count, access=mmap.ACCESS_READ)
+    return Mapped(descriptor, count, mmap.MAP_PRIVATE, mmap.PROT_READ)
 
 
 def whole(what: str, given: Any) -> int:
