@@ -373,6 +373,15 @@ class Disks(Catalogues):
                 (name, len(self.disk), "ok", whole), (f"{name}/DH0", len(OFS), "ok", first), (f"{name}/DH1", len(BAD), "block 880: bad sum", second),
             ])  # fmt: skip
 
+    def test_have_volumes_that_wait_for_memory(self):
+        written("disks/a.hdf", self.disk)
+        few = "from adf_tools import processes; processes.free_memory = lambda: 1000; adf.LARGE = 1000"
+        self.assertEqual(self.run_python("-c", self.SMALL.format(few), "disks", "out").returncode, 3)
+        told = [("a.hdf", "ok"), ("a.hdf/DH0", "read fault: no memory"), ("a.hdf/DH1", "read fault: no memory")]
+        self.assertEqual([(name, verdict) for name, _, verdict, _ in self.rows()], told)
+        self.assertEqual(self.run_python("-c", self.SMALL.format("adf.LARGE = 1000"), "disks", "out").returncode, 1)
+        self.assertEqual([verdict for _, _, verdict, _ in self.rows()], ["ok", "ok", "block 880: bad sum"])
+
     def test_are_not_read_if_they_are_too_large(self):
         written("disks/b.hdf.gz", gzip.compress(self.disk))
         ran = self.run_python("-c", self.SMALL.format("archives.MOST_UNPACKED = 1500000"), "disks", "out")

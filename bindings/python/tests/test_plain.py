@@ -165,3 +165,15 @@ class Memory(unittest.TestCase):
                         with open(f"{folder}/{name}", "w", encoding="ascii") as file:
                             file.write(str(text))
                     self.assertEqual(processes.free_memory(), free, own)
+
+    def test_is_taken_in_turn(self):
+        with mock.patch.object(processes, "free_memory", lambda: 1000):
+            for count, need, taken in ((1, 100, 1000), (3, 100, 800)):
+                turns = processes.Turns(count, need)
+                for _ in range(2):
+                    with turns.take(taken):
+                        self.assertFalse(turns.lock.acquire(False))
+                    with self.assertRaises(MemoryError), turns.take(taken + 1):
+                        self.fail()
+        with mock.patch.object(processes, "free_memory", lambda: None), processes.Turns(2, 1 << 40).take(1 << 40):
+            pass
