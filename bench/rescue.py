@@ -323,18 +323,30 @@ class Lost:
             return self.is_open(p) or self.is_used(b)
         return self.is_vacant(p) or 2 <= p < self.blocks and p not in self.sv.owner and p != self.sv.root and says_dir(self.image, p)
 
+    def is_untold(self, b):
+        """Nothing tells whether a header was deleted: nothing of the survey is there, no bitmap tells of it, and the directory that it names
+        does not lead to it."""
+        p = words(self.image, b)[125]
+        return b not in self.sv.owner and self.is_free(b) is None and not (2 <= p < self.blocks and is_led(self.image, p, b))
+
     def outranked(self, survey):
-        """The headers of a survey that are free, while a header of a later date with the name and the directory of each is in use."""
+        """The headers of a survey that are free, or hung in it and untold, while a header of a later date claims the name of each in its
+        directory: it is in use, or untold too."""
 
         def place(b):
             return words(survey.image, b)[125], upper(survey.text(b, 432), False)
 
-        free = [h for h in map(survey.block_of, range(1, len(survey.nodes))) if self.is_free(h) and is_name(survey.text(h, 432))]
+        def is_untold(b):
+            return survey is not self.sv and self.is_untold(b)
+
+        named = [h for h in map(survey.block_of, range(1, len(survey.nodes))) if is_name(survey.text(h, 432))]
+        lesser = [h for h in named if self.is_free(h) or is_untold(h)]
         latest = {}
-        for b in range(2, self.blocks if free else 2):
-            if says_header(survey.image, b) and self.is_free(b) == 0 and is_name(survey.text(b, 432)):
+        for b in range(2, self.blocks if lesser else 2):
+            is_claimant = self.is_free(b) == 0 or b in survey.owner and is_untold(b)
+            if says_header(survey.image, b) and is_claimant and is_name(survey.text(b, 432)):
                 latest[place(b)] = max(latest.get(place(b), ()), words(survey.image, b)[105:108])
-        return {h for h in free if words(survey.image, h)[105:108] < latest.get(place(h), ())}
+        return {h for h in lesser if words(survey.image, h)[105:108] < latest.get(place(h), ())}
 
     def hung(self):
         image, r, lost = bytearray(self.image), self.sv.root, set(self.lost)

@@ -1,5 +1,5 @@
 -- From outcomes to answers.
-use Rattle.std.proofs.Common.{◌≤◌, ◌*◌, length, true}
+use Rattle.std.proofs.Common.{◌≤◌, true}
 use Rattle.std.proofs.Common.{◌≡◌, ◌∙◌, ap, inl, inr, ℕ, Bool, false, List, [], Option, None, Some, refl, sym, subst, arith, string_bytes}
 use Rattle.std.specs.Prelude.{codes, option_map}
 use Rattle.std.proofs.lemmas.Grind.{common_steps}
@@ -12,7 +12,7 @@ use Rattle.adf_volume.proofs.Sizes.{plain_size_high}
 use Rattle.adf_volume.specs.{Fits.Fits, Fits.FitsBy, Fits.FitsOf, Layout.Layout, Walk.FirstFaultOf, Counts.counts_of, declared.counts.Counts.Counts}
 use Rattle.adf_volume.specs.{declared.fault.Fault.Fault, declared.types.Types.Types}
 use Rattle.adf_build.specs.{Laid.IsLaid, Laid.volume, Plan.planned, Building.IsBuildable}
-use Rattle.adf_build.proofs.WholeVolume.{fits_plain}
+use Rattle.adf_build.proofs.{LaidWrites.CanHold, LaidWrites.volume_blocks, WholeVolume.fits_plain}
 use Rattle.adf_check.specs.Pieces.{bytes_of}
 use Rattle.adf_cmd.specs.Answers.{Answer, BuildsOrIsFull, Checks, Copies, IsBuilt, RefusesImage, contents_at}
 use Rattle.adf_runs.specs.{Commands.Reply, Commands.on_errors, Commands.on_output, Streams.Seen, Outcomes.Does, Outcomes.DoesSilently, Outcomes.EndsBy}
@@ -59,12 +59,13 @@ fault_ends NoMemory lines input f why h = record { ends = λ o. inl (appends_nil
 fault_ends _ lines input f why h = absurd h
 
 -- an image that was built of a tree is the one that is laid of it
-pub is_built : (image : List ℕ) (tree : Tree) (n : ℕ) → image ≡ volume tree n → length image ≡ n * 512 → IsBuildable tree n
+pub is_built : (image : List ℕ) (tree : Tree) (n : ℕ) → image ≡ volume tree n → IsBuildable tree n
     → is_plain_size n ≡ true → IsLaid image tree
     → tree.letters ≡ Ascii → FitsBy tree.letters image tree (planned tree n)
     → IsBuilt tree n
-is_built image tree n e long room size laid letters fits =
-    let few : blocks image ≤ MOST_PLAIN_BLOCKS = omega (arith, long, plain_size_high n size) in
+is_built image tree n e room size laid letters fits =
+    let can : CanHold tree n = record { sound = laid.sound; allowed = room.allowed; room = room.room } in
+    let few : blocks image ≤ MOST_PLAIN_BLOCKS = omega (arith, ap blocks e ∙ volume_blocks can, plain_size_high n size) in
     let plain : Fits image tree (planned tree n) = fits_plain few letters fits in grind (arith, common_steps)
 
 -- what builds the tree of a manifest answers its building

@@ -1,17 +1,17 @@
 -- What is answered to the front of an input that is longer than the limit is answered to the whole of it.
 use Rattle.std.proofs.Common.{◌≡◌, ◌≢◌, ◌<◌, ◌+◌, ◌*◌, ◌∙◌, inl, inr, ℕ, List, Option, Some, None, IfSome, refl, subst, sym, arith, length, take, length-take}
-use Rattle.std.proofs.{lemmas.Bool.cases_lt, lemmas.List.take_all, lemmas.Grind.common_steps}
+use Rattle.std.proofs.{lemmas.Bool.cases_lt, lemmas.List.take_all}
 use Rattle.adf_blocks.specs.{Sizes.blocks, declared.cause.Cause.TheVariants.BadSize}
-use Rattle.adf_volume.specs.{Demands.IsSize, Fits.FitsOf, Layout.Layout, Walk.FirstFaultOf, Walk.FirstFaultBy.at_boot, Types.letters_for}
+use Rattle.adf_volume.specs.{Fits.FitsOf, Layout.Layout, Walk.FirstFaultOf, Walk.FirstFaultBy.at_boot}
 use Rattle.adf_volume.specs.{Types.most_blocks, declared.fault.Fault.Fault}
-use Rattle.adf_volume.proofs.{Sizes.size_high, TypeLaws.one_fault_of}
+use Rattle.adf_volume.proofs.TypeLaws.{one_fault_of}
 use Rattle.adf_tree.specs.Tree.{Tree}
 use Rattle.adf_volume.specs.declared.types.Types.{Types, TheVariants.Plain}
 use Rattle.adf_manifest.specs.Manifest.{ExplainsKind}
 use Rattle.adf_manifest.specs.declared.manifest.ManifestKind.{ManifestKind, TheVariants.NoMemory as ManifestNoMemory, TheVariants.TooLong}
 use Rattle.adf_cmd.specs.{Answers.Answer, Answers.Checks, Answers.limit_of, Answers.most_image_bytes, declared.checking.CheckAnswer.CheckAnswer}
 use Rattle.adf_runs.specs.Commands.{Reply}
-use Rattle.adf_words.specs.CommandLine.{RequestValue, build, cat, check}
+use Rattle.adf_words.specs.CommandLine.{RequestValue, build, cat, check, convert, list}
 use Rattle.adf_cmd.specs.CheckAnswers.{IsCheckAnswer, IsCheckAnswerTo}
 
 -- each answer to one input is one to another
@@ -58,7 +58,10 @@ long_answers (cat path) image bytes a b reply (inr (inr (read, h))) = inr (inr (
 long_answers check image bytes a b reply h = long_check Plain image bytes a b reply h
 long_answers (build lines) image bytes a b reply (inl (tree, n, manifest, builds)) = absurd (omega (arith, manifest.0))
 long_answers (build lines) image bytes a b reply (inr h) = inr (h.0, long_kind h.0.kind h.0.line image bytes a b h.2 h.1, h.2, h.3)
-long_answers _ image bytes a b reply h = grind (arith, common_steps, too_large, long_fault)
+long_answers list image bytes a b reply (inl h) = absurd (too_large Plain image h.0 h.1 a h.2)
+long_answers list image bytes a b reply (inr (f, first, e)) = inr (f, long_fault Plain image bytes f a b first, e)
+long_answers (convert kind) image bytes a b reply (inl h) = absurd (too_large Plain image h.0 h.1 a h.2)
+long_answers (convert kind) image bytes a b reply (inr (f, first, e)) = inr (f, long_fault Plain image bytes f a b first, e)
 
 -- the answer to the bytes that are read is that to the whole input, where that is known
 pub read_answer : (types : Types) (a : CheckAnswer) (image : List ℕ) (left : Option (List ℕ))

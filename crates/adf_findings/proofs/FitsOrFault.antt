@@ -29,7 +29,7 @@ fits_or_fault_of types image =
     elim (cases_lt (most_blocks types) (blocks image)) [
       | inl large ↦ inr (0, BadSize, inl (large, refl, refl))
       | inr few ↦ elim (fits_or_fault_by types image) [
-        | inl fits ↦ inl (fits.0, fits.1, few, fits.2)
+        | inl fits ↦ inl (fits.0, fits.1, (few, fits.2))
         | inr fault ↦ inr (fault.0, fault.1, inr (few, fault.2))
       ]
     ]

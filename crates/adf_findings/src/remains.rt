@@ -65,7 +65,7 @@ fn data_in<'i>(image: &SizedImage<'i>, b: u32, size: u32, k: u32) -> &'i [u8]
 }
 
 // The bytes of data block `k`, by the first and the last.
-#[tactic(auto, unfolding(adf_blocks::specs::Sizes::chunk, adf_blocks::specs::Sizes::count))]
+#[tactic(auto, using(crate::proofs::Gaps::block_within, crate::proofs::Gaps::blocks_few))]
 fn gap_at(image: &SizedImage<'_>, size: u32, k: u32) -> Gap
     requires { k < count (kind_of image.now) size }
     ensures { result ≡ gap_at image.now size k }
@@ -118,6 +118,7 @@ fn push_zeros(bytes: &mut Vec<u8>, count: u32) -> Result<(), AllocError>
 impl Remains {
     /// Appends data block `k`, counted from 0, of a file of `size` bytes: the bytes in its block, or zeros and the run of them
     /// if no block is found. `AllocError` if an allocation fails.
+    #[tactic(auto, using(crate::proofs::Gaps::blocks_few))]
     pub fn add(
         &mut self,
         image: &SizedImage<'_>,

@@ -196,7 +196,7 @@ unfolding has_broken
 broken_more are put len = grind (arith, common_steps, add-one)
 
 -- one answer more in a list of answers
-mapped_more : (f : ℕ → Bool) (n : ℕ) (marks more : List Bool) (t : Bool) → marks ≡ map f (range_with_len 0 n) → t ≡ f n → more ≡ marks ++ t ∷ []
+pub mapped_more : (f : ℕ → Bool) (n : ℕ) (marks more : List Bool) (t : Bool) → marks ≡ map f (range_with_len 0 n) → t ≡ f n → more ≡ marks ++ t ∷ []
     → more ≡ map f (range_with_len 0 (n + 1))
 mapped_more f n marks more t before is put = grind (arith, common_steps, map-range_with_len_more)
 

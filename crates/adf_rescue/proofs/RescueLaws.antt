@@ -8,7 +8,7 @@ use Rattle.adf_volume.specs.{Made.datas_in, Walk.node_block, Walk.Walk}
 use Rattle.adf_findings.specs.Files.{IsSoundFile, file_content, file_in, grave}
 use Rattle.adf_findings.specs.{Members.parent_node, SoundMarks.AreMarks, Survey.FindingValue, Survey.IsSurvey}
 use Rattle.adf_findings.proofs.{OneSurvey.one_survey, SoundFiles.file_told}
-use Rattle.adf_rescue.specs.{Lost.has_lost, Salvage.are_data, declared.standing.Input.Input}
+use Rattle.adf_rescue.specs.{Lost.has_lost, Outranked.none_untold, Salvage.are_data, declared.standing.Input.Input}
 use Rattle.adf_rescue.proofs.GivenBlocks.{first_given_all}
 use Rattle.adf_rescue.specs.Rescue.{IsBasis, Basis, Verdict, as_given, at_path, before_first_by, by_body, body_of}
 use Rattle.adf_rescue.specs.Rescue.{name_for, path_by, new_path, verdict_tree, verdict}
@@ -27,10 +27,10 @@ pub sound_verdict : (letters : Letters) (input : Input) (a : Basis) (fs : List F
     → AreMarks a.image a.walk (grave fs) a.sound → IsSoundFile a.image a.walk (grave fs) n → are_data input a.image (datas_in a.walk n) ≡ true
     → (let t = verdict_tree (before_first_by letters input a.image) vs in verdict (before_first_by letters input a.image) a vs n
     ≡ at_path t (blocks a.image) (meta_stated (block a.image (node_block a.walk n))) (File (file_content (file_in a.image a.walk n)))
-    (path_by t (new_path vs (parent_node a.walk n)) (name_for letters a.image a.walk (node_block a.walk n)) (node_block a.walk n)))
+    (path_by t (new_path vs (parent_node a.walk n)) (name_for letters none_untold a.image a.walk (node_block a.walk n)) (node_block a.walk n)))
 sound_verdict letters input a fs n vs survey marks is all =
     let t : Tree = verdict_tree (before_first_by letters input a.image) vs in
-    ap (by_body a.image (blocks a.image) t (new_path vs (parent_node a.walk n)) (name_for letters a.image a.walk (node_block a.walk n))
+    ap (by_body a.image (blocks a.image) t (new_path vs (parent_node a.walk n)) (name_for letters none_untold a.image a.walk (node_block a.walk n))
     (node_block a.walk n)) (sound_stands letters input a fs n survey marks is all)
 
 -- the marks of a survey are one function, so there is one list of verdicts

@@ -90,20 +90,21 @@ lost_path t dir b = either (path_with_room t dir (lost_name b)) (path_with_room 
 
 -- the place of the path that an entry asks for, if it is outranked and if it is not
 module _ (d : DraftValue) (t : Tree) (o : Option (List (List ℕ))) (m b h : ℕ) (tree : d.tree ≡ t) (place : IsPlace d o (Some m)) (same : b ≡ h) where
-  pub outranked_room : {E : Type 0} (ls : Letters) (image : List ℕ) (w : Walk) (r : Result (Option Room) E) → true ≡ is_outranked ls image w h
+  pub outranked_room : {E : Type 0} (ls : Letters) (u : ℕ → Bool) (image : List ℕ) (w : Walk) (r : Result (Option Room) E)
+      → true ≡ is_outranked ls u image w h
       → ((dir : List (List ℕ)) → IsDirectoryOf d dir m → IfOk r (IsRoomOf d (path_with_room d.tree dir (lost_name b))))
-      → IfOk r (IsRoomOf d (path_by t o (name_for ls image w h) h))
-  outranked_room ls image w r is found =
-      let own : lost_name b ≡ name_for ls image w h = ap lost_name same ∙ ap (λ u. cond u (lost_name h) (name_of image h)) is in
-      room_in_place d t o m (lost_name b) (name_for ls image w h) b h r tree place own same (λ dir at. rw (lost_path d.tree dir b) (found dir at))
+      → IfOk r (IsRoomOf d (path_by t o (name_for ls u image w h) h))
+  outranked_room ls u image w r is found =
+      let own : lost_name b ≡ name_for ls u image w h = ap lost_name same ∙ ap (λ u. cond u (lost_name h) (name_of image h)) is in
+      room_in_place d t o m (lost_name b) (name_for ls u image w h) b h r tree place own same (λ dir at. rw (lost_path d.tree dir b) (found dir at))
 
-  pub own_room : {E : Type 0} (ls : Letters) (image : List ℕ) (w : Walk) (name : List ℕ) (r : Result (Option Room) E)
-      → false ≡ is_outranked ls image w h → name ≡ name_of image h
+  pub own_room : {E : Type 0} (ls : Letters) (u : ℕ → Bool) (image : List ℕ) (w : Walk) (name : List ℕ) (r : Result (Option Room) E)
+      → false ≡ is_outranked ls u image w h → name ≡ name_of image h
       → ((dir : List (List ℕ)) → IsDirectoryOf d dir m → IfOk r (IsRoomOf d (path_for d.tree dir name b)))
-      → IfOk r (IsRoomOf d (path_by t o (name_for ls image w h) h))
-  own_room ls image w name r is named found =
-      let own : name ≡ name_for ls image w h = named ∙ ap (λ u. cond u (lost_name h) (name_of image h)) is in
-      room_in_place d t o m name (name_for ls image w h) b h r tree place own same found
+      → IfOk r (IsRoomOf d (path_by t o (name_for ls u image w h) h))
+  own_room ls u image w name r is named found =
+      let own : name ≡ name_for ls u image w h = named ∙ ap (λ u. cond u (lost_name h) (name_of image h)) is in
+      room_in_place d t o m name (name_for ls u image w h) b h r tree place own same found
 
 -- the verdict on an entry that is not known and stands, by its path
 module _ (g : Ground) (l : Basis) (vs : List Verdict) (n : ℕ) (new : entry_headed g.walk (node_block l.walk n) ≡ None) where
@@ -116,11 +117,11 @@ module _ (g : Ground) (l : Basis) (vs : List Verdict) (n : ℕ) (new : entry_hea
   module _ (body : Body) (stands : body_of (as_given g l) n ≡ Ok body) where
     abbrev path_of_entry : Option (List (List ℕ))
     path_of_entry =
-        path_by (verdict_tree g vs) (new_path vs (parent_node l.walk n)) (name_for g.letters l.image l.walk (node_block l.walk n)) (node_block l.walk n)
+        path_by (verdict_tree g vs) (new_path vs (parent_node l.walk n)) (name_for g.letters g.untold l.image l.walk (node_block l.walk n)) (node_block l.walk n)
 
     on_path : verdict g l vs n ≡ at_path (verdict_tree g vs) (blocks g.given) (meta_stated (block l.image (node_block l.walk n))) body path_of_entry
     on_path = anew ∙ ap (by_body l.image (blocks g.given) (verdict_tree g vs) (new_path vs (parent_node l.walk n))
-        (name_for g.letters l.image l.walk (node_block l.walk n)) (node_block l.walk n)) stands
+        (name_for g.letters g.untold l.image l.walk (node_block l.walk n)) (node_block l.walk n)) stands
 
     pub verdict_at : (path : List (List ℕ)) (meta : Meta) → path_of_entry ≡ Some path → meta ≡ meta_stated (block l.image (node_block l.walk n))
         → verdict g l vs n ≡ fitting (verdict_tree g vs) (blocks g.given) (record { path = path; meta = meta; body = body })

@@ -23,7 +23,7 @@ use Rattle.adf_build.specs.Plan.{blocks_needed, entries_blocks, reserved}
 use Rattle.adf_rescue.specs.Rescue.{as_accepted, Ground, Basis, Verdict, verdict_additions, before_first_by, before_second_by, directory_path}
 use Rattle.adf_rescue.specs.Rescue.{first_verdicts_by, fitting}
 use Rattle.adf_rescue.specs.Rescue.{left_out_from, name_for, path_by, path_for, new_path, rescue_leaves_by, rescued_tree_by, verdict_tree, verdict, verdicts}
-use Rattle.adf_rescue.specs.{Rescue.Verdict.adds, declared.standing.Input.Input}
+use Rattle.adf_rescue.specs.{Outranked.none_untold, Rescue.Verdict.adds, declared.standing.Input.Input}
 use Rattle.adf_rescue.proofs.{FitBlocks.fit_room, FitBlocks.front_blocks, PassedFindings.passed_grave, SoundHeaders.IsToldAs, SoundHeaders.label_whole}
 use Rattle.adf_rescue.proofs.{SoundHeaders.told, Steps.additions_more, Steps.left_out_more, Steps.verdict_at, RescuedTrees.or_else}
 use Rattle.adf_drafts.proofs.NextEntries.{directory_stays, has_room, new_is, new_leads}
@@ -119,7 +119,7 @@ tree_so_far ls input a vs = verdict_tree (before_first_by ls input a.image) vs
 module _ (ls : Letters) (input : Input) (a : Basis) (vs : List Verdict) (n : ℕ) (e : Entry) (is : IsToldAs ls input a n e) (dir : List (List ℕ))
     (at : new_path vs e.parent ≡ Some dir) where
   entry_path : room_for_by ls (tree_so_far ls input a vs).entries (dir ++ e.name ∷ []) ≡ Ok e.parent
-      → path_by (tree_so_far ls input a vs) (new_path vs (parent_node a.walk n)) (name_for ls a.image a.walk (node_block a.walk n)) (node_block a.walk n)
+      → path_by (tree_so_far ls input a vs) (new_path vs (parent_node a.walk n)) (name_for ls none_untold a.image a.walk (node_block a.walk n)) (node_block a.walk n)
       ≡ Some (dir ++ e.name ∷ [])
   entry_path room = grind (arith, common_steps, tree_so_far, own_path)
 

@@ -66,4 +66,4 @@ pub record GoesOn (image : List ℕ) (n : ℕ) (r : Salvage) : Type 0 where
   pub survey : IsSurvey image walk findings
   pub state : IsSalvage ground verdicts r
   pub next : ComesNext walk verdicts n
-  pub ranks : AreOutranked ground.letters image walk r.outranked.items
+  pub ranks : AreOutranked ground.letters ground.untold image walk r.outranked.items

@@ -3,7 +3,7 @@
 ghost use Rattle.std.specs.Prelude.{◌≡◌, ◌≤◌, ◌<◌, ◌++◌, ℕ, Bool, List, [], IfSome, None, Option, Some, true, false, slice_get};
 ghost use Rattle.std.proofs.Common.{suc};
 ghost use Rattle.std.specs.List.{All};
-ghost use Rattle.adf_base.specs.{Words.block, declared.hash.Letters.Letters};
+ghost use Rattle.adf_base.specs.{Words.block, declared.hash.Letters.Letters, declared.hash.Letters.TheVariants.Ascii};
 ghost use Rattle.adf_tree.specs.{Additions.Addition, Additions.IsTreeOfBy, declared.entry.Body.TheVariants.File, Tree.Tree};
 ghost use Rattle.adf_blocks.specs.{HeadBlock.meta_stated, Sizes.blocks, Sizes.is_allowed};
 ghost use Rattle.adf_volume.specs.{Fits.FitsBy, Layout.Layout, Made.datas_in, Lists.At};
@@ -13,7 +13,7 @@ ghost use Rattle.adf_findings.specs.{Members.owning_entry, Members.parent_node, 
 ghost use Rattle.adf_findings.specs.{Sound.IsSound, SoundMarks.AreMarks, Survey.FindingValue, Survey.IsSurvey};
 ghost use Rattle.adf_build.specs.Laid.{IsLaid};
 ghost use Rattle.adf_rescue.specs.{Doubts.first_doubts_by, Losses.lost_blocks, Losses.lost_headers, Lost.has_lost};
-ghost use Rattle.adf_rescue.specs.{Rescue.Verdict.adds, Salvage.are_data, declared.standing.Input.Input};
+ghost use Rattle.adf_rescue.specs.{Outranked.none_untold, Rescue.Verdict.adds, Salvage.are_data, declared.standing.Input.Input};
 ghost use Rattle.adf_rescue.specs.Rescue.{Basis, Verdict, as_accepted, at_path, before_first_by, first_verdicts_by};
 ghost use Rattle.adf_rescue.specs.Rescue.{name_for, path_by, verdict_additions, new_path, rescue_leaves_by, rescued_additions_by, rescued_tree_by};
 ghost use Rattle.adf_rescue.specs.Rescue.{second_verdicts_by, verdict_tree, verdict};
@@ -46,7 +46,7 @@ pub fn sound_files_stand()
         (meta_stated (block a.image (node_block a.walk n)))
         (File (file_content (file_in a.image a.walk n)))
         (path_by (verdict_tree (before_first_by letters input a.image) vs) (new_path vs (parent_node a.walk n))
-        (name_for letters a.image a.walk (node_block a.walk n)) (node_block a.walk n)) }
+        (name_for letters none_untold a.image a.walk (node_block a.walk n)) (node_block a.walk n)) }
     ensures front { (letters : Letters) (input : Input) (a : Basis) (b : Option Basis) → rescued_additions_by letters input a b
         ≡ verdict_additions (first_verdicts_by letters input a) ++ verdict_additions (second_verdicts_by letters input a b) }
 {}

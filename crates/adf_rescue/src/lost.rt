@@ -71,9 +71,9 @@ pub fn says_directory(image: &[u8], b: u32) -> bool
     says_header(image, b) && word_in(image, b, SECONDARY_TYPE) == ST_DIR
 }
 
-// What the bitmap tells of a block: whether it is free.
+/// What the bitmap tells of a block: whether it is free.
 #[tactic(auto, using(crate::proofs::LostHeaders::untold))]
-fn bit_stated(survey: &Survey<'_>, b: u32) -> Option<bool>
+pub fn bit_stated(survey: &Survey<'_>, b: u32) -> Option<bool>
     ensures { OnSurvey survey.now.image (λ w _. result ≡ bit_stated survey.now.image w b) }
 {
     let image = survey.image();

@@ -15,7 +15,7 @@ ghost use Rattle.adf_rescue.specs.Salvage.{free_blocks as blocks_free, IsSalvage
 use crate::doubts::{Doubtful, first_doubts, second_doubts};
 use crate::left_out::LeftOut;
 use crate::losses::{lost_blocks, lost_headers};
-use crate::outranked::outranked;
+use crate::outranked::{outranked, untold};
 use crate::salvage::Salvage;
 use crate::standing::Input;
 use adf_base::NoMemory;
@@ -62,7 +62,7 @@ fn salvaged(alloc: Global, survey: &Survey<'_>, begun: Salvage) -> Result<Salvag
     survey.whole_marks();
     some_survey();
     let mut salvage = begun;
-    salvage.outranked = outranked(alloc, salvage.draft.letters(), survey)?;
+    salvage.outranked = outranked(alloc, salvage.draft.letters(), survey, &Vec::new(alloc))?;
     for before in 0..survey.len() {
         salvage.take(alloc, survey, Node(before + 1))?;
     }
@@ -85,7 +85,8 @@ fn take_second(
     survey.whole_marks();
     second.whole_marks();
     some_survey();
-    salvage.outranked = outranked(alloc, salvage.draft.letters(), second)?;
+    let untold = untold(alloc, survey)?;
+    salvage.outranked = outranked(alloc, salvage.draft.letters(), second, &untold)?;
     for before in 0..second.len() {
         salvage.take_second(alloc, survey, second, Node(before + 1))?;
     }

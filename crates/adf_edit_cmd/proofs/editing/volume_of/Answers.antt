@@ -1,4 +1,5 @@
 use Rattle.adf_edit_cmd.proofs.editing.volume_of.Goals as goal
 
 pub returns-in_default : goal.returns-in_default
-returns-in_default c = record { image = tt; fits = tt; refused = c.in-Err.ensures.first c.in_default.not-NoMemory }
+returns-in_default c =
+    record { image = tt; fits = tt; refused = rw c.letters_for.ensures at (c.in-Err.ensures.first c.in_default.not-NoMemory) }

@@ -7,12 +7,12 @@ use Rattle.adf_rescue.proofs.outranked.marks.Goals as goal
 pub loop-before-preserved : goal.loop-before-preserved
 loop-before-preserved c = (
   omega (arith, c.loop-before.invariant.0, c.in_ok-push-2.ensures.len, c.loop-before.marks.ok),
-  λ w fs survey are n low high.
+  λ u untold w fs survey are n low high.
       let ls = c.args.letters in
       let image = c.args.survey.now.image in
       let all = c.len-before-end.ensures w fs survey in
-      let told = c.is_entry_outranked-is_outranked.ensures w fs survey are (omega arith) (omega (arith, all)) in
-      marks_more (λ n. is_outranked ls image w (node_block w n)) c.loop-before.marks.items c.push-in-loop-before.new.self.items c.loop-before.before
+      let told = c.is_entry_outranked-is_outranked.ensures u untold w fs survey are (omega arith) (omega (arith, all)) in
+      marks_more (λ n. is_outranked ls u image w (node_block w n)) c.loop-before.marks.items c.push-in-loop-before.new.self.items c.loop-before.before
       c.is_entry_outranked-is_outranked.result c.loop-before.invariant.0 c.in_ok-push-2.ensures.items told
-      (c.loop-before.invariant.1 w fs survey are) n low high,
+      (c.loop-before.invariant.1 u untold w fs survey are) n low high,
 )

@@ -7,19 +7,19 @@ pub returns-in_default : goal.returns-in_default
 returns-in_default c = grind (arith, common_steps, unused)
 
 pub returns-in_ok-put : goal.returns-in_ok-put
-returns-in_ok-put c = λ w fs survey are.
-    let used = (c.in-Some.ensures.some w fs survey).0 refl in
+returns-in_ok-put c = λ u told w fs survey are.
+    let claims = (c.in-Some.ensures.some u told w fs survey).0 refl in
     let named = rw c.image-image.ensures at c.directory_named-directory.ensures in
-    let told = rw c.image-image.ensures at c.is_after.ensures in
-    (noted c.args.letters c.args.survey.now.image w c.args.b c.args.latest.now.buckets.items are used c.directory_named-directory.result _
-    c.get-known.result c.is_after.result named c.in-Some.ensures.name c.get-known.ensures told).1 _
+    let late = rw c.image-image.ensures at c.is_after.ensures in
+    (noted c.args.letters u c.args.survey.now.image w c.args.b c.args.latest.now.buckets.items are claims c.directory_named-directory.result _
+    c.get-known.result c.is_after.result named c.in-Some.ensures.name c.get-known.ensures late).1 _
     c.if-is_after.true c.in_ok-put.ensures.more
 
 pub returns-else-is_after : goal.returns-else-is_after
-returns-else-is_after c = λ w fs survey are.
-    let used = (c.in-Some.ensures.some w fs survey).0 refl in
+returns-else-is_after c = λ u told w fs survey are.
+    let claims = (c.in-Some.ensures.some u told w fs survey).0 refl in
     let named = rw c.image-image.ensures at c.directory_named-directory.ensures in
-    let told = rw c.image-image.ensures at c.is_after.ensures in
-    (noted c.args.letters c.args.survey.now.image w c.args.b c.args.latest.now.buckets.items are used c.directory_named-directory.result _
-    c.get-known.result c.is_after.result named c.in-Some.ensures.name c.get-known.ensures told).0
+    let late = rw c.image-image.ensures at c.is_after.ensures in
+    (noted c.args.letters u c.args.survey.now.image w c.args.b c.args.latest.now.buckets.items are claims c.directory_named-directory.result _
+    c.get-known.result c.is_after.result named c.in-Some.ensures.name c.get-known.ensures late).0
     c.if-is_after.false

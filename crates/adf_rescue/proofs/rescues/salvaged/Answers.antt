@@ -1,15 +1,15 @@
-use Rattle.std.proofs.Common.{◌≡◌, [], arith, subst, sym}
+use Rattle.std.proofs.Common.{◌≡◌, [], arith, refl, subst, sym}
 use Rattle.adf_volume.specs.Walk.{heads}
 use Rattle.adf_findings.specs.SoundMarks.{whole_in}
 use Rattle.adf_rescue.specs.Rescue.{Ground, Basis, before_first_by, verdicts}
-use Rattle.adf_rescue.specs.Outranked.{AreOutranked}
+use Rattle.adf_rescue.specs.Outranked.{AreOutranked, none_untold}
 use Rattle.adf_rescue.proofs.Steps.{next_is, verdicts_more, with_marks}
 use Rattle.adf_rescue.proofs.rescues.salvaged.Goals as goal
 
 pub loop-before-init : goal.loop-before-init
 loop-before-init c = λ w fs sound survey marks. (
   with_marks _ [] c.args.begun _ c.requires,
-  rw c.letters.ensures at (c.in_ok-salvage.ensures w fs survey),
+  rw c.letters.ensures at (c.in_ok-salvage.ensures none_untold (λ b. rw c.new.ensures.items refl) w fs survey),
 )
 
 pub take-requires : goal.take-requires
@@ -39,7 +39,7 @@ loop-before-preserved c = λ w fs sound survey marks.
     let next = next_is (before_first_by c.args.begun.draft.tree.letters c.args.begun.input image) a c.loop-before.before (omega (arith, all)) in
     let before = c.loop-before.invariant w fs sound survey marks in (
       rw verdicts_more (c.in_ok-take.ensures.state w fs sound survey marks c.args.begun.draft.tree.letters c.args.begun.input _ before.0 next before.1),
-      subst (λ v. AreOutranked c.args.begun.draft.tree.letters image w v.items) (sym c.in_ok-take.ensures.same) before.1,
+      subst (λ v. AreOutranked c.args.begun.draft.tree.letters none_untold image w v.items) (sym c.in_ok-take.ensures.same) before.1,
     )
 
 pub returns : goal.returns

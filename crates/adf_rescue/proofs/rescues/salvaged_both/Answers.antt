@@ -2,7 +2,7 @@ use Rattle.std.proofs.Common.{ℕ, Bool, Option, None, Some, ap, ◌∙◌}
 use Rattle.adf_base.specs.declared.hash.Letters.{Letters}
 use Rattle.adf_tree.specs.Tree.{Tree}
 use Rattle.adf_findings.specs.SoundMarks.{whole_in}
-use Rattle.adf_rescue.specs.{Rescue.IsSecond, Rescue.Basis, Rescue.before_second_by, Rescue.first_verdicts_by, Rescue.second_verdicts_by, Salvage.IsSalvage}
+use Rattle.adf_rescue.specs.{Outranked.is_untold, Rescue.IsSecond, Rescue.Basis, Rescue.before_second_by, Rescue.first_verdicts_by, Rescue.second_verdicts_by, Salvage.IsSalvage}
 use Rattle.adf_rescue.proofs.Steps.{own_terms, second_some, with_terms}
 use Rattle.adf_rescue.proofs.rescues.salvaged_both.Goals as goal
 
@@ -12,6 +12,7 @@ take_second-requires c = λ w fs sound survey marks.
     let letters : Letters = c.args.begun.draft.tree.letters in
     own_terms letters c.args.begun.input a c.in_ok-salvage.salvage
     (c.in_ok-salvage.ensures letters c.args.begun.input c.args.survey.now.image w (first_verdicts_by letters c.args.begun.input a)
+    (is_untold c.args.survey.now.image w)
     (c.in_ok-first.ensures w fs sound survey marks))
 
 pub returns-in-None-clause-state : goal.returns-in-None-clause-state
@@ -23,7 +24,7 @@ returns-in-None-clause-state c = λ letters input same_letters same w fs sound s
     elim b as (λ b. IsSecond None b
     → IsSalvage (before_second_by own c.args.begun.input a) (second_verdicts_by own c.args.begun.input a b) c.in_ok-salvage.salvage) [
       | None ↦ λ x. c.in_ok-salvage.ensures own c.args.begun.input c.args.survey.now.image w (first_verdicts_by own c.args.begun.input a)
-          (c.in_ok-first.ensures w fs sound survey marks)
+          (is_untold c.args.survey.now.image w) (c.in_ok-first.ensures w fs sound survey marks)
       | Some l ↦ λ x. absurd x
     ] none)
 
@@ -34,6 +35,7 @@ returns-in-None-clause-blocks c =
     let a : Basis = record { image = c.args.survey.now.image; walk = one.0; sound = sound } in
     let letters : Letters = c.args.begun.draft.tree.letters in
     (c.in_ok-salvage.ensures letters c.args.begun.input c.args.survey.now.image one.0 (first_verdicts_by letters c.args.begun.input a)
+    (is_untold c.args.survey.now.image one.0)
     (c.in_ok-first.ensures one.0 one.1 sound one.2 (c.whole_marks.ensures one.0 one.1 one.2))).left
 
 pub returns-in_ok-take_second-in-Some-clause-state : goal.returns-in_ok-take_second-in-Some-clause-state
@@ -42,6 +44,7 @@ returns-in_ok-take_second-in-Some-clause-state c = λ letters input same_letters
     let own : Letters = c.args.begun.draft.tree.letters in
     let before = c.in_ok-salvage.salvage in
     let begun = c.in_ok-salvage.ensures own c.args.begun.input c.args.survey.now.image w (first_verdicts_by own c.args.begun.input a)
+    (is_untold c.args.survey.now.image w)
     (c.in_ok-first.ensures w fs sound survey marks) in
     with_terms before.draft.tree.letters letters before.input input a b c.take_second.new.salvage
     (ap (λ (t : Tree). t.letters) begun.tree ∙ same_letters) (begun.input ∙ same)

@@ -9,7 +9,7 @@ use Rattle.adf_rescue.proofs.rescues.take_second.Goals as goal
 pub loop-before-init : goal.loop-before-init
 loop-before-init c = λ v gs before first marks w fs sound survey whole. (
   with_marks _ [] c.args.salvage.now _ (c.requires v gs before first marks),
-  rw c.letters.ensures at (c.in_ok-salvage.ensures w fs survey),
+  rw c.letters.ensures at (c.in_ok-salvage.ensures _ (c.in_ok-untold.ensures v gs first) w fs survey),
 )
 
 pub take_second-requires : goal.take_second-requires
@@ -42,7 +42,7 @@ loop-before-preserved c = λ v gs before first marks w fs sound survey whole.
     let next = next_is g b c.loop-before.before (omega (arith, all)) in
     let kept = c.loop-before.invariant v gs before first marks w fs sound survey whole in (
       rw verdicts_more (c.in_ok-take_second.ensures.state w fs sound survey whole g gs _ refl first kept.0 next kept.1),
-      subst (λ v. AreOutranked g.letters b.image w v.items) (sym c.in_ok-take_second.ensures.same) kept.1,
+      subst (λ v. AreOutranked g.letters g.untold b.image w v.items) (sym c.in_ok-take_second.ensures.same) kept.1,
     )
 
 pub returns : goal.returns

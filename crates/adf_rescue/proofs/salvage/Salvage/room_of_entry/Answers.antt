@@ -15,7 +15,7 @@ returns-in-Some c = λ g w fs vs survey is ranks low high.
     let same = c.in-Some-Some.ensures'.block w fs survey in
     let ranked = sym c.if-has_mark.true ∙ ((rw c.n.view_is at c.has_mark.ensures) ∙ ranks c.args.n low high) in
     outranked_room c.args.self.now.draft (verdict_tree g vs) (new_path vs up) c.in-Some.directory c.in-Some-Some.block (node_block w c.args.n) is.tree
-    place same g.letters c.args.survey.now.image w c.lost_room.result ranked c.lost_room.ensures
+    place same g.letters g.untold c.args.survey.now.image w c.lost_room.result ranked c.lost_room.ensures
 
 pub returns-in-Some-2 : goal.returns-in-Some-2
 returns-in-Some-2 c = λ g w fs vs survey is ranks low high.
@@ -27,4 +27,4 @@ returns-in-Some-2 c = λ g w fs vs survey is ranks low high.
     let ranked = sym c.if-has_mark.false ∙ ((rw c.n.view_is at c.has_mark.ensures) ∙ ranks c.args.n low high) in
     let named = c.in-Some-Some.ensures.name w fs survey in
     own_room c.args.self.now.draft (verdict_tree g vs) (new_path vs up) c.in-Some.directory c.in-Some-Some.block (node_block w c.args.n) is.tree
-    place same g.letters c.args.survey.now.image w c.in-Some-Some.name.now c.room_of.result ranked named c.room_of.ensures
+    place same g.letters g.untold c.args.survey.now.image w c.in-Some-Some.name.now c.room_of.result ranked named c.room_of.ensures
