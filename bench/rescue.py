@@ -132,7 +132,7 @@ def type_opened(image):
 
 def typed(image):
     """The image with the type that its entries tell, and whether that is another one than is stated."""
-    if len(image) % 1024 or not 4 <= len(image) // 512 <= 1048576:
+    if len(image) % 1024 or not 4 <= len(image) // 512 <= 8388608:
         return image, False
     told = type_opened(image)
     return (image, False) if told == opened(image)[3] else (b"DOS" + bytes([told]) + image[4:], True)
@@ -183,7 +183,7 @@ def lacks_root(image):
 def opened(image):
     """The image with the beginning of a volume and a root, made where they are not there."""
     blocks = len(image) // 512
-    if len(image) % 1024 or not 4 <= blocks <= 1048576:
+    if len(image) % 1024 or not 4 <= blocks <= 8388608:
         return image
     r = blocks // 2
     if states_type(image) and not lacks_root(image):
@@ -433,7 +433,7 @@ class Rescue:
         faults = Survey(image).findings
         self.is_refused = bool(faults)
         self.given = pruned(opened(image)) if faults else image
-        self.root_made = len(image) % 1024 == 0 and 4 <= len(image) // 512 <= 1048576 and lacks_root(image)
+        self.root_made = len(image) % 1024 == 0 and 4 <= len(image) // 512 <= 8388608 and lacks_root(image)
         self.front = [(count, stated - 1)] if count < stated else []
         self.front += [(0, 0)] if is_retyped or not states_type(image) else []
         survey = Survey(self.given)

@@ -1,10 +1,13 @@
-"""What the programs of this folder share: the program that is timed, runs, instructions, and the slots of names."""
+"""What the programs of this folder share: the program that is timed, runs, instructions, the slots of names, and images in sparse files."""
 
+import mmap
 import os
 import re
 import subprocess
 import sys
 import time
+
+PART = 1 << 16  # bytes of a file that are written, or are a hole
 
 
 def program(at=1, default="crates/adf/out/adf"):
@@ -45,6 +48,22 @@ def instructions(command, given, folder, within=None):
         elif number and re.search(r":__mem(cpy|move|set)", line):
             copies += int(number[1].replace(",", ""))
     return total - copies
+
+
+def empty_image(blocks):
+    """The bytes of so many blocks, which are zeros, and take memory only where they are changed."""
+    return mmap.mmap(-1, 512 * blocks, flags=mmap.MAP_PRIVATE | mmap.MAP_ANONYMOUS)
+
+
+def save(image, path):
+    """Writes an image into a new file, with holes where it has zeros."""
+    with open(path, "wb") as file:
+        file.truncate(len(image))
+        for at in range(0, len(image), PART):
+            part = image[at : at + PART]
+            if part.count(0) != len(part):
+                file.seek(at)
+                file.write(part)
 
 
 def slot_of(name):

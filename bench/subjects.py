@@ -15,7 +15,7 @@ def begun(image):
 def lacks_boot(image):
     """The image has the length of a volume and a whole root, but does not state a type."""
     blocks = len(image) // 512
-    allowed = len(image) % 1024 == 0 and 4 <= blocks <= 1048576
+    allowed = len(image) % 1024 == 0 and 4 <= blocks <= 8388608
     return allowed and not states_type(image) and is_root(image, blocks // 2) and sealed(image, blocks // 2)
 
 

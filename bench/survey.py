@@ -8,6 +8,7 @@ A role is its key (first, second, third), its name, and its numbers.
 """
 
 import sys
+from heapq import heappop, heappush
 from struct import unpack_from
 
 SLOTS, POINTERS, ROOT_PAGES, MAP_PAGES, PAGE_BITS = 72, 72, 25, 127, 4064
@@ -65,6 +66,7 @@ class Survey:
         self.image, self.blocks = image, len(image) // 512
         self.walk, self.owner, self.nodes, self.skipped, self.findings = {}, {}, [], {}, []
         self.asked = {}  # by key: the role, and the block and the word that name its block
+        self.waiting = []  # the keys that were asked for, the least first
         self.names = {}  # how many words that ask for a part name a block
         self.root = self.blocks // 2
         first, readable = judged(self.boot_demands(), OTHER_TYPES)
@@ -81,8 +83,10 @@ class Survey:
             return
         self.pages = -(-(self.blocks - 2) // PAGE_BITS)
         self.take(ROOT, self.root)
-        while wanted := [key for key in self.asked if key not in self.walk and key not in self.skipped]:
-            self.judge(*self.asked[min(wanted)])
+        while self.waiting:
+            key = heappop(self.waiting)
+            if key not in self.walk and key not in self.skipped:
+                self.judge(*self.asked[key])
         self.compare()
 
     def word(self, b, i):
@@ -99,7 +103,7 @@ class Survey:
 
     def boot_demands(self):
         size = len(self.image)
-        yield "bad size", 0, lambda: size % 1024 == 0 and 4 <= self.blocks <= 1048576
+        yield "bad size", 0, lambda: size % 1024 == 0 and 4 <= self.blocks <= 8388608
         yield "not dos", 0, lambda: self.image[:3] == b"DOS" and self.image[3] <= 5
         yield "international", 0, lambda: self.image[3] not in (2, 3)
         yield "directory cache", 0, lambda: self.image[3] not in (4, 5)
@@ -114,6 +118,7 @@ class Survey:
 
     def ask(self, role, a, i):
         self.asked[role[0]] = role, a, i
+        heappush(self.waiting, role[0])
         self.names[self.word(a, i)] = self.names.get(self.word(a, i), 0) + 1
 
     def take(self, role, b):

@@ -1,15 +1,21 @@
-"""Volumes as an Amiga fills them, written word by word and without adf's builder: a tree with a history, and all that was deleted."""
+"""Volumes as an Amiga fills them, written word by word and without adf's builder: a tree with a history, and all that was deleted.
+
+    python3 bench/truth_volumes.py TYPE BLOCKS FILE     writes one with some hundred files into a new file, with holes for its zeros
+"""
 
 from __future__ import annotations
 
+import mmap
 import random
+import sys
 from struct import pack_into, unpack_from
-from typing import Dict, Iterator, List, Optional, Set, Tuple
+from typing import Dict, Iterator, List, Optional, Set, Tuple, Union
 
 DIR, FILE, SLOTS, POINTERS, PAGE_BITS, ROOT_PAGES, MAP_PAGES = 2, 2**32 - 3, 72, 72, 4064, 25, 127
 VALID, CACHE, LIST, DATA, SHORT = 2**32 - 1, 33, 16, 8, 2
 Path = Tuple[bytes, ...]
 Date = Tuple[int, int, int]
+Image = Union[bytearray, mmap.mmap]
 LETTERS = b"abcdefghijklmnopqrstuvwxyzABCDEFGHIJKLMNOPQRSTUVWXYZ0123456789.-_ "
 ACCENTS = bytes(c for c in range(0xC0, 0x100))
 
@@ -58,7 +64,7 @@ class Thing:
 class Ghost:
     """What was deleted: its path then, its bytes, and its blocks as they were in the image."""
 
-    def __init__(self, thing: Thing, image: bytearray, kind: int) -> None:
+    def __init__(self, thing: Thing, image: Image, kind: int) -> None:
         self.path, self.content, self.header = thing.path(), thing.content, thing.header
         self.blocks, self.datas, self.kind = thing.blocks(), list(thing.datas), kind
         self.stood = {b: bytes(image[512 * b : 512 * b + 512]) for b in self.blocks}
@@ -67,9 +73,9 @@ class Ghost:
 class Volume:
     """A volume of type 0 to 5 with the tree that stands on it at this moment."""
 
-    def __init__(self, dice: random.Random, kind: int, blocks: int) -> None:
+    def __init__(self, dice: random.Random, kind: int, blocks: int, image: Optional[Image] = None) -> None:
         self.dice, self.blocks, self.root = dice, blocks, blocks // 2
-        self.image = bytearray(self.filled(dice.choice(["zeros", "zeros", "counted", "noise"])))
+        self.image = bytearray(self.filled(dice.choice(["zeros", "zeros", "counted", "noise"]))) if image is None else image
         self.ghosts: List[Ghost] = []
         self.former: Set[int] = set()
         self.limbo: List[Ghost] = []
@@ -171,12 +177,11 @@ class Volume:
 
     def sync(self) -> None:
         """The bitmap tells what is in use now, and is valid."""
+        whole = bytearray(b"\1" * self.blocks) + bytes(PAGE_BITS)
+        for b in self.used:
+            whole[b] = 0
         for i, page in enumerate(self.pages):
-            first, past = 2 + PAGE_BITS * i, min(2 + PAGE_BITS * (i + 1), self.blocks)
-            bits = bytearray(b"\1" * (past - first)) + bytes(PAGE_BITS - (past - first))
-            for b in self.used:
-                if first <= b < past:
-                    bits[b - first] = 0
+            bits = whole[2 + PAGE_BITS * i : 2 + PAGE_BITS * (i + 1)]
             words = [int("".join("01"[bit] for bit in bits[32 * j + 31 : (32 * j - 1 if j else None) : -1]), 2) for j in range(127)]
             pack_into(">128I", self.image, 512 * page, -sum(words) % 2**32, *words)
 
@@ -373,3 +378,21 @@ class Volume:
         if how < 0.3:
             return (b"%d bottles of beer on the wall, " % size * (size // 20 + 1))[:size]
         return self.dice.randbytes(size)
+
+
+def main(kind: str, blocks: str, path: str) -> None:
+    """Some hundred files in some directories, behind a file of a tenth of the volume."""
+    from shared import empty_image, save
+
+    volume = Volume(random.Random(1), int(kind), int(blocks), empty_image(int(blocks)))
+    volume.make_file(volume.tree, b"large", bytes(int(blocks) * 48))
+    parent = volume.tree
+    for i in range(300):
+        parent = volume.make_dir(volume.tree, b"drawer%d" % i) if i % 20 == 0 else parent
+        volume.make_file(parent, b"file%d" % i, volume.some_content(60000))
+    volume.sync()
+    save(volume.image, path)
+
+
+if __name__ == "__main__":
+    main(*sys.argv[1:])

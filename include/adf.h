@@ -69,7 +69,7 @@ extern "C" {
  * version may have more of them, from 25 on: an image is accepted if and only if the call returns 0. */
 enum adf_cause {
     ADF_ACCEPTED = 0,
-    ADF_BAD_SIZE = 1,       /* The length is not a multiple of 512, or not an allowed number of blocks. */
+    ADF_BAD_SIZE = 1,       /* The length is not a multiple of 512, or not an allowed number of blocks: even, 4 to the most. */
     ADF_NOT_DOS = 2,        /* The first three bytes are not DOS, or the type byte is above 5. */
     ADF_INTERNATIONAL = 3,  /* Type 2 or 3: names are compared in another way. */
     ADF_DIR_CACHE = 4,      /* Type 4 or 5: directories have caches. */
@@ -120,7 +120,7 @@ struct adf_verdict {
     uint32_t block; /* if the image is refused, the block with the fault, else 0 */
 };
 
-/* Checks an image of this length. Returns an adf_cause, and fills the verdict.
+/* Checks an image of this length, of at most 1,048,576 blocks. Returns an adf_cause, and fills the verdict.
  *
  * 0: the image is that of one volume, whose numbers are in the verdict; `block` is 0.
  * Another cause: no volume has this image. It is the first fault, and `block` is where it is; the other fields are 0.
@@ -129,8 +129,9 @@ struct adf_verdict {
  */
 uint8_t adf_check(const uint8_t *image, size_t length, struct adf_verdict *verdict);
 
-/* The same of an image of type 0 to 3, each by the letters whose case is ignored in its names: on types 2 and 3 these are the bytes
- * 0xE0 to 0xFE too, except 0xF7. Types 0 and 1 have the verdict of adf_check. Their tables are made by adf_index_types.
+/* The same of an image of type 0 to 3, of at most 8,388,608 blocks, as for all calls below but those that name types 0 and 1 alone:
+ * adf_owners and adf_index. Each is checked by the letters whose case is ignored in its names: on types 2 and 3 these are the bytes
+ * 0xE0 to 0xFE too, except 0xF7. Types 0 and 1 have the verdict of adf_check, up to its size. Their tables are made by adf_index_types.
  */
 uint8_t adf_check_types(const uint8_t *image, size_t length, struct adf_verdict *verdict);
 
@@ -219,8 +220,8 @@ struct adf_contents {
 uint8_t adf_index(const uint8_t *image, size_t length, struct adf_entry *entries, size_t entries_room, uint32_t *blocks,
                   size_t blocks_room, struct adf_contents *contents);
 
-/* The same of an image of type 0 to 3, as adf_check_types checks it; types 0 and 1 have the tables and contents of adf_index. In
- * these tables a path is looked up by adf_find_types with contents->kind, and files are read by adf_read.
+/* The same of an image of type 0 to 3, as adf_check_types checks it; types 0 and 1 have the tables and contents of adf_index, up to
+ * its size. In these tables a path is looked up by adf_find_types with contents->kind, and files are read by adf_read.
  */
 uint8_t adf_index_types(const uint8_t *image, size_t length, struct adf_entry *entries, size_t entries_room, uint32_t *blocks,
                         size_t blocks_room, struct adf_contents *contents);
@@ -282,7 +283,7 @@ struct adf_addition {
 /* A volume that is to be built. */
 struct adf_new_volume {
     uint32_t kind;        /* an adf_kind */
-    uint32_t blocks;      /* all blocks: even, 4 to 1,048,576; adf_need does not look at it */
+    uint32_t blocks;      /* all blocks: even, 4 to 8,388,608; adf_need does not look at it */
     struct adf_date root; /* the three dates of the root block, as in struct adf_contents */
     struct adf_date altered;
     struct adf_date created;
@@ -319,8 +320,8 @@ enum adf_build_refusal {
 /* Builds a volume of these additions at the front of the room. Returns an adf_build_refusal.
  *
  * 0: the first blocks * 512 bytes of the room are the image of the volume that has these entries and no others, as `adf build` lays
- *    it: the same table gives the same bytes. adf_check_types accepts it, and adf_check those of the kinds ADF_OFS and ADF_FFS. The rest
- *    of the room is unchanged.
+ *    it: the same table gives the same bytes. adf_check_types accepts it, and adf_check those of the kinds ADF_OFS and ADF_FFS, up to
+ *    its size. The rest of the room is unchanged.
  * Another number: nothing is written to the room. If it is that of an addition, built->addition is the first one that has a fault,
  *    and the number is its first fault.
  *
@@ -333,7 +334,7 @@ uint8_t adf_build(const struct adf_new_volume *volume, const struct adf_addition
 /* Finds the smallest volume for these additions. Returns an adf_build_refusal.
  *
  * 0: built->blocks is the fewest blocks of a volume in which they have room.
- * ADF_BUILD_FULL: not even the largest volume, of 1,048,576 blocks, has room for them.
+ * ADF_BUILD_FULL: not even the largest volume, of 8,388,608 blocks, has room for them.
  * Another number: as for adf_build.
  */
 uint8_t adf_need(const struct adf_new_volume *volume, const struct adf_addition *additions, size_t count, const uint8_t *contents,
@@ -348,7 +349,7 @@ uint8_t adf_need(const struct adf_new_volume *volume, const struct adf_addition 
 /* What is told of the image that adf-survey surveys. Fields that do not apply are 0. */
 struct adf_subject {
     size_t length;      /* its bytes */
-    uint32_t held;      /* how many of its first 1,048,576 blocks the given image holds whole: zeros behind them are no data */
+    uint32_t held;      /* how many of its first 8,388,608 blocks the given image holds whole: zeros behind them are no data */
     uint8_t is_begun;   /* 1 if only the boot block is lost, and `DOS` and a type stand in its place, otherwise 0 */
     uint8_t is_retyped; /* 1 if the type, in byte 3, is the one that the files say in place of another, otherwise 0 */
 };
@@ -563,7 +564,7 @@ struct adf_rescue_told {
  * losses come in the order of the lines of that command, and their paths are spelled as there: also of what is in the volume they are
  * those of the image, so a name may be another one in the volume. Returns:
  *
- * 0: the room begins with the volume, of told->blocks * 512 bytes, which adf_check accepts, and the tables have what is not in it, and
+ * 0: the room begins with the volume, of told->blocks * 512 bytes, which adf_check accepts, up to its size, and the tables have what is not in it, and
  *    what is in it in doubt.
  *    told->losses and told->paths are the whole numbers: a table that is smaller has the front part. The rest of each room is
  *    unchanged.
@@ -615,7 +616,7 @@ struct adf_boot_blocks {
 /* Why boot blocks are not told of, or not written. */
 enum adf_boot_refusal {
     ADF_BOOT_DONE = 0,
-    ADF_BOOT_BAD_SIZE = 1,        /* The image is not whole blocks of 512 bytes, or has fewer than 4, or more than 1,048,576. */
+    ADF_BOOT_BAD_SIZE = 1,        /* The image is not whole blocks of 512 bytes, or has fewer than 4, or more than 8,388,608. */
     ADF_BOOT_NOT_DOS = 2,         /* The image does not begin with `DOS`. */
     ADF_BOOT_BAD_SOURCE_SIZE = 3, /* The source has fewer than ADF_BOOT_BYTES bytes. */
     ADF_BOOT_SOURCE_NOT_DOS = 4   /* The source does not begin with `DOS`. */

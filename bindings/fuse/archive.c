@@ -118,25 +118,27 @@ static int choose(struct archive *archive, const char *name, const char *wanted,
     return status;
 }
 
-/* Writes the file at a place of an archive, of which as much is unpacked as the largest volume has. */
+/* Writes the file at a place of an archive. */
 static int write_member(struct archive *archive, size_t place, int unpacked, const char *name) {
     struct archive_entry *entry;
     off_t whole = 0;
     ssize_t count = -1;
+    bool is_too_long = false;
     for (size_t i = 0; i <= place; i++)
         if (next_file(archive, &entry) != 1)
             return say_damaged(name);
     if (archive_entry_is_data_encrypted(entry))
         return say(name, "encrypted", FAILED);
     char *room = malloc(PART);
-    while (room != NULL && (count = archive_read_data(archive, room, PART)) > 0 && (whole += count) <= MOST_BYTES)
+    while (room != NULL && (count = archive_read_data(archive, room, PART)) > 0 &&
+           !(is_too_long = is_too_much(unpacked, whole += count, name, "packed")))
         if (!write_all(unpacked, room, (size_t)count)) {
             free(room);
             return say(name, "the temporary file cannot be written", FAILED);
         }
     free(room);
-    if (whole > MOST_BYTES)
-        return say(name, "packed: more than 536870912 bytes are not unpacked", REFUSED);
+    if (is_too_long)
+        return REFUSED;
     return count == 0 ? SOUND : say_damaged(name);
 }
 

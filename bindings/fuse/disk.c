@@ -8,15 +8,21 @@
 #include <stdlib.h>
 #include <string.h>
 #include <strings.h>
+#include <sys/mman.h>
+#include <sys/stat.h>
 #include <unistd.h>
 
-enum { BLOCK = 512, MOST_BLOCKS = 1048576, MOST_TABLES = 65536, MOST_PARTITIONS = 1024 };
+enum { MOST_TABLES = 65536, MOST_PARTITIONS = 1024 };
 enum { RESERVED = 38, MOST_RESERVED = 2, DOS = 0x444F5300, MOST_TYPE = 5, FIRST_ROOM = 1 << 20 };
 
 /* One byte more than the largest image, so that a longer one is seen to be longer. */
 static const size_t MOST_BYTES = (size_t)BLOCK * MOST_BLOCKS + 1;
 
-uint8_t *read_part(int file, const struct part *part, size_t *length) {
+/* A larger part is mapped. */
+static const off_t LARGE = (off_t)512 << 20;
+
+/* Reads the bytes of a part. NULL if it cannot be read (errno). */
+static uint8_t *read_part(int file, const struct part *part, size_t *length) {
     bool is_pipe = lseek(file, 0, SEEK_CUR) < 0;
     size_t room = FIRST_ROOM < part->most ? FIRST_ROOM : part->most, count = 0;
     uint8_t *bytes = malloc(room + 1);
@@ -42,6 +48,35 @@ uint8_t *read_part(int file, const struct part *part, size_t *length) {
     errno = bytes == NULL ? ENOMEM : 0;
     *length = count;
     return bytes;
+}
+
+/* How many bytes of a part a file has, if it can be mapped, otherwise 0. */
+static off_t mapped_length(int file, const struct part *part) {
+    struct stat status;
+    bool is_mapped = fstat(file, &status) == 0 && (S_ISREG(status.st_mode) || S_ISBLK(status.st_mode));
+    off_t length = is_mapped ? lseek(file, 0, SEEK_END) - part->first : 0;
+    return length < (off_t)part->most ? length : (off_t)part->most;
+}
+
+bool hold_part(int file, const struct part *part, struct held *held) {
+    off_t length = mapped_length(file, part), before = part->first % sysconf(_SC_PAGESIZE);
+    *held = (struct held){0};
+    if (length <= LARGE) {
+        held->bytes = read_part(file, part, &held->length);
+        return held->bytes != NULL;
+    }
+    void *map = mmap(NULL, (size_t)(before + length), PROT_READ, MAP_PRIVATE, file, part->first - before);
+    if (map != MAP_FAILED)
+        *held = (struct held){(uint8_t *)map + before, (size_t)length, map, (size_t)(before + length)};
+    return map != MAP_FAILED;
+}
+
+void let_go(struct held *held) {
+    if (held->map == NULL)
+        free(held->bytes);
+    else
+        munmap(held->map, held->map_length);
+    *held = (struct held){0};
 }
 
 /* The name of a partition as `adf-disk list` writes it. */

@@ -6,6 +6,8 @@
 
 #include <sys/types.h>
 
+enum { BLOCK = 512, MOST_BLOCKS = 8388608 };
+
 /* A volume in the file of an image: where it begins, how many of its bytes are read, one more than any volume has at most, how many it
  * has, or 0 where that is not known, and the folder that shows it; no name for a whole image. */
 struct part {
@@ -30,7 +32,18 @@ int find_parts(int file, const char *name, const char *wanted, struct parts *par
 /* Says that a hard disk has no volume that can be read, and what tells of it. */
 void say_no_volume(const char *name);
 
-/* Reads the bytes of a part. NULL if it cannot be read (errno). A file that is shorter has fewer. */
-uint8_t *read_part(int file, const struct part *part, size_t *length);
+/* The bytes of a part: in memory, or mapped, and then nothing may change its file. */
+struct held {
+    uint8_t *bytes;
+    size_t length;
+    void *map; /* NULL where they are in memory */
+    size_t map_length;
+};
+
+/* Takes hold of the bytes of a part; a file that is shorter has fewer. Of a file or a device a large part is mapped. False if it cannot be
+ * read (errno). */
+bool hold_part(int file, const struct part *part, struct held *held);
+
+void let_go(struct held *held);
 
 #endif

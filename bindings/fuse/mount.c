@@ -1,9 +1,9 @@
 /* adf-mount: shows the volume of a disk image, or those of a hard disk, as a folder of the host, to read only (docs/adf-mount.1).
  *
- * The image is read into memory and checked before anything is mounted; of a damaged one what stands is shown. A volume of a hard disk
- * is read again when something in its folder is asked for first. Then all is answered from the tables of the volume. Only whole tables
- * are used, and nothing of a volume changes once it is read, so the threads of libfuse share them. include/adf.h says what each call
- * keeps and what is owed to it.
+ * The image is read into memory, or mapped if it is large, and checked before anything is mounted; of a damaged one what stands is shown.
+ * A volume of a hard disk is read again when something in its folder is asked for first. Then all is answered from the tables of the
+ * volume. Only whole tables are used, and nothing of a volume changes once it is read, so the threads of libfuse share them. include/adf.h
+ * says what each call keeps and what is owed to it.
  *
  *     kit=$(dirname "$(rt doc)")
  *     cc -o adf-mount *.c -I../../include ../../crates/adf_c/out/libadf_c.a "$kit/c/liblibc_c.a" $(pkg-config --cflags --libs fuse3)
@@ -22,6 +22,7 @@
 #include <fuse.h>
 #include <fuse_log.h>
 #include <pthread.h>
+#include <signal.h>
 #include <stdarg.h>
 #include <stddef.h>
 #include <stdio.h>
@@ -32,14 +33,7 @@
 #include <sys/statvfs.h>
 #include <unistd.h>
 
-enum {
-    DAYS_TO_1978 = 2922,
-    LAST_DAY = 2929974,
-    SECONDS = 86400,
-    PROTECTION_BITS = 8,
-    MOST_TEXT = 4 * 79 + 1,
-    MOST_BLOCKS = 1048576
-};
+enum { DAYS_TO_1978 = 2922, LAST_DAY = 2929974, SECONDS = 86400, PROTECTION_BITS = 8, MOST_TEXT = 4 * 79 + 1 };
 
 /* fuse_main answers 1 to 3 for words that it does not take; 3 also for a lack of memory, which it tells. */
 enum { NO_SUCH_OPTION = 3 };
@@ -61,16 +55,16 @@ static struct {
 static int read_volume(size_t number, const char *name) {
     const struct part *part = &shown.parts.parts[number];
     struct volume *volume = &shown.volumes[number];
-    size_t length = 0, node = 0;
-    uint8_t *image = read_part(shown.file, part, &length);
-    if (image == NULL) {
+    struct held held;
+    size_t node = 0;
+    if (!hold_part(shown.file, part, &held)) {
         if (name != NULL)
             fprintf(stderr, "adf-mount: %s: %s\n", name, strerror(errno));
         return FAILED;
     }
     struct taking taking = shown.taking;
     taking.whole = part->whole;
-    int status = take_volume(volume, image, length, name, &taking);
+    int status = take_volume(volume, &held, name, &taking);
     if (status == SOUND && volume->left != NULL && find_entry(volume, shown.left_folder, &node) == 0) {
         if (name != NULL)
             fprintf(stderr, "adf-mount: %s: it has an entry called %s: --damaged NAME\n", name, shown.left_folder);
@@ -679,6 +673,14 @@ static int run(const struct words *words, bool is_parsed, struct fuse_args *argu
     return show(words, arguments);
 }
 
+/* Ends the program where the file of a mapped image has become shorter. */
+static void end_cut(int signal) {
+    static const char CUT[] = "adf-mount: the image was cut while it was used\n";
+    ssize_t done = write(STDERR_FILENO, CUT, sizeof CUT - 1);
+    (void)signal, (void)done;
+    _exit(FAILED);
+}
+
 /* Opens what stands for a standard stream that is closed, so that no file is opened as one: it can be neither read nor written. */
 static bool fill_streams(void) {
     static const int ACCESS[] = {O_WRONLY, O_RDONLY, O_WRONLY};
@@ -694,6 +696,7 @@ int main(int count, char **given) {
     if (!fill_streams())
         return FAILED;
     fuse_set_log_func(say);
+    sigaction(SIGBUS, &(struct sigaction){.sa_handler = end_cut}, NULL);
     bool is_parsed = fuse_opt_parse(&arguments, &words, OPTIONS, take_word) == 0;
     int status = run(&words, is_parsed, &arguments);
     fuse_opt_free_args(&arguments);

@@ -16,6 +16,10 @@
 #include <zlib.h>
 #endif
 
+enum { FIRST_BLOCKS = 16, LONGEST_LIMIT = 100 };
+
+static const off_t FEW_BYTES = (off_t)512 << 20, MOST_BYTES = (off_t)4 << 30;
+
 /* Bytes at a place in the first ones of a file, and what they say. */
 struct sign {
     size_t at;
@@ -72,15 +76,36 @@ bool write_all(int file, const void *bytes, size_t count) {
     return true;
 }
 
+/* Whether a file begins as a volume or as a hard disk does. */
+static bool begins_as_image(int file) {
+    char begin[FIRST_BLOCKS * BLOCK];
+    if (pread(file, begin, sizeof begin, 0) != sizeof begin)
+        return false;
+    bool is_image = memcmp(begin, "DOS", 3) == 0;
+    for (size_t at = 0; at < sizeof begin; at += BLOCK)
+        is_image = is_image || memcmp(begin + at, "RDSK", 4) == 0;
+    return is_image;
+}
+
+bool is_too_much(int unpacked, off_t whole, const char *name, const char *how) {
+    char why[LONGEST_LIMIT];
+    off_t most = whole <= FEW_BYTES || begins_as_image(unpacked) ? MOST_BYTES : FEW_BYTES;
+    if (whole <= most)
+        return false;
+    snprintf(why, sizeof why, "%s: more than %lld bytes are not unpacked", how, (long long)most);
+    say(name, why, REFUSED);
+    return true;
+}
+
 #ifdef ADF_ZLIB
-/* Writes what is packed into a file, as far as the largest volume has bytes: SOUND, or the status to end with. */
+/* Writes what is packed into a file: SOUND, or the status to end with. */
 static int copy_unpacked(gzFile packed, int file, const char *name, uint8_t *room) {
     off_t whole = 0;
     int count = 0;
     while ((count = gzread(packed, room, PART)) > 0) {
         whole += count;
-        if (whole > MOST_BYTES)
-            return say(name, "packed by gzip: more than 536870912 bytes are not unpacked", REFUSED);
+        if (is_too_much(file, whole, name, "packed by gzip"))
+            return REFUSED;
         if (!write_all(file, room, (size_t)count))
             return say(name, strerror(errno), FAILED);
     }

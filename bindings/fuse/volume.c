@@ -10,7 +10,7 @@
 #include <stdlib.h>
 #include <string.h>
 
-enum { BLOCK = 512, MOST_BLOCKS = 1048576, FLOPPY = 1760, HIGH_DENSITY = 3520, MOST_TYPE = 5 };
+enum { FLOPPY = 1760, HIGH_DENSITY = 3520, MOST_TYPE = 5 };
 
 /* A table with no more room than it needs, or as it is where that cannot be had. */
 static void *shrunk(void *table, size_t size) {
@@ -32,7 +32,7 @@ static uint8_t make_tables(struct volume *volume) {
 }
 
 void free_volume(struct volume *volume) {
-    free(volume->image);
+    let_go(&volume->held);
     free(volume->entries);
     free(volume->blocks);
     if (volume->left != NULL)
@@ -145,22 +145,24 @@ static int take_rescue(struct volume *volume, const char *name, const struct tak
     if (name != NULL || taking->wants_left)
         cause = subject_of(volume->image, volume->length, taking->blocks, &subject);
     free_volume(volume);
-    *volume = (struct volume){.image = rescue.volume, .length = rescue.length};
+    *volume =
+        (struct volume){.held = {.bytes = rescue.volume, .length = rescue.length}, .image = rescue.volume, .length = rescue.length};
     bool is_kept = cause == ADF_ACCEPTED && tell(&subject, name, &rescue) && make_tables(volume) == ADF_ACCEPTED &&
                    (!taking->wants_left || keep_left(volume, &subject));
     free(subject.image);
     return is_kept ? SOUND : say_no_memory(name);
 }
 
-int take_volume(struct volume *volume, uint8_t *image, size_t length, const char *name, const struct taking *taking) {
-    size_t meant = taking->blocks == 0 ? length : taking->blocks * BLOCK;
-    *volume = (struct volume){.image = image, .length = length < meant ? length : meant};
+int take_volume(struct volume *volume, const struct held *held, const char *name, const struct taking *taking) {
+    size_t meant = taking->blocks == 0 ? held->length : taking->blocks * BLOCK;
+    *volume = (struct volume){.held = *held, .image = held->bytes, .length = held->length < meant ? held->length : meant};
     uint8_t cause = make_tables(volume);
     if (cause == ADF_NO_MEMORY)
         return say_no_memory(name);
     if (cause == ADF_ACCEPTED && (taking->is_strict || volume->length == meant))
         return SOUND;
-    return taking->is_strict ? say_refused(volume, name, cause, taking->whole) : take_rescue(volume, name, taking);
+    bool is_long = volume->length > (size_t)BLOCK * MOST_BLOCKS;
+    return taking->is_strict || is_long ? say_refused(volume, name, cause, taking->whole) : take_rescue(volume, name, taking);
 }
 
 int find_entry(const struct volume *volume, const char *path, size_t *node) {

@@ -3,6 +3,7 @@
 #define ADF_MOUNT_VOLUME_H
 
 #include "adf.h"
+#include "disk.h"
 #include "left.h"
 
 enum { SOUND = 0, REFUSED = 1, USAGE = 2, FAILED = 3 };
@@ -18,7 +19,8 @@ struct taking {
 };
 
 struct volume {
-    uint8_t *image;
+    struct held held;
+    const uint8_t *image;
     size_t length;
     struct adf_entry *entries;
     uint32_t *blocks;
@@ -28,7 +30,7 @@ struct volume {
 
 /* Makes the volume of an image, whose bytes it takes over, and says what is left out or in doubt: SOUND, or the status to end with, and
  * why stands on standard error. The name stands before each line; without one nothing is said. */
-int take_volume(struct volume *volume, uint8_t *image, size_t length, const char *name, const struct taking *taking);
+int take_volume(struct volume *volume, const struct held *held, const char *name, const struct taking *taking);
 
 void free_volume(struct volume *volume);
 

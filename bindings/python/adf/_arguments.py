@@ -14,7 +14,38 @@ Path = Union[str, bytes, "os.PathLike[str]", "os.PathLike[bytes]"]
 EntryPath = Union[str, bytes, pathlib.PurePath]
 Image = Union[bytes, bytearray, memoryview, mmap.mmap]
 Buffer = Union[bytearray, memoryview, mmap.mmap]
-MOST_NUMBER = 2**32 - 1
+MOST_NUMBER, PART, PRIVATE = 2**32 - 1, 1 << 20, mmap.MAP_PRIVATE | mmap.MAP_ANONYMOUS
+
+
+class _View(ctypes.Structure):
+    """A Py_buffer: where the bytes begin, and what else it has."""
+
+    _fields_ = [("begin", ctypes.c_void_p), ("rest", ctypes.c_void_p * 15)]
+
+
+class Mapped(mmap.mmap):
+    """The first bytes of a file, which nothing else may write while they are used: to read only, also for the library. They stay until
+    nothing refers to them."""
+
+    @property
+    def _as_parameter_(self) -> int | None:
+        """Where the library reads them."""
+        view, interface = _View(), ctypes.pythonapi
+        interface.PyObject_GetBuffer(ctypes.py_object(self), ctypes.byref(view), 0)
+        begin: int | None = view.begin
+        interface.PyBuffer_Release(ctypes.byref(view))
+        return begin
+
+    def close(self) -> None:
+        """Nothing: a volume may be of them."""
+
+    def __exit__(self, *_error: object) -> None:
+        """Nothing, too."""
+
+
+def mapped(descriptor: int, count: int) -> Mapped:
+    """The first bytes of an open file that has at least so many."""
+    return Mapped(descriptor, count, mmap.MAP_PRIVATE, mmap.PROT_READ)
 
 
 def whole(what: str, given: Any) -> int:
@@ -59,9 +90,9 @@ def raw(what: str, given: Any) -> bytes:
         raise ValueError(f"{what} has a letter that is not in Latin-1: {given[error.start]!r}") from None
 
 
-def plain(image: Image) -> bytes:
-    """The bytes that a buffer shows: bytes themselves, and a copy of anything else."""
-    return image if type(image) is bytes else bytes(memoryview(image))
+def plain(image: Image) -> Any:
+    """The bytes that a buffer shows: bytes themselves, those of a file that is mapped, and a copy of anything else."""
+    return image if type(image) in (bytes, Mapped) else bytes(memoryview(image))
 
 
 def view(image: Image) -> memoryview:
@@ -75,10 +106,22 @@ def view(image: Image) -> memoryview:
 
 def to_read(image: Image) -> tuple[Any, int]:
     """A buffer as the library reads it, and how many bytes. It can be neither closed nor resized while they are held."""
+    if type(image) is Mapped:
+        return image, len(image)
     shown = view(image)
     if not shown.readonly:
         return to_write(shown)
     return (image if type(image) is bytes else bytes(shown)), len(shown)
+
+
+def room_of(count: int) -> Any:
+    """Room for so many bytes that the library writes. A large one takes memory only where it is written."""
+    return ctypes.create_string_buffer(count or 1) if count <= PART else (ctypes.c_char * count).from_buffer(mmap.mmap(-1, count, PRIVATE))
+
+
+def taken(room: Any, count: int) -> bytes:
+    """The first bytes of a room, as many as there may be; ctypes.string_at cuts the number to 31 bits."""
+    return bytes(memoryview(room)[:count])
 
 
 def to_write(room: Buffer) -> tuple[Any, int]:

@@ -3,7 +3,8 @@
 from __future__ import annotations
 
 BLOCK, LEAST_CHUNK = 512, 488
-MOST_BYTES = BLOCK * 1_048_576
+MOST_BLOCKS, MOST_PLAIN_BLOCKS = 8_388_608, 1_048_576  # of a volume, and of one for `adf check` and `adf build`
+MOST_BYTES, LARGE = BLOCK * MOST_BLOCKS, BLOCK * MOST_PLAIN_BLOCKS  # of an image; a larger one than this is mapped
 MOST_PARTITIONS, MOST_TABLES = 1024, BLOCK * 65536
 KINDS = ("ofs", "ffs")
 TYPES = (*KINDS, "ofs-international", "ffs-international")

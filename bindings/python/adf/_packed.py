@@ -7,7 +7,7 @@ import errno
 import importlib
 from typing import Any, BinaryIO
 
-from adf._arguments import Path
+from adf._arguments import Mapped, Path
 from adf._layout import BLOCK, MOST_BYTES, MOST_TABLES
 from adf.checks import check
 from adf.disks import rows_of
@@ -37,21 +37,25 @@ def place_of(path: str) -> tuple[str, bytes]:
     return file, member
 
 
-def unpacked(file: BinaryIO, form: str, wanted: bytes, name: Path | None) -> bytes:
-    """The image that is wanted of an open packed file, but at most one byte more than the largest has. NotUnpacked if there is none."""
+def unpacked(file: BinaryIO, form: str, wanted: bytes, name: Path | None) -> bytes | Mapped:
+    """The image that is wanted of an open packed file; a large one is mapped, in a temporary file. NotUnpacked if there is none."""
     archives, members = _reader("archives"), _reader("members")
     try:
         with members.opened_member(file, form, wanted) as packed:
-            return bytes(archives.begin_of(packed))
+            image = archives.unpacked(packed, b"", 0, archives.MOST_UNPACKED)
     except MemoryError:
         raise
     except archives.FAULTS as error:
         raise NotUnpacked(getattr(error, "errno", None) or errno.EIO, archives.fault_of(error), name) from None
+    if image.fault:
+        raise NotUnpacked(errno.EFBIG, image.fault, name)
+    held: bytes | Mapped = image.content.mapped()
+    return held
 
 
-def no_volume(begin: bytes, length: int) -> str:
+def no_volume(begin: bytes | Mapped, length: int) -> str:
     """What an image of this length is that cannot be a volume, by its begin; an empty text if it may be one."""
-    if not begin.startswith(DOS):
+    if begin[: len(DOS)] != DOS:
         told, partitions = rows_of(begin[:MOST_TABLES], length // BLOCK)
         if partitions:
             return f"a hard disk: adf.Disk(image) has its partitions ({len(partitions)})"
@@ -67,9 +71,9 @@ def refused_for_length(begin: bytes, length: int, name: Path | None) -> Refused:
     raise AssertionError("an image of no bytes is accepted")
 
 
-def foreign(begin: bytes) -> str:
+def foreign(begin: bytes | Mapped) -> str:
     """What an image is that is refused, if its begin says so for certain; an empty text else."""
-    archives = None if begin.startswith(DOS) else _reader("archives")
+    archives = None if begin[: len(DOS)] == DOS else _reader("archives")
     if archives is None:
         return ""
     form = archives.form_of(begin[:LONGEST_BEGIN])

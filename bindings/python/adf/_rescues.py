@@ -114,7 +114,7 @@ def rescue(image: Image, blocks: int | None = None, keep_type: bool = False) -> 
     rooms, wanted = (-1, -1, -1), (BLOCK * blocks if blocks else len(raw), FIRST_ROOM, FIRST_PATHS)
     while rooms != wanted:
         if wanted[0] != rooms[0]:
-            volume = ctypes.create_string_buffer(wanted[0] or 1)
+            volume = _arguments.room_of(wanted[0])
         rooms = wanted
         losses, paths = (_structs.Loss * rooms[1])(), ctypes.create_string_buffer(rooms[2])
         tables = volume, rooms[0], losses, rooms[1], paths, rooms[2], ctypes.byref(told)
@@ -123,5 +123,5 @@ def rescue(image: Image, blocks: int | None = None, keep_type: bool = False) -> 
         wanted = max(rooms[0], BLOCK * told.blocks), max(rooms[1], told.losses), max(rooms[2], told.paths)
         if number != SMALL_ROOM or wanted == rooms:
             accept(number, told.block)
-    text = ctypes.string_at(paths, told.paths)
-    return ctypes.string_at(volume, BLOCK * told.blocks), [_left_out(row, text) for row in losses[: told.losses]]
+    text = _arguments.taken(paths, told.paths)
+    return _arguments.taken(volume, BLOCK * told.blocks), [_left_out(row, text) for row in losses[: told.losses]]

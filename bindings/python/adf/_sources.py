@@ -9,8 +9,8 @@ import os
 from typing import Any, BinaryIO, Iterator, Union
 
 from adf import _packed
-from adf._arguments import Path
-from adf._layout import BLOCK, MOST_BYTES, MOST_TABLES, PART
+from adf._arguments import Mapped, Path, mapped
+from adf._layout import BLOCK, LARGE, MOST_BYTES, MOST_TABLES, PART
 
 Source = Union[Path, BinaryIO]
 OF_THE_HOST = io.BufferedReader, io.BufferedRandom, io.FileIO
@@ -86,8 +86,9 @@ def opened(source: Source) -> Iterator[tuple[BinaryIO, bytes, Path | None]]:
         yield file, member, path
 
 
-def image_in(file: BinaryIO, member: bytes, name: Path | None, blocks: int | None) -> bytes:
-    """The bytes of the image in an open file, unpacked; of one that is not packed no more than so many blocks are read."""
+def image_in(file: BinaryIO, member: bytes, name: Path | None, blocks: int | None) -> bytes | Mapped:
+    """The bytes of the image in an open file, unpacked; of one that is not packed no more than so many blocks are read. A large one is
+    mapped."""
     length = length_of(file)
     if length is None:
         file = io.BytesIO(read_image(file))
@@ -98,7 +99,9 @@ def image_in(file: BinaryIO, member: bytes, name: Path | None, blocks: int | Non
         raise NotADirectoryError(errno.ENOTDIR, os.strerror(errno.ENOTDIR), name)
     if length is not None and length > MOST_BYTES and blocks is None:
         raise _packed.refused_for_length(_begin(file, MOST_TABLES), length, name)
-    return _rest(file, MOST_BYTES + 1 if blocks is None else BLOCK * blocks)
+    wanted = MOST_BYTES + 1 if blocks is None else BLOCK * blocks
+    count = min(length or 0, wanted)
+    return mapped(file.fileno(), count) if count > LARGE else _rest(file, wanted)
 
 
 def _begin(file: BinaryIO, count: int) -> bytes:

@@ -7,7 +7,7 @@ from typing import Any, Iterable, NamedTuple, Sequence
 
 from adf import _arguments, _structs
 from adf._arguments import EntryPath, Image
-from adf._layout import ALL_CAPITALS, BLOCK, CAPITALS, KINDS, MOST_BYTES, TYPES
+from adf._layout import ALL_CAPITALS, BLOCK, CAPITALS, KINDS, MOST_BLOCKS, TYPES
 from adf._library import NO_MEMORY, calls
 from adf._texts import escape
 from adf.dates import Date
@@ -196,7 +196,7 @@ def build(
     try:
         if blocks is None:
             volume.blocks = need_of(volume, plan, contents)
-        room = bytearray(BLOCK * volume.blocks if volume.blocks <= MOST_BYTES // BLOCK else 0)
+        room = bytearray(BLOCK * volume.blocks if volume.blocks <= MOST_BLOCKS else 0)
         build_into(room, volume, plan, contents)
     except NotBuilt as error:
         if error.number:

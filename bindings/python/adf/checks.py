@@ -24,7 +24,7 @@ class Verdict(NamedTuple):
 
 def check(image: Image, international: bool = False) -> Verdict:
     """The numbers of the volume that has this image; Refused where none has. If international letters are accepted too (types 2
-    and 3), the kind of a volume with them is one of TYPES, as `ffs-international`."""
+    and 3), so are volumes of up to 4 GiB in place of 512 MiB, and the kind is one of TYPES, as `ffs-international`."""
     image, verdict = _arguments.plain(image), _structs.Verdict()
     call = calls().adf_check_types if international else calls().adf_check
     accept(call(image, len(image), ctypes.byref(verdict)), verdict.block)

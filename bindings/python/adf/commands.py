@@ -45,7 +45,7 @@ def run_program(program: str, words: Iterable[str], given: Image) -> Answer:
         more_output = moved.output_full and most_output < MOST_OUTPUT
         more_errors = moved.errors_full and most_errors < MOST_OUTPUT
         if not more_output and not more_errors:
-            return Answer(status, ctypes.string_at(output, moved.output), ctypes.string_at(errors, moved.errors))
+            return Answer(status, _arguments.taken(output, moved.output), _arguments.taken(errors, moved.errors))
         if more_output:
             most_output = min(4 * most_output, MOST_OUTPUT)
         if more_errors:

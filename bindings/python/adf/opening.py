@@ -5,8 +5,8 @@ from __future__ import annotations
 import warnings
 
 from adf import _arguments, _packed, _sizes, _sources, _texts
-from adf._arguments import Image, Path
-from adf._layout import BLOCK
+from adf._arguments import Image, Mapped, Path
+from adf._layout import BLOCK, MOST_BYTES
 from adf._rescues import counts
 from adf._sources import Source
 from adf.errors import DamagedWarning, Refused, shown
@@ -16,7 +16,8 @@ from adf.volumes import Volume
 
 def open(source: Source, *, strict: bool = False, blocks: int | None = None) -> Volume:
     """The volume of an image in a file, or in an open one, as `open_image` of its bytes: also of a packed image (.adz, .gz, .zip, .dms,
-    .lha), and of "games.zip/disk1.adf". OSError if the file cannot be read, NotUnpacked if it cannot be unpacked."""
+    .lha), and of "games.zip/disk1.adf". A file of more than 512 MiB is mapped: nothing may write it while the volume is open. OSError if it
+    cannot be read, NotUnpacked if it cannot be unpacked."""
     blocks = _sizes.number_of_blocks(blocks)
     with _sources.opened(source) as (file, member, name):
         image = _sources.image_in(file, member, name, blocks)
@@ -30,7 +31,7 @@ def open_image(image: Image, filename: Path | None = None, *, strict: bool = Fal
     return _opened(_arguments.plain(image), filename, strict, _sizes.number_of_blocks(blocks))
 
 
-def _opened(image: bytes, filename: Path | None, strict: bool, blocks: int | None) -> Volume:
+def _opened(image: bytes | Mapped, filename: Path | None, strict: bool, blocks: int | None) -> Volume:
     """What `open` and `open_image` give."""
     given = _sizes.cut(image, blocks)
     try:
@@ -40,9 +41,9 @@ def _opened(image: bytes, filename: Path | None, strict: bool, blocks: int | Non
         raise Refused(refused.cause, refused.block, refused.number, filename, hint) from None
 
 
-def _volume(given: bytes, filename: Path | None, strict: bool, blocks: int | None) -> Volume:
+def _volume(given: bytes | Mapped, filename: Path | None, strict: bool, blocks: int | None) -> Volume:
     """The volume of an image, or that of what stands of it; the warning is told of the caller of `open` or `open_image`."""
-    if strict or len(given) == BLOCK * (len(given) // BLOCK if blocks is None else blocks):
+    if strict or len(given) > MOST_BYTES or len(given) == BLOCK * (len(given) // BLOCK if blocks is None else blocks):
         try:
             return Volume(given, filename)
         except Refused:

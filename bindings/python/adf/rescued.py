@@ -6,7 +6,7 @@ import functools
 from typing import Any
 
 from adf import _arguments, _sizes
-from adf._arguments import Image, Path
+from adf._arguments import Image, Mapped, Path
 from adf._rescues import LeftOut, counts, rescue
 from adf.checks import check
 from adf.entries import Entry
@@ -21,7 +21,7 @@ class Rescued(Volume):
     in it, and what is in it in doubt, and `findings` all that is wrong with the image, by its `survey`; `refused` says why it is refused.
     Its blocks, and the headers of its entries, are not those of the image. Refused if nothing stands."""
 
-    _given: tuple[bytes, Path | None, int | None] | None
+    _given: tuple[bytes | Mapped, Path | None, int | None] | None
     _left_out: list[LeftOut]
 
     def __init__(self, image: Image, filename: Path | None = None, blocks: int | None = None) -> None:
@@ -38,7 +38,8 @@ class Rescued(Volume):
 
     def __reduce__(self) -> Any:
         """Pickled as its image, which is rescued again."""
-        return Rescued, self._image_given
+        image, *how = self._image_given
+        return Rescued, (image[:], *how)
 
     def close(self) -> None:
         super().close()
@@ -46,7 +47,7 @@ class Rescued(Volume):
         vars(self).pop("survey", None)
 
     @property
-    def _image_given(self) -> tuple[bytes, Path | None, int | None]:
+    def _image_given(self) -> tuple[bytes | Mapped, Path | None, int | None]:
         """The image that was rescued, its file, and its blocks; Closed if they are given back."""
         given = self._given
         if given is None:

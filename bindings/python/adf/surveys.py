@@ -9,7 +9,7 @@ import os
 from typing import Any, Iterator
 
 from adf import _arguments, _sizes, _structs, _texts
-from adf._arguments import EntryPath, Image
+from adf._arguments import EntryPath, Image, Mapped
 from adf._layout import BLOCK, FIRST_ROOM, KINDS, LEAST_CHUNK, TYPES
 from adf._library import NO_MEMORY, NOT_DOS, SMALL_ROOM, calls, cause_text
 from adf._read_only import ReadOnly
@@ -28,20 +28,20 @@ def survey(image: Image, blocks: int | None = None) -> Survey:
     return Survey(image, blocks)
 
 
-def _subject(image: bytes, blocks: int | None) -> tuple[bytes, Any]:
+def _subject(image: bytes | Mapped, blocks: int | None) -> tuple[bytes | Mapped, Any]:
     """The image that `adf-survey` surveys of one that is cut to so many blocks, and what is told of it."""
     told, length, wanted = _structs.Subject(), -1, len(image) if blocks is None else BLOCK * blocks
     while length != wanted:
-        length, room = wanted, ctypes.create_string_buffer(wanted or 1)
+        length, room = wanted, _arguments.room_of(wanted)
         number = calls().adf_survey_subject(image, len(image), blocks or 0, room, length, ctypes.byref(told))
         wanted = max(length, told.length)
         if number != 0 and (number != SMALL_ROOM or wanted == length):
             raise NoMemory
     is_given = told.length == len(image) and not told.is_begun and not told.is_retyped
-    return image if is_given else ctypes.string_at(room, told.length), told
+    return image if is_given else _arguments.taken(room, told.length), told
 
 
-def _front(image: bytes, told: Any, stated: int) -> Iterator[tuple[int, int, str]]:
+def _front(image: bytes | Mapped, told: Any, stated: int) -> Iterator[tuple[int, int, str]]:
     """The findings in front of those of the image that is surveyed, where so many blocks were stated: the first and the last block, and
     the cause."""
     taken = told.length // BLOCK
@@ -64,7 +64,7 @@ class Survey(ReadOnly):
     where `check` takes the image, and the first of them is what `Refused` says.
     """
 
-    image: bytes
+    image: bytes | Mapped
     entries: list[Found]
     kind: str
     date: Date
@@ -75,8 +75,8 @@ class Survey(ReadOnly):
     is_begun: bool
     is_retyped: bool
     _rows: Any
-    _given: tuple[bytes, int | None]
-    _opened: bytes
+    _given: tuple[bytes | Mapped, int | None]
+    _opened: bytes | Mapped
     _held: int
     _own_causes: list[str]
     _last_path: tuple[int, bytes, str]
@@ -113,7 +113,8 @@ class Survey(ReadOnly):
 
     def __reduce__(self) -> Any:
         """Pickled as its image, which is surveyed again."""
-        return Survey, self._given
+        image, blocks = self._given
+        return Survey, (image[:], blocks)
 
     def _mark_missing(self, rows: Any) -> None:
         """Marks files with data in blocks that the image does not have as damaged: the table has zeros there for data."""

@@ -5,6 +5,7 @@ from __future__ import annotations
 import bisect
 import ctypes
 import functools
+import mmap
 from typing import Any, Iterator, Sequence
 
 from adf import _arguments, _structs
@@ -26,11 +27,11 @@ class Volume(ReadOnly):
 
     label, raw_label, kind (one of TYPES, as "ofs" or "ffs-international"), letters ("ascii": the case of a to z is ignored in names;
     "international": that of all letters of Latin-1), blocks, used, free; date, altered and created, the dates of the root, of the
-    last change and of the creation; image, its bytes; entries, in the order of `adf list`: each directory before what is in it.
+    last change and of the creation; image, its bytes (an mmap, if it is large); entries, in the order of `adf list`: each directory before what is in it.
     They can only be read. Once it is closed, its image is empty and nothing more is read of it: ValueError.
     """
 
-    image: bytes
+    image: bytes | mmap.mmap
     kind: str
     letters: str
     blocks: int
@@ -71,7 +72,7 @@ class Volume(ReadOnly):
 
     def __reduce__(self) -> Any:
         """Pickled as its image, which is checked again."""
-        return Volume, (self._tables[0][0],)
+        return Volume, (self._tables[0][0][:],)
 
     def __enter__(self) -> Volume:
         self._accept_open()

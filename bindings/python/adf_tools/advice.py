@@ -30,11 +30,11 @@ GROUPS = (
     Advice("tables", "Hard disk with a fault", "The tables of the disk, or of a partition, have a fault. Other partitions are read all the same."),
     Advice("volumes not read", "Hard disk, not all of it read", "The tables have no fault. A partition is of a file system that is not read, or has none:"
            " whether it is sound is not known."),
-    Advice("too long", "Longer than 512 MiB", "No volume of that length is read: whether it is sound is not known."),
+    Advice("too long", "Longer than 4 GiB", "No volume of that length is read: whether it is sound is not known."),
     Advice("loader", "Starts by its own loader", "It has boot blocks with code or a right checksum, and no volume behind them: keep it, and do not mend it."),
     Advice("other form", "Another form of image", "Not the sectors of a disk, one after the other. Its line says what it is."),
     Advice("no volume", "Not a volume of an Amiga", "It may be of another computer, or start by its own loader: keep it, and do not mend it."),
-    Advice("not read", "Not read", "The file or its archive cannot be read: copy it again."),
+    Advice("not read", "Not read", "The file or its archive cannot be read: copy it again. Where its line says no memory, read it on a larger machine."),
 )
 SOUND = "sound", "sound ffs"  # the groups of images without a fault
 TITLES = {group.name: group.title for group in GROUPS}
@@ -45,10 +45,10 @@ def lengths(count: int, is_whole: bool) -> Iterator[int]:
     near = sorted(FLOPPIES, key=lambda blocks: abs(blocks - count))
     yield from (blocks for blocks in near if blocks != count or not is_whole)
     if not is_whole:
-        yield from (blocks for blocks in (count, count + 1) if blocks not in FLOPPIES and blocks <= adf.MOST_BYTES // adf.BLOCK)
+        yield from (blocks for blocks in (count, count + 1) if blocks not in FLOPPIES and blocks <= adf.MOST_BLOCKS)
 
 
-def length_that_fits(image: bytes, refused: adf.Refused) -> Optional[int]:
+def length_that_fits(image: adf.Image, refused: adf.Refused) -> Optional[int]:
     """The blocks of the first of these lengths at which the survey finds a root, if the image has none as it is."""
     count, rest = divmod(len(image), adf.BLOCK)
     if refused.cause != "bad size" and (refused.block != count // 2 or count in FLOPPIES):
@@ -56,7 +56,7 @@ def length_that_fits(image: bytes, refused: adf.Refused) -> Optional[int]:
     return next((blocks for blocks in lengths(count, not rest) if has_root(image, blocks)), None)
 
 
-def has_root(image: bytes, blocks: int) -> bool:
+def has_root(image: adf.Image, blocks: int) -> bool:
     survey = adf.survey(image, blocks)
     return len(survey.image) == adf.BLOCK * blocks and bool(survey.kind and (survey.entries or survey.label))
 

@@ -1,8 +1,8 @@
 """Packed images: those of gzip and zip are unpacked by Python's own libraries, those of LHA by libarchive, and those of DMS by xdms, in a
-temporary folder. A hard disk that is larger than the largest volume is unpacked into a temporary file, which has no name.
+temporary folder. What is long is unpacked into a temporary file, which has no name, if it begins as a volume does or is a hard disk.
 
-What an archive says of itself is not relied on: of each image that is no hard disk at most one byte more is unpacked than the largest
-volume has, and of an archive so many images and bytes as MOST_IMAGES and MOST_UNPACKED say; the rest is told in one line.
+What an archive says of itself is not relied on: of anything else at most adf.LARGE bytes are unpacked, and of an archive so many images
+and bytes as MOST_IMAGES and MOST_UNPACKED say; the rest is told in one line.
 """
 
 from __future__ import annotations
@@ -55,9 +55,8 @@ class Unread(ValueError):
 
 
 class Image(NamedTuple):
-    """An image: the name of its file, and behind that its name in an archive; which it is of those with this name; its bytes, of an
-    archive at most one more than the largest volume has, if it is no hard disk; how many there are, if that is known; why it cannot be
-    read, else an empty text; its name in an archive, if it is in one."""
+    """An image: the name of its file, and behind that its name in an archive; which it is of those with this name; its bytes; how many there
+    are, if that is known; why it cannot be read, else an empty text; its name in an archive, if it is in one."""
 
     name: bytes
     number: int
@@ -95,7 +94,7 @@ def form_of(begin: bytes) -> str:
     return next((form for form, pattern in BEGINS if re.match(pattern, begin, re.DOTALL)), "")
 
 
-def foreign(image: bytes) -> str:
+def foreign(image: adf.Image) -> str:
     """What an image is that is refused, if its begin says so for certain; an empty text else."""
     begin = bytes(image[:LONGEST_BEGIN])
     form = form_of(begin)
@@ -155,30 +154,32 @@ def unpacked_member(member: Member, name: bytes, number: int, most: int) -> Imag
 
 
 def begin_of(packed: Stream) -> bytes:
-    """What is unpacked of a stream: at most one byte more than the largest volume has."""
+    """What is unpacked of a stream into memory."""
     room = io.BytesIO()
-    while part := packed.read(min(adf.MOST_BYTES + 1 - room.tell(), adf.PART)):
+    while part := packed.read(min(adf.LARGE + 1 - room.tell(), adf.PART)):
         room.write(part)
     return room.getvalue()
 
 
 def unpacked(packed: Stream, name: bytes, number: int, most: int) -> Image:
-    """The image in an open archive. How long one is that is too long is not known; of a hard disk at most so many bytes are unpacked."""
+    """The image in an open archive, of which at most so many bytes are unpacked."""
     content = begin_of(packed)
-    if len(content) <= adf.MOST_BYTES:
-        return Image(name, number, Content(content), len(content), "")
-    image = Image(name, number, Content(content), None, "")
-    return image if image.content.disk() is None else unpacked_disk(packed, image, most)
+    image = Image(name, number, Content(content), len(content), "")
+    if len(content) <= adf.LARGE:
+        return image
+    if content[: len(SIGN)] != SIGN and image.content.disk() is None:
+        return unread(name, f"no volume, and more than {adf.LARGE} bytes: it is not unpacked", number)
+    return unpacked_long(packed, image, most)
 
 
-def unpacked_disk(packed: Stream, image: Image, most: int) -> Image:
-    """A hard disk in a temporary file; its beginning is unpacked already."""
+def unpacked_long(packed: Stream, image: Image, most: int) -> Image:
+    """A large image in a temporary file; its beginning is unpacked already."""
     file = tempfile.TemporaryFile()
     size = file.write(image.content.begin())
     while part := packed.read(adf.PART):
         if size + len(part) > most:
             file.close()
-            return unread(image.name, f"a hard disk of more than {most} bytes is not unpacked", image.number)
+            return unread(image.name, f"more than {most} bytes are not unpacked", image.number)
         size += file.write(part)
     file.flush()
     return image._replace(content=FileContent(file, size), length=size)
@@ -261,8 +262,8 @@ def members_of_lha(file: IO[bytes]) -> Iterator[Member]:
     libarchive, warnings = libarchive_module(), Warnings()
     file.seek(0)
     content = begin_of(file)
-    if len(content) > adf.MOST_BYTES:
-        raise Unread(f"an archive of more than {adf.MOST_BYTES} bytes is not unpacked")
+    if len(content) > adf.LARGE:
+        raise Unread(f"an archive of more than {adf.LARGE} bytes is not unpacked")
     fault, logger = libarchive.exception.ArchiveError, logging.getLogger("libarchive")
     logger.addHandler(warnings)
     try:

@@ -1,5 +1,5 @@
-"""The bytes of an image: in memory, or, of one that is larger than the largest volume, in a file from which they are read where they are
-asked for. A file of others is never mapped: one that is cut while it is mapped ends the program."""
+"""The bytes of an image: in memory, or, of a large one, in a file from which they are read where they are asked for. A file of others is
+never mapped: one that is cut while it is mapped ends the program."""
 
 from __future__ import annotations
 
@@ -10,7 +10,7 @@ import tempfile
 from typing import IO, BinaryIO, Iterator, Optional
 
 import adf
-from adf_tools.volumes import disk_of, fault_of, is_long, is_volume
+from adf_tools.volumes import disk_of, fault_of, is_volume
 
 CHANGED = "changed while it was read"
 
@@ -25,6 +25,10 @@ class Content:
         """All bytes, but at most one more than the largest volume has."""
         return self.content
 
+    def mapped(self) -> bytes | adf.Mapped:
+        """All bytes, mapped if they are in a file of this program's own."""
+        return self.content
+
     def parts(self) -> Iterator[memoryview]:
         """All bytes, in parts."""
         view = memoryview(self.content)
@@ -35,11 +39,11 @@ class Content:
         return disk_of(self.content)
 
     def volume(self, disk: adf.Disk, partition: adf.Partition) -> Optional[Content]:
-        """The volume of a partition, if it has one of an Amiga; one that is longer than any that is read is not read into memory."""
+        """The volume of a partition, if it has one of an Amiga; a large one is read when it is asked for."""
         if fault_of(disk, partition) or not is_volume(partition):
             return None
         part = Slice(self, adf.BLOCK * partition.first, adf.BLOCK * partition.blocks)
-        return part if is_long(partition) else Content(part.read(0, part.size))
+        return part if part.size > adf.LARGE else Content(part.read(0, part.size))
 
     def read(self, at: int, count: int) -> bytes:
         """So many bytes from a place, of those that there are."""
@@ -64,6 +68,9 @@ class FileContent(Content):
 
     def begin(self) -> bytes:
         return self.read(0, adf.MOST_BYTES + 1)
+
+    def mapped(self) -> bytes | adf.Mapped:
+        return adf.mapped(self.file.fileno(), self.size)
 
     def parts(self) -> Iterator[memoryview]:
         yield from (memoryview(self.read(at, adf.PART)) for at in range(0, self.size, adf.PART))
@@ -94,7 +101,7 @@ class Slice(Content):
 
 def content_in(file: BinaryIO, size: int) -> Content:
     """The bytes of an open file that has so many, and has to keep them."""
-    if size > adf.MOST_BYTES:
+    if size > adf.LARGE:
         return FileContent(file, size)
     content = adf.read_image(file)
     if len(content) != size:

@@ -6,7 +6,6 @@ import argparse
 import contextlib
 import errno
 import io
-import mmap
 import os
 import re
 import stat
@@ -16,25 +15,25 @@ from typing import IO, BinaryIO, Iterator, NamedTuple, Optional, Tuple
 
 import adf
 from adf_tools.advice import length_that_fits
-from adf_tools.archives import FAULTS, LONGEST_BEGIN, MOST_UNPACKED, Image, begin_of, fault_of, foreign, form_of, unpacked
-from adf_tools.content import FileContent
+from adf_tools.archives import FAULTS, LONGEST_BEGIN, MOST_UNPACKED, fault_of, foreign, form_of, unpacked
 from adf_tools.members import NotChosen, opened_member, place_of
 from adf_tools.names import letters
+from adf_tools.processes import accept_memory
 from adf_tools.program import FAILED, REFUSED, host_text, open_input, stop, tell
 from adf_tools.trees import named
 from adf_tools.volumes import disk_of
 
 STANDARD_INPUT = "-"
-MOST_BLOCKS = adf.MOST_BYTES // adf.BLOCK
+COPIES = 4  # how often a rescue has an image
 IS_IMAGE = "the image, also packed (.adz, .gz, .zip, .dms, .lha), or games.zip/disk1.adf; without it, or for -, standard input"
 Content = Tuple[adf.Image, Optional[int]]  # the bytes of an image, and how many its file has, if that is known
 
 
 def number_of_blocks(text: str) -> int:
     """The number of blocks that a word of the command line is."""
-    if re.fullmatch("[0-9]{1,10}", text) and 0 < int(text) <= MOST_BLOCKS:
+    if re.fullmatch("[0-9]{1,10}", text) and 0 < int(text) <= adf.MOST_BLOCKS:
         return int(text)
-    raise argparse.ArgumentTypeError(f"a number of blocks from 1 to {MOST_BLOCKS}")
+    raise argparse.ArgumentTypeError(f"a number of blocks from 1 to {adf.MOST_BLOCKS}")
 
 
 def add_image(line: argparse.ArgumentParser, more: str = "") -> None:
@@ -54,7 +53,7 @@ class Given(NamedTuple):
     is meant to have, and how many bytes its file has, if that is known."""
 
     name: str
-    content: bytes
+    content: bytes | adf.Mapped
     blocks: Optional[int]
     size: Optional[int]
 
@@ -64,6 +63,8 @@ class Given(NamedTuple):
 
     def volume(self, strict: bool) -> adf.Volume:
         """The volume of the image, or of what stands of it; where nothing does, the program ends."""
+        if adf.LARGE < len(self.content) <= adf.MOST_BYTES and not strict and disk_of(self.content) is None:
+            self.accept_memory()
         with warnings.catch_warnings():
             warnings.simplefilter("ignore", adf.DamagedWarning)
             try:
@@ -71,6 +72,13 @@ class Given(NamedTuple):
             except adf.Refused as refused:
                 fault = f"block {refused.block}: {refused.cause}{help_of(self.content, refused, self.size)}"
                 stop(REFUSED, self.line(foreign(self.content) or fault))
+
+    def accept_memory(self) -> None:
+        """MemoryError if the image is refused, and there is no memory for what stands of it."""
+        try:
+            adf.check(self.content, international=True)
+        except adf.Refused:
+            accept_memory(COPIES * len(self.content))
 
     def tell(self, program: str, volume: adf.Volume) -> int:
         """A line for all that is left out; the status to end with."""
@@ -118,64 +126,54 @@ def content_given(words: argparse.Namespace, is_whole: bool = False) -> Content:
         if size is None or path == STANDARD_INPUT:
             content = adf.read_image(file)
             form = form_of(content[:LONGEST_BEGIN])
-            return unpacked_from(in_memory(content, path), form, words.image, member, is_whole) if form else (content, size)
+            return unpacked_from(in_memory(content, path), form, words.image, member) if form else (content, size)
         form = form_of(file.read(LONGEST_BEGIN))
         file.seek(0)
         if form:
-            return unpacked_from(file, form, words.image, member, is_whole)
+            return unpacked_from(file, form, words.image, member)
         if member:
             stop(FAILED, f"{host_text(words.image)}: {os.strerror(errno.ENOTDIR)}")
-        return mapped(file) if is_whole and size > adf.MOST_BYTES else adf.read_image(file), size
+        wanted = size if is_whole else min(size, adf.MOST_BYTES + 1)
+        return adf.mapped(file.fileno(), wanted) if wanted > adf.LARGE else adf.read_image(file), size
 
 
 def in_memory(content: bytes, path: str) -> IO[bytes]:
     """A packed file that was read whole."""
-    if len(content) > adf.MOST_BYTES:
-        stop(REFUSED, f"{name_of(path)}: packed, in more than {adf.MOST_BYTES} bytes: give it as a file")
+    if len(content) > adf.LARGE:
+        stop(REFUSED, f"{name_of(path)}: packed, in more than {adf.LARGE} bytes: give it as a file")
     return io.BytesIO(content)
 
 
-def mapped(file: IO[bytes]) -> mmap.mmap:
-    return mmap.mmap(file.fileno(), end_of(file), access=mmap.ACCESS_READ)
-
-
-def unpacked_from(file: IO[bytes], form: str, path: str, wanted: bytes, is_whole: bool) -> Content:
+def unpacked_from(file: IO[bytes], form: str, path: str, wanted: bytes) -> Content:
     """The bytes of the one image that is wanted of a packed file."""
     name = name_of(path)
     try:
         with opened_member(file, form, wanted) as packed:
-            if is_whole:
-                return content_of(unpacked(packed, os.fsencode(path), 0, MOST_UNPACKED), name)
-            content = begin_of(packed)
-        return content, len(content) if len(content) <= adf.MOST_BYTES else None
+            image = unpacked(packed, os.fsencode(path), 0, MOST_UNPACKED)
     except NotChosen as error:
         stop(REFUSED, f"{name}: {error}")
     except FAULTS as error:
         stop(FAILED, f"{name}: {fault_of(error)}")
-
-
-def content_of(image: Image, name: str) -> Content:
-    """The bytes of an unpacked image; those of a large hard disk are mapped, in a file of this program's own."""
     if image.fault:
         stop(FAILED, f"{name}: {image.fault}")
-    return mapped(image.content.file) if isinstance(image.content, FileContent) else image.content.begin(), image.length
+    return image.content.mapped(), image.length
 
 
 def given(words: argparse.Namespace) -> Given:
     """The image that the words name."""
     content, size = content_given(words)
-    assert isinstance(content, bytes)
+    assert isinstance(content, (bytes, adf.Mapped))
     return Given("" if words.image == STANDARD_INPUT else host_text(words.image), content, words.blocks, size)
 
 
-def bytes_text(image: bytes, size: Optional[int]) -> str:
+def bytes_text(image: adf.Image, size: Optional[int]) -> str:
     """How many bytes an image has; at most one more than the largest volume has is read."""
     if len(image) <= adf.MOST_BYTES:
         return f"{len(image)} bytes"
     return f"more than {adf.MOST_BYTES} bytes" if size is None else f"{size} bytes"
 
 
-def help_of(image: bytes, refused: adf.Refused, size: Optional[int] = None) -> str:
+def help_of(image: adf.Image, refused: adf.Refused, size: Optional[int] = None) -> str:
     """What helps with an image that is refused as a whole: it is a hard disk, or has a length that no disk has."""
     disk = disk_of(image)
     if disk is not None:

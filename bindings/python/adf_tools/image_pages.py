@@ -185,7 +185,7 @@ class ImagePage:
     def roles(self) -> bytes:
         """The role of each block; there are no more blocks than the largest volume has."""
         try:
-            return zlib.decompressobj().decompress(self.image["roles"] or b"", adf.MOST_BYTES // adf.BLOCK)
+            return zlib.decompressobj().decompress(self.image["roles"] or b"", adf.MOST_BLOCKS)
         except zlib.error:
             return b""
 

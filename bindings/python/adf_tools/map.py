@@ -14,7 +14,7 @@ from adf_tools.given import STANDARD_INPUT, add_image, content_given, help_of
 from adf_tools.names import letters
 from adf_tools.picture import Fault, disk_picture, picture, roles_of_refused, without
 from adf_tools.program import REFUSED, begin, command_line, host_text, stop, tell
-from adf_tools.volumes import disk_of, fault_of, volume_of
+from adf_tools.volumes import disk_of, fault_of, is_long, volume_of
 
 
 def write(text: str) -> None:
@@ -26,15 +26,15 @@ def refuse(name: str, why: object) -> int:
     return REFUSED
 
 
-def meant(image: bytes, blocks: Optional[int]) -> Tuple[bytes, range]:
+def meant(image: adf.Image, blocks: Optional[int]) -> Tuple[adf.Image, range]:
     """An image of so many blocks, and those of them that are missing, for which zeros stand."""
     if blocks is None:
         return image, range(0)
-    given = image[: adf.BLOCK * blocks]
+    given = bytes(image[: adf.BLOCK * blocks])
     return given.ljust(adf.BLOCK * blocks, b"\0"), range(len(given) // adf.BLOCK, blocks)
 
 
-def draw_volume(name: str, image: bytes, blocks: Optional[int] = None, size: Optional[int] = None) -> int:
+def draw_volume(name: str, image: adf.Image, blocks: Optional[int] = None, size: Optional[int] = None) -> int:
     """Draws a volume, or a refused image, read as if it had so many blocks; its file may have more bytes than the image."""
     (whole, missing), status = meant(image, blocks), 0
     told = f", {len(missing)} missing" if missing else ""
@@ -42,7 +42,7 @@ def draw_volume(name: str, image: bytes, blocks: Optional[int] = None, size: Opt
         volume = adf.Volume(whole)
         write(picture(f"{name}: {volume.kind}, {volume.used} of {volume.blocks} blocks used{told}", without(volume.owners(), missing)))
     except adf.Refused as refused:
-        survey = adf.survey(image, blocks)
+        survey = adf.survey(image if len(image) <= adf.MOST_BYTES or blocks else b"", blocks)
         roles = without(roles_of_refused(survey, survey.owners()), missing)
         write(picture(f"{name}: refused, {refused}{told}", roles, Fault(refused.block, str(refused))))
         help_ = "" if missing else help_of(image, refused, size)
@@ -62,29 +62,31 @@ def draw_disk(name: str, disk: adf.Disk) -> int:
     return refuse(name, fault) if fault else 0
 
 
-def volume_in(name: str, disk: adf.Disk, wanted: str) -> Tuple[bytes, int]:
-    """The volume of a partition, by its name or number, and how many bytes it has: more than are given, if no volume is so large."""
+def volume_in(name: str, disk: adf.Disk, wanted: str) -> bytes:
+    """The volume of a partition, by its name or number."""
     try:
         partition = disk[int(wanted) if re.fullmatch("[0-9]{1,9}", wanted) else wanted]
     except adf.NoSuchPath:
         is_disk = disk.partitions or disk.cause != "no rigid disk"
         stop(REFUSED, f"{name}: no such partition: {host_text(wanted)}" if is_disk else f"{name}: block {disk.block}: {disk.cause}")
+    if is_long(partition):
+        stop(REFUSED, f"{name}: {host_text(wanted)}: block 0: bad size; it has {adf.BLOCK * partition.blocks} bytes")
     volume = volume_of(disk, partition)
     if volume is None:
         stop(REFUSED, f"{name}: {host_text(wanted)}: {fault_of(disk, partition) or 'no volume of an Amiga'}")
-    return volume, adf.BLOCK * partition.blocks
+    return volume
 
 
 def work(words: argparse.Namespace) -> int:
     name = "standard input" if words.image == STANDARD_INPUT else host_text(os.path.basename(words.image))
     content, size = content_given(words, is_whole=True)
     if words.partition is not None:
-        volume, size = volume_in(name, adf.Disk(content), words.partition)
-        return draw_volume(f"{name}: {host_text(words.partition)}", volume, words.blocks, size)
+        volume = volume_in(name, adf.Disk(content), words.partition)
+        return draw_volume(f"{name}: {host_text(words.partition)}", volume, words.blocks, len(volume))
     disk = disk_of(content)
     if disk is not None:
         return draw_disk(name, disk)
-    return draw_volume(name, content if isinstance(content, bytes) else bytes(memoryview(content)[: adf.MOST_BYTES + 1]), words.blocks, size)
+    return draw_volume(name, content, words.blocks, size)
 
 
 def main() -> None:

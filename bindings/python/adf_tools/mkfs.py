@@ -4,7 +4,9 @@ from __future__ import annotations
 
 import argparse
 import contextlib
+import errno
 import glob
+import mmap
 import os
 import re
 import stat
@@ -14,12 +16,12 @@ from typing import Iterator, NamedTuple, Optional
 import adf
 from adf import building
 from adf_tools.pack import amiga_name, latest_stamp, stamp_of
+from adf_tools.processes import accept_memory
 from adf_tools.program import REFUSED, begin, command_line, host_text, new_file, stop, tell
 from adf_tools.trees import named
 
 PROGRAM = "mkfs.affs"
-UNIT = 1024  # bytes of BLOCKS
-MOST_BLOCKS = adf.MOST_BYTES // adf.BLOCK
+UNIT, ZEROS = 1024, bytes(adf.PART)  # bytes of BLOCKS; and those of a part that is empty
 MOUNTS, LOOPS = "/proc/self/mounts", b"/sys/block/loop*/loop/backing_file"
 OPTIONS = os.O_CLOEXEC | os.O_NONBLOCK | os.O_NOCTTY
 
@@ -33,8 +35,8 @@ class Target(NamedTuple):
     def blocks(self) -> int:
         """The blocks of its volume: an odd last one, and less than a block, are left out."""
         blocks = self.size // adf.BLOCK // 2 * 2
-        if blocks > MOST_BLOCKS:
-            stop(REFUSED, f"{self.name}: {blocks} blocks of 512 bytes; a volume has at most {MOST_BLOCKS} (512 MiB)")
+        if blocks > adf.MOST_BLOCKS:
+            stop(REFUSED, f"{self.name}: {blocks} blocks of 512 bytes; a volume has at most {adf.MOST_BLOCKS} (4 GiB)")
         return blocks
 
     def tell_rest(self) -> None:
@@ -59,17 +61,18 @@ def label_of(text: str) -> bytes:
     return amiga_name(name, text, False)
 
 
-def volume_of(words: argparse.Namespace, target: Target) -> memoryview:
+def volume_of(words: argparse.Namespace, target: Target) -> mmap.mmap:
     """The image of an empty volume, whose dates are now, or those that the environment has."""
     given = latest_stamp()
     date = adf.Date.of(stamp_of(time.time_ns() if given is None else given))
     volume = building.new_volume(words.kind, target.blocks(), label_of(words.label or ""), (date, date, date))
-    image = bytearray(adf.BLOCK * target.blocks())
+    accept_memory(adf.BLOCK * target.blocks())
+    image = mmap.mmap(-1, max(adf.BLOCK * target.blocks(), adf.BLOCK), mmap.MAP_PRIVATE | mmap.MAP_ANONYMOUS)
     try:
         building.build_into(image, volume, building.Plan(words.kind), b"")
     except adf.NotBuilt as error:
         stop(REFUSED, f"{target.name}: {target.blocks()} blocks: {error}")
-    return memoryview(image)
+    return image
 
 
 def mounted_on(path: bytes) -> Optional[bytes]:
@@ -136,6 +139,8 @@ def write_new(words: argparse.Namespace) -> Target:
         volume_of(words, target)
     else:
         with new_file(words.device) as fd:
+            with named(words.device):
+                os.ftruncate(fd, adf.BLOCK * target.blocks())
             write(words, target, fd)
     return target
 
@@ -146,8 +151,18 @@ def write(words: argparse.Namespace, target: Target, fd: int) -> None:
     if not words.dry:
         with named(words.device):
             while done < len(image):
-                done += os.write(fd, image[done : done + adf.PART])
+                part = image[done : done + adf.PART]
+                is_there = part == ZEROS[: len(part)] and is_hole(fd, done, len(part))
+                done += len(part) if is_there else os.pwrite(fd, part, done)
             os.fsync(fd)
+
+
+def is_hole(fd: int, begin: int, count: int) -> bool:
+    """Whether nothing was ever written to this part of a file, so that it has zeros. No device tells it."""
+    try:
+        return os.lseek(fd, begin, os.SEEK_DATA) >= begin + count
+    except OSError as error:  # no data is behind that place
+        return error.errno == errno.ENXIO
 
 
 def work(words: argparse.Namespace) -> int:

@@ -247,7 +247,7 @@ def work(words: argparse.Namespace) -> int:
         stop(USAGE, "without --image the words are KIND, BLOCKS and FOLDER, and no --size")
     if words.kind not in adf.KINDS:
         stop(USAGE, f"a manifest has no word for the letters of {words.kind}, which go with --image")
-    if not 0 <= words.blocks <= adf.MOST_BYTES // adf.BLOCK:
+    if not 0 <= words.blocks <= adf.MOST_PLAIN_BLOCKS:
         tried(head_of(words))
     lines = itertools.chain(head_of(words), Packer(words).lines(os.fsencode(words.folder)))
     sys.stdout.buffer.write(tried(lines))

@@ -11,10 +11,11 @@ import adf
 from adf import boots, building
 from adf_tools.names import host_letters
 from adf_tools.pack import Item, Packer, amiga_name, opened
+from adf_tools.processes import accept_memory
 from adf_tools.program import REFUSED, Progress, host_text, new_file, open_input, stop
 from adf_tools.trees import Place
 
-DEFAULT_KIND = "ffs"
+DEFAULT_KIND, ROW = "ffs", 500  # and the bytes of memory that the library takes for an addition
 
 
 def changed(place: Place, name: bytes) -> NoReturn:
@@ -70,7 +71,7 @@ def read_all(view: memoryview, packer: Packer, folder: bytes, found: list[Item])
 
 def fewest(volume: Any, plan: building.Plan) -> int:
     """The fewest blocks of a volume in which the files have room. Their bytes do not count, and zeros stand for them."""
-    return building.need_of(volume, plan, mmap.mmap(-1, plan.largest) if plan.largest else b"", is_shared=True)
+    return building.need_of(volume, plan, mmap.mmap(-1, plan.largest, mmap.MAP_PRIVATE | mmap.MAP_ANONYMOUS) if plan.largest else b"", is_shared=True)
 
 
 def boot_in(path: Optional[str]) -> Optional[adf.Boot]:
@@ -113,12 +114,13 @@ def write_image(words: argparse.Namespace) -> int:
     volume, packer, folder, boot = volume_of(words), Packer(words), os.fsencode(words.folder), boot_in(words.boot)
     try:
         plan, found = planned(words.kind or DEFAULT_KIND, packer, folder)
+        accept_memory(plan.size + ROW * len(plan))
         least = fewest(volume, plan)
         wanted = next((blocks for blocks in (words.blocks, words.size) if blocks is not None), least)
         if wanted < least:
             stop(REFUSED, f"full: the files need {least} blocks, and the image has {wanted}")
-        if not 0 <= wanted <= adf.MOST_BYTES // adf.BLOCK:
-            stop(REFUSED, f"bad size: {wanted} blocks, and the largest volume has {adf.MOST_BYTES // adf.BLOCK}")
+        if not 0 <= wanted <= adf.MOST_BLOCKS:
+            stop(REFUSED, f"bad size: {wanted} blocks, and the largest volume has {adf.MOST_BLOCKS}")
         volume.blocks = wanted
         with new_file(words.image) as fd:
             put_boot(filled(fd, adf.BLOCK * wanted, volume, plan, packer, folder, found), boot, words.bootable)

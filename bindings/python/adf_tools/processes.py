@@ -4,6 +4,7 @@ from __future__ import annotations
 
 import collections
 import concurrent.futures.process
+import contextlib
 import multiprocessing
 import os
 import pickle
@@ -11,7 +12,7 @@ import secrets
 import signal
 import sys
 import threading
-from typing import Any, Callable, Deque, Generator, Generic, Iterable, List, Optional, Sequence, TypeVar, Union
+from typing import Any, Callable, Deque, Generator, Generic, Iterable, Iterator, List, Optional, Sequence, TypeVar, Union
 
 from adf_tools.program import FAILED, INTERRUPTS, stop, uninterrupted
 
@@ -83,10 +84,32 @@ def free_memory() -> int | None:
     return min(known, default=None)
 
 
+def accept_memory(need: int) -> None:
+    """MemoryError if so many bytes cannot be had."""
+    free = free_memory()
+    if free is not None and free < need:
+        raise MemoryError(f"no memory: {need} bytes are needed, and {free} are free")
+
+
 def workers(pieces: int, need: int) -> int:
     """As many processes as there are processors and pieces, and memory if each takes so many bytes; at least one."""
     free = free_memory()
     return max(1, min(len(os.sched_getaffinity(0)), pieces, pieces if free is None else free // need))
+
+
+class Turns:
+    """Has one process at a time do what takes much memory, if there is enough beside what the others may take."""
+
+    def __init__(self, count: int, need: int) -> None:
+        self.others = (count - 1) * need
+        self.lock: Any = multiprocessing.get_context("fork").Lock() if count > 1 else threading.Lock()
+
+    @contextlib.contextmanager
+    def take(self, need: int) -> Iterator[None]:
+        """The turn of this process, which takes so many bytes; MemoryError if they cannot be had."""
+        with self.lock:
+            accept_memory(need + self.others)
+            yield
 
 
 class Packed(Generic[Piece, Answer]):

@@ -14,12 +14,14 @@ from adf_tools.archives import foreign
 from adf_tools.collection import ARCHIVES, Image, fault_of, images_in, kinds_passed, opened, unforeseen, unread
 from adf_tools.names import host_letters
 from adf_tools.out_folder import NEW_FILE, PAGES
+from adf_tools.processes import Turns
 from adf_tools.program import FAILED, Stop, stop
 from adf_tools.sums import Sums, sums_of
 from adf_tools.volumes import Columns, Record, disk_record, image_record, long_record, record
 
 MOST_WRITTEN = 128 << 20  # letters that are kept of one file; of an archive the rest is left out
 MOST_KINDS, OTHERS = 1000, "others"  # kinds of files that are counted, and what the rest is called
+IMAGE_COPIES = 6  # how often a process has an image in memory
 
 
 class Read(NamedTuple):
@@ -78,10 +80,11 @@ def most_common(kinds: Counter[str]) -> Dict[str, int]:
 
 
 class Reader:
-    """Reads a file below a folder. The new volumes go into a folder, if the descriptor of one is given; texts are kept if they are wanted."""
+    """Reads a file below a folder, large volumes in turn with other processes. The new volumes go into a folder, if the descriptor of one is
+    given; texts are kept if they are wanted."""
 
-    def __init__(self, folder: bytes, volumes: Optional[int], has_texts: bool) -> None:
-        self.folder, self.volumes, self.has_texts = folder, volumes, has_texts
+    def __init__(self, folder: bytes, volumes: Optional[int], has_texts: bool, turns: Turns) -> None:
+        self.folder, self.volumes, self.has_texts, self.turns = folder, volumes, has_texts, turns
 
     def __call__(self, path: bytes) -> Read:
         """What is kept of a file."""
@@ -147,6 +150,16 @@ class Reader:
         columns = {**columns_of(image), "page": page_name(image.name, image.number), **facts_of(image)}
         if image.content.size > adf.MOST_BYTES:
             return long_record(columns)
+        if image.content.size <= adf.LARGE:
+            return self.read_record(image, columns)
+        try:
+            with self.turns.take(IMAGE_COPIES * image.content.size):
+                return self.read_record(image, columns)
+        except MemoryError:
+            return record({**columns_of(image._replace(fault="no memory")), "bytes": image.length})
+
+    def read_record(self, image: Image, columns: Columns) -> Record:
+        """What is kept of the image of a volume that is read into memory."""
         content = image.content.begin()
         found, volume = image_record(content, {**columns, "form": form_of(content)}, self.has_texts)
         return found if volume is None or self.volumes is None else self.rescued(volume, found, self.volumes)

@@ -9,7 +9,7 @@ from typing import Iterator
 
 import adf
 from adf_tools.given import Given, add_image, add_strict, given
-from adf_tools.program import REFUSED, begin, command_line, manifest_of, run_lines, tell
+from adf_tools.program import REFUSED, begin, command_line, manifest_of, run_lines, stop, tell
 
 INTERNATIONAL = 2  # is added to the type of a volume whose names have the case of all letters ignored
 
@@ -50,6 +50,8 @@ def tell_letters(image: Given, volume: adf.Volume) -> int:
 def work(words: argparse.Namespace) -> int:
     image = given(words)
     volume = image.volume(words.strict)
+    if volume.blocks > adf.MOST_PLAIN_BLOCKS:
+        stop(REFUSED, image.line(f"{volume.blocks} blocks: a manifest has at most {adf.MOST_PLAIN_BLOCKS}"))
     sys.stdout.buffer.write(manifest_of(lines_of(volume)))
     return max(image.tell("adf-recipe", volume), tell_letters(image, volume))
 

@@ -19,16 +19,16 @@ from adf_tools import store
 from adf_tools.collection import ARCHIVES, files_below, files_named
 from adf_tools.database import transaction
 from adf_tools.names import host_letters
-from adf_tools.processes import in_order
+from adf_tools.processes import Turns, in_order, workers
 from adf_tools.out_folder import OwnNames, is_own
 from adf_tools.program import Progress
-from adf_tools.reader import Read, Reader, most_common
+from adf_tools.reader import IMAGE_COPIES, Read, Reader, most_common
 from adf_tools.trees import Identity
 
 HERE = os.path.dirname(os.path.abspath(__file__))
 READING = (  # the modules by which files are read
     "advice", "archives", "collection", "content", "icons", "names", "picture", "reader", "standing", "sums", "volumes")  # fmt: skip
-LEAST_MEMORY, IMAGE_COPIES, PACKED = 256 << 20, 6, 8  # what a process takes, how often it has an image, how small an archive packs one
+LEAST_MEMORY, PACKED = 256 << 20, 8  # what a process takes, and how small an archive packs an image
 FILES, WEIGHT, SECONDS = 100, 16 << 20, 2.0  # of a transaction
 
 
@@ -89,9 +89,9 @@ def links_of(read: Read) -> List[str]:
 
 
 def memory_for(files: List[File]) -> int:
-    """How many bytes a process may take that reads these files. What an archive has is guessed by its size."""
+    """How many bytes a process may take that reads these files. What an archive has is guessed by its size; large images are read in turn."""
     sizes = ((file.stamp or [0])[0] * (PACKED if file.path.lower().endswith(ARCHIVES) else 1) for file in files)
-    return LEAST_MEMORY + IMAGE_COPIES * min(max(sizes, default=0), adf.MOST_BYTES)
+    return LEAST_MEMORY + IMAGE_COPIES * min(max(sizes, default=0), adf.LARGE)
 
 
 class Scan:
@@ -169,11 +169,12 @@ class Scan:
 
     def batches(self, files: List[File]) -> Iterator[List[Tuple[File, Read]]]:
         """What is read of these files, some of them at a time."""
-        work = self.own_names.out.work
-        reader, progress = Reader(self.folder, work if self.options.rescues else None, self.options.has_texts), Progress(len(files), "files")
+        work, need = self.own_names.out.work, memory_for(files)
+        turns, progress = Turns(workers(len(files), need), need), Progress(len(files), "files")
+        reader = Reader(self.folder, work if self.options.rescues else None, self.options.has_texts, turns)
         batch: List[Tuple[File, Read]] = []
         weight, begun = 0, time.monotonic()
-        answers = in_order(reader, [file.path for file in files], memory_for(files), work)
+        answers = in_order(reader, [file.path for file in files], need, work)
         with contextlib.closing(progress), contextlib.closing(answers):
             for file, read in zip(files, answers):
                 batch.append((file, read))

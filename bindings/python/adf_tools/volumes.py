@@ -241,8 +241,8 @@ def disk_record(disk: adf.Disk, columns: Columns) -> Record:
 
 
 def volume_of(disk: adf.Disk, partition: adf.Partition) -> Optional[bytes]:
-    """The bytes of the volume of a partition, if it has one of an Amiga; of one that is too large one more than the largest has."""
+    """The bytes of the volume of a partition, if it has one of an Amiga; of one that is too large none."""
     if fault_of(disk, partition) or not is_volume(partition):
         return None
     begin = adf.BLOCK * partition.first
-    return bytes(memoryview(disk.image)[begin : begin + min(adf.BLOCK * partition.blocks, adf.MOST_BYTES + 1)])
+    return b"" if is_long(partition) else bytes(memoryview(disk.image)[begin : begin + adf.BLOCK * partition.blocks])

@@ -17,7 +17,7 @@ import unittest
 import unittest.mock
 
 import adf
-from adf import _arguments, _library, _structs, commands
+from adf import _arguments, _library, _sources, _structs, commands
 from tests.shared import HERE, LARGE, NAME_BYTES, TOP, Folder, built, changed, image_of, international, written
 
 
@@ -288,14 +288,21 @@ class Refusals(unittest.TestCase):
         sound = image_of()
         (page,) = struct.unpack_from(">I", sound, 512 * 880 + 4 * 79)
         images = [b"", bytes(511), bytes(1760 * 512), sound[:-1], changed(sound, 0, 0, 0x50), changed(sound, 0, 3, 4)]
-        images += [changed(sound, 880, 440, 1), changed(sound, page, 7, 9), bytes(adf.MOST_BYTES + 512)]
+        images += [changed(sound, 880, 440, 1), changed(sound, page, 7, 9)]
         for image in images:
             status, line, _ = adf.run(["check"], image)
             for call in (adf.Volume, adf.check):
                 with self.assertRaises(adf.Refused) as raised:
                     call(image)
                 self.assertEqual((status, line.decode()), (1, f"{raised.exception}\n"))
-        self.assertEqual((raised.exception.cause, raised.exception.block, raised.exception.filename), ("bad size", 0, None))
+        self.assertEqual((raised.exception.block, raised.exception.filename), (page, None))
+
+    def test_refuses_by_size(self):
+        large = bytes(adf.LARGE + 1024)
+        self.assertEqual(adf.run(["check"], large), (1, b"block 0: bad size\n", b""))
+        for is_international, told in ((False, "block 0: bad size"), (True, "block 0: not dos")):
+            self.assertRaisesRegex(adf.Refused, f"^{told}$", adf.check, large, is_international)
+        self.assertRaisesRegex(adf.Refused, "^block 0: not dos$", adf.Volume, large)
 
     def test_opens_files(self):
         with tempfile.TemporaryDirectory() as folder:
@@ -329,9 +336,8 @@ class Refusals(unittest.TestCase):
             with open(reading, "rb") as pipe, open(writing, "wb") as file:
                 threading.Thread(target=lambda: (file.write(image), file.close())).start()
                 self.assertEqual(adf.read_image(pipe), image)
-            with open(path, "r+b") as file:
-                file.truncate(adf.MOST_BYTES + 512)
-                self.assertEqual(len(adf.read_image(file)), adf.MOST_BYTES + 1)
+            with open(path, "r+b") as file, unittest.mock.patch.object(_sources, "MOST_BYTES", 512 * 1000):
+                self.assertEqual(len(adf.read_image(file)), 512 * 1000 + 1)
 
     def test_names_a_file_by_what_can_be_printed(self):
         for name, shown in (("B\xfc \u20ac.adf", "B\xfc \u20ac.adf"), ("a\x1b[2J\n", r"a\x1b[2J\n"), (b"a\x9b\xff", r"a\udc9b\udcff")):
@@ -592,7 +598,7 @@ class Surveys(unittest.TestCase):
         self.assertEqual([entry.path for entry in adf.Volume(new).entries], ["lost-8", "lost-8/a"])
         lines = ["made: lost-8", "perhaps deleted: lost-8/a", "lost: in /", "lost: block 5"]
         self.assertEqual((adf.Volume(new)["lost-8/a"].read(), [str(each) for each in left_out]), (b"A" * 489, lines))
-        for blocks in (-1, 1 << 20 | 1):
+        for blocks in (-1, 1 << 23 | 1):
             with self.assertRaises(ValueError):
                 adf.survey(sound, blocks)
 

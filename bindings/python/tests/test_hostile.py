@@ -347,9 +347,9 @@ class Templates(unittest.TestCase):
 
 
 class Disks(Catalogues):
-    """Hard disks that are larger than the largest volume, which is a small one here."""
+    """Hard disks that are not read into memory, which are small ones here."""
 
-    SMALL = "import adf, os; adf.MOST_BYTES = 1 << 20; from adf_tools import archives, catalogue, collection; {}; catalogue.main()"
+    SMALL = "import adf, os; adf.LARGE = 1 << 20; from adf_tools import archives, catalogue, collection; {}; catalogue.main()"
 
     def setUp(self):
         super().setUp()
@@ -373,11 +373,20 @@ class Disks(Catalogues):
                 (name, len(self.disk), "ok", whole), (f"{name}/DH0", len(OFS), "ok", first), (f"{name}/DH1", len(BAD), "block 880: bad sum", second),
             ])  # fmt: skip
 
+    def test_have_volumes_that_wait_for_memory(self):
+        written("disks/a.hdf", self.disk)
+        few = "from adf_tools import processes; processes.free_memory = lambda: 1000; adf.LARGE = 1000"
+        self.assertEqual(self.run_python("-c", self.SMALL.format(few), "disks", "out").returncode, 3)
+        told = [("a.hdf", "ok"), ("a.hdf/DH0", "read fault: no memory"), ("a.hdf/DH1", "read fault: no memory")]
+        self.assertEqual([(name, verdict) for name, _, verdict, _ in self.rows()], told)
+        self.assertEqual(self.run_python("-c", self.SMALL.format("adf.LARGE = 1000"), "disks", "out").returncode, 1)
+        self.assertEqual([verdict for _, _, verdict, _ in self.rows()], ["ok", "ok", "block 880: bad sum"])
+
     def test_are_not_read_if_they_are_too_large(self):
         written("disks/b.hdf.gz", gzip.compress(self.disk))
         ran = self.run_python("-c", self.SMALL.format("archives.MOST_UNPACKED = 1500000"), "disks", "out")
         self.assertEqual(ran.returncode, 3)
-        self.assertEqual(self.rows(), [("b.hdf.gz", None, "read fault: a hard disk of more than 1500000 bytes is not unpacked", None)])
+        self.assertEqual(self.rows(), [("b.hdf.gz", None, "read fault: more than 1500000 bytes are not unpacked", None)])
 
     def test_cost_one_file_if_they_are_cut_while_they_are_read(self):
         written("disks/a.hdf", self.disk)

@@ -59,10 +59,10 @@ class Maps(Folder):
     def test_says_what_is_too_long(self):
         with open("a.adf", "wb") as file:
             file.truncate(adf.MOST_BYTES + 1)
-        self.assertEqual(self.run_tool("map", "a.adf").stderr, b"adf-map: a.adf: block 0: bad size; it has 536870913 bytes\n")
-        os.truncate("a.adf", 943_423_488)
+        self.assertEqual(self.run_tool("map", "a.adf").stderr, b"adf-map: a.adf: block 0: bad size; it has 4294967297 bytes\n")
+        os.truncate("a.adf", 5 << 30)
         for name, words in (("map", ["a.adf"]), ("recipe", ["a.adf"])):
-            told = f"adf-{name}: a.adf: block 0: bad size; it has 943423488 bytes\n"
+            told = f"adf-{name}: a.adf: block 0: bad size; it has 5368709120 bytes\n"
             self.assertEqual(self.run_tool(name, *words).stderr.decode(), told)
 
     def test_draws_what_is_missing(self):
@@ -85,5 +85,5 @@ class Maps(Folder):
             for blocks in ("-1", "0", "1048577", "9" * 5000, "x", "", " 4", "+4", "1_0", "\u0664", "4.0"):
                 ran = self.run_tool(name, f"--blocks={blocks}", *words)
                 self.assertEqual((ran.returncode, ran.stdout), (2, b""), blocks)
-                self.assertTrue(ran.stderr.endswith(b"argument --blocks: a number of blocks from 1 to 1048576\n"), ran.stderr)
+                self.assertTrue(ran.stderr.endswith(b"argument --blocks: a number of blocks from 1 to 8388608\n"), ran.stderr)
         self.leaves("a.adf")

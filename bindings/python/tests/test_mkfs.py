@@ -36,6 +36,17 @@ class Mkfs(Folder):
             manifest = (f"volume {kind} 1760", "label B\\xfccher", f"stamps {STAMP} {STAMP} {STAMP}")
             self.assertEqual(content_of(kind), built(manifest))
 
+    def test_makes_large_volumes_of_few_bytes(self):
+        with open("large", "wb") as file:
+            file.write(b"X" * 4096)
+            file.truncate(600 << 20)
+        self.made("-L", "Large", "large")
+        self.assertLess(512 * os.stat("large").st_blocks, 4 << 20)
+        with adf.open("large") as volume:
+            self.assertEqual((volume.label, volume.blocks, volume.used, bytes(volume.image[1024:4096])), ("Large", 1228800, 307, bytes(3072)))
+            self.assertRaisesRegex(adf.Refused, "^block 0: bad size$", adf.check, volume.image)
+            self.assertEqual(adf.check(volume.image, international=True).blocks, 1228800)
+
     def test_leaves_what_is_behind_an_even_number_of_blocks(self):
         written("odd", b"X" * (512 * 1761 + 100))
         self.assertIn("the last of 1761 blocks is left out", self.made("odd")[1])
@@ -48,8 +59,8 @@ class Mkfs(Folder):
         with open("large", "wb") as file:
             file.truncate(adf.MOST_BYTES + 1024)
         for words, told in (
-            (["small"], "small: 2 blocks: bad size"), (["large"], "at most 1048576 (512 MiB)"), (["link"], "a link to a file"),
-            (["new", "0"], "new: 0 blocks: bad size"), (["new", "999999999999"], "at most 1048576"), (["-L", "a:b", "other"], "no name on an Amiga has a :"),
+            (["small"], "small: 2 blocks: bad size"), (["large"], "at most 8388608 (4 GiB)"), (["link"], "a link to a file"),
+            (["new", "0"], "new: 0 blocks: bad size"), (["new", "999999999999"], "at most 8388608"), (["-L", "a:b", "other"], "no name on an Amiga has a :"),
             (["-L", "x" * 31, "other"], "a name of 31 bytes"), (["other", "880"], "keeps its size"), (["new"], "BLOCKS makes one"),
         ):  # fmt: skip
             self.assertIn(told, self.made(*words, status=1)[1])

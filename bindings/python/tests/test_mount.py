@@ -223,7 +223,7 @@ class Mounts(Folder):
         for blocks in ("-1", "0", "1048577", "9" * 5000, "x", "", " 4", "+4", "4.0"):
             status, output, errors = self.mount("a.adf", "seen", f"--blocks={blocks}")
             self.assertEqual((status, output), (2, ""), blocks)
-            self.assertEqual(errors, "adf-mount: argument --blocks: a number of blocks from 1 to 1048576\n")
+            self.assertEqual(errors, "adf-mount: argument --blocks: a number of blocks from 1 to 8388608\n")
 
     def test_waits_for_no_pipe_and_escapes_names(self):
         os.mkfifo("pipe")

@@ -122,10 +122,10 @@ class Packed(Folder):
                 file.write(bomb.compress(bytes(1 << 20)))
             file.write(bomb.flush())
         self.assertLess(os.path.getsize("bomb.adz"), 2 << 20)
-        line = "import adf; adf.MOST_BYTES = 2 << 20; from adf_tools import recipe; recipe.main()"
+        line = "import adf; adf.LARGE = 2 << 20; from adf_tools import recipe; recipe.main()"
         ran = self.run_python("-c", line, "bomb.adz", prefix=["prlimit", "--as=400000000"])
-        told = b"bomb.adz: block 0: bad size; it has more than 2097152 bytes"
-        self.assertEqual((ran.returncode, ran.stdout, told in ran.stderr), (1, b"", True), ran.stderr)
+        told = b"bomb.adz: no volume, and more than 2097152 bytes: it is not unpacked"
+        self.assertEqual((ran.returncode, ran.stdout, told in ran.stderr), (3, b"", True), ran.stderr)
 
     def test_that_are_none_are_named(self) -> None:
         for begin, told in (

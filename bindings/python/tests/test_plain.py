@@ -36,8 +36,8 @@ class Arguments(unittest.TestCase):
         self.assertRaises(TypeError, _arguments.to_write, b"read only")
 
     def test_takes_numbers_of_blocks(self):
-        self.assertEqual((number_of_blocks("1"), number_of_blocks("1048576")), (1, 1048576))
-        for text in ("0", "-1", "1048577", "1e3", "", " 1", "\u0661", "9" * 30):
+        self.assertEqual((number_of_blocks("1"), number_of_blocks("8388608")), (1, 8388608))
+        for text in ("0", "-1", "8388609", "1e3", "", " 1", "\u0661", "9" * 30):
             self.assertRaises(argparse.ArgumentTypeError, number_of_blocks, text)
 
 
@@ -165,3 +165,15 @@ class Memory(unittest.TestCase):
                         with open(f"{folder}/{name}", "w", encoding="ascii") as file:
                             file.write(str(text))
                     self.assertEqual(processes.free_memory(), free, own)
+
+    def test_is_taken_in_turn(self):
+        with mock.patch.object(processes, "free_memory", lambda: 1000):
+            for count, need, taken in ((1, 100, 1000), (3, 100, 800)):
+                turns = processes.Turns(count, need)
+                for _ in range(2):
+                    with turns.take(taken):
+                        self.assertFalse(turns.lock.acquire(False))
+                    with self.assertRaises(MemoryError), turns.take(taken + 1):
+                        self.fail()
+        with mock.patch.object(processes, "free_memory", lambda: None), processes.Turns(2, 1 << 40).take(1 << 40):
+            pass

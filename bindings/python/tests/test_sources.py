@@ -4,14 +4,17 @@ import gzip
 import io
 import os
 import pathlib
+import pickle
 import shutil
 import tempfile
 import time
 import unittest
+import unittest.mock
 import warnings
 import zipfile
 
 import adf
+from adf import _arguments, _sources
 from tests.samples import disk, table, volume
 from tests.shared import Folder, image_of, nested, written
 from tests.test_packed import dms, lha
@@ -76,6 +79,29 @@ class Sources(Folder):
         except adf.NotUnpacked as error:
             self.assertEqual(error.strerror, "packed by LHA: python3-libarchive-c (Debian's) is needed to read it")
 
+    def test_maps_what_is_large(self):
+        written("a.adf", OFS)
+        written("cut.adf", OFS[:-1024])
+        whole = adf.open("a.adf")
+        with unittest.mock.patch.object(_sources, "LARGE", 1000), open("a.adf", "rb") as file:
+            for opened in (adf.open("a.adf"), adf.open(file), adf.open("a.adf", blocks=1760)):
+                self.assertEqual((type(opened.image), bytes(opened.image)), (_arguments.Mapped, OFS))
+                self.assertEqual([(entry.path, entry.is_file and entry.read()) for entry in opened.entries],
+                                 [(entry.path, entry.is_file and entry.read()) for entry in whole.entries])  # fmt: skip
+                self.assertEqual((opened.owners(), opened.boot, adf.check(opened.image).files), (whole.owners(), whole.boot, 5))
+                self.assertEqual((pickle.loads(pickle.dumps(opened)).image, adf.survey(opened.image).findings), (OFS, []))
+                with opened.image as image:  # closing it would pull the bytes from under the volume
+                    image.close()
+                self.assertEqual(opened.image[:3], b"DOS")
+                self.assertRaises(TypeError, opened.image.__setitem__, 0, 1)
+            with warnings.catch_warnings():
+                warnings.simplefilter("ignore", adf.DamagedWarning)
+                for opened in (adf.open("cut.adf", blocks=1760), adf.open("cut.adf")):
+                    self.assertEqual([str(each) for each in opened.left_out], ["lost: blocks 1758 to 1759"])
+                    self.assertEqual(opened.survey.entries[0].path, whole.entries[0].path)
+                    self.assertEqual(len(pickle.loads(pickle.dumps(opened)).image), len(OFS))
+            self.assertRaisesRegex(adf.Refused, "^cut.adf: block 879: ", adf.open, "cut.adf", strict=True)
+
     def test_says_what_has_no_volume(self):
         whole, length = disk(volume(blocks=64)), 1760 * 512
         written("disk.hdf", whole)
@@ -88,7 +114,7 @@ class Sources(Folder):
         self.assertLess(time.monotonic() - begun, 1)
         os.truncate("disk.hdf", 0)
         os.truncate("disk.hdf", 8 << 30)
-        self.assertRaisesRegex(adf.Refused, "block 0: bad size; it has more than 536870912 bytes", adf.open, "disk.hdf")
+        self.assertRaisesRegex(adf.Refused, "block 0: bad size; it has more than 4294967296 bytes", adf.open, "disk.hdf")
         for begin, told in ((b"SCP", "a flux image"), (b"CAPS\0\0\0\x0c", "an image of tracks .IPF."), (b"OD\0S", "the bytes are swapped")):
             self.assertRaisesRegex(adf.Refused, f"block 0: not dos; {told}", adf.open, io.BytesIO(begin.ljust(length, b"\0")))
         self.assertRaisesRegex(adf.Refused, "^block 0: not dos; packed by gzip: unpack it first$", adf.open_image, gzip.compress(OFS).ljust(length, b"\0"))

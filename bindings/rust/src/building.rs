@@ -124,8 +124,7 @@ pub fn build(kind: Kind, blocks: Option<u32>, entries: &[Addition<'_>], label: &
         Some(blocks) => blocks,
         None => done(ffi::need(&volume, &additions, &contents))?,
     };
-    const MOST_BLOCKS: u32 = 1 << 20;
-    let bytes = if volume.blocks <= MOST_BLOCKS { 512 * volume.blocks as usize } else { 0 };
+    let bytes = if volume.blocks <= ffi::MOST_BLOCKS { 512 * volume.blocks as usize } else { 0 };
     let mut image = Vec::new();
     image.try_reserve_exact(bytes).map_err(|_| NotBuilt { refusal: BuildRefusal::NoMemory, number: 0, need: 0, have: 0 })?;
     image.resize(bytes, 0);

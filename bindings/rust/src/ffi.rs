@@ -41,6 +41,9 @@ pub struct Date {
 /// What `adf_rescue` and `adf_survey_subject` answer, if more room is wanted than was given.
 const SMALL_ROOM: u8 = 24;
 
+/// The most blocks of a volume.
+pub(crate) const MOST_BLOCKS: u32 = 1 << 23;
+
 /// The bytes of so many blocks.
 pub(crate) fn bytes_of(blocks: u32) -> usize {
     (blocks as usize).saturating_mul(512)
@@ -48,7 +51,6 @@ pub(crate) fn bytes_of(blocks: u32) -> usize {
 
 /// What is there of an image of so many blocks, if a volume can have so many.
 pub(crate) fn cut(image: &[u8], blocks: u32) -> Result<&[u8], Refused> {
-    const MOST_BLOCKS: u32 = 1 << 20;
     match blocks {
         1..=MOST_BLOCKS => Ok(&image[..image.len().min(bytes_of(blocks))]),
         _ => Err(Refused { cause: Cause::BadSize, block: 0 }),

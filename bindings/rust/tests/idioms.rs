@@ -13,7 +13,7 @@ fn image() -> Vec<u8> {
 fn an_image_is_read_as_if_it_had_so_many_blocks() {
     let whole = image();
     let longer = [&whole[..], &[0; 5120]].concat();
-    for blocks in [0, 1_048_577, u32::MAX] {
+    for blocks in [0, 8_388_609, u32::MAX] {
         let refused = Refused { cause: Cause::BadSize, block: 0 };
         assert_eq!(open_blocks(&whole, blocks).unwrap_err(), refused);
         assert_eq!(rescue_blocks(&whole, blocks).unwrap_err(), refused);
