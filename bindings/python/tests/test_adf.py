@@ -249,7 +249,7 @@ class Volumes(unittest.TestCase):
 
     def test_takes_no_other_numbers_of_blocks(self):
         image = image_of()
-        for blocks, error in ((-1, ValueError), (2**20 + 1, ValueError), (2**32 + 1760, ValueError), (1760.0, TypeError), (True, TypeError), ("16", TypeError)):
+        for blocks, error in ((-1, ValueError), (2**23 + 1, ValueError), (2**32 + 1760, ValueError), (1760.0, TypeError), (True, TypeError), ("16", TypeError)):
             for call in (adf.survey, adf.rescue, lambda image, blocks: adf.Rescued(image, None, blocks), lambda *both: adf.open_image(both[0], blocks=both[1])):
                 with self.assertRaisesRegex(error, re.escape(f"{blocks!r}")):
                     call(image, blocks)

@@ -82,7 +82,7 @@ class Maps(Folder):
     def test_takes_numbers_of_blocks_alone(self):
         written("a.adf", image_of())
         for name, words in (("map", ["a.adf"]), ("unpack", ["a.adf", "new"]), ("recipe", ["a.adf"])):
-            for blocks in ("-1", "0", "1048577", "9" * 5000, "x", "", " 4", "+4", "1_0", "\u0664", "4.0"):
+            for blocks in ("-1", "0", "8388609", "9" * 5000, "x", "", " 4", "+4", "1_0", "\u0664", "4.0"):
                 ran = self.run_tool(name, f"--blocks={blocks}", *words)
                 self.assertEqual((ran.returncode, ran.stdout), (2, b""), blocks)
                 self.assertTrue(ran.stderr.endswith(b"argument --blocks: a number of blocks from 1 to 8388608\n"), ran.stderr)

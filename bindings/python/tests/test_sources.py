@@ -88,7 +88,7 @@ class Sources(Folder):
                 self.assertEqual((type(opened.image), bytes(opened.image)), (_arguments.Mapped, OFS))
                 self.assertEqual([(entry.path, entry.is_file and entry.read()) for entry in opened.entries],
                                  [(entry.path, entry.is_file and entry.read()) for entry in whole.entries])  # fmt: skip
-                self.assertEqual((opened.owners(), opened.boot, adf.check(opened.image).files), (whole.owners(), whole.boot, 5))
+                self.assertEqual((opened.owners(), opened.boot, adf.check(opened.image).files), (whole.owners(), whole.boot, 3))
                 self.assertEqual((pickle.loads(pickle.dumps(opened)).image, adf.survey(opened.image).findings), (OFS, []))
                 with opened.image as image:  # closing it would pull the bytes from under the volume
                     image.close()
