@@ -75,7 +75,7 @@ class Volumes(Folder):
                 adf.build("ofs", 1760, [given])
 
     def test_tells_what_no_volume_has(self):
-        for blocks, label, why in ((7, "", "bad size"), (2**20 + 2, "", "bad size"), (1760, "a" * 31, "a label is longer")):
+        for blocks, label, why in ((7, "", "bad size"), (2**23 + 2, "", "bad size"), (1760, "a" * 31, "a label is longer")):
             with self.assertRaisesRegex(adf.NotBuilt, why):
                 adf.build("ofs", blocks, [], label)
         for kind in ("pfs", "ffs-cached", None, 0, ["ofs"]):
@@ -183,7 +183,7 @@ class Images(Folder):
         self.refused(1, "f/sparse: with this file there are more bytes than any volume has", "pack", "--image", "new.hdf", "f")
         os.truncate("f/sparse", 1 << 20)
         self.refused(1, "full: the files need 2082 blocks, and the image has 1760", "pack", "--image", "new.hdf", "--size", "880K", "f")
-        self.refused(1, "bad size", "pack", "--image", "new.hdf", "--size", "1G", "f")
+        self.refused(1, "bad size", "pack", "--image", "new.hdf", "--size", "5G", "f")
         self.assertEqual(os.listdir("."), ["f"])
 
     def test_refuses_names_and_leaves_no_image(self):

@@ -213,14 +213,14 @@ class Mounts(Folder):
 
     def test_says_how_long_an_image_is(self):
         with open("long.adf", "wb") as file:
-            file.truncate(943_423_488)
-        self.assertEqual(self.mount("long.adf", "seen"), (1, "", "adf-mount: long.adf: block 0: bad size; it has 943423488 bytes\n"))
-        written("disk.hdf", table(RIGID_DISK) + bytes(1024) + table({**DRIVE, 37: 64, 42: 28791}))  # 28,791 cylinders of 64 blocks
-        os.truncate("disk.hdf", 1 << 30)
-        self.assertEqual(self.mount("disk.hdf", "seen", "--partition", "DH0")[::2], (1, "adf-mount: disk.hdf: block 0: bad size; it has 943423488 bytes\n"))
+            file.truncate(4_294_968_320)
+        self.assertEqual(self.mount("long.adf", "seen"), (1, "", "adf-mount: long.adf: block 0: bad size; it has 4294968320 bytes\n"))
+        written("disk.hdf", table(RIGID_DISK) + bytes(1024) + table({**DRIVE, 37: 64, 42: 131073}))  # 131,073 cylinders of 64 blocks
+        os.truncate("disk.hdf", 5 << 30)
+        self.assertEqual(self.mount("disk.hdf", "seen", "--partition", "DH0")[::2], (1, "adf-mount: disk.hdf: block 0: bad size; it has 4295000064 bytes\n"))
 
     def test_takes_numbers_of_blocks_alone(self):
-        for blocks in ("-1", "0", "1048577", "9" * 5000, "x", "", " 4", "+4", "4.0"):
+        for blocks in ("-1", "0", "8388609", "9" * 5000, "x", "", " 4", "+4", "4.0"):
             status, output, errors = self.mount("a.adf", "seen", f"--blocks={blocks}")
             self.assertEqual((status, output), (2, ""), blocks)
             self.assertEqual(errors, "adf-mount: argument --blocks: a number of blocks from 1 to 8388608\n")
