@@ -285,7 +285,7 @@ class Archives(Catalogues):
                 *(("a.zip/x/Bü.ADF", "901120", "ok"), ("b.adz", "901120", "ok")),
                 *(("c.adf.gz", "901120", "ok"), ("cut.adf.gz", "", "read fault: damaged archive")),
                 *(("cut.zip", "", "read fault: damaged archive"), ("d.gz", "901120", "ok")),
-                *(("empty.adz", "0", "block 0: bad size"), ("long.adz", "", "block 0: bad size")),
+                *(("empty.adz", "0", "block 0: bad size"), ("long.adz", "", "read fault: no volume, and more than 536870912 bytes: it is not unpacked")),
             ],
         )
         self.assertEqual(len(rows_of("out/entries.tsv")), 25)
