@@ -63,7 +63,6 @@ from adf.surveys import Survey, survey
 from adf.volumes import Volume
 
 # What adf_tools takes besides, which __all__ does not promise.
-from adf._arguments import Mapped as Mapped, mapped as mapped
 from adf._layout import CAPITALS as CAPITALS, LONGEST_COMMENT as LONGEST_COMMENT, LONGEST_NAME as LONGEST_NAME
 from adf._layout import LARGE as LARGE, MOST_BLOCKS as MOST_BLOCKS, MOST_PARTITIONS as MOST_PARTITIONS
 from adf._layout import MOST_PLAIN_BLOCKS as MOST_PLAIN_BLOCKS, MOST_TABLES as MOST_TABLES

@@ -81,7 +81,7 @@ def entry_path(given: Any) -> Any:
 def raw(what: str, given: Any) -> bytes:
     """The bytes of a text in Latin-1, or bytes themselves."""
     if isinstance(given, bytes):
-        return plain(given)
+        return bytes(plain(given))
     if not isinstance(given, str):
         raise TypeError(f"{what} is a str or bytes, and not {type(given).__name__}")
     try:

@@ -74,7 +74,7 @@ def _change(call: Any, room: Buffer, *source: Any) -> None:
     _accept(call(*_arguments.to_write(room), *source))
 
 
-def _source(boot: Union[Boot, Image]) -> bytes:
+def _source(boot: Union[Boot, Image]) -> Any:
     return _arguments.plain(boot.raw if isinstance(boot, Boot) else boot)
 
 

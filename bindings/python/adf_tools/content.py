@@ -10,6 +10,7 @@ import tempfile
 from typing import IO, BinaryIO, Iterator, Optional
 
 import adf
+from adf._arguments import Mapped, mapped
 from adf_tools.volumes import disk_of, fault_of, is_volume
 
 CHANGED = "changed while it was read"
@@ -25,7 +26,7 @@ class Content:
         """All bytes, but at most one more than the largest volume has."""
         return self.content
 
-    def mapped(self) -> bytes | adf.Mapped:
+    def mapped(self) -> bytes | Mapped:
         """All bytes, mapped if they are in a file of this program's own."""
         return self.content
 
@@ -69,8 +70,8 @@ class FileContent(Content):
     def begin(self) -> bytes:
         return self.read(0, adf.MOST_BYTES + 1)
 
-    def mapped(self) -> bytes | adf.Mapped:
-        return adf.mapped(self.file.fileno(), self.size)
+    def mapped(self) -> bytes | Mapped:
+        return mapped(self.file.fileno(), self.size)
 
     def parts(self) -> Iterator[memoryview]:
         yield from (memoryview(self.read(at, adf.PART)) for at in range(0, self.size, adf.PART))

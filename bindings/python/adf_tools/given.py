@@ -14,6 +14,7 @@ import warnings
 from typing import IO, BinaryIO, Iterator, NamedTuple, Optional, Tuple
 
 import adf
+from adf._arguments import Mapped, mapped
 from adf_tools.advice import length_that_fits
 from adf_tools.archives import FAULTS, LONGEST_BEGIN, MOST_UNPACKED, fault_of, foreign, form_of, unpacked
 from adf_tools.members import NotChosen, opened_member, place_of
@@ -53,7 +54,7 @@ class Given(NamedTuple):
     is meant to have, and how many bytes its file has, if that is known."""
 
     name: str
-    content: bytes | adf.Mapped
+    content: bytes | Mapped
     blocks: Optional[int]
     size: Optional[int]
 
@@ -134,7 +135,7 @@ def content_given(words: argparse.Namespace, is_whole: bool = False) -> Content:
         if member:
             stop(FAILED, f"{host_text(words.image)}: {os.strerror(errno.ENOTDIR)}")
         wanted = size if is_whole else min(size, adf.MOST_BYTES + 1)
-        return adf.mapped(file.fileno(), wanted) if wanted > adf.LARGE else adf.read_image(file), size
+        return mapped(file.fileno(), wanted) if wanted > adf.LARGE else adf.read_image(file), size
 
 
 def in_memory(content: bytes, path: str) -> IO[bytes]:
@@ -162,7 +163,7 @@ def unpacked_from(file: IO[bytes], form: str, path: str, wanted: bytes) -> Conte
 def given(words: argparse.Namespace) -> Given:
     """The image that the words name."""
     content, size = content_given(words)
-    assert isinstance(content, (bytes, adf.Mapped))
+    assert isinstance(content, (bytes, Mapped))
     return Given("" if words.image == STANDARD_INPUT else host_text(words.image), content, words.blocks, size)
 
 

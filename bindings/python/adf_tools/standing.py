@@ -8,6 +8,7 @@ import struct
 from typing import Dict, Iterator, List, NamedTuple, Optional, Sequence, Set, Tuple, Union
 
 import adf
+from adf._arguments import Mapped
 from adf_tools.advice import length_that_fits
 
 Source = Union[adf.Entry, adf.Found]
@@ -30,11 +31,11 @@ class Stood(NamedTuple):
         return isinstance(self.source, adf.Entry)
 
 
-def first_word(image: bytes | adf.Mapped, block: int) -> int:
+def first_word(image: bytes | Mapped, block: int) -> int:
     return int.from_bytes(image[adf.BLOCK * block : adf.BLOCK * block + 4], "big")
 
 
-def words_of(image: bytes | adf.Mapped, block: int) -> Sequence[int]:
+def words_of(image: bytes | Mapped, block: int) -> Sequence[int]:
     """The words of a block; zeros where an image ends within it."""
     return struct.unpack(">128I", image[adf.BLOCK * block : adf.BLOCK * (block + 1)].ljust(adf.BLOCK, b"\0"))
 
