@@ -1,9 +1,11 @@
 """The parts of a catalogue that its index searches, each a script that is loaded when a word that begins so is looked for: a search of
-100,000 disks loads some of them alone. Of a word that is in many places a part has the first of these, and all images."""
+100,000 disks loads some of them alone. Of a word that is in many places a part has the first of these by the names of images, and all
+images."""
 
 from __future__ import annotations
 
 import functools
+import heapq
 import itertools
 import json
 import operator
@@ -38,6 +40,9 @@ UNION SELECT substr(sha256, 1, {FRONT}) FROM images WHERE sha256 IS NOT NULL UNI
 UNION SELECT substr(sha256, 1, {FRONT}) FROM entries WHERE sha256 IS NOT NULL"""
 IMAGES_OF = """SELECT doc FROM image_terms WHERE term = ?1 UNION ALL SELECT image FROM entry_terms JOIN entries ON entries.id = doc WHERE term = ?1
 UNION ALL SELECT image FROM entries WHERE sha256 = ?1 UNION ALL SELECT id FROM images WHERE sha256 = ?1 OR tree = ?1"""
+PLACES_OF = """SELECT doc, '', '' FROM image_terms WHERE term = ?1
+UNION ALL SELECT image, path, comment FROM entry_terms CROSS JOIN entries ON entries.id = doc WHERE term = ?1
+UNION ALL SELECT image, path, comment FROM entries WHERE sha256 = ?1 UNION ALL SELECT id, '', '' FROM images WHERE sha256 = ?1 OR tree = ?1"""
 IMAGES_BETWEEN = """SELECT doc FROM image_terms WHERE term BETWEEN ?1 AND ?2
 UNION ALL SELECT image FROM entry_terms JOIN entries ON entries.id = doc WHERE term BETWEEN ?1 AND ?2"""
 
@@ -143,9 +148,23 @@ class Places:
         terms = {term: self.kept(term, found[term]) for term in sorted(found)}
         yield from self.tree(name, terms) if terms else ()
 
+    def rank(self, place: Place) -> Tuple[str, int, str, str]:
+        """What the places of a word are ordered by: not by rows, since an image that changed has another one."""
+        row, path, comment = place
+        image = self.images.get(row)
+        return ("", 0, path, comment) if image is None else (image.name, image.number, path, comment)
+
+    def all_places(self, term: str) -> Iterator[Place]:
+        """All places of a word."""
+        cursor = self.connection.cursor()
+        cursor.row_factory = None
+        return (place for place, _ in itertools.groupby(cursor.execute(PLACES_OF, (term,))))
+
     def kept(self, term: str, places: List[Place]) -> Terms:
-        """What a part has of the places of a word: the first of them, and, if there are more, all images."""
-        return places[:MOST_PLACES], self.steps(term) if len(places) > MOST_PLACES else []
+        """What a part has of the places of a word: all, or the first of them and all images."""
+        if len(places) <= MOST_PLACES:
+            return sorted(map(tuple, places), key=self.rank), []
+        return heapq.nsmallest(MOST_PLACES, self.all_places(term), key=self.rank), self.steps(term)
 
     def names(self, wanted: Optional[Container[str]] = None) -> Iterator[Part]:
         """The names and pages of images, in files by the first bits of their numbers: all, or those that are wanted."""
