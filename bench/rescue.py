@@ -6,7 +6,7 @@
 
 With BLOCKS the image is filled up with zeros, or cut, to so many blocks. The new volume is what is built of the manifest, with the boot
 blocks of the image, if it begins with `DOS` (`Rescue.volume`). Two surveys: of the image, opened; and, where headers are
-lost, of the image with these hung where they say that they belong.
+lost, of the image with these hung where they belong.
 """
 
 import sys
@@ -279,7 +279,19 @@ class Lost:
         self.is_valid = survey.word(survey.root, 78) == 2**32 - 1
         self.trusted = self.is_valid and not any(self.is_free(b) for b, n in self.heads.items() if n)
         self.may_lose = any(map(self.is_open, [p for p in self.heads if self.is_directory(p)]))
+        self.leading = {at: survey.block_of(role[2]) for role, at, _ in survey.findings if self.leads(role, at)}
         self.lost = [b for b in range(self.blocks) if self.is_lost(b)]
+
+    def leads(self, role, at):
+        """A directory of the survey leads to a header that was skipped there, in the slot of the header's name."""
+        if not (role and role[1] == "head" and self.sv.node_of(role) is None and 2 <= at < self.blocks and says_header(self.image, at)):
+            return False
+        name = self.sv.text(at, 432)
+        return is_name(name) and slot(name, self.sv.international) == role[3]
+
+    def directory_of(self, b):
+        """The directory of a lost header: the one that leads to it, of several the last; or else the one that it names."""
+        return self.leading.get(b, words(self.image, b)[125])
 
     def is_free(self, b):
         """What the bitmap tells of a block; None where nothing does."""
@@ -350,7 +362,7 @@ class Lost:
 
     def hung(self):
         image, r, lost = bytearray(self.image), self.sv.root, set(self.lost)
-        named = [words(self.image, b)[125] for b in self.lost]
+        named = [self.directory_of(b) for b in self.lost]
         for b in self.lost:
             if words(image, b)[127] == DIR:
                 for s in range(SLOTS):
@@ -369,7 +381,7 @@ class Lost:
             if self.sv.word(h, 124) not in self.sv.owner:
                 ends[self.sv.block_of(self.sv.nodes[n][2])] = h
         for b in sorted({*made, *lost}):
-            p = words(self.image, b)[125] if b in lost else r
+            p = self.directory_of(b) if b in lost else r
             if b in made or self.is_directory(p) or p in made or p in lost and says_dir(self.image, p):
                 self.hang(image, b, p, ends)
         return bytes(image)

@@ -1,6 +1,6 @@
 -- Hung images: the directories that are made, the steps, and what stays.
--- Letters: given the image of a survey, w its walk, s whether each directory is open; b, p blocks; k, n numbers of blocks;
--- e an end; v, m, l, t answers of tests.
+-- Letters: given the image of a survey, w its walk, s whether each directory is open, d the directory of each block; b, p blocks; k, n numbers
+-- of blocks; e an end; v, m, l, t answers of tests.
 use Rattle.std.proofs.Common.{◌==◌, ◌&&◌, ◌||◌, slice_index, slice_index_or, cond, replicate, Some, None, codes, decimal, ◌≡◌, ◌≤◌, ◌<◌, ℕ, zero, suc, ◌+◌, ◌^◌}
 use Rattle.std.proofs.Common.{Bool, true, false, List, [], ◌∷◌, length, add-one, ◌∙◌, ap, arith, inl, inr, refl, subst, sym, length-append}
 use Rattle.std.specs.{List.list_all, Option.unwrap_or}
@@ -8,7 +8,7 @@ use Rattle.std.proofs.lemmas.Bool.{and_from, and_left, cases_lt, cond-false, con
 use Rattle.std.proofs.lemmas.Fmt.{decimal_is_IsNumeral, length-decimal-le}
 use Rattle.std.proofs.{lemmas.List.Folds.list_all-append, lemmas.Str.Parse.digit_at, Math.Bool.and-false, Math.Bool.or-false, lemmas.Grind.common_steps}
 use Rattle.adf_names.specs.Texts.{is_name, is_name_byte}
-use Rattle.adf_blocks.specs.{declared.layout.TheConstants.NEXT_IN_CHAIN, declared.layout.TheConstants.PARENT, Sizes.blocks, Sizes.in_range}
+use Rattle.adf_blocks.specs.{declared.layout.TheConstants.NEXT_IN_CHAIN, Sizes.blocks, Sizes.in_range}
 use Rattle.adf_volume.specs.{Image.word_in, Walk.heads, Walk.Walk}
 use Rattle.adf_findings.specs.Members.{has_mark, owns, parent_node}
 use Rattle.adf_rescue.specs.Hung.{AreEnds, AreMade, directory_end, hung_at, hung_in, slot_word, last_open, open_end, hung_first, hung_loose, is_made}
@@ -57,21 +57,24 @@ module _ (given : List ℕ) (w : Walk) (s : ℕ → Bool) where
         or_right (lost_among given w s n) (is_lost given w s n) (subst (λ i. is_lost given w s i ≡ true) last is)
   ]
 
+module _ (given : List ℕ) (w : Walk) (s : ℕ → Bool) (d : ℕ → ℕ) where
   -- the steps
 
-  pub readied_more : (k : ℕ) (old new : List ℕ) → old ≡ readied given w s k → new ≡ ready_in given w s old k → new ≡ readied given w s (k + 1)
+  pub readied_more : (k : ℕ) (old new : List ℕ) → old ≡ readied given w s d k → new ≡ ready_in given w s d old k
+      → new ≡ readied given w s d (k + 1)
   unfolding readied
-  readied_more k old new before step = step ∙ (ap (λ l. ready_in given w s l k) before ∙ rw add-one refl)
+  readied_more k old new before step = step ∙ (ap (λ l. ready_in given w s d l k) before ∙ rw add-one refl)
 
-  pub readied_first : readied given w s 0 ≡ given
+  pub readied_first : readied given w s d 0 ≡ given
   unfolding readied
   readied_first = refl
 
-  pub hung_more : (k : ℕ) (old new : List ℕ) → old ≡ hung_first given w s k → new ≡ hung_loose given w s old k → new ≡ hung_first given w s (k + 1)
+  pub hung_more : (k : ℕ) (old new : List ℕ) → old ≡ hung_first given w s d k → new ≡ hung_loose given w s d old k
+      → new ≡ hung_first given w s d (k + 1)
   unfolding hung_first
-  hung_more k old new before step = step ∙ (ap (λ l. hung_loose given w s l k) before ∙ rw add-one refl)
+  hung_more k old new before step = step ∙ (ap (λ l. hung_loose given w s d l k) before ∙ rw add-one refl)
 
-  pub hung_begun : hung_first given w s 0 ≡ readied given w s (blocks given)
+  pub hung_begun : hung_first given w s d 0 ≡ readied given w s d (blocks given)
   unfolding hung_first
   hung_begun = refl
 
@@ -117,23 +120,23 @@ module _ (given : List ℕ) (w : Walk) (p : ℕ) where
 
 -- the marks of directories that are made
 
-pub made_first : (given : List ℕ) (w : Walk) (s : ℕ → Bool) (marks : List Bool) → length marks ≡ blocks given
-    → ((p : ℕ) → has_mark marks p ≡ false) → AreMade given w s 0 marks
+pub made_first : (given : List ℕ) (w : Walk) (s : ℕ → Bool) (d : ℕ → ℕ) (marks : List Bool) → length marks ≡ blocks given
+    → ((p : ℕ) → has_mark marks p ≡ false) → AreMade given w s d 0 marks
 unfolding has_lost_child
-made_first given w s marks len none = record { length = len; made = λ p lt. none p ∙ sym (and-false (is_vacant given w s p)) }
+made_first given w s d marks len none = record { length = len; made = λ p lt. none p ∙ sym (and-false (is_vacant given w s p)) }
 
 and_or : (v m t : Bool) → ((v && m) || v && t) ≡ (v && (m || t))
 and_or true m t = refl
 and_or false m t = refl
 
-module _ {given : List ℕ} {w : Walk} {s : ℕ → Bool} {k : ℕ} {marks : List Bool} (are : AreMade given w s k marks) where
-  pub made_more : {more : List Bool} → is_lost given w s k ≡ true
-      → ((p : ℕ) → p < length marks → has_mark more p ≡ (has_mark marks p || is_vacant given w s p && (word_in given k PARENT == p)))
-      → length more ≡ length marks → AreMade given w s (k + 1) more
+module _ {given : List ℕ} {w : Walk} {s : ℕ → Bool} {d : ℕ → ℕ} {k : ℕ} {marks : List Bool} (are : AreMade given w s d k marks) where
+  pub made_more : {more : List Bool} {q : ℕ} → is_lost given w s k ≡ true → q ≡ d k
+      → ((p : ℕ) → p < length marks → has_mark more p ≡ (has_mark marks p || is_vacant given w s p && (q == p)))
+      → length more ≡ length marks → AreMade given w s d (k + 1) more
   unfolding has_lost_child
-  made_more lost put len = grind (arith, common_steps, and_or, add-one)
+  made_more lost named put len = grind (arith, common_steps, and_or, add-one)
 
-  pub made_same : is_lost given w s k ≡ false → AreMade given w s (k + 1) marks
+  pub made_same : is_lost given w s k ≡ false → AreMade given w s d (k + 1) marks
   unfolding has_lost_child
   made_same kept = grind (arith, common_steps, or-false, add-one)
 
@@ -141,6 +144,6 @@ vacant_inside : (given : List ℕ) (w : Walk) (s : ℕ → Bool) (p : ℕ) → b
 unfolding is_vacant
 vacant_inside given w s p out = and_left _ _ (and_left _ _ (and_left _ _ (and_left (in_range given p) _ (grind (arith, nat_tests)))))
 
-pub made_marked : (given : List ℕ) (w : Walk) (s : ℕ → Bool) (marks : List Bool) → AreMade given w s (blocks given) marks
-    → (p : ℕ) → has_mark marks p ≡ is_made given w s p
-made_marked given w s marks are p = grind (arith, common_steps, cases_lt, and_left, vacant_inside)
+pub made_marked : (given : List ℕ) (w : Walk) (s : ℕ → Bool) (d : ℕ → ℕ) (marks : List Bool) → AreMade given w s d (blocks given) marks
+    → (p : ℕ) → has_mark marks p ≡ is_made given w s d p
+made_marked given w s d marks are p = grind (arith, common_steps, cases_lt, and_left, vacant_inside)

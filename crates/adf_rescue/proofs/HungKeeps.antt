@@ -1,6 +1,6 @@
 -- What stays in a hung image.
--- Letters: given the image of a survey, w its walk, s whether each directory is open; b, c, d, p, e blocks; n, m nodes; i the number of a
--- word; k that of one too, or a number of blocks or nodes;
+-- Letters: given the image of a survey, w its walk, s whether each directory is open, d the directory of each block; a, b, c, p, e blocks;
+-- n, m nodes; i the number of a word; k that of one too, or a number of blocks or nodes;
 -- x, y, z images.
 use Rattle.std.proofs.Common.{◌==◌, ◌&&◌, ◌||◌, ◌%◌, ◌/◌, None, Some, cond, is_some, option_map, Option, replicate, slice_index, ◌≡◌, ◌≢◌, ◌≤◌, ◌<◌, ℕ}
 use Rattle.std.proofs.Common.{zero, suc, ◌*◌, ◌+◌, ◌^◌, Bool, true, false, List, [], ◌∷◌, length, ◌∙◌, ap, arith, inl, inr, refl, subst, sym, ◌⊎◌}
@@ -118,14 +118,14 @@ one_of_two false false r q p e = absurd cc
 
 -- the laws, of an image with the length of a volume
 
-module _ (given : List ℕ) (w : Walk) (s : ℕ → Bool) (len : is_image_len (length given) ≡ true) where
+module _ (given : List ℕ) (w : Walk) (s : ℕ → Bool) (d : ℕ → ℕ) (len : is_image_len (length given) ≡ true) where
   -- what is neither lost nor made
 
   owned_not_lost : (b : ℕ) → owns w b ≡ true → is_lost given w s b ≡ false
   unfolding is_lost
   owned_not_lost b e = grind (arith, common_steps, and_left, and_right, not_from_true)
 
-  owned_not_made : (b : ℕ) → owns w b ≡ true → is_made given w s b ≡ false
+  owned_not_made : (b : ℕ) → owns w b ≡ true → is_made given w s d b ≡ false
   unfolding is_vacant
   owned_not_made b e = and_left _ _ (and_left _ _ (and_left _ _ (and_right _ _ (not_from_true (owns w b) e))))
 
@@ -133,7 +133,7 @@ module _ (given : List ℕ) (w : Walk) (s : ℕ → Bool) (len : is_image_len (l
   unfolding is_lost
   boot_not_lost = refl
 
-  boot_not_made : is_made given w s 0 ≡ false
+  boot_not_made : is_made given w s d 0 ≡ false
   unfolding is_vacant
   boot_not_made = refl
 
@@ -145,13 +145,13 @@ module _ (given : List ℕ) (w : Walk) (s : ℕ → Bool) (len : is_image_len (l
 
   -- what is not loose stays
   abbrev Keeps : List ℕ → List ℕ → Type 0
-  Keeps x y = (length y ≡ length x) × ((c : ℕ) → is_loose given w s c ≡ false → block y c ≡ block x c)
+  Keeps x y = (length y ≡ length x) × ((c : ℕ) → is_loose given w s d c ≡ false → block y c ≡ block x c)
 
-  keeps : {b : ℕ} {x y : List ℕ} → is_loose given w s b ≡ true → Touches b b x y → Keeps x y
+  keeps : {b : ℕ} {x y : List ℕ} → is_loose given w s d b ≡ true → Touches b b x y → Keeps x y
   keeps h t = grind (arith, common_steps)
 
   -- making ready changes what is loose alone
-  ready_touches : (x : List ℕ) (b : ℕ) → length x ≡ length given → b < blocks given → Keeps x (ready_in given w s x b)
+  ready_touches : (x : List ℕ) (b : ℕ) → length x ≡ length given → b < blocks given → Keeps x (ready_in given w s d x b)
   unfolding ready_in
   ready_touches x b same inside =
       let here = still given x b same inside in
@@ -159,7 +159,7 @@ module _ (given : List ℕ) (w : Walk) (s : ℕ → Bool) (len : is_image_len (l
       let long = length-block x b (whole x b here) in
       let none : List ℕ = replicate (4 * SLOTS) 0 in
       let zeros : List ℕ = with_bytes (block x b) (4 * FIRST_SLOT) none in
-      cond_both (is_made given w s b) (with_block x b head) _ (Keeps x)
+      cond_both (is_made given w s d b) (with_block x b head) _ (Keeps x)
       (λ made. keeps (or_right (is_lost given w s b) _ made) (written x head b here
       (length_head_block (made_header (root_of given) b) (made_header_fits (root_of given) b root_small (omega (arith, inside, few))))))
       (λ other. cond_both (is_lost given w s b && says_directory given b) (with_block x b zeros) x (Keeps x)
@@ -167,35 +167,35 @@ module _ (given : List ℕ) (w : Walk) (s : ℕ → Bool) (len : is_image_len (l
       (length-with_bytes (block x b) (4 * FIRST_SLOT) none (omega (arith, long, length-replicate {A = ℕ} (4 * SLOTS) 0)) ∙ long)))
       (λ none. (refl, λ c out. refl)))
 
-  readied_touches : (k : ℕ) → k ≤ blocks given → Keeps given (readied given w s k)
+  readied_touches : (k : ℕ) → k ≤ blocks given → Keeps given (readied given w s d k)
   unfolding readied
   readied_touches zero le = (refl, λ c out. refl)
   readied_touches (suc k) le =
       let h = readied_touches k (omega arith) in
-      let t = ready_touches (readied given w s k) k h.0 (omega arith) in
+      let t = ready_touches (readied given w s d k) k h.0 (omega arith) in
       (t.0 ∙ h.0, λ c out. t.1 c out ∙ h.1 c out)
 
   -- a home is the root, for what is made, or a container, for what is lost
-  home_of : (b p : ℕ) → home given w s b ≡ Some p
-      → ((is_made given w s b ≡ true) × (p ≡ root_of given)) ⊎ ((is_lost given w s b ≡ true) × (is_container given w s p ≡ true))
+  home_of : (b p : ℕ) → home given w s d b ≡ Some p
+      → ((is_made given w s d b ≡ true) × (p ≡ root_of given)) ⊎ ((is_lost given w s b ≡ true) × (is_container given w s d p ≡ true))
   unfolding home
   home_of b p e =
-      let q : ℕ = word_in given b PARENT in
-      elim (one_of_two (is_made given w s b) (is_lost given w s b && is_container given w s q) (root_of given) q p e) [
+      let q : ℕ = d b in
+      elim (one_of_two (is_made given w s d b) (is_lost given w s b && is_container given w s d q) (root_of given) q p e) [
         | inl made ↦ inl made
         | inr named ↦
-            let both = and_parts (is_lost given w s b) (is_container given w s q) named.0 in
-            inr (both.0, subst (λ i. is_container given w s i ≡ true) (sym named.1) both.1)
+            let both = and_parts (is_lost given w s b) (is_container given w s d q) named.0 in
+            inr (both.0, subst (λ i. is_container given w s d i ≡ true) (sym named.1) both.1)
       ]
 
-  home_loose : (b p : ℕ) → home given w s b ≡ Some p → is_loose given w s b ≡ true
+  home_loose : (b p : ℕ) → home given w s d b ≡ Some p → is_loose given w s d b ≡ true
   home_loose b p e = elim (home_of b p e) [
     | inl made ↦ or_right (is_lost given w s b) _ made.0
     | inr lost ↦ or_left (is_lost given w s b) _ lost.0
   ]
 
   -- a home is in range
-  home_inside : (b p : ℕ) → home given w s b ≡ Some p → p < blocks given
+  home_inside : (b p : ℕ) → home given w s d b ≡ Some p → p < blocks given
   home_inside b p e = elim (home_of b p e) [
     | inl made ↦ let root = root_within given len in omega (arith, made.1, root.within)
     | inr lost ↦ let inside = (and_parts (in_range given p) _ lost.1).0 in grind (arith, nat_tests)
@@ -203,26 +203,26 @@ module _ (given : List ℕ) (w : Walk) (s : ℕ → Bool) (len : is_image_len (l
 
   -- block c is neither a home of what is hung nor the end there
   abbrev IsApart : ℕ → Type 0
-  IsApart c = ((d : ℕ) → home given w s d ≢ Some c)
-      × ((d p : ℕ) → home given w s d ≡ Some p → in_range given (directory_end given w p) ≡ true → directory_end given w p ≢ c)
+  IsApart c = ((a : ℕ) → home given w s d a ≢ Some c)
+      × ((a p : ℕ) → home given w s d a ≡ Some p → in_range given (directory_end given w p) ≡ true → directory_end given w p ≢ c)
 
   -- hanging changes what is loose, the homes and the ends; and no word that leads to a part of the survey
   abbrev IsOwnedWord : ℕ → ℕ → Type 0
-  IsOwnedWord c i = (is_loose given w s c ≡ false) × (i < 128) × (i ≢ CHECKSUM) × (owns w (word_in given c i) ≡ true)
+  IsOwnedWord c i = (is_loose given w s d c ≡ false) × (i < 128) × (i ≢ CHECKSUM) × (owns w (word_in given c i) ≡ true)
 
   record KeepsMore (x y : List ℕ) : Type 0 where
     length : length y ≡ length x
-    others : (c : ℕ) → is_loose given w s c ≡ false → IsApart c → block y c ≡ block x c
+    others : (c : ℕ) → is_loose given w s d c ≡ false → IsApart c → block y c ≡ block x c
     words : ((c i : ℕ) → IsOwnedWord c i → word_in x c i ≡ word_in given c i) → (c i : ℕ) → IsOwnedWord c i → word_in y c i ≡ word_in x c i
 
   keeps_all : (x : List ℕ) → KeepsMore x x
   keeps_all x = record { length = refl; others = λ c out apart. refl; words = λ before c i owned. refl }
 
   -- where block b is hung at word i of block e, which leads to no part of the survey
-  module _ (x : List ℕ) (b p : ℕ) (same : length x ≡ length given) (inside : b < blocks given) (is : is_loose given w s b ≡ true) (e i : ℕ)
+  module _ (x : List ℕ) (b p : ℕ) (same : length x ≡ length given) (inside : b < blocks given) (is : is_loose given w s d b ≡ true) (e i : ℕ)
       (le : e < blocks given) (lt : i < 128) where
-    not_it : (c : ℕ) → is_loose given w s c ≡ false → c ≢ b
-    not_it c out at = let yes = subst (λ i. is_loose given w s i ≡ true) (sym at) is in cc
+    not_it : (c : ℕ) → is_loose given w s d c ≡ false → c ≢ b
+    not_it c out at = let yes = subst (λ i. is_loose given w s d i ≡ true) (sym at) is in cc
 
     at_keeps : ((c : ℕ) → IsApart c → c ≢ e) → (((c k : ℕ) → IsOwnedWord c k → word_in x c k ≡ word_in given c k) → IsOwnedWord e i → ⊥)
         → KeepsMore x (hung_at x b p e i)
@@ -250,11 +250,12 @@ module _ (given : List ℕ) (w : Walk) (s : ℕ → Bool) (len : is_image_len (l
   open_word n zero = inl refl
   open_word n (suc k) = grind (arith, common_steps, open_word n k, cases_Bool, cond-true, cond-false)
 
-  in_touches : (x : List ℕ) (b p : ℕ) → length x ≡ length given → b < blocks given → home given w s b ≡ Some p → KeepsMore x (hung_in given w x b p)
+  in_touches : (x : List ℕ) (b p : ℕ) → length x ≡ length given → b < blocks given → home given w s d b ≡ Some p
+      → KeepsMore x (hung_in given w x b p)
   unfolding hung_in
   in_touches x b p same inside is =
       let e : ℕ = directory_end given w p in
-      let loose : is_loose given w s b ≡ true = home_loose b p is in
+      let loose : is_loose given w s d b ≡ true = home_loose b p is in
       cond_both (owns w (word_in x p (slot_word given p b))) (hung_behind x b p e) (hung_at x b p p (slot_word given p b)) (KeepsMore x)
       (λ full.
       cond_both (in_range x e) (hung_at x b p e NEXT_IN_CHAIN) x (KeepsMore x)
@@ -273,53 +274,53 @@ module _ (given : List ℕ) (w : Walk) (s : ℕ → Bool) (len : is_image_len (l
       (λ c apart at. apart.0 b (is ∙ ap (λ q. Some q) (sym at)))
       (λ before owned. let yes = subst (λ v. owns w v ≡ true) (sym (before p (slot_word given p b) owned)) owned.3 in cc))
 
-  home_touches : (x : List ℕ) (b : ℕ) (o : Option ℕ) → length x ≡ length given → b < blocks given → home given w s b ≡ o
+  home_touches : (x : List ℕ) (b : ℕ) (o : Option ℕ) → length x ≡ length given → b < blocks given → home given w s d b ≡ o
       → KeepsMore x (unwrap_or (option_map (hung_in given w x b) o) x)
   home_touches x b None same inside is = keeps_all x
   home_touches x b (Some p) same inside is = in_touches x b p same inside is
 
-  loose_touches : (x : List ℕ) (b : ℕ) → length x ≡ length given → b < blocks given → KeepsMore x (hung_loose given w s x b)
+  loose_touches : (x : List ℕ) (b : ℕ) → length x ≡ length given → b < blocks given → KeepsMore x (hung_loose given w s d x b)
   unfolding hung_loose
-  loose_touches x b same inside = home_touches x b (home given w s b) same inside refl
+  loose_touches x b same inside = home_touches x b (home given w s d b) same inside refl
 
   record KeepsAll (y : List ℕ) : Type 0 where
     length : length y ≡ length given
-    others : (c : ℕ) → is_loose given w s c ≡ false → IsApart c → block y c ≡ block given c
+    others : (c : ℕ) → is_loose given w s d c ≡ false → IsApart c → block y c ≡ block given c
     words : (c i : ℕ) → IsOwnedWord c i → word_in y c i ≡ word_in given c i
 
-  first_touches : (k : ℕ) → k ≤ blocks given → KeepsAll (hung_first given w s k)
+  first_touches : (k : ℕ) → k ≤ blocks given → KeepsAll (hung_first given w s d k)
   unfolding hung_first
   first_touches zero le =
       let h = readied_touches (blocks given) (omega arith) in
       record { length = h.0; others = λ c out apart. h.1 c out; words = λ c i owned. ap (λ bs. word bs i) (h.1 c owned.0) }
   first_touches (suc k) le =
       let h = first_touches k (omega arith) in
-      let t = loose_touches (hung_first given w s k) k h.length (omega arith) in
+      let t = loose_touches (hung_first given w s d k) k h.length (omega arith) in
       record {
         length = t.length ∙ h.length;
         others = λ c out apart. t.others c out apart ∙ h.others c out apart;
         words = λ c i owned. t.words h.words c i owned ∙ h.words c i owned;
       }
 
-  pub length_kept : length (hung given w s) ≡ length given
+  pub length_kept : length (hung given w s d) ≡ length given
   length_kept = (first_touches (blocks given) (omega arith)).length
 
-  apart_kept : (b : ℕ) → is_loose given w s b ≡ false → ((d : ℕ) → home given w s d ≢ Some b)
-      → ((d p : ℕ) → home given w s d ≡ Some p → in_range given (directory_end given w p) ≡ true → directory_end given w p ≢ b)
-      → block (hung given w s) b ≡ block given b
+  apart_kept : (b : ℕ) → is_loose given w s d b ≡ false → ((a : ℕ) → home given w s d a ≢ Some b)
+      → ((a p : ℕ) → home given w s d a ≡ Some p → in_range given (directory_end given w p) ≡ true → directory_end given w p ≢ b)
+      → block (hung given w s d) b ≡ block given b
   apart_kept b out no_home no_end = (first_touches (blocks given) (omega arith)).others b out (no_home, no_end)
 
-  pub blocks_kept : (b : ℕ) → is_loose given w s b ≡ false → ((d : ℕ) → home given w s d ≢ Some b)
-      → ((d p : ℕ) → home given w s d ≡ Some p → directory_end given w p ≢ b) → block (hung given w s) b ≡ block given b
-  blocks_kept b out no_home no_end = apart_kept b out no_home (λ d p h inside. no_end d p h)
+  pub blocks_kept : (b : ℕ) → is_loose given w s d b ≡ false → ((a : ℕ) → home given w s d a ≢ Some b)
+      → ((a p : ℕ) → home given w s d a ≡ Some p → directory_end given w p ≢ b) → block (hung given w s d) b ≡ block given b
+  blocks_kept b out no_home no_end = apart_kept b out no_home (λ a p h inside. no_end a p h)
 
-  pub words_kept : (b i : ℕ) → is_loose given w s b ≡ false → i < 128 → i ≢ CHECKSUM → owns w (word_in given b i) ≡ true
-      → word_in (hung given w s) b i ≡ word_in given b i
+  pub words_kept : (b i : ℕ) → is_loose given w s d b ≡ false → i < 128 → i ≢ CHECKSUM → owns w (word_in given b i) ≡ true
+      → word_in (hung given w s d) b i ≡ word_in given b i
   words_kept b i out small sum owned = (first_touches (blocks given) (omega arith)).words b i (out, small, sum, owned)
 
   -- what is no directory is no home
-  no_home : (b d : ℕ) → is_container given w s b ≡ false → b ≢ root_of given → home given w s d ≢ Some b
-  no_home b d none ne e = elim (home_of d b e) [
+  no_home : (b a : ℕ) → is_container given w s d b ≡ false → b ≢ root_of given → home given w s d a ≢ Some b
+  no_home b a none ne e = elim (home_of a b e) [
     | inl made ↦ ne made.1
     | inr lost ↦ absurd cc
   ]
@@ -332,25 +333,25 @@ module _ (given : List ℕ) (w : Walk) (s : ℕ → Bool) (len : is_image_len (l
 
   -- the blocks of entries that are no headers
   pub entries_kept : (b : ℕ) → is_some (owning_entry w b) ≡ true → directory_at given w b ≡ None → ((n : ℕ) → node_block w n ≢ b)
-      → block (hung given w s) b ≡ block given b
+      → block (hung given w s d) b ≡ block given b
   entries_kept b owned no_directory no_head =
       let lost = owned_not_lost b (owner_owns w b owned) in
       let made = owned_not_made b (owner_owns w b owned) in
       let ne : b ≢ root_of given = λ e. let root = root_at given w b e in absurd cc in
-      let none : is_container given w s b ≡ false =
+      let none : is_container given w s d b ≡ false =
       and_right (in_range given b) _ (λ i. is_some (no_directory i) || lost i && says_directory given b || made i) in
-      apart_kept b (λ i. lost i || made i) (λ d. no_home b d none ne)
-      (λ d p h inside at. elim (end_is_header (unwrap_or (directory_at given w p) 0) (heads w)) [
+      apart_kept b (λ i. lost i || made i) (λ a. no_home b a none ne)
+      (λ a p h inside at. elim (end_is_header (unwrap_or (directory_at given w p) 0) (heads w)) [
         | inl none ↦ let out : in_range given 0 ≡ true = subst (λ e. in_range given e ≡ true) none inside in cc
         | inr head ↦ no_head head.0 (head.1 ∙ at)
       ])
 
   -- the boot block
-  pub boot_kept : block (hung given w s) 0 ≡ block given 0
+  pub boot_kept : block (hung given w s d) 0 ≡ block given 0
   boot_kept =
-      apart_kept 0 (λ i. boot_not_lost i || boot_not_made i) (λ d. no_home 0 d refl (let r = root_within given len in omega (arith, r.low)))
-      (λ d p h inside at. let out : in_range given 0 ≡ true = subst (λ e. in_range given e ≡ true) at inside in cc)
+      apart_kept 0 (λ i. boot_not_lost i || boot_not_made i) (λ a. no_home 0 a refl (let r = root_within given len in omega (arith, r.low)))
+      (λ a p h inside at. let out : in_range given 0 ≡ true = subst (λ e. in_range given e ≡ true) at inside in cc)
 
-  pub kind_kept : kind_of (hung given w s) ≡ kind_of given
+  pub kind_kept : kind_of (hung given w s d) ≡ kind_of given
   unfolding kind_of
   kind_kept = λ i. cond (slice_index (boot_kept i) 3 % 2 == 0) Ofs Ffs

@@ -32,6 +32,8 @@ pub mod OpenedImages
 pub mod LostHeaders
 -- headers that another one outranks
 pub mod OutrankedHeaders
+-- the directories of lost headers
+pub mod DirectorySteps
 -- hung images
 pub mod HungImages
 -- what stays in a hung image

@@ -1,6 +1,6 @@
 -- The images that a rescue makes of bytes are bytes.
--- Letters: given the image of a survey, w its walk, s whether each directory is settled; b, p, e blocks; i the number of a word;
--- k a number of blocks.
+-- Letters: given the image of a survey, w its walk, s whether each directory is open, d the directory of each block; b, p, e blocks;
+-- i the number of a word; k a number of blocks.
 use Rattle.std.proofs.Common.{◌<◌, ◌≤◌, ◌+◌, ◌*◌, ◌^◌, ◌++◌, ◌&&◌, cond, not, ℕ, zero, suc, Bool, true, false, List, [], ◌∷◌, arith, codes, decimal, drop}
 use Rattle.std.proofs.Common.{length, length-append, replicate}
 use Rattle.std.proofs.{lemmas.Bool.cond_both, lemmas.Str.Parse.digit_at, lemmas.Grind.common_steps}
@@ -86,7 +86,7 @@ hung_at_bytes : (image : List ℕ) (b p e i : ℕ) → AreBytes image → AreByt
 unfolding hung_at
 hung_at_bytes image b p e i are = search (arith, seal_bytes, put_bytes)
 
-module _ (given : List ℕ) (w : Walk) (s : ℕ → Bool) where
+module _ (given : List ℕ) (w : Walk) (s : ℕ → Bool) (d : ℕ → ℕ) where
   behind_bytes : (image : List ℕ) (b p e : ℕ) → AreBytes image → AreBytes (hung_behind image b p e)
   behind_bytes image b p e are = grind (arith, common_steps, cond_both, hung_at_bytes)
 
@@ -94,7 +94,7 @@ module _ (given : List ℕ) (w : Walk) (s : ℕ → Bool) where
   unfolding hung_in
   hung_in_bytes image b p are = grind (arith, common_steps, cond_both, behind_bytes, hung_at_bytes)
 
-  loose_bytes : (image : List ℕ) (b : ℕ) → AreBytes image → AreBytes (hung_loose given w s image b)
+  loose_bytes : (image : List ℕ) (b : ℕ) → AreBytes image → AreBytes (hung_loose given w s d image b)
   unfolding hung_loose
   loose_bytes image b are = grind (arith, common_steps, cond_both, hung_in_bytes)
 
@@ -104,21 +104,21 @@ module _ (given : List ℕ) (w : Walk) (s : ℕ → Bool) where
       (written_bytes (block image b) (4 * FIRST_SLOT) (replicate (4 * SLOTS) 0) (block_bytes image b are)
       (All-replicate IsByte (4 * SLOTS) 0 (omega arith)))
 
-  ready_bytes : (image : List ℕ) (b : ℕ) → b < 2 ^ 32 → AreBytes image → AreBytes (ready_in given w s image b)
+  ready_bytes : (image : List ℕ) (b : ℕ) → b < 2 ^ 32 → AreBytes image → AreBytes (ready_in given w s d image b)
   unfolding ready_in
   ready_bytes image b small are = grind (arith, common_steps, cond_both, block_written_bytes, made_bytes, emptied_bytes)
 
-  readied_bytes : AreBytes given → (k : ℕ) → k ≤ 2 ^ 32 → AreBytes (readied given w s k)
+  readied_bytes : AreBytes given → (k : ℕ) → k ≤ 2 ^ 32 → AreBytes (readied given w s d k)
   unfolding readied
   readied_bytes are zero small = are
-  readied_bytes are (suc k) small = ready_bytes (readied given w s k) k (omega arith) (readied_bytes are k (omega arith))
+  readied_bytes are (suc k) small = ready_bytes (readied given w s d k) k (omega arith) (readied_bytes are k (omega arith))
 
-  first_bytes : AreBytes given → blocks given ≤ 2 ^ 32 → (k : ℕ) → AreBytes (hung_first given w s k)
+  first_bytes : AreBytes given → blocks given ≤ 2 ^ 32 → (k : ℕ) → AreBytes (hung_first given w s d k)
   unfolding hung_first
   first_bytes are small zero = readied_bytes are (blocks given) small
-  first_bytes are small (suc k) = loose_bytes (hung_first given w s k) k (first_bytes are small k)
+  first_bytes are small (suc k) = loose_bytes (hung_first given w s d k) k (first_bytes are small k)
 
-  pub hung_bytes : AreBytes given → blocks given ≤ 2 ^ 32 → AreBytes (hung given w s)
+  pub hung_bytes : AreBytes given → blocks given ≤ 2 ^ 32 → AreBytes (hung given w s d)
   hung_bytes are small = first_bytes are small (blocks given)
 
 -- an image that is pruned

@@ -1,6 +1,6 @@
--- The hung image: each lost header hangs in the directory that it names, if that is found, lost itself or made.
+-- The hung image: each lost header hangs in its directory, if that is found, lost itself or made.
 -- Letters: given the image of the survey, w its walk, fs its findings, made whether its root was made; s whether each of its directories is open;
--- b, p, e blocks; n a node; i a word; k a number of blocks or nodes.
+-- d the directory of each block; b, p, e blocks; n a node; i a word; k a number of blocks or nodes.
 use Rattle.std.specs.Prelude.{◌≡◌, ◌<◌, ◌≤◌, ℕ, ◌==◌, ◌&&◌, ◌||◌, ◌+◌, ◌*◌, ◌/◌, ◌%◌, Bool, false, cond, List, [], length, replicate, Option, Some, None}
 use Rattle.std.specs.Prelude.{is_some, option_map, slice_index, unwrap_or}
 use Rattle.std.proofs.Common.{zero, suc}
@@ -10,34 +10,33 @@ use Rattle.adf_blocks.specs.declared.layout.TheConstants.{CHECKSUM, FIRST_SLOT, 
 use Rattle.adf_blocks.specs.{HeadBlock.HeadFields, HeadBlock.head_block, HeadBlock.BodyFields.DirFields, Sizes.blocks, Sizes.in_range}
 use Rattle.adf_volume.specs.{Image.root_of, Image.word_in, Walk.heads, Walk.node_block, Walk.Walk}
 use Rattle.adf_findings.specs.{Members.owns, Members.parent_node, Members.has_mark, Survey.FindingValue}
-use Rattle.adf_rescue.specs.{Chains.leads_to, declared.hung.Loose.Loose, Rescue.lost_name}
+use Rattle.adf_rescue.specs.{Chains.leads_to, declared.hung.Loose.Loose, Directories.AreDirectories, Directories.directory_of, Rescue.lost_name}
 use Rattle.adf_rescue.specs.Lost.{AreLost, directory_at, has_lost, is_lost, is_open, is_vacant, says_directory}
 
 -- the directories that things are hung in
 
--- one of the first k blocks is a lost header that names block p as its directory
-unfoldable pub has_lost_child : List ℕ → Walk → (ℕ → Bool) → ℕ → ℕ → Bool
-has_lost_child given w s p zero = false
-has_lost_child given w s p (suc k) = has_lost_child given w s p k || is_lost given w s k && (word_in given k PARENT == p)
+-- one of the first k blocks is a lost header whose directory is block p
+unfoldable pub has_lost_child : List ℕ → Walk → (ℕ → Bool) → (ℕ → ℕ) → ℕ → ℕ → Bool
+has_lost_child given w s d p zero = false
+has_lost_child given w s d p (suc k) = has_lost_child given w s d p k || is_lost given w s k && (d k == p)
 
--- a directory is made in block p: a lost header names it
-abbrev pub is_made : List ℕ → Walk → (ℕ → Bool) → ℕ → Bool
-is_made given w s p = is_vacant given w s p && has_lost_child given w s p (blocks given)
+-- a directory is made in block p: that of a lost header
+abbrev pub is_made : List ℕ → Walk → (ℕ → Bool) → (ℕ → ℕ) → ℕ → Bool
+is_made given w s d p = is_vacant given w s p && has_lost_child given w s d p (blocks given)
 
 -- block p is a directory that things can be hung in: of the survey, lost, or made
-abbrev pub is_container : List ℕ → Walk → (ℕ → Bool) → ℕ → Bool
-is_container given w s p =
-    in_range given p && (is_some (directory_at given w p) || is_lost given w s p && says_directory given p || is_made given w s p)
+abbrev pub is_container : List ℕ → Walk → (ℕ → Bool) → (ℕ → ℕ) → ℕ → Bool
+is_container given w s d p =
+    in_range given p && (is_some (directory_at given w p) || is_lost given w s p && says_directory given p || is_made given w s d p)
 
 -- block b is loose: it is lost, or made
-abbrev pub is_loose : List ℕ → Walk → (ℕ → Bool) → ℕ → Bool
-is_loose given w s b = is_lost given w s b || is_made given w s b
+abbrev pub is_loose : List ℕ → Walk → (ℕ → Bool) → (ℕ → ℕ) → ℕ → Bool
+is_loose given w s d b = is_lost given w s b || is_made given w s d b
 
--- the home of block b, in which it is hung: of one that is made the root, of a lost header the directory that it names, if there is one
-unfoldable pub home : List ℕ → Walk → (ℕ → Bool) → ℕ → Option ℕ
-home given w s b =
-    let p = word_in given b PARENT in
-    cond (is_made given w s b) (Some (root_of given)) (cond (is_lost given w s b && is_container given w s p) (Some p) None)
+-- the home of block b, in which it is hung: of one that is made the root, of a lost header its directory, if that is one
+unfoldable pub home : List ℕ → Walk → (ℕ → Bool) → (ℕ → ℕ) → ℕ → Option ℕ
+home given w s d b =
+    cond (is_made given w s d b) (Some (root_of given)) (cond (is_lost given w s b && is_container given w s d (d b)) (Some (d b)) None)
 
 -- the changes of an image
 
@@ -94,45 +93,46 @@ abbrev pub emptied : List ℕ → ℕ → List ℕ
 emptied image b = with_block image b (with_bytes (block image b) (4 * FIRST_SLOT) (replicate (4 * SLOTS) 0))
 
 -- the image with block b made ready: a made directory has its header, and a lost one an empty table
-unfoldable pub ready_in : List ℕ → Walk → (ℕ → Bool) → List ℕ → ℕ → List ℕ
-ready_in given w s image b =
-    cond (is_made given w s b) (with_block image b (head_block (made_header (root_of given) b)))
+unfoldable pub ready_in : List ℕ → Walk → (ℕ → Bool) → (ℕ → ℕ) → List ℕ → ℕ → List ℕ
+ready_in given w s d image b =
+    cond (is_made given w s d b) (with_block image b (head_block (made_header (root_of given) b)))
     (cond (is_lost given w s b && says_directory given b) (emptied image b) image)
 
 -- the image with the first k blocks made ready
-unfoldable pub readied : List ℕ → Walk → (ℕ → Bool) → ℕ → List ℕ
-readied given w s zero = given
-readied given w s (suc k) = ready_in given w s (readied given w s k) k
+unfoldable pub readied : List ℕ → Walk → (ℕ → Bool) → (ℕ → ℕ) → ℕ → List ℕ
+readied given w s d zero = given
+readied given w s d (suc k) = ready_in given w s d (readied given w s d k) k
 
 -- the image with block b hung in its home, if it has one
-unfoldable pub hung_loose : List ℕ → Walk → (ℕ → Bool) → List ℕ → ℕ → List ℕ
-hung_loose given w s image b = unwrap_or (option_map (hung_in given w image b) (home given w s b)) image
+unfoldable pub hung_loose : List ℕ → Walk → (ℕ → Bool) → (ℕ → ℕ) → List ℕ → ℕ → List ℕ
+hung_loose given w s d image b = unwrap_or (option_map (hung_in given w image b) (home given w s d b)) image
 
 -- the image with all blocks made ready, and those of the first k blocks hung that are to be
-unfoldable pub hung_first : List ℕ → Walk → (ℕ → Bool) → ℕ → List ℕ
-hung_first given w s zero = readied given w s (blocks given)
-hung_first given w s (suc k) = hung_loose given w s (hung_first given w s k) k
+unfoldable pub hung_first : List ℕ → Walk → (ℕ → Bool) → (ℕ → ℕ) → ℕ → List ℕ
+hung_first given w s d zero = readied given w s d (blocks given)
+hung_first given w s d (suc k) = hung_loose given w s d (hung_first given w s d k) k
 
 -- the hung image
-abbrev pub hung : List ℕ → Walk → (ℕ → Bool) → List ℕ
-hung given w s = hung_first given w s (blocks given)
+abbrev pub hung : List ℕ → Walk → (ℕ → Bool) → (ℕ → ℕ) → List ℕ
+hung given w s d = hung_first given w s d (blocks given)
 
 -- the image of the second survey: the hung image, if something is lost
 abbrev pub second_image : Bool → List ℕ → Walk → List FindingValue → Option (List ℕ)
-second_image made given w fs = cond (has_lost made given w fs) (Some (hung given w (is_open made given w fs))) None
+second_image made given w fs = cond (has_lost made given w fs) (Some (hung given w (is_open made given w fs) (directory_of given w fs))) None
 
--- the marks of the blocks: whether a directory may be made in each, and one of the first k blocks is a lost header that names it
-pub record AreMade (given : List ℕ) (w : Walk) (s : ℕ → Bool) (k : ℕ) (marks : List Bool) : Type 0 where
+-- the marks of the blocks: whether a directory may be made in each, and it is that of a lost header of the first k blocks
+pub record AreMade (given : List ℕ) (w : Walk) (s : ℕ → Bool) (d : ℕ → ℕ) (k : ℕ) (marks : List Bool) : Type 0 where
   pub length : length marks ≡ blocks given
-  pub made : (p : ℕ) → p < blocks given → has_mark marks p ≡ (is_vacant given w s p && has_lost_child given w s p k)
+  pub made : (p : ℕ) → p < blocks given → has_mark marks p ≡ (is_vacant given w s p && has_lost_child given w s d p k)
 
 -- of each node the block behind which things are hung, by the first k entries
 pub record AreEnds (given : List ℕ) (w : Walk) (k : ℕ) (ends : List ℕ) : Type 0 where
   pub length : length ends ≡ suc (heads w)
   pub end : (n : ℕ) → n ≤ heads w → slice_index ends n ≡ last_open given w n k
 
--- the marks of the blocks that are loose, and the ends of all directories
-pub record AreLoose (given : List ℕ) (w : Walk) (s : ℕ → Bool) (x : Loose) : Type 0 where
+-- the marks of the blocks that are loose, the directories of all blocks, and the ends of all directories
+pub record AreLoose (given : List ℕ) (w : Walk) (s : ℕ → Bool) (d : ℕ → ℕ) (x : Loose) : Type 0 where
   pub lost : AreLost given w s x.lost.items
-  pub made : (b : ℕ) → has_mark x.made.items b ≡ is_made given w s b
+  pub directories : AreDirectories given d x.directories.items
+  pub made : (b : ℕ) → has_mark x.made.items b ≡ is_made given w s d b
   pub ends : AreEnds given w (heads w) x.ends.items

@@ -2,6 +2,7 @@
 pub mod Broken
 pub mod Chains
 pub mod Claims
+pub mod Directories
 pub mod Hung
 pub mod Lost
 pub mod MadeRoot

@@ -1,4 +1,4 @@
-// The hung image: each lost header hangs in the directory that it names, if that is found, lost itself or made.
+// The hung image: each lost header hangs in its directory, if that is found, lost itself or made.
 
 ghost use Rattle.std.specs.Prelude.{◌≡◌, ◌≢◌, ◌<◌, ◌≤◌, ◌||◌, ◌&&◌, ◌==◌, ℕ, Bool, List, Some, None, true, false, cond};
 ghost use Rattle.std.specs.Prelude.{length, is_some, option_map, slice_index, IfOk, IfSome, OnErr, OnOk};
@@ -8,11 +8,12 @@ ghost use Rattle.adf_blocks.specs.declared.layout.TheConstants.{CHECKSUM, PARENT
 ghost use Rattle.adf_volume.specs.{Image.kind_of, Image.word_in, Start.is_image_len, Walk.heads, Walk.node_block, Walk.Walk};
 ghost use Rattle.adf_findings.specs.{Members.owning_entry, Members.owns, Members.has_mark, Survey.OnSurvey};
 ghost use Rattle.adf_rescue.specs.Lost.{AreLost, IsEvidence, directory_at, has_findings, is_vacant, lost_among};
-ghost use Rattle.adf_rescue.specs.{Rescue.lost_name, Hung.second_image, Hung.slot_word};
+ghost use Rattle.adf_rescue.specs.{Directories.AreDirectories, Hung.second_image, Hung.slot_word, Rescue.lost_name};
 ghost use Rattle.adf_rescue.specs.Hung.{AreEnds, AreLoose, directory_end, emptied, home, hung, hung_at, hung_in, hung_loose};
 ghost use Rattle.adf_rescue.specs.Hung.{is_container, is_loose, is_made, made_header, open_end, ready_in, readied};
 
 use crate::chains::leads_to;
+use crate::directories::{directories, directory_of, put};
 use crate::image::{block_count, root_of};
 use crate::lost::{
     Evidence, directory_at, gather, in_range, is_vacant, lost, mark, says_directory, word_in,
@@ -99,11 +100,12 @@ fn make(alloc: Global, image: &mut [u8], root: u32, p: u32) -> Result<(), NoMemo
     Ok(())
 }
 
-// The loose blocks: whether each is a lost header, and whether a directory is made in it. And of each node of the survey the
-// block behind which things are hung.
+// The loose blocks: whether each is a lost header, the directory of each, and whether a directory is made in it. And of each
+// node of the survey the block behind which things are hung.
 #[derive(Drop)]
 struct Loose {
     lost: Vec<bool>,
+    directories: Vec<u32>,
     made: Vec<bool>,
     ends: Vec<u32>,
 }
@@ -130,16 +132,14 @@ fn has_findings(survey: &Survey<'_>) -> bool
     !survey.findings().is_empty()
 }
 
-// Marks the block that header `b` names as its directory, if a directory may be made there.
-fn mark_parent(survey: &Survey<'_>, evidence: &Evidence, made: &mut Vec<bool>, b: u32)
+// Marks block `p`, if a directory may be made there.
+fn mark_vacant(survey: &Survey<'_>, evidence: &Evidence, made: &mut Vec<bool>, p: u32)
     requires sized { is_image_len (length survey.now.image) ≡ true }
-    requires inside { b < blocks survey.now.image }
     ensures marks { OnSurvey survey.now.image (λ w _. (s : ℕ → Bool) → IsEvidence survey.now.image w s evidence.now
-        → (p : ℕ) → p < length made.old.items → has_mark made.new.items p
-        ≡ (has_mark made.old.items p || is_vacant survey.now.image w s p && (word_in survey.now.image b PARENT == p))) }
+        → (q : ℕ) → q < length made.old.items → has_mark made.new.items q
+        ≡ (has_mark made.old.items q || is_vacant survey.now.image w s q && (p == q))) }
     ensures length { length made.new.items ≡ length made.old.items }
 {
-    let p = word_in(survey.image(), b, PARENT);
     if is_vacant(survey, evidence, p) {
         mark(made, p as usize, true);
     }
@@ -151,17 +151,18 @@ fn made_marks(
     survey: &Survey<'_>,
     evidence: &Evidence,
     lost: &Vec<bool>,
+    directories: &Vec<u32>,
 ) -> Result<Vec<bool>, NoMemory>
     requires { is_image_len (length survey.now.image) ≡ true }
-    ensures { OnSurvey survey.now.image (λ w _. (s : ℕ → Bool) → IsEvidence survey.now.image w s evidence.now
-        → AreLost survey.now.image w s lost.now.items
-        → IfOk result (λ v. (p : ℕ) → has_mark v.items p ≡ is_made survey.now.image w s p)) }
+    ensures { OnSurvey survey.now.image (λ w _. (s : ℕ → Bool) (d : ℕ → ℕ) → IsEvidence survey.now.image w s evidence.now
+        → AreLost survey.now.image w s lost.now.items → AreDirectories survey.now.image d directories.now.items
+        → IfOk result (λ v. (p : ℕ) → has_mark v.items p ≡ is_made survey.now.image w s d p)) }
 {
     let blocks = block_count(survey.image());
     let mut marks = vec![in alloc; false; blocks as usize]?;
     for b in 0..blocks {
         if has_mark(lost, b as usize) {
-            mark_parent(survey, evidence, &mut marks, b);
+            mark_vacant(survey, evidence, &mut marks, directory_of(directories, b));
         }
     }
     Ok(marks)
@@ -178,17 +179,6 @@ fn open_end(survey: &Survey<'_>, n: Node) -> Option<u32>
         None
     } else {
         Some(block)
-    }
-}
-
-// Puts a number at an index; nothing past the last.
-fn put(numbers: &mut Vec<u32>, n: usize, number: u32)
-    ensures numbers { (m : ℕ) → m < length numbers.old.items
-        → slice_index numbers.new.items m ≡ cond (n == m) number (slice_index numbers.old.items m) }
-    ensures length { length numbers.new.items ≡ length numbers.old.items }
-{
-    if n < numbers.len() {
-        numbers[n] = number;
     }
 }
 
@@ -212,8 +202,8 @@ fn ends(alloc: Global, survey: &Survey<'_>) -> Result<Vec<u32>, NoMemory>
 // Whether block `p` is a directory that things can be hung in: of the survey, lost, or made.
 fn is_container(survey: &Survey<'_>, loose: &Loose, p: u32) -> bool
     requires { is_image_len (length survey.now.image) ≡ true }
-    ensures is { OnSurvey survey.now.image (λ w _. (s : ℕ → Bool) → AreLoose survey.now.image w s loose.now
-        → result ≡ is_container survey.now.image w s p) }
+    ensures is { OnSurvey survey.now.image (λ w _. (s : ℕ → Bool) (d : ℕ → ℕ) → AreLoose survey.now.image w s d loose.now
+        → result ≡ is_container survey.now.image w s d p) }
     ensures inside { result ≡ true → p < blocks survey.now.image }
 {
     in_range(survey.image(), p)
@@ -227,15 +217,15 @@ fn is_container(survey: &Survey<'_>, loose: &Loose, p: u32) -> bool
 fn home(survey: &Survey<'_>, loose: &Loose, b: u32) -> Option<u32>
     requires sized { is_image_len (length survey.now.image) ≡ true }
     requires inside { b < blocks survey.now.image }
-    ensures home { OnSurvey survey.now.image (λ w _. (s : ℕ → Bool) → AreLoose survey.now.image w s loose.now
-        → result ≡ home survey.now.image w s b) }
+    ensures home { OnSurvey survey.now.image (λ w _. (s : ℕ → Bool) (d : ℕ → ℕ) → AreLoose survey.now.image w s d loose.now
+        → result ≡ home survey.now.image w s d b) }
     ensures inside { IfSome result (λ p. p < blocks survey.now.image) }
 {
     let image = survey.image();
     if has_mark(&loose.made, b as usize) {
         return Some(root_of(image));
     }
-    let p = word_in(image, b, PARENT);
+    let p = directory_of(&loose.directories, b);
     if has_mark(&loose.lost, b as usize) && is_container(survey, loose, p) {
         Some(p)
     } else {
@@ -255,8 +245,8 @@ fn ready(
     requires sized { is_image_len (length survey.now.image) ≡ true }
     requires same { length image.old ≡ length survey.now.image }
     requires inside { b < blocks survey.now.image }
-    ensures { OnSurvey survey.now.image (λ w _. (s : ℕ → Bool) → AreLoose survey.now.image w s loose.now
-        → OnOk result (image.new ≡ ready_in survey.now.image w s image.old b)) }
+    ensures { OnSurvey survey.now.image (λ w _. (s : ℕ → Bool) (d : ℕ → ℕ) → AreLoose survey.now.image w s d loose.now
+        → OnOk result (image.new ≡ ready_in survey.now.image w s d image.old b)) }
 {
     let given = survey.image();
     if has_mark(&loose.made, b as usize) {
@@ -278,8 +268,8 @@ fn ready_all(
 ) -> Result<(), NoMemory>
     requires sized { is_image_len (length survey.now.image) ≡ true }
     requires same { image.old ≡ survey.now.image }
-    ensures { OnSurvey survey.now.image (λ w _. (s : ℕ → Bool) → AreLoose survey.now.image w s loose.now
-        → OnOk result (image.new ≡ readied survey.now.image w s (blocks survey.now.image))) }
+    ensures { OnSurvey survey.now.image (λ w _. (s : ℕ → Bool) (d : ℕ → ℕ) → AreLoose survey.now.image w s d loose.now
+        → OnOk result (image.new ≡ readied survey.now.image w s d (blocks survey.now.image))) }
 {
     for b in 0..block_count(survey.image()) {
         ready(alloc, survey, loose, image, b)?;
@@ -291,7 +281,7 @@ fn ready_all(
 #[tactic(auto, using(crate::proofs::HungImages::end_found))]
 fn directory_end(survey: &Survey<'_>, loose: &Loose, p: u32) -> u32
     requires { is_image_len (length survey.now.image) ≡ true }
-    ensures { OnSurvey survey.now.image (λ w _. (s : ℕ → Bool) → AreLoose survey.now.image w s loose.now
+    ensures { OnSurvey survey.now.image (λ w _. (s : ℕ → Bool) (d : ℕ → ℕ) → AreLoose survey.now.image w s d loose.now
         → result ≡ directory_end survey.now.image w p) }
 {
     let n = directory_at(survey, p).unwrap_or(Node(0));
@@ -305,7 +295,7 @@ fn hang_in(survey: &Survey<'_>, loose: &Loose, image: &mut [u8], b: u32, p: u32)
     requires same { length image.old ≡ length survey.now.image }
     requires inside { b < blocks survey.now.image }
     requires home { p < blocks survey.now.image }
-    ensures { OnSurvey survey.now.image (λ w _. (s : ℕ → Bool) → AreLoose survey.now.image w s loose.now
+    ensures { OnSurvey survey.now.image (λ w _. (s : ℕ → Bool) (d : ℕ → ℕ) → AreLoose survey.now.image w s d loose.now
         → image.new ≡ hung_in survey.now.image w image.old b p) }
 {
     let slot = slot_word(survey, p, b);
@@ -325,8 +315,8 @@ fn hang_loose(survey: &Survey<'_>, loose: &Loose, image: &mut [u8], b: u32)
     requires sized { is_image_len (length survey.now.image) ≡ true }
     requires same { length image.old ≡ length survey.now.image }
     requires inside { b < blocks survey.now.image }
-    ensures { OnSurvey survey.now.image (λ w _. (s : ℕ → Bool) → AreLoose survey.now.image w s loose.now
-        → image.new ≡ hung_loose survey.now.image w s image.old b) }
+    ensures { OnSurvey survey.now.image (λ w _. (s : ℕ → Bool) (d : ℕ → ℕ) → AreLoose survey.now.image w s d loose.now
+        → image.new ≡ hung_loose survey.now.image w s d image.old b) }
 {
     if let Some(p) = home(survey, loose, b) {
         hang_in(survey, loose, image, b, p);
@@ -338,9 +328,9 @@ fn hang_loose(survey: &Survey<'_>, loose: &Loose, image: &mut [u8], b: u32)
 fn hang_all(survey: &Survey<'_>, loose: &Loose, image: &mut [u8])
     requires sized { is_image_len (length survey.now.image) ≡ true }
     requires same { length image.old ≡ length survey.now.image }
-    ensures { OnSurvey survey.now.image (λ w _. (s : ℕ → Bool) → AreLoose survey.now.image w s loose.now
-        → image.old ≡ readied survey.now.image w s (blocks survey.now.image)
-        → image.new ≡ hung survey.now.image w s) }
+    ensures { OnSurvey survey.now.image (λ w _. (s : ℕ → Bool) (d : ℕ → ℕ) → AreLoose survey.now.image w s d loose.now
+        → image.old ≡ readied survey.now.image w s d (blocks survey.now.image)
+        → image.new ≡ hung survey.now.image w s d) }
 {
     for b in 0..block_count(survey.image()) {
         hang_loose(survey, loose, image, b);
@@ -356,8 +346,8 @@ fn change(
 ) -> Result<(), NoMemory>
     requires sized { is_image_len (length survey.now.image) ≡ true }
     requires same { image.old ≡ survey.now.image }
-    ensures { OnSurvey survey.now.image (λ w _. (s : ℕ → Bool) → AreLoose survey.now.image w s loose.now
-        → OnOk result (image.new ≡ hung survey.now.image w s)) }
+    ensures { OnSurvey survey.now.image (λ w _. (s : ℕ → Bool) (d : ℕ → ℕ) → AreLoose survey.now.image w s d loose.now
+        → OnOk result (image.new ≡ hung survey.now.image w s d)) }
 {
     ready_all(alloc, survey, loose, image)?;
     hang_all(survey, loose, image);
@@ -367,16 +357,15 @@ fn change(
 // The hung image.
 fn changed(alloc: Global, survey: &Survey<'_>, loose: &Loose) -> Result<Vec<u8>, NoMemory>
     requires { is_image_len (length survey.now.image) ≡ true }
-    ensures { OnSurvey survey.now.image (λ w _. (s : ℕ → Bool) → AreLoose survey.now.image w s loose.now
-        → IfOk result (λ v. v.items ≡ hung survey.now.image w s)) }
+    ensures { OnSurvey survey.now.image (λ w _. (s : ℕ → Bool) (d : ℕ → ℕ) → AreLoose survey.now.image w s d loose.now
+        → IfOk result (λ v. v.items ≡ hung survey.now.image w s d)) }
 {
     let mut image = copied(alloc, survey.image())?;
     change(alloc, survey, loose, &mut image)?;
     Ok(image)
 }
 
-/// The hung image of a survey: each lost header hangs in the directory that it names; `None` if nothing is lost, or there is
-/// no finding. A block says that it is a header, of a directory, a file or a link, by its types, its own key and its sum. Such a
+/// The hung image of a survey: each lost header hangs in its directory; `None` if nothing is lost, or there is no finding. A block says that it is a header, of a directory, a file or a link, by its types, its own key and its sum. Such a
 /// header is lost if it is not gone, and the directory that it names misses it.
 ///
 /// It is gone if it, or a data block that its table names, is a part of the survey; or if a bitmap that is trusted tells that it,
@@ -389,8 +378,11 @@ fn changed(alloc: Global, survey: &Survey<'_>, loose: &Loose) -> Result<Vec<u8>,
 /// no part of the survey. A block that is neither misses it if a trusted bitmap tells that it is in use, or, where none tells
 /// anything of it, if some directory is open: there a directory `lost-` and its number is made, in the root.
 ///
-/// A lost header whose directory is neither found, nor lost, nor made is not hung. Those that their directory leads to come before
-/// the others. No word that leads to a part of the survey is changed. `NoMemory` if an allocation fails, which can happen only if there is a finding.
+/// The directory of a lost header is the one of the survey that leads to it, if it was skipped there and hangs in the slot of
+/// its name; or else the one that it names. Of several that lead to it, it is that of the last finding. A lost header whose
+/// directory is neither found, nor lost, nor made is not hung. Those that their directory leads to come before the others. No
+/// word that leads to a part of the survey is changed. `NoMemory` if an allocation fails, which can happen only if there is a
+/// finding.
 pub fn hung(alloc: Global, survey: &Survey<'_>, made: bool) -> Result<Option<Vec<u8>>, NoMemory>
     ensures image { OnSurvey survey.now.image (λ w fs.
         IfOk result (λ r. option_map (λ v. v.items) r ≡ second_image made survey.now.image w fs)) }
@@ -409,31 +401,38 @@ pub fn hung(alloc: Global, survey: &Survey<'_>, made: bool) -> Result<Option<Vec
     if !has_lost(survey, &lost) {
         return Ok(None);
     }
-    let made = made_marks(alloc, survey, &evidence, &lost)?;
+    let directories = directories(alloc, survey)?;
+    let made = made_marks(alloc, survey, &evidence, &lost, &directories)?;
     let ends = ends(alloc, survey)?;
-    Ok(Some(changed(alloc, survey, &Loose { lost, made, ends })?))
+    let loose = Loose {
+        lost,
+        directories,
+        made,
+        ends,
+    };
+    Ok(Some(changed(alloc, survey, &loose)?))
 }
 
 /// What stays of the image of a survey in its hung image, if it has the length of a volume: the length; each block that
 /// is not loose, nor a home of what is hung, nor the end there; each block of an entry that is no header; the boot block, with
 /// the kind; and of each block that is not loose, the words but the sum that lead to a part of the survey.
 pub fn hung_keeps()
-    ensures length { (given : List ℕ) (w : Walk) (s : ℕ → Bool)
-        → is_image_len (length given) ≡ true → length (hung given w s) ≡ length given }
-    ensures blocks { (given : List ℕ) (w : Walk) (s : ℕ → Bool)
-        → is_image_len (length given) ≡ true → (b : ℕ) → is_loose given w s b ≡ false
-        → ((d : ℕ) → home given w s d ≢ Some b)
-        → ((d p : ℕ) → home given w s d ≡ Some p → directory_end given w p ≢ b)
-        → block (hung given w s) b ≡ block given b }
-    ensures entries { (given : List ℕ) (w : Walk) (s : ℕ → Bool)
+    ensures length { (given : List ℕ) (w : Walk) (s : ℕ → Bool) (d : ℕ → ℕ)
+        → is_image_len (length given) ≡ true → length (hung given w s d) ≡ length given }
+    ensures blocks { (given : List ℕ) (w : Walk) (s : ℕ → Bool) (d : ℕ → ℕ)
+        → is_image_len (length given) ≡ true → (b : ℕ) → is_loose given w s d b ≡ false
+        → ((c : ℕ) → home given w s d c ≢ Some b)
+        → ((c p : ℕ) → home given w s d c ≡ Some p → directory_end given w p ≢ b)
+        → block (hung given w s d) b ≡ block given b }
+    ensures entries { (given : List ℕ) (w : Walk) (s : ℕ → Bool) (d : ℕ → ℕ)
         → is_image_len (length given) ≡ true → (b : ℕ) → is_some (owning_entry w b) ≡ true
         → directory_at given w b ≡ None → ((n : ℕ) → node_block w n ≢ b)
-        → block (hung given w s) b ≡ block given b }
-    ensures words { (given : List ℕ) (w : Walk) (s : ℕ → Bool)
-        → is_image_len (length given) ≡ true → (b i : ℕ) → is_loose given w s b ≡ false → i < 128 → i ≢ CHECKSUM
-        → owns w (word_in given b i) ≡ true → word_in (hung given w s) b i ≡ word_in given b i }
-    ensures boot { (given : List ℕ) (w : Walk) (s : ℕ → Bool)
-        → is_image_len (length given) ≡ true → block (hung given w s) 0 ≡ block given 0 }
-    ensures kind { (given : List ℕ) (w : Walk) (s : ℕ → Bool)
-        → is_image_len (length given) ≡ true → kind_of (hung given w s) ≡ kind_of given }
+        → block (hung given w s d) b ≡ block given b }
+    ensures words { (given : List ℕ) (w : Walk) (s : ℕ → Bool) (d : ℕ → ℕ)
+        → is_image_len (length given) ≡ true → (b i : ℕ) → is_loose given w s d b ≡ false → i < 128 → i ≢ CHECKSUM
+        → owns w (word_in given b i) ≡ true → word_in (hung given w s d) b i ≡ word_in given b i }
+    ensures boot { (given : List ℕ) (w : Walk) (s : ℕ → Bool) (d : ℕ → ℕ)
+        → is_image_len (length given) ≡ true → block (hung given w s d) 0 ≡ block given 0 }
+    ensures kind { (given : List ℕ) (w : Walk) (s : ℕ → Bool) (d : ℕ → ℕ)
+        → is_image_len (length given) ≡ true → kind_of (hung given w s d) ≡ kind_of given }
 {}

@@ -4,6 +4,7 @@
 mod broken;
 mod chains;
 mod claims;
+mod directories;
 mod doubts;
 mod hung;
 mod image;

@@ -14,7 +14,7 @@ use Rattle.adf_findings.proofs.{FitsOrFault.fits_or_fault_by, SomeMarks.some_mar
 use Rattle.adf_findings.specs.{Files.grave, Survey.FindingValue, Survey.IsSurvey, Survey.IsSurvey.read, Survey.IsSurvey.unread, Verdict.FitsOrHasFaultBy}
 use Rattle.adf_rescue.proofs.{MadeRoots.sized, PassedFindings.unread_fault, RescuedBytes.hung_bytes, RescuedBytes.read_bytes}
 use Rattle.adf_rescue.proofs.RescuedVolumes.{AreSecondBytes, rescue_laid}
-use Rattle.adf_rescue.specs.{Hung.hung, Hung.second_image, Lost.has_lost, Lost.is_open, Opened.lacks_root, Pruned.image_read, declared.standing.Input.Input}
+use Rattle.adf_rescue.specs.{Directories.directory_of, Hung.hung, Hung.second_image, Lost.has_lost, Lost.is_open, Opened.lacks_root, Pruned.image_read, declared.standing.Input.Input}
 use Rattle.adf_rescue.specs.Rescue.{Basis, IsSecond, rescued_additions_by}
 use Rattle.adf_subjects.proofs.RescueAnswers.{none_fits_it}
 use Rattle.adf_subjects.specs.{Losses.LossValue, Losses.rescue_losses, Rescues.is_type_alone}
@@ -39,8 +39,8 @@ lost_len made image w fs some =
 second_bytes : (made : Bool) (image : List ℕ) (w : Walk) (fs : List FindingValue) → AreBytes image
     → IfSome (second_image made image w fs) AreBytes
 second_bytes made image w fs are =
-    cond_both (has_lost made image w fs) (Some (hung image w (is_open made image w fs))) None (λ o. IfSome o AreBytes)
-    (λ some. hung_bytes image w (is_open made image w fs) are (lost_len made image w fs some)) (λ none. tt)
+    cond_both (has_lost made image w fs) (Some (hung image w (is_open made image w fs) (directory_of image w fs))) None (λ o. IfSome o AreBytes)
+    (λ some. hung_bytes image w (is_open made image w fs) (directory_of image w fs) are (lost_len made image w fs some)) (λ none. tt)
 
 -- the first fault
 

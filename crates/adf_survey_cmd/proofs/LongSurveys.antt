@@ -14,7 +14,7 @@ use Rattle.adf_findings.specs.{Files.grave, Lookup.LeadsTo, SoundMarks.AreMarks,
 use Rattle.adf_findings.specs.Survey.{FindingValue, IsSurvey, finding, IsSurvey.unread, UnreadTells.bad_boot}
 use Rattle.adf_findings.proofs.{OneSurvey.one_survey, OwnKinds.none_mistyped}
 use Rattle.adf_runs.specs.Commands.{Reply, on_output}
-use Rattle.adf_rescue.specs.{Hung.hung, Hung.second_image, Lost.has_lost, Lost.is_open, Pruned.image_read, Rescue.Basis, declared.standing.Input.Input}
+use Rattle.adf_rescue.specs.{Directories.directory_of, Hung.hung, Hung.second_image, Lost.has_lost, Lost.is_open, Pruned.image_read, Rescue.Basis, declared.standing.Input.Input}
 use Rattle.adf_rescue.specs.Opened.{lacks_boot, lacks_root, opened}
 use Rattle.adf_rescue.proofs.{OpenedImages.length_opened, PassedFindings.unread_fault, PrunedKeeps.length_read}
 use Rattle.adf_rescue.proofs.MadeRoots.{sized as sized_len}
@@ -86,7 +86,7 @@ none_second : (made : Bool) (image : List ℕ) (w : Walk) (fs : List FindingValu
     → second_image made image w fs ≡ None
 none_second made image w fs long =
     let none : has_lost made image w fs ≡ false = and_left (is_image_len (length image)) _ (no_volume image long) in
-    cond-false (has_lost made image w fs) (Some (hung image w (is_open made image w fs))) None none
+    cond-false (has_lost made image w fs) (Some (hung image w (is_open made image w fs) (directory_of image w fs))) None none
 
 -- nothing stands, and the first fault is told
 same_rescue : (types : Types) (known other : Input) (lost ls : List LossValue) (image bytes read_image read_bytes boot more : List ℕ) (r : RescueValue)

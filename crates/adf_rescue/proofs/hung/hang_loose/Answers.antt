@@ -4,8 +4,8 @@ use Rattle.adf_rescue.proofs.hung.hang_loose.Goals as goal
 
 pub returns-in-Some : goal.returns-in-Some
 unfolding hung_loose
-returns-in-Some c = λ w fs survey s are.
+returns-in-Some c = λ w fs survey s d are.
     let given = c.args.survey.now.image in
     let image = c.args.image.now in
-    c.hang_in.ensures w fs survey s are
-    ∙ ap (λ o. unwrap_or (option_map (hung_in given w image c.args.b) o) image) (sym c.in-Some.is ∙ c.home.ensures.home w fs survey s are)
+    c.hang_in.ensures w fs survey s d are
+    ∙ ap (λ o. unwrap_or (option_map (hung_in given w image c.args.b) o) image) (sym c.in-Some.is ∙ c.home.ensures.home w fs survey s d are)
