@@ -12,3 +12,9 @@ pub mod PathSteps
 pub mod WholeFiles
 -- what is left of files
 pub mod LeftBytes
+-- where deleted files go
+pub mod RoomSteps
+-- what is kept of them
+pub mod KeptSteps
+pub mod KeptTrees
+pub mod KeptBounds

@@ -7,12 +7,12 @@ ghost use Rattle.adf_deleted.specs.{Deletions.rival_by, Deletions.state_of, Dele
 ghost use Rattle.adf_deleted.specs.{Known.is_deleted, Paths.former_path};
 ghost use Rattle.adf_deleted.specs.Left.{deleted_bytes, deleted_gaps, is_deleted_file};
 ghost use Rattle.adf_deleted.specs.Pointers.{pointers};
-ghost use Rattle.adf_volume.specs.Image.{kind_of};
+ghost use Rattle.adf_volume.specs.Image.{kind_of, name_of};
 
 use crate::claims::Claim;
 use crate::extensions::extensions;
 use crate::known::Known;
-use crate::paths::former_path;
+use crate::paths::{former_path, name_of};
 use crate::pointers::{blocks_asked, pointers};
 use adf_base::{Block, NoMemory};
 use adf_findings::Remains;
@@ -107,6 +107,13 @@ impl Deletions<'_> {
         ensures { IfOk result (λ v. map (λ x. x.now) v.items ≡ former_path self.now.image h) }
     {
         former_path(alloc, self.known.image, h)
+    }
+
+    /// The name in the header at block `h`, at most 79 bytes.
+    pub fn name(&self, h: u32) -> &[u8]
+        ensures { result.now ≡ name_of self.now.image h }
+    {
+        name_of(self.known.image, h)
     }
 
     /// Whether block `h` is the header of a deleted file.

@@ -18,9 +18,9 @@ const MOST_STEPS: usize = 256;
 // What stands in a path for what is above a directory that is not known.
 const UNKNOWN: &[u8] = b"?";
 
-// The name in the header at block `b`, at most 79 bytes; empty if the image has no such block.
+/// The name in the header at block `b`, at most 79 bytes; empty if the image has no such block.
 #[tactic(auto, using(crate::proofs::States::name_cut, crate::proofs::States::name_past))]
-fn name_of(image: &[u8], b: u32) -> &[u8]
+pub fn name_of(image: &[u8], b: u32) -> &[u8]
     requires { is_image_len (length image.now) ≡ true }
     ensures { result.now ≡ name_of image.now b }
 {

@@ -269,6 +269,10 @@ pub with_terms : (own letters : Letters) (mine input : Input) (a : Basis) (b : O
     → IsSalvage (before_second_by letters input a) (second_verdicts_by letters input a b) r
 with_terms own letters mine input a b r same all is = grind (arith, common_steps)
 
+-- the state has the kind of its tree
+pub own_kind : (g : Ground) (vs : List Verdict) (r : Salvage) → IsSalvage g vs r → r.kind ≡ r.draft.tree.kind
+own_kind g vs r is = is.kind ∙ sym (ap (λ (t : Tree). t.kind) is.tree)
+
 -- the tree of the additions fits
 pub buildable : (t : Tree) (left n m : ℕ) → m ≡ n → is_allowed m ≡ true → 1 + reserved m ≤ m - 2
     → left + entries_blocks t.kind t.entries ≡ free_blocks n → IsBuildable t m

@@ -22,12 +22,12 @@ use adf_base::NoMemory;
 use adf_build::{build_types, free_blocks};
 use adf_drafts::Draft;
 use adf_findings::{Survey, some_survey};
-use adf_tree::Node;
+use adf_tree::{Kind, Node};
 use adf_volume::Types;
 use std::alloc::Global;
 
-/// A rescue: whether nothing stands; the draft of the new volume's tree, and the number of its blocks; the entries that are left
-/// out, in the order of the walk: those of the survey of the image, and those of the second survey that are not known from the
+/// A rescue: whether nothing stands; the draft of the new volume's tree, its kind, the number of its blocks, and how many of
+/// these are left for further entries; the entries that are left out, in the order of the walk: those of the survey of the image, and those of the second survey that are not known from the
 /// first; the entries that are kept in doubt, in the same way; and what is lost by the survey of the image: the directories in
 /// which headers are lost, of which the root is the first if it was made, and then for each header that was skipped, or hangs in
 /// another slot than that of its name, the one in which it is; and the blocks in use that no entry has.
@@ -35,7 +35,9 @@ use std::alloc::Global;
 pub struct Rescued {
     pub stands_nothing: bool,
     pub draft: Draft,
+    pub kind: Kind,
     pub blocks: u32,
+    pub left: u32,
     pub left_out: Vec<LeftOut>,
     pub second_left_out: Vec<LeftOut>,
     pub doubts: Vec<Doubtful>,
@@ -106,6 +108,7 @@ fn salvaged_both(
         (λ b. IfOk result (IsSalvage (before_second_by letters input a) (second_verdicts_by letters input a b)))) }
     ensures blocks { IfOk result (λ r. r.left + entries_blocks r.draft.tree.kind r.draft.tree.entries
         ≡ blocks_free (blocks_in survey.now.image)) }
+    ensures kind { IfOk result (λ r. r.kind ≡ r.draft.tree.kind) }
 {
     survey.whole_marks();
     some_survey();
@@ -152,6 +155,9 @@ pub fn rescue(
         (λ b. IfOk result (λ r. IfSome r (IsRescued terms a b fs)))) }
     ensures size { IfOk result (λ r. IfSome r (λ v. v.blocks ≡ blocks_in survey.now.image)) }
     ensures fits { IfOk result (λ r. IfSome r (λ v. IsBuildable v.draft.tree v.blocks)) }
+    ensures kind { IfOk result (λ r. IfSome r (λ v. v.kind ≡ v.draft.tree.kind)) }
+    ensures left { IfOk result (λ r. IfSome r (λ v. v.left + entries_blocks v.draft.tree.kind v.draft.tree.entries
+        ≡ blocks_free v.blocks)) }
 
     // Memory is wanted only if something of the image is surveyed.
     ensures begun { OnSurvey survey.now.image (λ w _. OnErr result (w ≢ [])) }
@@ -173,7 +179,9 @@ pub fn rescue(
     Ok(Some(Rescued {
         stands_nothing: stands_nothing(&salvage, terms),
         draft: salvage.draft,
+        kind: salvage.kind,
         blocks,
+        left: salvage.left,
         left_out: salvage.left_before,
         second_left_out: salvage.left_out,
         doubts,
