@@ -39,7 +39,9 @@ _adf_disk() {
         compopt -o default
     elif ((COMP_CWORD == 1)); then
         COMPREPLY=($(compgen -W "list check survey volume build --help --version" -- "$2"))
-    elif [[ $2 == -* && ${COMP_WORDS[1]} == @(list|check|survey) ]]; then
+    elif [[ $2 == -* && ${COMP_WORDS[1]} == survey ]]; then
+        COMPREPLY=($(compgen -W "--search --json" -- "$2"))
+    elif [[ $2 == -* && ${COMP_WORDS[1]} == @(list|check) ]]; then
         COMPREPLY=($(compgen -W "--json" -- "$2"))
     elif [[ ${COMP_WORDS[1]} != volume ]] || ((COMP_CWORD > 2)); then
         compopt -o default

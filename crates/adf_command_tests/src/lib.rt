@@ -18,6 +18,8 @@ mod disk_checks;
 #[cfg(test)]
 mod disk_runs;
 #[cfg(test)]
+mod disk_searches;
+#[cfg(test)]
 mod disks;
 #[cfg(test)]
 mod edited_letters;

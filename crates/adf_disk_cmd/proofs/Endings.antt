@@ -2,7 +2,7 @@
 use Rattle.std.proofs.Common.{◌≡◌, ◌+◌, ◌*◌, ◌-◌, ◌/◌, ◌∙◌, inl, inr, ℕ, Bool, List, Option, None, Some, IfSome, ap, arith, drop, length, min, subst, take}
 use Rattle.std.proofs.lemmas.List.{drop_min, length-drop, take-take, take_all, take_min}
 use Rattle.adf_disk_cmd.specs.Answers.{DiskAnswer, OfBytes, OfDisk, OfFault, OfPartitions}
-use Rattle.adf_disk_cmd.specs.{Builds.BuildsDisk, Lines.volume_at, Work.IsWorkOf, declared.work.TheConstants.MOST_DISK_BYTES}
+use Rattle.adf_disk_cmd.specs.{Builds.BuildsDisk, Searches.search_reply, Lines.volume_at, Work.IsWorkOf, declared.work.TheConstants.MOST_DISK_BYTES}
 use Rattle.adf_disk_cmd.specs.declared.work.Work.{Work, TheVariants.Check, TheVariants.Survey}
 use Rattle.adf_partitions.specs.{Disks.FirstDiskFault, Disks.IsDisk, declared.fault.DiskFault.DiskFault, declared.partition.Partition.Partition}
 use Rattle.adf_partitions.specs.{declared.place.Place.Place, declared.tables.Tables.Tables}
@@ -10,7 +10,7 @@ use Rattle.std.proofs.lemmas.Grind.{common_steps}
 use Rattle.adf_runs.proofs.{Endings.ends_weaker, PendingText.appends_nil}
 use Rattle.adf_runs.specs.{Commands.Reply, Outcomes.EndsBy, Outcomes.after_reading, declared.outcome.Outcome.Outcome}
 use Rattle.adf_runs.specs.declared.streams.StreamFault.{StreamFault, TheVariants.Device, TheVariants.NoMemory}
-use Rattle.adf_disk_cmd.specs.CommandLine.{DiskRequestValue, build, check, list, survey, volume}
+use Rattle.adf_disk_cmd.specs.CommandLine.{DiskRequestValue, build, check, list, search, survey, volume}
 
 -- what is answered to the front of an input that is longer than the largest disk is answered to the whole of it
 pub long_answers : (r : DiskRequestValue) (front bytes : List ℕ) → front ≡ take (MOST_DISK_BYTES + 1) bytes → (reply : Reply)
@@ -43,6 +43,8 @@ of_bytes (list json) bytes reply h = h
 of_bytes (check json) bytes reply h = h
 of_bytes (survey json) bytes reply h = h
 of_bytes (volume w) bytes reply h = h
+of_bytes (search json) bytes reply (inl (t, ps, disk, never)) = absurd never
+of_bytes (search json) bytes reply (inr (f, first, never)) = absurd never
 of_bytes build bytes reply (inl (t, ps, disk, never)) = absurd never
 of_bytes build bytes reply (inr (f, first, never)) = absurd never
 
@@ -56,6 +58,11 @@ pub plan_ends : (bytes part : List ℕ) (w : Outcome) (o o' : Option (List ℕ))
     → EndsBy (DiskAnswer build bytes) w o o'
 plan_ends bytes part w o o' e h = ends_weaker (BuildsDisk part) (DiskAnswer build bytes) w o o'
     (λ reply tells. subst (λ (l : List ℕ). BuildsDisk l reply) e tells) h
+
+pub search_ends : (json : Bool) (bytes part : List ℕ) (w : Outcome) (o o' : Option (List ℕ)) → part ≡ take MOST_DISK_BYTES bytes
+    → EndsBy (λ reply. reply ≡ search_reply json part) w o o' → EndsBy (DiskAnswer (search json) bytes) w o o'
+search_ends json bytes part w o o' e h = ends_weaker (λ reply. reply ≡ search_reply json part) (DiskAnswer (search json) bytes) w o o'
+    (λ reply tells. subst (λ (l : List ℕ). reply ≡ search_reply json l) e tells) h
 
 -- the work of `check` is that of no other request, nor is that of `survey`
 pub checks : (json : Bool) (work : Work) (r : DiskRequestValue) → work ≡ Check json → IsWorkOf work r → r ≡ check json

@@ -1,5 +1,6 @@
 pub mod Endings
 pub mod CheckedLines
+pub mod SearchLines
 pub mod OneAnswer
 pub mod HeldTables
 pub mod NewVolumes

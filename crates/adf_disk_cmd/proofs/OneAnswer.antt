@@ -15,7 +15,7 @@ use Rattle.adf_partitions.specs.{FaultTexts.place_fault_text, Plans.PlanValue, d
 use Rattle.adf_partitions.specs.{declared.place.Place.Place, declared.place.PlaceFault.PlaceFault}
 use Rattle.adf_plans.specs.{PlanTexts.text_fault_text, declared.plan_text.TextFault.TextFault}
 use Rattle.adf_runs.specs.Commands.{Reply, on_output}
-use Rattle.adf_disk_cmd.specs.CommandLine.{AsksDisk, DiskRequestValue, build, check, list, survey, volume}
+use Rattle.adf_disk_cmd.specs.CommandLine.{AsksDisk, DiskRequestValue, build, check, list, search, survey, volume}
 
 pub one_request : (words : List (List ℕ)) (r q : DiskRequestValue) → AsksDisk words r → AsksDisk words q → r ≡ q
 one_request words r q a b = grind (arith, common_steps)
@@ -57,6 +57,7 @@ of_once : (r : DiskRequestValue) (bytes : List ℕ) (ps : List Partition) (a b :
 of_once (list json) bytes ps a b x y = x ∙ sym y
 of_once (check json) bytes ps a b x y = all_once json bytes ps a b x y
 of_once (survey json) bytes ps a b x y = x ∙ sym y
+of_once (search json) bytes ps a b x y = absurd x
 of_once (volume w) bytes ps a b x y = x ∙ sym y
 of_once build bytes ps a b x y = absurd x
 
@@ -68,6 +69,7 @@ fault_once (list json) bytes f a b x y = x ∙ sym y
 fault_once (check json) bytes f a b x y = x ∙ sym y
 fault_once (survey json) bytes f a b (s, h, x) (t, g, y) =
     x ∙ ap (λ (k : List ℕ). on_output 1 k) (readable_once json bytes (length bytes / 512) (disk_fault_line json f) s t h g) ∙ sym y
+fault_once (search json) bytes f a b x y = absurd x
 fault_once (volume w) bytes f a b x y = x ∙ sym y
 fault_once build bytes f a b x y = absurd x
 
@@ -93,6 +95,7 @@ bytes_once : (r : DiskRequestValue) (bytes : List ℕ) (a b : Reply) → OfBytes
 bytes_once (list json) bytes a b x y = disk_once (list json) bytes a b x y
 bytes_once (check json) bytes a b x y = disk_once (check json) bytes a b x y
 bytes_once (survey json) bytes a b x y = disk_once (survey json) bytes a b x y
+bytes_once (search json) bytes a b x y = x ∙ sym y
 bytes_once (volume w) bytes a b x y = disk_once (volume w) bytes a b x y
 bytes_once build bytes a b x y = build_once bytes a b x y
 

@@ -6,9 +6,9 @@ use Rattle.adf_texts.specs.Names.{names_text}
 use Rattle.adf_partitions.specs.{Disks.FirstDiskFault, Disks.IsDisk, FaultTexts.disk_fault_text, FaultTexts.place_fault_text, Partitions.partition_numbered}
 use Rattle.adf_partitions.specs.{Searches.AreReadable, declared.fault.DiskFault.DiskFault, declared.partition.Partition.Partition, declared.place.Place.Place}
 use Rattle.adf_partitions.specs.{declared.place.PlaceFault.PlaceFault, declared.tables.Tables.Tables}
-use Rattle.adf_disk_cmd.specs.CommandLine.{AreRefusedByDisk, AsksDisk, DiskRequestValue, WantedValue, build, check, list, name, number, survey}
+use Rattle.adf_disk_cmd.specs.CommandLine.{AreRefusedByDisk, AsksDisk, DiskRequestValue, WantedValue, build, check, list, name, number, search, survey}
 use Rattle.adf_disk_cmd.specs.{CommandLine.volume, Builds.BuildsDisk, Builds.refusal, Checks.AreChecked, Checks.check_status, Lines.volume_at}
-use Rattle.adf_disk_cmd.specs.Objects.{disk_fault_line, list_lines}
+use Rattle.adf_disk_cmd.specs.{Objects.disk_fault_line, Objects.list_lines, Searches.search_reply}
 use Rattle.adf_runs.specs.Commands.{Command, Reply, on_output}
 use Rattle.adf_disk_cmd.specs.declared.work.TheConstants.{MOST_DISK_BYTES}
 
@@ -44,11 +44,12 @@ abbrev pub volume_reply : List ℕ → WantedValue → Option Partition → Repl
 volume_reply bytes w None = refusal (no_partition_text w)
 volume_reply bytes w (Some p) = place_reply bytes p.place
 
--- the answer to a request, of a disk with these partitions: `build` reads no disk
+-- the answer to a request, of a disk with these partitions: `build` reads no disk, and a search no tables
 abbrev pub OfPartitions : DiskRequestValue → List ℕ → List Partition → Reply → Type 0
 OfPartitions (list json) bytes ps reply = reply ≡ on_output 0 (list_lines json 1 ps)
 OfPartitions (check json) bytes ps reply = ChecksAll json bytes ps reply
 OfPartitions (survey json) bytes ps reply = reply ≡ on_output 0 (list_lines json 1 ps)
+OfPartitions (search json) bytes ps reply = ⊥
 OfPartitions (volume w) bytes ps reply = reply ≡ volume_reply bytes w (wanted_of ps w)
 OfPartitions build bytes ps reply = ⊥
 
@@ -63,6 +64,7 @@ OfFault (list json) bytes f reply = reply ≡ refusal (disk_fault_text f)
 OfFault (check json) bytes f reply = reply ≡ on_output 1 (disk_fault_line json f)
 OfFault (survey json) bytes f reply =
     (text : List ℕ) × TellsReadable json bytes (length bytes / 512) (disk_fault_line json f) text × (reply ≡ on_output 1 text)
+OfFault (search json) bytes f reply = ⊥
 OfFault (volume w) bytes f reply = reply ≡ refusal (disk_fault_text f)
 OfFault build bytes f reply = ⊥
 
@@ -72,9 +74,10 @@ OfDisk r bytes reply =
     ((t : Tables) × (ps : List Partition) × IsDisk bytes (length bytes / 512) t ps × OfPartitions r bytes ps reply)
     ⊎ ((f : DiskFault) × FirstDiskFault bytes (length bytes / 512) f × OfFault r bytes f reply)
 
--- the answer to a request and the bytes of an input: those of a plan, or of a disk
+-- the answer to a request and the bytes of an input: those of a plan, or of a disk, which is searched or of which the tables are read
 abbrev pub OfBytes : DiskRequestValue → List ℕ → Reply → Type 0
 OfBytes build bytes reply = BuildsDisk bytes reply
+OfBytes (search json) bytes reply = reply ≡ search_reply json bytes
 OfBytes r bytes reply = OfDisk r bytes reply
 
 -- the answer to a request and an input: what is past the largest disk does not count
@@ -92,7 +95,7 @@ DiskRequestsHaveOneAnswer = (r : DiskRequestValue) (input : List ℕ) (a b : Rep
 -- what errors get where the words are refused
 abbrev pub disk_usage : List ℕ
 disk_usage =
-    codes "usage: adf-disk list [--json] [FILE]\n       adf-disk check [--json] [FILE]\n       adf-disk survey [--json] [FILE]\n"
+    codes "usage: adf-disk list [--json] [FILE]\n       adf-disk check [--json] [FILE]\n       adf-disk survey [--search] [--json] [FILE]\n"
     ++ codes "       adf-disk volume NAME [FILE]\n"
     ++ codes "       adf-disk build [PLAN]\nwithout a FILE the disk or its plan comes on standard input; man adf-disk tells more\n"
 

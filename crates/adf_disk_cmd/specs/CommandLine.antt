@@ -1,12 +1,12 @@
 -- The command line of `adf-disk`, as clap reads it, and what its matches ask for.
-use Rattle.std.specs.Prelude.{◌≡◌, ◌⊎◌, ℕ, Bool, List, [], Option, Some, None, codes, option_map, if◌then◌else◌}
+use Rattle.std.specs.Prelude.{◌≡◌, ◌⊎◌, ℕ, Bool, true, false, List, [], Option, Some, None, codes, option_map, if◌then◌else◌}
 use Rattle.std.specs.{Option.option_and_then, Str.bytes_eq}
 use Rattle.clap.specs.Words.{App, Row, Text, fault_of, first_of, matches_of, new_app, subcommand_of, with_rule, with_subcommand}
 use Rattle.adf_words.specs.Arguments.{bare_app, flag_rule, has_flag, number_named, required_rule}
 use Rattle.adf_words.specs.FileArguments.{file_met, file_rule, with_file}
 use Rattle.adf_blocks.specs.declared.layout.TheConstants.{MOST_BLOCKS}
 use Rattle.adf_disk_cmd.specs.declared.command_line.DiskRequest.{DiskRequest}
-use Rattle.adf_disk_cmd.specs.declared.command_line.DiskRequest.TheVariants.{List as ListAll, Check, Survey, Volume, Build}
+use Rattle.adf_disk_cmd.specs.declared.command_line.DiskRequest.TheVariants.{List as ListAll, Check, Survey, Search, Volume, Build}
 use Rattle.adf_disk_cmd.specs.declared.command_line.Wanted.{Wanted, TheVariants.Number, TheVariants.Name}
 
 -- volume NAME [FILE]
@@ -25,20 +25,25 @@ with_telling app name = with_subcommand app (telling_app name).top
 abbrev pub lists_and_checks : App
 lists_and_checks = with_telling (with_telling (bare_app (codes "adf-disk")) (codes "list")) (codes "check")
 
--- the command line: these, survey [--json] [FILE], build [PLAN], and volume NAME [FILE]
+-- survey [--search] [--json] [FILE]
+abbrev pub disk_survey_app : App
+disk_survey_app = with_rule (with_rule (with_rule (new_app (codes "survey")) (flag_rule (codes "search"))) (flag_rule (codes "json"))) file_rule
+
+-- the command line: these, build [PLAN], and volume NAME [FILE]
 abbrev pub disk_app : App
-disk_app = with_subcommand (with_file (with_telling lists_and_checks (codes "survey")) (codes "build")) volume_app.top
+disk_app = with_subcommand (with_file (with_subcommand lists_and_checks disk_survey_app.top) (codes "build")) volume_app.top
 
 -- a partition, by its number or its name
 pub data WantedValue : Type 0 where
   number : ℕ → WantedValue
   name : Text → WantedValue
 
--- what a command line asks for: what is told of a disk, as lines or as objects, or the bytes of a volume or of a new disk
+-- what a command line asks for: what is told of a disk, as lines or as objects, or what is found on it, or the bytes of a volume or of a new disk
 pub data DiskRequestValue : Type 0 where
   list : (json : Bool) → DiskRequestValue
   check : (json : Bool) → DiskRequestValue
   survey : (json : Bool) → DiskRequestValue
+  search : (json : Bool) → DiskRequestValue
   volume : WantedValue → DiskRequestValue
   build : DiskRequestValue
 
@@ -46,12 +51,17 @@ pub data DiskRequestValue : Type 0 where
 abbrev pub wanted_named : Text → WantedValue
 wanted_named text = elim (number_named MOST_BLOCKS text) [ Some n ↦ number n | None ↦ name text ]
 
+-- the request to survey a disk: by its tables, or by a search
+abbrev pub survey_request : (searches json : Bool) → DiskRequestValue
+survey_request true json = search json
+survey_request false json = survey json
+
 -- the request that a subcommand's name and matches are
 abbrev pub disk_request_named : Text → List Row → Option DiskRequestValue
 disk_request_named command rows =
     if bytes_eq command (codes "list") then Some (list (has_flag (codes "json") rows))
     else (if bytes_eq command (codes "check") then Some (check (has_flag (codes "json") rows))
-    else (if bytes_eq command (codes "survey") then Some (survey (has_flag (codes "json") rows))
+    else (if bytes_eq command (codes "survey") then Some (survey_request (has_flag (codes "search") rows) (has_flag (codes "json") rows))
     else (if bytes_eq command (codes "build") then Some build
     else (if bytes_eq command (codes "volume") then option_map (λ text. volume (wanted_named text)) (first_of (codes "name") rows)
     else None))))
@@ -86,5 +96,6 @@ abbrev pub disk_request_value : DiskRequest → DiskRequestValue
 disk_request_value (ListAll json) = list json
 disk_request_value (Check json) = check json
 disk_request_value (Survey json) = survey json
+disk_request_value (Search json) = search json
 disk_request_value (Volume wanted) = volume (wanted_value wanted)
 disk_request_value Build = build

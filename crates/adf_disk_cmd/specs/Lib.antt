@@ -4,6 +4,7 @@ pub mod Lines
 pub mod Objects
 pub mod Checks
 pub mod Builds
+pub mod Searches
 pub mod Answers
 -- The words of the command, as its work keeps them, and what is known of a disk of which one volume is held.
 pub mod Work

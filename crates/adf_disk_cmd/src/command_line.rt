@@ -7,7 +7,8 @@ ghost use Rattle.adf_words.specs.{CommandLine.ExplainsArgs, CommandLine.texts_of
 ghost use Rattle.adf_words.specs.declared.command_line.ArgsError.TheVariants.{Usage};
 ghost use Rattle.adf_disk_cmd.specs.CommandLine.{AreRefusedByDisk, AsksDisk, AsksDiskOf, disk_file, build};
 ghost use Rattle.adf_disk_cmd.specs.CommandLine.{check, disk_app, disk_met, disk_request_named, disk_request_value, list};
-ghost use Rattle.adf_disk_cmd.specs.CommandLine.{lists_and_checks, name, number, survey, telling_app, volume, volume_app, wanted_named};
+ghost use Rattle.adf_disk_cmd.specs.CommandLine.{lists_and_checks, name, number, search, survey, disk_survey_app};
+ghost use Rattle.adf_disk_cmd.specs.CommandLine.{survey_request, telling_app, volume, volume_app, wanted_named};
 ghost use Rattle.adf_disk_cmd.specs.CommandLine.{wanted_value, with_telling};
 
 use adf_blocks::MOST_BLOCKS;
@@ -21,7 +22,7 @@ use std::alloc::{AllocError, Global};
 
 /// What is said of arguments that are refused.
 pub const DISK_USAGE: &str =
-    "usage: adf-disk list [--json] [FILE]\n       adf-disk check [--json] [FILE]\n       adf-disk survey [--json] [FILE]\n       \
+    "usage: adf-disk list [--json] [FILE]\n       adf-disk check [--json] [FILE]\n       adf-disk survey [--search] [--json] [FILE]\n       \
     adf-disk volume NAME [FILE]\n       adf-disk build [PLAN]\n\
     without a FILE the disk or its plan comes on standard input; man adf-disk tells more\n";
 
@@ -32,6 +33,7 @@ pub const ABOUT: About = About {
     usage: adf-disk list [--json] [FILE]     a line for each partition\n\
     \x20      adf-disk check [--json] [FILE]    a verdict on each volume\n\
     \x20      adf-disk survey [--json] [FILE]   the partitions of a damaged table\n\
+    \x20      adf-disk survey --search [FILE]   the volumes that are found without a table\n\
     \x20      adf-disk volume NAME [FILE]       the volume of a partition, by its name or its number\n\
     \x20      adf-disk build [PLAN] > DISK      a new disk\n\
     \x20      adf-disk --help, adf-disk --version\n\n\
@@ -59,6 +61,8 @@ pub enum DiskRequest<'a> {
     Check { json: bool },
     /// The partitions, also of a damaged table.
     Survey { json: bool },
+    /// The volumes that are found by their roots.
+    Search { json: bool },
     Volume(Wanted<'a>),
     Build,
 }
@@ -82,6 +86,17 @@ fn telling_command<'a>(alloc: Global, name: &'a str) -> Result<Command<'a>, Allo
     with_argument(tells, file_argument(alloc))
 }
 
+// The command `survey [--search] [--json] [FILE]`.
+fn survey_command<'a>(alloc: Global) -> Result<Command<'a>, AllocError>
+    ensures app { IfOk result (λ c. app_of c ≡ disk_survey_app) }
+    ensures local { IfOk result (λ c. (out-Command c).has_globals ≡ false) }
+{
+    let named = Ok(Command::new(alloc, "survey"));
+    let searches = with_argument(named, flag(alloc, "search"));
+    let tells = with_argument(searches, flag(alloc, "json"));
+    with_argument(tells, file_argument(alloc))
+}
+
 // The subcommands `list` and `check`.
 fn lists_and_checks<'a>(alloc: Global) -> Result<Command<'a>, AllocError>
     ensures { IfOk result (λ c. app_of c ≡ lists_and_checks) }
@@ -95,7 +110,7 @@ fn lists_and_checks<'a>(alloc: Global) -> Result<Command<'a>, AllocError>
 fn command<'a>(alloc: Global) -> Result<Command<'a>, AllocError>
     ensures { IfOk result (λ c. app_of c ≡ disk_app) }
 {
-    let surveys = with_subcommand(lists_and_checks(alloc), telling_command(alloc, "survey"));
+    let surveys = with_subcommand(lists_and_checks(alloc), survey_command(alloc));
     let builds = with_file(alloc, surveys, "build");
     with_subcommand(builds, volume_command(alloc))
 }
@@ -107,6 +122,17 @@ fn wanted_named<'a>(text: &'a str) -> Wanted<'a>
     match number_named(text, MOST_BLOCKS) {
         Some(number) => Wanted::Number(number),
         None => Wanted::Name(text),
+    }
+}
+
+// The request to survey a disk: by its tables, or by a search.
+fn survey_request<'a>(searches: bool, json: bool) -> DiskRequest<'a>
+    ensures { disk_request_value result ≡ survey_request searches json }
+{
+    if searches {
+        DiskRequest::Search { json }
+    } else {
+        DiskRequest::Survey { json }
     }
 }
 
@@ -124,9 +150,8 @@ fn request_named<'a>(command: &str, found: &ArgMatches<'a>) -> Option<DiskReques
             json: has_flag(found, "json"),
         })
     } else if command == "survey" {
-        Some(DiskRequest::Survey {
-            json: has_flag(found, "json"),
-        })
+        let searches = has_flag(found, "search");
+        Some(survey_request(searches, has_flag(found, "json")))
     } else if command == "build" {
         Some(DiskRequest::Build)
     } else if command == "volume" {
@@ -223,6 +248,13 @@ pub fn disk_words_as_documented()
         (check true) (Some (codes "a.hdf")) }
     ensures survey_json { AsksDiskOf (codes "adf-disk" ∷ codes "survey" ∷ codes "a.hdf" ∷ codes "--json" ∷ [])
         (survey true) (Some (codes "a.hdf")) }
+    ensures search { AsksDiskOf (codes "adf-disk" ∷ codes "survey" ∷ codes "--search" ∷ []) (search false) None }
+    ensures search_file { AsksDiskOf (codes "adf-disk" ∷ codes "survey" ∷ codes "--search" ∷ codes "a.hdf" ∷ [])
+        (search false) (Some (codes "a.hdf")) }
+    ensures search_json { AsksDiskOf
+        (codes "adf-disk" ∷ codes "survey" ∷ codes "--json" ∷ codes "a.hdf" ∷ codes "--search" ∷ [])
+        (search true) (Some (codes "a.hdf")) }
+    ensures search_list { AreRefusedByDisk (codes "adf-disk" ∷ codes "list" ∷ codes "--search" ∷ []) }
     ensures no_args { AreRefusedByDisk [] }
     ensures no_command { AreRefusedByDisk (codes "adf-disk" ∷ []) }
     ensures unknown { AreRefusedByDisk (codes "adf-disk" ∷ codes "frob" ∷ []) }

@@ -9,6 +9,7 @@ use crate::check_input::check_input;
 use crate::command_line::{DISK_USAGE as USAGE, DiskRequest, disk_file, parse_disk};
 use crate::copy_input::copy_input;
 use crate::list_input::list_input;
+use crate::searching::search_disk;
 use crate::work::{MOST_DISK_BYTES, Work, sought_for};
 use adf_file_runs::FileProgram;
 use adf_runs::{Outcome, Program, Sink, Source, WorkFault, read_input};
@@ -19,6 +20,8 @@ use std::alloc::{AllocError, Global};
 pub enum Job {
     /// It is a disk, about which something is asked.
     Tell(Work),
+    /// It is a disk, which is searched for volumes.
+    Search { json: bool },
     /// It is a plan, whose disk is built.
     Build,
 }
@@ -31,6 +34,7 @@ fn job_for(alloc: Global, request: DiskRequest<'_>) -> Result<Job, AllocError>
         DiskRequest::List { json } => Job::Tell(Work::List { json }),
         DiskRequest::Check { json } => Job::Tell(Work::Check { json }),
         DiskRequest::Survey { json } => Job::Tell(Work::Survey { json }),
+        DiskRequest::Search { json } => Job::Search { json },
         DiskRequest::Volume(wanted) => Job::Tell(Work::Volume(sought_for(alloc, wanted)?)),
         DiskRequest::Build => Job::Build,
     })
@@ -61,6 +65,7 @@ impl Program for Job {
         let part = &bytes[..bytes.len().min(MOST_DISK_BYTES)];
         match self {
             Job::Tell(work) => work.on(alloc, part, output),
+            Job::Search { json } => search_disk(Telling { alloc, json: *json }, part, output),
             Job::Build => build_disk(alloc, part, output),
         }
     }
@@ -82,7 +87,7 @@ impl Program for Job {
             Job::Tell(Work::Check { json }) => {
                 check_input(Telling { alloc, json: *json }, input, output)
             }
-            Job::Build => match read_input(alloc, input, MOST_DISK_BYTES) {
+            Job::Search { .. } | Job::Build => match read_input(alloc, input, MOST_DISK_BYTES) {
                 Ok(bytes) => self.on(alloc, &bytes, output),
                 Err(outcome) => outcome,
             },

@@ -17,6 +17,8 @@ mod list_input;
 mod listing;
 mod names;
 mod runner;
+mod search_lines;
+mod searching;
 mod stretch;
 mod surveying;
 mod types;

@@ -13,8 +13,8 @@ use adf_runs::{Outcome, Sink};
 use adf_texts::push_names;
 use std::alloc::{AllocError, Global};
 
-// Where a volume lies, or why it has no place.
-fn place_text(alloc: Global, place: Result<Place, PlaceFault>) -> Result<String, AllocError>
+/// Where a volume lies, or why it has no place.
+pub fn place_text(alloc: Global, place: Result<Place, PlaceFault>) -> Result<String, AllocError>
     ensures { IfOk result (λ text. string_bytes text ≡ place_text place) }
 {
     match place {

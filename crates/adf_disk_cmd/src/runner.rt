@@ -17,9 +17,9 @@ use std::alloc::Global;
 /// Does what the words ask for, on the file that they name, or else on the input; the first word is the program's name. Returns
 /// the status:
 ///
-/// - 0 if the partitions are listed, all of them are sound volumes, or the bytes of a volume or a new disk are written;
+/// - 0 if the partitions are listed, all of them are sound volumes, a search finds one, or the bytes of a volume or a new disk are written;
 /// - 1 if the partitions of the disk cannot be read, or one of them is not a sound volume, which `check` writes to output; or if
-///   there is no such partition, something is wrong with its place, or no disk can be built, which is said on errors;
+///   a search finds no volume, there is no such partition, something is wrong with its place, or no disk can be built, which is said on errors;
 /// - 2 if the words are not accepted, which is said on errors; nothing is read, and output is empty;
 /// - 3 if the file cannot be opened, a device failed or an allocation failed, which is said on errors.
 pub fn run_files<F: Files, R: Source, W: Sink, E: Sink>(

@@ -7,6 +7,7 @@ pub mod VolumesApart
 pub mod AnyLength
 pub mod NumberTests
 pub mod Searches
+pub mod FoundVolumes
 pub mod NamedPartitions
 pub mod PlanSizes
 pub mod WrittenBlocks

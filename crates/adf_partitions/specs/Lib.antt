@@ -7,6 +7,7 @@ pub mod Places
 pub mod Partitions
 pub mod Disks
 pub mod Searches
+pub mod FoundVolumes
 pub mod Volumes
 pub mod Plans
 pub mod WrittenTables
