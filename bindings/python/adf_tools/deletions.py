@@ -3,6 +3,7 @@ again, so it is asked only where that may find something: where a block says tha
 
 from __future__ import annotations
 
+import re
 import struct
 from typing import Any, Dict, Iterator, List, Sequence, Set, Tuple
 
@@ -12,7 +13,7 @@ from adf.deleted import told_of
 from adf_tools.names import letters, spelled_letters
 from adf_tools.standing import HEADER, words_of
 
-FRONT = struct.Struct(f">2I{adf.BLOCK - 8}x")  # of a block: its first word, and its own key
+LOW_BYTE, FRONT = 3, struct.Struct(">2I")  # of the first word; a block's first word, and its own key
 MOST_TOLD = 64 << 20  # bytes of the lines that are taken; those of a floppy of real files are some thousands
 WHOLE = "whole"
 Row = Tuple[Any, ...]
@@ -20,8 +21,9 @@ Row = Tuple[Any, ...]
 
 def headers_in(image: bytes | Mapped) -> Set[int]:
     """The blocks that say that they are headers, by their first word and their own key."""
-    fronts = FRONT.iter_unpack(memoryview(image)[: len(image) // adf.BLOCK * adf.BLOCK])
-    return {block for block, (first, key) in enumerate(fronts) if first == HEADER and key == block}
+    whole = memoryview(image)[: len(image) // adf.BLOCK * adf.BLOCK]
+    found = re.finditer(b"%c" % HEADER, bytes(whole[LOW_BYTE :: adf.BLOCK]))
+    return {block for block in (each.start() for each in found) if FRONT.unpack_from(whole, adf.BLOCK * block) == (HEADER, block)}
 
 
 def is_sealed(image: bytes | Mapped, block: int) -> bool:
