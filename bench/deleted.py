@@ -19,7 +19,8 @@ from survey import FILE, POINTERS, Survey, spelled
 
 
 class Deleted:
-    def __init__(self, image):
+    def __init__(self, image, held=None):
+        self.held = len(image) // 512 if held is None else held  # the blocks that the input holds; what is filled up behind them is no data
         image, _ = typed(bytes(image))
         made = len(image) >= 2048 and lacks_root(image)
         image = pruned(opened(image))
@@ -76,9 +77,9 @@ class Deleted:
         return self.sv.offset == 24
 
     def stands(self, h, k, b):
-        """Block b is no part of a survey, and still data block k of the file: on OFS it says so; on FFS the bitmap does not have it in
-        use, it does not claim to be another part, nor to be an OFS block of the file."""
-        if not 2 <= b < self.blocks or b in self.reached:
+        """The input holds block b, which is no part of a survey, and still data block k of the file: on OFS it says so; on FFS the bitmap does
+        not have it in use, it does not claim to be another part, nor to be an OFS block of the file."""
+        if not 2 <= b < min(self.blocks, self.held) or b in self.reached:
             return False
         says_data = unpack_from(">3I", self.image, 512 * b) == (8, h, k + 1) and sealed(self.image, b)
         if self.is_ofs():

@@ -12,6 +12,7 @@ complete -c adf-catalogue $plain -l dat -r -d 'read a published list of known di
 complete -c adf-catalogue -n __fish_use_subcommand -a 'find compare scan merge verify export'
 complete -c adf-catalogue -n '__fish_seen_subcommand_from find' -l sum -x -d 'find a checksum'
 complete -c adf-catalogue -n '__fish_seen_subcommand_from find' -l text -d 'find text files by their contents'
+complete -c adf-catalogue -n '__fish_seen_subcommand_from find' -l deleted -d 'find what was deleted'
 complete -c adf-catalogue -n '__fish_seen_subcommand_from find' -l json -d 'write JSON Lines'
 complete -c adf-catalogue $scan -l fresh -d 'read all files again'
 complete -c adf-catalogue $scan -l names -r -d 'take the names of the files from a list'

@@ -58,6 +58,10 @@ _adf_boot() {
 
 _adf_files() {
     case $1:${COMP_WORDS[1]}:$2 in
+        adf-catalogue:find:-*)
+            COMPREPLY=($(compgen -W "--sum --text --deleted --json -h --help --version" -- "$2"))
+            return
+            ;;
         adf-catalogue:export:-*)
             COMPREPLY=($(compgen -W "--sha256 --premis --dfxml --report --bagit -h --help --version" -- "$2"))
             return

@@ -28,8 +28,8 @@ def run(words: Iterable[str], given: Image = b"") -> Answer:
     return run_program("adf", words, given)
 
 
-def run_program(program: str, words: Iterable[str], given: Image) -> Answer:
-    """The same of `adf` or of `adf-survey`."""
+def run_program(program: str, words: Iterable[str], given: Image, most: int = MOST_OUTPUT) -> Answer:
+    """The same of `adf` or of `adf-survey`, whose output is cut where it has more than the most bytes."""
     call = {"adf": calls().adf_run, "adf-survey": calls().adf_survey_run}[program]
     all_words, given = (program, *words), _arguments.plain(given)
     if not all(isinstance(word, str) for word in all_words):
@@ -37,16 +37,16 @@ def run_program(program: str, words: Iterable[str], given: Image) -> Answer:
     line = b"".join(word.encode() + b"\0" for word in all_words)
     if line.count(b"\0") != len(all_words):
         raise ValueError("a word has a zero byte")
-    moved, most_output, most_errors = _structs.Moved(), len(given) + FIRST_OUTPUT, FIRST_ERRORS
+    moved, most_output, most_errors = _structs.Moved(), min(len(given) + FIRST_OUTPUT, most), FIRST_ERRORS
     while True:
         output, errors = ctypes.create_string_buffer(most_output), ctypes.create_string_buffer(most_errors)
         rooms = (output, most_output, errors, most_errors, ctypes.byref(moved))
         status = call(line, len(line), given, len(given), *rooms)
-        more_output = moved.output_full and most_output < MOST_OUTPUT
+        more_output = moved.output_full and most_output < most
         more_errors = moved.errors_full and most_errors < MOST_OUTPUT
         if not more_output and not more_errors:
             return Answer(status, _arguments.taken(output, moved.output), _arguments.taken(errors, moved.errors))
         if more_output:
-            most_output = min(4 * most_output, MOST_OUTPUT)
+            most_output = min(4 * most_output, most)
         if more_errors:
             most_errors = min(4 * most_errors, MOST_OUTPUT)

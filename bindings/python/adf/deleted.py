@@ -5,9 +5,10 @@ from __future__ import annotations
 import errno
 import os
 import re
-from typing import TYPE_CHECKING, Any, Iterator, NamedTuple
+from typing import TYPE_CHECKING, Any, Iterator, NamedTuple, Tuple
 
 from adf import _texts, commands
+from adf._arguments import Mapped
 from adf.dates import Date
 from adf.entries import row_of
 from adf.errors import Damaged, NoMemory, NotAFile
@@ -15,12 +16,15 @@ from adf.errors import Damaged, NoMemory, NotAFile
 if TYPE_CHECKING:
     from adf.surveys import Survey
 
-LINE = re.compile(
-    r"block (\d+): (whole|contested: [^:]*|overwritten: \d+ of \d+ blocks): (file|dir ) ([0-9a-f]{8}) +(\d+|-) (\d+:\d+:\d+|\S+ \S+) (.*)"
+LINES = re.compile(
+    r"^block (\d+): (whole|contested: [^:\n]*|overwritten: \d+ of \d+ blocks): (file|dir ) ([0-9a-f]{8}) +(\d+|-) (\d+:\d+:\d+|\S+ \S+) (.*)\n"
+    r"(?:note (.*)\n)?",
+    re.M,
 )
-NOTE = "note "
+LINE_BEGIN = "\nblock "
 GAP = re.compile(r"^bytes (\d+) to (\d+): no data$", re.M)
-NO_MEMORY = 3
+FAILED, WRITE_FAULT = 3, b"write fault\n"
+Told = Tuple[int, str, int, int, Date, bool, str, bytes]  # what is told of a deleted header: the fields of Deleted behind its survey
 
 
 class _Fields(NamedTuple):
@@ -79,29 +83,33 @@ class Deleted(_Fields):
     def remains(self) -> tuple[bytes, list[range]]:
         """What is left of a file: its bytes, with zeros for those that are lost, and the ranges of these; of a contested one they may be
         those of the other. NotAFile if it is a directory or a link."""
-        status, left, errors = _answer(self.survey, "cat", "--deleted", str(self.block))
+        status, left, errors = _answer(*self.survey._given, ("cat", "--deleted", str(self.block)))
         if status == 1 and errors == b"not a file\n":
             raise NotAFile(errno.EISDIR, os.strerror(errno.EISDIR), self.path)
         return left, [range(int(first), int(last) + 1) for first, last in GAP.findall(errors.decode("ascii"))]
 
 
-def _answer(survey: Survey, *words: str) -> commands.Answer:
-    """What `adf-survey` answers to these words about the image that was surveyed."""
-    image, blocks = survey._given
+def _answer(image: bytes | Mapped, blocks: int | None, words: tuple[str, ...], most: int = commands.MOST_OUTPUT) -> commands.Answer:
+    """What `adf-survey` answers to these words about an image, read as if it had so many blocks, if a number is given."""
     front = () if blocks is None else ("--blocks", str(blocks))
-    answer = commands.run_program("adf-survey", (*front, *words), image)
-    if answer.status == NO_MEMORY:
+    answer = commands.run_program("adf-survey", (*front, *words), image, most)
+    if answer.status == FAILED and (answer.errors != WRITE_FAULT or most == commands.MOST_OUTPUT):
         raise NoMemory
     return answer
 
 
+def told_of(image: bytes | Mapped, blocks: int | None, most: int = commands.MOST_OUTPUT) -> Iterator[Told]:
+    """What `adf-survey deleted` tells of each deleted header, in the order of their blocks; where all lines have more than the most bytes,
+    the first of them."""
+    answer = _answer(image, blocks, ("deleted",), most)
+    text = answer.output.decode("ascii")
+    whole = len(text) if answer.status != FAILED else text.rfind(LINE_BEGIN) + 1  # the last line that is cut has no note yet
+    for found in LINES.finditer(text, 0, whole):
+        block, state, kind, protection, size, date, path, note = found.groups()
+        length, comment = 0 if size == "-" else int(size), _texts.unescape(note or "")
+        yield int(block), state, length, int(protection, 16), Date.of(date), kind == "file", path, comment
+
+
 def deleted_of(survey: Survey) -> Iterator[Deleted]:
     """The deleted headers of the image that was surveyed, in the order of their blocks."""
-    lines = _answer(survey, "deleted").output.decode("ascii").splitlines()
-    for line, behind in zip(lines, (*lines[1:], "")):
-        found = LINE.fullmatch(line)
-        if found:
-            block, state, kind, protection, size, date, path = found.groups()
-            note = _texts.unescape(behind[len(NOTE) :]) if behind.startswith(NOTE) else b""
-            told = 0 if size == "-" else int(size), int(protection, 16), Date.of(date), kind == "file", path, note
-            yield Deleted(survey, int(block), state, *told)
+    return (Deleted(survey, *told) for told in told_of(*survey._given))

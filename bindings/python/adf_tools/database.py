@@ -134,7 +134,16 @@ INSERT INTO entry_words (entry_words) VALUES ('delete-all');
 INSERT INTO image_words (rowid, name, label) SELECT id, words_of(name), words_of(label) FROM images;
 INSERT INTO entry_words (rowid, path, comment) SELECT id, words_of(substr(path, -1024)), words_of(comment) FROM entries;
 """
-STEPS = (FIRST, SECOND, THIRD, FOURTH, FIFTH, SIXTH, SEVENTH)  # each brings a database to the next version
+EIGHTH = """
+ALTER TABLE images ADD COLUMN deleted INTEGER;
+ALTER TABLE images ADD COLUMN deleted_whole INTEGER;
+CREATE TABLE deleted (
+    id INTEGER PRIMARY KEY, image INTEGER NOT NULL REFERENCES images ON DELETE CASCADE, block INTEGER NOT NULL, state TEXT NOT NULL,
+    kind TEXT NOT NULL, path TEXT NOT NULL, size INTEGER NOT NULL, protection INTEGER NOT NULL, date TEXT NOT NULL, comment TEXT NOT NULL);
+CREATE INDEX deleted_of_images ON deleted (image);
+CREATE VIRTUAL TABLE deleted_words USING fts5 (path, comment, content = '');
+"""
+STEPS = (FIRST, SECOND, THIRD, FOURTH, FIFTH, SIXTH, SEVENTH, EIGHTH)  # each brings a database to the next version
 TYPES = {"INTEGER": "integer", "TEXT": "text", "BLOB": "blob"}
 ESCAPE = re.compile(r"\\x[0-9a-f]{2}")
 BESIDE = "-journal", "-wal", "-shm"

@@ -1,4 +1,4 @@
-"""adf-catalogue find: asks a catalogue which disks and files have these words, or this checksum."""
+"""adf-catalogue find: asks a catalogue which disks, files and deleted files have these words, or this checksum."""
 
 from __future__ import annotations
 
@@ -27,6 +27,9 @@ BY_IMAGE = f"""SELECT {OF_IMAGE} FROM image_words JOIN images ON images.id = ima
 WHERE image_words MATCH ? ORDER BY images.name, images.number"""
 BY_TEXT = f"""SELECT {FIELDS} FROM text_words JOIN entries ON entries.id = text_words.rowid JOIN images ON images.id = image
 WHERE text_words MATCH ? ORDER BY images.name, images.number, entries.id"""
+BY_DELETED = """SELECT images.name AS image, deleted.path, deleted.kind, deleted.size, deleted.date, deleted.state, deleted.block
+FROM deleted_words JOIN deleted ON deleted.id = deleted_words.rowid JOIN images ON images.id = image
+WHERE deleted_words MATCH ? ORDER BY images.name, images.number, deleted.id"""
 BY_FILE_SUM = f"SELECT {FIELDS} FROM entries JOIN images ON images.id = image WHERE entries.sha256 = ? ORDER BY images.name, images.number, entries.id"
 
 
@@ -48,6 +51,11 @@ def by_text(connection: sqlite3.Connection, words: Sequence[str], out: str) -> I
     if not connection.execute("SELECT value FROM facts WHERE name = 'texts'").fetchone():
         stop(FAILED, f"{host_text(out)}: contents are found only if --index-text was given once")
     yield from connection.execute(BY_TEXT, (query_of(words),))
+
+
+def by_deleted(connection: sqlite3.Connection, words: Sequence[str]) -> Iterator[sqlite3.Row]:
+    """The deleted headers whose path or comment has the words."""
+    yield from connection.execute(BY_DELETED, (query_of(words),))
 
 
 def by_sum(connection: sqlite3.Connection, digits: str) -> Iterator[sqlite3.Row]:
@@ -97,6 +105,8 @@ def work(words: argparse.Namespace) -> int:
             rows = by_sum(connection, words.sum)
         elif words.text:
             rows = by_text(connection, words.words, words.out)
+        elif words.deleted:
+            rows = by_deleted(connection, words.words)
         else:
             rows = by_words(connection, words.words, FIELDS if words.json else PLACE)
         while some := list(itertools.islice(rows, TOGETHER)):
@@ -109,14 +119,16 @@ def line() -> argparse.ArgumentParser:
     parser = command_line("adf-catalogue find", "Finds disks and files of a catalogue: a line IMAGE, tab, PATH for each.")
     parser.add_argument("words", metavar="WORDS", nargs="*", help="words with which words of names, labels, paths and comments begin, all of them")
     parser.add_argument("out", metavar="OUT", help="the catalogue")
-    parser.add_argument("--sum", type=checksum, metavar="SUM", help="in place of words: a CRC-32, MD5, SHA-1 or SHA-256 of an image, a SHA-256 of a file")
-    parser.add_argument("--text", action="store_true", help="find text files by their contents, if the catalogue was written with --index-text")
+    either = parser.add_mutually_exclusive_group()
+    either.add_argument("--sum", type=checksum, metavar="SUM", help="in place of words: a CRC-32, MD5, SHA-1 or SHA-256 of an image, a SHA-256 of a file")
+    either.add_argument("--text", action="store_true", help="find text files by their contents, if the catalogue was written with --index-text")
+    either.add_argument("--deleted", action="store_true", help="find what was deleted and whose header still stands, by paths and comments")
     parser.add_argument("--json", action="store_true", help="write JSON Lines: an object for each")
     return parser
 
 
 def checked(words: argparse.Namespace) -> int:
     """Words or a checksum are wanted, and not both."""
-    if bool(words.words) == bool(words.sum) or words.sum and words.text:
+    if bool(words.words) == bool(words.sum):
         line().error("either words or --sum is wanted")
     return work(words)

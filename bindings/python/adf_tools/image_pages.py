@@ -20,6 +20,7 @@ from adf_tools.protection import protection_text
 
 ENTRY_HEADS = ("Path", "Kind", "Size", "-Protection", "-Date", "-Header", "-Comment", "Also on")
 FOUND_HEADS = ("State", "Path", "Kind", "Size", "-Protection", "-Date", "-Comment", "Also on")
+DELETED_HEADS = ("State", "Path", "Kind", "Size", "-Date", "-Block")
 FINDING_HEADS = ("Blocks", "Cause", "Path", "Owned by")
 PARTITION_HEADS = ("Partition", "Verdict", "Kind", "First block", "Blocks", "-Flags", "-Priority", "Label")
 ADVICE = {group.name: group for group in GROUPS}
@@ -168,6 +169,11 @@ class ImagePage:
     def date_facts(self) -> List[Tuple[str, object]]:
         return [(head, shown(self.image[column])) for head, column in (("Root", "root"), ("Changed", "altered"), ("Created", "created"))]
 
+    def deleted_facts(self) -> List[Tuple[str, object]]:
+        """How many headers of deleted files and directories still stand, if there are any."""
+        count = self.image["deleted"]
+        return [("Deleted", f"{count_of(count, 'header')}, {self.image['deleted_whole'] or 0} whole")] if count else []
+
     def advice(self) -> Html:
         group = ADVICE.get(self.image["advice"])
         if group is None:
@@ -215,10 +221,11 @@ class ImagePage:
         dirs, files = image["dirs"] or 0, image["files"] or 0
         counts = f"{count_of(dirs, 'directory', 'directories')}, {count_of(files, 'file')}"
         told = group.title if (group := ADVICE.get(image["advice"])) else ""
-        pairs = [("State", shown(told)), ("Label", shown(image["label"] or "")), ("Volume", numbers), ("Holds", counts), *self.date_facts(), *self.sum_facts()]
+        pairs = [("State", shown(told)), ("Label", shown(image["label"] or "")), ("Volume", numbers), ("Holds", counts), *self.deleted_facts()]
+        pairs += [*self.date_facts(), *self.sum_facts()]
         rows = map(self.entry_row, self.rows(ENTRIES))
         entries = long_table("Entries", ENTRY_HEADS, rows, dirs + files, "adf list < IMAGE") if dirs + files else html("")
-        return joined((facts("Volume", pairs), self.icons(), self.beside(blocks_drawn(image["name"], self.roles()), entries)))
+        return joined((facts("Volume", pairs), self.icons(), self.beside(blocks_drawn(image["name"], self.roles()), entries), self.deleted_part()))
 
     def refused_body(self) -> Html:
         """The page of a refused image: its first fault, all findings, what is found all the same, and the new volume, if there is one."""
@@ -228,11 +235,11 @@ class ImagePage:
         kind, lost = "note" if image["advice"] in NO_FAULT else "refused", count_of(image["lost"] or 0, "file")
         pairs: List[Tuple[str, object]] = [("What to do", self.advice()), ("Refused", marked_as(kind, image["verdict"]))]
         pairs += [("Label", shown(image["label"]))] if image["label"] else []
-        pairs += [("Findings", counts), ("Lost", lost_text(image, lost, "all that was there")), *self.sum_facts()]
+        pairs += [("Findings", counts), ("Lost", lost_text(image, lost, "all that was there")), *self.deleted_facts(), *self.sum_facts()]
         cause = paragraphs_of_causes().get(self.damage(), html(""))
         fault = Fault(image["block"] or 0, image["verdict"])
         beside = self.beside(blocks_drawn(image["name"], self.roles(), fault), self.found_part(whole))
-        return joined((facts("Image", pairs), cause, self.finding_table(), self.rescue_part(), self.icons(), beside))
+        return joined((facts("Image", pairs), cause, self.finding_table(), self.rescue_part(), self.icons(), beside, self.deleted_part()))
 
     def damage(self) -> str:
         """The cause that is explained: that of the damage, if there is any beside the type."""
@@ -278,6 +285,16 @@ class ImagePage:
         found = long_table("Found", FOUND_HEADS, map(self.found_row, self.rows(ENTRIES)), whole, f"adf-survey {self.option()}--list < IMAGE")
         return html(form, option=self.option(), found=found)
 
+    def deleted_part(self) -> Html:
+        """What was deleted and whose header still stands, and how to get it."""
+        whole = self.image["deleted"]
+        if not whole:
+            return html("")
+        form = """<p><code>adf-survey {option}cat --deleted BLOCK &lt; IMAGE &gt; FILE</code> writes what is left of a deleted file.</p>\n{table}"""
+        rows = map(deleted_row, self.rows("SELECT * FROM deleted WHERE image = :image ORDER BY id"))
+        found = long_table("Deleted", DELETED_HEADS, rows, whole, f"adf-survey {self.option()}deleted < IMAGE")
+        return html(form, option=self.option(), table=found)
+
     def finding_table(self) -> Html:
         rows = map(finding_row, self.rows("SELECT * FROM findings WHERE image = :image ORDER BY id"))
         return long_table("Findings", FINDING_HEADS, rows, self.image["faults"] or 0, f"adf-survey {self.option()}< IMAGE")
@@ -316,6 +333,14 @@ def marked_as(kind: str, text: object) -> Html:
 
 def row_of(why: object, path: object) -> Html:
     return joined((cell(shown(why)), cell(shown(path), "text")))
+
+
+def deleted_row(row: Row) -> Html:
+    """The line of a deleted header."""
+    state = shown(row["state"]) if row["state"] == "whole" else marked_as("note", row["state"])
+    size = row["size"] if row["kind"] == "file" else ""
+    cells = [cell(state, "text"), cell(shown(row["path"]), "text"), text_cell(row["kind"]), cell(size, "number")]
+    return joined((*cells, text_cell(row["date"], "nowrap wide"), cell(row["block"], "number wide")))
 
 
 def finding_row(row: Row) -> Html:

@@ -26,7 +26,7 @@ from adf_tools.volumes import Record, Rows, record
 PART = re.compile("([1-9][0-9]{0,5})/([1-9][0-9]{0,5})")
 IMAGE = tuple(
     """name number member page bytes crc32 md5 sha1 sha256 tree advice verdict block cause kind type blocks used free dirs files label root
-    altered created boot boot_crc32 boot_is_right faults sound lost lost_least unlisted fits form roles""".split()
+    altered created boot boot_crc32 boot_is_right faults sound lost lost_least unlisted deleted deleted_whole fits form roles""".split()
 )
 FILES = 100  # of a transaction
 

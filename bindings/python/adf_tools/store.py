@@ -21,6 +21,7 @@ TABLES = {
     "entries": ("kind", "path", "size", "protection", "date", "comment", "header", "state", "sha256"),
     "findings": ("first", "last", "cause", "path", "owner"),
     "left_out": ("why", "path"),
+    "deleted": ("block", "state", "kind", "path", "size", "protection", "date", "comment"),
     "icons": ("path", "width", "height", "palette", "pixels"),
 }
 PARTITION = ("number", "name", "kind", "first", "blocks", "flags", "priority", "block", "fault")
@@ -30,6 +31,8 @@ GOING = (
         FROM images WHERE {OF_FILES}""",
     f"""INSERT INTO entry_words (entry_words, rowid, path, comment) SELECT 'delete', entries.id, words_of(substr(path, -1024)), words_of(comment)
         FROM entries JOIN images ON images.id = image WHERE {OF_FILES}""",
+    f"""INSERT INTO deleted_words (deleted_words, rowid, path, comment)
+        SELECT 'delete', deleted.id, words_of(substr(path, -1024)), words_of(comment) FROM deleted JOIN images ON images.id = image WHERE {OF_FILES}""",
     f"DELETE FROM text_words WHERE rowid IN (SELECT entries.id FROM entries JOIN images ON images.id = image WHERE {OF_FILES})",
     "DELETE FROM files WHERE id IN (SELECT value FROM json_each(?1))",
 )
@@ -37,6 +40,8 @@ COMING = (
     f"INSERT INTO image_words (rowid, name, label) SELECT id, words_of(name), words_of(label) FROM images WHERE {OF_FILES}",
     f"""INSERT INTO entry_words (rowid, path, comment) SELECT entries.id, words_of(substr(path, -1024)), words_of(comment)
         FROM entries JOIN images ON images.id = image WHERE {OF_FILES}""",
+    f"""INSERT INTO deleted_words (rowid, path, comment) SELECT deleted.id, words_of(substr(path, -1024)), words_of(comment)
+        FROM deleted JOIN images ON images.id = image WHERE {OF_FILES}""",
 )
 SHOWN = """SELECT name, number, page, label, NULL AS path, NULL AS comment, sha256, tree FROM images WHERE file = ?1
     UNION ALL SELECT name, number, page, label, path, comment, entries.sha256, NULL FROM entries JOIN images ON images.id = image WHERE file = ?1"""

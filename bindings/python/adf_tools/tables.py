@@ -10,7 +10,7 @@ from adf_tools.names import CONTROL, bytes_of, one_line
 
 IMAGE_QUERY = """SELECT name AS image, images.bytes, images.sha256, verdict, kind, blocks, used, free, dirs, images.files, label, root, altered, created,
 unlisted, advice, lost, fits, rescued, images.crc32, images.md5, images.sha1, boot_crc32, boot_is_right, boot, boot_others, lost_least, form,
-files.path AS file, files.sha256 AS file_sha256, known, known_as FROM images JOIN files ON files.id = images.file
+files.path AS file, files.sha256 AS file_sha256, known, known_as, deleted, deleted_whole FROM images JOIN files ON files.id = images.file
 LEFT JOIN (SELECT boot_crc32 AS crc, COUNT(*) - 1 AS boot_others FROM images GROUP BY boot_crc32) ON crc = boot_crc32 ORDER BY name, number"""
 PASSED_QUERY = """SELECT CASE SUBSTR(kind, 1, 1) WHEN '.' THEN '*' ELSE '' END || kind AS image,
 CASE WHEN file IS NULL THEN 'no image' ELSE 'no image, in an archive' END AS verdict, SUM(count) AS files, 'passed' AS advice

@@ -11,7 +11,7 @@ import zlib
 from typing import Any, Dict, Iterable, Iterator, List, NamedTuple, Optional, Sequence, Tuple
 
 import adf
-from adf_tools import icons
+from adf_tools import deletions, icons
 from adf_tools.advice import advice_of, passed, sound_group
 from adf_tools.names import letters, spelled_letters
 from adf_tools.picture import roles_of_refused
@@ -28,13 +28,14 @@ Rows = List[Tuple[Any, ...]]
 
 
 class Record(NamedTuple):
-    """What is kept of one image: its columns, and its rows of the tables entries, findings, left_out, partitions and icons; of text files
-    the place among the entries, and the text, where that is wanted."""
+    """What is kept of one image: its columns, and its rows of the tables entries, findings, left_out, deleted, partitions and icons; of text
+    files the place among the entries, and the text, where that is wanted."""
 
     columns: Columns
     entries: Rows
     findings: Rows
     left_out: Rows
+    deleted: Rows
     partitions: Rows
     icons: Rows
     texts: Rows
@@ -42,7 +43,7 @@ class Record(NamedTuple):
     @property
     def weight(self) -> int:
         """How many letters it has, roughly."""
-        rows = (*self.entries, *self.findings, *self.left_out, *self.partitions, *self.texts)
+        rows = (*self.entries, *self.findings, *self.left_out, *self.deleted, *self.partitions, *self.texts)
         return LINE + sum(map(letters_of, rows))
 
 
@@ -52,7 +53,7 @@ def letters_of(row: Tuple[Any, ...]) -> int:
 
 
 def record(columns: Columns) -> Record:
-    return Record(columns, [], [], [], [], [], [])
+    return Record(columns, [], [], [], [], [], [], [])
 
 
 def limited(rows: Iterable[Tuple[Any, ...]]) -> Rows:
@@ -185,6 +186,11 @@ def finding_rows(survey: adf.Survey) -> Iterator[Tuple[Any, ...]]:
         yield first, last, cause, *(None if path is None else spelled_letters(path) for path in paths)
 
 
+def with_deleted(found: Record, rows: Rows) -> Record:
+    """What is kept of an image, and what was deleted from it."""
+    return found._replace(columns={**found.columns, **deletions.counts_of(rows)}, deleted=limited(rows))
+
+
 def image_record(image: bytes, columns: Columns, has_texts: bool) -> Tuple[Record, Optional[adf.Rescued]]:
     """What is kept of the image of a volume, refused or not, and the new volume of a refused one."""
     columns = {**columns, **boot_facts(image)}
@@ -192,8 +198,10 @@ def image_record(image: bytes, columns: Columns, has_texts: bool) -> Tuple[Recor
         volume = adf.Volume(image)
     except adf.Refused as refused:
         standing = Standing(image, refused)
-        return refused_record(standing, refused, columns, has_texts), standing.volume
-    return volume_record(volume, columns, has_texts), None
+        found = refused_record(standing, refused, columns, has_texts)
+        return with_deleted(found, deletions.rows_of_survey(standing.survey)), standing.volume
+    found = volume_record(volume, columns, has_texts)
+    return with_deleted(found, deletions.rows_of_volume(image, {header for *_, header, _, _ in found.entries})), None
 
 
 def long_record(columns: Columns) -> Record:

@@ -8,6 +8,7 @@ import struct
 import zipfile
 import zlib
 
+import adf
 from tests.shared import built, changed, image_of, written
 from tests.test_catalogue import Catalogues
 
@@ -48,6 +49,20 @@ def volume(*files, label="Try", kind="ofs", blocks=1760, dirs=(), date="8035:0:0
     for path, content in files:
         lines += [f"file {date} 00000000 {path}", *(f"data {content[at : at + 100].hex()}" for at in range(0, len(content), 100))]
     return built(lines)
+
+
+def without(image, path):
+    """The volume without a file in its root that is the first of its slot, deleted as AmigaDOS does it: the slot leads to what comes behind it,
+    and its blocks are free."""
+    words, root, header = list(struct.unpack(f">{len(image) // 4}I", image)), len(image) // 1024, adf.Volume(image)[path].header
+    slot, page = words.index(header, 128 * root + 6, 128 * root + 78), words[128 * root + 79]
+    words[slot] = words[128 * header + 124]
+    for block in (header, *(words[128 * header + 77 - place] for place in range(words[128 * header + 2]))):
+        words[128 * page + 1 + (block - 2) // 32] |= 1 << (block - 2) % 32
+    for at in (128 * root + 5, 128 * page):
+        words[at] = 0
+        words[at] = -sum(words[at // 128 * 128 : (at // 128 + 1) * 128]) % 2**32
+    return struct.pack(f">{len(words)}I", *words)
 
 
 def dat(*disks, head="", game="Game"):

@@ -549,6 +549,16 @@ class Databases(Catalogues):
         self.assertEqual(self.asked("out", "PRAGMA user_version"), [(len(database.STEPS),)])
         self.assertEqual(self.asked("out", "PRAGMA integrity_check"), [("ok",)])
 
+    def test_keeps_how_much_was_deleted_where_it_was_asked(self):
+        written("disks/no.adf", b"X" * 901120)
+        written("disks/cut.zip", b"no archive")
+        self.catalogue("disks", "out", "--tsv", status=3)
+        none = [(name, 0, 0) for name in ("a.adf", "bad.adf")]
+        rows = self.asked("out", "SELECT name, deleted, deleted_whole FROM images ORDER BY name")
+        self.assertEqual(rows, [*none, ("cut.zip", None, None), ("no.adf", 0, 0), ("two.zip/b.adf", 0, 0)])
+        told = {row["image"]: (row["deleted"], row["deleted_whole"]) for row in rows_of("out/images.tsv") if row["advice"] != "passed"}
+        self.assertEqual(told, {"a.adf": ("0", "0"), "bad.adf": ("0", "0"), "cut.zip": ("", ""), "no.adf": ("0", "0"), "two.zip/b.adf": ("0", "0")})
+
     def test_says_that_a_database_is_damaged_and_leaves_it(self):
         self.catalogue("disks", "out", "--tsv", status=1)
         with open("out/collection.sqlite", "rb") as file:

@@ -11,7 +11,7 @@ import unittest
 import zlib
 
 import adf
-from tests.samples import OFS, Asked, dat, disk, volume
+from tests.samples import OFS, Asked, dat, disk, volume, without
 from tests.shared import TOP, changed, written
 
 PAGE = os.path.join(TOP, "docs", "adf-catalogue.1")
@@ -46,7 +46,8 @@ class Find(Asked):
         self.assertEqual(self.find("--sum", "0" * 64, "out", status=1), [])
 
     def test_refuses_words_that_ask_nothing(self):
-        for words in (["out"], ["--sum", "xyz", "out"], ["--sum", "0" * 9, "out"], ["--sum", self.sum, "word", "out"], []):
+        more = ["--deleted", "out"], ["--deleted", "--sum", self.sum, "out"], ["--deleted", "--text", "a", "out"], ["--sum", self.sum, "--text", "out"]
+        for words in (["out"], ["--sum", "xyz", "out"], ["--sum", "0" * 9, "out"], ["--sum", self.sum, "word", "out"], [], *more):
             ran = self.run_tool("catalogue", "find", *words)
             self.assertEqual((ran.returncode, ran.stdout), (2, b""))
         self.refused(3, "nix/collection.sqlite: unable to open database file", "catalogue", "find", "a", "nix")
@@ -76,6 +77,24 @@ class Find(Asked):
         self.assertEqual(self.find("--text", "gr\xfc\xdfe", "out"), [("new.adf", "readme")])
         self.assertEqual(self.find("--text", "hello", "out"), [("a.zip/B\xfc.adf", "c/readme"), *startup[:2]])
 
+    def test_finds_what_was_deleted(self):
+        letter = volume(("letter", b"Dear all\n" * 99), ("lemmings", b"x"), label="Gone")
+        written("disks/gone.adf", without(letter, "letter"))
+        written("disks/games/gone bad.adf", changed(without(letter, "letter"), 880, 440, 1))
+        self.catalogue("disks", "out", status=1)
+        self.assertEqual(self.find("--deleted", "LETT", "out"), [("games/gone bad.adf", "letter"), ("gone.adf", "letter")])
+        self.assertEqual(self.find("letter", "out", status=1), [])
+        self.assertEqual(self.find("--deleted", "lemmings", "out", status=1), [])
+        rows = [json.loads(line) for line in self.tool("catalogue", "find", "--deleted", "--json", "letter", "out").splitlines()]
+        told = {"path": "letter", "kind": "file", "size": 891, "date": "2000-01-01 00:00:00.00", "state": "whole", "block": adf.Volume(letter)["letter"].header}
+        self.assertEqual(rows, [{"image": image, **told} for image in ("games/gone bad.adf", "gone.adf")])
+        with open("disks/gone.adf", "rb") as file:
+            self.assertEqual(adf.survey(file.read()).deleted[0].read(), b"Dear all\n" * 99)
+        written("disks/gone.adf", letter)
+        self.catalogue("disks", "out", status=1)
+        self.assertEqual(self.find("--deleted", "letter", "out"), [("games/gone bad.adf", "letter")])
+        self.assertEqual(self.find("letter", "out"), [("gone.adf", "letter")])
+
     def test_loads_what_it_needs_alone(self):
         line = "import sys; from adf_tools import find; print([name for name in ('adf', 'ctypes', 'multiprocessing') if name in sys.modules])"
         self.assertEqual(self.run_python("-c", line).stdout, b"[]\n")
@@ -103,6 +122,7 @@ class Queries(Asked):
         written("disks/cut.adf", OFS[: 512 * 1700])
         written("disks/disk.hdf", disk(volume(blocks=64, label="Work"), changed(volume(blocks=64, label="Bad"), 32, 440, 1)))
         written("disks/start.adf", adf.with_standard_boot(volume(("x", b""), label="Start")))
+        written("disks/gone.adf", without(volume(("letter", b"Dear all\n"), label="Gone"), "letter"))
         other = f"{zlib.crc32(b'no volume'.ljust(1024, bytes(1))):08x}"
         written("list.dat", dat(("Tools.adf", OFS)))
         self.catalogue("--dat", "list.dat", "disks", "out", status=1)
@@ -115,15 +135,16 @@ class Queries(Asked):
             "COUNT(DISTINCT sha256) > 1": [("free.adf, games/copy.adf, tools.adf",)],
             "MIN(path)": [(4, "lemmings"), (4, "s/startup-sequence"), (2, "c/readme"), (2, "large")],
             "advice = 'read again'": [("disk.hdf/DH1", "block 32: bad sum", 0, 1), ("games/bad.adf", "block 880: bad sum", 0, 1)],
+            "FROM deleted": [("gone.adf", adf.Volume(volume(("letter", b"Dear all\n")))["letter"].header, "letter")],
             "GROUP BY cause": [("bad sum", 2), ("bad type", 1), ("not dos", 1)],
             "fits": [("cut.adf", 870400, 901120)],
             "known = 'differs'": [("tools.adf", "Tools.adf (list.dat)")],
-            "boot, COUNT": [("b442e953", "no-code", 8), ("01261547", "bootable", 1), (other, "not-dos", 1)],
+            "boot, COUNT": [("b442e953", "no-code", 9), ("01261547", "bootable", 1), (other, "not-dos", 1)],
             "boot = 'bootable'": [("start.adf", "01261547")],
             "partitions": [("disk.hdf", "DH0", "ofs", "ok"), ("disk.hdf", "DH1", "ofs", "block 32: bad sum")],
         }
         found = queries()
-        self.assertEqual(len(found), 12)
+        self.assertEqual(len(found), 13)
         for word, rows in expected.items():
             (query,) = [query for query in found if word in query]
             self.assertEqual(self.asked("out", query), rows, query)

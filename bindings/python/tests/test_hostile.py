@@ -24,6 +24,7 @@ from tests.test_catalogue import Catalogues, Page, trees_of
 TOOLS = os.path.join(os.path.dirname(HERE), "adf_tools")
 MARKUP = "'\"><script>alert(1)</script><img src=x onerror=alert(1)>&\x1b]0;x\x07\x9b"
 FILE_SUMS = ("bytes", "crc32", "md5", "sha1", "sha256")
+NEWER, NEWER_COLUMNS = ("sums", "passed", "lists", "written", "deleted", "deleted_words"), ("form", "lost_least", "judged", "deleted", "deleted_whole")
 FIRST_RUN = """
 import contextlib, fcntl, os
 from adf_tools import catalogue, update
@@ -144,8 +145,8 @@ class Links(Catalogues):
     def test_takes_the_files_of_an_earlier_version_for_its_own(self):
         self.catalogue("disks", "out", "--tsv")
         with contextlib.closing(sqlite3.connect("out/collection.sqlite")) as connection, connection:
-            connection.executescript("DROP TABLE sums; DROP TABLE passed; DROP TABLE lists; DROP TABLE written; PRAGMA user_version = 5")
-            for column in ("images form", "images lost_least", "images judged", *(f"files {name}" for name in FILE_SUMS), "known status"):
+            connection.executescript("".join(f"DROP TABLE {name};" for name in NEWER) + "PRAGMA user_version = 5")
+            for column in (*(f"images {name}" for name in NEWER_COLUMNS), *(f"files {name}" for name in FILE_SUMS), "known status"):
                 connection.execute("ALTER TABLE {} DROP COLUMN {}".format(*column.split()))
         os.remove("disks/a.adf")
         written("disks/b.adf", BAD)
@@ -207,11 +208,13 @@ class Strange(Catalogues):
         rows = f"""UPDATE entries SET kind = {quoted(MARKUP)}, path = {quoted(MARKUP)}, date = {quoted(MARKUP)}, comment = {quoted(MARKUP)};
             UPDATE facts SET value = {quoted(MARKUP)} WHERE name = 'title';
             INSERT INTO findings (image, first, last, cause, path, owner) VALUES (1, 1, 2, {', '.join([quoted(MARKUP)] * 3)});
+            INSERT INTO deleted (image, block, state, kind, path, size, protection, date, comment)
+                VALUES (1, 9, {', '.join([quoted(MARKUP)] * 3)}, 1, 2, {', '.join([quoted(MARKUP)] * 2)});
             INSERT INTO icons (image, path, width, height, palette, pixels) VALUES (1, {quoted(MARKUP)}, 1, 1, 0, x'{zlib.compress(bytes(1)).hex()}');
             INSERT INTO partitions (disk, number, name, kind, first, blocks, flags, priority, block, fault)
                 VALUES (1, 1, {quoted(MARKUP)}, {quoted(MARKUP)}, 0, 9, 0, 0, 0, {quoted(MARKUP)})"""
         for verdict, kind in (("ok", MARKUP), (MARKUP, MARKUP), (MARKUP, "disk")):
-            columns = {**dict.fromkeys(texts, MARKUP), "verdict": verdict, "kind": kind, "faults": 1, "advice": "read again"}
+            columns = {**dict.fromkeys(texts, MARKUP), "verdict": verdict, "kind": kind, "faults": 1, "deleted": 1, "advice": "read again"}
             self.catalogue("merge", "out", self.part("part", rows, **columns), "--tsv", status=int(verdict != "ok"))
             pages = glob.glob("out/**/*.html", recursive=True)
             self.assertEqual(len(pages), 4)
@@ -221,7 +224,7 @@ class Strange(Catalogues):
                 self.assertNotRegex(tags.text, "[\x07\x1b\x9b]")
             for path in glob.glob("out/search/*.js"):
                 self.assertNotRegex(read(path).decode("ascii"), "[<>]")
-            self.assertEqual({len(line.split("\t")) for line in read("out/images.tsv").decode().split("\n")[:-1]}, {32})
+            self.assertEqual({len(line.split("\t")) for line in read("out/images.tsv").decode().split("\n")[:-1]}, {34})
             os.rename("out", f"out{verdict == 'ok'}{kind == 'disk'}")
             os.remove("part")
 

@@ -3,7 +3,7 @@
 import os
 import subprocess
 
-from tests.samples import BAD, OFS, Asked, disk, icon, volume
+from tests.samples import BAD, OFS, Asked, disk, icon, volume, without
 from tests.shared import written
 from tests.test_catalogue import trees_of
 
@@ -18,7 +18,7 @@ class Machines(Asked):
         return [f"part{number}" for number in range(1, whole + 1)]
 
     def test_gives_the_same_as_one_machine(self):
-        written("disks/disk.hdf", disk(volume(("a", b"a"), ("Disk.info", icon()), blocks=64), BAD))
+        written("disks/disk.hdf", disk(volume(("a", b"a"), ("Disk.info", icon()), blocks=64), BAD, without(volume(("letter", b"a"), blocks=64), "letter")))
         for number in range(20):
             written(f"disks/{number}.adf", OFS if number % 3 else BAD)
         parts = self.scanned(3, "--index-text")
@@ -26,6 +26,9 @@ class Machines(Asked):
         self.catalogue("disks", "whole", "--tsv", "--index-text", status=1)
         self.assertEqual(trees_of("merged"), trees_of("whole"))
         self.assertEqual(self.find("--text", "hello", "merged"), self.find("--text", "hello", "whole"))
+        self.assertEqual(self.find("--deleted", "letter", "merged"), [("disk.hdf/DH2", "letter")])
+        line = "SELECT deleted.block, state, path, images.deleted FROM deleted JOIN images ON images.id = image"
+        self.assertEqual(self.asked("merged", line), self.asked("whole", line))
         written("disks/5.adf", BAD)
         os.remove("disks/6.adf")
         self.scanned(3, "--index-text")
