@@ -70,13 +70,17 @@ USUAL = (1760, 3520)
 
 def length_of(given, blocks):
     """The blocks that are read: those that are stated; but if the middle of these is not like a root, and the middle of just one usual
-    length has the three words of a root, that length."""
+    length has the three words of a root, that length; or else the one shorter usual length whose middle more headers name as their
+    directory."""
     stated = len(given) // 512 if blocks is None else blocks
     held = min(stated, len(given) // 512)
     if stated // 2 < held and is_like_root(given, stated // 2):
         return stated
     allowed = [n for n in USUAL if n != stated and n // 2 < held and (blocks is None or n <= blocks)]
     others = [n for n in allowed if is_like_root(given, n // 2) == 3]
+    if len(others) != 1:
+        named = [words(given, b)[125] for b in range(held) if says_header(given, b)]
+        others = [n for n in USUAL if n < stated and named.count(n // 2) > named.count(stated // 2)]
     return others[0] if len(others) == 1 else stated
 
 
