@@ -4,6 +4,7 @@
 from __future__ import annotations
 
 import functools
+import heapq
 import itertools
 import json
 import operator
@@ -36,8 +37,9 @@ PLACES = (  # of the words from one on and before another, in their order
 FRONTS = f"""SELECT substr(term, 1, {FRONT}) FROM image_vocabulary UNION SELECT substr(term, 1, {FRONT}) FROM entry_vocabulary
 UNION SELECT substr(sha256, 1, {FRONT}) FROM images WHERE sha256 IS NOT NULL UNION SELECT substr(tree, 1, {FRONT}) FROM images WHERE tree IS NOT NULL
 UNION SELECT substr(sha256, 1, {FRONT}) FROM entries WHERE sha256 IS NOT NULL"""
-IMAGES_OF = """SELECT doc FROM image_terms WHERE term = ?1 UNION ALL SELECT image FROM entry_terms JOIN entries ON entries.id = doc WHERE term = ?1
-UNION ALL SELECT image FROM entries WHERE sha256 = ?1 UNION ALL SELECT id FROM images WHERE sha256 = ?1 OR tree = ?1"""
+PLACES_OF = """SELECT doc, '', '' FROM image_terms WHERE term = ?1
+UNION ALL SELECT image, path, comment FROM entry_terms CROSS JOIN entries ON entries.id = doc WHERE term = ?1
+UNION ALL SELECT image, path, comment FROM entries WHERE sha256 = ?1 UNION ALL SELECT id, '', '' FROM images WHERE sha256 = ?1 OR tree = ?1"""
 IMAGES_BETWEEN = """SELECT doc FROM image_terms WHERE term BETWEEN ?1 AND ?2
 UNION ALL SELECT image FROM entry_terms JOIN entries ON entries.id = doc WHERE term BETWEEN ?1 AND ?2"""
 
@@ -82,10 +84,6 @@ class Places:
     def __init__(self, connection: sqlite3.Connection, images: Optional[Dict[int, NamedImage]] = None) -> None:
         self.connection = connection
         self.images = images_of(connection) if images is None else images
-
-    def steps(self, term: str) -> List[int]:
-        """The numbers of the images of all places of a word, each as what it is more than the one before."""
-        return self.steps_to(row[0] for row in self.connection.execute(IMAGES_OF, (term,)))
 
     def steps_to(self, images: Iterable[int]) -> List[int]:
         """The numbers of images, each as what it is more than the one before."""
@@ -143,9 +141,23 @@ class Places:
         terms = {term: self.kept(term, found[term]) for term in sorted(found)}
         yield from self.tree(name, terms) if terms else ()
 
+    def places_of(self, term: str, images: Set[int]) -> Iterator[Place]:
+        """Each place of a word; the rows of the images are added to a set."""
+        cursor = self.connection.cursor()
+        cursor.row_factory = None
+        for place, _ in itertools.groupby(cursor.execute(PLACES_OF, (term,))):
+            images.add(place[0])
+            if place[0] in self.images:
+                yield place
+
     def kept(self, term: str, places: List[Place]) -> Terms:
-        """What a part has of the places of a word: the first of them, and, if there are more, all images."""
-        return places[:MOST_PLACES], self.steps(term) if len(places) > MOST_PLACES else []
+        """What a part has of the places of a word: if there are too many, the first by the names of their images, and all images. Rows do not
+        count, since a run after a change has others than a new catalogue."""
+        if len(places) <= MOST_PLACES:
+            return places, []
+        images: Set[int] = set()
+        first = heapq.nsmallest(MOST_PLACES, self.places_of(term, images), key=lambda place: (self.images[place[0]], *place[1:]))
+        return first, self.steps_to(images)
 
     def names(self, wanted: Optional[Container[str]] = None) -> Iterator[Part]:
         """The names and pages of images, in files by the first bits of their numbers: all, or those that are wanted."""
