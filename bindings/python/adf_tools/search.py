@@ -163,7 +163,7 @@ class Places:
     def kept(self, term: str, places: List[Place]) -> Terms:
         """What a part has of the places of a word: all, or the first of them and all images."""
         if len(places) <= MOST_PLACES:
-            return sorted(map(tuple, places), key=self.rank), []
+            return sorted(((row, path, comment) for row, path, comment in places), key=self.rank), []
         return heapq.nsmallest(MOST_PLACES, self.all_places(term), key=self.rank), self.steps(term)
 
     def names(self, wanted: Optional[Container[str]] = None) -> Iterator[Part]:
