@@ -29,7 +29,7 @@ def run(words: Iterable[str], given: Image = b"") -> Answer:
 
 
 def run_program(program: str, words: Iterable[str], given: Image, most: int = MOST_OUTPUT) -> Answer:
-    """The same of `adf` or of `adf-survey`, whose output is cut where it has more than the most bytes."""
+    """The same of `adf` or of `adf-survey`, cut where the output has more than the most bytes."""
     call = {"adf": calls().adf_run, "adf-survey": calls().adf_survey_run}[program]
     all_words, given = (program, *words), _arguments.plain(given)
     if not all(isinstance(word, str) for word in all_words):

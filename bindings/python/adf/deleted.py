@@ -21,9 +21,8 @@ LINES = re.compile(
     r"(?:note (.*)\n)?",
     re.M,
 )
-LINE_BEGIN = "\nblock "
 GAP = re.compile(r"^bytes (\d+) to (\d+): no data$", re.M)
-FAILED, WRITE_FAULT = 3, b"write fault\n"
+NO_MEMORY = 3
 Told = Tuple[int, str, int, int, Date, bool, str, bytes]  # what is told of a deleted header: the fields of Deleted behind its survey
 
 
@@ -90,21 +89,19 @@ class Deleted(_Fields):
 
 
 def _answer(image: bytes | Mapped, blocks: int | None, words: tuple[str, ...], most: int = commands.MOST_OUTPUT) -> commands.Answer:
-    """What `adf-survey` answers to these words about an image, read as if it had so many blocks, if a number is given."""
+    """What `adf-survey` answers to these words about an image, read as if it had so many blocks, if a number is given. NoMemory if that
+    has more than the most bytes."""
     front = () if blocks is None else ("--blocks", str(blocks))
     answer = commands.run_program("adf-survey", (*front, *words), image, most)
-    if answer.status == FAILED and (answer.errors != WRITE_FAULT or most == commands.MOST_OUTPUT):
+    if answer.status == NO_MEMORY:
         raise NoMemory
     return answer
 
 
 def told_of(image: bytes | Mapped, blocks: int | None, most: int = commands.MOST_OUTPUT) -> Iterator[Told]:
-    """What `adf-survey deleted` tells of each deleted header, in the order of their blocks; where all lines have more than the most bytes,
-    the first of them."""
-    answer = _answer(image, blocks, ("deleted",), most)
-    text = answer.output.decode("ascii")
-    whole = len(text) if answer.status != FAILED else text.rfind(LINE_BEGIN) + 1  # the last line that is cut has no note yet
-    for found in LINES.finditer(text, 0, whole):
+    """What `adf-survey deleted` tells of each deleted header, in the order of their blocks. NoMemory if the lines have more than the most
+    bytes."""
+    for found in LINES.finditer(_answer(image, blocks, ("deleted",), most).output.decode("ascii")):
         block, state, kind, protection, size, date, path, note = found.groups()
         length, comment = 0 if size == "-" else int(size), _texts.unescape(note or "")
         yield int(block), state, length, int(protection, 16), Date.of(date), kind == "file", path, comment

@@ -8,6 +8,7 @@ import contextlib
 import multiprocessing
 import os
 import pickle
+import resource
 import secrets
 import signal
 import sys
@@ -20,7 +21,7 @@ LARGE = 1 << 20  # bytes of an answer that waits in a file
 AHEAD, TOGETHER = 16, 8  # so many pieces for each process are given out before the first of them is done, and at most so many at once
 FILE = os.O_RDONLY | os.O_NOFOLLOW | os.O_CLOEXEC
 NEW_FILE = os.O_WRONLY | os.O_CREAT | os.O_EXCL | os.O_NOFOLLOW | os.O_CLOEXEC
-MEMORY, GROUP, OWN_GROUP = "/proc/meminfo", "/sys/fs/cgroup", "/proc/self/cgroup"
+MEMORY, GROUP, OWN_GROUP, OWN_MEMORY = "/proc/meminfo", "/sys/fs/cgroup", "/proc/self/cgroup", "/proc/self/status"
 Piece = TypeVar("Piece")
 Answer = TypeVar("Answer")
 _work: Optional[Packed[Any, Any]] = None  # what a process beside the program does
@@ -89,6 +90,19 @@ def accept_memory(need: int) -> None:
     free = free_memory()
     if free is not None and free < need:
         raise MemoryError(f"no memory: {need} bytes are needed, and {free} are free")
+
+
+@contextlib.contextmanager
+def memory_at_most(more: int) -> Iterator[None]:
+    """In here this process gets at most so many bytes more than it has, if the system tells how many these are."""
+    taken, (soft, hard) = number_in(OWN_MEMORY, "VmSize:"), resource.getrlimit(resource.RLIMIT_AS)
+    limits = [limit for limit in (soft, hard) if limit != resource.RLIM_INFINITY]
+    if taken is not None:
+        resource.setrlimit(resource.RLIMIT_AS, (min([1024 * taken + more, *limits]), hard))
+    try:
+        yield
+    finally:
+        resource.setrlimit(resource.RLIMIT_AS, (soft, hard))
 
 
 def workers(pieces: int, need: int) -> int:

@@ -186,9 +186,9 @@ def finding_rows(survey: adf.Survey) -> Iterator[Tuple[Any, ...]]:
         yield first, last, cause, *(None if path is None else spelled_letters(path) for path in paths)
 
 
-def with_deleted(found: Record, rows: Rows) -> Record:
-    """What is kept of an image, and what was deleted from it."""
-    return found._replace(columns={**found.columns, **deletions.counts_of(rows)}, deleted=limited(rows))
+def with_deleted(found: Record, rows: Optional[Rows]) -> Record:
+    """What is kept of an image, and what was deleted from it, if that is known."""
+    return found if rows is None else found._replace(columns={**found.columns, **deletions.counts_of(rows)}, deleted=limited(rows))
 
 
 def image_record(image: bytes, columns: Columns, has_texts: bool) -> Tuple[Record, Optional[adf.Rescued]]:

@@ -6,6 +6,7 @@ from __future__ import annotations
 import argparse
 import contextlib
 import os
+import resource
 import sqlite3
 import struct
 import types
@@ -69,18 +70,29 @@ class Told(unittest.TestCase):
 
     def test_has_a_row_for_each_header(self) -> None:
         with answering(TEXT) as asked:
-            self.assertEqual(list(deletions.rows_of(b"image", 1760)), ROWS)
+            self.assertEqual(deletions.rows_of(b"image", 1760), ROWS)
         self.assertEqual(asked.call_args[0], ("adf-survey", ("--blocks", "1760", "deleted"), b"image", deletions.MOST_TOLD))
         self.assertEqual(deletions.counts_of(ROWS), {"deleted": 4, "deleted_whole": 2})
         with answering(b"", 1, b"no volume\n"):
-            self.assertEqual(list(deletions.rows_of(b"", None)), [])
+            self.assertEqual(deletions.rows_of(b"", None), [])
 
-    def test_has_the_first_rows_where_there_are_too_many(self) -> None:
-        ends = [TEXT.index(b"\nblock %d" % row[0]) for row in ROWS[1:]]
-        for most in range(len(TEXT) + 1):
+    def test_has_no_rows_where_they_take_too_much(self) -> None:
+        for most, rows in ((len(TEXT), ROWS), (len(TEXT) - 1, None), (0, None)):
             with answering(TEXT), mock.patch.object(deletions, "MOST_TOLD", most):
-                rows = list(deletions.rows_of(b"", None))
-            self.assertEqual(rows, ROWS if most == len(TEXT) else ROWS[: sum(most >= end + len("\nblock ") for end in ends)], most)
+                self.assertEqual(deletions.rows_of(b"", None), rows)
+        with answering(TEXT, 3, b"no memory\n"):
+            self.assertEqual(volumes.with_deleted(volumes.record({}), deletions.rows_of(b"", None)), volumes.record({}))
+
+    def test_takes_no_more_memory_than_it_may(self) -> None:
+        before = resource.getrlimit(resource.RLIMIT_AS)
+
+        def run(*_words: Any) -> commands.Answer:
+            return commands.Answer(0, bytes(sizes.pop()), b"")
+
+        sizes = [deletions.MEMORY + (64 << 20), 1 << 20]
+        with mock.patch.object(commands, "run_program", run):
+            self.assertEqual((deletions.rows_of(b"", None), deletions.rows_of(b"", None)), ([], None))
+        self.assertEqual((sizes, resource.getrlimit(resource.RLIMIT_AS)), ([], before))
 
     def test_says_that_there_is_no_memory(self) -> None:
         for errors in (b"no memory\n", b"write fault\n"):

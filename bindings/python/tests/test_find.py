@@ -90,6 +90,13 @@ class Find(Asked):
         self.assertEqual(rows, [{"image": image, **told} for image in ("games/gone bad.adf", "gone.adf")])
         with open("disks/gone.adf", "rb") as file:
             self.assertEqual(adf.survey(file.read()).deleted[0].read(), b"Dear all\n" * 99)
+        line = "from adf_tools import catalogue, deletions; deletions.MOST_TOLD = 150; catalogue.main()"
+        many = without(without(volume(("letter", b"x"), ("note", b"x"), ("draft", b"x")), "letter"), "note")
+        written("disks/many.adf", without(many, "draft"))
+        self.assertEqual(self.run_python("-c", line, "disks", "out").returncode, 1)
+        self.assertEqual(self.asked("out", "SELECT verdict, deleted FROM images WHERE name = 'many.adf'"), [("ok", None)])
+        self.assertEqual(self.find("--deleted", "draft", "out", status=1), [])
+        os.remove("disks/many.adf")
         written("disks/gone.adf", letter)
         self.catalogue("disks", "out", status=1)
         self.assertEqual(self.find("--deleted", "letter", "out"), [("games/gone bad.adf", "letter")])
