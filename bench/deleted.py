@@ -10,12 +10,17 @@ an entry with its header there: what a rescue finds is not deleted.
 """
 
 import sys
-from itertools import zip_longest
+from itertools import chain, count, zip_longest
 from struct import unpack_from
 
 sys.dont_write_bytecode = True
-from rescue import Lost, claims, lacks_root, opened, pruned, says_dir, says_header, sealed, typed, words
-from survey import FILE, POINTERS, Survey, spelled
+from rescue import Lost, claims, lacks_root, meta_of, opened, pruned, says_dir, says_header, sealed, typed, words
+from survey import FILE, POINTERS, Survey, spelled, upper
+
+
+def numbered(name):
+    """The name, then with `-1` behind it, `-2` and so on."""
+    return chain([name], (name + b"-%d" % i for i in count(1)))
 
 
 class Deleted:
@@ -154,6 +159,26 @@ class Deleted:
             names.append(self.sv.text(at, 432)[:79])
             at = words(self.image, at)[125]
         return names[::-1] if at == self.sv.root else [b"?", *names[::-1]]
+
+    def keep(self, rescue):
+        """Adds the whole files to a rescue, as `adf-survey rescue --deleted` does: in a directory of their own, by their names, or by the first
+        of `deleted-BLOCK`, `deleted-BLOCK-1` and so on that is free there. Answers the node of each, by its header; None where there is no room."""
+        files = [] if rescue.refused else [h for h in self.headers if self.is_file(h) and self.state(h) == "whole"]
+        if not files:
+            return {}
+        self.home = next(name for name in numbered(b"deleted") if upper(name, False) not in rescue.root.index)
+        directory = rescue.put(rescue.root, [self.home], (b"", 0, (0, 0, 0)), None)
+        return {h: directory and self.keep_file(rescue, directory, h) for h in files}
+
+    def no_room(self, kept):
+        """The lines of those for which there is no room."""
+        return [f"no room: {spelled([self.home, self.name(h)])}" for h, node in kept.items() if node is None]
+
+    def keep_file(self, rescue, directory, h):
+        return rescue.put(directory, chain([self.name(h)], numbered(b"deleted-%d" % h)), meta_of(self.sv, h), self.content(h))
+
+    def name(self, h):
+        return self.sv.text(h, 432)[:79]
 
     def lines(self):
         for h in self.headers:

@@ -437,6 +437,12 @@ class Node:
         self.path, self.meta, self.content, self.index = path, meta, content, {}
 
 
+def meta_of(survey, h):
+    """The comment, the protection and the date in the header at block h."""
+    w = words(survey.image, h)
+    return survey.text(h, 328)[:79], w[80], w[105:108]
+
+
 class Rescue:
     def __init__(self, image, blocks=None):
         stated = len(image) // 512 if blocks is None else blocks
@@ -572,18 +578,17 @@ class Rescue:
         return b"".join(out)
 
     def add(self, survey, h, parent, content):
-        for name in (survey.text(h, 432), b"lost-%d" % h)[h in self.outranked :]:
-            if is_name(name) and upper(name, False) not in parent.index:
-                break
-        else:
-            return None
-        datas = 0 if content is None else -(-len(content) // survey.chunk)
+        return self.put(parent, (survey.text(h, 432), b"lost-%d" % h)[h in self.outranked :], meta_of(survey, h), content)
+
+    def put(self, parent, names, meta, content):
+        """Adds an entry by the first of these names that is one and that no entry of its directory has, if there is room for it."""
+        name = next((name for name in names if is_name(name) and upper(name, False) not in parent.index), None)
+        datas = 0 if content is None else -(-len(content) // self.survey.chunk)
         cost = 1 + datas + max(0, -(-(datas - 72) // 72))
-        if cost > self.left:
+        if name is None or cost > self.left:
             return None
         self.left -= cost
-        w = words(survey.image, h)
-        node = Node((*parent.path, name), (survey.text(h, 328)[:79], w[80], w[105:108]), content)
+        node = Node((*parent.path, name), meta, content)
         parent.index[upper(name, False)] = node
         self.added.append(node)
         return node

@@ -8,7 +8,8 @@ use Rattle.std.proofs.lemmas.{Grind.common_steps, List.length-take, List.length-
 use Rattle.adf_base.specs.Words.{block}
 use Rattle.adf_base.proofs.ByteLists.{AreBytes, block_bytes, word_small}
 use Rattle.adf_names.specs.{Meta.AreStamps, Meta.IsBoundedMeta, declared.kind.Kind.Kind, declared.kind.Kind.TheVariants.Ffs, declared.kind.Kind.TheVariants.Ofs}
-use Rattle.adf_tree.specs.{Additions.Addition, Additions.IsTreeOfBy, Bounds.IsBoundedEntry, Bounds.IsData, Tree.IsTreeBy, Tree.Tree, Tree.new_entry_by, Tree.with_entry_by}
+use Rattle.adf_tree.specs.{Additions.Addition, Additions.IsTreeOfBy, Bounds.IsBoundedEntry, Bounds.IsData}
+use Rattle.adf_tree.specs.{Tree.IsTreeBy, Tree.Tree, Tree.new_entry_by, Tree.with_entry_by}
 use Rattle.adf_tree.specs.declared.entry.Body.TheVariants.{Dir, File}
 use Rattle.adf_tree.proofs.BoundedEntries.{IsBoundedAddition, bounded_added_by}
 use Rattle.adf_blocks.specs.declared.layout.TheConstants.{COMMENT, PROTECTION, SIZE}
@@ -20,7 +21,8 @@ use Rattle.adf_build.specs.Plan.{blocks_needed}
 use Rattle.adf_build.proofs.LaidWrites.{CanHold}
 use Rattle.adf_rescue.specs.{Rescue.Verdict, Rescue.Verdict.adds, Rescue.Verdict.knows, Rescue.Verdict.leaves}
 use Rattle.adf_deleted.specs.{Known.KnownValue, Left.data_standing, Left.deleted_bytes, Rooms.file_path}
-use Rattle.adf_deleted.specs.Kept.{KeptValue, deleted_kept, file_verdict, home_path, home_verdict, kept_by, kept_in, kept_more, kept_of, plain_meta, whole_files}
+use Rattle.adf_deleted.specs.Kept.{KeptValue, deleted_kept, file_verdict, home_path, home_verdict}
+use Rattle.adf_deleted.specs.Kept.{kept_or_left, kept_in, kept_more, kept_of, plain_meta, whole_files}
 use Rattle.adf_deleted.proofs.KeptTrees.{IsAddedAt, added_at, free_file, free_numbered, kept_rest, kept_tree}
 
 -- how many bytes a deleted file has at most
@@ -88,7 +90,7 @@ held_more n u x is bounds fits = record {
 }
 
 held_by : (n : ℕ) (s : KeptValue) (h : ℕ) (v : Verdict) → IsHeld n s.tree → ((x : Addition) → v ≡ adds x → IsBoundedAddition x)
-    → ((x : Addition) → v ≡ adds x → blocks_needed (with_entry_by s.tree.letters s.tree x.path x.meta x.body) n ≤ n - 2) → IsHeld n (kept_by s h v).tree
+    → ((x : Addition) → v ≡ adds x → blocks_needed (with_entry_by s.tree.letters s.tree x.path x.meta x.body) n ≤ n - 2) → IsHeld n (kept_or_left s h v).tree
 held_by n s h (adds x) is bounds fits = held_more n s.tree x is (bounds x refl) (fits x refl)
 held_by n s h (leaves why) is bounds fits = is
 held_by n s h (knows place) is bounds fits = is

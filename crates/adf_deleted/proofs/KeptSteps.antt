@@ -16,7 +16,8 @@ use Rattle.adf_rescue.specs.{Rescue.Verdict, Rescue.Verdict.adds, Rescue.Verdict
 use Rattle.adf_rescue.specs.{Salvage.IsRoomOf, Salvage.entry_cost, Salvage.free_blocks, declared.left_out.Why.TheVariants.NoRoom}
 use Rattle.adf_rescue.proofs.{Steps.buildable, TreeBlocks.added_blocks}
 use Rattle.adf_deleted.specs.Known.{KnownValue}
-use Rattle.adf_deleted.specs.Kept.{IsCounted, Keeps, KeptValue, Puts, file_verdict, home_called, home_name, home_path, home_verdict, kept_by, kept_in, kept_more}
+use Rattle.adf_deleted.specs.Kept.{IsCounted, Keeps, KeptValue, PutsEntry, file_verdict, home_called}
+use Rattle.adf_deleted.specs.Kept.{home_name, home_path, home_verdict, kept_or_left, kept_in, kept_more}
 use Rattle.adf_deleted.specs.Kept.{kept_of, plain_meta, with_verdict}
 use Rattle.adf_deleted.specs.declared.new_volume.NewVolume.{NewVolume}
 
@@ -61,7 +62,7 @@ module _ (a : NewVolume) (x : Addition) (is : IsCounted a) (cost : ℕ) (at : co
       (entry_cost before.kind x.body) is.left refl real lt) in
       rw (lt-leb (blocks_needed behind a.blocks) (a.blocks - 2) short) refl
 
-  pub put_not : a.left < cost → Puts (fitting before a.blocks x) a a false
+  pub put_not : a.left < cost → PutsEntry (fitting before a.blocks x) a a false
   put_not lt = rw (fits_not lt) (record {
     told = refl;
     tree = refl;
@@ -73,7 +74,7 @@ module _ (a : NewVolume) (x : Addition) (is : IsCounted a) (cost : ℕ) (at : co
 
   pub put_one : (b : NewVolume) → a.left < 2 ^ 32 → cost ≤ a.left → b.draft.tree ≡ behind → b.kind ≡ a.kind → b.blocks ≡ a.blocks → b.left ≡ a.left - cost
       → ((dir : List (List ℕ)) (m : ℕ) → IsDirectoryOf a.draft dir m → IsDirectoryOf b.draft dir m)
-      → (x.body ≡ Dir → IsDirectoryOf b.draft x.path (length b.draft.nodes)) → Puts (fitting before a.blocks x) a b true
+      → (x.body ≡ Dir → IsDirectoryOf b.draft x.path (length b.draft.nodes)) → PutsEntry (fitting before a.blocks x) a b true
   put_one b small le tree kind blocks left dirs dir = rw (fits small le) (record {
     told = refl;
     tree = tree;
@@ -85,7 +86,7 @@ module _ (a : NewVolume) (x : Addition) (is : IsCounted a) (cost : ℕ) (at : co
 
 -- without a room nothing is put
 pub put_nowhere : (a : NewVolume) (meta : Meta) (body : Body) (path : Option (List (List ℕ))) → IsCounted a → path ≡ None
-    → Puts (at_path a.draft.tree a.blocks meta body path) a a false
+    → PutsEntry (at_path a.draft.tree a.blocks meta body path) a a false
 put_nowhere a meta body path is none = rw none (record {
   told = refl;
   tree = refl;
@@ -98,7 +99,7 @@ put_nowhere a meta body path is none = rw none (record {
 -- one more file is kept, or left out
 
 module _ (s : KeptValue) (a b c : NewVolume) (h : ℕ) (left : List ℕ) (is : Keeps s a b left) where
-  keeps_one : (v : Verdict) → Puts v b c true → Keeps (kept_by s h v) a c left
+  keeps_one : (v : Verdict) → PutsEntry v b c true → Keeps (kept_or_left s h v) a c left
   keeps_one (adds x) puts = record {
     tree = puts.tree ∙ ap (λ (t : Tree). with_entry_by t.letters t x.path x.meta x.body) is.tree;
     left_out = is.left_out;
@@ -108,7 +109,7 @@ module _ (s : KeptValue) (a b c : NewVolume) (h : ℕ) (left : List ℕ) (is : K
   keeps_one (leaves why) puts = let clash = puts.told in absurd cc
   keeps_one (knows place) puts = let clash = puts.told in absurd cc
 
-  keeps_none : (v : Verdict) → Puts v b c false → Keeps (kept_by s h v) a c (left ++ h ∷ [])
+  keeps_none : (v : Verdict) → PutsEntry v b c false → Keeps (kept_or_left s h v) a c (left ++ h ∷ [])
   keeps_none (adds x) puts = let clash = puts.told in absurd cc
   keeps_none (leaves why) puts = record {
     tree = puts.tree ∙ is.tree;
@@ -127,11 +128,11 @@ module _ (s : KeptValue) (a b c : NewVolume) (h : ℕ) (left : List ℕ) (is : K
     same_verdict : file_verdict k b.blocks dir b.draft.tree h ≡ file_verdict k a.blocks dir s.tree h
     same_verdict = λ i. file_verdict k (is.blocks_same i) dir (is.tree i) h
 
-    pub file_kept : Puts (file_verdict k b.blocks dir b.draft.tree h) b c true → Keeps (kept_more k a.blocks dir s h) a c left
-    file_kept puts = keeps_one (file_verdict k a.blocks dir s.tree h) (subst (λ v. Puts v b c true) same_verdict puts)
+    pub file_kept : PutsEntry (file_verdict k b.blocks dir b.draft.tree h) b c true → Keeps (kept_more k a.blocks dir s h) a c left
+    file_kept puts = keeps_one (file_verdict k a.blocks dir s.tree h) (subst (λ v. PutsEntry v b c true) same_verdict puts)
 
-    pub file_left : Puts (file_verdict k b.blocks dir b.draft.tree h) b c false → Keeps (kept_more k a.blocks dir s h) a c (left ++ h ∷ [])
-    file_left puts = keeps_none (file_verdict k a.blocks dir s.tree h) (subst (λ v. Puts v b c false) same_verdict puts)
+    pub file_left : PutsEntry (file_verdict k b.blocks dir b.draft.tree h) b c false → Keeps (kept_more k a.blocks dir s h) a c (left ++ h ∷ [])
+    file_left puts = keeps_none (file_verdict k a.blocks dir s.tree h) (subst (λ v. PutsEntry v b c false) same_verdict puts)
 
 -- the first files, and one more
 pub fold_more : (f : KeptValue → ℕ → KeptValue) (s : KeptValue) (hs : List ℕ) (i : ℕ) → i < length hs
@@ -148,7 +149,7 @@ made_in k n t [] some = absurd (some refl)
 made_in k n t (h ∷ hs) some = refl
 
 -- a directory that is put has its addition
-pub put_added : (v : Verdict) (a b : NewVolume) → Puts v a b true → (x : Addition) × (v ≡ adds x)
+pub put_added : (v : Verdict) (a b : NewVolume) → PutsEntry v a b true → (x : Addition) × (v ≡ adds x)
 put_added (adds x) a b puts = (x, refl)
 put_added (leaves why) a b puts = let clash = puts.told in absurd cc
 put_added (knows place) a b puts = let clash = puts.told in absurd cc
@@ -161,22 +162,22 @@ body_at : (t : Tree) (n : ℕ) (meta : Meta) (body : Body) (o : Option (List (Li
 body_at t n meta body None x e = absurd cc
 body_at t n meta body (Some path) x e = fitting_body _ (record { path = path; meta = meta; body = body }) x e
 
-pub home_directory : (a b : NewVolume) → Puts (home_verdict a.draft.tree a.blocks) a b true
+pub home_directory : (a b : NewVolume) → PutsEntry (home_verdict a.draft.tree a.blocks) a b true
     → (dir : List (List ℕ)) × IsDirectoryOf b.draft dir (length b.draft.nodes)
 home_directory a b puts =
     let (x, is) = put_added (home_verdict a.draft.tree a.blocks) a b puts in
     (x.path, puts.directory x is (body_at a.draft.tree a.blocks plain_meta Dir (home_path a.draft.tree a.blocks) x is))
 
 module _ (k : KnownValue) (a b : NewVolume) (hs : List ℕ) (some : hs ≢ []) where
-  not_in : (v : Verdict) → Puts v a b false → Keeps (kept_in k a.blocks a.draft.tree hs v) a b hs
+  not_in : (v : Verdict) → PutsEntry v a b false → Keeps (kept_in k a.blocks a.draft.tree hs v) a b hs
   not_in (adds x) puts = let clash = puts.told in absurd cc
   not_in (leaves why) puts = record { tree = puts.tree; left_out = refl; blocks_same = puts.blocks_same; counted = puts.counted }
   not_in (knows place) puts = record { tree = puts.tree; left_out = refl; blocks_same = puts.blocks_same; counted = puts.counted }
 
-  pub keeps_left : Puts (home_verdict a.draft.tree a.blocks) a b false → Keeps (kept_of k a.blocks a.draft.tree hs) a b hs
+  pub keeps_left : PutsEntry (home_verdict a.draft.tree a.blocks) a b false → Keeps (kept_of k a.blocks a.draft.tree hs) a b hs
   keeps_left puts = rw (made_in k a.blocks a.draft.tree hs some) (not_in (home_verdict a.draft.tree a.blocks) puts)
 
-  pub keeps_in : (c : NewVolume) (left : List ℕ) → Puts (home_verdict a.draft.tree a.blocks) a b true
+  pub keeps_in : (c : NewVolume) (left : List ℕ) → PutsEntry (home_verdict a.draft.tree a.blocks) a b true
       → ((dir : List (List ℕ)) (added : List Addition) → IsDirectoryOf b.draft dir (length b.draft.nodes)
       → Keeps (fold (kept_more k b.blocks dir) (record { tree = b.draft.tree; added = added; left_out = [] }) hs) b c left)
       → Keeps (kept_of k a.blocks a.draft.tree hs) a c left

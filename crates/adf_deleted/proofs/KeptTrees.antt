@@ -1,7 +1,8 @@
 -- The tree of what is kept: that of what stands, and behind it a directory and the whole deleted files in it.
 -- Letters: k what is known of an image; t the tree that stands, xs its additions, n the number of blocks of its volume; dir the path of a directory; o a
 -- path, if there is one; x, y additions; v a verdict; h the block of a header, hs headers; s what is kept so far.
-use Rattle.std.proofs.Common.{◌≡◌, ◌≤◌, ◌-◌, ℕ, zero, suc, Bool, true, false, cond, List, [], ◌∷◌, ◌++◌, codes, Option, None, Some, IsOk, arith, refl, sym, ap, subst}
+use Rattle.std.proofs.Common.{◌≡◌, ◌≤◌, ◌-◌, ℕ, zero, suc, Bool, true, false, cond, List, []}
+use Rattle.std.proofs.Common.{◌∷◌, ◌++◌, codes, Option, None, Some, IsOk, arith, refl, sym, ap, subst}
 use Rattle.std.specs.{List.All, List.fold, List.range_with_len}
 use Rattle.std.proofs.lemmas.{Grind.common_steps, Bool.and_parts, Option.cond_some, Bool.Decides.nat_tests}
 use Rattle.std.proofs.lemmas.List.{append-nil, append_assoc, Elements.All-nil, Elements.All-push, Elements.filter_passes}
@@ -19,7 +20,8 @@ use Rattle.adf_rescue.specs.declared.left_out.Why.TheVariants.{NoRoom}
 use Rattle.adf_rescue.proofs.RescuedTrees.{fitting_is}
 use Rattle.adf_deleted.specs.{Deletions.state_of, Known.KnownValue, Left.deleted_bytes, Left.is_deleted_file}
 use Rattle.adf_deleted.specs.Rooms.{block_name, file_path, free_path, numbered_name, or_path}
-use Rattle.adf_deleted.specs.Kept.{AreDeletedIn, IsWholeIn, KeptValue, deleted_kept, file_verdict, home_path, home_verdict, is_whole, is_whole_file, kept_by, kept_in}
+use Rattle.adf_deleted.specs.Kept.{AreDeletedIn, IsWholeIn, KeptValue, deleted_kept, file_verdict}
+use Rattle.adf_deleted.specs.Kept.{home_path, home_verdict, is_whole, is_whole_file, kept_or_left, kept_in}
 use Rattle.adf_deleted.specs.Kept.{kept_more, kept_of, plain_meta, whole_files}
 use Rattle.adf_deleted.specs.declared.deletions.State.{State, TheVariants.Contested, TheVariants.Overwritten, TheVariants.Whole}
 
@@ -80,7 +82,7 @@ module _ (t : Tree) where
   rest_more : (u : Tree) (x : Addition) → HasRest t u → HasRest t (with_entry_by u.letters u x.path x.meta x.body)
   rest_more u x is = ap (λ (v : Tree). record v { entries = (with_entry_by u.letters u x.path x.meta x.body).entries }) is
 
-  rest_by : (s : KeptValue) (h : ℕ) (v : Verdict) → HasRest t s.tree → HasRest t (kept_by s h v).tree
+  rest_by : (s : KeptValue) (h : ℕ) (v : Verdict) → HasRest t s.tree → HasRest t (kept_or_left s h v).tree
   rest_by s h (adds x) is = rest_more s.tree x is
   rest_by s h (leaves why) is = is
   rest_by s h (knows place) is = is
@@ -125,7 +127,7 @@ module _ (t : Tree) (xs : List Addition) where
       }
 
   beside_by : (s : KeptValue) (h : ℕ) (v : Verdict) → IsBeside t xs s
-      → ((x : Addition) → v ≡ adds x → IsOk (room_for_by s.tree.letters s.tree.entries x.path)) → IsBeside t xs (kept_by s h v)
+      → ((x : Addition) → v ≡ adds x → IsOk (room_for_by s.tree.letters s.tree.entries x.path)) → IsBeside t xs (kept_or_left s h v)
   beside_by s h (adds x) is room = beside_more s x s.left_out is (room x refl)
   beside_by s h (leaves why) is room = record { rest = is.rest; tree = is.tree }
   beside_by s h (knows place) is room = record { rest = is.rest; tree = is.tree }
@@ -176,7 +178,8 @@ module _ (k : KnownValue) (n : ℕ) (dir : List (List ℕ)) where
   abbrev AreWhole : List Addition → Type 0
   AreWhole ys = All (λ y. (h : ℕ) × IsWholeIn k dir y h) ys
 
-  whole_by : (s : KeptValue) (h : ℕ) (v : Verdict) → AreWhole s.added → ((x : Addition) → v ≡ adds x → IsWholeIn k dir x h) → AreWhole (kept_by s h v).added
+  whole_by : (s : KeptValue) (h : ℕ) (v : Verdict) → AreWhole s.added → ((x : Addition) → v ≡ adds x → IsWholeIn k dir x h)
+      → AreWhole (kept_or_left s h v).added
   whole_by s h (adds x) are is = All-push (λ y. (h : ℕ) × IsWholeIn k dir y h) s.added x are (h, is x refl)
   whole_by s h (leaves why) are is = are
   whole_by s h (knows place) are is = are
@@ -197,7 +200,7 @@ module _ (k : KnownValue) (n : ℕ) (dir : List (List ℕ)) where
 
   -- the files behind the first addition
   behind_first : (x : Addition) (ys : List Addition) (s : KeptValue) → s.added ≡ x ∷ ys → AreWhole ys → (h : ℕ) (v : Verdict)
-      → ((y : Addition) → v ≡ adds y → IsWholeIn k dir y h) → (zs : List Addition) × ((kept_by s h v).added ≡ x ∷ zs) × AreWhole zs
+      → ((y : Addition) → v ≡ adds y → IsWholeIn k dir y h) → (zs : List Addition) × ((kept_or_left s h v).added ≡ x ∷ zs) × AreWhole zs
   behind_first x ys s e are h (adds y) is =
       (ys ++ y ∷ [], ap (λ l. l ++ y ∷ []) e, All-push (λ y. (h : ℕ) × IsWholeIn k dir y h) ys y are (h, is y refl))
   behind_first x ys s e are h (leaves why) is = (ys, e, are)

@@ -41,7 +41,7 @@ with_verdict t (adds x) = with_entry_by t.letters t x.path x.meta x.body
 with_verdict t v = t
 
 -- the entry of a verdict is put into the new volume, if it is added; the directories keep their numbers
-pub record Puts (v : Verdict) (a b : NewVolume) (put : Bool) : Type 0 where
+pub record PutsEntry (v : Verdict) (a b : NewVolume) (put : Bool) : Type 0 where
   pub told : put ≡ is_added v
   pub tree : b.draft.tree ≡ with_verdict a.draft.tree v
   pub blocks_same : b.blocks ≡ a.blocks
@@ -65,13 +65,13 @@ abbrev pub file_verdict : KnownValue → ℕ → List (List ℕ) → Tree → �
 file_verdict k n dir t h = at_path t n (meta_stated (block k.image h)) (File (deleted_bytes k h)) (file_path t dir (name_of k.image h) h n)
 
 -- the file is added by a verdict, or left out
-abbrev pub kept_by : KeptValue → ℕ → Verdict → KeptValue
-kept_by s h (adds x) = record { tree = with_entry_by s.tree.letters s.tree x.path x.meta x.body; added = s.added ++ x ∷ []; left_out = s.left_out }
-kept_by s h v = record { tree = s.tree; added = s.added; left_out = s.left_out ++ h ∷ [] }
+abbrev pub kept_or_left : KeptValue → ℕ → Verdict → KeptValue
+kept_or_left s h (adds x) = record { tree = with_entry_by s.tree.letters s.tree x.path x.meta x.body; added = s.added ++ x ∷ []; left_out = s.left_out }
+kept_or_left s h v = record { tree = s.tree; added = s.added; left_out = s.left_out ++ h ∷ [] }
 
 -- one more file is kept in the directory, or left out
 abbrev pub kept_more : KnownValue → ℕ → List (List ℕ) → KeptValue → ℕ → KeptValue
-kept_more k n dir s h = kept_by s h (file_verdict k n dir s.tree h)
+kept_more k n dir s h = kept_or_left s h (file_verdict k n dir s.tree h)
 
 -- the metadata of the directory: it has no comment, no protection bits and no date
 abbrev pub plain_meta : Meta
@@ -113,7 +113,7 @@ home_called (Some path) = last_of path
 home_called None = codes "deleted"
 
 -- the whole deleted files are kept beside what stands
-pub record IsKept (k : KnownValue) (a : NewVolume) (r : Kept) : Type 0 where
+pub record IsKeptBeside (k : KnownValue) (a : NewVolume) (r : Kept) : Type 0 where
   pub tree : r.volume.draft.tree ≡ (deleted_kept k a.blocks a.draft.tree).tree
   pub left_out : r.left_out.items ≡ (deleted_kept k a.blocks a.draft.tree).left_out
   pub blocks_same : r.volume.blocks ≡ a.blocks

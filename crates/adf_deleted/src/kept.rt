@@ -7,8 +7,8 @@ ghost use Rattle.adf_blocks.specs.Sizes.{blocks};
 ghost use Rattle.adf_drafts.specs.Draft.{IsDirectoryOf, IsRoomFor};
 ghost use Rattle.adf_rescue.specs.Salvage.{IsRoomOf};
 ghost use Rattle.adf_tree.specs.Additions.{Addition};
-ghost use Rattle.adf_deleted.specs.Kept.{IsCounted, IsKept, Keeps, Puts, deleted_kept, file_verdict, home_name, home_path, is_whole};
-ghost use Rattle.adf_deleted.specs.Kept.{is_whole_file, kept_more, kept_of, plain_meta, whole_files};
+ghost use Rattle.adf_deleted.specs.Kept.{IsCounted, IsKeptBeside, Keeps, PutsEntry, deleted_kept, file_verdict, home_name};
+ghost use Rattle.adf_deleted.specs.Kept.{home_path, is_whole, is_whole_file, kept_more, kept_of, plain_meta, whole_files};
 
 use crate::deletions::{Deletions, State};
 use crate::new_volume::NewVolume;
@@ -92,7 +92,7 @@ impl Deletions<'_> {
         requires inside { h < blocks self.now.image }
         requires counted { IsCounted volume.old }
         requires directory { (dir : List (List ℕ)) × IsDirectoryOf volume.old.draft dir directory }
-        ensures { (dir : List (List ℕ)) → IsDirectoryOf volume.old.draft dir directory → IfOk result (Puts
+        ensures { (dir : List (List ℕ)) → IsDirectoryOf volume.old.draft dir directory → IfOk result (PutsEntry
             (file_verdict self.now volume.old.blocks dir volume.old.draft.tree h) volume.old volume.new) }
     {
         let header = self.header(h);
@@ -155,12 +155,12 @@ impl Deletions<'_> {
     }
 
     /// Keeps the whole deleted files in a new volume, behind all that stands there: in a directory of the root that is called
-    /// `deleted`, or `deleted-1` and so on where an entry has that name, each under its own name, or else under `deleted-` and the
-    /// block of its header, numbered. Files for which there is no room are left out. Where no file is whole, no directory is made.
-    /// `NoMemory` if an allocation fails.
+    /// `deleted`, or `deleted-1` and so on where an entry has that name, each under its own name, or else under `deleted-` and
+    /// the block of its header, numbered. Files for which there is no room are left out. Where no file is whole, no directory
+    /// is made. `NoMemory` if an allocation fails.
     pub fn keep(&self, alloc: Global, volume: NewVolume) -> Result<Kept, NoMemory>
         requires { IsCounted volume }
-        ensures kept { IfOk result (IsKept self.now volume) }
+        ensures kept { IfOk result (IsKeptBeside self.now volume) }
         ensures fits { IsBuildable volume.draft.tree volume.blocks
             → IfOk result (λ r. IsBuildable r.volume.draft.tree r.volume.blocks) }
     {

@@ -48,9 +48,9 @@ pub fn deleted_bytes_lie_apart()
 {}
 
 /// What a rescue keeps of deleted files comes behind all that stands: the tree with it is that of the additions without it, and
-/// then of a directory in the root and the whole deleted files in it. So each path that stands has what it had, and the entries of a
-/// directory keep their order. Each file has the bytes of a whole deleted file, none of which is of a block that a survey has. Where
-/// no deleted file is whole, nothing is added.
+/// then of a directory in the root and the whole deleted files in it. So each path that stands has what it had, and the entries
+/// of a directory keep their order. Each file has the bytes of a whole deleted file, none of which is of a block that a survey
+/// has. Where no deleted file is whole, nothing is added.
 pub fn deleted_files_come_behind()
     ensures tree { (k : KnownValue) (n : ℕ) (t : Tree) (xs : List Addition) → IsTreeOfBy t.letters t.entries xs
         → IsTreeOfBy t.letters (deleted_kept k n t).tree.entries (xs ++ (deleted_kept k n t).added) }

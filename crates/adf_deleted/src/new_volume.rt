@@ -4,7 +4,7 @@ ghost use Rattle.std.specs.Prelude.{◌≡◌, ◌^◌, ◌-◌, ℕ, List, IfOk
 ghost use Rattle.std.specs.String.{string_bytes};
 ghost use Rattle.adf_drafts.specs.Draft.{IsDirectoryOf, IsRoomFor};
 ghost use Rattle.adf_rescue.specs.{Rescue.at_path, Rescue.fitting, Rescue.path_with_room, Salvage.IsRoomOf, Salvage.entry_cost};
-ghost use Rattle.adf_deleted.specs.Kept.{IsCounted, Puts};
+ghost use Rattle.adf_deleted.specs.Kept.{IsCounted, PutsEntry};
 ghost use Rattle.adf_deleted.specs.Rooms.{block_name, file_path, free_path, numbered_name};
 ghost use Rattle.adf_tree.specs.{Additions.Addition, Tree.Tree};
 
@@ -74,8 +74,8 @@ impl NewVolume {
         Ok(None)
     }
 
-    /// The room in a directory of a file with its header in block `h`: of this name, or else of `deleted-` and the block, numbered.
-    /// `NoMemory` if an allocation fails.
+    /// The room in a directory of a file with its header in block `h`: of this name, or else of `deleted-` and the block,
+    /// numbered. `NoMemory` if an allocation fails.
     pub(crate) fn file_room(
         &self,
         alloc: Global,
@@ -97,7 +97,7 @@ impl NewVolume {
     fn put_in(&mut self, room: &Room, meta: Meta, body: Body) -> Result<bool, NoMemory>
         requires counted { IsCounted self.old }
         requires room { (path : List (List ℕ)) × IsRoomFor self.old.draft path room.now }
-        ensures { (path : List (List ℕ)) → IsRoomFor self.old.draft path room.now → IfOk result (Puts
+        ensures { (path : List (List ℕ)) → IsRoomFor self.old.draft path room.now → IfOk result (PutsEntry
             (fitting self.old.draft.tree self.old.blocks (record { path = path; meta = meta; body = body })) self.old self.new) }
     {
         let cost = cost_of(self.kind, &body);
@@ -109,8 +109,8 @@ impl NewVolume {
         Ok(true)
     }
 
-    /// Puts an entry in a room, if there is one and the blocks suffice; whether it is put. `NoMemory` if an allocation fails; then
-    /// the volume is of no use.
+    /// Puts an entry in a room, if there is one and the blocks suffice; whether it is put. `NoMemory` if an allocation fails;
+    /// then the volume is of no use.
     pub(crate) fn put(
         &mut self,
         room: Option<Room>,
@@ -119,7 +119,7 @@ impl NewVolume {
     ) -> Result<bool, NoMemory>
         requires counted { IsCounted self.old }
         requires room { IfSome room (λ r. (path : List (List ℕ)) × IsRoomFor self.old.draft path r) }
-        ensures { (path : Option (List (List ℕ))) → IsRoomOf self.old.draft path room → IfOk result (Puts
+        ensures { (path : Option (List (List ℕ))) → IsRoomOf self.old.draft path room → IfOk result (PutsEntry
             (at_path self.old.draft.tree self.old.blocks meta body path) self.old self.new) }
     {
         match room {

@@ -1,7 +1,7 @@
 use Rattle.std.proofs.Common.{◌≡◌, [], arith, refl, subst, take}
 use Rattle.std.specs.{List.fold, Prelude.slice_index}
 use Rattle.std.proofs.lemmas.List.{take_all}
-use Rattle.adf_deleted.specs.Kept.{Keeps, KeptValue, Puts, file_verdict, kept_more}
+use Rattle.adf_deleted.specs.Kept.{Keeps, KeptValue, PutsEntry, file_verdict, kept_more}
 use Rattle.adf_deleted.proofs.KeptSteps.{file_kept, file_left, fold_more}
 use Rattle.adf_deleted.proofs.deletions.Deletions.keep_files.Goals.{then-not-branch+in_ok-push, else-not-branch}
 use Rattle.adf_deleted.proofs.deletions.Deletions.keep_files.Goals as goal
@@ -40,11 +40,11 @@ loop-i-preserved c =
                       rw w.left-is
                       (rw w.in_ok-push.ensures.items
                       (file_left s a b c.keep_file.new.volume h c.loop-i.left.items kept k dir
-                      (subst (λ t. Puts v b c.keep_file.new.volume t) w.if-not-branch.true puts)))
+                      (subst (λ t. PutsEntry v b c.keep_file.new.volume t) w.if-not-branch.true puts)))
                   | else-not-branch w ↦
                       rw w.left-is
                       (file_kept s a b c.keep_file.new.volume h c.loop-i.left.items kept k dir
-                      (subst (λ t. Puts v b c.keep_file.new.volume t) w.if-not-branch.false puts))
+                      (subst (λ t. PutsEntry v b c.keep_file.new.volume t) w.if-not-branch.false puts))
                 ]),
           ),
     )

@@ -5,7 +5,7 @@ use Rattle.adf_tree.specs.Additions.{Addition}
 use Rattle.adf_tree.specs.declared.entry.Body.TheVariants.{Dir}
 use Rattle.adf_drafts.specs.Draft.{IsDirectoryOf}
 use Rattle.adf_rescue.specs.Rescue.{at_path}
-use Rattle.adf_deleted.specs.Kept.{Keeps, Puts, home_path, home_verdict, kept_more, kept_of}
+use Rattle.adf_deleted.specs.Kept.{Keeps, PutsEntry, home_path, home_verdict, kept_more, kept_of}
 use Rattle.adf_deleted.proofs.KeptSteps.{home_directory, keeps_in, ok_all}
 use Rattle.adf_deleted.proofs.deletions.Deletions.keep_in.Goals as goal
 
@@ -13,8 +13,8 @@ pub keep_files-requires-clause-directory : goal.keep_files-requires-clause-direc
 keep_files-requires-clause-directory c =
     let a = c.args.volume.now in
     let b = c.put.new.self in
-    let puts = subst (λ t. Puts (home_verdict a.draft.tree a.blocks) a b t) c.if-not-branch.false
-    (subst (λ m. Puts (at_path a.draft.tree a.blocks m Dir (home_path a.draft.tree a.blocks)) a b c.in_ok-put.field-0) c.plain_meta.ensures
+    let puts = subst (λ t. PutsEntry (home_verdict a.draft.tree a.blocks) a b t) c.if-not-branch.false
+    (subst (λ m. PutsEntry (at_path a.draft.tree a.blocks m Dir (home_path a.draft.tree a.blocks)) a b c.in_ok-put.field-0) c.plain_meta.ensures
     (c.in_ok-put.ensures (home_path a.draft.tree a.blocks) c.requires.home)) in
     let (dir, is) = home_directory a b puts in
     (dir, subst (λ m. IsDirectoryOf b.draft dir m) (sym c.len.ensures) is)
@@ -27,8 +27,8 @@ returns c =
     let d = c.keep_files.new.volume in
     let hs = c.args.files.items in
     let some : hs ≢ [] = grind (arith, common_steps) in
-    let puts = subst (λ t. Puts (home_verdict a.draft.tree a.blocks) a b t) c.if-not-branch.false
-    (subst (λ m. Puts (at_path a.draft.tree a.blocks m Dir (home_path a.draft.tree a.blocks)) a b c.in_ok-put.field-0) c.plain_meta.ensures
+    let puts = subst (λ t. PutsEntry (home_verdict a.draft.tree a.blocks) a b t) c.if-not-branch.false
+    (subst (λ m. PutsEntry (at_path a.draft.tree a.blocks m Dir (home_path a.draft.tree a.blocks)) a b c.in_ok-put.field-0) c.plain_meta.ensures
     (c.in_ok-put.ensures (home_path a.draft.tree a.blocks) c.requires.home)) in
     ok_all {D = (dir : List (List ℕ)) × List Addition × IsDirectoryOf b.draft dir c.len.result} c.keep_files.result
     (λ p left. Keeps (fold (kept_more k b.blocks p.0) (record { tree = b.draft.tree; added = p.1; left_out = [] }) hs) b d left.items)
