@@ -1,17 +1,21 @@
 -- What a rescue is prepared to give, and which images are no volumes.
 -- Letters: w the walk of a survey, fs its findings; a a survey, b the second one, if there is one; r what a rescue gives; p a prepared rescue; u why
 -- there is none; lost, front losses of blocks.
-use Rattle.std.proofs.Common.{◌≡◌, ◌≢◌, ◌∙◌, ◌/◌, ℕ, Bool, List, [], ap, sym, Option, None, Some, IfSome, inl, inr, is_some, option_map, length, subst}
+use Rattle.std.proofs.Common.{◌≡◌, ◌≢◌, ◌∙◌, ◌/◌, ◌%◌, ◌==◌, ◌++◌, ℕ, Bool, true, List, []}
+use Rattle.std.proofs.Common.{ap, arith, refl, sym, Option, None, Some, IfSome, inl, inr, is_some, option_map, length, subst}
 use Rattle.std.specs.{Prelude.Result, Prelude.Ok, Prelude.Err, Result.IsErrAnd}
 use Rattle.adf_base.specs.declared.hash.Letters.{Letters}
 use Rattle.adf_tree.specs.Tree.{Tree}
-use Rattle.adf_blocks.specs.Sizes.{blocks}
+use Rattle.adf_blocks.specs.Sizes.{blocks, is_allowed}
 use Rattle.adf_boot_blocks.specs.Writing.{restored}
 use Rattle.adf_build.specs.{Building.IsBuildable, Laid.IsLaid}
 use Rattle.adf_volume.specs.{Types.letters_for, declared.fault.Fault.Fault, declared.types.Types.Types, Walk.Walk}
 use Rattle.adf_volume.proofs.NoneFits.{none_fits}
-use Rattle.adf_findings.specs.{Files.grave, SoundMarks.AreMarks, Survey.FindingValue, Survey.IsSurvey, Types.passed}
-use Rattle.adf_findings.proofs.{FirstFindings.finds_none, TypesRead.types_read}
+use Rattle.adf_findings.specs.{Files.grave, SoundMarks.AreMarks, Survey.FindingValue, Survey.IsSurvey, Survey.IsSurvey.read, Survey.IsSurvey.unread}
+use Rattle.adf_findings.specs.Types.{passed}
+use Rattle.adf_volume.specs.Start.{is_image_len}
+use Rattle.std.proofs.lemmas.Bool.{and_from, eq-eqb}
+use Rattle.adf_findings.proofs.{FirstFindings.finds_none, Starts.course_size, TypesRead.types_read}
 use Rattle.adf_rescue.specs.{declared.rescues.Rescued.Rescued, declared.rescues.Terms.Terms, Hung.second_image, Losses.lost_headers, Opened.lacks_root}
 use Rattle.adf_rescue.specs.{Pruned.image_read, Rescue.Basis, Rescue.rescued_tree_by, declared.standing.Input.Input, Rescued.IsRescued}
 use Rattle.adf_rescue.proofs.PrunedKeeps.{length_read}
@@ -20,9 +24,13 @@ use Rattle.adf_runs.specs.declared.outcome.Outcome.{Outcome, TheVariants.LeftOut
 use Rattle.adf_runs.proofs.PendingText.{appends_nil}
 use Rattle.adf_subjects.specs.Losses.{LossValue, ToldValue, front_losses, input_losses, loss_values, losses_of, rescue_losses, runs_lost, told_by}
 use Rattle.adf_subjects.specs.{Losses.told_value, declared.preparing.Begun.Begun, declared.preparing.Prepared.Prepared}
-use Rattle.adf_subjects.specs.Prepared.{IsBegunInput, IsFault, IsToldRefusal, LaysFor, Prepares, RefusesFor, WritesPrepared, known_of}
-use Rattle.adf_subjects.specs.Rescues.{HoldsNothing, IsRefusal, IsNoVolume, Replies, RescueValue, RescueValue.written, Rescues, RescuesBoth, RescuesBy}
-use Rattle.adf_subjects.specs.Rescues.{RescuesIn}
+use Rattle.adf_subjects.specs.Prepared.{IsBegunInput, IsFault, IsPrepared, IsStandingPrepared, IsToldRefusal}
+use Rattle.adf_subjects.specs.Prepared.{LaysFor, Prepares, RefusesFor, WritesPrepared, known_of}
+use Rattle.adf_subjects.specs.Rescues.{HoldsNothing, IsRefusal, IsNoVolume, Replies, RescueValue, RescueValue.written, RescuesBothOf, RescuesByOf}
+use Rattle.adf_subjects.specs.Rescues.{RescuesInOf, RescuesOf}
+use Rattle.adf_deleted.specs.{Kept.IsKeptBeside, Known.KnownValue, Known.known_blocks, declared.kept.Kept.Kept}
+use Rattle.adf_subjects.specs.KeptDeleted.{kept_losses, losses_asked, tree_asked}
+use Rattle.adf_subjects.specs.declared.preparing.Standing.{Standing}
 use Rattle.adf_subjects.specs.declared.preparing.Unrescued.{Unrescued, TheVariants.NoMemory, TheVariants.Refused}
 
 -- what holds if there is a value holds of it
@@ -30,17 +38,18 @@ pub if_some : {X : Type 0} (o : Option X) (x : X) (P : X → Type 0) → o ≡ S
 if_some o x P e h = subst (λ o. IfSome o P) e h
 
 -- what is given by the survey of an image that is read, and by that of a second one, if there is one
-pub found_gives : (types : Types) (known : Input) (lost : List LossValue) (input image : List ℕ) (w : Walk) (fs : List FindingValue) (sound : ℕ → Bool)
-    (second : Option (List ℕ)) (boot : List ℕ) (r : RescueValue)
+pub found_gives : (plus : Bool) (types : Types) (known : Input) (lost : List LossValue) (input image : List ℕ) (w : Walk) (fs : List FindingValue)
+    (sound : ℕ → Bool) (second : Option (List ℕ)) (boot : List ℕ) (r : RescueValue)
     → IsRefusal types input known.is_refused → image ≡ image_read known.is_refused input
     → IsSurvey image w fs → AreMarks image w (grave fs) sound → second_image (lacks_root input) image w fs ≡ second
-    → RescuesBoth types known lost input (record { image = image; walk = w; sound = sound }) second fs boot r → Rescues types known.held lost input boot r
-found_gives types known lost input image w fs sound second boot r refusal same survey marks is by =
+    → RescuesBothOf plus types known lost input (record { image = image; walk = w; sound = sound }) second fs boot r
+    → RescuesOf plus types known.held lost input boot r
+found_gives plus types known lost input image w fs sound second boot r refusal same survey marks is by =
     let a : Basis = record { image = image; walk = w; sound = sound } in (
       known.is_refused,
       refusal,
-      subst (λ (l : List ℕ). RescuesIn types known lost input l boot r) same
-          (w, fs, survey, (sound, marks, subst (λ (o : Option (List ℕ)). RescuesBoth types known lost input a o fs boot r) (sym is) by)),
+      subst (λ (l : List ℕ). RescuesInOf plus types known lost input l boot r) same
+          (w, fs, survey, (sound, marks, subst (λ (o : Option (List ℕ)). RescuesBothOf plus types known lost input a o fs boot r) (sym is) by)),
     )
 
 -- an input that has no fault is accepted, and one that has one is refused
@@ -62,6 +71,14 @@ pub none_fits_it : (types : Types) (image : List ℕ) (w : Walk) (fs : List Find
     → IsNoVolume types image
 none_fits_it types image w fs survey some t l fits =
     some (finds_none image (letters_for types image) (passed types image) (types_read image types) t l w fs fits survey)
+
+-- an image of which something is surveyed has an allowed length
+pub surveyed_size : (image : List ℕ) (w : Walk) (fs : List FindingValue) → IsSurvey image w fs → w ≢ [] → is_image_len (length image) ≡ true
+surveyed_size image w fs (unread f) some = absurd (some refl)
+surveyed_size image w fs (read v d t) some =
+    let size = course_size image v in
+    let whole : length image % 512 ≡ 0 = omega (arith, size.0) in
+    and_from (length image % 512 == 0) (is_allowed (length image / 512)) (eq-eqb (length image % 512) 0 whole) size.1
 
 -- the terms of a rescue by what is told of its input
 abbrev pub terms_of : Types → (held : ℕ) → Begun → Terms
@@ -102,19 +119,42 @@ pub same_losses : (letters : Letters) (known : Input) (lost front : List LossVal
     → losses_of a.image a.walk b t front ≡ rescue_losses letters known lost input a b fs
 same_losses letters known lost front input a b fs t told runs = λ i. losses_of a.image a.walk b (told i) (runs i)
 
--- what stands is prepared as a volume
-pub volume_prepared : (types : Types) (known : Input) (lost : List LossValue) (input : List ℕ) (a : Basis) (b : Option Basis) (fs : List FindingValue)
-    (p : Prepared)
-    → IsBuildable p.draft.tree p.blocks → p.draft.tree ≡ rescued_tree_by (letters_for types a.image) known a b → p.blocks ≡ blocks a.image
-    → loss_values p.losses.items ≡ rescue_losses (letters_for types a.image) known lost input a b fs → a.walk ≢ []
-    → ¬ HoldsNothing types known input a b fs → Prepares (RescuesBy types known lost input a b fs) (Ok p)
-volume_prepared types known lost input a b fs p room tree size told read some = λ boot. (
-  room,
-  λ volume laid long. inr (
-    read,
-    inr (some, (volume, subst (λ (t : Tree). IsLaid volume t) tree laid, long ∙ size, ap (written (restored volume boot)) told)),
-  ),
-)
+-- what is kept of deleted files is prepared with what stands
+pub kept_prepared : (k d : KnownValue) (plus : Bool) (x : Standing) (r : Kept) (p : Prepared) → plus ≡ true → d ≡ k
+    → IsKeptBeside d x.volume r → p.draft.tree ≡ r.volume.draft.tree → p.blocks ≡ r.volume.blocks
+    → loss_values p.losses.items ≡ loss_values x.losses.items ++ kept_losses d.image r.directory.items r.left_out.items
+    → IsBuildable p.draft.tree p.blocks → IsStandingPrepared plus k x p
+kept_prepared k d plus x r p asked same kept tree blocks told fits =
+    let is = subst (λ d. IsKeptBeside d x.volume r) same kept in
+    subst (λ b. IsStandingPrepared b k x p) (sym asked) (record {
+      tree = tree ∙ is.tree;
+      blocks_same = blocks ∙ is.blocks_same;
+      losses = told ∙ (λ i. loss_values x.losses.items ++ kept_losses ((same i).image) (is.directory i) (is.left_out i));
+      fits = fits;
+    })
+
+-- what is prepared with what stands is a volume that the rescue gives
+module _ (plus : Bool) (types : Types) (known : Input) (lost : List LossValue) (input : List ℕ) (a : Basis) (b : Option Basis)
+    (fs : List FindingValue) (x : Standing) (tree : x.volume.draft.tree ≡ rescued_tree_by (letters_for types a.image) known a b)
+    (size : x.volume.blocks ≡ blocks a.image)
+    (told : loss_values x.losses.items ≡ rescue_losses (letters_for types a.image) known lost input a b fs) (read : a.walk ≢ [])
+    (some : ¬ HoldsNothing types known input a b fs) where
+  abbrev known_here : KnownValue
+  known_here = known_blocks a.image a.walk b known.held
+
+  pub standing_prepared : (r : Result Prepared Unrescued) → IsPrepared plus known_here x r
+      → Prepares (RescuesByOf plus types known lost input a b fs) r
+  standing_prepared (Ok p) is =
+      let same = is.tree ∙ (λ i. tree_asked plus known_here (size i) (tree i)) in
+      let losses = is.losses ∙ (λ i. losses_asked plus known_here (size i) (tree i) (told i)) in
+      λ boot. (
+        is.fits,
+        λ volume laid long. inr (
+          read,
+          inr (some, (volume, subst (λ (t : Tree). IsLaid volume t) same laid, long ∙ (is.blocks_same ∙ size), ap (written (restored volume boot)) losses)),
+        ),
+      )
+  standing_prepared (Err u) is = rw is (λ boot. tt)
 
 -- a rescue that is prepared to give this is prepared to give what it is
 pub prepares_weaker : (few more : List ℕ → RescueValue → Type 0) (x : Result Prepared Unrescued)

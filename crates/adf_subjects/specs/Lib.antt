@@ -4,6 +4,7 @@ pub mod Remarks
 pub mod Lines
 pub mod Subject
 pub mod Losses
+pub mod KeptDeleted
 pub mod Rescues
 -- Rescues, between their surveys and their volumes.
 pub mod Prepared

@@ -1,7 +1,7 @@
 -- Rescues of which only the new volume is to be laid.
 -- Letters: b what is told of an input; p a prepared rescue; u why there is none; w how a work ends; f a fault; ls losses; boot the boot blocks of the input;
 -- types those that the new volume may have.
-use Rattle.std.specs.Prelude.{◌≡◌, ◌++◌, ℕ, false, List, Option, None, Some, is_some, Result, Ok, Err}
+use Rattle.std.specs.Prelude.{◌≡◌, ◌++◌, ℕ, Bool, false, List, Option, None, Some, is_some, Result, Ok, Err}
 use Rattle.adf_blocks.specs.Sizes.{blocks}
 use Rattle.adf_volume.specs.{Types.letters_for, declared.fault.Fault.Fault, declared.types.Types.Types, Walk.FirstFaultBy}
 use Rattle.adf_boot_blocks.specs.Writing.{restored}
@@ -12,7 +12,9 @@ use Rattle.adf_runs.specs.Commands.{Reply}
 use Rattle.adf_runs.specs.declared.outcome.Outcome.{Outcome, TheVariants.LeftOut, TheVariants.NoMemory as OutOfMemory}
 use Rattle.adf_subjects.specs.Losses.{LossValue, loss_values, losses_text, runs_lost}
 use Rattle.adf_subjects.specs.Rescues.{IsRefusal, RescueValue, RescueValue.refused, RescueValue.written, rescue_reply}
-use Rattle.adf_subjects.specs.{declared.preparing.Begun.Begun, declared.preparing.Prepared.Prepared}
+use Rattle.adf_deleted.specs.Known.{KnownValue}
+use Rattle.adf_subjects.specs.KeptDeleted.{losses_asked, tree_asked}
+use Rattle.adf_subjects.specs.{declared.preparing.Begun.Begun, declared.preparing.Prepared.Prepared, declared.preparing.Standing.Standing}
 use Rattle.adf_subjects.specs.declared.preparing.Unrescued.{Unrescued, TheVariants.NoMemory, TheVariants.Refused}
 
 -- the fault is the first one of an image where these types are accepted
@@ -51,6 +53,18 @@ RefusesFor gives NoMemory = Unit {0}
 abbrev pub Prepares : ((boot : List ℕ) → RescueValue → Type 0) → Result Prepared Unrescued → Type 0
 Prepares gives (Ok p) = (boot : List ℕ) → LaysFor (gives boot) p boot
 Prepares gives (Err u) = (boot : List ℕ) → RefusesFor (gives boot) u
+
+-- what stands is prepared, with the deleted files that are whole where they are asked for
+pub record IsStandingPrepared (plus : Bool) (k : KnownValue) (x : Standing) (p : Prepared) : Type 0 where
+  pub tree : p.draft.tree ≡ tree_asked plus k x.volume.blocks x.volume.draft.tree
+  pub blocks_same : p.blocks ≡ x.volume.blocks
+  pub losses : loss_values p.losses.items ≡ losses_asked plus k x.volume.blocks x.volume.draft.tree (loss_values x.losses.items)
+  pub fits : IsBuildable p.draft.tree p.blocks
+
+-- so it is, or memory is refused
+abbrev pub IsPrepared : (plus : Bool) → KnownValue → Standing → Result Prepared Unrescued → Type 0
+IsPrepared plus k x (Ok p) = IsStandingPrepared plus k x p
+IsPrepared plus k x (Err u) = u ≡ NoMemory
 
 -- a volume is written that is laid for the tree, in as many blocks, with the boot blocks put back into it, and the lines are told
 abbrev pub WritesPrepared : Prepared → (boot : List ℕ) → Reply → Type 0

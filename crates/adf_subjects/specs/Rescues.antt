@@ -1,7 +1,7 @@
 -- What a rescue gives.
 -- Letters: a the survey of an image, w its walk, fs its findings; b the second survey, if there is one; ls losses; f a fault; r what a rescue gives; types
 -- those that the new volume may have; known what is known of the input, held the number of blocks that it holds whole; lost the losses of blocks that are not
--- read at all; boot the boot blocks of the input.
+-- read at all; boot the boot blocks of the input; plus whether the deleted files that are whole are kept too.
 use Rattle.std.specs.Prelude.{◌≡◌, ◌≢◌, ◌⊎◌, ◌==◌, ◌&&◌, ◌||◌, ℕ, Bool, true, false, List, [], ◌∷◌, ◌++◌, length, not, Option, None, Some}
 use Rattle.std.specs.Prelude.{slice_get}
 use Rattle.adf_tree.specs.Tree.{Tree}
@@ -15,6 +15,8 @@ use Rattle.adf_rescue.specs.{Hung.second_image, Opened.lacks_root, Pruned.image_
 use Rattle.adf_rescue.specs.Rescue.{IsSecond, Basis, StandsNothingBy, rescued_tree_by}
 use Rattle.adf_texts.specs.Lines.{fault_line}
 use Rattle.adf_runs.specs.Commands.{Reply, on_errors}
+use Rattle.adf_deleted.specs.Known.{known_blocks}
+use Rattle.adf_subjects.specs.KeptDeleted.{losses_asked, tree_asked}
 use Rattle.adf_subjects.specs.{Losses.LossValue, Losses.losses_text, Losses.rescue_losses, Subject.IsTyped, Subject.SubjectValue, Subject.sized}
 
 -- no tree and layout fit an image where these types are accepted
@@ -46,6 +48,15 @@ GivesVolume ls types known a b boot r =
     (volume : List ℕ) × IsLaid volume (rescued_tree_by (letters_for types a.image) known a b) × (blocks volume ≡ blocks a.image)
     × (r ≡ written (restored volume boot) ls)
 
+-- the same, where they are asked for with the deleted files that are whole and that the two surveys have not: what is kept of these comes behind all
+-- that stands, and those that there is no room for are told
+abbrev pub GivesAsked : (plus : Bool) → List LossValue → Types → Input → Basis → Option Basis → (boot : List ℕ) → RescueValue → Type 0
+GivesAsked plus ls types known a b boot r =
+    let k = known_blocks a.image a.walk b known.held in
+    let t = rescued_tree_by (letters_for types a.image) known a b in
+    (volume : List ℕ) × IsLaid volume (tree_asked plus k (blocks a.image) t) × (blocks volume ≡ blocks a.image)
+    × (r ≡ written (restored volume boot) (losses_asked plus k (blocks a.image) t ls))
+
 -- the first fault of the input where these types are accepted, with these losses
 abbrev pub GivesFault : List LossValue → Types → List ℕ → RescueValue → Type 0
 GivesFault ls types input r = (f : Fault) × FirstFaultBy (letters_for types input) input f.block f.cause × (r ≡ refused f ls)
@@ -64,30 +75,35 @@ abbrev pub HoldsNothing : Types → Input → List ℕ → Basis → Option Basi
 HoldsNothing types known input a b fs = StandsNothingBy types known a b × ((lacks_root input || not (is_type_alone fs)) ≡ true)
 
 -- the rescue of an input of which something is surveyed: the volume, or where nothing stands and more is wrong than the type, the first fault
-abbrev pub RescuesSome : Types → Input → List LossValue → List ℕ → Basis → Option Basis → List FindingValue → (boot : List ℕ) → RescueValue → Type 0
-RescuesSome types known lost input a b fs boot r =
+abbrev pub RescuesSomeOf : (plus : Bool) → Types → Input → List LossValue → List ℕ → Basis → Option Basis → List FindingValue → (boot : List ℕ)
+    → RescueValue → Type 0
+RescuesSomeOf plus types known lost input a b fs boot r =
     let ls = rescue_losses (letters_for types a.image) known lost input a b fs in
-    (HoldsNothing types known input a b fs × GivesFault ls types input r) ⊎ ((¬ HoldsNothing types known input a b fs) × GivesVolume ls types known a b boot r)
+    (HoldsNothing types known input a b fs × GivesFault ls types input r)
+    ⊎ ((¬ HoldsNothing types known input a b fs) × GivesAsked plus ls types known a b boot r)
 
 -- the rescue of an input by the surveys; where nothing is surveyed it is refused
-abbrev pub RescuesBy : Types → Input → List LossValue → List ℕ → Basis → Option Basis → List FindingValue → (boot : List ℕ) → RescueValue → Type 0
-RescuesBy types known lost input a b fs boot r =
-    ((a.walk ≡ []) × GivesFault [] types input r) ⊎ ((a.walk ≢ []) × RescuesSome types known lost input a b fs boot r)
+abbrev pub RescuesByOf : (plus : Bool) → Types → Input → List LossValue → List ℕ → Basis → Option Basis → List FindingValue → (boot : List ℕ)
+    → RescueValue → Type 0
+RescuesByOf plus types known lost input a b fs boot r =
+    ((a.walk ≡ []) × GivesFault [] types input r) ⊎ ((a.walk ≢ []) × RescuesSomeOf plus types known lost input a b fs boot r)
 
 -- the rescue of an input by the survey of its image, and by that of a second image, if there is one
-abbrev pub RescuesBoth : Types → Input → List LossValue → List ℕ → Basis → Option (List ℕ) → List FindingValue → (boot : List ℕ) → RescueValue → Type 0
-RescuesBoth types known lost input a image fs boot r = (b : Option Basis) × IsSecond image b × RescuesBy types known lost input a b fs boot r
+abbrev pub RescuesBothOf : (plus : Bool) → Types → Input → List LossValue → List ℕ → Basis → Option (List ℕ) → List FindingValue → (boot : List ℕ)
+    → RescueValue → Type 0
+RescuesBothOf plus types known lost input a image fs boot r = (b : Option Basis) × IsSecond image b × RescuesByOf plus types known lost input a b fs boot r
 
 -- the rescue of an input by what is found in an image, and in that with what is lost hung in it
-abbrev pub RescuesFound : Types → Input → List LossValue → List ℕ → List ℕ → Walk → List FindingValue → (boot : List ℕ) → RescueValue → Type 0
-RescuesFound types known lost input image w fs boot r =
+abbrev pub RescuesFoundOf : (plus : Bool) → Types → Input → List LossValue → List ℕ → List ℕ → Walk → List FindingValue → (boot : List ℕ)
+    → RescueValue → Type 0
+RescuesFoundOf plus types known lost input image w fs boot r =
     (sound : ℕ → Bool) × AreMarks image w (grave fs) sound
-    × RescuesBoth types known lost input (record { image = image; walk = w; sound = sound }) (second_image (lacks_root input) image w fs) fs boot r
+    × RescuesBothOf plus types known lost input (record { image = image; walk = w; sound = sound }) (second_image (lacks_root input) image w fs) fs boot r
 
 -- the rescue of an input by the survey of an image
-abbrev pub RescuesIn : Types → Input → List LossValue → List ℕ → List ℕ → (boot : List ℕ) → RescueValue → Type 0
-RescuesIn types known lost input image boot r =
-    (w : Walk) × (fs : List FindingValue) × IsSurvey image w fs × RescuesFound types known lost input image w fs boot r
+abbrev pub RescuesInOf : (plus : Bool) → Types → Input → List LossValue → List ℕ → List ℕ → (boot : List ℕ) → RescueValue → Type 0
+RescuesInOf plus types known lost input image boot r =
+    (w : Walk) × (fs : List FindingValue) × IsSurvey image w fs × RescuesFoundOf plus types known lost input image w fs boot r
 
 -- an input is refused where these types are accepted: no tree and layout fit it; or it is accepted
 abbrev pub IsRefusal : Types → List ℕ → (refused : Bool) → Type 0
@@ -95,15 +111,41 @@ IsRefusal types input true = IsNoVolume types input
 IsRefusal types input false = (t : Tree) × (l : Layout) × FitsBy (letters_for types input) input t l
 
 -- the rescue of an input that is accepted or refused, by the image that is read of it
-abbrev pub RescuesRead : Types → Input → (lost : List LossValue) → List ℕ → (boot : List ℕ) → RescueValue → Type 0
-RescuesRead types known lost input boot r = RescuesIn types known lost input (image_read known.is_refused input) boot r
+abbrev pub RescuesReadOf : (plus : Bool) → Types → Input → (lost : List LossValue) → List ℕ → (boot : List ℕ) → RescueValue → Type 0
+RescuesReadOf plus types known lost input boot r = RescuesInOf plus types known lost input (image_read known.is_refused input) boot r
 
 -- the rescue of an input, whose boot block and root may be overwritten, of which the first `held` blocks are there, and beside which these blocks
 -- are lost, with these boot blocks put into the volume. Names have the letters of the image as far as these types have them
-abbrev pub Rescues : Types → (held : ℕ) → (lost : List LossValue) → List ℕ → (boot : List ℕ) → RescueValue → Type 0
-Rescues types held lost input boot r =
-    (refused : Bool) × IsRefusal types input refused × RescuesRead types (record { held = held; is_refused = refused }) lost input boot r
+abbrev pub RescuesOf : (plus : Bool) → Types → (held : ℕ) → (lost : List LossValue) → List ℕ → (boot : List ℕ) → RescueValue → Type 0
+RescuesOf plus types held lost input boot r =
+    (refused : Bool) × IsRefusal types input refused × RescuesReadOf plus types (record { held = held; is_refused = refused }) lost input boot r
 
 -- the rescue of what is surveyed, once it has the type that its files say: with its two boot blocks as they were before
+abbrev pub RescuesTypedOf : (plus : Bool) → Types → SubjectValue → RescueValue → Type 0
+RescuesTypedOf plus types s r = (t : SubjectValue) × IsTyped s t × RescuesOf plus types t.end t.lost t.image (sized 2 s.image) r
+
+-- the same without the deleted files
+
+abbrev pub RescuesSome : Types → Input → List LossValue → List ℕ → Basis → Option Basis → List FindingValue → (boot : List ℕ) → RescueValue → Type 0
+RescuesSome = RescuesSomeOf false
+
+abbrev pub RescuesBy : Types → Input → List LossValue → List ℕ → Basis → Option Basis → List FindingValue → (boot : List ℕ) → RescueValue → Type 0
+RescuesBy = RescuesByOf false
+
+abbrev pub RescuesBoth : Types → Input → List LossValue → List ℕ → Basis → Option (List ℕ) → List FindingValue → (boot : List ℕ) → RescueValue → Type 0
+RescuesBoth = RescuesBothOf false
+
+abbrev pub RescuesFound : Types → Input → List LossValue → List ℕ → List ℕ → Walk → List FindingValue → (boot : List ℕ) → RescueValue → Type 0
+RescuesFound = RescuesFoundOf false
+
+abbrev pub RescuesIn : Types → Input → List LossValue → List ℕ → List ℕ → (boot : List ℕ) → RescueValue → Type 0
+RescuesIn = RescuesInOf false
+
+abbrev pub RescuesRead : Types → Input → (lost : List LossValue) → List ℕ → (boot : List ℕ) → RescueValue → Type 0
+RescuesRead = RescuesReadOf false
+
+abbrev pub Rescues : Types → (held : ℕ) → (lost : List LossValue) → List ℕ → (boot : List ℕ) → RescueValue → Type 0
+Rescues = RescuesOf false
+
 abbrev pub RescuesTyped : Types → SubjectValue → RescueValue → Type 0
-RescuesTyped types s r = (t : SubjectValue) × IsTyped s t × Rescues types t.end t.lost t.image (sized 2 s.image) r
+RescuesTyped = RescuesTypedOf false

@@ -1,6 +1,7 @@
 //! What is surveyed of an input, the runs of its findings, and its rescue up to the new volume.
 #![tactic(auto)]
 
+mod kept_losses;
 mod lengths;
 mod losses;
 mod preparing;
@@ -10,7 +11,7 @@ mod subject;
 
 pub use crate::lengths::{blocks_read, stated_length};
 pub use crate::losses::{BlockRun, Loss, Reason};
-pub use crate::preparing::{Prepared, Unrescued, prepare};
+pub use crate::preparing::{Prepared, Unrescued, prepare, prepare_asked};
 pub use crate::remarks::{Remark, Saying, push_blocks};
 pub use crate::runs::{Run, run_from, write_runs};
 pub use crate::subject::{Subject, other_type};

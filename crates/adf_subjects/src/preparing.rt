@@ -1,17 +1,22 @@
 // Rescues of which only the new volume is to be laid.
 
-ghost use Rattle.std.specs.Prelude.{◌≡◌, ◌&&◌, ◌||◌, ℕ, List, Option, Some, IfOk, false, is_some, not, option_map};
+ghost use Rattle.std.specs.Prelude.{◌≡◌, ◌&&◌, ◌||◌, ℕ, List, Option, Some, IfOk, false, is_some, length, not, option_map, true};
+ghost use Rattle.adf_build.specs.Building.{IsBuildable};
+ghost use Rattle.adf_deleted.specs.{Kept.IsCounted, Known.known_blocks};
 ghost use Rattle.adf_findings.specs.Survey.{OnSurvey};
 ghost use Rattle.adf_rescue.specs.{Pruned.image_read, Rescue.IsSecond, Rescue.Basis, Rescue.OnBasis, Rescue.OnSecond};
 ghost use Rattle.adf_subjects.specs.Losses.{LossValue, front_losses, runs_lost};
-ghost use Rattle.adf_subjects.specs.Prepared.{IsBegunInput, IsFault, IsFirstFault, Prepares, known_of};
-ghost use Rattle.adf_subjects.specs.Rescues.{IsNoVolume, Rescues, RescuesBoth, RescuesBy, is_type_alone};
+ghost use Rattle.adf_subjects.specs.Prepared.{IsBegunInput, IsFault, IsFirstFault, IsPrepared, Prepares, known_of};
+ghost use Rattle.adf_subjects.specs.Rescues.{IsNoVolume, Rescues, RescuesBothOf, RescuesByOf, RescuesOf, is_type_alone};
+ghost use Rattle.adf_volume.specs.Start.{is_image_len};
 
+use crate::kept_losses::push_kept_losses;
 use crate::losses::{BlockRun, Loss, rescue_losses};
 use crate::subject::Subject;
 use adf_base::NoMemory;
 use adf_blocks::Cause;
 use adf_check::check_by;
+use adf_deleted::{Deletions, NewVolume, know};
 use adf_drafts::Draft;
 use adf_findings::{Survey, some_survey, survey};
 use adf_rescue::{
@@ -58,11 +63,20 @@ impl From<NoMemory> for Unrescued {
     }
 }
 
-// The types that the new volume of a rescue may have, and the number of blocks that the input holds whole.
+// The types that the new volume of a rescue may have; the number of blocks that the input holds whole; and whether the deleted
+// files that are whole are kept too.
 #[derive(Clone, Copy)]
 struct Scope {
     types: Types,
-    held: usize,
+    held: u32,
+    with_deleted: bool,
+}
+
+// What stands: the new volume with it, and all that is not in it.
+#[derive(Drop)]
+struct Standing {
+    volume: NewVolume,
+    losses: Vec<Loss>,
 }
 
 // What is told of an input before an image is read of it: its first fault, if it is refused; whether it states a type; whether a
@@ -169,6 +183,40 @@ fn holds_nothing(found: &Survey<'_>, stands_nothing: bool, made_root: bool) -> b
     stands_nothing && (made_root || !is_type_alone(found))
 }
 
+// What stands is prepared as a volume, and beside it the deleted files that are whole, if they are asked for.
+fn prepare_standing(
+    alloc: Global,
+    found: &Survey<'_>,
+    second: Option<&Survey<'_>>,
+    scope: Scope,
+    standing: Standing,
+) -> Result<Prepared, Unrescued>
+    requires size { is_image_len (length found.now.image) ≡ true }
+    requires counted { IsCounted standing.volume }
+    requires fits { IsBuildable standing.volume.draft.tree standing.volume.blocks }
+    ensures { OnSurvey found.now.image (λ w _. OnSecond (option_map (λ s. s.now.image) second.entry) (λ l.
+        IsPrepared scope.with_deleted (known_blocks found.now.image w l scope.held) standing result)) }
+{
+    let Standing { volume, losses } = standing;
+    if !scope.with_deleted {
+        return Ok(Prepared {
+            draft: volume.draft,
+            blocks: volume.blocks,
+            losses,
+        });
+    }
+    let known = know(alloc, found, second, scope.held)?;
+    let deletions = Deletions::of(alloc, known)?;
+    let kept = deletions.keep(alloc, volume)?;
+    let mut losses = losses;
+    push_kept_losses(alloc, &deletions, &kept, &mut losses)?;
+    Ok(Prepared {
+        draft: kept.volume.draft,
+        blocks: kept.volume.blocks,
+        losses,
+    })
+}
+
 // Prepares a rescue by what is found in the image that is read of an input, and in a second one, if there is one.
 fn prepare_found(
     alloc: Global,
@@ -180,14 +228,14 @@ fn prepare_found(
     requires { (b : Option Basis) × IsSecond (option_map (λ s. s.now.image) second) b }
     ensures { (lost : List LossValue) (input : List ℕ) → IsBegunInput scope.types lost input found.now.image begun.now
         → OnBasis found.now.image (λ a fs. OnSecond (option_map (λ s. s.now.image) second.entry) (λ b.
-        Prepares (RescuesBy scope.types (known_of scope.held begun.now) lost input a b fs) result)) }
+        Prepares (RescuesByOf scope.with_deleted scope.types (known_of scope.held begun.now) lost input a b fs) result)) }
 {
     found.whole_marks();
     some_survey();
     let terms = Terms {
         types: scope.types,
         input: Input {
-            held: scope.held,
+            held: scope.held as usize,
             is_refused: begun.fault.is_some(),
         },
         made: begun.made_root,
@@ -196,17 +244,19 @@ fn prepare_found(
         let first = fault_of(alloc, scope.types, found.image(), begun.fault)?;
         return Err(Unrescued::Refused(first, Vec::new(alloc)));
     };
-    let front = begun.runs(alloc, scope.held, rescued.blocks)?;
+    let front = begun.runs(alloc, scope.held as usize, rescued.blocks)?;
     let losses = rescue_losses(alloc, found, second, &rescued, &front)?;
     if holds_nothing(found, rescued.stands_nothing, begun.made_root) {
         let first = fault_of(alloc, scope.types, found.image(), begun.fault)?;
         return Err(Unrescued::Refused(first, losses));
     }
-    Ok(Prepared {
+    let volume = NewVolume {
         draft: rescued.draft,
+        kind: rescued.kind,
         blocks: rescued.blocks,
-        losses,
-    })
+        left: rescued.left,
+    };
+    prepare_standing(alloc, found, second, scope, Standing { volume, losses })
 }
 
 // Prepares a rescue by what is found in the image that is read of an input, and in the hung one.
@@ -219,7 +269,8 @@ fn prepare_hung(
 ) -> Result<Prepared, Unrescued>
     ensures { (lost : List LossValue) (input : List ℕ) → IsBegunInput scope.types lost input found.now.image begun.now
         → OnBasis found.now.image (λ a fs.
-        Prepares (RescuesBoth scope.types (known_of scope.held begun.now) lost input a (Some hung.now) fs) result) }
+        Prepares (RescuesBothOf scope.with_deleted scope.types (known_of scope.held begun.now) lost input a (Some hung.now) fs)
+        result) }
 {
     let second = survey(alloc, hung)?;
     second.whole_marks();
@@ -234,7 +285,7 @@ fn prepare_read(
     begun: &Begun,
 ) -> Result<Prepared, Unrescued>
     ensures { (lost : List LossValue) (input : List ℕ) → IsBegunInput scope.types lost input image.now begun.now
-        → Prepares (Rescues scope.types scope.held lost input) result }
+        → Prepares (RescuesOf scope.with_deleted scope.types scope.held lost input) result }
 {
     let found = survey(alloc, image)?;
     found.whole_marks();
@@ -244,10 +295,16 @@ fn prepare_read(
     }
 }
 
-/// Prepares the rescue of what is surveyed of an input, and lets that go. `Refused` if nothing stands on it, its image is no
-/// valid volume of these types, and more is wrong with it than its type. `NoMemory` if an allocation fails.
-pub fn prepare(alloc: Global, subject: Subject, types: Types) -> Result<Prepared, Unrescued>
-    ensures { Prepares (Rescues types subject.end (runs_lost subject.lost.items) subject.image.items) result }
+/// Prepares the rescue of what is surveyed of an input, and lets that go; where it is asked for, with the deleted files that
+/// are whole, behind all that stands. `Refused` if nothing stands on it, its image is no valid volume of these types, and more
+/// is wrong with it than its type. `NoMemory` if an allocation fails.
+pub fn prepare_asked(
+    alloc: Global,
+    subject: Subject,
+    types: Types,
+    with_deleted: bool,
+) -> Result<Prepared, Unrescued>
+    ensures { Prepares (RescuesOf with_deleted types subject.end (runs_lost subject.lost.items) subject.image.items) result }
 {
     let mut image = subject.image;
     let begun = Begun {
@@ -259,7 +316,16 @@ pub fn prepare(alloc: Global, subject: Subject, types: Types) -> Result<Prepared
     read_input(&mut image, begun.fault.is_some());
     let scope = Scope {
         types,
-        held: subject.end as usize,
+        held: subject.end,
+        with_deleted,
     };
     prepare_read(alloc, &image, scope, &begun)
+}
+
+/// Prepares the rescue of what is surveyed of an input, without deleted files, and lets that go. `Refused` if nothing stands on
+/// it, its image is no valid volume of these types, and more is wrong with it than its type. `NoMemory` if an allocation fails.
+pub fn prepare(alloc: Global, subject: Subject, types: Types) -> Result<Prepared, Unrescued>
+    ensures { Prepares (Rescues types subject.end (runs_lost subject.lost.items) subject.image.items) result }
+{
+    prepare_asked(alloc, subject, types, false)
 }

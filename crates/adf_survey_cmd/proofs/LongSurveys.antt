@@ -25,8 +25,8 @@ use Rattle.adf_subjects.specs.{Lengths.AreFew, Lengths.blocks_read, Lengths.stat
 use Rattle.adf_subjects.specs.{Remarks.remarks_text}
 use Rattle.adf_subjects.specs.Subject.{IsTyped, OfTyped, SubjectValue, begun_subject, behind_remarks, behind_loss, held_end, missing_remarks, other_type}
 use Rattle.adf_subjects.specs.Subject.{IsOtherType, IsTypeTold, kind_image, sized, subject, subject_read, subject_text, typed_by}
-use Rattle.adf_survey_cmd.specs.CommandLine.{InquiryValue, QuestionValue, cat, deleted, list, report, rescue}
-use Rattle.adf_subjects.specs.Rescues.{IsNoVolume, RescueValue, Rescues, RescuesBoth, RescuesFound}
+use Rattle.adf_survey_cmd.specs.CommandLine.{InquiryValue, QuestionValue, cat, deleted, list, report, rescue, rescue_deleted}
+use Rattle.adf_subjects.specs.Rescues.{IsNoVolume, Replies, RescueValue, RescuesBothOf, RescuesFoundOf, RescuesOf, RescuesTypedOf}
 use Rattle.adf_survey_cmd.proofs.HintedAnswers.{same_disk}
 use Rattle.adf_subjects.proofs.{RescueAnswers.none_fits_it, ReadLengths.few_read, ReadLengths.same_read, ReadLengths.same_stated}
 
@@ -89,17 +89,19 @@ none_second made image w fs long =
     cond-false (has_lost made image w fs) (Some (hung image w (is_open made image w fs))) None none
 
 -- nothing stands, and the first fault is told
-same_rescue : (types : Types) (known other : Input) (lost ls : List LossValue) (image bytes read_image read_bytes boot more : List ℕ) (r : RescueValue)
+same_rescue : (plus : Bool) (types : Types) (known other : Input) (lost ls : List LossValue) (image bytes read_image read_bytes boot more : List ℕ)
+    (r : RescueValue)
     → 512 * MOST_BLOCKS < length image → 512 * MOST_BLOCKS < length bytes → 512 * MOST_BLOCKS < length read_bytes
-    → RescuesFound types known lost image read_image [] bad_size boot r → RescuesFound types other ls bytes read_bytes [] bad_size more r
-same_rescue types known other lost ls image bytes read_image read_bytes boot more r a b c (sound, marks, (two, second, inl (none, (f, first, e)))) =
+    → RescuesFoundOf plus types known lost image read_image [] bad_size boot r
+    → RescuesFoundOf plus types other ls bytes read_bytes [] bad_size more r
+same_rescue plus types known other lost ls image bytes read_image read_bytes boot more r a b c (sound, marks, (two, second, inl (none, (f, first, e)))) =
     let basis : Basis = record { image = read_bytes; walk = []; sound = λ n. false } in (
       (λ n. false),
       no_marks read_bytes (grave bad_size),
-      subst (λ o. RescuesBoth types other ls bytes basis o bad_size more r) (sym (none_second (lacks_root bytes) read_bytes [] bad_size c))
+      subst (λ o. RescuesBothOf plus types other ls bytes basis o bad_size more r) (sym (none_second (lacks_root bytes) read_bytes [] bad_size c))
           (None, tt, inl (refl, (f, long_fault (letters_for types image) (letters_for types bytes) image bytes f a b first, e))),
     )
-same_rescue types known other lost ls image bytes read_image read_bytes boot more r a b c (sound, marks, (two, second, inr (some, e))) = absurd (some refl)
+same_rescue plus types known other lost ls image bytes read_image read_bytes boot more r a b c (sound, marks, (two, second, inr (some, e))) = absurd (some refl)
 
 -- no volume has this length, so it is refused
 long_refused : (types : Types) (image : List ℕ) → 512 * MOST_BLOCKS < length image → IsNoVolume types image
@@ -177,9 +179,11 @@ of_typed : (s t : SubjectValue) (answers : SubjectValue → Reply → Type 0) �
     → (reply : Reply) → (answers s reply → answers t reply) → OfTyped s answers reply → OfTyped t answers reply
 of_typed s t answers a b reply same (u, is, x) = (t, long_typed t b, same (subst (λ u. answers u reply) (same_typed s u a is) x))
 
-long_rescue : (types : Types) (s t : SubjectValue) (boot other : List ℕ) → 512 * MOST_BLOCKS < length s.image → 512 * MOST_BLOCKS < length t.image
-    → (r : RescueValue) → Rescues types s.end s.lost s.image boot r → Rescues types t.end t.lost t.image other r
-long_rescue types s t boot other a b r (refused, is, (w, fs, h, found)) =
+long_rescue : (plus : Bool) (types : Types) (s t : SubjectValue) (boot other : List ℕ) → 512 * MOST_BLOCKS < length s.image
+    → 512 * MOST_BLOCKS < length t.image
+    → (r : RescueValue) → RescuesOf plus types s.end s.lost s.image boot r
+    → RescuesOf plus types t.end t.lost t.image other r
+long_rescue plus types s t boot other a b r (refused, is, (w, fs, h, found)) =
     let known : Input = record { held = s.end; is_refused = refused } in
     let more : Input = record { held = t.end; is_refused = true } in
     let read : List ℕ = image_read refused s.image in
@@ -191,10 +195,16 @@ long_rescue types s t boot other a b r (refused, is, (w, fs, h, found)) =
         [],
         bad_size,
         long_survey (image_read true t.image) here,
-        same_rescue types known more s.lost t.lost s.image t.image read (image_read true t.image) boot other r a b here
-            (of_long read w fs (λ u gs. RescuesFound types known s.lost s.image read u gs boot r) long h found),
+        same_rescue plus types known more s.lost t.lost s.image t.image read (image_read true t.image) boot other r a b here
+            (of_long read w fs (λ u gs. RescuesFoundOf plus types known s.lost s.image read u gs boot r) long h found),
       ),
     )
+
+long_typed_rescue : (plus : Bool) (types : Types) (s t : SubjectValue) → 512 * MOST_BLOCKS < length s.image → 512 * MOST_BLOCKS < length t.image
+    → (reply : Reply) → Replies (RescuesTypedOf plus types s) reply → Replies (RescuesTypedOf plus types t) reply
+long_typed_rescue plus types s t a b reply (r, (u, is, told), same) =
+    let rescues = subst (λ (u : SubjectValue). RescuesOf plus types u.end u.lost u.image (sized 2 s.image) r) (typed_so s u a is) told in
+    (r, (t, is_typed t b, long_rescue plus types s t (sized 2 s.image) (sized 2 t.image) a b r rescues), same)
 
 long_questions : (q : QuestionValue) (s t : SubjectValue) → s.front ≡ t.front → 512 * MOST_BLOCKS < length s.image
     → 512 * MOST_BLOCKS < length t.image → (reply : Reply) → QuestionAnswer q s reply → QuestionAnswer q t reply
@@ -218,9 +228,8 @@ long_questions (deleted file) s t front a b reply (u, is, lists) =
       is_typed t b,
       same_deleted file (lacks_root s.image) (lacks_root t.image) s.end t.end (image_read true s.image) (image_read true t.image) here there reply told,
     )
-long_questions (rescue keep_type) s t front a b reply (r, (u, is, told), same) =
-    let rescues = subst (λ (u : SubjectValue). Rescues (types_kept keep_type) u.end u.lost u.image (sized 2 s.image) r) (typed_so s u a is) told in
-    (r, (t, is_typed t b, long_rescue (types_kept keep_type) s t (sized 2 s.image) (sized 2 t.image) a b r rescues), same)
+long_questions (rescue keep_type) s t front a b reply told = long_typed_rescue false (types_kept keep_type) s t a b reply told
+long_questions (rescue_deleted keep_type) s t front a b reply told = long_typed_rescue true (types_kept keep_type) s t a b reply told
 
 -- an image of n blocks is made of the front alone
 same_sized : (n : ℕ) (image bytes : List ℕ) → n ≤ MOST_BLOCKS → image ≡ take (512 * MOST_BLOCKS + 1) bytes → 512 * MOST_BLOCKS < length image

@@ -17,11 +17,12 @@ use Rattle.adf_cmd.proofs.OneAnswer.{one_dates}
 use Rattle.adf_survey_cmd.specs.Answers.{CopiesEntry, CopiesFound, CopiesFromSurvey, IsWholeFile, ListsSurvey, QuestionAnswer, SurveyAnswer}
 use Rattle.adf_survey_cmd.specs.Answers.{Surveys, TellsFound, told_status, types_kept}
 use Rattle.adf_survey_cmd.specs.{Hints.hinted, FoundLines.listing_text}
-use Rattle.adf_subjects.specs.{Losses.LossValue, Losses.losses_text, Rescues.RescuesSome, Rescues.rescue_reply}
+use Rattle.adf_subjects.specs.{Losses.LossValue, Losses.losses_text, Rescues.RescuesSomeOf, Rescues.rescue_reply}
 use Rattle.adf_subjects.specs.Subject.{OfTyped, SubjectValue, begun_subject, sized, subject}
-use Rattle.adf_subjects.specs.Rescues.{GivesFault, IsRefusal, Replies, RescueValue, Rescues, RescuesBy, RescuesFound, RescuesIn, RescuesRead, RescuesTyped}
+use Rattle.adf_subjects.specs.Rescues.{GivesFault, IsRefusal, Replies, RescueValue, RescuesOf}
+use Rattle.adf_subjects.specs.Rescues.{RescuesByOf, RescuesFoundOf, RescuesInOf, RescuesReadOf, RescuesTypedOf}
 use Rattle.adf_subjects.proofs.OneSubject.{one_marks, one_typed}
-use Rattle.adf_survey_cmd.specs.CommandLine.{AsksSurvey, InquiryValue, QuestionValue, cat, deleted, list, report, rescue}
+use Rattle.adf_survey_cmd.specs.CommandLine.{AsksSurvey, InquiryValue, QuestionValue, cat, deleted, list, report, rescue, rescue_deleted}
 use Rattle.adf_base.specs.declared.dates.Stamp.{Stamp}
 use Rattle.adf_blocks.specs.Sizes.{blocks}
 use Rattle.adf_deleted.specs.Known.{KnownValue, known_blocks}
@@ -107,21 +108,22 @@ refused_once : (types : Types) (input : List ℕ) (ls : List LossValue) (r q : R
 refused_once types input ls r q (f, first, x) (g, fault, y) =
     ap rescue_reply x ∙ ap (λ line. on_errors 1 (line ++ losses_text ls)) (one_fault_line types input f g first fault) ∙ sym (ap rescue_reply y)
 
-some_once : (types : Types) (known : Input) (lost : List LossValue) (input : List ℕ) (l : Basis) (m : Option Basis) (fs : List FindingValue) (boot : List ℕ)
-    (r q : RescueValue) → RescuesSome types known lost input l m fs boot r → RescuesSome types known lost input l m fs boot q
+some_once : (plus : Bool) (types : Types) (known : Input) (lost : List LossValue) (input : List ℕ) (l : Basis) (m : Option Basis) (fs : List FindingValue)
+    (boot : List ℕ) (r q : RescueValue) → RescuesSomeOf plus types known lost input l m fs boot r → RescuesSomeOf plus types known lost input l m fs boot q
     → rescue_reply r ≡ rescue_reply q
-some_once types known lost input l m fs boot r q (inl (none, x)) (inl (also, y)) = refused_once types input _ r q x y
-some_once types known lost input l m fs boot r q (inl (none, x)) (inr (some, y)) = absurd (some none)
-some_once types known lost input l m fs boot r q (inr (some, x)) (inl (none, y)) = absurd (some none)
-some_once types known lost input l m fs boot r q (inr (some, (one, laid, size, x))) (inr (also, (other, too, long, y))) = grind (arith, common_steps)
+some_once plus types known lost input l m fs boot r q (inl (none, x)) (inl (also, y)) = refused_once types input _ r q x y
+some_once plus types known lost input l m fs boot r q (inl (none, x)) (inr (some, y)) = absurd (some none)
+some_once plus types known lost input l m fs boot r q (inr (some, x)) (inl (none, y)) = absurd (some none)
+some_once plus types known lost input l m fs boot r q (inr (some, (one, laid, size, x))) (inr (also, (other, too, long, y))) = grind (arith, common_steps)
 
-by_surveys_once : (types : Types) (known : Input) (lost : List LossValue) (input : List ℕ) (l : Basis) (m : Option Basis) (fs : List FindingValue)
-    (boot : List ℕ) (r q : RescueValue) → RescuesBy types known lost input l m fs boot r → RescuesBy types known lost input l m fs boot q
+by_surveys_once : (plus : Bool) (types : Types) (known : Input) (lost : List LossValue) (input : List ℕ) (l : Basis) (m : Option Basis) (fs : List FindingValue)
+    (boot : List ℕ) (r q : RescueValue) → RescuesByOf plus types known lost input l m fs boot r
+    → RescuesByOf plus types known lost input l m fs boot q
     → rescue_reply r ≡ rescue_reply q
-by_surveys_once types known lost input l m fs boot r q (inl (none, x)) (inl (also, y)) = refused_once types input [] r q x y
-by_surveys_once types known lost input l m fs boot r q (inl (none, x)) (inr (some, y)) = absurd (some none)
-by_surveys_once types known lost input l m fs boot r q (inr (some, x)) (inl (none, y)) = absurd (some none)
-by_surveys_once types known lost input l m fs boot r q (inr (some, x)) (inr (also, y)) = some_once types known lost input l m fs boot r q x y
+by_surveys_once plus types known lost input l m fs boot r q (inl (none, x)) (inl (also, y)) = refused_once types input [] r q x y
+by_surveys_once plus types known lost input l m fs boot r q (inl (none, x)) (inr (some, y)) = absurd (some none)
+by_surveys_once plus types known lost input l m fs boot r q (inr (some, x)) (inl (none, y)) = absurd (some none)
+by_surveys_once plus types known lost input l m fs boot r q (inr (some, x)) (inr (also, y)) = some_once plus types known lost input l m fs boot r q x y
 
 one_second : (image : Option (List ℕ)) (l m : Option Basis) → IsSecond image l → IsSecond image m → l ≡ m
 one_second None None None x y = refl
@@ -134,22 +136,24 @@ one_second (Some image) (Some l) (Some m) x y = ap some (one_basis image l m x y
     some : Basis → Option Basis
     some k = Some k
 
-found_rescued_once : (types : Types) (known : Input) (lost : List LossValue) (input image : List ℕ) (w : Walk) (fs : List FindingValue) (boot : List ℕ)
-    (r q : RescueValue) → RescuesFound types known lost input image w fs boot r → RescuesFound types known lost input image w fs boot q
+found_rescued_once : (plus : Bool) (types : Types) (known : Input) (lost : List LossValue) (input image : List ℕ) (w : Walk) (fs : List FindingValue)
+    (boot : List ℕ) (r q : RescueValue) → RescuesFoundOf plus types known lost input image w fs boot r
+    → RescuesFoundOf plus types known lost input image w fs boot q
     → rescue_reply r ≡ rescue_reply q
-found_rescued_once types known lost input image w fs boot r q (sound, marks, (l, second, x)) (others, also, (m, twice, y)) =
+found_rescued_once plus types known lost input image w fs boot r q (sound, marks, (l, second, x)) (others, also, (m, twice, y)) =
     let by : (ℕ → Bool) → Basis = λ s. record { image = image; walk = w; sound = s } in
-    by_surveys_once types known lost input (by others) m fs boot r q
-    (subst (λ o. RescuesBy types known lost input (by others) o fs boot r) (one_second (second_image (lacks_root input) image w fs) l m second twice)
-    (subst (λ s. RescuesBy types known lost input (by s) l fs boot r) (one_marks image w (grave fs) sound others marks also) x)) y
+    by_surveys_once plus types known lost input (by others) m fs boot r q
+    (subst (λ o. RescuesByOf plus types known lost input (by others) o fs boot r) (one_second (second_image (lacks_root input) image w fs) l m second twice)
+    (subst (λ s. RescuesByOf plus types known lost input (by s) l fs boot r) (one_marks image w (grave fs) sound others marks also) x)) y
 
-rescued_once : (types : Types) (known : Input) (lost : List LossValue) (input image boot : List ℕ) (r q : RescueValue)
-    → RescuesIn types known lost input image boot r → RescuesIn types known lost input image boot q → rescue_reply r ≡ rescue_reply q
-rescued_once types known lost input image boot r q (w, fs, s, x) (u, gs, t, y) =
+rescued_once : (plus : Bool) (types : Types) (known : Input) (lost : List LossValue) (input image boot : List ℕ) (r q : RescueValue)
+    → RescuesInOf plus types known lost input image boot r → RescuesInOf plus types known lost input image boot q
+    → rescue_reply r ≡ rescue_reply q
+rescued_once plus types known lost input image boot r q (w, fs, s, x) (u, gs, t, y) =
     let same = one_survey image w u fs gs s t in
-    let moved = subst (λ v. RescuesFound types known lost input image v fs boot r) same.0 x in
-    found_rescued_once types known lost input image u gs boot r q
-    (subst (λ hs. RescuesFound types known lost input image u hs boot r) same.1 moved) y
+    let moved = subst (λ v. RescuesFoundOf plus types known lost input image v fs boot r) same.0 x in
+    found_rescued_once plus types known lost input image u gs boot r q
+    (subst (λ hs. RescuesFoundOf plus types known lost input image u hs boot r) same.1 moved) y
 
 -- an input is accepted, or refused
 one_refusal : (types : Types) (input : List ℕ) (x y : Bool) → IsRefusal types input x → IsRefusal types input y → x ≡ y
@@ -159,17 +163,19 @@ one_refusal types input true false none (t, l, fits) = absurd (none t l fits)
 one_refusal types input false true (t, l, fits) none = absurd (none t l fits)
 
 -- so its rescue has one reply
-read_once : (types : Types) (held : ℕ) (lost : List LossValue) (input boot : List ℕ) (r q : RescueValue) → Rescues types held lost input boot r
-    → Rescues types held lost input boot q → rescue_reply r ≡ rescue_reply q
-read_once types held lost input boot r q (refused, is, x) (other, also, y) =
+read_once : (plus : Bool) (types : Types) (held : ℕ) (lost : List LossValue) (input boot : List ℕ) (r q : RescueValue)
+    → RescuesOf plus types held lost input boot r
+    → RescuesOf plus types held lost input boot q → rescue_reply r ≡ rescue_reply q
+read_once plus types held lost input boot r q (refused, is, x) (other, also, y) =
     let known : Bool → Input = λ b. record { held = held; is_refused = b } in
-    rescued_once types (known other) lost input (image_read other input) boot r q
-    (subst (λ b. RescuesRead types (known b) lost input boot r) (one_refusal types input refused other is also) x) y
+    rescued_once plus types (known other) lost input (image_read other input) boot r q
+    (subst (λ b. RescuesReadOf plus types (known b) lost input boot r) (one_refusal types input refused other is also) x) y
 
-typed_rescued_once : (types : Types) (s : SubjectValue) (a b : Reply) → Replies (RescuesTyped types s) a → Replies (RescuesTyped types s) b → a ≡ b
-typed_rescued_once types s a b (r, (t, is, x), e) (q, (u, also, y), f) =
-    e ∙ read_once types u.end u.lost u.image (sized 2 s.image) r q
-    (subst (λ (t : SubjectValue). Rescues types t.end t.lost t.image (sized 2 s.image) r) (one_typed s t u is also) x) y ∙ sym f
+typed_rescued_once : (plus : Bool) (types : Types) (s : SubjectValue) (a b : Reply) → Replies (RescuesTypedOf plus types s) a
+    → Replies (RescuesTypedOf plus types s) b → a ≡ b
+typed_rescued_once plus types s a b (r, (t, is, x), e) (q, (u, also, y), f) =
+    e ∙ read_once plus types u.end u.lost u.image (sized 2 s.image) r q
+    (subst (λ (t : SubjectValue). RescuesOf plus types t.end t.lost t.image (sized 2 s.image) r) (one_typed s t u is also) x) y ∙ sym f
 
 -- the deleted headers have one answer
 
@@ -211,7 +217,8 @@ one_question (cat damaged path) s a b (inl (bad, x)) (inr (t, is, h)) = absurd (
 one_question (cat damaged path) s a b (inr (t, is, h)) (inl (bad, y)) = absurd (bad h.0 h.1)
 one_question (cat damaged path) s a b (inr h) (inr g) = typed_once s (CopiesFromSurvey damaged path) (copied_once damaged path) a b h g
 one_question (deleted file) s a b x y = typed_deleted_once file s a b x y
-one_question (rescue keep_type) s a b x y = typed_rescued_once (types_kept keep_type) s a b x y
+one_question (rescue keep_type) s a b x y = typed_rescued_once false (types_kept keep_type) s a b x y
+one_question (rescue_deleted keep_type) s a b x y = typed_rescued_once true (types_kept keep_type) s a b x y
 
 pub one_answer : (r : InquiryValue) (input : List ℕ) (a b : Reply) → SurveyAnswer r input a → SurveyAnswer r input b → a ≡ b
 one_answer r input a b (told, x, e) (other, y, f) =

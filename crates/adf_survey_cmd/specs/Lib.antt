@@ -7,3 +7,5 @@ pub mod Hints
 pub mod Answers
 -- The words of the command, as its loop keeps them.
 pub mod Work
+-- What its laws speak of.
+pub mod Laws

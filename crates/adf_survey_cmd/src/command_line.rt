@@ -9,6 +9,7 @@ ghost use Rattle.adf_survey_cmd.specs.CommandLine.{AsksSurvey, AsksSurveyOf, Are
 ghost use Rattle.adf_subjects.specs.Lengths.{AreFew};
 ghost use Rattle.adf_survey_cmd.specs.CommandLine.{cat_met, flagged_survey, list, inquiry_met, inquiry_value, question_met};
 ghost use Rattle.adf_survey_cmd.specs.CommandLine.{deleted, question_named, question_value, report, rescue};
+ghost use Rattle.adf_survey_cmd.specs.CommandLine.{rescue_asked, rescue_deleted};
 ghost use Rattle.adf_survey_cmd.specs.CommandLine.{survey_app, survey_cat_app};
 ghost use Rattle.adf_survey_cmd.specs.CommandLine.{survey_deleted_app, survey_file, survey_rescue_app};
 
@@ -25,7 +26,7 @@ use std::alloc::{AllocError, Global};
 pub const SURVEY_USAGE: &str =
     "usage: adf-survey [--blocks N] [--list] [--json] [FILE]\n       adf-survey [--blocks N] cat [--damaged] PATH [FILE]\n\
     \x20      adf-survey [--blocks N] cat --deleted BLOCK [FILE]\n\
-    \x20      adf-survey [--blocks N] rescue [--keep-type] [FILE]\n\
+    \x20      adf-survey [--blocks N] rescue [--keep-type] [--deleted] [FILE]\n\
     \x20      adf-survey [--blocks N] deleted [FILE]\n\
     without a FILE the image comes on standard input; man adf-survey tells more\n";
 
@@ -39,8 +40,9 @@ pub const ABOUT: About = About {
     \x20          a sound file; with --damaged what is left of any file\n\
     \x20      adf-survey [--blocks N] cat --deleted BLOCK [FILE]\n\
     \x20          what is left of the deleted file whose header is in this block\n\
-    \x20      adf-survey [--blocks N] rescue [--keep-type] [FILE] > NEW\n\
-    \x20          a new volume of all that can be kept; with --keep-type of the letters of the image\n\
+    \x20      adf-survey [--blocks N] rescue [--keep-type] [--deleted] [FILE] > NEW\n\
+    \x20          a new volume of all that can be kept; with --keep-type of the letters of the image;\n\
+    \x20          with --deleted also of the deleted files that are whole, in a directory deleted\n\
     \x20      adf-survey [--blocks N] deleted [FILE]\n\
     \x20          each deleted file and directory whose header still stands, and what speaks for it\n\
     \x20      adf-survey --help, adf-survey --version\n\n\
@@ -60,6 +62,8 @@ pub enum Question<'a> {
     Cat { path: &'a str, damaged: bool },
     /// A new volume of all that stands, and whether it keeps the letters of the image, or has ASCII letters.
     Rescue { keep_type: bool },
+    /// The same, and the deleted files that are whole.
+    RescueDeleted { keep_type: bool },
     /// The deleted headers, or the bytes of the file of one, by its block.
     Deleted { file: Option<u32> },
 }
@@ -93,12 +97,13 @@ fn survey_cat_command<'a>(alloc: Global) -> Result<Command<'a>, AllocError>
     with_argument(cats, file_argument(alloc))
 }
 
-// The command `rescue [--keep-type] [FILE]`.
+// The command `rescue [--keep-type] [--deleted] [FILE]`.
 fn survey_rescue_command<'a>(alloc: Global) -> Result<Command<'a>, AllocError>
     ensures app { IfOk result (λ c. app_of c ≡ survey_rescue_app) }
     ensures local { IfOk result (λ c. (out-Command c).has_globals ≡ false) }
 {
-    let rescues = with_argument(Ok(Command::new(alloc, "rescue")), flag(alloc, "keep-type"));
+    let typed = with_argument(Ok(Command::new(alloc, "rescue")), flag(alloc, "keep-type"));
+    let rescues = with_argument(typed, flag(alloc, "deleted"));
     with_argument(rescues, file_argument(alloc))
 }
 
@@ -165,6 +170,16 @@ fn cat_in<'a>(found: &ArgMatches<'a>) -> Option<Question<'a>>
     }
 }
 
+// What `rescue` asks, with the deleted files or without them.
+fn rescue_asked<'a>(with_deleted: bool, keep_type: bool) -> Question<'a>
+    ensures { question_value result ≡ rescue_asked with_deleted keep_type }
+{
+    if with_deleted {
+        return Question::RescueDeleted { keep_type };
+    }
+    Question::Rescue { keep_type }
+}
+
 // What a subcommand's name and matches ask.
 fn question_named<'a>(name: &str, found: &ArgMatches<'a>) -> Option<Question<'a>>
     ensures { option_map question_value result
@@ -173,9 +188,7 @@ fn question_named<'a>(name: &str, found: &ArgMatches<'a>) -> Option<Question<'a>
     if name == "cat" {
         cat_in(found)
     } else if name == "rescue" {
-        Some(Question::Rescue {
-            keep_type: has_flag(found, "keep-type"),
-        })
+        Some(rescue_asked(has_flag(found, "deleted"), has_flag(found, "keep-type")))
     } else if name == "deleted" {
         Some(Question::Deleted { file: None })
     } else {
@@ -317,6 +330,14 @@ pub fn survey_words_as_documented()
     ensures rescue_any { (file : List ℕ) → AsksSurveyOf
         (codes "adf-survey" ∷ codes "rescue" ∷ codes "--" ∷ file ∷ [])
         (asked None (rescue false)) (file_meant file) }
+    ensures rescue_deleted { AsksSurveyOf (codes "adf-survey" ∷ codes "rescue" ∷ codes "--deleted" ∷ [])
+        (asked None (rescue_deleted false)) None }
+    ensures rescue_deleted_types { AsksSurveyOf
+        (codes "adf-survey" ∷ codes "rescue" ∷ codes "--deleted" ∷ codes "--keep-type" ∷ codes "a.adf" ∷ [])
+        (asked None (rescue_deleted true)) (Some (codes "a.adf")) }
+    ensures rescue_deleted_behind { AsksSurveyOf
+        (codes "adf-survey" ∷ codes "rescue" ∷ codes "a.adf" ∷ codes "--deleted" ∷ [])
+        (asked None (rescue_deleted false)) (Some (codes "a.adf")) }
     ensures keep_type { AsksSurveyOf (codes "adf-survey" ∷ codes "rescue" ∷ codes "--keep-type" ∷ [])
         (asked None (rescue true)) None }
     ensures keep_type_file { AsksSurveyOf
@@ -387,6 +408,8 @@ pub fn survey_words_as_documented()
         (codes "adf-survey" ∷ codes "cat" ∷ codes "--damaged" ∷ []) }
     ensures damaged_twice { AreRefusedBySurvey
         (codes "adf-survey" ∷ codes "cat" ∷ codes "--damaged" ∷ codes "--damaged" ∷ codes "a" ∷ []) }
+    ensures deleted_twice { AreRefusedBySurvey
+        (codes "adf-survey" ∷ codes "rescue" ∷ codes "--deleted" ∷ codes "--deleted" ∷ []) }
     ensures keep_type_alone { AreRefusedBySurvey (codes "adf-survey" ∷ codes "--keep-type" ∷ []) }
     ensures keep_type_front { AreRefusedBySurvey
         (codes "adf-survey" ∷ codes "--keep-type" ∷ codes "rescue" ∷ []) }

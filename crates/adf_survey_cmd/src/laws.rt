@@ -1,16 +1,20 @@
 // The laws of rescues and of deleted files that are written. Each is the contract of a function that does nothing at run time.
 
-ghost use Rattle.std.specs.Prelude.{◌≡◌, ◌≢◌, ◌<◌, ◌≤◌, ◌↔◌, ℕ, Bool, List, [], Option, length, true};
+ghost use Rattle.std.specs.Prelude.{◌≡◌, ◌≢◌, ◌<◌, ◌≤◌, ◌↔◌, ◌++◌, ℕ, Bool, List, [], Option, Some, false, length, true};
 ghost use Rattle.std.specs.List.{All};
 ghost use Rattle.adf_volume.specs.{Fits.FitsBy, Layout.Layout, Types.letters_for, declared.types.Types.Types};
 ghost use Rattle.adf_boot_blocks.specs.{BootBlocks.begins_with_dos, Writing.HasBootOf, declared.boot.TheConstants.BOOT_LEN};
-ghost use Rattle.adf_rescue.specs.{Rescue.Basis, Rescue.rescued_tree_by, declared.standing.Input.Input};
-ghost use Rattle.adf_deleted.specs.{Deletions.state_of, Known.KnownValue, Left.is_deleted_file};
+ghost use Rattle.adf_rescue.specs.{Rescue.Basis, Rescue.rescued_additions_by, Rescue.rescued_tree_by};
+ghost use Rattle.adf_rescue.specs.declared.standing.Input.{Input};
+ghost use Rattle.adf_deleted.specs.{Deletions.state_of, Kept.AreDeletedIn, Kept.IsWholeIn, Known.KnownValue, Known.is_reached};
+ghost use Rattle.adf_deleted.specs.{Known.known_blocks, Left.data_standing, Left.is_deleted_file};
+ghost use Rattle.adf_tree.specs.Additions.{Addition, IsTreeOfBy};
 ghost use Rattle.adf_deleted.specs.declared.deletions.State.TheVariants.{Whole};
 ghost use Rattle.adf_runs.specs.Commands.{Reply};
 ghost use Rattle.adf_survey_cmd.specs.{CommandLine.asked, CommandLine.rescue, Answers.SurveyAnswer, Deletions.left_reply};
 ghost use Rattle.adf_subjects.specs.{Losses.LossValue, Subject.meant};
-ghost use Rattle.adf_subjects.specs.Rescues.{GivesVolume, RescueValue, rescue_reply};
+ghost use Rattle.adf_subjects.specs.Rescues.{GivesAsked, GivesVolume, RescueValue, rescue_reply};
+ghost use Rattle.adf_survey_cmd.specs.Laws.{kept_beside};
 
 /// The volume that a rescue writes fits the tree of all that stands, by its letters. It has the boot blocks of an image that
 /// begins with `DOS`: the bytes behind the checksum, the checksum unless it is right for another type, and it is bootable if
@@ -24,6 +28,23 @@ pub fn rescued_volumes()
         → SurveyAnswer (asked blocks (rescue keep_type)) input reply → reply.output ≢ []
         → All (λ byte. byte < 256) input → begins_with_dos (meant blocks input) ≡ true
         → HasBootOf (meant blocks input) reply.output }
+{}
+
+/// The volume that a rescue with deleted files writes fits the tree of what stands with what is kept of them, by its letters.
+/// That is the tree of the same additions as without them, and behind these of a directory and the whole files in it. No byte
+/// of such a file is of a block that a survey of the rescue has.
+pub fn rescued_with_deleted()
+    ensures fits { (ls : List LossValue) (types : Types) (known : Input) (a : Basis) (b : Option Basis) (boot : List ℕ)
+        (r : RescueValue) → BOOT_LEN ≤ length boot → GivesAsked true ls types known a b boot r
+        → (l : Layout) × FitsBy (letters_for types a.image) (rescue_reply r).output (kept_beside types known a b).tree l }
+    ensures behind { (types : Types) (known : Input) (a : Basis) (b : Option Basis)
+        → IsTreeOfBy (letters_for types a.image) (kept_beside types known a b).tree.entries
+        (rescued_additions_by (letters_for types a.image) known a b ++ (kept_beside types known a b).added) }
+    ensures files { (types : Types) (known : Input) (a : Basis) (b : Option Basis)
+        → AreDeletedIn (known_blocks a.image a.walk b known.held) (kept_beside types known a b).added }
+    ensures apart { (known : Input) (a : Basis) (b : Option Basis) (dir : List (List ℕ)) (x : Addition) (h i c : ℕ)
+        → IsWholeIn (known_blocks a.image a.walk b known.held) dir x h
+        → data_standing (known_blocks a.image a.walk b known.held) h i ≡ Some c → is_reached a.walk b c ≡ false }
 {}
 
 /// What is left of a deleted file is written with status 0 if and only if the file is whole: then there is no line.

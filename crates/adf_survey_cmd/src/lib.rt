@@ -19,6 +19,6 @@ mod work;
 pub use crate::command_line::{
     Inquiry, Question, parse_survey as parse, survey_words_as_documented,
 };
-pub use crate::laws::{rescued_volumes, status_tells_whole};
+pub use crate::laws::{rescued_volumes, rescued_with_deleted, status_tells_whole};
 pub use crate::runner::{one_answer, run_files};
 pub use crate::work::{Task, View, Work};

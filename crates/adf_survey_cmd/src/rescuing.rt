@@ -6,7 +6,7 @@ ghost use Rattle.adf_boot_blocks.specs.Writing.{restored};
 ghost use Rattle.adf_build.specs.{Building.IsBuildable, Laid.IsLaid};
 ghost use Rattle.adf_runs.specs.{Outcomes.Blames, Outcomes.Does, Outcomes.outcome_text, Outcomes.status_of, Streams.seen};
 ghost use Rattle.adf_subjects.specs.{Losses.loss_values, Losses.losses_text, Losses.runs_lost, Prepared.IsToldRefusal};
-ghost use Rattle.adf_subjects.specs.{Prepared.WritesPrepared, Rescues.Replies, Rescues.Rescues, Rescues.text_status};
+ghost use Rattle.adf_subjects.specs.{Prepared.WritesPrepared, Rescues.Replies, Rescues.RescuesOf, Rescues.text_status};
 ghost use Rattle.adf_texts.specs.Lines.{fault_line};
 
 use crate::loss_lines::push_losses;
@@ -16,9 +16,16 @@ use adf_cmd::refused_line;
 use adf_drafts::Draft;
 use adf_rescue::lay;
 use adf_runs::{Outcome, Sink, write_all};
-use adf_subjects::{Loss, Prepared, Subject, Unrescued, prepare};
+use adf_subjects::{Loss, Prepared, Subject, Unrescued, prepare_asked};
 use adf_volume::{Fault, Types};
 use std::alloc::{AllocError, Global};
+
+/// The terms of a rescue: the types that the new volume may have, and whether the deleted files that are whole are kept too.
+#[derive(Clone, Copy)]
+pub struct Terms {
+    pub types: Types,
+    pub with_deleted: bool,
+}
 
 // The outcome of a rescue that is written, by its lines.
 fn told(lines: Vec<u8>) -> Outcome
@@ -107,21 +114,22 @@ fn refused(alloc: Global, unrescued: Unrescued) -> Outcome
 
 /// Writes the new volume of all that stands on what is surveyed of an input, whose boot block and root may be overwritten, and of
 /// which the first blocks were there whole, with what no directory leads to any more; errors get the lines of what is not in
-/// it, or in doubt there. If nothing stands, the image is no valid volume of these types, and more is wrong with it than its
-/// type, errors get the line of its first fault, then these lines. The new volume gets the boot blocks. The image is let go before it is laid.
+/// it, or in doubt there; where it is asked for, with the deleted files that are whole. If nothing stands, the image is no valid
+/// volume of these types, and more is wrong with it than its type, errors get the line of its first fault, then these lines.
+/// The new volume gets the boot blocks. The image is let go before it is laid.
 pub fn rescue_image<W: Sink>(
     alloc: Global,
     subject: Subject,
-    types: Types,
+    terms: Terms,
     boot: &[u8],
     output: &mut W,
 ) -> Outcome
     requires works { W.has_failed output.old ≡ false }
     requires boot { BOOT_LEN ≤ length boot.now }
-    ensures { Does (Replies (Rescues types subject.end (runs_lost subject.lost.items) subject.image.items boot.now)) result
-        (seen W.held W.has_failed output.old output.new) }
+    ensures { Does (Replies (RescuesOf terms.with_deleted terms.types subject.end (runs_lost subject.lost.items)
+        subject.image.items boot.now)) result (seen W.held W.has_failed output.old output.new) }
 {
-    match prepare(alloc, subject, types) {
+    match prepare_asked(alloc, subject, terms.types, terms.with_deleted) {
         Ok(prepared) => write_prepared(alloc, prepared, boot, output),
         Err(unrescued) => refused(alloc, unrescued),
     }

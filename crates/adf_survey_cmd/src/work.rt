@@ -7,7 +7,7 @@ ghost use Rattle.adf_runs.specs.{Outcomes.Blames, Outcomes.Does, Outcomes.EndsBy
 ghost use Rattle.adf_survey_cmd.specs.Answers.{HasBadSurveyPath, QuestionAnswer, SurveyAnswer, types_kept};
 ghost use Rattle.adf_survey_cmd.specs.CommandLine.{InquiryValue, QuestionValue, question_value};
 ghost use Rattle.adf_survey_cmd.specs.Work.{Answers, Meets, Shows};
-ghost use Rattle.adf_subjects.specs.Rescues.{Replies, RescuesTyped};
+ghost use Rattle.adf_subjects.specs.Rescues.{Replies, RescuesTypedOf};
 ghost use Rattle.adf_subjects.specs.Subject.{IsTyped, SubjectValue, begun_subject, other_type, subject_value};
 
 use crate::command_line::{Question, SURVEY_USAGE as USAGE, parse_survey, survey_file};
@@ -16,7 +16,7 @@ use crate::deleting::tell_deleted;
 use crate::hints::{hinted, is_hard_disk};
 use crate::listing::write_list;
 use crate::reporting::write_findings;
-use crate::rescuing::rescue_image;
+use crate::rescuing::{Terms, rescue_image};
 use adf_cmd::most_image_bytes;
 use adf_file_runs::FileProgram;
 use adf_findings::{Survey, some_survey, survey};
@@ -42,6 +42,8 @@ pub enum Task {
     Show(View),
     /// The volume may have these types.
     Rescue(Types),
+    /// The same, with the deleted files that are whole.
+    RescueDeleted(Types),
     /// The deleted headers, or what is left of the file of one, by its block.
     Deleted(Option<u32>),
 }
@@ -78,6 +80,7 @@ fn task_for(alloc: Global, question: Question<'_>) -> Result<Task, WorkFault>
             Ok(Task::Show(View::Cat { names, damaged }))
         }
         Question::Rescue { keep_type } => Ok(Task::Rescue(types_kept(keep_type))),
+        Question::RescueDeleted { keep_type } => Ok(Task::RescueDeleted(types_kept(keep_type))),
         Question::Deleted { file } => Ok(Task::Deleted(file)),
     }
 }
@@ -211,22 +214,30 @@ impl View {
     }
 }
 
-// Rescues what is surveyed of an input, once its image has the type that its files say, with the boot blocks that it had before.
+// Rescues what is surveyed of an input, once its image has the type that its files say, with the boot blocks that it had before;
+// where it is asked for, with the deleted files that are whole.
 fn rescue_subject<W: Sink>(
     alloc: Global,
     mut subject: Subject,
     types: Types,
+    with_deleted: bool,
     output: &mut W,
 ) -> Outcome
     requires { W.has_failed output.old ≡ false }
-    ensures { Does (Replies (RescuesTyped types (subject_value subject))) result
+    ensures { Does (Replies (RescuesTypedOf with_deleted types (subject_value subject))) result
         (seen W.held W.has_failed output.old output.new) }
 {
     let Ok(boot) = subject.boot(alloc) else {
         return Outcome::NoMemory;
     };
     match subject.be_typed(alloc) {
-        Ok(()) => rescue_image(alloc, subject, types, &boot, output),
+        Ok(()) => {
+            let terms = Terms {
+                types,
+                with_deleted,
+            };
+            rescue_image(alloc, subject, terms, &boot, output)
+        }
         Err(_) => Outcome::NoMemory,
     }
 }
@@ -242,7 +253,8 @@ impl Task {
     {
         match self {
             Task::Show(view) => view.of_subject(alloc, subject, output),
-            Task::Rescue(types) => rescue_subject(alloc, subject, *types, output),
+            Task::Rescue(types) => rescue_subject(alloc, subject, *types, false, output),
+            Task::RescueDeleted(types) => rescue_subject(alloc, subject, *types, true, output),
             Task::Deleted(file) => tell_deleted(alloc, subject, *file, output),
         }
     }

@@ -6,17 +6,17 @@ use Rattle.adf_findings.specs.SoundMarks.{whole_in}
 use Rattle.adf_rescue.specs.{Opened.lacks_root, Rescue.Basis, Rescue.StandsNothingBy, declared.standing.Input.Input}
 use Rattle.adf_rescue.proofs.PassedFindings.{unread_fault}
 use Rattle.adf_subjects.specs.Losses.{loss_value, runs_lost, told_value}
-use Rattle.adf_subjects.specs.{Prepared.known_of, declared.losses.Loss.Loss, declared.preparing.Prepared.Prepared}
-use Rattle.adf_subjects.specs.Rescues.{HoldsNothing, IsNoVolume, RescueValue.refused, RescuesBy, is_type_alone}
-use Rattle.adf_subjects.proofs.RescueAnswers.{if_some, none_fits_it, none_prepared, on_terms, same_front, same_losses, same_told, terms_of}
-use Rattle.adf_subjects.proofs.RescueAnswers.{volume_prepared}
+use Rattle.adf_subjects.specs.{Prepared.known_of, declared.losses.Loss.Loss}
+use Rattle.adf_subjects.specs.Rescues.{HoldsNothing, IsNoVolume, RescueValue.refused, RescuesByOf, is_type_alone}
+use Rattle.adf_subjects.proofs.RescueAnswers.{if_some, none_fits_it, none_prepared, on_terms, same_front, same_losses, same_told, surveyed_size, terms_of}
+use Rattle.adf_subjects.proofs.RescueAnswers.{standing_prepared}
 use Rattle.adf_subjects.proofs.preparing.prepare_found.Goals as goal
 
 pub returns-in_err-rescued : goal.returns-in_err-rescued
 returns-in_err-rescued c = λ lost input begun w fs sound here marks b second.
     let a : Basis = record { image = c.args.found.now.image; walk = w; sound = sound } in
     let known : Input = known_of c.args.scope.held c.args.begun.now in
-    none_prepared (RescuesBy c.args.scope.types known lost input a b fs) c.from_residual.result c.from_residual.ensures.1
+    none_prepared (RescuesByOf c.args.scope.with_deleted c.args.scope.types known lost input a b fs) c.from_residual.result c.from_residual.ensures.1
 
 pub fault_of-requires : goal.fault_of-requires
 fault_of-requires c = λ as_it_is.
@@ -31,7 +31,8 @@ pub returns-in_err-first : goal.returns-in_err-first
 returns-in_err-first c = λ lost input begun w fs sound here marks b second.
     let a : Basis = record { image = c.args.found.now.image; walk = w; sound = sound } in
     let known : Input = known_of c.args.scope.held c.args.begun.now in
-    none_prepared (RescuesBy c.args.scope.types known lost input a b fs) c.from_residual-in_err-first.result c.from_residual-in_err-first.ensures.1
+    none_prepared (RescuesByOf c.args.scope.with_deleted c.args.scope.types known lost input a b fs) c.from_residual-in_err-first.result
+    c.from_residual-in_err-first.ensures.1
 
 pub returns-in_default : goal.returns-in_default
 returns-in_default c = λ lost input begun w fs sound here marks b second boot.
@@ -43,7 +44,8 @@ pub returns-in_err-losses : goal.returns-in_err-losses
 returns-in_err-losses c = λ lost input begun w fs sound here marks b second.
     let a : Basis = record { image = c.args.found.now.image; walk = w; sound = sound } in
     let known : Input = known_of c.args.scope.held c.args.begun.now in
-    none_prepared (RescuesBy c.args.scope.types known lost input a b fs) c.from_residual-in_err-losses.result c.from_residual-in_err-losses.ensures.1
+    none_prepared (RescuesByOf c.args.scope.with_deleted c.args.scope.types known lost input a b fs) c.from_residual-in_err-losses.result
+    c.from_residual-in_err-losses.ensures.1
 
 pub fault_of-requires-then-holds_nothing : goal.fault_of-requires-then-holds_nothing
 fault_of-requires-then-holds_nothing c = λ as_it_is.
@@ -60,7 +62,7 @@ pub returns-in_err-first-2 : goal.returns-in_err-first-2
 returns-in_err-first-2 c = λ lost input begun w fs sound here marks b second.
     let a : Basis = record { image = c.args.found.now.image; walk = w; sound = sound } in
     let known : Input = known_of c.args.scope.held c.args.begun.now in
-    none_prepared (RescuesBy c.args.scope.types known lost input a b fs) c.from_residual-in_err-first-2.result
+    none_prepared (RescuesByOf c.args.scope.with_deleted c.args.scope.types known lost input a b fs) c.from_residual-in_err-first-2.result
     c.from_residual-in_err-first-2.ensures.1
 
 pub returns-then-holds_nothing : goal.returns-then-holds_nothing
@@ -110,12 +112,24 @@ returns c = λ lost input begun w fs sound here marks b second.
     ap (λ (made : Bool). made || not (is_type_alone fs)) begun.made ∙ more in
     let is : c.holds_nothing.result ≡ true = c.holds_nothing.ensures w fs here ∙ (λ i. nothing i && made i) in
     let isnt = c.if-holds_nothing.false in absurd cc in
-    let p : Prepared = record { draft = c.in-Some.rescued.draft; blocks = c.in-Some.rescued.blocks; losses = c.in_ok-losses.losses } in
-    volume_prepared types known lost input a b fs p (if_some _ _ _ is kept.fits) gives.tree size losses read some
+    standing_prepared c.args.scope.with_deleted types known lost input a b fs _ gives.tree size losses read some _
+    (c.prepare_standing.ensures w fs here b second)
 
 pub returns-in_err-front : goal.returns-in_err-front
 returns-in_err-front c = λ lost input begun w fs sound here marks b second.
     let a : Basis = record { image = c.args.found.now.image; walk = w; sound = sound } in
     let known : Input = known_of c.args.scope.held c.args.begun.now in
-    none_prepared (RescuesBy c.args.scope.types known lost input a b fs) c.from_residual-in_err-front.result
+    none_prepared (RescuesByOf c.args.scope.with_deleted c.args.scope.types known lost input a b fs) c.from_residual-in_err-front.result
     c.from_residual-in_err-front.ensures.1
+
+pub prepare_standing-requires : goal.prepare_standing-requires
+prepare_standing-requires c =
+    let some = c.some_survey.ensures c.args.found.now.image in
+    let kept = c.in_ok-rescued.ensures in
+    let is = c.in-Some.is in
+    let read : some.0 ≢ [] = λ none. let clash : true ≡ false = ap is_some (sym is) ∙ (kept.none some.0 some.1 some.2).1 none in cc in
+    record {
+      size = surveyed_size c.args.found.now.image some.0 some.1 some.2 read;
+      counted = record { kind = if_some _ _ _ is kept.kind; left = if_some _ _ _ is kept.left };
+      fits = if_some _ _ _ is kept.fits;
+    }

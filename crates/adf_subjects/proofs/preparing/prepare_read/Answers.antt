@@ -1,7 +1,7 @@
 use Rattle.std.proofs.Common.{◌≡◌, ◌∙◌, ℕ, Bool, List, None, Some, ap, map, subst, sym}
 use Rattle.adf_findings.specs.{SoundMarks.whole_in, Parts.finding_value, Survey.FindingValue, Survey.IsSurvey}
 use Rattle.adf_rescue.specs.{Hung.second_image, Opened.lacks_root, Rescue.Basis}
-use Rattle.adf_subjects.specs.{Prepared.IsBegunInput, Prepared.known_of, Rescues.Rescues, Rescues.RescuesBoth, Rescues.RescuesBy}
+use Rattle.adf_subjects.specs.{Prepared.IsBegunInput, Prepared.known_of, Rescues.RescuesOf, Rescues.RescuesBothOf, Rescues.RescuesByOf}
 use Rattle.adf_subjects.proofs.RescueAnswers.{found_gives, refusal_of_fault, none_prepared, prepares_weaker, second_is, second_none}
 use Rattle.adf_subjects.proofs.preparing.prepare_read.Goals as goal
 
@@ -21,9 +21,10 @@ returns-in-Some c = λ lost input begun.
     let hung : List ℕ = c.deref.result.now in
     let told = second_is _ _ _ hung _ (c.in_ok-hung.ensures.image w fs here) c.in-Some.is c.deref.ensures.value in
     let second : second_image (lacks_root input) v.image w fs ≡ Some hung = ap (λ (made : Bool). second_image made v.image w fs) (sym begun.made) ∙ told in
-    prepares_weaker (RescuesBoth c.args.scope.types (known_of c.args.scope.held c.args.begun.now) lost input a (Some hung) fs)
-    (Rescues c.args.scope.types c.args.scope.held lost input) _
-    (λ boot r by. found_gives c.args.scope.types (known_of c.args.scope.held c.args.begun.now) lost input v.image w fs sound (Some hung) boot r
+    prepares_weaker (RescuesBothOf c.args.scope.with_deleted c.args.scope.types (known_of c.args.scope.held c.args.begun.now) lost input a (Some hung) fs)
+    (RescuesOf c.args.scope.with_deleted c.args.scope.types c.args.scope.held lost input) _
+    (λ boot r by.
+    found_gives c.args.scope.with_deleted c.args.scope.types (known_of c.args.scope.held c.args.begun.now) lost input v.image w fs sound (Some hung) boot r
     (refusal_of_fault c.args.scope.types input c.args.begun.now.fault begun.fault) (same ∙ begun.reads) here marks second by)
     (c.prepare_hung.ensures lost input
     (subst (λ (image : List ℕ). IsBegunInput c.args.scope.types lost input image c.args.begun.now) (sym same) begun) w fs sound here marks)
@@ -40,17 +41,19 @@ returns c = λ lost input begun.
     let a : Basis = record { image = v.image; walk = w; sound = sound } in
     let told = second_none _ _ _ (c.in_ok-hung.ensures.image w fs here) c.in-None.is in
     let none : second_image (lacks_root input) v.image w fs ≡ None = ap (λ (made : Bool). second_image made v.image w fs) (sym begun.made) ∙ told in
-    prepares_weaker (RescuesBy c.args.scope.types (known_of c.args.scope.held c.args.begun.now) lost input a None fs)
-    (Rescues c.args.scope.types c.args.scope.held lost input) _
-    (λ boot r by. found_gives c.args.scope.types (known_of c.args.scope.held c.args.begun.now) lost input v.image w fs sound None boot r
+    prepares_weaker (RescuesByOf c.args.scope.with_deleted c.args.scope.types (known_of c.args.scope.held c.args.begun.now) lost input a None fs)
+    (RescuesOf c.args.scope.with_deleted c.args.scope.types c.args.scope.held lost input) _
+    (λ boot r by.
+    found_gives c.args.scope.with_deleted c.args.scope.types (known_of c.args.scope.held c.args.begun.now) lost input v.image w fs sound None boot r
     (refusal_of_fault c.args.scope.types input c.args.begun.now.fault begun.fault) (same ∙ begun.reads) here marks none (None, tt, by))
     (c.prepare_found.ensures lost input
     (subst (λ (image : List ℕ). IsBegunInput c.args.scope.types lost input image c.args.begun.now) (sym same) begun) w fs sound here marks None tt)
 
 pub returns-in_err-found : goal.returns-in_err-found
 returns-in_err-found c = λ lost input begun.
-    none_prepared (Rescues c.args.scope.types c.args.scope.held lost input) c.from_residual.result c.from_residual.ensures.1
+    none_prepared (RescuesOf c.args.scope.with_deleted c.args.scope.types c.args.scope.held lost input) c.from_residual.result c.from_residual.ensures.1
 
 pub returns-in_err-hung : goal.returns-in_err-hung
 returns-in_err-hung c = λ lost input begun.
-    none_prepared (Rescues c.args.scope.types c.args.scope.held lost input) c.from_residual-in_err-hung.result c.from_residual-in_err-hung.ensures.1
+    none_prepared (RescuesOf c.args.scope.with_deleted c.args.scope.types c.args.scope.held lost input) c.from_residual-in_err-hung.result
+    c.from_residual-in_err-hung.ensures.1

@@ -4,9 +4,11 @@ use Rattle.adf_survey_cmd.proofs.command_line.survey_rescue_command.Goals as goa
 
 pub returns-clause-app : goal.returns-clause-app
 returns-clause-app c =
-    let one = c.with_argument-rescues.ensures.app _ (flag_rule (codes "keep-type")) c.new.ensures.app c.flag.ensures.rule c.flag.ensures.local in
-    c.with_argument.ensures.app _ file_rule one c.file_argument.ensures.rule c.file_argument.ensures.local
+    let one = c.with_argument-typed.ensures.app _ (flag_rule (codes "keep-type")) c.new.ensures.app c.flag.ensures.rule c.flag.ensures.local in
+    let two = c.with_argument-rescues.ensures.app _ (flag_rule (codes "deleted")) one c.flag-2.ensures.rule c.flag-2.ensures.local in
+    c.with_argument.ensures.app _ file_rule two c.file_argument.ensures.rule c.file_argument.ensures.local
 
 pub returns-clause-local : goal.returns-clause-local
 returns-clause-local c =
-    c.with_argument.ensures.local (c.with_argument-rescues.ensures.local c.new.ensures.local c.flag.ensures.local) c.file_argument.ensures.local
+    let one = c.with_argument-typed.ensures.local c.new.ensures.local c.flag.ensures.local in
+    c.with_argument.ensures.local (c.with_argument-rescues.ensures.local one c.flag-2.ensures.local) c.file_argument.ensures.local

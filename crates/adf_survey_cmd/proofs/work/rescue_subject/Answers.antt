@@ -1,6 +1,6 @@
 use Rattle.std.proofs.Common.{◌∙◌}
 use Rattle.adf_runs.proofs.Endings.{does_weaker, nothing_done, silently}
-use Rattle.adf_subjects.specs.{Rescues.RescuesTyped, Rescues.Replies, Rescues.Rescues, Subject.sized, Subject.subject_value}
+use Rattle.adf_subjects.specs.{Rescues.RescuesTypedOf, Rescues.Replies, Rescues.RescuesOf, Subject.sized, Subject.subject_value}
 use Rattle.adf_survey_cmd.proofs.work.rescue_subject.Goals as goal
 
 pub returns-in-Ok-be_typed : goal.returns-in-Ok-be_typed
@@ -8,7 +8,8 @@ returns-in-Ok-be_typed g c =
     let t = subject_value c.be_typed.new.self in
     let boot = sized 2 c.args.subject.image.items in
     let same = c.deref.ensures.value ∙ c.in-Ok.ensures.boot in
-    does_weaker (Replies (Rescues c.args.types t.end t.lost t.image boot)) (Replies (RescuesTyped c.args.types (subject_value c.args.subject)))
+    does_weaker (Replies (RescuesOf c.args.with_deleted c.args.types t.end t.lost t.image boot))
+    (Replies (RescuesTypedOf c.args.with_deleted c.args.types (subject_value c.args.subject)))
     (λ reply (r, told, is). (r, (t, c.in-Ok-be_typed.ensures, told), is)) (rw same at c.rescue_image.ensures)
 
 pub returns-in_default : goal.returns-in_default

@@ -1,7 +1,7 @@
-use Rattle.std.proofs.Common.{subst, sym}
+use Rattle.std.proofs.Common.{false, subst, sym, true}
 use Rattle.adf_runs.proofs.Endings.{ends_weaker}
 use Rattle.adf_survey_cmd.specs.{Answers.QuestionAnswer, Deletions.TellsTyped, Work.Answers}
-use Rattle.adf_subjects.specs.{Rescues.RescuesTyped, Rescues.Replies, Subject.subject_value}
+use Rattle.adf_subjects.specs.{Rescues.RescuesTypedOf, Rescues.Replies, Subject.subject_value}
 use Rattle.adf_survey_cmd.proofs.work.Task.on_subject.Goals as goal
 
 pub returns-in-Deleted-clause-ends : goal.returns-in-Deleted-clause-ends
@@ -15,6 +15,14 @@ pub returns-in-Rescue-clause-ends : goal.returns-in-Rescue-clause-ends
 returns-in-Rescue-clause-ends g c = λ q answers.
     let s = subject_value c.args.subject in
     let (keep_type, same, asks) = subst (λ task. Answers task q) c.in-Rescue.is answers in
-    ends_weaker (Replies (RescuesTyped _ s)) (QuestionAnswer q s) _ _ _
-    (λ reply told. subst (λ q. QuestionAnswer q s reply) (sym asks) (subst (λ types. Replies (RescuesTyped types s) reply) same told))
+    ends_weaker (Replies (RescuesTypedOf false _ s)) (QuestionAnswer q s) _ _ _
+    (λ reply told. subst (λ q. QuestionAnswer q s reply) (sym asks) (subst (λ types. Replies (RescuesTypedOf false types s) reply) same told))
     c.rescue_subject.ensures.ends
+
+pub returns-in-RescueDeleted-clause-ends : goal.returns-in-RescueDeleted-clause-ends
+returns-in-RescueDeleted-clause-ends g c = λ q answers.
+    let s = subject_value c.args.subject in
+    let (keep_type, same, asks) = subst (λ task. Answers task q) c.in-RescueDeleted.is answers in
+    ends_weaker (Replies (RescuesTypedOf true _ s)) (QuestionAnswer q s) _ _ _
+    (λ reply told. subst (λ q. QuestionAnswer q s reply) (sym asks) (subst (λ types. Replies (RescuesTypedOf true types s) reply) same told))
+    c.rescue_subject-in-RescueDeleted.ensures.ends

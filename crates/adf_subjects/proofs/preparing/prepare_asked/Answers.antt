@@ -3,7 +3,7 @@ use Rattle.adf_rescue.specs.{Opened.lacks_root, Opened.states_type, Pruned.image
 use Rattle.adf_rescue.proofs.PrunedKeeps.{length_read}
 use Rattle.adf_subjects.specs.{Losses.LossValue, Losses.runs_lost, Prepared.IsBegunInput, Prepared.IsFault, declared.preparing.Begun.Begun}
 use Rattle.adf_subjects.proofs.SizedImages.{written_over}
-use Rattle.adf_subjects.proofs.preparing.prepare.Goals as goal
+use Rattle.adf_subjects.proofs.preparing.prepare_asked.Goals as goal
 
 -- the image that is read
 reads_it : (c : goal.After-drop-subject-2) → c.deref-4.result.now ≡ image_read (is_some c.in_ok-fault_in.field-0) c.args.subject.image.items
