@@ -1,4 +1,4 @@
-use Rattle.std.proofs.Common.{subst, sym}
+use Rattle.std.proofs.Common.{false, subst, sym, true}
 use Rattle.adf_runs.proofs.Endings.{ends_weaker}
 use Rattle.adf_survey_cmd.specs.{Answers.QuestionAnswer, Deletions.TellsTyped, Work.Answers}
 use Rattle.adf_subjects.specs.{Rescues.RescuesTypedOf, Rescues.Replies, Subject.subject_value}
@@ -25,4 +25,4 @@ returns-in-RescueDeleted-clause-ends g c = λ q answers.
     let (keep_type, same, asks) = subst (λ task. Answers task q) c.in-RescueDeleted.is answers in
     ends_weaker (Replies (RescuesTypedOf true _ s)) (QuestionAnswer q s) _ _ _
     (λ reply told. subst (λ q. QuestionAnswer q s reply) (sym asks) (subst (λ types. Replies (RescuesTypedOf true types s) reply) same told))
-    c.rescue_subject.ensures.ends
+    c.rescue_subject-in-RescueDeleted.ensures.ends
