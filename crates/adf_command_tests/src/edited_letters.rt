@@ -72,17 +72,22 @@ fn letters_are_given(rt: HostRuntime) {
     }
 }
 
-// The letters of the old volume, the script, and why there is no new one.
+// The letters of the old volume, the script, and why there is no new one: of two entries the first is named as the disk has it.
 const REFUSED: &[(Letters, &[u8], &str)] = &[
     (
         Letters::Ascii,
         b"dir \\xe9\ndir \\xc9\nletters international\nend\n",
-        "3: by these letters: exists",
+        "3: by these letters: exists: remove or move one first: \\xe9 and \\xc9",
     ),
     (
         Letters::International,
         b"dir \\xe9\ndir \\xc9\nend\n",
-        "3: by these letters: exists",
+        "3: by these letters: exists: remove or move one first: \\xe9 and \\xc9",
+    ),
+    (
+        Letters::Ascii,
+        b"dir A\ndir b\nfile a/x\\xc4:0\nfile b/x\\xc4:0\nfile A/X\\xe4:0\nletters international\nend\n",
+        "6: by these letters: exists: remove or move one first: A/x\\xc4 and A/X\\xe4",
     ),
     (
         Letters::Ascii,

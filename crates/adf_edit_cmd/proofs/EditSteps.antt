@@ -8,9 +8,9 @@ use Rattle.adf_boot_blocks.proofs.OtherBoots.{other_fits_by}
 use Rattle.adf_boot_blocks.specs.{BootBlocks.IsOtherBoot, Writing.restored}
 use Rattle.adf_build.specs.{Building.IsBuildable, Laid.volume, Plan.planned}
 use Rattle.adf_edits.specs.{Edits.EditValue, Edits.edit_value, Edits.edited, declared.edits.Edit.Edit, declared.edits.EditFault.EditFault}
-use Rattle.adf_edits.specs.Outline.{IsWithoutRoomBy, OutlineValue, outline_of}
+use Rattle.adf_edits.specs.{Outline.OutlineValue, Outline.outline_of, TreeFaults.IsTreeFaultBy, declared.tree_fault.TreeFault.TreeFault}
 use Rattle.adf_base.specs.declared.hash.Letters.{Letters}
-use Rattle.adf_tree.specs.{Tree.Tree, declared.tree.AddFault.AddFault}
+use Rattle.adf_tree.specs.Tree.{Tree}
 use Rattle.adf_volume.specs.{Fits.FitsBy}
 use Rattle.adf_edit_cmd.specs.Edited.{IsLaidOver, IsShallow, IsVolume, StopsOn, StopsTree, outline_after, next_outline}
 use Rattle.adf_edit_cmd.specs.Script.{ScriptValue, behind_file, behind_files, bytes_taken, files_len}
@@ -113,8 +113,9 @@ pub stops_on : (s : ScriptValue) (given image : List ℕ) (t : Tree) (n : ℕ) (
 stops_on s given image t n stop fits is h = inr (t, fits, subst (λ k. StopsTree s given t k stop) is h)
 
 -- the tree after all edits has no room by the letters of the new volume
-pub room_stop : (es : List Edit) (asked : Option Letters) (given : List ℕ) (t : Tree) (n : ℕ) (o p : OutlineValue) (k : ℕ) (f : AddFault)
-    → IsShallow t → o ≡ outline_of t → outline_after 1 (map edit_value es) given o ≡ Ok p → k ≡ length es → IsWithoutRoomBy (unwrap_or asked t.letters) p.additions f
+pub room_stop : (es : List Edit) (asked : Option Letters) (given : List ℕ) (t : Tree) (n : ℕ) (o p : OutlineValue) (k : ℕ) (f : TreeFault)
+    → IsShallow t → o ≡ outline_of t → outline_after 1 (map edit_value es) given o ≡ Ok p → k ≡ length es
+    → IsTreeFaultBy (unwrap_or asked t.letters) p.additions f
     → StopsTree (record { edits = map edit_value es; letters = asked }) given t n (NoRoom (k + 1) f)
 room_stop es asked given t n o p k f shallow is made lines h =
     let number : k + 1 ≡ length (map edit_value es) + 1 = ap (λ m. m + 1) (lines ∙ sym (length-map es edit_value)) in

@@ -5,7 +5,7 @@ use Rattle.adf_build.specs.{Building.IsBuildable, Building.need_of, Laid.volume,
 use Rattle.adf_base.specs.declared.hash.Letters.{Letters}
 use Rattle.adf_boot_blocks.specs.Writing.{restored}
 use Rattle.adf_edits.specs.{Edits.EditValue, Edits.edited, Paths.has_deep, declared.edits.EditFault.EditFault}
-use Rattle.adf_edits.specs.Outline.{IsWithoutRoomBy, OutlineValue, outline_of, tree_of_outline_by}
+use Rattle.adf_edits.specs.{Outline.OutlineValue, Outline.outline_of, Outline.tree_of_outline_by, TreeFaults.IsTreeFaultBy}
 use Rattle.adf_tree.specs.{Additions.AllHaveRoomBy, Tree.Tree}
 use Rattle.adf_volume.specs.{Fits.FitsBy, Layout.Layout, Types.letters_for, Walk.FirstFaultBy, declared.types.Types.TheVariants.WithInternational}
 use Rattle.std.specs.Option.{unwrap_or}
@@ -68,7 +68,7 @@ IsFullStop t n _ = ⊥
 
 -- why the additions after edits have no tree by these letters; the line is that behind the edits
 abbrev pub IsRoomStop : Letters → ScriptValue → OutlineValue → Stop → Type 0
-IsRoomStop letters s o (NoRoom n fault) = (n ≡ length s.edits + 1) × IsWithoutRoomBy letters o.additions fault
+IsRoomStop letters s o (NoRoom n fault) = (n ≡ length s.edits + 1) × IsTreeFaultBy letters o.additions fault
 IsRoomStop letters s o NoMemory = Unit {0}
 IsRoomStop letters s o _ = ⊥
 

@@ -1,8 +1,7 @@
 -- The texts of what is wrong.
 use Rattle.std.specs.Prelude.{ℕ, List, ◌++◌, codes, decimal}
 use Rattle.adf_build.specs.Building.{full_text}
-use Rattle.adf_edits.specs.Edits.{edit_fault_text}
-use Rattle.adf_tree.specs.Faults.{add_fault_text}
+use Rattle.adf_edits.specs.{Edits.edit_fault_text, TreeFaults.tree_fault_text}
 use Rattle.adf_volume.specs.Fault.{fault_text}
 use Rattle.adf_edit_cmd.specs.declared.stop.Stop.{Stop}
 use Rattle.adf_edit_cmd.specs.declared.stop.Stop.TheVariants.{BadLine, Short, Image, TooDeep, Line, NoRoom, Full, NoMemory}
@@ -14,6 +13,6 @@ stop_text (Short need have) = codes "files: need " ++ (decimal need ++ (codes " 
 stop_text (Image fault) = codes "image behind the files: " ++ fault_text fault
 stop_text TooDeep = codes "image behind the files: too deep: 255 names at most"
 stop_text (Line n fault) = decimal n ++ (codes ": " ++ edit_fault_text fault)
-stop_text (NoRoom n fault) = decimal n ++ (codes ": by these letters: " ++ add_fault_text fault)
+stop_text (NoRoom n fault) = decimal n ++ (codes ": by these letters: " ++ tree_fault_text fault)
 stop_text (Full need have) = full_text need have
 stop_text NoMemory = codes "no memory"

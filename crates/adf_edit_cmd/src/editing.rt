@@ -13,8 +13,8 @@ use adf_blocks::Cause;
 use adf_boot_blocks::restore;
 use adf_build::{BuildFault, build_types};
 use adf_check::{Checked, check_by};
-use adf_edits::{Edit, EditFault, Outline, OutlineFault};
-use adf_tree::{AddFault, Tree};
+use adf_edits::{Edit, EditFault, Outline, OutlineFault, TreeFault};
+use adf_tree::Tree;
 use adf_volume::Types;
 use std::alloc::Global;
 
@@ -140,7 +140,7 @@ fn by_tree(
     let outline = edit_all(alloc, outline, script.edits, given)?;
     match outline.finish_by(alloc, letters) {
         Ok(tree) => lay(alloc, &tree, blocks, image),
-        Err(AddFault::NoMemory) => Err(Stop::NoMemory),
+        Err(TreeFault::NoMemory) => Err(Stop::NoMemory),
         Err(fault) => Err(Stop::NoRoom(line, fault)),
     }
 }

@@ -2,8 +2,7 @@
 
 ghost use Rattle.std.specs.Prelude.{◌≡◌};
 
-use adf_edits::EditFault;
-use adf_tree::AddFault;
+use adf_edits::{EditFault, TreeFault};
 use adf_volume::Fault;
 use std::fmt;
 
@@ -21,7 +20,7 @@ pub enum Stop {
     /// The edit of the line of this number cannot be applied.
     Line(usize, EditFault),
     /// By the letters that the line of this number asks for, an addition has no room in the tree of those before it.
-    NoRoom(usize, AddFault),
+    NoRoom(usize, TreeFault),
     /// The tree needs more blocks than there are.
     Full { need: u64, have: u64 },
     /// An allocation failed.

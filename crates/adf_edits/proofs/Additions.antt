@@ -1,17 +1,16 @@
 -- Additions that all have room, and the additions of a tree. xs are additions, x is the next one, es the entries of a tree.
-use Rattle.std.proofs.Common.{◌≡◌, ◌≢◌, ◌<◌, ◌≤◌, ◌++◌, ◌∷◌, ◌+◌, ◌-◌, ℕ, List, [], Some, Ok, Err, Option, Result, length, get_or, take, arith, ap, sym, refl}
-use Rattle.std.proofs.Common.{subst, ◌∙◌, IsOk, OnOk, is_ok, if◌then◌else◌, zero, suc}
+use Rattle.std.proofs.Common.{◌≡◌, ◌<◌, ◌≤◌, ◌++◌, ◌∷◌, ◌+◌, ◌-◌, ℕ, List, [], Some, Option, length, get_or, take, arith, ap, sym, refl}
+use Rattle.std.proofs.Common.{subst, ◌∙◌, IsOk, zero, suc}
 use Rattle.std.proofs.{Math.Seq.take-append_seam, Math.Seq.get_or-append_seam, Math.ListN.get_or-append, lemmas.Bool.cases_Bool, lemmas.Bool.eqb-true}
 use Rattle.std.proofs.{lemmas.Bool.ne_eqb, lemmas.Bool.Decides.nat_tests, lemmas.List.length-append, lemmas.List.take_all, lemmas.List.take_more}
 use Rattle.std.proofs.{lemmas.List.Sums.fold_push, lemmas.Option.get_or_from_slice_get, lemmas.Option.slice_get-get_or, lemmas.Grind.common_steps}
 use Rattle.std.specs.{List.slice_get, Option.IsSome}
 use Rattle.adf_base.specs.declared.hash.Letters.{Letters, TheVariants.Ascii, TheVariants.Ascii}
 use Rattle.adf_tree.proofs.Lists.{some_in}
-use Rattle.adf_tree.specs.{declared.entry.Entry.Entry, declared.tree.RoomFault.RoomFault, Faults.add_fault}
-use Rattle.adf_tree.specs.declared.tree.AddFault.{AddFault, TheVariants.NoMemory}
+use Rattle.adf_tree.specs.declared.entry.Entry.{Entry}
 use Rattle.adf_tree.specs.Additions.{Addition, AllHaveRoom, AllHaveRoomBy, entries_of_additions, entries_of_additions_by, with_addition, with_addition_by}
-use Rattle.adf_tree.specs.Tree.{entry, room_for, room_for_by, with_entry_by, IsAnswer, IsTree, Tree}
-use Rattle.adf_edits.specs.Outline.{IsWithoutRoomBy, OutlineValue, tree_additions, tree_of_outline_by, with_addition_in, with_addition_for, with_first}
+use Rattle.adf_tree.specs.Tree.{entry, room_for, room_for_by, IsTree, Tree}
+use Rattle.adf_edits.specs.Outline.{OutlineValue, tree_additions, tree_of_outline_by, with_addition_in, with_addition_for, with_first}
 
 -- the tree of one addition more
 pub tree_more_by : (ls : Letters) (xs : List Addition) (x : Addition)
@@ -36,20 +35,6 @@ pub room_more : (xs : List Addition) (x : Addition) → AllHaveRoom xs → IsOk 
     → AllHaveRoom (xs ++ x ∷ [])
 room_more = room_more_by Ascii
 
--- the fault of an addition is that of its room
-room_of : (r : Result ℕ RoomFault) (f : AddFault) → IsAnswer r (Err f) → f ≢ NoMemory → (g : RoomFault) × (r ≡ Err g) × (f ≡ add_fault g)
-room_of (Ok p) f h ne = absurd (ne h)
-room_of (Err g) f h ne = (g, refl, h)
-
--- an addition that is refused has no room
-pub no_room : (ls : Letters) (all xs ys : List Addition) (x : Addition) (f : AddFault) → xs ++ x ∷ ys ≡ all
-    → IsAnswer (room_for_by ls (entries_of_additions_by ls xs) x.path) (Err f) → f ≢ NoMemory → IsWithoutRoomBy ls all f
-no_room ls all xs ys x f e h ne =
-    let room = room_of (room_for_by ls (entries_of_additions_by ls xs) x.path) f h ne in
-    let long : length (xs ++ x ∷ ys) ≡ length xs + length (x ∷ ys) = length-append xs (x ∷ ys) in
-    subst (λ zs. IsWithoutRoomBy ls zs f) e
-    (length xs, room.0, omega (arith, long), λ d. rw (take-append_seam xs (x ∷ ys), get_or-append_seam xs x ys d) room.1, room.2)
-
 -- the tree of an outline, addition by addition
 
 pub grown : (ls : Letters) (o : OutlineValue) (xs : List Addition) (x : Addition) (t u : Tree) → t ≡ tree_of_outline_by ls (with_first o xs)
@@ -60,28 +45,6 @@ grown ls o xs x t u is new = new ∙ (ap (λ (v : Tree). with_addition_in v x) i
 pub room_grown : (ls : Letters) (o : OutlineValue) (xs : List Addition) (x : Addition) (t : Tree) → t ≡ tree_of_outline_by ls (with_first o xs)
     → AllHaveRoomBy ls xs → IsOk (room_for_by t.letters t.entries x.path) → AllHaveRoomBy ls (xs ++ x ∷ [])
 room_grown ls o xs x t is room ok = grind (arith, common_steps, room_more_by)
-
-pub refused : (ls : Letters) (o : OutlineValue) (xs ys : List Addition) (x : Addition) (t : Tree) (f : AddFault)
-    → t ≡ tree_of_outline_by ls (with_first o xs) → xs ++ x ∷ ys ≡ o.additions → IsAnswer (room_for_by t.letters t.entries x.path) (Err f)
-    → f ≢ NoMemory → IsWithoutRoomBy ls o.additions f
-refused ls o xs ys x t f is all h ne =
-    no_room ls o.additions xs ys x f all (subst (λ (v : Tree). IsAnswer (room_for_by v.letters v.entries x.path) (Err f)) is h) ne
-
-room_memory : (r : Result ℕ RoomFault) (f : AddFault) → IsAnswer r (Err f) → IsOk r → f ≡ NoMemory
-room_memory (Ok p) f h ok = h
-room_memory (Err g) f h ok = cc
-
--- what has room is refused only for want of memory
-pub refused_for_memory : (ls : Letters) (o : OutlineValue) (xs ys : List Addition) (x : Addition) (t : Tree) (f : AddFault)
-    → t ≡ tree_of_outline_by ls (with_first o xs) → xs ++ x ∷ ys ≡ o.additions → IsAnswer (room_for_by t.letters t.entries x.path) (Err f)
-    → AllHaveRoomBy ls o.additions → f ≡ NoMemory
-refused_for_memory ls o xs ys x t f is all h room =
-    grind (arith, common_steps, room_memory, length-append xs (x ∷ ys), take-append_seam xs (x ∷ ys), get_or-append_seam xs x ys x)
-
-pub added_ok : (r : Result (Unit {0}) AddFault) (old new : Tree) (x : Addition)
-    → new ≡ (if is_ok r then with_entry_by old.letters old x.path x.meta x.body else old) → OnOk r (new ≡ with_addition_in old x)
-added_ok (Ok u) old new x h = h
-added_ok (Err f) old new x h = tt
 
 -- an entry by its number
 

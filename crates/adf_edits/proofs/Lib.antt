@@ -8,6 +8,8 @@ pub mod RoomKept
 pub mod MovesKept
 pub mod EditsKept
 pub mod FirstAt
+pub mod StandingEntries
+pub mod Refusals
 pub mod PathsKept
 pub mod MovedPaths
 pub mod DepthsKept

@@ -6,6 +6,7 @@ mod laws;
 mod outline;
 mod path_text;
 mod paths;
+mod tree_fault;
 
 pub use crate::edits::{Change, Edit, EditFault};
 pub use crate::laws::{
@@ -16,3 +17,4 @@ pub use crate::laws::{
 pub use crate::outline::{Item, Outline, OutlineFault};
 pub use crate::path_text::PathText;
 pub use crate::paths::MOST_DEPTH;
+pub use crate::tree_fault::TreeFault;

@@ -1,12 +1,14 @@
 // Trees as lists of additions.
 
-ghost use Rattle.std.specs.Prelude.{◌≡◌, ◌≢◌, ◌++◌, ◌∷◌, [], ◌≤◌, length, IfOk, IfErr, OnOk, false, true};
-ghost use Rattle.adf_tree.specs.{Additions.AllHaveRoom, Additions.AllHaveRoomBy, Tree.IsAnswer, Tree.room_for_by};
-ghost use Rattle.adf_edits.specs.Outline.{IsWithoutRoom, IsWithoutRoomBy, addition_for, tree_additions, outline_of, path_at};
+ghost use Rattle.std.specs.Prelude.{◌≡◌, ◌≢◌, ◌++◌, ◌∷◌, [], ◌≤◌, length, IfOk, IfErr, IsOk, OnOk, false, true};
+ghost use Rattle.adf_tree.specs.{Additions.AllHaveRoom, Additions.AllHaveRoomBy, Tree.room_for_by};
+ghost use Rattle.adf_edits.specs.Outline.{IsWithoutRoom, addition_for, tree_additions, outline_of, path_at};
 ghost use Rattle.adf_edits.specs.Outline.{tree_of_outline, tree_of_outline_by, with_addition_in, with_addition_for};
 ghost use Rattle.adf_edits.specs.Paths.{has_deep, is_deep};
+ghost use Rattle.adf_edits.specs.TreeFaults.{IsRefusedBy, IsTreeFaultBy};
 
 use crate::paths::{MOST_DEPTH, push_names};
+use crate::tree_fault::{TreeFault, refusal};
 use adf_base::{Letters, NoMemory};
 use adf_drafts::Draft;
 use adf_names::{Kind, Label, Meta, Name, Stamps};
@@ -145,14 +147,19 @@ fn items_of(alloc: Global, tree: &Tree) -> Result<Vec<Item>, OutlineFault>
     Ok(items)
 }
 
-// Adds an entry to a draft.
-#[tactic(auto, using(crate::proofs::Additions::added_ok))]
-fn add_item(draft: &mut Draft, item: Item) -> Result<(), AddFault>
-    ensures answer { IsAnswer (room_for_by draft.old.tree.letters draft.old.tree.entries item.path) result }
-    ensures tree { OnOk result (draft.new.tree ≡ with_addition_in draft.old.tree item) }
+// A draft with one addition more.
+fn with_item(alloc: Global, draft: Draft, item: Item) -> Result<Draft, TreeFault>
+    ensures room { OnOk result (IsOk (room_for_by draft.tree.letters draft.tree.entries item.path)) }
+    ensures tree { IfOk result (λ d. d.tree ≡ with_addition_in draft.tree item) }
+    ensures fault { IfErr result (λ f. f ≢ TreeFault.NoMemory
+        → IsRefusedBy draft.tree.letters draft.tree.entries item.path f) }
 {
+    let mut draft = draft;
     let path = item.path;
-    draft.add(&path, item.meta, item.body)
+    match draft.add(&path, item.meta, item.body) {
+        Ok(()) => Ok(draft),
+        Err(fault) => Err(refusal(alloc, draft, &path, fault)?),
+    }
 }
 
 impl Outline {
@@ -180,27 +187,26 @@ impl Outline {
         ensures fault { IfErr result (λ f. f ≢ AddFault.NoMemory → IsWithoutRoom self.additions f) }
         ensures memory { IfErr result (λ f. AllHaveRoom self.additions → f ≡ AddFault.NoMemory) }
     {
-        self.finish_by(alloc, Letters::Ascii)
+        match self.finish_by(alloc, Letters::Ascii) {
+            Ok(tree) => Ok(tree),
+            Err(TreeFault::Exists(_, _)) => Err(AddFault::Exists),
+            Err(TreeFault::NoRoom(fault)) => Err(fault),
+            Err(TreeFault::NoMemory) => Err(AddFault::NoMemory),
+        }
     }
 
-    /// The tree of the outline by these letters. The fault of the first addition that has no room in the tree of those before it,
-    /// as where two names of one directory are one by these letters; or `NoMemory`.
-    pub fn finish_by(self, alloc: Global, letters: Letters) -> Result<Tree, AddFault>
+    /// The tree of the outline by these letters. Why there is none: the first addition that has no room in the tree of those
+    /// before it, with both entries where two names of one directory are one by these letters; or `NoMemory`.
+    pub fn finish_by(self, alloc: Global, letters: Letters) -> Result<Tree, TreeFault>
         ensures room { OnOk result (AllHaveRoomBy letters self.additions) }
         ensures tree { IfOk result (λ t. t ≡ tree_of_outline_by letters self) }
-        ensures fault { IfErr result (λ f. f ≢ AddFault.NoMemory → IsWithoutRoomBy letters self.additions f) }
-        ensures memory { IfErr result (λ f. AllHaveRoomBy letters self.additions → f ≡ AddFault.NoMemory) }
+        ensures fault { IfErr result (λ f. f ≢ TreeFault.NoMemory → IsTreeFaultBy letters self.additions f) }
+        ensures memory { IfErr result (λ f. AllHaveRoomBy letters self.additions → f ≡ TreeFault.NoMemory) }
     {
         let mut draft = Draft::with_letters(alloc, self.kind, letters, self.label, self.stamps);
         for item in self.items {
-            match add_item(&mut draft, item) {
-                Ok(()) => {}
-                Err(fault) => return Err(fault),
-            }
+            draft = with_item(alloc, draft, item)?;
         }
-        match draft.finish(alloc) {
-            Ok(tree) => Ok(tree),
-            Err(NoMemory) => Err(AddFault::NoMemory),
-        }
+        Ok(draft.finish(alloc)?)
     }
 }

@@ -1,13 +1,13 @@
 use Rattle.std.proofs.Common.{◌≡◌, arith, length, rules}
 use Rattle.std.proofs.lemmas.Grind.{common_steps}
-use Rattle.adf_edits.specs.Outline.{IsWithoutRoomBy}
+use Rattle.adf_edits.specs.TreeFaults.{IsTreeFaultBy}
 use Rattle.adf_edit_cmd.proofs.EditSteps.{room_stop}
 use Rattle.adf_edit_cmd.proofs.editing.by_tree.Goals as goal
 
 pub returns-in-Err : goal.returns-in-Err
 returns-in-Err c =
     let lines : c.len-line.result ≡ length c.script.inside.edits.items = grind (arith, common_steps) in
-    let no_room : IsWithoutRoomBy c.unwrap_or-letters.result c.in_ok-outline-2.outline.additions c.in-Err.fault =
+    let no_room : IsTreeFaultBy c.unwrap_or-letters.result c.in_ok-outline-2.outline.additions c.in-Err.fault =
     c.in-Err.ensures.fault (search rules) in
     rw (← c.script.view_is) (record {
       ok = tt;
