@@ -9,6 +9,7 @@ import sqlite3
 import subprocess
 import tempfile
 import unittest
+from typing import Sequence
 from unittest import mock
 
 from adf_tools import database, scripts, search, store
@@ -41,21 +42,21 @@ const text = line => line.children.map(part => part.textContent ?? part).join(""
 """
 
 
-def collection() -> sqlite3.Connection:
-    """A database of eight images, each with four entries."""
+def collection(numbers: Sequence[int] = range(1, 9)) -> sqlite3.Connection:
+    """A database of eight images, in rows in this order, each with four entries."""
     connection = database.made_in_memory(len(database.STEPS))
     connection.row_factory = sqlite3.Row
     connection.execute("INSERT INTO runs (id, begun, program) VALUES (1, '', '')")
-    for number in range(1, 9):
-        store.insert(connection, "files", dict(id=number, path=f"d{number}.adf", run=1))
+    for row, number in enumerate(numbers, 1):
+        store.insert(connection, "files", dict(id=row, path=f"d{number}.adf", run=1))
         label = "Tools" if number == 8 else "Work"
         page = f"images/d{number}-{number:016x}.html"
-        names = dict(id=number, file=number, name=f"d{number}.adf", number=0, page=page, label=label)
+        names = dict(id=row, file=row, name=f"d{number}.adf", number=0, page=page, label=label)
         columns = dict(names, advice="sound", judged="sound", verdict="ok", sha256=f"{number:064x}")
         store.insert(connection, "images", columns)
         north = f"\xe6ble/{'o' * (number % 2)}\xf8{number}"
         for path, comment in (("s/startup", ""), (f"c/even{number % 2}", "note" if number == 7 else ""), (f"\\x0alemmings{number}", ""), (north, "")):
-            columns = dict(image=number, kind="file", path=path, size=1, protection=0, date="", comment=comment, header=2, state="sound")
+            columns = dict(image=row, kind="file", path=path, size=1, protection=0, date="", comment=comment, header=2, state="sound")
             store.insert(connection, "entries", columns)
     store.each_of(connection, store.COMING, list(range(1, 9)))
     return connection
@@ -121,6 +122,12 @@ class Search(unittest.TestCase):
         self.assertEqual((told, len(lines)), ("3 found, and in 5 more images; adf-catalogue find lists all", 8))
         self.assertEqual(self.asked("lemmings9", "lemmingsx"), [("0 found", [])] * 2)
         self.assertEqual(self.asked("lemmings8 tools"), [("1 found", ["d8.adf: \\x0alemmings8"])])
+
+    def test_gives_the_same_parts_whatever_the_rows_are(self):
+        names = search.part_names(self.connection)
+        parts = self.parts(names)
+        self.connection = collection((4, 7, 8, 2, 6, 5, 3, 1))
+        self.assertEqual(self.parts(names), parts)
 
     def test_makes_parts_that_no_word_has_any_more_empty(self):
         self.assertEqual([name for name, _ in self.parts(["zzz", "z__", "___"]) if not name.startswith("i-")], [])
