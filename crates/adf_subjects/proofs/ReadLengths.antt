@@ -49,7 +49,7 @@ usual_passes passes =
     (λ e. cond_both (passes HD_BLOCKS) (Some HD_BLOCKS) None P (λ hd. hd) (λ e. tt))
 
 -- none is so many blocks
-IsNot : ℕ → Option ℕ → Type 0
+abbrev IsNot : ℕ → Option ℕ → Type 0
 IsNot n o = IfSome o (λ k. k ≢ n)
 
 passing_not : (n : ℕ) (passes : ℕ → Bool) → ((k : ℕ) → passes k ≡ true → k ≢ n) → (o : Option ℕ) → IfSome o (λ k. passes k ≡ true) → IsNot n o
@@ -137,6 +137,7 @@ module _ (image bytes : List ℕ) (e : image ≡ take (512 * MOST_BLOCKS + 1) by
       ap (λ (l : List ℕ). (has_type l && (word l OWN_KEY == k) && (long_sum l == 0)) && (word l PARENT == p)) (same_block k low)
 
   same_count : (p k : ℕ) → k ≤ MOST_BLOCKS → count_naming image p k ≡ count_naming bytes p k
+  unfolding count_naming
   same_count p zero low = refl
   same_count p (suc k) low =
       ap₂ (λ (n : ℕ) (names : Bool). n + cond names 1 0) (same_count p k (omega (arith, low))) (same_names p k (omega (arith, low)))
