@@ -9,11 +9,10 @@ use Rattle.std.specs.{Prelude.IfSome, Option.option_or}
 use Rattle.adf_base.specs.Words.{block, long_sum, word}
 use Rattle.adf_blocks.specs.declared.layout.TheConstants.{MOST_BLOCKS, OWN_KEY, PARENT}
 use Rattle.adf_blocks.specs.{HeadBlock.has_type, Sizes.blocks}
-use Rattle.adf_volume.specs.Image.{word_in}
 use Rattle.adf_partitions.specs.Summed.{holds}
 use Rattle.adf_subjects.specs.{Lengths.AreFew, Lengths.other_length, Lengths.stated_length, Lengths.usual_length, Subject.as_long, Subject.meant}
 use Rattle.adf_subjects.specs.{Subject.subject, Subject.subject_read, declared.lengths.TheConstants.DD_BLOCKS, declared.lengths.TheConstants.HD_BLOCKS}
-use Rattle.adf_rescue.specs.{Lost.says_header, MadeRoot.is_like_root}
+use Rattle.adf_rescue.specs.{MadeRoot.is_like_root}
 use Rattle.adf_subjects.specs.Lengths.{are_asked, blocks_read, count_naming, has_root_words, is_like_root_at, is_named_length, is_other_length}
 use Rattle.adf_subjects.specs.Lengths.{is_root_at, named_middle, names}
 
@@ -163,9 +162,10 @@ module _ (image bytes : List ℕ) (e : image ≡ take (512 * MOST_BLOCKS + 1) by
       same_like (stated_length asked image / 2) middle ∙ ap (λ (n : ℕ). is_like_root_at bytes (n / 2)) (same_stated asked) in
       let dd = same_other_length asked DD_BLOCKS (omega arith) in
       let hd = same_other_length asked HD_BLOCKS (omega arith) in
-      let rooted : usual_length (is_other_length asked image) ≡ usual_length (is_other_length asked bytes) = same_usual _ _ dd hd in
+      let rooted : usual_length (is_other_length asked image) ≡ usual_length (is_other_length asked bytes) =
+      same_usual (is_other_length asked image) (is_other_length asked bytes) dd hd in
       let named : usual_length (is_named_length asked image) ≡ usual_length (is_named_length asked bytes) =
-      same_usual _ _ (same_named asked few DD_BLOCKS) (same_named asked few HD_BLOCKS) in
+      same_usual (is_named_length asked image) (is_named_length asked bytes) (same_named asked few DD_BLOCKS) (same_named asked few HD_BLOCKS) in
       λ i. cond (like i) None (option_or (rooted i) (named i))
 
   pub same_read : (asked : Option ℕ) → AreFew asked → blocks_read asked image ≡ blocks_read asked bytes

@@ -1,7 +1,7 @@
 -- What a rescue is prepared to give, and which images are no volumes.
 -- Letters: w the walk of a survey, fs its findings; a a survey, b the second one, if there is one; r what a rescue gives; p a prepared rescue; u why
 -- there is none; lost, front losses of blocks.
-use Rattle.std.proofs.Common.{◌≡◌, ◌≢◌, ◌∙◌, ◌/◌, ◌%◌, ◌*◌, ◌==◌, ◌++◌, ℕ, Bool, true, List, []}
+use Rattle.std.proofs.Common.{◌≡◌, ◌≢◌, ◌∙◌, ◌/◌, ◌%◌, ◌==◌, ◌++◌, ℕ, Bool, true, List, []}
 use Rattle.std.proofs.Common.{ap, arith, refl, sym, Option, None, Some, IfSome, inl, inr, is_some, option_map, length, subst}
 use Rattle.std.specs.{Prelude.Result, Prelude.Ok, Prelude.Err, Result.IsErrAnd}
 use Rattle.adf_base.specs.declared.hash.Letters.{Letters}
