@@ -11,6 +11,7 @@ import re
 import shutil
 import signal
 import sqlite3
+import struct
 import subprocess
 import sys
 import time
@@ -191,6 +192,20 @@ class Bounds(Catalogues):
         self.assertLess(len(page.text), 30 << 20)
         self.assertIn("more are left out: <code>adf-survey &lt; IMAGE</code>", page.text)
         self.assertIn("more are left out: <code>adf-survey --list &lt; IMAGE</code>", page.text)
+
+    def test_bounds_what_deleted_headers_take(self):
+        """A sound floppy that is full of deleted directories, each in the one before, with long names: their paths have 127 MB."""
+        image, above = bytearray(built("volume ffs 1760\n")), 880
+        for block in (*range(2, 880), *range(882, 1760)):
+            header = bytearray(struct.pack(">2I424xB79s", 2, block, 79, bytes([1]) * 79))
+            struct.pack_into(">I4xi", header, 500, above, 2)
+            struct.pack_into(">I", header, 20, -sum(struct.unpack(">128I", header)) % 2**32)
+            image[512 * block : 512 * (block + 1)], above = header, block
+        os.mkdir("disks")
+        written("disks/deep.adf", image)
+        self.catalogue("disks", "out")
+        self.assertEqual(self.asked("out", "SELECT verdict, deleted, deleted_whole FROM images"), [("ok", None, None)])
+        self.assertNotIn("eleted", pages_of("out")[0].text)
 
     def test_says_what_is_not_in_the_table(self):
         os.mkdir("disks")
