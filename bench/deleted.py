@@ -24,10 +24,10 @@ def numbered(name):
 
 
 class Deleted:
-    def __init__(self, image):
+    def __init__(self, image, is_pruned=True):
         image, _ = typed(bytes(image))
         made = len(image) >= 2048 and lacks_root(image)
-        image = pruned(opened(image))
+        image = pruned(opened(image)) if is_pruned else image
         self.image, self.sv = image, Survey(image)
         self.headers, self.named, self.second, self.is_volume = [], {}, None, bool(self.sv.nodes)
         if not self.sv.nodes:
@@ -160,8 +160,9 @@ class Deleted:
         return names[::-1] if at == self.sv.root else [b"?", *names[::-1]]
 
     def keep(self, rescue):
-        """Adds the whole files to a rescue, as `adf-survey rescue --deleted` does: in a directory of their own, by their names, or by the first
-        of `deleted-BLOCK`, `deleted-BLOCK-1` and so on that is free there. Answers the node of each, by its header; None where there is no room."""
+        """Adds the whole files to a rescue, as `adf-survey rescue --deleted` does, if this is the image that the rescue reads, which is pruned only
+        if it is refused: in a directory of their own, by their names, or by the first of `deleted-BLOCK`, `deleted-BLOCK-1` and so on that
+        is free there. Answers the node of each, by its header; None where there is no room."""
         files = [] if rescue.refused else [h for h in self.headers if self.is_file(h) and self.state(h) == "whole"]
         if not files:
             return {}
