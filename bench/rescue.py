@@ -84,6 +84,12 @@ def length_of(given, blocks):
     return others[0] if len(others) == 1 else stated
 
 
+def meant(given, blocks=None):
+    """The image that is read of an input: as it is, or of another length, with zeros for what it does not hold."""
+    count = length_of(given, blocks)
+    return given if blocks is None and count == len(given) // 512 else given[: 512 * count].ljust(512 * count, b"\0")
+
+
 def is_filled(image, b):
     """The second half of the block repeats its first, as where a program wrote a pattern for what it could not read."""
     return image[512 * b : 512 * b + 256] == image[512 * b + 256 : 512 * b + 512]
@@ -447,9 +453,7 @@ class Rescue:
     def __init__(self, image, blocks=None):
         stated = len(image) // 512 if blocks is None else blocks
         self.held = len(image) // 512  # the blocks that the input holds whole; what is filled up behind them is no data
-        count = length_of(image, blocks)
-        if blocks is not None or count != stated:
-            image = (image + bytes(max(0, 512 * count - len(image))))[: 512 * count]
+        count, image = length_of(image, blocks), meant(image, blocks)
         self.boot = bytes(image[:1024])
         image, is_retyped = typed(bytes(image))
         faults = Survey(image).findings

@@ -3,7 +3,7 @@
 import sys
 
 sys.dont_write_bytecode = True
-from rescue import KIND_TEXTS, is_name, is_root, length_of, says_data, sealed, states_type, typed
+from rescue import KIND_TEXTS, is_name, is_root, length_of, meant, says_data, sealed, states_type, typed
 from survey import FILE, POINTERS, Survey, data, spelled, upper
 
 
@@ -25,7 +25,7 @@ class Subject:
 
     def __init__(self, given, blocks=None):
         stated, count = len(given) // 512 if blocks is None else blocks, length_of(given, blocks)
-        image = given if blocks is None and count == stated else given[: 512 * count] + bytes(max(0, 512 * count - len(given)))
+        image = meant(given, blocks)
         self.held, self.front = min(len(given), len(image)) // 512, []
         if self.held < len(image) // 512:
             self.front.append(run_text(self.held, len(image) // 512 - 1) + ": no data")

@@ -102,13 +102,13 @@ class Standing(Catalogues):
         rows = self.asked("out", "SELECT name, lost, lost_least FROM images ORDER BY name")
         self.assertEqual(rows, [("gone.adf", 1, 1), ("old.adf", 0, 1)])
 
-    def test_lists_a_file_once_that_is_found_again_elsewhere(self):
+    def test_lists_a_file_once_that_is_found_again(self):
         whole = volume(("one/f", b"x" * 10), dirs=("one", "two"))
         header, other = (adf.Volume(whole)[path].header for path in ("one/f", "two"))
         moved = sealed(with_word(whole, header, 125, other), header)
         written("disks/moved.adf", with_word(moved, header, 125, 1))
         self.catalogue("disks", "out", status=1)
-        self.assertEqual(self.entries("moved.adf"), [("one", "damaged", None), ("two", "sound", None), ("two/f", "found again", sum_of(b"x" * 10))])
+        self.assertEqual(self.entries("moved.adf"), [("one", "damaged", None), ("one/f", "found again", sum_of(b"x" * 10)), ("two", "sound", None)])
         self.assertEqual(self.asked("out", "SELECT lost FROM images"), [(0,)])
 
     def test_lists_the_worst_first(self):
