@@ -1,5 +1,5 @@
-// Lines of `adf-edit` without what they are about, and without a text. The slot of `a` is (13 + 0x41) % 72 = 6, word 12 of the root;
-// the length of a comment is byte 328 of its header, that of the label byte 432 of the root.
+// Lines of `adf-edit` without what they are about, without a text, and with dates. The slot of `a` is (13 + 0x41) % 72 = 6, word 12 of
+// the root; the length of a comment is byte 328 of its header, that of the label byte 432 of the root.
 
 use adf_build::build;
 use adf_edit_cmd::{Stop, new_image};
@@ -39,6 +39,15 @@ const BAD: &[(&[u8], usize)] = &[
     (b"dir a\nnote a\nend\n", 2),
     (b"dir a\nprotect a\nend\n", 2),
     (b"dir a\ndate a\nend\n", 2),
+    (b"dir a\ndate a:1992-07-01\nend\n", 2),
+    (b"dir a\ndate a:1992-07-01 12:30:00\nend\n", 2),
+    (b"dir a\ndate a:1992-07-01T12:30:00.00\nend\n", 2),
+    (b"dir a\ndate a:1992-02-30 12:30:00.00\nend\n", 2),
+    (b"dir a\ndate a:1977-12-31 12:30:00.00\nend\n", 2),
+    (b"dir a\ndate a:1992-07-01 24:30:00.00\nend\n", 2),
+    (b"dir a\ndate a:1992-07-01 11:90:00.00\nend\n", 2),
+    (b"dir a\ndate a:1992-07-01 12:2::00.00\nend\n", 2),
+    (b"dir a\ndate a:1992-07-01 12:30:00.50\nend\n", 2),
     (b"file a\nend\n", 1),
     (b"file a:0\nreplace a\nend\n", 2),
 ];
@@ -147,6 +156,42 @@ fn a_replaced_file_keeps_the_rest(rt: HostRuntime) {
         (byte_at(&image, data + 24), byte_at(&image, data + 25)),
         (b'y', b'z')
     );
+}
+
+// The script, and the days, the minutes and the ticks of `a` in its header, words 105 to 107.
+const DATED: &[(&[u8], [u8; 12])] = &[
+    (
+        b"dir a\ndate a:5295:750:371\nend\n",
+        [0, 0, 0x14, 0xaf, 0, 0, 0x02, 0xee, 0, 0, 0x01, 0x73],
+    ),
+    (
+        b"dir a\ndate a:1992-07-01 12:30:07.21\nend\n",
+        [0, 0, 0x14, 0xaf, 0, 0, 0x02, 0xee, 0, 0, 0x01, 0x73],
+    ),
+    (
+        b"dir a\ndate a:2000-02-29 23:59:59.49\nend\n",
+        [0, 0, 0x1f, 0x9e, 0, 0, 0x05, 0x9f, 0, 0, 0x0b, 0xb7],
+    ),
+    (
+        b"dir a\ndate a:1978-01-01 00:00:00.01\nend\n",
+        [0, 0, 0, 0, 0, 0, 0, 0, 0, 0, 0, 1],
+    ),
+    (
+        b"dir a\ndate a:9999-12-31 00:00:00.00\nend\n",
+        [0, 0x2c, 0xb5, 0x36, 0, 0, 0, 0, 0, 0, 0, 0],
+    ),
+];
+
+#[test]
+fn dates_are_said_as_listings_write_them(rt: HostRuntime) {
+    for (script, date) in DATED {
+        let made = image_by(rt.alloc(), script).expect(&rt, "a volume");
+        let image = made.ok().expect(&rt, "an image");
+        let header = usize::from(byte_at(&image, ROOT + 4 * 12 + 3)) * 512;
+        for (place, byte) in date.iter().enumerate() {
+            assert_eq!(rt; byte_at(&image, header + 4 * 105 + place), *byte);
+        }
+    }
 }
 
 #[test]

@@ -1,3 +1,4 @@
+pub mod ListedDates
 pub mod ScriptLines
 pub mod Scripts
 pub mod EditSteps

@@ -1,11 +1,11 @@
 -- Lines that say no edit. text is what stands behind the first word of a line.
 use Rattle.std.proofs.Common.{◌≡◌, ◌≢◌, ◌<◌, ◌^◌, ℕ, List, Some, None, false, true, ◌+◌, arith, inl, inr, sym, ◌∙◌, subst, decimal}
 use Rattle.std.proofs.lemmas.Bool.{cases_lt}
-use Rattle.adf_base.specs.{Dates.IsStamp, Dates.plain_text, declared.dates.Stamp.Stamp}
+use Rattle.adf_base.specs.declared.dates.Stamp.{Stamp}
 use Rattle.adf_edits.specs.Edits.{EditValue, change, dir, file, label, move, remove, replace}
 use Rattle.adf_edits.specs.declared.edits.Change.TheVariants as what
 use Rattle.adf_names.specs.{Escapes.IsSpelling, PathTexts.IsPathText}
-use Rattle.adf_edit_cmd.specs.Lines.{SaysBehindVerb, SaysEdit, SaysProtection, before_colon, flags_text, has_byte, value_in, verb_of}
+use Rattle.adf_edit_cmd.specs.Lines.{SaysBehindVerb, SaysDate, SaysEdit, SaysProtection, before_colon, flags_text, has_byte, value_in, verb_of}
 use Rattle.adf_plans.specs.PlanTexts.{behind_word, first_word}
 use Rattle.adf_edit_cmd.specs.declared.lines.Verb.{Verb}
 use Rattle.adf_edit_cmd.specs.declared.lines.Verb.TheVariants.{Remove, Move, Dir, File, Replace, Note, Protect, Date, Label}
@@ -87,8 +87,8 @@ pub no_dated : (text : List ℕ) → HasNoPath (before_colon text) → (e : Edit
 no_dated text h (change path (what.Date date)) s = h path s.0
 no_dated text h _ s = s
 
-pub no_date : (text : List ℕ) → ((date : Stamp) → IsStamp date → value_in text ≢ plain_text date) → (e : EditValue) → ¬ SaysBehindVerb Date text e
-no_date text h (change path (what.Date date)) s = h date s.1 s.2
+pub no_date : (text : List ℕ) → ((date : Stamp) → ¬ SaysDate (value_in text) date) → (e : EditValue) → ¬ SaysBehindVerb Date text e
+no_date text h (change path (what.Date date)) s = h date s.1
 no_date text h _ s = s
 
 some_same : (a b : Verb) → Some a ≡ Some b → a ≡ b

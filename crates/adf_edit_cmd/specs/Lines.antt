@@ -2,7 +2,8 @@
 use Rattle.std.specs.Prelude.{◌≡◌, ◌⊎◌, ◌<◌, ◌^◌, ◌==◌, ℕ, Bool, List, [], ◌∷◌}
 use Rattle.std.specs.Prelude.{Option, Some, None, true, bit_and, codes, decimal, if◌then◌else◌, length, nat_lt}
 use Rattle.std.specs.Str.{bytes_eq}
-use Rattle.adf_base.specs.Dates.{IsStamp, plain_text}
+use Rattle.adf_base.specs.{Dates.IsStamp, Dates.plain_text, declared.dates.Stamp.Stamp}
+use Rattle.adf_fields.specs.Dates.{IsStampText}
 use Rattle.adf_edits.specs.Edits.{EditValue, change, dir, file, label, move, remove, replace}
 use Rattle.adf_edits.specs.declared.edits.Change.TheVariants as what
 use Rattle.adf_manifest.specs.Texts.{hex_word}
@@ -53,6 +54,10 @@ flags_text word =
 abbrev pub SaysProtection : List ℕ → ℕ → Type 0
 SaysProtection text word = ((word < 2 ^ 32) × (text ≡ hex_word word)) ⊎ ((word < 256) × (text ≡ flags_text word))
 
+-- a text says this date: its three numbers, or what listings write of it
+abbrev pub SaysDate : List ℕ → Stamp → Type 0
+SaysDate text date = IsStamp date × ((text ≡ plain_text date) ⊎ IsStampText date text)
+
 -- the text behind a word says this edit: PATH, PATH:PATH, PATH:SIZE, PATH:TEXT, PATH:PROTECTION, PATH:DATE, or TEXT
 abbrev pub SaysBehindVerb : Verb → List ℕ → EditValue → Type 0
 SaysBehindVerb Remove text (remove path) = IsPathText text path
@@ -64,7 +69,7 @@ SaysBehindVerb Replace text (replace path size) =
 SaysBehindVerb Note text (change path (what.Note note)) =
     (has_value text ≡ true) × IsPathText (before_colon text) path × IsSpelling 79 (value_in text) note
 SaysBehindVerb Protect text (change path (what.Protect word)) = IsPathText (before_colon text) path × SaysProtection (value_in text) word
-SaysBehindVerb Date text (change path (what.Date date)) = IsPathText (before_colon text) path × IsStamp date × (value_in text ≡ plain_text date)
+SaysBehindVerb Date text (change path (what.Date date)) = IsPathText (before_colon text) path × SaysDate (value_in text) date
 SaysBehindVerb Label text (label bytes) = IsSpelling 30 text bytes
 SaysBehindVerb _ _ _ = ⊥
 

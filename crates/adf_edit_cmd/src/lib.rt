@@ -2,6 +2,7 @@
 #![tactic(auto)]
 
 mod changing;
+mod dates;
 mod editing;
 mod lines;
 mod program;

@@ -6,8 +6,9 @@ ghost use Rattle.adf_plans.specs.PlanTexts.{before_byte, behind_byte};
 ghost use Rattle.adf_edit_cmd.specs.Lines.{SaysBehindVerb, SaysEdit, SaysProtection, flags_text, has_byte, letter_if_clear};
 ghost use Rattle.adf_edit_cmd.specs.Lines.{letter_if_set, verb_of};
 
+use crate::dates::said_date;
 use adf_edits::{Change, Edit};
-use adf_manifest::{read_number, read_stamp, read_word};
+use adf_manifest::{read_number, read_word};
 use adf_names::{Comment, Label, Name, PathFault, read_path};
 use adf_plans::cut;
 use std::alloc::Global;
@@ -249,9 +250,7 @@ fn read_date(alloc: Global, text: &[u8]) -> Result<Edit, PathFault>
         → ¬ SaysBehindVerb Verb.Date text.now e) }
 {
     let (path, date) = cut(text, b':');
-    let Some(date) = read_stamp(date) else {
-        return Err(PathFault::BadText);
-    };
+    let date = said_date(alloc, date)?;
     let path = read_path(alloc, path)?;
     Ok(Edit::Change(path, Change::Date(date)))
 }

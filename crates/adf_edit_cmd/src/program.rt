@@ -46,7 +46,7 @@ const ABOUT: About = About {
     \x20 dir PATH             add a directory\n\
     \x20 note PATH TEXT       set a comment\n\
     \x20 protect PATH FLAGS   set a protection: hsparwed with - for a letter, or 0000000f\n\
-    \x20 date PATH DATE       set a date\n\
+    \x20 date PATH DATE       set a date: as `adf list` writes it, or 5295:750:0\n\
     \x20 label TEXT           set the label\n\
     \x20 letters KIND         make it `international` or `ascii`; the last one\n\n\
     The new disk takes the place of IMAGE, or of NEW, at once or not at all.\n\
