@@ -28,8 +28,9 @@ def run(words: Iterable[str], given: Image = b"") -> Answer:
     return run_program("adf", words, given)
 
 
-def run_program(program: str, words: Iterable[str], given: Image, most: int = MOST_OUTPUT) -> Answer:
-    """The same of `adf` or of `adf-survey`, cut where the output has more than the most bytes."""
+def run_program(program: str, words: Iterable[str], given: Image, limit: int | None = None) -> Answer:
+    """The same of `adf` or of `adf-survey`, cut where the output has more bytes than the limit, if there is one."""
+    most = MOST_OUTPUT if limit is None else limit
     call = {"adf": calls().adf_run, "adf-survey": calls().adf_survey_run}[program]
     all_words, given = (program, *words), _arguments.plain(given)
     if not all(isinstance(word, str) for word in all_words):

@@ -88,7 +88,7 @@ class Deleted(_Fields):
         return left, [range(int(first), int(last) + 1) for first, last in GAP.findall(errors.decode("ascii"))]
 
 
-def _answer(image: bytes | Mapped, blocks: int | None, words: tuple[str, ...], most: int = commands.MOST_OUTPUT) -> commands.Answer:
+def _answer(image: bytes | Mapped, blocks: int | None, words: tuple[str, ...], most: int | None = None) -> commands.Answer:
     """What `adf-survey` answers to these words about an image, read as if it had so many blocks, if a number is given. NoMemory if that
     has more than the most bytes."""
     front = () if blocks is None else ("--blocks", str(blocks))
@@ -98,7 +98,7 @@ def _answer(image: bytes | Mapped, blocks: int | None, words: tuple[str, ...], m
     return answer
 
 
-def told_of(image: bytes | Mapped, blocks: int | None, most: int = commands.MOST_OUTPUT) -> Iterator[Told]:
+def told_of(image: bytes | Mapped, blocks: int | None, most: int | None = None) -> Iterator[Told]:
     """What `adf-survey deleted` tells of each deleted header, in the order of their blocks. NoMemory if the lines have more than the most
     bytes."""
     for found in LINES.finditer(_answer(image, blocks, ("deleted",), most).output.decode("ascii")):
