@@ -57,8 +57,8 @@ def survey_of(image: bytes, *headers: int) -> Any:
 def answering(output: bytes, status: int = 0, errors: bytes = b"") -> Iterator[mock.Mock]:
     """In here `adf-survey` answers so, as far as it is let."""
 
-    def run(_program: str, _words: Any, _image: bytes, most: int) -> commands.Answer:
-        is_cut = len(output) > most
+    def run(_program: str, _words: Any, _image: bytes, most: int | None) -> commands.Answer:
+        is_cut = most is not None and len(output) > most
         return commands.Answer(3 if is_cut else status, output[:most], b"write fault\n" if is_cut else errors)
 
     with mock.patch.object(commands, "run_program", side_effect=run) as asked:
