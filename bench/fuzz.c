@@ -141,11 +141,12 @@ static void use_boot(const uint8_t *data, size_t size, uint8_t cause) {
 }
 
 /* The first fault of an image, once it has the type that its files say. */
-static uint8_t typed_fault(const uint8_t *data, size_t size, struct adf_verdict *verdict) {
+static uint8_t typed_fault(const uint8_t *data, size_t size, struct adf_verdict *verdict, bool *is_retyped) {
     struct room image = new_room(size);
     struct adf_subject subject = {0};
     must(adf_survey_subject(data, size, 0, image.at, size, &subject) == ADF_ACCEPTED);
-    uint8_t cause = adf_check(subject.is_retyped ? image.at : data, size, verdict);
+    *is_retyped = subject.is_retyped;
+    uint8_t cause = adf_check(*is_retyped ? image.at : data, size, verdict);
     end_room(image);
     return cause;
 }
@@ -154,7 +155,8 @@ static uint8_t typed_fault(const uint8_t *data, size_t size, struct adf_verdict 
  * the number is that of the first fault, or of a small room. */
 static void use_rescue(const uint8_t *data, size_t size, size_t lacking) {
     struct adf_verdict typed = {0};
-    uint8_t cause = typed_fault(data, size, &typed);
+    bool is_retyped = false;
+    uint8_t cause = typed_fault(data, size, &typed, &is_retyped);
     struct room volume = new_room(size < lacking ? 0 : size - lacking), losses = new_room(lacking * sizeof(struct adf_loss));
     struct room paths = new_room(PATH * lacking);
     struct adf_rescue_told told = {0};
@@ -163,7 +165,8 @@ static void use_rescue(const uint8_t *data, size_t size, size_t lacking) {
         adf_rescue(data, size, 0, volume.at, volume.size, (struct adf_loss *)losses.at, lacking, paths.at, paths.size, &told);
     if (number == 0) {
         must((size_t)BLOCK * told.blocks == size && adf_check(volume.at, size, &rescued) == ADF_ACCEPTED);
-        must(told.block == 0 && (cause != ADF_ACCEPTED || told.losses == 0) && (told.losses != 0 || told.paths == 0));
+        must(told.block == 0 && (told.losses != 0 || told.paths == 0));
+        must(cause != ADF_ACCEPTED || told.losses == (is_retyped ? 1 : 0)); /* block 0, whose type was another */
     } else {
         must(is_marked(volume.at, volume.size) && is_marked(losses.at, losses.size) && is_marked(paths.at, paths.size));
         must(number == ADF_RESCUE_SMALL_ROOM ? lacking != 0 && (size_t)BLOCK * told.blocks == size
