@@ -43,7 +43,10 @@ fn international_letters_ignore_the_case_of_all() {
         let image = build(kind, None, &inner, b"", Dates::default()).unwrap();
         assert_eq!(image[..4], [b'D', b'O', b'S', number]);
         let built = build(kind, None, &twins, b"", Dates::default());
-        assert_eq!(built.map_err(|fault| (fault.refusal, fault.number)).err(), (number >= 2).then_some((BuildRefusal::Exists, 2)));
+        assert_eq!(
+            built.map_err(|fault| (fault.refusal, fault.number)).err(),
+            (number >= 2).then_some((BuildRefusal::Exists, 2))
+        );
     }
 }
 
