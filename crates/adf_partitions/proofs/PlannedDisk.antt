@@ -18,7 +18,8 @@ use Rattle.adf_partitions.specs.Plans.{planned_partition, planned_partitions, ta
 use Rattle.adf_partitions.specs.WrittenTables.{block_after, part_block, part_blocks, planned_tables, rdsk_block, table_bytes, written_bytes}
 use Rattle.adf_partitions.proofs.{FoundSteps.one_more, NumberTests.of_le, NumberTests.of_lt, PlanSizes.cylinders_more, PlanSizes.tables_hold}
 use Rattle.adf_partitions.proofs.WrittenTables.{length_part, length_rdsk, part-blocks, part-cylinders, part-environment, part-flags, part-has_drive_name}
-use Rattle.adf_partitions.proofs.WrittenTables.{part-mark, part-name, part-next, part-place, part-reserved, part-summed, part-type, part_priority, rdsk-first}
+use Rattle.adf_partitions.proofs.WrittenTables.{part-block_words, part-mark, part-name, part-next, part-place, part-preallocated, part-reserved, part-sectors}
+use Rattle.adf_partitions.proofs.WrittenTables.{part-summed, part-type, part_priority, rdsk-first}
 use Rattle.adf_partitions.proofs.WrittenTables.{rdsk-highest, rdsk-lowest, rdsk-size, rdsk-summed, rdsk_mark}
 
 -- partitions in blocks before b, each with its place, if it has one, before block e
@@ -151,7 +152,24 @@ module _ (plan : PlanValue) (h : IsPlan plan) where
     placed_there = ap (place_or_fault (partition_place b)) no_fault ∙ ap Ok (part-place plan h (k + 1) low p fits within)
 
     is_planned : planned_partition (cylinder_blocks plan) (k + 1) low p ≡ partition_of (planned_blocks plan) (planned_tables plan) done (k + 1) b
-    is_planned = grind (arith, common_steps, b, place, placed_there, fields_hold, part-name, fits, within, part-flags, part_priority, part-type, part-reserved)
+    is_planned = grind (
+      arith,
+      common_steps,
+      b,
+      place,
+      placed_there,
+      fields_hold,
+      part-name,
+      fits,
+      within,
+      part-flags,
+      part_priority,
+      part-type,
+      part-reserved,
+      part-preallocated,
+      part-block_words,
+      part-sectors,
+    )
 
     -- the tests of the block, where the bytes hold it
     passes : (bytes : List ℕ) (a : ℕ) → block bytes (k + 1) ≡ b → (k + 1) * 512 + 512 ≤ length bytes → length done ≡ k

@@ -4,7 +4,8 @@ use Rattle.std.specs.Prelude.{slice_index, sum}
 use Rattle.adf_base.specs.Words.{sealed, word, words, checksum}
 use Rattle.adf_base.proofs.WordLaws.{length-with_word, long_sum-sealed, sum_words_more, range-with_bytes_above, length-big_bytes, word-with_word_other}
 use Rattle.adf_blocks.specs.{Fields.Descends, Fields.Field, Fields.block_of_fields, Fields.long, Fields.longs, Fields.text, Forms.text_at}
-use Rattle.adf_blocks.proofs.FieldLaws.{HasField, apart_below, field_there, fields_between, fields_long, length-block_of_fields, long_number, text_reads}
+use Rattle.adf_blocks.proofs.FieldLaws.{Apart, HasField, apart_below, field_there, fields_between, fields_long, length-block_of_fields, long_number}
+use Rattle.adf_blocks.proofs.FieldLaws.{text_reads}
 use Rattle.adf_partitions.specs.{declared.layout.TheConstants.CHECKSUM, Summed.is_summed, Summed.sum_of}
 
 fits_block : (fs : List Field) → Descends 256 fs → Descends 512 fs
@@ -28,10 +29,14 @@ module _ (fs : List Field) (d : Descends 256 fs) where
   pub length_written : length (sealed CHECKSUM (block_of_fields fs)) ≡ 512
   length_written = length-with_word (block_of_fields fs) CHECKSUM (checksum CHECKSUM (block_of_fields fs)) (omega (arith, whole)) ∙ whole
 
+  -- a word that no field is put over
+  pub zero_written : (i : ℕ) → Apart (4 * i) (4 * i + 4) fs → i ≢ CHECKSUM → i < 128 → word (sealed CHECKSUM (block_of_fields fs)) i ≡ 0
+  zero_written i apart other lt =
+      word-with_word_other (block_of_fields fs) CHECKSUM (checksum CHECKSUM (block_of_fields fs)) i (omega (arith, whole)) other
+      ∙ fields_between fs i (fits_block fs d) lt apart
+
   zero_behind : (i : ℕ) → 64 ≤ i → i < 128 → word (sealed CHECKSUM (block_of_fields fs)) i ≡ 0
-  zero_behind i low lt =
-      word-with_word_other (block_of_fields fs) CHECKSUM (checksum CHECKSUM (block_of_fields fs)) i (omega (arith, whole)) (omega arith)
-      ∙ fields_between fs i (fits_block fs d) lt (apart_below 256 (4 * i) (4 * i + 4) fs d (omega arith))
+  zero_behind i low lt = zero_written i (apart_below 256 (4 * i) (4 * i + 4) fs d (omega arith)) (omega arith) lt
 
   -- the sum of the first 64 words is 0
   pub sum_written : sum_of 64 (sealed CHECKSUM (block_of_fields fs)) ≡ 0

@@ -5,18 +5,18 @@ use Rattle.std.specs.Int.{cast_signed, cast_unsigned, w32, w8}
 use Rattle.std.proofs.{lemmas.Bool.Decides.nat_tests, lemmas.Int.to_z-of_z, lemmas.List.take_all, lemmas.Grind.common_steps}
 use Rattle.adf_base.specs.{Words.word, declared.hash.Letters.TheVariants.Ascii, declared.hash.Letters.TheVariants.International, declared.hash.Letters.Letters}
 use Rattle.adf_blocks.specs.{Fields.Descends, Fields.long, Forms.text_at}
-use Rattle.adf_blocks.proofs.FieldLaws.{HasField}
+use Rattle.adf_blocks.proofs.FieldLaws.{HasField, apart_between}
 use Rattle.adf_names.specs.declared.kind.Kind.{TheVariants.Ofs, TheVariants.Ffs, Kind}
 use Rattle.adf_partitions.specs.declared.layout.TheConstants.{BLOCK_BYTES, BLOCK_SECTORS, BOOT_PRIORITY, BOOTABLE, CHECKSUM, DOS_TYPE, DRIVE_NAME}
 use Rattle.adf_partitions.specs.declared.layout.TheConstants.{ENV_BLOCK_WORDS, ENV_LENGTH, FIRST_PART, FLAGS, HIGH_CYLINDER, HIGHEST_TABLE, LOW_CYLINDER}
-use Rattle.adf_partitions.specs.declared.layout.TheConstants.{LOWEST_TABLE, MARK, MOST_PARTITIONS, NEXT_PART, PART, RDSK, RESERVED, SUMMED_LONGS, SURFACES}
-use Rattle.adf_partitions.specs.{declared.layout.TheConstants.TRACK_BLOCKS, declared.plan.PartitionPlan.PartitionPlan, Partitions.has_drive_name}
+use Rattle.adf_partitions.specs.declared.layout.TheConstants.{LOWEST_TABLE, MARK, MOST_PARTITIONS, NEXT_PART, PART, PREALLOCATED, RDSK, RESERVED, SUMMED_LONGS}
+use Rattle.adf_partitions.specs.{declared.layout.TheConstants.SURFACES, declared.layout.TheConstants.TRACK_BLOCKS, declared.plan.PartitionPlan.PartitionPlan, Partitions.has_drive_name}
 use Rattle.adf_partitions.specs.{Partitions.name_at, Places.blocks_from, Places.has_cylinders, Places.partition_place, Summed.is_summed}
 use Rattle.adf_partitions.specs.Plans.{PlanValue, IsPartitionPlan, IsPlan, cylinder_blocks, planned_cylinders, planned_flags, planned_type, table_cylinders}
 use Rattle.adf_partitions.specs.WrittenTables.{block_after, part_block, part_table, planned_tables, rdsk_block, rdsk_table}
 use Rattle.adf_partitions.proofs.NumberTests.{of_le}
 use Rattle.adf_partitions.proofs.PlanSizes.{blocks_fit, cylinders_fit, heads_fit, sectors_fit, some_blocks}
-use Rattle.adf_partitions.proofs.WrittenBlocks.{is_summed_written, length_written, sum_written, text_written, word_written}
+use Rattle.adf_partitions.proofs.WrittenBlocks.{is_summed_written, length_written, sum_written, text_written, word_written, zero_written}
 
 -- the number of a block is a word
 pub after_fits : (n b : ℕ) → n ≤ MOST_PARTITIONS → b ≤ n → block_after n b < 2 ^ 32
@@ -106,17 +106,25 @@ module _ (plan : PlanValue) (h : IsPlan plan) (b low : ℕ) (p : PartitionPlan) 
   part-length : word (part_block plan b low p) ENV_LENGTH ≡ 16
   part-length = part_word ENV_LENGTH 16 (search rules) (omega arith) (omega arith)
 
-  part-block_words : word (part_block plan b low p) ENV_BLOCK_WORDS ≡ 128
+  pub part-block_words : word (part_block plan b low p) ENV_BLOCK_WORDS ≡ 128
   part-block_words = part_word ENV_BLOCK_WORDS 128 (search rules) (omega arith) (omega arith)
 
   part-surfaces : word (part_block plan b low p) SURFACES ≡ plan.heads
   part-surfaces = part_word SURFACES plan.heads (search rules) (omega arith) (heads_fit plan h)
 
-  part-sectors : word (part_block plan b low p) BLOCK_SECTORS ≡ 1
+  pub part-sectors : word (part_block plan b low p) BLOCK_SECTORS ≡ 1
   part-sectors = part_word BLOCK_SECTORS 1 (search rules) (omega arith) (omega arith)
 
   pub part-reserved : word (part_block plan b low p) RESERVED ≡ 2
   part-reserved = part_word RESERVED 2 (search rules) (omega arith) (omega arith)
+
+  pub part-preallocated : word (part_block plan b low p) PREALLOCATED ≡ 0
+  unfolding part_block
+  part-preallocated =
+      let fs = part_table plan b low p in
+      zero_written fs part_descends PREALLOCATED
+      (apart_between 256 (4 * PREALLOCATED) (4 * PREALLOCATED + 4) fs (4 * LOW_CYLINDER, long low) (4 * RESERVED, long 2) part_descends (search rules)
+      (omega arith) (omega arith)) (omega arith) (omega arith)
 
   part-track : word (part_block plan b low p) TRACK_BLOCKS ≡ plan.sectors
   part-track = part_word TRACK_BLOCKS plan.sectors (search rules) (omega arith) (sectors_fit plan h)

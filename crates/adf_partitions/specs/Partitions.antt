@@ -5,7 +5,8 @@ use Rattle.adf_base.specs.Words.{word}
 use Rattle.adf_names.specs.Texts.{is_name_byte, uppers}
 use Rattle.adf_blocks.specs.Forms.{text_at}
 use Rattle.adf_partitions.specs.declared.field_fault.FieldFault.{FieldFault, TheVariants.ShortEnvironment, TheVariants.OtherBlocks, TheVariants.BadName}
-use Rattle.adf_partitions.specs.declared.layout.TheConstants.{BLOCK_SECTORS, BOOT_PRIORITY, DOS_TYPE, DRIVE_NAME, ENV_BLOCK_WORDS, ENV_LENGTH, FLAGS, RESERVED}
+use Rattle.adf_partitions.specs.declared.layout.TheConstants.{BLOCK_SECTORS, BOOT_PRIORITY, DOS_TYPE, DRIVE_NAME, ENV_BLOCK_WORDS, ENV_LENGTH, FLAGS}
+use Rattle.adf_partitions.specs.declared.layout.TheConstants.{PREALLOCATED, RESERVED}
 use Rattle.adf_partitions.specs.declared.partition.Partition.{Partition}
 use Rattle.adf_partitions.specs.{declared.place.Place.Place, declared.place.PlaceFault.PlaceFault, declared.tables.Tables.Tables, Faults.first_failed}
 use Rattle.adf_partitions.specs.declared.place.PlaceFault.TheVariants.{NoCylinders, BeyondImage, OverTables, OverPartition}
@@ -63,6 +64,9 @@ partition_of n t earlier b p = record {
   priority = cast_signed w32 (word p BOOT_PRIORITY);
   dos_type = word p DOS_TYPE;
   reserved = word p RESERVED;
+  preallocated = word p PREALLOCATED;
+  sector_words = word p ENV_BLOCK_WORDS;
+  block_sectors = word p BLOCK_SECTORS;
   place = place_or_fault (partition_place p) (first_failed (place_form n t earlier p));
   fault = first_failed (field_form p);
 }

@@ -42,9 +42,13 @@ do_overlap q r = is_before_end q.first r && is_before_end r.first q
 abbrev pub has_one_of : ℕ → ℕ → Place → Bool
 has_one_of lowest highest q = nat_le lowest highest && nat_le q.first highest && is_before_end lowest q
 
+-- whether a place has a block that is kept for the tables: of one that begins at the highest, this is the first block behind them
+abbrev pub is_over_kept : Place → Tables → Bool
+is_over_kept q t = not (q.first == t.highest) && has_one_of t.lowest t.highest q
+
 -- whether a place has a block that is kept for the tables, or the rigid disk block
 abbrev pub is_over_tables : Place → Tables → Bool
-is_over_tables q t = has_one_of t.lowest t.highest q || has_one_of t.rdsk t.rdsk q
+is_over_tables q t = is_over_kept q t || has_one_of t.rdsk t.rdsk q
 
 -- a block of the disk is one of a place
 abbrev pub IsIn : ℕ → Place → Type 0

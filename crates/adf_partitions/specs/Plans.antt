@@ -70,6 +70,9 @@ planned_partition c b low p = record {
   priority = p.priority;
   dos_type = planned_type p.letters p.kind;
   reserved = 2;
+  preallocated = 0;
+  sector_words = 128;
+  block_sectors = 1;
   place = Ok (blocks_from (low * c) (p.cylinders * c));
   fault = None;
 }

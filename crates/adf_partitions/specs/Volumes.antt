@@ -4,11 +4,12 @@ use Rattle.adf_base.specs.Words.{block}
 use Rattle.adf_partitions.specs.{declared.layout.TheConstants.MOST_PARTITIONS, declared.partition.Partition.Partition, declared.place.Place.Place}
 use Rattle.adf_partitions.specs.{declared.tables.Tables.Tables, Places.IsIn, Places.StatesPlace, Places.end_of, Places.partition_place}
 
--- a place has blocks, all within a disk of n blocks, and none of them is kept for its tables
+-- a place has blocks, all within a disk of n blocks; none of them is the rigid disk block, and none is kept for the tables but the
+-- highest of these, where a place may begin
 pub record LiesWell (n : ℕ) (t : Tables) (q : Place) : Type 0 where
   pub some : 0 < q.blocks
   pub within : end_of q ≤ n
-  pub beside : (b : ℕ) → IsIn b q → t.lowest ≤ b → b ≤ t.highest → ⊥
+  pub beside : (b : ℕ) → IsIn b q → t.lowest ≤ b → b ≤ t.highest → (b ≡ t.highest) × (b ≡ q.first)
   pub past : (b : ℕ) → IsIn b q → b ≢ t.rdsk
 
 -- the volume of a partition does, if the partition has a place

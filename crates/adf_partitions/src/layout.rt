@@ -111,6 +111,9 @@ pub const TRACK_BLOCKS: usize = 37;
 /// The word of a partition block with the blocks before the first that its file system uses.
 pub const RESERVED: usize = 38;
 
+/// The word of a partition block with the blocks at the end that its file system does not use.
+pub const PREALLOCATED: usize = 39;
+
 /// The word of a partition block with its lowest cylinder.
 pub const LOW_CYLINDER: usize = 41;
 

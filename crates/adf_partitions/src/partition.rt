@@ -10,7 +10,7 @@ ghost use Rattle.adf_partitions.specs.Partitions.{place_form, place_or_fault};
 use crate::field_fault::FieldFault;
 use crate::layout::{
     BLOCK_SECTORS, BOOT_PRIORITY, DOS_TYPE, DRIVE_NAME, ENV_BLOCK_WORDS, ENV_LENGTH, FLAGS,
-    RESERVED,
+    PREALLOCATED, RESERVED,
 };
 use crate::place::{Place, PlaceFault, do_overlap, has_cylinders, is_over_tables, place_within};
 use crate::tables::Tables;
@@ -35,6 +35,12 @@ pub struct Partition {
     pub dos_type: u32,
     /// The blocks of the volume before the first that its file system uses, of `DOS` volumes 2 as a rule: word 38.
     pub reserved: u32,
+    /// The blocks at the end of the volume that its file system does not use, 0 as a rule: word 39.
+    pub preallocated: u32,
+    /// The words of a sector, by which the file system counts: word 33. 128 are 512 bytes.
+    pub sector_words: u32,
+    /// The sectors of a block of the file system: word 36.
+    pub block_sectors: u32,
     /// Where the volume lies, or why it has no place.
     pub place: Result<Place, PlaceFault>,
     /// What is wrong with the other fields, if something is. The place stands all the same.
@@ -139,6 +145,9 @@ pub fn partition_of(
         priority: p.word(BOOT_PRIORITY).cast_signed(),
         dos_type: p.word(DOS_TYPE),
         reserved: p.word(RESERVED),
+        preallocated: p.word(PREALLOCATED),
+        sector_words: p.word(ENV_BLOCK_WORDS),
+        block_sectors: p.word(BLOCK_SECTORS),
         place: place_in(p, tables, blocks, earlier),
         fault: field_fault(p),
     }

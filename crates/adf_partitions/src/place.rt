@@ -4,7 +4,7 @@ ghost use Rattle.std.specs.Prelude.{◌≡◌, ◌≤◌, ◌+◌, SomeIff};
 ghost use Rattle.adf_base.specs.Words.{block, word};
 ghost use Rattle.adf_partitions.specs.FaultTexts.{place_fault_number, place_fault_text};
 ghost use Rattle.adf_partitions.specs.Places.{StatesPlace, cylinder_of, do_overlap, end_of, has_cylinders, has_one_of};
-ghost use Rattle.adf_partitions.specs.Places.{is_before_end, is_over_tables, partition_place};
+ghost use Rattle.adf_partitions.specs.Places.{is_before_end, is_over_kept, is_over_tables, partition_place};
 
 use crate::layout::{HIGH_CYLINDER, LOW_CYLINDER, SURFACES, TRACK_BLOCKS};
 use crate::tables::Tables;
@@ -28,7 +28,8 @@ pub enum PlaceFault {
     NoCylinders = 3,
     /// The volume ends beyond the image.
     BeyondImage = 4,
-    /// The volume has a block that is kept for the tables, or the rigid disk block.
+    /// The volume has the rigid disk block, or one that is kept for the tables, but for a first block that is the highest of
+    /// these.
     OverTables = 5,
     /// The volume has a block of an earlier partition that has a place.
     OverPartition = 6,
@@ -140,9 +141,17 @@ fn has_one_of(lowest: u32, highest: u32, place: Place) -> bool
         && is_before_end(u64::from(lowest), place)
 }
 
+// Whether a place has a block that is kept for the tables. Of a place that begins at the highest one this is the first block
+// behind the tables.
+fn is_over_kept(place: Place, tables: Tables) -> bool
+    ensures { result ≡ is_over_kept place tables }
+{
+    place.first != u64::from(tables.highest) && has_one_of(tables.lowest, tables.highest, place)
+}
+
 /// Whether a place has a block that is kept for the tables, or the rigid disk block.
 pub fn is_over_tables(place: Place, tables: Tables) -> bool
     ensures { result ≡ is_over_tables place tables }
 {
-    has_one_of(tables.lowest, tables.highest, place) || has_one_of(tables.rdsk, tables.rdsk, place)
+    is_over_kept(place, tables) || has_one_of(tables.rdsk, tables.rdsk, place)
 }
