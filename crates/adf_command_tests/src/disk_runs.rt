@@ -177,7 +177,35 @@ const LINES: &[(&str, Change<'static>, u8, &str, &str)] = &[
         "list",
         (1, &[(36, 2)]),
         0,
-        "1 DH0: ffs first 8 blocks 32 flags 1 priority -5\n2 DH1: PFS\\x03 first 40 blocks 40 flags 2 priority 3 other block size\n",
+        "1 DH0: ffs first 8 blocks 32 flags 1 priority -5\n2 DH1: PFS\\x03 first 40 blocks 40 flags 2 priority 3 block bytes 2 x 512 other block size\n",
+        "",
+    ),
+    (
+        "list",
+        (2, &[(38, 4), (39, 3)]),
+        0,
+        "1 DH0: ffs first 8 blocks 32 flags 1 priority -5 reserved 4 preallocated 3\n2 DH1: PFS\\x03 first 40 blocks 40 flags 2 priority 3\n",
+        "",
+    ),
+    (
+        "list",
+        (2, &[(32, 9), (33, 256), (38, 0)]),
+        0,
+        "1 DH0: ffs first 8 blocks 32 flags 1 priority -5 reserved 0 block bytes 1 x 1024 short environment\n2 DH1: PFS\\x03 first 40 blocks 40 flags 2 priority 3\n",
+        "",
+    ),
+    (
+        "check",
+        (2, &[(33, 64), (36, 2)]),
+        1,
+        "DH0: other block size: 2 x 256\nDH1: type PFS\\x03\n",
+        "",
+    ),
+    (
+        "check",
+        (2, &[(39, 3)]),
+        1,
+        "DH0: ok ffs blocks 32 used 2 free 28 dirs 0 files 0\nDH1: type PFS\\x03\n",
         "",
     ),
     (
@@ -198,7 +226,7 @@ const LINES: &[(&str, Change<'static>, u8, &str, &str)] = &[
         "check",
         (2, &[(36, 2), (38, 1)]),
         1,
-        "DH0: other block size\nDH1: type PFS\\x03\n",
+        "DH0: other block size: 2 x 512\nDH1: type PFS\\x03\n",
         "",
     ),
     (
@@ -296,21 +324,31 @@ fn disks_are_listed_and_checked(rt: HostRuntime) {
 
 const DH0_OBJECT: &str =
     "{\"line\":\"partition\",\"number\":1,\"name\":\"DH0\",\"type\":\"ffs\",\"first\":8,\"blocks\":32,\"no_place\":null,\
-    \"flags\":1,\"priority\":-5,\"fault\":null}\n";
+    \"flags\":1,\"priority\":-5,\"fault\":null,\"reserved\":2,\"preallocated\":0,\
+    \"sector_bytes\":512,\"block_sectors\":1}\n";
 
 const DH1_OBJECT: &str =
     "{\"line\":\"partition\",\"number\":2,\"name\":\"DH1\",\"type\":\"PFS\\u0003\",\"first\":40,\"blocks\":40,\"no_place\":null,\
-    \"flags\":2,\"priority\":3,\"fault\":null}\n";
+    \"flags\":2,\"priority\":3,\"fault\":null,\"reserved\":2,\"preallocated\":0,\
+    \"sector_bytes\":512,\"block_sectors\":1}\n";
 
 // DH1 over DH0, of a block that lacks its type.
 const OVER_OBJECT: &str =
     "{\"line\":\"partition\",\"number\":2,\"name\":\"DH1\",\"type\":\"PFS\\u0003\",\"first\":null,\"blocks\":null,\
-    \"no_place\":\"over partition\",\"flags\":2,\"priority\":3,\"fault\":\"short environment\"}\n";
+    \"no_place\":\"over partition\",\"flags\":2,\"priority\":3,\"fault\":\"short environment\",\"reserved\":2,\"preallocated\":0,\
+    \"sector_bytes\":512,\"block_sectors\":1}\n";
+
+// DH0 with the most words of a sector.
+const UNUSUAL_OBJECT: &str =
+    "{\"line\":\"partition\",\"number\":1,\"name\":\"DH0\",\"type\":\"ffs\",\"first\":8,\"blocks\":32,\"no_place\":null,\
+    \"flags\":1,\"priority\":-5,\"fault\":\"other block size\",\"reserved\":4,\"preallocated\":3,\
+    \"sector_bytes\":17179869180,\"block_sectors\":0}\n";
 
 // The name has a quotation mark and a backslash.
 const QUOTED_OBJECT: &str =
     "{\"line\":\"partition\",\"number\":1,\"name\":\"D\\u0022\\u005c\",\"type\":\"ffs\",\"first\":8,\"blocks\":32,\"no_place\":null,\
-    \"flags\":1,\"priority\":-5,\"fault\":null}\n";
+    \"flags\":1,\"priority\":-5,\"fault\":null,\"reserved\":2,\"preallocated\":0,\
+    \"sector_bytes\":512,\"block_sectors\":1}\n";
 
 const CHECK_OBJECTS: &str =
     "{\"line\":\"verdict\",\"name\":\"DH0\",\"sound\":true,\"verdict\":\"ok ffs blocks 32 used 2 free 28 dirs 0 files 0\"}\n\
@@ -328,6 +366,13 @@ const OBJECTS: &[(&str, Change<'static>, u8, &[&str], &str)] = &[
         (1, &[(32, 11), (41, 4)]),
         0,
         &[DH0_OBJECT, OVER_OBJECT],
+        "",
+    ),
+    (
+        "list",
+        (2, &[(33, 0xFFFF_FFFF), (36, 0), (38, 4), (39, 3)]),
+        0,
+        &[UNUSUAL_OBJECT, DH1_OBJECT],
         "",
     ),
     (
@@ -451,6 +496,8 @@ const FOUND: &[(&str, Change<'static>)] = &[
     ("DH0", (2, &[(32, 0)])),
     ("DH0", (2, &[(36, 2)])),
     ("DH0", (2, &[(38, 1)])),
+    ("DH0", (2, &[(33, 256), (38, 4), (39, 3)])),
+    ("DH0", (0, &[(33, 8)])),
     ("D\\x2f0", (2, SLASH)),
     ("d\\x2F0", (2, SLASH)),
     ("d/0", (2, SLASH)),

@@ -271,6 +271,11 @@ const PLACES: &[(
         PLACE_1,
     ),
     (0, &[(32, 20), (33, 19)], PLACE_0, PLACE_1),
+    // Word 33 may name the block behind the tables.
+    (0, &[(33, 8)], PLACE_0, PLACE_1),
+    (0, &[(32, 8), (33, 8)], PLACE_0, PLACE_1),
+    (0, &[(33, 9)], Err(PlaceFault::OverTables), PLACE_1),
+    (0, &[(33, 40)], Err(PlaceFault::OverTables), PLACE_1),
     (0, &[(32, 20), (33, 0)], PLACE_0, PLACE_1),
     (1, &[(41, 4)], PLACE_0, Err(PlaceFault::OverPartition)),
     (2, &[(9, 0x0044_4830)], PLACE_0, PLACE_1),

@@ -6,10 +6,11 @@ use Rattle.adf_blocks.specs.declared.layout.TheConstants.{MOST_BLOCKS}
 use Rattle.adf_runs.specs.Commands.{on_output}
 use Rattle.adf_partitions.specs.{Faults.first_failed, FaultTexts.field_fault_text, FaultTexts.place_fault_text, declared.field_fault.FieldFault.FieldFault}
 use Rattle.adf_partitions.specs.{declared.partition.Partition.Partition, declared.place.Place.Place, declared.place.PlaceFault.PlaceFault}
-use Rattle.adf_disk_cmd.specs.{Lines.bytes_text, Lines.is_checked, Lines.volume_at, Objects.verdict_line, declared.unchecked.Unchecked.Unchecked}
+use Rattle.adf_partitions.specs.declared.field_fault.FieldFault.TheVariants.{OtherBlocks}
+use Rattle.adf_disk_cmd.specs.{Lines.block_bytes_text, Lines.bytes_text, Lines.is_checked, Lines.volume_at, Objects.verdict_line, declared.unchecked.Unchecked.Unchecked}
 use Rattle.adf_cmd.specs.{Answers.Checks, CheckAnswers.IsCheckAnswer, declared.checking.CheckAnswer.CheckAnswer}
 use Rattle.adf_volume.specs.declared.types.Types.TheVariants.{WithInternational}
-use Rattle.adf_disk_cmd.specs.declared.unchecked.Unchecked.TheVariants.{OtherType, Fields, Reserved, OddBlocks, BadSize}
+use Rattle.adf_disk_cmd.specs.declared.unchecked.Unchecked.TheVariants.{OtherType, BlockBytes, Fields, Reserved, OddBlocks, BadSize}
 
 -- what a check answers to a volume, one of types 0 to 3
 abbrev pub IsVolumeAnswer : List ℕ → CheckAnswer → Type 0
@@ -29,6 +30,7 @@ size_form p q = (p.reserved == 2, Reserved p.reserved) ∷ (q.blocks % 2 == 0, O
 
 -- why a volume is not checked whose type is read
 abbrev pub why_of_fields : Partition → Place → Option FieldFault → Option Unchecked
+why_of_fields p q (Some OtherBlocks) = Some (BlockBytes p.block_sectors p.sector_words)
 why_of_fields p q (Some f) = Some (Fields f)
 why_of_fields p q None = first_failed (size_form p q)
 
@@ -39,6 +41,7 @@ why_unchecked p q = if is_checked p.dos_type then why_of_fields p q p.fault else
 -- what is told of it
 abbrev pub unchecked_text : Unchecked → List ℕ
 unchecked_text (OtherType t) = codes "type " ++ bytes_text t
+unchecked_text (BlockBytes sectors words) = field_fault_text OtherBlocks ++ (codes ": " ++ block_bytes_text sectors words)
 unchecked_text (Fields f) = field_fault_text f
 unchecked_text (Reserved n) = codes "reserved " ++ decimal n
 unchecked_text OddBlocks = codes "odd blocks"

@@ -47,11 +47,37 @@ abbrev pub fields_fault_text : Option FieldFault → List ℕ
 fields_fault_text None = []
 fields_fault_text (Some f) = codes " " ++ field_fault_text f
 
--- the end of a partition's line: its type, place, flags, boot priority, and what is wrong with its other fields
+-- the blocks before the first that the file system uses, unless they are 2
+abbrev pub reserved_text : ℕ → List ℕ
+reserved_text n = if n == 2 then [] else codes " reserved " ++ decimal n
+
+-- the blocks at the end that it does not use, unless there are none
+abbrev pub preallocated_text : ℕ → List ℕ
+preallocated_text n = if n == 0 then [] else codes " preallocated " ++ decimal n
+
+-- the bytes of a block of the file system: so many sectors of so many words of 4 bytes each
+abbrev pub block_bytes_text : (sectors words : ℕ) → List ℕ
+block_bytes_text sectors words = decimal sectors ++ (codes " x " ++ decimal (words * 4))
+
+-- whether a block of the file system is one sector of 512 bytes
+abbrev pub has_usual_blocks : Partition → Bool
+has_usual_blocks p = (p.sector_words == 128) && (p.block_sectors == 1)
+
+-- the bytes of a block of the file system, unless it is one sector of 512 bytes
+abbrev pub other_blocks_text : Partition → List ℕ
+other_blocks_text p = if has_usual_blocks p then [] else codes " block bytes " ++ block_bytes_text p.block_sectors p.sector_words
+
+-- what is unusual of a file system: the blocks that it does not use, and the bytes of a block
+abbrev pub unusual_text : Partition → List ℕ
+unusual_text p = reserved_text p.reserved ++ (preallocated_text p.preallocated ++ other_blocks_text p)
+
+-- the end of a partition's line: its type, place, flags, boot priority, what is unusual of its file system, and what is wrong with its
+-- other fields
 abbrev pub words_text : Partition → List ℕ
 words_text p =
     type_text p.dos_type ++ (codes " " ++ (place_text p.place
-    ++ (codes " flags " ++ (decimal p.flags ++ (codes " priority " ++ (signed_decimal p.priority ++ (fields_fault_text p.fault ++ codes "\n")))))))
+    ++ (codes " flags " ++ (decimal p.flags
+    ++ (codes " priority " ++ (signed_decimal p.priority ++ (unusual_text p ++ (fields_fault_text p.fault ++ codes "\n"))))))))
 
 -- the line of partition n
 abbrev pub list_line : ℕ → Partition → List ℕ

@@ -1,6 +1,6 @@
 -- What is told of a disk, as lines or with `json` as objects. p is a partition, n its number; q is a place, f a fault; `sound` says whether a valid volume is
 -- there, and `line` is what is told of it behind its name.
-use Rattle.std.specs.Prelude.{ℕ, ◌+◌, Bool, true, false, List, [], ◌∷◌, ◌++◌, codes, Option, None, Some, Result, Ok, Err}
+use Rattle.std.specs.Prelude.{ℕ, ◌+◌, ◌*◌, Bool, true, false, List, [], ◌∷◌, ◌++◌, codes, Option, None, Some, Result, Ok, Err}
 use Rattle.adf_json.specs.Objects.{JsonValue, MemberValue, characters, integer, member, nothing, numeral, object_line, truth, without_feed}
 use Rattle.adf_partitions.specs.{FaultTexts.disk_cause_text, FaultTexts.disk_fault_text, FaultTexts.field_fault_text, FaultTexts.place_fault_text}
 use Rattle.adf_partitions.specs.{declared.fault.DiskFault.DiskFault, declared.field_fault.FieldFault.FieldFault, declared.partition.Partition.Partition}
@@ -33,7 +33,9 @@ partition_members n p = member (codes "line") (characters (codes "partition")) �
     ∷ member (codes "name") (characters p.name) ∷ member (codes "type") (characters (type_bytes p.dos_type))
     ∷ member (codes "first") (first_value p.place) ∷ member (codes "blocks") (blocks_value p.place)
     ∷ member (codes "no_place") (no_place_value p.place) ∷ member (codes "flags") (numeral p.flags)
-    ∷ member (codes "priority") (integer p.priority) ∷ member (codes "fault") (fields_fault_value p.fault) ∷ []
+    ∷ member (codes "priority") (integer p.priority) ∷ member (codes "fault") (fields_fault_value p.fault)
+    ∷ member (codes "reserved") (numeral p.reserved) ∷ member (codes "preallocated") (numeral p.preallocated)
+    ∷ member (codes "sector_bytes") (numeral (p.sector_words * 4)) ∷ member (codes "block_sectors") (numeral p.block_sectors) ∷ []
 
 -- the line of partition n
 abbrev pub partition_line : (json : Bool) → ℕ → Partition → List ℕ

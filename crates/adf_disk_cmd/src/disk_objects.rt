@@ -1,10 +1,10 @@
 // The objects of partitions, of their volumes' verdicts and of a fault of the tables.
 
-ghost use Rattle.std.specs.Prelude.{◌≡◌, ◌++◌, IfOk, OnOk, map, true};
+ghost use Rattle.std.specs.Prelude.{◌≡◌, ◌*◌, ◌++◌, IfOk, OnOk, map, true};
 ghost use Rattle.adf_disk_cmd.specs.Lines.{type_bytes};
 ghost use Rattle.adf_disk_cmd.specs.Objects.{blocks_value, disk_fault_line, fields_fault_value, first_value, no_place_value};
 ghost use Rattle.adf_disk_cmd.specs.Objects.{partition_line, partition_members, verdict_line};
-ghost use Rattle.adf_json.specs.Objects.{member_value, value_value};
+ghost use Rattle.adf_json.specs.Objects.{member_value, numeral, value_value};
 
 use crate::types::type_bytes;
 use adf_json::{Member, Value, push_object, without_feed};
@@ -51,13 +51,20 @@ fn fields_fault_value(fault: Option<FieldFault>) -> Value<'static>
     }
 }
 
+// The bytes of a sector of so many words.
+fn sector_value(words: u32) -> Value<'static>
+    ensures { value_value result ≡ numeral (words * 4) }
+{
+    Value::Number(u64::from(words) * 4)
+}
+
 // The members of the object of the partition with this number, whose type this is.
 #[tactic(auto, unfolding(crate::specs::Objects::partition_members))]
 fn partition_members<'a>(
     number: usize,
     partition: &'a Partition,
     kind: &'a [u8],
-) -> [Member<'a>; 10]
+) -> [Member<'a>; 14]
     ensures { kind.now ≡ type_bytes partition.now.dos_type
         → map member_value result ≡ partition_members number partition.now }
 {
@@ -72,6 +79,10 @@ fn partition_members<'a>(
         Member::number("flags", partition.flags),
         Member::signed("priority", partition.priority),
         Member::of("fault", fields_fault_value(partition.fault)),
+        Member::number("reserved", partition.reserved),
+        Member::number("preallocated", partition.preallocated),
+        Member::of("sector_bytes", sector_value(partition.sector_words)),
+        Member::number("block_sectors", partition.block_sectors),
     ]
 }
 

@@ -1,7 +1,8 @@
 // The command `list`.
 
 ghost use Rattle.std.specs.Prelude.{◌≡◌, ◌++◌, false, string_bytes, IfOk, OnOk};
-ghost use Rattle.adf_disk_cmd.specs.Lines.{fields_fault_text, list_line, name_text, place_text, words_text};
+ghost use Rattle.adf_disk_cmd.specs.Lines.{block_bytes_text, fields_fault_text, list_line, name_text, other_blocks_text};
+ghost use Rattle.adf_disk_cmd.specs.Lines.{place_text, preallocated_text, reserved_text, unusual_text, words_text};
 ghost use Rattle.adf_disk_cmd.specs.Objects.{list_lines, partition_line};
 ghost use Rattle.adf_runs.specs.{Commands.on_output, Outcomes.Does, Streams.seen};
 
@@ -37,7 +38,57 @@ fn fields_fault_text(alloc: Global, fault: Option<FieldFault>) -> Result<String,
     }
 }
 
-// The end of a partition's line: its type, place, flags, boot priority, and what is wrong with its other fields.
+/// The bytes of a block of a file system: so many sectors of so many words.
+pub fn block_bytes_text(alloc: Global, sectors: u32, words: u32) -> Result<String, AllocError>
+    ensures { IfOk result (λ text. string_bytes text ≡ block_bytes_text sectors words) }
+{
+    let bytes = u64::from(words) * 4;
+    format!(in alloc; "{sectors} x {bytes}")
+}
+
+// The bytes of a block of a file system, unless it is one sector of 512 bytes.
+fn other_blocks_text(alloc: Global, partition: &Partition) -> Result<String, AllocError>
+    ensures { IfOk result (λ text. string_bytes text ≡ other_blocks_text partition.now) }
+{
+    if partition.sector_words == 128 && partition.block_sectors == 1 {
+        return Ok(String::new(alloc));
+    }
+    let bytes = block_bytes_text(alloc, partition.block_sectors, partition.sector_words)?;
+    format!(in alloc; " block bytes {bytes}")
+}
+
+// The blocks before the first that a file system uses, unless they are 2.
+fn reserved_text(alloc: Global, blocks: u32) -> Result<String, AllocError>
+    ensures { IfOk result (λ text. string_bytes text ≡ reserved_text blocks) }
+{
+    if blocks == 2 {
+        return Ok(String::new(alloc));
+    }
+    format!(in alloc; " reserved {blocks}")
+}
+
+// The blocks at the end that a file system does not use, unless there are none.
+fn preallocated_text(alloc: Global, blocks: u32) -> Result<String, AllocError>
+    ensures { IfOk result (λ text. string_bytes text ≡ preallocated_text blocks) }
+{
+    if blocks == 0 {
+        return Ok(String::new(alloc));
+    }
+    format!(in alloc; " preallocated {blocks}")
+}
+
+// What is unusual of a file system: the blocks that it does not use, and the bytes of a block.
+fn unusual_text(alloc: Global, partition: &Partition) -> Result<String, AllocError>
+    ensures { IfOk result (λ text. string_bytes text ≡ unusual_text partition.now) }
+{
+    let reserved = reserved_text(alloc, partition.reserved)?;
+    let preallocated = preallocated_text(alloc, partition.preallocated)?;
+    let blocks = other_blocks_text(alloc, partition)?;
+    format!(in alloc; "{reserved}{preallocated}{blocks}")
+}
+
+// The end of a partition's line: its type, place, flags, boot priority, what is unusual of its file system, and what is wrong with
+// its other fields.
 fn words_text(alloc: Global, partition: &Partition) -> Result<String, AllocError>
     ensures { IfOk result (λ text. string_bytes text ≡ words_text partition.now) }
 {
@@ -45,8 +96,9 @@ fn words_text(alloc: Global, partition: &Partition) -> Result<String, AllocError
     let place = place_text(alloc, partition.place)?;
     let flags = partition.flags;
     let priority = partition.priority;
+    let unusual = unusual_text(alloc, partition)?;
     let fault = fields_fault_text(alloc, partition.fault)?;
-    format!(in alloc; "{kind} {place} flags {flags} priority {priority}{fault}\n")
+    format!(in alloc; "{kind} {place} flags {flags} priority {priority}{unusual}{fault}\n")
 }
 
 /// Appends the name of a partition, and a colon.

@@ -7,6 +7,7 @@ ghost use Rattle.adf_cmd.specs.Answers.{Checks};
 ghost use Rattle.adf_volume.specs.declared.types.Types.TheVariants.{WithInternational};
 ghost use Rattle.adf_runs.specs.Commands.{on_output};
 
+use crate::listing::block_bytes_text;
 use crate::types::{bytes_text, is_checked};
 use adf_blocks::MOST_BLOCKS;
 use adf_partitions::{FieldFault, Partition, Place};
@@ -17,7 +18,9 @@ use std::alloc::{AllocError, Global};
 pub enum Unchecked {
     /// Its file system has this type.
     OtherType(u32),
-    /// Something is wrong with the fields of the partition.
+    /// A block of its file system has so many sectors of so many words; in a volume that is read it has 1 of 128.
+    BlockBytes(u32, u32),
+    /// Something else is wrong with the fields of the partition.
     Fields(FieldFault),
     /// So many blocks are reserved; a volume that is read has 2.
     Reserved(u32),
@@ -35,7 +38,12 @@ pub fn why_unchecked(partition: &Partition, place: Place) -> Option<Unchecked>
         return Some(Unchecked::OtherType(partition.dos_type));
     }
     if let Some(fault) = partition.fault {
-        return Some(Unchecked::Fields(fault));
+        return Some(match fault {
+            FieldFault::OtherBlocks => {
+                Unchecked::BlockBytes(partition.block_sectors, partition.sector_words)
+            }
+            _ => Unchecked::Fields(fault),
+        });
     }
     if partition.reserved != 2 {
         return Some(Unchecked::Reserved(partition.reserved));
@@ -57,6 +65,10 @@ pub fn unchecked_text(alloc: Global, why: Unchecked) -> Result<String, AllocErro
         Unchecked::OtherType(dos_type) => {
             let kind = bytes_text(alloc, dos_type)?;
             format!(in alloc; "type {kind}")
+        }
+        Unchecked::BlockBytes(sectors, words) => {
+            let bytes = block_bytes_text(alloc, sectors, words)?;
+            format!(in alloc; "{}: {bytes}", FieldFault::OtherBlocks)
         }
         Unchecked::Fields(fault) => format!(in alloc; "{fault}"),
         Unchecked::Reserved(blocks) => format!(in alloc; "reserved {blocks}"),
