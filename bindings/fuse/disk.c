@@ -13,7 +13,8 @@
 #include <unistd.h>
 
 enum { MOST_TABLES = 65536, MOST_PARTITIONS = 1024 };
-enum { RESERVED = 38, MOST_RESERVED = 2, DOS = 0x444F5300, MOST_TYPE = 5, FIRST_ROOM = 1 << 20 };
+enum { SECTOR_WORDS = 33, BLOCK_SECTORS = 36, RESERVED = 38 }; /* words of a partition block */
+enum { MOST_RESERVED = 2, DOS = 0x444F5300, MOST_TYPE = 5, FIRST_ROOM = 1 << 20 };
 
 /* One byte more than the largest image, so that a longer one is seen to be longer. */
 static const size_t MOST_BYTES = (size_t)BLOCK * MOST_BLOCKS + 1;
@@ -101,10 +102,10 @@ static bool is_wanted(const struct adf_partition *partition, size_t number, cons
     return strcasecmp(wanted, listed) == 0 || strcasecmp(wanted, escaped) == 0;
 }
 
-/* The blocks that a partition reserves before those of its file system, by its block. */
-static unsigned long reserved_of(int file, const struct adf_partition *partition) {
+/* A word of the block of a partition. */
+static unsigned long word_of(int file, const struct adf_partition *partition, int number) {
     uint8_t word[4] = {0};
-    if (pread(file, word, sizeof word, (off_t)partition->block * BLOCK + RESERVED * 4) != sizeof word)
+    if (pread(file, word, sizeof word, (off_t)partition->block * BLOCK + number * 4) != sizeof word)
         return 0;
     return (unsigned long)word[0] << 24 | (unsigned long)word[1] << 16 | (unsigned long)word[2] << 8 | word[3];
 }
@@ -112,12 +113,15 @@ static unsigned long reserved_of(int file, const struct adf_partition *partition
 /* Why a partition cannot be read, as `adf-disk check` says it, or an empty text. A type of 0 says nothing. Of the one that is wanted a
  * type, and fields that are not about its place, are left to the check of its volume. */
 static void why_unread(int file, const struct adf_partition *partition, bool is_chosen, char why[LONGEST_TEXT]) {
-    unsigned long reserved = reserved_of(file, partition);
+    unsigned long reserved = word_of(file, partition, RESERVED);
     uint8_t type[4] = {partition->dos_type >> 24 & 255, partition->dos_type >> 16 & 255, partition->dos_type >> 8 & 255,
                        partition->dos_type & 255};
     *why = '\0';
     if (!is_chosen && partition->dos_type != 0 && (partition->dos_type < DOS || partition->dos_type > DOS + MOST_TYPE))
         show_text(type, sizeof type, stpcpy(why, "type "));
+    else if (!is_chosen && partition->fault == ADF_PARTITION_BLOCK_SIZE)
+        sprintf(why, "other block size: %lu x %llu", word_of(file, partition, BLOCK_SECTORS),
+                4ULL * word_of(file, partition, SECTOR_WORDS));
     else if (partition->blocks == 0 || (!is_chosen && partition->fault != ADF_PARTITION_SOUND))
         why[adf_partition_fault_text(partition->fault, (uint8_t *)why, LONGEST_TEXT - 1)] = '\0';
     else if (partition->fault == ADF_PARTITION_SOUND && reserved != MOST_RESERVED)

@@ -11,7 +11,7 @@ from typing import IO, BinaryIO, Iterator, Optional
 
 import adf
 from adf._arguments import Mapped, mapped
-from adf_tools.volumes import disk_of, fault_of, is_volume
+from adf_tools.volumes import disk_of, is_volume, why_unread
 
 CHANGED = "changed while it was read"
 
@@ -41,7 +41,7 @@ class Content:
 
     def volume(self, disk: adf.Disk, partition: adf.Partition) -> Optional[Content]:
         """The volume of a partition, if it has one of an Amiga; a large one is read when it is asked for."""
-        if fault_of(disk, partition) or not is_volume(partition):
+        if why_unread(disk, partition) or not is_volume(partition):
             return None
         part = Slice(self, adf.BLOCK * partition.first, adf.BLOCK * partition.blocks)
         return part if part.size > adf.LARGE else Content(part.read(0, part.size))

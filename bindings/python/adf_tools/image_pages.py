@@ -17,6 +17,7 @@ from adf_tools.out_folder import PAGE_NAME
 from adf_tools.pages import cell, count_of, facts, long_table, page, paragraph, paragraphs_of_causes, text_cell
 from adf_tools.picture import RUN, Fault, disk_picture, picture
 from adf_tools.protection import protection_text
+from adf_tools.volumes import UNREAD
 
 ENTRY_HEADS = ("Path", "Kind", "Size", "-Protection", "-Date", "-Header", "-Comment", "Also on")
 FOUND_HEADS = ("State", "Path", "Kind", "Size", "-Protection", "-Date", "-Comment", "Also on")
@@ -354,7 +355,8 @@ def partition_row(row: Dict[str, Any]) -> Html:
     name = row["name"] or row["number"]
     named = link(os.path.basename(row["page"]), name) if is_page(row["page"]) else shown(name)
     verdict = row["fault"] or row["verdict"] or "not read"
-    shown_verdict = shown(verdict) if verdict in ("ok", "not read") else marked_as("refused", verdict)
+    kind = "note" if verdict.startswith(UNREAD) else "refused"
+    shown_verdict = shown(verdict) if verdict in ("ok", "not read") else marked_as(kind, verdict)
     flags = ", ".join(text for bit, text in ((1, "bootable"), (2, "not mounted")) if row["flags"] & bit)
     cells = [cell(named, "text"), cell(shown_verdict), cell(shown(row["kind"])), cell(row["first"], "number"), cell(row["blocks"], "number")]
     return joined((*cells, cell(flags, "nowrap wide"), cell(row["priority"], "number wide"), cell(shown(row["label"] or ""), "text")))

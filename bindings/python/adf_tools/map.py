@@ -14,7 +14,7 @@ from adf_tools.given import STANDARD_INPUT, add_image, content_given, help_of
 from adf_tools.names import letters
 from adf_tools.picture import Fault, disk_picture, picture, roles_of_refused, without
 from adf_tools.program import REFUSED, begin, command_line, host_text, stop, tell
-from adf_tools.volumes import disk_of, fault_of, is_long, volume_of
+from adf_tools.volumes import disk_of, is_long, volume_of, why_unread
 
 
 def write(text: str) -> None:
@@ -73,7 +73,7 @@ def volume_in(name: str, disk: adf.Disk, wanted: str) -> bytes:
         stop(REFUSED, f"{name}: {host_text(wanted)}: block 0: bad size; it has {adf.BLOCK * partition.blocks} bytes")
     volume = volume_of(disk, partition)
     if volume is None:
-        stop(REFUSED, f"{name}: {host_text(wanted)}: {fault_of(disk, partition) or 'no volume of an Amiga'}")
+        stop(REFUSED, f"{name}: {host_text(wanted)}: {why_unread(disk, partition) or 'no volume of an Amiga'}")
     return volume
 
 

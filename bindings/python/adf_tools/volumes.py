@@ -21,7 +21,10 @@ from adf_tools.sums import boot_facts
 DOS, UNTYPED = b"DOS", adf.escape(bytes(4))  # how a volume begins; a type of 0, which parted writes
 MOST_LETTERS, MOST_FINDINGS, LINE = 64 << 20, 100_000, 100  # of the texts of one image; a row has so many letters beside them
 LONGEST_TEXT, MOST_ICONS, INFO = 1 << 16, 32, b".info"
-RESERVED, READ_RESERVED = 4 * 38, 2  # of a partition block: where the number of reserved blocks is, and that of volumes that are read
+SECTOR_WORDS, BLOCK_SECTORS, RESERVED = 33, 36, 38  # words of a partition block
+READ_RESERVED = 2  # the reserved blocks of volumes that are read
+OTHER_BLOCKS = "other block size"
+UNREAD = OTHER_BLOCKS, "reserved", "odd blocks"  # how the reasons begin that are no faults
 CONTROLS = bytes({*range(32), 127} - set(b"\t\n\r\f\x1b"))  # no text has them
 Columns = Dict[str, Any]
 Rows = List[Tuple[Any, ...]]
@@ -227,22 +230,33 @@ def is_long(partition: adf.Partition) -> bool:
     return adf.BLOCK * partition.blocks > adf.MOST_BYTES
 
 
-def fault_of(disk: adf.Disk, partition: adf.Partition) -> str:
-    """What is wrong with a partition, or an empty text; that it reserves other blocks than a volume that is read is a fault too."""
-    (reserved,) = struct.unpack_from(">I", memoryview(disk.image), adf.BLOCK * partition.block + RESERVED)
-    return partition.fault or (f"reserved {reserved}" if is_volume(partition) and reserved != READ_RESERVED else "")
+def is_faulty(partition: adf.Partition) -> bool:
+    """Whether something is wrong with a partition: larger blocks of its file system are none."""
+    return partition.fault not in ("", OTHER_BLOCKS)
+
+
+def why_unread(disk: adf.Disk, partition: adf.Partition) -> str:
+    """Why the volume of a partition is not read whatever its type, in the words of `adf-disk check`, or an empty text."""
+    words = struct.unpack_from(">128I", memoryview(disk.image), adf.BLOCK * partition.block)
+    if partition.fault == OTHER_BLOCKS:
+        return f"{OTHER_BLOCKS}: {words[BLOCK_SECTORS]} x {4 * words[SECTOR_WORDS]}"
+    if partition.fault or not is_volume(partition):
+        return partition.fault
+    if words[RESERVED] != READ_RESERVED:
+        return f"reserved {words[RESERVED]}"
+    return "odd blocks" if partition.blocks % 2 else ""
 
 
 def disk_record(disk: adf.Disk, columns: Columns) -> Record:
     """What is kept of a whole hard disk, without its volumes."""
-    faults = sum(bool(fault_of(disk, partition)) for partition in disk.partitions)
+    faults = sum(map(is_faulty, disk.partitions))
     told = {"kind": "disk", "verdict": f"block {disk.block}: {disk.cause}" if disk.cause else "ok", "faults": faults + bool(disk.cause)}
     cause = {"block": disk.block, "cause": disk.cause} if disk.cause else {}
-    is_read = all(is_volume(partition) and not is_long(partition) for partition in disk.partitions)
+    is_read = all(is_volume(row) and not is_long(row) and not why_unread(disk, row) for row in disk.partitions)
     blocks, advice = len(memoryview(disk.image)) // adf.BLOCK, "tables" if told["faults"] else "sound" if is_read else "volumes not read"
     return record({**columns, **told, **cause, "blocks": blocks, "advice": advice})._replace(
         partitions=[
-            (row.number, letters(row.name), row.kind, row.first, row.blocks, row.flags, row.priority, row.block, fault_of(disk, row))
+            (row.number, letters(row.name), row.kind, row.first, row.blocks, row.flags, row.priority, row.block, why_unread(disk, row))
             for row in disk.partitions
         ]
     )
@@ -250,7 +264,7 @@ def disk_record(disk: adf.Disk, columns: Columns) -> Record:
 
 def volume_of(disk: adf.Disk, partition: adf.Partition) -> Optional[bytes]:
     """The bytes of the volume of a partition, if it has one of an Amiga; of one that is too large none."""
-    if fault_of(disk, partition) or not is_volume(partition):
+    if why_unread(disk, partition) or not is_volume(partition):
         return None
     begin = adf.BLOCK * partition.first
     return b"" if is_long(partition) else bytes(memoryview(disk.image)[begin : begin + adf.BLOCK * partition.blocks])

@@ -192,6 +192,19 @@ class Groups(Catalogues):
         self.assertEqual(self.groups(), {**disks, **volumes})
         self.assertIn("7 images, 5 sound", Page("out/index.html").text)
 
+    def test_calls_no_partition_bad_that_is_not_read(self):
+        os.mkdir("disks")
+        whole = disk(volume(blocks=64, label="Work"))
+        changes = {"reserved": {38: 4}, "words": {33: 256}, "sectors": {36: 2}, "odd": {37: 1, 41: 16, 42: 78}, "preallocated": {39: 8}}
+        for name, words in changes.items():
+            written(f"disks/{name}.hdf", worded(whole, words))
+        self.catalogue("disks", "out", status=0)
+        disks = {f"{name}.hdf": "volumes not read" for name in changes}
+        self.assertEqual(self.groups(), {**disks, "preallocated.hdf": "sound", "preallocated.hdf/DH0": "sound"})
+        reasons = dict(self.asked("out", "SELECT images.name, fault FROM partitions JOIN images ON images.id = disk WHERE fault != ''"))
+        told = {"reserved": "reserved 4", "words": "other block size: 1 x 1024", "sectors": "other block size: 2 x 512", "odd": "odd blocks"}
+        self.assertEqual(reasons, {f"{name}.hdf": reason for name, reason in told.items()})
+
     def test_reads_no_volume_that_is_too_long(self):
         os.mkdir("disks")
         written("disks/large.hdf", disk(volume(blocks=64, label="Work"), volume(blocks=256, label="Large")))
@@ -202,12 +215,18 @@ class Groups(Catalogues):
         self.assertEqual(rows, [(131072, sum_of(volume(blocks=256, label="Large")), "block 0: bad size")])
 
 
-def typed(image, number):
-    """A hard disk whose only partition is of this type."""
+def worded(image, changes):
+    """A hard disk whose only partition block has these words."""
     words = list(struct.unpack_from(">128I", image, 512))
-    words[48], words[2] = number, 0
+    for place, word in {**changes, 2: 0}.items():
+        words[place] = word
     words[2] = -sum(words) % 2**32
     return image[:512] + struct.pack(">128I", *words) + image[1024:]
+
+
+def typed(image, number):
+    """A hard disk whose only partition is of this type."""
+    return worded(image, {48: number})
 
 
 class Passed(Catalogues):
