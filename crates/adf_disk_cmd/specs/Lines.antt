@@ -68,7 +68,7 @@ abbrev pub other_blocks_text : Partition → List ℕ
 other_blocks_text p = if has_usual_blocks p then [] else codes " block bytes " ++ block_bytes_text p.block_sectors p.sector_words
 
 -- what is unusual of a file system: the blocks that it does not use, and the bytes of a block
-abbrev pub unusual_text : Partition → List ℕ
+unfoldable pub unusual_text : Partition → List ℕ
 unusual_text p = reserved_text p.reserved ++ (preallocated_text p.preallocated ++ other_blocks_text p)
 
 -- the end of a partition's line: its type, place, flags, boot priority, what is unusual of its file system, and what is wrong with its

@@ -78,6 +78,7 @@ fn preallocated_text(alloc: Global, blocks: u32) -> Result<String, AllocError>
 }
 
 // What is unusual of a file system: the blocks that it does not use, and the bytes of a block.
+#[tactic(auto, unfolding(crate::specs::Lines::unusual_text))]
 fn unusual_text(alloc: Global, partition: &Partition) -> Result<String, AllocError>
     ensures { IfOk result (λ text. string_bytes text ≡ unusual_text partition.now) }
 {
