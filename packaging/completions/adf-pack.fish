@@ -2,6 +2,7 @@
 
 complete -c adf-pack -n '__fish_is_nth_token 1' -f -a 'ofs ffs ofs-international ffs-international'
 complete -c adf-pack -l image -r -d 'write an image into a new file'
+complete -c adf-pack -l edits -x -d 'write edits that put the folder into this directory of a disk'
 complete -c adf-pack -l size -x -d 'size of the image, as 100M'
 complete -c adf-pack -l bootable -d 'write the standard boot blocks'
 complete -c adf-pack -l boot -r -d 'write the boot blocks of a file'

@@ -80,14 +80,14 @@ _adf_files() {
         adf-edit:-*) COMPREPLY=($(compgen -W "-o -f --help --version" -- "$2")) ;;
         adf-edit:*)
             if [[ $3 == + ]] || ((COMP_CWORD == 2)); then
-                COMPREPLY=($(compgen -W "put replace remove move dir note protect date label letters" -- "$2"))
+                COMPREPLY=($(compgen -W "put replace remove move dir note protect date label letters boot" -- "$2"))
             fi
             ;;
         adf-merge:-*) COMPREPLY=($(compgen -W "--help --version" -- "$2")) ;;
         adf-shelf:-*) COMPREPLY=($(compgen -W "--null --any-type --json --help --version" -- "$2")) ;;
         adf-catalogue:-*) COMPREPLY=($(compgen -W "--tsv --rescue --fresh --escape --index-text --dat -h --help --version" -- "$2")) ;;
         adf-pack:-*)
-            COMPREPLY=($(compgen -W "--image --size --bootable --boot --label --date --altered --created --no-uaem --escape -h --help --version" -- "$2"))
+            COMPREPLY=($(compgen -W "--image --edits --size --bootable --boot --label --date --altered --created --no-uaem --escape -h --help --version" -- "$2"))
             ;;
         adf-unpack:-*) COMPREPLY=($(compgen -W "--blocks --strict --damaged --boot --uaem --escape -h --help --version" -- "$2")) ;;
         adf-map:-*) COMPREPLY=($(compgen -W "--partition --blocks -h --help --version" -- "$2")) ;;

@@ -1,4 +1,4 @@
-"""adf-pack: writes a manifest of a folder; `adf build` makes a volume of it (docs/adf-pack.1)."""
+"""adf-pack: writes a manifest of a folder, of which `adf build` makes a volume, or its edits for `adf-edit` (docs/adf-pack.1)."""
 
 from __future__ import annotations
 
@@ -103,6 +103,26 @@ def entry_lines(kind: str, text: str, kept: Kept) -> Iterator[str]:
         yield f"note {adf.escape(kept.comment)}"
 
 
+def kept_edits(text: str, kept: Kept) -> Iterator[str]:
+    """The edits of what a new entry does not have by itself."""
+    yield f"date\t{text}\t{kept.stamp}"
+    if kept.protection:
+        yield f"protect\t{text}\t{kept.protection:08x}"
+    if kept.comment:
+        yield f"note\t{text}\t{adf.escape(kept.comment)}"
+
+
+def host_word(path: bytes) -> str:
+    """The path of a host file as a word of an edit."""
+    try:
+        text = path.decode()
+    except UnicodeDecodeError:
+        stop(REFUSED, f"{host_text(path)}: not UTF-8, which a file of edits is")
+    if "\t" in text or "\n" in text:
+        stop(REFUSED, f"{host_text(path)}: a tab or a line feed, which no word of a file of edits has")
+    return text
+
+
 class Packer:
     """Makes the lines of a folder: whether names are in the escape form, whether files NAME.uaem are read, and how many bytes files
     may have before the volume is full."""
@@ -144,6 +164,25 @@ class Packer:
                 else:
                     yield from entry_lines("dir", text, item.kept)
                     above.append(text + "/")
+
+    def edits(self, folder: bytes, directory: str) -> Iterator[str]:
+        """The edits that put all that is in a folder into a directory of a volume, each folder before what is in it."""
+        with Place(folder) as place:
+            above = [directory]
+            for item in self.items(place):
+                del above[item.depth + 1 :]
+                text = above[-1] + adf.escape(item.raw_name)
+                if item.is_file:
+                    yield f"put\t{host_word(place.path_of(item.name))}\t{text}"
+                else:
+                    yield f"dir\t{text}"
+                    above.append(text + "/")
+                yield from kept_edits(text, item.kept)
+
+    def directory(self, path: str) -> str:
+        """The path of a directory of a volume in the escape form, with a / behind each name."""
+        names = [name for name in os.fsencode(path).split(b"/") if name]
+        return "".join(adf.escape(amiga_name(name, path, self.is_escaped)) + "/" for name in names)
 
     def kept(self, place: Place, name: bytes, is_beside: bool, changed: int) -> Kept:
         """What is kept of a file or directory: beside it, in its attributes, and when it was changed."""
@@ -236,7 +275,21 @@ def head_of(words: argparse.Namespace) -> Iterator[str]:
     yield f"stamps {words.date.stamp} {words.altered.stamp} {words.created.stamp}"
 
 
+def write_edits(words: argparse.Namespace) -> int:
+    """Writes the edits of a folder."""
+    others = (words.kind, words.blocks, words.image, words.size, words.label, words.boot)
+    dates = (words.date, words.altered, words.created)
+    if words.bootable or any(word is not None for word in others) or any(date != NEVER for date in dates):
+        stop(USAGE, "with --edits the only other words are FOLDER, --no-uaem and --escape")
+    packer = Packer(words)
+    edits = list(packer.edits(os.fsencode(words.folder), packer.directory(words.edits)))
+    sys.stdout.buffer.write("".join(f"{edit}\n" for edit in edits).encode())
+    return 0
+
+
 def work(words: argparse.Namespace) -> int:
+    if words.edits is not None:
+        return write_edits(words)
     if words.image is not None:
         from adf_tools.packed_image import write_image
 
@@ -255,7 +308,7 @@ def work(words: argparse.Namespace) -> int:
 
 
 def main() -> None:
-    line = command_line("adf-pack", "Writes a manifest of a folder on standard output, of which adf build makes a volume, or an image.")
+    line = command_line("adf-pack", "Writes a manifest of a folder on standard output, of which adf build makes a volume, or an image, or edits.")
     line.add_argument(
         "kind", metavar="KIND", nargs="?", choices=adf.TYPES,
         help="ofs or ffs; with --image also ofs-international or ffs-international, and it may be left out: ffs")
@@ -263,6 +316,7 @@ def main() -> None:
         "blocks", metavar="BLOCKS", nargs="?", type=number, help="blocks of 512 bytes; a floppy of 880 KB has 1760; not with --size")
     line.add_argument("folder", metavar="FOLDER")
     line.add_argument("--image", metavar="FILE", help="write the image itself, into a new file")
+    line.add_argument("--edits", metavar="PATH", help="write lines for adf-edit -f that put what is in FOLDER into the directory PATH of a disk")
     line.add_argument("--size", metavar="SIZE", type=blocks_in, help="the size of the image, as 880K or 100M; without it as small as may be")
     boot = line.add_mutually_exclusive_group()
     boot.add_argument("--bootable", action="store_true", help="with --image: write the standard boot blocks, which start AmigaDOS")

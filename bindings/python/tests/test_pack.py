@@ -52,6 +52,32 @@ class Folders(Folder):
             self.refused(3, f"{folder}: {why}", "pack", "ofs", "1760", folder)
 
 
+class Edits(Folder):
+    """The lines for adf-edit. 709,993,800 seconds after 1970 is 1992-07-01 12:30."""
+
+    def test_folders_come_before_what_is_in_them(self):
+        os.makedirs("f/d")
+        written("f/d/é", b"E")
+        written("f/a b", b"A")
+        written("f/d.uaem", b"--p-rwed 1992-07-01 12:30:00.04 a note")
+        for path in ("f/a b", "f/d/é", "f/d"):
+            os.utime(path, (709_993_800, 709_993_800))
+        wanted = [
+            "put\tf/a b\tx/y/a b", "date\tx/y/a b\t5295:750:0",
+            "dir\tx/y/d", "date\tx/y/d\t5295:750:2", "protect\tx/y/d\t00000020", "note\tx/y/d\ta note",
+            "put\tf/d/é\tx/y/d/\\xe9", "date\tx/y/d/\\xe9\t5295:750:0",
+        ]
+        self.assertEqual(self.tool("pack", "--edits", "x/y/", "f").decode().splitlines(), wanted)
+
+    def test_what_no_line_can_say_is_refused(self):
+        os.mkdir("f")
+        self.assertEqual(self.tool("pack", "--edits", "/", "f"), b"")
+        written("f/a\tb", b"A")
+        self.refused(1, "f/a\\x09b: a tab or a line feed", "pack", "--edits", "/", "f")
+        self.refused(1, "a:b: no name on an Amiga has a :", "pack", "--edits", "a:b", "f")
+        self.refused(2, "with --edits the only other words are", "pack", "--edits", "/", "--label", "x", "f")
+
+
 class Limits(Folder):
     """What cannot fit is not read."""
 

@@ -1,4 +1,4 @@
-// Volumes that get other letters by a script of `adf-edit`. The slots are those that Python computes: (13 + 0xE9) % 72 and
+// Volumes that get other letters or boot blocks by a script of `adf-edit`. The slots are those that Python computes: (13 + 0xE9) % 72 and
 // (13 + 0xC9) % 72.
 
 use crate::edited_lines::is_stopped;
@@ -95,6 +95,22 @@ const REFUSED: &[(Letters, &[u8], &str)] = &[
         "1: bad line",
     ),
     (Letters::Ascii, b"letters latin\nend\n", "1: bad line"),
+    (Letters::Ascii, b"boot\nend\n", "1: bad line"),
+    (
+        Letters::Ascii,
+        b"dir a\nboot install\ndir b\nend\n",
+        "2: bad line",
+    ),
+    (
+        Letters::Ascii,
+        b"boot install\nboot clear\nend\n",
+        "1: bad line",
+    ),
+    (
+        Letters::Ascii,
+        b"letters ascii\nboot clear\nletters ascii\nend\n",
+        "1: bad line",
+    ),
 ];
 
 #[test]
@@ -102,5 +118,39 @@ fn letters_are_refused(rt: HostRuntime) {
     for (letters, script, stop) in REFUSED {
         let made = image_by(rt.alloc(), *letters, script).expect(&rt, "a volume");
         assert!(rt; is_stopped(rt.alloc(), made, stop));
+    }
+}
+
+// A script, the type of the new volume, its checksum, the number of its root, and its first word of code. The checksum of the standard
+// code on a floppy of type 0, whose root is 0x370, is 0xD2A50F19; all words together make the same sum.
+const BOOTED: &[(&[u8], u8, u32, u32, u32)] = &[
+    (b"boot install\nend\n", 0, 0xD2A5_1281, 8, 0x43FA_0018),
+    (
+        b"dir a\nletters international\nboot install\nend\n",
+        2,
+        0xD2A5_127F,
+        8,
+        0x43FA_0018,
+    ),
+    (
+        b"boot install\nletters international\nend\n",
+        2,
+        0xD2A5_127F,
+        8,
+        0x43FA_0018,
+    ),
+    (b"boot clear\nend\n", 0, 0, 0, 0),
+    (b"letters international\nboot clear\nend\n", 2, 0, 0, 0),
+];
+
+#[test]
+fn boot_blocks_are_given(rt: HostRuntime) {
+    for (script, dos_type, sum, root, code) in BOOTED {
+        let made = image_by(rt.alloc(), Letters::Ascii, script).expect(&rt, "a volume");
+        let image = made.ok().expect(&rt, "an image");
+        assert_eq!(rt; image.get(3), Some(dos_type));
+        let words = [*sum, *root, *code].map(u32::to_be_bytes);
+        assert!(rt; image.get(4..16) == Some(words.as_flattened()));
+        assert!(rt; image.len() == 8192 && is_bootable(&image) == (*sum != 0));
     }
 }

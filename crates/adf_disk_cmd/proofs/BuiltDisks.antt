@@ -1,7 +1,7 @@
 -- Disks that are built. p is the plan of a partition, n the number of its blocks, ps are partitions, c the number of blocks of a cylinder; `given` are
 -- the bytes of given volumes.
 use Rattle.std.proofs.Common.{◌≡◌, ◌≢◌, ◌≤◌, ◌<◌, ◌+◌, ◌*◌, ◌∙◌, ℕ, Bool, true, false, List, [], ◌∷◌, ◌++◌, ap, ap₂, arith, append-nil, append_assoc, drop}
-use Rattle.std.proofs.Common.{get_or, ◌^◌, inl, inr, length, length-drop, refl, subst, suc, sym, zero, ◌==◌, ◌/◌, if◌then◌else◌}
+use Rattle.std.proofs.Common.{Option, get_or, ◌^◌, inl, inr, length, length-drop, refl, subst, suc, sym, zero, ◌==◌, ◌/◌, if◌then◌else◌}
 use Rattle.std.proofs.lemmas.List.{drop_all, length-take-le, Folds.list_all_at}
 use Rattle.std.specs.List.{flat_map, list_all}
 use Rattle.std.proofs.{lemmas.Bool.and_parts, lemmas.Bool.Decides.nat_tests, lemmas.Grind.common_steps}
@@ -11,10 +11,12 @@ use Rattle.adf_disk_cmd.specs.Builds.{volume_of, volumes_of}
 use Rattle.adf_partitions.proofs.PlanSizes.{blocks_fit, cylinders_fit, plans_at}
 use Rattle.adf_partitions.proofs.{PlannedDisk.planned_disk, PlannedVolumes.disk_size, PlannedVolumes.volumes_stand}
 use Rattle.adf_plans.proofs.TextLines.{is_plan-tells}
-use Rattle.adf_partitions.specs.{Disks.IsDisk, WrittenTables.disk_bytes, WrittenTables.planned_tables, declared.plan.PartitionPlan.PartitionPlan}
+use Rattle.adf_partitions.specs.{Disks.IsDisk, WrittenTables.disk_bytes, WrittenTables.planned_tables, WrittenTables.table_bytes, declared.plan.PartitionPlan.PartitionPlan}
 use Rattle.adf_plans.specs.PlanTexts.{IsText, behind_line, has_volume, is_plan}
 use Rattle.adf_partitions.specs.Plans.{AreVolumes, IsPlan, PlanValue, cylinder_blocks, cylinders_of, planned_blocks, planned_partitions}
-use Rattle.adf_runs.specs.Commands.{Reply, on_errors, on_output}
+use Rattle.adf_runs.specs.{Commands.Reply, Commands.on_errors, Commands.on_output, Streams.AppendsPart}
+use Rattle.adf_runs.proofs.{KnownBytes.appends_two, PendingText.appends_nil, PendingText.part_behind, PendingText.part_of_more}
+use Rattle.std.specs.Io.KnownBytes.{Appends}
 
 -- volumes one behind the other
 abbrev pub joined : List (List ℕ) → List ℕ
@@ -63,6 +65,51 @@ pub volumes_end : (c : ℕ) (ps : List PartitionPlan) (i : ℕ) (disk given all 
     → disk ++ joined (volumes_of c (drop i ps) given) ≡ all → disk ≡ all
 unfolding volumes_of
 volumes_end c ps i disk given all le h = grind (arith, common_steps, append-nil, joined, drop_all)
+
+-- what was written so far, with which the volumes of partitions make the whole
+pub record IsWritten (c : ℕ) (ps : List PartitionPlan) (before now : Option (List ℕ)) (given whole : List ℕ) : Type 0 where
+  pub done : List ℕ
+  pub written : Appends before now done
+  pub rest : Continues c ps done given whole
+
+-- nothing is written
+pub none_written : {failed : Bool} (before : Option (List ℕ)) (whole : List ℕ) → failed ≡ false → AppendsPart failed before before whole
+none_written before whole works = ([], whole, refl, λ fails. absurd cc, appends_nil before)
+
+-- a front part of the tables is written
+pub tables_part : {failed : Bool} (plan : PlanValue) (before now : Option (List ℕ)) (given tables : List ℕ) → tables ≡ table_bytes plan
+    → AppendsPart failed before now tables → AppendsPart failed before now (built_disk plan given)
+tables_part {failed} plan before now given tables is q =
+    part_of_more before now (table_bytes plan) (joined (volumes_of (cylinder_blocks plan) plan.partitions given))
+    (subst (AppendsPart failed before now) is q)
+
+-- one volume more is written, or a front part of it
+pub written_more : (c n : ℕ) (ps others : List PartitionPlan) (p : PartitionPlan) (before now next : Option (List ℕ)) (given whole rest : List ℕ)
+    → IsWritten c ps before now given whole → ps ≡ p ∷ others → n ≡ p.cylinders * c → Appends now next (volume_of n p given)
+    → rest ≡ behind_volume n p given → IsWritten c others before next rest whole
+written_more c n ps others p before now next given whole rest h e size put left_is = record {
+  done = h.done ++ volume_of n p given;
+  written = appends_two before now next h.done (volume_of n p given) (h.done ++ volume_of n p given) refl h.written put;
+  rest = stepped c n ps others p h.done given whole (h.done ++ volume_of n p given) rest h.rest e size refl left_is;
+}
+
+pub written_part : {failed : Bool} (c n : ℕ) (ps others : List PartitionPlan) (p : PartitionPlan) (before now next : Option (List ℕ)) (given whole : List ℕ)
+    → IsWritten c ps before now given whole → ps ≡ p ∷ others → n ≡ p.cylinders * c → AppendsPart failed now next (volume_of n p given)
+    → AppendsPart failed before next whole
+written_part {failed} c n ps others p before now next given whole h e size q =
+    let one : List ℕ = volume_of n p given in
+    let more : List ℕ = joined (volumes_of c others (behind_volume (p.cylinders * c) p given)) in
+    let is : (h.done ++ one) ++ more ≡ whole =
+    ap (λ (m : ℕ). (h.done ++ volume_of m p given) ++ more) size ∙ (volume_put c p others h.done given
+    ∙ (ap (λ (l : List PartitionPlan). h.done ++ joined (volumes_of c l given)) (sym e) ∙ h.rest.bytes)) in
+    subst (AppendsPart failed before next) is
+    (part_of_more before next (h.done ++ one) more (part_behind before now next h.done one h.written q))
+
+-- all is written
+pub written_whole : (c : ℕ) (ps : List PartitionPlan) (i : ℕ) (before now : Option (List ℕ)) (given whole : List ℕ) → length ps ≤ i
+    → IsWritten c (drop i ps) before now given whole → Appends before now whole
+written_whole c ps i before now given whole le h =
+    subst (Appends before now) (volumes_end c ps i h.done given whole le h.rest.bytes) h.written
 
 -- each partition has a volume
 pub has_volume_at : (c : ℕ) (ps : List PartitionPlan) (i : ℕ) (d : PartitionPlan) → list_all (has_volume c) ps ≡ true → i < length ps

@@ -1,7 +1,7 @@
 // The command `build`.
 
-ghost use Rattle.std.specs.Prelude.{◌≡◌, ◌≢◌, ◌≤◌, ◌*◌, ◌++◌, ℕ, false, length, true, List, Option, IfOk, OnOk};
-ghost use Rattle.std.specs.List.{list_all};
+ghost use Rattle.std.specs.Prelude.{◌≡◌, ◌≢◌, ◌≤◌, ◌*◌, ℕ, false, length, true, List, Option, IfOk, OnErr, OnOk};
+ghost use Rattle.std.specs.{Io.KnownBytes.Appends, List.list_all};
 ghost use Rattle.adf_blocks.specs.Sizes.{is_allowed};
 ghost use Rattle.adf_build.specs.Laid.{volume};
 ghost use Rattle.adf_disk_cmd.specs.Builds.{BuildsDisk, DisksHavePlanned, RefusesPlan, behind_volume, built_disk, given_bytes};
@@ -9,15 +9,14 @@ ghost use Rattle.adf_disk_cmd.specs.Builds.{given_line, plan_reply, planned_tree
 ghost use Rattle.adf_partitions.specs.Plans.{IsPlan, cylinder_blocks, plan_value};
 ghost use Rattle.adf_plans.specs.PlanTexts.{IsTextFault, has_volume, is_plan};
 ghost use Rattle.adf_plans.specs.declared.plan_text.TextKind.{TextKind};
-ghost use Rattle.adf_runs.specs.{Commands.on_errors, Streams.seen};
+ghost use Rattle.adf_runs.specs.{Commands.on_errors, Streams.AppendsPart, Streams.is_device, Streams.seen};
 ghost use Rattle.adf_runs.specs.Outcomes.{Blames, Does, DoesSilently, EndsBy};
 
-use crate::answering::write_text;
 use adf_base::BLOCK_LEN;
 use adf_build::{BuildFault, build_types};
 use adf_partitions::{DiskPlan, PartitionPlan, cylinder_blocks, write_tables};
 use adf_plans::{TextFault, TextKind, read_plan};
-use adf_runs::{Outcome, Sink};
+use adf_runs::{Outcome, Sink, StreamFault, write_all};
 use adf_tree::{Label, NO_STAMPS, Tree};
 use adf_volume::Types;
 use std::alloc::{AllocError, Global};
@@ -52,48 +51,65 @@ fn new_volume(alloc: Global, partition: &PartitionPlan, blocks: u32) -> Result<V
     }
 }
 
-// Appends the volume of a partition of so many blocks: the first of the given bytes, or a new one. Returns the given bytes
+// Writes the volume of a partition of so many blocks: the first of the given bytes, or a new one. Returns the given bytes
 // behind it.
-fn push_volume<'a>(
+#[tactic(auto, using(crate::proofs::BuiltDisks::none_written))]
+fn write_volume<'a, W: Sink>(
     alloc: Global,
     partition: &PartitionPlan,
     blocks: u32,
     given: &'a [u8],
-    disk: &mut Vec<u8>,
-) -> Result<&'a [u8], AllocError>
+    output: &mut W,
+) -> Result<&'a [u8], StreamFault>
+    requires works { W.has_failed output.old ≡ false }
     requires enough { partition.now.given ≡ true → blocks * 512 ≤ length given.now }
     requires size { partition.now.given ≡ false → is_allowed blocks ≡ true }
     requires label { partition.now.given ≡ false → length partition.now.name ≤ 30 }
     ensures volume { OnOk result
-        (disk.new.items ≡ disk.old.items ++ volume_of blocks partition.now given.now) }
+        (Appends (W.held output.old) (W.held output.new) (volume_of blocks partition.now given.now)) }
     ensures rest { IfOk result (λ rest. rest.now ≡ behind_volume blocks partition.now given.now) }
+    ensures part { OnErr result (AppendsPart (W.has_failed output.new)
+        (W.held output.old) (W.held output.new) (volume_of blocks partition.now given.now)) }
+    ensures failed { W.has_failed output.new ≡ is_device result }
 {
     if partition.given {
         let len = blocks as usize * BLOCK_LEN;
-        disk.extend_from_slice(&given[..len])?;
+        write_all(output, &given[..len])?;
         return Ok(&given[len..]);
     }
     let volume = new_volume(alloc, partition, blocks)?;
-    disk.extend_from_slice(&volume)?;
+    write_all(output, &volume)?;
     Ok(given)
 }
 
-// The disk of a plan.
-fn disk_of(alloc: Global, plan: &DiskPlan, given: &[u8]) -> Result<Vec<u8>, AllocError>
+// Writes the disk of a plan, and holds one of its new volumes at a time.
+#[tactic(auto, using(crate::proofs::BuiltDisks::none_written))]
+fn write_disk<W: Sink>(
+    alloc: Global,
+    plan: &DiskPlan,
+    given: &[u8],
+    output: &mut W,
+) -> Result<(), StreamFault>
+    requires works { W.has_failed output.old ≡ false }
     requires plan { IsPlan (plan_value plan.now) }
     requires volumes { list_all (has_volume (cylinder_blocks (plan_value plan.now)))
         plan.now.partitions.items ≡ true }
     requires enough { length given.now ≡ given_bytes (plan_value plan.now) }
-    ensures { IfOk result (λ disk. disk.items ≡ built_disk (plan_value plan.now) given.now) }
+    ensures ok { OnOk result
+        (Appends (W.held output.old) (W.held output.new) (built_disk (plan_value plan.now) given.now)) }
+    ensures part { OnErr result (AppendsPart (W.has_failed output.new)
+        (W.held output.old) (W.held output.new) (built_disk (plan_value plan.now) given.now)) }
+    ensures failed { W.has_failed output.new ≡ is_device result }
 {
     let cylinder = cylinder_blocks(plan);
-    let mut disk = write_tables(alloc, plan)?;
+    let tables = write_tables(alloc, plan)?;
+    write_all(output, &tables)?;
     let mut left = given;
     for partition in &plan.partitions {
         let blocks = partition.cylinders * cylinder;
-        left = push_volume(alloc, partition, blocks, left, &mut disk)?;
+        left = write_volume(alloc, partition, blocks, left, output)?;
     }
-    Ok(disk)
+    Ok(())
 }
 
 // Tells on errors that there are other bytes than those of the given volumes.
@@ -119,9 +135,9 @@ pub fn write_plan<W: Sink>(alloc: Global, plan: &DiskPlan, given: &[u8], output:
     if have != need {
         return refuse_given(alloc, need, have);
     }
-    match disk_of(alloc, plan, given) {
-        Ok(disk) => write_text(output, &disk, true),
-        Err(_) => Outcome::NoMemory,
+    match write_disk(alloc, plan, given, output) {
+        Ok(()) => Outcome::Done,
+        Err(fault) => Outcome::after_writing(fault),
     }
 }
 

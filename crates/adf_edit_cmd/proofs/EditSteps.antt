@@ -1,19 +1,21 @@
 -- Edits one after the other, and the bytes of their files.
 use Rattle.std.proofs.Common.{◌≡◌, ◌<◌, ◌≤◌, ◌+◌, ℕ, suc, List, [], ◌∷◌, ◌++◌, take, Option, Some, None, Result, Ok, Err, length, map, drop, get_or, nat_lt}
-use Rattle.std.proofs.Common.{true, false, ap, refl, sym, subst, inl, inr, arith, ◌∙◌}
-use Rattle.std.proofs.{Math.Seq.drop-cons, Math.Seq.take-append_seam, lemmas.List.drop_all, lemmas.List.length-map}
+use Rattle.std.proofs.Common.{slice_index, true, false, ap, refl, sym, subst, inl, inr, arith, ◌∙◌}
+use Rattle.std.proofs.{Math.Seq.drop-cons, Math.Seq.take-append_seam, lemmas.List.drop_all, lemmas.List.get_or-take, lemmas.List.length-map}
+use Rattle.std.proofs.{lemmas.Bool.and_parts, lemmas.Bool.eqb-true, lemmas.Grind.common_steps}
 use Rattle.std.specs.Option.{unwrap_or}
 use Rattle.adf_blocks.specs.Sizes.{blocks}
 use Rattle.adf_boot_blocks.proofs.OtherBoots.{other_fits_by}
-use Rattle.adf_boot_blocks.specs.{BootBlocks.IsOtherBoot, Writing.restored}
+use Rattle.adf_boot_blocks.specs.BootBlocks.{IsOtherBoot, begins_with_dos, is_bootable}
 use Rattle.adf_build.specs.{Building.IsBuildable, Laid.volume, Plan.planned}
 use Rattle.adf_edits.specs.{Edits.EditValue, Edits.edit_value, Edits.edited, declared.edits.Edit.Edit, declared.edits.EditFault.EditFault}
 use Rattle.adf_edits.specs.{Outline.OutlineValue, Outline.outline_of, TreeFaults.IsTreeFaultBy, declared.tree_fault.TreeFault.TreeFault}
-use Rattle.adf_base.specs.declared.hash.Letters.{Letters}
+use Rattle.adf_base.specs.{Words.block, declared.hash.Letters.Letters}
 use Rattle.adf_tree.specs.Tree.{Tree}
-use Rattle.adf_volume.specs.{Fits.FitsBy}
-use Rattle.adf_edit_cmd.specs.Edited.{IsLaidOver, IsShallow, IsVolume, StopsOn, StopsTree, outline_after, next_outline}
+use Rattle.adf_volume.specs.{Fits.FitsBy, Layout.Layout}
+use Rattle.adf_edit_cmd.specs.Edited.{IsLaidOver, IsShallow, IsVolume, StopsOn, StopsTree, booted, outline_after, next_outline}
 use Rattle.adf_edit_cmd.specs.Script.{ScriptValue, behind_file, behind_files, bytes_taken, files_len}
+use Rattle.adf_edit_cmd.specs.declared.script.{BootEdit.BootEdit, BootEdit.TheVariants.Install, Settings.Settings}
 use Rattle.adf_edit_cmd.specs.declared.stop.Stop.{Stop, TheVariants.Line, TheVariants.NoRoom}
 
 pub after_ok : (n : ℕ) (e : EditValue) (es : List EditValue) (given : List ℕ) (o p : OutlineValue) → edited e given o ≡ Ok p
@@ -98,14 +100,29 @@ len_over es i le = ap (λ fs. files_len (map edit_value fs)) (drop_all i es le)
 pub as_few : (es : List Edit) (most : ℕ) → length (map edit_value es) ≤ most → length es ≤ most
 as_few es most h = omega (arith, h, length-map es edit_value)
 
+first_byte : (image : List ℕ) (i : ℕ) → i < 4 → slice_index (block image 0) i ≡ slice_index image i
+unfolding block
+first_byte image i lt = get_or-take 512 image i 0 (omega (arith, lt))
+
+-- a volume begins with `DOS`
+volume_begins : {letters : Letters} (image : List ℕ) (t : Tree) (l : Layout) → FitsBy letters image t l → begins_with_dos image ≡ true
+volume_begins image t l fits =
+    let dos = fits.boots.1.0 in
+    let a : slice_index image 0 ≡ 0x44 = grind (arith, common_steps, and_parts, eqb-true, first_byte) in
+    let b : slice_index image 1 ≡ 0x4F = grind (arith, common_steps, and_parts, eqb-true, first_byte) in
+    let c : slice_index image 2 ≡ 0x53 = grind (arith, common_steps, and_parts, eqb-true, first_byte) in
+    rw (a, b, c) refl
+
 -- what is laid with other boot blocks is a volume of the tree
-pub laid_over : (t : Tree) (n : ℕ) (image old new : List ℕ) → IsBuildable t n → old ≡ volume t n
+pub laid_over : (boot : Option BootEdit) (t : Tree) (n : ℕ) (image old new : List ℕ) → IsBuildable t n → old ≡ volume t n
     → FitsBy t.letters old t (planned t n) → IsOtherBoot old new
-    → new ≡ restored old image → IsLaidOver t n image new
-laid_over t n image old new room is fits other put = record {
+    → new ≡ booted boot n image old → (begins_with_dos old ≡ true → boot ≡ Some Install → is_bootable new ≡ true)
+    → IsLaidOver boot t n image new
+laid_over boot t n image old new room is fits other put starts = record {
   room = room;
-  bytes = put ∙ ap (λ (v : List ℕ). restored v image) is;
+  bytes = put ∙ ap (λ (v : List ℕ). booted boot n image v) is;
   fits = other_fits_by old new other t (planned t n) fits;
+  starts = starts (volume_begins old t (planned t n) fits);
 }
 
 pub stops_on : (s : ScriptValue) (given image : List ℕ) (t : Tree) (n : ℕ) (stop : Stop) → IsVolume image t → n ≡ blocks image
@@ -113,10 +130,10 @@ pub stops_on : (s : ScriptValue) (given image : List ℕ) (t : Tree) (n : ℕ) (
 stops_on s given image t n stop fits is h = inr (t, fits, subst (λ k. StopsTree s given t k stop) is h)
 
 -- the tree after all edits has no room by the letters of the new volume
-pub room_stop : (es : List Edit) (asked : Option Letters) (given : List ℕ) (t : Tree) (n : ℕ) (o p : OutlineValue) (k : ℕ) (f : TreeFault)
+pub room_stop : (es : List Edit) (asked : Settings) (given : List ℕ) (t : Tree) (n : ℕ) (o p : OutlineValue) (k : ℕ) (f : TreeFault)
     → IsShallow t → o ≡ outline_of t → outline_after 1 (map edit_value es) given o ≡ Ok p → k ≡ length es
-    → IsTreeFaultBy (unwrap_or asked t.letters) p.additions f
-    → StopsTree (record { edits = map edit_value es; letters = asked }) given t n (NoRoom (k + 1) f)
+    → IsTreeFaultBy (unwrap_or asked.letters t.letters) p.additions f
+    → StopsTree (record { edits = map edit_value es; settings = asked }) given t n (NoRoom (k + 1) f)
 room_stop es asked given t n o p k f shallow is made lines h =
     let number : k + 1 ≡ length (map edit_value es) + 1 = ap (λ m. m + 1) (lines ∙ sym (length-map es edit_value)) in
     inr (shallow, inr (p, subst (λ (q : OutlineValue). outline_after 1 (map edit_value es) given q ≡ Ok p) is made, inl (number, h)))

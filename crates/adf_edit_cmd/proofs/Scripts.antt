@@ -1,12 +1,11 @@
 -- The lines of a script. left is what is left of a text, es are edits.
-use Rattle.std.proofs.Common.{◌≡◌, ◌<◌, ◌≤◌, ℕ, List, [], ◌∷◌, ◌++◌, Some, None, Ok, Err, length, map, ap, refl, sym, subst, arith, append-nil, append_assoc, Option}
+use Rattle.std.proofs.Common.{◌≡◌, ◌<◌, ◌≤◌, ℕ, List, [], ◌∷◌, ◌++◌, Some, None, Ok, Err, length, map, ap, refl, sym, subst, arith, append-nil, append_assoc}
 use Rattle.std.proofs.Common.{◌∙◌}
 use Rattle.std.proofs.lemmas.List.{length-map, map-append}
-use Rattle.adf_base.specs.declared.hash.Letters.{Letters}
 use Rattle.adf_edits.specs.{Edits.EditValue, Edits.edit_value, declared.edits.Edit.Edit}
 use Rattle.adf_plans.specs.PlanTexts.{before_byte, behind_line, first_line}
 use Rattle.adf_plans.proofs.TextLines.{shorter}
-use Rattle.adf_edit_cmd.specs.{Lines.SaysEdit, declared.script.TheConstants.MOST_LINES}
+use Rattle.adf_edit_cmd.specs.{Lines.SaysEdit, declared.script.Settings.Settings, declared.script.TheConstants.MOST_LINES}
 use Rattle.adf_edit_cmd.specs.Script.{AreEdits, IsNextRead, IsScript, IsScriptFault, ending}
 use Rattle.adf_edit_cmd.specs.declared.stop.Stop.{Stop, TheVariants.BadLine, TheVariants.NoMemory}
 
@@ -68,9 +67,9 @@ next_fault text left line old new (BadLine n) all is few on h =
 next_fault text left line old new NoMemory all is few on h = tt
 next_fault text left line old new _ all is few on h = absurd h
 
-pub script_read : (text left rest : List ℕ) (es : List Edit) (letters : Option Letters) → Continues text (map edit_value es) left
-    → length es ≤ MOST_LINES → ending left ≡ Some (letters, rest) → IsScript text (record { edits = map edit_value es; letters = letters }) rest
-script_read text left rest es letters all few ends =
+pub script_read : (text left rest : List ℕ) (es : List Edit) (settings : Settings) → Continues text (map edit_value es) left
+    → length es ≤ MOST_LINES → ending left ≡ Some (settings, rest) → IsScript text (record { edits = map edit_value es; settings = settings }) rest
+script_read text left rest es settings all few ends =
     let same : length (map edit_value es) ≡ length es = length-map es edit_value in
     record {
       end = left;

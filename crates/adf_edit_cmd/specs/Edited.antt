@@ -1,15 +1,17 @@
 -- What an image becomes by a script. s is the script, es are edits, `given` are the bytes behind it, t is a tree, n a number of blocks.
-use Rattle.std.specs.Prelude.{◌≡◌, ◌<◌, ◌-◌, ◌+◌, ◌⊎◌, ℕ, List, [], ◌∷◌, Some, None, Result, Ok, Err, false, length, true}
-use Rattle.adf_blocks.specs.Sizes.{blocks}
+use Rattle.std.specs.Prelude.{◌≡◌, ◌<◌, ◌-◌, ◌+◌, ◌⊎◌, ℕ, List, [], ◌∷◌, Option, Some, None, Result, Ok, Err, false, length, true}
+use Rattle.adf_blocks.specs.Sizes.{blocks, middle}
 use Rattle.adf_build.specs.{Building.IsBuildable, Building.need_of, Laid.volume, Plan.blocks_needed, Plan.planned}
 use Rattle.adf_base.specs.declared.hash.Letters.{Letters}
-use Rattle.adf_boot_blocks.specs.Writing.{restored}
+use Rattle.adf_boot_blocks.specs.{BootBlocks.is_bootable, Writing.cleared, Writing.installed, Writing.restored}
+use Rattle.adf_boot_blocks.specs.{declared.standard.TheConstants.STANDARD_CODE}
 use Rattle.adf_edits.specs.{Edits.EditValue, Edits.edited, Paths.has_deep, declared.edits.EditFault.EditFault}
 use Rattle.adf_edits.specs.{Outline.OutlineValue, Outline.outline_of, Outline.tree_of_outline_by, TreeFaults.IsTreeFaultBy}
 use Rattle.adf_tree.specs.{Additions.AllHaveRoomBy, Tree.Tree}
 use Rattle.adf_volume.specs.{Fits.FitsBy, Layout.Layout, Types.letters_for, Walk.FirstFaultBy, declared.types.Types.TheVariants.WithInternational}
 use Rattle.std.specs.Option.{unwrap_or}
 use Rattle.adf_edit_cmd.specs.{Script.IsScript, Script.IsScriptFault, Script.ScriptValue, Script.behind_file, Script.behind_files, Script.files_len}
+use Rattle.adf_edit_cmd.specs.declared.script.BootEdit.{BootEdit, TheVariants.Clear, TheVariants.Install}
 use Rattle.adf_edit_cmd.specs.declared.stop.Stop.{Stop}
 use Rattle.adf_edit_cmd.specs.declared.stop.Stop.TheVariants.{Short, Image, TooDeep, Line, NoRoom, Full, NoMemory}
 
@@ -51,14 +53,22 @@ IsDepthStop t _ = ⊥
 
 -- the letters of the new volume: those that the script asks for, or else those of the old one
 abbrev pub letters_after : ScriptValue → Tree → Letters
-letters_after s t = unwrap_or s.letters t.letters
+letters_after s t = unwrap_or s.settings.letters t.letters
 
--- the new image is that laid of the tree in n blocks, with the boot blocks of the old one behind the type: as they stand, but where that is
--- another, with a checksum that is right if theirs was. It is a volume of the tree by its letters
-pub record IsLaidOver (t : Tree) (n : ℕ) (image new : List ℕ) : Type 0 where
+-- a volume of n blocks with the boot blocks that a script asks for: the standard code or none, and else those of the old image behind the
+-- type, as they stand, but where that is another, with a checksum that is right if theirs was
+abbrev pub booted : Option BootEdit → ℕ → List ℕ → List ℕ → List ℕ
+booted None n image laid = restored laid image
+booted (Some Install) n image laid = installed laid (middle n) STANDARD_CODE
+booted (Some Clear) n image laid = cleared laid
+
+-- the new image is that laid of the tree in n blocks, with these boot blocks. It is a volume of the tree by its letters, and an Amiga
+-- starts from it if it has the standard code
+pub record IsLaidOver (boot : Option BootEdit) (t : Tree) (n : ℕ) (image new : List ℕ) : Type 0 where
   pub room : IsBuildable t n
-  pub bytes : new ≡ restored (volume t n) image
+  pub bytes : new ≡ booted boot n image (volume t n)
   pub fits : FitsBy t.letters new t (planned t n)
+  pub starts : boot ≡ Some Install → is_bootable new ≡ true
 
 -- why a tree is not laid
 abbrev pub IsFullStop : Tree → ℕ → Stop → Type 0
@@ -76,7 +86,7 @@ IsRoomStop letters s o _ = ⊥
 abbrev pub IsByTree : ScriptValue → List ℕ → Tree → ℕ → List ℕ → List ℕ → Type 0
 IsByTree s given t n image new =
     IsShallow t × (o : OutlineValue) × (outline_after 1 s.edits given (outline_of t) ≡ Ok o) × AllHaveRoomBy (letters_after s t) o.additions
-    × IsLaidOver (tree_of_outline_by (letters_after s t) o) n image new
+    × IsLaidOver s.settings.boot (tree_of_outline_by (letters_after s t) o) n image new
 
 -- why there is none: the depth of the tree, a line, the letters, or the tree after all edits
 abbrev pub StopsTree : ScriptValue → List ℕ → Tree → ℕ → Stop → Type 0

@@ -1,16 +1,17 @@
 -- Scripts. `left` is what is left of a text from a line on, es are edits.
 use Rattle.std.specs.Prelude.{◌≡◌, ◌≤◌, ◌⊎◌, ◌+◌, ℕ, Bool, List, [], ◌∷◌, ◌++◌, Option, Some, None, Result, Ok, Err, codes, drop, if◌then◌else◌, length, nat_lt}
-use Rattle.std.specs.{Prelude.option_map, Str.bytes_eq}
+use Rattle.std.specs.{Prelude.is_some, Prelude.option_and_then, Str.bytes_eq}
 use Rattle.adf_base.specs.declared.hash.Letters.{Letters, TheVariants.Ascii, TheVariants.International}
 use Rattle.adf_edits.specs.{Edits.EditValue, Edits.edit_value, Edits.file, Edits.replace, declared.edits.Edit.Edit}
 use Rattle.adf_plans.specs.PlanTexts.{behind_line, first_line}
-use Rattle.adf_edit_cmd.specs.{Lines.SaysEdit, declared.script.TheConstants.MOST_LINES}
+use Rattle.adf_edit_cmd.specs.{Lines.SaysEdit, declared.script.Settings.Settings, declared.script.TheConstants.MOST_LINES}
+use Rattle.adf_edit_cmd.specs.declared.script.BootEdit.{BootEdit, TheVariants.Clear, TheVariants.Install}
 use Rattle.adf_edit_cmd.specs.declared.stop.Stop.{Stop, TheVariants.BadLine, TheVariants.NoMemory}
 
--- a script: its edits, and the letters that it asks for
+-- a script: its edits, and what it sets of the whole volume
 pub record ScriptValue : Type 0 where
   pub edits : List EditValue
-  pub letters : Option Letters
+  pub settings : Settings
 
 -- the lines of these edits stand first, and `end` is left behind them
 unfoldable pub AreEdits : List ℕ → List EditValue → List ℕ → Type 0
@@ -27,19 +28,53 @@ letters_asked line =
     if bytes_eq line (codes "letters ascii") then Some Ascii
     else if bytes_eq line (codes "letters international") then Some International else None
 
--- what ends a script, where it is left: `end`, or a line that asks for letters and `end` behind it. Its letters, and the bytes behind
-abbrev pub ending : List ℕ → Option (Option Letters × List ℕ)
+-- what a line asks for the boot blocks
+abbrev pub boot_asked : List ℕ → Option BootEdit
+boot_asked line =
+    if bytes_eq line (codes "boot install") then Some Install else if bytes_eq line (codes "boot clear") then Some Clear else None
+
+-- settings with these letters, or this for the boot blocks, unless a line before set them
+abbrev pub with_letters : Settings → Letters → Option Settings
+with_letters s letters = if is_some s.letters then None else Some (record { letters = Some letters; boot = s.boot })
+
+abbrev pub with_boot_edit : Settings → BootEdit → Option Settings
+with_boot_edit s boot = if is_some s.boot then None else Some (record { letters = s.letters; boot = Some boot })
+
+-- settings and what a line asks for: letters, or something for the boot blocks
+abbrev pub with_asked : Settings → Option Letters → Option BootEdit → Option Settings
+with_asked s (Some letters) boot = with_letters s letters
+with_asked s None (Some boot) = with_boot_edit s boot
+with_asked s None None = None
+
+abbrev pub with_line_of : Settings → List ℕ → Option Settings
+with_line_of s line = with_asked s (letters_asked line) (boot_asked line)
+
+-- nothing is set
+abbrev pub no_settings : Settings
+no_settings = record { letters = None; boot = None }
+
+-- these settings and the bytes behind, where `end` is left
+abbrev pub ended : Settings → List ℕ → Option (Settings × List ℕ)
+ended s left = if is_end (first_line left) then Some (s, behind_line left) else None
+
+-- the same, where one line before `end` may set more
+abbrev pub ended_next : Settings → List ℕ → Option (Settings × List ℕ)
+ended_next s left =
+    if is_end (first_line left) then Some (s, behind_line left)
+    else option_and_then (λ more. ended more (behind_line left)) (with_line_of s (first_line left))
+
+-- what ends a script, where it is left: `end`, before which a line or two may set the letters and the boot blocks
+abbrev pub ending : List ℕ → Option (Settings × List ℕ)
 ending left =
-    let next = behind_line left in
-    if is_end (first_line left) then Some (None, next) else if is_end (first_line next)
-    then option_map (λ letters. (Some letters, behind_line next)) (letters_asked (first_line left)) else None
+    if is_end (first_line left) then Some (no_settings, behind_line left)
+    else option_and_then (λ s. ended_next s (behind_line left)) (with_line_of no_settings (first_line left))
 
 -- a text begins with a script, and these bytes are behind its line `end`
 pub record IsScript (text : List ℕ) (s : ScriptValue) (rest : List ℕ) : Type 0 where
   pub end : List ℕ
   pub edits : AreEdits text s.edits end
   pub few : length s.edits ≤ MOST_LINES
-  pub ends : ending end ≡ Some (s.letters, rest)
+  pub ends : ending end ≡ Some (s.settings, rest)
 
 -- a line behind so many says no edit, or is one too many
 abbrev pub IsNoEdit : ℕ → List ℕ → Type 0

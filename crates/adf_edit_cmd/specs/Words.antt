@@ -19,6 +19,7 @@ may_lead word = not (has_byte 10 word) && not (has_byte 58 word)
 abbrev pub takes_one : List ℕ → Bool
 takes_one verb =
     bytes_eq verb (codes "remove") || bytes_eq verb (codes "dir") || bytes_eq verb (codes "label") || bytes_eq verb (codes "letters")
+    || bytes_eq verb (codes "boot")
 
 abbrev pub takes_two : List ℕ → Bool
 takes_two verb =

@@ -1,16 +1,19 @@
 // An image by a script.
 
-ghost use Rattle.std.specs.Prelude.{◌≡◌, ◌≢◌, ◌≤◌, ◌*◌, IfOk, IfErr, OnOk, Ok, Err, length, map, true};
+ghost use Rattle.std.specs.Prelude.{◌≡◌, ◌≢◌, ◌≤◌, ◌*◌, IfOk, IfErr, OnOk, Ok, Err, Some, length, map, true};
 ghost use Rattle.adf_blocks.specs.Sizes.{blocks, is_allowed};
+ghost use Rattle.adf_boot_blocks.specs.{BootBlocks.IsOtherBoot, BootBlocks.begins_with_dos, BootBlocks.is_bootable};
+ghost use Rattle.adf_boot_blocks.specs.declared.boot.TheConstants.{BOOT_LEN};
 ghost use Rattle.adf_edits.specs.{Edits.edit_value, Edits.edited, Outline.outline_of};
 ghost use Rattle.adf_tree.specs.Tree.{Tree as TreeValue};
 ghost use Rattle.adf_edit_cmd.specs.Edited.{IsByScript, IsByTree, IsDepthStop, IsEdited, IsFullStop, IsImageFault, IsLaidOver};
-ghost use Rattle.adf_edit_cmd.specs.Edited.{IsLineStop, IsShallow, IsVolume, StopsInput, StopsOn, StopsTree, outline_after};
+ghost use Rattle.adf_edit_cmd.specs.Edited.{IsLineStop, IsShallow, IsVolume, StopsInput, StopsOn, StopsTree, booted, outline_after};
+ghost use Rattle.adf_edit_cmd.specs.declared.script.BootEdit.TheVariants.{Install};
 
-use crate::script::{Script, behind_file, behind_files, files_len, read_script};
+use crate::script::{BootEdit, Script, behind_file, behind_files, files_len, read_script};
 use crate::stop::Stop;
 use adf_blocks::Cause;
-use adf_boot_blocks::restore;
+use adf_boot_blocks::{STANDARD_CODE, clear, install, restore};
 use adf_build::{BuildFault, build_types};
 use adf_check::{Checked, check_by};
 use adf_edits::{Edit, EditFault, Outline, OutlineFault, TreeFault};
@@ -89,16 +92,37 @@ fn edit_all(
     Ok(outline)
 }
 
-// Lays a tree in so many blocks, with the boot blocks of an image behind the type.
-fn lay(alloc: Global, tree: &Tree, blocks: u32, image: &[u8]) -> Result<Vec<u8>, Stop>
+// Writes the boot blocks of a volume of so many blocks: those that are asked for, or else those of the old image behind the type.
+fn put_boot(volume: &mut [u8], boot: Option<BootEdit>, blocks: u32, image: &[u8])
+    requires whole { BOOT_LEN ≤ length volume.old }
+    requires boot { BOOT_LEN ≤ length image.now }
+    ensures exact { volume.new ≡ booted boot blocks image.now volume.old }
+    ensures starts { begins_with_dos volume.old ≡ true → boot ≡ Some Install → is_bootable volume.new ≡ true }
+    ensures other { IsOtherBoot volume.old volume.new }
+{
+    match boot {
+        None => restore(volume, image),
+        Some(BootEdit::Install) => install(volume, blocks / 2, &STANDARD_CODE),
+        Some(BootEdit::Clear) => clear(volume),
+    }
+}
+
+// Lays a tree in so many blocks, with the boot blocks that are asked for, or else those of an image behind the type.
+fn lay(
+    alloc: Global,
+    tree: &Tree,
+    blocks: u32,
+    image: &[u8],
+    boot: Option<BootEdit>,
+) -> Result<Vec<u8>, Stop>
     requires allowed { is_allowed blocks ≡ true }
-    requires boot { 1024 ≤ length image.now }
-    ensures laid { IfOk result (λ new. IsLaidOver tree.now blocks image.now new.items) }
+    requires boot { BOOT_LEN ≤ length image.now }
+    ensures laid { IfOk result (λ new. IsLaidOver boot tree.now blocks image.now new.items) }
     ensures full { IfErr result (IsFullStop tree.now blocks) }
 {
     match build_types(alloc, Types::WithInternational, tree, blocks) {
         Ok(mut new) => {
-            restore(&mut new, image);
+            put_boot(&mut new, boot, blocks, image);
             Ok(new)
         }
         Err(BuildFault::BadSize) => unreachable!(),
@@ -130,16 +154,17 @@ fn by_tree(
     blocks: u32,
 ) -> Result<Vec<u8>, Stop>
     requires allowed { is_allowed blocks ≡ true }
-    requires boot { 1024 ≤ length image.now }
+    requires boot { BOOT_LEN ≤ length image.now }
     ensures ok { IfOk result (λ new. IsByTree script given.now tree.now blocks image.now new.items) }
     ensures stop { IfErr result (StopsTree script given.now tree.now blocks) }
 {
     let line = script.edits.len() + 1;
-    let letters = script.letters.unwrap_or(tree.letters());
+    let settings = script.settings;
+    let letters = settings.letters.unwrap_or(tree.letters());
     let outline = outline_of(alloc, tree)?;
     let outline = edit_all(alloc, outline, script.edits, given)?;
     match outline.finish_by(alloc, letters) {
-        Ok(tree) => lay(alloc, &tree, blocks, image),
+        Ok(tree) => lay(alloc, &tree, blocks, image, settings.boot),
         Err(TreeFault::NoMemory) => Err(Stop::NoMemory),
         Err(fault) => Err(Stop::NoRoom(line, fault)),
     }
@@ -160,7 +185,7 @@ fn by_script(alloc: Global, script: Script, given: &[u8], image: &[u8]) -> Resul
 
 /// The image that a script makes of another. The input is the script, behind it the bytes of its files in their order, and behind
 /// them the image. Why there is none: the first line that is none; else files that end early; else the first fault of the image;
-/// else an entry that is too deep; else the first line that cannot be applied, which may be the one that asks for letters, where
+/// else an entry that is too deep; else the first line that cannot be applied, which may be the one behind the edits, where
 /// names of one directory are one by them; else a tree that does not fit.
 pub fn new_image(alloc: Global, input: &[u8]) -> Result<Vec<u8>, Stop>
     ensures image { IfOk result (λ new. IsEdited input.now new.items) }

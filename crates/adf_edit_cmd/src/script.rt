@@ -1,9 +1,10 @@
-// Scripts: lines of edits, perhaps one that asks for letters, and a line `end`. Each ends in a line feed.
+// Scripts: lines of edits, perhaps one or two that set something of the whole volume, and a line `end`. Each ends in a line feed.
 
-ghost use Rattle.std.specs.Prelude.{◌≡◌, ◌<◌, ◌≤◌, ◌^◌, IfOk, IfErr, IfSome, IfNone, None, Some, length, map};
+ghost use Rattle.std.specs.Prelude.{◌≡◌, ◌<◌, ◌≤◌, ◌^◌, IfOk, IfErr, IfSome, IfNone, None, Some, length, map, option_map};
 ghost use Rattle.adf_edits.specs.Edits.{edit_value};
 ghost use Rattle.adf_edit_cmd.specs.Script.{IsNextRead, IsScript, IsScriptFault, behind_file, behind_files, ending, files_len, is_end};
-ghost use Rattle.adf_edit_cmd.specs.{Script.letters_asked, Script.bytes_taken, declared.script.TheConstants.MOST_LINES};
+ghost use Rattle.adf_edit_cmd.specs.Script.{boot_asked, bytes_taken, ended, ended_next, letters_asked, with_boot_edit, with_letters, with_line_of};
+ghost use Rattle.adf_edit_cmd.specs.declared.script.TheConstants.{MOST_LINES};
 
 use crate::lines::read_edit;
 use crate::stop::Stop;
@@ -17,11 +18,33 @@ use std::marker::Model;
 /// The most edits of a script, each a line.
 pub const MOST_LINES: usize = 1000;
 
-/// A script: its edits, and the letters that it asks for.
+/// What is done with the boot blocks.
+#[derive(Clone, Copy, Debug, PartialEq, Eq)]
+pub enum BootEdit {
+    /// They get the code that starts AmigaDOS.
+    Install,
+    /// They get zeros behind the type.
+    Clear,
+}
+
+/// What a script sets of the whole volume: the letters of its names, and its boot blocks.
+#[derive(Clone, Copy, Debug, PartialEq, Eq)]
+pub struct Settings {
+    pub letters: Option<Letters>,
+    pub boot: Option<BootEdit>,
+}
+
+// Nothing is set.
+const NO_SETTINGS: Settings = Settings {
+    letters: None,
+    boot: None,
+};
+
+/// A script: its edits, and what it sets of the whole volume.
 #[derive(Drop)]
 pub struct Script {
     pub edits: Vec<Edit>,
-    pub letters: Option<Letters>,
+    pub settings: Settings,
 }
 
 impl Model for Script {
@@ -31,7 +54,7 @@ impl Model for Script {
 
     ghost Value = { ScriptValue };
 
-    ghost view = { λ s. record { edits = map edit_value s.edits.items; letters = s.letters } };
+    ghost view = { λ s. record { edits = map edit_value s.edits.items; settings = s.settings } };
 }
 
 // Whether a line is `end`.
@@ -54,21 +77,90 @@ fn letters_asked(line: &[u8]) -> Option<Letters>
     }
 }
 
-// The letters that the end of a script asks for, if any, and the bytes behind it; `None` if it is not next.
-fn ending(left: &[u8]) -> Option<(Option<Letters>, &[u8])>
-    ensures some { IfSome result (λ r. ending left.now ≡ Some (r.0, r.1.now)) }
-    ensures none { IfNone result (ending left.now ≡ None) }
+// What a line asks for the boot blocks.
+fn boot_asked(line: &[u8]) -> Option<BootEdit>
+    ensures { result ≡ boot_asked line.now }
+{
+    if line == b"boot install".as_slice() {
+        Some(BootEdit::Install)
+    } else if line == b"boot clear".as_slice() {
+        Some(BootEdit::Clear)
+    } else {
+        None
+    }
+}
+
+impl Settings {
+    // These letters too, unless a line before set them.
+    fn with_letters(self, letters: Letters) -> Option<Settings>
+        ensures { result ≡ with_letters self letters }
+    {
+        if self.letters.is_some() {
+            return None;
+        }
+        Some(Settings {
+            letters: Some(letters),
+            boot: self.boot,
+        })
+    }
+
+    // This for the boot blocks too, unless a line before set them.
+    fn with_boot(self, boot: BootEdit) -> Option<Settings>
+        ensures { result ≡ with_boot_edit self boot }
+    {
+        if self.boot.is_some() {
+            return None;
+        }
+        Some(Settings {
+            letters: self.letters,
+            boot: Some(boot),
+        })
+    }
+
+    // What a line sets too; `None` if it sets nothing, or what a line before set.
+    fn with_line(self, line: &[u8]) -> Option<Settings>
+        ensures { result ≡ with_line_of self line.now }
+    {
+        match (letters_asked(line), boot_asked(line)) {
+            (Some(letters), _) => self.with_letters(letters),
+            (None, Some(boot)) => self.with_boot(boot),
+            (None, None) => None,
+        }
+    }
+
+    // These settings and the bytes behind, where `end` is left.
+    fn ended(self, left: &[u8]) -> Option<(Settings, &[u8])>
+        ensures { ended self left.now ≡ option_map (λ r. (r.0, r.1.now)) result }
+    {
+        let (line, next) = cut_line(left);
+        if is_end(line) {
+            Some((self, next))
+        } else {
+            None
+        }
+    }
+
+    // The same, where one line before `end` may set more.
+    fn ended_next(self, left: &[u8]) -> Option<(Settings, &[u8])>
+        ensures { ended_next self left.now ≡ option_map (λ r. (r.0, r.1.now)) result }
+    {
+        let (line, next) = cut_line(left);
+        if is_end(line) {
+            return Some((self, next));
+        }
+        self.with_line(line)?.ended(next)
+    }
+}
+
+// What the end of a script sets, and the bytes behind it; `None` if it is not next.
+fn ending(left: &[u8]) -> Option<(Settings, &[u8])>
+    ensures { ending left.now ≡ option_map (λ r. (r.0, r.1.now)) result }
 {
     let (line, next) = cut_line(left);
     if is_end(line) {
-        return Some((None, next));
+        return Some((NO_SETTINGS, next));
     }
-    let (last, rest) = cut_line(next);
-    if !is_end(last) {
-        return None;
-    }
-    let letters = letters_asked(line)?;
-    Some((Some(letters), rest))
+    NO_SETTINGS.with_line(line)?.ended_next(next)
 }
 
 // Reads the next line as an edit, if the lines before it are not too many.
@@ -100,8 +192,8 @@ pub fn read_script(alloc: Global, text: &[u8]) -> Result<(Script, &[u8]), Stop>
     let mut edits = Vec::new(alloc);
     let mut left = text;
     loop {
-        if let Some((letters, rest)) = ending(left) {
-            return Ok((Script { edits, letters }, rest));
+        if let Some((settings, rest)) = ending(left) {
+            return Ok((Script { edits, settings }, rest));
         }
         let (line, rest) = cut_line(left);
         read_next(alloc, &mut edits, line)?;

@@ -59,7 +59,7 @@ fn may_lead(word: &str) -> bool
 fn takes_one(verb: &str) -> bool
     ensures { result ≡ takes_one verb.now }
 {
-    verb == "remove" || verb == "dir" || verb == "label" || verb == "letters"
+    verb == "remove" || verb == "dir" || verb == "label" || verb == "letters" || verb == "boot"
 }
 
 // Whether a verb has a path and a value behind it.

@@ -11,7 +11,7 @@ returns-in-Err c =
     c.in-Err.ensures.fault (search rules) in
     rw (← c.script.view_is) (record {
       ok = tt;
-      stop = room_stop c.script.inside.edits.items c.script.inside.letters c.args.given.now c.args.tree.now c.args.blocks
+      stop = room_stop c.script.inside.edits.items c.script.inside.settings c.args.given.now c.args.tree.now c.args.blocks
           c.in_ok-outline.outline c.in_ok-outline-2.outline c.len-line.result c.in-Err.fault c.in_ok-outline.ensures.shallow
           c.in_ok-outline.ensures.outline c.in_ok-outline-2.ensures.ok lines (rw (c.unwrap_or-letters.ensures, c.letters.ensures) at no_room);
     })

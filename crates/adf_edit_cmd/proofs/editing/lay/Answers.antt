@@ -4,9 +4,10 @@ use Rattle.adf_edit_cmd.proofs.editing.lay.Goals as goal
 
 pub returns-in-Ok-clause-laid : goal.returns-in-Ok-clause-laid
 returns-in-Ok-clause-laid c =
-    let other = rw c.deref_mut.ensures.value at c.restore.ensures.other in
-    let put = rw (c.deref_mut.ensures.value) at c.restore.ensures.exact in
-    let long : c.in-Ok.new.len ≡ length c.restore.new.image = omega (arith, other.long, c.deref_mut.ensures.len) in
-    rw (whole_block c.in-Ok.new.len c.restore.new.image (drop (length c.restore.new.image) c.in-Ok.new.items) long)
-    (laid_over c.args.tree.now c.args.blocks c.args.image.now c.in-Ok.new.items c.restore.new.image c.in-Ok.ensures.room c.in-Ok.ensures.bytes
-    c.in-Ok.ensures.fits other put)
+    let other = rw c.deref_mut.ensures.value at c.put_boot.ensures.other in
+    let put = rw (c.deref_mut.ensures.value) at c.put_boot.ensures.exact in
+    let starts = rw (c.deref_mut.ensures.value) at c.put_boot.ensures.starts in
+    let long : c.in-Ok.new.len ≡ length c.put_boot.new.volume = omega (arith, other.long, c.deref_mut.ensures.len) in
+    rw (whole_block c.in-Ok.new.len c.put_boot.new.volume (drop (length c.put_boot.new.volume) c.in-Ok.new.items) long)
+    (laid_over c.args.boot c.args.tree.now c.args.blocks c.args.image.now c.in-Ok.new.items c.put_boot.new.volume c.in-Ok.ensures.room c.in-Ok.ensures.bytes
+    c.in-Ok.ensures.fits other put starts)
