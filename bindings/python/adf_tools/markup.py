@@ -17,6 +17,9 @@ class Html(str):
     __slots__ = ()
 
 
+PLAIN = {Html, int}  # types of values that stand in a page as they are
+
+
 def escape_of(found: re.Match[str]) -> str:
     """What stands for a letter that a page does not have as it is."""
     return ESCAPED.get(found[0]) or f"\\x{ord(found[0]):02x}"
@@ -34,7 +37,7 @@ def html(template: str, **values: object) -> Html:
     """A template, which stands in a program, with these values in the place of their names in braces, escaped. In a tag they stand in
     quotes."""
     for name, value in values.items():
-        if type(value) is not Html:
+        if type(value) not in PLAIN:
             values[name] = escaped(value)
     return Html(template.format_map(values))
 
