@@ -136,7 +136,8 @@ def read_of(part: sqlite3.Connection, file: sqlite3.Row) -> Read:
     """What a part keeps of a file, as a reader gives it."""
     found = [file[name] for name in Sums._fields]
     passed = dict(part.execute("SELECT kind, count FROM passed WHERE file = ?", (file["id"],)).fetchall())
-    return Read(records_of(part, file["id"]), Sums(*found) if file["sha256"] else None, passed)
+    records = records_of(part, file["id"])
+    return Read(records, Sums(*found) if file["sha256"] else None, passed, sum(record.weight for record in records))
 
 
 def records_of(part: sqlite3.Connection, file: int) -> List[Record]:
@@ -226,7 +227,7 @@ class Merge:
                 with told(part.path):
                     read = read_of(part.connection, row)
                 found.append((known[path][0] if path in known else None, store.Kept(path, stamp_of(row), read)))
-                weight += sum(record.weight for record in read.records)
+                weight += read.weight
                 if weight > WEIGHT:
                     store.put(self.connection, found, self.run)
                     found, weight = [], 0

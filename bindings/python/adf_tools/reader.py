@@ -7,7 +7,7 @@ import os
 import re
 import sys
 from collections import Counter
-from typing import Dict, Iterator, List, NamedTuple, Optional
+from typing import Dict, Iterator, List, NamedTuple, Optional, Tuple
 
 import adf
 from adf_tools.archives import foreign
@@ -25,12 +25,13 @@ IMAGE_COPIES = 6  # how often a process has an image in memory
 
 
 class Read(NamedTuple):
-    """What is kept of a file: of each image in it; the file's checksums, if it could be read; and how many files of each kind it has that
-    are no images."""
+    """What is kept of a file: of each image in it; the file's checksums, if it could be read; how many files of each kind it has that are no
+    images; and how many letters that is, roughly."""
 
     records: List[Record]
     sums: Optional[Sums]
     passed: Dict[str, int]
+    weight: int = 0
 
 
 def page_name(name: bytes, number: int) -> str:
@@ -96,13 +97,13 @@ class Reader:
 
     def __call__(self, path: bytes) -> Read:
         """What is kept of a file."""
-        records = self.records_in(path)
+        records, weight = self.records_in(path)
         is_packed = path.lower().endswith(ARCHIVES)
         passed = kinds_passed(path, bool(records)) if is_packed else Counter()
-        return Read(records, file_sums(path, self.wanted.all_sums) if is_packed else own_sums(records), most_common(passed))
+        return Read(records, file_sums(path, self.wanted.all_sums) if is_packed else own_sums(records), most_common(passed), weight)
 
-    def records_in(self, path: bytes) -> list[Record]:
-        """What is kept of the images in a file; of a hard disk its volumes follow it."""
+    def records_in(self, path: bytes) -> Tuple[List[Record], int]:
+        """What is kept of the images in a file, and how many letters that is; of a hard disk its volumes follow it."""
         records: list[Record] = []
         name, weight = os.path.relpath(path, self.folder), 0
         for image in images_in(path, name):
@@ -112,7 +113,7 @@ class Reader:
             found = self.all_of(image)
             weight += sum(one.weight for one in found)
             records += found
-        return records
+        return records, weight
 
     def all_of(self, image: Image) -> list[Record]:
         """What is kept of one image. What goes wrong with it costs no other image."""

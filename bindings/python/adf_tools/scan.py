@@ -176,7 +176,7 @@ class Scan:
         with contextlib.closing(progress), contextlib.closing(answers):
             for file, read in zip(files, answers):
                 batch.append((file, read))
-                weight += sum(record.weight for record in read.records)
+                weight += read.weight
                 progress.step()
                 if len(batch) >= FILES or weight > WEIGHT or time.monotonic() - begun > SECONDS:
                     yield batch

@@ -76,7 +76,7 @@ class Known(Asked):
         told = "it was written with --sha256-only, and has no other checksums"
         for digits in ("0" * 8, "0" * 32, "0" * 40):
             self.refused(3, told, "catalogue", "find", "--sum", digits, "out")
-        self.assertEqual(len(self.find("--sum", self.sum, "out")), 2)
+        self.assertEqual(len(self.find("--sum", self.sum, "out")), 3)
         self.catalogue("disks", "out", status=1)
         self.assertEqual(self.asked("out", "SELECT read FROM runs ORDER BY id"), [(5,), (0,)])
         self.assertEqual(self.run_tool("catalogue", "verify", "out").returncode, 0)
