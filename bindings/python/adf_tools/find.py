@@ -58,11 +58,15 @@ def by_deleted(connection: sqlite3.Connection, words: Sequence[str]) -> Iterator
     yield from connection.execute(BY_DELETED, (query_of(words),))
 
 
-def by_sum(connection: sqlite3.Connection, digits: str, out: str) -> Iterator[sqlite3.Row]:
+def accept_sum(connection: sqlite3.Connection, digits: str, out: str) -> None:
+    """A catalogue has checksums of this kind."""
+    if SUM_COLUMNS[len(digits)] != "sha256" and connection.execute("SELECT 1 FROM facts WHERE name = 'sums'").fetchone():
+        stop(FAILED, f"{host_text(out)}: it was written with --sha256-only, and has no other checksums")
+
+
+def by_sum(connection: sqlite3.Connection, digits: str) -> Iterator[sqlite3.Row]:
     """The images with this checksum, and the files, if it is a SHA-256."""
     column = SUM_COLUMNS[len(digits)]
-    if column != "sha256" and connection.execute("SELECT 1 FROM facts WHERE name = 'sums'").fetchone():
-        stop(FAILED, f"{host_text(out)}: it was written with --sha256-only, and has no other checksums")
     yield from connection.execute(f"SELECT {OF_IMAGE} FROM images WHERE {column} = ? ORDER BY name, number", (digits,))
     if column == "sha256":
         yield from connection.execute(BY_FILE_SUM, (digits,))
@@ -104,7 +108,8 @@ def work(words: argparse.Namespace) -> int:
     count = 0
     with database.asked(os.path.join(words.out, database.NAME)) as connection:
         if words.sum:
-            rows = by_sum(connection, words.sum, words.out)
+            accept_sum(connection, words.sum, words.out)
+            rows = by_sum(connection, words.sum)
         elif words.text:
             rows = by_text(connection, words.words, words.out)
         elif words.deleted:
