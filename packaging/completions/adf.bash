@@ -67,7 +67,7 @@ _adf_files() {
             return
             ;;
         adf-catalogue:scan:-*)
-            COMPREPLY=($(compgen -W "--index-text --fresh --names -h --help --version" -- "$2"))
+            COMPREPLY=($(compgen -W "--index-text --sha256-only --fresh --names -h --help --version" -- "$2"))
             return
             ;;
         adf-catalogue:merge:-*)
@@ -85,7 +85,7 @@ _adf_files() {
             ;;
         adf-merge:-*) COMPREPLY=($(compgen -W "--help --version" -- "$2")) ;;
         adf-shelf:-*) COMPREPLY=($(compgen -W "--null --any-type --json --help --version" -- "$2")) ;;
-        adf-catalogue:-*) COMPREPLY=($(compgen -W "--tsv --rescue --fresh --escape --index-text --dat -h --help --version" -- "$2")) ;;
+        adf-catalogue:-*) COMPREPLY=($(compgen -W "--tsv --rescue --fresh --escape --index-text --dat --sha256-only -h --help --version" -- "$2")) ;;
         adf-pack:-*)
             COMPREPLY=($(compgen -W "--image --edits --size --bootable --boot --label --date --altered --created --no-uaem --escape -h --help --version" -- "$2"))
             ;;

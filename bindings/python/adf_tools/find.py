@@ -58,6 +58,12 @@ def by_deleted(connection: sqlite3.Connection, words: Sequence[str]) -> Iterator
     yield from connection.execute(BY_DELETED, (query_of(words),))
 
 
+def accept_sum(connection: sqlite3.Connection, digits: str, out: str) -> None:
+    """A catalogue has checksums of this kind."""
+    if SUM_COLUMNS[len(digits)] != "sha256" and connection.execute("SELECT 1 FROM facts WHERE name = 'sums'").fetchone():
+        stop(FAILED, f"{host_text(out)}: it was written with --sha256-only, and has no other checksums")
+
+
 def by_sum(connection: sqlite3.Connection, digits: str) -> Iterator[sqlite3.Row]:
     """The images with this checksum, and the files, if it is a SHA-256."""
     column = SUM_COLUMNS[len(digits)]
@@ -102,6 +108,7 @@ def work(words: argparse.Namespace) -> int:
     count = 0
     with database.asked(os.path.join(words.out, database.NAME)) as connection:
         if words.sum:
+            accept_sum(connection, words.sum, words.out)
             rows = by_sum(connection, words.sum)
         elif words.text:
             rows = by_text(connection, words.words, words.out)

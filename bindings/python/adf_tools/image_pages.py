@@ -25,9 +25,13 @@ DELETED_HEADS = ("State", "Path", "Kind", "Size", "-Date", "-Block")
 FINDING_HEADS = ("Blocks", "Cause", "Path", "Owned by")
 PARTITION_HEADS = ("Partition", "Verdict", "Kind", "First block", "Blocks", "-Flags", "-Priority", "Label")
 ADVICE = {group.name: group for group in GROUPS}
-ENTRIES = """SELECT entries.*, holders.images FROM entries LEFT JOIN holders ON holders.sha256 = entries.sha256
-WHERE image = :image ORDER BY entries.id"""
+ENTRIES = """SELECT state, path, kind, size, protection, date, header, comment, entries.sha256, holders.images
+FROM entries LEFT JOIN holders ON holders.sha256 = entries.sha256 WHERE image = :image ORDER BY entries.id"""
+COLUMNS = '<td class="text">{path}</td>{kind}<td class="number">{size}</td>{protection}{date}'  # of an entry, found in a volume or in a refused image
+ENTRY_ROW = COLUMNS + '<td class="number wide">{header}</td>{comment}<td class="text">{also}</td>'
+FOUND_ROW = '<td class="nowrap">{mark}</td>' + COLUMNS + '{comment}<td class="text">{also}</td>'
 ALSO, LONGEST_KEPT = 3, 4096  # other images that a page links to; letters of the row of them, if its links are kept for other pages
+NOTHING = html("")
 BOOTS = {
     "bootable": "bootable", "no-code": "not bootable, without code", "bad-sum": "not bootable, their checksum is wrong",
     "not-dos": "not bootable, they do not begin with DOS",
@@ -55,29 +59,22 @@ def pairs_of(text: object) -> List[Tuple[str, str]]:
         return []
 
 
-def linked(text: object) -> List[Tuple[str, Html]]:
-    """The pages that a row of `holders` has, each with the link to it; an empty one, if a page cannot have that name."""
-    return [(page_, link(os.path.basename(page_), name) if is_page(page_) else html("")) for name, page_ in pairs_of(text)]
+def links_of(found: str, own: str, sum_: Optional[str]) -> Html:
+    """Links to the pages that a row of `holders` has but its own one, and to all images that hold the sum, if there are more."""
+    pairs = pairs_of(found)
+    links = [link(os.path.basename(page_), name) for name, page_ in pairs if is_page(page_) and page_ != own]
+    every = [link(INDEX, "all", f"find={sum_}")] if len(pairs) > ALSO else []
+    return joined(links[:ALSO] + every, ", ")
 
 
-@functools.lru_cache(maxsize=4096)
-def linked_often(text: str) -> List[Tuple[str, Html]]:
-    """The same, kept: what many images hold is on the page of each."""
-    return linked(text)
+links_kept = functools.lru_cache(maxsize=4096, typed=True)(links_of)  # what many images hold is on the page of each
 
 
 def others(found: Optional[str], own: str, sum_: Optional[str]) -> Html:
     """Links to other images that hold the same bytes, and to all of them, if there are more."""
-    pairs = [] if not found else linked_often(found) if len(found) < LONGEST_KEPT else linked(found)
-    links = [link_ for page_, link_ in pairs if link_ and page_ != own]
-    every = [link_to_all(sum_)] if len(pairs) > ALSO else []
-    return joined(links[:ALSO] + every, ", ")
-
-
-@functools.lru_cache(maxsize=4096, typed=True)
-def link_to_all(sum_: Optional[str]) -> Html:
-    """The link to all images that hold a sum, which is kept: it is on the page of each."""
-    return link(INDEX, "all", f"find={sum_}")
+    if not found:
+        return NOTHING
+    return links_of(found, own, sum_) if own in found or len(found) > LONGEST_KEPT else links_kept(found, "", sum_)
 
 
 def code(text: object) -> Html:
@@ -103,7 +100,7 @@ class ImagePage:
     """The page of one image, whose rows are asked of the database."""
 
     def __init__(self, connection: sqlite3.Connection, image: Row) -> None:
-        self.connection, self.image = connection, image
+        self.connection, self.image, self.name = connection, image, image["page"]
 
     def rows(self, line: str) -> Iterator[Row]:
         return iter(self.connection.execute(line, {"image": self.image["id"]}))
@@ -111,9 +108,10 @@ class ImagePage:
     def page(self) -> Html:
         """The whole page."""
         image, above = self.image, link(INDEX, "All images")
-        disk = self.connection.execute("SELECT name, page FROM images WHERE id = ?", (image["disk"],)).fetchone()
-        if disk is not None and is_page(disk["page"]):
-            above = html("{above}, the whole disk: {disk}", above=above, disk=link(os.path.basename(disk["page"]), disk["name"]))
+        if image["disk"] is not None:
+            disk = self.connection.execute("SELECT name, page FROM images WHERE id = ?", (image["disk"],)).fetchone()
+            if disk is not None and is_page(disk["page"]):
+                above = html("{above}, the whole disk: {disk}", above=above, disk=link(os.path.basename(disk["page"]), disk["name"]))
         if image["kind"] == "disk":
             body = self.disk_body()
         else:
@@ -125,7 +123,7 @@ class ImagePage:
     def same(self, column: str) -> Html:
         """Links to images with the same sum in this column."""
         found = self.connection.execute("SELECT images FROM holders WHERE sha256 = ?", (self.image[column],)).fetchone()
-        return others(found[0], self.image["page"], self.image[column]) if found else html("")
+        return others(found[0], self.name, self.image[column]) if found else NOTHING
 
     def sum_facts(self) -> List[Tuple[str, object]]:
         """The length, the checksums, and which images are the same."""
@@ -137,7 +135,8 @@ class ImagePage:
         pairs += self.file_facts()
         if image["boot_crc32"]:
             pairs.append(("Boot blocks", self.boot_text()))
-        pairs += ((head, self.same(column)) for head, column in (("The same bytes", "sha256"), ("The same files", "tree")) if self.same(column))
+        same = [(head, self.same(column)) for head, column in (("The same bytes", "sha256"), ("The same files", "tree"))]
+        pairs += [(head, links) for head, links in same if links]
         if image["known"]:
             pairs.append(("Published lists", self.known_text()))
         if image["unlisted"]:
@@ -263,20 +262,17 @@ class ImagePage:
 
     # Parts
 
-    def columns(self, row: Row) -> List[Html]:
-        """What each entry has, found in a volume or in a refused image: path, kind, size, protection and date."""
-        size = row["size"] if row["kind"] == "file" else ""
-        return [cell(shown(row["path"]), "text"), text_cell(row["kind"]), cell(size, "number"), protection_cell(row["protection"]),
-                text_cell(row["date"], "nowrap wide")]  # fmt: skip
-
-    def entry_row(self, row: Row) -> Html:
-        also = others(row["images"], self.image["page"], row["sha256"])
-        return joined((*self.columns(row), cell(row["header"], "number wide"), text_cell(row["comment"], "text wide"), cell(also, "text")))
+    def entry_row(self, row: Row, template: str = ENTRY_ROW) -> Html:
+        """The line of an entry, found in a volume or in a refused image."""
+        state, path, kind, size, protection, date, header, comment, digest, images = row
+        return html(
+            template, mark=mark_of(state), path=shown(path), kind=text_cell(kind), size=size if kind == "file" else NOTHING,
+            protection=protection_cell(protection), date=text_cell(date, "nowrap wide"), header=header, comment=text_cell(comment, "text wide"),
+            also=others(images, self.name, digest),
+        )  # fmt: skip
 
     def found_row(self, row: Row) -> Html:
-        mark = shown(row["state"]) if row["state"] == "sound" else marked_as("note" if row["state"] in KEPT else "refused", row["state"])
-        also = others(row["images"], self.image["page"], row["sha256"])
-        return joined((cell(mark), *self.columns(row), text_cell(row["comment"], "text wide"), cell(also, "text")))
+        return self.entry_row(row, FOUND_ROW)
 
     def found_part(self, whole: int) -> Html:
         """The entries that are found in a refused image."""
@@ -312,6 +308,12 @@ class ImagePage:
         rows = [row_of(row["why"], row["path"]) for row in found]
         head, command = "Left out or in doubt" if kept else "Left out", f"adf-survey {self.option()}rescue < IMAGE"
         return joined((told, long_table(head, ("Why", "Path"), rows, len(rows), command) if rows else html("")))
+
+
+@functools.lru_cache(maxsize=64, typed=True)
+def mark_of(state: str) -> Html:
+    """The mark of an entry, which is kept."""
+    return shown(state) if state == "sound" else marked_as("note" if state in KEPT else "refused", state)
 
 
 @functools.lru_cache(maxsize=4096, typed=True)

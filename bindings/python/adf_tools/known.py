@@ -117,6 +117,11 @@ class Parser:
         self.parser.Parse(b"", True)
 
 
+def has_lists(connection: sqlite3.Connection) -> bool:
+    """Whether the database has any list."""
+    return connection.execute("SELECT 1 FROM known LIMIT 1").fetchone() is not None
+
+
 def take(connection: sqlite3.Connection, paths: Sequence[str]) -> None:
     """Puts these lists in the place of those that the database has; if one of them cannot be read, nothing changes."""
     with transaction(connection):
@@ -137,16 +142,15 @@ def row_of(disk: Disk) -> Tuple[Any, ...]:
 def note(connection: sqlite3.Connection) -> None:
     """Notes of each image whether a list knows it, and as what, and in which group it is by that; pages that say something else by that
     are made again."""
-    has_lists = connection.execute("SELECT EXISTS (SELECT 1 FROM known)").fetchone()[0]
     found: Dict[int, Noted] = {}
-    if has_lists:
+    if is_listed := has_lists(connection):
         for image, title, game, name, status, _ in connection.execute(MATCHES):
             found.setdefault(image, Noted("known", called(name or game, title, status), status is None))
     with transaction(connection):
-        others = "" if has_lists else "WHERE known IS NOT NULL OR known_as IS NOT NULL OR advice IS NOT judged"
+        others = "" if is_listed else "WHERE known IS NOT NULL OR known_as IS NOT NULL OR advice IS NOT judged"
         rows = connection.execute(f"SELECT id, name, sha256, judged, advice, known, known_as FROM images {others}").fetchall()
         for row in rows:
-            now = found.get(row["id"]) or (unmatched(connection, row) if has_lists and row["sha256"] else Noted(None, None))
+            now = found.get(row["id"]) or (unmatched(connection, row) if is_listed and row["sha256"] else Noted(None, None))
             advice = PUBLISHED if now.is_good and row["judged"] not in ("sound", "not read") else row["judged"]
             if (now.known, now.known_as, advice) != (row["known"], row["known_as"], row["advice"]):
                 line = "UPDATE images SET known = ?, known_as = ?, advice = ?, is_shown = 0 WHERE id = ?"

@@ -4,6 +4,7 @@ from __future__ import annotations
 
 import functools
 import hashlib
+import marshal
 import sqlite3
 from typing import Callable, Iterator, List, NamedTuple
 
@@ -26,7 +27,11 @@ NAMES = "name, number"
 ORDERS = {"read again": f"dirs + files > 0, lost DESC, lost_least DESC, {NAMES}"}  # of the lists that begin with the worst
 PASSED = "SELECT kind, SUM(count) AS count FROM passed WHERE (file IS NULL) = ? GROUP BY kind ORDER BY 2 DESC, 1"
 COLUMNS = "name, page, verdict, advice, form, fits, label, kind, used, blocks, dirs, files, lost, lost_least, altered, known_as"
-MOST_KINDS = 20  # that the index names
+MOST_KINDS, PLAIN = 20, 2  # that the index names; the form of marshal in which equal rows are equal bytes
+ROW = """<td class="text">{anchor}</td><td class="verdict" data-key="{key}">{verdict}</td><td class="text">{label}</td>
+<td class="nowrap wide">{kind}</td><td class="nowrap wide" data-key="{full}">{meter}</td><td class="number wide">{files}</td>
+<td class="number" data-key="{count}">{lost}</td><td class="nowrap wide">{day}</td>{known}""".replace("\n", "")
+METER = '<meter max="100" value="{value}" aria-label="full"></meter> {percent} %'
 FILTER = Html('<p><label>Filter this page <input id="filter" type="search"></label> <span id="shown" role="status"></span></p>\n')
 SEARCH = Html("""<form role="search" id="search"><p><label>Find disks and files, by words or a SHA-256 <input id="wanted" type="search"></label>
 <button>Find</button> <span id="told" role="status"></span></p></form><ul id="places"></ul>
@@ -126,7 +131,7 @@ class Lists:
         rows_of = self.rows_of(each)
         for number in reversed(each.pages):
             rows = rows_of(number).fetchall()
-            shows = hashlib.sha256(repr((each, number, [tuple(row) for row in rows])).encode("utf-8", "replace")).hexdigest()
+            shows = hashlib.sha256(marshal.dumps((repr(each), number, list(map(tuple, rows))), PLAIN)).hexdigest()
             yield ListPage(list_name(each.name, number), shows, functools.partial(self.page_of, each, number, rows))
 
     def page_of(self, each: Listed, number: int, rows: List[sqlite3.Row]) -> Html:
@@ -200,15 +205,12 @@ def index_row(row: sqlite3.Row, has_known: bool) -> Html:
     """The line of an image, with the name that a published list has for it, where that is wanted."""
     is_sound, full, has_page = row["verdict"] == "ok", full_of(row), is_page(row["page"])
     anchor = link(row["page"], row["name"]) if has_page else shown(row["name"])
-    meter = html("")
-    if full is not None:
-        meter = html('<meter max="100" value="{value}" aria-label="full"></meter> {percent} %', value=f"{full:.1f}", percent=f"{full:.0f}")
+    meter = html("") if full is None else html(METER, value=f"{full:.1f}", percent=f"{full:.0f}")
     found = (row["dirs"] or 0) + (row["files"] or 0)
     told = "" if is_sound or row["lost"] is None else lost_text(row, str(row["lost"]), "all")
     lost = link(row["page"], told, "found") if told and found and has_page else shown(told)
-    cells = [cell(anchor, "text"), cell(verdict_of(row), "verdict", key="" if is_sound else row["verdict"].split(": ")[-1])]
-    cells += [cell(shown(row["label"] or ""), "text"), cell(shown(row["kind"] or ""), "nowrap wide")]
-    cells += [cell(meter, "nowrap wide", key=f"{full or 0:.1f}")]
-    cells += [cell(row["files"], "number wide"), cell(lost, "number", key=row["lost"] or 0)]
-    cells += [cell(shown(day(row["altered"])), "nowrap wide")]
-    return joined(cells + ([cell(shown(row["known_as"] or ""), "text")] if has_known else []))
+    return html(
+        ROW, anchor=anchor, key="" if is_sound else row["verdict"].split(": ")[-1], verdict=verdict_of(row), label=shown(row["label"] or ""),
+        kind=shown(row["kind"] or ""), full=f"{full or 0:.1f}", meter=meter, files=row["files"], count=row["lost"] or 0, lost=lost,
+        day=shown(day(row["altered"])), known=cell(shown(row["known_as"] or ""), "text") if has_known else html(""),
+    )  # fmt: skip

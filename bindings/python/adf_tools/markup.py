@@ -9,13 +9,15 @@ from typing import Iterable
 ESCAPED = {"&": "&amp;", "<": "&lt;", ">": "&gt;", '"': "&quot;", "'": "&#x27;"}
 HIDDEN = "\\x00-\\x08\\x0b-\\x1f\\x7f-\\x9f\\u2028\\u2029\\ud800-\\udfff"  # what no page has as it is
 ESCAPES, HIDDEN_LETTER = re.compile(f"[&<>\"'{HIDDEN}]"), re.compile(f"[{HIDDEN}]")
-BREAKS = re.compile(r"(?<=[/_])(?=\w)")
 
 
 class Html(str):
     """A part of a page. It is made of a text that stands in a program, never of one that came from elsewhere."""
 
     __slots__ = ()
+
+
+PLAIN = {Html, int}  # types of values that stand in a page as they are
 
 
 def escape_of(found: re.Match[str]) -> str:
@@ -34,7 +36,10 @@ def escaped(value: object) -> Html:
 def html(template: str, **values: object) -> Html:
     """A template, which stands in a program, with these values in the place of their names in braces, escaped. In a tag they stand in
     quotes."""
-    return Html(template.format_map({name: escaped(value) for name, value in values.items()}))
+    for name, value in values.items():
+        if type(value) not in PLAIN:
+            values[name] = escaped(value)
+    return Html(template.format_map(values))
 
 
 def enclosed(begin: Html, value: object, end: Html) -> Html:
@@ -49,8 +54,7 @@ def joined(parts: Iterable[Html], between: str = "") -> Html:
 
 def shown(text: object) -> Html:
     """A text, which may break behind what parts it."""
-    plain = escaped(str(text))
-    return Html(BREAKS.sub("<wbr>", plain)) if "/" in plain or "_" in plain else plain
+    return Html(escaped(str(text)).replace("/", "/<wbr>").replace("_", "_<wbr>"))
 
 
 def address(path: str, fragment: str = "") -> Html:

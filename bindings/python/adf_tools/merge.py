@@ -18,7 +18,7 @@ from adf_tools.database import told, transaction
 from adf_tools.out_folder import OutFolder, OwnNames
 from adf_tools.names import one_line
 from adf_tools.program import FAILED, REFUSED, command_line, host_text, open_input, stop
-from adf_tools.reader import Read, most_common
+from adf_tools.reader import Read, Wanted, most_common
 from adf_tools.scan import WEIGHT, Names, Options, Part, Scan
 from adf_tools.sums import Sums
 from adf_tools.volumes import Record, Rows, record
@@ -77,7 +77,8 @@ def scan(words: argparse.Namespace) -> int:
         with working_beside(words.out, connection) as names:
             out = names.out
             left_out = {out.identity} if out.status(database.NAME) else set()
-            options = Options(False, words.fresh, store.wants_texts(connection, words.index_text), words.part, listed)
+            wanted = Wanted(False, store.wants_texts(connection, words.index_text), store.wants_all_sums(connection, words.sha256_only))
+            options = Options(wanted, words.fresh, words.part, listed)
             Scan(connection, os.fsencode(words.folder), names, left_out, options).update()
         _, refused, unread = store.counts(connection)
     return FAILED if unread else REFUSED if refused else 0
@@ -89,6 +90,7 @@ def scan_line() -> argparse.ArgumentParser:
     parser.add_argument("folder", metavar="FOLDER", help="the images, as of adf-catalogue")
     parser.add_argument("out", metavar="DATABASE", help="the database of the part, which is created or brought up to date")
     parser.add_argument("--index-text", action="store_true", help="keep the contents of text files too")
+    parser.add_argument("--sha256-only", action="store_true", help="make no other checksums of images; later runs of this part do so too")
     parser.add_argument("--fresh", action="store_true", help="read all files again, not only those that have changed")
     parser.add_argument("--names", metavar="LIST", help="do not list the folder: LIST has the names of its files, of find FOLDER/ ! -type d -print0")
     return parser
@@ -134,7 +136,8 @@ def read_of(part: sqlite3.Connection, file: sqlite3.Row) -> Read:
     """What a part keeps of a file, as a reader gives it."""
     found = [file[name] for name in Sums._fields]
     passed = dict(part.execute("SELECT kind, count FROM passed WHERE file = ?", (file["id"],)).fetchall())
-    return Read(records_of(part, file["id"]), Sums(*found) if all(found) else None, passed)
+    records = records_of(part, file["id"])
+    return Read(records, Sums(*found) if file["sha256"] else None, passed, sum(record.weight for record in records))
 
 
 def records_of(part: sqlite3.Connection, file: int) -> List[Record]:
@@ -209,7 +212,8 @@ class Merge:
         with transaction(self.connection):
             if facts_of(self.connection).get("reader") != facts.get("reader"):
                 self.connection.execute("UPDATE files SET size = NULL")
-            kept = {name: facts[name] for name in ("reader", "title", "texts") if name in facts}
+            kept = {name: facts[name] for name in ("reader", "title", "texts", "sums") if name in facts}
+            self.connection.execute("DELETE FROM facts WHERE name = 'sums'")
             self.connection.executemany("INSERT OR REPLACE INTO facts VALUES (?, ?)", kept.items())
             line = "INSERT INTO runs (begun, program) VALUES (datetime('now'), ?)"
             self.run = self.connection.execute(line, (f"adf-catalogue merge {adf.__version__}",)).lastrowid or 0
@@ -223,7 +227,7 @@ class Merge:
                 with told(part.path):
                     read = read_of(part.connection, row)
                 found.append((known[path][0] if path in known else None, store.Kept(path, stamp_of(row), read)))
-                weight += sum(record.weight for record in read.records)
+                weight += read.weight
                 if weight > WEIGHT:
                     store.put(self.connection, found, self.run)
                     found, weight = [], 0

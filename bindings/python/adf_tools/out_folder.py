@@ -32,6 +32,7 @@ LIST_NAME = re.compile(rf"(index|list-({LISTS}))(-[0-9]+)?\.html")
 WORKING_NAME = re.compile(rf"{re.escape(WORKING)}[0-9a-f]{{32}}/")
 MANY = 250  # names for which the folders inside are listed
 OTHER_NAMES = (f"{PAGES}/", f"{PARTS}/", IMAGES, ENTRIES, TWICE)
+OWN_NAME = re.compile("|".join(f"(?:{pattern.pattern})" for pattern in (PAGE_NAME, PART_NAME, LIST_NAME, WORKING_NAME)))
 
 
 def new_name() -> str:
@@ -41,8 +42,7 @@ def new_name() -> str:
 
 def is_own(name: object) -> bool:
     """Whether a catalogue can have written what has this name, which may be anything."""
-    patterns = PAGE_NAME, PART_NAME, LIST_NAME, WORKING_NAME
-    return isinstance(name, str) and (name in OTHER_NAMES or any(pattern.fullmatch(name) for pattern in patterns))
+    return isinstance(name, str) and (name in OTHER_NAMES or OWN_NAME.fullmatch(name) is not None)
 
 
 def emptied(folder: int) -> None:

@@ -121,7 +121,7 @@ def cell_begin(kind: str) -> Html:
 
 
 def facts(name: str, pairs: Iterable[Tuple[str, object]]) -> Html:
-    rows = joined(html('<tr><th scope="row">{head}</th>{cell}</tr>\n', head=head, cell=cell(value, "text")) for head, value in pairs)
+    rows = joined(html('<tr><th scope="row">{head}</th><td class="text">{value}</td></tr>\n', head=head, value=value) for head, value in pairs)
     return html("<table><caption>{name}</caption><tbody>{rows}</tbody></table>\n", name=name, rows=rows)
 
 

@@ -7,7 +7,7 @@ import os
 import re
 import sys
 from collections import Counter
-from typing import Dict, Iterator, List, NamedTuple, Optional
+from typing import Dict, Iterator, List, NamedTuple, Optional, Tuple
 
 import adf
 from adf_tools.archives import foreign
@@ -25,12 +25,13 @@ IMAGE_COPIES = 6  # how often a process has an image in memory
 
 
 class Read(NamedTuple):
-    """What is kept of a file: of each image in it; the file's checksums, if it could be read; and how many files of each kind it has that
-    are no images."""
+    """What is kept of a file: of each image in it; the file's checksums, if it could be read; how many files of each kind it has that are no
+    images; and how many letters that is, roughly."""
 
     records: List[Record]
     sums: Optional[Sums]
     passed: Dict[str, int]
+    weight: int = 0
 
 
 def page_name(name: bytes, number: int) -> str:
@@ -46,10 +47,10 @@ def columns_of(image: Image) -> Columns:
     return {**columns, "verdict": f"read fault: {image.fault}", "advice": "not read"} if image.fault else columns
 
 
-def facts_of(image: Image) -> Columns:
+def facts_of(image: Image, has_all_sums: bool) -> Columns:
     """The length and the checksums of an image; if it is longer than what was read of it, neither is known."""
     is_whole = image.length == image.content.size
-    return {"bytes": image.length, **(sums_of(image.content.parts())._asdict() if is_whole else {})}
+    return {"bytes": image.length, **(sums_of(image.content.parts(), has_all_sums)._asdict() if is_whole else {})}
 
 
 def form_of(image: bytes) -> Optional[str]:
@@ -63,11 +64,11 @@ def own_sums(records: List[Record]) -> Optional[Sums]:
     return Sums(*(columns[name] for name in Sums._fields)) if columns.get("sha256") else None
 
 
-def file_sums(path: bytes) -> Optional[Sums]:
+def file_sums(path: bytes, has_all: bool) -> Optional[Sums]:
     """The checksums of a file, if it can be read."""
     try:
         with opened(path) as file:
-            return sums_of(iter(lambda: file.read(adf.PART), b""))
+            return sums_of(iter(lambda: file.read(adf.PART), b""), has_all)
     except OSError:
         return None
 
@@ -79,22 +80,30 @@ def most_common(kinds: Counter[str]) -> Dict[str, int]:
     return {**found, OTHERS: found.get(OTHERS, 0) + rest} if rest else found
 
 
-class Reader:
-    """Reads a file below a folder, large volumes in turn with other processes. The new volumes go into a folder, if the descriptor of one is
-    given; texts are kept if they are wanted."""
+class Wanted(NamedTuple):
+    """What is wanted of the files that are read: the new volumes of refused images; the contents of text files; all checksums, or the SHA-256
+    alone."""
 
-    def __init__(self, folder: bytes, volumes: Optional[int], has_texts: bool, turns: Turns) -> None:
-        self.folder, self.volumes, self.has_texts, self.turns = folder, volumes, has_texts, turns
+    rescues: bool = False
+    texts: bool = False
+    all_sums: bool = True
+
+
+class Reader:
+    """Reads a file below a folder, large volumes in turn with other processes. The new volumes go into a folder, by its descriptor."""
+
+    def __init__(self, folder: bytes, volumes: int, wanted: Wanted, turns: Turns) -> None:
+        self.folder, self.volumes, self.wanted, self.turns = folder, volumes, wanted, turns
 
     def __call__(self, path: bytes) -> Read:
         """What is kept of a file."""
-        records = self.records_in(path)
+        records, weight = self.records_in(path)
         is_packed = path.lower().endswith(ARCHIVES)
         passed = kinds_passed(path, bool(records)) if is_packed else Counter()
-        return Read(records, file_sums(path) if is_packed else own_sums(records), most_common(passed))
+        return Read(records, file_sums(path, self.wanted.all_sums) if is_packed else own_sums(records), most_common(passed), weight)
 
-    def records_in(self, path: bytes) -> list[Record]:
-        """What is kept of the images in a file; of a hard disk its volumes follow it."""
+    def records_in(self, path: bytes) -> Tuple[List[Record], int]:
+        """What is kept of the images in a file, and how many letters that is; of a hard disk its volumes follow it."""
         records: list[Record] = []
         name, weight = os.path.relpath(path, self.folder), 0
         for image in images_in(path, name):
@@ -104,7 +113,7 @@ class Reader:
             found = self.all_of(image)
             weight += sum(one.weight for one in found)
             records += found
-        return records
+        return records, weight
 
     def all_of(self, image: Image) -> list[Record]:
         """What is kept of one image. What goes wrong with it costs no other image."""
@@ -130,7 +139,7 @@ class Reader:
             yield self.record_of(image)
             return
         page = page_name(image.name, image.number)
-        yield disk_record(disk, {**columns_of(image), "page": page, **facts_of(image)})
+        yield disk_record(disk, {**columns_of(image), "page": page, **facts_of(image, self.wanted.all_sums)})
         for partition in disk.partitions:
             content = image.content.volume(disk, partition)
             if content is not None:
@@ -147,7 +156,7 @@ class Reader:
 
     def record_of(self, image: Image) -> Record:
         """What is kept of the image of a volume."""
-        columns = {**columns_of(image), "page": page_name(image.name, image.number), **facts_of(image)}
+        columns = {**columns_of(image), "page": page_name(image.name, image.number), **facts_of(image, self.wanted.all_sums)}
         if image.content.size > adf.MOST_BYTES:
             return long_record(columns)
         if image.content.size <= adf.LARGE:
@@ -161,8 +170,8 @@ class Reader:
     def read_record(self, image: Image, columns: Columns) -> Record:
         """What is kept of the image of a volume that is read into memory."""
         content = image.content.begin()
-        found, volume = image_record(content, {**columns, "form": form_of(content)}, self.has_texts)
-        return found if volume is None or self.volumes is None else self.rescued(volume, found, self.volumes)
+        found, volume = image_record(content, {**columns, "form": form_of(content)}, self.wanted.texts)
+        return self.rescued(volume, found, self.volumes) if self.wanted.rescues and volume is not None else found
 
     @staticmethod
     def rescued(volume: adf.Rescued, found: Record, folder: int) -> Record:

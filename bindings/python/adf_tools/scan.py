@@ -22,7 +22,7 @@ from adf_tools.names import host_letters
 from adf_tools.processes import Turns, in_order, workers
 from adf_tools.out_folder import OwnNames, is_own
 from adf_tools.program import Progress
-from adf_tools.reader import IMAGE_COPIES, Read, Reader, most_common
+from adf_tools.reader import IMAGE_COPIES, Read, Reader, Wanted, most_common
 from adf_tools.trees import Identity
 
 HERE = os.path.dirname(os.path.abspath(__file__))
@@ -58,12 +58,10 @@ class Names(NamedTuple):
 
 
 class Options(NamedTuple):
-    """What is wanted of the files: the new volumes of refused images; all read again; the contents of text files; a part of the files
-    alone; and their names, where the folder is not to be listed."""
+    """What is wanted of the files; that all are read again; a part of them alone; and their names, where the folder is not to be listed."""
 
-    rescues: bool = False
+    wanted: Wanted = Wanted()
     is_fresh: bool = False
-    has_texts: bool = False
     part: Part = Part(1, 1)
     names: Optional[Names] = None
 
@@ -80,7 +78,7 @@ def reader_of(options: Options) -> str:
     """What reads the files: the version of the module, its files, the library, and the options."""
     own = [path for path in sorted(glob.glob(os.path.join(HERE, "*.py"))) if os.path.basename(path)[:-3] in READING]
     module = sorted(glob.glob(os.path.join(os.path.dirname(adf.__file__), "*.py")))
-    return json.dumps([adf.__version__, *map(sum_of, (adf.library_path(), *module, *own)), options.rescues, options.has_texts])
+    return json.dumps([adf.__version__, *map(sum_of, (adf.library_path(), *module, *own)), *options.wanted])
 
 
 def links_of(read: Read) -> List[str]:
@@ -161,7 +159,7 @@ class Scan:
     def known(self) -> Dict[str, Tuple[int, object]]:
         """The files in the database: the number and the stamp of each. One whose new volumes are not all there has no stamp."""
         lost = set()
-        if self.options.rescues:
+        if self.options.wanted.rescues:
             rows = self.connection.execute("SELECT file, rescued FROM images WHERE rescued IS NOT NULL")
             lost = {file for file, link in rows if not is_own(link) or self.own_names.out.status(link) is None}
         rows = self.connection.execute("SELECT path, id, size, altered_ns, inode, changed_ns FROM files")
@@ -171,14 +169,14 @@ class Scan:
         """What is read of these files, some of them at a time."""
         work, need = self.own_names.out.work, memory_for(files)
         turns, progress = Turns(workers(len(files), need), need), Progress(len(files), "files")
-        reader = Reader(self.folder, work if self.options.rescues else None, self.options.has_texts, turns)
+        reader = Reader(self.folder, work, self.options.wanted, turns)
         batch: List[Tuple[File, Read]] = []
         weight, begun = 0, time.monotonic()
         answers = in_order(reader, [file.path for file in files], need, work)
         with contextlib.closing(progress), contextlib.closing(answers):
             for file, read in zip(files, answers):
                 batch.append((file, read))
-                weight += sum(record.weight for record in read.records)
+                weight += read.weight
                 progress.step()
                 if len(batch) >= FILES or weight > WEIGHT or time.monotonic() - begun > SECONDS:
                     yield batch

@@ -8,7 +8,6 @@ import functools
 import heapq
 import itertools
 import json
-import operator
 import os
 import re
 import sqlite3
@@ -22,6 +21,7 @@ from adf_tools.store import FILE_BITS, NAMES, number_of
 Part = Tuple[str, bytes]  # its name, and its bytes
 Place = Tuple[int, str, str]  # of a word: the row of an image, and the path and the comment of an entry in it; empty for the image itself
 Terms = Tuple[List[Place], List[int]]  # of a word: its places, or the first of them, and then the steps of all its images
+ENCODER = json.JSONEncoder(separators=(",", ":"))
 MARKUP = re.compile("[<>&\x7f]")  # letters that a text of a script has by their numbers
 FRONT, LONGEST_FRONT = 3, 20  # letters of a word that name its part, and of a part of one that is too large
 MOST_PLACES, MOST_TERMS = 200, 2000  # places of a word that a part has; words of a part
@@ -35,16 +35,19 @@ PLACES = (  # of the words from one on and before another, in their order
     f"SELECT tree, id, '', '' FROM images WHERE {BETWEEN('tree')} ORDER BY tree, id",
     f"SELECT sha256, image, path, comment FROM entries WHERE {BETWEEN('sha256')} ORDER BY sha256, id",
 )
+NEXT = {query: f"SELECT term FROM {table} WHERE term >= ?1 LIMIT 1" for query, table in zip(PLACES, ("image_terms", "entry_terms"))}
 FRONTS = f"""SELECT substr(term, 1, {FRONT}) FROM image_vocabulary UNION SELECT substr(term, 1, {FRONT}) FROM entry_vocabulary
 UNION SELECT substr(sha256, 1, {FRONT}) FROM images WHERE sha256 IS NOT NULL UNION SELECT substr(tree, 1, {FRONT}) FROM images WHERE tree IS NOT NULL
 UNION SELECT substr(sha256, 1, {FRONT}) FROM entries WHERE sha256 IS NOT NULL"""
-IMAGES_OF = """SELECT doc FROM image_terms WHERE term = ?1 UNION ALL SELECT image FROM entry_terms JOIN entries ON entries.id = doc WHERE term = ?1
-UNION ALL SELECT image FROM entries WHERE sha256 = ?1 UNION ALL SELECT id FROM images WHERE sha256 = ?1 OR tree = ?1"""
-PLACES_OF = """SELECT doc, '', '' FROM image_terms WHERE term = ?1
-UNION ALL SELECT image, path, comment FROM entry_terms CROSS JOIN entries ON entries.id = doc WHERE term = ?1
-UNION ALL SELECT image, path, comment FROM entries WHERE sha256 = ?1 UNION ALL SELECT id, '', '' FROM images WHERE sha256 = ?1 OR tree = ?1"""
+IMAGES_OF = """SELECT doc FROM image_terms WHERE term = ?1 UNION SELECT image FROM entry_terms CROSS JOIN entries ON entries.id = doc WHERE term = ?1
+UNION SELECT image FROM entries WHERE sha256 = ?1 UNION SELECT id FROM images WHERE sha256 = ?1 OR tree = ?1"""
+PLACES_IN = """WITH these AS (SELECT value AS id FROM json_each(?2)), own AS (SELECT id FROM entries WHERE image IN these)
+SELECT doc, '', '' FROM image_terms WHERE term = ?1 AND doc IN these
+UNION SELECT image, path, comment FROM entry_terms CROSS JOIN entries ON entries.id = doc WHERE term = ?1 AND doc IN own
+UNION SELECT image, path, comment FROM entries WHERE sha256 = ?1 AND image IN these
+UNION SELECT id, '', '' FROM images WHERE (sha256 = ?1 OR tree = ?1) AND id IN these"""
 IMAGES_BETWEEN = """SELECT doc FROM image_terms WHERE term BETWEEN ?1 AND ?2
-UNION ALL SELECT image FROM entry_terms JOIN entries ON entries.id = doc WHERE term BETWEEN ?1 AND ?2"""
+UNION SELECT image FROM entry_terms CROSS JOIN entries ON entries.id = doc WHERE term BETWEEN ?1 AND ?2"""
 
 
 def part_of(term: str, length: int = FRONT) -> str:
@@ -54,7 +57,7 @@ def part_of(term: str, length: int = FRONT) -> str:
 
 def script_of(value: object) -> str:
     """A value for a script, in which no text ends a string or an element."""
-    return MARKUP.sub(lambda found: f"\\u{ord(found[0]):04x}", json.dumps(value, separators=(",", ":")))
+    return MARKUP.sub(lambda found: f"\\u{ord(found[0]):04x}", ENCODER.encode(value))
 
 
 class NamedImage(NamedTuple):
@@ -87,14 +90,21 @@ class Places:
     def __init__(self, connection: sqlite3.Connection, images: Optional[Dict[int, NamedImage]] = None) -> None:
         self.connection = connection
         self.images = images_of(connection) if images is None else images
+        self.gaps: Dict[str, Tuple[str, str]] = {}  # from where on, and before what, an index was found to have no words
 
-    def steps(self, term: str) -> List[int]:
-        """The numbers of the images of all places of a word, each as what it is more than the one before."""
-        return self.steps_to(row[0] for row in self.connection.execute(IMAGES_OF, (term,)))
+    def asked(self, query: str, *values: str) -> sqlite3.Cursor:
+        """What a query gives, as plain rows."""
+        cursor = self.connection.cursor()
+        cursor.row_factory = None
+        return cursor.execute(query, values)
+
+    def images_of(self, query: str, *values: str) -> List[int]:
+        """The rows of the images that a query gives, as far as there are such."""
+        return [image for image, in self.asked(query, *values) if image in self.images]
 
     def steps_to(self, images: Iterable[int]) -> List[int]:
         """The numbers of images, each as what it is more than the one before."""
-        numbers = sorted({self.images[image].number for image in set(images) if image in self.images})
+        numbers = sorted({self.images[image].number for image in images})
         return [number - before for before, number in zip([0, *numbers], numbers)]
 
     def part(self, name: str, terms: Dict[str, Terms]) -> bytes:
@@ -103,9 +113,9 @@ class Places:
         numbers: Dict[int, int] = {}
         words = {}
         for term, (places, steps) in terms.items():
-            found = sorted((self.images[place[0]], place) for place in places if place[0] in self.images)
-            told = [(numbers.setdefault(image, len(numbers)), path, *([comment] if comment else [])) for _, (image, path, comment) in found]
-            words[term] = (told, *([steps] if steps else []))
+            found = [(numbers.setdefault(image, len(numbers)), path, comment) for image, path, comment in places]
+            told = [place if place[2] else place[:2] for place in found]
+            words[term] = (told, steps) if steps else (told,)
         images = [self.images[image] for image in numbers]
         return f"part({script_of([name, images, words])});\n".encode("ascii")
 
@@ -122,49 +132,57 @@ class Places:
     def together(self, terms: Dict[str, Terms]) -> Terms:
         """What a part has of many words as of one: the first of the places, and all images. Sums are found by all of their digits alone."""
         places = itertools.islice((place for term, (places, _) in terms.items() if not SUM.fullmatch(term) for place in places), MOST_PLACES)
-        rows = self.connection.execute(IMAGES_BETWEEN, (min(terms), max(terms)))
-        return list(places), self.steps_to(row[0] for row in rows)
+        return sorted(places, key=self.rank), self.steps_to(self.images_of(IMAGES_BETWEEN, min(terms), max(terms)))
 
-    def first_places(self, query: str, begin: str, end: str) -> Iterator[Tuple[str, List[Place]]]:
-        """Each word of a query with its first places, one more than a part has; the rest is not read."""
-        cursor = self.connection.cursor()
-        cursor.row_factory = None
+    def is_gap(self, query: str, begin: str, end: str) -> bool:
+        """Whether a query is known to have no words from one on and before another."""
+        first, past = self.gaps.get(query, (LAST, ""))
+        return first <= begin and end <= past
+
+    def note_gap(self, query: str, begin: str, end: str) -> None:
+        """Notes that an index of words has none from one on and before another, and what the next one is: most parts have sums alone."""
+        if query in NEXT:
+            following = self.asked(NEXT[query], end).fetchone()
+            self.gaps[query] = begin, following[0] if following else LAST
+
+    def gather(self, found: Dict[str, Set[Place]], query: str, begin: str, end: str) -> None:
+        """Adds what a query has to the places of words. Of a word with more than a part has the rest is not read."""
+        first, term = begin, ""
         while begin:
-            rows, begin = cursor.execute(query, (begin, end)), ""
-            for term, some in itertools.groupby(rows, operator.itemgetter(0)):
-                places = [place for _, *place in itertools.islice((each for each, _ in itertools.groupby(some)), MOST_PLACES + 1)]
-                yield term, places
+            rows, begin = self.asked(query, begin, end), ""
+            for term, image, path, comment in rows:
+                places = found.setdefault(term, set())
                 if len(places) > MOST_PLACES:
                     begin = term + AFTER
                     break
+                if image in self.images:
+                    places.add((image, path, comment))
+        if not term:
+            self.note_gap(query, first, end)
 
     def one(self, name: str) -> Iterator[Part]:
         """The part of this name, if a word has it, and those that it is parted into."""
-        found: Dict[str, List[Place]] = {}
+        found: Dict[str, Set[Place]] = {}
         for query, (begin, end) in itertools.product(PLACES, limits_of(name)):
-            for term, places in self.first_places(query, begin, end):
-                if part_of(term) == name:
-                    found.setdefault(term, []).extend(places)
-        terms = {term: self.kept(term, found[term]) for term in sorted(found)}
+            if not self.is_gap(query, begin, end):
+                self.gather(found, query, begin, end)
+        terms = {term: self.kept(term, found[term]) for term in sorted(found) if "_" not in name or part_of(term) == name}
         yield from self.tree(name, terms) if terms else ()
 
-    def rank(self, place: Place) -> Tuple[str, int, str, str]:
+    def rank(self, place: Place) -> Tuple[NamedImage, str, str]:
         """What the places of a word are ordered by: not by rows, since an image that changed has another one."""
-        row, path, comment = place
-        image = self.images.get(row)
-        return ("", 0, path, comment) if image is None else (image.name, image.number, path, comment)
+        image, path, comment = place
+        return self.images[image], path, comment
 
-    def all_places(self, term: str) -> Iterator[Place]:
-        """All places of a word."""
-        cursor = self.connection.cursor()
-        cursor.row_factory = None
-        return (place for place, _ in itertools.groupby(cursor.execute(PLACES_OF, (term,))))
-
-    def kept(self, term: str, places: List[Place]) -> Terms:
-        """What a part has of the places of a word: all, or the first of them and all images."""
+    def kept(self, term: str, places: Set[Place]) -> Terms:
+        """What a part has of the places of a word: all, or the first of them, which are in the first of its images, and all images."""
+        if len(places) == 1:
+            return list(places), []
         if len(places) <= MOST_PLACES:
-            return sorted(((row, path, comment) for row, path, comment in places), key=self.rank), []
-        return heapq.nsmallest(MOST_PLACES, self.all_places(term), key=self.rank), self.steps(term)
+            return sorted(places, key=self.rank), []
+        images = self.images_of(IMAGES_OF, term)
+        first = heapq.nsmallest(MOST_PLACES, images, key=self.images.__getitem__)
+        return heapq.nsmallest(MOST_PLACES, self.asked(PLACES_IN, term, json.dumps(first)), key=self.rank), self.steps_to(images)
 
     def names(self, wanted: Optional[Container[str]] = None) -> Iterator[Part]:
         """The names and pages of images, in files by the first bits of their numbers: all, or those that are wanted."""

@@ -241,9 +241,5 @@ class Site:
 
     def remove_old(self, lists: Sequence[str]) -> None:
         """Removes pages and volumes to which no row leads, and lists that are no longer written."""
-        kept = {*self.leading(), *lists, *OTHER_NAMES}
+        kept = {*itertools.chain.from_iterable(self.connection.execute("SELECT page, rescued FROM images")), *lists, *OTHER_NAMES}
         self.own.remove([name for name in self.own.names if name not in kept and not PART_NAME.fullmatch(name) and not WORKING_NAME.fullmatch(name)])
-
-    def leading(self) -> Iterator[str]:
-        for row in self.connection.execute("SELECT page, rescued FROM images"):
-            yield from (name for name in row if name is not None)

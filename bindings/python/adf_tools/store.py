@@ -85,6 +85,15 @@ def wants_texts(connection: sqlite3.Connection, is_asked: bool) -> bool:
     return connection.execute("SELECT 1 FROM facts WHERE name = 'texts'").fetchone() is not None
 
 
+def wants_all_sums(connection: sqlite3.Connection, is_short: bool = False, has_lists: bool = False) -> bool:
+    """Whether all checksums are made: once that of SHA-256 alone was asked for, they are not, until lists of known disks come."""
+    if is_short:
+        connection.execute("INSERT OR REPLACE INTO facts VALUES ('sums', 'sha256')")
+    if has_lists:
+        connection.execute("DELETE FROM facts WHERE name = 'sums'")
+    return connection.execute("SELECT 1 FROM facts WHERE name = 'sums'").fetchone() is None
+
+
 def counts(connection: sqlite3.Connection) -> Tuple[int, int, int]:
     """How many images there are, how many of them are refused, or have a fault in the tables of a hard disk, and how many not read."""
     line = """SELECT COUNT(*), COALESCE(SUM(verdict != 'ok' OR judged = 'tables'), 0), COALESCE(SUM(judged = 'not read'), 0) FROM images"""

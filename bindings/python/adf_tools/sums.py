@@ -4,28 +4,29 @@ from __future__ import annotations
 
 import hashlib
 import zlib
-from typing import Iterable, NamedTuple
+from typing import Iterable, NamedTuple, Optional
 
 import adf
 
 
 class Sums(NamedTuple):
-    """The checksums of bytes, as hexadecimal digits."""
+    """The checksums of bytes, as hexadecimal digits; the first three are none where they are not wanted."""
 
-    crc32: str
-    md5: str
-    sha1: str
+    crc32: Optional[str]
+    md5: Optional[str]
+    sha1: Optional[str]
     sha256: str
 
 
-def sums_of(parts: Iterable[adf.Image]) -> Sums:
-    """The checksums of bytes that come in parts."""
-    crc, digests = 0, [hashlib.new(name) for name in Sums._fields[1:]]
+def sums_of(parts: Iterable[adf.Image], has_all: bool = True) -> Sums:
+    """The checksums of bytes that come in parts: all, or the SHA-256 alone."""
+    crc, digests = 0, [hashlib.new(name) for name in (Sums._fields[1:] if has_all else ["sha256"])]
     for part in parts:
-        crc = zlib.crc32(part, crc)
+        crc = zlib.crc32(part, crc) if has_all else crc
         for digest in digests:
             digest.update(part)
-    return Sums(f"{crc:08x}", *(digest.hexdigest() for digest in digests))
+    *others, sha256 = (digest.hexdigest() for digest in digests)
+    return Sums(f"{crc:08x}", *others, sha256) if has_all else Sums(None, None, None, sha256)
 
 
 def boot_facts(content: adf.Image) -> dict[str, object]:

@@ -14,7 +14,8 @@ from adf_tools import database, known, merge, store, trees
 from adf_tools.lists import INDEX
 from adf_tools.out_folder import ENTRIES, FOLDER, OTHER_NAMES, PAGES, PARTS, OutFolder, OwnNames, is_own
 from adf_tools.pages import count_of
-from adf_tools.program import FAILED, REFUSED, add_escape, command_line, host_text, new_folder
+from adf_tools.program import FAILED, REFUSED, add_escape, command_line, host_text, new_folder, stop
+from adf_tools.reader import Wanted
 from adf_tools.scan import Options, Scan
 from adf_tools.site import Site
 
@@ -100,6 +101,8 @@ def own_folders(out: OutFolder) -> set[trees.Identity]:
 
 def note_known(connection: sqlite3.Connection, words: argparse.Namespace) -> None:
     """Notes which images published lists know, by new lists, if some are given."""
+    if (words.dat or known.has_lists(connection)) and not store.wants_all_sums(connection):
+        stop(FAILED, "the parts were read with --sha256-only, and published lists know an image by its other checksums")
     if words.dat:
         known.take(connection, words.dat)
     known.note(connection)
@@ -122,14 +125,21 @@ def ended(connection: sqlite3.Connection, index: str) -> int:
     return FAILED if unread else REFUSED
 
 
+def options_of(connection: sqlite3.Connection, words: argparse.Namespace) -> Options:
+    """What is wanted of the files."""
+    if words.sha256_only and known.has_lists(connection):
+        stop(FAILED, "--sha256-only: the catalogue has published lists, which know an image by its other checksums")
+    sums = store.wants_all_sums(connection, words.sha256_only, bool(words.dat))
+    return Options(Wanted(words.rescue, store.wants_texts(connection, words.index_text), sums), words.fresh)
+
+
 def work(words: argparse.Namespace) -> int:
     """Brings a catalogue up to date: its database, and then its pages."""
     adf.load()
     folder = os.fsencode(words.folder)
     os.listdir(folder)
     with folder_for(words.out) as out, opened(out) as (connection, own):
-        options = Options(words.rescue, words.fresh, store.wants_texts(connection, words.index_text))
-        Scan(connection, folder, own, own_folders(out), options).update()
+        Scan(connection, folder, own, own_folders(out), options_of(connection, words)).update()
         note_known(connection, words)
         write_pages(connection, own, words)
         return ended(connection, out.path_of(INDEX))
@@ -155,7 +165,9 @@ def line() -> argparse.ArgumentParser:
     parser.add_argument("--rescue", action="store_true", help="write a new volume of what is left of each refused image, with a link on its page")
     parser.add_argument("--fresh", action="store_true", help="read all files again, not only those that have changed")
     parser.add_argument("--index-text", action="store_true", help="keep the contents of text files, for adf-catalogue find; later runs do so too")
-    parser.add_argument("--dat", action="append", metavar="FILE", help="a published list of known disks, Logiqx XML; may be given more than once")
+    either = parser.add_mutually_exclusive_group()
+    either.add_argument("--dat", action="append", metavar="FILE", help="a published list of known disks, Logiqx XML; may be given more than once")
+    either.add_argument("--sha256-only", action="store_true", help="make no other checksums of images; later runs do so too, until --dat is given")
     add_escape(parser, "write texts of the tables")
     return parser
 

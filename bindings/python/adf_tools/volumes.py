@@ -52,7 +52,7 @@ class Record(NamedTuple):
 
 def letters_of(row: Tuple[Any, ...]) -> int:
     """How many letters a row has, roughly."""
-    return LINE + sum([len(value) for value in row if isinstance(value, str)])
+    return LINE + sum([len(value) for value in row if type(value) is str])
 
 
 def record(columns: Columns) -> Record:

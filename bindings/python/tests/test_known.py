@@ -64,6 +64,35 @@ class Known(Asked):
         self.refused(3, "nix.dat: No such file", "catalogue", "--dat", "nix.dat", "disks", "out")
         self.catalogue("--dat", self.list_of(b'<datafile><rom name="&lt;b>../\t" size="-1" crc="zz" md5="0"/><rom/></datafile>'), "disks", "out", status=1)
 
+    def sums(self):
+        """How many images and files have a SHA-256, and how many have the other checksums too."""
+        counts = "SELECT COUNT(sha256), COUNT(COALESCE(crc32, md5, sha1)) FROM {}".format
+        return self.asked("out", counts("images")) + self.asked("out", counts("files"))
+
+    def test_are_not_asked_where_the_sha256_alone_is_made(self):
+        self.catalogue("--sha256-only", "disks", "out", status=1)
+        self.assertEqual(self.sums(), [(5, 0), (5, 0)])
+        self.assertFalse([page.path for page in pages_of("out") if "SHA-1" in page.text or "CRC-32</th>" in page.text])
+        told = "it was written with --sha256-only, and has no other checksums"
+        for digits in ("0" * 8, "0" * 32, "0" * 40):
+            self.refused(3, told, "catalogue", "find", "--sum", digits, "out")
+        self.assertEqual(len(self.find("--sum", self.sum, "out")), 3)
+        self.catalogue("disks", "out", status=1)
+        self.assertEqual(self.asked("out", "SELECT read FROM runs ORDER BY id"), [(5,), (0,)])
+        self.assertEqual(self.run_tool("catalogue", "verify", "out").returncode, 0)
+        for form in ("--premis", "--dfxml", "--report"):
+            self.assertEqual(self.run_tool("catalogue", "export", form, "out").returncode, 0)
+        lists = self.list_of(dat(("b.adf", OFS)))
+        ran = self.run_tool("catalogue", "--sha256-only", "--dat", lists, "disks", "out")
+        self.assertEqual((ran.returncode, b"not allowed with" in ran.stderr), (2, True))
+        self.catalogue("--dat", lists, "disks", "out", status=1)
+        self.assertEqual((self.sums(), self.known()["a.zip/B\xfc.adf"][0]), ([(5, 5), (5, 5)], "known"))
+        self.refused(3, "the catalogue has published lists", "catalogue", "--sha256-only", "disks", "out")
+        self.catalogue("disks", "all", status=1)
+        written("none.dat", dat())
+        self.catalogue("--dat", "none.dat", "disks", "out", status=1)
+        self.assertEqual(trees_of("out"), trees_of("all"))
+
     def list_of(self, content):
         written("list.dat", content)
         return "list.dat"

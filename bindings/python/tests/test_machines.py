@@ -3,7 +3,7 @@
 import os
 import subprocess
 
-from tests.samples import BAD, OFS, Asked, disk, icon, volume, without
+from tests.samples import BAD, OFS, Asked, dat, disk, icon, volume, without
 from tests.shared import written
 from tests.test_catalogue import trees_of
 
@@ -38,6 +38,15 @@ class Machines(Asked):
         self.assertEqual(trees_of("merged"), trees_of("whole"))
         self.catalogue("disks", "merged", status=1)
         self.assertEqual(self.asked("merged", "SELECT read FROM runs ORDER BY id")[-1], (0,))
+
+    def test_asks_no_list_where_the_sha256_alone_was_made(self):
+        written("list.dat", dat(("b.adf", OFS)))
+        parts = self.scanned(2, "--sha256-only")
+        self.refused(3, "the parts were read with --sha256-only", "catalogue", "merge", "merged", *parts, "--dat", "list.dat")
+        self.catalogue("merge", "merged", *parts, status=1)
+        self.catalogue("--sha256-only", "disks", "whole", status=1)
+        self.assertEqual(trees_of("merged"), trees_of("whole"))
+        self.assertEqual(self.asked("merged", "SELECT COUNT(md5) FROM images"), [(0,)])
 
     def listed(self, folder=b"disks"):
         """A list of the names of all files below a folder, as find writes it."""
