@@ -43,7 +43,7 @@ def tell_letters(image: Given, volume: adf.Volume) -> int:
     if volume.letters == "ascii":
         return 0
     kind = adf.TYPES.index(volume.kind)
-    tell("adf-recipe", image.line(f"type {kind}: adf build makes type {kind - INTERNATIONAL}, in whose names only the case of a to z is ignored"))
+    tell("adf-recipe", image.line(f"type {kind}: adf build makes type {kind - INTERNATIONAL}; then adf-edit NEW letters international"))
     return REFUSED
 
 

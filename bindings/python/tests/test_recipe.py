@@ -16,7 +16,7 @@ class Recipes(Folder):
         for kind, told in (("ofs", "type 2: adf build makes type 0"), ("ffs", "type 3: adf build makes type 1")):
             ran = self.run_tool("recipe", given=international(kind))
             self.assertEqual((ran.returncode, ran.stdout.decode().splitlines()[0]), (1, f"volume {kind} 1760"))
-            self.assertEqual(ran.stderr.decode(), f"adf-recipe: {told}, in whose names only the case of a to z is ignored\n")
+            self.assertEqual(ran.stderr.decode(), f"adf-recipe: {told}; then adf-edit NEW letters international\n")
             self.assertEqual([line.split()[-1] for line in listed(built(ran.stdout.decode()))], ["c", "\\xe9"])
 
     def test_refuses(self):
