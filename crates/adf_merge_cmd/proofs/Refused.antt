@@ -8,7 +8,7 @@ use Rattle.adf_names.specs.Escapes.{escaped}
 use Rattle.adf_words.specs.CommandLine.{texts_of}
 use Rattle.adf_boot_blocks.specs.{Refusals.has_image_size, declared.refusal.TheConstants.MOST_BYTES}
 use Rattle.adf_runs.specs.Streams.{AreFirst}
-use Rattle.adf_merge_cmd.specs.Answers.{differ_in_type, first_refused, reading_refusal, reading_refusal_text, refused_or}
+use Rattle.adf_merge_cmd.specs.Answers.{IsSized, differ_in_type, first_refused, reading_refusal, reading_refusal_text, refused_or}
 use Rattle.adf_merge_cmd.specs.declared.refusal.ReadingRefusal.{ReadingRefusal}
 
 next : {X : Type 0} (xs : List X) (i : ℕ) (x : X) → i < length xs → x ≡ get_or xs i x → drop i xs ≡ x ∷ drop (i + 1) xs
@@ -69,10 +69,6 @@ split (Some why) name others e = absurd cc
 
 image_size : (r : List ℕ) → has_image_size r ≡ true → (length r % 512 ≡ 0) × (length r ≤ MOST_BYTES)
 image_size r e = grind (arith, common_steps)
-
--- a reading that is not refused is whole blocks, not too many, and as long as the first one
-abbrev pub IsSized : List ℕ → List ℕ → Type 0
-IsSized first r = (length r % 512 ≡ 0) × (length r ≤ MOST_BYTES) × (length r ≡ length first)
 
 taken_size : (first r : List ℕ) → reading_refusal first r ≡ None → IsSized first r
 taken_size first r e =
