@@ -5,7 +5,7 @@ use Rattle.std.proofs.{lemmas.Bool.Decides.nat_tests}
 use Rattle.std.proofs.lemmas.{Bool.cases_lt, List.get_or_default, List.Folds.list_any_at, List.Folds.list_any_none, List.Sorted.IsNonDecreasingBy-push}
 use Rattle.std.specs.List.{list_any}
 use Rattle.std.specs.List.Sorted.{IsPartitionPoint}
-use Rattle.adf_maps.specs.Maps.{AreRising, MapValue, are_in_order, end_of, hole_between, holes_behind, last_end, map_with, meets, own_holes}
+use Rattle.adf_maps.specs.Maps.{AreRising, MapValue, are_in_order, stretch_end, hole_between, holes_behind, last_end, map_with, meets, own_holes}
 use Rattle.adf_maps.specs.{declared.hole.Hole.Hole, declared.stretch.Stretch.Stretch}
 
 -- the map of holes so far and the stretches behind them
@@ -20,15 +20,15 @@ unfolding are_in_order holes_behind last_end
 map_done hs end = ap (λ all. Some (record { holes = all; end = end })) (append-nil hs)
 
 pub stretch_taken : (hs : List Hole) (end : ℕ) (s : Stretch) (ss left : List Stretch) (all : Option MapValue) → end ≤ s.start
-    → left ≡ s ∷ ss → map_behind hs end left ≡ all → map_behind ((hs ++ hole_between end s.start) ++ own_holes s) (end_of s) ss ≡ all
+    → left ≡ s ∷ ss → map_behind hs end left ≡ all → map_behind ((hs ++ hole_between end s.start) ++ own_holes s) (stretch_end s) ss ≡ all
 unfolding are_in_order holes_behind last_end
 stretch_taken hs end s ss left all le front known =
     let h : map_behind hs end (s ∷ ss) ≡ all = ap (map_behind hs end) (sym front) ∙ known in
     let test : nat_le end s.start ≡ true = grind (arith, nat_tests) in
-    let joined : ((hs ++ hole_between end s.start) ++ own_holes s) ++ holes_behind (end_of s) ss ≡ hs ++ holes_behind end (s ∷ ss)
-    = append_assoc (hs ++ hole_between end s.start) (own_holes s) (holes_behind (end_of s) ss) ∙ append_assoc hs (hole_between end s.start) (own_holes s ++ holes_behind (end_of s) ss) in
-    ap (λ all. if are_in_order (end_of s) ss then Some (record { holes = all; end = last_end (end_of s) ss }) else None) joined
-    ∙ (ap (λ b. if b && are_in_order (end_of s) ss then Some (record { holes = hs ++ holes_behind end (s ∷ ss); end = last_end (end_of s) ss }) else None) (sym test) ∙ h)
+    let joined : ((hs ++ hole_between end s.start) ++ own_holes s) ++ holes_behind (stretch_end s) ss ≡ hs ++ holes_behind end (s ∷ ss)
+    = append_assoc (hs ++ hole_between end s.start) (own_holes s) (holes_behind (stretch_end s) ss) ∙ append_assoc hs (hole_between end s.start) (own_holes s ++ holes_behind (stretch_end s) ss) in
+    ap (λ all. if are_in_order (stretch_end s) ss then Some (record { holes = all; end = last_end (stretch_end s) ss }) else None) joined
+    ∙ (ap (λ b. if b && are_in_order (stretch_end s) ss then Some (record { holes = hs ++ holes_behind end (s ∷ ss); end = last_end (stretch_end s) ss }) else None) (sym test) ∙ h)
 
 pub stretch_refused : (hs : List Hole) (end : ℕ) (s : Stretch) (ss left : List Stretch) (all : Option MapValue) → s.start < end
     → left ≡ s ∷ ss → map_behind hs end left ≡ all → None ≡ all
@@ -36,7 +36,7 @@ unfolding are_in_order holes_behind last_end
 stretch_refused hs end s ss left all lt front known =
     let h : map_behind hs end (s ∷ ss) ≡ all = ap (map_behind hs end) (sym front) ∙ known in
     let test : nat_le end s.start ≡ false = grind (arith, nat_tests) in
-    ap (λ b. if b && are_in_order (end_of s) ss then Some (record { holes = hs ++ holes_behind end (s ∷ ss); end = last_end (end_of s) ss }) else None) (sym test) ∙ h
+    ap (λ b. if b && are_in_order (stretch_end s) ss then Some (record { holes = hs ++ holes_behind end (s ∷ ss); end = last_end (stretch_end s) ss }) else None) (sym test) ∙ h
 
 -- one hole more
 pub rising_more : (hs : List Hole) (h : Hole) → AreRising hs → All (λ k. (k.start ≤ h.start) × (k.end ≤ h.start)) hs → h.start ≤ h.end → AreRising (hs ++ h ∷ [])

@@ -5,22 +5,25 @@ use Rattle.std.specs.{List.Sorted.IsNonDecreasingBy, List.filter, List.list_any,
 use Rattle.adf_maps.specs.{declared.hole.Hole.Hole, declared.numbers.TheConstants.MOST_NUMBER, declared.stretch.Stretch.Stretch}
 
 -- the value of a digit; 16 if it is none
-abbrev pub digit : ℕ → ℕ
-digit c = if nat_le 48 c && nat_le c 57 then c - 48 else (if nat_le 97 c && nat_le c 102 then c - 97 + 10 else (if nat_le 65 c && nat_le c 70 then c - 65 + 10 else 16))
+abbrev pub digit_value : ℕ → ℕ
+digit_value c =
+    if nat_le 48 c && nat_le c 57 then c - 48
+    else (if nat_le 97 c && nat_le c 102 then c - 97 + 10
+    else (if nat_le 65 c && nat_le c 70 then c - 65 + 10 else 16))
 
 -- n and the digits behind it, if the number is at most MOST_NUMBER
-unfoldable pub number_from : ℕ → ℕ → List ℕ → Option ℕ
-number_from radix n [] = Some n
-number_from radix n (c ∷ cs) =
-    if nat_lt (digit c) radix && nat_le (radix * n + digit c) MOST_NUMBER then number_from radix (radix * n + digit c) cs else None
+unfoldable pub number_behind : ℕ → ℕ → List ℕ → Option ℕ
+number_behind radix n [] = Some n
+number_behind radix n (c ∷ cs) =
+    if nat_lt (digit_value c) radix && nat_le (radix * n + digit_value c) MOST_NUMBER then number_behind radix (radix * n + digit_value c) cs else None
 
 -- a number: decimal without a 0 in front, or hexadecimal behind 0x
-abbrev pub number_of : List ℕ → Option ℕ
-number_of [] = None
-number_of (c ∷ []) = number_from 10 0 (c ∷ [])
-number_of (c ∷ d ∷ []) = if c == 48 then None else number_from 10 0 (c ∷ d ∷ [])
-number_of (c ∷ d ∷ e ∷ cs) =
-    if c == 48 then (if (d == 120) || (d == 88) then number_from 16 0 (e ∷ cs) else None) else number_from 10 0 (c ∷ d ∷ e ∷ cs)
+abbrev pub number_in : List ℕ → Option ℕ
+number_in [] = None
+number_in (c ∷ []) = number_behind 10 0 (c ∷ [])
+number_in (c ∷ d ∷ []) = if c == 48 then None else number_behind 10 0 (c ∷ d ∷ [])
+number_in (c ∷ d ∷ e ∷ cs) =
+    if c == 48 then (if (d == 120) || (d == 88) then number_behind 16 0 (e ∷ cs) else None) else number_behind 10 0 (c ∷ d ∷ e ∷ cs)
 
 -- a space, a tab or a carriage return
 abbrev pub is_blank : ℕ → Bool
@@ -49,8 +52,8 @@ is_work w = list_any (λ c. bytes_eq w (c ∷ [])) (codes "?*/-FG+")
 
 -- the row of the status: a position, what ddrescue was at, and perhaps its pass
 abbrev pub is_status : List (List ℕ) → Bool
-is_status (position ∷ work ∷ []) = is_some (number_of position) && is_work work
-is_status (position ∷ work ∷ pass ∷ []) = is_some (number_of position) && (is_work work && is_some (number_of pass))
+is_status (position ∷ work ∷ []) = is_some (number_in position) && is_work work
+is_status (position ∷ work ∷ pass ∷ []) = is_some (number_in position) && (is_work work && is_some (number_in pass))
 is_status ws = false
 
 -- + is the status of a stretch that was read
@@ -65,7 +68,7 @@ stretch_with (Some start) (Some size) None = None
 stretch_with (Some start) (Some size) (Some is_read) = if size == 0 then None else Some (record { start = start; size = size; is_read = is_read })
 
 abbrev pub stretch_of : List (List ℕ) → Option Stretch
-stretch_of (start ∷ size ∷ status ∷ []) = stretch_with (number_of start) (number_of size) (was_read status)
+stretch_of (start ∷ size ∷ status ∷ []) = stretch_with (number_in start) (number_in size) (was_read status)
 stretch_of ws = None
 
 -- one stretch more in front
@@ -84,18 +87,18 @@ abbrev pub stretches_told : List (List (List ℕ)) → Option (List Stretch)
 stretches_told [] = None
 stretches_told (row ∷ rows) = if is_status row then stretches_of rows else None
 
-abbrev pub end_of : Stretch → ℕ
-end_of s = s.start + s.size
+abbrev pub stretch_end : Stretch → ℕ
+stretch_end s = s.start + s.size
 
 -- no stretch begins before the end of the one before it; all that is before them ends at `end`
 unfoldable pub are_in_order : ℕ → List Stretch → Bool
 are_in_order end [] = true
-are_in_order end (s ∷ ss) = nat_le end s.start && are_in_order (end_of s) ss
+are_in_order end (s ∷ ss) = nat_le end s.start && are_in_order (stretch_end s) ss
 
 -- where the last stretch ends
 unfoldable pub last_end : ℕ → List Stretch → ℕ
 last_end end [] = end
-last_end end (s ∷ ss) = last_end (end_of s) ss
+last_end end (s ∷ ss) = last_end (stretch_end s) ss
 
 -- the hole from a byte up to another, if there is one
 abbrev pub hole_between : ℕ → ℕ → List Hole
@@ -103,12 +106,12 @@ hole_between start end = if nat_lt start end then record { start = start; end = 
 
 -- a stretch is a hole if its status is not +
 abbrev pub own_holes : Stretch → List Hole
-own_holes s = if s.is_read then [] else hole_between s.start (end_of s)
+own_holes s = if s.is_read then [] else hole_between s.start (stretch_end s)
 
 -- what was not read: what no stretch has, and the stretches that are holes
 unfoldable pub holes_behind : ℕ → List Stretch → List Hole
 holes_behind end [] = []
-holes_behind end (s ∷ ss) = hole_between end s.start ++ (own_holes s ++ holes_behind (end_of s) ss)
+holes_behind end (s ∷ ss) = hole_between end s.start ++ (own_holes s ++ holes_behind (stretch_end s) ss)
 
 -- a map: what was not read of the bytes before `end`, and where the last stretch ends
 pub record MapValue : Type 0 where

@@ -1,8 +1,10 @@
 // A map of GNU ddrescue.
 
-ghost use Rattle.std.specs.Prelude.{◌≡◌, ◌≤◌, ◌<◌, ◌^◌, ◌++◌, All, IfErr, IfOk, IfSome, None, Some, false, map, nat_le, option_map, true, ◌*◌};
+ghost use Rattle.std.specs.Prelude.{◌≡◌, ◌≤◌, ◌<◌, ◌^◌, ◌++◌, ◌*◌, All, IfErr, IfOk, IfSome, None, Some, false, true};
+ghost use Rattle.std.specs.Prelude.{map, nat_le, option_map};
 ghost use Rattle.std.specs.{List.Sorted.IsPartitionPoint, List.list_any};
-ghost use Rattle.adf_maps.specs.Maps.{AreRising, end_of, hole_between, is_unread, map_of, map_with, meets, own_holes, stretches_told};
+ghost use Rattle.adf_maps.specs.Maps.{AreRising, hole_between, is_unread, map_of, map_with, meets, own_holes, stretch_end};
+ghost use Rattle.adf_maps.specs.Maps.{stretches_told};
 ghost use Rattle.adf_maps.specs.declared.numbers.TheConstants.{MOST_NUMBER};
 
 use crate::hole::Hole;
@@ -57,10 +59,11 @@ fn push_holes(holes: &mut Vec<Hole>, end: u64, stretch: Stretch) -> Result<(), A
     requires rising { AreRising holes.old.items }
     requires within { All (λ h. (h.start ≤ end) × (h.end ≤ end)) holes.old.items }
     requires order { end ≤ stretch.start }
-    requires small { end_of stretch < 2 ^ 64 }
-    ensures items { IfOk result (λ _. holes.new.items ≡ (holes.old.items ++ hole_between end stretch.start) ++ own_holes stretch) }
+    requires small { stretch_end stretch < 2 ^ 64 }
+    ensures items { IfOk result (λ _.
+        holes.new.items ≡ (holes.old.items ++ hole_between end stretch.start) ++ own_holes stretch) }
     ensures rising { IfOk result (λ _. AreRising holes.new.items) }
-    ensures within { IfOk result (λ _. All (λ h. (h.start ≤ end_of stretch) × (h.end ≤ end_of stretch)) holes.new.items) }
+    ensures within { IfOk result (λ _. All (λ h. (h.start ≤ stretch_end stretch) × (h.end ≤ stretch_end stretch)) holes.new.items) }
 {
     push_hole(holes, end, stretch.start)?;
     if stretch.is_read {
@@ -89,7 +92,8 @@ fn map_with(alloc: Global, stretches: &[Stretch]) -> Result<Option<Map>, AllocEr
 
 // The stretches that rows tell.
 fn stretches_told(alloc: Global, rows: &[Vec<&[u8]>]) -> Result<Option<Vec<Stretch>>, AllocError>
-    ensures value { IfOk result (λ all. option_map (λ v. v.items) all ≡ stretches_told (map (λ r. map (λ w. w.now) r.items) rows.now)) }
+    ensures value { IfOk result (λ all.
+        option_map (λ v. v.items) all ≡ stretches_told (map (λ r. map (λ w. w.now) r.items) rows.now)) }
     ensures most { IfOk result (λ all. IfSome all (λ v. All (λ s. (s.start ≤ MOST_NUMBER) × (s.size ≤ MOST_NUMBER)) v.items)) }
 {
     match rows {

@@ -1,7 +1,7 @@
 // Numbers of a map: decimal, or hexadecimal behind `0x`.
 
 ghost use Rattle.std.specs.Prelude.{◌≡◌, ◌≤◌, IfSome, Some};
-ghost use Rattle.adf_maps.specs.Maps.{digit, number_from, number_of};
+ghost use Rattle.adf_maps.specs.Maps.{digit_value, number_behind, number_in};
 ghost use Rattle.adf_maps.specs.declared.numbers.TheConstants.{MOST_NUMBER};
 
 /// The largest number of a map, 2^59.
@@ -9,7 +9,7 @@ pub const MOST_NUMBER: u64 = 576_460_752_303_423_488;
 
 // The value of a digit; 16 if it is none.
 fn digit(c: u8) -> u64
-    ensures value { result ≡ digit c }
+    ensures value { result ≡ digit_value c }
     ensures most { result ≤ 16 }
 {
     match c {
@@ -21,10 +21,10 @@ fn digit(c: u8) -> u64
 }
 
 // The number of digits.
-#[tactic(auto, using(crate::proofs::DigitLaws::digit_read, crate::proofs::DigitLaws::no_digit, crate::proofs::DigitLaws::no_room, crate::proofs::DigitLaws::number_done))]
+#[tactic(auto, using(crate::proofs::DigitLaws::digits))]
 fn number_from(radix: u64, digits: &[u8]) -> Option<u64>
     requires { radix ≤ 16 }
-    ensures value { result ≡ number_from radix 0 digits.now }
+    ensures value { result ≡ number_behind radix 0 digits.now }
     ensures most { IfSome result (λ n. n ≤ MOST_NUMBER) }
 {
     let mut number = 0u64;
@@ -43,7 +43,7 @@ fn number_from(radix: u64, digits: &[u8]) -> Option<u64>
 
 /// The number of a word.
 pub fn read_number(word: &[u8]) -> Option<u64>
-    ensures value { result ≡ number_of word.now }
+    ensures value { result ≡ number_in word.now }
     ensures most { IfSome result (λ n. n ≤ MOST_NUMBER) }
 {
     match word {

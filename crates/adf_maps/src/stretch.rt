@@ -71,7 +71,8 @@ fn stretch_of(row: &[&[u8]]) -> Option<Stretch>
 
 /// The stretches of rows, if each tells one.
 pub fn stretches_of(alloc: Global, rows: &[Vec<&[u8]>]) -> Result<Option<Vec<Stretch>>, AllocError>
-    ensures value { IfOk result (λ all. option_map (λ v. v.items) all ≡ stretches_of (map (λ r. map (λ w. w.now) r.items) rows.now)) }
+    ensures value { IfOk result (λ all.
+        option_map (λ v. v.items) all ≡ stretches_of (map (λ r. map (λ w. w.now) r.items) rows.now)) }
     ensures most { IfOk result (λ all. IfSome all (λ v. All (λ s. (s.start ≤ MOST_NUMBER) × (s.size ≤ MOST_NUMBER)) v.items)) }
 {
     let mut stretches = Vec::new(alloc);

@@ -1,6 +1,8 @@
 -- Maps that are read one by one. Letters: ns names, ts their texts, n and t one of each; so_far the maps of those before, all the answer to all.
-use Rattle.std.proofs.Common.{◌≡◌, ◌≤◌, ◌<◌, ◌+◌, ◌∙◌, ◌++◌, ℕ, suc, List, [], ◌∷◌, All, Option, None, Result, Ok, Err, ap, sym, refl, arith, drop, get_or, length, subst, IfErr}
-use Rattle.std.proofs.{Common.append_assoc, Common.append-nil, lemmas.List.Elements.All-cons, lemmas.List.drop-drop, lemmas.List.drop_all, lemmas.List.get_or-drop, Math.Seq.drop-cons}
+use Rattle.std.proofs.Common.{◌≡◌, ◌≤◌, ◌<◌, ◌+◌, ◌∙◌, ◌++◌, ℕ, suc, List, [], ◌∷◌, All, Option, None, Result, Ok, Err, ap, sym, refl, arith, drop, get_or}
+use Rattle.std.proofs.Common.{length, subst, IfErr}
+use Rattle.std.proofs.{Common.append_assoc, Common.append-nil, lemmas.List.Elements.All-cons, lemmas.List.drop-drop, lemmas.List.drop_all}
+use Rattle.std.proofs.{lemmas.List.get_or-drop, Math.Seq.drop-cons}
 use Rattle.std.specs.Result.{IsErrAnd}
 use Rattle.clap.specs.Words.{Text}
 use Rattle.adf_maps.specs.Maps.{MapValue}
@@ -29,7 +31,8 @@ none_left : (size : ℕ) (ts : List (List ℕ)) → named_maps size [] ts ≡ Ok
 unfolding named_maps
 none_left size ts = refl
 
-joined : (so_far : List (Option MapValue)) (n : Text) (m : Option MapValue) (told : Told) → behind (so_far ++ m ∷ []) told ≡ behind so_far (with_map n (Ok m) told)
+joined : (so_far : List (Option MapValue)) (n : Text) (m : Option MapValue) (told : Told)
+    → behind (so_far ++ m ∷ []) told ≡ behind so_far (with_map n (Ok m) told)
 joined so_far n m (Err line) = refl
 joined so_far n m (Ok more) = ap Ok (append_assoc so_far (m ∷ []) more)
 
@@ -69,8 +72,10 @@ mapped_cons r rs (x ∷ maps) m e = ap (λ m. record { image = r; map = m } ∷ 
 pub mapped_each : (P : List ℕ → Type 0) (rs : List (List ℕ)) (maps : List (Option MapValue)) → All P rs → All (λ m. P m.image) (mapped rs maps)
 unfolding mapped
 mapped_each P [] maps all = λ k d lt. absurd (omega arith)
-mapped_each P (r ∷ rs) [] all = All-cons (λ m. P m.image) (record { image = r; map = None }) (mapped rs []) (all 0 r (omega arith)) (mapped_each P rs [] (λ k d lt. all (suc k) d (omega arith)))
-mapped_each P (r ∷ rs) (m ∷ maps) all = All-cons (λ m. P m.image) (record { image = r; map = m }) (mapped rs maps) (all 0 r (omega arith)) (mapped_each P rs maps (λ k d lt. all (suc k) d (omega arith)))
+mapped_each P (r ∷ rs) [] all = All-cons (λ m. P m.image) (record { image = r; map = None }) (mapped rs []) (all 0 r (omega arith))
+    (mapped_each P rs [] (λ k d lt. all (suc k) d (omega arith)))
+mapped_each P (r ∷ rs) (m ∷ maps) all = All-cons (λ m. P m.image) (record { image = r; map = m }) (mapped rs maps) (all 0 r (omega arith))
+    (mapped_each P rs maps (λ k d lt. all (suc k) d (omega arith)))
 
 pub mapped_long : (rs : List (List ℕ)) (maps : List (Option MapValue)) → length (mapped rs maps) ≡ length rs
 unfolding mapped
@@ -100,6 +105,7 @@ mapped_end rs maps i so_far all past h =
     sym (append-nil so_far) ∙ (ap (λ ms. so_far ++ ms) (sym (ap (λ xs. mapped xs (drop i maps)) (drop_all i rs past) ∙ mapped_none (drop i maps))) ∙ h)
 
 -- the stop of one map is that of all
-pub stop_is : {T : Type 0} (result : Result T MapStop) (all : Told) (u : MapStop) → IsErrAnd result (λ e. e ≡ u) → IsMapStop all u → IfErr result (IsMapStop all)
+pub stop_is : {T : Type 0} (result : Result T MapStop) (all : Told) (u : MapStop)
+    → IsErrAnd result (λ e. e ≡ u) → IsMapStop all u → IfErr result (IsMapStop all)
 stop_is (Ok x) all u e is = tt
 stop_is (Err f) all u e is = subst (IsMapStop all) (sym e) is

@@ -1,7 +1,9 @@
 -- What `adf-merge` answers to readings, and how its runs end. Letters: rs the readings, r one of them; ms these with their maps, m a map; o what words
 -- ask for; n the status of a run.
-use Rattle.std.specs.Prelude.{◌≡◌, ◌⊎◌, ◌+◌, ◌/◌, ◌%◌, ◌≤◌, ◌==◌, ◌&&◌, ◌++◌, ℕ, Bool, not, if◌then◌else◌, List, [], ◌∷◌, Contains, codes, decimal, length, slice_index}
-use Rattle.std.specs.{Prelude.IfSome, Prelude.None, Prelude.Option, Prelude.Some, Prelude.Result, Prelude.Ok, Prelude.Err, Prelude.true, Prelude.false, Prelude.take, Str.bytes_eq, List.AllZip, Io.KnownBytes.Appends}
+use Rattle.std.specs.Prelude.{◌≡◌, ◌⊎◌, ◌+◌, ◌/◌, ◌%◌, ◌≤◌, ◌==◌, ◌&&◌, ◌++◌, ℕ, Bool, not, if◌then◌else◌, List, [], ◌∷◌, Contains, codes, decimal, length}
+use Rattle.std.specs.Prelude.{slice_index}
+use Rattle.std.specs.{Prelude.IfSome, Prelude.None, Prelude.Option, Prelude.Some, Prelude.Result, Prelude.Ok, Prelude.Err, Prelude.true, Prelude.false}
+use Rattle.std.specs.{Prelude.take, Str.bytes_eq, List.AllZip, Io.KnownBytes.Appends}
 use Rattle.clap.specs.Words.{Text}
 use Rattle.adf_names.specs.Escapes.{escaped}
 use Rattle.adf_words.specs.declared.command_line.ArgsError.{ArgsError}
@@ -35,8 +37,8 @@ reading_refusal_text OtherSize = codes ": another size than the first reading\n"
 reading_refusal_text OtherType = codes ": another type than the first reading\n"
 
 -- a reading that is not refused is whole blocks, not too many, and as long as the first one
-abbrev pub IsSized : List ℕ → List ℕ → Type 0
-IsSized first r = (length r % 512 ≡ 0) × (length r ≤ MOST_BYTES) × (length r ≡ length first)
+abbrev pub IsLikeFirst : List ℕ → List ℕ → Type 0
+IsLikeFirst first r = (length r % 512 ≡ 0) × (length r ≤ MOST_BYTES) × (length r ≡ length first)
 
 -- the line of a reading that is refused; else what is said of the others
 abbrev pub refused_or : Option ReadingRefusal → Text → Option (List ℕ) → Option (List ℕ)

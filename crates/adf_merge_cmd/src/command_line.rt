@@ -3,7 +3,8 @@
 ghost use Rattle.std.specs.Prelude.{◌≡◌, IfErr, IfOk, [], ◌∷◌, codes, false, option_map, unwrap_or};
 ghost use Rattle.clap.specs.Words.{all_of, app_of, fault_of, found_of, matches_of, rows_of, rule_of};
 ghost use Rattle.adf_words.specs.{CommandLine.texts_of, declared.command_line.ArgsError.TheVariants.Usage};
-ghost use Rattle.adf_merge_cmd.specs.CommandLine.{AreRefusedByMerge, AsksMerge, ExplainsMergeArgs, are_enough, map_rule, merge_app, order_met, readings_rule};
+ghost use Rattle.adf_merge_cmd.specs.CommandLine.{AreRefusedByMerge, AsksMerge, ExplainsMergeArgs, are_enough, map_rule};
+ghost use Rattle.adf_merge_cmd.specs.CommandLine.{merge_app, order_met, readings_rule};
 
 use adf_file_runs::About;
 use adf_readings::MOST_READINGS;
@@ -13,8 +14,8 @@ use std::alloc::{AllocError, Global};
 use std::marker::Model;
 
 /// What is said of arguments that are refused.
-pub const MERGE_USAGE: &str =
-    "usage: adf-merge [--map MAP ..] A B [C..] > NEW\n2 to 100 readings of one disk, and no more maps; man adf-merge tells more\n";
+pub const MERGE_USAGE: &str = "usage: adf-merge [--map MAP ..] A B [C..] > NEW\n\
+    2 to 100 readings of one disk, and no more maps; man adf-merge tells more\n";
 
 /// What the program tells of itself.
 pub const ABOUT: About = About {
@@ -136,11 +137,13 @@ pub fn merge_words_as_documented()
         (record { readings = codes "a" ∷ codes "b" ∷ codes "c" ∷ []; maps = [] }) }
     ensures any_files { AsksMerge (codes "adf-merge" ∷ codes "--" ∷ codes "-a" ∷ codes "-b" ∷ [])
         (record { readings = codes "-a" ∷ codes "-b" ∷ []; maps = [] }) }
-    ensures maps { AsksMerge (codes "adf-merge" ∷ codes "--map" ∷ codes "-" ∷ codes "--map" ∷ codes "m" ∷ codes "a" ∷ codes "b" ∷ [])
+    ensures maps { AsksMerge
+        (codes "adf-merge" ∷ codes "--map" ∷ codes "-" ∷ codes "--map" ∷ codes "m" ∷ codes "a" ∷ codes "b" ∷ [])
         (record { readings = codes "a" ∷ codes "b" ∷ []; maps = codes "-" ∷ codes "m" ∷ [] }) }
     ensures none { AreRefusedByMerge (codes "adf-merge" ∷ []) }
     ensures one { AreRefusedByMerge (codes "adf-merge" ∷ codes "a.adf" ∷ []) }
-    ensures more_maps { AreRefusedByMerge (codes "adf-merge" ∷ codes "--map=a" ∷ codes "--map=b" ∷ codes "--map=c" ∷ codes "a" ∷ codes "b" ∷ []) }
+    ensures more_maps { AreRefusedByMerge
+        (codes "adf-merge" ∷ codes "--map=a" ∷ codes "--map=b" ∷ codes "--map=c" ∷ codes "a" ∷ codes "b" ∷ []) }
     ensures unknown { AreRefusedByMerge (codes "adf-merge" ∷ codes "-x" ∷ codes "a" ∷ codes "b" ∷ []) }
     ensures help { AreRefusedByMerge (codes "adf-merge" ∷ codes "--help" ∷ []) }
 {}

@@ -1,7 +1,8 @@
 // The lines of what is left to chance, or in no reading.
 
 ghost use Rattle.std.specs.Prelude.{◌≡◌, ◌++◌, ◌∷◌, [], IfOk, OnOk};
-ghost use Rattle.adf_merge_cmd.specs.Answers.{begun_stretch, differing_text, doubt_lines, goes_on, is_same_why, stretch_blocks, stretch_line, why_text};
+ghost use Rattle.adf_merge_cmd.specs.Answers.{begun_stretch, differing_text, doubt_lines, goes_on, is_same_why, stretch_blocks};
+ghost use Rattle.adf_merge_cmd.specs.Answers.{stretch_line, why_text};
 
 use adf_readings::{Doubt, Why};
 use adf_texts::push_number;

@@ -1,6 +1,7 @@
 // The maps of readings.
 
-ghost use Rattle.std.specs.Prelude.{◌≡◌, ◌++◌, Err, IfErr, IfOk, List, None, Ok, Option, Result, length, option_map, slice_index_or, ℕ};
+ghost use Rattle.std.specs.Prelude.{◌≡◌, ◌++◌, Err, IfErr, IfOk, List, None, Ok, Option, Result, length, option_map};
+ghost use Rattle.std.specs.Prelude.{slice_index_or, ℕ};
 ghost use Rattle.adf_maps.specs.Maps.{MapValue};
 ghost use Rattle.adf_names.specs.Escapes.{escaped};
 ghost use Rattle.adf_words.specs.CommandLine.{texts_of};

@@ -3,7 +3,7 @@
 ghost use Rattle.std.specs.Prelude.{◌≡◌, ◌≤◌, ◌<◌, ◌*◌, All, [], false, length, slice_index_or};
 ghost use Rattle.adf_readings.specs.{Merge.HaveBlocks, declared.choice.TheConstants.MOST_READINGS};
 ghost use Rattle.adf_runs.specs.{Outcomes.Does, Streams.seen};
-ghost use Rattle.adf_merge_cmd.specs.Answers.{IsSized, mapped, mapped_reply, merge_reply, merged_reply, named_maps};
+ghost use Rattle.adf_merge_cmd.specs.Answers.{IsLikeFirst, mapped, mapped_reply, merge_reply, merged_reply, named_maps};
 
 use crate::command_line::MergeOrder;
 use crate::doubt_lines::doubt_lines;
@@ -73,12 +73,13 @@ fn answer_sized<W: Sink>(
     output: &mut W,
 ) -> Outcome
     requires works { W.has_failed output.old ≡ false }
-    requires sized { All (IsSized (slice_index_or readings.now 0 [])) readings.now }
+    requires sized { All (IsLikeFirst (slice_index_or readings.now 0 [])) readings.now }
     requires maps { length order.now.maps ≡ length texts.now }
     requires some { 0 < length readings.now }
     requires few { length readings.now ≤ MOST_READINGS }
-    ensures { Does (λ reply. reply ≡ mapped_reply (named_maps (length (slice_index_or readings.now 0 [])) order.now.maps texts.now)
-        (length (slice_index_or readings.now 0 [])) readings.now) result (seen W.held W.has_failed output.old output.new) }
+    ensures { Does (λ reply. reply ≡ mapped_reply (named_maps (length (slice_index_or readings.now 0 []))
+        order.now.maps texts.now) (length (slice_index_or readings.now 0 [])) readings.now) result
+        (seen W.held W.has_failed output.old output.new) }
 {
     let size = readings[0].bytes().len();
     match named_maps(alloc, size, &order.maps, texts) {

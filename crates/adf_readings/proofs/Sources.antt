@@ -1,7 +1,7 @@
 -- The readings whose versions of a block count. Letters: ms readings with their maps, b the number of a block; P what holds of images.
 use Rattle.std.proofs.Common.{◌≡◌, ◌≤◌, ◌<◌, ◌+◌, ◌*◌, ◌⊎◌, ◌∙◌, ℕ, suc, zero, Bool, true, false, not, List, [], ◌∷◌, All, Contains, if◌then◌else◌, length, inl, inr, refl, sym, ap, arith}
 use Rattle.std.proofs.lemmas.{Bool.cond_both, List.length-map, List.Elements.All-filter, List.Elements.All-map, List.Sums.count_by-le-length, List.Sums.length-filter}
-use Rattle.adf_readings.specs.Merge.{HaveBlocks, doubt_at, told_at}
+use Rattle.adf_readings.specs.Merge.{HaveBlocks, doubt_at, block_told}
 use Rattle.adf_readings.specs.declared.doubt.Why.TheVariants.{Unread}
 use Rattle.adf_readings.specs.Mapped.{MappedValue, having, images, is_lacked, is_none, lacks, sources}
 
@@ -54,7 +54,7 @@ source_of ms b r = of_sources ms b (λ rs. Contains rs r → (m : MappedValue) �
     (λ _ found. let (m, one, is) = image_of (having ms b) r found in let (here, has) = having_one ms b m one in (m, here, is, inl has))
 
 -- where a reading has a block, and nothing there is left to chance, nothing is told
-pub nothing_told : (ms : List MappedValue) (b : ℕ) → is_lacked ms b ≡ false → doubt_at (sources ms b) b ≡ [] → told_at ms b ≡ []
+pub nothing_told : (ms : List MappedValue) (b : ℕ) → is_lacked ms b ≡ false → doubt_at (sources ms b) b ≡ [] → block_told ms b ≡ []
 nothing_told ms b has settled = ap (λ t. if t then record { block = b; why = Unread } ∷ [] else doubt_at (sources ms b) b) has ∙ settled
 
 -- each image that counts has so many blocks
@@ -62,5 +62,5 @@ pub sources_reach : (n : ℕ) (ms : List MappedValue) (b : ℕ) → HaveBlocks n
 sources_reach n ms b whole lt = sources_whole ms b (λ r. b * 512 + 512 ≤ length r) (λ k d less. let long = whole k d less in omega arith)
 
 -- what is told of a block that some reading has
-pub told_some : (ms : List MappedValue) (b : ℕ) → is_lacked ms b ≡ false → told_at ms b ≡ doubt_at (sources ms b) b
+pub told_some : (ms : List MappedValue) (b : ℕ) → is_lacked ms b ≡ false → block_told ms b ≡ doubt_at (sources ms b) b
 told_some ms b has = ap (λ t. if t then record { block = b; why = Unread } ∷ [] else doubt_at (sources ms b) b) has

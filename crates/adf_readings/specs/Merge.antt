@@ -27,12 +27,12 @@ abbrev pub doubt_at : List (List ℕ) → ℕ → List Doubt
 doubt_at rs b = if is_settled b (versions rs b) then [] else record { block = b; why = Differing (differing b (versions rs b)) } ∷ []
 
 -- what is told of a block, if anything: that no reading has it, or that it is left to chance
-abbrev pub told_at : List MappedValue → ℕ → List Doubt
-told_at ms b = if is_lacked ms b then record { block = b; why = Unread } ∷ [] else doubt_at (sources ms b) b
+abbrev pub block_told : List MappedValue → ℕ → List Doubt
+block_told ms b = if is_lacked ms b then record { block = b; why = Unread } ∷ [] else doubt_at (sources ms b) b
 
 -- what is told
 abbrev pub doubts : ℕ → List MappedValue → List Doubt
-doubts n ms = flat_map (told_at ms) (range_with_len 0 n)
+doubts n ms = flat_map (block_told ms) (range_with_len 0 n)
 
 -- at a block all readings agree with this one; or it is credible there, and no reading that differs from it is
 abbrev pub Prevails : ℕ → List ℕ → List (List ℕ) → Type 0

@@ -75,10 +75,7 @@ fn having<'a>(
 }
 
 // The images of all readings.
-fn images<'a>(
-    alloc: Global,
-    readings: &[MappedReading<'a>],
-) -> Result<Vec<Reading<'a>>, AllocError>
+fn images<'a>(alloc: Global, readings: &[MappedReading<'a>]) -> Result<Vec<Reading<'a>>, AllocError>
     ensures { IfOk result (λ all. all.items ≡ images readings.now) }
 {
     let mut all = Vec::new(alloc);

@@ -1,7 +1,7 @@
 // The merged image, and what is told of its blocks.
 
 ghost use Rattle.std.specs.Prelude.{◌≡◌, ◌≤◌, ◌<◌, ◌++◌, IfOk, OnOk, length};
-ghost use Rattle.adf_readings.specs.Merge.{HaveBlocks, doubts, merged, taken_of, told_at};
+ghost use Rattle.adf_readings.specs.Merge.{HaveBlocks, doubts, merged, taken_of, block_told};
 ghost use Rattle.adf_readings.specs.declared.choice.TheConstants.{MOST_READINGS};
 
 use crate::choice::{MOST_READINGS, doubtful, taken};
@@ -31,18 +31,24 @@ fn merge_block(
     requires few { length readings.now ≤ MOST_READINGS }
     requires within { block < blocks }
     ensures image { OnOk result (merged.new.image.items ≡ merged.old.image.items ++ taken_of readings.now block) }
-    ensures doubts { OnOk result (merged.new.doubts.items ≡ merged.old.doubts.items ++ told_at readings.now block) }
+    ensures doubts { OnOk result (merged.new.doubts.items ≡ merged.old.doubts.items ++ block_told readings.now block) }
 {
     let (images, lacked) = sources(alloc, readings, block)?;
     let i = taken(&images, block);
     merged.image.extend_from_slice(images[i].version(block))?;
     if lacked {
-        merged.doubts.push(Doubt { block, why: Why::Unread })?;
+        merged.doubts.push(Doubt {
+            block,
+            why: Why::Unread,
+        })?;
         return Ok(());
     }
     let differing = doubtful(&images, block, i);
     if differing > 0 {
-        merged.doubts.push(Doubt { block, why: Why::Differing(differing) })?;
+        merged.doubts.push(Doubt {
+            block,
+            why: Why::Differing(differing),
+        })?;
     }
     Ok(())
 }

@@ -15,7 +15,8 @@ loop-i-preserved c =
     let within : i < length rs = search rules in
     let r : List ℕ = c.bytes.result.now in
     let at : r ≡ get_or rs i r = c.bytes.ensures ∙ (c.index-readings-i.is ∙ get_or_default rs i c.index-readings-i.result r within) in
-    ap (λ ms. ms ++ mapped (drop (i + 1) rs) (drop (i + 1) maps)) (c.in_ok-push.ensures.items ∙ ap (λ (m : MappedValue). c.loop-i.all.items ++ m ∷ []) c.new.ensures)
+    ap (λ ms. ms ++ mapped (drop (i + 1) rs) (drop (i + 1) maps))
+    (c.in_ok-push.ensures.items ∙ ap (λ (m : MappedValue). c.loop-i.all.items ++ m ∷ []) c.new.ensures)
     ∙ mapped_next rs maps i r (option_map (λ m. m.now) c.map_at.result) c.loop-i.all.items _ within at c.map_at.ensures c.loop-i.invariant
 
 pub returns : goal.returns

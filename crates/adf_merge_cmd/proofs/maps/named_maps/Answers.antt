@@ -2,7 +2,8 @@ use Rattle.std.proofs.Common.{◌≡◌, ◌≤◌, ◌<◌, ◌+◌, ◌∙◌,
 use Rattle.std.proofs.lemmas.List.{get_or_default}
 use Rattle.adf_words.specs.CommandLine.{texts_of}
 use Rattle.adf_merge_cmd.specs.Answers.{named_maps}
-use Rattle.adf_merge_cmd.proofs.{NamedMaps.behind, NamedMaps.map_stopped, NamedMaps.map_taken, NamedMaps.maps_end, NamedMaps.stop_is, Refused.named, Refused.texts_long}
+use Rattle.adf_merge_cmd.proofs.{NamedMaps.behind, NamedMaps.map_stopped, NamedMaps.map_taken, NamedMaps.maps_end, NamedMaps.stop_is, Refused.named}
+use Rattle.adf_merge_cmd.proofs.{Refused.texts_long}
 use Rattle.adf_merge_cmd.proofs.maps.named_maps.Goals as goal
 
 pub returns-in_err-map-clause-stop : goal.returns-in_err-map-clause-stop
@@ -40,4 +41,5 @@ loop-i-preserved c =
 pub returns-clause-ok : goal.returns-clause-ok
 returns-clause-ok c =
     let past : length c.args.names.now ≤ c.loop-i.i = search rules in
-    maps_end c.args.size (texts_of c.args.names.now) c.args.texts.now c.loop-i.i c.loop-i.maps.items _ (omega (arith, past, texts_long c.args.names.now)) c.loop-i.invariant
+    maps_end c.args.size (texts_of c.args.names.now) c.args.texts.now c.loop-i.i c.loop-i.maps.items _
+    (omega (arith, past, texts_long c.args.names.now)) c.loop-i.invariant

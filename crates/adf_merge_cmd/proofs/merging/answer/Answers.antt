@@ -1,7 +1,7 @@
 use Rattle.std.proofs.Common.{◌≡◌, ◌∙◌, ℕ, List, [], All, ap, arith, get_or, length, subst, sym}
 use Rattle.std.proofs.lemmas.List.{get_or_default}
 use Rattle.adf_words.specs.CommandLine.{texts_of}
-use Rattle.adf_merge_cmd.specs.Answers.{IsSized}
+use Rattle.adf_merge_cmd.specs.Answers.{IsLikeFirst}
 use Rattle.adf_merge_cmd.proofs.Refused.{each_sized}
 use Rattle.adf_merge_cmd.proofs.merging.answer.Goals as goal
 
@@ -13,5 +13,5 @@ answer_sized-requires-clause-sized g c =
     let names = ap (λ ws. length (texts_of ws)) c.deref.ensures.value in
     let view = ap (λ o. length o.readings) c.order.view_is in
     let many : length (texts_of c.deref.result.now) ≡ length rs = omega (arith, names, view, c.requires.named) in
-    subst (λ (f : List ℕ). All (IsSized f) rs) same
+    subst (λ (f : List ℕ). All (IsLikeFirst f) rs) same
     (each_sized first (texts_of c.deref.result.now) rs many (sym (rw c.in-Ok-None.field-0-is at c.in-Ok-None.ensures)))

@@ -4,7 +4,8 @@ use Rattle.adf_readings.specs.declared.choice.TheConstants.{MOST_READINGS}
 use Rattle.adf_runs.proofs.{Endings.does_same, PendingText.appends_nil}
 use Rattle.adf_runs.specs.{Streams.Says, WorkFaults.refusal_line, WorkFaults.refusal_status}
 use Rattle.adf_words.specs.CommandLine.{texts_of}
-use Rattle.adf_merge_cmd.specs.{Answers.AreReadings, Answers.IsUnreadAmong, Answers.map_bytes, Answers.merge_reply, Answers.merge_usage, CommandLine.are_enough, CommandLine.MergeOrder}
+use Rattle.adf_merge_cmd.specs.{Answers.AreReadings, Answers.IsUnreadAmong, Answers.map_bytes, Answers.merge_reply, Answers.merge_usage, CommandLine.are_enough}
+use Rattle.adf_merge_cmd.specs.{CommandLine.MergeOrder}
 use Rattle.adf_merge_cmd.proofs.{Unread.as_many}
 use Rattle.adf_merge_cmd.proofs.runner.run.Goals as goal
 
@@ -74,7 +75,8 @@ returns-in-Ok-read_map_texts-clause-ends g c =
       c.in-Ok.order,
       c.in-Ok.ensures.ok,
       rs,
-      subst (λ ns. AreReadings (g.F.Files.bytes_of c.args.files.now) ns rs) (ap texts_of c.deref.ensures.value ∙ ap (λ (o : MergeOrder). o.readings) c.order.view_is)
+      subst (λ ns. AreReadings (g.F.Files.bytes_of c.args.files.now) ns rs)
+          (ap texts_of c.deref.ensures.value ∙ ap (λ (o : MergeOrder). o.readings) c.order.view_is)
           c.in-Ok-read_names.ensures.ok,
       texts,
       subst (λ ns. AreReadings (map_bytes (g.F.Files.bytes_of c.args.files.now)) ns texts)

@@ -1,6 +1,6 @@
 use Rattle.std.proofs.Common.{◌∙◌, ◌*◌, ◌≤◌, length, arith}
 use Rattle.std.proofs.lemmas.List.{take_all}
-use Rattle.adf_readings.specs.{Mapped.sources, Merge.taken_of, Merge.told_at}
+use Rattle.adf_readings.specs.{Mapped.sources, Merge.taken_of, Merge.block_told}
 use Rattle.adf_readings.proofs.{Joined.joined_blocks, Joined.joined_nothing, Prevailing.no_doubt, Prevailing.prevailing_taken, Sources.nothing_told}
 use Rattle.adf_readings.proofs.laws.prevailing_readings_stay.Goals as goal
 
@@ -11,4 +11,4 @@ returns-clause-image c = λ n r ms long prevails.
 
 pub returns-clause-settled : goal.returns-clause-settled
 returns-clause-settled c = λ n r ms prevails found.
-    joined_nothing (told_at ms) n (λ k lt. let p = prevails k lt in nothing_told ms k (found k lt) (no_doubt k r (sources ms k) p.0 p.1))
+    joined_nothing (block_told ms) n (λ k lt. let p = prevails k lt in nothing_told ms k (found k lt) (no_doubt k r (sources ms k) p.0 p.1))

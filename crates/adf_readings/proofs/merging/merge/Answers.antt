@@ -1,5 +1,5 @@
 use Rattle.std.proofs.Common.{◌∙◌, ◌++◌, ap, sym}
-use Rattle.adf_readings.specs.Merge.{taken_of, told_at}
+use Rattle.adf_readings.specs.Merge.{taken_of, block_told}
 use Rattle.adf_readings.proofs.Joined.{joined_more}
 use Rattle.adf_readings.proofs.merging.merge.Goals as goal
 
@@ -7,6 +7,6 @@ pub loop-block-preserved : goal.loop-block-preserved
 loop-block-preserved c = record {
   image = c.in_ok-merge_block.ensures.image ∙ (ap (λ xs. xs ++ taken_of c.args.readings.now c.loop-block.block) c.loop-block.invariant.image
       ∙ sym (joined_more (taken_of c.args.readings.now) c.loop-block.block));
-  doubts = c.in_ok-merge_block.ensures.doubts ∙ (ap (λ ds. ds ++ told_at c.args.readings.now c.loop-block.block) c.loop-block.invariant.doubts
-      ∙ sym (joined_more (told_at c.args.readings.now) c.loop-block.block));
+  doubts = c.in_ok-merge_block.ensures.doubts ∙ (ap (λ ds. ds ++ block_told c.args.readings.now c.loop-block.block) c.loop-block.invariant.doubts
+      ∙ sym (joined_more (block_told c.args.readings.now) c.loop-block.block));
 }
