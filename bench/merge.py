@@ -1,12 +1,15 @@
 #!/usr/bin/env python3
-"""The merge of several readings of one disk by its definition (crates/adf_readings, crates/adf_merge_cmd).
+"""The merge of several readings of one disk by its definition (crates/adf_readings, crates/adf_maps, crates/adf_merge_cmd).
 
-    bench/merge.py A B [C..] > NEW      the new image; on errors the lines of what was left to chance; status 1 if there are any
+    bench/merge.py [--map MAP ..] A B [C..] > NEW      the new image; on errors the lines of what was left to chance, or is in no reading; status 1
+                                                       if there are any. The maps are sound ones of ddrescue, in the order of the readings; - is none
 """
 
+import argparse
 import sys
+from itertools import zip_longest
 from struct import unpack_from
-from typing import List, Sequence, Tuple
+from typing import List, Optional, Sequence, Set, Tuple
 
 BLOCK = 512
 
@@ -37,39 +40,64 @@ def taken(b: int, versions: Sequence[bytes]) -> Tuple[bytes, int]:
     return best, 0 if versions.count(best) == credible else len(versions) - versions.count(best)
 
 
-def merged(readings: Sequence[bytes]) -> Tuple[bytes, List[Tuple[int, int]]]:
-    """The new image, and each block that is left to chance with how many readings differ."""
-    blocks, doubts = [], []
+def unread(text: str, size: int) -> Set[int]:
+    """The blocks of a disk of which a byte was not read, by its map."""
+    has = bytearray(size)
+    rows = [line.split() for line in text.splitlines() if line.split() and not line.startswith("#")]
+    for start, length, status in rows[1:]:
+        at, count = int(start, 0), int(length, 0)
+        has[at : at + count] = (b"\1" if status == "+" else b"\0") * count
+    return {b for b in range(size // BLOCK) if not all(has[BLOCK * b : BLOCK * b + BLOCK])}
+
+
+Doubts = List[Tuple[int, Optional[int]]]
+
+
+def merged(readings: Sequence[bytes], lacking: Sequence[Set[int]] = ()) -> Tuple[bytes, Doubts]:
+    """The new image, and each block that is told: with how many readings differ, or None if no reading has it."""
+    blocks, doubts = [], []  # type: ignore
     for b in range(len(readings[0]) // BLOCK):
-        version, differing = taken(b, [reading[BLOCK * b : BLOCK * b + BLOCK] for reading in readings])
+        having = [reading for reading, lacks in zip_longest(readings, lacking, fillvalue=set()) if b not in lacks]
+        version, differing = taken(b, [reading[BLOCK * b : BLOCK * b + BLOCK] for reading in having or readings])
         blocks.append(version)
-        if differing:
-            doubts.append((b, differing))
+        if differing or not having:
+            doubts.append((b, differing if having else None))
     return b"".join(blocks), doubts
 
 
-def lines(doubts: Sequence[Tuple[int, int]]) -> List[str]:
-    """A line for each run of blocks from which as many readings differ."""
-    runs: List[List[int]] = []
+def lines(doubts: Doubts) -> List[str]:
+    """A line for each run of blocks of which the same is told."""
+    runs: List[List[Optional[int]]] = []
     for b, differing in doubts:
         if runs and runs[-1][1] == b - 1 and runs[-1][2] == differing:
             runs[-1][1] = b
         else:
             runs.append([b, b, differing])
-    return [told(*run) for run in runs]
+    return [told(*run) for run in runs]  # type: ignore
 
 
-def told(first: int, last: int, differing: int) -> str:
+def told(first: int, last: int, differing: Optional[int]) -> str:
     blocks = f"block {first}" if first == last else f"blocks {first} to {last}"
+    if differing is None:
+        return f"{blocks}: in no reading"
     return f"{blocks}: 1 reading differs" if differing == 1 else f"{blocks}: {differing} readings differ"
 
 
 def main() -> int:
-    readings = []
-    for name in sys.argv[1:]:
+    parser = argparse.ArgumentParser(description="Merges readings of one disk.")
+    parser.add_argument("--map", action="append", default=[])
+    parser.add_argument("readings", nargs="+")
+    options, readings, lacking = parser.parse_args(), [], []
+    for name in options.readings:
         with open(name, "rb") as file:
             readings.append(file.read())
-    image, doubts = merged(readings)
+    for name in options.map:
+        if name == "-":
+            lacking.append(set())
+            continue
+        with open(name, encoding="ascii") as file:
+            lacking.append(unread(file.read(), len(readings[0])))
+    image, doubts = merged(readings, lacking)
     sys.stdout.buffer.write(image)
     for line in lines(doubts):
         print(line, file=sys.stderr)

@@ -83,7 +83,7 @@ _adf_files() {
                 COMPREPLY=($(compgen -W "put replace remove move dir note protect date label letters boot" -- "$2"))
             fi
             ;;
-        adf-merge:-*) COMPREPLY=($(compgen -W "--help --version" -- "$2")) ;;
+        adf-merge:-*) COMPREPLY=($(compgen -W "--map --help --version" -- "$2")) ;;
         adf-shelf:-*) COMPREPLY=($(compgen -W "--null --any-type --json --help --version" -- "$2")) ;;
         adf-catalogue:-*) COMPREPLY=($(compgen -W "--tsv --rescue --fresh --escape --index-text --dat --sha256-only -h --help --version" -- "$2")) ;;
         adf-pack:-*)

@@ -7,6 +7,35 @@ use adf_file_runs::{Files, Unopened};
 use adf_merge_cmd::run;
 use std::alloc::Global;
 
+// The map of a reading of the disk that lacks block 3, as ddrescue writes it.
+const LACKS_THREE: &[u8] = b"# Mapfile. Created by GNU ddrescue version 1.27\n\
+    # Command line: ddrescue -d /dev/fd0 third.adf third.map\n\
+    # current_pos  current_status  current_pass\n\
+    0x00000C00     +               1\n\
+    #      pos        size  status\n\
+    0x00000000  0x00000600  +\n\
+    0x00000600  0x00000200  -\n\
+    0x00000800  0x00000400  +\n";
+
+// A map of this name; one lacks a byte of block 3 between its lines, the lines of one overlap, and one is of another disk.
+fn map_named(name: &[u8]) -> Option<&'static [u8]> {
+    if name == b"lacks-three".as_slice() {
+        Some(LACKS_THREE)
+    } else if name == b"front".as_slice() {
+        Some(b"0 ?\r\n0 1024 +\r\n1024\t2048 ?\r\n")
+    } else if name == b"gap".as_slice() {
+        Some(b"0 + 2\n0X0 0x601 +\n0x602 0x5fE +")
+    } else if name == b"crossed".as_slice() {
+        Some(b"0 +\n0 1024 +\n1023 2049 +\n")
+    } else if name == b"long".as_slice() {
+        Some(b"0 +\n0 4096 +\n")
+    } else if name == b"no-status".as_slice() {
+        Some(b"# a comment\n0 3072 +\n")
+    } else {
+        None
+    }
+}
+
 // Three readings of a disk whose block 2 is an OFS data block with its checksum, and block 3 text; and files that are none.
 #[derive(Drop)]
 struct Folder<'a> {
@@ -41,7 +70,10 @@ impl<'a> Files for Folder<'a> {
         } else if name == b"fails".as_slice() {
             Ok(Given::new(self.whole, 0))
         } else {
-            Err(Unopened::Missing)
+            match map_named(name) {
+                Some(map) => Ok(Given::new(map, usize::MAX)),
+                None => Err(Unopened::Missing),
+            }
         }
     }
 }
@@ -118,6 +150,93 @@ const RUNS: &[(&[&str], u8, &str, bool)] = &[
     (&["adf-merge", "whole", "odd"], 1, "odd: bad size\n", false),
     (
         &["adf-merge", "whole", "none"],
+        3,
+        "none: no such file\n",
+        false,
+    ),
+    // without block 3 of the third, the others agree
+    (
+        &[
+            "adf-merge",
+            "--map",
+            "-",
+            "--map=-",
+            "--map",
+            "lacks-three",
+            "first",
+            "second",
+            "third",
+        ],
+        0,
+        "",
+        true,
+    ),
+    (
+        &["adf-merge", "--map", "lacks-three", "third", "first"],
+        0,
+        "",
+        true,
+    ),
+    (
+        &["adf-merge", "third", "--map", "lacks-three", "whole"],
+        0,
+        "",
+        true,
+    ),
+    (
+        &[
+            "adf-merge",
+            "--map",
+            "lacks-three",
+            "--map",
+            "gap",
+            "whole",
+            "whole",
+        ],
+        1,
+        "block 3: in no reading\n",
+        true,
+    ),
+    (
+        &[
+            "adf-merge",
+            "--map",
+            "front",
+            "--map",
+            "front",
+            "whole",
+            "whole",
+        ],
+        1,
+        "blocks 2 to 5: in no reading\n",
+        true,
+    ),
+    (
+        &["adf-merge", "--map", "whole", "whole", "whole"],
+        1,
+        "whole: not a map of ddrescue\n",
+        false,
+    ),
+    (
+        &["adf-merge", "--map", "crossed", "whole", "whole"],
+        1,
+        "crossed: not a map of ddrescue\n",
+        false,
+    ),
+    (
+        &["adf-merge", "--map", "no-status", "whole", "whole"],
+        1,
+        "no-status: not a map of ddrescue\n",
+        false,
+    ),
+    (
+        &["adf-merge", "--map", "-", "--map", "long", "whole", "whole"],
+        1,
+        "long: the map of a disk of another size\n",
+        false,
+    ),
+    (
+        &["adf-merge", "--map", "none", "whole", "whole"],
         3,
         "none: no such file\n",
         false,

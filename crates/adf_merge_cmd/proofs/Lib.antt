@@ -4,3 +4,5 @@ pub mod Stretches
 pub mod Refused
 -- readings that are had or not
 pub mod Unread
+-- maps that are read one by one
+pub mod NamedMaps

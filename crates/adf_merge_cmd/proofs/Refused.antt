@@ -8,7 +8,7 @@ use Rattle.adf_names.specs.Escapes.{escaped}
 use Rattle.adf_words.specs.CommandLine.{texts_of}
 use Rattle.adf_boot_blocks.specs.{Refusals.has_image_size, declared.refusal.TheConstants.MOST_BYTES}
 use Rattle.adf_runs.specs.Streams.{AreFirst}
-use Rattle.adf_merge_cmd.specs.Answers.{differ_in_type, first_refused, reading_refusal, reading_refusal_text, refused_or}
+use Rattle.adf_merge_cmd.specs.Answers.{IsLikeFirst, differ_in_type, first_refused, reading_refusal, reading_refusal_text, refused_or}
 use Rattle.adf_merge_cmd.specs.declared.refusal.ReadingRefusal.{ReadingRefusal}
 
 next : {X : Type 0} (xs : List X) (i : ℕ) (x : X) → i < length xs → x ≡ get_or xs i x → drop i xs ≡ x ∷ drop (i + 1) xs
@@ -70,23 +70,19 @@ split (Some why) name others e = absurd cc
 image_size : (r : List ℕ) → has_image_size r ≡ true → (length r % 512 ≡ 0) × (length r ≤ MOST_BYTES)
 image_size r e = grind (arith, common_steps)
 
--- a reading that is not refused is whole blocks, not too many, and as long as the first one
-abbrev pub IsSized : List ℕ → List ℕ → Type 0
-IsSized first r = (length r % 512 ≡ 0) × (length r ≤ MOST_BYTES) × (length r ≡ length first)
-
-taken_size : (first r : List ℕ) → reading_refusal first r ≡ None → IsSized first r
+taken_size : (first r : List ℕ) → reading_refusal first r ≡ None → IsLikeFirst first r
 taken_size first r e =
     let both = sized (has_image_size r) (length r == length first) (differ_in_type first r) e in
     let size = image_size r both.0 in
     (size.0, size.1, eqb-true (length r) (length first) both.1)
 
 pub each_sized : (first : List ℕ) (ns : List Text) (rs : List (List ℕ)) → length ns ≡ length rs → first_refused first ns rs ≡ None
-    → All (IsSized first) rs
+    → All (IsLikeFirst first) rs
 each_sized first ns [] long none = λ k d lt. absurd (omega arith)
 each_sized first [] (r ∷ rs) long none = absurd (omega arith)
 each_sized first (name ∷ ns) (r ∷ rs) long none =
     let both = split (reading_refusal first r) name (first_refused first ns rs) (sym (one_more first name ns r rs) ∙ none) in
-    All-cons (IsSized first) r rs (taken_size first r both.0) (each_sized first ns rs (omega arith) both.1)
+    All-cons (IsLikeFirst first) r rs (taken_size first r both.0) (each_sized first ns rs (omega arith) both.1)
 
 -- the bytes of a file, where they are known
 pub file_bytes : (known left : Option (List ℕ)) (bytes : List ℕ) → IfSome known (λ all. left ≡ Some all) → AreFirst (MOST_BYTES + 1) left bytes

@@ -1,7 +1,7 @@
 -- The lines of stretches. Letters: s the stretch so far, ds what is left to chance, d one of it; done the lines before.
 use Rattle.std.proofs.Common.{◌≡◌, ◌≤◌, ◌<◌, ◌+◌, ◌∙◌, ◌++◌, ℕ, suc, true, false, if◌then◌else◌, List, [], ◌∷◌, ap, sym, refl, arith, drop, get_or, length}
 use Rattle.std.proofs.{Common.append_assoc, lemmas.List.drop_all, Math.Seq.drop-cons}
-use Rattle.adf_readings.specs.declared.merging.Doubt.{Doubt}
+use Rattle.adf_readings.specs.declared.doubt.Doubt.{Doubt}
 use Rattle.adf_merge_cmd.specs.Answers.{begun_stretch, goes_on, lines_from, stretch_line}
 use Rattle.adf_merge_cmd.specs.declared.doubt_lines.Stretch.{Stretch}
 

@@ -1,18 +1,42 @@
-// The lines of what is left to chance.
+// The lines of what is left to chance, or in no reading.
 
 ghost use Rattle.std.specs.Prelude.{◌≡◌, ◌++◌, ◌∷◌, [], IfOk, OnOk};
-ghost use Rattle.adf_merge_cmd.specs.Answers.{begun_stretch, differing_text, doubt_lines, goes_on, stretch_blocks, stretch_line};
+ghost use Rattle.adf_merge_cmd.specs.Answers.{begun_stretch, differing_text, doubt_lines, goes_on, is_same_why, stretch_blocks};
+ghost use Rattle.adf_merge_cmd.specs.Answers.{stretch_line, why_text};
 
-use adf_readings::Doubt;
+use adf_readings::{Doubt, Why};
 use adf_texts::push_number;
 use std::alloc::{AllocError, Global};
 
-/// Blocks that follow one another, each left to chance, from which as many readings differ.
+/// Blocks that follow one another, of which the same is told.
 #[derive(Clone, Copy, Debug, PartialEq, Eq)]
 pub struct Stretch {
     pub first: u32,
     pub last: u32,
-    pub differing: u32,
+    pub why: Why,
+}
+
+// Whether the same is told.
+fn is_same_why(one: Why, other: Why) -> bool
+    ensures { result ≡ is_same_why one other }
+{
+    match (one, other) {
+        (Why::Differing(few), Why::Differing(many)) => few == many,
+        (Why::Unread, Why::Unread) => true,
+        _ => false,
+    }
+}
+
+// Appends how many readings differ.
+fn push_differing(differing: u32, text: &mut Vec<u8>) -> Result<(), AllocError>
+    ensures { OnOk result (text.new.items ≡ text.old.items ++ differing_text differing) }
+{
+    if differing == 1 {
+        return text.extend_from_slice(b" 1 reading differs\n");
+    }
+    text.extend_from_slice(b" ")?;
+    push_number(text, differing, b' ')?;
+    text.extend_from_slice(b"readings differ\n")
 }
 
 impl Stretch {
@@ -23,7 +47,7 @@ impl Stretch {
         Stretch {
             first: doubt.block,
             last: doubt.block,
-            differing: doubt.differing,
+            why: doubt.why,
         }
     }
 
@@ -31,7 +55,7 @@ impl Stretch {
     fn goes_on(self, doubt: Doubt) -> bool
         ensures { result ≡ goes_on self doubt }
     {
-        u64::from(doubt.block) == u64::from(self.last) + 1 && doubt.differing == self.differing
+        u64::from(doubt.block) == u64::from(self.last) + 1 && is_same_why(doubt.why, self.why)
     }
 
     // Appends its blocks.
@@ -48,16 +72,14 @@ impl Stretch {
         push_number(text, self.last, b':')
     }
 
-    // Appends how many readings differ.
-    fn push_differing(self, text: &mut Vec<u8>) -> Result<(), AllocError>
-        ensures { OnOk result (text.new.items ≡ text.old.items ++ differing_text self.differing) }
+    // Appends what is told of them.
+    fn push_why(self, text: &mut Vec<u8>) -> Result<(), AllocError>
+        ensures { OnOk result (text.new.items ≡ text.old.items ++ why_text self.why) }
     {
-        if self.differing == 1 {
-            return text.extend_from_slice(b" 1 reading differs\n");
+        match self.why {
+            Why::Differing(differing) => push_differing(differing, text),
+            Why::Unread => text.extend_from_slice(b" in no reading\n"),
         }
-        text.extend_from_slice(b" ")?;
-        push_number(text, self.differing, b' ')?;
-        text.extend_from_slice(b"readings differ\n")
     }
 
     // Appends its line.
@@ -65,11 +87,11 @@ impl Stretch {
         ensures { OnOk result (text.new.items ≡ text.old.items ++ stretch_line self) }
     {
         self.push_blocks(text)?;
-        self.push_differing(text)
+        self.push_why(text)
     }
 }
 
-/// The lines of what is left to chance.
+/// The lines of what is left to chance, or in no reading.
 pub fn doubt_lines(alloc: Global, doubts: &[Doubt]) -> Result<Vec<u8>, AllocError>
     ensures { IfOk result (λ text. text.items ≡ doubt_lines doubts.now) }
 {

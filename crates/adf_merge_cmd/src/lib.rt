@@ -3,8 +3,10 @@
 
 mod command_line;
 mod doubt_lines;
+mod maps;
 mod merging;
 mod names;
+mod read_file;
 mod refusal;
 mod runner;
 

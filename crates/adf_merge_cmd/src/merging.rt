@@ -1,22 +1,25 @@
 // What is answered to readings.
 
-ghost use Rattle.std.specs.Prelude.{◌≡◌, ◌≤◌, ◌<◌, false, length};
+ghost use Rattle.std.specs.Prelude.{◌≡◌, ◌≤◌, ◌<◌, ◌*◌, All, [], false, length, slice_index_or};
 ghost use Rattle.adf_readings.specs.{Merge.HaveBlocks, declared.choice.TheConstants.MOST_READINGS};
 ghost use Rattle.adf_runs.specs.{Outcomes.Does, Streams.seen};
-ghost use Rattle.adf_words.specs.CommandLine.{texts_of};
-ghost use Rattle.adf_merge_cmd.specs.Answers.{merge_reply, merged_reply};
+ghost use Rattle.adf_merge_cmd.specs.Answers.{IsLikeFirst, mapped, mapped_reply, merge_reply, merged_reply, named_maps};
 
+use crate::command_line::MergeOrder;
 use crate::doubt_lines::doubt_lines;
+use crate::maps::{MapStop, mapped, named_maps};
+use crate::read_file::ReadFile;
 use crate::refusal::first_refused;
 use adf_base::BLOCK_LEN;
-use adf_readings::{Reading, merge};
+use adf_maps::Map;
+use adf_readings::{MappedReading, merge};
 use adf_runs::{Outcome, Sink, write_all};
 use std::alloc::Global;
 
 // Writes what readings of so many blocks are merged into.
 fn write_merged<W: Sink>(
     alloc: Global,
-    readings: &[Reading],
+    readings: &[MappedReading<'_>],
     blocks: u32,
     output: &mut W,
 ) -> Outcome
@@ -40,24 +43,71 @@ fn write_merged<W: Sink>(
     }
 }
 
-/// Answers readings of these names: writes what they are merged into, or refuses one.
-pub fn answer<W: Sink>(
+// Writes what readings with these maps are merged into, each of so many blocks.
+fn write_mapped<W: Sink>(
     alloc: Global,
-    names: &[&str],
-    readings: &[Reading],
+    readings: &[ReadFile],
+    maps: &[Option<Map>],
+    blocks: u32,
     output: &mut W,
 ) -> Outcome
     requires works { W.has_failed output.old ≡ false }
-    requires named { length names.now ≡ length readings.now }
+    requires whole { All (λ r. length r ≡ blocks * 512) readings.now }
     requires some { 0 < length readings.now }
     requires few { length readings.now ≤ MOST_READINGS }
-    ensures { Does (λ reply. reply ≡ merge_reply (texts_of names.now) readings.now) result
+    ensures { Does (λ reply. reply ≡ merged_reply blocks (mapped readings.now maps.now)) result
         (seen W.held W.has_failed output.old output.new) }
 {
-    let first = readings[0].bytes();
-    match first_refused(alloc, first, names, readings) {
+    match mapped(alloc, readings, maps) {
+        Ok(all) => write_merged(alloc, &all, blocks, output),
+        Err(_) => Outcome::NoMemory,
+    }
+}
+
+// Answers readings that are not refused, and their maps.
+fn answer_sized<W: Sink>(
+    alloc: Global,
+    order: &MergeOrder<'_>,
+    readings: &[ReadFile],
+    texts: &[ReadFile],
+    output: &mut W,
+) -> Outcome
+    requires works { W.has_failed output.old ≡ false }
+    requires sized { All (IsLikeFirst (slice_index_or readings.now 0 [])) readings.now }
+    requires maps { length order.now.maps ≡ length texts.now }
+    requires some { 0 < length readings.now }
+    requires few { length readings.now ≤ MOST_READINGS }
+    ensures { Does (λ reply. reply ≡ mapped_reply (named_maps (length (slice_index_or readings.now 0 []))
+        order.now.maps texts.now) (length (slice_index_or readings.now 0 [])) readings.now) result
+        (seen W.held W.has_failed output.old output.new) }
+{
+    let size = readings[0].bytes().len();
+    match named_maps(alloc, size, &order.maps, texts) {
+        Ok(maps) => write_mapped(alloc, readings, &maps, (size / BLOCK_LEN) as u32, output),
+        Err(MapStop::Refused(line)) => Outcome::LeftOut(line),
+        Err(MapStop::NoMemory) => Outcome::NoMemory,
+    }
+}
+
+/// Answers the readings and the maps of an order: writes what they are merged into, or refuses one.
+pub fn answer<W: Sink>(
+    alloc: Global,
+    order: &MergeOrder<'_>,
+    readings: &[ReadFile],
+    texts: &[ReadFile],
+    output: &mut W,
+) -> Outcome
+    requires works { W.has_failed output.old ≡ false }
+    requires named { length order.now.readings ≡ length readings.now }
+    requires maps { length order.now.maps ≡ length texts.now }
+    requires some { 0 < length readings.now }
+    requires few { length readings.now ≤ MOST_READINGS }
+    ensures { Does (λ reply. reply ≡ merge_reply order.now readings.now texts.now) result
+        (seen W.held W.has_failed output.old output.new) }
+{
+    match first_refused(alloc, readings[0].bytes(), &order.readings, readings) {
         Ok(Some(line)) => Outcome::LeftOut(line),
-        Ok(None) => write_merged(alloc, readings, (first.len() / BLOCK_LEN) as u32, output),
+        Ok(None) => answer_sized(alloc, order, readings, texts, output),
         Err(_) => Outcome::NoMemory,
     }
 }

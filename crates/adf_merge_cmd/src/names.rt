@@ -1,14 +1,14 @@
-// The readings of names.
+// The files of names.
 
 ghost use Rattle.std.specs.Prelude.{◌≡◌, ◌⊎◌, ◌+◌, ◌++◌, Contains, IfErr, IfOk, IfSome, List, codes, false, take, ℕ};
 ghost use Rattle.adf_boot_blocks.specs.declared.refusal.TheConstants.{MOST_BYTES};
 ghost use Rattle.adf_runs.specs.Streams.{seen};
 ghost use Rattle.adf_words.specs.CommandLine.{texts_of};
-ghost use Rattle.adf_merge_cmd.specs.Answers.{AreReadings, IsUnreadAmong, IsUnreadOf, TellsUnread, unread_line};
+ghost use Rattle.adf_merge_cmd.specs.Answers.{AreReadings, IsUnreadAmong, IsUnreadOf, TellsUnread, map_bytes, unread_line};
 
+use crate::read_file::ReadFile;
 use adf_boot_blocks::MOST_BYTES;
 use adf_file_runs::{Files, Unopened, refuse_file};
-use adf_readings::Reading;
 use adf_runs::{Sink, StreamFault, read_all, say};
 use adf_texts::push_escaped;
 use std::alloc::{AllocError, Global};
@@ -45,18 +45,54 @@ pub fn read_names<'a, F: Files>(
     alloc: Global,
     files: &F,
     names: &[&'a str],
-) -> Result<Vec<Reading>, Unread<'a>>
+) -> Result<Vec<ReadFile>, Unread<'a>>
     ensures ok { IfOk result (λ readings. AreReadings (F.bytes_of files.now) (texts_of names.now) readings.items) }
     ensures fault { IfErr result (IsUnreadAmong (texts_of names.now)) }
 {
     let mut readings = Vec::new(alloc);
     for i in 0..names.len() {
         let bytes = read_one(alloc, files, names[i])?;
-        if readings.push(Reading::new(bytes)).is_err() {
+        if readings.push(ReadFile::new(bytes)).is_err() {
             return Err(Unread::NoMemory);
         }
     }
     Ok(readings)
+}
+
+// The text of the map of a name; of no file, if there is none.
+fn read_map_text<'a, F: Files>(
+    alloc: Global,
+    files: &F,
+    name: &'a str,
+) -> Result<Vec<u8>, Unread<'a>>
+    ensures ok { IfOk result (λ bytes.
+        IfSome (map_bytes (F.bytes_of files.now) name.entry.now) (λ all. bytes.items ≡ take (MOST_BYTES + 1) all)) }
+    ensures fault { IfErr result (IsUnreadOf name.entry.now) }
+{
+    if name == "-" {
+        Ok(Vec::new(alloc))
+    } else {
+        read_one(alloc, files, name)
+    }
+}
+
+/// The texts of maps, in their order.
+pub fn read_map_texts<'a, F: Files>(
+    alloc: Global,
+    files: &F,
+    names: &[&'a str],
+) -> Result<Vec<ReadFile>, Unread<'a>>
+    ensures ok { IfOk result (λ texts. AreReadings (map_bytes (F.bytes_of files.now)) (texts_of names.now) texts.items) }
+    ensures fault { IfErr result (IsUnreadAmong (texts_of names.now)) }
+{
+    let mut texts = Vec::new(alloc);
+    for i in 0..names.len() {
+        let bytes = read_map_text(alloc, files, names[i])?;
+        if texts.push(ReadFile::new(bytes)).is_err() {
+            return Err(Unread::NoMemory);
+        }
+    }
+    Ok(texts)
 }
 
 // The line of a file that failed.

@@ -6,8 +6,8 @@ ghost use Rattle.adf_words.specs.CommandLine.{texts_of};
 ghost use Rattle.adf_names.specs.Escapes.{escaped};
 ghost use Rattle.adf_merge_cmd.specs.Answers.{differ_in_type, first_refused, reading_refusal, reading_refusal_text};
 
+use crate::read_file::ReadFile;
 use adf_boot_blocks::{BootRefusal, begins_with_dos, image_refusal};
-use adf_readings::Reading;
 use adf_texts::push_escaped;
 use std::alloc::{AllocError, Global};
 
@@ -80,7 +80,7 @@ pub fn first_refused(
     alloc: Global,
     first: &[u8],
     names: &[&str],
-    readings: &[Reading],
+    readings: &[ReadFile],
 ) -> Result<Option<Vec<u8>>, AllocError>
     requires { length names.now ≡ length readings.now }
     ensures { IfOk result (λ line. option_map (λ l. l.items) line

@@ -8,15 +8,16 @@ ghost use Rattle.adf_merge_cmd.specs.{Answers.MergeEnds, CommandLine.AreRefusedB
 
 use crate::command_line::{ABOUT, MERGE_USAGE as USAGE, parse_merge};
 use crate::merging::answer;
-use crate::names::read_names;
+use crate::names::{read_map_texts, read_names};
 use adf_file_runs::{About, Files, Invocation, SystemProgram};
 use adf_runs::{Sink, Source, WorkFault};
 use std::alloc::Global;
 
 /// Merges the readings that the words name; the first word is the program's name. Returns the status:
 ///
-/// - 0 if the merged image is written, and nothing was left to chance;
-/// - 1 if it is written, and errors say which blocks were left to chance; or if a reading is refused, as errors say;
+/// - 0 if the merged image is written, nothing was left to chance, and each block was in a reading;
+/// - 1 if it is written, and errors say which blocks were left to chance or in no reading; or if a reading or a map is refused,
+///   as errors say;
 /// - 2 if the words are not accepted, as errors say; nothing is read or written;
 /// - 3 if a file, output or an allocation failed, as errors say.
 pub fn run<F: Files, W: Sink, E: Sink>(
@@ -32,12 +33,16 @@ pub fn run<F: Files, W: Sink, E: Sink>(
         (seen W.held W.has_failed output.old output.new) (seen E.held E.has_failed errors.old errors.new) }
     ensures untouched { AreRefusedByMerge (texts_of words.now) → output.new ≡ output.old }
 {
-    let names = match parse_merge(alloc, words) {
-        Ok(names) => names,
+    let order = match parse_merge(alloc, words) {
+        Ok(order) => order,
         Err(fault) => return WorkFault::from(fault).refuse(USAGE, errors),
     };
-    match read_names(alloc, files, &names) {
-        Ok(readings) => answer(alloc, &names, &readings, output).finish(errors),
+    let readings = match read_names(alloc, files, &order.readings) {
+        Ok(readings) => readings,
+        Err(why) => return why.refuse(alloc, errors),
+    };
+    match read_map_texts(alloc, files, &order.maps) {
+        Ok(texts) => answer(alloc, &order, &readings, &texts, output).finish(errors),
         Err(why) => why.refuse(alloc, errors),
     }
 }

@@ -6,3 +6,5 @@ pub mod Heaviest
 pub mod Joined
 -- a reading that prevails
 pub mod Prevailing
+-- the readings that count
+pub mod Sources

@@ -1,11 +1,12 @@
 -- A reading that prevails at a block. Letters: b the number of the block, rs the readings, r the one that prevails; v and w versions, vs all of them.
-use Rattle.std.proofs.Common.{◌≡◌, ◌≤◌, ◌<◌, ◌+◌, ◌-◌, ◌*◌, ◌⊎◌, ◌∙◌, ◌==◌, ◌||◌, ℕ, suc, Bool, true, false, if◌then◌else◌, List, [], ◌∷◌, Contains}
+use Rattle.std.proofs.Common.{◌≡◌, ◌≤◌, ◌<◌, ◌+◌, ◌-◌, ◌*◌, ◌⊎◌, ◌∙◌, ◌==◌, ◌||◌, ℕ, suc, Bool, true, false, if◌then◌else◌, List, [], ◌∷◌, All, Contains}
 use Rattle.std.proofs.Common.{ap, arith, refl, sym}
 use Rattle.std.proofs.{Common.inl, Common.inr, Common.count_by, Common.length, Common.subst, Common.eq-eqb, Common.ne_eqb, lemmas.List.Sums.count_by-le-length}
 use Rattle.std.specs.Str.{bytes_eq}
 use Rattle.adf_base.specs.Words.{block}
 use Rattle.adf_base.proofs.WordLaws.{length-block}
-use Rattle.adf_readings.specs.{declared.merging.Doubt.Doubt, Merge.HaveBlocks, Merge.Prevails, Merge.doubt_at, Merge.versions}
+use Rattle.adf_readings.specs.declared.doubt.Why.TheVariants.{Differing}
+use Rattle.adf_readings.specs.{declared.doubt.Doubt.Doubt, Merge.Prevails, Merge.doubt_at, Merge.versions}
 use Rattle.adf_readings.specs.Versions.{differing, is_credible, is_filler, is_settled, taken, votes, weight}
 use Rattle.adf_readings.proofs.Heaviest.{heaviest_wins, is_one}
 use Rattle.adf_readings.proofs.Votes.{Each, Has, bytes_same, counts_agree, counts_all, each_version, has, length_versions, same_bytes}
@@ -94,7 +95,7 @@ settled b r rs contains (inr credible) =
 
 -- what is left to chance, as a list
 abbrev pub one_doubt : ℕ → ℕ → List Doubt
-one_doubt b k = record { block = b; differing = k } ∷ []
+one_doubt b k = record { block = b; why = Differing k } ∷ []
 
 pub settled_doubt : (rs : List (List ℕ)) (b : ℕ) (v : List ℕ) → taken b (versions rs b) ≡ v
     → (votes v (versions rs b) ≡ length (versions rs b)) ⊎ (votes v (versions rs b) ≡ count_by (is_credible b) (versions rs b)) → doubt_at rs b ≡ []
@@ -134,7 +135,7 @@ taken_is_read [] b some = absurd (omega arith)
 taken_is_read (x ∷ rs) b some = reading_of (taken b (versions (x ∷ rs) b)) (x ∷ rs) b (is_one (weight b (versions (x ∷ rs) b)) (block x b) (versions rs b))
 
 -- a version that is taken is a whole block
-pub taken_long : (n : ℕ) (rs : List (List ℕ)) (b : ℕ) → 0 < length rs → HaveBlocks n rs → b < n → length (taken b (versions rs b)) ≡ 512
+pub taken_long : (n : ℕ) (rs : List (List ℕ)) (b : ℕ) → 0 < length rs → All (λ r. length r ≡ n * 512) rs → b < n → length (taken b (versions rs b)) ≡ 512
 taken_long n rs b some whole lt =
     let found = taken_is_read rs b some in
     let long : length found.0 ≡ n * 512 = ap length (sym found.1.2) ∙ whole found.1.0 found.0 found.1.1 in

@@ -2,6 +2,7 @@
 
 ghost use Rattle.std.specs.Prelude.{◌≡◌, ◌≤◌, ◌<◌, ◌+◌, ◌*◌, ◌==◌, [], ◌∷◌, All, length, slice_index_or, if◌then◌else◌};
 ghost use Rattle.adf_base.specs.Words.{block};
+ghost use Rattle.adf_readings.specs.declared.doubt.Why.TheVariants.{Differing};
 ghost use Rattle.adf_readings.specs.{Merge.doubt_at, Merge.versions, Versions.taken, Versions.weight};
 
 use crate::reading::Reading;
@@ -11,7 +12,7 @@ use crate::versions::{credible_votes, is_credible, is_filled, votes};
 pub const MOST_READINGS: usize = 100;
 
 // What the version of reading `i` weighs.
-fn weight(readings: &[Reading], b: u32, i: usize) -> usize
+fn weight(readings: &[Reading<'_>], b: u32, i: usize) -> usize
     requires whole { All (λ r. b * 512 + 512 ≤ length r) readings.now }
     requires few { length readings.now ≤ MOST_READINGS }
     requires within { i < length readings.now }
@@ -28,7 +29,7 @@ fn weight(readings: &[Reading], b: u32, i: usize) -> usize
 }
 
 /// The first reading of those that have the version of block `b` that is taken.
-pub fn taken(readings: &[Reading], b: u32) -> usize
+pub fn taken(readings: &[Reading<'_>], b: u32) -> usize
     requires whole { All (λ r. b * 512 + 512 ≤ length r) readings.now }
     requires some { 0 < length readings.now }
     requires few { length readings.now ≤ MOST_READINGS }
@@ -51,12 +52,12 @@ pub fn taken(readings: &[Reading], b: u32) -> usize
 }
 
 /// How many readings have another version of block `b` than the one taken, that of reading `i`; 0 if nothing is left to chance.
-pub fn doubtful(readings: &[Reading], b: u32, i: usize) -> u32
+pub fn doubtful(readings: &[Reading<'_>], b: u32, i: usize) -> u32
     requires whole { All (λ r. b * 512 + 512 ≤ length r) readings.now }
     requires few { length readings.now ≤ MOST_READINGS }
     requires within { i < length readings.now }
     requires taken { block (slice_index_or readings.now i []) b ≡ taken b (versions readings.now b) }
-    ensures { doubt_at readings.now b ≡ (if result == 0 then [] else record { block = b; differing = result } ∷ []) }
+    ensures { doubt_at readings.now b ≡ (if result == 0 then [] else record { block = b; why = Differing result } ∷ []) }
 {
     let votes = votes(readings, b, readings[i].version(b));
     if votes == readings.len() || votes == credible_votes(readings, b) {

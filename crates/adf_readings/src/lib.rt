@@ -2,12 +2,15 @@
 #![tactic(auto)]
 
 mod choice;
+mod doubt;
 mod laws;
+mod mapped;
 mod merging;
 mod reading;
 mod versions;
 
 pub use crate::choice::MOST_READINGS;
+pub use crate::doubt::{Doubt, Why};
 pub use crate::laws::{blocks_are_read, prevailing_readings_stay};
-pub use crate::merging::{Doubt, Merged, merge};
-pub use crate::reading::Reading;
+pub use crate::mapped::MappedReading;
+pub use crate::merging::{Merged, merge};

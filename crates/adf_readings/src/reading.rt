@@ -8,22 +8,22 @@ use std::marker::Model;
 
 /// One reading of a disk: an image.
 #[derive(Drop)]
-pub struct Reading {
-    bytes: Vec<u8>,
+pub struct Reading<'a> {
+    bytes: &'a [u8],
 }
 
-impl Model for Reading {
+impl<'a> Model for Reading<'a> {
     ghost use Rattle.std.specs.Prelude.{List, ℕ};
 
     ghost Value = { List ℕ };
 
-    ghost view = { λ r. r.bytes.items };
+    ghost view = { λ r. r.bytes.now };
 }
 
-impl Reading {
+impl<'a> Reading<'a> {
     /// The reading with these bytes.
-    pub fn new(bytes: Vec<u8>) -> Reading
-        ensures { result ≡ bytes.items }
+    pub fn new(bytes: &'a [u8]) -> Reading<'a>
+        ensures { result ≡ bytes.entry.now }
     {
         Reading { bytes }
     }
@@ -32,7 +32,7 @@ impl Reading {
     pub fn bytes(&self) -> &[u8]
         ensures { result.now ≡ self.now }
     {
-        self.bytes.as_slice()
+        self.bytes
     }
 
     /// The bytes of block `b`.
@@ -42,6 +42,6 @@ impl Reading {
         ensures { result.now ≡ block self.now b }
     {
         let start = b as usize * BLOCK_LEN;
-        &self.bytes.as_slice()[start..start + BLOCK_LEN]
+        &self.bytes[start..start + BLOCK_LEN]
     }
 }

@@ -38,7 +38,7 @@ fn is_credible_block(b: u32, v: &Block<'_>) -> bool
 }
 
 /// Whether the version of a reading is credible.
-pub fn is_credible(reading: &Reading, b: u32) -> bool
+pub fn is_credible(reading: &Reading<'_>, b: u32) -> bool
     requires { b * 512 + 512 ≤ length reading.now }
     ensures { result ≡ is_credible b (block reading.now b) }
 {
@@ -49,7 +49,7 @@ pub fn is_credible(reading: &Reading, b: u32) -> bool
 }
 
 /// Whether the version of a reading is a filler.
-pub fn is_filled(reading: &Reading, b: u32) -> bool
+pub fn is_filled(reading: &Reading<'_>, b: u32) -> bool
     requires { b * 512 + 512 ≤ length reading.now }
     ensures { result ≡ is_filler (block reading.now b) }
 {
@@ -61,7 +61,7 @@ pub fn is_filled(reading: &Reading, b: u32) -> bool
 
 /// How many readings have this version of block `b`.
 #[tactic(auto, using(crate::proofs::Votes::counted, crate::proofs::Votes::all_counted))]
-pub fn votes(readings: &[Reading], b: u32, v: &[u8]) -> usize
+pub fn votes(readings: &[Reading<'_>], b: u32, v: &[u8]) -> usize
     requires { All (λ r. b * 512 + 512 ≤ length r) readings.now }
     ensures exact { result ≡ votes v.now (versions readings.now b) }
     ensures most { result ≤ length readings.now }
@@ -77,7 +77,7 @@ pub fn votes(readings: &[Reading], b: u32, v: &[u8]) -> usize
 
 /// How many readings have a credible version of block `b`.
 #[tactic(auto, using(crate::proofs::Votes::counted, crate::proofs::Votes::all_counted))]
-pub fn credible_votes(readings: &[Reading], b: u32) -> usize
+pub fn credible_votes(readings: &[Reading<'_>], b: u32) -> usize
     requires { All (λ r. b * 512 + 512 ≤ length r) readings.now }
     ensures { result ≡ count_by (is_credible b) (versions readings.now b) }
 {

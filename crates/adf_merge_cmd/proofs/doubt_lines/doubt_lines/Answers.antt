@@ -1,6 +1,6 @@
 use Rattle.std.proofs.Common.{◌≡◌, ◌∙◌, ◌<◌, ◌≤◌, ◌+◌, ◌++◌, ℕ, List, true, false, ap, sym, drop, get_or, length, rules}
 use Rattle.std.proofs.lemmas.List.{get_or_default}
-use Rattle.adf_readings.specs.declared.merging.Doubt.{Doubt}
+use Rattle.adf_readings.specs.{declared.doubt.Doubt.Doubt, declared.doubt.Why.TheVariants.Differing}
 use Rattle.adf_merge_cmd.specs.Answers.{goes_on, lines_from, stretch_line}
 use Rattle.adf_merge_cmd.proofs.Stretches.{lines_end, lines_go_on, lines_go_over}
 use Rattle.adf_merge_cmd.proofs.doubt_lines.doubt_lines.Goals as goal
@@ -10,7 +10,7 @@ pub loop-i-preserved : goal.loop-i-preserved
 loop-i-preserved c =
     let ds : List Doubt = c.args.doubts.now in
     let i : ℕ = c.loop-i.i in
-    let none : Doubt = record { block = 0; differing = 0 } in
+    let none : Doubt = record { block = 0; why = Differing 0 } in
     let d : Doubt = get_or ds i none in
     let within : i < length ds = search rules in
     let at : d ≡ get_or ds i d = get_or_default ds i none d within in

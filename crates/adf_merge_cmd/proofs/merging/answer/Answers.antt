@@ -1,20 +1,17 @@
-use Rattle.std.proofs.Common.{◌∙◌, ℕ, List, arith, sym, get_or}
+use Rattle.std.proofs.Common.{◌≡◌, ◌∙◌, ℕ, List, [], All, ap, arith, get_or, length, subst, sym}
+use Rattle.std.proofs.lemmas.List.{get_or_default}
 use Rattle.adf_words.specs.CommandLine.{texts_of}
-use Rattle.adf_merge_cmd.proofs.Refused.{IsSized, each_sized, texts_long}
+use Rattle.adf_merge_cmd.specs.Answers.{IsLikeFirst}
+use Rattle.adf_merge_cmd.proofs.Refused.{each_sized}
 use Rattle.adf_merge_cmd.proofs.merging.answer.Goals as goal
 
-pub overflow_cast-first : goal.overflow_cast-first
-overflow_cast-first g c =
-    let first : List ℕ = c.bytes-first.result.now in
-    let size : IsSized first (get_or c.args.readings.now 0 first) =
-    each_sized first (texts_of c.args.names.now) c.args.readings.now (texts_long c.args.names.now ∙ c.requires.named)
-    (sym (rw c.in-Ok-None.field-0-is at c.in-Ok-None.ensures)) 0 first c.requires.some in
-    omega (arith, size.1, size.2)
-
-pub write_merged-requires-clause-whole : goal.write_merged-requires-clause-whole
-write_merged-requires-clause-whole g c = λ k d lt.
-    let first : List ℕ = c.bytes-first.result.now in
-    let size : IsSized first (get_or c.args.readings.now k d) =
-    each_sized first (texts_of c.args.names.now) c.args.readings.now (texts_long c.args.names.now ∙ c.requires.named)
-    (sym (rw c.in-Ok-None.field-0-is at c.in-Ok-None.ensures)) k d lt in
-    omega (arith, size.0, size.2)
+pub answer_sized-requires-clause-sized : goal.answer_sized-requires-clause-sized
+answer_sized-requires-clause-sized g c =
+    let rs : List (List ℕ) = c.args.readings.now in
+    let first : List ℕ = c.bytes.result.now in
+    let same : first ≡ get_or rs 0 [] = c.bytes.ensures ∙ (c.index-readings-0.is ∙ get_or_default rs 0 c.index-readings-0.result [] c.requires.some) in
+    let names = ap (λ ws. length (texts_of ws)) c.deref.ensures.value in
+    let view = ap (λ o. length o.readings) c.order.view_is in
+    let many : length (texts_of c.deref.result.now) ≡ length rs = omega (arith, names, view, c.requires.named) in
+    subst (λ (f : List ℕ). All (IsLikeFirst f) rs) same
+    (each_sized first (texts_of c.deref.result.now) rs many (sym (rw c.in-Ok-None.field-0-is at c.in-Ok-None.ensures)))
