@@ -1,17 +1,17 @@
 -- Chains of links, and the marks of those that they come to.
 -- Letters: w the walk of an image's survey; j, k, m, n entries; c the entry that comes next in a chain, o the same if there is one; t a block.
-use Rattle.std.specs.Prelude.{◌==◌, ◌&&◌, not, nat_lt, Option, Some, None, cond, is_some, replicate}
+use Rattle.std.specs.Prelude.{◌==◌, ◌&&◌, not, nat_lt, Option, Some, None, cond, is_some}
 use Rattle.std.specs.{List.sum_by, Option.option_and_then}
-use Rattle.std.proofs.Common.{◌≡◌, ◌≢◌, ◌<◌, ◌≤◌, ◌+◌, ℕ, suc, Bool, true, false, List, [], ◌∷◌, ◌++◌, length, set, ◌∙◌, ap, sym, subst, refl, arith, inl, inr, ◌⊎◌}
-use Rattle.std.proofs.lemmas.{Bool.and_parts, Bool.cases_Bool, Bool.cond-false, Bool.cond-true, Bool.eqb-true, Bool.Decides.eqb_tells, Bool.Decides.nat_tests, Bool.Decides.leb_tells, Grind.common_steps}
-use Rattle.std.proofs.lemmas.List.{get_or-replicate, length-replicate, get_or-set_same, get_or-set_other, length-set}
-use Rattle.std.proofs.lemmas.List.Sums.{sum_by-set}
+use Rattle.std.proofs.Common.{◌≡◌, ◌<◌, ◌≤◌, ◌∙◌, ◌⊎◌, ℕ, suc, Bool, true, false, List, ap, arith, inl, inr, length, refl, set, subst, sym}
+use Rattle.std.proofs.lemmas.Bool.{and_parts, cases_Bool, cond-false, cond-true, eqb-true, Decides.eqb_tells, Decides.nat_tests}
+use Rattle.std.proofs.lemmas.List.{get_or-set_same, get_or-set_other, length-set, Sums.sum_by-set}
+use Rattle.adf_blocks.specs.declared.layout.TheConstants.{SECONDARY_TYPE}
 use Rattle.adf_volume.specs.{Image.word_in, Walk.Walk, Walk.heads, Walk.node_block}
 use Rattle.adf_findings.specs.Members.{has_mark}
 use Rattle.adf_links.specs.declared.targets.TheConstants.{NEXT_LINK, ORIGINAL}
-use Rattle.adf_blocks.specs.declared.layout.TheConstants.{SECONDARY_TYPE}
-use Rattle.adf_links.specs.{Chains.AreChained, Chains.AreInChains, Chains.Grows, Chains.IsWholeChain}
-use Rattle.adf_links.specs.Links.{IsChained, IsChained.first, IsChained.next, entry_word, has_entry, headed_at, if_headed, if_linked, link_in, link_kind, named_by, type_behind, next_link, type_named}
+use Rattle.adf_links.specs.Chains.{AreChained, Grows, IsWholeChain}
+use Rattle.adf_links.specs.Links.{IsChained, IsChained.first, IsChained.next, has_entry, headed_at, if_linked, link_kind}
+use Rattle.adf_links.specs.Links.{named_by, next_link, type_behind, type_named}
 
 -- how many entries have no mark
 abbrev pub unmarked : List Bool → ℕ

@@ -2,14 +2,15 @@
 -- Letters: w the walk of an image's survey; j, k, m, n entries; b a block.
 use Rattle.std.specs.Prelude.{◌==◌, ◌&&◌, ◌↔◌, Option, Some, None, IsTrue, cond}
 use Rattle.std.specs.Option.{option_and_then}
-use Rattle.std.proofs.Common.{◌≡◌, ◌<◌, ◌≤◌, ◌+◌, ℕ, Bool, true, false, List, ◌∙◌, ap, sym, subst, refl, arith}
+use Rattle.std.proofs.Common.{◌≡◌, ◌∙◌, ℕ, Bool, true, false, List, subst, sym}
 use Rattle.std.proofs.lemmas.{Bool.and_parts, Bool.eqb-true}
 use Rattle.adf_blocks.specs.declared.layout.TheConstants.{SECONDARY_TYPE}
 use Rattle.adf_volume.specs.{Image.word_in, Walk.Walk, Walk.heads, Walk.node_block}
 use Rattle.adf_findings.specs.Members.{has_mark, owning_entry}
 use Rattle.adf_links.specs.declared.targets.TheConstants.{ORIGINAL}
 use Rattle.adf_links.specs.{Chains.AreInChains}
-use Rattle.adf_links.specs.Links.{IsChained, IsInChain, entry_word, has_entry, headed_at, if_headed, if_typed, named_by, original, original_of_type, type_named}
+use Rattle.adf_links.specs.Links.{IsChainedLink, entry_word, has_entry, headed_at, if_headed, if_typed, named_by, original, original_of_type}
+use Rattle.adf_links.specs.Links.{type_named}
 use Rattle.adf_links.proofs.ChainSteps.{chained_to, passed, same_chain, stepped}
 
 module _ (image : List ℕ) (w : Walk) where
@@ -41,7 +42,7 @@ module _ (image : List ℕ) (w : Walk) where
       )
 
   -- a link that leads to an entry is in its chain where it is in any
-  pub in_chain : (marks : List Bool) → AreInChains image w marks → (n m : ℕ) → original image w n ≡ Some m → IsTrue (has_mark marks n) ↔ IsInChain image w n
+  pub in_chain : (marks : List Bool) → AreInChains image w marks → (n m : ℕ) → original image w n ≡ Some m → IsTrue (has_mark marks n) ↔ IsChainedLink image w n
   in_chain marks a n m e = (
     (λ h.
         let chain = a.chained n h in
@@ -53,7 +54,7 @@ module _ (image : List ℕ) (w : Walk) where
   )
 
   -- one that leads to none is in none
-  pub in_no_chain : (n : ℕ) → original image w n ≡ None → IsTrue false ↔ IsInChain image w n
+  pub in_no_chain : (n : ℕ) → original image w n ≡ None → IsTrue false ↔ IsChainedLink image w n
   in_no_chain n e = (
     (λ h. let clash : false ≡ true = h in cc),
     (λ h. let some = h.1 in cc),

@@ -99,10 +99,10 @@ entry_concerned (Within p) = None
 abbrev pub entry_told : Walk → FindingValue → Option ℕ
 entry_told w f = cond (is_link_cause f.cause) (option_and_then entry_concerned (concern_of w f)) None
 
--- the slot of the chain of a header
-abbrev pub slot_in : Role → Option ℕ
-slot_in (Head n p s j) = Some s
-slot_in _ = None
+-- the slot of the chain that a header is in
+abbrev pub slot_of_head : Role → Option ℕ
+slot_of_head (Head n p s j) = Some s
+slot_of_head _ = None
 
 -- entry n, if its name is valid and hashes to slot s
 abbrev pub if_named : List ℕ → Walk → (n s : ℕ) → Option ℕ
@@ -113,7 +113,7 @@ if_named image w n s =
 -- the entry that a finding tells to be a link, if its name is valid and hashes to the slot of its chain
 abbrev pub placed_link : List ℕ → Walk → FindingValue → Option ℕ
 placed_link image w f =
-    option_and_then (λ n. option_and_then (if_named image w n) (option_and_then slot_in f.part)) (entry_told w f)
+    option_and_then (λ n. option_and_then (if_named image w n) (option_and_then slot_of_head f.part)) (entry_told w f)
 
 -- whether an entry is n
 abbrev pub is_entry_at : ℕ → Option ℕ → Bool
@@ -130,14 +130,14 @@ pub record AreTold (image : List ℕ) (w : Walk) (fs : List FindingValue) (marks
   pub told : (n : ℕ) → n < length marks → has_mark marks n ≡ list_any (tells_link image w n) fs
 
 -- entry n is a hard link to an entry of the kind that it says, the chain of links of which comes to it
-abbrev pub IsInChain : List ℕ → Walk → ℕ → Type 0
-IsInChain image w n = (m : ℕ) × (original image w n ≡ Some m) × IsChained image w m n
+abbrev pub IsChainedLink : List ℕ → Walk → ℕ → Type 0
+IsChainedLink image w n = (m : ℕ) × (original image w n ≡ Some m) × IsChained image w m n
 
 -- what entry n says leads to something: the path of a soft link is not empty and has its end; a hard link is in a chain
 abbrev pub Leads : List ℕ → Walk → ℕ → Option LinkKind → Type 0
 Leads image w n None = ⊥
 Leads image w n (Some Soft) = (1 ≤ length (link_path image w n)) × (length (link_path image w n) < PATH_ROOM)
-Leads image w n (Some kind) = IsInChain image w n
+Leads image w n (Some kind) = IsChainedLink image w n
 
 -- entry n is a right link: what is found at it is that it is a link, and it leads to something
 pub record IsRightLink (image : List ℕ) (w : Walk) (fs : List FindingValue) (n : ℕ) : Type 0 where

@@ -2,7 +2,7 @@
 
 ghost use Rattle.std.specs.Prelude.{◌≡◌, ◌↔◌, ◌≤◌, ◌<◌, ℕ, IfOk, IsTrue, length, true};
 ghost use Rattle.adf_findings.specs.{Members.has_mark, Survey.OnSurvey};
-ghost use Rattle.adf_links.specs.Links.{IsInChain, IsRightLink, Leads, has_entry, link_in, link_path};
+ghost use Rattle.adf_links.specs.Links.{IsChainedLink, IsRightLink, Leads, has_entry, link_in, link_path};
 ghost use Rattle.adf_links.specs.Chains.{AreInChains};
 
 use crate::chains::chained_links;
@@ -29,7 +29,7 @@ fn has_path(survey: &Survey<'_>, n: Node) -> bool
 #[tactic(auto, using(crate::proofs::RightSteps::in_chain, crate::proofs::RightSteps::in_no_chain))]
 fn is_in_chain(survey: &Survey<'_>, chained: &Vec<bool>, n: Node) -> bool
     ensures { OnSurvey survey.now.image (λ w _. AreInChains survey.now.image w chained.now.items
-        → IsTrue result ↔ IsInChain survey.now.image w n) }
+        → IsTrue result ↔ IsChainedLink survey.now.image w n) }
 {
     match original_of(survey, n) {
         Some(_) => has_mark(chained, n.0),

@@ -4,7 +4,7 @@ ghost use Rattle.std.specs.Prelude.{◌≡◌, ◌<◌, ◌≤◌, ◌==◌, ◌
 ghost use Rattle.std.specs.{List.list_any, Option.option_and_then};
 ghost use Rattle.adf_volume.specs.Walk.{Walk, heads};
 ghost use Rattle.adf_findings.specs.{Concerned.concern_of, Members.has_mark, Parts.finding_value, Survey.OnSurvey};
-ghost use Rattle.adf_links.specs.Links.{AreTold, entry_told, if_named, is_entry_at, placed_link, slot_in};
+ghost use Rattle.adf_links.specs.Links.{AreTold, entry_told, if_named, is_entry_at, placed_link, slot_of_head};
 
 use adf_base::{NoMemory, slot_by};
 use adf_blocks::Cause;
@@ -26,8 +26,8 @@ fn entry_told(finding: &Finding, concern: Option<Concern>) -> Option<Node>
 }
 
 // The slot of the chain of a header that a finding concerns.
-fn slot_in(finding: &Finding) -> Option<u8>
-    ensures { result ≡ option_and_then slot_in (finding_value finding.now).part }
+fn slot_of_head(finding: &Finding) -> Option<u8>
+    ensures { result ≡ option_and_then slot_of_head (finding_value finding.now).part }
 {
     match finding.part {
         Some(Part::Head { slot, .. }) => Some(slot),
@@ -63,7 +63,7 @@ fn placed_by(survey: &Survey<'_>, finding: &Finding, concern: Option<Concern>) -
     ensures { OnSurvey survey.now.image (λ w _. concern ≡ concern_of w (finding_value finding.now)
         → result ≡ placed_link survey.now.image w (finding_value finding.now)) }
 {
-    placed(survey, entry_told(finding, concern), slot_in(finding))
+    placed(survey, entry_told(finding, concern), slot_of_head(finding))
 }
 
 // The same of finding `k`, counted from 0; `None` past the last.

@@ -1,5 +1,5 @@
 use Rattle.std.specs.Prelude.{Some}
-use Rattle.std.proofs.Common.{◌≡◌, ◌∙◌, ap, refl, subst, sym, true}
+use Rattle.std.proofs.Common.{◌∙◌, ap, refl, subst, sym}
 use Rattle.adf_volume.specs.Walk.{node_block}
 use Rattle.adf_links.specs.Links.{next_link}
 use Rattle.adf_links.proofs.ChainSteps.{IsMarking, begin_marking, end_marking, is_entry, mark_step, mark_stop, marked_more}
@@ -20,7 +20,8 @@ returns-then-not-mark_new-clause-whole c = λ w fs survey a.
     let image = c.args.survey.now.image in
     let n = c.args.n in
     let marks = c.loop-next.marks.items in
-    let marking = subst (IsMarking image w n marks) (c.in-Some-next.is ∙ ap (λ i. Some i) (sym c.link.view_is)) (c.loop-next.invariant.marking w fs survey a) in
+    let marking = subst (IsMarking image w n marks) (c.in-Some-next.is ∙ ap (λ i. Some i) (sym c.link.view_is))
+    (c.loop-next.invariant.marking w fs survey a) in
     (mark_stop image w n marks c.link.inside.0 c.mark_new.result c.mark_new.new.marks.items marking c.mark_new.ensures.new c.mark_new.ensures.marks
     c.if-not-mark_new.true).1
 
@@ -30,7 +31,8 @@ loop-next-preserved c = record {
       let image = c.args.survey.now.image in
       let n = c.args.n in
       let marks = c.loop-next.marks.items in
-      let marking = subst (IsMarking image w n marks) (c.in-Some-next.is ∙ ap (λ i. Some i) (sym c.link.view_is)) (c.loop-next.invariant.marking w fs survey a) in
+      let marking = subst (IsMarking image w n marks) (c.in-Some-next.is ∙ ap (λ i. Some i) (sym c.link.view_is))
+      (c.loop-next.invariant.marking w fs survey a) in
       mark_step image w n marks c.link.inside.0 c.mark_new.result c.mark_new.new.marks.items c.next_link-next-in-Some-next.result marking
       (is_entry w n ((c.in-Some.ensures.some w fs survey).0 refl)) c.mark_new.ensures.marks c.if-not-mark_new.false
       (c.next_link-next-in-Some-next.ensures w fs survey

@@ -16,5 +16,6 @@ loop-k-preserved c = λ w fs survey.
           let lt : n < length c.loop-k.marks.items = omega (arith, c.mark.ensures.length) in
           c.mark.ensures.marks n lt
           ∙ (ap (λ o. is_entry_at n o || has_mark c.loop-k.marks.items n) (c.placed_link.ensures w fs survey)
-          ∙ (ap (λ t. is_entry_at n (option_and_then (placed_link image w) (slice_get fs k)) || t) (before.1 n lt) ∙ sym (told_more (placed_link image w) n fs k)))),
+          ∙ (ap (λ t. is_entry_at n (option_and_then (placed_link image w) (slice_get fs k)) || t) (before.1 n lt)
+          ∙ sym (told_more (placed_link image w) n fs k)))),
     )
