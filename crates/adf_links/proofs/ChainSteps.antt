@@ -1,26 +1,26 @@
 -- Chains of links, and the marks of those that they come to.
 -- Letters: w the walk of an image's survey; j, k, m, n entries; c the entry that comes next in a chain, o the same if there is one; t a block.
 use Rattle.std.specs.Prelude.{◌==◌, ◌&&◌, not, nat_lt, Option, Some, None, cond, is_some}
-use Rattle.std.specs.{List.sum_by, Option.option_and_then}
-use Rattle.std.proofs.Common.{◌≡◌, ◌<◌, ◌≤◌, ◌∙◌, ◌⊎◌, ℕ, suc, Bool, true, false, List, ap, arith, inl, inr, length, refl, set, subst, sym}
+use Rattle.std.specs.{List.count_by, Option.option_and_then}
+use Rattle.std.proofs.Common.{◌≡◌, ◌<◌, ◌≤◌, ◌∙◌, ◌⊎◌, ◌+◌, ℕ, zero, suc, Bool, true, false, List, ap, arith, inl, inr, length, refl, set, subst, sym}
 use Rattle.std.proofs.lemmas.Bool.{and_parts, cases_Bool, cond-false, cond-true, eqb-true, Decides.eqb_tells, Decides.nat_tests}
-use Rattle.std.proofs.lemmas.List.{get_or-set_same, get_or-set_other, length-set, Sums.sum_by-set}
+use Rattle.std.proofs.lemmas.List.{get_or-set_same, get_or-set_other, length-set, Sums.count_by-le-length, Sums.sum_by-set}
 use Rattle.adf_blocks.specs.declared.layout.TheConstants.{SECONDARY_TYPE}
 use Rattle.adf_volume.specs.{Image.word_in, Walk.Walk, Walk.heads, Walk.node_block}
 use Rattle.adf_findings.specs.Members.{has_mark}
 use Rattle.adf_links.specs.declared.targets.TheConstants.{NEXT_LINK, ORIGINAL}
-use Rattle.adf_links.specs.Chains.{AreChained, Grows, IsWholeChain}
-use Rattle.adf_links.specs.Links.{IsChained, IsChained.first, IsChained.next, has_entry, headed_at, if_linked, link_kind}
+use Rattle.adf_links.specs.Chains.{AreChained, Grows, IsChained, IsChained.first, IsChained.next, IsInAChain, IsWholeChain}
+use Rattle.adf_links.specs.Links.{chain_link, has_entry, headed_at, if_linked, link_kind}
 use Rattle.adf_links.specs.Links.{named_by, next_link, type_behind, type_named}
 
 -- how many entries have no mark
 abbrev pub unmarked : List Bool → ℕ
-unmarked marks = sum_by (λ x. cond x 0 1) marks
+unmarked marks = count_by not marks
 
 pub fewer_unmarked : (marks : List Bool) (n : ℕ) → n < length marks → has_mark marks n ≡ false → unmarked (set marks n true) < unmarked marks
 fewer_unmarked marks n lt free =
-    let e = sum_by-set (λ x. cond x 0 1) marks n true false lt in
-    let weight : Bool → ℕ = λ x. cond x 0 1 in
+    let weight : Bool → ℕ = λ x. cond (not x) 1 0 in
+    let e = sum_by-set weight marks n true false lt in
     let one = ap weight free in
     omega (arith, e, one)
 
@@ -101,19 +101,37 @@ module _ (image : List ℕ) (w : Walk) where
       ap (λ o. option_and_then (if_linked image w t) (option_and_then (headed_at w) o))
       (cond-true (has_entry w k) (word (node_block w k)) None hk ∙ (ap word e ∙ sym (cond-true (has_entry w m) (word (node_block w m)) None hm)))
 
-  pub same_chain : (k m n : ℕ) → has_entry w k ≡ true → has_entry w m ≡ true → node_block w k ≡ node_block w m → IsChained image w k n → IsChained image w m n
-  same_chain k m n hk hm e (first h) =
-      first (sym (same_next k m (node_block w m) hk hm e) ∙ (ap (λ t. next_link image w t k) (sym e) ∙ h))
-  same_chain k m n hk hm e (next {k = j} l h) = next (same_chain k m j hk hm e l) (ap (λ t. next_link image w t j) (sym e) ∙ h)
+  pub same_links : (k m i : ℕ) → has_entry w k ≡ true → has_entry w m ≡ true → node_block w k ≡ node_block w m → chain_link image w k i ≡ chain_link image w m i
+  unfolding chain_link
+  same_links k m zero hk hm e = same_next k m (node_block w k) hk hm e ∙ ap (λ t. next_link image w t m) e
+  same_links k m (suc i) hk hm e =
+      ap (option_and_then (next_link image w (node_block w k))) (same_links k m i hk hm e)
+      ∙ ap (λ t. option_and_then (next_link image w t) (chain_link image w m i)) e
+
+  pub chain_first : (m : ℕ) → chain_link image w m 0 ≡ next_link image w (node_block w m) m
+  unfolding chain_link
+  chain_first m = refl
+
+  pub chain_next : (m k j : ℕ) → chain_link image w m k ≡ Some j → chain_link image w m (suc k) ≡ next_link image w (node_block w m) j
+  unfolding chain_link
+  chain_next m k j e = ap (option_and_then (next_link image w (node_block w m))) e
+
+  -- a link at a step of a chain is in it
+  pub chained_at : (m k j : ℕ) → chain_link image w m k ≡ Some j → IsChained image w m j
+  unfolding chain_link
+  chained_at m zero j e = first e
+  chained_at m (suc k) j e =
+      let step = stepped (next_link image w (node_block w m)) (chain_link image w m k) j e in
+      next (chained_at m k step.0 step.1) step.2
 
 -- the chain of entry n is marked as far as the entry o, which comes next
 pub record IsMarking (image : List ℕ) (w : Walk) (n : ℕ) (marks : List Bool) (o : Option ℕ) : Type 0 where
   pub size : length marks ≡ suc (heads w)
-  pub chained : (j : ℕ) → has_mark marks j ≡ true → (m : ℕ) × (has_entry w m ≡ true) × IsChained image w m j
+  pub chained : (j : ℕ) → has_mark marks j ≡ true → IsInAChain image w j
   pub closed : (m k j : ℕ) → IsChained image w m k → has_mark marks k ≡ true → next_link image w (node_block w m) k ≡ Some j
       → (has_mark marks j ≡ true) ⊎ (o ≡ Some j)
   pub begun : (j : ℕ) → next_link image w (node_block w n) n ≡ Some j → (has_mark marks j ≡ true) ⊎ (o ≡ Some j)
-  pub comes : (j : ℕ) → o ≡ Some j → IsChained image w n j
+  pub comes : (j : ℕ) → o ≡ Some j → (k : ℕ) × (k + unmarked marks ≤ suc (heads w)) × (chain_link image w n k ≡ Some j)
 
 module _ (image : List ℕ) (w : Walk) (n : ℕ) (marks : List Bool) where
   pub begin_marking : AreChained image w marks → (o : Option ℕ) → o ≡ next_link image w (node_block w n) n → IsMarking image w n marks o
@@ -122,13 +140,14 @@ module _ (image : List ℕ) (w : Walk) (n : ℕ) (marks : List Bool) where
     chained = a.chained;
     closed = λ m k j l h e. inl (a.closed m k j l h e);
     begun = λ j e. inr (is ∙ e);
-    comes = λ j e. first (sym is ∙ e);
+    comes = λ j e. (0, omega (arith, count_by-le-length not marks, a.size), chain_first image w n ∙ (sym is ∙ e));
   }
 
   -- what comes next is an entry
   pub comes_inside : (c : ℕ) → IsMarking image w n marks (Some c) → c < length marks
   comes_inside c a =
-      let e = chained_to image w n c (a.comes c refl) in
+      let come = a.comes c refl in
+      let e = chained_to image w n c (chained_at image w n come.0 c come.2) in
       let size = a.size in
       grind (arith, nat_tests)
 
@@ -149,14 +168,17 @@ module _ (image : List ℕ) (w : Walk) (n : ℕ) (marks : List Bool) where
       let blocks : node_block w n ≡ node_block w m = sym other ∙ (sym word ∙ one) in
       ap (λ t. next_link image w t c) blocks ∙ (ap (next_link image w (node_block w m)) (sym y) ∙ e)
 
-  pub mark_next : (c : ℕ) → IsMarking image w n marks (Some c) → has_entry w n ≡ true → (o : Option ℕ) → o ≡ next_link image w (node_block w n) c
+  pub mark_next : (c : ℕ) → IsMarking image w n marks (Some c) → has_entry w n ≡ true → has_mark marks c ≡ false → (o : Option ℕ) → o ≡ next_link image w (node_block w n) c
       → IsMarking image w n (set marks c true) o
-  mark_next c a here o is =
+  mark_next c a here free o is =
       let lt = comes_inside c a in
-      let path = a.comes c refl in record {
+      let come = a.comes c refl in
+      let path = chained_at image w n come.0 c come.2 in
+      let fewer = fewer_unmarked marks c lt free in
+      let new : IsInAChain image w c = record { entry = n; step = come.0; has = here; few = omega (arith, come.1, fewer); is = come.2 } in record {
         size = length-set marks c true ∙ a.size;
         chained = λ j h. elim (mark_from marks c lt j h) [
-          | inl y ↦ (n, here, subst (IsChained image w n) (sym y) path)
+          | inl y ↦ subst (IsInAChain image w) (sym y) new
           | inr y ↦ a.chained j y
         ];
         closed = λ m k j l h e. elim (mark_from marks c lt k h) [
@@ -164,7 +186,7 @@ module _ (image : List ℕ) (w : Walk) (n : ℕ) (marks : List Bool) where
           | inr y ↦ inl (reached c lt j (a.closed m k j l y e))
         ];
         begun = λ j e. inl (reached c lt j (a.begun j e));
-        comes = λ j e. next path (sym is ∙ e);
+        comes = λ j e. (suc come.0, omega (arith, come.1, fewer), chain_next image w n come.0 c come.2 ∙ (sym is ∙ e));
       }
 
   -- where nothing more comes that has no mark, the chain is marked
@@ -186,9 +208,10 @@ module _ (image : List ℕ) (w : Walk) (n : ℕ) (marks : List Bool) where
 
   -- one step of the marking
   pub mark_step : (c : ℕ) (new : Bool) (more : List Bool) (o : Option ℕ) → IsMarking image w n marks (Some c) → has_entry w n ≡ true
-      → more ≡ cond new (set marks c true) marks → new ≡ true → o ≡ next_link image w (node_block w n) c → IsMarking image w n more o
-  mark_step c new more o a here is new_one e =
-      subst (λ l. IsMarking image w n l o) (sym (is ∙ cond-true new (set marks c true) marks new_one)) (mark_next c a here o e)
+      → new ≡ (nat_lt c (length marks) && not (has_mark marks c)) → more ≡ cond new (set marks c true) marks → new ≡ true → o ≡ next_link image w (node_block w n) c → IsMarking image w n more o
+  mark_step c new more o a here told is new_one e =
+      let free : has_mark marks c ≡ false = grind (arith, nat_tests) in
+      subst (λ l. IsMarking image w n l o) (sym (is ∙ cond-true new (set marks c true) marks new_one)) (mark_next c a here free o e)
 
   -- it stops at a mark
   pub mark_stop : (c : ℕ) (new : Bool) (more : List Bool) → IsMarking image w n marks (Some c)

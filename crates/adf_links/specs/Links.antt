@@ -1,8 +1,9 @@
 -- Links: what they are, what they lead to, and which are right.
 -- Letters: w the walk of an image's survey, fs its findings, f one of them; n, m entries; b a block; t, h the blocks of headers; s a slot;
 -- i the number of a word.
-use Rattle.std.specs.Prelude.{◌≡◌, ◌≤◌, ◌<◌, ◌+◌, ◌==◌, ◌&&◌, ℕ, Bool, true, false, not, nat_le, cond, List, is_some, length, Option, Some, None, slice_range}
-use Rattle.std.specs.{List.list_any, List.take_while, Option.option_and_then}
+use Rattle.std.specs.Prelude.{◌≡◌, ◌<◌, ◌+◌, ◌==◌, ◌&&◌, ℕ, Bool, true, false, not, nat_le, nat_lt, cond, List, [], is_some, length, Option, Some, None, slice_range}
+use Rattle.std.proofs.Common.{zero, suc}
+use Rattle.std.specs.{List.list_any, List.range_with_len, List.take_while, Option.option_and_then}
 use Rattle.adf_base.specs.{Hash.slot_by, Words.block}
 use Rattle.adf_blocks.specs.declared.cause.Cause.{Cause, TheVariants.Link}
 use Rattle.adf_blocks.specs.declared.layout.TheConstants.{SECONDARY_TYPE, ST_DIR, ST_FILE, ST_LINK_DIR, ST_LINK_FILE, ST_SOFT_LINK}
@@ -68,9 +69,13 @@ original_of_type image w n secondary = option_and_then (if_typed image w seconda
 abbrev pub original : List ℕ → Walk → ℕ → Option ℕ
 original image w n = option_and_then (original_of_type image w n) (type_named image w n)
 
--- the path in the header of a soft link: the bytes from word 6 on, up to the first zero, 288 at most
+-- the path in a soft link: the bytes from word 6 on, up to the first zero, 288 at most
+abbrev pub path_in : List ℕ → List ℕ
+path_in head = take_while (λ c. not (c == 0)) (slice_range head PATH_START (PATH_START + PATH_ROOM))
+
+-- the path of entry n, if it is a soft link
 abbrev pub link_path : List ℕ → Walk → ℕ → List ℕ
-link_path image w n = take_while (λ c. not (c == 0)) (slice_range (block image (node_block w n)) PATH_START (PATH_START + PATH_ROOM))
+link_path image w n = cond (has_entry w n) (path_in (block image (node_block w n))) []
 
 -- entry n, if it is a hard link to the header in block t
 abbrev pub if_linked : List ℕ → Walk → (t n : ℕ) → Option ℕ
@@ -80,10 +85,19 @@ if_linked image w t n = cond (is_some (type_named image w n) && (word_in image (
 abbrev pub next_link : List ℕ → Walk → (t m : ℕ) → Option ℕ
 next_link image w t m = option_and_then (if_linked image w t) (named_by image w NEXT_LINK m)
 
--- the chain of links that begins in the header of entry m comes to entry n
-pub data IsChained (image : List ℕ) (w : Walk) (m : ℕ) : ℕ → Type 0 where
-  first : {n : ℕ} → next_link image w (node_block w m) m ≡ Some n → IsChained image w m n
-  next : {k n : ℕ} → IsChained image w m k → next_link image w (node_block w m) k ≡ Some n → IsChained image w m n
+-- link k, counted from 0, of the chain that begins in the header of entry m
+unfoldable pub chain_link : List ℕ → Walk → (m k : ℕ) → Option ℕ
+chain_link image w m zero = next_link image w (node_block w m) m
+chain_link image w m (suc k) = option_and_then (next_link image w (node_block w m)) (chain_link image w m k)
+
+-- whether an entry is n
+abbrev pub is_entry_at : ℕ → Option ℕ → Bool
+is_entry_at n None = false
+is_entry_at n (Some m) = m == n
+
+-- the chain that begins in the header of entry m comes to entry n: one of its first links, as many as there are entries and the root, is that entry
+abbrev pub is_in_chain : List ℕ → Walk → (m n : ℕ) → Bool
+is_in_chain image w m n = list_any (λ k. is_entry_at n (chain_link image w m k)) (range_with_len 0 (heads w + 1))
 
 -- whether a cause is that a header is a link
 abbrev pub is_link_cause : Cause → Bool
@@ -115,11 +129,6 @@ abbrev pub placed_link : List ℕ → Walk → FindingValue → Option ℕ
 placed_link image w f =
     option_and_then (λ n. option_and_then (if_named image w n) (option_and_then slot_of_head f.part)) (entry_told w f)
 
--- whether an entry is n
-abbrev pub is_entry_at : ℕ → Option ℕ → Bool
-is_entry_at n None = false
-is_entry_at n (Some m) = m == n
-
 -- whether a finding tells that entry n is a link, in the chain of the slot that its name hashes to
 abbrev pub tells_link : List ℕ → Walk → ℕ → FindingValue → Bool
 tells_link image w n f = is_entry_at n (placed_link image w f)
@@ -129,17 +138,18 @@ pub record AreTold (image : List ℕ) (w : Walk) (fs : List FindingValue) (marks
   pub size : length marks ≡ heads w + 1
   pub told : (n : ℕ) → n < length marks → has_mark marks n ≡ list_any (tells_link image w n) fs
 
--- entry n is a hard link to an entry of the kind that it says, the chain of links of which comes to it
-abbrev pub IsChainedLink : List ℕ → Walk → ℕ → Type 0
-IsChainedLink image w n = (m : ℕ) × (original image w n ≡ Some m) × IsChained image w m n
+-- the chain that begins in the header of an entry comes to entry n
+abbrev pub is_linked_from : List ℕ → Walk → ℕ → Option ℕ → Bool
+is_linked_from image w n None = false
+is_linked_from image w n (Some m) = is_in_chain image w m n
 
--- what entry n says leads to something: the path of a soft link is not empty and has its end; a hard link is in a chain
-abbrev pub Leads : List ℕ → Walk → ℕ → Option LinkKind → Type 0
-Leads image w n None = ⊥
-Leads image w n (Some Soft) = (1 ≤ length (link_path image w n)) × (length (link_path image w n) < PATH_ROOM)
-Leads image w n (Some kind) = IsChainedLink image w n
+-- what entry n says leads to something: the path of a soft link is not empty and has its end; a hard link leads to an entry of the kind that it says,
+-- the chain of which comes to the link
+abbrev pub leads : List ℕ → Walk → ℕ → Option LinkKind → Bool
+leads image w n None = false
+leads image w n (Some Soft) = nat_le 1 (length (link_path image w n)) && nat_lt (length (link_path image w n)) PATH_ROOM
+leads image w n (Some kind) = is_linked_from image w n (original image w n)
 
 -- entry n is a right link: what is found at it is that it is a link, and it leads to something
-pub record IsRightLink (image : List ℕ) (w : Walk) (fs : List FindingValue) (n : ℕ) : Type 0 where
-  pub told : list_any (tells_link image w n) fs ≡ true
-  pub leads : Leads image w n (link_in image w n)
+abbrev pub is_right_link : List ℕ → Walk → List FindingValue → ℕ → Bool
+is_right_link image w fs n = list_any (tells_link image w n) fs && leads image w n (link_in image w n)

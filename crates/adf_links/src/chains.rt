@@ -2,7 +2,7 @@
 
 ghost use Rattle.std.specs.Prelude.{◌≡◌, ◌<◌, ◌&&◌, ℕ, IfOk, Some, cond, length, nat_lt, not, set, true};
 ghost use Rattle.adf_findings.specs.{Members.has_mark, Survey.OnSurvey};
-ghost use Rattle.adf_links.specs.Links.{IsChained, has_entry, if_linked, next_link};
+ghost use Rattle.adf_links.specs.Links.{has_entry, if_linked, next_link};
 ghost use Rattle.adf_links.specs.Chains.{AreChained, AreInChains, Grows, IsWholeChain};
 ghost use Rattle.adf_volume.specs.Walk.{heads, node_block};
 

@@ -1,9 +1,9 @@
 // Which links are right.
 
-ghost use Rattle.std.specs.Prelude.{◌≡◌, ◌↔◌, ◌≤◌, ◌<◌, ℕ, IfOk, IsTrue, length, true};
+ghost use Rattle.std.specs.Prelude.{◌≡◌, ◌<◌, ◌&&◌, ℕ, IfOk, length, nat_le, nat_lt};
 ghost use Rattle.adf_findings.specs.{Members.has_mark, Survey.OnSurvey};
-ghost use Rattle.adf_links.specs.Links.{IsChainedLink, IsRightLink, Leads, has_entry, link_in, link_path};
-ghost use Rattle.adf_links.specs.Chains.{AreInChains};
+ghost use Rattle.adf_links.specs.{Chains.AreInChains, Links.AreTold, Links.is_linked_from, Links.is_right_link};
+ghost use Rattle.adf_links.specs.Links.{leads, link_in, link_path, original};
 
 use crate::chains::chained_links;
 use crate::kinds::{LinkKind, link_of};
@@ -16,20 +16,17 @@ use std::alloc::Global;
 
 // Whether the path of a soft link is not empty and has its end.
 fn has_path(survey: &Survey<'_>, n: Node) -> bool
-    ensures { OnSurvey survey.now.image (λ w _. has_entry w n ≡ true → IsTrue result
-        ↔ ((1 ≤ length (link_path survey.now.image w n)) × (length (link_path survey.now.image w n) < PATH_ROOM))) }
+    ensures { OnSurvey survey.now.image (λ w _. result
+        ≡ (nat_le 1 (length (link_path survey.now.image w n)) && nat_lt (length (link_path survey.now.image w n)) PATH_ROOM)) }
 {
-    match link_path(survey, n) {
-        Some(path) => !path.is_empty() && path.len() < PATH_ROOM,
-        None => false,
-    }
+    let path = link_path(survey, n);
+    !path.is_empty() && path.len() < PATH_ROOM
 }
 
-// Whether an entry is a hard link to an entry, the chain of links of which comes to it, by the marks of links in chains.
-#[tactic(auto, using(crate::proofs::RightSteps::in_chain, crate::proofs::RightSteps::in_no_chain))]
-fn is_in_chain(survey: &Survey<'_>, chained: &Vec<bool>, n: Node) -> bool
+// Whether the chain of what a hard link leads to comes to it, by the marks of links in chains.
+fn is_linked_from(survey: &Survey<'_>, chained: &Vec<bool>, n: Node) -> bool
     ensures { OnSurvey survey.now.image (λ w _. AreInChains survey.now.image w chained.now.items
-        → IsTrue result ↔ IsChainedLink survey.now.image w n) }
+        → result ≡ is_linked_from survey.now.image w n (original survey.now.image w n)) }
 {
     match original_of(survey, n) {
         Some(_) => has_mark(chained, n.0),
@@ -40,14 +37,23 @@ fn is_in_chain(survey: &Survey<'_>, chained: &Vec<bool>, n: Node) -> bool
 // Whether what an entry says leads to something, by the marks of links in chains.
 fn leads(survey: &Survey<'_>, chained: &Vec<bool>, n: Node) -> bool
     ensures { OnSurvey survey.now.image (λ w _. AreInChains survey.now.image w chained.now.items
-        → IsTrue result ↔ Leads survey.now.image w n (link_in survey.now.image w n)) }
+        → result ≡ leads survey.now.image w n (link_in survey.now.image w n)) }
 {
     match link_of(survey, n) {
         None => false,
         Some(LinkKind::Soft) => has_path(survey, n),
-        Some(LinkKind::File) => is_in_chain(survey, chained, n),
-        Some(LinkKind::Directory) => is_in_chain(survey, chained, n),
+        Some(LinkKind::File) => is_linked_from(survey, chained, n),
+        Some(LinkKind::Directory) => is_linked_from(survey, chained, n),
     }
+}
+
+// Whether an entry is a right link, by the marks of those that findings tell, and of those in chains.
+fn is_right(survey: &Survey<'_>, told: &Vec<bool>, chained: &Vec<bool>, n: usize) -> bool
+    ensures { OnSurvey survey.now.image (λ w fs. AreTold survey.now.image w fs told.now.items
+        → AreInChains survey.now.image w chained.now.items → n < length told.now.items
+        → result ≡ is_right_link survey.now.image w fs n) }
+{
+    has_mark(told, n) && leads(survey, chained, Node(n))
 }
 
 /// Of each entry whether it is a right link: a finding tells that it is a link, and no more is wrong with it; its name is valid
@@ -56,13 +62,13 @@ fn leads(survey: &Survey<'_>, chained: &Vec<bool>, n: Node) -> bool
 /// and has its end. `NoMemory` if an allocation fails.
 pub fn right_links(alloc: Global, survey: &Survey<'_>) -> Result<Vec<bool>, NoMemory>
     ensures { OnSurvey survey.now.image (λ w fs. IfOk result (λ v. (n : ℕ)
-        → IsTrue (has_mark v.items n) ↔ IsRightLink survey.now.image w fs n)) }
+        → has_mark v.items n ≡ is_right_link survey.now.image w fs n)) }
 {
     let chained = chained_links(alloc, survey)?;
     let told = told_links(alloc, survey)?;
     let mut marks = Vec::with_capacity(alloc, told.len())?;
     for n in 0..told.len() {
-        marks.push(told[n] && leads(survey, &chained, Node(n)))?;
+        marks.push(is_right(survey, &told, &chained, n))?;
     }
     Ok(marks)
 }

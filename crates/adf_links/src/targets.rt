@@ -1,9 +1,9 @@
 // What links lead to.
 
-ghost use Rattle.std.specs.Prelude.{◌≡◌, ◌+◌, ◌<◌, ◌==◌, ℕ, not, IfSome, IsSome, Some, true, ◌↔◌};
+ghost use Rattle.std.specs.Prelude.{◌≡◌, ◌+◌, ◌<◌, ◌==◌, not};
 ghost use Rattle.std.specs.List.{take_while};
 ghost use Rattle.adf_findings.specs.Survey.{OnSurvey};
-ghost use Rattle.adf_links.specs.Links.{has_entry, headed_at, if_headed, if_typed, link_path, named_by, original};
+ghost use Rattle.adf_links.specs.Links.{headed_at, if_headed, if_typed, link_path, named_by, original};
 ghost use Rattle.adf_links.specs.Links.{original_of_type};
 
 use crate::kinds::{entry_word, type_named};
@@ -97,15 +97,13 @@ fn before_zero(bytes: &[u8]) -> &[u8]
     bytes
 }
 
-/// The path in the header of an entry that is a soft link: the bytes from word 6 on, up to the first zero, 288 at most. `None`
-/// for the root and past the last entry.
-pub fn link_path<'s>(survey: &'s Survey<'_>, n: Node) -> Option<&'s [u8]>
-    ensures some { OnSurvey survey.now.image (λ w _. IsSome result ↔ (has_entry w n ≡ true)) }
-    ensures path { OnSurvey survey.now.image (λ w _.
-        IfSome result (λ x. x.now ≡ link_path survey.now.image w n)) }
+/// The path of an entry, if it is a soft link: the bytes from word 6 on, up to the first zero, 288 at most. Empty for the root and
+/// past the last entry.
+pub fn link_path<'s>(survey: &'s Survey<'_>, n: Node) -> &'s [u8]
+    ensures { OnSurvey survey.now.image (λ w _. result.now ≡ link_path survey.now.image w n) }
 {
     match survey.header(n) {
-        Some(head) => Some(before_zero(head.bytes(PATH_START, PATH_ROOM))),
-        None => None,
+        Some(head) => before_zero(head.bytes(PATH_START, PATH_ROOM)),
+        None => b"",
     }
 }

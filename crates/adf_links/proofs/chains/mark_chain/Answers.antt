@@ -34,7 +34,7 @@ loop-next-preserved c = record {
       let marking = subst (IsMarking image w n marks) (c.in-Some-next.is ∙ ap (λ i. Some i) (sym c.link.view_is))
       (c.loop-next.invariant.marking w fs survey a) in
       mark_step image w n marks c.link.inside.0 c.mark_new.result c.mark_new.new.marks.items c.next_link-next-in-Some-next.result marking
-      (is_entry w n ((c.in-Some.ensures.some w fs survey).0 refl)) c.mark_new.ensures.marks c.if-not-mark_new.false
+      (is_entry w n ((c.in-Some.ensures.some w fs survey).0 refl)) c.mark_new.ensures.new c.mark_new.ensures.marks c.if-not-mark_new.false
       (c.next_link-next-in-Some-next.ensures w fs survey
       ∙ (ap (λ t. next_link image w t c.in-Some-next.link) (c.in-Some.ensures.block w fs survey)
       ∙ ap (next_link image w (node_block w n)) (sym c.link.view_is)));
