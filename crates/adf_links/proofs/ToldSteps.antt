@@ -1,8 +1,8 @@
 -- The marks of entries that findings tell to be links.
 -- Letters: g the entry that a finding tells; fs findings, f one of them; n an entry; k a number of findings.
-use Rattle.std.specs.Prelude.{◌||◌, Option, Some, None, slice_get}
+use Rattle.std.specs.Prelude.{◌||◌, Option, slice_get}
 use Rattle.std.specs.{List.list_any, Option.option_and_then}
-use Rattle.std.proofs.Common.{◌≡◌, ◌+◌, ℕ, zero, suc, Bool, true, false, List, [], ◌∷◌, take, refl, ap, ◌∙◌, add-one, arith}
+use Rattle.std.proofs.Common.{◌≡◌, ◌+◌, ℕ, zero, suc, Bool, true, false, List, [], ◌∷◌, take, refl, ap, ◌∙◌, add-one}
 use Rattle.adf_findings.specs.Survey.{FindingValue}
 use Rattle.adf_links.specs.Links.{is_entry_at}
 

@@ -1,4 +1,4 @@
-use Rattle.std.proofs.Common.{◌≡◌, ◌≤◌, ℕ}
+use Rattle.std.proofs.Common.{◌≤◌, ℕ}
 use Rattle.adf_findings.specs.Survey.{OnSurvey}
 use Rattle.adf_links.specs.{Chains.AreChained, Chains.IsWholeChain}
 use Rattle.adf_links.proofs.chains.chained_links.Given as goal

@@ -1,4 +1,3 @@
-use Rattle.std.proofs.Common.{◌≡◌}
 use Rattle.adf_findings.specs.Survey.{OnSurvey}
 use Rattle.adf_links.specs.{Chains.AreChained, Chains.Grows}
 use Rattle.adf_links.proofs.ChainSteps.{IsMarking, unmarked}

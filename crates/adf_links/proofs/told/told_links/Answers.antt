@@ -1,8 +1,8 @@
 use Rattle.std.specs.Prelude.{◌||◌, slice_get}
 use Rattle.std.specs.Option.{option_and_then}
-use Rattle.std.proofs.Common.{◌≡◌, ◌<◌, ◌∙◌, ap, length, arith, subst, sym, take}
+use Rattle.std.proofs.Common.{◌<◌, ◌∙◌, ap, length, arith, sym}
 use Rattle.adf_findings.specs.Members.{has_mark}
-use Rattle.adf_links.specs.Links.{is_entry_at, placed_link, tells_link}
+use Rattle.adf_links.specs.Links.{is_entry_at, placed_link}
 use Rattle.adf_links.proofs.ToldSteps.{told_more}
 use Rattle.adf_links.proofs.told.told_links.Goals as goal
 
