@@ -266,6 +266,29 @@ class Survey:
         node = self.node_of(self.owner[at]) if cause == "taken" else None
         return None if node is None else spelled(self.path(node))
 
+    def leads(self, role, cause):
+        """What a right link leads to: of a soft one its path; of a hard one the entry of the kind that it says whose header it names, if the
+        chain of links of that comes to it."""
+        node = self.node_of(role) if cause == "link" else None
+        b = None if node is None else self.block_of(node)
+        if b is None or not 1 <= self.byte(b, 432) <= 30 or {47, 58} & set(self.text(b, 432)) or slot(self.text(b, 432), self.international) != role[3]:
+            return ""
+        if self.word(b, 127) == LINKS[0]:
+            path, end, _ = self.image[512 * b + 24 : 512 * b + 312].partition(b"\0")
+            return f": path {escaped(path)}" if path and end else ""
+        at = self.word(b, 117)
+        to = self.node_of(self.owner.get(at)) if self.owner.get(at, ROOT)[1] == "head" else None
+        kind = DIR if self.word(b, 127) == LINKS[1] else FILE
+        return f": to {spelled(self.path(to))}" if to is not None and self.word(at, 127) == kind and b in self.chain(at) else ""
+
+    def chain(self, at):
+        """The hard links to the header in a block, one after another."""
+        links, b = [], self.word(at, 118)
+        while b not in links and self.owner.get(b, ROOT)[1] == "head" and self.word(b, 127) in LINKS[1:] and self.word(b, 117) == at:
+            links.append(b)
+            b = self.word(b, 118)
+        return links
+
     def path(self, n):
         return [] if n == 0 else self.path(self.nodes[n][2]) + [self.text(self.block_of(n), 432)[:79]]
 
@@ -292,14 +315,15 @@ class Survey:
         ones."""
         runs = []
         for role, at, cause in self.findings:
-            told = [cause, self.concern(role), self.owner_path(at, cause)]
+            told = [cause, self.concern(role), self.owner_path(at, cause), self.leads(role, cause)]
             if runs and runs[-1][2:] == told and (runs[-1][1] == at - 1 or runs[-1][:2] == [at, at]):
                 runs[-1][1] = at
             else:
                 runs.append([at, at, *told])
-        for first, last, cause, concern, owner in runs:
+        for first, last, cause, concern, owner, leads in runs:
             where = f"block {first}" if first == last else f"blocks {first} to {last}"
-            yield f"{where}: {cause}" + ("" if concern is None else f": {concern}") + ("" if owner is None else f": owned by {owner}")
+            owned = "" if owner is None else f": owned by {owner}"
+            yield f"{where}: {cause}" + ("" if concern is None else f": {concern}") + owned + leads
 
     def lines(self):
         """The findings, and then the entries."""
@@ -310,6 +334,10 @@ class Survey:
 
 def spelled(path):
     return "/".join("".join(chr(c) if 32 <= c <= 126 and c not in b"\\/:" else f"\\x{c:02x}" for c in name) or "\\x" for name in path)
+
+
+def escaped(text):
+    return "".join(chr(c) if 32 <= c <= 126 and c != 92 else f"\\x{c:02x}" for c in text)
 
 
 def main():

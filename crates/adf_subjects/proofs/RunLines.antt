@@ -6,7 +6,7 @@ use Rattle.std.proofs.{Common.append-nil, Common.arith, lemmas.List.drop_all}
 use Rattle.std.specs.{Prelude.option_map, Prelude.slice_get, List.flat_map}
 use Rattle.adf_volume.specs.Walk.{Walk}
 use Rattle.adf_findings.specs.Survey.{FindingValue}
-use Rattle.adf_subjects.specs.{Lines.continues, Lines.findings_text, Lines.line_of_run, Lines.run_of, Lines.runs, Lines.runs_from, declared.runs.Run.Run}
+use Rattle.adf_subjects.specs.{Lines.continues, Lines.line_of_run, Lines.lines_of_runs, Lines.run_of, Lines.runs, Lines.runs_from, declared.runs.Run.Run}
 
 module _ (w : Walk) where
   -- a finding at a place
@@ -60,15 +60,15 @@ module _ (w : Walk) where
   unfolding runs_from
   run_last fs k r at = let le = past fs k at in rw drop_all refl
 
-module _ (json : Bool) (image : List ℕ) (w : Walk) where
+module _ (json : Bool) (image : List ℕ) (w : Walk) (all : List FindingValue) where
   -- the line of a run, and those that are to come
   pub line_first : (r : Run) (rest fs : List FindingValue) (text text' : List ℕ) → r ∷ runs w rest ≡ runs w fs
-      → text' ≡ text ++ line_of_run json image w r
-      → text' ++ findings_text json image w rest ≡ text ++ findings_text json image w fs
+      → text' ≡ text ++ line_of_run json image w all r
+      → text' ++ lines_of_runs json image w all rest ≡ text ++ lines_of_runs json image w all fs
   line_first r rest fs text text' e t =
-      ap (λ l. l ++ findings_text json image w rest) t ∙ append_assoc text (line_of_run json image w r) (findings_text json image w rest)
-      ∙ ap (λ rs. text ++ flat_map (line_of_run json image w) rs) e
+      ap (λ l. l ++ lines_of_runs json image w all rest) t ∙ append_assoc text (line_of_run json image w all r) (lines_of_runs json image w all rest)
+      ∙ ap (λ rs. text ++ flat_map (line_of_run json image w all) rs) e
 
   -- no line is to come
-  pub lines_end : (fs : List FindingValue) (k : ℕ) (text : List ℕ) → length fs ≤ k → text ++ findings_text json image w (drop k fs) ≡ text
+  pub lines_end : (fs : List FindingValue) (k : ℕ) (text : List ℕ) → length fs ≤ k → text ++ lines_of_runs json image w all (drop k fs) ≡ text
   lines_end fs k text le = rw drop_all (append-nil text)

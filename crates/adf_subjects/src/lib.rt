@@ -3,6 +3,7 @@
 
 mod kept_losses;
 mod lengths;
+mod link_targets;
 mod losses;
 mod preparing;
 mod remarks;

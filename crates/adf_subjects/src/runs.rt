@@ -9,15 +9,18 @@ ghost use Rattle.adf_findings.specs.{Lookup.path_to, Parts.finding_value, Survey
 ghost use Rattle.adf_texts.specs.Names.{names_text};
 ghost use Rattle.adf_runs.specs.Streams.{AppendsPart, is_device};
 ghost use Rattle.adf_json.specs.Objects.{member, member_value};
+ghost use Rattle.adf_subjects.specs.LinkTargets.{soft_link, soft_path, target_of};
 ghost use Rattle.adf_subjects.specs.Lines.{are_owned_alike, are_one, concern_text, concerned, continues, finding_object};
 ghost use Rattle.adf_subjects.specs.Lines.{is_beside};
 ghost use Rattle.adf_subjects.specs.Lines.{findings_line, findings_text, concerns_skipped, entry_path, owner_text, path_value};
-ghost use Rattle.adf_subjects.specs.Lines.{line_of_run, run_members, run_of, runs};
+ghost use Rattle.adf_subjects.specs.Lines.{run_members, run_of, runs, told_run};
 
+use crate::link_targets::{push_target, right_concerned, soft_link, soft_path, target_of};
 use crate::remarks::push_blocks;
 use adf_blocks::Cause;
 use adf_findings::{Concern, Finding, Survey};
 use adf_json::{Member, Value, joined, push_object};
+use adf_links::right_links;
 use adf_runs::{Sink, StreamFault, flush_long, write_all};
 use adf_texts::push_names;
 use adf_tree::Node;
@@ -178,21 +181,23 @@ fn push_owner(
     push_path(alloc, survey, n, text)
 }
 
-// Appends the line of a run.
+// Appends the line of a run, and what the right link leads to that it concerns.
 fn push_line(
     alloc: Global,
     survey: &Survey<'_>,
     run: &Run,
+    link: Option<Node>,
     text: &mut Vec<u8>,
 ) -> Result<(), AllocError>
     ensures { OnSurvey survey.now.image (λ w _. OnOk result
-        (text.new.items ≡ text.old.items ++ findings_line survey.now.image w run.now)) }
+        (text.new.items ≡ text.old.items ++ findings_line survey.now.image w link run.now)) }
 {
     push_blocks(text, run.first, run.last, b':')?;
     text.extend_from_slice(b" ")?;
     text.extend_from_slice(run.cause.text().as_bytes())?;
     push_concern(alloc, survey, run.concern, text)?;
     push_owner(alloc, survey, run.owner, text)?;
+    push_target(alloc, survey, link, text)?;
     text.extend_from_slice(b"\n")
 }
 
@@ -239,35 +244,87 @@ fn concerns_skipped(concern: Option<Concern>) -> bool
     }
 }
 
-// The members of the object of a run, with these paths.
+// The texts of the object of a run; of a right link the entry that it leads to, or the link itself, if it is a soft one.
+#[derive(Drop)]
+struct RunTexts {
+    path: Vec<u8>,
+    owner: Vec<u8>,
+    target: Option<Node>,
+    to: Vec<u8>,
+    soft: Option<Node>,
+    points: Vec<u8>,
+}
+
+impl RunTexts {
+    fn of(
+        alloc: Global,
+        survey: &Survey<'_>,
+        run: &Run,
+        link: Option<Node>,
+    ) -> Result<RunTexts, AllocError>
+        ensures path { OnSurvey survey.now.image (λ w _.
+            IfOk result (λ t. t.path.items ≡ entry_path survey.now.image w (concerned run.now.concern))) }
+        ensures owner { OnSurvey survey.now.image (λ w _.
+            IfOk result (λ t. t.owner.items ≡ entry_path survey.now.image w run.now.owner)) }
+        ensures target { OnSurvey survey.now.image (λ w _.
+            IfOk result (λ t. t.target ≡ target_of survey.now.image w link)) }
+        ensures to { OnSurvey survey.now.image (λ w _.
+            IfOk result (λ t. t.to.items ≡ entry_path survey.now.image w (target_of survey.now.image w link))) }
+        ensures soft { OnSurvey survey.now.image (λ w _.
+            IfOk result (λ t. t.soft ≡ soft_link survey.now.image w link)) }
+        ensures points { OnSurvey survey.now.image (λ w _.
+            IfOk result (λ t. t.points.items ≡ soft_path survey.now.image w (soft_link survey.now.image w link))) }
+    {
+        Ok(RunTexts {
+            path: path_of(alloc, survey, concerned(run.concern))?,
+            owner: path_of(alloc, survey, run.owner)?,
+            target: target_of(survey, link),
+            to: path_of(alloc, survey, target_of(survey, link))?,
+            soft: soft_link(survey, link),
+            points: soft_path(alloc, survey, soft_link(survey, link))?,
+        })
+    }
+}
+
+// The members of the object of a run, with these texts.
 #[tactic(auto, unfolding(crate::specs::Lines::run_members))]
-fn run_members<'a>(run: &Run, path: &'a [u8], owner: &'a [u8]) -> [Member<'a>; 7]
-    ensures { map member_value result ≡ run_members run.now path.now owner.now }
+fn run_members<'a>(run: &Run, texts: &'a RunTexts) -> [Member<'a>; 9]
+    ensures { map member_value result ≡ run_members run.now texts.now.target texts.now.soft
+        texts.now.path.items texts.now.owner.items texts.now.to.items texts.now.points.items }
 {
     [
         Member::text("line", "finding"),
         Member::number("first", run.first),
         Member::number("last", run.last),
         Member::text("cause", run.cause.text()),
-        path_member("path", concerned(run.concern), path),
+        path_member("path", concerned(run.concern), &texts.path),
         Member::of("within", Value::Truth(concerns_skipped(run.concern))),
-        path_member("owner", run.owner, owner),
+        path_member("owner", run.owner, &texts.owner),
+        path_member("target", texts.target, &texts.to),
+        path_member("soft", texts.soft, &texts.points),
     ]
 }
 
-// Appends the object of a run.
+// Appends the object of a run, with what the right link leads to that it concerns.
 fn push_run_object(
     alloc: Global,
     survey: &Survey<'_>,
     run: &Run,
+    link: Option<Node>,
     text: &mut Vec<u8>,
 ) -> Result<(), AllocError>
     ensures { OnSurvey survey.now.image (λ w _. OnOk result
-        (text.new.items ≡ text.old.items ++ finding_object survey.now.image w run.now)) }
+        (text.new.items ≡ text.old.items ++ finding_object survey.now.image w link run.now)) }
 {
-    let path = path_of(alloc, survey, concerned(run.concern))?;
-    let owner = path_of(alloc, survey, run.owner)?;
-    push_object(text, &run_members(run, &path, &owner))
+    let texts = RunTexts::of(alloc, survey, run, link)?;
+    push_object(text, &run_members(run, &texts))
+}
+
+// How a run is told: as an object in place of a line, and the right link that it concerns.
+#[derive(Clone, Copy)]
+struct RunForm {
+    json: bool,
+    link: Option<Node>,
 }
 
 // Appends the line of a run, or with `json` its object.
@@ -275,16 +332,16 @@ fn push_run(
     alloc: Global,
     survey: &Survey<'_>,
     run: &Run,
-    json: bool,
+    form: RunForm,
     text: &mut Vec<u8>,
 ) -> Result<(), AllocError>
     ensures { OnSurvey survey.now.image (λ w _. OnOk result
-        (text.new.items ≡ text.old.items ++ line_of_run json survey.now.image w run.now)) }
+        (text.new.items ≡ text.old.items ++ told_run form.json survey.now.image w form.link run.now)) }
 {
-    if json {
-        push_run_object(alloc, survey, run, text)
+    if form.json {
+        push_run_object(alloc, survey, run, form.link, text)
     } else {
-        push_line(alloc, survey, run, text)
+        push_line(alloc, survey, run, form.link, text)
     }
 }
 
@@ -307,9 +364,13 @@ pub fn write_runs<W: Sink>(
         (text.items ++ findings_text json survey.now.image w fs))) }
     ensures failed { W.has_failed output.new ≡ is_device result }
 {
+    let Ok(right) = right_links(alloc, survey) else {
+        return Err(StreamFault::NoMemory);
+    };
     let mut k = 0;
     while let Some((run, next)) = run_from(survey, k) {
-        push_run(alloc, survey, &run, json, &mut text)?;
+        let link = right_concerned(&right, run.concern);
+        push_run(alloc, survey, &run, RunForm { json, link }, &mut text)?;
         flush_long(output, &mut text)?;
         k = next;
     }

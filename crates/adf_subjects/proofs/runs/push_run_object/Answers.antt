@@ -2,11 +2,13 @@ use Rattle.adf_subjects.proofs.runs.push_run_object.Goals as goal
 
 pub returns : goal.returns
 returns c = λ w fs survey.
+    let texts = c.in_ok-texts.ensures in
     rw (
       c.run_members.ensures,
-      c.deref.ensures.value,
-      c.deref-2.ensures.value,
-      c.in_ok-path.ensures w fs survey,
-      c.in_ok-owner.ensures w fs survey,
-      c.concerned.ensures,
+      texts.path w fs survey,
+      texts.owner w fs survey,
+      texts.to w fs survey,
+      texts.points w fs survey,
+      texts.target w fs survey,
+      texts.soft w fs survey,
     ) at c.push_object.ensures
