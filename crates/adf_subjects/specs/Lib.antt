@@ -3,6 +3,7 @@ pub mod Lengths
 pub mod Remarks
 pub mod Lines
 pub mod Subject
+pub mod Formatted
 pub mod Losses
 pub mod KeptDeleted
 pub mod Rescues
