@@ -455,7 +455,7 @@ class Rescue:
         self.held = len(image) // 512  # the blocks that the input holds whole; what is filled up behind them is no data
         count, image = length_of(image, blocks), meant(image, blocks)
         self.boot = bytes(image[:1024])
-        image, is_retyped = typed(bytes(image))
+        image, is_retyped = typed(self.rescued(bytes(image)))
         faults = Survey(image).findings
         self.is_refused = bool(faults)
         self.given = pruned(opened(image)) if faults else image
@@ -482,6 +482,10 @@ class Rescue:
         self.losses = [*self.doubts(surveys), *self.lost_headers(), *self.lost_blocks(surveys)]
         if not self.added and faults and (self.root_made or [at for _, at, _ in self.findings] != [0]):
             self.refused = "block %d: %s" % faults[0][1:]
+
+    def rescued(self, image):
+        """The image that is rescued, of the one that is meant."""
+        return image
 
     def doubts(self, surveys):
         """A row for each entry that is kept and may be another, or deleted, or that no directory leads to."""

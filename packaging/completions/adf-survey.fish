@@ -10,6 +10,7 @@ complete -c adf-survey -n $first -a deleted -d 'list what was deleted'
 complete -c adf-survey -n $first -a rescue -d 'write a new volume of all that stands'
 complete -c adf-survey -n '__fish_seen_subcommand_from rescue' -l keep-type -d 'keep international letters, as type 2 or 3'
 complete -c adf-survey -n '__fish_seen_subcommand_from rescue' -l deleted -d 'add the deleted files that are whole'
+complete -c adf-survey -n '__fish_seen_subcommand_from rescue' -l before-format -d 'of what was there before the disk was formatted'
 complete -c adf-survey -n "$first; and test (count (commandline -opc)) -le 2" -l blocks -x -a '1760 3520' \
     -d 'take the image as if it had so many blocks'
 complete -c adf-survey -n '__fish_is_first_token' -l help -d 'write the help'

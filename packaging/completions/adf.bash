@@ -28,7 +28,7 @@ _adf_survey() {
     elif [[ $2 == -* && ${COMP_WORDS[at]} == cat ]]; then
         COMPREPLY=($(compgen -W "--damaged --deleted" -- "$2"))
     elif [[ $2 == -* && ${COMP_WORDS[at]} == rescue ]]; then
-        COMPREPLY=($(compgen -W "--deleted --keep-type" -- "$2"))
+        COMPREPLY=($(compgen -W "--before-format --deleted --keep-type" -- "$2"))
     elif [[ ${COMP_WORDS[at]} != cat ]] || ((COMP_CWORD > at + 1)); then
         compopt -o default
     fi

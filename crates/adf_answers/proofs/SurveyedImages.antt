@@ -13,12 +13,12 @@ use Rattle.adf_findings.specs.{Files.file_content, Files.file_in, Files.grave, R
 use Rattle.adf_findings.proofs.{Decidability.dec_true, SomeMarks.dec_sound, SomeMarks.some_marks, SomeSurvey.some_survey}
 use Rattle.adf_findings.proofs.SomeLookups.{dec_is_file, leads_or_not}
 use Rattle.adf_runs.specs.Commands.{Reply, bad_path, on_errors, on_output}
-use Rattle.adf_survey_cmd.specs.CommandLine.{QuestionValue, asked, cat, deleted, list, report, rescue, rescue_deleted}
+use Rattle.adf_survey_cmd.specs.CommandLine.{QuestionValue, asked, cat, deleted, list, report, rescue, rescue_before, rescue_deleted}
 use Rattle.adf_subjects.proofs.SomeRescues.{some_rescue as rescue_given}
-use Rattle.adf_subjects.proofs.{SubjectBytes.subject_bytes, SubjectBytes.typed_bytes, Subjects.some_typed}
+use Rattle.adf_subjects.proofs.{Formats.before_bytes, Formats.some_before, SubjectBytes.subject_bytes, SubjectBytes.typed_bytes, Subjects.some_typed}
 use Rattle.adf_survey_cmd.specs.Answers.{CopiesEntry, CopiesFound, CopiesFromSurvey, IsWholeFile, ListsSurvey, QuestionAnswer, Surveys, no_path_line}
 use Rattle.adf_survey_cmd.specs.{Answers.told_status, Answers.types_kept, Hints.hinted, Remains.remains_reply}
-use Rattle.adf_subjects.specs.Rescues.{Replies, RescuesTypedOf, rescue_reply}
+use Rattle.adf_subjects.specs.Rescues.{Replies, RescuesBefore, RescuesTypedOf, rescue_reply}
 use Rattle.adf_survey_cmd.specs.FoundLines.{has_its_data, listing_text}
 use Rattle.adf_subjects.specs.Subject.{OfTyped, SubjectValue, begun_subject, sized, subject, subject_text}
 use Rattle.std.proofs.lemmas.Bool.{cases_Bool}
@@ -105,13 +105,24 @@ some_copy blocks damaged path input = copied_by blocks damaged path input (path_
 
 -- a rescue
 
+some_typed_rescue : (plus : Bool) (keep_type : Bool) (s : SubjectValue) → AreBytes s.image
+    → (reply : Reply) × Replies (RescuesTypedOf plus (types_kept keep_type) s) reply
+some_typed_rescue plus keep_type s are =
+    let (t, typed) = some_typed s in
+    let (r, told) = rescue_given plus (types_kept keep_type) t.end t.lost t.image (sized 2 s.image) (typed_bytes s t typed are) in
+    (rescue_reply r, (r, (t, typed, told), refl))
+
 some_rescue : (plus : Bool) (blocks : Option ℕ) (keep_type : Bool) (input : List ℕ) → AreBytes input
     → (reply : Reply) × Replies (RescuesTypedOf plus (types_kept keep_type) (subject blocks input)) reply
-some_rescue plus blocks keep_type input are =
-    let (t, typed) = some_typed (subject blocks input) in
-    let (r, told) = rescue_given plus (types_kept keep_type) t.end t.lost t.image (sized 2 (subject blocks input).image)
-    (typed_bytes (subject blocks input) t typed (subject_bytes blocks input are)) in
-    (rescue_reply r, (r, (t, typed, told), refl))
+some_rescue plus blocks keep_type input are = some_typed_rescue plus keep_type (subject blocks input) (subject_bytes blocks input are)
+
+some_before_rescue : (plus : Bool) (blocks : Option ℕ) (keep_type : Bool) (input : List ℕ) → AreBytes input
+    → (reply : Reply) × Replies (RescuesBefore plus (types_kept keep_type) (subject blocks input)) reply
+some_before_rescue plus blocks keep_type input are =
+    let s = subject blocks input in
+    let (t, before) = some_before s in
+    let (reply, (r, told, same)) = some_typed_rescue plus keep_type t (before_bytes s t before (subject_bytes blocks input are)) in
+    (reply, (r, (t, before, told), same))
 
 -- the deleted headers
 
@@ -143,14 +154,17 @@ some_deleted blocks file input =
 -- every question
 
 questioned : (blocks : Option ℕ) (q : QuestionValue) (input : List ℕ) → ((keep_type : Bool) → q ≡ rescue keep_type → AreBytes input)
-    → ((keep_type : Bool) → q ≡ rescue_deleted keep_type → AreBytes input) → IsAnswered q (subject blocks input)
-questioned blocks (report json) input are more = some_report json blocks input
-questioned blocks (list json) input are more = some_list json blocks input
-questioned blocks (cat damaged path) input are more = some_copy blocks damaged path input
-questioned blocks (deleted file) input are more = some_deleted blocks file input
-questioned blocks (rescue keep_type) input are more = some_rescue false blocks keep_type input (are keep_type refl)
-questioned blocks (rescue_deleted keep_type) input are more = some_rescue true blocks keep_type input (more keep_type refl)
+    → ((keep_type : Bool) → q ≡ rescue_deleted keep_type → AreBytes input)
+    → ((with_deleted keep_type : Bool) → q ≡ rescue_before with_deleted keep_type → AreBytes input) → IsAnswered q (subject blocks input)
+questioned blocks (report json) input are more before = some_report json blocks input
+questioned blocks (list json) input are more before = some_list json blocks input
+questioned blocks (cat damaged path) input are more before = some_copy blocks damaged path input
+questioned blocks (deleted file) input are more before = some_deleted blocks file input
+questioned blocks (rescue keep_type) input are more before = some_rescue false blocks keep_type input (are keep_type refl)
+questioned blocks (rescue_deleted keep_type) input are more before = some_rescue true blocks keep_type input (more keep_type refl)
+questioned blocks (rescue_before plus keep_type) input are more before = some_before_rescue plus blocks keep_type input (before plus keep_type refl)
 
 pub some_answer : (blocks : Option ℕ) (q : QuestionValue) (input : List ℕ) → ((keep_type : Bool) → q ≡ rescue keep_type → AreBytes input)
-    → ((keep_type : Bool) → q ≡ rescue_deleted keep_type → AreBytes input) → HasSurveyAnswer (asked blocks q) input
-some_answer blocks q input are more = let (told, answer) = questioned blocks q input are more in (hinted input told, (told, answer, refl))
+    → ((keep_type : Bool) → q ≡ rescue_deleted keep_type → AreBytes input)
+    → ((with_deleted keep_type : Bool) → q ≡ rescue_before with_deleted keep_type → AreBytes input) → HasSurveyAnswer (asked blocks q) input
+some_answer blocks q input are more before = let (told, answer) = questioned blocks q input are more before in (hinted input told, (told, answer, refl))

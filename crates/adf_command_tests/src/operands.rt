@@ -14,7 +14,7 @@ use std::cell::Cell;
 const SURVEY_USAGE: &str =
     "usage: adf-survey [--blocks N] [--list] [--json] [FILE]\n       adf-survey [--blocks N] cat [--damaged] PATH [FILE]\n\
     \x20      adf-survey [--blocks N] cat --deleted BLOCK [FILE]\n\
-    \x20      adf-survey [--blocks N] rescue [--keep-type] [--deleted] [FILE]\n\
+    \x20      adf-survey [--blocks N] rescue [--keep-type] [--deleted] [--before-format] [FILE]\n\
     \x20      adf-survey [--blocks N] deleted [FILE]\n\
     without a FILE the image comes on standard input; man adf-survey tells more\n";
 

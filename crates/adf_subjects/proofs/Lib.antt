@@ -8,3 +8,4 @@ pub mod SizedImages
 pub mod Subjects
 pub mod SubjectBytes
 pub mod SomeRescues
+pub mod Formats

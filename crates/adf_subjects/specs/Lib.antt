@@ -4,6 +4,7 @@ pub mod Remarks
 pub mod LinkTargets
 pub mod Lines
 pub mod Subject
+pub mod Formatted
 pub mod Losses
 pub mod KeptDeleted
 pub mod Rescues

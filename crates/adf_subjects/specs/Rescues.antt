@@ -16,7 +16,7 @@ use Rattle.adf_rescue.specs.Rescue.{IsSecond, Basis, StandsNothingBy, rescued_tr
 use Rattle.adf_texts.specs.Lines.{fault_line}
 use Rattle.adf_runs.specs.Commands.{Reply, on_errors}
 use Rattle.adf_deleted.specs.Known.{known_blocks}
-use Rattle.adf_subjects.specs.KeptDeleted.{losses_asked, tree_asked}
+use Rattle.adf_subjects.specs.{Formatted.IsBeforeFormat, KeptDeleted.losses_asked, KeptDeleted.tree_asked}
 use Rattle.adf_subjects.specs.{Losses.LossValue, Losses.losses_text, Losses.rescue_losses, Subject.IsTyped, Subject.SubjectValue, Subject.sized}
 
 -- no tree and layout fit an image where these types are accepted
@@ -123,6 +123,10 @@ RescuesOf plus types held lost input boot r =
 -- the rescue of what is surveyed, once it has the type that its files say: with its two boot blocks as they were before
 abbrev pub RescuesTypedOf : (plus : Bool) → Types → SubjectValue → RescueValue → Type 0
 RescuesTypedOf plus types s r = (t : SubjectValue) × IsTyped s t × RescuesOf plus types t.end t.lost t.image (sized 2 s.image) r
+
+-- the same of what was there before the format, in place of what stands
+abbrev pub RescuesBefore : (plus : Bool) → Types → SubjectValue → RescueValue → Type 0
+RescuesBefore plus types s r = (t : SubjectValue) × IsBeforeFormat s t × RescuesTypedOf plus types t r
 
 -- the same without the deleted files
 

@@ -1,6 +1,7 @@
 //! What is surveyed of an input, the runs of its findings, and its rescue up to the new volume.
 #![tactic(auto)]
 
+mod formatted;
 mod kept_losses;
 mod lengths;
 mod link_targets;
@@ -10,6 +11,7 @@ mod remarks;
 mod runs;
 mod subject;
 
+pub use crate::formatted::{before_format, masked_keeps};
 pub use crate::lengths::{blocks_read, stated_length};
 pub use crate::losses::{BlockRun, Loss, Reason};
 pub use crate::preparing::{Prepared, Unrescued, prepare, prepare_asked};

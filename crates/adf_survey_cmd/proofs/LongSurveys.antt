@@ -25,8 +25,9 @@ use Rattle.adf_subjects.specs.{Lengths.AreFew, Lengths.blocks_read, Lengths.stat
 use Rattle.adf_subjects.specs.{Remarks.remarks_text}
 use Rattle.adf_subjects.specs.Subject.{IsTyped, OfTyped, SubjectValue, begun_subject, behind_remarks, behind_loss, held_end, missing_remarks, other_type}
 use Rattle.adf_subjects.specs.Subject.{IsOtherType, IsTypeTold, kind_image, sized, subject, subject_read, subject_text, typed_by}
-use Rattle.adf_survey_cmd.specs.CommandLine.{InquiryValue, QuestionValue, cat, deleted, list, report, rescue, rescue_deleted}
-use Rattle.adf_subjects.specs.Rescues.{IsNoVolume, Replies, RescueValue, RescuesBothOf, RescuesFoundOf, RescuesOf, RescuesTypedOf}
+use Rattle.adf_survey_cmd.specs.CommandLine.{InquiryValue, QuestionValue, cat, deleted, list, report, rescue, rescue_before, rescue_deleted}
+use Rattle.adf_subjects.specs.Rescues.{IsNoVolume, Replies, RescueValue, RescuesBefore, RescuesBothOf, RescuesFoundOf, RescuesOf, RescuesTypedOf}
+use Rattle.adf_subjects.proofs.Formats.{odd_before, odd_stays}
 use Rattle.adf_survey_cmd.proofs.HintedAnswers.{same_disk}
 use Rattle.adf_subjects.proofs.{RescueAnswers.none_fits_it, ReadLengths.few_read, ReadLengths.same_read, ReadLengths.same_stated}
 
@@ -206,6 +207,15 @@ long_typed_rescue plus types s t a b reply (r, (u, is, told), same) =
     let rescues = subst (λ (u : SubjectValue). RescuesOf plus types u.end u.lost u.image (sized 2 s.image) r) (typed_so s u a is) told in
     (r, (t, is_typed t b, long_rescue plus types s t (sized 2 s.image) (sized 2 t.image) a b r rescues), same)
 
+-- nothing of it is masked
+long_before : (plus : Bool) (types : Types) (s t : SubjectValue) → 512 * MOST_BLOCKS < length s.image → 512 * MOST_BLOCKS < length t.image
+    → (reply : Reply) → Replies (RescuesBefore plus types s) reply → Replies (RescuesBefore plus types t) reply
+long_before plus types s t a b reply (r, (u, before, told), same) =
+    let here = odd_before s u (no_volume s.image a) before in
+    let as_it_is = subst (λ (u : SubjectValue). RescuesTypedOf plus types u r) here told in
+    let (q, rescues, e) = long_typed_rescue plus types s t a b reply (r, as_it_is, same) in
+    (q, (t, odd_stays t (no_volume t.image b), rescues), e)
+
 long_questions : (q : QuestionValue) (s t : SubjectValue) → s.front ≡ t.front → 512 * MOST_BLOCKS < length s.image
     → 512 * MOST_BLOCKS < length t.image → (reply : Reply) → QuestionAnswer q s reply → QuestionAnswer q t reply
 long_questions (report json) s t front a b reply told = of_typed s t (Surveys json) a b reply (λ x.
@@ -230,6 +240,7 @@ long_questions (deleted file) s t front a b reply (u, is, lists) =
     )
 long_questions (rescue keep_type) s t front a b reply told = long_typed_rescue false (types_kept keep_type) s t a b reply told
 long_questions (rescue_deleted keep_type) s t front a b reply told = long_typed_rescue true (types_kept keep_type) s t a b reply told
+long_questions (rescue_before with_deleted keep_type) s t front a b reply told = long_before with_deleted (types_kept keep_type) s t a b reply told
 
 -- an image of n blocks is made of the front alone
 same_sized : (n : ℕ) (image bytes : List ℕ) → n ≤ MOST_BLOCKS → image ≡ take (512 * MOST_BLOCKS + 1) bytes → 512 * MOST_BLOCKS < length image

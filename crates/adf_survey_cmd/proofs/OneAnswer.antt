@@ -20,9 +20,9 @@ use Rattle.adf_survey_cmd.specs.{Hints.hinted, FoundLines.listing_text}
 use Rattle.adf_subjects.specs.{Losses.LossValue, Losses.losses_text, Rescues.RescuesSomeOf, Rescues.rescue_reply}
 use Rattle.adf_subjects.specs.Subject.{OfTyped, SubjectValue, begun_subject, sized, subject}
 use Rattle.adf_subjects.specs.Rescues.{GivesFault, IsRefusal, Replies, RescueValue, RescuesOf}
-use Rattle.adf_subjects.specs.Rescues.{RescuesByOf, RescuesFoundOf, RescuesInOf, RescuesReadOf, RescuesTypedOf}
-use Rattle.adf_subjects.proofs.OneSubject.{one_marks, one_typed}
-use Rattle.adf_survey_cmd.specs.CommandLine.{AsksSurvey, InquiryValue, QuestionValue, cat, deleted, list, report, rescue, rescue_deleted}
+use Rattle.adf_subjects.specs.Rescues.{RescuesBefore, RescuesByOf, RescuesFoundOf, RescuesInOf, RescuesReadOf, RescuesTypedOf}
+use Rattle.adf_subjects.proofs.{Formats.one_before, OneSubject.one_marks, OneSubject.one_typed}
+use Rattle.adf_survey_cmd.specs.CommandLine.{AsksSurvey, InquiryValue, QuestionValue, cat, deleted, list, report, rescue, rescue_before, rescue_deleted}
 use Rattle.adf_base.specs.declared.dates.Stamp.{Stamp}
 use Rattle.adf_blocks.specs.Sizes.{blocks}
 use Rattle.adf_deleted.specs.Known.{KnownValue, known_blocks}
@@ -177,6 +177,11 @@ typed_rescued_once plus types s a b (r, (t, is, x), e) (q, (u, also, y), f) =
     e ∙ read_once plus types u.end u.lost u.image (sized 2 s.image) r q
     (subst (λ (t : SubjectValue). RescuesOf plus types t.end t.lost t.image (sized 2 s.image) r) (one_typed s t u is also) x) y ∙ sym f
 
+before_rescued_once : (plus : Bool) (types : Types) (s : SubjectValue) (a b : Reply) → Replies (RescuesBefore plus types s) a
+    → Replies (RescuesBefore plus types s) b → a ≡ b
+before_rescued_once plus types s a b (r, (t, is, x), e) (q, (u, also, y), f) =
+    typed_rescued_once plus types u a b (r, subst (λ (t : SubjectValue). RescuesTypedOf plus types t r) (one_before s t u is also) x, e) (q, y, f)
+
 -- the deleted headers have one answer
 
 known_told_once : (file : Option ℕ) (k : KnownValue) (a b : Reply) → TellsDeleted file k a → TellsDeleted file k b → a ≡ b
@@ -219,6 +224,7 @@ one_question (cat damaged path) s a b (inr h) (inr g) = typed_once s (CopiesFrom
 one_question (deleted file) s a b x y = typed_deleted_once file s a b x y
 one_question (rescue keep_type) s a b x y = typed_rescued_once false (types_kept keep_type) s a b x y
 one_question (rescue_deleted keep_type) s a b x y = typed_rescued_once true (types_kept keep_type) s a b x y
+one_question (rescue_before with_deleted keep_type) s a b x y = before_rescued_once with_deleted (types_kept keep_type) s a b x y
 
 pub one_answer : (r : InquiryValue) (input : List ℕ) (a b : Reply) → SurveyAnswer r input a → SurveyAnswer r input b → a ≡ b
 one_answer r input a b (told, x, e) (other, y, f) =

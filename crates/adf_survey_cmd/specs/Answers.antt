@@ -12,10 +12,10 @@ use Rattle.adf_cmd.specs.Answers.{IsBadPath, RefusesPath}
 use Rattle.adf_runs.specs.Commands.{Command, Reply, on_errors, on_output}
 use Rattle.adf_file_runs.specs.FileRuns.{without_files}
 use Rattle.adf_survey_cmd.specs.CommandLine.{AreRefusedBySurvey, AsksSurvey, InquiryValue, QuestionValue, asked, cat, deleted, list, report}
-use Rattle.adf_survey_cmd.specs.CommandLine.{rescue, rescue_deleted, survey_file}
+use Rattle.adf_survey_cmd.specs.CommandLine.{rescue, rescue_before, rescue_deleted, survey_file}
 use Rattle.adf_survey_cmd.specs.{Deletions.TellsTyped, FoundLines.has_its_data, FoundLines.listing_text, Hints.Hinted, Remains.WritesRemains}
 use Rattle.adf_subjects.specs.{declared.remarks.Remark.Remark, Rescues.Replies, Rescues.RescuesTyped}
-use Rattle.adf_subjects.specs.{Rescues.RescuesTypedOf, Subject.OfTyped, Subject.SubjectValue, Subject.subject}
+use Rattle.adf_subjects.specs.{Rescues.RescuesBefore, Rescues.RescuesTypedOf, Subject.OfTyped, Subject.SubjectValue, Subject.subject}
 use Rattle.adf_subjects.specs.{Subject.subject_text}
 
 -- the status of findings: 0 where there is none
@@ -99,6 +99,7 @@ QuestionAnswer (cat damaged path) s reply = RefusesPath path reply ⊎ OfTyped s
 QuestionAnswer (deleted file) s reply = TellsTyped file s reply
 QuestionAnswer (rescue keep_type) s reply = Replies (RescuesTyped (types_kept keep_type) s) reply
 QuestionAnswer (rescue_deleted keep_type) s reply = Replies (RescuesTypedOf true (types_kept keep_type) s) reply
+QuestionAnswer (rescue_before with_deleted keep_type) s reply = Replies (RescuesBefore with_deleted (types_kept keep_type) s) reply
 
 -- the answer to an inquiry: that to its question, with the hint
 abbrev pub SurveyAnswer : InquiryValue → List ℕ → Reply → Type 0
@@ -117,7 +118,7 @@ abbrev pub survey_usage : List ℕ
 survey_usage =
     codes "usage: adf-survey [--blocks N] [--list] [--json] [FILE]\n       adf-survey [--blocks N] cat [--damaged] PATH [FILE]\n"
     ++ codes "       adf-survey [--blocks N] cat --deleted BLOCK [FILE]\n"
-    ++ codes "       adf-survey [--blocks N] rescue [--keep-type] [--deleted] [FILE]\n"
+    ++ codes "       adf-survey [--blocks N] rescue [--keep-type] [--deleted] [--before-format] [FILE]\n"
     ++ codes "       adf-survey [--blocks N] deleted [FILE]\n"
     ++ codes "without a FILE the image comes on standard input; man adf-survey tells more\n"
 

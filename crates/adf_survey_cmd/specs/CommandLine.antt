@@ -7,7 +7,7 @@ use Rattle.adf_words.specs.Arguments.{bare_app, cat_app, flag_rule, has_flag, nu
 use Rattle.adf_words.specs.FileArguments.{file_met, file_rule}
 use Rattle.adf_survey_cmd.specs.declared.command_line.Inquiry.{Inquiry}
 use Rattle.adf_survey_cmd.specs.declared.command_line.Question.{Question, TheVariants.Report, TheVariants.List as ListAll}
-use Rattle.adf_survey_cmd.specs.declared.command_line.Question.TheVariants.{Cat, Rescue, RescueDeleted, Deleted}
+use Rattle.adf_survey_cmd.specs.declared.command_line.Question.TheVariants.{Cat, Rescue, RescueBefore, RescueDeleted, Deleted}
 
 -- the option --blocks N
 abbrev pub blocks_rule : Rule
@@ -17,10 +17,13 @@ blocks_rule = record (new_rule (codes "blocks")) { long = Some (codes "blocks") 
 abbrev pub survey_cat_app : App
 survey_cat_app = with_rule (with_rule (with_rule cat_app (flag_rule (codes "damaged"))) (flag_rule (codes "deleted"))) file_rule
 
--- rescue [--keep-type] [--deleted] [FILE]
+-- rescue [--keep-type] [--deleted], and the rest of its words
+abbrev pub flagged_rescue : App
+flagged_rescue = with_rule (with_rule (new_app (codes "rescue")) (flag_rule (codes "keep-type"))) (flag_rule (codes "deleted"))
+
+-- rescue [--keep-type] [--deleted] [--before-format] [FILE]
 abbrev pub survey_rescue_app : App
-survey_rescue_app =
-    with_rule (with_rule (with_rule (new_app (codes "rescue")) (flag_rule (codes "keep-type"))) (flag_rule (codes "deleted"))) file_rule
+survey_rescue_app = with_rule (with_rule flagged_rescue (flag_rule (codes "before-format"))) file_rule
 
 -- deleted [FILE]
 abbrev pub survey_deleted_app : App
@@ -35,19 +38,20 @@ abbrev pub flagged_survey : App
 flagged_survey = with_rule (with_rule (with_rule numbered_survey (flag_rule (codes "list"))) (flag_rule (codes "json"))) file_rule
 
 -- the command line: [--blocks N], and [--list] [--json] [FILE], cat [--damaged] PATH [FILE], cat --deleted BLOCK [FILE], rescue
--- [--keep-type] [--deleted] [FILE], or deleted [FILE]
+-- [--keep-type] [--deleted] [--before-format] [FILE], or deleted [FILE]
 abbrev pub survey_app : App
 survey_app = with_subcommand (with_subcommand (with_subcommand flagged_survey survey_cat_app.top) survey_rescue_app.top) survey_deleted_app.top
 
 -- what is asked of an image: all findings; these and what is found, both as lines or as objects; the bytes of a file, which is sound or may be damaged; a new
--- volume of all that stands, which keeps the letters of the image, or has ASCII letters; the same with the deleted files that are whole; or the
--- deleted headers, or the bytes of the file of one, by its block
+-- volume of all that stands, which keeps the letters of the image, or has ASCII letters; the same with the deleted files that are whole; one of these of what
+-- the image held before it was formatted; or the deleted headers, or the bytes of the file of one, by its block
 pub data QuestionValue : Type 0 where
   report : (json : Bool) → QuestionValue
   list : (json : Bool) → QuestionValue
   cat : (damaged : Bool) → Text → QuestionValue
   rescue : (keep_type : Bool) → QuestionValue
   rescue_deleted : (keep_type : Bool) → QuestionValue
+  rescue_before : (with_deleted keep_type : Bool) → QuestionValue
   deleted : (file : Option ℕ) → QuestionValue
 
 -- what a command line asks for, of the image as it is or as if it had so many blocks
@@ -72,15 +76,21 @@ cat_asked deleted_one damaged text =
 unfoldable pub cat_met : List Row → Option QuestionValue
 cat_met rows = option_and_then (cat_asked (has_flag (codes "deleted") rows) (has_flag (codes "damaged") rows)) (first_of (codes "path") rows)
 
--- what `rescue` asks: with --deleted the deleted files too
-abbrev pub rescue_asked : (with_deleted keep_type : Bool) → QuestionValue
-rescue_asked with_deleted keep_type = if with_deleted then rescue_deleted keep_type else rescue keep_type
+-- what `rescue` asks: with --deleted the deleted files too, with --before-format what was there before the format
+abbrev pub rescue_asked : (before with_deleted keep_type : Bool) → QuestionValue
+rescue_asked before with_deleted keep_type =
+    if before then rescue_before with_deleted keep_type else (if with_deleted then rescue_deleted keep_type else rescue keep_type)
+
+-- the same by the matches
+abbrev pub rescue_met : List Row → QuestionValue
+rescue_met rows =
+    rescue_asked (has_flag (codes "before-format") rows) (has_flag (codes "deleted") rows) (has_flag (codes "keep-type") rows)
 
 -- what a subcommand's name and matches ask
 abbrev pub question_named : Text → List Row → Option QuestionValue
 question_named name rows =
     if bytes_eq name (codes "cat") then cat_met rows
-    else (if bytes_eq name (codes "rescue") then Some (rescue_asked (has_flag (codes "deleted") rows) (has_flag (codes "keep-type") rows))
+    else (if bytes_eq name (codes "rescue") then Some (rescue_met rows)
     else (if bytes_eq name (codes "deleted") then Some (deleted None) else None))
 
 -- the flag --list, the flag --json or a FILE is among the matches
@@ -124,6 +134,7 @@ question_value (ListAll json) = list json
 question_value (Cat path damaged) = cat damaged path.now
 question_value (Rescue keep_type) = rescue keep_type
 question_value (RescueDeleted keep_type) = rescue_deleted keep_type
+question_value (RescueBefore with_deleted keep_type) = rescue_before with_deleted keep_type
 question_value (Deleted file) = deleted file
 
 -- the value of an inquiry as the code has it

@@ -1,10 +1,10 @@
 -- What is done for words, once they and their path are read.
 use Rattle.std.specs.Prelude.{◌≡◌, ℕ, Bool, List}
 use Rattle.adf_names.specs.PathTexts.{IsPathText}
-use Rattle.adf_survey_cmd.specs.CommandLine.{InquiryValue, QuestionValue, cat, deleted, list, report, rescue, rescue_deleted}
+use Rattle.adf_survey_cmd.specs.CommandLine.{InquiryValue, QuestionValue, cat, deleted, list, report, rescue, rescue_before, rescue_deleted}
 use Rattle.adf_subjects.specs.Lengths.{AreFew}
 use Rattle.adf_survey_cmd.specs.{Answers.types_kept, declared.work.Work.Work}
-use Rattle.adf_survey_cmd.specs.declared.work.Task.{Task, TheVariants.Show, TheVariants.Rescue, TheVariants.RescueDeleted, TheVariants.Deleted}
+use Rattle.adf_survey_cmd.specs.declared.work.Task.{Task, TheVariants.Show, TheVariants.Rescue, TheVariants.RescueDeleted, TheVariants.RescueBefore, TheVariants.Deleted}
 use Rattle.adf_survey_cmd.specs.declared.work.View.{View, TheVariants.Findings, TheVariants.List as ListAll, TheVariants.Cat}
 
 -- what is shown is what is asked, with the names of the path
@@ -19,6 +19,7 @@ Answers (Show view) q = Shows view q
 Answers (Deleted file) q = q ≡ deleted file
 Answers (Rescue types) q = (keep_type : Bool) × (types ≡ types_kept keep_type) × (q ≡ rescue keep_type)
 Answers (RescueDeleted types) q = (keep_type : Bool) × (types ≡ types_kept keep_type) × (q ≡ rescue_deleted keep_type)
+Answers (RescueBefore with_deleted types) q = (keep_type : Bool) × (types ≡ types_kept keep_type) × (q ≡ rescue_before with_deleted keep_type)
 
 -- the work is what is asked for, of as many blocks, if any are named
 abbrev pub Meets : Work → InquiryValue → Type 0

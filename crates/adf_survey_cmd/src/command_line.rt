@@ -9,7 +9,7 @@ ghost use Rattle.adf_survey_cmd.specs.CommandLine.{AsksSurvey, AsksSurveyOf, Are
 ghost use Rattle.adf_subjects.specs.Lengths.{AreFew};
 ghost use Rattle.adf_survey_cmd.specs.CommandLine.{cat_met, flagged_survey, list, inquiry_met, inquiry_value, question_met};
 ghost use Rattle.adf_survey_cmd.specs.CommandLine.{deleted, question_named, question_value, report, rescue};
-ghost use Rattle.adf_survey_cmd.specs.CommandLine.{rescue_asked, rescue_deleted};
+ghost use Rattle.adf_survey_cmd.specs.CommandLine.{rescue_asked, rescue_before, rescue_deleted};
 ghost use Rattle.adf_survey_cmd.specs.CommandLine.{survey_app, survey_cat_app};
 ghost use Rattle.adf_survey_cmd.specs.CommandLine.{survey_deleted_app, survey_file, survey_rescue_app};
 
@@ -26,7 +26,7 @@ use std::alloc::{AllocError, Global};
 pub const SURVEY_USAGE: &str =
     "usage: adf-survey [--blocks N] [--list] [--json] [FILE]\n       adf-survey [--blocks N] cat [--damaged] PATH [FILE]\n\
     \x20      adf-survey [--blocks N] cat --deleted BLOCK [FILE]\n\
-    \x20      adf-survey [--blocks N] rescue [--keep-type] [--deleted] [FILE]\n\
+    \x20      adf-survey [--blocks N] rescue [--keep-type] [--deleted] [--before-format] [FILE]\n\
     \x20      adf-survey [--blocks N] deleted [FILE]\n\
     without a FILE the image comes on standard input; man adf-survey tells more\n";
 
@@ -40,9 +40,10 @@ pub const ABOUT: About = About {
     \x20          a sound file; with --damaged what is left of any file\n\
     \x20      adf-survey [--blocks N] cat --deleted BLOCK [FILE]\n\
     \x20          what is left of the deleted file whose header is in this block\n\
-    \x20      adf-survey [--blocks N] rescue [--keep-type] [--deleted] [FILE] > NEW\n\
+    \x20      adf-survey [--blocks N] rescue [--keep-type] [--deleted] [--before-format] [FILE] > NEW\n\
     \x20          a new volume of all that can be kept; with --keep-type of the letters of the image;\n\
-    \x20          with --deleted also of the deleted files that are whole, in a directory deleted\n\
+    \x20          with --deleted also of the deleted files that are whole, in a directory deleted;\n\
+    \x20          with --before-format of what was there before the disk was formatted, and not of what stands now\n\
     \x20      adf-survey [--blocks N] deleted [FILE]\n\
     \x20          each deleted file and directory whose header still stands, and what speaks for it\n\
     \x20      adf-survey --help, adf-survey --version\n\n\
@@ -64,6 +65,8 @@ pub enum Question<'a> {
     Rescue { keep_type: bool },
     /// The same, and the deleted files that are whole.
     RescueDeleted { keep_type: bool },
+    /// One of these of what the image held before it was formatted, in place of what stands on it.
+    RescueBefore { with_deleted: bool, keep_type: bool },
     /// The deleted headers, or the bytes of the file of one, by its block.
     Deleted { file: Option<u32> },
 }
@@ -97,14 +100,15 @@ fn survey_cat_command<'a>(alloc: Global) -> Result<Command<'a>, AllocError>
     with_argument(cats, file_argument(alloc))
 }
 
-// The command `rescue [--keep-type] [--deleted] [FILE]`.
+// The command `rescue [--keep-type] [--deleted] [--before-format] [FILE]`.
 fn survey_rescue_command<'a>(alloc: Global) -> Result<Command<'a>, AllocError>
     ensures app { IfOk result (λ c. app_of c ≡ survey_rescue_app) }
     ensures local { IfOk result (λ c. (out-Command c).has_globals ≡ false) }
 {
     let typed = with_argument(Ok(Command::new(alloc, "rescue")), flag(alloc, "keep-type"));
     let rescues = with_argument(typed, flag(alloc, "deleted"));
-    with_argument(rescues, file_argument(alloc))
+    let formatted = with_argument(rescues, flag(alloc, "before-format"));
+    with_argument(formatted, file_argument(alloc))
 }
 
 // The command `deleted [FILE]`.
@@ -170,10 +174,16 @@ fn cat_in<'a>(found: &ArgMatches<'a>) -> Option<Question<'a>>
     }
 }
 
-// What `rescue` asks, with the deleted files or without them.
-fn rescue_asked<'a>(with_deleted: bool, keep_type: bool) -> Question<'a>
-    ensures { question_value result ≡ rescue_asked with_deleted keep_type }
+// What `rescue` asks, with the deleted files or without them, and of what was there before the format or of what stands.
+fn rescue_asked<'a>(before: bool, with_deleted: bool, keep_type: bool) -> Question<'a>
+    ensures { question_value result ≡ rescue_asked before with_deleted keep_type }
 {
+    if before {
+        return Question::RescueBefore {
+            with_deleted,
+            keep_type,
+        };
+    }
     if with_deleted {
         return Question::RescueDeleted { keep_type };
     }
@@ -188,7 +198,12 @@ fn question_named<'a>(name: &str, found: &ArgMatches<'a>) -> Option<Question<'a>
     if name == "cat" {
         cat_in(found)
     } else if name == "rescue" {
-        Some(rescue_asked(has_flag(found, "deleted"), has_flag(found, "keep-type")))
+        let before = has_flag(found, "before-format");
+        Some(rescue_asked(
+            before,
+            has_flag(found, "deleted"),
+            has_flag(found, "keep-type"),
+        ))
     } else if name == "deleted" {
         Some(Question::Deleted { file: None })
     } else {
@@ -349,6 +364,11 @@ pub fn survey_words_as_documented()
     ensures blocks_keep_type { AsksSurveyOf
         (codes "adf-survey" ∷ codes "--blocks" ∷ codes "1760" ∷ codes "rescue" ∷ codes "--keep-type" ∷ [])
         (asked (Some 1760) (rescue true)) None }
+    ensures before { AsksSurveyOf (codes "adf-survey" ∷ codes "rescue" ∷ codes "--before-format" ∷ [])
+        (asked None (rescue_before false false)) None }
+    ensures before_all { AsksSurveyOf
+        (codes "adf-survey" ∷ codes "rescue" ∷ codes "--before-format" ∷ codes "--deleted" ∷ codes "--keep-type"
+        ∷ codes "a.adf" ∷ []) (asked None (rescue_before true true)) (Some (codes "a.adf")) }
     ensures deleted { AsksSurveyOf (codes "adf-survey" ∷ codes "deleted" ∷ []) (asked None (deleted None)) None }
     ensures deleted_file { AsksSurveyOf (codes "adf-survey" ∷ codes "deleted" ∷ codes "a.adf" ∷ [])
         (asked None (deleted None)) (Some (codes "a.adf")) }
@@ -410,6 +430,9 @@ pub fn survey_words_as_documented()
         (codes "adf-survey" ∷ codes "cat" ∷ codes "--damaged" ∷ codes "--damaged" ∷ codes "a" ∷ []) }
     ensures deleted_twice { AreRefusedBySurvey
         (codes "adf-survey" ∷ codes "rescue" ∷ codes "--deleted" ∷ codes "--deleted" ∷ []) }
+    ensures before_front { AreRefusedBySurvey
+        (codes "adf-survey" ∷ codes "--before-format" ∷ codes "rescue" ∷ []) }
+    ensures before_alone { AreRefusedBySurvey (codes "adf-survey" ∷ codes "--before-format" ∷ []) }
     ensures keep_type_alone { AreRefusedBySurvey (codes "adf-survey" ∷ codes "--keep-type" ∷ []) }
     ensures keep_type_front { AreRefusedBySurvey
         (codes "adf-survey" ∷ codes "--keep-type" ∷ codes "rescue" ∷ []) }

@@ -7,7 +7,7 @@ ghost use Rattle.adf_runs.specs.{Outcomes.Blames, Outcomes.Does, Outcomes.EndsBy
 ghost use Rattle.adf_survey_cmd.specs.Answers.{HasBadSurveyPath, QuestionAnswer, SurveyAnswer, types_kept};
 ghost use Rattle.adf_survey_cmd.specs.CommandLine.{InquiryValue, QuestionValue, question_value};
 ghost use Rattle.adf_survey_cmd.specs.Work.{Answers, Meets, Shows};
-ghost use Rattle.adf_subjects.specs.Rescues.{Replies, RescuesTypedOf};
+ghost use Rattle.adf_subjects.specs.Rescues.{Replies, RescuesBefore, RescuesTypedOf};
 ghost use Rattle.adf_subjects.specs.Subject.{IsTyped, SubjectValue, begun_subject, other_type, subject_value};
 
 use crate::command_line::{Question, SURVEY_USAGE as USAGE, parse_survey, survey_file};
@@ -22,7 +22,7 @@ use adf_file_runs::FileProgram;
 use adf_findings::{Survey, some_survey, survey};
 use adf_rescue::is_mended;
 use adf_runs::{Outcome, Program, Sink, Source, WorkFault, read_input};
-use adf_subjects::{Subject, other_type};
+use adf_subjects::{Subject, before_format, other_type};
 use adf_tree::{Name, read_path};
 use adf_volume::Types;
 use std::alloc::{AllocError, Global};
@@ -44,6 +44,8 @@ pub enum Task {
     Rescue(Types),
     /// The same, with the deleted files that are whole.
     RescueDeleted(Types),
+    /// One of these of what the image held before it was formatted.
+    RescueBefore { with_deleted: bool, types: Types },
     /// The deleted headers, or what is left of the file of one, by its block.
     Deleted(Option<u32>),
 }
@@ -81,6 +83,13 @@ fn task_for(alloc: Global, question: Question<'_>) -> Result<Task, WorkFault>
         }
         Question::Rescue { keep_type } => Ok(Task::Rescue(types_kept(keep_type))),
         Question::RescueDeleted { keep_type } => Ok(Task::RescueDeleted(types_kept(keep_type))),
+        Question::RescueBefore {
+            with_deleted,
+            keep_type,
+        } => Ok(Task::RescueBefore {
+            with_deleted,
+            types: types_kept(keep_type),
+        }),
         Question::Deleted { file } => Ok(Task::Deleted(file)),
     }
 }
@@ -242,6 +251,24 @@ fn rescue_subject<W: Sink>(
     }
 }
 
+// Rescues what was on an input before it was formatted, in place of what stands there.
+fn rescue_before<W: Sink>(
+    alloc: Global,
+    subject: Subject,
+    types: Types,
+    with_deleted: bool,
+    output: &mut W,
+) -> Outcome
+    requires { W.has_failed output.old ≡ false }
+    ensures { Does (Replies (RescuesBefore with_deleted types (subject_value subject))) result
+        (seen W.held W.has_failed output.old output.new) }
+{
+    match before_format(alloc, subject) {
+        Ok(hidden) => rescue_subject(alloc, hidden, types, with_deleted, output),
+        Err(_) => Outcome::NoMemory,
+    }
+}
+
 impl Task {
     // Does the task with what is surveyed of an input, and lets that go where it is no longer wanted.
     fn on_subject<W: Sink>(&self, alloc: Global, subject: Subject, output: &mut W) -> Outcome
@@ -255,6 +282,10 @@ impl Task {
             Task::Show(view) => view.of_subject(alloc, subject, output),
             Task::Rescue(types) => rescue_subject(alloc, subject, *types, false, output),
             Task::RescueDeleted(types) => rescue_subject(alloc, subject, *types, true, output),
+            Task::RescueBefore {
+                with_deleted,
+                types,
+            } => rescue_before(alloc, subject, *types, *with_deleted, output),
             Task::Deleted(file) => tell_deleted(alloc, subject, *file, output),
         }
     }

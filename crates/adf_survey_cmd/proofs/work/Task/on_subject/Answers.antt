@@ -1,7 +1,7 @@
 use Rattle.std.proofs.Common.{false, subst, sym, true}
 use Rattle.adf_runs.proofs.Endings.{ends_weaker}
 use Rattle.adf_survey_cmd.specs.{Answers.QuestionAnswer, Deletions.TellsTyped, Work.Answers}
-use Rattle.adf_subjects.specs.{Rescues.RescuesTypedOf, Rescues.Replies, Subject.subject_value}
+use Rattle.adf_subjects.specs.{Rescues.RescuesBefore, Rescues.RescuesTypedOf, Rescues.Replies, Subject.subject_value}
 use Rattle.adf_survey_cmd.proofs.work.Task.on_subject.Goals as goal
 
 pub returns-in-Deleted-clause-ends : goal.returns-in-Deleted-clause-ends
@@ -26,3 +26,12 @@ returns-in-RescueDeleted-clause-ends g c = λ q answers.
     ends_weaker (Replies (RescuesTypedOf true _ s)) (QuestionAnswer q s) _ _ _
     (λ reply told. subst (λ q. QuestionAnswer q s reply) (sym asks) (subst (λ types. Replies (RescuesTypedOf true types s) reply) same told))
     c.rescue_subject-in-RescueDeleted.ensures.ends
+
+pub returns-in-RescueBefore-clause-ends : goal.returns-in-RescueBefore-clause-ends
+returns-in-RescueBefore-clause-ends g c = λ q answers.
+    let s = subject_value c.args.subject in
+    let plus = c.in-RescueBefore.with_deleted in
+    let (keep_type, same, asks) = subst (λ task. Answers task q) c.in-RescueBefore.is answers in
+    ends_weaker (Replies (RescuesBefore plus _ s)) (QuestionAnswer q s) _ _ _
+    (λ reply told. subst (λ q. QuestionAnswer q s reply) (sym asks) (subst (λ types. Replies (RescuesBefore plus types s) reply) same told))
+    c.rescue_before.ensures.ends
