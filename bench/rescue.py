@@ -14,6 +14,7 @@ from struct import pack_into, unpack_from
 from typing import NamedTuple
 
 sys.dont_write_bytecode = True
+from unread import without
 from survey import DIR, FILE, LINKS, PAGE_BITS, POINTERS, ROOT_PAGES, SLOTS, Survey, page, slot, spelled, upper
 
 KIND_TEXTS = ("ofs", "ffs", "ofs-international", "ffs-international")
@@ -450,10 +451,11 @@ def meta_of(survey, h):
 
 
 class Rescue:
-    def __init__(self, image, blocks=None):
+    def __init__(self, image, blocks=None, unread=lambda image: ()):
         stated = len(image) // 512 if blocks is None else blocks
         self.held = len(image) // 512  # the blocks that the input holds whole; what is filled up behind them is no data
         count, image = length_of(image, blocks), meant(image, blocks)
+        image = without(unread(image), image)
         self.boot = bytes(image[:1024])
         image, is_retyped = typed(self.rescued(bytes(image)))
         faults = Survey(image).findings

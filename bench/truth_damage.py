@@ -21,6 +21,7 @@ class Damaged(NamedTuple):
     touched: Set[int]
     kind: str
     told: str
+    unread: Set[int] = set()
 
 
 def in_role(role: str, history: History) -> List[int]:
@@ -216,3 +217,31 @@ def damage(dice: random.Random, history: History) -> Damaged:
         whole = Damaged(history.image, None, set(), "81 to 84 tracks", "whole") if dice.random() < 0.5 else result._replace(kind="81 to 84 tracks + another")
         return longer(dice, whole, blocks)
     return result
+
+
+# Sectors that were not read
+
+FILLERS = (bytes(512), b"\xf6" * 512, b"\xde\xad\xbe\xef" * 128, b"-=[BAD SECTOR]=-" * 32)
+
+
+def unread_at(dice: random.Random, history: History, image: bytearray) -> Set[int]:
+    """Runs of sectors that were not read, anywhere or from a block of a role on: a filler stands there."""
+    blocks, lost = history.volume.blocks, set()
+    for _ in range(dice.choice([1, 1, 2, 3, 5])):
+        some = in_role(dice.choice(["root", "page", "dir", "file", "ext", "data", "data", "data"]), history)
+        first = dice.choice(some) if some and dice.random() < 0.8 else dice.randrange(blocks)
+        lost |= set(range(first, min(blocks, first + dice.choice([1, 1, 1, 2, 5, 11, 22]))))
+    filler = dice.choice(FILLERS)
+    for b in lost:
+        image[512 * b : 512 * b + 512] = filler
+    return lost
+
+
+def unread(dice: random.Random, history: History) -> Damaged:
+    """Sectors that were not read; in some cases with another fault, and in some of the whole image."""
+    image, kind, touched = bytearray(history.image), "unread", set()
+    if dice.random() < 0.2:
+        kind, touched = one_fault(dice, history, image, list(FAULTS))
+        kind = f"unread + {kind}"
+    lost = unread_at(dice, history, image)
+    return Damaged(bytes(image), None, touched | lost, kind, kind, lost)

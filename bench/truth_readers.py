@@ -6,7 +6,7 @@ import os
 import re
 import subprocess
 import warnings
-from typing import Dict, List, Optional, Tuple
+from typing import Callable, Dict, List, Optional, Set, Tuple
 
 import adf
 from adf._rescues import LeftOut, rescue
@@ -95,11 +95,11 @@ def commands(image: bytes, blocks: Optional[int]) -> Answer:
     return Answer(things, lines, label, dates, has_findings, listed)
 
 
-def definition(image: bytes, blocks: Optional[int]) -> Answer:
+def definition(image: bytes, blocks: Optional[int], unread: Callable[[bytes], Set[int]] = lambda image: set()) -> Answer:
     """By the definition of a rescue, in Python; without a survey."""
     from rescue import Rescue, words
 
-    got = Rescue(image, blocks)
+    got = Rescue(image, blocks, unread)
     if got.refused:
         return Answer({}, [], b"", (), True, [], True)
     things = {node.path: Back(node.content, node.meta[0], node.meta[1], tuple(node.meta[2])) for node in got.added}

@@ -13,5 +13,7 @@ complete -c adf-survey -n '__fish_seen_subcommand_from rescue' -l deleted -d 'ad
 complete -c adf-survey -n '__fish_seen_subcommand_from rescue' -l before-format -d 'of what was there before the disk was formatted'
 complete -c adf-survey -n "$first; and test (count (commandline -opc)) -le 2" -l blocks -x -a '1760 3520' \
     -d 'take the image as if it had so many blocks'
+complete -c adf-survey -n $first -l map -r -d 'take the map of GNU ddrescue of the reading'
+complete -c adf-survey -n $first -l blank -d 'count each blank block as never read'
 complete -c adf-survey -n '__fish_is_first_token' -l help -d 'write the help'
 complete -c adf-survey -n '__fish_is_first_token' -l version -d 'write the version'

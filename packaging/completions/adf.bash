@@ -14,14 +14,19 @@ _adf() {
 }
 
 _adf_survey() {
-    local at=1 words="cat deleted rescue --list --json --blocks --help --version"
-    if ((COMP_CWORD > 1)) && [[ ${COMP_WORDS[1]} == --blocks ]]; then
-        at=3 words="cat deleted rescue --list --json"
-    fi
+    local at=1 words="cat deleted rescue --list --json --blocks --map --blank --help --version" last=""
+    while ((COMP_CWORD > at)) && [[ ${COMP_WORDS[at]} == @(--blocks|--map|--blank) ]]; do
+        last=${COMP_WORDS[at]}
+        [[ $last != --blank ]] && ((at += 1))
+        ((at += 1))
+        words="cat deleted rescue --list --json"
+    done
     if [[ ${COMP_WORDS[COMP_CWORD - 1]} == [\<\>] ]]; then
         compopt -o default
     elif ((COMP_CWORD == at)); then
         COMPREPLY=($(compgen -W "$words" -- "$2"))
+        compopt -o default
+    elif ((COMP_CWORD < at)) && [[ $last == --map ]]; then
         compopt -o default
     elif ((COMP_CWORD < at)); then
         COMPREPLY=($(compgen -W "1760 3520" -- "$2"))

@@ -82,13 +82,13 @@ class Deleted(_Fields):
     def remains(self) -> tuple[bytes, list[range]]:
         """What is left of a file: its bytes, with zeros for those that are lost, and the ranges of these; of a contested one they may be
         those of the other. NotAFile if it is a directory or a link."""
-        status, left, errors = _answer(*self.survey._given, ("cat", "--deleted", str(self.block)))
+        status, left, errors = survey_answer(*self.survey._given, ("cat", "--deleted", str(self.block)))
         if status == 1 and errors == b"not a file\n":
             raise NotAFile(errno.EISDIR, os.strerror(errno.EISDIR), self.path)
         return left, [range(int(first), int(last) + 1) for first, last in GAP.findall(errors.decode("ascii"))]
 
 
-def _answer(image: bytes | Mapped, blocks: int | None, words: tuple[str, ...], most: int | None = None) -> commands.Answer:
+def survey_answer(image: bytes | Mapped, blocks: int | None, words: tuple[str, ...], most: int | None = None) -> commands.Answer:
     """What `adf-survey` answers to these words about an image, read as if it had so many blocks, if a number is given. NoMemory if that
     has more than the most bytes."""
     front = () if blocks is None else ("--blocks", str(blocks))
@@ -101,7 +101,7 @@ def _answer(image: bytes | Mapped, blocks: int | None, words: tuple[str, ...], m
 def told_of(image: bytes | Mapped, blocks: int | None, most: int | None = None) -> Iterator[Told]:
     """What `adf-survey deleted` tells of each deleted header, in the order of their blocks. NoMemory if the lines have more than the most
     bytes."""
-    for found in LINES.finditer(_answer(image, blocks, ("deleted",), most).output.decode("ascii")):
+    for found in LINES.finditer(survey_answer(image, blocks, ("deleted",), most).output.decode("ascii")):
         block, state, kind, protection, size, date, path, note = found.groups()
         length, comment = 0 if size == "-" else int(size), _texts.unescape(note or "")
         yield int(block), state, length, int(protection, 16), Date.of(date), kind == "file", path, comment

@@ -18,6 +18,7 @@ from adf.dates import Date, date_of
 from adf.deleted import Deleted, deleted_of
 from adf.errors import Damaged, NoMemory, NoSuchPath, NotAFile
 from adf.findings import Finding, Findings, Found
+from adf.links import Targets, targets_of
 
 OWN = 0  # of findings for which the library has no number: `owner` is then the place of their text
 NO_BLOCK = 2**32 - 1
@@ -131,6 +132,11 @@ class Survey(ReadOnly):
     def deleted(self) -> list[Deleted]:
         """What was deleted from the image, and whose header still stands; for it the image is surveyed again."""
         return list(deleted_of(self))
+
+    @functools.cached_property
+    def _targets(self) -> Targets:
+        """What the right links lead to, by the blocks of their headers."""
+        return targets_of(self)
 
     @functools.cached_property
     def _parts(self) -> Any:

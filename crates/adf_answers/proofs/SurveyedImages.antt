@@ -7,17 +7,20 @@ use Rattle.adf_base.proofs.ByteLists.{AreBytes}
 use Rattle.adf_blocks.specs.declared.layout.TheConstants.{SECONDARY_TYPE, ST_FILE}
 use Rattle.adf_fields.proofs.DateTexts.{date_of, date_of_is}
 use Rattle.adf_names.proofs.SomePaths.{path_or_none}
+use Rattle.adf_maps.specs.Maps.{MapValue}
+use Rattle.adf_unread.specs.{Blank.blank_marks, Mapped.map_marks}
+use Rattle.adf_unread.proofs.DroppedImages.{bytes_without}
 use Rattle.adf_names.specs.PathTexts.{HasPathOrNone, IsPathText}
 use Rattle.adf_volume.specs.{Image.word_in, Walk.FileAt, Walk.node_block, Walk.Walk}
 use Rattle.adf_findings.specs.{Files.file_content, Files.file_in, Files.grave, Remains.gaps_of, Remains.left_of, Survey.FindingValue, Survey.IsSurvey}
 use Rattle.adf_findings.proofs.{Decidability.dec_true, SomeMarks.dec_sound, SomeMarks.some_marks, SomeSurvey.some_survey}
 use Rattle.adf_findings.proofs.SomeLookups.{dec_is_file, leads_or_not}
 use Rattle.adf_runs.specs.Commands.{Reply, bad_path, on_errors, on_output}
-use Rattle.adf_survey_cmd.specs.CommandLine.{QuestionValue, asked, cat, deleted, list, report, rescue, rescue_before, rescue_deleted}
+use Rattle.adf_survey_cmd.specs.CommandLine.{InquiryValue, QuestionValue, cat, deleted, list, report, rescue, rescue_before, rescue_deleted}
 use Rattle.adf_subjects.proofs.SomeRescues.{some_rescue as rescue_given}
 use Rattle.adf_subjects.proofs.{Formats.before_bytes, Formats.some_before, SubjectBytes.subject_bytes, SubjectBytes.typed_bytes, Subjects.some_typed}
 use Rattle.adf_survey_cmd.specs.Answers.{CopiesEntry, CopiesFound, CopiesFromSurvey, IsWholeFile, ListsSurvey, QuestionAnswer, Surveys, no_path_line}
-use Rattle.adf_survey_cmd.specs.{Answers.told_status, Answers.types_kept, Hints.hinted, Remains.remains_reply}
+use Rattle.adf_survey_cmd.specs.{Answers.told_status, Answers.types_kept, Answers.unless_blank, Answers.unless_mapped, Hints.hinted, Remains.remains_reply}
 use Rattle.adf_subjects.specs.Rescues.{Replies, RescuesBefore, RescuesTypedOf, rescue_reply}
 use Rattle.adf_survey_cmd.specs.FoundLines.{has_its_data, listing_text}
 use Rattle.adf_subjects.specs.Subject.{OfTyped, SubjectValue, begun_subject, sized, subject, subject_text}
@@ -44,8 +47,8 @@ some_findings : (json : Bool) (t : SubjectValue) → (reply : Reply) × Surveys 
 some_findings json t =
     let (w, fs, survey) = some_survey t.image in (on_output (told_status t.front fs) (subject_text json t w fs), (w, fs, survey, refl))
 
-some_report : (json : Bool) (blocks : Option ℕ) (input : List ℕ) → IsAnswered (report json) (subject blocks input)
-some_report json blocks input = of_typed (subject blocks input) (Surveys json) (some_findings json)
+some_report : (json : Bool) (s : SubjectValue) → IsAnswered (report json) s
+some_report json s = of_typed s (Surveys json) (some_findings json)
 
 -- what is found
 
@@ -55,8 +58,8 @@ some_listing json t =
     let (sound, marks) = some_marks t.image w fs survey fs in
     (on_output (told_status t.front fs) (listing_text json date_of sound t w fs), (w, fs, survey, (date_of, date_of_is, sound, marks, refl)))
 
-some_list : (json : Bool) (blocks : Option ℕ) (input : List ℕ) → IsAnswered (list json) (subject blocks input)
-some_list json blocks input = of_typed (subject blocks input) (ListsSurvey json) (some_listing json)
+some_list : (json : Bool) (s : SubjectValue) → IsAnswered (list json) s
+some_list json s = of_typed s (ListsSurvey json) (some_listing json)
 
 -- the bytes under a path
 
@@ -95,33 +98,28 @@ copied damaged path names text t =
     let (w, fs, survey) = some_survey t.image in
     let (reply, copies) = copy_of_found t w fs survey damaged names in (reply, (names, text, w, fs, survey, copies))
 
-copied_by : (blocks : Option ℕ) (damaged : Bool) (path input : List ℕ) → HasPathOrNone path → IsAnswered (cat damaged path) (subject blocks input)
-copied_by blocks damaged path input (inl (names, text)) =
-    let (reply, answer) = of_typed (subject blocks input) (CopiesFromSurvey damaged path) (copied damaged path names text) in (reply, inr answer)
-copied_by blocks damaged path input (inr bad) = (bad_path, inl (bad, refl))
+copied_by : (damaged : Bool) (path : List ℕ) (s : SubjectValue) → HasPathOrNone path → IsAnswered (cat damaged path) s
+copied_by damaged path s (inl (names, text)) =
+    let (reply, answer) = of_typed s (CopiesFromSurvey damaged path) (copied damaged path names text) in (reply, inr answer)
+copied_by damaged path s (inr bad) = (bad_path, inl (bad, refl))
 
-some_copy : (blocks : Option ℕ) (damaged : Bool) (path input : List ℕ) → IsAnswered (cat damaged path) (subject blocks input)
-some_copy blocks damaged path input = copied_by blocks damaged path input (path_or_none path)
+some_copy : (damaged : Bool) (path : List ℕ) (s : SubjectValue) → IsAnswered (cat damaged path) s
+some_copy damaged path s = copied_by damaged path s (path_or_none path)
 
 -- a rescue
 
-some_typed_rescue : (plus : Bool) (keep_type : Bool) (s : SubjectValue) → AreBytes s.image
+some_rescue : (plus keep_type : Bool) (s : SubjectValue) → AreBytes s.image
     → (reply : Reply) × Replies (RescuesTypedOf plus (types_kept keep_type) s) reply
-some_typed_rescue plus keep_type s are =
+some_rescue plus keep_type s are =
     let (t, typed) = some_typed s in
     let (r, told) = rescue_given plus (types_kept keep_type) t.end t.lost t.image (sized 2 s.image) (typed_bytes s t typed are) in
     (rescue_reply r, (r, (t, typed, told), refl))
 
-some_rescue : (plus : Bool) (blocks : Option ℕ) (keep_type : Bool) (input : List ℕ) → AreBytes input
-    → (reply : Reply) × Replies (RescuesTypedOf plus (types_kept keep_type) (subject blocks input)) reply
-some_rescue plus blocks keep_type input are = some_typed_rescue plus keep_type (subject blocks input) (subject_bytes blocks input are)
-
-some_before_rescue : (plus : Bool) (blocks : Option ℕ) (keep_type : Bool) (input : List ℕ) → AreBytes input
-    → (reply : Reply) × Replies (RescuesBefore plus (types_kept keep_type) (subject blocks input)) reply
-some_before_rescue plus blocks keep_type input are =
-    let s = subject blocks input in
+some_before_rescue : (plus keep_type : Bool) (s : SubjectValue) → AreBytes s.image
+    → (reply : Reply) × Replies (RescuesBefore plus (types_kept keep_type) s) reply
+some_before_rescue plus keep_type s are =
     let (t, before) = some_before s in
-    let (reply, (r, told, same)) = some_typed_rescue plus keep_type t (before_bytes s t before (subject_bytes blocks input are)) in
+    let (reply, (r, told, same)) = some_rescue plus keep_type t (before_bytes s t before are) in
     (reply, (r, (t, before, told), same))
 
 -- the deleted headers
@@ -143,9 +141,9 @@ told_by file held image w l = elim (cases_Bool (is_surveyed image w)) [
   | inr none ↦ (on_errors 1 (codes "no volume\n"), inl (none, refl))
 ]
 
-some_deleted : (blocks file : Option ℕ) (input : List ℕ) → IsAnswered (deleted file) (subject blocks input)
-some_deleted blocks file input =
-    let (t, typed) = some_typed (subject blocks input) in
+some_deleted : (file : Option ℕ) (s : SubjectValue) → IsAnswered (deleted file) s
+some_deleted file s =
+    let (t, typed) = some_typed s in
     let image : List ℕ = pruned (opened t.image) in
     let (w, fs, survey) = some_survey image in
     let (l, second) = some_second (second_image (lacks_root t.image) image w fs) in
@@ -153,18 +151,33 @@ some_deleted blocks file input =
 
 -- every question
 
-questioned : (blocks : Option ℕ) (q : QuestionValue) (input : List ℕ) → ((keep_type : Bool) → q ≡ rescue keep_type → AreBytes input)
-    → ((keep_type : Bool) → q ≡ rescue_deleted keep_type → AreBytes input)
-    → ((with_deleted keep_type : Bool) → q ≡ rescue_before with_deleted keep_type → AreBytes input) → IsAnswered q (subject blocks input)
-questioned blocks (report json) input are more before = some_report json blocks input
-questioned blocks (list json) input are more before = some_list json blocks input
-questioned blocks (cat damaged path) input are more before = some_copy blocks damaged path input
-questioned blocks (deleted file) input are more before = some_deleted blocks file input
-questioned blocks (rescue keep_type) input are more before = some_rescue false blocks keep_type input (are keep_type refl)
-questioned blocks (rescue_deleted keep_type) input are more before = some_rescue true blocks keep_type input (more keep_type refl)
-questioned blocks (rescue_before plus keep_type) input are more before = some_before_rescue plus blocks keep_type input (before plus keep_type refl)
+questioned : (q : QuestionValue) (s : SubjectValue) → ((keep_type : Bool) → q ≡ rescue keep_type → AreBytes s.image)
+    → ((keep_type : Bool) → q ≡ rescue_deleted keep_type → AreBytes s.image)
+    → ((with_deleted keep_type : Bool) → q ≡ rescue_before with_deleted keep_type → AreBytes s.image) → IsAnswered q s
+questioned (report json) s are more before = some_report json s
+questioned (list json) s are more before = some_list json s
+questioned (cat damaged path) s are more before = some_copy damaged path s
+questioned (deleted file) s are more before = some_deleted file s
+questioned (rescue keep_type) s are more before = some_rescue false keep_type s (are keep_type refl)
+questioned (rescue_deleted keep_type) s are more before = some_rescue true keep_type s (more keep_type refl)
+questioned (rescue_before plus keep_type) s are more before = some_before_rescue plus keep_type s (before plus keep_type refl)
 
-pub some_answer : (blocks : Option ℕ) (q : QuestionValue) (input : List ℕ) → ((keep_type : Bool) → q ≡ rescue keep_type → AreBytes input)
-    → ((keep_type : Bool) → q ≡ rescue_deleted keep_type → AreBytes input)
-    → ((with_deleted keep_type : Bool) → q ≡ rescue_before with_deleted keep_type → AreBytes input) → HasSurveyAnswer (asked blocks q) input
-some_answer blocks q input are more before = let (told, answer) = questioned blocks q input are more before in (hinted input told, (told, answer, refl))
+-- what is surveyed without its blank blocks has bytes too, and so has what is surveyed by a map
+blank_bytes : (blank : Bool) (s : SubjectValue) → AreBytes s.image → AreBytes (unless_blank blank s).image
+blank_bytes true s are = bytes_without (blank_marks s.image) s.image are
+blank_bytes false s are = are
+
+mapped_bytes : (map : Option MapValue) (s : SubjectValue) → AreBytes s.image → AreBytes (unless_mapped map s).image
+mapped_bytes (Some m) s are = bytes_without (map_marks m s.image) s.image are
+mapped_bytes None s are = are
+
+pub some_answer : (r : InquiryValue) (input : List ℕ) → ((keep_type : Bool) → r.question ≡ rescue keep_type → AreBytes input)
+    → ((keep_type : Bool) → r.question ≡ rescue_deleted keep_type → AreBytes input)
+    → ((with_deleted keep_type : Bool) → r.question ≡ rescue_before with_deleted keep_type → AreBytes input) → HasSurveyAnswer r input
+some_answer r input are more before =
+    let s = unless_mapped r.map (subject r.blocks input) in
+    let bytes : AreBytes input → AreBytes (unless_blank r.blank s).image =
+    λ all. blank_bytes r.blank s (mapped_bytes r.map (subject r.blocks input) (subject_bytes r.blocks input all)) in
+    let (told, answer) = questioned r.question (unless_blank r.blank s) (λ keep_type is. bytes (are keep_type is)) (λ keep_type is. bytes (more keep_type is))
+    (λ with_deleted keep_type is. bytes (before with_deleted keep_type is)) in
+    (hinted input told, (told, answer, refl))

@@ -12,10 +12,11 @@ use std::alloc::Global;
 use std::cell::Cell;
 
 const SURVEY_USAGE: &str =
-    "usage: adf-survey [--blocks N] [--list] [--json] [FILE]\n       adf-survey [--blocks N] cat [--damaged] PATH [FILE]\n\
-    \x20      adf-survey [--blocks N] cat --deleted BLOCK [FILE]\n\
-    \x20      adf-survey [--blocks N] rescue [--keep-type] [--deleted] [--before-format] [FILE]\n\
-    \x20      adf-survey [--blocks N] deleted [FILE]\n\
+    "usage: adf-survey [--blocks N] [--map MAP] [--blank] [--list] [--json] [FILE]\n\
+    \x20      adf-survey [--blocks N] [--map MAP] [--blank] cat [--damaged] PATH [FILE]\n\
+    \x20      adf-survey [--blocks N] [--map MAP] [--blank] cat --deleted BLOCK [FILE]\n\
+    \x20      adf-survey [--blocks N] [--map MAP] [--blank] rescue [--keep-type] [--deleted] [--before-format] [FILE]\n\
+    \x20      adf-survey [--blocks N] [--map MAP] [--blank] deleted [FILE]\n\
     without a FILE the image comes on standard input; man adf-survey tells more\n";
 
 // A disk of two empty volumes of 256 blocks.
@@ -32,7 +33,8 @@ const LISTED_OBJECTS: &[u8] =
 
 const MISSING_OBJECTS: &[u8] =
     b"{\"line\":\"remark\",\"first\":16,\"last\":17,\"says\":\"no data\"}\n\
-    {\"line\":\"finding\",\"first\":9,\"last\":9,\"cause\":\"bad type\",\"path\":null,\"within\":false,\"owner\":null}\n";
+    {\"line\":\"finding\",\"first\":9,\"last\":9,\"cause\":\"bad type\",\"path\":null,\"within\":false,\"owner\":null,\
+    \"target\":null,\"soft\":null}\n";
 
 // The words, the status, and what output and errors get.
 type Row<'a> = (&'a [&'a str], u8, &'a [u8], &'a str);

@@ -168,7 +168,8 @@ module _ (image : List ℕ) (w : Walk) (n : ℕ) (marks : List Bool) where
       let blocks : node_block w n ≡ node_block w m = sym other ∙ (sym word ∙ one) in
       ap (λ t. next_link image w t c) blocks ∙ (ap (next_link image w (node_block w m)) (sym y) ∙ e)
 
-  pub mark_next : (c : ℕ) → IsMarking image w n marks (Some c) → has_entry w n ≡ true → has_mark marks c ≡ false → (o : Option ℕ) → o ≡ next_link image w (node_block w n) c
+  pub mark_next : (c : ℕ) → IsMarking image w n marks (Some c) → has_entry w n ≡ true → has_mark marks c ≡ false → (o : Option ℕ)
+      → o ≡ next_link image w (node_block w n) c
       → IsMarking image w n (set marks c true) o
   mark_next c a here free o is =
       let lt = comes_inside c a in
@@ -208,7 +209,8 @@ module _ (image : List ℕ) (w : Walk) (n : ℕ) (marks : List Bool) where
 
   -- one step of the marking
   pub mark_step : (c : ℕ) (new : Bool) (more : List Bool) (o : Option ℕ) → IsMarking image w n marks (Some c) → has_entry w n ≡ true
-      → new ≡ (nat_lt c (length marks) && not (has_mark marks c)) → more ≡ cond new (set marks c true) marks → new ≡ true → o ≡ next_link image w (node_block w n) c → IsMarking image w n more o
+      → new ≡ (nat_lt c (length marks) && not (has_mark marks c)) → more ≡ cond new (set marks c true) marks → new ≡ true
+      → o ≡ next_link image w (node_block w n) c → IsMarking image w n more o
   mark_step c new more o a here told is new_one e =
       let free : has_mark marks c ≡ false = grind (arith, nat_tests) in
       subst (λ l. IsMarking image w n l o) (sym (is ∙ cond-true new (set marks c true) marks new_one)) (mark_next c a here free o e)

@@ -1,7 +1,8 @@
 -- Links: what they are, what they lead to, and which are right.
 -- Letters: w the walk of an image's survey, fs its findings, f one of them; n, m entries; b a block; t, h the blocks of headers; s a slot;
 -- i the number of a word.
-use Rattle.std.specs.Prelude.{◌≡◌, ◌<◌, ◌+◌, ◌==◌, ◌&&◌, ℕ, Bool, true, false, not, nat_le, nat_lt, cond, List, [], is_some, length, Option, Some, None, slice_range}
+use Rattle.std.specs.Prelude.{◌≡◌, ◌<◌, ◌+◌, ◌==◌, ◌&&◌, ℕ, Bool, true, false, not, nat_le, nat_lt, cond, List, [], is_some, length}
+use Rattle.std.specs.Prelude.{Option, Some, None, slice_range}
 use Rattle.std.proofs.Common.{zero, suc}
 use Rattle.std.specs.{List.list_any, List.range_with_len, List.take_while, Option.option_and_then}
 use Rattle.adf_base.specs.{Hash.slot_by, Words.block}

@@ -97,8 +97,8 @@ fn before_zero(bytes: &[u8]) -> &[u8]
     bytes
 }
 
-/// The path of an entry, if it is a soft link: the bytes from word 6 on, up to the first zero, 288 at most. Empty for the root and
-/// past the last entry.
+/// The path of an entry, if it is a soft link: the bytes from word 6 on, up to the first zero, 288 at most. Empty for the root
+/// and past the last entry.
 pub fn link_path<'s>(survey: &'s Survey<'_>, n: Node) -> &'s [u8]
     ensures { OnSurvey survey.now.image (λ w _. result.now ≡ link_path survey.now.image w n) }
 {

@@ -18,11 +18,11 @@ number_behind radix n (c ∷ cs) =
     if nat_lt (digit_value c) radix && nat_le (radix * n + digit_value c) MOST_NUMBER then number_behind radix (radix * n + digit_value c) cs else None
 
 -- a number: decimal without a 0 in front, or hexadecimal behind 0x
-abbrev pub number_in : List ℕ → Option ℕ
-number_in [] = None
-number_in (c ∷ []) = number_behind 10 0 (c ∷ [])
-number_in (c ∷ d ∷ []) = if c == 48 then None else number_behind 10 0 (c ∷ d ∷ [])
-number_in (c ∷ d ∷ e ∷ cs) =
+abbrev pub number_spelled : List ℕ → Option ℕ
+number_spelled [] = None
+number_spelled (c ∷ []) = number_behind 10 0 (c ∷ [])
+number_spelled (c ∷ d ∷ []) = if c == 48 then None else number_behind 10 0 (c ∷ d ∷ [])
+number_spelled (c ∷ d ∷ e ∷ cs) =
     if c == 48 then (if (d == 120) || (d == 88) then number_behind 16 0 (e ∷ cs) else None) else number_behind 10 0 (c ∷ d ∷ e ∷ cs)
 
 -- a space, a tab or a carriage return
@@ -52,8 +52,8 @@ is_work w = list_any (λ c. bytes_eq w (c ∷ [])) (codes "?*/-FG+")
 
 -- the row of the status: a position, what ddrescue was at, and perhaps its pass
 abbrev pub is_status : List (List ℕ) → Bool
-is_status (position ∷ work ∷ []) = is_some (number_in position) && is_work work
-is_status (position ∷ work ∷ pass ∷ []) = is_some (number_in position) && (is_work work && is_some (number_in pass))
+is_status (position ∷ work ∷ []) = is_some (number_spelled position) && is_work work
+is_status (position ∷ work ∷ pass ∷ []) = is_some (number_spelled position) && (is_work work && is_some (number_spelled pass))
 is_status ws = false
 
 -- + is the status of a stretch that was read
@@ -68,7 +68,7 @@ stretch_with (Some start) (Some size) None = None
 stretch_with (Some start) (Some size) (Some is_read) = if size == 0 then None else Some (record { start = start; size = size; is_read = is_read })
 
 abbrev pub stretch_of : List (List ℕ) → Option Stretch
-stretch_of (start ∷ size ∷ status ∷ []) = stretch_with (number_in start) (number_in size) (was_read status)
+stretch_of (start ∷ size ∷ status ∷ []) = stretch_with (number_spelled start) (number_spelled size) (was_read status)
 stretch_of ws = None
 
 -- one stretch more in front

@@ -1,7 +1,7 @@
 // Numbers of a map: decimal, or hexadecimal behind `0x`.
 
 ghost use Rattle.std.specs.Prelude.{◌≡◌, ◌≤◌, IfSome, Some};
-ghost use Rattle.adf_maps.specs.Maps.{digit_value, number_behind, number_in};
+ghost use Rattle.adf_maps.specs.Maps.{digit_value, number_behind, number_spelled};
 ghost use Rattle.adf_maps.specs.declared.numbers.TheConstants.{MOST_NUMBER};
 
 /// The largest number of a map, 2^59.
@@ -43,7 +43,7 @@ fn number_from(radix: u64, digits: &[u8]) -> Option<u64>
 
 /// The number of a word.
 pub fn read_number(word: &[u8]) -> Option<u64>
-    ensures value { result ≡ number_in word.now }
+    ensures value { result ≡ number_spelled word.now }
     ensures most { IfSome result (λ n. n ≤ MOST_NUMBER) }
 {
     match word {

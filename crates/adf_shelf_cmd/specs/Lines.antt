@@ -120,9 +120,9 @@ report_why (NotOpened why) = Some why
 report_why _ = None
 
 -- whether a report is that the file could not be read once it was opened
-abbrev pub is_unread : Report → Bool
-is_unread ReadFault = true
-is_unread _ = false
+abbrev pub failed_in_reading : Report → Bool
+failed_in_reading ReadFault = true
+failed_in_reading _ = false
 
 -- whether a run stopped since output failed
 abbrev pub is_output_fault : Stop → Bool

@@ -1,7 +1,7 @@
 // What is reported of a file, and the line of its name.
 
 ghost use Rattle.std.specs.Prelude.{◌≡◌, ◌++◌, None, false, OnOk};
-ghost use Rattle.adf_shelf_cmd.specs.Lines.{IsOpenedReport, IsReport, IsRunStatus, is_unread, report_status, report_text};
+ghost use Rattle.adf_shelf_cmd.specs.Lines.{IsOpenedReport, IsReport, IsRunStatus, failed_in_reading, report_status, report_text};
 ghost use Rattle.adf_shelf_cmd.specs.Lines.{report_why, batch_line, line_of_name, shelf_object};
 ghost use Rattle.adf_json.specs.Objects.{without_feed};
 ghost use Rattle.adf_file_runs.specs.Files.{why_line};
@@ -78,7 +78,7 @@ fn check_source<S: Source>(checks: ImageChecks, source: &mut S, buffer: &mut Vec
     ensures report { IsOpenedReport checks.types (S.left source.old) (S.may_fail source.old)
         (report_status result) (report_text result) }
     ensures opened { report_why result ≡ None }
-    ensures failed { S.has_failed source.new ≡ is_unread result }
+    ensures failed { S.has_failed source.new ≡ failed_in_reading result }
 {
     match answer_to_input(checks.alloc, checks.types, source, buffer) {
         Ok(answer) => Report::Checked(answer),

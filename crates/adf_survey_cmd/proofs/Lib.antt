@@ -8,3 +8,5 @@ pub mod DeletedTexts
 pub mod WholeReplies
 pub mod LongSurveys
 pub mod OneAnswer
+-- the word that names a map
+pub mod MapWords

@@ -2,10 +2,10 @@
 -- Letters: s, t what is surveyed; w the walk of a survey, fs its findings; n an entry's node; lost, ls losses of
 -- blocks.
 use Rattle.std.proofs.Common.{◌≡◌, ◌<◌, ◌≤◌, ◌+◌, ◌-◌, ◌*◌, ◌∙◌, ◌++◌, true, false, inl, inr, ℕ, Bool, List, [], ◌∷◌, Option, None, Some, refl, ap, ap₂, arith}
-use Rattle.std.proofs.Common.{subst, sym, ◌==◌, ◌&&◌, cond, length, replicate, take}
+use Rattle.std.proofs.Common.{subst, sym, ◌==◌, ◌&&◌, cond, length, min, replicate, take}
 use Rattle.std.proofs.lemmas.Bool.{and_left, cond-false, false_from_ne_true}
 use Rattle.std.proofs.{Math.Nat.min-eq_left, lemmas.List.take-take, lemmas.Grind.common_steps}
-use Rattle.adf_blocks.specs.{declared.layout.TheConstants.MOST_BLOCKS, declared.cause.Cause.TheVariants.BadSize}
+use Rattle.adf_blocks.specs.{Sizes.blocks, declared.layout.TheConstants.MOST_BLOCKS, declared.cause.Cause.TheVariants.BadSize}
 use Rattle.adf_base.specs.declared.hash.Letters.{Letters}
 use Rattle.adf_volume.specs.{Demands.IsSize, Types.letters_for, declared.fault.Fault.Fault, declared.types.Types.Types, Start.is_image_len}
 use Rattle.adf_volume.specs.Walk.{FirstFaultBy, Walk, FirstFaultBy.at_boot}
@@ -18,7 +18,8 @@ use Rattle.adf_rescue.specs.{Directories.directory_of, Hung.hung, Hung.second_im
 use Rattle.adf_rescue.specs.Opened.{lacks_boot, lacks_root, opened}
 use Rattle.adf_rescue.proofs.{OpenedImages.length_opened, PassedFindings.unread_fault, PrunedKeeps.length_read}
 use Rattle.adf_rescue.proofs.MadeRoots.{sized as sized_len}
-use Rattle.adf_survey_cmd.specs.Answers.{CopiesFound, CopiesFromSurvey, ListsSurvey, QuestionAnswer, SurveyAnswer, Surveys, TellsFound, told_status, types_kept}
+use Rattle.adf_survey_cmd.specs.Answers.{CopiesFound, CopiesFromSurvey, ListsSurvey, QuestionAnswer, SurveyAnswer, Surveys, TellsFound, told_status, types_kept, unless_blank, unless_mapped}
+use Rattle.adf_survey_cmd.specs.Answers.{unread_remarks}
 use Rattle.adf_survey_cmd.specs.Deletions.{TellsBy, TellsRead, TellsRefused, TellsSecond}
 use Rattle.adf_survey_cmd.specs.Hints.{disk_hint}
 use Rattle.adf_subjects.specs.{Lengths.AreFew, Lengths.blocks_read, Lengths.stated_length, Lines.findings_text, Lines.runs_from, Losses.LossValue}
@@ -28,6 +29,9 @@ use Rattle.adf_subjects.specs.Subject.{IsOtherType, IsTypeTold, kind_image, size
 use Rattle.adf_survey_cmd.specs.CommandLine.{InquiryValue, QuestionValue, cat, deleted, list, report, rescue, rescue_before, rescue_deleted}
 use Rattle.adf_subjects.specs.Rescues.{IsNoVolume, Replies, RescueValue, RescuesBefore, RescuesBothOf, RescuesFoundOf, RescuesOf, RescuesTypedOf}
 use Rattle.adf_subjects.proofs.Formats.{odd_before, odd_stays}
+use Rattle.adf_maps.specs.Maps.{MapValue}
+use Rattle.adf_unread.specs.{Blank.blank_marks, Mapped.map_marks, Mapped.unread_among, Runs.runs_among}
+use Rattle.adf_unread.proofs.DroppedImages.{length_without}
 use Rattle.adf_survey_cmd.proofs.HintedAnswers.{same_disk}
 use Rattle.adf_subjects.proofs.{RescueAnswers.none_fits_it, ReadLengths.few_read, ReadLengths.same_read, ReadLengths.same_stated}
 
@@ -256,12 +260,39 @@ same_end : (n : ℕ) (image bytes : List ℕ) → n ≤ MOST_BLOCKS → 512 * MO
     → held_end n image ≡ held_end n bytes
 same_end n image bytes few a b = min-eq_left (omega arith) ∙ sym (min-eq_left (omega arith))
 
-long_read : (stated : ℕ) (read : Option ℕ) (q : QuestionValue) (image bytes : List ℕ) → AreFew read → image ≡ take (512 * MOST_BLOCKS + 1) bytes
-    → 512 * MOST_BLOCKS < length image → 512 * MOST_BLOCKS < length bytes → (reply : Reply) → QuestionAnswer q (subject_read stated read image) reply
-    → QuestionAnswer q (subject_read stated read bytes) reply
-long_read stated None q image bytes few e a b reply h =
-    long_questions q (subject_read stated None image) (subject_read stated None bytes) refl a b reply h
-long_read stated (Some n) q image bytes few e a b reply h =
+-- what was never read is dropped of an image that is as long then, and the remarks in front depend on its length alone
+length_blank : (blank : Bool) (s : SubjectValue) → length (unless_blank blank s).image ≡ length s.image
+length_blank true s = length_without (blank_marks s.image) s.image
+length_blank false s = refl
+
+length_mapped : (m : Option MapValue) (s : SubjectValue) → length (unless_mapped m s).image ≡ length s.image
+length_mapped (Some m) s = length_without (map_marks m s.image) s.image
+length_mapped None s = refl
+
+length_dropped : (m : Option MapValue) (blank : Bool) (s : SubjectValue) → length (unless_blank blank (unless_mapped m s)).image ≡ length s.image
+length_dropped m blank s = length_blank blank (unless_mapped m s) ∙ length_mapped m s
+
+front_blank : (blank : Bool) (s : SubjectValue) → (unless_blank blank s).front ≡ s.front
+front_blank true s = refl
+front_blank false s = refl
+
+front_mapped : (m : Option MapValue) (stated : ℕ) (image bytes : List ℕ) → min MOST_BLOCKS (blocks image) ≡ min MOST_BLOCKS (blocks bytes)
+    → (unless_mapped m (subject_read stated None image)).front ≡ (unless_mapped m (subject_read stated None bytes)).front
+front_mapped None stated image bytes same = refl
+front_mapped (Some m) stated image bytes same = ap (λ (n : ℕ). unread_remarks (runs_among (unread_among m n) n)) same
+
+long_read : (stated : ℕ) (read : Option ℕ) (m : Option MapValue) (blank : Bool) (q : QuestionValue) (image bytes : List ℕ) → AreFew read
+    → image ≡ take (512 * MOST_BLOCKS + 1) bytes → 512 * MOST_BLOCKS < length image → 512 * MOST_BLOCKS < length bytes → (reply : Reply)
+    → QuestionAnswer q (unless_blank blank (unless_mapped m (subject_read stated read image))) reply
+    → QuestionAnswer q (unless_blank blank (unless_mapped m (subject_read stated read bytes))) reply
+long_read stated None m blank q image bytes few e a b reply h =
+    let s = subject_read stated None image in
+    let t = subject_read stated None bytes in
+    let many : min MOST_BLOCKS (blocks image) ≡ min MOST_BLOCKS (blocks bytes) = omega (arith, a, b) in
+    let front = front_blank blank (unless_mapped m s) ∙ front_mapped m stated image bytes many ∙ sym (front_blank blank (unless_mapped m t)) in
+    long_questions q (unless_blank blank (unless_mapped m s)) (unless_blank blank (unless_mapped m t)) front
+    (omega (arith, a, length_dropped m blank s)) (omega (arith, b, length_dropped m blank t)) reply h
+long_read stated (Some n) m blank q image bytes few e a b reply h =
     let end = same_end n image bytes few a b in
     let same : subject_read stated (Some n) image ≡ subject_read stated (Some n) bytes =
     λ i. record {
@@ -270,23 +301,25 @@ long_read stated (Some n) q image bytes few e a b reply h =
       front = missing_remarks (end i) n ++ behind_remarks n stated;
       lost = behind_loss n stated;
     } in
-    subst (λ s. QuestionAnswer q s reply) same h
+    subst (λ s. QuestionAnswer q (unless_blank blank (unless_mapped m s)) reply) same h
 
-long_meant : (asked : Option ℕ) (q : QuestionValue) (image bytes : List ℕ) → AreFew asked → image ≡ take (512 * MOST_BLOCKS + 1) bytes
-    → 512 * MOST_BLOCKS < length image → 512 * MOST_BLOCKS < length bytes → (reply : Reply) → QuestionAnswer q (subject asked image) reply
-    → QuestionAnswer q (subject asked bytes) reply
-long_meant asked q image bytes few e a b reply h =
+long_meant : (asked : Option ℕ) (m : Option MapValue) (blank : Bool) (q : QuestionValue) (image bytes : List ℕ) → AreFew asked
+    → image ≡ take (512 * MOST_BLOCKS + 1) bytes → 512 * MOST_BLOCKS < length image → 512 * MOST_BLOCKS < length bytes → (reply : Reply)
+    → QuestionAnswer q (unless_blank blank (unless_mapped m (subject asked image))) reply
+    → QuestionAnswer q (unless_blank blank (unless_mapped m (subject asked bytes))) reply
+long_meant asked m blank q image bytes few e a b reply h =
     let stated = same_stated image bytes e a b asked in
     let read = same_read image bytes e a b asked few in
     let more = few_read asked bytes few in
     let same : subject asked image ≡ subject_read (stated_length asked bytes) (blocks_read asked bytes) image =
     ap₂ (λ (n : ℕ) (o : Option ℕ). subject_read n o image) stated read in
-    long_read (stated_length asked bytes) (blocks_read asked bytes) q image bytes more e a b reply (subst (λ s. QuestionAnswer q s reply) same h)
+    long_read (stated_length asked bytes) (blocks_read asked bytes) m blank q image bytes more e a b reply
+    (subst (λ s. QuestionAnswer q (unless_blank blank (unless_mapped m s)) reply) same h)
 
 pub long_answers : (r : InquiryValue) (image bytes : List ℕ) → AreFew r.blocks → image ≡ take (512 * MOST_BLOCKS + 1) bytes
     → 512 * MOST_BLOCKS < length image → 512 * MOST_BLOCKS < length bytes → (reply : Reply) → SurveyAnswer r image reply → SurveyAnswer r bytes reply
 long_answers r image bytes few e a b reply (told, answer, is) = (
   told,
-  long_meant r.blocks r.question image bytes few e a b told answer,
+  long_meant r.blocks r.map r.blank r.question image bytes few e a b told answer,
   is ∙ ap (λ (d : Bool). cond ((told.status == 1) && d) (record told { errors = told.errors ++ disk_hint }) told) (same_disk image bytes e),
 )

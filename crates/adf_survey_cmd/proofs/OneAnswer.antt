@@ -14,7 +14,7 @@ use Rattle.adf_texts.specs.Lines.{fault_line}
 use Rattle.adf_runs.specs.Commands.{Reply, on_errors, on_output}
 use Rattle.adf_volume.proofs.OneFault.{one_fault}
 use Rattle.adf_cmd.proofs.OneAnswer.{one_dates}
-use Rattle.adf_survey_cmd.specs.Answers.{CopiesEntry, CopiesFound, CopiesFromSurvey, IsWholeFile, ListsSurvey, QuestionAnswer, SurveyAnswer}
+use Rattle.adf_survey_cmd.specs.Answers.{CopiesEntry, CopiesFound, CopiesFromSurvey, IsWholeFile, ListsSurvey, QuestionAnswer, SurveyAnswer, unless_blank, unless_mapped}
 use Rattle.adf_survey_cmd.specs.Answers.{Surveys, TellsFound, told_status, types_kept}
 use Rattle.adf_survey_cmd.specs.{Hints.hinted, FoundLines.listing_text}
 use Rattle.adf_subjects.specs.{Losses.LossValue, Losses.losses_text, Rescues.RescuesSomeOf, Rescues.rescue_reply}
@@ -228,4 +228,4 @@ one_question (rescue_before with_deleted keep_type) s a b x y = before_rescued_o
 
 pub one_answer : (r : InquiryValue) (input : List ℕ) (a b : Reply) → SurveyAnswer r input a → SurveyAnswer r input b → a ≡ b
 one_answer r input a b (told, x, e) (other, y, f) =
-    e ∙ ap (hinted input) (one_question r.question (subject r.blocks input) told other x y) ∙ sym f
+    e ∙ ap (hinted input) (one_question r.question (unless_blank r.blank (unless_mapped r.map (subject r.blocks input))) told other x y) ∙ sym f

@@ -1,6 +1,6 @@
 -- What the command answers to its words and its input.
 -- Letters: s what is surveyed; w the walk of its survey, fs its findings; n an entry's node, h the block of its header; r an inquiry.
-use Rattle.std.specs.Prelude.{◌≡◌, ◌*◌, ◌⊎◌, ◌++◌, ℕ, Bool, true, false, List, [], ◌∷◌, Option, codes}
+use Rattle.std.specs.Prelude.{◌≡◌, ◌*◌, ◌⊎◌, ◌++◌, ℕ, Bool, true, false, List, [], ◌∷◌, Option, None, Some, codes, map}
 use Rattle.adf_blocks.specs.declared.layout.TheConstants.{MOST_BLOCKS}
 use Rattle.adf_names.specs.PathTexts.{IsPathText, path_text}
 use Rattle.adf_volume.specs.Walk.{FileAt, Walk}
@@ -8,13 +8,16 @@ use Rattle.adf_volume.specs.declared.types.Types.{Types, TheVariants.Plain, TheV
 use Rattle.adf_findings.specs.{Files.IsSoundFile, Files.file_content, Files.file_in, Lookup.LeadsTo, SoundMarks.AreMarks, Survey.FindingValue, Survey.IsSurvey}
 use Rattle.adf_base.specs.declared.dates.Stamp.{Stamp}
 use Rattle.adf_texts.specs.VolumeLines.{AreDates}
+use Rattle.adf_maps.specs.Maps.{MapValue}
+use Rattle.adf_unread.specs.{Blank.blank_marks, Dropped.without_unread, Mapped.map_marks, Runs.runs_among, declared.runs.UnreadRun.UnreadRun}
 use Rattle.adf_cmd.specs.Answers.{IsBadPath, RefusesPath}
 use Rattle.adf_runs.specs.Commands.{Command, Reply, on_errors, on_output}
 use Rattle.adf_file_runs.specs.FileRuns.{without_files}
-use Rattle.adf_survey_cmd.specs.CommandLine.{AreRefusedBySurvey, AsksSurvey, InquiryValue, QuestionValue, asked, cat, deleted, list, report}
+use Rattle.adf_survey_cmd.specs.CommandLine.{AreRefusedBySurvey, AsksSurvey, InquiryValue, QuestionValue, asked_beside, cat, deleted, list, report}
 use Rattle.adf_survey_cmd.specs.CommandLine.{rescue, rescue_before, rescue_deleted, survey_file}
 use Rattle.adf_survey_cmd.specs.{Deletions.TellsTyped, FoundLines.has_its_data, FoundLines.listing_text, Hints.Hinted, Remains.WritesRemains}
-use Rattle.adf_subjects.specs.{declared.remarks.Remark.Remark, Rescues.Replies, Rescues.RescuesTyped}
+use Rattle.adf_subjects.specs.{declared.remarks.Remark.Remark, declared.remarks.Saying.TheVariants.NoData, Remarks.remark}
+use Rattle.adf_subjects.specs.{Rescues.Replies, Rescues.RescuesTyped}
 use Rattle.adf_subjects.specs.{Rescues.RescuesBefore, Rescues.RescuesTypedOf, Subject.OfTyped, Subject.SubjectValue, Subject.subject}
 use Rattle.adf_subjects.specs.{Subject.subject_text}
 
@@ -101,9 +104,25 @@ QuestionAnswer (rescue keep_type) s reply = Replies (RescuesTyped (types_kept ke
 QuestionAnswer (rescue_deleted keep_type) s reply = Replies (RescuesTypedOf true (types_kept keep_type) s) reply
 QuestionAnswer (rescue_before with_deleted keep_type) s reply = Replies (RescuesBefore with_deleted (types_kept keep_type) s) reply
 
+-- the remarks on runs of blocks that were not read
+abbrev pub unread_remarks : List UnreadRun → List Remark
+unread_remarks rs = map (λ r. remark r.first r.last NoData) rs
+
+-- what is surveyed without what a map says was not read of the blocks that the input holds, with a remark on each run of these
+abbrev pub unless_mapped : Option MapValue → SubjectValue → SubjectValue
+unless_mapped None s = s
+unless_mapped (Some m) s =
+    let marks = map_marks m s.image in
+    record { image = without_unread marks s.image; end = s.end; front = s.front ++ unread_remarks (runs_among marks s.end); lost = s.lost }
+
+-- what is surveyed where each blank block counts as never read, if it does: an image without what was not read
+abbrev pub unless_blank : (blank : Bool) → SubjectValue → SubjectValue
+unless_blank false s = s
+unless_blank true s = record s { image = without_unread (blank_marks s.image) s.image }
+
 -- the answer to an inquiry: that to its question, with the hint
 abbrev pub SurveyAnswer : InquiryValue → List ℕ → Reply → Type 0
-SurveyAnswer r input reply = Hinted input (QuestionAnswer r.question (subject r.blocks input)) reply
+SurveyAnswer r input reply = Hinted input (QuestionAnswer r.question (unless_blank r.blank (unless_mapped r.map (subject r.blocks input)))) reply
 
 -- words ask for one thing at most
 abbrev pub WordsAskForOneInquiry : Type 0
@@ -116,10 +135,11 @@ InquiriesHaveOneAnswer = (r : InquiryValue) (input : List ℕ) (a b : Reply) →
 -- what errors get where the words are refused
 abbrev pub survey_usage : List ℕ
 survey_usage =
-    codes "usage: adf-survey [--blocks N] [--list] [--json] [FILE]\n       adf-survey [--blocks N] cat [--damaged] PATH [FILE]\n"
-    ++ codes "       adf-survey [--blocks N] cat --deleted BLOCK [FILE]\n"
-    ++ codes "       adf-survey [--blocks N] rescue [--keep-type] [--deleted] [--before-format] [FILE]\n"
-    ++ codes "       adf-survey [--blocks N] deleted [FILE]\n"
+    codes "usage: adf-survey [--blocks N] [--map MAP] [--blank] [--list] [--json] [FILE]\n"
+    ++ codes "       adf-survey [--blocks N] [--map MAP] [--blank] cat [--damaged] PATH [FILE]\n"
+    ++ codes "       adf-survey [--blocks N] [--map MAP] [--blank] cat --deleted BLOCK [FILE]\n"
+    ++ codes "       adf-survey [--blocks N] [--map MAP] [--blank] rescue [--keep-type] [--deleted] [--before-format] [FILE]\n"
+    ++ codes "       adf-survey [--blocks N] [--map MAP] [--blank] deleted [FILE]\n"
     ++ codes "without a FILE the image comes on standard input; man adf-survey tells more\n"
 
 -- a question for the bytes under a path that is not read
@@ -129,7 +149,8 @@ HasBadSurveyPath q = (damaged : Bool) × (path : List ℕ) × (q ≡ cat damaged
 -- the words ask for the bytes under a path that is not read
 abbrev pub AsksBadSurveyPath : List (List ℕ) → Type 0
 AsksBadSurveyPath words =
-    (blocks : Option ℕ) × (damaged : Bool) × (path : List ℕ) × AsksSurvey words (asked blocks (cat damaged path)) × IsBadPath path
+    (map : Option MapValue) × (blank : Bool) × (blocks : Option ℕ) × (damaged : Bool) × (path : List ℕ)
+    × AsksSurvey words (asked_beside map blank blocks (cat damaged path)) × IsBadPath path
 
 -- the command `adf-survey`
 abbrev pub survey_command : Command (List (List ℕ))

@@ -1,8 +1,9 @@
 -- The command line of `adf-survey`, as clap reads it, and what its matches ask for.
-use Rattle.std.specs.Prelude.{◌≡◌, ◌⊎◌, ◌||◌, ℕ, List, [], Bool, Option, Some, None, codes, is_some, option_map, if◌then◌else◌}
+use Rattle.std.specs.Prelude.{◌≡◌, ◌⊎◌, ◌||◌, ℕ, List, [], Bool, false, Option, Some, None, codes, is_some, option_map, if◌then◌else◌}
 use Rattle.std.specs.{Option.option_and_then, Str.bytes_eq}
 use Rattle.clap.specs.Words.{App, Row, Rule, Text, fault_of, first_of, matches_of, new_app, new_rule, subcommand_of, with_rule, with_subcommand}
 use Rattle.adf_blocks.specs.declared.layout.TheConstants.{MOST_BLOCKS}
+use Rattle.adf_maps.specs.Maps.{MapValue, map_of}
 use Rattle.adf_words.specs.Arguments.{bare_app, cat_app, flag_rule, has_flag, number_named}
 use Rattle.adf_words.specs.FileArguments.{file_met, file_rule}
 use Rattle.adf_survey_cmd.specs.declared.command_line.Inquiry.{Inquiry}
@@ -29,15 +30,19 @@ survey_rescue_app = with_rule (with_rule flagged_rescue (flag_rule (codes "befor
 abbrev pub survey_deleted_app : App
 survey_deleted_app = with_rule (new_app (codes "deleted")) file_rule
 
--- with the option
+-- the option --map TEXT
+abbrev pub map_text_rule : Rule
+map_text_rule = record (new_rule (codes "map")) { long = Some (codes "map") }
+
+-- with the options that go with each question
 abbrev pub numbered_survey : App
-numbered_survey = with_rule (bare_app (codes "adf-survey")) blocks_rule
+numbered_survey = with_rule (with_rule (with_rule (bare_app (codes "adf-survey")) blocks_rule) map_text_rule) (flag_rule (codes "blank"))
 
 -- with the flags and the file
 abbrev pub flagged_survey : App
 flagged_survey = with_rule (with_rule (with_rule numbered_survey (flag_rule (codes "list"))) (flag_rule (codes "json"))) file_rule
 
--- the command line: [--blocks N], and [--list] [--json] [FILE], cat [--damaged] PATH [FILE], cat --deleted BLOCK [FILE], rescue
+-- the command line: [--blocks N] [--map TEXT] [--blank], and [--list] [--json] [FILE], cat [--damaged] PATH [FILE], cat --deleted BLOCK [FILE], rescue
 -- [--keep-type] [--deleted] [--before-format] [FILE], or deleted [FILE]
 abbrev pub survey_app : App
 survey_app = with_subcommand (with_subcommand (with_subcommand flagged_survey survey_cat_app.top) survey_rescue_app.top) survey_deleted_app.top
@@ -54,18 +59,29 @@ pub data QuestionValue : Type 0 where
   rescue_before : (with_deleted keep_type : Bool) → QuestionValue
   deleted : (file : Option ℕ) → QuestionValue
 
--- what a command line asks for, of the image as it is or as if it had so many blocks
+-- what a command line asks for, of the image as it is or as if it had so many blocks; what a map says of it, if one is given; and whether
+-- each blank block of it counts as never read
 pub record InquiryValue : Type 0 where
   pub blocks : Option ℕ
+  pub map : Option MapValue
+  pub blank : Bool
   pub question : QuestionValue
 
 -- a question of the image as it is, or as if it had so many blocks
 abbrev pub asked : Option ℕ → QuestionValue → InquiryValue
-asked blocks question = record { blocks = blocks; question = question }
+asked blocks question = record { blocks = blocks; map = None; blank = false; question = question }
+
+-- the same with a map, and where each blank block may count as never read
+abbrev pub asked_beside : Option MapValue → (blank : Bool) → Option ℕ → QuestionValue → InquiryValue
+asked_beside map blank blocks question = record { blocks = blocks; map = map; blank = blank; question = question }
 
 -- the blocks that the matches name, if any
 abbrev pub blocks_met : List Row → Option (Option ℕ)
 blocks_met rows = elim (first_of (codes "blocks") rows) [ None ↦ Some None | Some text ↦ option_map Some (number_named MOST_BLOCKS text) ]
+
+-- the map whose text the matches have, if any
+abbrev pub map_met : List Row → Option (Option MapValue)
+map_met rows = elim (first_of (codes "map") rows) [ None ↦ Some None | Some text ↦ option_map Some (map_of text) ]
 
 -- what `cat` asks of the file under a path, or with --deleted of the one whose header is in a block; not with --damaged too
 abbrev pub cat_asked : (deleted_one damaged : Bool) → Text → Option QuestionValue
@@ -104,7 +120,9 @@ question_met rows (Some p) = if excludes_subcommand rows then None else question
 
 -- what the matches ask for
 abbrev pub inquiry_met : List Row → Option (Text × List Row) → Option InquiryValue
-inquiry_met rows subcommand = option_and_then (λ blocks. option_map (asked blocks) (question_met rows subcommand)) (blocks_met rows)
+inquiry_met rows subcommand =
+    option_and_then (λ map. option_and_then (λ blocks.
+    option_map (asked_beside map (has_flag (codes "blank") rows) blocks) (question_met rows subcommand)) (blocks_met rows)) (map_met rows)
 
 -- what the arguments ask for, where clap takes them
 abbrev pub inquiry_of : List Text → Option InquiryValue
@@ -123,7 +141,7 @@ abbrev pub AsksSurveyOf : List Text → InquiryValue → Option Text → Type 0
 AsksSurveyOf args r file = AsksSurvey args r × (survey_file args ≡ file)
 
 -- clap refuses the arguments, or its matches lack the path, have such a flag or a file before a subcommand, have another text than a number of
--- blocks or of a block, or have --damaged beside --deleted
+-- blocks or of a block, another than that of a map, or have --damaged beside --deleted
 abbrev pub AreRefusedBySurvey : List Text → Type 0
 AreRefusedBySurvey args = (¬ (fault_of survey_app args ≡ [])) ⊎ (inquiry_of args ≡ None)
 
@@ -139,4 +157,4 @@ question_value (Deleted file) = deleted file
 
 -- the value of an inquiry as the code has it
 abbrev pub inquiry_value : Inquiry → InquiryValue
-inquiry_value q = asked q.blocks (question_value q.question)
+inquiry_value q = asked_beside q.map q.blank q.blocks (question_value q.question)

@@ -5,6 +5,9 @@ pub mod FoundLines
 pub mod Remains
 pub mod Hints
 pub mod Answers
+-- the word that names a map, and how a run with it ends
+pub mod MapWords
+pub mod MapRuns
 -- The words of the command, as its loop keeps them.
 pub mod Work
 -- What its laws speak of.

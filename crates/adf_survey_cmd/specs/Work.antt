@@ -21,6 +21,6 @@ Answers (Rescue types) q = (keep_type : Bool) × (types ≡ types_kept keep_type
 Answers (RescueDeleted types) q = (keep_type : Bool) × (types ≡ types_kept keep_type) × (q ≡ rescue_deleted keep_type)
 Answers (RescueBefore with_deleted types) q = (keep_type : Bool) × (types ≡ types_kept keep_type) × (q ≡ rescue_before with_deleted keep_type)
 
--- the work is what is asked for, of as many blocks, if any are named
+-- the work is what is asked for, of as many blocks, if any are named, by a map, if one is given, and of blank blocks or not
 abbrev pub Meets : Work → InquiryValue → Type 0
-Meets work r = (work.blocks ≡ r.blocks) × AreFew r.blocks × Answers work.task r.question
+Meets work r = (work.blocks ≡ r.blocks) × (work.map ≡ r.map) × (work.blank ≡ r.blank) × AreFew r.blocks × Answers work.task r.question

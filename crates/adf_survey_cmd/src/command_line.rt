@@ -5,9 +5,9 @@ ghost use Rattle.clap.specs.Words.{app_of, fault_of, found_of, matches_of, rows_
 ghost use Rattle.clap.specs.declared.builder.command.Command.TheViews.{out-Command};
 ghost use Rattle.adf_words.specs.{CommandLine.ExplainsArgs, CommandLine.texts_of, FileArguments.file_meant};
 ghost use Rattle.adf_words.specs.declared.command_line.ArgsError.TheVariants.{Usage};
-ghost use Rattle.adf_survey_cmd.specs.CommandLine.{AsksSurvey, AsksSurveyOf, AreRefusedBySurvey, asked, blocks_met, cat, cat_asked};
+ghost use Rattle.adf_survey_cmd.specs.CommandLine.{AsksSurvey, AsksSurveyOf, AreRefusedBySurvey, asked, asked_beside, blocks_met, cat, cat_asked};
 ghost use Rattle.adf_subjects.specs.Lengths.{AreFew};
-ghost use Rattle.adf_survey_cmd.specs.CommandLine.{cat_met, flagged_survey, list, inquiry_met, inquiry_value, question_met};
+ghost use Rattle.adf_survey_cmd.specs.CommandLine.{cat_met, flagged_survey, list, inquiry_met, inquiry_value, map_met, question_met};
 ghost use Rattle.adf_survey_cmd.specs.CommandLine.{deleted, question_named, question_value, report, rescue};
 ghost use Rattle.adf_survey_cmd.specs.CommandLine.{rescue_asked, rescue_before, rescue_deleted};
 ghost use Rattle.adf_survey_cmd.specs.CommandLine.{survey_app, survey_cat_app};
@@ -15,6 +15,7 @@ ghost use Rattle.adf_survey_cmd.specs.CommandLine.{survey_deleted_app, survey_fi
 
 use adf_blocks::MOST_BLOCKS;
 use adf_file_runs::About;
+use adf_maps::{Map, MapFault, read_map};
 use adf_words::{
     ArgsError, bare_command, cat_command, file_argument, file_met, first_text, flag, has_flag,
     matches_of, number_named, with_argument, with_subcommand,
@@ -24,30 +25,33 @@ use std::alloc::{AllocError, Global};
 
 /// What is said of arguments that are refused.
 pub const SURVEY_USAGE: &str =
-    "usage: adf-survey [--blocks N] [--list] [--json] [FILE]\n       adf-survey [--blocks N] cat [--damaged] PATH [FILE]\n\
-    \x20      adf-survey [--blocks N] cat --deleted BLOCK [FILE]\n\
-    \x20      adf-survey [--blocks N] rescue [--keep-type] [--deleted] [--before-format] [FILE]\n\
-    \x20      adf-survey [--blocks N] deleted [FILE]\n\
+    "usage: adf-survey [--blocks N] [--map MAP] [--blank] [--list] [--json] [FILE]\n\
+    \x20      adf-survey [--blocks N] [--map MAP] [--blank] cat [--damaged] PATH [FILE]\n\
+    \x20      adf-survey [--blocks N] [--map MAP] [--blank] cat --deleted BLOCK [FILE]\n\
+    \x20      adf-survey [--blocks N] [--map MAP] [--blank] rescue [--keep-type] [--deleted] [--before-format] [FILE]\n\
+    \x20      adf-survey [--blocks N] [--map MAP] [--blank] deleted [FILE]\n\
     without a FILE the image comes on standard input; man adf-survey tells more\n";
 
 /// What the program tells of itself.
 pub const ABOUT: About = About {
     name: "adf-survey",
     help: "Tells all that is wrong in an image of an Amiga floppy or hard disk, and reads what is sound.\n\n\
-    usage: adf-survey [--blocks N] [--list] [--json] [FILE]\n\
+    usage: adf-survey [--blocks N] [--map MAP] [--blank] [--list] [--json] [FILE]\n\
     \x20          each finding; with --list each entry that is found too; with --json each line is an object\n\
-    \x20      adf-survey [--blocks N] cat [--damaged] PATH [FILE]\n\
+    \x20      adf-survey [--blocks N] [--map MAP] [--blank] cat [--damaged] PATH [FILE]\n\
     \x20          a sound file; with --damaged what is left of any file\n\
-    \x20      adf-survey [--blocks N] cat --deleted BLOCK [FILE]\n\
+    \x20      adf-survey [--blocks N] [--map MAP] [--blank] cat --deleted BLOCK [FILE]\n\
     \x20          what is left of the deleted file whose header is in this block\n\
-    \x20      adf-survey [--blocks N] rescue [--keep-type] [--deleted] [--before-format] [FILE] > NEW\n\
+    \x20      adf-survey [--blocks N] [--map MAP] [--blank] rescue [--keep-type] [--deleted] [--before-format] [FILE] > NEW\n\
     \x20          a new volume of all that can be kept; with --keep-type of the letters of the image;\n\
     \x20          with --deleted also of the deleted files that are whole, in a directory deleted;\n\
     \x20          with --before-format of what was there before the disk was formatted, and not of what stands now\n\
-    \x20      adf-survey [--blocks N] deleted [FILE]\n\
+    \x20      adf-survey [--blocks N] [--map MAP] [--blank] deleted [FILE]\n\
     \x20          each deleted file and directory whose header still stands, and what speaks for it\n\
     \x20      adf-survey --help, adf-survey --version\n\n\
     Without a FILE, or with -, the image comes on standard input. --blocks N reads it as if it had N blocks.\n\
+    --map MAP is the map that GNU ddrescue wrote of the reading: what it says was not read is no data.\n\
+    With --blank each block of zeros, or of a pattern of dumping programs, counts as one that was never read.\n\
     man adf-survey tells more.\n",
     waits: Some("waiting for standard input; adf-survey --help tells more\n"),
 };
@@ -72,10 +76,14 @@ pub enum Question<'a> {
 }
 
 /// What a command line asks for.
-#[derive(Clone, Copy, Debug)]
+#[derive(Drop)]
 pub struct Inquiry<'a> {
     /// As if the image had so many blocks, at most those of the largest volume; `None`: as it is.
     pub blocks: Option<u32>,
+    /// What a map says was not read.
+    pub map: Option<Map>,
+    /// Each blank block counts as never read.
+    pub blank: bool,
     pub question: Question<'a>,
 }
 
@@ -85,7 +93,9 @@ fn flagged<'a>(alloc: Global) -> Result<Command<'a>, AllocError>
 {
     let blocks = Arg::new(alloc, "blocks").long("blocks");
     let numbered = with_argument(Ok(bare_command(alloc, "adf-survey")), blocks);
-    let listed = with_argument(numbered, flag(alloc, "list"));
+    let mapped = with_argument(numbered, Arg::new(alloc, "map").long("map"));
+    let blanked = with_argument(mapped, flag(alloc, "blank"));
+    let listed = with_argument(blanked, flag(alloc, "list"));
     let objects = with_argument(listed, flag(alloc, "json"));
     with_argument(objects, file_argument(alloc))
 }
@@ -227,15 +237,41 @@ fn question_in<'a>(matches: &ArgMatches<'a>) -> Option<Question<'a>>
     }
 }
 
-// What the matches ask for.
-fn inquiry_in<'a>(matches: &ArgMatches<'a>) -> Option<Inquiry<'a>>
-    ensures met { option_map inquiry_value result
-        ≡ inquiry_met (rows_of (found_of matches.now)) (subcommand_rows_of matches.now) }
-    ensures few { IfSome result (λ inquiry. AreFew inquiry.blocks) }
+// The map whose text the matches have, if any; `None` if it is the text of no map.
+fn map_in(alloc: Global, matches: &ArgMatches<'_>) -> Result<Option<Option<Map>>, AllocError>
+    ensures { IfOk result (λ map. map ≡ map_met (rows_of (found_of matches.now))) }
 {
+    let Some(text) = first_text(matches, "map") else {
+        return Ok(Some(None));
+    };
+    match read_map(alloc, text.as_bytes()) {
+        Ok(map) => Ok(Some(Some(map))),
+        Err(MapFault::NoMap) => Ok(None),
+        Err(MapFault::NoMemory) => Err(AllocError),
+    }
+}
+
+// What the matches ask for.
+fn inquiry_in<'a>(
+    alloc: Global,
+    matches: &ArgMatches<'a>,
+) -> Result<Option<Inquiry<'a>>, AllocError>
+    ensures met { IfOk result (λ o. option_map inquiry_value o
+        ≡ inquiry_met (rows_of (found_of matches.now)) (subcommand_rows_of matches.now)) }
+    ensures few { IfOk result (λ o. IfSome o (λ inquiry. AreFew inquiry.blocks)) }
+{
+    let Some(map) = map_in(alloc, matches)? else {
+        return Ok(None);
+    };
+    let blank = has_flag(matches, "blank");
     match (blocks_in(matches), question_in(matches)) {
-        (Some(blocks), Some(question)) => Some(Inquiry { blocks, question }),
-        _ => None,
+        (Some(blocks), Some(question)) => Ok(Some(Inquiry {
+            blocks,
+            map,
+            blank,
+            question,
+        })),
+        _ => Ok(None),
     }
 }
 
@@ -253,7 +289,8 @@ fn survey_matches<'a>(alloc: Global, args: &'a [&str]) -> Result<ArgMatches<'a>,
 }
 
 /// Reads the arguments; the first one is the program's name. `Usage` if and only if clap refuses them or its matches lack the
-/// path, have `--list`, `--json` or a file before a command, have no number of blocks or of a block, or `--damaged` beside
+/// path, have `--list`, `--json` or a file before a command, have no number of blocks or of a block, no text of a map, or
+/// `--damaged` beside
 /// `--deleted`; `NoMemory` if an allocation failed.
 pub fn parse_survey<'a>(alloc: Global, args: &'a [&str]) -> Result<Inquiry<'a>, ArgsError>
     ensures ok { IfOk result (λ inquiry.
@@ -262,7 +299,7 @@ pub fn parse_survey<'a>(alloc: Global, args: &'a [&str]) -> Result<Inquiry<'a>, 
     ensures refused { IfErr result (λ fault. ExplainsArgs fault (AreRefusedBySurvey (texts_of args.entry.now))) }
 {
     let matches = survey_matches(alloc, args)?;
-    inquiry_in(&matches).ok_or(ArgsError::Usage)
+    inquiry_in(alloc, &matches)?.ok_or(ArgsError::Usage)
 }
 
 /// The file that the arguments name, `None` if they name none or `-`, which is standard input. `Usage` if and only if clap
@@ -310,6 +347,12 @@ pub fn survey_words_as_documented()
     ensures blocks_rescue { AsksSurveyOf
         (codes "adf-survey" ∷ codes "--blocks" ∷ codes "1760" ∷ codes "rescue" ∷ [])
         (asked (Some 1760) (rescue false)) None }
+    ensures blank { AsksSurveyOf (codes "adf-survey" ∷ codes "--blank" ∷ []) (asked_beside None true None (report false)) None }
+    ensures blank_rescue { AsksSurveyOf
+        (codes "adf-survey" ∷ codes "--blank" ∷ codes "--blocks" ∷ codes "1760" ∷ codes "rescue" ∷ codes "a.adf" ∷ [])
+        (asked_beside None true (Some 1760) (rescue false)) (Some (codes "a.adf")) }
+    ensures rescue_blank { AreRefusedBySurvey
+        (codes "adf-survey" ∷ codes "rescue" ∷ codes "--blank" ∷ []) }
     ensures most_blocks { AsksSurveyOf (codes "adf-survey" ∷ codes "--blocks" ∷ codes "8388608" ∷ [])
         (asked (Some 8388608) (report false)) None }
     ensures file { AsksSurveyOf (codes "adf-survey" ∷ codes "a.adf" ∷ [])

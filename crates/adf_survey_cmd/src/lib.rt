@@ -10,15 +10,19 @@ mod hints;
 mod laws;
 mod listing;
 mod loss_lines;
+mod map_runs;
+mod map_words;
 mod recovering;
 mod reporting;
 mod rescuing;
 mod runner;
+mod unread;
 mod work;
 
 pub use crate::command_line::{
     Inquiry, Question, parse_survey as parse, survey_words_as_documented,
 };
 pub use crate::laws::{rescued_volumes, rescued_with_deleted, status_tells_whole};
+pub use crate::map_runs::run_mapped;
 pub use crate::runner::{one_answer, run_files};
 pub use crate::work::{Task, View, Work};

@@ -5,9 +5,11 @@ ghost use Rattle.adf_words.specs.CommandLine.{texts_of};
 ghost use Rattle.adf_survey_cmd.specs.CommandLine.{survey_file};
 ghost use Rattle.adf_runs.specs.{Commands.IsUnanswered, Commands.TakesEnough, Streams.seen};
 ghost use Rattle.adf_file_runs.specs.FileRuns.{RunEndsOnFiles, known_files};
+ghost use Rattle.adf_survey_cmd.specs.MapRuns.{SurveyEnds};
 ghost use Rattle.adf_survey_cmd.specs.Answers.{InquiriesHaveOneAnswer, WordsAskForOneInquiry, survey_command};
 
 use crate::command_line::ABOUT;
+use crate::map_runs::run_mapped;
 use crate::work::Work;
 use adf_file_runs::{About, Files, Invocation, SystemProgram, run_program_on_files};
 use adf_runs::{Sink, Source};
@@ -46,7 +48,7 @@ pub fn run_files<F: Files, R: Source, W: Sink, E: Sink>(
 }
 
 impl SystemProgram for Work {
-    ghost ends = { RunEndsOnFiles survey_command survey_file };
+    ghost ends = { SurveyEnds };
 
     fn about() -> About {
         ABOUT
@@ -59,7 +61,7 @@ impl SystemProgram for Work {
         output: &mut W,
         errors: &mut E,
     ) -> u8 {
-        run_files(alloc, asked, input, output, errors)
+        run_mapped(alloc, asked, input, output, errors)
     }
 }
 

@@ -4,7 +4,7 @@ ghost use Rattle.std.specs.Prelude.{◌≡◌, List, Some, false, IfErr, IfOk};
 ghost use Rattle.adf_findings.specs.Survey.{OnSurvey};
 ghost use Rattle.adf_rescue.specs.Opened.{is_mended};
 ghost use Rattle.adf_runs.specs.{Outcomes.Blames, Outcomes.Does, Outcomes.EndsBy, WorkFaults.IsNoWork, Streams.seen};
-ghost use Rattle.adf_survey_cmd.specs.Answers.{HasBadSurveyPath, QuestionAnswer, SurveyAnswer, types_kept};
+ghost use Rattle.adf_survey_cmd.specs.Answers.{HasBadSurveyPath, QuestionAnswer, SurveyAnswer, types_kept, unless_blank, unless_mapped};
 ghost use Rattle.adf_survey_cmd.specs.CommandLine.{InquiryValue, QuestionValue, question_value};
 ghost use Rattle.adf_survey_cmd.specs.Work.{Answers, Meets, Shows};
 ghost use Rattle.adf_subjects.specs.Rescues.{Replies, RescuesBefore, RescuesTypedOf};
@@ -17,9 +17,11 @@ use crate::hints::{hinted, is_hard_disk};
 use crate::listing::write_list;
 use crate::reporting::write_findings;
 use crate::rescuing::{Terms, rescue_image};
+use crate::unread::unless_unread;
 use adf_cmd::most_image_bytes;
 use adf_file_runs::FileProgram;
 use adf_findings::{Survey, some_survey, survey};
+use adf_maps::Map;
 use adf_rescue::is_mended;
 use adf_runs::{Outcome, Program, Sink, Source, WorkFault, read_input};
 use adf_subjects::{Subject, before_format, other_type};
@@ -50,10 +52,13 @@ pub enum Task {
     Deleted(Option<u32>),
 }
 
-/// What is done with an image as it is, or as if it had so many blocks.
+/// What is done with an image as it is, or as if it had so many blocks, what a map says was not read
+/// of it, and whether each blank block of it counts as never read.
 #[derive(Drop)]
 pub struct Work {
     pub blocks: Option<u32>,
+    pub map: Option<Map>,
+    pub blank: bool,
     pub task: Task,
 }
 
@@ -301,10 +306,14 @@ impl Work {
     ) -> Outcome
         requires { W.has_failed output.old ≡ false }
         ensures ends { (r : InquiryValue) (s : SubjectValue) → Meets self.now r → IfOk subject (λ x. subject_value x ≡ s)
-            → EndsBy (QuestionAnswer r.question s) result (W.held output.old) (W.held output.new) }
+            → EndsBy (QuestionAnswer r.question (unless_blank r.blank (unless_mapped r.map s))) result
+            (W.held output.old) (W.held output.new) }
         ensures blames { Blames result false (W.has_failed output.new) }
     {
-        match subject {
+        let Ok(subject) = subject else {
+            return Outcome::NoMemory;
+        };
+        match unless_unread(alloc, &self.map, self.blank, subject) {
             Ok(subject) => self.task.on_subject(alloc, subject, output),
             Err(_) => Outcome::NoMemory,
         }
@@ -327,7 +336,7 @@ impl Work {
 impl Program for Work {
     ghost use Rattle.std.proofs.Common.{inl, refl, rules};
     ghost use Rattle.adf_runs.specs.Commands.{bad_path};
-    ghost use Rattle.adf_survey_cmd.specs.{Answers.survey_command, CommandLine.asked, CommandLine.cat};
+    ghost use Rattle.adf_survey_cmd.specs.{Answers.survey_command, CommandLine.asked_beside, CommandLine.cat};
 
     ghost command = { survey_command };
 
@@ -342,6 +351,8 @@ impl Program for Work {
         let task = task_for(alloc, inquiry.question)?;
         Ok(Work {
             blocks: inquiry.blocks,
+            map: inquiry.map,
+            blank: inquiry.blank,
             task,
         })
     }
@@ -370,7 +381,7 @@ impl Program for Work {
 
     ghost consistent = { record {
       taken = Prim.search rules;
-      unread = λ words h. (asked h.0 (cat h.1 h.2), h.3, λ input. (bad_path, inl (h.4, refl), refl));
+      unread = λ words h. (asked_beside h.0 h.1 h.2 (cat h.3 h.4), h.5, λ input. (bad_path, inl (h.6, refl), refl));
     } };
 }
 

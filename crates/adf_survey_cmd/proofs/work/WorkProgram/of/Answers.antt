@@ -4,4 +4,4 @@ use Rattle.adf_survey_cmd.proofs.work.WorkProgram.of.Goals as goal
 
 pub returns-clause-ok : goal.returns-clause-ok
 returns-clause-ok c =
-    (inquiry_value c.in_ok-inquiry.inquiry, c.in_ok-inquiry.ensures.ok, (refl, c.in_ok-inquiry.ensures.few, c.in_ok-task.ensures.ok))
+    (inquiry_value c.in_ok-inquiry.inquiry, c.in_ok-inquiry.ensures.ok, (refl, refl, refl, c.in_ok-inquiry.ensures.few, c.in_ok-task.ensures.ok))
