@@ -11,7 +11,7 @@ use Rattle.adf_blocks.specs.declared.layout.TheConstants.{EXTENSION, FIRST_MAP_E
 use Rattle.adf_blocks.specs.declared.layout.TheConstants.{PAGE_BITS, POINTERS, ROOT_PAGES, SECONDARY_TYPE, SIZE, SLOTS, ST_DIR, ST_FILE}
 use Rattle.adf_base.specs.declared.hash.Letters.{Letters, TheVariants.Ascii}
 use Rattle.adf_names.specs.Texts.{uppers_by}
-use Rattle.adf_volume.specs.{Types.letters_for, Types.most_blocks, declared.types.Types.Types, declared.types.Types.TheVariants.Plain}
+use Rattle.adf_volume.specs.{Start.IsBegunBy, Types.letters_for, Types.most_blocks, declared.types.Types.Types, declared.types.Types.TheVariants.Plain}
 use Rattle.adf_volume.specs.Demands.{Demand, demand, AllHold, FirstFails, boot_demands_by, root_demands, page_demands, head_demands_by, ext_demands}
 
 -- Head n p s j is the header of node n, at position j of the chain of slot s of directory p.
@@ -32,21 +32,17 @@ Walk = List (Role × ℕ)
 -- in a directory by slot and position; in a file
 -- extensions, then data.
 abbrev pub first : Role → ℕ
-first Root = 0
-first (Page i) = 0
-first (MapExt i) = 0
 first (Head n p s j) = suc p
 first (Ext n k) = suc n
 first (Data n k) = suc n
+first _ = 0
 
 -- the second number: orders a file's extension blocks before its data blocks, and a directory's chains by slot
 abbrev pub second : Role → ℕ
 second Root = 0
-second (Page i) = 1
-second (MapExt i) = 1
 second (Head n p s j) = suc (suc s)
 second (Ext n k) = 0
-second (Data n k) = 1
+second _ = 1
 
 -- the third number: that of a block among its kind, or the position in a chain
 abbrev pub third : Role → ℕ
@@ -121,9 +117,8 @@ NamesPage image w k a i =
     ((k < ROOT_PAGES) × (a ≡ root_of image) × (i ≡ FIRST_PAGE + k))
     ⊎ ((j : ℕ) × Has w (MapExt j) a × (i < MAP_EXT_PAGES) × (k ≡ ROOT_PAGES + MAP_EXT_PAGES * j + i))
 
--- word i of block a asks for this role
+-- word i of block a asks for this role; none asks for the root
 abbrev pub Asks : List ℕ → Walk → Role → ℕ → ℕ → Type 0
-Asks image w Root a i = ⊥
 Asks image w (Page k) a i = (k < pages_needed (blocks image)) × NamesPage image w k a i
 Asks image w (MapExt zero) a i = (ROOT_PAGES < pages_needed (blocks image)) × (a ≡ root_of image) × (i ≡ FIRST_MAP_EXT)
 Asks image w (MapExt (suc j)) a i =
@@ -132,12 +127,11 @@ Asks image w (Head n p s zero) a i =
     (n ≡ suc (heads w)) × (s < SLOTS) × DirAt image w p a × (i ≡ FIRST_SLOT + s) × (word_in image a i ≢ 0)
 Asks image w (Head n p s (suc j)) a i =
     (n ≡ suc (heads w)) × ((m : ℕ) × Has w (Head m p s j) a) × (i ≡ NEXT_IN_CHAIN) × (word_in image a i ≢ 0)
-Asks image w (Ext n zero) a i = ⊥
 Asks image w (Ext n (suc zero)) a i = FileAt image w n a × (i ≡ EXTENSION) × (word_in image a i ≢ 0)
 Asks image w (Ext n (suc (suc k))) a i = Has w (Ext n (suc k)) a × (i ≡ EXTENSION) × (word_in image a i ≢ 0)
-Asks image w (Data n zero) a i = ⊥
 Asks image w (Data n (suc k)) a i =
     ((h : ℕ) × FileAt image w n h × (k < data_count image h)) × MemberAt image w n (k / POINTERS) a × (i ≡ table_word k)
+Asks image w _ a i = ⊥
 
 -- the walk has no role at this place in the order
 abbrev pub Lacks : Walk → Role → Type 0
@@ -260,11 +254,10 @@ bitmap_demands image w b (suc n) =
 -- The first fault of a volume with these letters: in size, boot bytes or root; else in a part due after some walk; else in the bitmap.
 pub data FirstFaultBy (letters : Letters) (image : List ℕ) (b : ℕ) (c : Cause) : Type 0 where
   at_boot : FirstFails (boot_demands_by letters image ++ root_demands image (root_of image)) b c → FirstFaultBy letters image b c
-  at_due : AllHold (boot_demands_by letters image ++ root_demands image (root_of image)) → (w : Walk) (r : Role) (a i : ℕ)
-      → IsWalkBy letters image w → IsDue image w r a i → FirstFails (demands_by letters image w r a (word_in image a i)) b c
-      → FirstFaultBy letters image b c
-  at_bitmap : AllHold (boot_demands_by letters image ++ root_demands image (root_of image)) → (w : Walk) → IsWalkBy letters image w
-      → IsWhole image w → FirstFails (bitmap_demands image w 2 (blocks image - 2)) b c → FirstFaultBy letters image b c
+  at_due : IsBegunBy letters image → (w : Walk) (r : Role) (a i : ℕ) → IsWalkBy letters image w → IsDue image w r a i
+      → FirstFails (demands_by letters image w r a (word_in image a i)) b c → FirstFaultBy letters image b c
+  at_bitmap : IsBegunBy letters image → (w : Walk) → IsWalkBy letters image w → IsWhole image w
+      → FirstFails (bitmap_demands image w 2 (blocks image - 2)) b c → FirstFaultBy letters image b c
 
 -- the first fault of an image as a volume of these types: more blocks than they may have; else the first one by their letters
 abbrev pub FirstFaultOf : Types → List ℕ → ℕ → Cause → Type 0
