@@ -24,12 +24,12 @@ def numbered(name):
 
 
 class Deleted:
-    def __init__(self, image, held=None, is_pruned=True):
+    def __init__(self, image, held=None, is_refused=True):
         self.held = len(image) // 512 if held is None else held  # the blocks that the input holds; what is filled up behind them is no data
-        image, _ = typed(bytes(image))
-        made = len(image) >= 2048 and lacks_root(image)
-        image = pruned(opened(image)) if is_pruned else image
-        self.image, self.sv = image, Survey(image)
+        given, _ = typed(bytes(image))
+        made = len(given) >= 2048 and lacks_root(given)
+        image = pruned(opened(given))
+        self.image, self.sv = image, Survey(image if is_refused else given)
         self.headers, self.named, self.second, self.is_volume = [], {}, None, bool(self.sv.nodes)
         if not self.sv.nodes:
             return
@@ -161,8 +161,8 @@ class Deleted:
         return names[::-1] if at == self.sv.root else [b"?", *names[::-1]]
 
     def keep(self, rescue):
-        """Adds the whole files to a rescue, as `adf-survey rescue --deleted` does, if this is the image that the rescue reads, which is pruned only
-        if it is refused: in a directory of their own, by their names, or by the first of `deleted-BLOCK`, `deleted-BLOCK-1` and so on that
+        """Adds the whole files to a rescue, as `adf-survey rescue --deleted` does, if this is what is surveyed for the rescue, which reads an input that
+        is accepted as it is, but for its deleted headers: in a directory of their own, by their names, or by the first of `deleted-BLOCK`, `deleted-BLOCK-1` and so on that
         is free there. Answers the node of each, by its header; None where there is no room."""
         files = [] if rescue.refused else [h for h in self.headers if self.is_file(h) and self.state(h) == "whole"]
         if not files:

@@ -1,7 +1,7 @@
 -- What is left of deleted files: its blocks stand and no survey has them, and nothing of a whole file is made up.
 -- Letters: k what is known of an image; h the block of a file's header; i the number of a data block, from 0; b, c blocks, bs those of a file; n, j
 -- numbers of data blocks; found the block of each data block, if any; t a test.
-use Rattle.std.proofs.Common.{◌≡◌, ◌<◌, ◌≤◌, ℕ, zero, suc, ◌+◌, ◌*◌, ◌∙◌, Bool, true, false, cond, List, [], ◌∷◌, ◌++◌, length, arith, refl, sym, ap, subst}
+use Rattle.std.proofs.Common.{◌≡◌, ◌<◌, ◌≤◌, ℕ, zero, suc, ◌+◌, ◌*◌, ◌/◌, ◌∙◌, Bool, true, false, cond, List, [], ◌∷◌, ◌++◌, length, arith, refl, sym, ap, subst}
 use Rattle.std.specs.Prelude.{Option, None, Some, nat_le, nat_lt, slice_index}
 use Rattle.std.specs.List.{concat}
 use Rattle.std.proofs.lemmas.{Grind.common_steps, Bool.and_parts, Bool.cond-true, Bool.Decides.nat_tests, List.append_assoc, List.append-nil}
@@ -13,8 +13,9 @@ use Rattle.adf_volume.specs.{Image.content, Image.kind_of, Image.piece, Image.pi
 use Rattle.adf_volume.proofs.{Lists.at_below, Lists.at_index_or, PieceBytes.pieces_joined}
 use Rattle.adf_findings.specs.Members.{has_mark}
 use Rattle.adf_findings.specs.Remains.{blocks_stated, bytes_in, bytes_left, gaps_left, size_stated, with_lost}
-use Rattle.adf_rescue.specs.Rescue.{Basis}
-use Rattle.adf_deleted.specs.{Deletions.state_of, Known.KnownValue, Known.is_reached, Known.known_blocks, Pointers.pointers}
+use Rattle.adf_rescue.specs.{Pruned.image_read, Rescue.Basis, declared.standing.Input.Input}
+use Rattle.adf_rescue.proofs.PrunedKeeps.{length_read}
+use Rattle.adf_deleted.specs.{Deletions.state_of, Known.KnownValue, Known.is_reached, Known.known_blocks, Known.known_asked, Pointers.pointers}
 use Rattle.adf_deleted.specs.{Left.data_standing, Left.deleted_bytes, Left.deleted_gaps, Left.has_file_type, Standing.stands}
 use Rattle.adf_deleted.specs.declared.deletions.State.TheVariants.{Whole}
 use Rattle.adf_deleted.proofs.{Marks.mark_of, WholeFiles.whole_named, WholeFiles.whole_stands}
@@ -41,6 +42,18 @@ pub given_unowned : (image : List ℕ) (w : Walk) (l : Option Basis) (held h i b
 given_unowned image w l held h i b is =
     let k = known_blocks image w l held in
     sym (mark_of image (is_reached w l) b (given_inside k h i b is)) ∙ given_unreached k h i b is
+
+length_asked : (image : List ℕ) (refused : Bool) → length (cond refused image (image_read true image)) ≡ length image
+length_asked image true = refl
+length_asked image false = length_read true image
+
+-- nor does a survey have the blocks of those that a rescue is asked for
+pub asked_unowned : (image : List ℕ) (w : Walk) (l : Option Basis) (known : Input) (h i b : ℕ) → data_standing (known_asked image w l known) h i ≡ Some b
+    → is_reached w l b ≡ false
+asked_unowned image w l known h i b is =
+    let k = known_asked image w l known in
+    let inside : b < blocks image = subst (λ n. b < n) (ap (λ n. n / 512) (length_asked image known.is_refused)) (given_inside k h i b is) in
+    sym (mark_of image (is_reached w l) b inside) ∙ given_unreached k h i b is
 
 -- where a block is found for each data block, there are no gaps
 no_gaps : (image : List ℕ) (size : ℕ) (found : ℕ → Option ℕ) (n : ℕ) → ((i : ℕ) → i < n → (b : ℕ) × (found i ≡ Some b))

@@ -150,6 +150,20 @@ pub fn know<'i>(
 }
 
 impl Known<'_> {
+    /// The same, but the headers are those of another image.
+    pub fn of_image<'i>(self, image: &'i [u8]) -> Known<'i>
+        requires { is_image_len (length image.now) ≡ true }
+        ensures { result ≡ record self.entry { image = image.entry.now } }
+    {
+        Known {
+            image,
+            found: self.found,
+            reached: self.reached,
+            used: self.used,
+            held: self.held,
+        }
+    }
+
     /// Whether block `b` is a deleted header: it says of itself that it is one, and is not found.
     pub fn is_deleted(&self, b: u32) -> bool
         ensures { result ≡ is_deleted self.now b }

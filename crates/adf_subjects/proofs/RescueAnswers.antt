@@ -1,9 +1,9 @@
 -- What a rescue is prepared to give, and which images are no volumes.
 -- Letters: w the walk of a survey, fs its findings; a a survey, b the second one, if there is one; r what a rescue gives; p a prepared rescue; u why
 -- there is none; lost, front losses of blocks.
-use Rattle.std.proofs.Common.{◌≡◌, ◌≢◌, ◌∙◌, ◌/◌, ◌%◌, ◌==◌, ◌++◌, ℕ, Bool, true, List, []}
+use Rattle.std.proofs.Common.{◌≡◌, ◌≢◌, ◌∙◌, ◌/◌, ◌%◌, ◌==◌, ◌++◌, ℕ, Bool, true, false, List, []}
 use Rattle.std.proofs.Common.{ap, arith, refl, sym, Option, None, Some, IfSome, inl, inr, is_some, option_map, length, subst}
-use Rattle.std.specs.{Prelude.Result, Prelude.Ok, Prelude.Err, Result.IsErrAnd}
+use Rattle.std.specs.{Prelude.Result, Prelude.Ok, Prelude.Err, Prelude.not, Result.IsErrAnd}
 use Rattle.adf_base.specs.declared.hash.Letters.{Letters}
 use Rattle.adf_tree.specs.Tree.{Tree}
 use Rattle.adf_blocks.specs.Sizes.{blocks, is_allowed}
@@ -28,7 +28,7 @@ use Rattle.adf_subjects.specs.Prepared.{IsBegunInput, IsFault, IsPrepared, IsSta
 use Rattle.adf_subjects.specs.Prepared.{LaysFor, Prepares, RefusesFor, WritesPrepared, known_of}
 use Rattle.adf_subjects.specs.Rescues.{HoldsNothing, IsRefusal, IsNoVolume, Replies, RescueValue, RescueValue.written, RescuesBothOf, RescuesByOf}
 use Rattle.adf_subjects.specs.Rescues.{RescuesInOf, RescuesOf}
-use Rattle.adf_deleted.specs.{Kept.IsKeptBeside, Known.KnownValue, Known.known_blocks, declared.kept.Kept.Kept}
+use Rattle.adf_deleted.specs.{Kept.IsKeptBeside, Known.KnownValue, Known.known_asked, Known.known_blocks, declared.kept.Kept.Kept}
 use Rattle.adf_subjects.specs.KeptDeleted.{kept_losses, losses_asked, tree_asked}
 use Rattle.adf_subjects.specs.declared.preparing.Standing.{Standing}
 use Rattle.adf_subjects.specs.declared.preparing.Unrescued.{Unrescued, TheVariants.NoMemory, TheVariants.Refused}
@@ -133,6 +133,31 @@ kept_prepared k d plus x r p asked same kept tree blocks told fits =
       fits = fits;
     })
 
+-- what is known of an input that is refused, or that is accepted, is what is known where a rescue is asked
+
+pub refused_asked : (image : List ℕ) (w : Walk) (b : Option Basis) (held : ℕ) (refused : Bool) (k : KnownValue) → refused ≡ true
+    → k ≡ known_blocks image w b held → k ≡ known_asked image w b (record { held = held; is_refused = refused })
+refused_asked image w b held true k is e = e
+refused_asked image w b held false k is e = absurd cc
+
+pub accepted_asked : (image : List ℕ) (w : Walk) (b : Option Basis) (held : ℕ) (refused : Bool) (k : KnownValue) → refused ≡ false
+    → k ≡ known_asked image w b (record { held = held; is_refused = false })
+    → k ≡ known_asked image w b (record { held = held; is_refused = refused })
+accepted_asked image w b held false k is e = e
+accepted_asked image w b held true k is e = absurd cc
+
+-- so what stands is prepared by it, with deleted files or without them
+
+pub asked_prepared : (plus : Bool) (k d : KnownValue) (x : Standing) (r : Result Prepared Unrescued) → not plus ≡ false → d ≡ k → IsPrepared true d x r
+    → IsPrepared plus k x r
+asked_prepared true k d x r is same h = subst (λ k. IsPrepared true k x r) same h
+asked_prepared false k d x r is same h = absurd cc
+
+pub alone_prepared : (plus : Bool) (k : KnownValue) (x : Standing) (p : Prepared) → not plus ≡ true → IsStandingPrepared false k x p
+    → IsStandingPrepared plus k x p
+alone_prepared false k x p is h = h
+alone_prepared true k x p is h = absurd cc
+
 -- what is prepared with what stands is a volume that the rescue gives
 module _ (plus : Bool) (types : Types) (known : Input) (lost : List LossValue) (input : List ℕ) (a : Basis) (b : Option Basis)
     (fs : List FindingValue) (x : Standing) (tree : x.volume.draft.tree ≡ rescued_tree_by (letters_for types a.image) known a b)
@@ -140,7 +165,7 @@ module _ (plus : Bool) (types : Types) (known : Input) (lost : List LossValue) (
     (told : loss_values x.losses.items ≡ rescue_losses (letters_for types a.image) known lost input a b fs) (read : a.walk ≢ [])
     (some : ¬ HoldsNothing types known input a b fs) where
   abbrev known_here : KnownValue
-  known_here = known_blocks a.image a.walk b known.held
+  known_here = known_asked a.image a.walk b known
 
   pub standing_prepared : (r : Result Prepared Unrescued) → IsPrepared plus known_here x r
       → Prepares (RescuesByOf plus types known lost input a b fs) r
@@ -162,6 +187,11 @@ pub prepares_weaker : (few more : List ℕ → RescueValue → Type 0) (x : Resu
 prepares_weaker few more (Ok p) f h = λ boot. let (room, gives) = h boot in (room, λ volume laid long. f boot _ (gives volume laid long))
 prepares_weaker few more (Err (Refused fault ls)) f h = λ boot. f boot _ (h boot)
 prepares_weaker few more (Err NoMemory) f h = λ boot. tt
+
+-- where memory is refused, what stands is not prepared
+pub not_prepared : (plus : Bool) (k : KnownValue) (x : Standing) (r : Result Prepared Unrescued) → IsErrAnd r (λ u. u ≡ NoMemory) → IsPrepared plus k x r
+not_prepared plus k x (Ok p) is = absurd is
+not_prepared plus k x (Err u) is = is
 
 -- where memory is refused, there is none
 pub none_prepared : (gives : List ℕ → RescueValue → Type 0) (x : Result Prepared Unrescued) → IsErrAnd x (λ u. u ≡ NoMemory) → Prepares gives x

@@ -2,7 +2,7 @@
 -- Letters: w the walk of a survey, fs its findings; a the survey of an image, second the second one, if there is one; held the number of blocks
 -- that the input holds whole, known what is known of it; ls, lost losses; r what a rescue gives.
 use Rattle.std.proofs.Common.{◌≡◌, ◌≢◌, ◌≤◌, ◌⊎◌, ◌^◌, ℕ, Bool, true, false, List, [], ◌∷◌, Option, None, Some, inl, inr, length, refl, subst, arith}
-use Rattle.std.specs.Prelude.{◌||◌, IfSome, not}
+use Rattle.std.specs.Prelude.{◌||◌, IfSome, cond, not}
 use Rattle.std.proofs.lemmas.Bool.{and_parts, cond_both}
 use mathlib.Core.Logic.Dec.{and as dec_and}
 use Rattle.adf_base.proofs.ByteLists.{AreBytes}
@@ -17,7 +17,7 @@ use Rattle.adf_rescue.proofs.{RescuedTrees.tree_of_rescue, RescuedVolumes.AreSec
 use Rattle.adf_tree.specs.{Additions.Addition, Additions.IsTreeOfBy, Tree.Tree}
 use Rattle.adf_build.specs.Laid.{IsLaid, volume}
 use Rattle.adf_build.proofs.{LaidWrites.CanHold, LaidWrites.can_hold, LaidWrites.volume_blocks, WholeVolume.volume_laid}
-use Rattle.adf_deleted.specs.{Kept.deleted_kept, Known.KnownValue, Known.known_blocks}
+use Rattle.adf_deleted.specs.{Kept.deleted_kept, Known.KnownValue, Known.known_asked}
 use Rattle.adf_deleted.proofs.KeptBounds.{kept_can}
 use Rattle.adf_subjects.specs.KeptDeleted.{tree_asked}
 use Rattle.adf_rescue.specs.{Directories.directory_of, Hung.hung, Hung.second_image, Lost.has_lost, Lost.is_open, Opened.lacks_root, Pruned.image_read, declared.standing.Input.Input}
@@ -83,6 +83,11 @@ fault_refused ls types false input w fs refusal survey (inl is) = absurd cc
 fault_refused ls types false input w fs (t, l, fits) survey (inr none) =
     absurd (none_fits_it types input w fs survey (unread_fault types input w fs survey none) t l fits)
 
+-- the image whose deleted headers are read is bytes
+asked_bytes : (image : List ℕ) (refused : Bool) → AreBytes image → AreBytes (cond refused image (image_read true image))
+asked_bytes image true are = are
+asked_bytes image false are = read_bytes true image are
+
 -- the volume of what stands is laid, so that with deleted files is
 asked_laid : (plus : Bool) (k : KnownValue) (n : ℕ) (t : Tree) (xs : List Addition) (image : List ℕ) → AreBytes k.image
     → IsTreeOfBy t.letters t.entries xs → IsLaid image t → blocks image ≡ n
@@ -111,8 +116,8 @@ module _ (plus : Bool) (types : Types) (known : Input) (lost : List LossValue) (
             (inl nothing.0.0) in (r, inl (nothing, refuses))
         | no stands ↦
             let (standing, laid, size) = rescue_laid letters known first second (allowed_size image w fs survey some) are more in
-            let (volume, put, long) = asked_laid plus (known_blocks image w second known.held) (blocks image)
-            (rescued_tree_by letters known first second) (rescued_additions_by letters known first second) standing are
+            let (volume, put, long) = asked_laid plus (known_asked image w second known) (blocks image)
+            (rescued_tree_by letters known first second) (rescued_additions_by letters known first second) standing (asked_bytes image known.is_refused are)
             (tree_of_rescue letters known first second) laid size in
             (_, inr (stands, (volume, put, long, refl)))
       ]

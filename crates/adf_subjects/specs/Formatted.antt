@@ -1,6 +1,6 @@
 -- What an image held before it was formatted: all but what its survey has.
 -- Letters: w the walk of a survey, fs its findings; b, k blocks; s, t, u what is surveyed.
-use Rattle.std.specs.Prelude.{◌≡◌, ℕ, ◌+◌, List, cond, length, replicate}
+use Rattle.std.specs.Prelude.{◌≡◌, ℕ, List, cond, length, replicate}
 use Rattle.std.proofs.Common.{zero, suc}
 use Rattle.adf_base.specs.Words.{with_block, with_word}
 use Rattle.adf_blocks.specs.declared.layout.TheConstants.{OWN_KEY, TYPE, T_DIR_CACHE}

@@ -1,12 +1,12 @@
 -- What the right links that findings concern lead to.
 -- Letters: w the walk of an image's survey, fs its findings; n an entry; o one, or none.
-use Rattle.std.specs.Prelude.{ℕ, Bool, List, [], ◌++◌, Option, Some, None, cond, codes}
+use Rattle.std.specs.Prelude.{ℕ, List, [], ◌++◌, Option, Some, None, cond, codes}
 use Rattle.std.specs.Option.{option_and_then}
 use Rattle.adf_volume.specs.Walk.{Walk}
 use Rattle.adf_names.specs.Escapes.{escaped}
 use Rattle.adf_findings.specs.declared.concern.Concern.{Concern, TheVariants.Entry, TheVariants.Within}
 use Rattle.adf_findings.specs.{Lookup.path_to, Survey.FindingValue}
-use Rattle.adf_links.specs.declared.kinds.LinkKind.{LinkKind, TheVariants.File, TheVariants.Directory, TheVariants.Soft}
+use Rattle.adf_links.specs.declared.kinds.LinkKind.{LinkKind, TheVariants.Soft}
 use Rattle.adf_links.specs.Links.{is_right_link, link_in, link_path, original}
 use Rattle.adf_texts.specs.Names.{names_text}
 

@@ -15,7 +15,7 @@ use Rattle.adf_rescue.specs.{Hung.second_image, Opened.lacks_root, Pruned.image_
 use Rattle.adf_rescue.specs.Rescue.{IsSecond, Basis, StandsNothingBy, rescued_tree_by}
 use Rattle.adf_texts.specs.Lines.{fault_line}
 use Rattle.adf_runs.specs.Commands.{Reply, on_errors}
-use Rattle.adf_deleted.specs.Known.{known_blocks}
+use Rattle.adf_deleted.specs.Known.{known_asked}
 use Rattle.adf_subjects.specs.{Formatted.IsBeforeFormat, KeptDeleted.losses_asked, KeptDeleted.tree_asked}
 use Rattle.adf_subjects.specs.{Losses.LossValue, Losses.losses_text, Losses.rescue_losses, Subject.IsTyped, Subject.SubjectValue, Subject.sized}
 
@@ -52,7 +52,7 @@ GivesVolume ls types known a b boot r =
 -- that stands, and those that there is no room for are told
 abbrev pub GivesAsked : (plus : Bool) → List LossValue → Types → Input → Basis → Option Basis → (boot : List ℕ) → RescueValue → Type 0
 GivesAsked plus ls types known a b boot r =
-    let k = known_blocks a.image a.walk b known.held in
+    let k = known_asked a.image a.walk b known in
     let t = rescued_tree_by (letters_for types a.image) known a b in
     (volume : List ℕ) × IsLaid volume (tree_asked plus k (blocks a.image) t) × (blocks volume ≡ blocks a.image)
     × (r ≡ written (restored volume boot) (losses_asked plus k (blocks a.image) t ls))

@@ -63,8 +63,8 @@ fn copied(alloc: Global, subject: &Subject) -> Result<Subject, AllocError>
     })
 }
 
-// What stands, begun and with the type that its files say.
-fn standing(alloc: Global, subject: &Subject) -> Result<Subject, NoMemory>
+/// What stands, begun and with the type that its files say. `NoMemory` if an allocation fails.
+pub fn standing(alloc: Global, subject: &Subject) -> Result<Subject, NoMemory>
     ensures { IfOk result (λ s. IsTyped (begun_subject (subject_value subject.now)) (subject_value s)) }
 {
     let mut copy = copied(alloc, subject)?;

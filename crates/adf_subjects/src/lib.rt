@@ -11,7 +11,7 @@ mod remarks;
 mod runs;
 mod subject;
 
-pub use crate::formatted::{before_format, masked_keeps};
+pub use crate::formatted::{before_format, masked_keeps, standing};
 pub use crate::lengths::{blocks_read, stated_length};
 pub use crate::losses::{BlockRun, Loss, Reason};
 pub use crate::preparing::{Prepared, Unrescued, prepare, prepare_asked};

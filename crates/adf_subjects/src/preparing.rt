@@ -2,11 +2,11 @@
 
 ghost use Rattle.std.specs.Prelude.{◌≡◌, ◌&&◌, ◌||◌, ℕ, List, Option, Some, IfOk, false, is_some, length, not, option_map, true};
 ghost use Rattle.adf_build.specs.Building.{IsBuildable};
-ghost use Rattle.adf_deleted.specs.{Kept.IsCounted, Known.known_blocks};
+ghost use Rattle.adf_deleted.specs.{Kept.IsCounted, Known.KnownValue, Known.known_asked};
 ghost use Rattle.adf_findings.specs.Survey.{OnSurvey};
 ghost use Rattle.adf_rescue.specs.{Pruned.image_read, Rescue.IsSecond, Rescue.Basis, Rescue.OnBasis, Rescue.OnSecond};
 ghost use Rattle.adf_subjects.specs.Losses.{LossValue, front_losses, runs_lost};
-ghost use Rattle.adf_subjects.specs.Prepared.{IsBegunInput, IsFault, IsFirstFault, IsPrepared, Prepares, known_of};
+ghost use Rattle.adf_subjects.specs.Prepared.{IsBegunInput, IsFault, IsFirstFault, IsPrepared, IsStandingPrepared, Prepares, known_of};
 ghost use Rattle.adf_subjects.specs.Rescues.{IsNoVolume, Rescues, RescuesBothOf, RescuesByOf, RescuesOf, is_type_alone};
 ghost use Rattle.adf_volume.specs.Start.{is_image_len};
 
@@ -16,7 +16,7 @@ use crate::subject::Subject;
 use adf_base::NoMemory;
 use adf_blocks::Cause;
 use adf_check::check_by;
-use adf_deleted::{Deletions, NewVolume, know};
+use adf_deleted::{Deletions, Known, NewVolume, know};
 use adf_drafts::Draft;
 use adf_findings::{Survey, some_survey, survey};
 use adf_rescue::{
@@ -72,11 +72,12 @@ struct Scope {
     with_deleted: bool,
 }
 
-// What stands: the new volume with it, and all that is not in it.
+// What stands on an input that is refused or not: the new volume with it, and all that is not in it.
 #[derive(Drop)]
 struct Standing {
     volume: NewVolume,
     losses: Vec<Loss>,
+    is_refused: bool,
 }
 
 // What is told of an input before an image is read of it: its first fault, if it is refused; whether it states a type; whether a
@@ -183,6 +184,64 @@ fn holds_nothing(found: &Survey<'_>, stands_nothing: bool, made_root: bool) -> b
     stands_nothing && (made_root || !is_type_alone(found))
 }
 
+// The image that a rescue reads of one, as if it were refused.
+fn read_refused(alloc: Global, image: &[u8]) -> Result<Vec<u8>, NoMemory>
+    ensures read { IfOk result (λ copy. copy.items ≡ image_read true image.now) }
+    ensures length { IfOk result (λ copy. length copy.items ≡ length image.now) }
+{
+    let mut copy = image.to_vec(alloc)?;
+    read_input(&mut copy, true);
+    Ok(copy)
+}
+
+// What is known of an image, whose deleted headers are read in this one.
+fn know_read<'i>(
+    alloc: Global,
+    found: &Survey<'_>,
+    second: Option<&Survey<'_>>,
+    held: u32,
+    image: &'i [u8],
+) -> Result<Known<'i>, NoMemory>
+    requires size { is_image_len (length found.now.image) ≡ true }
+    requires long { length image.now ≡ length found.now.image }
+    requires read { image.now ≡ image_read true found.now.image }
+    ensures { OnSurvey found.now.image (λ w _. OnSecond (option_map (λ s. s.now.image) second.entry) (λ l.
+        IfOk result (λ k. k ≡ known_asked found.now.image w l (record { held = held; is_refused = false })))) }
+{
+    Ok(know(alloc, found, second, held)?.of_image(image))
+}
+
+// What stands is prepared as a volume.
+fn prepare_alone(standing: Standing) -> Prepared
+    requires { IsBuildable standing.volume.draft.tree standing.volume.blocks }
+    ensures { (k : KnownValue) → IsStandingPrepared false k standing result }
+{
+    let Standing { volume, losses, .. } = standing;
+    Prepared {
+        draft: volume.draft,
+        blocks: volume.blocks,
+        losses,
+    }
+}
+
+// What stands is prepared as a volume, and beside it the deleted files that are whole.
+fn prepare_kept(alloc: Global, known: Known<'_>, standing: Standing) -> Result<Prepared, Unrescued>
+    requires counted { IsCounted standing.volume }
+    requires fits { IsBuildable standing.volume.draft.tree standing.volume.blocks }
+    ensures { IsPrepared true known.entry standing result }
+{
+    let Standing { volume, losses, .. } = standing;
+    let deletions = Deletions::of(alloc, known)?;
+    let kept = deletions.keep(alloc, volume)?;
+    let mut losses = losses;
+    push_kept_losses(alloc, &deletions, &kept, &mut losses)?;
+    Ok(Prepared {
+        draft: kept.volume.draft,
+        blocks: kept.volume.blocks,
+        losses,
+    })
+}
+
 // What stands is prepared as a volume, and beside it the deleted files that are whole, if they are asked for.
 fn prepare_standing(
     alloc: Global,
@@ -195,26 +254,19 @@ fn prepare_standing(
     requires counted { IsCounted standing.volume }
     requires fits { IsBuildable standing.volume.draft.tree standing.volume.blocks }
     ensures { OnSurvey found.now.image (λ w _. OnSecond (option_map (λ s. s.now.image) second.entry) (λ l.
-        IsPrepared scope.with_deleted (known_blocks found.now.image w l scope.held) standing result)) }
+        IsPrepared scope.with_deleted
+        (known_asked found.now.image w l (record { held = scope.held; is_refused = standing.is_refused })) standing result)) }
 {
-    let Standing { volume, losses } = standing;
     if !scope.with_deleted {
-        return Ok(Prepared {
-            draft: volume.draft,
-            blocks: volume.blocks,
-            losses,
-        });
+        return Ok(prepare_alone(standing));
     }
-    let known = know(alloc, found, second, scope.held)?;
-    let deletions = Deletions::of(alloc, known)?;
-    let kept = deletions.keep(alloc, volume)?;
-    let mut losses = losses;
-    push_kept_losses(alloc, &deletions, &kept, &mut losses)?;
-    Ok(Prepared {
-        draft: kept.volume.draft,
-        blocks: kept.volume.blocks,
-        losses,
-    })
+    if standing.is_refused {
+        let known = know(alloc, found, second, scope.held)?;
+        return prepare_kept(alloc, known, standing);
+    }
+    let image = read_refused(alloc, found.image())?;
+    let known = know_read(alloc, found, second, scope.held, &image)?;
+    prepare_kept(alloc, known, standing)
 }
 
 // Prepares a rescue by what is found in the image that is read of an input, and in a second one, if there is one.
@@ -256,7 +308,12 @@ fn prepare_found(
         blocks: rescued.blocks,
         left: rescued.left,
     };
-    prepare_standing(alloc, found, second, scope, Standing { volume, losses })
+    let standing = Standing {
+        volume,
+        losses,
+        is_refused: begun.fault.is_some(),
+    };
+    prepare_standing(alloc, found, second, scope, standing)
 }
 
 // Prepares a rescue by what is found in the image that is read of an input, and in the hung one.

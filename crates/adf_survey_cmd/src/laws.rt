@@ -7,7 +7,7 @@ ghost use Rattle.adf_boot_blocks.specs.{BootBlocks.begins_with_dos, Writing.HasB
 ghost use Rattle.adf_rescue.specs.{Rescue.Basis, Rescue.rescued_additions_by, Rescue.rescued_tree_by};
 ghost use Rattle.adf_rescue.specs.declared.standing.Input.{Input};
 ghost use Rattle.adf_deleted.specs.{Deletions.state_of, Kept.AreDeletedIn, Kept.IsWholeIn, Known.KnownValue, Known.is_reached};
-ghost use Rattle.adf_deleted.specs.{Known.known_blocks, Left.data_standing, Left.is_deleted_file};
+ghost use Rattle.adf_deleted.specs.{Known.known_asked, Left.data_standing, Left.is_deleted_file};
 ghost use Rattle.adf_tree.specs.Additions.{Addition, IsTreeOfBy};
 ghost use Rattle.adf_deleted.specs.declared.deletions.State.TheVariants.{Whole};
 ghost use Rattle.adf_runs.specs.Commands.{Reply};
@@ -41,10 +41,10 @@ pub fn rescued_with_deleted()
         → IsTreeOfBy (letters_for types a.image) (kept_beside types known a b).tree.entries
         (rescued_additions_by (letters_for types a.image) known a b ++ (kept_beside types known a b).added) }
     ensures files { (types : Types) (known : Input) (a : Basis) (b : Option Basis)
-        → AreDeletedIn (known_blocks a.image a.walk b known.held) (kept_beside types known a b).added }
+        → AreDeletedIn (known_asked a.image a.walk b known) (kept_beside types known a b).added }
     ensures apart { (known : Input) (a : Basis) (b : Option Basis) (dir : List (List ℕ)) (x : Addition) (h i c : ℕ)
-        → IsWholeIn (known_blocks a.image a.walk b known.held) dir x h
-        → data_standing (known_blocks a.image a.walk b known.held) h i ≡ Some c → is_reached a.walk b c ≡ false }
+        → IsWholeIn (known_asked a.image a.walk b known) dir x h
+        → data_standing (known_asked a.image a.walk b known) h i ≡ Some c → is_reached a.walk b c ≡ false }
 {}
 
 /// What is left of a deleted file is written with status 0 if and only if the file is whole: then there is no line.

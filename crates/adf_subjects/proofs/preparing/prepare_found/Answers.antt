@@ -6,7 +6,8 @@ use Rattle.adf_findings.specs.SoundMarks.{whole_in}
 use Rattle.adf_rescue.specs.{Opened.lacks_root, Rescue.Basis, Rescue.StandsNothingBy, declared.standing.Input.Input}
 use Rattle.adf_rescue.proofs.PassedFindings.{unread_fault}
 use Rattle.adf_subjects.specs.Losses.{loss_value, runs_lost, told_value}
-use Rattle.adf_subjects.specs.{Prepared.known_of, declared.losses.Loss.Loss}
+use Rattle.adf_deleted.specs.Known.{KnownValue, known_asked}
+use Rattle.adf_subjects.specs.{Prepared.IsPrepared, Prepared.known_of, declared.losses.Loss.Loss, declared.preparing.Standing.Standing}
 use Rattle.adf_subjects.specs.Rescues.{HoldsNothing, IsNoVolume, RescueValue.refused, RescuesByOf, is_type_alone}
 use Rattle.adf_subjects.proofs.RescueAnswers.{if_some, none_fits_it, none_prepared, on_terms, same_front, same_losses, same_told, surveyed_size, terms_of}
 use Rattle.adf_subjects.proofs.RescueAnswers.{standing_prepared}
@@ -112,8 +113,17 @@ returns c = λ lost input begun w fs sound here marks b second.
     ap (λ (made : Bool). made || not (is_type_alone fs)) begun.made ∙ more in
     let is : c.holds_nothing.result ≡ true = c.holds_nothing.ensures w fs here ∙ (λ i. nothing i && made i) in
     let isnt = c.if-holds_nothing.false in absurd cc in
-    standing_prepared c.args.scope.with_deleted types known lost input a b fs _ gives.tree size losses read some _
-    (c.prepare_standing.ensures w fs here b second)
+    let of_refused : Bool → KnownValue = λ refused.
+    known_asked c.args.found.now.image w b (record { held = c.args.scope.held; is_refused = refused }) in
+    let rescued = c.in-Some.rescued in
+    let x : Standing = record {
+      volume = record { draft = rescued.draft; kind = rescued.kind; blocks = rescued.blocks; left = rescued.left };
+      losses = c.in_ok-losses.losses;
+      is_refused = c.is_some-2.result;
+    } in
+    let prepared = subst (λ refused. IsPrepared c.args.scope.with_deleted (of_refused refused) x c.prepare_standing.result) c.is_some-2.ensures
+    (c.prepare_standing.ensures w fs here b second) in
+    standing_prepared c.args.scope.with_deleted types known lost input a b fs x gives.tree size losses read some _ prepared
 
 pub returns-in_err-front : goal.returns-in_err-front
 returns-in_err-front c = λ lost input begun w fs sound here marks b second.

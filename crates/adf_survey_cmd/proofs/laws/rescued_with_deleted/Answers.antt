@@ -7,15 +7,15 @@ use Rattle.adf_build.specs.Plan.{planned}
 use Rattle.adf_build.proofs.LaidFits.{laid_fits}
 use Rattle.adf_rescue.specs.Rescue.{rescued_additions_by, rescued_tree_by}
 use Rattle.adf_rescue.proofs.RescuedTrees.{tree_of_rescue}
-use Rattle.adf_deleted.specs.Known.{known_blocks}
-use Rattle.adf_deleted.proofs.{KeptTrees.kept_deleted, KeptTrees.kept_rest, KeptTrees.kept_tree, LeftBytes.given_unowned}
+use Rattle.adf_deleted.specs.Known.{known_asked}
+use Rattle.adf_deleted.proofs.{KeptTrees.kept_deleted, KeptTrees.kept_rest, KeptTrees.kept_tree, LeftBytes.asked_unowned}
 use Rattle.adf_subjects.specs.Rescues.{RescueValue, rescue_reply}
 use Rattle.adf_survey_cmd.specs.Laws.{kept_beside}
 use Rattle.adf_survey_cmd.proofs.laws.rescued_with_deleted.Goals as goal
 
 pub returns-clause-fits : goal.returns-clause-fits
 returns-clause-fits c ls types known a b boot r whole (volume, laid, size, e) =
-    let k = known_blocks a.image a.walk b known.held in
+    let k = known_asked a.image a.walk b known in
     let standing : Tree = rescued_tree_by (letters_for types a.image) known a b in
     let t : Tree = (kept_beside types known a b).tree in
     let l : Layout = planned t (blocks volume) in
@@ -27,12 +27,12 @@ returns-clause-fits c ls types known a b boot r whole (volume, laid, size, e) =
 
 pub returns-clause-behind : goal.returns-clause-behind
 returns-clause-behind c = λ types known a b.
-    kept_tree (known_blocks a.image a.walk b known.held) (blocks a.image) (rescued_tree_by (letters_for types a.image) known a b)
+    kept_tree (known_asked a.image a.walk b known) (blocks a.image) (rescued_tree_by (letters_for types a.image) known a b)
     (rescued_additions_by (letters_for types a.image) known a b) (tree_of_rescue (letters_for types a.image) known a b)
 
 pub returns-clause-files : goal.returns-clause-files
 returns-clause-files c = λ types known a b.
-    kept_deleted (known_blocks a.image a.walk b known.held) (blocks a.image) (rescued_tree_by (letters_for types a.image) known a b)
+    kept_deleted (known_asked a.image a.walk b known) (blocks a.image) (rescued_tree_by (letters_for types a.image) known a b)
 
 pub returns-clause-apart : goal.returns-clause-apart
-returns-clause-apart c = λ known a b dir x h i block whole given. given_unowned a.image a.walk b known.held h i block given
+returns-clause-apart c = λ known a b dir x h i block whole given. asked_unowned a.image a.walk b known h i block given
