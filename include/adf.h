@@ -747,7 +747,8 @@ uint8_t adf_run(const uint8_t *words, size_t words_length, const uint8_t *input,
  *
  * 0: there is no finding, and output is empty; for `cat`, output has the bytes of the file, which is sound, or with `--damaged`
  *    has lost none, or with `--deleted` is whole; for `rescue`, it has the new volume, and nothing is left out or in doubt; for
- *    `deleted`, it has a line for each deleted header. Errors are empty.
+ *    `deleted`, it has a line for each deleted header, for `blank` one for the bytes of files in blank blocks. Errors are empty.
+ *    With `--map` the word behind that is not the name of a map, but its text.
  * 1: output has the lines of the findings; for `cat`, it is empty, and errors say `no such path: PATH`, `not a file` or
  *    `damaged`.
  *    For `cat --damaged`, output has what is left of the file, and errors a line for each range of bytes that are lost, and zeros.

@@ -9,6 +9,7 @@ from adf import _arguments, _sizes
 from adf._arguments import Image, Mapped, Path
 from adf._rescues import LeftOut, counts, rescue
 from adf.checks import check
+from adf.deleted import Deleted
 from adf.entries import Entry
 from adf.errors import Closed, Refused
 from adf.findings import Findings, Found
@@ -86,6 +87,11 @@ class Rescued(Volume):
     @property
     def findings(self) -> Findings:
         return self.survey.findings
+
+    @property
+    def deleted(self) -> list[Deleted]:
+        """What was deleted from the image, by its `survey`."""
+        return self.survey.deleted
 
     @functools.cached_property
     def refused(self) -> Refused | None:

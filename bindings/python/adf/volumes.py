@@ -17,9 +17,11 @@ from adf._rescues import LeftOut
 from adf._texts import escape
 from adf.boots import Boot
 from adf.dates import Date, date_of
+from adf.deleted import Deleted
 from adf.entries import Entries, Entry
 from adf.errors import Closed, NoMemory, NoSuchPath
 from adf.findings import Finding
+from adf.surveys import Survey
 
 
 class Volume(ReadOnly):
@@ -98,6 +100,11 @@ class Volume(ReadOnly):
     @property
     def entries(self) -> Entries:
         return Entries(self)
+
+    @property
+    def deleted(self) -> list[Deleted]:
+        """What was deleted from its image, and whose header still stands; for it the image is surveyed."""
+        return Survey(self._tables[0][0]).deleted
 
     @property
     def boot(self) -> Boot:

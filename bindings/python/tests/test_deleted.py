@@ -1,4 +1,4 @@
-"""What was deleted: adf.Survey.deleted. A file is deleted as AmigaDOS does it: its slot in the root is 0, and its blocks are free."""
+"""What was deleted: adf.Survey.deleted, adf.Volume.deleted. A file is deleted as AmigaDOS does it: its slot in the root is 0, and its blocks are free."""
 
 from __future__ import annotations
 
@@ -34,6 +34,14 @@ class TestDeleted(unittest.TestCase):
         self.assertEqual((each.is_file, each.comment, str(each.date)), (True, "mine: all", "1978-01-01 00:00:00.00"))
         self.assertEqual(each.read(), b"A" * 489)
         self.assertEqual(each.remains(), (b"A" * 489, []))
+
+    def test_tells_that_of_a_volume(self):
+        (each,) = adf.Volume(without_a(WITH_A)).deleted
+        self.assertEqual((each.block, each.path, each.read()), (2, "a", b"A" * 489))
+        self.assertEqual(adf.Volume(WITH_A).deleted, [])
+        closed = adf.Volume(WITH_A)
+        closed.close()
+        self.assertRaises(adf.Closed, lambda: closed.deleted)
 
     def test_tells_what_is_lost(self):
         (each,) = adf.survey(with_word(without_a(WITH_A), 4, 1, 5)).deleted

@@ -1,6 +1,6 @@
 -- What is asked of an image has an answer of `adf-survey`.
 -- Letters: s, t what is surveyed; w the walk of its survey, fs the findings; n an entry's node.
-use Rattle.std.proofs.Common.{◌≡◌, ℕ, Bool, true, false, List, Option, Some, None, codes, inl, inr, refl}
+use Rattle.std.proofs.Common.{◌≡◌, ◌++◌, ℕ, Bool, true, false, List, [], Option, Some, None, codes, inl, inr, refl}
 use mathlib.Core.Logic.Dec.{and as dec_and}
 use native.Mathlib.Decide.{ℕ_discrete}
 use Rattle.adf_base.proofs.ByteLists.{AreBytes}
@@ -16,9 +16,12 @@ use Rattle.adf_findings.specs.{Files.file_content, Files.file_in, Files.grave, R
 use Rattle.adf_findings.proofs.{Decidability.dec_true, SomeMarks.dec_sound, SomeMarks.some_marks, SomeSurvey.some_survey}
 use Rattle.adf_findings.proofs.SomeLookups.{dec_is_file, leads_or_not}
 use Rattle.adf_runs.specs.Commands.{Reply, bad_path, on_errors, on_output}
-use Rattle.adf_survey_cmd.specs.CommandLine.{InquiryValue, QuestionValue, cat, deleted, list, report, rescue, rescue_before, rescue_deleted}
+use Rattle.adf_survey_cmd.specs.CommandLine.{InquiryValue, QuestionValue, blanks, cat, deleted, list, report, rescue, rescue_before, rescue_deleted}
 use Rattle.adf_subjects.proofs.SomeRescues.{some_rescue as rescue_given}
 use Rattle.adf_subjects.proofs.{Formats.before_bytes, Formats.some_before, SubjectBytes.subject_bytes, SubjectBytes.typed_bytes, Subjects.some_typed}
+use Rattle.adf_passages.specs.PassageLines.{passages_text}
+use Rattle.adf_survey_cmd.specs.Answers.{AnswerBehind, DroppedAnswer, lines_form}
+use Rattle.adf_survey_cmd.specs.UnreadLines.{IsBlankText, IsMappedText, IsUnreadText, TellsBlank, TellsPassages, reply_behind}
 use Rattle.adf_survey_cmd.specs.Answers.{CopiesEntry, CopiesFound, CopiesFromSurvey, IsWholeFile, ListsSurvey, QuestionAnswer, Surveys, no_path_line}
 use Rattle.adf_survey_cmd.specs.{Answers.told_status, Answers.types_kept, Answers.unless_blank, Answers.unless_mapped, Hints.hinted, Remains.remains_reply}
 use Rattle.adf_subjects.specs.Rescues.{Replies, RescuesBefore, RescuesTypedOf, rescue_reply}
@@ -60,6 +63,29 @@ some_listing json t =
 
 some_list : (json : Bool) (s : SubjectValue) → IsAnswered (list json) s
 some_list json s = of_typed s (ListsSurvey json) (some_listing json)
+
+-- the bytes of files in blocks that have a mark
+
+some_passages : (json : Bool) (word : List ℕ) (marks : List Bool) (t : SubjectValue) → (reply : Reply) × TellsPassages json word marks t reply
+some_passages json word marks t =
+    let (w, fs, survey) = some_survey t.image in (on_output 0 (passages_text json word marks t.image w), (w, fs, survey, refl))
+
+some_blanks : (s : SubjectValue) → IsAnswered blanks s
+some_blanks s = of_typed s TellsBlank (λ t. some_passages false (codes "blank") (blank_marks t.image) t)
+
+some_unread : (json : Bool) (marks : List Bool) (s : SubjectValue) → (text : List ℕ) × IsUnreadText json marks s text
+some_unread json marks s =
+    let (t, typed) = some_typed (begun_subject s) in
+    let (w, fs, survey) = some_survey t.image in
+    (passages_text json (codes "unread") marks t.image w, (t, typed, (w, fs, survey, refl)))
+
+some_mapped : (json : Bool) (map : Option MapValue) (s : SubjectValue) → (text : List ℕ) × IsMappedText json map s text
+some_mapped json None s = ([], refl)
+some_mapped json (Some m) s = some_unread json (map_marks m s.image) s
+
+some_blank : (json blank : Bool) (s : SubjectValue) → (text : List ℕ) × IsBlankText json blank s text
+some_blank json false s = ([], refl)
+some_blank json true s = some_unread json (blank_marks s.image) s
 
 -- the bytes under a path
 
@@ -157,6 +183,7 @@ questioned : (q : QuestionValue) (s : SubjectValue) → ((keep_type : Bool) → 
 questioned (report json) s are more before = some_report json s
 questioned (list json) s are more before = some_list json s
 questioned (cat damaged path) s are more before = some_copy damaged path s
+questioned blanks s are more before = some_blanks s
 questioned (deleted file) s are more before = some_deleted file s
 questioned (rescue keep_type) s are more before = some_rescue false keep_type s (are keep_type refl)
 questioned (rescue_deleted keep_type) s are more before = some_rescue true keep_type s (more keep_type refl)
@@ -171,13 +198,25 @@ mapped_bytes : (map : Option MapValue) (s : SubjectValue) → AreBytes s.image �
 mapped_bytes (Some m) s are = bytes_without (map_marks m s.image) s.image are
 mapped_bytes None s are = are
 
+-- lines stand behind an answer, if it gets any
+
+some_behind : (form : Option Bool) (r : InquiryValue) (s : SubjectValue) → (reply : Reply) × DroppedAnswer r s reply
+    → (reply : Reply) × AnswerBehind form r s reply
+some_behind None r s answer = answer
+some_behind (Some json) r s (told, answer) =
+    let (a, mapped) = some_mapped json r.map s in
+    let (b, blank) = some_blank json r.blank (unless_mapped r.map s) in
+    (reply_behind (a ++ b) told, (a ++ b, (a, b, mapped, blank, refl), (told, answer, refl)))
+
 pub some_answer : (r : InquiryValue) (input : List ℕ) → ((keep_type : Bool) → r.question ≡ rescue keep_type → AreBytes input)
     → ((keep_type : Bool) → r.question ≡ rescue_deleted keep_type → AreBytes input)
     → ((with_deleted keep_type : Bool) → r.question ≡ rescue_before with_deleted keep_type → AreBytes input) → HasSurveyAnswer r input
 some_answer r input are more before =
-    let s = unless_mapped r.map (subject r.blocks input) in
+    let given = subject r.blocks input in
+    let s = unless_mapped r.map given in
     let bytes : AreBytes input → AreBytes (unless_blank r.blank s).image =
-    λ all. blank_bytes r.blank s (mapped_bytes r.map (subject r.blocks input) (subject_bytes r.blocks input all)) in
-    let (told, answer) = questioned r.question (unless_blank r.blank s) (λ keep_type is. bytes (are keep_type is)) (λ keep_type is. bytes (more keep_type is))
+    λ all. blank_bytes r.blank s (mapped_bytes r.map given (subject_bytes r.blocks input all)) in
+    let question = questioned r.question (unless_blank r.blank s) (λ keep_type is. bytes (are keep_type is)) (λ keep_type is. bytes (more keep_type is))
     (λ with_deleted keep_type is. bytes (before with_deleted keep_type is)) in
+    let (told, answer) = some_behind (lines_form r) r given question in
     (hinted input told, (told, answer, refl))

@@ -28,6 +28,8 @@ mod edited_lines;
 #[cfg(test)]
 mod host_plans;
 #[cfg(test)]
+mod mapped_surveys;
+#[cfg(test)]
 mod memory;
 #[cfg(test)]
 mod merge_runs;

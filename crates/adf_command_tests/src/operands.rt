@@ -17,6 +17,7 @@ const SURVEY_USAGE: &str =
     \x20      adf-survey [--blocks N] [--map MAP] [--blank] cat --deleted BLOCK [FILE]\n\
     \x20      adf-survey [--blocks N] [--map MAP] [--blank] rescue [--keep-type] [--deleted] [--before-format] [FILE]\n\
     \x20      adf-survey [--blocks N] [--map MAP] [--blank] deleted [FILE]\n\
+    \x20      adf-survey [--blocks N] [--map MAP] [--blank] blank [FILE]\n\
     without a FILE the image comes on standard input; man adf-survey tells more\n";
 
 // A disk of two empty volumes of 256 blocks.

@@ -1,5 +1,7 @@
 pub mod TableMarks
 pub mod HintedAnswers
+-- a text behind an answer
+pub mod BehindAnswers
 pub mod FindingStatus
 pub mod FoundTexts
 -- the lines of deleted headers

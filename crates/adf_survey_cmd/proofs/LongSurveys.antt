@@ -2,7 +2,7 @@
 -- Letters: s, t what is surveyed; w the walk of a survey, fs its findings; n an entry's node; lost, ls losses of
 -- blocks.
 use Rattle.std.proofs.Common.{◌≡◌, ◌<◌, ◌≤◌, ◌+◌, ◌-◌, ◌*◌, ◌∙◌, ◌++◌, true, false, inl, inr, ℕ, Bool, List, [], ◌∷◌, Option, None, Some, refl, ap, ap₂, arith}
-use Rattle.std.proofs.Common.{subst, sym, ◌==◌, ◌&&◌, cond, length, min, replicate, take}
+use Rattle.std.proofs.Common.{subst, sym, ◌==◌, ◌&&◌, codes, cond, length, min, replicate, take}
 use Rattle.std.proofs.lemmas.Bool.{and_left, cond-false, false_from_ne_true}
 use Rattle.std.proofs.{Math.Nat.min-eq_left, lemmas.List.take-take, lemmas.Grind.common_steps}
 use Rattle.adf_blocks.specs.{Sizes.blocks, declared.layout.TheConstants.MOST_BLOCKS, declared.cause.Cause.TheVariants.BadSize}
@@ -19,14 +19,17 @@ use Rattle.adf_rescue.specs.Opened.{lacks_boot, lacks_root, opened}
 use Rattle.adf_rescue.proofs.{OpenedImages.length_opened, PassedFindings.unread_fault, PrunedKeeps.length_read}
 use Rattle.adf_rescue.proofs.MadeRoots.{sized as sized_len}
 use Rattle.adf_survey_cmd.specs.Answers.{CopiesFound, CopiesFromSurvey, ListsSurvey, QuestionAnswer, SurveyAnswer, Surveys, TellsFound, told_status, types_kept, unless_blank, unless_mapped}
-use Rattle.adf_survey_cmd.specs.Answers.{unread_remarks}
+use Rattle.adf_survey_cmd.specs.Answers.{AnswerBehind, DroppedAnswer, InquiryAnswer, lines_form, unread_remarks}
+use Rattle.adf_survey_cmd.specs.UnreadLines.{IsBlankText, IsMappedText, IsUnreadText, TellsBlank, TellsPassages}
+use Rattle.adf_passages.specs.PassageLines.{lines_of_passages, passages_text}
+use Rattle.adf_passages.proofs.PassageSteps.{unfound}
 use Rattle.adf_survey_cmd.specs.Deletions.{TellsBy, TellsRead, TellsRefused, TellsSecond}
 use Rattle.adf_survey_cmd.specs.Hints.{disk_hint}
 use Rattle.adf_subjects.specs.{Lengths.AreFew, Lengths.blocks_read, Lengths.stated_length, Lines.findings_text, Lines.runs_from, Losses.LossValue}
 use Rattle.adf_subjects.specs.{Remarks.remarks_text}
 use Rattle.adf_subjects.specs.Subject.{IsTyped, OfTyped, SubjectValue, begun_subject, behind_remarks, behind_loss, held_end, missing_remarks, other_type}
 use Rattle.adf_subjects.specs.Subject.{IsOtherType, IsTypeTold, kind_image, sized, subject, subject_read, subject_text, typed_by}
-use Rattle.adf_survey_cmd.specs.CommandLine.{InquiryValue, QuestionValue, cat, deleted, list, report, rescue, rescue_before, rescue_deleted}
+use Rattle.adf_survey_cmd.specs.CommandLine.{InquiryValue, QuestionValue, blanks, cat, deleted, list, report, rescue, rescue_before, rescue_deleted}
 use Rattle.adf_subjects.specs.Rescues.{IsNoVolume, Replies, RescueValue, RescuesBefore, RescuesBothOf, RescuesFoundOf, RescuesOf, RescuesTypedOf}
 use Rattle.adf_subjects.proofs.Formats.{odd_before, odd_stays}
 use Rattle.adf_maps.specs.Maps.{MapValue}
@@ -220,6 +223,33 @@ long_before plus types s t a b reply (r, (u, before, told), same) =
     let (q, rescues, e) = long_typed_rescue plus types s t a b reply (r, as_it_is, same) in
     (q, (t, odd_stays t (no_volume t.image b), rescues), e)
 
+-- no bytes of files are told
+none_told : (json : Bool) (word : List ℕ) (marks : List Bool) (image : List ℕ) → passages_text json word marks image [] ≡ []
+none_told json word marks image =
+    ap (lines_of_passages json word image []) (unfound image marks (min MOST_BLOCKS (blocks image)))
+
+same_passages : (json : Bool) (word : List ℕ) (marks others : List Bool) (image bytes : List ℕ)
+    → on_output 0 (passages_text json word marks image []) ≡ on_output 0 (passages_text json word others bytes [])
+same_passages json word marks others image bytes = ap (on_output 0) (none_told json word marks image ∙ sym (none_told json word others bytes))
+
+long_unread : (json : Bool) (marks others : List Bool) (s t : SubjectValue) → 512 * MOST_BLOCKS < length s.image → 512 * MOST_BLOCKS < length t.image
+    → (text : List ℕ) → IsUnreadText json marks s text → IsUnreadText json others t text
+long_unread json marks others s t a b text (u, is, x) =
+    let reply : Reply = on_output 0 text in
+    let here : TellsPassages json (codes "unread") marks s reply = subst (λ u. TellsPassages json (codes "unread") marks u reply) (same_typed s u a is) x in
+    let e = of_long s.image here.0 here.1 (λ u gs. reply ≡ on_output 0 (passages_text json (codes "unread") marks s.image u)) a here.2 here.3 in
+    (t, long_typed t b, ([], bad_size, long_survey t.image b, e ∙ same_passages json (codes "unread") marks others s.image t.image))
+
+long_mapped : (json : Bool) (m : Option MapValue) (s t : SubjectValue) → 512 * MOST_BLOCKS < length s.image → 512 * MOST_BLOCKS < length t.image
+    → (text : List ℕ) → IsMappedText json m s text → IsMappedText json m t text
+long_mapped json None s t a b text is = is
+long_mapped json (Some m) s t a b text is = long_unread json (map_marks m s.image) (map_marks m t.image) s t a b text is
+
+long_blank : (json blank : Bool) (s t : SubjectValue) → 512 * MOST_BLOCKS < length s.image → 512 * MOST_BLOCKS < length t.image
+    → (text : List ℕ) → IsBlankText json blank s text → IsBlankText json blank t text
+long_blank json false s t a b text is = is
+long_blank json true s t a b text is = long_unread json (blank_marks s.image) (blank_marks t.image) s t a b text is
+
 long_questions : (q : QuestionValue) (s t : SubjectValue) → s.front ≡ t.front → 512 * MOST_BLOCKS < length s.image
     → 512 * MOST_BLOCKS < length t.image → (reply : Reply) → QuestionAnswer q s reply → QuestionAnswer q t reply
 long_questions (report json) s t front a b reply told = of_typed s t (Surveys json) a b reply (λ x.
@@ -234,6 +264,9 @@ long_questions (cat damaged path) s t front a b reply (inl bad) = inl bad
 long_questions (cat damaged path) s t front a b reply (inr told) = inr (of_typed s t (CopiesFromSurvey damaged path) a b reply (λ x.
     let found = of_long s.image x.2 x.3 (λ u gs. CopiesFound damaged s u gs x.0 reply) a x.4 x.5 in
     (x.0, x.1, [], bad_size, long_survey t.image b, same_found damaged s t x.0 reply found)) told)
+long_questions blanks s t front a b reply told = of_typed s t TellsBlank a b reply (λ x.
+    let e = of_long s.image x.0 x.1 (λ u gs. reply ≡ on_output 0 (passages_text false (codes "blank") (blank_marks s.image) s.image u)) a x.2 x.3 in
+    ([], bad_size, long_survey t.image b, e ∙ same_passages false (codes "blank") (blank_marks s.image) (blank_marks t.image) s.image t.image)) told
 long_questions (deleted file) s t front a b reply (u, is, lists) =
     let told : TellsRefused file s reply = subst (λ (u : SubjectValue). TellsRefused file u reply) (typed_so s u a is) lists in
     let here = long_image true s.image a in
@@ -281,18 +314,34 @@ front_mapped : (m : Option MapValue) (stated : ℕ) (image bytes : List ℕ) →
 front_mapped None stated image bytes same = refl
 front_mapped (Some m) stated image bytes same = ap (λ (n : ℕ). unread_remarks (runs_among (unread_among m n) n)) same
 
-long_read : (stated : ℕ) (read : Option ℕ) (m : Option MapValue) (blank : Bool) (q : QuestionValue) (image bytes : List ℕ) → AreFew read
+long_behind : (form : Option Bool) (r : InquiryValue) (s t : SubjectValue) → 512 * MOST_BLOCKS < length s.image → 512 * MOST_BLOCKS < length t.image
+    → ((reply : Reply) → DroppedAnswer r s reply → DroppedAnswer r t reply) → (reply : Reply) → AnswerBehind form r s reply → AnswerBehind form r t reply
+long_behind None r s t a b same reply h = same reply h
+long_behind (Some json) r s t a b same reply (text, (c, d, mapped, blank, e), (told, x, is)) = (
+  text,
+  (
+    c,
+    d,
+    long_mapped json r.map s t a b c mapped,
+    long_blank json r.blank (unless_mapped r.map s) (unless_mapped r.map t) (omega (arith, a, length_mapped r.map s))
+        (omega (arith, b, length_mapped r.map t)) d blank,
+    e,
+  ),
+  (told, same told x, is),
+)
+
+long_read : (stated : ℕ) (read : Option ℕ) (r : InquiryValue) (image bytes : List ℕ) → AreFew read
     → image ≡ take (512 * MOST_BLOCKS + 1) bytes → 512 * MOST_BLOCKS < length image → 512 * MOST_BLOCKS < length bytes → (reply : Reply)
-    → QuestionAnswer q (unless_blank blank (unless_mapped m (subject_read stated read image))) reply
-    → QuestionAnswer q (unless_blank blank (unless_mapped m (subject_read stated read bytes))) reply
-long_read stated None m blank q image bytes few e a b reply h =
+    → InquiryAnswer r (subject_read stated read image) reply → InquiryAnswer r (subject_read stated read bytes) reply
+long_read stated None r image bytes few e a b reply h =
     let s = subject_read stated None image in
     let t = subject_read stated None bytes in
     let many : min MOST_BLOCKS (blocks image) ≡ min MOST_BLOCKS (blocks bytes) = omega (arith, a, b) in
-    let front = front_blank blank (unless_mapped m s) ∙ front_mapped m stated image bytes many ∙ sym (front_blank blank (unless_mapped m t)) in
-    long_questions q (unless_blank blank (unless_mapped m s)) (unless_blank blank (unless_mapped m t)) front
-    (omega (arith, a, length_dropped m blank s)) (omega (arith, b, length_dropped m blank t)) reply h
-long_read stated (Some n) m blank q image bytes few e a b reply h =
+    let front = front_blank r.blank (unless_mapped r.map s) ∙ front_mapped r.map stated image bytes many ∙ sym (front_blank r.blank (unless_mapped r.map t)) in
+    let same = long_questions r.question (unless_blank r.blank (unless_mapped r.map s)) (unless_blank r.blank (unless_mapped r.map t)) front
+    (omega (arith, a, length_dropped r.map r.blank s)) (omega (arith, b, length_dropped r.map r.blank t)) in
+    long_behind (lines_form r) r s t a b same reply h
+long_read stated (Some n) r image bytes few e a b reply h =
     let end = same_end n image bytes few a b in
     let same : subject_read stated (Some n) image ≡ subject_read stated (Some n) bytes =
     λ i. record {
@@ -301,25 +350,23 @@ long_read stated (Some n) m blank q image bytes few e a b reply h =
       front = missing_remarks (end i) n ++ behind_remarks n stated;
       lost = behind_loss n stated;
     } in
-    subst (λ s. QuestionAnswer q (unless_blank blank (unless_mapped m s)) reply) same h
+    subst (λ s. InquiryAnswer r s reply) same h
 
-long_meant : (asked : Option ℕ) (m : Option MapValue) (blank : Bool) (q : QuestionValue) (image bytes : List ℕ) → AreFew asked
+long_meant : (asked : Option ℕ) (r : InquiryValue) (image bytes : List ℕ) → AreFew asked
     → image ≡ take (512 * MOST_BLOCKS + 1) bytes → 512 * MOST_BLOCKS < length image → 512 * MOST_BLOCKS < length bytes → (reply : Reply)
-    → QuestionAnswer q (unless_blank blank (unless_mapped m (subject asked image))) reply
-    → QuestionAnswer q (unless_blank blank (unless_mapped m (subject asked bytes))) reply
-long_meant asked m blank q image bytes few e a b reply h =
+    → InquiryAnswer r (subject asked image) reply → InquiryAnswer r (subject asked bytes) reply
+long_meant asked r image bytes few e a b reply h =
     let stated = same_stated image bytes e a b asked in
     let read = same_read image bytes e a b asked few in
     let more = few_read asked bytes few in
     let same : subject asked image ≡ subject_read (stated_length asked bytes) (blocks_read asked bytes) image =
     ap₂ (λ (n : ℕ) (o : Option ℕ). subject_read n o image) stated read in
-    long_read (stated_length asked bytes) (blocks_read asked bytes) m blank q image bytes more e a b reply
-    (subst (λ s. QuestionAnswer q (unless_blank blank (unless_mapped m s)) reply) same h)
+    long_read (stated_length asked bytes) (blocks_read asked bytes) r image bytes more e a b reply (subst (λ s. InquiryAnswer r s reply) same h)
 
 pub long_answers : (r : InquiryValue) (image bytes : List ℕ) → AreFew r.blocks → image ≡ take (512 * MOST_BLOCKS + 1) bytes
     → 512 * MOST_BLOCKS < length image → 512 * MOST_BLOCKS < length bytes → (reply : Reply) → SurveyAnswer r image reply → SurveyAnswer r bytes reply
 long_answers r image bytes few e a b reply (told, answer, is) = (
   told,
-  long_meant r.blocks r.map r.blank r.question image bytes few e a b told answer,
+  long_meant r.blocks r image bytes few e a b told answer,
   is ∙ ap (λ (d : Bool). cond ((told.status == 1) && d) (record told { errors = told.errors ++ disk_hint }) told) (same_disk image bytes e),
 )

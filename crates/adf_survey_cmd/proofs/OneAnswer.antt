@@ -1,6 +1,6 @@
 -- What is asked of an image has one answer.
 -- Letters: s, t, u what is surveyed; w, u, v walks of its survey, fs, gs the findings; n, m entries' nodes; r, q inquiries; a, b replies.
-use Rattle.std.proofs.Common.{◌≡◌, ◌∙◌, ◌++◌, inl, inr, ℕ, Bool, true, false, List, [], ◌∷◌, Option, Some, sym, ap, subst, None, refl, arith}
+use Rattle.std.proofs.Common.{◌≡◌, ◌∙◌, ◌++◌, inl, inr, ℕ, Bool, true, false, List, [], ◌∷◌, Option, Some, sym, ap, subst, None, codes, refl, arith}
 use Rattle.std.proofs.lemmas.Grind.{common_steps}
 use Rattle.adf_names.proofs.PathParts.{one_path}
 use Rattle.adf_volume.specs.{Types.letters_for, declared.fault.Fault.Fault, declared.types.Types.Types}
@@ -15,14 +15,17 @@ use Rattle.adf_runs.specs.Commands.{Reply, on_errors, on_output}
 use Rattle.adf_volume.proofs.OneFault.{one_fault}
 use Rattle.adf_cmd.proofs.OneAnswer.{one_dates}
 use Rattle.adf_survey_cmd.specs.Answers.{CopiesEntry, CopiesFound, CopiesFromSurvey, IsWholeFile, ListsSurvey, QuestionAnswer, SurveyAnswer, unless_blank, unless_mapped}
-use Rattle.adf_survey_cmd.specs.Answers.{Surveys, TellsFound, told_status, types_kept}
+use Rattle.adf_survey_cmd.specs.Answers.{AnswerBehind, AreUnreadLines, Surveys, TellsFound, lines_form, told_status, types_kept}
+use Rattle.adf_survey_cmd.specs.UnreadLines.{IsBlankText, IsMappedText, IsUnreadText, TellsBlank, TellsPassages, reply_behind}
+use Rattle.adf_maps.specs.Maps.{MapValue}
+use Rattle.adf_unread.specs.{Blank.blank_marks, Mapped.map_marks}
 use Rattle.adf_survey_cmd.specs.{Hints.hinted, FoundLines.listing_text}
 use Rattle.adf_subjects.specs.{Losses.LossValue, Losses.losses_text, Rescues.RescuesSomeOf, Rescues.rescue_reply}
 use Rattle.adf_subjects.specs.Subject.{OfTyped, SubjectValue, begun_subject, sized, subject}
 use Rattle.adf_subjects.specs.Rescues.{GivesFault, IsRefusal, Replies, RescueValue, RescuesOf}
 use Rattle.adf_subjects.specs.Rescues.{RescuesBefore, RescuesByOf, RescuesFoundOf, RescuesInOf, RescuesReadOf, RescuesTypedOf}
 use Rattle.adf_subjects.proofs.{Formats.one_before, OneSubject.one_marks, OneSubject.one_typed}
-use Rattle.adf_survey_cmd.specs.CommandLine.{AsksSurvey, InquiryValue, QuestionValue, cat, deleted, list, report, rescue, rescue_before, rescue_deleted}
+use Rattle.adf_survey_cmd.specs.CommandLine.{AsksSurvey, InquiryValue, QuestionValue, blanks, cat, deleted, list, report, rescue, rescue_before, rescue_deleted}
 use Rattle.adf_base.specs.declared.dates.Stamp.{Stamp}
 use Rattle.adf_blocks.specs.Sizes.{blocks}
 use Rattle.adf_deleted.specs.Known.{KnownValue, known_blocks}
@@ -214,6 +217,29 @@ module _ (file : Option ℕ) where
       deleted_once (lacks_root u.image) u.end (pruned (opened u.image)) a b
       (subst (λ (t : SubjectValue). TellsRefused file t a) (one_typed s t u is also) x) y
 
+-- so have the bytes of files in blocks that were not read
+passages_once : (json : Bool) (word : List ℕ) (marks : List Bool) (s : SubjectValue) (a b : Reply) → TellsPassages json word marks s a
+    → TellsPassages json word marks s b → a ≡ b
+passages_once json word marks s a b (w, fs, h, x) (u, gs, t, y) = grind (arith, common_steps, one_survey)
+
+unread_once : (json : Bool) (marks : List Bool) (s : SubjectValue) (a b : List ℕ) → IsUnreadText json marks s a → IsUnreadText json marks s b → a ≡ b
+unread_once json marks s a b x y =
+    ap (λ (reply : Reply). reply.output)
+    (typed_once s (TellsPassages json (codes "unread") marks) (passages_once json (codes "unread") marks) (on_output 0 a) (on_output 0 b) x y)
+
+mapped_once : (json : Bool) (map : Option MapValue) (s : SubjectValue) (a b : List ℕ) → IsMappedText json map s a → IsMappedText json map s b → a ≡ b
+mapped_once json None s a b x y = x ∙ sym y
+mapped_once json (Some m) s a b x y = unread_once json (map_marks m s.image) s a b x y
+
+blank_once : (json blank : Bool) (s : SubjectValue) (a b : List ℕ) → IsBlankText json blank s a → IsBlankText json blank s b → a ≡ b
+blank_once json false s a b x y = x ∙ sym y
+blank_once json true s a b x y = unread_once json (blank_marks s.image) s a b x y
+
+lines_once : (json : Bool) (map : Option MapValue) (blank : Bool) (s : SubjectValue) (a b : List ℕ) → AreUnreadLines json map blank s a
+    → AreUnreadLines json map blank s b → a ≡ b
+lines_once json map blank s a b (c, d, x, y, e) (g, h, z, u, f) =
+    e ∙ (λ i. mapped_once json map s c g x z i ++ blank_once json blank (unless_mapped map s) d h y u i) ∙ sym f
+
 one_question : (q : QuestionValue) (s : SubjectValue) (a b : Reply) → QuestionAnswer q s a → QuestionAnswer q s b → a ≡ b
 one_question (report json) s a b x y = typed_once s (Surveys json) (surveyed_once json) a b x y
 one_question (list json) s a b x y = typed_once s (ListsSurvey json) (listed_once json) a b x y
@@ -221,11 +247,19 @@ one_question (cat damaged path) s a b (inl (bad, x)) (inl (worse, y)) = x ∙ sy
 one_question (cat damaged path) s a b (inl (bad, x)) (inr (t, is, h)) = absurd (bad h.0 h.1)
 one_question (cat damaged path) s a b (inr (t, is, h)) (inl (bad, y)) = absurd (bad h.0 h.1)
 one_question (cat damaged path) s a b (inr h) (inr g) = typed_once s (CopiesFromSurvey damaged path) (copied_once damaged path) a b h g
+one_question blanks s a b x y = typed_once s TellsBlank (λ t. passages_once false (codes "blank") (blank_marks t.image) t) a b x y
 one_question (deleted file) s a b x y = typed_deleted_once file s a b x y
 one_question (rescue keep_type) s a b x y = typed_rescued_once false (types_kept keep_type) s a b x y
 one_question (rescue_deleted keep_type) s a b x y = typed_rescued_once true (types_kept keep_type) s a b x y
 one_question (rescue_before with_deleted keep_type) s a b x y = before_rescued_once with_deleted (types_kept keep_type) s a b x y
 
+answer_once : (form : Option Bool) (r : InquiryValue) (s : SubjectValue) (a b : Reply) → AnswerBehind form r s a → AnswerBehind form r s b → a ≡ b
+answer_once None r s a b x y = one_question r.question (unless_blank r.blank (unless_mapped r.map s)) a b x y
+answer_once (Some json) r s a b (text, lines, (told, x, e)) (more, also, (other, y, f)) =
+    let same = lines_once json r.map r.blank s text more lines also in
+    let reply = one_question r.question (unless_blank r.blank (unless_mapped r.map s)) told other x y in
+    e ∙ (λ i. reply_behind (same i) (reply i)) ∙ sym f
+
 pub one_answer : (r : InquiryValue) (input : List ℕ) (a b : Reply) → SurveyAnswer r input a → SurveyAnswer r input b → a ≡ b
 one_answer r input a b (told, x, e) (other, y, f) =
-    e ∙ ap (hinted input) (one_question r.question (unless_blank r.blank (unless_mapped r.map (subject r.blocks input))) told other x y) ∙ sym f
+    e ∙ ap (hinted input) (answer_once (lines_form r) r (subject r.blocks input) told other x y) ∙ sym f

@@ -1,6 +1,6 @@
 -- What the command answers to its words and its input.
 -- Letters: s what is surveyed; w the walk of its survey, fs its findings; n an entry's node, h the block of its header; r an inquiry.
-use Rattle.std.specs.Prelude.{◌≡◌, ◌*◌, ◌⊎◌, ◌++◌, ℕ, Bool, true, false, List, [], ◌∷◌, Option, None, Some, codes, map}
+use Rattle.std.specs.Prelude.{◌≡◌, ◌*◌, ◌⊎◌, ◌++◌, ◌||◌, ℕ, Bool, true, false, cond, List, [], ◌∷◌, Option, None, Some, codes, is_some, map}
 use Rattle.adf_blocks.specs.declared.layout.TheConstants.{MOST_BLOCKS}
 use Rattle.adf_names.specs.PathTexts.{IsPathText, path_text}
 use Rattle.adf_volume.specs.Walk.{FileAt, Walk}
@@ -13,8 +13,9 @@ use Rattle.adf_unread.specs.{Blank.blank_marks, Dropped.without_unread, Mapped.m
 use Rattle.adf_cmd.specs.Answers.{IsBadPath, RefusesPath}
 use Rattle.adf_runs.specs.Commands.{Command, Reply, on_errors, on_output}
 use Rattle.adf_file_runs.specs.FileRuns.{without_files}
-use Rattle.adf_survey_cmd.specs.CommandLine.{AreRefusedBySurvey, AsksSurvey, InquiryValue, QuestionValue, asked_beside, cat, deleted, list, report}
+use Rattle.adf_survey_cmd.specs.CommandLine.{AreRefusedBySurvey, AsksSurvey, InquiryValue, QuestionValue, asked_beside, blanks, cat, deleted, list, report}
 use Rattle.adf_survey_cmd.specs.CommandLine.{rescue, rescue_before, rescue_deleted, survey_file}
+use Rattle.adf_survey_cmd.specs.UnreadLines.{IsBlankText, IsMappedText, TellsBlank, ToldBehind}
 use Rattle.adf_survey_cmd.specs.{Deletions.TellsTyped, FoundLines.has_its_data, FoundLines.listing_text, Hints.Hinted, Remains.WritesRemains}
 use Rattle.adf_subjects.specs.{declared.remarks.Remark.Remark, declared.remarks.Saying.TheVariants.NoData, Remarks.remark}
 use Rattle.adf_subjects.specs.{Rescues.Replies, Rescues.RescuesTyped}
@@ -99,6 +100,7 @@ abbrev pub QuestionAnswer : QuestionValue → SubjectValue → Reply → Type 0
 QuestionAnswer (report json) s reply = OfTyped s (Surveys json) reply
 QuestionAnswer (list json) s reply = OfTyped s (ListsSurvey json) reply
 QuestionAnswer (cat damaged path) s reply = RefusesPath path reply ⊎ OfTyped s (CopiesFromSurvey damaged path) reply
+QuestionAnswer blanks s reply = OfTyped s TellsBlank reply
 QuestionAnswer (deleted file) s reply = TellsTyped file s reply
 QuestionAnswer (rescue keep_type) s reply = Replies (RescuesTyped (types_kept keep_type) s) reply
 QuestionAnswer (rescue_deleted keep_type) s reply = Replies (RescuesTypedOf true (types_kept keep_type) s) reply
@@ -120,9 +122,44 @@ abbrev pub unless_blank : (blank : Bool) → SubjectValue → SubjectValue
 unless_blank false s = s
 unless_blank true s = record s { image = without_unread (blank_marks s.image) s.image }
 
--- the answer to an inquiry: that to its question, with the hint
+-- the lines of the bytes of files in blocks that were not read: of those by a map, and then of blank ones without these
+abbrev pub AreUnreadLines : (json : Bool) → Option MapValue → (blank : Bool) → SubjectValue → List ℕ → Type 0
+AreUnreadLines json map blank s text =
+    (a : List ℕ) × (b : List ℕ) × IsMappedText json map s a × IsBlankText json blank (unless_mapped map s) b × (text ≡ a ++ b)
+
+-- the form of the lines that findings are told in
+abbrev pub json_of : QuestionValue → Option Bool
+json_of (report json) = Some json
+json_of (list json) = Some json
+json_of q = None
+
+-- that of the lines behind the answer: where what was never read is taken out, findings get them
+abbrev pub form_behind : (dropped : Bool) → QuestionValue → Option Bool
+form_behind dropped (report json) = cond dropped (Some json) None
+form_behind dropped (list json) = cond dropped (Some json) None
+form_behind dropped q = None
+
+-- the same of an inquiry
+abbrev pub lines_form : InquiryValue → Option Bool
+lines_form r = form_behind (is_some r.map || r.blank) r.question
+
+-- the answer to the question without what was never read
+abbrev pub DroppedAnswer : InquiryValue → SubjectValue → Reply → Type 0
+DroppedAnswer r s reply = QuestionAnswer r.question (unless_blank r.blank (unless_mapped r.map s)) reply
+
+-- the same, with the lines of the bytes that were not read behind it, if it gets any
+abbrev pub AnswerBehind : Option Bool → InquiryValue → SubjectValue → Reply → Type 0
+AnswerBehind None r s reply = DroppedAnswer r s reply
+AnswerBehind (Some json) r s reply =
+    (text : List ℕ) × AreUnreadLines json r.map r.blank s text × ToldBehind text (DroppedAnswer r s) reply
+
+-- the answer to an inquiry of what is surveyed
+abbrev pub InquiryAnswer : InquiryValue → SubjectValue → Reply → Type 0
+InquiryAnswer r s reply = AnswerBehind (lines_form r) r s reply
+
+-- the answer to an inquiry, with the hint
 abbrev pub SurveyAnswer : InquiryValue → List ℕ → Reply → Type 0
-SurveyAnswer r input reply = Hinted input (QuestionAnswer r.question (unless_blank r.blank (unless_mapped r.map (subject r.blocks input)))) reply
+SurveyAnswer r input reply = Hinted input (InquiryAnswer r (subject r.blocks input)) reply
 
 -- words ask for one thing at most
 abbrev pub WordsAskForOneInquiry : Type 0
@@ -140,6 +177,7 @@ survey_usage =
     ++ codes "       adf-survey [--blocks N] [--map MAP] [--blank] cat --deleted BLOCK [FILE]\n"
     ++ codes "       adf-survey [--blocks N] [--map MAP] [--blank] rescue [--keep-type] [--deleted] [--before-format] [FILE]\n"
     ++ codes "       adf-survey [--blocks N] [--map MAP] [--blank] deleted [FILE]\n"
+    ++ codes "       adf-survey [--blocks N] [--map MAP] [--blank] blank [FILE]\n"
     ++ codes "without a FILE the image comes on standard input; man adf-survey tells more\n"
 
 -- a question for the bytes under a path that is not read

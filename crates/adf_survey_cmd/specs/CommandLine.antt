@@ -8,7 +8,7 @@ use Rattle.adf_words.specs.Arguments.{bare_app, cat_app, flag_rule, has_flag, nu
 use Rattle.adf_words.specs.FileArguments.{file_met, file_rule}
 use Rattle.adf_survey_cmd.specs.declared.command_line.Inquiry.{Inquiry}
 use Rattle.adf_survey_cmd.specs.declared.command_line.Question.{Question, TheVariants.Report, TheVariants.List as ListAll}
-use Rattle.adf_survey_cmd.specs.declared.command_line.Question.TheVariants.{Cat, Rescue, RescueBefore, RescueDeleted, Deleted}
+use Rattle.adf_survey_cmd.specs.declared.command_line.Question.TheVariants.{Blanks, Cat, Rescue, RescueBefore, RescueDeleted, Deleted}
 
 -- the option --blocks N
 abbrev pub blocks_rule : Rule
@@ -30,6 +30,10 @@ survey_rescue_app = with_rule (with_rule flagged_rescue (flag_rule (codes "befor
 abbrev pub survey_deleted_app : App
 survey_deleted_app = with_rule (new_app (codes "deleted")) file_rule
 
+-- blank [FILE]
+abbrev pub survey_blank_app : App
+survey_blank_app = with_rule (new_app (codes "blank")) file_rule
+
 -- the option --map TEXT
 abbrev pub map_text_rule : Rule
 map_text_rule = record (new_rule (codes "map")) { long = Some (codes "map") }
@@ -43,13 +47,15 @@ abbrev pub flagged_survey : App
 flagged_survey = with_rule (with_rule (with_rule numbered_survey (flag_rule (codes "list"))) (flag_rule (codes "json"))) file_rule
 
 -- the command line: [--blocks N] [--map TEXT] [--blank], and [--list] [--json] [FILE], cat [--damaged] PATH [FILE], cat --deleted BLOCK [FILE], rescue
--- [--keep-type] [--deleted] [--before-format] [FILE], or deleted [FILE]
+-- [--keep-type] [--deleted] [--before-format] [FILE], deleted [FILE], or blank [FILE]
 abbrev pub survey_app : App
-survey_app = with_subcommand (with_subcommand (with_subcommand flagged_survey survey_cat_app.top) survey_rescue_app.top) survey_deleted_app.top
+survey_app =
+    let rescues = with_subcommand (with_subcommand flagged_survey survey_cat_app.top) survey_rescue_app.top in
+    with_subcommand (with_subcommand rescues survey_deleted_app.top) survey_blank_app.top
 
 -- what is asked of an image: all findings; these and what is found, both as lines or as objects; the bytes of a file, which is sound or may be damaged; a new
 -- volume of all that stands, which keeps the letters of the image, or has ASCII letters; the same with the deleted files that are whole; one of these of what
--- the image held before it was formatted; or the deleted headers, or the bytes of the file of one, by its block
+-- the image held before it was formatted; the deleted headers, or the bytes of the file of one, by its block; or the bytes of files in blank blocks
 pub data QuestionValue : Type 0 where
   report : (json : Bool) → QuestionValue
   list : (json : Bool) → QuestionValue
@@ -58,6 +64,7 @@ pub data QuestionValue : Type 0 where
   rescue_deleted : (keep_type : Bool) → QuestionValue
   rescue_before : (with_deleted keep_type : Bool) → QuestionValue
   deleted : (file : Option ℕ) → QuestionValue
+  blanks : QuestionValue
 
 -- what a command line asks for, of the image as it is or as if it had so many blocks; what a map says of it, if one is given; and whether
 -- each blank block of it counts as never read
@@ -107,7 +114,8 @@ abbrev pub question_named : Text → List Row → Option QuestionValue
 question_named name rows =
     if bytes_eq name (codes "cat") then cat_met rows
     else (if bytes_eq name (codes "rescue") then Some (rescue_met rows)
-    else (if bytes_eq name (codes "deleted") then Some (deleted None) else None))
+    else (if bytes_eq name (codes "deleted") then Some (deleted None)
+    else (if bytes_eq name (codes "blank") then Some blanks else None)))
 
 -- the flag --list, the flag --json or a FILE is among the matches
 abbrev pub excludes_subcommand : List Row → Bool
@@ -154,6 +162,7 @@ question_value (Rescue keep_type) = rescue keep_type
 question_value (RescueDeleted keep_type) = rescue_deleted keep_type
 question_value (RescueBefore with_deleted keep_type) = rescue_before with_deleted keep_type
 question_value (Deleted file) = deleted file
+question_value Blanks = blanks
 
 -- the value of an inquiry as the code has it
 abbrev pub inquiry_value : Inquiry → InquiryValue

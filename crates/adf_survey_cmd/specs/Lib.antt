@@ -4,6 +4,8 @@ pub mod Deletions
 pub mod FoundLines
 pub mod Remains
 pub mod Hints
+-- the bytes of files that were not read, and blank ones
+pub mod UnreadLines
 pub mod Answers
 -- the word that names a map, and how a run with it ends
 pub mod MapWords

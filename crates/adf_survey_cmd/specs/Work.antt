@@ -1,16 +1,17 @@
 -- What is done for words, once they and their path are read.
-use Rattle.std.specs.Prelude.{◌≡◌, ℕ, Bool, List}
+use Rattle.std.specs.Prelude.{◌≡◌, ℕ, Bool, List, Option, None, Some}
 use Rattle.adf_names.specs.PathTexts.{IsPathText}
-use Rattle.adf_survey_cmd.specs.CommandLine.{InquiryValue, QuestionValue, cat, deleted, list, report, rescue, rescue_before, rescue_deleted}
+use Rattle.adf_survey_cmd.specs.CommandLine.{InquiryValue, QuestionValue, blanks, cat, deleted, list, report, rescue, rescue_before, rescue_deleted}
 use Rattle.adf_subjects.specs.Lengths.{AreFew}
 use Rattle.adf_survey_cmd.specs.{Answers.types_kept, declared.work.Work.Work}
 use Rattle.adf_survey_cmd.specs.declared.work.Task.{Task, TheVariants.Show, TheVariants.Rescue, TheVariants.RescueDeleted, TheVariants.RescueBefore, TheVariants.Deleted}
-use Rattle.adf_survey_cmd.specs.declared.work.View.{View, TheVariants.Findings, TheVariants.List as ListAll, TheVariants.Cat}
+use Rattle.adf_survey_cmd.specs.declared.work.View.{View, TheVariants.Findings, TheVariants.List as ListAll, TheVariants.Cat, TheVariants.Blanks as BlanksOf}
 
 -- what is shown is what is asked, with the names of the path
 abbrev pub Shows : View → QuestionValue → Type 0
 Shows (Findings json) q = q ≡ report json
 Shows (ListAll json) q = q ≡ list json
+Shows BlanksOf q = q ≡ blanks
 Shows (Cat names damaged) q = (path : List ℕ) × (q ≡ cat damaged path) × IsPathText path names.items
 
 -- the task is what is asked
@@ -20,6 +21,12 @@ Answers (Deleted file) q = q ≡ deleted file
 Answers (Rescue types) q = (keep_type : Bool) × (types ≡ types_kept keep_type) × (q ≡ rescue keep_type)
 Answers (RescueDeleted types) q = (keep_type : Bool) × (types ≡ types_kept keep_type) × (q ≡ rescue_deleted keep_type)
 Answers (RescueBefore with_deleted types) q = (keep_type : Bool) × (types ≡ types_kept keep_type) × (q ≡ rescue_before with_deleted keep_type)
+
+-- the form of the lines that a task tells findings in
+abbrev pub task_json : Task → Option Bool
+task_json (Show (Findings json)) = Some json
+task_json (Show (ListAll json)) = Some json
+task_json task = None
 
 -- the work is what is asked for, of as many blocks, if any are named, by a map, if one is given, and of blank blocks or not
 abbrev pub Meets : Work → InquiryValue → Type 0

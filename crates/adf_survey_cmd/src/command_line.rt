@@ -8,9 +8,9 @@ ghost use Rattle.adf_words.specs.declared.command_line.ArgsError.TheVariants.{Us
 ghost use Rattle.adf_survey_cmd.specs.CommandLine.{AsksSurvey, AsksSurveyOf, AreRefusedBySurvey, asked, asked_beside, blocks_met, cat, cat_asked};
 ghost use Rattle.adf_subjects.specs.Lengths.{AreFew};
 ghost use Rattle.adf_survey_cmd.specs.CommandLine.{cat_met, flagged_survey, list, inquiry_met, inquiry_value, map_met, question_met};
-ghost use Rattle.adf_survey_cmd.specs.CommandLine.{deleted, question_named, question_value, report, rescue};
+ghost use Rattle.adf_survey_cmd.specs.CommandLine.{blanks, deleted, question_named, question_value, report, rescue};
 ghost use Rattle.adf_survey_cmd.specs.CommandLine.{rescue_asked, rescue_before, rescue_deleted};
-ghost use Rattle.adf_survey_cmd.specs.CommandLine.{survey_app, survey_cat_app};
+ghost use Rattle.adf_survey_cmd.specs.CommandLine.{survey_app, survey_blank_app, survey_cat_app};
 ghost use Rattle.adf_survey_cmd.specs.CommandLine.{survey_deleted_app, survey_file, survey_rescue_app};
 
 use adf_blocks::MOST_BLOCKS;
@@ -30,6 +30,7 @@ pub const SURVEY_USAGE: &str =
     \x20      adf-survey [--blocks N] [--map MAP] [--blank] cat --deleted BLOCK [FILE]\n\
     \x20      adf-survey [--blocks N] [--map MAP] [--blank] rescue [--keep-type] [--deleted] [--before-format] [FILE]\n\
     \x20      adf-survey [--blocks N] [--map MAP] [--blank] deleted [FILE]\n\
+    \x20      adf-survey [--blocks N] [--map MAP] [--blank] blank [FILE]\n\
     without a FILE the image comes on standard input; man adf-survey tells more\n";
 
 /// What the program tells of itself.
@@ -48,6 +49,8 @@ pub const ABOUT: About = About {
     \x20          with --before-format of what was there before the disk was formatted, and not of what stands now\n\
     \x20      adf-survey [--blocks N] [--map MAP] [--blank] deleted [FILE]\n\
     \x20          each deleted file and directory whose header still stands, and what speaks for it\n\
+    \x20      adf-survey [--blocks N] [--map MAP] [--blank] blank [FILE]\n\
+    \x20          which bytes of files are whole blocks of zeros, or of a pattern of dumping programs\n\
     \x20      adf-survey --help, adf-survey --version\n\n\
     Without a FILE, or with -, the image comes on standard input. --blocks N reads it as if it had N blocks.\n\
     --map MAP is the map that GNU ddrescue wrote of the reading: what it says was not read is no data.\n\
@@ -73,6 +76,8 @@ pub enum Question<'a> {
     RescueBefore { with_deleted: bool, keep_type: bool },
     /// The deleted headers, or the bytes of the file of one, by its block.
     Deleted { file: Option<u32> },
+    /// The bytes of files in blank blocks.
+    Blanks,
 }
 
 /// What a command line asks for.
@@ -129,13 +134,22 @@ fn survey_deleted_command<'a>(alloc: Global) -> Result<Command<'a>, AllocError>
     with_argument(Ok(Command::new(alloc, "deleted")), file_argument(alloc))
 }
 
+// The command `blank [FILE]`.
+fn survey_blank_command<'a>(alloc: Global) -> Result<Command<'a>, AllocError>
+    ensures app { IfOk result (λ c. app_of c ≡ survey_blank_app) }
+    ensures local { IfOk result (λ c. (out-Command c).has_globals ≡ false) }
+{
+    with_argument(Ok(Command::new(alloc, "blank")), file_argument(alloc))
+}
+
 // The command line.
 fn command<'a>(alloc: Global) -> Result<Command<'a>, AllocError>
     ensures { IfOk result (λ c. app_of c ≡ survey_app) }
 {
     let cats = with_subcommand(flagged(alloc), survey_cat_command(alloc));
     let rescues = with_subcommand(cats, survey_rescue_command(alloc));
-    with_subcommand(rescues, survey_deleted_command(alloc))
+    let deletes = with_subcommand(rescues, survey_deleted_command(alloc));
+    with_subcommand(deletes, survey_blank_command(alloc))
 }
 
 // The blocks that the matches name, if any.
@@ -216,6 +230,8 @@ fn question_named<'a>(name: &str, found: &ArgMatches<'a>) -> Option<Question<'a>
         ))
     } else if name == "deleted" {
         Some(Question::Deleted { file: None })
+    } else if name == "blank" {
+        Some(Question::Blanks)
     } else {
         None
     }
@@ -418,6 +434,13 @@ pub fn survey_words_as_documented()
     ensures deleted_any { (file : List ℕ) → AsksSurveyOf
         (codes "adf-survey" ∷ codes "deleted" ∷ codes "--" ∷ file ∷ [])
         (asked None (deleted None)) (file_meant file) }
+    ensures blanks { AsksSurveyOf (codes "adf-survey" ∷ codes "blank" ∷ []) (asked None blanks) None }
+    ensures blanks_file { AsksSurveyOf (codes "adf-survey" ∷ codes "blank" ∷ codes "a.adf" ∷ [])
+        (asked None blanks) (Some (codes "a.adf")) }
+    ensures blanks_two { AreRefusedBySurvey
+        (codes "adf-survey" ∷ codes "blank" ∷ codes "a" ∷ codes "b" ∷ []) }
+    ensures json_blank { AreRefusedBySurvey
+        (codes "adf-survey" ∷ codes "--json" ∷ codes "blank" ∷ []) }
     ensures deleted_block { AsksSurveyOf
         (codes "adf-survey" ∷ codes "cat" ∷ codes "--deleted" ∷ codes "412" ∷ codes "a.adf" ∷ [])
         (asked None (deleted (Some 412))) (Some (codes "a.adf")) }

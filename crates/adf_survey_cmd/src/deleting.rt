@@ -166,8 +166,8 @@ fn deleted_lines(alloc: Global, deletions: &Deletions<'_>) -> Result<Vec<u8>, Al
     Ok(text)
 }
 
-// Writes a text.
-fn write_text<W: Sink>(text: &Vec<u8>, output: &mut W) -> Outcome
+/// Writes a text.
+pub fn write_text<W: Sink>(text: &Vec<u8>, output: &mut W) -> Outcome
     requires { W.has_failed output.old ≡ false }
     ensures { Does (λ reply. reply ≡ on_output 0 text.now.items) result (seen W.held W.has_failed output.old output.new) }
 {

@@ -1,11 +1,15 @@
 // What is surveyed without what was never read.
 
-ghost use Rattle.std.specs.Prelude.{◌≡◌, ◌++◌, IfOk, OnOk};
-ghost use Rattle.adf_survey_cmd.specs.Answers.{unless_blank, unless_mapped, unread_remarks};
+ghost use Rattle.std.specs.Prelude.{◌≡◌, ◌++◌, [], Bool, IfOk, OnOk, None, Some};
+ghost use Rattle.adf_survey_cmd.specs.Answers.{AreUnreadLines, unless_blank, unless_mapped, unread_remarks};
+ghost use Rattle.adf_survey_cmd.specs.UnreadLines.{IsBlankText, IsMappedText, IsUnreadText};
 ghost use Rattle.adf_subjects.specs.Subject.{subject_value};
 
+use adf_base::NoMemory;
+use adf_findings::survey;
 use adf_maps::Map;
-use adf_subjects::{Remark, Saying, Subject};
+use adf_passages::passages_text;
+use adf_subjects::{Remark, Saying, Subject, standing};
 use adf_unread::{UnreadRun, blank_marks, drop_unread, map_marks, unread_runs};
 use std::alloc::{AllocError, Global};
 
@@ -28,7 +32,7 @@ fn unless_mapped(
     alloc: Global,
     map: &Option<Map>,
     mut subject: Subject,
-) -> Result<Subject, AllocError>
+) -> Result<Subject, NoMemory>
     ensures { IfOk result (λ s. subject_value s ≡ unless_mapped map.now (subject_value subject)) }
 {
     if let Some(map) = map {
@@ -41,7 +45,7 @@ fn unless_mapped(
 }
 
 // What is surveyed, without its blank blocks if these count as never read.
-fn unless_blank(alloc: Global, blank: bool, mut subject: Subject) -> Result<Subject, AllocError>
+fn unless_blank(alloc: Global, blank: bool, mut subject: Subject) -> Result<Subject, NoMemory>
     ensures { IfOk result (λ s. subject_value s ≡ unless_blank blank (subject_value subject)) }
 {
     if blank {
@@ -51,15 +55,102 @@ fn unless_blank(alloc: Global, blank: bool, mut subject: Subject) -> Result<Subj
     Ok(subject)
 }
 
-/// What is surveyed, without what was never read by a map, and without its blank blocks if these count as never read.
+// The lines of the bytes of files in blocks that were not read, or with `json` their objects.
+fn unread_text(
+    alloc: Global,
+    marks: &Vec<bool>,
+    json: bool,
+    subject: &Subject,
+) -> Result<Vec<u8>, NoMemory>
+    ensures { IfOk result (λ text. IsUnreadText json marks.now.items (subject_value subject.now) text.items) }
+{
+    let typed = standing(alloc, subject)?;
+    let found = survey(alloc, &typed.image)?;
+    let text = passages_text(alloc, &found, "unread", json, marks)?;
+    Ok(text)
+}
+
+// Those of what a map says was not read.
+fn mapped_text(
+    alloc: Global,
+    map: &Option<Map>,
+    json: bool,
+    subject: &Subject,
+) -> Result<Vec<u8>, NoMemory>
+    ensures { IfOk result (λ text. IsMappedText json map.now (subject_value subject.now) text.items) }
+{
+    let Some(map) = map else {
+        return Ok(Vec::new(alloc));
+    };
+    let marks = map_marks(alloc, map, &subject.image)?;
+    unread_text(alloc, &marks, json, subject)
+}
+
+// Those of blank blocks, if these count as never read.
+fn blank_text(
+    alloc: Global,
+    blank: bool,
+    json: bool,
+    subject: &Subject,
+) -> Result<Vec<u8>, NoMemory>
+    ensures { IfOk result (λ text. IsBlankText json blank (subject_value subject.now) text.items) }
+{
+    if !blank {
+        return Ok(Vec::new(alloc));
+    }
+    let marks = blank_marks(alloc, &subject.image)?;
+    unread_text(alloc, &marks, json, subject)
+}
+
+/// What is surveyed without what was never read, and the lines behind its findings.
+#[derive(Drop)]
+pub struct Dropped {
+    pub subject: Subject,
+    pub lines: Vec<u8>,
+}
+
+// The same, with the lines in this form.
+fn told_unless_unread(
+    alloc: Global,
+    map: &Option<Map>,
+    blank: bool,
+    json: bool,
+    subject: Subject,
+) -> Result<Dropped, NoMemory>
+    ensures subject { IfOk result (λ d.
+        subject_value d.subject ≡ unless_blank blank (unless_mapped map.now (subject_value subject))) }
+    ensures lines { IfOk result (λ d. AreUnreadLines json map.now blank (subject_value subject) d.lines.items) }
+{
+    let mut lines = mapped_text(alloc, map, json, &subject)?;
+    let rest = unless_mapped(alloc, map, subject)?;
+    let more = blank_text(alloc, blank, json, &rest)?;
+    lines.extend_from_slice(&more)?;
+    Ok(Dropped {
+        subject: unless_blank(alloc, blank, rest)?,
+        lines,
+    })
+}
+
+/// What is surveyed, without what was never read by a map, and without its blank blocks if these count as never read; and in
+/// this form, if there is one, the lines of the bytes of files that these had.
 pub fn unless_unread(
     alloc: Global,
     map: &Option<Map>,
     blank: bool,
+    form: Option<bool>,
     subject: Subject,
-) -> Result<Subject, AllocError>
-    ensures { IfOk result (λ s. subject_value s ≡ unless_blank blank (unless_mapped map.now (subject_value subject))) }
+) -> Result<Dropped, NoMemory>
+    ensures subject { IfOk result (λ d.
+        subject_value d.subject ≡ unless_blank blank (unless_mapped map.now (subject_value subject))) }
+    ensures lines { (json : Bool) → form ≡ Some json
+        → IfOk result (λ d. AreUnreadLines json map.now blank (subject_value subject) d.lines.items) }
 {
-    let subject = unless_mapped(alloc, map, subject)?;
-    unless_blank(alloc, blank, subject)
+    if let Some(json) = form {
+        return told_unless_unread(alloc, map, blank, json, subject);
+    }
+    let rest = unless_mapped(alloc, map, subject)?;
+    Ok(Dropped {
+        subject: unless_blank(alloc, blank, rest)?,
+        lines: Vec::new(alloc),
+    })
 }

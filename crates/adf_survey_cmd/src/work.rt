@@ -3,13 +3,17 @@
 ghost use Rattle.std.specs.Prelude.{◌≡◌, List, Some, false, IfErr, IfOk};
 ghost use Rattle.adf_findings.specs.Survey.{OnSurvey};
 ghost use Rattle.adf_rescue.specs.Opened.{is_mended};
-ghost use Rattle.adf_runs.specs.{Outcomes.Blames, Outcomes.Does, Outcomes.EndsBy, WorkFaults.IsNoWork, Streams.seen};
-ghost use Rattle.adf_survey_cmd.specs.Answers.{HasBadSurveyPath, QuestionAnswer, SurveyAnswer, types_kept, unless_blank, unless_mapped};
+ghost use Rattle.adf_runs.specs.{Outcomes.Blames, Outcomes.Does, Outcomes.EndsBy};
+ghost use Rattle.adf_runs.specs.{Streams.seen, WorkFaults.IsNoWork};
+ghost use Rattle.adf_survey_cmd.specs.Answers.{AnswerBehind, HasBadSurveyPath, InquiryAnswer, QuestionAnswer, SurveyAnswer};
+ghost use Rattle.adf_survey_cmd.specs.Answers.{lines_form, types_kept};
 ghost use Rattle.adf_survey_cmd.specs.CommandLine.{InquiryValue, QuestionValue, question_value};
-ghost use Rattle.adf_survey_cmd.specs.Work.{Answers, Meets, Shows};
+ghost use Rattle.adf_survey_cmd.specs.Work.{Answers, Meets, Shows, task_json};
 ghost use Rattle.adf_subjects.specs.Rescues.{Replies, RescuesBefore, RescuesTypedOf};
 ghost use Rattle.adf_subjects.specs.Subject.{IsTyped, SubjectValue, begun_subject, other_type, subject_value};
 
+use crate::behind::end_behind;
+use crate::blanks::write_blanks;
 use crate::command_line::{Question, SURVEY_USAGE as USAGE, parse_survey, survey_file};
 use crate::copying::{Asked, copy_found};
 use crate::deleting::tell_deleted;
@@ -17,7 +21,7 @@ use crate::hints::{hinted, is_hard_disk};
 use crate::listing::write_list;
 use crate::reporting::write_findings;
 use crate::rescuing::{Terms, rescue_image};
-use crate::unread::unless_unread;
+use crate::unread::{Dropped, unless_unread};
 use adf_cmd::most_image_bytes;
 use adf_file_runs::FileProgram;
 use adf_findings::{Survey, some_survey, survey};
@@ -36,6 +40,8 @@ pub enum View {
     List { json: bool },
     /// The names of the path, and whether the file may be damaged.
     Cat { names: Vec<Name>, damaged: bool },
+    /// The bytes of files in blank blocks.
+    Blanks,
 }
 
 /// What is done with an image.
@@ -96,6 +102,7 @@ fn task_for(alloc: Global, question: Question<'_>) -> Result<Task, WorkFault>
             types: types_kept(keep_type),
         }),
         Question::Deleted { file } => Ok(Task::Deleted(file)),
+        Question::Blanks => Ok(Task::Show(View::Blanks)),
     }
 }
 
@@ -119,6 +126,7 @@ impl View {
         match self {
             View::Findings { json } => write_findings(alloc, subject, survey, *json, output),
             View::List { json } => write_list(alloc, subject, survey, *json, output),
+            View::Blanks => write_blanks(alloc, survey, output),
             View::Cat { names, damaged } => {
                 let asked = Asked {
                     names,
@@ -296,7 +304,51 @@ impl Task {
     }
 }
 
+impl Task {
+    // The form of the lines that findings are told in.
+    fn json(&self) -> Option<bool>
+        ensures { result ≡ task_json self.now }
+    {
+        match self {
+            Task::Show(View::Findings { json }) => Some(*json),
+            Task::Show(View::List { json }) => Some(*json),
+            _ => None,
+        }
+    }
+}
+
 impl Work {
+    // The form of the lines behind the answer, if it gets any.
+    #[tactic(auto, using(crate::proofs::BehindAnswers::form_asked))]
+    fn lines_form(&self) -> Option<bool>
+        ensures { (r : InquiryValue) → Meets self.now r → result ≡ lines_form r }
+    {
+        if self.map.is_some() || self.blank {
+            self.task.json()
+        } else {
+            None
+        }
+    }
+
+    // Does the work on what is surveyed of an input, without what was never read, and with the lines behind that.
+    fn on_dropped<W: Sink>(&self, alloc: Global, subject: Subject, output: &mut W) -> Outcome
+        requires { W.has_failed output.old ≡ false }
+        ensures ends { (r : InquiryValue) → Meets self.now r
+            → EndsBy (AnswerBehind (lines_form r) r (subject_value subject)) result (W.held output.old) (W.held output.new) }
+        ensures blames { Blames result false (W.has_failed output.new) }
+    {
+        let form = self.lines_form();
+        let Ok(dropped) = unless_unread(alloc, &self.map, self.blank, form, subject) else {
+            return Outcome::NoMemory;
+        };
+        let Dropped { subject, lines } = dropped;
+        let outcome = self.task.on_subject(alloc, subject, output);
+        match form {
+            Some(_) => end_behind(outcome, &lines, output),
+            None => outcome,
+        }
+    }
+
     // Does the work on what is surveyed of an input, if there was memory for that.
     fn on_subject<W: Sink>(
         &self,
@@ -306,15 +358,11 @@ impl Work {
     ) -> Outcome
         requires { W.has_failed output.old ≡ false }
         ensures ends { (r : InquiryValue) (s : SubjectValue) → Meets self.now r → IfOk subject (λ x. subject_value x ≡ s)
-            → EndsBy (QuestionAnswer r.question (unless_blank r.blank (unless_mapped r.map s))) result
-            (W.held output.old) (W.held output.new) }
+            → EndsBy (InquiryAnswer r s) result (W.held output.old) (W.held output.new) }
         ensures blames { Blames result false (W.has_failed output.new) }
     {
-        let Ok(subject) = subject else {
-            return Outcome::NoMemory;
-        };
-        match unless_unread(alloc, &self.map, self.blank, subject) {
-            Ok(subject) => self.task.on_subject(alloc, subject, output),
+        match subject {
+            Ok(subject) => self.on_dropped(alloc, subject, output),
             Err(_) => Outcome::NoMemory,
         }
     }

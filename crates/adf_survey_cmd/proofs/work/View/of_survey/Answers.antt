@@ -1,6 +1,9 @@
-use Rattle.std.proofs.Common.{◌≡◌, inr, subst, sym}
+use Rattle.std.proofs.Common.{◌≡◌, codes, false, inr, subst, sym}
+use Rattle.adf_passages.specs.PassageLines.{passages_text}
+use Rattle.adf_runs.specs.Commands.{on_output}
+use Rattle.adf_unread.specs.Blank.{blank_marks}
 use Rattle.adf_runs.proofs.Endings.{ends_weaker}
-use Rattle.adf_survey_cmd.specs.{CommandLine.list, CommandLine.report, Work.Shows}
+use Rattle.adf_survey_cmd.specs.{CommandLine.blanks, CommandLine.list, CommandLine.report, Work.Shows}
 use Rattle.adf_subjects.specs.Subject.{IsTyped, begun_subject, surveyed_as}
 use Rattle.adf_survey_cmd.specs.Answers.{CopiesFound, QuestionAnswer, TellsFindings, TellsFound}
 use Rattle.adf_survey_cmd.proofs.work.View.of_survey.Goals as goal
@@ -35,3 +38,13 @@ returns-in-Cat-clause-ends g c = λ s q typed shows.
     ends_weaker (CopiesFound c.in-Cat.damaged t w fs _) (QuestionAnswer q s) _ _ _
     (λ reply copies. subst (λ x. QuestionAnswer x s reply) (sym asks) (inr (t, is, (_, text, w, fs, survey, copies))))
     (rw c.deref.ensures.value at (c.copy_found.ensures.ends w fs survey))
+
+pub returns-in-Blanks-clause-ends : goal.returns-in-Blanks-clause-ends
+returns-in-Blanks-clause-ends g c = λ s q typed shows.
+    let image = c.args.survey.now.image in
+    let t = surveyed_as image c.args.subject.now in
+    let is = subst (λ image. IsTyped (begun_subject s) (surveyed_as image c.args.subject.now)) (sym c.requires.image) typed in
+    let (w, fs, survey) = c.some_survey.ensures image in
+    let asks : q ≡ blanks = subst (λ view. Shows view q) c.in-Blanks.is shows in
+    ends_weaker (λ reply. reply ≡ on_output 0 (passages_text false (codes "blank") (blank_marks image) image w)) (QuestionAnswer q s) _ _ _
+    (λ reply told. subst (λ x. QuestionAnswer x s reply) (sym asks) (t, is, (w, fs, survey, told))) (c.write_blanks.ensures.ends w fs survey)

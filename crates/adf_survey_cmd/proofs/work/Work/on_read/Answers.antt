@@ -1,5 +1,5 @@
 use Rattle.std.proofs.Common.{◌≡◌, ◌∙◌, ℕ, List, Option, IfOk, ap, subst}
-use Rattle.adf_survey_cmd.specs.{Answers.QuestionAnswer, Answers.unless_blank, Answers.unless_mapped, Hints.is_hard_disk}
+use Rattle.adf_survey_cmd.specs.{Answers.InquiryAnswer, Hints.is_hard_disk}
 use Rattle.adf_subjects.specs.Subject.{subject, subject_value}
 use Rattle.adf_survey_cmd.proofs.HintedAnswers.{hinted_ends}
 use Rattle.adf_survey_cmd.proofs.work.Work.on_read.Goals as goal
@@ -11,5 +11,5 @@ returns-clause-ends g c = λ r meets.
     let made =
     subst (λ (n : Option ℕ). IfOk c.of_read-subject.result (λ x. subject_value x ≡ subject n bytes)) meets.0 c.of_read-subject.ensures in
     let disk : c.is_hard_disk-on_disk.result ≡ is_hard_disk bytes = c.is_hard_disk-on_disk.ensures ∙ ap is_hard_disk c.deref.ensures.value in
-    hinted_ends bytes (QuestionAnswer r.question (unless_blank r.blank (unless_mapped r.map s))) _ _ c.is_hard_disk-on_disk.result c.on_subject-outcome.result c.hinted.result disk
+    hinted_ends bytes (InquiryAnswer r s) _ _ c.is_hard_disk-on_disk.result c.on_subject-outcome.result c.hinted.result disk
     c.hinted.ensures (c.on_subject-outcome.ensures.ends r s meets made)

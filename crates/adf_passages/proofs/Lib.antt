@@ -1,0 +1,2 @@
+-- passages, block by block
+pub mod PassageSteps

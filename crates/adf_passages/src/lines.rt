@@ -1,0 +1,112 @@
+// The lines of passages.
+
+ghost use Rattle.std.specs.Prelude.{◌≡◌, ◌++◌, ℕ, List, IfOk, OnOk, length, map, min, take};
+ghost use Rattle.std.specs.List.{flat_map};
+ghost use Rattle.adf_findings.specs.Survey.{OnSurvey};
+ghost use Rattle.adf_json.specs.Objects.{member_value};
+ghost use Rattle.adf_passages.specs.PassageLines.{lines_of_passages, passage_line, passage_members, passage_text, passages_text};
+
+use crate::passages::{Passage, marked_passages};
+use adf_base::NoMemory;
+use adf_findings::Survey;
+use adf_json::{Member, joined, push_object};
+use adf_texts::{push_names, push_number};
+use std::alloc::{AllocError, Global};
+
+// How passages are told: by this word, as objects in place of lines.
+#[derive(Clone, Copy)]
+struct Telling<'a> {
+    word: &'a str,
+    json: bool,
+}
+
+// Appends the line of a passage, with the path of its file.
+fn push_line(
+    alloc: Global,
+    survey: &Survey<'_>,
+    word: &str,
+    p: &Passage,
+    text: &mut Vec<u8>,
+) -> Result<(), AllocError>
+    ensures { OnSurvey survey.now.image (λ w _.
+        OnOk result (text.new.items ≡ text.old.items ++ passage_line word.now survey.now.image w p.now)) }
+{
+    let Ok(path) = survey.path(alloc, p.entry) else {
+        return Err(AllocError);
+    };
+    text.extend_from_slice(word.as_bytes())?;
+    text.extend_from_slice(b": ")?;
+    push_names(text, &path)?;
+    text.extend_from_slice(b", bytes ")?;
+    push_number(text, p.first, b' ')?;
+    text.extend_from_slice(b"to ")?;
+    push_number(text, p.last, b'\n')
+}
+
+// The members of the object of a passage with this path.
+#[tactic(auto, unfolding(crate::specs::PassageLines::passage_members))]
+fn passage_members<'a>(word: &'a str, path: &'a [u8], p: &Passage) -> [Member<'a>; 4]
+    ensures { map member_value result ≡ passage_members word.now path.now p.now }
+{
+    [
+        Member::text("line", word),
+        Member::bytes("path", path),
+        Member::number("first", p.first),
+        Member::number("last", p.last),
+    ]
+}
+
+// Appends the line of a passage, or its object.
+fn push_text(
+    alloc: Global,
+    survey: &Survey<'_>,
+    telling: Telling<'_>,
+    p: &Passage,
+    text: &mut Vec<u8>,
+) -> Result<(), AllocError>
+    ensures { OnSurvey survey.now.image (λ w _. OnOk result
+        (text.new.items ≡ text.old.items ++ passage_text telling.entry.json telling.entry.word.now survey.now.image w p.now)) }
+{
+    if !telling.json {
+        return push_line(alloc, survey, telling.word, p, text);
+    }
+    let Ok(path) = survey.path(alloc, p.entry) else {
+        return Err(AllocError);
+    };
+    let path = joined(alloc, &path)?;
+    push_object(text, &passage_members(telling.word, &path, p))
+}
+
+// The lines of passages, or their objects.
+fn lines_of_passages(
+    alloc: Global,
+    survey: &Survey<'_>,
+    telling: Telling<'_>,
+    passages: &Vec<Passage>,
+) -> Result<Vec<u8>, AllocError>
+    ensures { OnSurvey survey.now.image (λ w _. IfOk result (λ text. text.items
+        ≡ lines_of_passages telling.entry.json telling.entry.word.now survey.now.image w passages.now.items)) }
+{
+    let mut text = Vec::new(alloc);
+    for i in 0..passages.len() {
+        push_text(alloc, survey, telling, &passages[i], &mut text)?;
+    }
+    Ok(text)
+}
+
+/// The lines of the passages of files in the blocks that have a mark, which begin with a word; or with `json` their objects.
+/// `NoMemory` if an allocation fails.
+pub fn passages_text(
+    alloc: Global,
+    survey: &Survey<'_>,
+    word: &str,
+    json: bool,
+    marks: &Vec<bool>,
+) -> Result<Vec<u8>, NoMemory>
+    ensures { OnSurvey survey.now.image (λ w _. IfOk result (λ text. text.items
+        ≡ passages_text json word.now marks.now.items survey.now.image w)) }
+{
+    let passages = marked_passages(alloc, survey, marks)?;
+    let telling = Telling { word, json };
+    Ok(lines_of_passages(alloc, survey, telling, &passages)?)
+}
