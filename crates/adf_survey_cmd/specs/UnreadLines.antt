@@ -51,12 +51,12 @@ abbrev pub ToldBehind : List ℕ → (Reply → Type 0) → Reply → Type 0
 ToldBehind text answers reply = (told : Reply) × answers told × (reply ≡ reply_behind text told)
 
 -- an outcome is another with a text behind what that wrote
-abbrev pub IsBehind : List ℕ → Outcome → Outcome → Type 0
-IsBehind text w v = (status_of v ≡ status_behind text (status_of w)) × (outcome_text v ≡ outcome_text w)
+abbrev pub IsToldBehind : List ℕ → Outcome → Outcome → Type 0
+IsToldBehind text w v = (status_of v ≡ status_behind text (status_of w)) × (outcome_text v ≡ outcome_text w)
 
 -- how a work ends with a text behind what it wrote: where it gave no answer, as before; else the text is written, or output fails
 abbrev pub EndsBehind : List ℕ → Outcome → Outcome → Seen → Type 0
 EndsBehind text w v output =
     ((status_of w ≡ 3) × (v ≡ w) × (output.after ≡ output.before))
-    ⊎ ((¬ (status_of w ≡ 3)) × ((IsBehind text w v × Appends output.before output.after text)
+    ⊎ ((¬ (status_of w ≡ 3)) × ((IsToldBehind text w v × Appends output.before output.after text)
     ⊎ ((v ≡ WriteFault) × AppendsPart true output.before output.after text)))

@@ -2,13 +2,13 @@
 
 ghost use Rattle.std.specs.Prelude.{◌≡◌, false};
 ghost use Rattle.adf_runs.specs.{Outcomes.is_read_fault, Outcomes.is_write_fault, Streams.seen};
-ghost use Rattle.adf_survey_cmd.specs.UnreadLines.{EndsBehind, IsBehind};
+ghost use Rattle.adf_survey_cmd.specs.UnreadLines.{EndsBehind, IsToldBehind};
 
 use adf_runs::{Outcome, Sink, write_all};
 
 // The outcome of a work with a text behind what it wrote: a fault is written with that.
 fn raised(outcome: Outcome, text: &[u8]) -> Outcome
-    ensures { IsBehind text.now outcome result }
+    ensures { IsToldBehind text.now outcome result }
 {
     match outcome {
         Outcome::Done if !text.is_empty() => Outcome::FaultWritten,
