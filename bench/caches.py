@@ -54,7 +54,9 @@ def recorded(survey, header):
 
 
 def wrong_caches(survey):
-    """The headers of the directories whose cache is wrong, the root first."""
+    """The nodes of the directories whose cache is wrong, the root first."""
+    if not survey.nodes or not survey.cached:
+        return []
     entries = {}
     for n in range(1, len(survey.nodes)):
         entries.setdefault(survey.nodes[n][2], []).append(survey.block_of(n))
@@ -66,7 +68,7 @@ def wrong_caches(survey):
         found = cached(survey, header)
         told = None if found is None else sorted((h, s if k == FILE % 256 else -1, k, name) for h, s, k, name in found)
         if told != sorted(recorded(survey, h) for h in entries.get(n, [])):
-            wrong.append(header)
+            wrong.append(n)
     return wrong
 
 
@@ -75,7 +77,8 @@ def main():
         with open(path, "rb") as it:
             survey = Survey(it.read())
         count = sum(n == 0 or survey.word(survey.block_of(n), 127) == DIR for n in range(len(survey.nodes)))
-        print(path, count, "directories, wrong:", *wrong_caches(survey))
+        print(path, count, "directories, wrong:", *map(survey.block_of, wrong_caches(survey)))
 
 
-main()
+if __name__ == "__main__":
+    main()

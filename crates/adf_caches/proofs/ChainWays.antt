@@ -13,12 +13,14 @@ use Rattle.adf_findings.specs.Members.{has_mark, owns}
 use Rattle.adf_links.specs.Links.{is_entry_at}
 use Rattle.adf_links.proofs.ChainSteps.{fewer_unmarked, mark_from, unmarked}
 use Rattle.adf_caches.specs.declared.chains.CacheMarks.{CacheMarks}
-use Rattle.adf_caches.specs.Caches.{directory_named, entries_in, entries_recorded, is_cache_block, next_cache, says_cache}
-use Rattle.adf_caches.specs.Judging.{AreFresh, IsRightChain, IsWrongChain, Leads, MarksNamed, Passes, Stops, Stops.known, Stops.no_cache, Stops.unlike}
+use Rattle.adf_caches.specs.Caches.{directory_named, entries_named, entries_recorded, is_cache_block, next_cache, says_cache}
+use Rattle.adf_caches.specs.Judging.{AreFresh, IsRightChain, IsWrongChain, Leads, MarksNamed, Passes, StopsChain}
+use Rattle.adf_caches.specs.Judging.StopsChain.{known, no_cache, unlike}
 use Rattle.adf_caches.specs.Marking.{mark_each, mark_one}
 use Rattle.adf_caches.specs.Paths.{IsPath.ends, IsPath.goes}
 use Rattle.adf_caches.proofs.MarkSteps.{mark_append}
 use Rattle.adf_caches.proofs.PathSteps.{longer_path, no_way_round, rest_of_path}
+use Rattle.adf_caches.proofs.RecordSteps.{keeps_both}
 
 -- what a test lets pass
 marks_let : (t : Bool) (m new : List Bool) → cond t (Some m) None ≡ Some new → (t ≡ true) × (m ≡ new)
@@ -117,8 +119,11 @@ module _ (image : List ℕ) (w : Walk) (d a : ℕ) (old : CacheMarks) where
     seen = λ c m e. absurd (h.fresh c m e);
   }
 
-  more_entries : (passed : List ℕ) (b : ℕ) → entries_recorded image w d (passed ++ b ∷ []) ≡ entries_recorded image w d passed ++ (entries_in image w d b ++ [])
-  more_entries passed b = flat_map-append (entries_in image w d) passed (b ∷ []) ∙ ap (λ l. entries_recorded image w d passed ++ l) (flat_map-cons (entries_in image w d) b [])
+  more_entries : (passed : List ℕ) (b : ℕ)
+      → entries_recorded image w d (passed ++ b ∷ []) ≡ entries_recorded image w d passed ++ (entries_named image w d b ++ [])
+  more_entries passed b =
+      flat_map-append (entries_named image w d) passed (b ∷ [])
+      ∙ ap (λ l. entries_recorded image w d passed ++ l) (flat_map-cons (entries_named image w d) b [])
 
   then_marks : (xs ys : List (Option ℕ)) (marks now : List Bool) (end : Option (List Bool)) → mark_each xs marks ≡ Some now → mark_each ys now ≡ end
       → mark_each (xs ++ ys) marks ≡ end
@@ -137,8 +142,8 @@ module _ (image : List ℕ) (w : Walk) (d a : ℕ) (old : CacheMarks) where
         few = omega (arith, h.few, fewer, size, longer);
         size = size ∙ h.size;
         entries = ap (λ l. mark_each l old.entries.items) (more_entries h.passed b)
-            ∙ then_marks (entries_recorded image w d h.passed) (entries_in image w d b ++ []) old.entries.items now.entries.items _ h.entries
-            (then_marks (entries_in image w d b) [] now.entries.items new.entries.items _ p.entries refl);
+            ∙ then_marks (entries_recorded image w d h.passed) (entries_named image w d b ++ []) old.entries.items now.entries.items _ h.entries
+            (then_marks (entries_named image w d b) [] now.entries.items new.entries.items _ p.entries refl);
         seen = λ c m named. elim (mark_from now.blocks.items b at.inside c (subst (λ l. has_mark l c ≡ true) at.is m)) [
           | inl y ↦ list_any-append (λ x. x == c) h.passed (b ∷ []) ∙ any_last c b h.passed (sym y)
           | inr y ↦ list_any-append (λ x. x == c) h.passed (b ∷ []) ∙ any_first c b h.passed (h.seen c y named)
@@ -164,7 +169,7 @@ module _ (image : List ℕ) (w : Walk) (d a : ℕ) (old : CacheMarks) where
   first_is ends some = absurd (some refl)
   first_is (goes {bs = ds} r q) some = (r, (ds, refl))
 
-  pub chain_stops : (now : CacheMarks) (b : ℕ) → IsOnChain image w d a old now b → (b ≡ 0 → ⊥) → Stops image w d b now → IsWrongChain image w d a old
+  pub chain_stops : (now : CacheMarks) (b : ℕ) → IsOnChain image w d a old now b → (b ≡ 0 → ⊥) → StopsChain image w d b now → IsWrongChain image w d a old
   chain_stops now b h some stops bs way =
       let rest = rest_of_path (is_cache_block image w d) (next_cache image) (no_zero_cache image w d) way refl h.way in
       let first = first_is rest.1 some in
@@ -176,13 +181,17 @@ module _ (image : List ℕ) (w : Walk) (d a : ℕ) (old : CacheMarks) where
             let seen = h.seen b (was_marked b now.blocks.items none lt) parts.1 in
             absurd (no_way_round (is_cache_block image w d) (next_cache image) (no_zero_cache image w d) h.way seen bs way)
         | unlike none ↦
-            let begins : entries_recorded image w d bs ≡ entries_recorded image w d h.passed ++ (entries_in image w d b ++ entries_recorded image w d first.1.0) =
+            let begins : entries_recorded image w d bs
+                ≡ entries_recorded image w d h.passed ++ (entries_named image w d b ++ entries_recorded image w d first.1.0) =
             ap (entries_recorded image w d) (rest.2 ∙ ap (λ l. h.passed ++ l) first.1.1)
-            ∙ (flat_map-append (entries_in image w d) h.passed (b ∷ first.1.0)
-            ∙ ap (λ l. entries_recorded image w d h.passed ++ l) (flat_map-cons (entries_in image w d) b first.1.0)) in
+            ∙ (flat_map-append (entries_named image w d) h.passed (b ∷ first.1.0)
+            ∙ ap (λ l. entries_recorded image w d h.passed ++ l) (flat_map-cons (entries_named image w d) b first.1.0)) in
             ap (λ l. mark_each l old.entries.items) begins
-            ∙ then_marks (entries_recorded image w d h.passed) (entries_in image w d b ++ entries_recorded image w d first.1.0) old.entries.items
+            ∙ then_marks (entries_recorded image w d h.passed) (entries_named image w d b ++ entries_recorded image w d first.1.0) old.entries.items
             now.entries.items None h.entries
-            (mark_append (entries_in image w d b) (entries_recorded image w d first.1.0) now.entries.items
+            (mark_append (entries_named image w d b) (entries_recorded image w d first.1.0) now.entries.items
             ∙ ap (option_and_then (mark_each (entries_recorded image w d first.1.0))) none)
       ]
+
+-- the steps of a chain that ends
+pub ruleset judging = (chain_ends, fewer_left, named_both, keeps_both)

@@ -5,7 +5,7 @@ use Rattle.std.specs.List.{list_any}
 use Rattle.std.proofs.Common.{◌≡◌, ◌≤◌, ◌∙◌, ℕ, zero, suc, Bool, true, false, List, [], ◌∷◌, ◌++◌, ap, arith, inl, inr, length, refl, subst, sym}
 use Rattle.std.proofs.lemmas.Bool.{cases_Bool, cond-false, cond-true, eq-eqb, eqb-true}
 use Rattle.std.proofs.lemmas.Grind.{common_steps}
-use Rattle.adf_caches.specs.Paths.{IsPath, IsPath.ends, IsPath.goes, chain_by}
+use Rattle.adf_caches.specs.Paths.{IsPath, IsPath.ends, IsPath.goes, way_by}
 
 module _ (right : ℕ → Bool) (next : ℕ → ℕ) where
   -- two ways, one behind the other
@@ -72,7 +72,7 @@ module _ (right : ℕ → Bool) (next : ℕ → ℕ) (not_zero : right 0 ≡ fal
   nonzero {b} r = elim (cases_Bool (b == 0)) [ inl y ↦ absurd (clashes r (eqb-true b 0 y)) | inr y ↦ y ]
 
   -- the chain is the way
-  pub chain_of_path : {b c : ℕ} {bs : List ℕ} → IsPath right next b bs c → c ≡ 0 → (k : ℕ) → length bs ≤ k → chain_by right next k b ≡ Some bs
+  pub chain_of_path : {b c : ℕ} {bs : List ℕ} → IsPath right next b bs c → c ≡ 0 → (k : ℕ) → length bs ≤ k → way_by right next k b ≡ Some bs
   chain_of_path {b} ends e zero few = cond-true (b == 0) (Some []) None (eq-eqb b 0 e)
   chain_of_path {b} ends e (suc k) few = cond-true (b == 0) (Some []) _ (eq-eqb b 0 e)
   chain_of_path (goes r p) e zero few = absurd (omega (arith, few))
@@ -82,7 +82,7 @@ module _ (right : ℕ → Bool) (next : ℕ → ℕ) (not_zero : right 0 ≡ fal
       ∙ ap (option_map (λ l. b ∷ l)) (chain_of_path p e k (omega (arith, few))))
 
   -- and the way is the chain
-  pub path_of_chain : (k b : ℕ) (bs : List ℕ) → chain_by right next k b ≡ Some bs → IsPath right next b bs 0
+  pub path_of_chain : (k b : ℕ) (bs : List ℕ) → way_by right next k b ≡ Some bs → IsPath right next b bs 0
   path_of_chain zero b bs h = elim (cases_Bool (b == 0)) [
     | inl y ↦ ends_at b bs (eqb-true b 0 y) (sym (cond-true (b == 0) (Some []) None y) ∙ h)
     | inr y ↦ let none = sym (cond-false (b == 0) (Some []) None y) ∙ h in cc
@@ -93,7 +93,7 @@ module _ (right : ℕ → Bool) (next : ℕ → ℕ) (not_zero : right 0 ≡ fal
         let one = sym (cond-false (b == 0) (Some []) _ y) ∙ h in
         elim (cases_Bool (right b)) [
           | inl r ↦
-              let more = mapped (λ l. b ∷ l) (chain_by right next k (next b)) bs (sym (cond-true (right b) _ None r) ∙ one) in
+              let more = mapped (λ l. b ∷ l) (way_by right next k (next b)) bs (sym (cond-true (right b) _ None r) ∙ one) in
               subst (λ l. IsPath right next b l 0) more.2 (goes r (path_of_chain k (next b) more.0 more.1))
           | inr r ↦ let none = sym (cond-false (right b) _ None r) ∙ one in cc
         ]

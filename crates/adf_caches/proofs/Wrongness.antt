@@ -3,7 +3,8 @@
 -- a, e a range of entries; h how many are in it; o an entry that is named, or none; f what a record names; r a record.
 use Rattle.std.specs.Prelude.{◌==◌, ◌&&◌, ◌||◌, ◌/◌, ◌*◌, not, nat_le, nat_lt, Option, Some, None, cond, count_by, is_some, map}
 use Rattle.std.specs.{List.list_all, List.range_with_len}
-use Rattle.std.proofs.Common.{◌≡◌, ◌<◌, ◌≤◌, ◌∙◌, ◌+◌, ◌-◌, ℕ, zero, suc, Bool, true, false, List, [], ◌∷◌, ◌++◌, ap, arith, inl, inr, length, refl, set, subst, sym}
+use Rattle.std.proofs.Common.{◌≡◌, ◌<◌, ◌≤◌, ◌∙◌, ◌+◌, ◌-◌, ℕ, zero, suc, Bool, true, false, List, [], ◌∷◌, ◌++◌}
+use Rattle.std.proofs.Common.{ap, arith, inl, inr, length, refl, set, subst, sym}
 use Rattle.std.proofs.lemmas.Bool.{and_parts, cases_Bool, cases_lt, cond-false, cond-true, eq-eqb, false≢true, eqb-true, Decides.eqb_tells, Decides.nat_tests}
 use Rattle.std.proofs.lemmas.Grind.{common_steps}
 use Rattle.std.proofs.lemmas.List.{get_or_append_left, get_or_past, length-set, FromFn.get_or-range_with_len, FromFn.length-range_with_len, Folds.list_all_at}
@@ -17,10 +18,11 @@ use Rattle.adf_findings.specs.Members.{has_mark, parent_node}
 use Rattle.adf_links.specs.Links.{has_entry, is_entry_at}
 use Rattle.adf_links.proofs.ChainSteps.{mark_from, mark_kept, mark_set}
 use Rattle.adf_caches.specs.declared.chains.CacheMarks.{CacheMarks}
-use Rattle.adf_caches.specs.Caches.{agree, cache_chain, do_agree, entries_in, entries_recorded, entry_recorded, first_cache, has_caches}
+use Rattle.adf_caches.specs.Caches.{agree, cache_chain, do_agree, entries_named, entries_recorded, entry_recorded, first_cache, has_caches}
 use Rattle.adf_caches.specs.Caches.{is_cache_block, is_entry_of, is_found_directory, is_wrong_cache, next_cache, records_in}
-use Rattle.adf_caches.specs.Judging.{AreFresh, AreJudged, AreLacking, AreUnnamed, IsJudged, IsJudged.no_directory, IsJudged.right, IsJudged.wrong}
-use Rattle.adf_caches.specs.Judging.{IsRightChain, IsWrongChain, Lacks, MarksNamed}
+use Rattle.adf_caches.specs.Judging.{AreFresh, AreJudged, AreLacking, AreUnnamed, IsToldOfCache}
+use Rattle.adf_caches.specs.Judging.IsToldOfCache.{no_directory, right, wrong}
+use Rattle.adf_caches.specs.Judging.{IsRightChain, IsWrongChain, LacksRecord, MarksNamed}
 use Rattle.adf_caches.specs.Marking.{KeepsOthers, mark_each}
 use Rattle.adf_caches.specs.Records.{RecordValue}
 use Rattle.adf_caches.proofs.ChainWays.{entry_is, no_zero_cache}
@@ -64,8 +66,8 @@ count_named f n P each (r ∷ rs) some =
 
 module _ (image : List ℕ) (w : Walk) (d : ℕ) where
   named_in : (n : ℕ) (P : Type 0) → ((r : RecordValue) → entry_recorded image w d r ≡ Some n → P) → (b : ℕ)
-      → 1 ≤ count_by (is_entry_at n) (entries_in image w d b) → P
-  unfolding entries_in
+      → 1 ≤ count_by (is_entry_at n) (entries_named image w d b) → P
+  unfolding entries_named
   named_in n P each b some = count_named (entry_recorded image w d) n P each (records_in (block image b)) some
 
   -- what is counted is an entry of the directory
@@ -73,9 +75,9 @@ module _ (image : List ℕ) (w : Walk) (d : ℕ) where
   counted_in n [] some = absurd (omega (arith, some))
   counted_in n (b ∷ bs) some =
       let weight = λ (o : Option ℕ). cond {A = ℕ} (is_entry_at n o) 1 0 in
-      let parts = ap (count_by (is_entry_at n)) (flat_map-cons (entries_in image w d) b bs)
-      ∙ sum_by-append weight (entries_in image w d b) (entries_recorded image w d bs) in
-      elim (cases_lt 0 (count_by (is_entry_at n) (entries_in image w d b))) [
+      let parts = ap (count_by (is_entry_at n)) (flat_map-cons (entries_named image w d) b bs)
+      ∙ sum_by-append weight (entries_named image w d b) (entries_recorded image w d bs) in
+      elim (cases_lt 0 (count_by (is_entry_at n) (entries_named image w d b))) [
         | inl y ↦ named_in n (is_entry_of w d n ≡ true) (λ r e. is_entry_by n (recorded_in image w d r n e)) b (omega (arith, y))
         | inr y ↦ counted_in n bs (omega (arith, y, parts, some))
       ]
@@ -97,7 +99,7 @@ module _ (image : List ℕ) (w : Walk) (d : ℕ) where
   ]
 
   pub judged_right : (old new : CacheMarks) → is_found_directory image w d ≡ true → AreUnnamed w d old.entries.items
-      → IsRightChain image w d (first_cache image w d) old new → IsJudged image w d new.entries.items false
+      → IsRightChain image w d (first_cache image w d) old new → IsToldOfCache image w d new.entries.items false
   judged_right old new found fresh h =
       let marks = marked_each (entries_recorded image w d h.chain) old.entries.items new.entries.items h.entries in
       right h.chain found (chain_of_path (is_cache_block image w d) (next_cache image) (no_zero_cache image w d) h.way refl (blocks image) h.few) marks.each
@@ -135,7 +137,7 @@ module _ (image : List ℕ) (w : Walk) (d : ℕ) where
       at_most_one false = omega arith
 
   pub judged_wrong : (old : CacheMarks) (marks : List Bool) → is_found_directory image w d ≡ true → AreUnnamed w d old.entries.items
-      → IsWrongChain image w d (first_cache image w d) old → IsJudged image w d marks true
+      → IsWrongChain image w d (first_cache image w d) old → IsToldOfCache image w d marks true
   judged_wrong old marks found fresh h = wrong found (go (cache_chain image w d) refl)
     where
       none_agree : (bs : List ℕ) → mark_each (entries_recorded image w d bs) old.entries.items ≡ None
@@ -147,24 +149,25 @@ module _ (image : List ℕ) (w : Walk) (d : ℕ) where
       go None e = ap (agree image w d) e
       go (Some bs) e =
           ap (agree image w d) e
-          ∙ none_agree bs (h bs (path_of_chain (is_cache_block image w d) (next_cache image) (no_zero_cache image w d) (blocks image) (first_cache image w d) bs e))
+          ∙ none_agree bs
+          (h bs (path_of_chain (is_cache_block image w d) (next_cache image) (no_zero_cache image w d) (blocks image) (first_cache image w d) bs e))
           (do_agree w d (entries_recorded image w d bs)) refl
 
   -- by whether a chain is right
   pub judged_by : (t : Bool) (first : ℕ) (old new : CacheMarks) → is_found_directory image w d ≡ true → first ≡ first_cache image w d
       → AreUnnamed w d old.entries.items → (t ≡ true → IsRightChain image w d first old new) → (t ≡ false → IsWrongChain image w d first old)
-      → IsJudged image w d new.entries.items (not t)
+      → IsToldOfCache image w d new.entries.items (not t)
   judged_by true first old new found at fresh h k =
       judged_right old new found fresh (subst (λ b. IsRightChain image w d b old new) at (h refl))
   judged_by false first old new found at fresh h k =
       judged_wrong old new.entries.items found fresh (subst (λ b. IsWrongChain image w d b old) at (k refl))
 
-  pub judged_none : (marks : List Bool) → is_found_directory image w d ≡ false → IsJudged image w d marks false
+  pub judged_none : (marks : List Bool) → is_found_directory image w d ≡ false → IsToldOfCache image w d marks false
   judged_none marks none = no_directory none
 
   -- marks of entries elsewhere change nothing
   pub still_judged : (old new : List Bool) (t : Bool) → ((n : ℕ) → parent_node w n ≡ d → has_mark new n ≡ has_mark old n)
-      → IsJudged image w d old t → IsJudged image w d new t
+      → IsToldOfCache image w d old t → IsToldOfCache image w d new t
   still_judged old new false same (no_directory none) = no_directory none
   still_judged old new false same (right bs found chain each one) =
       right bs found chain each (λ n is. one n is ∙ ap (λ t. cond t 1 0) (sym (same n (entry_parts n is).2)))
@@ -200,7 +203,7 @@ module _ (image : List ℕ) (w : Walk) (i : ℕ) (old new : CacheMarks) (told : 
   pub fresh_entries : AreJudged image w i old told → AreUnnamed w i old.entries.items
   fresh_entries h = record { size = h.entry_size; unnamed = λ n m is. omega (arith, h.entries n m, is) }
 
-  pub one_more_judged : (t : Bool) (more : List Bool) → AreJudged image w i old told → IsJudged image w i new.entries.items t
+  pub one_more_judged : (t : Bool) (more : List Bool) → AreJudged image w i old told → IsToldOfCache image w i new.entries.items t
       → MarksNamed image w i old.blocks.items new.blocks.items → KeepsOthers w i old.entries.items new.entries.items
       → more ≡ told ++ t ∷ [] → AreJudged image w (i + 1) new more
   one_more_judged t more h judged named others is = record {
@@ -219,14 +222,14 @@ module _ (image : List ℕ) (w : Walk) (i : ℕ) (old new : CacheMarks) (told : 
       | inl y ↦
           let at : has_mark more p ≡ has_mark told p =
           ap (λ l. has_mark l p) is ∙ get_or_append_left told (t ∷ []) false p (omega (arith, y, h.size)) in
-          subst (IsJudged image w p new.entries.items) (sym at)
+          subst (IsToldOfCache image w p new.entries.items) (sym at)
           (still_judged image w p old.entries.items new.entries.items (has_mark told p)
           (λ n parent. others.others n (λ e. omega (arith, parent, e, y))) (h.judged p y))
       | inr y ↦
           let last : i ≡ p = omega (arith, lt, y) in
           let at : has_mark more i ≡ t =
           ap (λ l. has_mark l i) is ∙ (ap (λ k. has_mark (told ++ t ∷ []) k) (sym h.size) ∙ get_or-append_seam told t [] false) in
-          subst (λ k. IsJudged image w k new.entries.items (has_mark more k)) last (subst (IsJudged image w i new.entries.items) (sym at) judged)
+          subst (λ k. IsToldOfCache image w k new.entries.items (has_mark more k)) last (subst (IsToldOfCache image w i new.entries.items) (sym at) judged)
     ];
   }
 
@@ -308,7 +311,7 @@ module _ (image : List ℕ) (w : Walk) (marks : CacheMarks) (old new : List Bool
   -- a directory that lacks a record
   lacks_record : (d : ℕ) (bs : List ℕ) → ((n : ℕ) → is_entry_of w d n ≡ true
       → count_by (is_entry_at n) (entries_recorded image w d bs) ≡ cond (has_mark marks.entries.items n) 1 0)
-      → Lacks image w marks.entries.items 1 (heads w + 1) d → do_agree w d (entries_recorded image w d bs) ≡ false
+      → LacksRecord image w marks.entries.items 1 (heads w + 1) d → do_agree w d (entries_recorded image w d bs) ≡ false
   lacks_record d bs one l =
       let n = l.entry in
       let count = λ (m : ℕ). count_by (is_entry_at m) (entries_recorded image w d bs) in
@@ -331,7 +334,7 @@ module _ (image : List ℕ) (w : Walk) (marks : CacheMarks) (old new : List Bool
       ∙ (ap (λ g. g && not (agree image w d (cache_chain image w d))) found ∙ ap (λ g. f && not g) agreed))
 
   judged_last : AreLacking image w marks.entries.items 1 (heads w + 1) old new → has_caches image ≡ true → (d : ℕ) → d < length old
-      → (t : Bool) → has_mark old d ≡ t → IsJudged image w d marks.entries.items t → has_mark new d ≡ is_wrong_cache image w d
+      → (t : Bool) → has_mark old d ≡ t → IsToldOfCache image w d marks.entries.items t → has_mark new d ≡ is_wrong_cache image w d
   judged_last k caches d lt false e (no_directory none) =
       tells d false (agree image w d (cache_chain image w d)) (has_mark new d) caches none refl (elim (cases_Bool (has_mark new d)) [
         | inl y ↦ elim (k.marked d y) [ inl z ↦ let clash = sym e ∙ z in cc | inr z ↦ let clash = sym none ∙ z.found in cc ]
@@ -339,7 +342,7 @@ module _ (image : List ℕ) (w : Walk) (marks : CacheMarks) (old new : List Bool
       ])
   judged_last k caches d lt false e (right bs found chain each one) = elim (cases_Bool (has_mark new d)) [
     | inl y ↦
-        let lack : Lacks image w marks.entries.items 1 (heads w + 1) d =
+        let lack : LacksRecord image w marks.entries.items 1 (heads w + 1) d =
         elim (k.marked d y) [ inl z ↦ let clash = sym e ∙ z in absurd (false≢true clash) | inr z ↦ z ] in
         tells d true false (has_mark new d) caches found (ap (agree image w d) chain ∙ lacks_record d bs one lack) y
     | inr y ↦

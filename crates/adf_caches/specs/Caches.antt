@@ -12,7 +12,7 @@ use Rattle.adf_findings.specs.Members.{owns, parent_node}
 use Rattle.adf_links.specs.Links.{has_entry, headed_at, is_entry_at}
 use Rattle.adf_caches.specs.declared.{records.TheConstants.RECORD_START, blocks.TheConstants.DIRECTORY, blocks.TheConstants.NEXT_CACHE}
 use Rattle.adf_caches.specs.declared.blocks.TheConstants.{RECORD_COUNT}
-use Rattle.adf_caches.specs.Paths.{chain_by}
+use Rattle.adf_caches.specs.Paths.{way_by}
 use Rattle.adf_caches.specs.Records.{RecordValue, records_fit, records_from}
 
 -- the volume has directory caches: its type is 4 or 5
@@ -25,8 +25,8 @@ is_found_directory image w d =
     cond (d == 0) (owns w (root_of image)) (has_entry w d && (word_in image (node_block w d) SECONDARY_TYPE == ST_DIR))
 
 -- the block of the header of directory d
-abbrev pub directory_block : List ℕ → Walk → (d : ℕ) → ℕ
-directory_block image w d = cond (d == 0) (root_of image) (node_block w d)
+abbrev pub directory_header : List ℕ → Walk → (d : ℕ) → ℕ
+directory_header image w d = cond (d == 0) (root_of image) (node_block w d)
 
 -- the directory with its header in block b
 abbrev pub directory_headed : List ℕ → Walk → (b : ℕ) → Option ℕ
@@ -47,7 +47,7 @@ is_cache_block image w d b = in_range image b && (not (owns w b) && (says_cache 
 
 -- the first cache block of directory d
 abbrev pub first_cache : List ℕ → Walk → (d : ℕ) → ℕ
-first_cache image w d = word_in image (directory_block image w d) EXTENSION
+first_cache image w d = word_in image (directory_header image w d) EXTENSION
 
 -- the cache block behind one
 abbrev pub next_cache : List ℕ → (b : ℕ) → ℕ
@@ -55,7 +55,7 @@ next_cache image b = word_in image b NEXT_CACHE
 
 -- the chain of directory d, if each of its blocks is a cache block of it and it ends
 abbrev pub cache_chain : List ℕ → Walk → (d : ℕ) → Option (List ℕ)
-cache_chain image w d = chain_by (is_cache_block image w d) (next_cache image) (blocks image) (first_cache image w d)
+cache_chain image w d = way_by (is_cache_block image w d) (next_cache image) (blocks image) (first_cache image w d)
 
 -- the records in the bytes of a cache block
 abbrev pub records_in : List ℕ → List RecordValue
@@ -76,12 +76,12 @@ unfoldable pub entry_recorded : List ℕ → Walk → (d : ℕ) → RecordValue 
 entry_recorded image w d r = option_and_then (if_recorded image w d r) (headed_at w r.header)
 
 -- the entries that the records of a cache block name
-unfoldable pub entries_in : List ℕ → Walk → (d b : ℕ) → List (Option ℕ)
-entries_in image w d b = map (entry_recorded image w d) (records_in (block image b))
+unfoldable pub entries_named : List ℕ → Walk → (d b : ℕ) → List (Option ℕ)
+entries_named image w d b = map (entry_recorded image w d) (records_in (block image b))
 
 -- the same of blocks
 abbrev pub entries_recorded : List ℕ → Walk → (d : ℕ) → List ℕ → List (Option ℕ)
-entries_recorded image w d bs = flat_map (entries_in image w d) bs
+entries_recorded image w d bs = flat_map (entries_named image w d) bs
 
 -- n is an entry of directory d
 abbrev pub is_entry_of : Walk → (d n : ℕ) → Bool

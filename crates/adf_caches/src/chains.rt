@@ -5,7 +5,7 @@ ghost use Rattle.adf_blocks.specs.Sizes.{blocks};
 ghost use Rattle.adf_findings.specs.Survey.{OnSurvey};
 ghost use Rattle.adf_volume.specs.Image.{root_of};
 ghost use Rattle.adf_caches.specs.Caches.{next_cache};
-ghost use Rattle.adf_caches.specs.Judging.{AreFresh, IsRightChain, IsWrongChain, MarksNamed, Passes, Stops};
+ghost use Rattle.adf_caches.specs.Judging.{AreFresh, IsRightChain, IsWrongChain, MarksNamed, Passes, StopsChain};
 ghost use Rattle.adf_caches.specs.Marking.{KeepsOthers, mark_one};
 
 use crate::blocks::{NEXT_CACHE, cache_block};
@@ -20,8 +20,8 @@ pub struct CacheMarks {
     pub entries: Vec<bool>,
 }
 
-// Marks block `b` and the entries that its records name, if it is a cache block of directory `d` that no chain has come to. Returns
-// the block behind it in its chain.
+// Marks block `b` and the entries that its records name, if it is a cache block of directory `d` that no chain has come to.
+// Returns the block behind it in its chain.
 fn pass_block(
     survey: &Survey<'_>,
     root: u32,
@@ -34,8 +34,9 @@ fn pass_block(
     ensures marked { IfSome result (λ next. mark_one (Some b) marks.old.blocks.items ≡ Some marks.new.blocks.items) }
     ensures passed { OnSurvey survey.now.image (λ w _.
         IfSome result (λ next. Passes survey.now.image w d b marks.old marks.new)) }
-    ensures stopped { OnSurvey survey.now.image (λ w _. IfNone result (Stops survey.now.image w d b marks.old)) }
-    ensures blocks { OnSurvey survey.now.image (λ w _. MarksNamed survey.now.image w d marks.old.blocks.items marks.new.blocks.items) }
+    ensures stopped { OnSurvey survey.now.image (λ w _. IfNone result (StopsChain survey.now.image w d b marks.old)) }
+    ensures blocks { OnSurvey survey.now.image (λ w _.
+        MarksNamed survey.now.image w d marks.old.blocks.items marks.new.blocks.items) }
     ensures others { OnSurvey survey.now.image (λ w _. KeepsOthers w d marks.old.entries.items marks.new.entries.items) }
 {
     let cache = cache_block(survey, root, d, b)?;
@@ -50,7 +51,7 @@ fn pass_block(
 
 /// Marks the blocks of the chain from block `first` on, and the entries that its records name. Returns whether it is a chain of
 /// directory `d` to its end, each record of which is right about an entry that had no mark.
-#[tactic(auto, using(crate::proofs::ChainWays::chain_ends, crate::proofs::ChainWays::fewer_left, crate::proofs::ChainWays::named_both, crate::proofs::RecordSteps::keeps_both))]
+#[tactic(auto, using(crate::proofs::ChainWays::judging))]
 pub fn judge_chain(
     survey: &Survey<'_>,
     root: u32,
@@ -63,7 +64,8 @@ pub fn judge_chain(
         → result ≡ true → IsRightChain survey.now.image w d first marks.old marks.new) }
     ensures wrong { OnSurvey survey.now.image (λ w _. AreFresh survey.now.image w d marks.old.blocks.items
         → result ≡ false → IsWrongChain survey.now.image w d first marks.old) }
-    ensures blocks { OnSurvey survey.now.image (λ w _. MarksNamed survey.now.image w d marks.old.blocks.items marks.new.blocks.items) }
+    ensures blocks { OnSurvey survey.now.image (λ w _.
+        MarksNamed survey.now.image w d marks.old.blocks.items marks.new.blocks.items) }
     ensures others { OnSurvey survey.now.image (λ w _. KeepsOthers w d marks.old.entries.items marks.new.entries.items) }
 {
     let mut b = first;

@@ -7,4 +7,4 @@ mod listing;
 mod records;
 mod wrong;
 
-pub use crate::wrong::{directory_block, wrong_caches};
+pub use crate::wrong::{directory_header, wrong_caches};

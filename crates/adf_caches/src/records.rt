@@ -1,7 +1,8 @@
 // Records of directory caches.
 
 ghost use Rattle.std.specs.Prelude.{◌≡◌, ◌+◌, ◌≤◌, ◌<◌, ◌-◌, IfNone, IfSome, false, true};
-ghost use Rattle.adf_caches.specs.Records.{comment_at, long_at, pair_at, record_at, record_end, record_fits, record_next, record_value};
+ghost use Rattle.adf_caches.specs.Records.{comment_at, long_at, pair_at, record_at, record_end, record_fits};
+ghost use Rattle.adf_caches.specs.Records.{record_next, record_value};
 
 use adf_base::{BLOCK_LEN, Block};
 

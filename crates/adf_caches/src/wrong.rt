@@ -1,13 +1,14 @@
 // Which directory caches are wrong.
 
-ghost use Rattle.std.specs.Prelude.{◌≡◌, ◌≤◌, ◌+◌, ◌*◌, ◌&&◌, ℕ, [], IfNone, IfOk, IfSome, cond, false, is_some, length, nat_lt, not, set, true};
+ghost use Rattle.std.specs.Prelude.{◌≡◌, ◌≤◌, ◌+◌, ◌*◌, ◌&&◌, ℕ, [], IfNone, IfOk, IfSome, cond, false, is_some, length};
+ghost use Rattle.std.specs.Prelude.{nat_lt, not, set, true};
 ghost use Rattle.adf_base.specs.Words.{block};
 ghost use Rattle.adf_blocks.specs.Sizes.{blocks};
 ghost use Rattle.adf_findings.specs.{Members.has_mark, Members.owns, Members.parent_node, Survey.OnSurvey};
 ghost use Rattle.adf_volume.specs.Image.{root_of};
 ghost use Rattle.adf_volume.specs.Walk.{heads};
-ghost use Rattle.adf_caches.specs.Caches.{directory_block, has_caches, is_found_directory, is_wrong_cache};
-ghost use Rattle.adf_caches.specs.Judging.{AreFresh, AreJudged, AreLacking, AreUnnamed, IsJudged, MarksNamed};
+ghost use Rattle.adf_caches.specs.Caches.{directory_header, has_caches, is_found_directory, is_wrong_cache};
+ghost use Rattle.adf_caches.specs.Judging.{AreFresh, AreJudged, AreLacking, AreUnnamed, IsToldOfCache, MarksNamed};
 ghost use Rattle.adf_caches.specs.Marking.{KeepsOthers};
 
 use crate::chains::{CacheMarks, judge_chain};
@@ -54,7 +55,7 @@ fn directory_head<'s>(survey: &'s Survey<'_>, root: u32, d: Node) -> Option<Bloc
     requires inside { root * 512 + 512 ≤ length survey.now.image }
     ensures some { OnSurvey survey.now.image (λ w _. is_some result ≡ is_found_directory survey.now.image w d) }
     ensures block { OnSurvey survey.now.image (λ w _.
-        IfSome result (λ x. x ≡ block survey.now.image (directory_block survey.now.image w d))) }
+        IfSome result (λ x. x ≡ block survey.now.image (directory_header survey.now.image w d))) }
 {
     if d.0 == 0 {
         return part_at(survey, root);
@@ -72,8 +73,9 @@ fn is_unlike(survey: &Survey<'_>, root: u32, marks: &mut CacheMarks, d: Node) ->
     requires is { root ≡ root_of survey.now.image }
     requires inside { root * 512 + 512 ≤ length survey.now.image }
     ensures told { OnSurvey survey.now.image (λ w _. AreFresh survey.now.image w d marks.old.blocks.items
-        → AreUnnamed w d marks.old.entries.items → IsJudged survey.now.image w d marks.new.entries.items result) }
-    ensures blocks { OnSurvey survey.now.image (λ w _. MarksNamed survey.now.image w d marks.old.blocks.items marks.new.blocks.items) }
+        → AreUnnamed w d marks.old.entries.items → IsToldOfCache survey.now.image w d marks.new.entries.items result) }
+    ensures blocks { OnSurvey survey.now.image (λ w _.
+        MarksNamed survey.now.image w d marks.old.blocks.items marks.new.blocks.items) }
     ensures others { OnSurvey survey.now.image (λ w _. KeepsOthers w d marks.old.entries.items marks.new.entries.items) }
 {
     match directory_head(survey, root, d) {
@@ -137,7 +139,8 @@ fn mark_if(marks: &mut Vec<bool>, n: usize, is_set: bool)
 fn mark_lacking(survey: &Survey<'_>, root: u32, named: &Vec<bool>, wrong: &mut Vec<bool>)
     requires is { root ≡ root_of survey.now.image }
     requires inside { root * 512 + 512 ≤ length survey.now.image }
-    ensures { OnSurvey survey.now.image (λ w _. AreLacking survey.now.image w named.now.items 1 (heads w + 1) wrong.old.items wrong.new.items) }
+    ensures { OnSurvey survey.now.image (λ w _.
+        AreLacking survey.now.image w named.now.items 1 (heads w + 1) wrong.old.items wrong.new.items) }
 {
     for i in 0..survey.len() {
         let n = Node(i + 1);
@@ -156,8 +159,8 @@ fn none_wrong(alloc: Global, survey: &Survey<'_>) -> Result<Vec<bool>, NoMemory>
     Ok(wrong)
 }
 
-/// Of each directory that is found, the root at 0, whether its cache is wrong: a block of its chain is no cache block of it, or the
-/// chain does not end; a record is not right about an entry in it; or an entry in it has not one record. None is wrong on volumes
+/// Of each directory that is found, the root at 0, whether its cache is wrong: a block of its chain is no cache block of it, or
+/// the chain does not end; a record is not right about an entry in it; or an entry in it has not one record. None is wrong on volumes
 /// without caches. `NoMemory` if an allocation fails.
 #[tactic(auto, using(crate::proofs::Wrongness::none_wrong))]
 pub fn wrong_caches(alloc: Global, survey: &Survey<'_>) -> Result<Vec<bool>, NoMemory>
@@ -179,9 +182,9 @@ pub fn wrong_caches(alloc: Global, survey: &Survey<'_>) -> Result<Vec<bool>, NoM
 
 /// The block of the header of a directory whose cache is wrong.
 #[tactic(auto, using(crate::proofs::Wrongness::wrong_found))]
-pub fn directory_block(survey: &Survey<'_>, d: Node) -> u32
+pub fn directory_header(survey: &Survey<'_>, d: Node) -> u32
     ensures { OnSurvey survey.now.image (λ w _. is_wrong_cache survey.now.image w d ≡ true
-        → result ≡ directory_block survey.now.image w d) }
+        → result ≡ directory_header survey.now.image w d) }
 {
     let block = if d.0 == 0 {
         root_block(survey)
