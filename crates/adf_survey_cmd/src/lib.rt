@@ -1,6 +1,7 @@
 //! The command `adf-survey`: all that is wrong in an image, and files that are sound all the same.
 #![tactic(auto)]
 
+mod cache_lines;
 mod command_line;
 mod copying;
 mod deleting;
