@@ -312,7 +312,9 @@ class Survey:
 
     def found(self):
         """A line for each run of findings with one cause, that concern the same and with one owner, at one block or at neighbouring
-        ones."""
+        ones; then one for each directory whose cache is wrong."""
+        from caches import wrong_caches
+
         runs = []
         for role, at, cause in self.findings:
             told = [cause, self.concern(role), self.owner_path(at, cause), self.leads(role, cause)]
@@ -324,6 +326,8 @@ class Survey:
             where = f"block {first}" if first == last else f"blocks {first} to {last}"
             owned = "" if owner is None else f": owned by {owner}"
             yield f"{where}: {cause}" + ("" if concern is None else f": {concern}") + owned + leads
+        for n in wrong_caches(self):
+            yield f"block {self.block_of(n)}: wrong cache: {spelled(self.path(n))}/"
 
     def lines(self):
         """The findings, and then the entries."""

@@ -4,6 +4,8 @@ pub mod HintedAnswers
 pub mod BehindAnswers
 pub mod FindingStatus
 pub mod FoundTexts
+-- the lines of wrong directory caches
+pub mod CacheTexts
 -- the lines of deleted headers
 pub mod DeletedTexts
 -- the status of what is left of deleted files

@@ -26,9 +26,11 @@ use Rattle.adf_passages.proofs.PassageSteps.{unfound}
 use Rattle.adf_survey_cmd.specs.Deletions.{TellsBy, TellsRead, TellsRefused, TellsSecond}
 use Rattle.adf_survey_cmd.specs.Hints.{disk_hint}
 use Rattle.adf_subjects.specs.{Lengths.AreFew, Lengths.blocks_read, Lengths.stated_length, Lines.findings_text, Lines.runs_from, Losses.LossValue}
-use Rattle.adf_subjects.specs.{Remarks.remarks_text}
+use Rattle.adf_subjects.specs.{Remarks.remarks_text, declared.remarks.Remark.Remark}
 use Rattle.adf_subjects.specs.Subject.{IsTyped, OfTyped, SubjectValue, begun_subject, behind_remarks, behind_loss, held_end, missing_remarks, other_type}
-use Rattle.adf_subjects.specs.Subject.{IsOtherType, IsTypeTold, kind_image, sized, subject, subject_read, subject_text, typed_by}
+use Rattle.adf_subjects.specs.Subject.{IsOtherType, IsTypeTold, kind_image, sized, subject, subject_read, typed_by}
+use Rattle.adf_survey_cmd.specs.CacheLines.{caches_text, told_text}
+use Rattle.adf_survey_cmd.proofs.CacheTexts.{none_told}
 use Rattle.adf_survey_cmd.specs.CommandLine.{InquiryValue, QuestionValue, blanks, cat, deleted, list, report, rescue, rescue_before, rescue_deleted}
 use Rattle.adf_subjects.specs.Rescues.{IsNoVolume, Replies, RescueValue, RescuesBefore, RescuesBothOf, RescuesFoundOf, RescuesOf, RescuesTypedOf}
 use Rattle.adf_subjects.proofs.Formats.{odd_before, odd_stays}
@@ -66,6 +68,13 @@ same_text : (json : Bool) (image bytes : List ℕ) → findings_text json image 
 unfolding bad_size runs_from
 same_text false image bytes = refl
 same_text true image bytes = refl
+
+-- and no directory cache is told
+same_told : (json : Bool) (front : List Remark) (image bytes : List ℕ)
+    → (remarks_text json front ++ findings_text json image [] bad_size) ++ caches_text json image []
+    ≡ (remarks_text json front ++ findings_text json bytes [] bad_size) ++ caches_text json bytes []
+same_told json front image bytes =
+    ap₂ (λ m k. (remarks_text json front ++ m) ++ k) (same_text json image bytes) (none_told json image ∙ sym (none_told json bytes))
 
 -- nothing is found, and so nothing is sound
 no_marks : (image : List ℕ) (fs : List FindingValue) → AreMarks image [] fs (λ n. false)
@@ -253,12 +262,16 @@ long_blank json true s t a b text is = long_unread json (blank_marks s.image) (b
 long_questions : (q : QuestionValue) (s t : SubjectValue) → s.front ≡ t.front → 512 * MOST_BLOCKS < length s.image
     → 512 * MOST_BLOCKS < length t.image → (reply : Reply) → QuestionAnswer q s reply → QuestionAnswer q t reply
 long_questions (report json) s t front a b reply told = of_typed s t (Surveys json) a b reply (λ x.
-    let e = of_long s.image x.0 x.1 (λ u gs. reply ≡ on_output (told_status s.front gs) (subject_text json s u gs)) a x.2 x.3 in
-    let same = ap₂ (λ f m. on_output (told_status f bad_size) (remarks_text json f ++ m)) front (same_text json s.image t.image) in
+    let e = of_long s.image x.0 x.1 (λ u gs. reply ≡ on_output (told_status s.front gs) (told_text json s u gs)) a x.2 x.3 in
+    let text = λ (f : List Remark). (remarks_text json f ++ findings_text json s.image [] bad_size) ++ caches_text json s.image [] in
+    let same = ap (λ f. on_output (told_status f bad_size) (text f)) front
+    ∙ ap (on_output (told_status t.front bad_size)) (same_told json t.front s.image t.image) in
     ([], bad_size, long_survey t.image b, e ∙ same)) told
 long_questions (list json) s t front a b reply told = of_typed s t (ListsSurvey json) a b reply (λ x.
     let (date, dates, sound, marks, e) = of_long s.image x.0 x.1 (λ u gs. TellsFound json s u gs reply) a x.2 x.3 in
-    let same = ap₂ (λ f m. on_output (told_status f bad_size) ((remarks_text json f ++ m) ++ [])) front (same_text json s.image t.image) in
+    let text = λ (f : List Remark). (remarks_text json f ++ findings_text json s.image [] bad_size) ++ caches_text json s.image [] in
+    let same = ap (λ f. on_output (told_status f bad_size) (text f ++ [])) front
+    ∙ ap (λ m. on_output (told_status t.front bad_size) (m ++ [])) (same_told json t.front s.image t.image) in
     ([], bad_size, long_survey t.image b, (date, dates, (λ n. false), no_marks t.image bad_size, e ∙ same))) told
 long_questions (cat damaged path) s t front a b reply (inl bad) = inl bad
 long_questions (cat damaged path) s t front a b reply (inr told) = inr (of_typed s t (CopiesFromSurvey damaged path) a b reply (λ x.

@@ -12,7 +12,8 @@ use Rattle.adf_volume.specs.{Image.word_in, Made.datas_in, Rows.row_body, Walk.h
 use Rattle.adf_volume.specs.declared.row.RowBody.{RowBody, TheVariants.Dir, TheVariants.File}
 use Rattle.adf_findings.specs.{Lookup.path_to, SoundMarks.AreMarks, Opening.opening_in, Survey.FindingValue, declared.opening.Opening.Opening}
 use Rattle.adf_texts.specs.{RowTexts.head_lines, VolumeLines.AreDates, VolumeLines.opening_lines}
-use Rattle.adf_subjects.specs.Subject.{SubjectValue, subject_text}
+use Rattle.adf_subjects.specs.Subject.{SubjectValue}
+use Rattle.adf_survey_cmd.specs.CacheLines.{told_text}
 
 -- the mark of an entry, on the left of eight places
 abbrev pub mark_text : Bool → List ℕ
@@ -87,9 +88,9 @@ found_text json date sound image [] = []
 found_text json date sound image (x ∷ w) =
     opening_text json date (opening_in image) ++ lines_of_found json date sound image (x ∷ w) (heads (x ∷ w))
 
--- the lines of the remarks and the findings, and behind them those of what is found; or with `json` their objects
+-- the lines of the remarks, the findings and wrong caches, and behind them those of what is found; or with `json` their objects
 abbrev pub listing_text : (json : Bool) → (Stamp → List ℕ) → (ℕ → Bool) → SubjectValue → Walk → List FindingValue → List ℕ
-listing_text json date sound s w fs = subject_text json s w fs ++ found_text json date (marked sound s.end s.image w) s.image w
+listing_text json date sound s w fs = told_text json s w fs ++ found_text json date (marked sound s.end s.image w) s.image w
 
 -- it holds of any function that gives each date its text, and of any that tells the sound entries of a survey
 abbrev pub InAnyTexts : List ℕ → Walk → List FindingValue → ((Stamp → List ℕ) → (ℕ → Bool) → Type 0) → Type 0

@@ -3,6 +3,7 @@
 
 mod behind;
 mod blanks;
+mod cache_lines;
 mod command_line;
 mod copying;
 mod deleting;

@@ -4,14 +4,16 @@ ghost use Rattle.std.specs.Prelude.{◌≡◌, ◌++◌, OnErr, OnOk, false};
 ghost use Rattle.std.specs.Io.KnownBytes.{Appends};
 ghost use Rattle.adf_findings.specs.Survey.{OnSurvey};
 ghost use Rattle.adf_runs.specs.{Streams.AppendsPart, Streams.is_device, Outcomes.Blames, Outcomes.EndsBy};
+ghost use Rattle.adf_survey_cmd.specs.CacheLines.{caches_text};
 ghost use Rattle.adf_survey_cmd.specs.{Answers.TellsFound, FoundLines.InAnyTexts, FoundLines.found_text, FoundLines.marked};
 ghost use Rattle.adf_subjects.specs.{Lines.findings_text, Subject.surveyed_as};
 
+use crate::cache_lines::write_told;
 use crate::found_lines::{ListForm, write_found};
 use crate::reporting::is_clean;
 use adf_findings::Survey;
 use adf_runs::{Outcome, Sink, StreamFault};
-use adf_subjects::{Subject, write_runs};
+use adf_subjects::Subject;
 use std::alloc::Global;
 
 // Writes the text that waits, what is told of the findings, and behind it what is told of what is found.
@@ -25,16 +27,18 @@ fn write_both<W: Sink>(
     requires works { W.has_failed output.old ≡ false }
     ensures ok { OnSurvey survey.now.image (λ w fs.
         InAnyTexts survey.now.image w fs (λ date sound. OnOk result (Appends
-        (W.held output.old) (W.held output.new) ((text.items ++ findings_text form.json survey.now.image w fs)
+        (W.held output.old) (W.held output.new) (((text.items ++ findings_text form.json survey.now.image w fs)
+        ++ caches_text form.json survey.now.image w)
         ++ found_text form.json date (marked sound form.end survey.now.image w) survey.now.image w)))) }
     ensures err { OnSurvey survey.now.image (λ w fs.
         InAnyTexts survey.now.image w fs (λ date sound. OnErr result (AppendsPart
         (W.has_failed output.new) (W.held output.old) (W.held output.new)
-        ((text.items ++ findings_text form.json survey.now.image w fs)
+        (((text.items ++ findings_text form.json survey.now.image w fs)
+        ++ caches_text form.json survey.now.image w)
         ++ found_text form.json date (marked sound form.end survey.now.image w) survey.now.image w)))) }
     ensures failed { W.has_failed output.new ≡ is_device result }
 {
-    write_runs(alloc, survey, text, form.json, output)?;
+    write_told(alloc, survey, text, form.json, output)?;
     write_found(alloc, survey, form, output)
 }
 

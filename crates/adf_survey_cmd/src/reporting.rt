@@ -6,9 +6,10 @@ ghost use Rattle.adf_survey_cmd.specs.Answers.{TellsFindings, told_status};
 ghost use Rattle.adf_subjects.specs.Subject.{surveyed_as};
 ghost use Rattle.adf_runs.specs.Outcomes.{Blames, EndsBy};
 
+use crate::cache_lines::write_told;
 use adf_findings::Survey;
 use adf_runs::{Outcome, Sink};
-use adf_subjects::{Subject, write_runs};
+use adf_subjects::Subject;
 use std::alloc::Global;
 
 /// Whether there are no findings and no remarks in front.
@@ -18,7 +19,7 @@ pub fn is_clean(subject: &Subject, survey: &Survey<'_>) -> bool
     subject.front.is_empty() && survey.findings().is_empty()
 }
 
-/// Writes the lines of the remarks and the findings, or with `json` their objects.
+/// Writes the lines of the remarks, the findings and wrong directory caches, or with `json` their objects.
 pub fn write_findings<W: Sink>(
     alloc: Global,
     subject: &Subject,
@@ -34,7 +35,7 @@ pub fn write_findings<W: Sink>(
     let Ok(front) = subject.lines(alloc, json) else {
         return Outcome::NoMemory;
     };
-    match write_runs(alloc, survey, front, json, output) {
+    match write_told(alloc, survey, front, json, output) {
         Ok(()) if is_clean(subject, survey) => Outcome::Done,
         Ok(()) => Outcome::FaultWritten,
         Err(fault) => Outcome::after_writing(fault),
