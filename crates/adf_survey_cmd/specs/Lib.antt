@@ -1,6 +1,8 @@
 -- The promise: the command line, the lines, and what the command answers.
 pub mod CommandLine
 pub mod Deletions
+-- the lines of links among what is found
+pub mod FoundLinks
 pub mod FoundLines
 pub mod Remains
 pub mod Hints
