@@ -44,7 +44,6 @@ class TestLinks(unittest.TestCase):
     def test_tells_nothing_where_there_are_none(self):
         self.assertEqual({each.target for each in adf.survey(PLAIN).entries}, {None})
 
-
     def test_tells_all_links_in_order(self):
         survey = adf.survey(linked())
         a, b, c, d, e, f = survey.entries
