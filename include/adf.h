@@ -438,6 +438,29 @@ struct adf_surveyed {
 uint8_t adf_survey_index(const uint8_t *image, size_t length, struct adf_finding *findings, size_t findings_room,
                          struct adf_found *entries, size_t entries_room, struct adf_surveyed *surveyed);
 
+/* A right link that is found: it leads to something. Fields that do not apply are 0. */
+struct adf_link {
+    size_t node;        /* the number of its entry */
+    size_t target;      /* the file or directory that a hard link leads to, which is no link: the number of its entry */
+    size_t path;        /* the byte of the image where the path of a soft link begins */
+    size_t path_length; /* 1 to 287 */
+    uint32_t header;    /* the block of its header */
+    uint8_t kind;       /* an adf_link_kind */
+};
+
+enum adf_link_kind { ADF_LINK_FILE = 1, ADF_LINK_DIRECTORY = 2, ADF_LINK_SOFT = 3 };
+
+/* Surveys an image of this length, and fills a table of its right links, in the order of their entries, as far as there is room. The
+ * entries are those of adf_survey_index, which has links too: there a link counts as a file, and is not sound. Which links are right,
+ * adf-survey(1) says. The path of a soft link has any bytes but 0, as it is on the disk: `/` and `:` mean what they mean on an Amiga, and
+ * nothing need have it. Returns an adf_cause: 0 or ADF_NO_MEMORY.
+ *
+ * 0: count is the number of right links, whatever the room: if that is smaller, the table is only its front part, and a second call
+ *    with so much room gives all. The rest of the room is unchanged.
+ * ADF_NO_MEMORY: an allocation failed. The table and count are unchanged.
+ */
+uint8_t adf_survey_links(const uint8_t *image, size_t length, struct adf_link *links, size_t room, size_t *count);
+
 /* Files of a damaged image
  *
  * A program that reads what is left of files surveys the image once more by adf_survey_parts, which fills a table of its blocks.

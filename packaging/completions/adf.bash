@@ -94,7 +94,7 @@ _adf_files() {
         adf-pack:-*)
             COMPREPLY=($(compgen -W "--image --edits --size --bootable --boot --label --date --altered --created --no-uaem --escape -h --help --version" -- "$2"))
             ;;
-        adf-unpack:-*) COMPREPLY=($(compgen -W "--blocks --strict --damaged --boot --uaem --escape -h --help --version" -- "$2")) ;;
+        adf-unpack:-*) COMPREPLY=($(compgen -W "--blocks --strict --damaged --follow --boot --uaem --escape -h --help --version" -- "$2")) ;;
         adf-map:-*) COMPREPLY=($(compgen -W "--partition --blocks -h --help --version" -- "$2")) ;;
         adf-recipe:-*) COMPREPLY=($(compgen -W "--blocks --strict -h --help --version" -- "$2")) ;;
         fsck.affs:-*) COMPREPLY=($(compgen -W "-a -f -n -p -v -y --help --version" -- "$2")) ;;

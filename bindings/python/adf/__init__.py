@@ -21,6 +21,7 @@
     found = adf.survey(image)                       # of a damaged image: found.findings, found.entries, found.read("c/list")
     left, lost = found.remains("c/list")            # what is left of a damaged file, and the ranges of its bytes that are lost
     pieces = found.entries[0].pieces()              # the same by number: each run of bytes that is found, with its place in the file
+    to = {each.entry.path: each.target for each in found.links}  # what links lead to: an entry, or the bytes of a path
     whole = [each.read() for each in found.deleted if each.is_whole and each.is_file]   # what was deleted and still stands
     new, left_out = adf.rescue(image)               # a sound volume of all that stands; what it leaves out, and what it keeps in doubt
     image = adf.build("ffs", None, [adf.Addition("c"), adf.Addition("c/list", b"..")], "Work")  # a new volume, here as small as may be
@@ -57,6 +58,7 @@ from adf.disks import Disk, Partition, partitions
 from adf.entries import Entries, Entry, File
 from adf.errors import Closed, Damaged, DamagedWarning, Error, NoLibrary, NoMemory, NoSuchPath, NotAFile, NotUnpacked, Refused
 from adf.findings import Finding, Findings, Found
+from adf.links import Link
 from adf.opening import open, open_image
 from adf.rescued import Rescued
 from adf.surveys import Survey, survey
@@ -71,9 +73,9 @@ from adf.dates import EPOCH as EPOCH
 
 __all__ = [
     "Addition", "Answer", "BLOCK", "BadBoot", "Boot", "Buffer", "Closed", "Damaged", "DamagedWarning", "Date", "Deleted", "Disk",
-    "Entries", "Entry", "EntryPath", "Error", "File", "Finding", "Findings", "Found", "Image", "KINDS", "LETTERS", "LeftOut", "MOST_BYTES",
-    "NoLibrary", "NoMemory", "NoSuchPath", "NotAFile", "NotBuilt", "NotUnpacked", "PART", "Partition", "Path", "ROLES", "Reason",
-    "Refused", "Rescued", "Source", "Survey", "TYPES", "Verdict", "Volume", "build", "check", "escape", "library_path",
+    "Entries", "Entry", "EntryPath", "Error", "File", "Finding", "Findings", "Found", "Image", "KINDS", "LETTERS", "LeftOut", "Link",
+    "MOST_BYTES", "NoLibrary", "NoMemory", "NoSuchPath", "NotAFile", "NotBuilt", "NotUnpacked", "PART", "Partition", "Path", "ROLES",
+    "Reason", "Refused", "Rescued", "Source", "Survey", "TYPES", "Verdict", "Volume", "build", "check", "escape", "library_path",
     "library_version", "load", "open", "open_image", "partitions", "read_image", "rescue", "run", "survey", "unescape", "with_boot",
     "with_standard_boot", "without_boot",
 ]  # fmt: skip

@@ -33,6 +33,7 @@ CALLS = {
     "adf_survey_run": (BYTE, *(POINTER, SIZE) * 4, POINTER),
     "adf_survey_subject": (BYTE, POINTER, SIZE, WORD, POINTER, SIZE, POINTER),
     "adf_survey_index": (BYTE, POINTER, SIZE, POINTER, SIZE, POINTER, SIZE, POINTER),
+    "adf_survey_links": (BYTE, *(POINTER, SIZE) * 2, POINTER),
     "adf_survey_parts": (BYTE, *(POINTER, SIZE) * 2),
     "adf_survey_owners": (BYTE, *(POINTER, SIZE) * 2),
     "adf_survey_find": (BYTE, *(POINTER, SIZE) * 2, POINTER),

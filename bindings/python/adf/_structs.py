@@ -30,6 +30,7 @@ Found = struct(
     "adf_found", ("parent", SIZE), ("header size protection", WORD), ("date", Date), ("is_file is_sound name_length", BYTE),
     ("name", BYTE * 79), *COMMENT,
 )
+Link = struct("adf_link", ("node target path path_length", SIZE), ("header", WORD), ("kind", BYTE))
 Part = struct("adf_part", ("node", SIZE), ("number", WORD))
 Subject = struct("adf_subject", ("length", SIZE), ("held", WORD), ("is_begun is_retyped", BYTE))
 Surveyed = struct("adf_surveyed", ("kind blocks", WORD), ("findings entries", SIZE), DATES, *LABEL)

@@ -76,7 +76,7 @@ class Found(_Fields):
     def target(self) -> Found | bytes | None:
         """What a right link leads to, for which the image is surveyed again: of a hard link the file or the directory, of a soft link the
         bytes of its path. None of a wrong link, and of what is no link."""
-        return self.survey._targets.get(self.header)
+        return self.survey._targets.get(self.number)
 
     def __repr__(self) -> str:
         return f"<adf.Found {self.path!r}>"

@@ -1,32 +1,40 @@
-"""What links lead to, as `adf-survey` tells it."""
+"""The right links of what is found, and what each leads to: adf.Link."""
 
 from __future__ import annotations
 
-import json
-from typing import TYPE_CHECKING, Dict, Union
+import ctypes
+from typing import TYPE_CHECKING, Any, NamedTuple
 
-from adf.deleted import survey_answer
+from adf import _structs
+from adf._library import calls
+from adf.errors import NoMemory
 
 if TYPE_CHECKING:
     from adf.findings import Found
     from adf.surveys import Survey
 
-Targets = Dict[int, Union["Found", bytes]]
+FIRST_ROOM = 64
 
 
-def targets_of(survey: Survey) -> Targets:
-    """What each right link leads to, by the block of its header: of a hard link the entry, the first of several with its path; of a soft
-    link the bytes of the path in its header."""
-    if all(finding.cause != "link" for finding in survey.findings):
-        return {}
-    by_path: dict[bytes, Found] = {}
-    for found in survey.entries:
-        by_path.setdefault(found.raw_path, found)
-    targets: Targets = {}
-    for line in survey_answer(*survey._given, ("--json",)).output.splitlines():
-        told = json.loads(line)
-        if told["line"] == "finding" and told["target"] is not None:
-            targets[told["first"]] = by_path[told["target"].encode("latin-1")]
-        elif told["line"] == "finding" and told["soft"] is not None:
-            targets[told["first"]] = told["soft"].encode("latin-1")
-    return targets
+class Link(NamedTuple):
+    """A right link that is found: its entry, and what it leads to: of a hard link the entry of a file or a directory, which is no link; of
+    a soft link the bytes of the path in its header, as an Amiga reads it, which may name another volume, or nothing."""
+
+    entry: Found
+    target: Found | bytes
+
+
+def links_of(survey: Survey) -> list[Link]:
+    """The right links that a survey finds, in the order of their entries; for them the image is surveyed again."""
+    image, room, count = survey._opened, 0, _structs.SIZE(FIRST_ROOM)
+    rows: Any = None
+    while room < count.value:
+        room, rows = count.value, (_structs.Link * count.value)()
+        if calls().adf_survey_links(image, len(image), rows, room, ctypes.byref(count)) != 0:
+            raise NoMemory
+    return [_link(survey, rows[place]) for place in range(count.value)]
+
+
+def _link(survey: Survey, row: Any) -> Link:
+    entries, end = survey.entries, row.path + row.path_length
+    return Link(entries[row.node - 1], entries[row.target - 1] if row.target else bytes(survey._opened[row.path : end]))

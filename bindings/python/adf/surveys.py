@@ -18,7 +18,7 @@ from adf.dates import Date, date_of
 from adf.deleted import Deleted, deleted_of
 from adf.errors import Damaged, NoMemory, NoSuchPath, NotAFile
 from adf.findings import Finding, Findings, Found
-from adf.links import Targets, targets_of
+from adf.links import Link, links_of
 
 OWN = 0  # of findings for which the library has no number: `owner` is then the place of their text
 NO_BLOCK = 2**32 - 1
@@ -134,9 +134,14 @@ class Survey(ReadOnly):
         return list(deleted_of(self))
 
     @functools.cached_property
-    def _targets(self) -> Targets:
-        """What the right links lead to, by the blocks of their headers."""
-        return targets_of(self)
+    def links(self) -> list[Link]:
+        """The right links that are found, in the order of their entries; for them the image is surveyed again."""
+        return links_of(self)
+
+    @functools.cached_property
+    def _targets(self) -> dict[int, Found | bytes]:
+        """What the right links lead to, by the numbers of their entries."""
+        return {link.entry.number: link.target for link in self.links}
 
     @functools.cached_property
     def _parts(self) -> Any:

@@ -260,13 +260,14 @@ class Dfxml:
     def write_entry(self, row: sqlite3.Row) -> None:
         with self.xml.inside("fileobject"):
             self.xml.put("filename", row["path"])
-            self.xml.put("name_type", "r" if row["kind"] == "file" else "d")
+            self.xml.put("name_type", {"file": "r", "link": "l"}.get(row["kind"], "d"))
             self.xml.put("filesize", row["size"] if row["kind"] == "file" else None)
             self.xml.put("inode", row["header"])
             date = CIVIL.fullmatch(row["date"])
             self.xml.put("mtime", f"{date[1]}T{date[2]}" if date else None)
             self.xml.put("hashdigest", row["sha256"], type="sha256")
-            self.xml.put("error", None if row["state"] == "sound" else row["state"])
+            self.xml.put("error", None if row["state"] == "sound" or row["kind"] == "link" else row["state"])
+            self.xml.put("link_target", row["state"].partition(" ")[2] if row["kind"] == "link" else None)
 
 
 # The command

@@ -11,7 +11,7 @@ import re
 import stat
 import sys
 import warnings
-from typing import IO, BinaryIO, Iterator, NamedTuple, Optional, Tuple
+from typing import IO, BinaryIO, Iterator, NamedTuple, Optional, Sequence, Tuple
 
 import adf
 from adf._arguments import Mapped, mapped
@@ -83,9 +83,12 @@ class Given(NamedTuple):
 
     def tell(self, program: str, volume: adf.Volume) -> int:
         """A line for all that is left out; the status to end with."""
-        for each in volume.left_out:
+        return self.tell_lines(program, volume.left_out)
+
+    def tell_lines(self, program: str, lines: Sequence[object]) -> int:
+        for each in lines:
             tell(program, self.line(each))
-        return REFUSED if volume.left_out else 0
+        return REFUSED if lines else 0
 
 
 @contextlib.contextmanager

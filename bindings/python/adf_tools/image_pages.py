@@ -12,6 +12,7 @@ from typing import Any, Dict, Iterator, List, Optional, Tuple
 import adf
 from adf_tools.advice import GROUPS
 from adf_tools.icons import MOST_SIDE, Icon, icon_picture, pixels_of
+from adf_tools.links import is_led
 from adf_tools.markup import Html, address, drawn, html, joined, link, shown
 from adf_tools.out_folder import PAGE_NAME
 from adf_tools.pages import cell, count_of, facts, long_table, page, paragraph, paragraphs_of_causes, text_cell
@@ -313,7 +314,7 @@ class ImagePage:
 @functools.lru_cache(maxsize=64, typed=True)
 def mark_of(state: str) -> Html:
     """The mark of an entry, which is kept."""
-    return shown(state) if state == "sound" else marked_as("note" if state in KEPT else "refused", state)
+    return shown(state) if state == "sound" else marked_as("note" if state in KEPT or is_led(state) else "refused", state)
 
 
 @functools.lru_cache(maxsize=4096, typed=True)

@@ -90,6 +90,11 @@ class Place:
         with named(self.path_of(name)):
             return os.fdopen(os.open(name, NEW_FILE, 0o666, dir_fd=self.fd), "wb")
 
+    def link(self, name: bytes, target: bytes) -> None:
+        """A new symbolic link here."""
+        with named(self.path_of(name)):
+            os.symlink(target, name, dir_fd=self.fd)
+
     def make(self, name: bytes) -> None:
         """Makes a new folder here."""
         with named(self.path_of(name)):

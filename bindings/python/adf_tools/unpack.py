@@ -1,5 +1,6 @@
 """adf-unpack: copies the directories and files of an image into a new folder, with their dates (docs/adf-unpack.1). Of a damaged image
-it copies what stands; with --damaged also what is left of its damaged files, under names of their own."""
+it copies what stands; with --damaged also what is left of its damaged files, under names of their own. A link becomes a symbolic link to
+what it leads to, which is in the folder, or with --follow a copy of the file."""
 
 from __future__ import annotations
 
@@ -8,11 +9,12 @@ import contextlib
 import errno
 import itertools
 import os
-from typing import Dict, Iterable, Iterator, List, NamedTuple, Optional, Sequence, Tuple
+from typing import Dict, Iterable, Iterator, List, NamedTuple, Optional, Sequence, Set, Tuple
 
 import adf
 from adf_tools import uaem
 from adf_tools.given import Given, add_image, add_strict, given
+from adf_tools.links import Way, left_out_with, ways_of
 from adf_tools.names import ESCAPE, LETTERS, UAEM, Form, host_name
 from adf_tools.program import (
     FAILED, REFUSED, USAGE, add_escape, begin, command_line, host_text, moved_error, new_file, new_folder, stop, tell, why)
@@ -20,6 +22,7 @@ from adf_tools.trees import Place, named
 
 DAYS_TO_1978 = 2922
 DAMAGED, GAPS, BESIDE = b".damaged", b".gaps", os.fsencode(uaem.ENDING)
+LONGEST_PATH = 4095
 OF_ALL = (errno.ENOSPC, errno.EDQUOT, errno.EROFS, errno.EIO, errno.ENOMEM, errno.EMFILE, errno.ENFILE)  # errors that each file would have
 
 
@@ -48,37 +51,58 @@ def runs(left: bytes, lost: Sequence[range]) -> Iterator[Tuple[int, bytes]]:
         at = gap.stop
 
 
+def times_of(date: adf.Date) -> Tuple[int, int]:
+    """A date, read as UTC, as the host has it."""
+    minutes = 1440 * (date.days + DAYS_TO_1978) + date.mins
+    when = 60 * 10**9 * minutes + 20_000_000 * date.ticks
+    return when, when
+
+
 def set_date(fd: int, date: adf.Date) -> None:
-    """Gives an open file or folder its date, read as UTC, if it is one."""
+    """Gives an open file or folder its date, if it is one."""
     if date.civil:
-        minutes = 1440 * (date.days + DAYS_TO_1978) + date.mins
-        when = 60 * 10**9 * minutes + 20_000_000 * date.ticks
-        os.utime(fd, ns=(when, when))
+        os.utime(fd, ns=times_of(date))
+
+
+class Additions(NamedTuple):
+    """What is written beside the entries of a volume: its links, whether they are followed to files, and the files that are left out."""
+
+    ways: Sequence[Way] = ()
+    is_followed: bool = False
+    damaged: Sequence[adf.Found] = ()
+
+
+NOTHING_MORE = Additions()
 
 
 class Unpacker:
     """Writes the tree of a volume into a folder, by the form of names, and whether files NAME.uaem are written. An error of the host
     costs one file, or one directory with what is in it; `failed` has all of them."""
 
-    def __init__(self, volume: adf.Volume, form: Form, writes_uaem: bool, damaged: Sequence[adf.Found] = ()) -> None:
-        self.form, self.endings = form, (b"", BESIDE) if writes_uaem else (b"",)
+    def __init__(self, volume: adf.Volume, form: Form, writes_uaem: bool, more: Additions = NOTHING_MORE) -> None:
+        self.entries, self.form, self.endings = volume.entries, form, (b"", BESIDE) if writes_uaem else (b"",)
+        self.is_followed = more.is_followed
         self.failed: List[OSError] = []
         self.inside = {number: list(each) for number, each in itertools.groupby(volume.entries, lambda entry: entry.parent)}
+        self.ways: Dict[int, List[Way]] = {}
+        for way in more.ways:
+            if way.target is not None:
+                self.ways.setdefault(way.directory, []).append(way)
         self.damaged: Dict[int, List[adf.Found]] = {}
-        for found in damaged:
+        for found in more.damaged:
             self.damaged.setdefault(directory_of(volume, found), []).append(found)
 
     def write(self, folder: str) -> None:
         """Writes all directories and files. A directory gets its date when all that is in it is written."""
         with Place(folder, is_link_followed=False) as place:
-            self.write_damaged(place, 0)
+            self.write_beside(place, 0)
             waiting = [self.entries_in(0)]
             above: list[adf.Entry] = []
             while waiting:
                 entry = next(waiting[-1], None)
                 if entry:
                     if self.write_entry(place, entry):
-                        self.write_damaged(place, entry.number)
+                        self.write_beside(place, entry.number)
                         waiting.append(self.entries_in(entry.number))
                         above.append(entry)
                     continue
@@ -138,9 +162,50 @@ class Unpacker:
                 return True
         return False
 
-    def write_damaged(self, place: Place, number: int) -> None:
+    def write_beside(self, place: Place, number: int) -> None:
+        """Writes the links of a directory, and what is left of its damaged files."""
+        if number in self.ways or number in self.damaged:
+            taken = {self.host(entry) + ending for entry in self.entries_in(number) for ending in self.endings}
+            self.write_links(place, number, taken)
+            self.write_damaged(place, number, taken)
+
+    def write_links(self, place: Place, number: int, taken: Set[bytes]) -> None:
+        """Writes the links of a directory: symbolic links to what they lead to, or copies of files."""
+        for way in self.ways.get(number, ()):
+            found, target = way.link.entry, way.target or 0
+            name = host_name(found.raw_name, self.form, self.endings, taken, found.header)
+            taken.update(name + ending for ending in self.endings)
+            with self.kept(place.path_of(name)):
+                if self.is_followed and target and self.entries[target - 1].is_file:
+                    self.write_copy(place, name, self.entries[target - 1])
+                    continue
+                place.link(name, self.path_between(number, target))
+                if found.date.civil:
+                    os.utime(name, ns=times_of(found.date), dir_fd=place.fd, follow_symlinks=False)
+
+    def write_copy(self, place: Place, name: bytes, entry: adf.Entry) -> None:
+        """Writes the file that a link leads to in its place."""
+        self.write_file(place, name, content_of(entry))
+        for beside in (name + ending for ending in self.endings[1:]):
+            self.write_file(place, beside, text(uaem.line_of(entry)))
+
+    def path_between(self, directory: int, target: int) -> bytes:
+        """The path on the host from a directory to an entry or the root, which leads up no further than both have in common. An error if it
+        is longer than the host takes."""
+        behind: List[bytes] = []
+        ups, size = 0, 0
+        while directory != target:
+            if directory > target:  # an entry has a higher number than its directory
+                directory, ups, size = self.entries[directory - 1].parent, ups + 1, size + len(b"../")
+            else:
+                behind.append(self.host(self.entries[target - 1]))
+                target, size = self.entries[target - 1].parent, size + len(behind[-1]) + 1
+            if size > LONGEST_PATH:
+                raise OSError(errno.ENAMETOOLONG, os.strerror(errno.ENAMETOOLONG))
+        return b"/".join([b".."] * ups + behind[::-1]) or b"."
+
+    def write_damaged(self, place: Place, number: int, taken: Set[bytes]) -> None:
         """Writes what is left of the damaged files of a directory, with zeros for what is lost, and beside it a line for each gap."""
-        taken = {self.host(entry) + ending for entry in self.entries_in(number) for ending in self.endings}
         for found in self.damaged.get(number, ()):
             try:
                 left, lost = found.remains()
@@ -194,10 +259,11 @@ def work(words: argparse.Namespace) -> int:
     if words.boot is not None and os.path.abspath(words.boot) == os.path.abspath(words.folder):
         stop(USAGE, f"{host_text(words.folder)}: FOLDER and the FILE of --boot are the same")
     form = ESCAPE if words.escape else UAEM if words.uaem else LETTERS
-    unpacker = Unpacker(volume, form, words.uaem, damaged_files(volume) if words.damaged else ())
+    ways = ways_of(volume)
+    unpacker = Unpacker(volume, form, words.uaem, Additions(ways, words.follow, damaged_files(volume) if words.damaged else ()))
     with boot_file(words.boot, image), new_folder(words.folder) as folder:
         unpacker.write(folder)
-    status = image.tell("adf-unpack", volume)
+    status = image.tell_lines("adf-unpack", left_out_with(volume, ways))
     for error in unpacker.failed:
         tell("adf-unpack", why(moved_error(error, folder, words.folder))[1])
     return FAILED if unpacker.failed else status
@@ -209,6 +275,7 @@ def main() -> None:
     line.add_argument("folder", metavar="FOLDER", help="the new folder, which must not exist")
     add_strict(line)
     line.add_argument("--damaged", action="store_true", help="write what is left of a damaged file as NAME.damaged, and its gaps as NAME.gaps")
+    line.add_argument("--follow", action="store_true", help="write a copy of the file that a link leads to in its place")
     line.add_argument("--boot", metavar="FILE", help="write the boot blocks, 1,024 bytes, into a new file too")
     add_escape(line, "write names")
     line.add_argument("--uaem", action="store_true", help="keep protection, date and comment in files NAME.uaem, for FS-UAE and WinUAE")

@@ -13,6 +13,7 @@ from typing import Any, Dict, Iterable, Iterator, List, NamedTuple, Optional, Se
 import adf
 from adf_tools import deletions, icons
 from adf_tools.advice import advice_of, passed, sound_group
+from adf_tools.links import led_text
 from adf_tools.names import letters, spelled_letters
 from adf_tools.picture import roles_of_refused
 from adf_tools.standing import SOUND, Source, Standing, Stood
@@ -21,6 +22,7 @@ from adf_tools.sums import boot_facts
 DOS, UNTYPED = b"DOS", adf.escape(bytes(4))  # how a volume begins; a type of 0, which parted writes
 MOST_LETTERS, MOST_FINDINGS, LINE = 64 << 20, 100_000, 100  # of the texts of one image; a row has so many letters beside them
 LONGEST_TEXT, MOST_ICONS, INFO = 1 << 16, 32, b".info"
+LINK = "link"  # the kind of a link that is right, and the state of one that is not
 SECTOR_WORDS, BLOCK_SECTORS, RESERVED = 33, 36, 38  # words of a partition block
 READ_RESERVED = 2  # the reserved blocks of volumes that are read
 OTHER_BLOCKS = "other block size"
@@ -101,13 +103,21 @@ def entry_row(entry: Source, header: int, state: str, digest: Optional[str]) -> 
     return kind, path, entry.size, entry.protection, date_text(entry.date), comment, header, state, digest
 
 
+def link_row(link: adf.Link) -> Tuple[Any, ...]:
+    """The row of a right link, whose state is what it leads to."""
+    _, *fields, _, digest = entry_row(link.entry, link.entry.header, "", None)
+    return LINK, *fields, led_text(link.target), digest
+
+
 def volume_row(entry: adf.Entry) -> Tuple[Any, ...]:
     return entry_row(entry, entry.header, "sound", file_sum(entry) if entry.is_file else None)
 
 
-def stood_row(stood: Stood) -> Tuple[Any, ...]:
-    """The row of an entry of a refused image; a file that is in the rescue has its SHA-256."""
+def stood_row(links: Dict[int, adf.Link], stood: Stood) -> Tuple[Any, ...]:
+    """The row of an entry of a refused image, of which these are the links by their headers; a file that is in the rescue has its SHA-256."""
     source = stood.source
+    if isinstance(source, adf.Found) and source.header in links:
+        return link_row(links[source.header])
     return entry_row(source, stood.header, stood.state, file_sum(source) if isinstance(source, adf.Entry) and source.is_file else None)
 
 
@@ -164,7 +174,8 @@ def volume_record(volume: adf.Volume, columns: Columns, has_texts: bool) -> Reco
 def refused_record(standing: Standing, refused: adf.Refused, columns: Columns, has_texts: bool) -> Record:
     """What is kept of a refused image: its findings, and what stands of it all the same, as its rescue has it."""
     survey, sources = standing.survey, [stood.source for stood in standing.entries]
-    rows, findings = limited(map(stood_row, standing.entries)), limited(finding_rows(survey))
+    links = {link.entry.header: link for link in survey.links} if any(stood.state == LINK for stood in standing.entries) else {}
+    rows, findings = limited(map(functools.partial(stood_row, links), standing.entries)), limited(finding_rows(survey))
     told = {"verdict": str(refused), "block": refused.block, "cause": refused.cause, "label": letters(survey.label), "fits": standing.fits}
     told.update(counts_of(standing), unlisted=len(sources) - len(rows), faults=len(survey.findings) - passed(survey))
     told.update(advice=advice_of(refused, survey, columns), roles=zlib.compress(roles_of_refused(survey, standing.roles)))

@@ -9,6 +9,7 @@ mod counted;
 mod disk;
 mod ffi;
 mod found_file;
+mod link;
 mod numbered;
 mod opened;
 mod reader;
@@ -26,6 +27,7 @@ pub use command::{run, survey, Answer, Failed};
 pub use disk::{Disk, DiskCause, DiskFault, Partition, PartitionFault, Partitions};
 pub use ffi::Date;
 pub use found_file::{FoundFile, Parts};
+pub use link::{Link, LinkKind};
 pub use opened::{open, open_blocks, Opened};
 pub use reader::Reader;
 #[allow(deprecated)]

@@ -162,7 +162,7 @@ impl<'image> Survey<'image> {
         Ok(parts)
     }
 
-    fn entry(&self, number: usize) -> Option<Found<'_>> {
+    pub(crate) fn entry(&self, number: usize) -> Option<Found<'_>> {
         (1..=self.tables.entries.len()).contains(&number).then_some(Found { survey: self, number })
     }
 }

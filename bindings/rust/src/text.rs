@@ -10,6 +10,11 @@ impl<'volume> Text<'volume> {
         Text(&field[..field.len().min(usize::from(length))])
     }
 
+    /// Bytes that stand elsewhere.
+    pub(crate) fn of_bytes(bytes: &'volume [u8]) -> Text<'volume> {
+        Text(bytes)
+    }
+
     /// The bytes.
     pub fn as_bytes(self) -> &'volume [u8] {
         self.0

@@ -2,7 +2,7 @@
 //! numbers that the header does not have. Nothing may stand for a number that the crate knows, and 0 alone accepts.
 #![allow(unsafe_code)]
 
-use adf::{Cause, Disk, DiskCause, Kind, NotFound, PartitionFault, Refused, Role, Survey, Volume};
+use adf::{Cause, Disk, DiskCause, Kind, LinkKind, NotFound, PartitionFault, Refused, Role, Survey, Volume};
 use std::ptr::addr_of_mut;
 
 const NEW: u8 = 24;
@@ -23,6 +23,17 @@ pub struct Finding {
     owner: usize,
     cause: u8,
     is_within: u8,
+}
+
+/// `struct adf_link`.
+#[repr(C)]
+pub struct Link {
+    node: usize,
+    target: usize,
+    path: usize,
+    path_length: usize,
+    header: u32,
+    kind: u8,
 }
 
 /// `struct adf_surveyed` up to its number of findings.
@@ -185,6 +196,16 @@ extern "C" fn adf_survey_index(
         *findings = Finding { first: 2, last: 2, node: 0, owner: 0, cause: NEW, is_within: 0 };
         addr_of_mut!((*surveyed).numbers).write(Numbers { kind: NEW.into(), blocks: 4 });
         addr_of_mut!((*surveyed).findings).write(1);
+    }
+    0
+}
+
+/// One link of an image, of a kind that is new, with a path behind the end of it.
+#[no_mangle]
+extern "C" fn adf_survey_links(_: *const u8, length: usize, links: *mut Link, _: usize, count: *mut usize) -> u8 {
+    unsafe {
+        *links = Link { node: 1, target: 2, path: length, path_length: usize::MAX, header: 2, kind: NEW };
+        *count = 1;
     }
     0
 }
@@ -386,6 +407,8 @@ fn what_is_new_is_not_taken_for_what_is_known() {
     );
     assert_eq!(survey.parts().unwrap_err(), Refused { cause: Cause::Unknown(NEW), block: 0 });
     assert_eq!(survey.owners().unwrap(), [Role::Unknown(NEW), Role::Unknown(NEW)]);
+    let link = survey.links().unwrap()[0];
+    assert_eq!((link.kind(), link.path()), (LinkKind::Unknown(NEW), None));
     let disk = Disk::of(&image).unwrap();
     assert_eq!(disk.fault().map(|fault| (fault.cause, fault.block)), Some((DiskCause::Unknown(NEW), 3)));
     assert_eq!(DiskCause::Unknown(NEW).to_string(), "unknown cause 24");

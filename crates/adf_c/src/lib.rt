@@ -9,7 +9,7 @@ ghost use Rattle.adf_names.specs.VolumeTypes.{letters_of_type};
 ghost use Rattle.adf_survey_cmd.specs.Answers.{survey_without_files};
 ghost use Rattle.adf_volume.specs.declared.types.Types.TheVariants.{Plain, WithInternational};
 ghost use Rattle.adf_memory.specs.CheckCalls.{ChecksImage, FillsTables, FindsEntry, ReadsFile, TellsOwners};
-ghost use Rattle.adf_memory.specs.SurveyCalls.{FillsFound, FillsParts, FillsSurvey, FindsFound, PutsSubject};
+ghost use Rattle.adf_memory.specs.SurveyCalls.{FillsFound, FillsLinks, FillsParts, FillsSurvey, FindsFound, PutsSubject};
 ghost use Rattle.adf_memory.specs.SurveyCalls.{ReadsFound, RescuesVolume, TellsFoundRoles};
 ghost use Rattle.adf_memory.specs.TextCalls.{WritesCause, WritesDiskCause, WritesEscape, WritesPartitionFault};
 ghost use Rattle.adf_memory.specs.VolumeCalls.{BuildsVolume, ClearsBoot, CopiesBoot, FillsPartitions, InstallsBoot};
@@ -19,12 +19,12 @@ use adf_base::Letters;
 use adf_file_runs::{VERSION_NUMBER, WithoutFiles};
 use adf_memory::{
     BootBlocks, Built, Contents, FoundEntry, FoundPart, Moved, NewVolume, RescueTold, SubjectTold,
-    Surveyed, TableAddition, TableDisk, TableEntry, TableFinding, TableLoss, TablePartition,
-    Verdict, build_volume, cause_text, check_image, clear_boot, copy_boot, disk_cause_text,
-    escape_text, find_entry, find_found, install_boot, need_volume, owners_of,
-    partition_fault_text, put_disk, put_found_blocks, put_found_parts, put_index, put_subject,
-    put_survey, read_bytes, read_found, rescue_volume, rescue_volume_types, run_in_memory,
-    survey_owners, tell_boot,
+    Surveyed, TableAddition, TableDisk, TableEntry, TableFinding, TableLink, TableLoss,
+    TablePartition, Verdict, build_volume, cause_text, check_image, clear_boot, copy_boot,
+    disk_cause_text, escape_text, find_entry, find_found, install_boot, need_volume, owners_of,
+    partition_fault_text, put_disk, put_found_blocks, put_found_parts, put_index, put_links,
+    put_subject, put_survey, read_bytes, read_found, rescue_volume, rescue_volume_types,
+    run_in_memory, survey_owners, tell_boot,
 };
 use adf_names::letters_of_type;
 use adf_volume::Types;
@@ -196,6 +196,18 @@ pub extern "C" fn adf_survey_find(alloc: Global, image: &[u8], path: &[u8], node
     ensures { FindsFound image.now path.now node.old node.new result }
 {
     find_found(alloc, image, path, node)
+}
+
+#[unsafe(no_mangle)]
+pub extern "C" fn adf_survey_links(
+    alloc: Global,
+    image: &[u8],
+    links: &mut [TableLink],
+    count: &mut usize,
+) -> u8
+    ensures { FillsLinks image.now links.old links.new count.old count.new result }
+{
+    put_links(alloc, image, links, count)
 }
 
 #[unsafe(no_mangle)]

@@ -12,6 +12,7 @@ pub mod TableBytes
 pub mod Readings
 pub mod TableNames
 pub mod FoundRows
+pub mod LinkRows
 pub mod FoundBlocks
 pub mod FoundRoles
 pub mod FoundRuns

@@ -6,6 +6,8 @@ pub mod FoundRoles
 pub mod TableAdditions
 pub mod Building
 pub mod FoundTables
+-- the table of links
+pub mod LinkTables
 pub mod DiskTables
 pub mod OwnerNumbers
 pub mod Rooms

@@ -8,6 +8,7 @@ use Rattle.adf_findings.specs.{Lookup.LeadsTo, SoundMarks.AreMarks, Survey.OnSur
 use Rattle.adf_subjects.specs.{Rescues.RescuesTyped, Subject.meant, Subject.subject}
 use Rattle.adf_memory.specs.FoundFiles.{file_block_count, found_blocks, found_from, found_part_table, lost_from, named_blocks}
 use Rattle.adf_memory.specs.{FoundRoles.IsFoundRole, Rooms.filled, Subjects.HasSubject, Subjects.untold, Verdicts.WantsMemory}
+use Rattle.adf_memory.specs.{LinkTables.link_table, declared.found_links.TableLink.TableLink}
 use Rattle.adf_memory.specs.{declared.found_parts.FoundPart.FoundPart, declared.found_tables.FoundEntry.FoundEntry, declared.found_tables.Surveyed.Surveyed}
 use Rattle.adf_memory.specs.{declared.found_tables.TableFinding.TableFinding, declared.losses.TableLoss.TableLoss}
 use Rattle.adf_memory.specs.{declared.rescuing.RescueRefusal.RescueRefusal, declared.rescuing.RescueTold.RescueTold, declared.subjects.SubjectTold.SubjectTold}
@@ -42,6 +43,13 @@ pub record FindsFound (image path : List ℕ) (old new n : ℕ) : Type 0 where
   pub none : n ≡ 1 → OnSurvey image (λ w _. (names : List (List ℕ)) → IsPathText path names → (m : ℕ) → LeadsTo image w 0 names m → ⊥)
   pub bad_path : (n ≡ 2) ↔ ((names : List (List ℕ)) → ¬ IsPathText path names)
   pub unchanged : ¬ (n ≡ 0) → new ≡ old
+
+-- adf_survey_links: the table is that of the right links of the image's one survey, and so many are counted. If memory ran out, nothing is written
+pub record FillsLinks (image : List ℕ) (old new : List TableLink) (had told n : ℕ) : Type 0 where
+  pub number : (n ≡ 0) ⊎ WantsMemory n
+  pub links : n ≡ 0 → OnSurvey image (λ w fs. new ≡ filled (link_table image w fs) old)
+  pub count : n ≡ 0 → OnSurvey image (λ w fs. told ≡ length (link_table image w fs))
+  pub unchanged : WantsMemory n → (new ≡ old) × (told ≡ had)
 
 -- adf_survey_parts: the table is that of the image's one survey. If memory ran out, it is unchanged
 pub record FillsParts (image : List ℕ) (old new : List FoundPart) (n : ℕ) : Type 0 where

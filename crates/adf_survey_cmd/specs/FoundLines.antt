@@ -1,7 +1,8 @@
--- The lines of what is found, and their objects. In each definition `date` gives the text of a date, and `sound` tells whether an entry is sound.
+-- The lines of what is found, and their objects. In each definition `date` gives the text of a date, `sound` tells whether an entry is sound, and `link`
+-- whether it is a right link.
 -- Letters: s what is surveyed; w the walk of its image's survey, fs its findings; end a block; n an entry's node, h the block of its header; k how many
 -- entries.
-use Rattle.std.specs.Prelude.{ℕ, ◌==◌, ◌&&◌, ◌||◌, Bool, true, false, not, nat_lt, List, [], ◌∷◌, ◌++◌, codes}
+use Rattle.std.specs.Prelude.{◌≡◌, ℕ, ◌==◌, ◌&&◌, ◌||◌, Bool, true, false, cond, not, nat_lt, List, [], ◌∷◌, ◌++◌, codes}
 use Rattle.std.specs.List.{flat_map, join_with_byte, list_all, range_with_len}
 use Rattle.adf_base.specs.{Words.block, declared.dates.Stamp.Stamp}
 use Rattle.adf_names.specs.{declared.meta.Meta.Meta, Kinds.kind_text}
@@ -10,10 +11,12 @@ use Rattle.adf_blocks.specs.declared.head.HeadBody.{HeadBody}
 use Rattle.adf_blocks.specs.{declared.layout.TheConstants.SECONDARY_TYPE, declared.layout.TheConstants.ST_FILE, HeadBlock.body_at, HeadBlock.meta_stated}
 use Rattle.adf_volume.specs.{Image.word_in, Made.datas_in, Rows.row_body, Walk.heads, Walk.node_block, Walk.Walk}
 use Rattle.adf_volume.specs.declared.row.RowBody.{RowBody, TheVariants.Dir, TheVariants.File}
-use Rattle.adf_findings.specs.{Lookup.path_to, SoundMarks.AreMarks, Opening.opening_in, Survey.FindingValue, declared.opening.Opening.Opening}
+use Rattle.adf_findings.specs.{Lookup.path_to, Members.has_mark, SoundMarks.AreMarks, Opening.opening_in, Survey.FindingValue, declared.opening.Opening.Opening}
+use Rattle.adf_links.specs.Links.{is_right_link}
 use Rattle.adf_texts.specs.{RowTexts.head_lines, VolumeLines.AreDates, VolumeLines.opening_lines}
 use Rattle.adf_subjects.specs.Subject.{SubjectValue}
 use Rattle.adf_survey_cmd.specs.CacheLines.{told_text}
+use Rattle.adf_survey_cmd.specs.FoundLinks.{told_link}
 
 -- the mark of an entry, on the left of eight places
 abbrev pub mark_text : Bool → List ℕ
@@ -50,9 +53,10 @@ entry_text true date sound names body meta = entry_object date sound (join_with_
 abbrev pub header_text : (json : Bool) → (Stamp → List ℕ) → (sound : Bool) → (names : List (List ℕ)) → (head : List ℕ) → List ℕ
 header_text json date sound names head = entry_text json date sound names (body_at head) (meta_stated head)
 
--- that of entry n
-abbrev pub found_lines : (json : Bool) → (Stamp → List ℕ) → (ℕ → Bool) → List ℕ → Walk → ℕ → List ℕ
-found_lines json date sound image w n = header_text json date (sound n) (path_to image w n) (block image (node_block w n))
+-- that of entry n, or of the right link that it is
+abbrev pub found_lines : (json : Bool) → (Stamp → List ℕ) → (sound link : ℕ → Bool) → List ℕ → Walk → ℕ → List ℕ
+found_lines json date sound link image w n =
+    cond (link n) (told_link json date image w n) (header_text json date (sound n) (path_to image w n) (block image (node_block w n)))
 
 -- entry n is no file, or each of its data blocks is before block `end`
 abbrev pub has_its_data : ℕ → List ℕ → Walk → ℕ → Bool
@@ -64,8 +68,8 @@ abbrev pub marked : (ℕ → Bool) → ℕ → List ℕ → Walk → ℕ → Boo
 marked sound end image w n = sound n && has_its_data end image w n
 
 -- those of the first k entries
-unfoldable pub lines_of_found : (json : Bool) → (Stamp → List ℕ) → (ℕ → Bool) → List ℕ → Walk → ℕ → List ℕ
-lines_of_found json date sound image w k = flat_map (found_lines json date sound image w) (range_with_len 1 k)
+unfoldable pub lines_of_found : (json : Bool) → (Stamp → List ℕ) → (sound link : ℕ → Bool) → List ℕ → Walk → ℕ → List ℕ
+lines_of_found json date sound link image w k = flat_map (found_lines json date sound link image w) (range_with_len 1 k)
 
 -- the members of the object of a volume, by what its boot bytes and its root tell, with these dates
 unfoldable pub volume_members : Opening → (root altered created : List ℕ) → List MemberValue
@@ -83,16 +87,21 @@ opening_text false date o = opening_lines date o.kind o.label o.stamps o.blocks
 opening_text true date o = volume_object date o
 
 -- the lines of what is found, or with `json` their objects: none where the root is not taken
-abbrev pub found_text : (json : Bool) → (Stamp → List ℕ) → (ℕ → Bool) → List ℕ → Walk → List ℕ
-found_text json date sound image [] = []
-found_text json date sound image (x ∷ w) =
-    opening_text json date (opening_in image) ++ lines_of_found json date sound image (x ∷ w) (heads (x ∷ w))
+abbrev pub found_text : (json : Bool) → (Stamp → List ℕ) → (sound link : ℕ → Bool) → List ℕ → Walk → List ℕ
+found_text json date sound link image [] = []
+found_text json date sound link image (x ∷ w) =
+    opening_text json date (opening_in image) ++ lines_of_found json date sound link image (x ∷ w) (heads (x ∷ w))
 
 -- the lines of the remarks, the findings and wrong caches, and behind them those of what is found; or with `json` their objects
 abbrev pub listing_text : (json : Bool) → (Stamp → List ℕ) → (ℕ → Bool) → SubjectValue → Walk → List FindingValue → List ℕ
-listing_text json date sound s w fs = told_text json s w fs ++ found_text json date (marked sound s.end s.image w) s.image w
+listing_text json date sound s w fs =
+    told_text json s w fs ++ found_text json date (marked sound s.end s.image w) (is_right_link s.image w fs) s.image w
 
 -- it holds of any function that gives each date its text, and of any that tells the sound entries of a survey
 abbrev pub InAnyTexts : List ℕ → Walk → List FindingValue → ((Stamp → List ℕ) → (ℕ → Bool) → Type 0) → Type 0
 InAnyTexts image w fs holds =
     (date : Stamp → List ℕ) (sound : ℕ → Bool) → AreDates date → AreMarks image w fs sound → holds date sound
+
+-- the marks are those of the right links
+abbrev pub AreRight : List ℕ → Walk → List FindingValue → List Bool → Type 0
+AreRight image w fs marks = (n : ℕ) → has_mark marks n ≡ is_right_link image w fs n

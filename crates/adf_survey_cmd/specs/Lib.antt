@@ -3,6 +3,8 @@ pub mod CommandLine
 pub mod Deletions
 -- the lines of wrong directory caches
 pub mod CacheLines
+-- the lines of links among what is found
+pub mod FoundLinks
 pub mod FoundLines
 pub mod Remains
 pub mod Hints

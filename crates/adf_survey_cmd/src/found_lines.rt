@@ -2,18 +2,20 @@
 
 ghost use Rattle.std.specs.Prelude.{◌≡◌, ◌++◌, ◌≤◌, ℕ, Bool, List, IfOk, OnErr, OnOk, false, map, nat_lt};
 ghost use Rattle.std.specs.{List.list_all, Io.KnownBytes.Appends};
-ghost use Rattle.adf_base.specs.declared.dates.Stamp.{Stamp};
-ghost use Rattle.adf_volume.specs.Walk.{heads};
-ghost use Rattle.adf_findings.specs.{SoundMarks.AreMarks, Survey.OnSurvey};
+ghost use Rattle.adf_base.specs.{Words.block, declared.dates.Stamp.Stamp};
+ghost use Rattle.adf_volume.specs.Walk.{heads, node_block};
+ghost use Rattle.adf_findings.specs.{Lookup.path_to, SoundMarks.AreMarks, Survey.OnSurvey};
+ghost use Rattle.adf_links.specs.Links.{is_right_link};
 ghost use Rattle.adf_texts.specs.VolumeLines.{AreDates};
 ghost use Rattle.adf_runs.specs.Streams.{AppendsPart, is_device};
 ghost use Rattle.adf_texts.specs.RowTexts.{head_lines};
-ghost use Rattle.adf_survey_cmd.specs.FoundLines.{InAnyTexts, entry_text, found_lines, found_text, lines_of_found, mark_text};
-ghost use Rattle.adf_survey_cmd.specs.FoundLines.{marked};
-ghost use Rattle.adf_survey_cmd.specs.FoundLines.{opening_text};
+ghost use Rattle.adf_survey_cmd.specs.FoundLines.{AreRight, InAnyTexts, entry_text, found_lines, found_text, header_text};
+ghost use Rattle.adf_survey_cmd.specs.FoundLines.{lines_of_found, mark_text, marked, opening_text};
 
+use crate::found_links::push_link;
 use crate::found_objects::{FoundEntry, push_entry_object, push_volume_object};
-use adf_findings::{Opening, Survey};
+use adf_findings::{Opening, Survey, has_mark};
+use adf_links::right_links;
 use adf_runs::{Sink, StreamFault, flush_long, write_all};
 use adf_texts::{push_head_lines, push_opening_lines};
 use adf_tree::Node;
@@ -94,8 +96,8 @@ fn push_entry(
     }
 }
 
-// Appends what is told of an entry.
-fn push_found(
+// Appends what is told of an entry that is no right link.
+fn push_header(
     alloc: Global,
     survey: &Survey<'_>,
     n: Node,
@@ -105,7 +107,8 @@ fn push_found(
     ensures { OnSurvey survey.now.image (λ w fs.
         InAnyTexts survey.now.image w fs (λ date sound. 1 ≤ n → n ≤ heads w → OnOk result
         (text.new.items ≡ text.old.items
-        ++ found_lines form.json date (marked sound form.end survey.now.image w) survey.now.image w n))) }
+        ++ header_text form.json date (marked sound form.end survey.now.image w n) (path_to survey.now.image w n)
+        (block survey.now.image (node_block w n))))) }
 {
     let (Some(body), Some(meta)) = (survey.body(n), survey.meta(n)) else {
         return Ok(());
@@ -122,23 +125,53 @@ fn push_found(
     push_entry(alloc, &entry, form.json, text)
 }
 
+// How entries are listed, and which of them are right links.
+#[derive(Clone, Copy)]
+struct EntryForm<'a> {
+    list: ListForm,
+    right: &'a Vec<bool>,
+}
+
+// Appends what is told of an entry.
+fn push_found(
+    alloc: Global,
+    survey: &Survey<'_>,
+    n: Node,
+    form: &EntryForm<'_>,
+    text: &mut Vec<u8>,
+) -> Result<(), AllocError>
+    ensures { OnSurvey survey.now.image (λ w fs.
+        InAnyTexts survey.now.image w fs (λ date sound. AreRight survey.now.image w fs form.now.right.now.items
+        → 1 ≤ n → n ≤ heads w → OnOk result (text.new.items ≡ text.old.items
+        ++ found_lines form.now.list.json date (marked sound form.now.list.end survey.now.image w)
+        (is_right_link survey.now.image w fs) survey.now.image w n))) }
+{
+    if has_mark(form.right, n.0) {
+        push_link(alloc, survey, n, form.list.json, text)
+    } else {
+        push_header(alloc, survey, n, form.list, text)
+    }
+}
+
 // Writes the text that waits, and the marks and lines of the entries behind it.
 fn write_entries<W: Sink>(
     alloc: Global,
     survey: &Survey<'_>,
-    form: ListForm,
+    form: &EntryForm<'_>,
     mut text: Vec<u8>,
     output: &mut W,
 ) -> Result<(), StreamFault>
     requires works { W.has_failed output.old ≡ false }
     ensures ok { OnSurvey survey.now.image (λ w fs.
-        InAnyTexts survey.now.image w fs (λ date sound. OnOk result (Appends
-        (W.held output.old) (W.held output.new)
-        (text.items ++ lines_of_found form.json date (marked sound form.end survey.now.image w) survey.now.image w (heads w))))) }
+        InAnyTexts survey.now.image w fs (λ date sound. AreRight survey.now.image w fs form.now.right.now.items
+        → OnOk result (Appends (W.held output.old) (W.held output.new)
+        (text.items ++ lines_of_found form.now.list.json date (marked sound form.now.list.end survey.now.image w)
+        (is_right_link survey.now.image w fs) survey.now.image w (heads w))))) }
     ensures err { OnSurvey survey.now.image (λ w fs.
-        InAnyTexts survey.now.image w fs (λ date sound. OnErr result (AppendsPart
-        (W.has_failed output.new) (W.held output.old) (W.held output.new)
-        (text.items ++ lines_of_found form.json date (marked sound form.end survey.now.image w) survey.now.image w (heads w))))) }
+        InAnyTexts survey.now.image w fs (λ date sound. AreRight survey.now.image w fs form.now.right.now.items
+        → OnErr result (AppendsPart (W.has_failed output.new) (W.held output.old) (W.held output.new)
+        (text.items ++ lines_of_found form.now.list.json date (marked sound form.now.list.end survey.now.image w)
+        (is_right_link survey.now.image w fs) survey.now.image w (heads w))))) }
     ensures failed { W.has_failed output.new ≡ is_device result }
 {
     for i in 0..survey.len() {
@@ -184,17 +217,26 @@ pub fn write_found<W: Sink>(
     ensures ok { OnSurvey survey.now.image (λ w fs.
         InAnyTexts survey.now.image w fs (λ date sound. OnOk result (Appends
         (W.held output.old) (W.held output.new)
-        (found_text form.json date (marked sound form.end survey.now.image w) survey.now.image w)))) }
+        (found_text form.json date (marked sound form.end survey.now.image w) (is_right_link survey.now.image w fs)
+        survey.now.image w)))) }
     ensures err { OnSurvey survey.now.image (λ w fs.
         InAnyTexts survey.now.image w fs (λ date sound. OnErr result (AppendsPart
         (W.has_failed output.new) (W.held output.old) (W.held output.new)
-        (found_text form.json date (marked sound form.end survey.now.image w) survey.now.image w)))) }
+        (found_text form.json date (marked sound form.end survey.now.image w) (is_right_link survey.now.image w fs)
+        survey.now.image w)))) }
     ensures failed { W.has_failed output.new ≡ is_device result }
 {
     let Some(opening) = survey.opening() else {
         return Ok(());
     };
+    let Ok(right) = right_links(alloc, survey) else {
+        return Err(StreamFault::NoMemory);
+    };
     let mut text = Vec::new(alloc);
     push_opening(alloc, &opening, form.json, &mut text)?;
-    write_entries(alloc, survey, form, text, output)
+    let form = EntryForm {
+        list: form,
+        right: &right,
+    };
+    write_entries(alloc, survey, &form, text, output)
 }

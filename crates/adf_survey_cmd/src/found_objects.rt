@@ -27,8 +27,8 @@ pub struct FoundEntry<'a> {
     pub path: &'a [&'a [u8]],
 }
 
-// The text of a date.
-fn date_text(alloc: Global, stamp: Stamp) -> Result<Vec<u8>, AllocError>
+/// The text of a date.
+pub fn date_text(alloc: Global, stamp: Stamp) -> Result<Vec<u8>, AllocError>
     ensures { (date : Stamp → List ℕ) → AreDates date → IfOk result (λ text. text.items ≡ date stamp) }
 {
     let mut text = Vec::new(alloc);

@@ -8,6 +8,7 @@ mod command_line;
 mod copying;
 mod deleting;
 mod found_lines;
+mod found_links;
 mod found_objects;
 mod hints;
 mod laws;

@@ -3,6 +3,7 @@
 ghost use Rattle.std.specs.Prelude.{◌≡◌, ◌++◌, OnErr, OnOk, false};
 ghost use Rattle.std.specs.Io.KnownBytes.{Appends};
 ghost use Rattle.adf_findings.specs.Survey.{OnSurvey};
+ghost use Rattle.adf_links.specs.Links.{is_right_link};
 ghost use Rattle.adf_runs.specs.{Streams.AppendsPart, Streams.is_device, Outcomes.Blames, Outcomes.EndsBy};
 ghost use Rattle.adf_survey_cmd.specs.CacheLines.{caches_text};
 ghost use Rattle.adf_survey_cmd.specs.{Answers.TellsFound, FoundLines.InAnyTexts, FoundLines.found_text, FoundLines.marked};
@@ -29,13 +30,15 @@ fn write_both<W: Sink>(
         InAnyTexts survey.now.image w fs (λ date sound. OnOk result (Appends
         (W.held output.old) (W.held output.new) (((text.items ++ findings_text form.json survey.now.image w fs)
         ++ caches_text form.json survey.now.image w)
-        ++ found_text form.json date (marked sound form.end survey.now.image w) survey.now.image w)))) }
+        ++ found_text form.json date (marked sound form.end survey.now.image w) (is_right_link survey.now.image w fs)
+        survey.now.image w)))) }
     ensures err { OnSurvey survey.now.image (λ w fs.
         InAnyTexts survey.now.image w fs (λ date sound. OnErr result (AppendsPart
         (W.has_failed output.new) (W.held output.old) (W.held output.new)
         (((text.items ++ findings_text form.json survey.now.image w fs)
         ++ caches_text form.json survey.now.image w)
-        ++ found_text form.json date (marked sound form.end survey.now.image w) survey.now.image w)))) }
+        ++ found_text form.json date (marked sound form.end survey.now.image w) (is_right_link survey.now.image w fs)
+        survey.now.image w)))) }
     ensures failed { W.has_failed output.new ≡ is_device result }
 {
     write_told(alloc, survey, text, form.json, output)?;

@@ -8,6 +8,8 @@ mod disk_tables;
 #[cfg(test)]
 mod found_files;
 #[cfg(test)]
+mod found_links;
+#[cfg(test)]
 mod images;
 #[cfg(test)]
 mod images_in_memory;

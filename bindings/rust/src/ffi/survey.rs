@@ -57,6 +57,18 @@ pub(crate) struct Surveyed {
     pub label: [u8; 30],
 }
 
+/// `struct adf_link`.
+#[repr(C)]
+#[derive(Clone, Copy)]
+pub(crate) struct LinkRecord {
+    pub node: usize,
+    pub target: usize,
+    pub path: usize,
+    pub path_length: usize,
+    pub header: u32,
+    pub kind: u8,
+}
+
 extern "C" {
     fn adf_survey_subject(
         image: *const u8,
@@ -75,6 +87,7 @@ extern "C" {
         entries_room: usize,
         surveyed: *mut Surveyed,
     ) -> u8;
+    fn adf_survey_links(image: *const u8, length: usize, links: *mut LinkRecord, room: usize, count: *mut usize) -> u8;
     fn adf_survey_find(image: *const u8, length: usize, path: *const u8, path_length: usize, node: *mut usize) -> u8;
 }
 
@@ -139,6 +152,28 @@ pub(crate) fn survey(image: &[u8]) -> Result<SurveyTables, Refused> {
         return Ok(first);
     }
     survey_into(image, findings, entries)
+}
+
+/// Surveys an image and fills a table with room for so many of its right links, and answers it with the number of all.
+fn links_into(image: &[u8], room: usize) -> Result<(Vec<LinkRecord>, usize), Refused> {
+    let (mut links, mut count) = (with_room::<LinkRecord>(room)?, 0);
+    let room = links.capacity();
+    // "Buffers and structs need not be initialised".
+    let answer = unsafe { adf_survey_links(image.as_ptr(), image.len(), links.as_mut_ptr(), room, &mut count) };
+    accepted(answer).map_err(|cause| Refused { cause, block: 0 })?;
+    // "fills a table of its right links, in the order of their entries, as far as there is room": so many were written.
+    unsafe { links.set_len(count.min(room)) };
+    Ok((links, count))
+}
+
+/// The right links that the survey of an image finds.
+pub(crate) fn links(image: &[u8]) -> Result<Vec<LinkRecord>, Refused> {
+    const FIRST_ROOM: usize = 64;
+    let (links, count) = links_into(image, FIRST_ROOM)?;
+    if links.len() == count {
+        return Ok(links);
+    }
+    Ok(links_into(image, count)?.0)
 }
 
 /// The number of the entry of a survey under a path in escape form, of several the first; 0 for the root.

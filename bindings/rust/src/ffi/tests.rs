@@ -36,6 +36,7 @@ fn layouts() -> Vec<(String, usize)> {
     all.extend(layout!(FoundRecord, "adf_found": parent header size protection date is_file is_sound name_length name
         comment_length comment));
     all.extend(layout!(Surveyed, "adf_surveyed": kind blocks findings entries root altered created label_length label));
+    all.extend(layout!(LinkRecord, "adf_link": node target path path_length header kind));
     all.extend(layout!(PartRecord, "adf_part": node number));
     all.extend(layout!(SubjectTold, "adf_subject": length held is_begun is_retyped));
     all.extend(layout!(PartitionRecord, "adf_partition": first blocks block flags priority dos_type fault name_length name));

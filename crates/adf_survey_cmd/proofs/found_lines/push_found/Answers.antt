@@ -1,14 +1,21 @@
-use Rattle.std.proofs.Common.{◌≡◌, ◌∙◌, ap, map, sym}
-use Rattle.adf_findings.specs.Lookup.{path_to}
+use Rattle.std.proofs.Common.{◌≡◌, true, false}
+use Rattle.adf_links.specs.Links.{is_right_link}
 use Rattle.adf_survey_cmd.proofs.found_lines.push_found.Goals as goal
 
-pub returns : goal.returns
-returns c = λ w fs survey date sound dates marks lo hi.
-    let image = c.args.survey.now.image in
-    let n = c.args.n in
-    let is = c.in_ok-is_marked.ensures w fs survey sound marks in
-    let names : map (λ name. name.now) c.deref.result.now ≡ path_to image w n =
-    ap (map (λ name. name.now)) c.deref.ensures.value ∙ c.in-Ok.ensures.names w fs survey in
-    let body = c.in-Some-Some.ensures.body w fs survey in
-    let meta = c.in-Some-Some.ensures'.meta w fs survey in
-    rw (sym is, sym names, sym body, sym meta) (c.push_entry.ensures date dates)
+pub returns-then-has_mark : goal.returns-then-has_mark
+returns-then-has_mark c = λ w fs survey date sound dates marks right lo hi.
+    let here = right c.args.n in
+    let told = c.has_mark.ensures in
+    let case = c.if-has_mark.true in
+    let same = c.n.view_is in
+    let is : is_right_link c.args.survey.now.image w fs c.args.n ≡ true = cc in
+    rw is (c.push_link.ensures w fs survey date dates lo hi)
+
+pub returns-else-has_mark : goal.returns-else-has_mark
+returns-else-has_mark c = λ w fs survey date sound dates marks right lo hi.
+    let here = right c.args.n in
+    let told = c.has_mark.ensures in
+    let case = c.if-has_mark.false in
+    let same = c.n.view_is in
+    let is : is_right_link c.args.survey.now.image w fs c.args.n ≡ false = cc in
+    rw is (c.push_header.ensures w fs survey date sound dates marks lo hi)
