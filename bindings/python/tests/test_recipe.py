@@ -12,12 +12,12 @@ class Recipes(Folder):
             image = image_of(kind)
             self.assertEqual(built(self.tool("recipe", given=image).decode()), adf.run(["convert", kind], image).output)
 
-    def test_says_that_letters_are_left_out(self):
-        for kind, told in (("ofs", "type 2: adf build makes type 0"), ("ffs", "type 3: adf build makes type 1")):
+    def test_names_international_letters(self):
+        for kind in adf.KINDS:
             ran = self.run_tool("recipe", given=international(kind))
-            self.assertEqual((ran.returncode, ran.stdout.decode().splitlines()[0]), (1, f"volume {kind} 1760"))
-            self.assertEqual(ran.stderr.decode(), f"adf-recipe: {told}; then adf-edit NEW letters international\n")
-            self.assertEqual([line.split()[-1] for line in listed(built(ran.stdout.decode()))], ["c", "\\xe9"])
+            first, rest = ran.stdout.decode().split("\n", 1)
+            self.assertEqual((ran.returncode, ran.stderr, first), (0, b"", f"volume {kind}-international 1760"))
+            self.assertEqual([line.split()[-1] for line in listed(built(f"volume {kind} 1760\n{rest}"))], ["c", "\\xe9"])
 
     def test_refuses(self):
         self.refused(1, "block 880: bad sum", "recipe", "--strict", given=changed(image_of(), 880, 440, 1))

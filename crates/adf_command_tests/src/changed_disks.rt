@@ -40,6 +40,11 @@ impl<'a> Files for Folder<'a> {
             Ok(Given::new(b"put host a\nprotect\ta\th-p--w-d\n", usize::MAX))
         } else if name == b"wrong".as_slice() {
             Ok(Given::new(b"dir b\nremove b b\n", usize::MAX))
+        } else if name == b"manifest".as_slice() {
+            Ok(Given::new(
+                b"volume ofs 16\nfile 0:0:0 00000002 a\nfill 3 00\n",
+                usize::MAX,
+            ))
         } else if name == b"latin".as_slice() {
             Ok(Given::new(b"dir \xe9\n", usize::MAX))
         } else if name == b"empty".as_slice() {
@@ -156,6 +161,13 @@ const MADE: &[(&[&str], &str, u8, u8)] = &[
     ),
     (&["x", "disk", "put", "host", "a"], "disk", 3, 0),
     (&["x", "-o", "new", "disk", "put", "host", "a"], "new", 3, 0),
+    (&["x", "-o", "new", "manifest"], "new", 3, 2),
+    (
+        &["x", "-o", "new", "manifest", "replace", "empty", "a"],
+        "new",
+        0,
+        2,
+    ),
     (
         &[
             "x", "--", "disk", "put", "host", "a", "+", "put", "host", "+a",
@@ -232,6 +244,23 @@ const REFUSED: &[(&[&str], u8, &str)] = &[
     (&["x", "-f", "script"], 2, "usage: "),
     (&["x", "-f", "script", "disk", "dir", "a"], 2, "usage: "),
     (&["x", "host", "dir", "a"], 1, "image: "),
+    (&["x", "manifest"], 2, "usage: "),
+    (
+        &["x", "manifest", "dir", "b"],
+        1,
+        "a manifest is not replaced: name the new disk with -o\n",
+    ),
+    (
+        &["x", "-o", "manifest", "manifest"],
+        1,
+        "a manifest is not replaced: name the new disk with -o\n",
+    ),
+    (
+        &["x", "-o", "new", "manifest", "dir", "A"],
+        1,
+        "1: exists: remove it first, or take another name: a\n",
+    ),
+    (&["x", "-o", "locked", "disk"], 3, "locked: no permission\n"),
     (&["x", "locked", "dir", "a"], 3, "locked: no permission\n"),
     (
         &["x", "-o", "locked", "disk", "dir", "a"],

@@ -20,8 +20,8 @@ fn image_by(alloc: Global, letters: Letters, script: &[u8]) -> Option<Result<Vec
     Some(new_image(alloc, &input))
 }
 
-// Whether a slot of the root, in block 8, has an entry.
-fn has_entry(image: &[u8], slot: u8) -> bool {
+/// Whether a slot of the root, in block 8, has an entry.
+pub fn has_entry(image: &[u8], slot: u8) -> bool {
     let last = 8 * 512 + 4 * (6 + usize::from(slot)) + 3;
     matches!(image.get(last), Some(byte) if *byte != 0)
 }

@@ -26,6 +26,8 @@ mod edited_letters;
 #[cfg(test)]
 mod edited_lines;
 #[cfg(test)]
+mod edited_manifests;
+#[cfg(test)]
 mod host_plans;
 #[cfg(test)]
 mod mapped_surveys;

@@ -1,10 +1,9 @@
 -- Edits one after the other, and the bytes of their files.
-use Rattle.std.proofs.Common.{◌≡◌, ◌<◌, ◌≤◌, ◌+◌, ℕ, suc, List, [], ◌∷◌, ◌++◌, take, Option, Some, None, Result, Ok, Err, length, map, drop, get_or, nat_lt}
+use Rattle.std.proofs.Common.{◌≡◌, ◌<◌, ◌≤◌, ◌+◌, ℕ, suc, List, [], ◌∷◌, ◌++◌, take, Option, Some, None, Result, Ok, Err, IfErr, length, map, drop, get_or, nat_lt}
 use Rattle.std.proofs.Common.{slice_index, true, false, ap, refl, sym, subst, inl, inr, arith, ◌∙◌}
 use Rattle.std.proofs.{Math.Seq.drop-cons, Math.Seq.take-append_seam, lemmas.List.drop_all, lemmas.List.get_or-take, lemmas.List.length-map}
 use Rattle.std.proofs.{lemmas.Bool.and_parts, lemmas.Bool.eqb-true, lemmas.Grind.common_steps}
 use Rattle.std.specs.Option.{unwrap_or}
-use Rattle.adf_blocks.specs.Sizes.{blocks}
 use Rattle.adf_boot_blocks.proofs.OtherBoots.{other_fits_by}
 use Rattle.adf_boot_blocks.specs.BootBlocks.{IsOtherBoot, begins_with_dos, is_bootable}
 use Rattle.adf_build.specs.{Building.IsBuildable, Laid.volume, Plan.planned}
@@ -13,8 +12,8 @@ use Rattle.adf_edits.specs.{Outline.OutlineValue, Outline.outline_of, TreeFaults
 use Rattle.adf_base.specs.{Words.block, declared.hash.Letters.Letters}
 use Rattle.adf_tree.specs.Tree.{Tree}
 use Rattle.adf_volume.specs.{Fits.FitsBy, Layout.Layout}
-use Rattle.adf_edit_cmd.specs.Edited.{IsLaidOver, IsShallow, IsVolume, StopsOn, StopsTree, booted, outline_after, next_outline}
-use Rattle.adf_edit_cmd.specs.Script.{ScriptValue, behind_file, behind_files, bytes_taken, files_len}
+use Rattle.adf_edit_cmd.specs.Edited.{IsLaidOver, IsShallow, StopsInput, StopsOn, StopsTree, booted, next_outline, outline_after}
+use Rattle.adf_edit_cmd.specs.Script.{IsScript, ScriptValue, behind_file, behind_files, bytes_taken, files_len}
 use Rattle.adf_edit_cmd.specs.declared.script.{BootEdit.BootEdit, BootEdit.TheVariants.Install, Settings.Settings}
 use Rattle.adf_edit_cmd.specs.declared.stop.Stop.{Stop, TheVariants.Line, TheVariants.NoRoom}
 
@@ -125,9 +124,11 @@ laid_over boot t n image old new room is fits other put starts = record {
   starts = starts (volume_begins old t (planned t n) fits);
 }
 
-pub stops_on : (s : ScriptValue) (given image : List ℕ) (t : Tree) (n : ℕ) (stop : Stop) → IsVolume image t → n ≡ blocks image
-    → StopsTree s given t n stop → StopsOn s given image stop
-stops_on s given image t n stop fits is h = inr (t, fits, subst (λ k. StopsTree s given t k stop) is h)
+-- what stops a script on an image stops its input
+pub stops_input : {T : Type 0} (r : Result T Stop) (input : List ℕ) (s : ScriptValue) (given image : List ℕ) → IsScript input s given
+    → behind_files s.edits given ≡ Some image → IfErr r (StopsOn s given image) → IfErr r (StopsInput input)
+stops_input (Ok new) input s given image is files h = tt
+stops_input (Err stop) input s given image is files h = inr (inr (s, given, image, record { script = is; files = files }, h))
 
 -- the tree after all edits has no room by the letters of the new volume
 pub room_stop : (es : List Edit) (asked : Settings) (given : List ℕ) (t : Tree) (n : ℕ) (o p : OutlineValue) (k : ℕ) (f : TreeFault)

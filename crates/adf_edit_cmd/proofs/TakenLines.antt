@@ -4,7 +4,7 @@ use Rattle.std.proofs.Common.{codes, decimal, get_or, length, subst, take, ◌�
 use Rattle.std.proofs.Math.Seq.{take-suc}
 use Rattle.adf_edit_cmd.specs.Changing.{AreRead, AreTaken, IsFileFault, IsInputOf, IsLineTaken, IsNoChange, OrderEnds, TakesHost, line_end_of}
 use Rattle.adf_edit_cmd.specs.{Edited.IsEdited, Words.EditOrder, Words.WordedLine}
-use Rattle.adf_edit_cmd.specs.declared.changing.NoChange.{NoChange, TheVariants.Unopened, TheVariants.ReadFault, TheVariants.NoMemory, TheVariants.Edits}
+use Rattle.adf_edit_cmd.specs.declared.changing.NoChange.{NoChange, TheVariants.Unopened, TheVariants.ReadFault, TheVariants.NoMemory, TheVariants.Edits, TheVariants.InPlace}
 use Rattle.adf_file_changes.specs.Changes.{IsReplaced}
 use Rattle.adf_file_runs.specs.FileRuns.{KnownFiles}
 use Rattle.adf_runs.specs.Streams.{AreFirst, Seen}
@@ -83,6 +83,7 @@ file_fault files order (Unopened name why) h = h
 file_fault files order ReadFault h = h
 file_fault files order NoMemory h = h
 file_fault files order (Edits stop) h = absurd h
+file_fault files order InPlace h = absurd h
 
 -- the target is replaced by the new image
 pub target_replaced : (files : KnownFiles) (after : List ℕ → Option (List ℕ)) (order : EditOrder) (errors : Seen) (new name bytes : List ℕ)

@@ -17,7 +17,8 @@ EditAnswer input reply = Edits (take MOST_INPUT_BYTES input) reply
 -- what errors get where words are refused
 abbrev pub edit_usage : List ℕ
 edit_usage =
-    codes "usage: adf-edit [-o NEW] IMAGE EDIT [+ EDIT]..\n       adf-edit [-o NEW] -f SCRIPT IMAGE\n       adf-edit < INPUT > IMAGE\nman adf-edit tells more\n"
+    codes "usage: adf-edit [-o NEW] IMAGE EDIT [+ EDIT]..\n       adf-edit [-o NEW] -f SCRIPT IMAGE\n       adf-edit -o NEW MANIFEST\n"
+    ++ codes "       adf-edit < INPUT > IMAGE\nman adf-edit tells more\n"
 
 -- the command `adf-edit` over an input, whose only word is its name
 abbrev pub edit_command : Command (List (List ℕ))

@@ -1,9 +1,11 @@
 -- What becomes of files by an order. bytes_of tells the known bytes of each file, `script` are lines, `given` the bytes of their host files.
-use Rattle.std.specs.Prelude.{◌≡◌, ◌≢◌, ◌+◌, ◌⊎◌, ℕ, List, [], ◌∷◌, ◌++◌, Option, None, Some, codes, decimal, length, true}
+use Rattle.std.specs.Prelude.{◌≡◌, ◌≢◌, ◌+◌, ◌⊎◌, ◌&&◌, ℕ, Bool, List, [], ◌∷◌, ◌++◌, Option, None, Some, codes, decimal, false, length, true}
+use Rattle.std.specs.Str.{bytes_eq}
+use Rattle.adf_edit_cmd.specs.Manifests.{is_manifest}
 use Rattle.adf_edit_cmd.specs.{Edited.IsEdited, Edited.StopsInput, Stops.stop_text, Words.EditOrder, Words.WordedLine}
 use Rattle.adf_edit_cmd.specs.{Answers.edit_command, declared.program.TheConstants.MOST_INPUT_BYTES}
 use Rattle.adf_edit_cmd.specs.declared.stop.Stop.{Stop, TheVariants.Image, TheVariants.NoMemory as StopNoMemory, TheVariants.TooDeep}
-use Rattle.adf_edit_cmd.specs.declared.changing.NoChange.{NoChange, TheVariants.Unopened, TheVariants.ReadFault, TheVariants.NoMemory, TheVariants.Edits}
+use Rattle.adf_edit_cmd.specs.declared.changing.NoChange.{NoChange, TheVariants.Unopened, TheVariants.ReadFault, TheVariants.NoMemory, TheVariants.Edits, TheVariants.InPlace}
 use Rattle.adf_file_changes.specs.{Changes.IsReplaced, Changes.unwritten_line, declared.changes.Unwritten.Unwritten}
 use Rattle.adf_file_runs.specs.{FileRuns.KnownFiles, FileRuns.unopened_line, declared.files.Unopened.Unopened as Reason}
 use Rattle.adf_volume.specs.Fault.{fault_text}
@@ -35,13 +37,18 @@ AreTaken bytes_of (line ∷ lines) script given =
     (bytes rest more : List ℕ) × TakesHost bytes_of line.host bytes × AreTaken bytes_of lines rest more
     × (script ≡ (line.text ++ line_end_of line.host bytes) ++ rest) × (given ≡ bytes ++ more)
 
--- the input that an order stands for: the lines and `end`, the bytes of their host files, and the image
+-- whether an order would put the new image in the place of a manifest
+abbrev pub replaces_manifest : EditOrder → List ℕ → Bool
+replaces_manifest order image = bytes_eq order.target order.image && is_manifest image
+
+-- the input that an order stands for, which replaces no manifest: the lines and `end`, the bytes of their host files, and the image
 pub record IsInputOf (bytes_of : List ℕ → Option (List ℕ)) (order : EditOrder) (input : List ℕ) : Type 0 where
   pub script : List ℕ
   pub given : List ℕ
   pub image : List ℕ
   pub lines : AreTaken bytes_of order.lines script given
   pub read : AreRead bytes_of order.image image
+  pub kept : replaces_manifest order image ≡ false
   pub whole : input ≡ script ++ (codes "end\n" ++ (given ++ image))
 
 -- a file may fail, and may not be opened for this reason
@@ -55,12 +62,23 @@ IsFileFault files (Unopened name why) = MayNotOpen files name.now why
 IsFileFault files ReadFault = Unit {0}
 IsFileFault files NoMemory = Unit {0}
 IsFileFault files (Edits stop) = ⊥
+IsFileFault files InPlace = ⊥
+
+-- the image of an order is a manifest, which would be replaced
+abbrev pub ReplacesManifest : KnownFiles → EditOrder → Type 0
+ReplacesManifest files order = (image : List ℕ) × AreRead files.bytes_of order.image image × (replaces_manifest order image ≡ true)
+
+-- why an order has no input
+abbrev pub IsNoInput : KnownFiles → EditOrder → NoChange → Type 0
+IsNoInput files order InPlace = ReplacesManifest files order
+IsNoInput files order why = IsFileFault files why
 
 -- why there is no new image
 abbrev pub IsNoChange : KnownFiles → EditOrder → NoChange → Type 0
 IsNoChange files order (Unopened name why) = MayNotOpen files name.now why
 IsNoChange files order ReadFault = Unit {0}
 IsNoChange files order NoMemory = Unit {0}
+IsNoChange files order InPlace = ReplacesManifest files order
 IsNoChange files order (Edits stop) = (input : List ℕ) × IsInputOf files.bytes_of order input × StopsInput input stop × (stop ≢ StopNoMemory)
 
 -- the line of why the edits cannot be applied
@@ -79,6 +97,7 @@ IsNoChangeTold (Unopened name why) n errors = (n ≡ 3) × (IsTold errors (unope
 IsNoChangeTold ReadFault n errors = (n ≡ 3) × IsTold errors (codes "read fault\n")
 IsNoChangeTold NoMemory n errors = (n ≡ 3) × IsTold errors (codes "no memory\n")
 IsNoChangeTold (Edits stop) n errors = IsStopTold stop n errors
+IsNoChangeTold InPlace n errors = (n ≡ 1) × IsTold errors (codes "a manifest is not replaced: name the new disk with -o\n")
 
 -- the target got the image that the edits make, at status 0, and errors nothing
 pub record Changes (files : KnownFiles) (after : List ℕ → Option (List ℕ)) (order : EditOrder) (n : ℕ) (errors : Seen) : Type 0 where

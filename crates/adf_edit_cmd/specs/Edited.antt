@@ -1,5 +1,5 @@
 -- What an image becomes by a script. s is the script, es are edits, `given` are the bytes behind it, t is a tree, n a number of blocks.
-use Rattle.std.specs.Prelude.{◌≡◌, ◌<◌, ◌-◌, ◌+◌, ◌⊎◌, ℕ, List, [], ◌∷◌, Option, Some, None, Result, Ok, Err, false, length, true}
+use Rattle.std.specs.Prelude.{◌≡◌, ◌<◌, ◌-◌, ◌+◌, ◌⊎◌, ℕ, Bool, List, [], ◌∷◌, Option, Some, None, Result, Ok, Err, false, length, true}
 use Rattle.adf_blocks.specs.Sizes.{blocks, middle}
 use Rattle.adf_build.specs.{Building.IsBuildable, Building.need_of, Laid.volume, Plan.blocks_needed, Plan.planned}
 use Rattle.adf_base.specs.declared.hash.Letters.{Letters}
@@ -11,6 +11,8 @@ use Rattle.adf_tree.specs.{Additions.AllHaveRoomBy, Tree.Tree}
 use Rattle.adf_volume.specs.{Fits.FitsBy, Layout.Layout, Types.letters_for, Walk.FirstFaultBy, declared.types.Types.TheVariants.WithInternational}
 use Rattle.std.specs.Option.{unwrap_or}
 use Rattle.adf_edit_cmd.specs.{Script.IsScript, Script.IsScriptFault, Script.ScriptValue, Script.behind_file, Script.behind_files, Script.files_len}
+use Rattle.adf_edit_cmd.specs.Manifests.{IsManifestBy, IsManifestFault, is_manifest}
+use Rattle.adf_edit_cmd.specs.declared.{old_disk.Old.Old, old_disk.TheConstants.NO_BOOT}
 use Rattle.adf_edit_cmd.specs.declared.script.BootEdit.{BootEdit, TheVariants.Clear, TheVariants.Install}
 use Rattle.adf_edit_cmd.specs.declared.stop.Stop.{Stop}
 use Rattle.adf_edit_cmd.specs.declared.stop.Stop.TheVariants.{Short, Image, TooDeep, Line, NoRoom, Full, NoMemory}
@@ -96,14 +98,58 @@ StopsTree s given t n stop =
     × (IsRoomStop (letters_after s t) s o stop
     ⊎ (AllHaveRoomBy (letters_after s t) o.additions × IsFullStop (tree_of_outline_by (letters_after s t) o) n stop)))))
 
--- the new image is laid for the tree of the image after all edits
-abbrev pub IsByScript : ScriptValue → List ℕ → List ℕ → List ℕ → Type 0
-IsByScript s given image new = (t : Tree) × IsVolume image t × IsByTree s given t (blocks image) image new
+-- the disk that is edited: its tree, how many blocks it has, and bytes that begin with its boot blocks
+pub record OldDisk : Type 0 where
+  pub tree : Tree
+  pub blocks : ℕ
+  pub boot : List ℕ
 
--- why there is none: the image, or what the script makes of it
+-- as the code has it: a tree, and the letters by which it is meant
+abbrev pub disk_of : Old → OldDisk
+disk_of o = record { tree = record o.tree { letters = o.letters }; blocks = o.blocks; boot = o.boot.now }
+
+-- it is that of an image
+pub record IsOfImage (image : List ℕ) (old : OldDisk) : Type 0 where
+  pub volume : IsVolume image old.tree
+  pub size : old.blocks ≡ blocks image
+  pub boot : old.boot ≡ image
+
+-- it is that of a manifest, which has no boot blocks
+pub record IsOfManifest (text : List ℕ) (old : OldDisk) : Type 0 where
+  pub manifest : IsManifestBy text old.tree old.blocks
+  pub boot : old.boot ≡ NO_BOOT
+
+-- it is that of an image, or of a manifest in its place
+abbrev pub IsOldBy : (manifest : Bool) → List ℕ → OldDisk → Type 0
+IsOldBy true text old = IsOfManifest text old
+IsOldBy false image old = IsOfImage image old
+
+abbrev pub IsOld : List ℕ → OldDisk → Type 0
+IsOld image old = IsOldBy (is_manifest image) image old
+
+-- why there is none
+abbrev pub IsOldFaultBy : (manifest : Bool) → List ℕ → Stop → Type 0
+IsOldFaultBy true text stop = IsManifestFault text stop
+IsOldFaultBy false image stop = IsImageFault image stop
+
+abbrev pub IsOldFault : List ℕ → Stop → Type 0
+IsOldFault image stop = IsOldFaultBy (is_manifest image) image stop
+
+-- the new image is laid for the tree of a disk after all edits, or why there is none
+abbrev pub IsByDisk : ScriptValue → List ℕ → OldDisk → List ℕ → Type 0
+IsByDisk s given old new = IsByTree s given old.tree old.blocks old.boot new
+
+abbrev pub StopsDisk : ScriptValue → List ℕ → OldDisk → Stop → Type 0
+StopsDisk s given old stop = StopsTree s given old.tree old.blocks stop
+
+-- it is that of the image, or of the manifest in its place
+abbrev pub IsByScript : ScriptValue → List ℕ → List ℕ → List ℕ → Type 0
+IsByScript s given image new = (old : OldDisk) × IsOld image old × IsByDisk s given old new
+
+-- why there is none: the image or the manifest, or what the script makes of it
 abbrev pub StopsOn : ScriptValue → List ℕ → List ℕ → Stop → Type 0
 StopsOn s given image stop =
-    IsImageFault image stop ⊎ ((t : Tree) × IsVolume image t × StopsTree s given t (blocks image) stop)
+    IsOldFault image stop ⊎ ((old : OldDisk) × IsOld image old × StopsDisk s given old stop)
 
 -- an input has this script, these bytes behind it, and this image behind those of its files
 pub record IsInput (input : List ℕ) (s : ScriptValue) (given image : List ℕ) : Type 0 where

@@ -1,4 +1,4 @@
--- The words of `adf-edit`: [-o NEW] IMAGE EDIT [+ EDIT].. An edit stands for a line of a script, but has the name of a host file in place of a size.
+-- The words of `adf-edit`: [-o NEW] IMAGE EDIT [+ EDIT].., or -o NEW IMAGE. An edit stands for a line of a script, but has the name of a host file in place of a size.
 use Rattle.std.specs.Prelude.{◌≡◌, ◌==◌, ◌&&◌, ◌||◌, not, ℕ, Bool, List, [], ◌∷◌, ◌++◌, Option, Some, None, codes, true, false, if◌then◌else◌, option_map}
 use Rattle.std.specs.{Option.option_or, Option.unwrap_or, Str.bytes_eq}
 use Rattle.adf_edit_cmd.specs.Lines.{has_byte}
@@ -91,13 +91,18 @@ abbrev pub operands : List (List ℕ) → List (List ℕ)
 operands [] = []
 operands (word ∷ words) = if bytes_eq word (codes "--") then words else if begins_dash word then [] else word ∷ words
 
+-- the lines of the edits for a target: there may be none for a target that is named
+abbrev pub lines_for : Option (List ℕ) → List (List ℕ) → Option (List WordedLine)
+lines_for (Some target) [] = Some []
+lines_for target words = lines_worded [] words
+
 -- the order of these operands, whose image goes into the target, or else into its own place
 abbrev pub order_on : Option (List ℕ) → List (List ℕ) → Option EditOrder
 order_on target [] = None
 order_on target (image ∷ words) =
-    option_map (λ lines. record { lines = lines; image = image; target = unwrap_or target image }) (lines_worded [] words)
+    option_map (λ lines. record { lines = lines; image = image; target = unwrap_or target image }) (lines_for target words)
 
--- [-o NEW] IMAGE EDIT [+ EDIT].., behind the name of the program
+-- [-o NEW] IMAGE EDIT [+ EDIT].. or -o NEW IMAGE, behind the name of the program
 abbrev pub order_asked : List (List ℕ) → Option EditOrder
 order_asked (flag ∷ target ∷ words) =
     if bytes_eq flag (codes "-o") then order_on (Some target) (operands words) else order_on None (operands (flag ∷ target ∷ words))

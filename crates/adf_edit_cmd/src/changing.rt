@@ -2,12 +2,13 @@
 
 ghost use Rattle.std.specs.Prelude.{◌≡◌, ◌++◌, ℕ, List, codes, false, IfErr, IfOk, OnOk, string_bytes};
 ghost use Rattle.adf_edit_cmd.specs.Changing.{AreRead, AreTaken, IsFileFault, IsInputOf, IsLineTaken, IsNoChange, IsNoChangeTold, OrderEnds};
-ghost use Rattle.adf_edit_cmd.specs.{Changing.IsStopTold, Changing.change_stop_line};
+ghost use Rattle.adf_edit_cmd.specs.{Changing.IsNoInput, Changing.IsStopTold, Changing.change_stop_line, Changing.replaces_manifest};
 ghost use Rattle.adf_edit_cmd.specs.{Edited.IsEdited};
 ghost use Rattle.adf_file_runs.specs.FileRuns.{known_files};
 ghost use Rattle.adf_runs.specs.Streams.{seen};
 
 use crate::editing::new_image;
+use crate::manifests::is_manifest;
 use crate::program::MOST_INPUT_BYTES;
 use crate::stop::Stop;
 use crate::words::{Line, Order};
@@ -27,6 +28,8 @@ pub enum NoChange<'a> {
     NoMemory,
     /// The edits cannot be applied.
     Edits(Stop),
+    /// The image is a manifest, and the new one would take its place.
+    InPlace,
 }
 
 impl<'a> From<AllocError> for NoChange<'a> {
@@ -119,6 +122,13 @@ fn take_lines<'a, F: Files>(
     Ok(taken)
 }
 
+// Whether an order would put the new image in the place of a manifest.
+fn replaces_manifest(order: &Order<'_>, image: &[u8]) -> bool
+    ensures { result ≡ replaces_manifest order.now image.now }
+{
+    order.target == order.image && is_manifest(image)
+}
+
 // The input that an order stands for.
 fn input_of<'a, F: Files>(
     alloc: Global,
@@ -126,10 +136,13 @@ fn input_of<'a, F: Files>(
     order: &Order<'a>,
 ) -> Result<Vec<u8>, NoChange<'a>>
     ensures input { IfOk result (λ input. IsInputOf (F.bytes_of files.now) order.now input.items) }
-    ensures fault { IfErr result (IsFileFault (known_files F.bytes_of F.may_fail F.may_open files.now)) }
+    ensures fault { IfErr result (IsNoInput (known_files F.bytes_of F.may_fail F.may_open files.now) order.now) }
 {
     let taken = take_lines(alloc, files, &order.lines)?;
     let image = read_file(alloc, files, order.image)?;
+    if replaces_manifest(order, &image) {
+        return Err(NoChange::InPlace);
+    }
     let mut input = taken.script;
     input.extend_from_slice(b"end\n")?;
     input.extend_from_slice(&taken.given)?;
@@ -203,6 +216,13 @@ pub fn tell_no_change<E: Sink>(alloc: Global, why: NoChange<'_>, errors: &mut E)
             3
         }
         NoChange::Edits(stop) => tell_stop(alloc, stop, errors),
+        NoChange::InPlace => {
+            say(
+                errors,
+                b"a manifest is not replaced: name the new disk with -o\n",
+            );
+            1
+        }
     }
 }
 

@@ -1,54 +1,23 @@
 // An image by a script.
 
 ghost use Rattle.std.specs.Prelude.{◌≡◌, ◌≢◌, ◌≤◌, ◌*◌, IfOk, IfErr, OnOk, Ok, Err, Some, length, map, true};
-ghost use Rattle.adf_blocks.specs.Sizes.{blocks, is_allowed};
+ghost use Rattle.adf_blocks.specs.Sizes.{is_allowed};
 ghost use Rattle.adf_boot_blocks.specs.{BootBlocks.IsOtherBoot, BootBlocks.begins_with_dos, BootBlocks.is_bootable};
 ghost use Rattle.adf_boot_blocks.specs.declared.boot.TheConstants.{BOOT_LEN};
 ghost use Rattle.adf_edits.specs.{Edits.edit_value, Edits.edited, Outline.outline_of};
-ghost use Rattle.adf_tree.specs.Tree.{Tree as TreeValue};
-ghost use Rattle.adf_edit_cmd.specs.Edited.{IsByScript, IsByTree, IsDepthStop, IsEdited, IsFullStop, IsImageFault, IsLaidOver};
-ghost use Rattle.adf_edit_cmd.specs.Edited.{IsLineStop, IsShallow, IsVolume, StopsInput, StopsOn, StopsTree, booted, outline_after};
+ghost use Rattle.adf_edit_cmd.specs.Edited.{IsByDisk, IsByScript, IsDepthStop, IsEdited, IsFullStop, IsLaidOver};
+ghost use Rattle.adf_edit_cmd.specs.Edited.{IsLineStop, IsShallow, StopsDisk, StopsInput, StopsOn, booted, disk_of, outline_after};
 ghost use Rattle.adf_edit_cmd.specs.declared.script.BootEdit.TheVariants.{Install};
 
+use crate::old_disk::{Old, old_disk};
 use crate::script::{BootEdit, Script, behind_file, behind_files, files_len, read_script};
 use crate::stop::Stop;
-use adf_blocks::Cause;
 use adf_boot_blocks::{STANDARD_CODE, clear, install, restore};
 use adf_build::{BuildFault, build_types};
-use adf_check::{Checked, check_by};
 use adf_edits::{Edit, EditFault, Outline, OutlineFault, TreeFault};
 use adf_tree::Tree;
 use adf_volume::Types;
 use std::alloc::Global;
-
-// The volume of an image of types 0 to 3.
-fn volume_of<'a>(alloc: Global, image: &'a [u8]) -> Result<Checked<'a>, Stop>
-    ensures image { IfOk result (λ v. v ≡ image.now) }
-    ensures fits { IfOk result (λ v. (t : TreeValue) × IsVolume v t) }
-    ensures refused { IfErr result (IsImageFault image.now) }
-{
-    match check_by(alloc, Types::WithInternational.letters_for(image), image) {
-        Ok(volume) => Ok(volume),
-        Err(fault) => match fault.cause {
-            Cause::NoMemory => Err(Stop::NoMemory),
-            _ => Err(Stop::Image(fault)),
-        },
-    }
-}
-
-// The tree of an image, and the number of its blocks.
-fn tree_in(alloc: Global, image: &[u8]) -> Result<(Tree, u32), Stop>
-    ensures tree { IfOk result (λ r. IsVolume image.now r.0) }
-    ensures size { IfOk result (λ r. r.1 ≡ blocks image.now) }
-    ensures refused { IfErr result (IsImageFault image.now) }
-{
-    let volume = volume_of(alloc, image)?;
-    let count = volume.counts().blocks;
-    match volume.to_tree(alloc) {
-        Ok(tree) => Ok((tree, count)),
-        Err(_) => Err(Stop::NoMemory),
-    }
-}
 
 // Applies the edit of a line.
 fn edit_line(
@@ -144,40 +113,32 @@ fn outline_of(alloc: Global, tree: &Tree) -> Result<Outline, Stop>
     }
 }
 
-// The image of a tree after a script.
-fn by_tree(
-    alloc: Global,
-    tree: &Tree,
-    script: Script,
-    given: &[u8],
-    image: &[u8],
-    blocks: u32,
-) -> Result<Vec<u8>, Stop>
-    requires allowed { is_allowed blocks ≡ true }
-    requires boot { BOOT_LEN ≤ length image.now }
-    ensures ok { IfOk result (λ new. IsByTree script given.now tree.now blocks image.now new.items) }
-    ensures stop { IfErr result (StopsTree script given.now tree.now blocks) }
+// The image of an old disk after a script.
+fn by_old(alloc: Global, old: &Old<'_>, script: Script, given: &[u8]) -> Result<Vec<u8>, Stop>
+    requires allowed { is_allowed old.now.blocks ≡ true }
+    requires boot { BOOT_LEN ≤ length old.now.boot.now }
+    ensures ok { IfOk result (λ new. IsByDisk script given.now (disk_of old.now) new.items) }
+    ensures stop { IfErr result (StopsDisk script given.now (disk_of old.now)) }
 {
     let line = script.edits.len() + 1;
     let settings = script.settings;
-    let letters = settings.letters.unwrap_or(tree.letters());
-    let outline = outline_of(alloc, tree)?;
+    let letters = settings.letters.unwrap_or(old.letters);
+    let outline = outline_of(alloc, &old.tree)?;
     let outline = edit_all(alloc, outline, script.edits, given)?;
     match outline.finish_by(alloc, letters) {
-        Ok(tree) => lay(alloc, &tree, blocks, image, settings.boot),
+        Ok(tree) => lay(alloc, &tree, old.blocks, old.boot, settings.boot),
         Err(TreeFault::NoMemory) => Err(Stop::NoMemory),
         Err(fault) => Err(Stop::NoRoom(line, fault)),
     }
 }
 
 // The image after a script.
-#[tactic(auto, using(crate::proofs::EditSteps::stops_on))]
 fn by_script(alloc: Global, script: Script, given: &[u8], image: &[u8]) -> Result<Vec<u8>, Stop>
     ensures ok { IfOk result (λ new. IsByScript script given.now image.now new.items) }
     ensures stop { IfErr result (StopsOn script given.now image.now) }
 {
-    let (tree, blocks) = tree_in(alloc, image)?;
-    match by_tree(alloc, &tree, script, given, image, blocks) {
+    let old = old_disk(alloc, image)?;
+    match by_old(alloc, &old, script, given) {
         Ok(new) => Ok(new),
         Err(stop) => Err(stop),
     }

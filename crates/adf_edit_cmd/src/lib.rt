@@ -5,6 +5,8 @@ mod changing;
 mod dates;
 mod editing;
 mod lines;
+mod manifests;
+mod old_disk;
 mod program;
 mod script;
 mod script_file;

@@ -27,6 +27,7 @@ pub const MOST_INPUT_BYTES: usize = 1 << 40;
 /// What is said of words that are refused.
 const USAGE: &str = "usage: adf-edit [-o NEW] IMAGE EDIT [+ EDIT]..\n\
     \x20      adf-edit [-o NEW] -f SCRIPT IMAGE\n\
+    \x20      adf-edit -o NEW MANIFEST\n\
     \x20      adf-edit < INPUT > IMAGE\n\
     man adf-edit tells more\n";
 
@@ -36,6 +37,7 @@ const ABOUT: About = About {
     help: "Removes, moves, adds and changes entries of an Amiga volume, and lays its tree anew.\n\n\
     usage: adf-edit [-o NEW] IMAGE EDIT [+ EDIT]..\n\
     \x20      adf-edit [-o NEW] -f SCRIPT IMAGE\n\
+    \x20      adf-edit -o NEW MANIFEST\n\
     \x20      adf-edit < INPUT > IMAGE\n\
     \x20      adf-edit --help, adf-edit --version\n\n\
     An EDIT is one of:\n\
@@ -51,6 +53,7 @@ const ABOUT: About = About {
     \x20 letters KIND         make it `international` or `ascii`; among the last ones\n\
     \x20 boot KIND            `install` code that starts it, or `clear` it; among the last ones\n\n\
     The new disk takes the place of IMAGE, or of NEW, at once or not at all.\n\
+    With -o a manifest may stand for the IMAGE, and EDIT be left out.\n\
     SCRIPT is a file with an EDIT on each line; if a line has a tab, tabs stand between its words.\n\
     INPUT is a script, whose last line is `end`, then the bytes of its files, then the image.\n\
     man adf-edit tells more.\n",

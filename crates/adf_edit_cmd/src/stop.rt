@@ -3,6 +3,7 @@
 ghost use Rattle.std.specs.Prelude.{◌≡◌};
 
 use adf_edits::{EditFault, TreeFault};
+use adf_manifest::ManifestFault;
 use adf_volume::Fault;
 use std::fmt;
 
@@ -15,6 +16,8 @@ pub enum Stop {
     Short { need: u64, have: u64 },
     /// The image is refused.
     Image(Fault),
+    /// The manifest in its place is refused.
+    Manifest(ManifestFault),
     /// An entry of the image is deeper than `adf_edits::MOST_DEPTH` names.
     TooDeep,
     /// The edit of the line of this number cannot be applied.
@@ -40,6 +43,7 @@ impl fmt::Display for Stop {
                 write!(f, "files: need {need} bytes behind the script, have {have}")
             }
             Stop::Image(fault) => write!(f, "image behind the files: {fault}"),
+            Stop::Manifest(fault) => write!(f, "manifest: {fault}"),
             Stop::TooDeep => f.write_str("image behind the files: too deep: 255 names at most"),
             Stop::Line(line, fault) => write!(f, "{line}: {fault}"),
             Stop::NoRoom(line, fault) => write!(f, "{line}: by these letters: {fault}"),

@@ -1,7 +1,7 @@
 // The words of the program: an image, and edits that stand for lines of a script.
 
 ghost use Rattle.std.specs.Prelude.{◌≡◌, IfOk, [], map, option_map, codes};
-ghost use Rattle.adf_edit_cmd.specs.Words.{begins_dash, host_verb, line_of, line_of_host, line_of_one, line_of_two};
+ghost use Rattle.adf_edit_cmd.specs.Words.{begins_dash, host_verb, line_of, line_of_host, line_of_one, line_of_two, lines_for};
 ghost use Rattle.adf_edit_cmd.specs.Words.{AddsLine, IsWordRead, lines_worded, may_end, may_lead, operands, order_asked, order_on, takes_one, takes_two};
 ghost use Rattle.adf_words.specs.CommandLine.{texts_of};
 
@@ -237,6 +237,21 @@ pub fn operands<'a>(words: &'a [&'a str]) -> &'a [&'a str]
     }
 }
 
+// The lines of the edits for a target: there may be none for a target that is named.
+fn lines_for<'a>(
+    alloc: Global,
+    target: Option<&'a str>,
+    words: &'a [&'a str],
+) -> Result<Option<Vec<Line<'a>>>, AllocError>
+    ensures { IfOk result (λ lines.
+        option_map (λ ls. ls.items) lines ≡ lines_for (option_map (λ s. s.now) target.entry) (texts_of words.now)) }
+{
+    match (target, words) {
+        (Some(_), []) => Ok(Some(Vec::new(alloc))),
+        _ => lines_of(alloc, words),
+    }
+}
+
 // The order of operands, whose image goes into the target, or else into its own place.
 fn order_on<'a>(
     alloc: Global,
@@ -248,7 +263,7 @@ fn order_on<'a>(
     let [image, edits @ ..] = words else {
         return Ok(None);
     };
-    let Some(lines) = lines_of(alloc, edits)? else {
+    let Some(lines) = lines_for(alloc, target, edits)? else {
         return Ok(None);
     };
     let target = target.unwrap_or(*image);
@@ -259,7 +274,8 @@ fn order_on<'a>(
     }))
 }
 
-/// What words ask for, behind the name of the program: `[-o NEW] IMAGE EDIT [+ EDIT]..`; `None` if they are refused.
+/// What words ask for, behind the name of the program: `[-o NEW] IMAGE EDIT [+ EDIT]..` or `-o NEW IMAGE`; `None` if they are
+/// refused.
 pub fn order_asked<'a>(alloc: Global, words: &'a [&'a str]) -> Result<Option<Order<'a>>, AllocError>
     ensures { IfOk result (λ order. order ≡ order_asked (texts_of words.now)) }
 {

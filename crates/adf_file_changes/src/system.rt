@@ -7,8 +7,11 @@ use crate::changes::{ChangeFiles, Unwritten};
 use adf_file_runs::{Files, SystemFiles, Unopened};
 use std::alloc::Global;
 use std::fs::{self, File, OpenFile, OpenOptions, Permissions};
-use std::io::{self, ErrorKind, Write};
+use std::io::{self, ErrorKind, Seek, SeekFrom, Write};
 use std::{rt, str};
+
+/// The bytes of a file that are looked at together.
+const PIECE: usize = 65536;
 
 /// The most names that are tried for a new file beside the old one.
 const MOST_NAMES: u32 = 100;
@@ -78,13 +81,29 @@ fn target_of<R: rt::Files>(system: &R, alloc: Global, path: &str) -> Result<Targ
     }
 }
 
-// Writes all of a new file, to the disk itself.
-fn fill<H: Write + OpenFile + Drop>(file: H, target: &Target, bytes: &[u8]) -> io::Result<()> {
+// Writes bytes to a new file; zeros are passed over.
+fn write_piece<H: Write + Seek>(file: &mut H, piece: &[u8]) -> io::Result<()> {
+    if piece.iter().all(|byte| *byte == 0) {
+        file.seek(SeekFrom::Current(piece.len() as i64))?;
+        return Ok(());
+    }
+    file.write_all(piece)
+}
+
+// Writes all of a new file, to the disk itself; pieces of zeros become holes.
+fn fill<H: Write + Seek + OpenFile + Drop>(
+    file: H,
+    target: &Target,
+    bytes: &[u8],
+) -> io::Result<()> {
     let mut file = file;
     if let Some(permissions) = &target.permissions {
         file.set_permissions(permissions.clone()?)?;
     }
-    file.write_all(bytes)?;
+    for piece in bytes.chunks(PIECE) {
+        write_piece(&mut file, piece)?;
+    }
+    file.set_len(bytes.len() as u64)?;
     file.sync_all()
 }
 

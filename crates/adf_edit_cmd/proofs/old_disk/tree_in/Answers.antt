@@ -1,6 +1,6 @@
 use Rattle.std.proofs.Common.{◌∙◌, ap}
 use Rattle.adf_blocks.specs.Sizes.{blocks}
-use Rattle.adf_edit_cmd.proofs.editing.tree_in.Goals as goal
+use Rattle.adf_edit_cmd.proofs.old_disk.tree_in.Goals as goal
 
 pub returns-in-Ok-clause-tree : goal.returns-in-Ok-clause-tree
 returns-in-Ok-clause-tree c =

@@ -1,4 +1,4 @@
-use Rattle.adf_edit_cmd.proofs.editing.volume_of.Goals as goal
+use Rattle.adf_edit_cmd.proofs.old_disk.volume_of.Goals as goal
 
 pub returns-in_default : goal.returns-in_default
 returns-in_default c =

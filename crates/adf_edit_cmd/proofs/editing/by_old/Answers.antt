@@ -1,8 +1,9 @@
 use Rattle.std.proofs.Common.{◌≡◌, arith, length, rules}
 use Rattle.std.proofs.lemmas.Grind.{common_steps}
 use Rattle.adf_edits.specs.TreeFaults.{IsTreeFaultBy}
+use Rattle.adf_edit_cmd.specs.Edited.{disk_of}
 use Rattle.adf_edit_cmd.proofs.EditSteps.{room_stop}
-use Rattle.adf_edit_cmd.proofs.editing.by_tree.Goals as goal
+use Rattle.adf_edit_cmd.proofs.editing.by_old.Goals as goal
 
 pub returns-in-Err : goal.returns-in-Err
 returns-in-Err c =
@@ -11,7 +12,7 @@ returns-in-Err c =
     c.in-Err.ensures.fault (search rules) in
     rw (← c.script.view_is) (record {
       ok = tt;
-      stop = room_stop c.script.inside.edits.items c.script.inside.settings c.args.given.now c.args.tree.now c.args.blocks
+      stop = room_stop c.script.inside.edits.items c.script.inside.settings c.args.given.now (disk_of c.args.old.now).tree (disk_of c.args.old.now).blocks
           c.in_ok-outline.outline c.in_ok-outline-2.outline c.len-line.result c.in-Err.fault c.in_ok-outline.ensures.shallow
-          c.in_ok-outline.ensures.outline c.in_ok-outline-2.ensures.ok lines (rw (c.unwrap_or-letters.ensures, c.letters.ensures) at no_room);
+          c.in_ok-outline.ensures.outline c.in_ok-outline-2.ensures.ok lines (rw c.unwrap_or-letters.ensures at no_room);
     })
