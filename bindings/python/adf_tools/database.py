@@ -274,7 +274,7 @@ def type_checks(connection: sqlite3.Connection) -> Iterator[Tuple[str, str]]:
     """The name of each table of a database of this version, and a query for a row with a value of another type than its column; SQLite has
     any in any column."""
     yield "text_words", TEXTS
-    for kind, name, _, line in sorted(own_schema(len(STEPS))):
+    for kind, name, _, line in sorted(told_schema(len(STEPS))):
         if kind == "table" and line.startswith(f"CREATE TABLE {name} "):
             columns = [(row[1], TYPES[row[2]]) for row in connection.execute(f"PRAGMA table_info({name})")]
             are_other = " OR ".join(f"typeof({column}) <> '{type_}' AND {column} IS NOT NULL" for column, type_ in columns)
