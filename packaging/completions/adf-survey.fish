@@ -12,9 +12,11 @@ complete -c adf-survey -n $first -a rescue -d 'write a new volume of all that st
 complete -c adf-survey -n '__fish_seen_subcommand_from rescue' -l keep-type -d 'keep international letters, as type 2 or 3'
 complete -c adf-survey -n '__fish_seen_subcommand_from rescue' -l deleted -d 'add the deleted files that are whole'
 complete -c adf-survey -n '__fish_seen_subcommand_from rescue' -l before-format -d 'of what was there before the disk was formatted'
-complete -c adf-survey -n "$first; and test (count (commandline -opc)) -le 2" -l blocks -x -a '1760 3520' \
+set -l last 'or test (commandline -opc)[-1] ='
+complete -c adf-survey -n "$first; and begin; not __fish_contains_opt blocks; $last --blocks; end" -l blocks -x -a '1760 3520' \
     -d 'take the image as if it had so many blocks'
-complete -c adf-survey -n $first -l map -r -d 'take the map of GNU ddrescue of the reading'
-complete -c adf-survey -n $first -l blank -d 'count each blank block as never read'
-complete -c adf-survey -n '__fish_is_first_token' -l help -d 'write the help'
-complete -c adf-survey -n '__fish_is_first_token' -l version -d 'write the version'
+complete -c adf-survey -n "$first; and begin; not __fish_contains_opt map; $last --map; end" -l map -r \
+    -d 'take the map of GNU ddrescue of the reading'
+complete -c adf-survey -n "$first; and not __fish_contains_opt blank" -l blank -d 'count each blank block as never read'
+complete -c adf-survey -n 'test (count (commandline -opc)) -eq 1' -l help -d 'write the help'
+complete -c adf-survey -n 'test (count (commandline -opc)) -eq 1' -l version -d 'write the version'

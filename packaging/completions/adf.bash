@@ -14,13 +14,14 @@ _adf() {
 }
 
 _adf_survey() {
-    local at=1 words="blank cat deleted rescue --list --json --blocks --map --blank --help --version" last=""
+    local at=1 words="blank cat deleted rescue --list --json --blocks --map --blank " last=""
     while ((COMP_CWORD > at)) && [[ ${COMP_WORDS[at]} == @(--blocks|--map|--blank) ]]; do
         last=${COMP_WORDS[at]}
         [[ $last != --blank ]] && ((at += 1))
         ((at += 1))
-        words="blank cat deleted rescue --list --json"
+        words=${words/"$last "/}
     done
+    ((at == 1)) && words+="--help --version"
     if [[ ${COMP_WORDS[COMP_CWORD - 1]} == [\<\>] ]]; then
         compopt -o default
     elif ((COMP_CWORD == at)); then

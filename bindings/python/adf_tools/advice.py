@@ -37,6 +37,7 @@ GROUPS = (
     Advice("not read", "Not read", "The file or its archive cannot be read: copy it again. Where its line says no memory, read it on a larger machine."),
 )
 SOUND = "sound", "sound ffs"  # the groups of images without a fault
+NOT_JUDGED = "volumes not read", "too long", "loader", "other form", "no volume", "not read"  # of what is no volume that is read
 TITLES = {group.name: group.title for group in GROUPS}
 
 

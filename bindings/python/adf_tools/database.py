@@ -14,7 +14,7 @@ import os
 import re
 import sqlite3
 import stat
-from typing import Iterator, NoReturn, Optional, Set, Tuple
+from typing import Dict, Iterator, NoReturn, Optional, Set, Tuple
 
 from adf_tools.names import one_line
 from adf_tools.program import FAILED, host_text, stop
@@ -144,6 +144,9 @@ CREATE INDEX deleted_of_images ON deleted (image);
 CREATE VIRTUAL TABLE deleted_words USING fts5 (path, comment, content = '');
 """
 STEPS = (FIRST, SECOND, THIRD, FOURTH, FIFTH, SIXTH, SEVENTH, EIGHTH)  # each brings a database to the next version
+BESIDE_WORDS = {  # the tables that SQLite makes beside one of words, and of one that has its texts
+    "config": "(k PRIMARY KEY, v) WITHOUT ROWID", "data": "(id INTEGER PRIMARY KEY, block BLOB)", "docsize": "(id INTEGER PRIMARY KEY, sz BLOB)",
+    "idx": "(segid, term, pgno, PRIMARY KEY(segid, term)) WITHOUT ROWID", "content": "(id INTEGER PRIMARY KEY, c0)"}  # fmt: skip
 TYPES = {"INTEGER": "integer", "TEXT": "text", "BLOB": "blob"}
 ESCAPE = re.compile(r"\\x[0-9a-f]{2}")
 BESIDE = "-journal", "-wal", "-shm"
@@ -214,6 +217,27 @@ def schema_of(connection: sqlite3.Connection) -> Set[Tuple[str, ...]]:
     return {(*map(str, row[:3]), " ".join(str(row[3]).split())) for row in rows}
 
 
+def told_schema(version: int) -> Set[Tuple[str, ...]]:
+    """What a database of a version is made of, as its statements say it: that takes no database, which SQLite takes longer to make than to
+    ask another one."""
+    made: Dict[Tuple[str, ...], str] = {}
+    for words in (statement.split() for statement in "".join(STEPS[:version]).split(";")):
+        if words[:1] == ["ALTER"]:
+            table = ("table", words[2], words[2])
+            made[table] = f"{made[table][:-1]}, {' '.join(words[5:])})"
+        elif words[:2] == ["CREATE", "INDEX"]:
+            made["index", words[2], words[4]] = " ".join(words)
+        elif words[:1] == ["CREATE"]:
+            name, text = words[words.index("TABLE") + 1], " ".join(words)
+            made["table", name, name] = text
+            if " UNIQUE" in text:
+                made["index", f"sqlite_autoindex_{name}_1", name] = str(None)
+            for end in BESIDE_WORDS if " USING fts5 " in text else ():
+                if end != "content" or "content = ''" not in text:
+                    made["table", f"{name}_{end}", f"{name}_{end}"] = f"CREATE TABLE '{name}_{end}'{BESIDE_WORDS[end]}"
+    return {(*key, text) for key, text in made.items()}
+
+
 @functools.lru_cache(maxsize=None)
 def own_schema(version: int) -> Set[Tuple[str, ...]]:
     """What a database of a version is made of."""
@@ -238,7 +262,8 @@ def version_of(connection: sqlite3.Connection, path: str) -> int:
         left(path, "not the database of a catalogue")
     if version > len(STEPS):
         left(path, f"of version {version}, and this program knows those up to {len(STEPS)}")
-    other = schema_of(connection) ^ own_schema(version)
+    found = schema_of(connection)
+    other = found != told_schema(version) and found ^ own_schema(version)  # another SQLite may make other tables beside those of words
     if other:
         kind, name, *_ = min(other)
         left(path, f"not the database of a catalogue: {kind} {name} is another one")
@@ -249,7 +274,7 @@ def type_checks(connection: sqlite3.Connection) -> Iterator[Tuple[str, str]]:
     """The name of each table of a database of this version, and a query for a row with a value of another type than its column; SQLite has
     any in any column."""
     yield "text_words", TEXTS
-    for kind, name, _, line in sorted(own_schema(len(STEPS))):
+    for kind, name, _, line in sorted(told_schema(len(STEPS))):
         if kind == "table" and line.startswith(f"CREATE TABLE {name} "):
             columns = [(row[1], TYPES[row[2]]) for row in connection.execute(f"PRAGMA table_info({name})")]
             are_other = " OR ".join(f"typeof({column}) <> '{type_}' AND {column} IS NOT NULL" for column, type_ in columns)

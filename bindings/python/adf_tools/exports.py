@@ -14,8 +14,8 @@ from xml.sax.saxutils import XMLGenerator
 
 import adf
 from adf_tools import bags, database
-from adf_tools.advice import TITLES
-from adf_tools.image_pages import lost_text
+from adf_tools.advice import NOT_JUDGED, TITLES
+from adf_tools.image_pages import NOBODY_KNOWS, lost_text
 from adf_tools.names import bytes_of
 from adf_tools.program import command_line
 from adf_tools.report import Report
@@ -27,7 +27,6 @@ NO_XML = re.compile("[\x00-\x08\x0b\x0c\x0e-\x1f\ud800-\udfff\ufffe\uffff]")  # 
 PROGRAM, SUMS = "adf-catalogue", (("CRC-32", "crc32"), ("MD5", "md5"), ("SHA-1", "sha1"), ("SHA-256", "sha256"))
 SHA256 = re.compile("[0-9a-f]{64}")
 CIVIL = re.compile(r"([0-9]{4}-[0-9]{2}-[0-9]{2}) ([0-9]{2}:[0-9]{2}:[0-9]{2})\.[0-9]{2}")
-NOT_JUDGED = "volumes not read", "too long", "loader", "other form", "no volume", "not read"
 AT = "COALESCE(ended, begun) AS at"
 RESCUED = "in doubt", "perhaps deleted", "found again", "made"
 
@@ -214,7 +213,7 @@ def note_of(row: sqlite3.Row) -> str:
     """What a catalogue says of an image, beside its verdict."""
     told = [TITLES.get(row["advice"], row["advice"])]
     if row["verdict"] != "ok" and row["lost"] is not None:
-        told.append("lost " + lost_text(row, str(row["lost"]), "all that was there"))
+        told.append(NOBODY_KNOWS if row["judged"] in NOT_JUDGED else "lost " + lost_text(row, str(row["lost"]), "all that was there"))
     return ", ".join([*told, *([row["form"]] if row["form"] else [])])
 
 

@@ -10,7 +10,7 @@ import zlib
 from typing import Any, Dict, Iterator, List, Optional, Tuple
 
 import adf
-from adf_tools.advice import GROUPS
+from adf_tools.advice import GROUPS, NOT_JUDGED
 from adf_tools.icons import MOST_SIDE, Icon, icon_picture, pixels_of
 from adf_tools.links import is_led
 from adf_tools.markup import Html, address, drawn, html, joined, link, shown
@@ -43,6 +43,7 @@ MOST_DRAWN, MOST_RUNS = 1 << 19, 100_000  # letters of all icons of a page; runs
 INDEX = "../index.html"
 NO_FAULT = "other type", "bitmap", "published"  # groups of refused images of which all files stand, or nothing is to be done
 TYPES = "international", "directory cache"  # causes that are no damage
+LOST, NOBODY_KNOWS = "lost", "not judged"  # why a line tells of blocks or headers, and of no entry; what is said of files of what is no volume
 Row = sqlite3.Row
 
 
@@ -91,7 +92,10 @@ def blocks_drawn(name: object, roles: bytes, fault: Optional[Fault] = None) -> H
 
 
 def lost_text(image: Row, count: str, every: str) -> str:
-    """How many files of an image are lost: a lower bound, where headers or directories are missing; every one where nothing is found."""
+    """How many files of an image are lost: a lower bound, where headers or directories are missing; every one where nothing is found of a
+    volume. Of what is no volume nobody knows it."""
+    if image["judged"] in NOT_JUDGED:
+        return NOBODY_KNOWS
     if image["lost_least"] and not image["dirs"] and not image["files"]:
         return every
     return f"at least {count}" if image["lost_least"] else count
@@ -237,7 +241,7 @@ class ImagePage:
         pairs: List[Tuple[str, object]] = [("What to do", self.advice()), ("Refused", marked_as(kind, image["verdict"]))]
         pairs += [("Label", shown(image["label"]))] if image["label"] else []
         pairs += [("Findings", counts), ("Lost", lost_text(image, lost, "all that was there")), *self.deleted_facts(), *self.sum_facts()]
-        cause = paragraphs_of_causes().get(self.damage(), html(""))
+        cause = html("") if image["form"] else paragraphs_of_causes().get(self.damage(), html(""))
         fault = Fault(image["block"] or 0, image["verdict"])
         beside = self.beside(blocks_drawn(image["name"], self.roles(), fault), self.found_part(whole))
         return joined((facts("Image", pairs), cause, self.finding_table(), self.rescue_part(), self.icons(), beside, self.deleted_part()))
@@ -300,8 +304,9 @@ class ImagePage:
     def rescue_part(self) -> Html:
         """The new volume of a refused image, if it was written, what its rescue leaves out, and what that keeps in doubt."""
         found = list(self.rows("SELECT * FROM left_out WHERE image = :image ORDER BY id"))
-        kept = sum(row["why"] in KEPT for row in found)
-        counts = f"{count_of(len(found) - kept, 'entry', 'entries')} left out" + (f", {kept} in doubt" if kept else "")
+        kept, lost = sum(row["why"] in KEPT for row in found), sum(row["why"] == LOST for row in found)
+        counts = f"{count_of(len(found) - kept - lost, 'entry', 'entries')} left out" + (f", {kept} in doubt" if kept else "")
+        counts += f", and {count_of(lost, 'line')} of what is lost" if lost else ""
         told = html("")
         if is_page(self.image["rescued"]):
             form = '<p><a href="{name}" download>A new, sound volume</a> of all that stands, {counts}.</p>\n'

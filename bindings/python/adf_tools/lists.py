@@ -26,7 +26,7 @@ MOST_IMAGES = 500  # of a page
 NAMES = "name, number"
 ORDERS = {"read again": f"dirs + files > 0, lost DESC, lost_least DESC, {NAMES}"}  # of the lists that begin with the worst
 PASSED = "SELECT kind, SUM(count) AS count FROM passed WHERE (file IS NULL) = ? GROUP BY kind ORDER BY 2 DESC, 1"
-COLUMNS = "name, page, verdict, advice, form, fits, label, kind, used, blocks, dirs, files, lost, lost_least, altered, known_as"
+COLUMNS = "name, page, verdict, advice, form, fits, label, kind, used, blocks, dirs, files, lost, lost_least, judged, altered, known_as"
 MOST_KINDS, PLAIN = 20, 2  # that the index names; the form of marshal in which equal rows are equal bytes
 ROW = """<td class="text">{anchor}</td><td class="verdict" data-key="{key}">{verdict}</td><td class="text">{label}</td>
 <td class="nowrap wide">{kind}</td><td class="nowrap wide" data-key="{full}">{meter}</td><td class="number wide">{files}</td>

@@ -23,7 +23,7 @@ LAST = "SELECT MAX(COALESCE(ended, begun)) AS at, program FROM runs"
 CHANGED = "SELECT COUNT(*) FROM (SELECT path FROM sums GROUP BY path HAVING COUNT(*) > 1)"
 COUNTED = "SELECT {0}, COUNT(*) FROM images WHERE {0} IS NOT NULL GROUP BY {0} ORDER BY 2 DESC, 1".format
 PASSED = "SELECT kind, SUM(count) FROM passed GROUP BY kind ORDER BY 2 DESC, 1 LIMIT ?"
-NAMED = "SELECT name, verdict, advice, form, fits, dirs, files, lost, lost_least FROM images WHERE advice = ? ORDER BY {} LIMIT ?".format
+NAMED = "SELECT name, verdict, advice, form, fits, dirs, files, lost, lost_least, judged FROM images WHERE advice = ? ORDER BY {} LIMIT ?".format
 
 
 class Report:

@@ -20,13 +20,13 @@ class Sums(NamedTuple):
 
 def sums_of(parts: Iterable[adf.Image], has_all: bool = True) -> Sums:
     """The checksums of bytes that come in parts: all, or the SHA-256 alone."""
-    crc, digests = 0, [hashlib.new(name) for name in (Sums._fields[1:] if has_all else ["sha256"])]
+    crc, digests = 0, {name: hashlib.new(name) for name in (Sums._fields[1:] if has_all else ["sha256"])}
     for part in parts:
         crc = zlib.crc32(part, crc) if has_all else crc
-        for digest in digests:
+        for digest in digests.values():
             digest.update(part)
-    *others, sha256 = (digest.hexdigest() for digest in digests)
-    return Sums(f"{crc:08x}", *others, sha256) if has_all else Sums(None, None, None, sha256)
+    found = {name: digest.hexdigest() for name, digest in digests.items()}
+    return Sums(f"{crc:08x}" if has_all else None, found.get("md5"), found.get("sha1"), found["sha256"])
 
 
 def boot_facts(content: adf.Image) -> dict[str, object]:

@@ -604,6 +604,10 @@ class Databases(Catalogues):
             with open("out/collection.sqlite", "rb") as file:
                 self.assertEqual(file.read(), whole)
 
+    def test_tells_what_a_database_is_made_of_as_sqlite_makes_it(self):
+        for version in range(1, len(database.STEPS) + 1):
+            self.assertEqual(database.told_schema(version), database.own_schema(version), version)
+
     def test_brings_an_older_version_to_this_one(self):
         self.catalogue("disks", "new", "--tsv", status=1)
         os.mkdir("old")

@@ -201,7 +201,7 @@ class Groups(Catalogues):
         self.catalogue("disks", "out", status=0)
         disks = {f"{name}.hdf": "volumes not read" for name in changes}
         self.assertEqual(self.groups(), {**disks, "preallocated.hdf": "sound", "preallocated.hdf/DH0": "sound"})
-        reasons = dict(self.asked("out", "SELECT images.name, fault FROM partitions JOIN images ON images.id = disk WHERE fault != ''"))
+        reasons = dict(self.asked("out", "SELECT images.name, fault FROM partitions JOIN images ON images.id = partitions.disk WHERE fault != ''"))
         told = {"reserved": "reserved 4", "words": "other block size: 1 x 1024", "sectors": "other block size: 2 x 512", "odd": "odd blocks"}
         self.assertEqual(reasons, {f"{name}.hdf": reason for name, reason in told.items()})
 
