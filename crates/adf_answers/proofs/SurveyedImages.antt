@@ -25,7 +25,7 @@ use Rattle.adf_survey_cmd.specs.UnreadLines.{IsBlankText, IsMappedText, IsUnread
 use Rattle.adf_survey_cmd.specs.Answers.{CopiesEntry, CopiesFound, CopiesFromSurvey, IsWholeFile, ListsSurvey, QuestionAnswer, Surveys, no_path_line}
 use Rattle.adf_survey_cmd.specs.{Answers.told_status, Answers.types_kept, Answers.unless_blank, Answers.unless_mapped, Hints.hinted, Remains.remains_reply}
 use Rattle.adf_subjects.specs.Rescues.{Replies, RescuesBefore, RescuesTypedOf, rescue_reply}
-use Rattle.adf_survey_cmd.specs.{CacheLines.told_text, FoundLines.has_its_data, FoundLines.listing_text}
+use Rattle.adf_survey_cmd.specs.{CacheLines.survey_text, FoundLines.has_its_data, FoundLines.listing_text}
 use Rattle.adf_subjects.specs.Subject.{OfTyped, SubjectValue, begun_subject, sized, subject}
 use Rattle.std.proofs.lemmas.Bool.{cases_Bool}
 use Rattle.adf_blocks.specs.Sizes.{blocks}
@@ -48,7 +48,7 @@ of_typed s answers some =
 
 some_findings : (json : Bool) (t : SubjectValue) → (reply : Reply) × Surveys json t reply
 some_findings json t =
-    let (w, fs, survey) = some_survey t.image in (on_output (told_status t.front fs) (told_text json t w fs), (w, fs, survey, refl))
+    let (w, fs, survey) = some_survey t.image in (on_output (told_status t.front fs) (survey_text json t w fs), (w, fs, survey, refl))
 
 some_report : (json : Bool) (s : SubjectValue) → IsAnswered (report json) s
 some_report json s = of_typed s (Surveys json) (some_findings json)

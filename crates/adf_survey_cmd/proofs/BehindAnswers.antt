@@ -115,7 +115,7 @@ module _ (r : InquiryValue) (s t : SubjectValue) (map : Option MapValue) (blank 
       let done = ends_weaker (QuestionAnswer r.question t) (DroppedAnswer r s) w o before dropped_answers h in
       let both = ends_behind text (DroppedAnswer r s) o before w v after failed done ends in
       subst (λ f. EndsBy (AnswerBehind f r s) v o after) form
-          (ends_weaker (ToldBehind text (DroppedAnswer r s)) (AnswerBehind (Some json) r s) v o after (λ reply told. (text, of_asked, told)) both)
+      (ends_weaker (ToldBehind text (DroppedAnswer r s)) (AnswerBehind (Some json) r s) v o after (λ reply told. (text, of_asked, told)) both)
 
 -- the lines of what was not read, by the survey of what is typed
 pub unread_of : (json : Bool) (marks : List Bool) (s t : SubjectValue) (image : List ℕ) (w : Walk) (fs : List FindingValue) (text : List ℕ)

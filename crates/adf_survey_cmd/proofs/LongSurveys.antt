@@ -29,7 +29,7 @@ use Rattle.adf_subjects.specs.{Lengths.AreFew, Lengths.blocks_read, Lengths.stat
 use Rattle.adf_subjects.specs.{Remarks.remarks_text, declared.remarks.Remark.Remark}
 use Rattle.adf_subjects.specs.Subject.{IsTyped, OfTyped, SubjectValue, begun_subject, behind_remarks, behind_loss, held_end, missing_remarks, other_type}
 use Rattle.adf_subjects.specs.Subject.{IsOtherType, IsTypeTold, kind_image, sized, subject, subject_read, typed_by}
-use Rattle.adf_survey_cmd.specs.CacheLines.{caches_text, told_text}
+use Rattle.adf_survey_cmd.specs.CacheLines.{caches_text, survey_text}
 use Rattle.adf_survey_cmd.proofs.CacheTexts.{none_told}
 use Rattle.adf_survey_cmd.specs.CommandLine.{InquiryValue, QuestionValue, blanks, cat, deleted, list, report, rescue, rescue_before, rescue_deleted}
 use Rattle.adf_subjects.specs.Rescues.{IsNoVolume, Replies, RescueValue, RescuesBefore, RescuesBothOf, RescuesFoundOf, RescuesOf, RescuesTypedOf}
@@ -262,7 +262,7 @@ long_blank json true s t a b text is = long_unread json (blank_marks s.image) (b
 long_questions : (q : QuestionValue) (s t : SubjectValue) → s.front ≡ t.front → 512 * MOST_BLOCKS < length s.image
     → 512 * MOST_BLOCKS < length t.image → (reply : Reply) → QuestionAnswer q s reply → QuestionAnswer q t reply
 long_questions (report json) s t front a b reply told = of_typed s t (Surveys json) a b reply (λ x.
-    let e = of_long s.image x.0 x.1 (λ u gs. reply ≡ on_output (told_status s.front gs) (told_text json s u gs)) a x.2 x.3 in
+    let e = of_long s.image x.0 x.1 (λ u gs. reply ≡ on_output (told_status s.front gs) (survey_text json s u gs)) a x.2 x.3 in
     let text = λ (f : List Remark). (remarks_text json f ++ findings_text json s.image [] bad_size) ++ caches_text json s.image [] in
     let same = ap (λ f. on_output (told_status f bad_size) (text f)) front
     ∙ ap (on_output (told_status t.front bad_size)) (same_told json t.front s.image t.image) in

@@ -20,7 +20,7 @@ use Rattle.adf_survey_cmd.specs.{Deletions.TellsTyped, FoundLines.has_its_data, 
 use Rattle.adf_subjects.specs.{declared.remarks.Remark.Remark, declared.remarks.Saying.TheVariants.NoData, Remarks.remark}
 use Rattle.adf_subjects.specs.{Rescues.Replies, Rescues.RescuesTyped}
 use Rattle.adf_subjects.specs.{Rescues.RescuesBefore, Rescues.RescuesTypedOf, Subject.OfTyped, Subject.SubjectValue, Subject.subject}
-use Rattle.adf_survey_cmd.specs.CacheLines.{told_text}
+use Rattle.adf_survey_cmd.specs.CacheLines.{survey_text}
 
 -- the status of findings: 0 where there is none
 abbrev pub findings_status : List FindingValue → ℕ
@@ -34,7 +34,7 @@ told_status (r ∷ front) fs = 1
 
 -- the lines of the findings and of wrong caches are told, or with `json` their objects
 abbrev pub TellsFindings : (json : Bool) → SubjectValue → Walk → List FindingValue → Reply → Type 0
-TellsFindings json s w fs reply = reply ≡ on_output (told_status s.front fs) (told_text json s w fs)
+TellsFindings json s w fs reply = reply ≡ on_output (told_status s.front fs) (survey_text json s w fs)
 
 -- so they are, and behind them those of what is found, in which each date has its text and the sound entries are marked
 abbrev pub TellsFound : (json : Bool) → SubjectValue → Walk → List FindingValue → Reply → Type 0

@@ -46,5 +46,5 @@ abbrev pub caches_text : (json : Bool) → List ℕ → Walk → List ℕ
 caches_text json image w = caches_before json image w (heads w + 1)
 
 -- the lines of the remarks and the findings, and behind them those of wrong caches; or with `json` their objects
-abbrev pub told_text : (json : Bool) → SubjectValue → Walk → List FindingValue → List ℕ
-told_text json s w fs = subject_text json s w fs ++ caches_text json s.image w
+abbrev pub survey_text : (json : Bool) → SubjectValue → Walk → List FindingValue → List ℕ
+survey_text json s w fs = subject_text json s w fs ++ caches_text json s.image w

@@ -15,7 +15,7 @@ use Rattle.adf_findings.specs.{Lookup.path_to, Members.has_mark, SoundMarks.AreM
 use Rattle.adf_links.specs.Links.{is_right_link}
 use Rattle.adf_texts.specs.{RowTexts.head_lines, VolumeLines.AreDates, VolumeLines.opening_lines}
 use Rattle.adf_subjects.specs.Subject.{SubjectValue}
-use Rattle.adf_survey_cmd.specs.CacheLines.{told_text}
+use Rattle.adf_survey_cmd.specs.CacheLines.{survey_text}
 use Rattle.adf_survey_cmd.specs.FoundLinks.{told_link}
 
 -- the mark of an entry, on the left of eight places
@@ -95,7 +95,7 @@ found_text json date sound link image (x ∷ w) =
 -- the lines of the remarks, the findings and wrong caches, and behind them those of what is found; or with `json` their objects
 abbrev pub listing_text : (json : Bool) → (Stamp → List ℕ) → (ℕ → Bool) → SubjectValue → Walk → List FindingValue → List ℕ
 listing_text json date sound s w fs =
-    told_text json s w fs ++ found_text json date (marked sound s.end s.image w) (is_right_link s.image w fs) s.image w
+    survey_text json s w fs ++ found_text json date (marked sound s.end s.image w) (is_right_link s.image w fs) s.image w
 
 -- it holds of any function that gives each date its text, and of any that tells the sound entries of a survey
 abbrev pub InAnyTexts : List ℕ → Walk → List FindingValue → ((Stamp → List ℕ) → (ℕ → Bool) → Type 0) → Type 0

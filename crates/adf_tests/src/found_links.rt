@@ -6,7 +6,8 @@ use adf_base::{seal, set_word};
 use adf_memory::{TableLink, put_links};
 use std::alloc::Global;
 
-const MANIFEST: &[u8] = b"volume ofs 16\nfile 0:0:0 00000000 a\ndir 0:0:0 00000000 b\nfile 0:0:0 00000000 c\n\
+const MANIFEST: &[u8] =
+    b"volume ofs 16\nfile 0:0:0 00000000 a\ndir 0:0:0 00000000 b\nfile 0:0:0 00000000 c\n\
     file 0:0:0 00000000 d\nfile 0:0:0 00000000 e\nfile 0:0:0 00000000 f\n";
 
 // Words of blocks: the block, the word and its value.
