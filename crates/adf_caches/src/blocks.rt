@@ -12,6 +12,7 @@ use crate::records::{RECORD_START, record_in};
 use adf_base::Block;
 use adf_blocks::{OWN_KEY, T_DIR_CACHE, TYPE};
 use adf_findings::Survey;
+use adf_links::headed_at;
 use adf_tree::Node;
 
 /// The word of a cache block that names the header of its directory.
@@ -47,17 +48,6 @@ fn says_cache(cache: &Block<'_>, b: u32) -> bool
         && cache.word(OWN_KEY) == b
         && cache.long_sum() == 0
         && records_fit(cache)
-}
-
-/// The entry with its header in block `b`.
-pub fn headed_at(survey: &Survey<'_>, b: u32) -> Option<Node>
-    ensures { OnSurvey survey.now.image (λ w _. result ≡ headed_at w b) }
-{
-    let n = survey.entry_at(b)?;
-    match survey.block_of(n) {
-        Some(block) if block == b => Some(n),
-        _ => None,
-    }
 }
 
 // The directory with its header in block `b`, where the root is in block `root`.

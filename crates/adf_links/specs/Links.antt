@@ -154,3 +154,7 @@ leads image w n (Some kind) = is_linked_from image w n (original image w n)
 -- entry n is a right link: what is found at it is that it is a link, and it leads to something
 abbrev pub is_right_link : List ℕ → Walk → List FindingValue → ℕ → Bool
 is_right_link image w fs n = list_any (tells_link image w n) fs && leads image w n (link_in image w n)
+
+-- the marks are those of the right links
+abbrev pub AreRightMarks : List ℕ → Walk → List FindingValue → List Bool → Type 0
+AreRightMarks image w fs marks = (n : ℕ) → has_mark marks n ≡ is_right_link image w fs n

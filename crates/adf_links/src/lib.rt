@@ -9,4 +9,4 @@ mod told;
 
 pub use crate::kinds::{LinkKind, link_of};
 pub use crate::right::right_links;
-pub use crate::targets::{link_path, original_of};
+pub use crate::targets::{PATH_START, headed_at, link_path, original_of};

@@ -33,8 +33,8 @@ fn if_headed(survey: &Survey<'_>, b: u32, n: Node) -> Option<Node>
     }
 }
 
-// The entry with its header in block `b`.
-fn headed_at(survey: &Survey<'_>, b: u32) -> Option<Node>
+/// The entry with its header in block `b`.
+pub fn headed_at(survey: &Survey<'_>, b: u32) -> Option<Node>
     ensures { OnSurvey survey.now.image (λ w _. result ≡ headed_at w b) }
 {
     match survey.entry_at(b) {

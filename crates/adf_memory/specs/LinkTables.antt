@@ -1,9 +1,9 @@
 -- The table of links of a survey: a row for each right link.
 -- Letters: w the walk of an image's survey, fs its findings; n an entry's node, b the block of its header; k a count.
-use Rattle.std.specs.Prelude.{◌≡◌, ℕ, Bool, ◌+◌, ◌*◌, List, Option, Some, None, cond, length, map}
+use Rattle.std.specs.Prelude.{ℕ, Bool, ◌+◌, ◌*◌, List, Option, Some, None, cond, length, map}
 use Rattle.std.specs.List.{filter, range_with_len}
 use Rattle.adf_volume.specs.Walk.{Walk, heads, node_block}
-use Rattle.adf_findings.specs.{Members.has_mark, Survey.FindingValue}
+use Rattle.adf_findings.specs.{Survey.FindingValue}
 use Rattle.adf_links.specs.declared.kinds.LinkKind.{LinkKind, TheVariants.File, TheVariants.Directory, TheVariants.Soft}
 use Rattle.adf_links.specs.declared.targets.TheConstants.{PATH_START}
 use Rattle.adf_links.specs.Links.{is_right_link, link_in, link_path, original}
@@ -52,7 +52,3 @@ link_rows image w fs k = map (link_row image w) (links_among image w fs k)
 -- the table of links
 abbrev pub link_table : List ℕ → Walk → List FindingValue → List TableLink
 link_table image w fs = link_rows image w fs (heads w)
-
--- the marks are those of the right links
-abbrev pub AreRightMarks : List ℕ → Walk → List FindingValue → List Bool → Type 0
-AreRightMarks image w fs marks = (n : ℕ) → has_mark marks n ≡ is_right_link image w fs n

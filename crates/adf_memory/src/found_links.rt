@@ -3,7 +3,8 @@
 ghost use Rattle.std.specs.Prelude.{◌≡◌, ◌≤◌, ℕ, Some, length};
 ghost use Rattle.adf_findings.specs.Survey.{OnSurvey};
 ghost use Rattle.adf_volume.specs.Walk.{heads};
-ghost use Rattle.adf_memory.specs.LinkTables.{AreRightMarks, link_number, link_row, link_table, path_place, path_size, right_row};
+ghost use Rattle.adf_links.specs.Links.{AreRightMarks};
+ghost use Rattle.adf_memory.specs.LinkTables.{link_number, link_row, link_table, path_place, path_size, right_row};
 ghost use Rattle.adf_memory.specs.{Rooms.filled, SurveyCalls.FillsLinks};
 
 use crate::found_tables::owner_number;
@@ -11,12 +12,9 @@ use crate::tables::put;
 use adf_base::BLOCK_LEN;
 use adf_blocks::Cause;
 use adf_findings::{Survey, has_mark, survey};
-use adf_links::{LinkKind, link_of, link_path, original_of, right_links};
+use adf_links::{LinkKind, PATH_START, link_of, link_path, original_of, right_links};
 use adf_tree::Node;
 use std::alloc::Global;
-
-// The byte of a soft link where its path begins.
-const PATH_PLACE: usize = 24;
 
 /// A right link that is found: it leads to something. Fields that do not apply are 0.
 #[repr(C)]
@@ -53,7 +51,7 @@ fn path_place(header: u32, kind: Option<LinkKind>) -> usize
     ensures { result ≡ path_place header kind }
 {
     match kind {
-        Some(LinkKind::Soft) => BLOCK_LEN * header as usize + PATH_PLACE,
+        Some(LinkKind::Soft) => BLOCK_LEN * header as usize + PATH_START,
         _ => 0,
     }
 }

@@ -2,7 +2,7 @@
 -- whether it is a right link.
 -- Letters: s what is surveyed; w the walk of its image's survey, fs its findings; end a block; n an entry's node, h the block of its header; k how many
 -- entries.
-use Rattle.std.specs.Prelude.{◌≡◌, ℕ, ◌==◌, ◌&&◌, ◌||◌, Bool, true, false, cond, not, nat_lt, List, [], ◌∷◌, ◌++◌, codes}
+use Rattle.std.specs.Prelude.{ℕ, ◌==◌, ◌&&◌, ◌||◌, Bool, true, false, cond, not, nat_lt, List, [], ◌∷◌, ◌++◌, codes}
 use Rattle.std.specs.List.{flat_map, join_with_byte, list_all, range_with_len}
 use Rattle.adf_base.specs.{Words.block, declared.dates.Stamp.Stamp}
 use Rattle.adf_names.specs.{declared.meta.Meta.Meta, Kinds.kind_text}
@@ -11,7 +11,7 @@ use Rattle.adf_blocks.specs.declared.head.HeadBody.{HeadBody}
 use Rattle.adf_blocks.specs.{declared.layout.TheConstants.SECONDARY_TYPE, declared.layout.TheConstants.ST_FILE, HeadBlock.body_at, HeadBlock.meta_stated}
 use Rattle.adf_volume.specs.{Image.word_in, Made.datas_in, Rows.row_body, Walk.heads, Walk.node_block, Walk.Walk}
 use Rattle.adf_volume.specs.declared.row.RowBody.{RowBody, TheVariants.Dir, TheVariants.File}
-use Rattle.adf_findings.specs.{Lookup.path_to, Members.has_mark, SoundMarks.AreMarks, Opening.opening_in, Survey.FindingValue, declared.opening.Opening.Opening}
+use Rattle.adf_findings.specs.{Lookup.path_to, SoundMarks.AreMarks, Opening.opening_in, Survey.FindingValue, declared.opening.Opening.Opening}
 use Rattle.adf_links.specs.Links.{is_right_link}
 use Rattle.adf_texts.specs.{RowTexts.head_lines, VolumeLines.AreDates, VolumeLines.opening_lines}
 use Rattle.adf_subjects.specs.Subject.{SubjectValue}
@@ -101,7 +101,3 @@ listing_text json date sound s w fs =
 abbrev pub InAnyTexts : List ℕ → Walk → List FindingValue → ((Stamp → List ℕ) → (ℕ → Bool) → Type 0) → Type 0
 InAnyTexts image w fs holds =
     (date : Stamp → List ℕ) (sound : ℕ → Bool) → AreDates date → AreMarks image w fs sound → holds date sound
-
--- the marks are those of the right links
-abbrev pub AreRight : List ℕ → Walk → List FindingValue → List Bool → Type 0
-AreRight image w fs marks = (n : ℕ) → has_mark marks n ≡ is_right_link image w fs n

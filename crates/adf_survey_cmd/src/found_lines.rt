@@ -5,11 +5,11 @@ ghost use Rattle.std.specs.{List.list_all, Io.KnownBytes.Appends};
 ghost use Rattle.adf_base.specs.{Words.block, declared.dates.Stamp.Stamp};
 ghost use Rattle.adf_volume.specs.Walk.{heads, node_block};
 ghost use Rattle.adf_findings.specs.{Lookup.path_to, SoundMarks.AreMarks, Survey.OnSurvey};
-ghost use Rattle.adf_links.specs.Links.{is_right_link};
+ghost use Rattle.adf_links.specs.Links.{AreRightMarks, is_right_link};
 ghost use Rattle.adf_texts.specs.VolumeLines.{AreDates};
 ghost use Rattle.adf_runs.specs.Streams.{AppendsPart, is_device};
 ghost use Rattle.adf_texts.specs.RowTexts.{head_lines};
-ghost use Rattle.adf_survey_cmd.specs.FoundLines.{AreRight, InAnyTexts, entry_text, found_lines, found_text, header_text};
+ghost use Rattle.adf_survey_cmd.specs.FoundLines.{InAnyTexts, entry_text, found_lines, found_text, header_text};
 ghost use Rattle.adf_survey_cmd.specs.FoundLines.{lines_of_found, mark_text, marked, opening_text};
 
 use crate::found_links::push_link;
@@ -141,7 +141,7 @@ fn push_found(
     text: &mut Vec<u8>,
 ) -> Result<(), AllocError>
     ensures { OnSurvey survey.now.image (λ w fs.
-        InAnyTexts survey.now.image w fs (λ date sound. AreRight survey.now.image w fs form.now.right.now.items
+        InAnyTexts survey.now.image w fs (λ date sound. AreRightMarks survey.now.image w fs form.now.right.now.items
         → 1 ≤ n → n ≤ heads w → OnOk result (text.new.items ≡ text.old.items
         ++ found_lines form.now.list.json date (marked sound form.now.list.end survey.now.image w)
         (is_right_link survey.now.image w fs) survey.now.image w n))) }
@@ -163,12 +163,12 @@ fn write_entries<W: Sink>(
 ) -> Result<(), StreamFault>
     requires works { W.has_failed output.old ≡ false }
     ensures ok { OnSurvey survey.now.image (λ w fs.
-        InAnyTexts survey.now.image w fs (λ date sound. AreRight survey.now.image w fs form.now.right.now.items
+        InAnyTexts survey.now.image w fs (λ date sound. AreRightMarks survey.now.image w fs form.now.right.now.items
         → OnOk result (Appends (W.held output.old) (W.held output.new)
         (text.items ++ lines_of_found form.now.list.json date (marked sound form.now.list.end survey.now.image w)
         (is_right_link survey.now.image w fs) survey.now.image w (heads w))))) }
     ensures err { OnSurvey survey.now.image (λ w fs.
-        InAnyTexts survey.now.image w fs (λ date sound. AreRight survey.now.image w fs form.now.right.now.items
+        InAnyTexts survey.now.image w fs (λ date sound. AreRightMarks survey.now.image w fs form.now.right.now.items
         → OnErr result (AppendsPart (W.has_failed output.new) (W.held output.old) (W.held output.new)
         (text.items ++ lines_of_found form.now.list.json date (marked sound form.now.list.end survey.now.image w)
         (is_right_link survey.now.image w fs) survey.now.image w (heads w))))) }

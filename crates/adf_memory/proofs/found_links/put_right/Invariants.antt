@@ -1,6 +1,7 @@
 use Rattle.std.proofs.Common.{◌≡◌, ◌≤◌, length}
 use Rattle.adf_findings.specs.Survey.{OnSurvey}
-use Rattle.adf_memory.specs.{LinkTables.AreRightMarks, LinkTables.link_rows, Rooms.filled}
+use Rattle.adf_links.specs.Links.{AreRightMarks}
+use Rattle.adf_memory.specs.{LinkTables.link_rows, Rooms.filled}
 use Rattle.adf_memory.proofs.found_links.put_right.Given as goal
 
 abbrev pub invariant-loop-i : goal.invariant-loop-i
