@@ -182,7 +182,7 @@ module _ (image : List ℕ) (w : Walk) (d a : ℕ) (old : CacheMarks) where
             absurd (no_way_round (is_cache_block image w d) (next_cache image) (no_zero_cache image w d) h.way seen bs way)
         | unlike none ↦
             let begins : entries_recorded image w d bs
-                ≡ entries_recorded image w d h.passed ++ (entries_named image w d b ++ entries_recorded image w d first.1.0) =
+            ≡ entries_recorded image w d h.passed ++ (entries_named image w d b ++ entries_recorded image w d first.1.0) =
             ap (entries_recorded image w d) (rest.2 ∙ ap (λ l. h.passed ++ l) first.1.1)
             ∙ (flat_map-append (entries_named image w d) h.passed (b ∷ first.1.0)
             ∙ ap (λ l. entries_recorded image w d h.passed ++ l) (flat_map-cons (entries_named image w d) b first.1.0)) in
