@@ -233,13 +233,13 @@ long_before plus types s t a b reply (r, (u, before, told), same) =
     (q, (t, odd_stays t (no_volume t.image b), rescues), e)
 
 -- no bytes of files are told
-none_told : (json : Bool) (word : List ℕ) (marks : List Bool) (image : List ℕ) → passages_text json word marks image [] ≡ []
-none_told json word marks image =
+unfound_text : (json : Bool) (word : List ℕ) (marks : List Bool) (image : List ℕ) → passages_text json word marks image [] ≡ []
+unfound_text json word marks image =
     ap (lines_of_passages json word image []) (unfound image marks (min MOST_BLOCKS (blocks image)))
 
 same_passages : (json : Bool) (word : List ℕ) (marks others : List Bool) (image bytes : List ℕ)
     → on_output 0 (passages_text json word marks image []) ≡ on_output 0 (passages_text json word others bytes [])
-same_passages json word marks others image bytes = ap (on_output 0) (none_told json word marks image ∙ sym (none_told json word others bytes))
+same_passages json word marks others image bytes = ap (on_output 0) (unfound_text json word marks image ∙ sym (unfound_text json word others bytes))
 
 long_unread : (json : Bool) (marks others : List Bool) (s t : SubjectValue) → 512 * MOST_BLOCKS < length s.image → 512 * MOST_BLOCKS < length t.image
     → (text : List ℕ) → IsUnreadText json marks s text → IsUnreadText json others t text
