@@ -1,6 +1,6 @@
 -- What is asked of an image has an answer of `adf-survey`.
 -- Letters: s, t what is surveyed; w the walk of its survey, fs the findings; n an entry's node.
-use Rattle.std.proofs.Common.{◌≡◌, ◌++◌, ℕ, Bool, true, false, List, [], Option, Some, None, codes, inl, inr, refl}
+use Rattle.std.proofs.Common.{◌≡◌, ◌++◌, ℕ, Bool, true, false, List, [], Option, Some, None, codes, inl, inr, length, refl}
 use mathlib.Core.Logic.Dec.{and as dec_and}
 use native.Mathlib.Decide.{ℕ_discrete}
 use Rattle.adf_base.proofs.ByteLists.{AreBytes}
@@ -20,8 +20,8 @@ use Rattle.adf_survey_cmd.specs.CommandLine.{InquiryValue, QuestionValue, blanks
 use Rattle.adf_subjects.proofs.SomeRescues.{some_rescue as rescue_given}
 use Rattle.adf_subjects.proofs.{Formats.before_bytes, Formats.some_before, SubjectBytes.subject_bytes, SubjectBytes.typed_bytes, Subjects.some_typed}
 use Rattle.adf_passages.specs.PassageLines.{passages_text}
-use Rattle.adf_survey_cmd.specs.Answers.{AnswerBehind, DroppedAnswer, lines_form}
-use Rattle.adf_survey_cmd.specs.UnreadLines.{IsBlankText, IsMappedText, IsUnreadText, TellsBlank, TellsPassages, reply_behind}
+use Rattle.adf_survey_cmd.specs.Answers.{AnswerBehind, AnswerUnlessOther, DroppedAnswer, RefusesMap, lines_form}
+use Rattle.adf_survey_cmd.specs.UnreadLines.{IsBlankText, IsMappedText, IsUnreadText, TellsBlank, TellsPassages, is_other_disk, other_disk_line, reply_behind}
 use Rattle.adf_survey_cmd.specs.Answers.{CopiesEntry, CopiesFound, CopiesFromSurvey, IsWholeFile, ListsSurvey, QuestionAnswer, Surveys, no_path_line}
 use Rattle.adf_survey_cmd.specs.{Answers.told_status, Answers.types_kept, Answers.unless_blank, Answers.unless_mapped, Hints.hinted, Remains.remains_reply}
 use Rattle.adf_subjects.specs.Rescues.{Replies, RescuesBefore, RescuesTypedOf, rescue_reply}
@@ -208,6 +208,27 @@ some_behind (Some json) r s (told, answer) =
     let (b, blank) = some_blank json r.blank (unless_mapped r.map s) in
     (reply_behind (a ++ b) told, (a ++ b, (a, b, mapped, blank, refl), (told, answer, refl)))
 
+-- a map may be that of another disk
+
+path_refusal : (damaged : Bool) (path : List ℕ) → HasPathOrNone path → (reply : Reply) × RefusesMap (cat damaged path) reply
+path_refusal damaged path (inl (names, text)) = (on_errors 1 other_disk_line, inr (names, text, refl))
+path_refusal damaged path (inr bad) = (bad_path, inl (bad, refl))
+
+some_refusal : (q : QuestionValue) → (reply : Reply) × RefusesMap q reply
+some_refusal (report json) = (on_errors 1 other_disk_line, refl)
+some_refusal (list json) = (on_errors 1 other_disk_line, refl)
+some_refusal (cat damaged path) = path_refusal damaged path (path_or_none path)
+some_refusal blanks = (on_errors 1 other_disk_line, refl)
+some_refusal (deleted file) = (on_errors 1 other_disk_line, refl)
+some_refusal (rescue keep_type) = (on_errors 1 other_disk_line, refl)
+some_refusal (rescue_deleted keep_type) = (on_errors 1 other_disk_line, refl)
+some_refusal (rescue_before plus keep_type) = (on_errors 1 other_disk_line, refl)
+
+some_unless_other : (other : Bool) (r : InquiryValue) (s : SubjectValue) → (reply : Reply) × AnswerBehind (lines_form r) r s reply
+    → (reply : Reply) × AnswerUnlessOther other r s reply
+some_unless_other true r s answer = some_refusal r.question
+some_unless_other false r s answer = answer
+
 pub some_answer : (r : InquiryValue) (input : List ℕ) → ((keep_type : Bool) → r.question ≡ rescue keep_type → AreBytes input)
     → ((keep_type : Bool) → r.question ≡ rescue_deleted keep_type → AreBytes input)
     → ((with_deleted keep_type : Bool) → r.question ≡ rescue_before with_deleted keep_type → AreBytes input) → HasSurveyAnswer r input
@@ -218,5 +239,6 @@ some_answer r input are more before =
     λ all. blank_bytes r.blank s (mapped_bytes r.map given (subject_bytes r.blocks input all)) in
     let question = questioned r.question (unless_blank r.blank s) (λ keep_type is. bytes (are keep_type is)) (λ keep_type is. bytes (more keep_type is))
     (λ with_deleted keep_type is. bytes (before with_deleted keep_type is)) in
-    let (told, answer) = some_behind (lines_form r) r given question in
+    let behind = some_behind (lines_form r) r given question in
+    let (told, answer) = some_unless_other (is_other_disk r.map (length input) given.image) r given behind in
     (hinted input told, (told, answer, refl))

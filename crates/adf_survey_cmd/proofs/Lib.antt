@@ -2,6 +2,8 @@ pub mod TableMarks
 pub mod HintedAnswers
 -- a text behind an answer
 pub mod BehindAnswers
+-- the answer with the map of another disk
+pub mod OtherDisks
 pub mod FindingStatus
 pub mod FoundTexts
 -- the lines of wrong directory caches

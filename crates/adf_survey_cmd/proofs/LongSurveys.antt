@@ -2,8 +2,8 @@
 -- Letters: s, t what is surveyed; w the walk of a survey, fs its findings; n an entry's node; lost, ls losses of
 -- blocks.
 use Rattle.std.proofs.Common.{◌≡◌, ◌<◌, ◌≤◌, ◌+◌, ◌-◌, ◌*◌, ◌∙◌, ◌++◌, true, false, inl, inr, ℕ, Bool, List, [], ◌∷◌, Option, None, Some, refl, ap, ap₂, arith}
-use Rattle.std.proofs.Common.{subst, sym, ◌==◌, ◌&&◌, codes, cond, length, min, replicate, take}
-use Rattle.std.proofs.lemmas.Bool.{and_left, cond-false, false_from_ne_true}
+use Rattle.std.proofs.Common.{subst, sym, ◌==◌, ◌&&◌, codes, cond, length, min, nat_le, replicate, take}
+use Rattle.std.proofs.lemmas.Bool.{Decides.nat_tests, and_left, cond-false, false_from_ne_true}
 use Rattle.std.proofs.{Math.Nat.min-eq_left, lemmas.List.take-take, lemmas.Grind.common_steps}
 use Rattle.adf_blocks.specs.{Sizes.blocks, declared.layout.TheConstants.MOST_BLOCKS, declared.cause.Cause.TheVariants.BadSize}
 use Rattle.adf_base.specs.declared.hash.Letters.{Letters}
@@ -19,8 +19,8 @@ use Rattle.adf_rescue.specs.Opened.{lacks_boot, lacks_root, opened}
 use Rattle.adf_rescue.proofs.{OpenedImages.length_opened, PassedFindings.unread_fault, PrunedKeeps.length_read}
 use Rattle.adf_rescue.proofs.MadeRoots.{sized as sized_len}
 use Rattle.adf_survey_cmd.specs.Answers.{CopiesFound, CopiesFromSurvey, ListsSurvey, QuestionAnswer, SurveyAnswer, Surveys, TellsFound, told_status, types_kept, unless_blank, unless_mapped}
-use Rattle.adf_survey_cmd.specs.Answers.{AnswerBehind, DroppedAnswer, InquiryAnswer, lines_form, unread_remarks}
-use Rattle.adf_survey_cmd.specs.UnreadLines.{IsBlankText, IsMappedText, IsUnreadText, TellsBlank, TellsPassages}
+use Rattle.adf_survey_cmd.specs.Answers.{AnswerBehind, AnswerUnlessOther, DroppedAnswer, InquiryAnswer, lines_form, unread_remarks}
+use Rattle.adf_survey_cmd.specs.UnreadLines.{IsBlankText, IsMappedText, IsUnreadText, TellsBlank, TellsPassages, is_other_disk}
 use Rattle.adf_passages.specs.PassageLines.{lines_of_passages, passages_text}
 use Rattle.adf_passages.proofs.PassageSteps.{unfound}
 use Rattle.adf_survey_cmd.specs.Deletions.{TellsBy, TellsRead, TellsRefused, TellsSecond}
@@ -343,9 +343,22 @@ long_behind (Some json) r s t a b same reply (text, (c, d, mapped, blank, e), (t
   (told, same told x, is),
 )
 
+-- no map is that of another disk then
+not_other : (m : Option MapValue) (held : ℕ) (image : List ℕ) → 512 * MOST_BLOCKS < held → is_other_disk m held image ≡ false
+not_other None held image long = refl
+not_other (Some m) held image long = and_left (nat_le held (512 * MOST_BLOCKS)) _ (grind (arith, common_steps, nat_tests))
+
+long_unless : (r : InquiryValue) (a b : ℕ) (s t : SubjectValue) → 512 * MOST_BLOCKS < a → 512 * MOST_BLOCKS < b
+    → ((reply : Reply) → AnswerBehind (lines_form r) r s reply → AnswerBehind (lines_form r) r t reply) → (reply : Reply)
+    → InquiryAnswer r a s reply → InquiryAnswer r b t reply
+long_unless r a b s t x y same reply h =
+    let here : AnswerBehind (lines_form r) r s reply = subst (λ other. AnswerUnlessOther other r s reply) (not_other r.map a s.image x) h in
+    subst (λ other. AnswerUnlessOther other r t reply) (sym (not_other r.map b t.image y)) (same reply here)
+
 long_read : (stated : ℕ) (read : Option ℕ) (r : InquiryValue) (image bytes : List ℕ) → AreFew read
     → image ≡ take (512 * MOST_BLOCKS + 1) bytes → 512 * MOST_BLOCKS < length image → 512 * MOST_BLOCKS < length bytes → (reply : Reply)
-    → InquiryAnswer r (subject_read stated read image) reply → InquiryAnswer r (subject_read stated read bytes) reply
+    → InquiryAnswer r (length image) (subject_read stated read image) reply
+    → InquiryAnswer r (length bytes) (subject_read stated read bytes) reply
 long_read stated None r image bytes few e a b reply h =
     let s = subject_read stated None image in
     let t = subject_read stated None bytes in
@@ -353,7 +366,7 @@ long_read stated None r image bytes few e a b reply h =
     let front = front_blank r.blank (unless_mapped r.map s) ∙ front_mapped r.map stated image bytes many ∙ sym (front_blank r.blank (unless_mapped r.map t)) in
     let same = long_questions r.question (unless_blank r.blank (unless_mapped r.map s)) (unless_blank r.blank (unless_mapped r.map t)) front
     (omega (arith, a, length_dropped r.map r.blank s)) (omega (arith, b, length_dropped r.map r.blank t)) in
-    long_behind (lines_form r) r s t a b same reply h
+    long_unless r (length image) (length bytes) s t a b (long_behind (lines_form r) r s t a b same) reply h
 long_read stated (Some n) r image bytes few e a b reply h =
     let end = same_end n image bytes few a b in
     let same : subject_read stated (Some n) image ≡ subject_read stated (Some n) bytes =
@@ -363,18 +376,19 @@ long_read stated (Some n) r image bytes few e a b reply h =
       front = missing_remarks (end i) n ++ behind_remarks n stated;
       lost = behind_loss n stated;
     } in
-    subst (λ s. InquiryAnswer r s reply) same h
+    long_unless r (length image) (length bytes) (subject_read stated (Some n) image) (subject_read stated (Some n) bytes) a b
+    (λ told x. subst (λ s. AnswerBehind (lines_form r) r s told) same x) reply h
 
 long_meant : (asked : Option ℕ) (r : InquiryValue) (image bytes : List ℕ) → AreFew asked
     → image ≡ take (512 * MOST_BLOCKS + 1) bytes → 512 * MOST_BLOCKS < length image → 512 * MOST_BLOCKS < length bytes → (reply : Reply)
-    → InquiryAnswer r (subject asked image) reply → InquiryAnswer r (subject asked bytes) reply
+    → InquiryAnswer r (length image) (subject asked image) reply → InquiryAnswer r (length bytes) (subject asked bytes) reply
 long_meant asked r image bytes few e a b reply h =
     let stated = same_stated image bytes e a b asked in
     let read = same_read image bytes e a b asked few in
     let more = few_read asked bytes few in
     let same : subject asked image ≡ subject_read (stated_length asked bytes) (blocks_read asked bytes) image =
     ap₂ (λ (n : ℕ) (o : Option ℕ). subject_read n o image) stated read in
-    long_read (stated_length asked bytes) (blocks_read asked bytes) r image bytes more e a b reply (subst (λ s. InquiryAnswer r s reply) same h)
+    long_read (stated_length asked bytes) (blocks_read asked bytes) r image bytes more e a b reply (subst (λ s. InquiryAnswer r (length image) s reply) same h)
 
 pub long_answers : (r : InquiryValue) (image bytes : List ℕ) → AreFew r.blocks → image ≡ take (512 * MOST_BLOCKS + 1) bytes
     → 512 * MOST_BLOCKS < length image → 512 * MOST_BLOCKS < length bytes → (reply : Reply) → SurveyAnswer r image reply → SurveyAnswer r bytes reply

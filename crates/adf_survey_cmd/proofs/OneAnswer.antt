@@ -1,6 +1,6 @@
 -- What is asked of an image has one answer.
 -- Letters: s, t, u what is surveyed; w, u, v walks of its survey, fs, gs the findings; n, m entries' nodes; r, q inquiries; a, b replies.
-use Rattle.std.proofs.Common.{◌≡◌, ◌∙◌, ◌++◌, inl, inr, ℕ, Bool, true, false, List, [], ◌∷◌, Option, Some, sym, ap, subst, None, codes, refl, arith}
+use Rattle.std.proofs.Common.{◌≡◌, ◌∙◌, ◌++◌, inl, inr, ℕ, Bool, true, false, List, [], ◌∷◌, Option, Some, sym, ap, subst, None, codes, length, refl, arith}
 use Rattle.std.proofs.lemmas.Grind.{common_steps}
 use Rattle.adf_names.proofs.PathParts.{one_path}
 use Rattle.adf_volume.specs.{Types.letters_for, declared.fault.Fault.Fault, declared.types.Types.Types}
@@ -15,8 +15,8 @@ use Rattle.adf_runs.specs.Commands.{Reply, on_errors, on_output}
 use Rattle.adf_volume.proofs.OneFault.{one_fault}
 use Rattle.adf_cmd.proofs.OneAnswer.{one_dates}
 use Rattle.adf_survey_cmd.specs.Answers.{CopiesEntry, CopiesFound, CopiesFromSurvey, IsWholeFile, ListsSurvey, QuestionAnswer, SurveyAnswer, unless_blank, unless_mapped}
-use Rattle.adf_survey_cmd.specs.Answers.{AnswerBehind, AreUnreadLines, Surveys, TellsFound, lines_form, told_status, types_kept}
-use Rattle.adf_survey_cmd.specs.UnreadLines.{IsBlankText, IsMappedText, IsUnreadText, TellsBlank, TellsPassages, reply_behind}
+use Rattle.adf_survey_cmd.specs.Answers.{AnswerBehind, AnswerUnlessOther, AreUnreadLines, RefusesMap, Surveys, TellsFound, lines_form, told_status, types_kept}
+use Rattle.adf_survey_cmd.specs.UnreadLines.{IsBlankText, IsMappedText, IsUnreadText, TellsBlank, TellsPassages, is_other_disk, reply_behind}
 use Rattle.adf_maps.specs.Maps.{MapValue}
 use Rattle.adf_unread.specs.{Blank.blank_marks, Mapped.map_marks}
 use Rattle.adf_survey_cmd.specs.{Hints.hinted, FoundLines.listing_text}
@@ -260,6 +260,26 @@ answer_once (Some json) r s a b (text, lines, (told, x, e)) (more, also, (other,
     let reply = one_question r.question (unless_blank r.blank (unless_mapped r.map s)) told other x y in
     e ∙ (λ i. reply_behind (same i) (reply i)) ∙ sym f
 
+-- with the map of another disk too
+one_refused_map : (q : QuestionValue) (a b : Reply) → RefusesMap q a → RefusesMap q b → a ≡ b
+one_refused_map (report json) a b x y = x ∙ sym y
+one_refused_map (list json) a b x y = x ∙ sym y
+one_refused_map (cat damaged path) a b (inl (bad, x)) (inl (worse, y)) = x ∙ sym y
+one_refused_map (cat damaged path) a b (inl (bad, x)) (inr (names, text, y)) = absurd (bad names text)
+one_refused_map (cat damaged path) a b (inr (names, text, x)) (inl (bad, y)) = absurd (bad names text)
+one_refused_map (cat damaged path) a b (inr (names, text, x)) (inr (others, also, y)) = x ∙ sym y
+one_refused_map blanks a b x y = x ∙ sym y
+one_refused_map (deleted file) a b x y = x ∙ sym y
+one_refused_map (rescue keep_type) a b x y = x ∙ sym y
+one_refused_map (rescue_deleted keep_type) a b x y = x ∙ sym y
+one_refused_map (rescue_before with_deleted keep_type) a b x y = x ∙ sym y
+
+unless_other_once : (other : Bool) (r : InquiryValue) (s : SubjectValue) (a b : Reply) → AnswerUnlessOther other r s a → AnswerUnlessOther other r s b
+    → a ≡ b
+unless_other_once true r s a b x y = one_refused_map r.question a b x y
+unless_other_once false r s a b x y = answer_once (lines_form r) r s a b x y
+
 pub one_answer : (r : InquiryValue) (input : List ℕ) (a b : Reply) → SurveyAnswer r input a → SurveyAnswer r input b → a ≡ b
 one_answer r input a b (told, x, e) (other, y, f) =
-    e ∙ ap (hinted input) (answer_once (lines_form r) r (subject r.blocks input) told other x y) ∙ sym f
+    let s = subject r.blocks input in
+    e ∙ ap (hinted input) (unless_other_once (is_other_disk r.map (length input) s.image) r s told other x y) ∙ sym f

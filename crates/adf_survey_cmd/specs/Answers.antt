@@ -1,6 +1,7 @@
 -- What the command answers to its words and its input.
--- Letters: s what is surveyed; w the walk of its survey, fs its findings; n an entry's node, h the block of its header; r an inquiry.
-use Rattle.std.specs.Prelude.{◌≡◌, ◌*◌, ◌⊎◌, ◌++◌, ◌||◌, ℕ, Bool, true, false, cond, List, [], ◌∷◌, Option, None, Some, codes, is_some, map}
+-- Letters: s what is surveyed; w the walk of its survey, fs its findings; n an entry's node, h the block of its header; r an inquiry; held the length of the
+-- input.
+use Rattle.std.specs.Prelude.{◌≡◌, ◌*◌, ◌⊎◌, ◌++◌, ◌||◌, ℕ, Bool, true, false, cond, List, [], ◌∷◌, Option, None, Some, codes, is_some, length, map}
 use Rattle.adf_blocks.specs.declared.layout.TheConstants.{MOST_BLOCKS}
 use Rattle.adf_names.specs.PathTexts.{IsPathText, path_text}
 use Rattle.adf_volume.specs.Walk.{FileAt, Walk}
@@ -15,7 +16,7 @@ use Rattle.adf_runs.specs.Commands.{Command, Reply, on_errors, on_output}
 use Rattle.adf_file_runs.specs.FileRuns.{without_files}
 use Rattle.adf_survey_cmd.specs.CommandLine.{AreRefusedBySurvey, AsksSurvey, InquiryValue, QuestionValue, asked_beside, blanks, cat, deleted, list, report}
 use Rattle.adf_survey_cmd.specs.CommandLine.{rescue, rescue_before, rescue_deleted, survey_file}
-use Rattle.adf_survey_cmd.specs.UnreadLines.{IsBlankText, IsMappedText, TellsBlank, ToldBehind}
+use Rattle.adf_survey_cmd.specs.UnreadLines.{IsBlankText, IsMappedText, TellsBlank, ToldBehind, is_other_disk, other_disk_line}
 use Rattle.adf_survey_cmd.specs.{Deletions.TellsTyped, FoundLines.has_its_data, FoundLines.listing_text, Hints.Hinted, Remains.WritesRemains}
 use Rattle.adf_subjects.specs.{declared.remarks.Remark.Remark, declared.remarks.Saying.TheVariants.NoData, Remarks.remark}
 use Rattle.adf_subjects.specs.{Rescues.Replies, Rescues.RescuesTyped}
@@ -153,13 +154,24 @@ AnswerBehind None r s reply = DroppedAnswer r s reply
 AnswerBehind (Some json) r s reply =
     (text : List ℕ) × AreUnreadLines json r.map r.blank s text × ToldBehind text (DroppedAnswer r s) reply
 
+-- what is answered with the map of a disk of another size: that it is one; of a path that is not read this is told first
+abbrev pub RefusesMap : QuestionValue → Reply → Type 0
+RefusesMap (cat damaged path) reply =
+    RefusesPath path reply ⊎ ((names : List (List ℕ)) × IsPathText path names × (reply ≡ on_errors 1 other_disk_line))
+RefusesMap q reply = reply ≡ on_errors 1 other_disk_line
+
+-- the answer with such a map or not
+abbrev pub AnswerUnlessOther : (other : Bool) → InquiryValue → SubjectValue → Reply → Type 0
+AnswerUnlessOther true r s reply = RefusesMap r.question reply
+AnswerUnlessOther false r s reply = AnswerBehind (lines_form r) r s reply
+
 -- the answer to an inquiry of what is surveyed
-abbrev pub InquiryAnswer : InquiryValue → SubjectValue → Reply → Type 0
-InquiryAnswer r s reply = AnswerBehind (lines_form r) r s reply
+abbrev pub InquiryAnswer : InquiryValue → (held : ℕ) → SubjectValue → Reply → Type 0
+InquiryAnswer r held s reply = AnswerUnlessOther (is_other_disk r.map held s.image) r s reply
 
 -- the answer to an inquiry, with the hint
 abbrev pub SurveyAnswer : InquiryValue → List ℕ → Reply → Type 0
-SurveyAnswer r input reply = Hinted input (InquiryAnswer r (subject r.blocks input)) reply
+SurveyAnswer r input reply = Hinted input (InquiryAnswer r (length input) (subject r.blocks input)) reply
 
 -- words ask for one thing at most
 abbrev pub WordsAskForOneInquiry : Type 0

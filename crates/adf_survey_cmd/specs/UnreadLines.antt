@@ -1,9 +1,10 @@
 -- What is told of the bytes of files in blocks that were not read, and of those in blank ones.
--- Letters: s what is surveyed; w the walk of its image's survey, fs its findings; m a map; marks whether each block was not read; word says what is told
--- of bytes; text the lines behind an answer; v, w outcomes.
-use Rattle.std.specs.Prelude.{◌≡◌, ◌⊎◌, ◌++◌, ℕ, Bool, true, false, List, [], ◌∷◌, Option, None, Some, codes}
+-- Letters: s what is surveyed; w the walk of its image's survey, fs its findings; m a map; held the length of the input; marks whether each block was
+-- not read; word says what is told of bytes; text the lines behind an answer; v, w outcomes.
+use Rattle.std.specs.Prelude.{◌≡◌, ◌⊎◌, ◌++◌, ◌==◌, ◌*◌, ◌&&◌, ◌||◌, ℕ, Bool, true, false, List, [], ◌∷◌, Option, None, Some, codes, length, nat_le, not}
 use Rattle.std.proofs.Common.{zero, suc}
 use Rattle.std.specs.Io.KnownBytes.{Appends}
+use Rattle.adf_blocks.specs.declared.layout.TheConstants.{MOST_BLOCKS}
 use Rattle.adf_volume.specs.Walk.{Walk}
 use Rattle.adf_findings.specs.Survey.{FindingValue, IsSurvey}
 use Rattle.adf_maps.specs.Maps.{MapValue}
@@ -60,3 +61,13 @@ EndsBehind text w v output =
     ((status_of w ≡ 3) × (v ≡ w) × (output.after ≡ output.before))
     ⊎ ((¬ (status_of w ≡ 3)) × ((IsToldBehind text w v × Appends output.before output.after text)
     ⊎ ((v ≡ WriteFault) × AppendsPart true output.before output.after text)))
+
+-- a map is that of a disk of another size: it ends neither with the input nor with the image that is surveyed; of an input that is longer than the
+-- largest image none is
+abbrev pub is_other_disk : Option MapValue → (held : ℕ) → (image : List ℕ) → Bool
+is_other_disk None held image = false
+is_other_disk (Some m) held image = nat_le held (512 * MOST_BLOCKS) && not ((m.end == held) || (m.end == length image))
+
+-- what errors get then
+abbrev pub other_disk_line : List ℕ
+other_disk_line = codes "the map of a disk of another size\n"

@@ -1,13 +1,14 @@
 // What is done for words, once they and their path are read.
 
-ghost use Rattle.std.specs.Prelude.{◌≡◌, List, Some, false, IfErr, IfOk};
+ghost use Rattle.std.specs.Prelude.{◌≡◌, List, Some, false, IfErr, IfOk, length};
 ghost use Rattle.adf_findings.specs.Survey.{OnSurvey};
 ghost use Rattle.adf_rescue.specs.Opened.{is_mended};
-ghost use Rattle.adf_runs.specs.{Outcomes.Blames, Outcomes.Does, Outcomes.EndsBy};
+ghost use Rattle.adf_runs.specs.{Commands.on_errors, Outcomes.Blames, Outcomes.Does, Outcomes.DoesSilently, Outcomes.EndsBy};
 ghost use Rattle.adf_runs.specs.{Streams.seen, WorkFaults.IsNoWork};
 ghost use Rattle.adf_survey_cmd.specs.Answers.{AnswerBehind, HasBadSurveyPath, InquiryAnswer, QuestionAnswer, SurveyAnswer};
 ghost use Rattle.adf_survey_cmd.specs.Answers.{lines_form, types_kept};
 ghost use Rattle.adf_survey_cmd.specs.CommandLine.{InquiryValue, QuestionValue, question_value};
+ghost use Rattle.adf_survey_cmd.specs.UnreadLines.{is_other_disk, other_disk_line};
 ghost use Rattle.adf_survey_cmd.specs.Work.{Answers, Meets, Shows, task_json};
 ghost use Rattle.adf_subjects.specs.Rescues.{Replies, RescuesBefore, RescuesTypedOf};
 ghost use Rattle.adf_subjects.specs.Subject.{IsTyped, SubjectValue, begun_subject, other_type, subject_value};
@@ -304,6 +305,30 @@ impl Task {
     }
 }
 
+// Whether a map is that of a disk of another size than an input of so many bytes, and than the image that is surveyed of it.
+fn is_other_disk(map: &Option<Map>, held: usize, image: &[u8]) -> bool
+    ensures { result ≡ is_other_disk map.now held image.now }
+{
+    match map {
+        Some(map) => {
+            held <= most_image_bytes(Types::WithInternational)
+                && map.end() != held as u64
+                && map.end() != image.len() as u64
+        }
+        None => false,
+    }
+}
+
+// Says so.
+fn other_disk(alloc: Global) -> Outcome
+    ensures { DoesSilently (λ reply. reply ≡ on_errors 1 other_disk_line) result }
+{
+    match format!(in alloc; "the map of a disk of another size\n") {
+        Ok(line) => Outcome::Refused(line),
+        Err(_) => Outcome::NoMemory,
+    }
+}
+
 impl Task {
     // The form of the lines that findings are told in.
     fn json(&self) -> Option<bool>
@@ -349,22 +374,27 @@ impl Work {
         }
     }
 
-    // Does the work on what is surveyed of an input, if there was memory for that.
+    // Does the work on what is surveyed of an input of so many bytes, if there was memory for that, and the map is not that of
+    // another disk.
     fn on_subject<W: Sink>(
         &self,
         alloc: Global,
+        held: usize,
         subject: Result<Subject, AllocError>,
         output: &mut W,
     ) -> Outcome
         requires { W.has_failed output.old ≡ false }
         ensures ends { (r : InquiryValue) (s : SubjectValue) → Meets self.now r → IfOk subject (λ x. subject_value x ≡ s)
-            → EndsBy (InquiryAnswer r s) result (W.held output.old) (W.held output.new) }
+            → EndsBy (InquiryAnswer r held s) result (W.held output.old) (W.held output.new) }
         ensures blames { Blames result false (W.has_failed output.new) }
     {
-        match subject {
-            Ok(subject) => self.on_dropped(alloc, subject, output),
-            Err(_) => Outcome::NoMemory,
+        let Ok(subject) = subject else {
+            return Outcome::NoMemory;
+        };
+        if is_other_disk(&self.map, held, &subject.image) {
+            return other_disk(alloc);
         }
+        self.on_dropped(alloc, subject, output)
     }
 
     // Does the work on bytes that were read.
@@ -375,16 +405,19 @@ impl Work {
         ensures blames { Blames result false (W.has_failed output.new) }
     {
         let on_disk = is_hard_disk(&bytes);
+        let held = bytes.len();
         let subject = Subject::of_read(alloc, bytes, self.blocks);
-        let outcome = self.on_subject(alloc, subject, output);
+        let outcome = self.on_subject(alloc, held, subject, output);
         hinted(alloc, outcome, on_disk)
     }
 }
 
 impl Program for Work {
-    ghost use Rattle.std.proofs.Common.{inl, refl, rules};
+    ghost use Rattle.std.proofs.Common.{inl, refl, rules, true};
     ghost use Rattle.adf_runs.specs.Commands.{bad_path};
-    ghost use Rattle.adf_survey_cmd.specs.{Answers.survey_command, CommandLine.asked_beside, CommandLine.cat};
+    ghost use Rattle.adf_subjects.specs.Subject.{subject};
+    ghost use Rattle.adf_survey_cmd.specs.{Answers.AnswerUnlessOther, Answers.survey_command, CommandLine.asked_beside};
+    ghost use Rattle.adf_survey_cmd.specs.CommandLine.{cat};
 
     ghost command = { survey_command };
 
@@ -411,7 +444,7 @@ impl Program for Work {
 
     fn on<W: Sink>(&self, alloc: Global, bytes: &[u8], output: &mut W) -> Outcome {
         let subject = Subject::of(alloc, bytes, self.blocks);
-        let outcome = self.on_subject(alloc, subject, output);
+        let outcome = self.on_subject(alloc, bytes.len(), subject, output);
         hinted(alloc, outcome, is_hard_disk(bytes))
     }
 
@@ -429,7 +462,17 @@ impl Program for Work {
 
     ghost consistent = { record {
       taken = Prim.search rules;
-      unread = λ words h. (asked_beside h.0 h.1 h.2 (cat h.3 h.4), h.5, λ input. (bad_path, inl (h.6, refl), refl));
+      unread = λ words h. (
+        asked_beside h.0 h.1 h.2 (cat h.3 h.4),
+        h.5,
+        λ input. (
+          bad_path,
+          elim (is_other_disk h.0 (length input) (subject h.2 input).image)
+              as (λ other. AnswerUnlessOther other (asked_beside h.0 h.1 h.2 (cat h.3 h.4)) (subject h.2 input) bad_path)
+              [ true ↦ inl (h.6, refl) | false ↦ inl (h.6, refl) ],
+          refl,
+        ),
+      );
     } };
 }
 
