@@ -34,7 +34,7 @@ struct links {
     size_t count;
 };
 
-/* Where the entries that are found are in the volume. */
+/* What is found, in the volume */
 
 /* The names of the entries of a volume, and the volume. */
 struct named {

@@ -1,9 +1,9 @@
 /* adf-mount: shows the volume of a disk image, or those of a hard disk, as a folder of the host, to read only (docs/adf-mount.1).
  *
- * The image is read into memory, or mapped if it is large, and checked before anything is mounted; of a damaged one what stands is shown.
- * A volume of a hard disk is read again when something in its folder is asked for first. Then all is answered from the tables of the
- * volume. Only whole tables are used, and nothing of a volume changes once it is read, so the threads of libfuse share them. include/adf.h
- * says what each call keeps and what is owed to it.
+ * The image is read into memory, or mapped if it is large, and checked before anything is mounted; of a damaged one what stands is shown,
+ * with its links. A volume of a hard disk is read again when something in its folder is asked for first. Then all is answered from the
+ * tables of the volume. Only whole tables are used, and nothing of a volume changes once it is read, so the threads of libfuse share them.
+ * include/adf.h says what each call keeps and what is owed to it.
  *
  *     kit=$(dirname "$(rt doc)")
  *     cc -o adf-mount *.c -I../../include ../../crates/adf_c/out/libadf_c.a "$kit/c/liblibc_c.a" $(pkg-config --cflags --libs fuse3)

@@ -206,8 +206,10 @@ int find_entry(const struct volume *volume, const char *path, size_t *node) {
 
 int find_volume_link(const struct volume *volume, const char *path, size_t *directory, long *place) {
     const char *last = strrchr(path, '/');
+    if (volume->links == NULL)
+        return -ENOENT;
     char *above = strndup(path, last == NULL ? 0 : (size_t)(last - path));
-    int error = above == NULL ? -ENOMEM : volume->links == NULL ? -ENOENT : find_entry(volume, above, directory);
+    int error = above == NULL ? -ENOMEM : find_entry(volume, above, directory);
     free(above);
     if (error != 0)
         return error;
