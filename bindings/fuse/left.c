@@ -96,6 +96,14 @@ static bool name_places(struct left *left) {
     return has_room;
 }
 
+/* Whether an entry is a damaged file, by its header, and no link. */
+static bool is_damaged_file(const struct left *left, const struct adf_found *found) {
+    static const uint8_t FILE_TYPE[] = {0xff, 0xff, 0xff, 0xfd};
+    const uint8_t *end = left->image + ((size_t)found->header + 1) * BLOCK;
+    return found->is_file && !found->is_sound && found->header < left->blocks &&
+           memcmp(end - sizeof FILE_TYPE, FILE_TYPE, sizeof FILE_TYPE) == 0;
+}
+
 /* Makes the places: each damaged file, and each directory that leads to one. */
 static bool make_places(struct left *left) {
     size_t count = left->surveyed.entries;
@@ -107,7 +115,7 @@ static bool make_places(struct left *left) {
     }
     for (size_t i = count; i-- > 0;) { /* an entry comes behind its directory */
         const struct adf_found *found = &left->found[i];
-        bool is_damaged = found->is_file && !found->is_sound;
+        bool is_damaged = is_damaged_file(left, found);
         left->damaged += is_damaged;
         is_wanted[i] |= is_damaged;
         if (is_wanted[i] && found->parent != 0)

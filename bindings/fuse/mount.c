@@ -1,9 +1,9 @@
 /* adf-mount: shows the volume of a disk image, or those of a hard disk, as a folder of the host, to read only (docs/adf-mount.1).
  *
- * The image is read into memory, or mapped if it is large, and checked before anything is mounted; of a damaged one what stands is shown.
- * A volume of a hard disk is read again when something in its folder is asked for first. Then all is answered from the tables of the
- * volume. Only whole tables are used, and nothing of a volume changes once it is read, so the threads of libfuse share them. include/adf.h
- * says what each call keeps and what is owed to it.
+ * The image is read into memory, or mapped if it is large, and checked before anything is mounted; of a damaged one what stands is shown,
+ * with its links. A volume of a hard disk is read again when something in its folder is asked for first. Then all is answered from the
+ * tables of the volume. Only whole tables are used, and nothing of a volume changes once it is read, so the threads of libfuse share them.
+ * include/adf.h says what each call keeps and what is owed to it.
  *
  *     kit=$(dirname "$(rt doc)")
  *     cc -o adf-mount *.c -I../../include ../../crates/adf_c/out/libadf_c.a "$kit/c/liblibc_c.a" $(pkg-config --cflags --libs fuse3)
@@ -51,12 +51,18 @@ static struct {
 
 /* Volumes */
 
+/* Whether an entry or a link at the top of a volume has a name. */
+static bool is_taken(const struct volume *volume, const char *name) {
+    size_t node = 0;
+    long place;
+    return find_entry(volume, name, &node) == 0 || find_volume_link(volume, name, &node, &place) == 0;
+}
+
 /* Reads the volume of a part. The name is that of its lines, or NULL for none. SOUND, or the status to end with. */
 static int read_volume(size_t number, const char *name) {
     const struct part *part = &shown.parts.parts[number];
     struct volume *volume = &shown.volumes[number];
     struct held held;
-    size_t node = 0;
     if (!hold_part(shown.file, part, &held)) {
         if (name != NULL)
             fprintf(stderr, "adf-mount: %s: %s\n", name, strerror(errno));
@@ -65,7 +71,7 @@ static int read_volume(size_t number, const char *name) {
     struct taking taking = shown.taking;
     taking.whole = part->whole;
     int status = take_volume(volume, &held, name, &taking);
-    if (status == SOUND && volume->left != NULL && find_entry(volume, shown.left_folder, &node) == 0) {
+    if (status == SOUND && volume->left != NULL && is_taken(volume, shown.left_folder)) {
         if (name != NULL)
             fprintf(stderr, "adf-mount: %s: it has an entry called %s: --damaged NAME\n", name, shown.left_folder);
         status = USAGE;
@@ -98,9 +104,10 @@ static size_t part_named(const char *name, size_t length) {
     return found;
 }
 
-/* Where a path of the host leads: to the folders of a disk's volumes, to an entry of a volume, or to what is left of a damaged file. */
+/* Where a path of the host leads: to the folders of a disk's volumes, to an entry or a link of a volume, or to what is left of a damaged
+ * file. */
 struct spot {
-    enum { FOLDERS, ENTRY, LEFT } kind;
+    enum { FOLDERS, ENTRY, LINK, LEFT } kind;
     size_t part;
     const struct volume *volume;
     size_t node;
@@ -112,11 +119,16 @@ static int locate_in_volume(const char *path, struct spot *spot) {
     size_t length = strcspn(path, "/");
     bool is_left =
         spot->volume->left != NULL && length == strlen(shown.left_folder) && strncmp(path, shown.left_folder, length) == 0;
-    if (!is_left)
-        return find_entry(spot->volume, path, &spot->node);
-    spot->kind = LEFT;
-    spot->place = find_left(spot->volume->left, path + length);
-    return spot->place < 0 ? -ENOENT : 0;
+    if (is_left) {
+        spot->kind = LEFT;
+        spot->place = find_left(spot->volume->left, path + length);
+        return spot->place < 0 ? -ENOENT : 0;
+    }
+    int error = find_entry(spot->volume, path, &spot->node);
+    if (error != -ENOENT)
+        return error;
+    spot->kind = LINK;
+    return find_volume_link(spot->volume, path, &spot->node, &spot->place);
 }
 
 static int locate(const char *path, struct spot *spot) {
@@ -164,9 +176,10 @@ static void describe(bool is_file, size_t size, const struct adf_date *date, uin
         status->st_mtim = status->st_ctim = status->st_atim = time_of(date);
 }
 
-/* The inode of a header: that of what is left differs from that of an entry, and those of parts differ. Block 1 is never a header. */
-static uint64_t inode_of(size_t part, bool is_left, uint32_t header) {
-    return (uint64_t)part << 33 | (uint64_t)is_left << 32 | header;
+/* The inode of a header: one of the image, of a link or of what is left, differs from one of the volume, and those of parts differ.
+ * Block 1 is never a header. */
+static uint64_t inode_of(size_t part, bool is_of_image, uint32_t header) {
+    return (uint64_t)part << 33 | (uint64_t)is_of_image << 32 | header;
 }
 
 static void describe_entry(const struct spot *spot, size_t node, struct stat *status) {
@@ -175,6 +188,14 @@ static void describe_entry(const struct spot *spot, size_t node, struct stat *st
     uint32_t header = entry == NULL ? contents->blocks / 2 : entry->header;
     describe(entry != NULL && entry->is_file, entry == NULL ? 0 : entry->size, entry == NULL ? &contents->root : &entry->date,
              inode_of(spot->part, false, header), status);
+}
+
+static void describe_link(const struct spot *spot, long place, struct stat *status) {
+    const struct links *links = spot->volume->links;
+    char path[LONGEST_PATH + 1];
+    describe(true, link_path(links, place, path), link_date(links, place), inode_of(spot->part, true, link_header(links, place)),
+             status);
+    status->st_mode = S_IFLNK | 0777;
 }
 
 static void describe_left(const struct spot *spot, long place, struct stat *status) {
@@ -191,6 +212,8 @@ static void describe_spot(const struct spot *spot, struct stat *status) {
         describe(false, 0, NULL, 1, status);
     else if (spot->kind == ENTRY)
         describe_entry(spot, spot->node, status);
+    else if (spot->kind == LINK)
+        describe_link(spot, spot->place, status);
     else
         describe_left(spot, spot->place, status);
 }
@@ -202,6 +225,18 @@ static int get_attributes(const char *path, struct stat *status, struct fuse_fil
     if (error == 0)
         describe_spot(&spot, status);
     return error;
+}
+
+/* Nothing is followed here: the path is for the host to follow. */
+static int read_link(const char *path, char *room, size_t size) {
+    struct spot spot;
+    char target[LONGEST_PATH + 1];
+    int error = locate(path, &spot);
+    if (error != 0 || spot.kind != LINK)
+        return error != 0 ? error : -EINVAL;
+    link_path(spot.volume->links, spot.place, target);
+    snprintf(room, size, "%s", target);
+    return 0;
 }
 
 /* What an Amiga has of an entry and a host has not: its protection, and its comment as the host sees it. False if it has neither. */
@@ -287,6 +322,17 @@ static bool list_folders(const struct listing *listing) {
     return has_room;
 }
 
+static bool list_links(const struct spot *spot, const struct listing *listing) {
+    const struct links *links = spot->volume->links;
+    struct stat status;
+    bool has_room = true;
+    for (long i = first_link(links, spot->node), end = links_end(links, spot->node); has_room && i < end; i++) {
+        describe_link(spot, i, &status);
+        has_room = add_name(listing, link_name(links, i), &status);
+    }
+    return has_room;
+}
+
 static bool list_entries(const struct spot *spot, const struct listing *listing) {
     const struct volume *volume = spot->volume;
     struct stat status;
@@ -302,7 +348,7 @@ static bool list_entries(const struct spot *spot, const struct listing *listing)
         describe_left(spot, 0, &status);
         has_room = add_name(listing, shown.left_folder, &status);
     }
-    return has_room;
+    return has_room && (volume->links == NULL || list_links(spot, listing));
 }
 
 static bool list_left(const struct spot *spot, const struct listing *listing) {
@@ -326,7 +372,7 @@ static int read_directory(const char *path, void *list, fuse_fill_dir_t fill, of
     if (error != 0)
         return error;
     describe_spot(&spot, &status);
-    if (S_ISREG(status.st_mode))
+    if (!S_ISDIR(status.st_mode))
         return -ENOTDIR;
     if (fill(list, ".", NULL, 0, 0) || fill(list, "..", NULL, 0, 0))
         return -ENOMEM;
@@ -349,6 +395,8 @@ struct open_file {
 static int open_file(const char *path, struct fuse_file_info *file) {
     struct spot spot;
     int error = locate(path, &spot);
+    if (error == 0 && spot.kind == LINK)
+        error = -ELOOP;
     if (error == 0 && (file->flags & O_ACCMODE) != O_RDONLY)
         error = -EROFS;
     struct open_file *opened = error == 0 ? calloc(1, sizeof *opened) : NULL;
@@ -406,6 +454,7 @@ static void *begin(struct fuse_conn_info *connection, struct fuse_config *config
 static const struct fuse_operations OPERATIONS = {
     .init = begin,
     .getattr = get_attributes,
+    .readlink = read_link,
     .getxattr = get_extra,
     .listxattr = list_extras,
     .readdir = read_directory,

@@ -134,17 +134,34 @@ static int byte_of(const char *text) {
     return low < 0 ? -1 : 16 * high + low;
 }
 
-/* Letters of Latin-1 in UTF-8 are two bytes, the first 0xc2 or 0xc3. What is no letter of Latin-1 stays, and is no name of
- * an Amiga; so do digits for what separates names. */
+/* The letter of Latin-1 at the front of a text in UTF-8, which is two bytes there, or -1. */
+static int latin_of(const char *text) {
+    uint8_t lead = (uint8_t)text[0], next = (uint8_t)text[1];
+    bool is_latin = !is_escaped && (lead == 0xc2 || lead == 0xc3) && 0x80 <= next && next <= 0xbf;
+    return is_latin ? (lead & 3) << 6 | (next & 0x3f) : -1;
+}
+
+size_t bytes_of(const char *text, uint8_t *bytes) {
+    size_t count = 0;
+    while (*text != '\0') {
+        int byte = byte_of(text), latin = latin_of(text);
+        if (byte < 0 && latin < 0 && (*text < 32 || *text > 126))
+            return 0;
+        bytes[count++] = (uint8_t)(byte >= 0 ? byte : latin >= 0 ? latin : *text);
+        text += byte >= 0 ? 4 : latin >= 0 ? 2 : 1;
+    }
+    return count;
+}
+
+/* What is no letter of Latin-1 stays, and is no name of an Amiga; so do digits for what separates names. */
 void escape_path(const char *path, char *escaped) {
     while (*path != '\0') {
-        uint8_t lead = (uint8_t)path[0], next = (uint8_t)path[1];
-        int byte = byte_of(path);
+        int byte = byte_of(path), latin = latin_of(path);
         if (32 <= byte && byte <= 126 && byte != '\\' && byte != '/' && byte != ':') {
             *escaped++ = (char)byte;
             path += 4;
-        } else if (!is_escaped && (lead == 0xc2 || lead == 0xc3) && 0x80 <= next && next <= 0xbf) {
-            escaped += sprintf(escaped, "\\x%02x", (lead & 3) << 6 | (next & 0x3f));
+        } else if (latin >= 0) {
+            escaped += sprintf(escaped, "\\x%02x", latin);
             path += 2;
         } else {
             *escaped++ = *path++;

@@ -23,6 +23,9 @@ void show_name(const uint8_t *name, size_t length, const char *more, char text[N
  * ran out. */
 char *host_line(const char *text);
 
+/* The bytes for which a name of the host stands; the room has one for each character. Answers how many, or 0 if a letter has none. */
+size_t bytes_of(const char *text, uint8_t *bytes);
+
 /* A path of the host as adf_find takes it: in the escape form, in which what has a letter stands for itself. The room has two bytes for
  * each, and one more. */
 void escape_path(const char *path, char *escaped);

@@ -5,13 +5,26 @@
 
 enum { FIRST_LOSSES = 1024, BLOCK = 512 };
 
+static bool is_lost(const struct adf_loss *loss) { return loss->why == ADF_LOSS_HEADERS || loss->why == ADF_LOSS_BLOCKS; }
+
+bool is_left_out(const struct adf_loss *loss) {
+    return !is_lost(loss) && (loss->why < ADF_LOSS_IN_DOUBT || loss->why > ADF_LOSS_MADE);
+}
+
 /* Counts the losses of a rescue, of which the table has so many. */
-static void count_losses(struct rescue *rescue, const struct adf_loss *losses, size_t count) {
+static void count_losses(struct rescue *rescue, size_t count) {
     for (size_t i = 0; i < count; i++) {
-        bool is_lost = losses[i].why == ADF_LOSS_HEADERS || losses[i].why == ADF_LOSS_BLOCKS;
-        bool is_kept = losses[i].why >= ADF_LOSS_IN_DOUBT && losses[i].why <= ADF_LOSS_MADE;
-        *(is_lost ? &rescue->lost : is_kept ? &rescue->in_doubt : &rescue->left_out) += 1;
+        const struct adf_loss *loss = &rescue->table[i];
+        *(is_lost(loss) ? &rescue->lost : is_left_out(loss) ? &rescue->left_out : &rescue->in_doubt) += 1;
+        rescue->links += loss->why == ADF_LOSS_LINK;
     }
+}
+
+void free_rescue(struct rescue *rescue) {
+    free(rescue->volume);
+    free(rescue->table);
+    rescue->volume = NULL;
+    rescue->table = NULL;
 }
 
 /* Rescues an image into a room of rescue->length bytes, with a table of so many losses. An adf_cause, or ADF_RESCUE_SMALL_ROOM: with it
@@ -19,15 +32,13 @@ static void count_losses(struct rescue *rescue, const struct adf_loss *losses, s
 static uint8_t rescue_with(const uint8_t *image, size_t length, size_t blocks, struct rescue *rescue, size_t count) {
     size_t room = rescue->length;
     struct adf_rescue_told told = {0};
-    struct adf_loss *losses = malloc(count * sizeof *losses);
     uint8_t path, cause = ADF_NO_MEMORY;
-    free(rescue->volume);
-    *rescue = (struct rescue){.volume = malloc(room + 1)};
-    if (rescue->volume != NULL && losses != NULL)
-        cause = adf_rescue_types(image, length, (uint32_t)blocks, rescue->volume, room, losses, count, &path, 0, &told);
+    free_rescue(rescue);
+    *rescue = (struct rescue){.volume = malloc(room + 1), .table = malloc(count * sizeof *rescue->table)};
+    if (rescue->volume != NULL && rescue->table != NULL)
+        cause = adf_rescue_types(image, length, (uint32_t)blocks, rescue->volume, room, rescue->table, count, &path, 0, &told);
     if (cause == ADF_ACCEPTED)
-        count_losses(rescue, losses, told.losses < count ? told.losses : count);
-    free(losses);
+        count_losses(rescue, told.losses < count ? told.losses : count);
     rescue->length = (size_t)told.blocks * BLOCK;
     rescue->losses = told.losses;
     rescue->block = told.block;
@@ -42,10 +53,8 @@ uint8_t rescue_image(const uint8_t *image, size_t length, size_t blocks, struct 
         cause = rescue_with(image, length, blocks, rescue, FIRST_LOSSES);
     if (cause == ADF_ACCEPTED && rescue->losses > FIRST_LOSSES)
         cause = rescue_with(image, length, blocks, rescue, rescue->losses);
-    if (cause != ADF_ACCEPTED) {
-        free(rescue->volume);
-        rescue->volume = NULL;
-    }
+    if (cause != ADF_ACCEPTED)
+        free_rescue(rescue);
     return cause;
 }
 

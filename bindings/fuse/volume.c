@@ -35,6 +35,8 @@ void free_volume(struct volume *volume) {
     let_go(&volume->held);
     free(volume->entries);
     free(volume->blocks);
+    if (volume->links != NULL)
+        free_links(volume->links);
     if (volume->left != NULL)
         free_left(volume->left);
     *volume = (struct volume){0};
@@ -99,36 +101,60 @@ static void say_left_out(const char *name, size_t findings, const struct rescue 
     fputs("; man adf-survey\n", stderr);
 }
 
-/* Says how much is left out of what stands of an image, by the image that is surveyed. Surveys it for the number of its findings:
- * false if memory ran out. */
-static bool tell(const struct subject *subject, const char *name, const struct rescue *rescue) {
+/* Surveys an image for the number of its findings: false if memory ran out. */
+static bool count_findings(const struct subject *subject, size_t *count) {
     struct adf_surveyed surveyed = {0};
     struct adf_finding finding;
     struct adf_found found;
-    if (name == NULL)
-        return true;
-    if (adf_survey_index(subject->image, subject->told.length, &finding, 1, &found, 1, &surveyed) != ADF_ACCEPTED)
-        return false;
-    say_left_out(name, subject->front + surveyed.findings, rescue);
-    return true;
+    uint8_t cause = adf_survey_index(subject->image, subject->told.length, &finding, 1, &found, 1, &surveyed);
+    *count = subject->front + surveyed.findings;
+    return cause == ADF_ACCEPTED;
 }
 
-/* Keeps what is left of the damaged files of the image that is surveyed, which it takes over. It is read as the rescue reads it: as a
- * volume of the same kind, also where its first bytes tell of no volume. False if memory ran out. */
-static bool keep_left(struct volume *volume, struct subject *subject) {
+/* Has an image read as the rescue reads it: as a volume of the same kind, also where its first bytes tell of no volume. */
+static void begin_as(struct subject *subject, uint32_t kind) {
     uint8_t *image = subject->image;
-    subject->image = NULL;
     if (subject->told.length > 3 && (memcmp(image, "DOS", 3) != 0 || image[3] > MOST_TYPE)) {
         memcpy(image, "DOS", 3);
-        image[3] = (uint8_t)volume->contents.kind;
+        image[3] = (uint8_t)kind;
     }
-    volume->left = left_of(image, subject->told.length / BLOCK, subject->told.held);
+}
+
+/* Makes the links of the image that is surveyed, if any are left out, which those that are shown are no more. False if memory ran out. */
+static bool keep_links(struct volume *volume, const struct subject *subject, struct rescue *rescue, const char *name) {
+    struct linked linked = {subject->image, subject->told.length, rescue};
+    if (rescue->links == 0)
+        return true;
+    volume->links = links_of(volume, &linked, name);
+    size_t count = volume->links == NULL ? 0 : links_shown(volume->links);
+    rescue->left_out -= count < rescue->left_out ? count : rescue->left_out;
+    return volume->links != NULL;
+}
+
+/* Keeps what is left of the damaged files of the image that is surveyed, which it takes over. False if memory ran out. */
+static bool keep_left(struct volume *volume, struct subject *subject) {
+    volume->left = left_of(subject->image, subject->told.length / BLOCK, subject->told.held);
+    subject->image = NULL;
     if (volume->left != NULL && damaged_of(volume->left) == 0) {
         free_left(volume->left);
         volume->left = NULL;
         return true;
     }
     return volume->left != NULL;
+}
+
+/* Makes all that is shown of a rescue, and says what is not: false if memory ran out. */
+static bool keep_all(struct volume *volume, struct subject *subject, struct rescue *rescue, const char *name) {
+    size_t findings = 0;
+    if (make_tables(volume) != ADF_ACCEPTED || (name != NULL && !count_findings(subject, &findings)))
+        return false;
+    if (subject->image != NULL)
+        begin_as(subject, volume->contents.kind);
+    if (!keep_links(volume, subject, rescue, name))
+        return false;
+    if (name != NULL)
+        say_left_out(name, findings, rescue);
+    return true;
 }
 
 /* Puts what stands of the image in its place. */
@@ -142,14 +168,15 @@ static int take_rescue(struct volume *volume, const char *name, const struct tak
         volume->contents.block = rescue.block;
         return say_refused(volume, name, cause, taking->whole);
     }
-    if (name != NULL || taking->wants_left)
+    if (name != NULL || taking->wants_left || rescue.links != 0)
         cause = subject_of(volume->image, volume->length, taking->blocks, &subject);
     free_volume(volume);
     *volume =
         (struct volume){.held = {.bytes = rescue.volume, .length = rescue.length}, .image = rescue.volume, .length = rescue.length};
-    bool is_kept = cause == ADF_ACCEPTED && tell(&subject, name, &rescue) && make_tables(volume) == ADF_ACCEPTED &&
-                   (!taking->wants_left || keep_left(volume, &subject));
+    bool is_kept =
+        cause == ADF_ACCEPTED && keep_all(volume, &subject, &rescue, name) && (!taking->wants_left || keep_left(volume, &subject));
     free(subject.image);
+    free(rescue.table);
     return is_kept ? SOUND : say_no_memory(name);
 }
 
@@ -175,6 +202,19 @@ int find_entry(const struct volume *volume, const char *path, size_t *node) {
         adf_find_types(contents->kind, volume->entries, contents->entries, (const uint8_t *)escaped, strlen(escaped), node);
     free(escaped);
     return answer == 0 ? 0 : answer == ADF_NO_MEMORY ? -ENOMEM : -ENOENT;
+}
+
+int find_volume_link(const struct volume *volume, const char *path, size_t *directory, long *place) {
+    const char *last = strrchr(path, '/');
+    if (volume->links == NULL)
+        return -ENOENT;
+    char *above = strndup(path, last == NULL ? 0 : (size_t)(last - path));
+    int error = above == NULL ? -ENOMEM : find_entry(volume, above, directory);
+    free(above);
+    if (error != 0)
+        return error;
+    *place = find_link(volume->links, *directory, last == NULL ? path : last + 1);
+    return *place < 0 ? -ENOENT : 0;
 }
 
 size_t first_in(const struct volume *volume, size_t directory) {

@@ -5,6 +5,7 @@
 #include "adf.h"
 #include "disk.h"
 #include "left.h"
+#include "links.h"
 
 enum { SOUND = 0, REFUSED = 1, USAGE = 2, FAILED = 3 };
 enum { LONGEST_TEXT = 64 }; /* the bytes of the texts that the library has for numbers */
@@ -25,7 +26,8 @@ struct volume {
     struct adf_entry *entries;
     uint32_t *blocks;
     struct adf_contents contents;
-    struct left *left; /* NULL where nothing is wanted, or nothing is damaged */
+    struct links *links; /* NULL where the image has none */
+    struct left *left;   /* NULL where nothing is wanted, or nothing is damaged */
 };
 
 /* Makes the volume of an image, whose bytes it takes over, and says what is left out or in doubt: SOUND, or the status to end with, and
@@ -36,6 +38,9 @@ void free_volume(struct volume *volume);
 
 /* The entry that a path leads to, without a `/` at its begin: 0, or an error as fuse wants it. */
 int find_entry(const struct volume *volume, const char *path, size_t *node);
+
+/* The link that a path leads to, without a `/` at its begin, its directory and its place: 0, or an error as fuse wants it. */
+int find_volume_link(const struct volume *volume, const char *path, size_t *directory, long *place);
 
 /* The first place whose entry is in this directory or a later one: entries stand in the order of their directories. */
 size_t first_in(const struct volume *volume, size_t directory);
