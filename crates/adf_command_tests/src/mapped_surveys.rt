@@ -8,7 +8,7 @@ use adf_file_runs::{Files, Invocation, Unopened};
 use adf_survey_cmd::run_mapped;
 use std::alloc::Global;
 
-// An image of 16 blocks, and maps of its reading: one of all of it, and one that lacks block 4.
+// An image of 16 blocks, and maps of its reading: one of all of it, one that lacks block 4, and one of a disk of 8 blocks.
 #[derive(Drop)]
 struct Reading<'a> {
     image: &'a [u8],
@@ -30,6 +30,8 @@ impl<'a> Files for Reading<'a> {
             Ok(Given::new(b"0 +\n0 8192 +\n", usize::MAX))
         } else if name == b"lacks-four".as_slice() {
             Ok(Given::new(b"0 +\n0 2048 +\n2048 512 -\n2560 5632 +\n", usize::MAX))
+        } else if name == b"half".as_slice() {
+            Ok(Given::new(b"0 +\n0 4096 +\n", usize::MAX))
         } else if name == b"fails".as_slice() {
             Ok(Given::new(self.image, 0))
         } else {
@@ -86,6 +88,31 @@ const RUNS: &[(&[&str], u8, &str, &str)] = &[
         0,
         "",
         "",
+    ),
+    (
+        &["adf-survey", "--map", "half", "disk"],
+        1,
+        "",
+        "the map of a disk of another size\n",
+    ),
+    (
+        &["adf-survey", "--map", "half", "rescue", "disk"],
+        1,
+        "",
+        "the map of a disk of another size\n",
+    ),
+    (
+        &["adf-survey", "--map", "half", "cat", "a", "disk"],
+        1,
+        "",
+        "the map of a disk of another size\n",
+    ),
+    // a path that is not read is told first
+    (
+        &["adf-survey", "--map", "half", "cat", "a//b", "disk"],
+        2,
+        "",
+        "bad path\n",
     ),
     (
         &["adf-survey", "--map", "gone", "disk"],
