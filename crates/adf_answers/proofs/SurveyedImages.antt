@@ -22,16 +22,20 @@ use Rattle.adf_subjects.proofs.{Formats.before_bytes, Formats.some_before, Subje
 use Rattle.adf_passages.specs.PassageLines.{passages_text}
 use Rattle.adf_survey_cmd.specs.Answers.{AnswerBehind, AnswerUnlessOther, DroppedAnswer, RefusesMap, lines_form}
 use Rattle.adf_survey_cmd.specs.UnreadLines.{IsBlankText, IsMappedText, IsUnreadText, TellsBlank, TellsPassages, is_other_disk, other_disk_line, reply_behind}
-use Rattle.adf_survey_cmd.specs.Answers.{CopiesEntry, CopiesFound, CopiesFromSurvey, IsWholeFile, ListsSurvey, QuestionAnswer, Surveys, no_path_line}
-use Rattle.adf_survey_cmd.specs.{Answers.told_status, Answers.types_kept, Answers.unless_blank, Answers.unless_mapped, Hints.hinted, Remains.remains_reply}
+use Rattle.adf_remains.specs.Copies.{CopiesEntry, CopiesFound, IsWholeFile, no_path_line}
+use Rattle.adf_survey_cmd.specs.Answers.{CopiesFromSurvey, ListsSurvey, QuestionAnswer, Surveys}
+use Rattle.adf_listings.specs.Told.{told_status}
+use Rattle.adf_survey_cmd.specs.{Answers.types_kept, Answers.unless_blank, Answers.unless_mapped, Hints.hinted}
+use Rattle.adf_remains.specs.Remains.{remains_reply}
 use Rattle.adf_subjects.specs.Rescues.{Replies, RescuesBefore, RescuesTypedOf, rescue_reply}
-use Rattle.adf_survey_cmd.specs.{CacheLines.survey_text, FoundLines.has_its_data, FoundLines.listing_text}
+use Rattle.adf_listings.specs.{CacheLines.survey_text, FoundLines.listing_text}
+use Rattle.adf_passages.specs.Held.{has_its_data}
 use Rattle.adf_subjects.specs.Subject.{OfTyped, SubjectValue, begun_subject, sized, subject}
 use Rattle.std.proofs.lemmas.Bool.{cases_Bool}
 use Rattle.adf_blocks.specs.Sizes.{blocks}
 use Rattle.adf_rescue.specs.{Hung.second_image, Opened.lacks_root, Opened.opened, Pruned.pruned, Rescue.Basis, Rescue.IsSecond}
 use Rattle.adf_deleted.specs.Known.{KnownValue, known_blocks}
-use Rattle.adf_survey_cmd.specs.Deletions.{TellsBy, TellsDeleted, deleted_lines, is_surveyed, left_reply}
+use Rattle.adf_remains.specs.Deletions.{TellsBy, TellsDeleted, deleted_lines, is_surveyed, left_reply}
 use Rattle.adf_answers.specs.Answered.{HasSurveyAnswer}
 
 -- a question has an answer, to which the hint comes

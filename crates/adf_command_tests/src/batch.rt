@@ -2,9 +2,9 @@
 
 ghost use Rattle.std.specs.Prelude.{None, true, ⊤};
 
-use crate::memory::{Given, Kept};
 use adf_file_runs::{Files, Unopened};
 use adf_shelf_cmd::{TextNames, run};
+use adf_test_devices::{Given, Kept};
 use std::alloc::Global;
 
 const MANIFEST: &[u8] = b"volume ofs 16\nfile 0:0:0 00000000 a\nfill 489 41\n";

@@ -2,10 +2,10 @@
 
 ghost use Rattle.std.specs.Prelude.{None, true, ⊤};
 
-use crate::memory::{Came, Given, Kept};
 use adf_boot_cmd::{Work, run};
 use adf_file_changes::{ChangeFiles, Changing, Unwritten, answer_changing};
 use adf_file_runs::{Files, Unopened};
+use adf_test_devices::{Came, Given, Kept};
 use std::alloc::Global;
 
 // A folder with an image, which a file has that may not be written too, a boot file, the front of one, and one that fails; and

@@ -3,11 +3,11 @@
 
 ghost use Rattle.std.specs.Prelude.{None, true, ⊤};
 
-use crate::memory::{Given, Kept};
 use adf_build::build;
 use adf_edit_cmd::Work;
 use adf_file_changes::{ChangeFiles, Changing, Unwritten, answer_changing};
 use adf_file_runs::{Files, Unopened};
+use adf_test_devices::{Given, Kept};
 use adf_tree::{Kind, Label, NO_STAMPS, Tree};
 use std::alloc::Global;
 

@@ -2,9 +2,9 @@
 
 ghost use Rattle.std.specs.Prelude.{◌≡◌, IfOk};
 
-use crate::memory::Given;
 use adf_cmd::{Device, Sink, Source};
 use adf_runs::{SeekingDevice, read_excerpt};
+use adf_test_devices::Given;
 use std::io;
 use std::io::{Read, Seek, SeekFrom, Write};
 

@@ -12,27 +12,13 @@ mod changed_disks;
 #[cfg(test)]
 mod devices;
 #[cfg(test)]
-mod disk_builds;
-#[cfg(test)]
-mod disk_checks;
-#[cfg(test)]
-mod disk_runs;
-#[cfg(test)]
-mod disk_searches;
-#[cfg(test)]
-mod disks;
-#[cfg(test)]
 mod edited_letters;
 #[cfg(test)]
 mod edited_lines;
 #[cfg(test)]
 mod edited_manifests;
 #[cfg(test)]
-mod host_plans;
-#[cfg(test)]
 mod mapped_surveys;
-#[cfg(test)]
-mod memory;
 #[cfg(test)]
 mod merge_runs;
 #[cfg(test)]
@@ -41,7 +27,5 @@ mod named_errors;
 mod objects;
 #[cfg(test)]
 mod operands;
-#[cfg(test)]
-mod planned_disks;
 #[cfg(test)]
 mod telling;

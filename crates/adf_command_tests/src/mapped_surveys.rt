@@ -3,9 +3,9 @@
 ghost use Rattle.std.specs.Prelude.{None, true, ⊤};
 
 use crate::batch::sound_image;
-use crate::memory::{Came, Given, Kept};
 use adf_file_runs::{Files, Invocation, Unopened};
 use adf_survey_cmd::run_mapped;
+use adf_test_devices::{Came, Given, Kept};
 use std::alloc::Global;
 
 // An image of 16 blocks, and maps of its reading: one of all of it, one that lacks block 4, and one of a disk of 8 blocks.

@@ -2,9 +2,9 @@
 
 ghost use Rattle.std.specs.Prelude.{◌<◌, None, true, ⊤};
 
-use crate::memory::{Came, Given, Kept};
 use adf_file_runs::{Files, Unopened};
 use adf_merge_cmd::run;
+use adf_test_devices::{Came, Given, Kept};
 use std::alloc::Global;
 
 // The map of a reading of the disk that lacks block 3, as ddrescue writes it.

@@ -1,8 +1,8 @@
 // The objects of `adf-shelf` and `adf-boot`.
 
 use crate::batch::{Folder, international_image, sound_image};
-use crate::memory::{Given, Kept};
 use adf_shelf_cmd::TextNames;
+use adf_test_devices::{Given, Kept};
 use std::alloc::Global;
 
 // Two images of which one is refused, and a name that is no text.

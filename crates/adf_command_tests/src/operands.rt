@@ -3,11 +3,10 @@
 ghost use Rattle.std.specs.Prelude.{◌≡◌, None, false};
 
 use crate::batch::{Folder, sound_image};
-use crate::disk_runs::USAGE as DISK_USAGE;
-use crate::memory::{Came, Given, Kept};
 use adf_file_runs::{AnnouncedInput, Invocation, WithoutFiles};
 use adf_runs::{Failed, Sink, read_input, run_program};
 use adf_survey_cmd::Work;
+use adf_test_devices::{Came, Given, Kept};
 use std::alloc::Global;
 use std::cell::Cell;
 
@@ -143,9 +142,7 @@ const NAMED: &[Row<'static>] = &[
         b"{\"line\":\"fault\",\"block\":0,\"cause\":\"no rigid disk\"}\n",
         "",
     ),
-    (&["adf-disk", "volume", "--json", "DH0"], 2, b"", DISK_USAGE),
     (&["adf-disk", "list", "fails"], 3, b"", "read fault\n"),
-    (&["adf-disk", "list", "sound", "gone"], 2, b"", DISK_USAGE),
 ];
 
 // No file, so the input is read: a sound image.

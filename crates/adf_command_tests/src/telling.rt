@@ -1,7 +1,7 @@
 // What programs tell of themselves.
 
-use crate::memory::Kept;
 use adf_file_runs::{About, Telling, tell, telling_asked};
+use adf_test_devices::Kept;
 use std::alloc::Global;
 
 const ABOUT: About = About {

@@ -15,9 +15,9 @@ use Rattle.adf_survey_cmd.specs.Answers.{AnswerBehind, AreUnreadLines, DroppedAn
 use Rattle.adf_survey_cmd.specs.Answers.{unless_blank, unless_mapped}
 use Rattle.adf_survey_cmd.specs.CommandLine.{InquiryValue, QuestionValue, list, report}
 use Rattle.adf_survey_cmd.specs.UnreadLines.{EndsBehind, IsUnreadText, ToldBehind, reply_behind, status_behind}
-use Rattle.adf_survey_cmd.specs.{Work.Answers, Work.task_json}
-use Rattle.adf_survey_cmd.specs.declared.work.Task.{Task, TheVariants.Show, TheVariants.Rescue, TheVariants.RescueDeleted, TheVariants.RescueBefore, TheVariants.Deleted}
-use Rattle.adf_survey_cmd.specs.declared.work.View.{TheVariants.Findings, TheVariants.List as ListAll, TheVariants.Cat, TheVariants.Blanks as BlanksOf}
+use Rattle.adf_survey_cmd.specs.Work.{Answers, task_json}
+use Rattle.adf_survey_cmd.specs.{declared.work.Task.Task, declared.work.Task.TheVariants.Show, declared.work.Task.TheVariants.Rescue, declared.work.Task.TheVariants.RescueDeleted, declared.work.Task.TheVariants.RescueBefore, declared.work.Task.TheVariants.Deleted}
+use Rattle.adf_survey_cmd.specs.declared.work.View.TheVariants.{Findings, List as ListAll, Cat, Blanks as BlanksOf}
 
 -- a text makes no other status 3
 no_three : (text : List ℕ) (n : ℕ) → ¬ (n ≡ 3) → ¬ (status_behind text n ≡ 3)

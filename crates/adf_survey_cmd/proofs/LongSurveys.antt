@@ -18,19 +18,21 @@ use Rattle.adf_rescue.specs.{Directories.directory_of, Hung.hung, Hung.second_im
 use Rattle.adf_rescue.specs.Opened.{lacks_boot, lacks_root, opened}
 use Rattle.adf_rescue.proofs.{OpenedImages.length_opened, PassedFindings.unread_fault, PrunedKeeps.length_read}
 use Rattle.adf_rescue.proofs.MadeRoots.{sized as sized_len}
-use Rattle.adf_survey_cmd.specs.Answers.{CopiesFound, CopiesFromSurvey, ListsSurvey, QuestionAnswer, SurveyAnswer, Surveys, TellsFound, told_status, types_kept, unless_blank, unless_mapped}
+use Rattle.adf_remains.specs.Copies.{CopiesFound}
+use Rattle.adf_survey_cmd.specs.Answers.{CopiesFromSurvey, ListsSurvey, QuestionAnswer, SurveyAnswer, Surveys, types_kept, unless_blank, unless_mapped}
+use Rattle.adf_listings.specs.Told.{TellsFound, told_status}
 use Rattle.adf_survey_cmd.specs.Answers.{AnswerBehind, AnswerUnlessOther, DroppedAnswer, InquiryAnswer, lines_form, unread_remarks}
 use Rattle.adf_survey_cmd.specs.UnreadLines.{IsBlankText, IsMappedText, IsUnreadText, TellsBlank, TellsPassages, is_other_disk}
 use Rattle.adf_passages.specs.PassageLines.{lines_of_passages, passages_text}
 use Rattle.adf_passages.proofs.PassageSteps.{unfound}
-use Rattle.adf_survey_cmd.specs.Deletions.{TellsBy, TellsRead, TellsRefused, TellsSecond}
+use Rattle.adf_remains.specs.Deletions.{TellsBy, TellsRead, TellsRefused, TellsSecond}
 use Rattle.adf_survey_cmd.specs.Hints.{disk_hint}
 use Rattle.adf_subjects.specs.{Lengths.AreFew, Lengths.blocks_read, Lengths.stated_length, Lines.findings_text, Lines.runs_from, Losses.LossValue}
 use Rattle.adf_subjects.specs.{Remarks.remarks_text, declared.remarks.Remark.Remark}
 use Rattle.adf_subjects.specs.Subject.{IsTyped, OfTyped, SubjectValue, begun_subject, behind_remarks, behind_loss, held_end, missing_remarks, other_type}
 use Rattle.adf_subjects.specs.Subject.{IsOtherType, IsTypeTold, kind_image, sized, subject, subject_read, typed_by}
-use Rattle.adf_survey_cmd.specs.CacheLines.{caches_text, survey_text}
-use Rattle.adf_survey_cmd.proofs.CacheTexts.{none_told}
+use Rattle.adf_listings.specs.CacheLines.{caches_text, survey_text}
+use Rattle.adf_listings.proofs.CacheTexts.{none_told}
 use Rattle.adf_survey_cmd.specs.CommandLine.{InquiryValue, QuestionValue, blanks, cat, deleted, list, report, rescue, rescue_before, rescue_deleted}
 use Rattle.adf_subjects.specs.Rescues.{IsNoVolume, Replies, RescueValue, RescuesBefore, RescuesBothOf, RescuesFoundOf, RescuesOf, RescuesTypedOf}
 use Rattle.adf_subjects.proofs.Formats.{odd_before, odd_stays}

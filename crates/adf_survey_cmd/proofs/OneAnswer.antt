@@ -14,12 +14,15 @@ use Rattle.adf_texts.specs.Lines.{fault_line}
 use Rattle.adf_runs.specs.Commands.{Reply, on_errors, on_output}
 use Rattle.adf_volume.proofs.OneFault.{one_fault}
 use Rattle.adf_cmd.proofs.OneAnswer.{one_dates}
-use Rattle.adf_survey_cmd.specs.Answers.{CopiesEntry, CopiesFound, CopiesFromSurvey, IsWholeFile, ListsSurvey, QuestionAnswer, SurveyAnswer, unless_blank, unless_mapped}
-use Rattle.adf_survey_cmd.specs.Answers.{AnswerBehind, AnswerUnlessOther, AreUnreadLines, RefusesMap, Surveys, TellsFound, lines_form, told_status, types_kept}
+use Rattle.adf_remains.specs.Copies.{CopiesEntry, CopiesFound, IsWholeFile}
+use Rattle.adf_survey_cmd.specs.Answers.{CopiesFromSurvey, ListsSurvey, QuestionAnswer, SurveyAnswer, unless_blank, unless_mapped}
+use Rattle.adf_survey_cmd.specs.Answers.{AnswerBehind, AnswerUnlessOther, AreUnreadLines, RefusesMap, Surveys, lines_form, types_kept}
+use Rattle.adf_listings.specs.Told.{TellsFound, told_status}
 use Rattle.adf_survey_cmd.specs.UnreadLines.{IsBlankText, IsMappedText, IsUnreadText, TellsBlank, TellsPassages, is_other_disk, reply_behind}
 use Rattle.adf_maps.specs.Maps.{MapValue}
 use Rattle.adf_unread.specs.{Blank.blank_marks, Mapped.map_marks}
-use Rattle.adf_survey_cmd.specs.{Hints.hinted, FoundLines.listing_text}
+use Rattle.adf_survey_cmd.specs.Hints.{hinted}
+use Rattle.adf_listings.specs.FoundLines.{listing_text}
 use Rattle.adf_subjects.specs.{Losses.LossValue, Losses.losses_text, Rescues.RescuesSomeOf, Rescues.rescue_reply}
 use Rattle.adf_subjects.specs.Subject.{OfTyped, SubjectValue, begun_subject, sized, subject}
 use Rattle.adf_subjects.specs.Rescues.{GivesFault, IsRefusal, Replies, RescueValue, RescuesOf}
@@ -30,7 +33,7 @@ use Rattle.adf_base.specs.declared.dates.Stamp.{Stamp}
 use Rattle.adf_blocks.specs.Sizes.{blocks}
 use Rattle.adf_deleted.specs.Known.{KnownValue, known_blocks}
 use Rattle.adf_rescue.specs.{Opened.opened, Pruned.pruned}
-use Rattle.adf_survey_cmd.specs.Deletions.{TellsBy, TellsDeleted, TellsRead, TellsRefused, TellsSecond, TellsTyped, deleted_lines}
+use Rattle.adf_remains.specs.Deletions.{TellsBy, TellsDeleted, TellsRead, TellsRefused, TellsSecond, TellsTyped, deleted_lines}
 
 pub one_inquiry : (words : List (List ℕ)) (r q : InquiryValue) → AsksSurvey words r → AsksSurvey words q → r ≡ q
 one_inquiry words r q a b = grind (arith, common_steps)

@@ -1,81 +1,25 @@
 -- What the command answers to its words and its input.
 -- Letters: s what is surveyed; w the walk of its survey, fs its findings; n an entry's node, h the block of its header; r an inquiry; held the length of the
 -- input.
-use Rattle.std.specs.Prelude.{◌≡◌, ◌*◌, ◌⊎◌, ◌++◌, ◌||◌, ℕ, Bool, true, false, cond, List, [], ◌∷◌, Option, None, Some, codes, is_some, length, map}
+use Rattle.std.specs.Prelude.{◌≡◌, ◌*◌, ◌⊎◌, ◌++◌, ◌||◌, ℕ, Bool, true, false, cond, List, Option, None, Some, codes, is_some, length, map}
 use Rattle.adf_blocks.specs.declared.layout.TheConstants.{MOST_BLOCKS}
-use Rattle.adf_names.specs.PathTexts.{IsPathText, path_text}
-use Rattle.adf_volume.specs.Walk.{FileAt, Walk}
+use Rattle.adf_names.specs.PathTexts.{IsPathText}
+use Rattle.adf_volume.specs.Walk.{Walk}
 use Rattle.adf_volume.specs.declared.types.Types.{Types, TheVariants.Plain, TheVariants.WithInternational}
-use Rattle.adf_findings.specs.{Files.IsSoundFile, Files.file_content, Files.file_in, Lookup.LeadsTo, SoundMarks.AreMarks, Survey.FindingValue, Survey.IsSurvey}
-use Rattle.adf_base.specs.declared.dates.Stamp.{Stamp}
-use Rattle.adf_texts.specs.VolumeLines.{AreDates}
+use Rattle.adf_findings.specs.{Survey.FindingValue, Survey.IsSurvey}
 use Rattle.adf_maps.specs.Maps.{MapValue}
 use Rattle.adf_unread.specs.{Blank.blank_marks, Dropped.without_unread, Mapped.map_marks, Runs.runs_among, declared.runs.UnreadRun.UnreadRun}
 use Rattle.adf_cmd.specs.Answers.{IsBadPath, RefusesPath}
-use Rattle.adf_runs.specs.Commands.{Command, Reply, on_errors, on_output}
+use Rattle.adf_runs.specs.Commands.{Command, Reply, on_errors}
 use Rattle.adf_file_runs.specs.FileRuns.{without_files}
 use Rattle.adf_survey_cmd.specs.CommandLine.{AreRefusedBySurvey, AsksSurvey, InquiryValue, QuestionValue, asked_beside, blanks, cat, deleted, list, report}
 use Rattle.adf_survey_cmd.specs.CommandLine.{rescue, rescue_before, rescue_deleted, survey_file}
 use Rattle.adf_survey_cmd.specs.UnreadLines.{IsBlankText, IsMappedText, TellsBlank, ToldBehind, is_other_disk, other_disk_line}
-use Rattle.adf_survey_cmd.specs.{Deletions.TellsTyped, FoundLines.has_its_data, FoundLines.listing_text, Hints.Hinted, Remains.WritesRemains}
+use Rattle.adf_remains.specs.{Deletions.TellsTyped}
+use Rattle.adf_survey_cmd.specs.Hints.{Hinted}
 use Rattle.adf_subjects.specs.{declared.remarks.Remark.Remark, declared.remarks.Saying.TheVariants.NoData, Remarks.remark}
 use Rattle.adf_subjects.specs.{Rescues.Replies, Rescues.RescuesTyped}
 use Rattle.adf_subjects.specs.{Rescues.RescuesBefore, Rescues.RescuesTypedOf, Subject.OfTyped, Subject.SubjectValue, Subject.subject}
-use Rattle.adf_survey_cmd.specs.CacheLines.{survey_text}
-
--- the status of findings: 0 where there is none
-abbrev pub findings_status : List FindingValue → ℕ
-findings_status [] = 0
-findings_status (f ∷ fs) = 1
-
--- the status of findings with remarks in front
-abbrev pub told_status : List Remark → List FindingValue → ℕ
-told_status [] fs = findings_status fs
-told_status (r ∷ front) fs = 1
-
--- the lines of the findings and of wrong caches are told, or with `json` their objects
-abbrev pub TellsFindings : (json : Bool) → SubjectValue → Walk → List FindingValue → Reply → Type 0
-TellsFindings json s w fs reply = reply ≡ on_output (told_status s.front fs) (survey_text json s w fs)
-
--- so they are, and behind them those of what is found, in which each date has its text and the sound entries are marked
-abbrev pub TellsFound : (json : Bool) → SubjectValue → Walk → List FindingValue → Reply → Type 0
-TellsFound json s w fs reply = (date : Stamp → List ℕ) × AreDates date × (sound : ℕ → Bool) × AreMarks s.image w fs sound
-    × (reply ≡ on_output (told_status s.front fs) (listing_text json date sound s w fs))
-
--- what is said where nothing is under a path
-abbrev pub no_path_line : List (List ℕ) → List ℕ
-no_path_line names = codes "no such path: " ++ (path_text names ++ codes "\n")
-
--- nothing is found under the names
-abbrev pub FindsNothing : SubjectValue → Walk → List (List ℕ) → Reply → Type 0
-FindsNothing s w names reply = ((n : ℕ) → LeadsTo s.image w 0 names n → ⊥) × (reply ≡ on_errors 1 (no_path_line names))
-
--- the entry is no file
-abbrev pub FindsNoFile : SubjectValue → Walk → ℕ → Reply → Type 0
-FindsNoFile s w n reply = ((h : ℕ) → FileAt s.image w n h → ⊥) × (reply ≡ on_errors 1 (codes "not a file\n"))
-
--- the entry is a sound file, and the input holds its data
-abbrev pub IsWholeFile : SubjectValue → Walk → List FindingValue → ℕ → Type 0
-IsWholeFile s w fs n = IsSoundFile s.image w fs n × (has_its_data s.end s.image w n ≡ true)
-
--- the entry is another file
-abbrev pub FindsDamage : SubjectValue → Walk → List FindingValue → ℕ → Reply → Type 0
-FindsDamage s w fs n reply =
-    ((h : ℕ) × FileAt s.image w n h) × (IsWholeFile s w fs n → ⊥) × (reply ≡ on_errors 1 (codes "damaged\n"))
-
--- the entry is such a file, whose bytes are written
-abbrev pub CopiesSoundFile : SubjectValue → Walk → List FindingValue → ℕ → Reply → Type 0
-CopiesSoundFile s w fs n reply = IsWholeFile s w fs n × (reply ≡ on_output 0 (file_content (file_in s.image w n)))
-
--- `cat` of an entry: of a sound file, or of one that may be damaged
-abbrev pub CopiesEntry : (damaged : Bool) → SubjectValue → Walk → List FindingValue → ℕ → Reply → Type 0
-CopiesEntry false s w fs n reply = FindsNoFile s w n reply ⊎ (FindsDamage s w fs n reply ⊎ CopiesSoundFile s w fs n reply)
-CopiesEntry true s w fs n reply = FindsNoFile s w n reply ⊎ WritesRemains s w fs n reply
-
--- `cat` of what the names lead to
-abbrev pub CopiesFound : (damaged : Bool) → SubjectValue → Walk → List FindingValue → List (List ℕ) → Reply → Type 0
-CopiesFound damaged s w fs names reply =
-    FindsNothing s w names reply ⊎ ((n : ℕ) × LeadsTo s.image w 0 names n × CopiesEntry damaged s w fs n reply)
 
 -- `adf-survey` tells the findings of the survey
 abbrev pub Surveys : (json : Bool) → SubjectValue → Reply → Type 0

@@ -1,12 +1,5 @@
 -- The promise: the command line, the lines, and what the command answers.
 pub mod CommandLine
-pub mod Deletions
--- the lines of wrong directory caches
-pub mod CacheLines
--- the lines of links among what is found
-pub mod FoundLinks
-pub mod FoundLines
-pub mod Remains
 pub mod Hints
 -- the bytes of files that were not read, and blank ones
 pub mod UnreadLines

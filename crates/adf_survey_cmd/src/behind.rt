@@ -1,6 +1,6 @@
 // A text behind what a work wrote.
 
-ghost use Rattle.std.specs.Prelude.{◌≡◌, false};
+ghost use Rattle.std.specs.Prelude.{◌≡◌};
 ghost use Rattle.adf_runs.specs.{Outcomes.is_read_fault, Outcomes.is_write_fault, Streams.seen};
 ghost use Rattle.adf_survey_cmd.specs.UnreadLines.{EndsBehind, IsToldBehind};
 

@@ -6,10 +6,10 @@ ghost use Rattle.adf_passages.specs.PassageLines.{passages_text};
 ghost use Rattle.adf_runs.specs.{Commands.on_output, Outcomes.Blames, Outcomes.EndsBy};
 ghost use Rattle.adf_unread.specs.Blank.{blank_marks};
 
-use crate::deleting::write_text;
 use adf_base::NoMemory;
 use adf_findings::Survey;
 use adf_passages::passages_text;
+use adf_remains::write_text;
 use adf_runs::{Outcome, Sink};
 use adf_unread::blank_marks;
 use std::alloc::Global;

@@ -1,17 +1,16 @@
-// The laws of rescues and of deleted files that are written. Each is the contract of a function that does nothing at run time.
+// The laws of rescues that are written. Each is the contract of a function that does nothing at run time.
 
-ghost use Rattle.std.specs.Prelude.{◌≡◌, ◌≢◌, ◌<◌, ◌≤◌, ◌↔◌, ◌++◌, ℕ, Bool, List, [], Option, Some, false, length, true};
+ghost use Rattle.std.specs.Prelude.{◌≡◌, ◌≢◌, ◌<◌, ◌≤◌, ◌++◌, ℕ, Bool, List, [], Option, Some, false, length, true};
 ghost use Rattle.std.specs.List.{All};
 ghost use Rattle.adf_volume.specs.{Fits.FitsBy, Layout.Layout, Types.letters_for, declared.types.Types.Types};
 ghost use Rattle.adf_boot_blocks.specs.{BootBlocks.begins_with_dos, Writing.HasBootOf, declared.boot.TheConstants.BOOT_LEN};
 ghost use Rattle.adf_rescue.specs.{Rescue.Basis, Rescue.rescued_additions_by, Rescue.rescued_tree_by};
 ghost use Rattle.adf_rescue.specs.declared.standing.Input.{Input};
-ghost use Rattle.adf_deleted.specs.{Deletions.state_of, Kept.AreDeletedIn, Kept.IsWholeIn, Known.KnownValue, Known.is_reached};
-ghost use Rattle.adf_deleted.specs.{Known.known_asked, Left.data_standing, Left.is_deleted_file};
+ghost use Rattle.adf_deleted.specs.{Kept.AreDeletedIn, Kept.IsWholeIn, Known.is_reached};
+ghost use Rattle.adf_deleted.specs.{Known.known_asked, Left.data_standing};
 ghost use Rattle.adf_tree.specs.Additions.{Addition, IsTreeOfBy};
-ghost use Rattle.adf_deleted.specs.declared.deletions.State.TheVariants.{Whole};
 ghost use Rattle.adf_runs.specs.Commands.{Reply};
-ghost use Rattle.adf_survey_cmd.specs.{CommandLine.asked, CommandLine.rescue, Answers.SurveyAnswer, Deletions.left_reply};
+ghost use Rattle.adf_survey_cmd.specs.{CommandLine.asked, CommandLine.rescue, Answers.SurveyAnswer};
 ghost use Rattle.adf_subjects.specs.{Losses.LossValue, Subject.meant};
 ghost use Rattle.adf_subjects.specs.Rescues.{GivesAsked, GivesVolume, RescueValue, rescue_reply};
 ghost use Rattle.adf_survey_cmd.specs.Laws.{kept_beside};
@@ -45,9 +44,4 @@ pub fn rescued_with_deleted()
     ensures apart { (known : Input) (a : Basis) (b : Option Basis) (dir : List (List ℕ)) (x : Addition) (h i c : ℕ)
         → IsWholeIn (known_asked a.image a.walk b known) dir x h
         → data_standing (known_asked a.image a.walk b known) h i ≡ Some c → is_reached a.walk b c ≡ false }
-{}
-
-/// What is left of a deleted file is written with status 0 if and only if the file is whole: then there is no line.
-pub fn status_tells_whole()
-    ensures { (k : KnownValue) (h : ℕ) → is_deleted_file k h ≡ true → ((left_reply k h).status ≡ 0) ↔ (state_of k h ≡ Whole) }
 {}

@@ -3,21 +3,12 @@
 
 mod behind;
 mod blanks;
-mod cache_lines;
 mod command_line;
-mod copying;
-mod deleting;
-mod found_lines;
-mod found_links;
-mod found_objects;
 mod hints;
 mod laws;
-mod listing;
 mod loss_lines;
 mod map_runs;
 mod map_words;
-mod recovering;
-mod reporting;
 mod rescuing;
 mod runner;
 mod unread;
@@ -26,7 +17,7 @@ mod work;
 pub use crate::command_line::{
     Inquiry, Question, parse_survey as parse, survey_words_as_documented,
 };
-pub use crate::laws::{rescued_volumes, rescued_with_deleted, status_tells_whole};
+pub use crate::laws::{rescued_volumes, rescued_with_deleted};
 pub use crate::map_runs::run_mapped;
 pub use crate::runner::{one_answer, run_files};
 pub use crate::work::{Task, View, Work};

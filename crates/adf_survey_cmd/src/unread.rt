@@ -1,6 +1,6 @@
 // What is surveyed without what was never read.
 
-ghost use Rattle.std.specs.Prelude.{◌≡◌, ◌++◌, [], Bool, IfOk, OnOk, None, Some};
+ghost use Rattle.std.specs.Prelude.{◌≡◌, ◌++◌, Bool, IfOk, OnOk, Some};
 ghost use Rattle.adf_survey_cmd.specs.Answers.{AreUnreadLines, unless_blank, unless_mapped, unread_remarks};
 ghost use Rattle.adf_survey_cmd.specs.UnreadLines.{IsBlankText, IsMappedText, IsUnreadText};
 ghost use Rattle.adf_subjects.specs.Subject.{subject_value};

@@ -1,6 +1,7 @@
 use Rattle.std.proofs.Common.{false, subst, sym, true}
 use Rattle.adf_runs.proofs.Endings.{ends_weaker}
-use Rattle.adf_survey_cmd.specs.{Answers.QuestionAnswer, Deletions.TellsTyped, Work.Answers}
+use Rattle.adf_survey_cmd.specs.{Answers.QuestionAnswer, Work.Answers}
+use Rattle.adf_remains.specs.Deletions.{TellsTyped}
 use Rattle.adf_subjects.specs.{Rescues.RescuesBefore, Rescues.RescuesTypedOf, Rescues.Replies, Subject.subject_value}
 use Rattle.adf_survey_cmd.proofs.work.Task.on_subject.Goals as goal
 

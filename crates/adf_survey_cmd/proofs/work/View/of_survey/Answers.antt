@@ -5,7 +5,9 @@ use Rattle.adf_unread.specs.Blank.{blank_marks}
 use Rattle.adf_runs.proofs.Endings.{ends_weaker}
 use Rattle.adf_survey_cmd.specs.{CommandLine.blanks, CommandLine.list, CommandLine.report, Work.Shows}
 use Rattle.adf_subjects.specs.Subject.{IsTyped, begun_subject, surveyed_as}
-use Rattle.adf_survey_cmd.specs.Answers.{CopiesFound, QuestionAnswer, TellsFindings, TellsFound}
+use Rattle.adf_remains.specs.Copies.{CopiesFound}
+use Rattle.adf_survey_cmd.specs.Answers.{QuestionAnswer}
+use Rattle.adf_listings.specs.Told.{TellsFindings, TellsFound}
 use Rattle.adf_survey_cmd.proofs.work.View.of_survey.Goals as goal
 
 pub returns-in-Findings-clause-ends : goal.returns-in-Findings-clause-ends

@@ -1,0 +1,17 @@
+//! Tests of disks, their partitions and plans, and of the command `adf-disk`: what no row shows.
+#![tactic(auto)]
+
+#[cfg(test)]
+mod disk_builds;
+#[cfg(test)]
+mod disk_checks;
+#[cfg(test)]
+mod disk_runs;
+#[cfg(test)]
+mod disk_searches;
+#[cfg(test)]
+mod disks;
+#[cfg(test)]
+mod host_plans;
+#[cfg(test)]
+mod planned_disks;

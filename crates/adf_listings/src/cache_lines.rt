@@ -1,0 +1,170 @@
+// The lines of wrong directory caches.
+
+ghost use Rattle.std.specs.Prelude.{◌≡◌, ◌++◌, ℕ, List, IfOk, OnErr, OnOk, false, map, true};
+ghost use Rattle.std.specs.{Io.KnownBytes.Appends, List.join_with_byte};
+ghost use Rattle.adf_findings.specs.{Lookup.path_to, Members.has_mark, Survey.OnSurvey};
+ghost use Rattle.adf_volume.specs.Walk.{Walk};
+ghost use Rattle.adf_caches.specs.Caches.{is_wrong_cache};
+ghost use Rattle.adf_json.specs.Objects.{member_value};
+ghost use Rattle.adf_runs.specs.Streams.{AppendsPart, is_device};
+ghost use Rattle.adf_subjects.specs.Lines.{findings_text};
+ghost use Rattle.adf_listings.specs.CacheLines.{cache_line, cache_members, cache_object, cache_text, caches_text};
+ghost use Rattle.adf_listings.specs.CacheLines.{if_wrong, wrong_line};
+
+use adf_caches::{directory_header, wrong_caches};
+use adf_findings::{Survey, has_mark};
+use adf_json::{Member, Value, joined, push_object};
+use adf_runs::{Sink, StreamFault, flush_long, write_all};
+use adf_subjects::{push_blocks, write_runs};
+use adf_texts::push_names;
+use adf_tree::Node;
+use std::alloc::{AllocError, Global};
+
+// A directory, if its cache is wrong.
+fn if_wrong(wrong: &Vec<bool>, d: usize) -> Option<Node>
+    ensures { (image : List ℕ) (w : Walk) → ((d : ℕ) → has_mark wrong.now.items d ≡ is_wrong_cache image w d)
+        → result ≡ if_wrong image w d }
+{
+    if has_mark(wrong, d) {
+        return Some(Node(d));
+    }
+    None
+}
+
+// Appends the line of the wrong cache of a directory with its header in a block.
+fn push_wrong_line(text: &mut Vec<u8>, block: u32, path: &[&[u8]]) -> Result<(), AllocError>
+    ensures { OnOk result (text.new.items ≡ text.old.items ++ wrong_line block (map (λ name. name.now) path.now)) }
+{
+    push_blocks(text, block, block, b':')?;
+    text.extend_from_slice(b" wrong cache: ")?;
+    push_names(text, path)?;
+    text.extend_from_slice(b"/\n")
+}
+
+// Appends the line of the wrong cache of a directory.
+fn push_cache_line(
+    alloc: Global,
+    survey: &Survey<'_>,
+    d: Node,
+    text: &mut Vec<u8>,
+) -> Result<(), AllocError>
+    ensures { OnSurvey survey.now.image (λ w _. is_wrong_cache survey.now.image w d ≡ true
+        → OnOk result (text.new.items ≡ text.old.items ++ cache_line survey.now.image w d)) }
+{
+    match survey.path(alloc, d) {
+        Ok(path) => push_wrong_line(text, directory_header(survey, d), &path),
+        Err(_) => Err(AllocError),
+    }
+}
+
+// The members of the object of the wrong cache of a directory with its header in a block.
+#[tactic(auto, unfolding(crate::specs::CacheLines::cache_members))]
+fn cache_members<'a>(block: u32, path: &'a [u8]) -> [Member<'a>; 9]
+    ensures { map member_value result ≡ cache_members block path.now }
+{
+    [
+        Member::text("line", "finding"),
+        Member::number("first", block),
+        Member::number("last", block),
+        Member::text("cause", "wrong cache"),
+        Member::bytes("path", path),
+        Member::of("within", Value::Truth(false)),
+        Member::of("owner", Value::Nothing),
+        Member::of("target", Value::Nothing),
+        Member::of("soft", Value::Nothing),
+    ]
+}
+
+// The names of the path of a directory, joined by `/`.
+fn joined_path(alloc: Global, survey: &Survey<'_>, d: Node) -> Result<Vec<u8>, AllocError>
+    ensures { OnSurvey survey.now.image (λ w _.
+        IfOk result (λ path. path.items ≡ join_with_byte 47 (path_to survey.now.image w d))) }
+{
+    match survey.path(alloc, d) {
+        Ok(names) => joined(alloc, &names),
+        Err(_) => Err(AllocError),
+    }
+}
+
+// Appends the object of the wrong cache of a directory.
+fn push_cache_object(
+    alloc: Global,
+    survey: &Survey<'_>,
+    d: Node,
+    text: &mut Vec<u8>,
+) -> Result<(), AllocError>
+    ensures { OnSurvey survey.now.image (λ w _. is_wrong_cache survey.now.image w d ≡ true
+        → OnOk result (text.new.items ≡ text.old.items ++ cache_object survey.now.image w d)) }
+{
+    let path = joined_path(alloc, survey, d)?;
+    push_object(text, &cache_members(directory_header(survey, d), &path))
+}
+
+// Appends the line of a wrong cache, or with `json` its object, where there is one.
+fn push_cache(
+    alloc: Global,
+    survey: &Survey<'_>,
+    wrong: Option<Node>,
+    json: bool,
+    text: &mut Vec<u8>,
+) -> Result<(), AllocError>
+    ensures { OnSurvey survey.now.image (λ w _. (d : ℕ) → wrong ≡ if_wrong survey.now.image w d
+        → OnOk result (text.new.items ≡ text.old.items ++ cache_text json survey.now.image w (if_wrong survey.now.image w d))) }
+{
+    let Some(d) = wrong else {
+        return Ok(());
+    };
+    if json {
+        push_cache_object(alloc, survey, d, text)
+    } else {
+        push_cache_line(alloc, survey, d, text)
+    }
+}
+
+// Writes the lines of wrong directory caches, or with `json` their objects.
+fn write_caches<W: Sink>(
+    alloc: Global,
+    survey: &Survey<'_>,
+    json: bool,
+    output: &mut W,
+) -> Result<(), StreamFault>
+    requires works { W.has_failed output.old ≡ false }
+    ensures ok { OnSurvey survey.now.image (λ w _. OnOk result
+        (Appends (W.held output.old) (W.held output.new) (caches_text json survey.now.image w))) }
+    ensures err { OnSurvey survey.now.image (λ w _. OnErr result
+        (AppendsPart (W.has_failed output.new) (W.held output.old) (W.held output.new) (caches_text json survey.now.image w))) }
+    ensures failed { W.has_failed output.new ≡ is_device result }
+{
+    let Ok(wrong) = wrong_caches(alloc, survey) else {
+        return Err(StreamFault::NoMemory);
+    };
+    let mut text = Vec::new(alloc);
+    for i in 0..wrong.len() {
+        push_cache(alloc, survey, if_wrong(&wrong, i), json, &mut text)?;
+        flush_long(output, &mut text)?;
+    }
+    write_all(output, &text)?;
+    Ok(())
+}
+
+/// Writes the text that waits, the lines of the findings, and behind them those of wrong directory caches; or with `json` their
+/// objects. `Device` if the writer failed, `NoMemory` if an allocation failed; then a front part of them is written, and if the
+/// writer failed not all of them.
+pub fn write_told<W: Sink>(
+    alloc: Global,
+    survey: &Survey<'_>,
+    text: Vec<u8>,
+    json: bool,
+    output: &mut W,
+) -> Result<(), StreamFault>
+    requires works { W.has_failed output.old ≡ false }
+    ensures ok { OnSurvey survey.now.image (λ w fs. OnOk result (Appends (W.held output.old) (W.held output.new)
+        ((text.items ++ findings_text json survey.now.image w fs) ++ caches_text json survey.now.image w))) }
+    ensures err { OnSurvey survey.now.image (λ w fs. OnErr result (AppendsPart
+        (W.has_failed output.new) (W.held output.old) (W.held output.new)
+        ((text.items ++ findings_text json survey.now.image w fs) ++ caches_text json survey.now.image w))) }
+    ensures failed { W.has_failed output.new ≡ is_device result }
+{
+    write_runs(alloc, survey, text, json, output)?;
+    write_caches(alloc, survey, json, output)
+}

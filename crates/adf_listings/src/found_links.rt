@@ -1,0 +1,268 @@
+// The lines of right links, and their objects.
+
+ghost use Rattle.std.specs.Prelude.{◌≡◌, ◌++◌, ◌≤◌, List, IfOk, OnOk, codes, map, ℕ};
+ghost use Rattle.std.specs.List.{join_with_byte};
+ghost use Rattle.adf_base.specs.declared.dates.Stamp.{Stamp};
+ghost use Rattle.adf_findings.specs.{Lookup.path_to, Survey.OnSurvey};
+ghost use Rattle.adf_json.specs.Objects.{member_value, value_value};
+ghost use Rattle.adf_links.specs.Links.{link_path, original};
+ghost use Rattle.adf_manifest.specs.Texts.{hex_word};
+ghost use Rattle.adf_subjects.specs.Lines.{entry_path, path_value};
+ghost use Rattle.adf_texts.specs.Names.{names_text};
+ghost use Rattle.adf_texts.specs.VolumeLines.{AreDates, escaped_line, right_in_ten};
+ghost use Rattle.adf_volume.specs.Walk.{heads};
+ghost use Rattle.adf_listings.specs.FoundLinks.{arrow_text, led_text, link_entry, link_lines, link_members};
+ghost use Rattle.adf_listings.specs.FoundLinks.{link_object, soft_value, told_link};
+
+use crate::found_objects::date_text;
+use adf_base::Stamp;
+use adf_fields::push_stamp;
+use adf_findings::Survey;
+use adf_json::{Member, Value, joined, push_object};
+use adf_links::{link_path, original_of};
+use adf_texts::{push_escaped, push_hex, push_names};
+use adf_tree::{Meta, Node};
+use std::alloc::{AllocError, Global};
+
+// Appends the path of an entry.
+fn push_path(
+    alloc: Global,
+    survey: &Survey<'_>,
+    n: Node,
+    text: &mut Vec<u8>,
+) -> Result<(), AllocError>
+    ensures { OnSurvey survey.now.image (λ w _. OnOk result
+        (text.new.items ≡ text.old.items ++ names_text (path_to survey.now.image w n))) }
+{
+    match survey.path(alloc, n) {
+        Ok(path) => push_names(text, &path),
+        Err(_) => Err(AllocError),
+    }
+}
+
+// Appends what a link leads to: an entry, by its path; otherwise the path in its header.
+fn push_led(
+    alloc: Global,
+    survey: &Survey<'_>,
+    n: Node,
+    text: &mut Vec<u8>,
+) -> Result<(), AllocError>
+    ensures { OnSurvey survey.now.image (λ w _. OnOk result (text.new.items ≡ text.old.items
+        ++ led_text survey.now.image w (link_path survey.now.image w n) (original survey.now.image w n))) }
+{
+    match original_of(survey, n) {
+        Some(m) => push_path(alloc, survey, m, text),
+        None => push_escaped(text, link_path(survey, n)),
+    }
+}
+
+// Appends the path of a link, and what it leads to.
+fn push_arrow(
+    alloc: Global,
+    survey: &Survey<'_>,
+    n: Node,
+    text: &mut Vec<u8>,
+) -> Result<(), AllocError>
+    ensures { OnSurvey survey.now.image (λ w _.
+        OnOk result (text.new.items ≡ text.old.items ++ arrow_text survey.now.image w n)) }
+{
+    push_path(alloc, survey, n, text)?;
+    text.extend_from_slice(b" -> ")?;
+    push_led(alloc, survey, n, text)
+}
+
+// Appends the date and a space.
+fn push_date(text: &mut Vec<u8>, stamp: Stamp) -> Result<(), AllocError>
+    ensures { (date : Stamp → List ℕ) → AreDates date
+        → OnOk result (text.new.items ≡ text.old.items ++ (date stamp ++ codes " ")) }
+{
+    push_stamp(text, stamp)?;
+    text.extend_from_slice(b" ")
+}
+
+// Appends the mark of a link and the columns before its path.
+fn push_columns(text: &mut Vec<u8>, meta: &Meta) -> Result<(), AllocError>
+    ensures { (date : Stamp → List ℕ) → AreDates date → OnOk result (text.new.items ≡ text.old.items
+        ++ (codes "sound   " ++ (codes "link" ++ (codes " " ++ (hex_word meta.now.protect
+        ++ (codes " " ++ (right_in_ten (codes "-") ++ (codes " " ++ (date meta.now.stamp ++ codes " "))))))))) }
+{
+    text.extend_from_slice(b"sound   link ")?;
+    push_hex(text, meta.protect, b' ')?;
+    text.extend_from_slice(b"         - ")?;
+    push_date(text, meta.stamp)
+}
+
+// Appends the line of a note, unless it is empty.
+fn push_note(text: &mut Vec<u8>, note: &[u8]) -> Result<(), AllocError>
+    ensures { OnOk result (text.new.items ≡ text.old.items ++ escaped_line (codes "note ") note.now) }
+{
+    if note.is_empty() {
+        return Ok(());
+    }
+    text.extend_from_slice(b"note ")?;
+    push_escaped(text, note)?;
+    text.extend_from_slice(b"\n")
+}
+
+// Appends the end of the line of a link, and the line of its note.
+fn push_end(text: &mut Vec<u8>, meta: &Meta) -> Result<(), AllocError>
+    ensures { OnOk result (text.new.items ≡ text.old.items
+        ++ (codes "\n" ++ escaped_line (codes "note ") meta.now.comment)) }
+{
+    text.extend_from_slice(b"\n")?;
+    push_note(text, meta.comment.bytes())
+}
+
+// Appends the lines of a link.
+fn push_link_lines(
+    alloc: Global,
+    survey: &Survey<'_>,
+    n: Node,
+    meta: &Meta,
+    text: &mut Vec<u8>,
+) -> Result<(), AllocError>
+    ensures { OnSurvey survey.now.image (λ w _. (date : Stamp → List ℕ) → AreDates date
+        → OnOk result (text.new.items ≡ text.old.items ++ link_lines date survey.now.image w n meta.now)) }
+{
+    push_columns(text, meta)?;
+    push_arrow(alloc, survey, n, text)?;
+    push_end(text, meta)
+}
+
+// The path of an entry, where there is one, with its names joined by `/`.
+fn joined_path(alloc: Global, survey: &Survey<'_>, n: Option<Node>) -> Result<Vec<u8>, AllocError>
+    ensures { OnSurvey survey.now.image (λ w _. IfOk result (λ path. path.items ≡ entry_path survey.now.image w n)) }
+{
+    let Some(n) = n else {
+        return Ok(Vec::new(alloc));
+    };
+    match survey.path(alloc, n) {
+        Ok(names) => joined(alloc, &names),
+        Err(_) => Err(AllocError),
+    }
+}
+
+// The texts of the object of a link: its path, and what it leads to.
+#[derive(Drop)]
+struct LinkTexts {
+    path: Vec<u8>,
+    date: Vec<u8>,
+    comment: Vec<u8>,
+    target: Option<Node>,
+    to: Vec<u8>,
+    own: Vec<u8>,
+}
+
+impl LinkTexts {
+    fn of(alloc: Global, survey: &Survey<'_>, n: Node, meta: &Meta) -> Result<LinkTexts, AllocError>
+        ensures path { OnSurvey survey.now.image (λ w _.
+            IfOk result (λ t. t.path.items ≡ join_with_byte 47 (path_to survey.now.image w n))) }
+        ensures date { (date : Stamp → List ℕ) → AreDates date → IfOk result (λ t. t.date.items ≡ date meta.now.stamp) }
+        ensures comment { IfOk result (λ t. t.comment.items ≡ meta.now.comment) }
+        ensures target { OnSurvey survey.now.image (λ w _.
+            IfOk result (λ t. t.target ≡ original survey.now.image w n)) }
+        ensures to { OnSurvey survey.now.image (λ w _.
+            IfOk result (λ t. t.to.items ≡ entry_path survey.now.image w (original survey.now.image w n))) }
+        ensures own { OnSurvey survey.now.image (λ w _.
+            IfOk result (λ t. t.own.items ≡ link_path survey.now.image w n)) }
+    {
+        let target = original_of(survey, n);
+        Ok(LinkTexts {
+            path: joined_path(alloc, survey, Some(n))?,
+            date: date_text(alloc, meta.stamp)?,
+            comment: meta.comment.bytes().to_vec(alloc)?,
+            target,
+            to: joined_path(alloc, survey, target)?,
+            own: link_path(survey, n).to_vec(alloc)?,
+        })
+    }
+}
+
+// The value of the path of an entry, where there is one.
+fn path_value(n: Option<Node>, path: &[u8]) -> Value<'_>
+    ensures { value_value result ≡ path_value n path.now }
+{
+    match n {
+        Some(_) => Value::Bytes(path),
+        None => Value::Nothing,
+    }
+}
+
+// The value of the path in a soft link: of a link that leads to no entry.
+fn soft_value(target: Option<Node>, path: &[u8]) -> Value<'_>
+    ensures { value_value result ≡ soft_value target path.now }
+{
+    match target {
+        Some(_) => Value::Nothing,
+        None => Value::Bytes(path),
+    }
+}
+
+// The members of the object of a link, with these texts.
+#[tactic(auto, unfolding(crate::specs::FoundLinks::link_members))]
+fn link_members<'a>(meta: &Meta, texts: &'a LinkTexts) -> [Member<'a>; 7]
+    ensures { texts.now.comment.items ≡ meta.now.comment → map member_value result
+        ≡ link_members texts.now.path.items texts.now.date.items meta.now
+        texts.now.target texts.now.to.items texts.now.own.items }
+{
+    [
+        Member::text("line", "link"),
+        Member::bytes("path", &texts.path),
+        Member::bytes("date", &texts.date),
+        Member::number("protection", meta.protect),
+        Member::bytes("comment", &texts.comment),
+        Member::of("target", path_value(texts.target, &texts.to)),
+        Member::of("soft", soft_value(texts.target, &texts.own)),
+    ]
+}
+
+// Appends the object of a link.
+fn push_link_object(
+    alloc: Global,
+    survey: &Survey<'_>,
+    n: Node,
+    meta: &Meta,
+    text: &mut Vec<u8>,
+) -> Result<(), AllocError>
+    ensures { OnSurvey survey.now.image (λ w _. (date : Stamp → List ℕ) → AreDates date
+        → OnOk result (text.new.items ≡ text.old.items ++ link_object date survey.now.image w n meta.now)) }
+{
+    let texts = LinkTexts::of(alloc, survey, n, meta)?;
+    push_object(text, &link_members(meta, &texts))
+}
+
+// Appends the lines of a link, or with `json` its object.
+fn push_link_entry(
+    alloc: Global,
+    survey: &Survey<'_>,
+    n: Node,
+    meta: &Meta,
+    json: bool,
+    text: &mut Vec<u8>,
+) -> Result<(), AllocError>
+    ensures { OnSurvey survey.now.image (λ w _. (date : Stamp → List ℕ) → AreDates date
+        → OnOk result (text.new.items ≡ text.old.items ++ link_entry json date survey.now.image w n meta.now)) }
+{
+    if json {
+        push_link_object(alloc, survey, n, meta, text)
+    } else {
+        push_link_lines(alloc, survey, n, meta, text)
+    }
+}
+
+/// Appends the lines of a right link, or with `json` its object.
+pub fn push_link(
+    alloc: Global,
+    survey: &Survey<'_>,
+    n: Node,
+    json: bool,
+    text: &mut Vec<u8>,
+) -> Result<(), AllocError>
+    ensures { OnSurvey survey.now.image (λ w _. (date : Stamp → List ℕ) → AreDates date → 1 ≤ n → n ≤ heads w
+        → OnOk result (text.new.items ≡ text.old.items ++ told_link json date survey.now.image w n)) }
+{
+    match survey.meta(n) {
+        Some(meta) => push_link_entry(alloc, survey, n, &meta, json, text),
+        None => Ok(()),
+    }
+}
