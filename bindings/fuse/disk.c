@@ -175,10 +175,6 @@ static void say_fault(const char *name, const struct adf_disk *disk) {
 static int take_all(int file, const char *name, const struct adf_partition *rows, const struct adf_disk *disk,
                     struct parts *parts) {
     parts->is_disk = true;
-    if (disk->cause != ADF_DISK_WHOLE) {
-        say_fault(name, disk);
-        parts->is_whole = false;
-    }
     for (size_t i = 0; i < disk->partitions; i++) {
         char why[LONGEST_TEXT], drive[NAME_TEXT];
         why_unread(file, &rows[i], false, why);
@@ -254,12 +250,15 @@ int find_parts(int file, const char *name, const char *wanted, struct parts *par
     bool is_volume = wanted == NULL && (length <= 0 || begins_as_volume(file));
     if (!is_volume && read_rows(file, length, rows, &disk) != SOUND)
         return FAILED;
+    if (disk.partitions != 0 && disk.cause != ADF_DISK_WHOLE) {
+        say_fault(name, &disk);
+        parts->is_whole = false;
+    }
     if (wanted != NULL)
         return take_one(file, name, wanted, rows, &disk, parts);
-    bool has_tables = !is_volume && disk.cause != ADF_DISK_NO_RIGID_DISK;
-    if (has_tables && disk.partitions != 0)
+    if (disk.partitions != 0)
         return take_all(file, name, rows, &disk, parts);
-    parts->has_tables = has_tables;
+    parts->has_tables = !is_volume && disk.cause != ADF_DISK_NO_RIGID_DISK;
     parts->parts[parts->count++] = (struct part){.most = MOST_BYTES, .whole = length < 0 ? 0 : (uint64_t)length};
     return SOUND;
 }

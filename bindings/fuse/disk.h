@@ -21,7 +21,7 @@ struct parts {
     struct part *parts;
     size_t count;
     bool is_disk;    /* whether each part has a folder of its own */
-    bool is_whole;   /* whether nothing of a disk is left out */
+    bool is_whole;   /* whether the tables of a disk are whole, and nothing of it is left out */
     bool has_tables; /* whether it is a whole image that has tables of a disk, in which no partition can be read */
 };
 

@@ -4,6 +4,7 @@ complete -c adf-pack -n '__fish_is_nth_token 1' -f -a 'ofs ffs ofs-international
 complete -c adf-pack -l image -r -d 'write an image into a new file'
 complete -c adf-pack -l edits -x -d 'write edits that put the folder into this directory of a disk'
 complete -c adf-pack -l size -x -d 'size of the image, as 100M'
+complete -c adf-pack -l international -d 'ignore the case of accented letters in names'
 complete -c adf-pack -l bootable -d 'write the standard boot blocks'
 complete -c adf-pack -l boot -r -d 'write the boot blocks of a file'
 complete -c adf-pack -l label -x -d 'name of the volume'

@@ -93,7 +93,7 @@ _adf_files() {
         adf-shelf:-*) COMPREPLY=($(compgen -W "--null --any-type --json --help --version" -- "$2")) ;;
         adf-catalogue:-*) COMPREPLY=($(compgen -W "--tsv --rescue --fresh --escape --index-text --dat --sha256-only -h --help --version" -- "$2")) ;;
         adf-pack:-*)
-            COMPREPLY=($(compgen -W "--image --edits --size --bootable --boot --label --date --altered --created --no-uaem --escape -h --help --version" -- "$2"))
+            COMPREPLY=($(compgen -W "--image --edits --size --international --bootable --boot --label --date --altered --created --no-uaem --escape -h --help --version" -- "$2"))
             ;;
         adf-unpack:-*) COMPREPLY=($(compgen -W "--blocks --strict --damaged --follow --boot --uaem --escape -h --help --version" -- "$2")) ;;
         adf-map:-*) COMPREPLY=($(compgen -W "--partition --blocks -h --help --version" -- "$2")) ;;

@@ -53,11 +53,16 @@ def draw_volume(name: str, image: adf.Image, blocks: Optional[int] = None, size:
     return status
 
 
+def fault_of_tables(disk: adf.Disk) -> Optional[Fault]:
+    """The first fault of the tables of a hard disk, if there is one."""
+    return Fault(disk.block, f"block {disk.block}: {disk.cause}") if disk.cause else None
+
+
 def draw_disk(name: str, disk: adf.Disk) -> int:
     """Draws the partitions of a hard disk. The first fault of its tables is marked."""
     blocks = len(memoryview(disk.image)) // adf.BLOCK
     rows = [{"number": row.number, "name": letters(row.name), "kind": row.kind, "first": row.first, "blocks": row.blocks} for row in disk.partitions]
-    fault = Fault(disk.block, f"block {disk.block}: {disk.cause}") if disk.cause else None
+    fault = fault_of_tables(disk)
     write(disk_picture(f"{name}: hard disk, {len(rows)} partitions, {blocks} blocks", blocks, rows, refused=fault))
     return refuse(name, fault) if fault else 0
 
@@ -77,12 +82,18 @@ def volume_in(name: str, disk: adf.Disk, wanted: str) -> bytes:
     return volume
 
 
+def draw_partition(name: str, disk: adf.Disk, wanted: str, blocks: Optional[int]) -> int:
+    """Draws the volume of a partition, and says the first fault of the tables that it is found by."""
+    volume, fault = volume_in(name, disk, wanted), fault_of_tables(disk)
+    status = draw_volume(f"{name}: {host_text(wanted)}", volume, blocks, len(volume))
+    return refuse(name, fault) if fault else status
+
+
 def work(words: argparse.Namespace) -> int:
     name = "standard input" if words.image == STANDARD_INPUT else host_text(os.path.basename(words.image))
     content, size = content_given(words, is_whole=True)
     if words.partition is not None:
-        volume = volume_in(name, adf.Disk(content), words.partition)
-        return draw_volume(f"{name}: {host_text(words.partition)}", volume, words.blocks, len(volume))
+        return draw_partition(name, adf.Disk(content), words.partition, words.blocks)
     disk = disk_of(content)
     if disk is not None:
         return draw_disk(name, disk)

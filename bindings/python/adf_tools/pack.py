@@ -1,4 +1,4 @@
-"""adf-pack: writes a manifest of a folder, of which `adf build` makes a volume, or its edits for `adf-edit` (docs/adf-pack.1)."""
+"""adf-pack: writes a manifest of a folder, of which `adf build` or `adf-edit` makes a volume, or its edits for `adf-edit` (docs/adf-pack.1)."""
 
 from __future__ import annotations
 
@@ -8,11 +8,11 @@ import os
 import re
 import stat
 import sys
-from typing import BinaryIO, Iterable, Iterator, NamedTuple, Optional
+from typing import BinaryIO, Iterable, Iterator, NamedTuple, NoReturn, Optional
 
 import adf
 from adf import building
-from adf_tools.names import bytes_of
+from adf_tools.names import bytes_of, host_letters
 from adf_tools.program import REFUSED, USAGE, add_escape, begin, command_line, host_text, manifest_of, run_lines, stop
 from adf_tools.trees import Place
 from adf_tools.uaem import ENDING, Kept, comment_of, flags_in, kept_in, name_in
@@ -22,6 +22,7 @@ NEVER = adf.Date(0, 0, 0)
 LONGEST_SIDECAR, LONGEST_LINE = 4096, 100
 ATTRIBUTES = ("user.amiga.protection", "user.amiga.comment")
 UNITS = {"": 1, "K": 1 << 10, "M": 1 << 20, "G": 1 << 30}
+DEFAULT_KIND = "ffs"
 
 
 class Item(NamedTuple):
@@ -151,19 +152,21 @@ class Packer:
                     stop(REFUSED, f"{host_text(place.path_of(name))}: with this file there are more bytes than {self.blocks} blocks have")
                 yield part
 
-    def lines(self, folder: bytes) -> Iterator[str]:
-        """The lines of all that is in a folder, by names, each folder before what is in it."""
+    def lines(self, folder: bytes, names: building.Plan) -> Iterator[str]:
+        """The lines of all that is in a folder, by names, each folder before what is in it. The plan gets the names, and no bytes."""
         with Place(folder) as place:
-            above = [""]
+            above = [("", 0)]
             for item in self.items(place):
                 del above[item.depth + 1 :]
-                text = above[-1] + adf.escape(item.raw_name)
+                front, parent = above[-1]
+                text = front + adf.escape(item.raw_name)
+                names.put(parent, item.raw_name, 0 if item.is_file else None, b"", 0, NEVER)
                 if item.is_file:
                     yield from entry_lines("file", text, item.kept)
                     yield from run_lines(self.parts(place, item.name))
                 else:
                     yield from entry_lines("dir", text, item.kept)
-                    above.append(text + "/")
+                    above.append((text + "/", len(names)))
 
     def edits(self, folder: bytes, directory: str) -> Iterator[str]:
         """The edits that put all that is in a folder into a directory of a volume, each folder before what is in it."""
@@ -253,10 +256,24 @@ def path_in(line: str) -> bytes:
     return adf.unescape(words[3]).translate(adf.CAPITALS) if words[0] in ("dir", "file") else b""
 
 
-def tried(lines: Iterable[str]) -> bytes:
-    """The manifest of these lines, which `adf build` takes."""
+def stop_at(folder: bytes, error: adf.NotBuilt) -> NoReturn:
+    """Ends with why no volume is built of a folder, and the path of what has the fault."""
+    path = os.path.join(folder, error.path.encode("latin-1")) if error.path else b""
+    stop(REFUSED, f"{host_letters(path)}: {error.reason}" if path else error.reason)
+
+
+def refuse_twins(kind: str, names: building.Plan, folder: bytes) -> None:
+    """Refuses names of one directory that are one by the letters of a kind."""
+    try:
+        building.need_of(building.new_volume(kind, 0), names, b"")
+    except adf.NotBuilt as error:
+        stop_at(folder, error)
+
+
+def tried(lines: Iterable[str], kind: str) -> bytes:
+    """The manifest of these lines, which `adf build` takes, of an international kind with the other kind of its blocks in its place."""
     manifest = manifest_of(lines)
-    status, _, refusal = adf.run(["build"], manifest)
+    status, _, refusal = adf.run(["build"], manifest.replace(kind.encode(), by_letters(kind, "ascii").encode(), 1))
     if status:
         said = refusal.decode().strip()
         number = re.match(r"line ([1-9][0-9]*)", said)
@@ -265,6 +282,11 @@ def tried(lines: Iterable[str]) -> bytes:
             said += f": {shortened(made[at - 1])}{twin_of(made, at) if said.endswith('exists') else ''}"
         stop(status, said)
     return manifest
+
+
+def by_letters(kind: str, letters: str) -> str:
+    """The kind with these letters, one of adf.LETTERS, whose blocks are those of a kind."""
+    return adf.TYPES[adf.TYPES.index(kind) % 2 + 2 * adf.LETTERS.index(letters)]
 
 
 def head_of(words: argparse.Namespace) -> Iterator[str]:
@@ -287,31 +309,39 @@ def write_edits(words: argparse.Namespace) -> int:
     return 0
 
 
+def write_manifest(words: argparse.Namespace) -> int:
+    """Writes the manifest of a folder, once it is tested."""
+    if words.bootable or words.boot is not None:
+        stop(USAGE, "a manifest has no boot blocks: --bootable and --boot go with --image")
+    if words.kind is None or words.blocks is None or words.size is not None:
+        stop(USAGE, "without --image the words are KIND, BLOCKS and FOLDER, and no --size")
+    if not 0 <= words.blocks <= adf.MOST_PLAIN_BLOCKS:
+        tried(head_of(words), words.kind)
+    folder, names = os.fsencode(words.folder), building.Plan(words.kind)
+    manifest = tried(itertools.chain(head_of(words), Packer(words).lines(folder, names)), words.kind)
+    if words.kind not in adf.KINDS:
+        refuse_twins(words.kind, names, folder)
+    sys.stdout.buffer.write(manifest)
+    return 0
+
+
 def work(words: argparse.Namespace) -> int:
+    if words.international:
+        words.kind = by_letters(words.kind or DEFAULT_KIND, "international")
     if words.edits is not None:
         return write_edits(words)
     if words.image is not None:
         from adf_tools.packed_image import write_image
 
         return write_image(words)
-    if words.bootable or words.boot is not None:
-        stop(USAGE, "a manifest has no boot blocks: --bootable and --boot go with --image")
-    if words.kind is None or words.blocks is None or words.size is not None:
-        stop(USAGE, "without --image the words are KIND, BLOCKS and FOLDER, and no --size")
-    if words.kind not in adf.KINDS:
-        stop(USAGE, f"a manifest has no word for the letters of {words.kind}, which go with --image")
-    if not 0 <= words.blocks <= adf.MOST_PLAIN_BLOCKS:
-        tried(head_of(words))
-    lines = itertools.chain(head_of(words), Packer(words).lines(os.fsencode(words.folder)))
-    sys.stdout.buffer.write(tried(lines))
-    return 0
+    return write_manifest(words)
 
 
 def main() -> None:
     line = command_line("adf-pack", "Writes a manifest of a folder on standard output, of which adf build makes a volume, or an image, or edits.")
     line.add_argument(
         "kind", metavar="KIND", nargs="?", choices=adf.TYPES,
-        help="ofs or ffs; with --image also ofs-international or ffs-international, and it may be left out: ffs")
+        help="ofs, ffs, ofs-international or ffs-international; with --image it may be left out: ffs")
     line.add_argument(
         "blocks", metavar="BLOCKS", nargs="?", type=number, help="blocks of 512 bytes; a floppy of 880 KB has 1760; not with --size")
     line.add_argument("folder", metavar="FOLDER")
@@ -321,6 +351,8 @@ def main() -> None:
     boot = line.add_mutually_exclusive_group()
     boot.add_argument("--bootable", action="store_true", help="with --image: write the standard boot blocks, which start AmigaDOS")
     boot.add_argument("--boot", metavar="FILE", help="with --image: write the boot blocks at the front of a file, 1,024 bytes, or of another disk")
+    line.add_argument(
+        "--international", action="store_true", help="ignore the case of accented letters in names too: the international kind of KIND")
     line.add_argument("--label", metavar="TEXT", help="the name of the volume")
     for option, what in (("--date", "the root"), ("--altered", "the last change of the volume"), ("--created", "its creation")):
         line.add_argument(option, metavar="DATE", type=date, default=NEVER, help=f"the date of {what}, as 2026-11-25 06:56:04.10")

@@ -9,13 +9,12 @@ from typing import Any, NoReturn, Optional
 
 import adf
 from adf import boots, building
-from adf_tools.names import host_letters
-from adf_tools.pack import Item, Packer, amiga_name, opened
+from adf_tools.pack import DEFAULT_KIND, Item, Packer, amiga_name, opened, stop_at
 from adf_tools.processes import accept_memory
 from adf_tools.program import REFUSED, Progress, host_text, new_file, open_input, stop
 from adf_tools.trees import Place
 
-DEFAULT_KIND, ROW = "ffs", 500  # and the bytes of memory that the library takes for an addition
+ROW = 500  # the bytes of memory that the library takes for an addition
 
 
 def changed(place: Place, name: bytes) -> NoReturn:
@@ -125,8 +124,7 @@ def write_image(words: argparse.Namespace) -> int:
         with new_file(words.image) as fd:
             put_boot(filled(fd, adf.BLOCK * wanted, volume, plan, packer, folder, found), boot, words.bootable)
     except building.NotBuilt as error:
-        path = os.path.join(folder, error.path.encode("latin-1")) if error.path else b""
-        stop(REFUSED, f"{host_letters(path)}: {error.reason}" if path else error.reason)
+        stop_at(folder, error)
     except (FileNotFoundError, NotADirectoryError) as error:
         if error.filename is None or os.fsencode(error.filename) in (folder, os.fsencode(words.image)):
             raise

@@ -39,9 +39,11 @@ class HardDisks(Catalogues):
         written("disks/sum.hdf", damaged)
         written("disks/cut.hdf", self.whole[: 512 * 100])
         written("disks/volume.hdf", self.work[:512] + self.whole[512:])
+        written("disks/lost.hdf", bytes(512) + self.whole[512:])
         self.catalogue("disks", "out", "--tsv", status=1)
         verdicts = self.verdicts("out")
-        self.assertEqual(verdicts["sum.hdf"], "block 2: bad sum")
+        self.assertEqual((verdicts["sum.hdf"], verdicts["sum.hdf/DH0"], "sum.hdf/DH1" in verdicts), ("block 2: bad sum", "ok", False))
+        self.assertEqual([verdicts[f"lost.hdf{behind}"] for behind in ("", "/DH0", "/DH1")], ["block 0: no rigid disk", "ok", "ok"])
         self.assertEqual((verdicts["cut.hdf"], verdicts["cut.hdf/DH0"], "cut.hdf/DH1" in verdicts), ("ok", "ok", False))
         self.assertIn("beyond image", next(page.text for page in pages_of("out") if "<title>cut.hdf</title>" in page.text))
         self.assertTrue(verdicts["volume.hdf"].startswith("block "))
@@ -81,6 +83,9 @@ class WholeMaps(Folder):
             file.write(b"X")
         ran = self.run_tool("map", "disk.hdf")
         self.assertEqual((ran.returncode, ran.stderr), (1, b"adf-map: disk.hdf: block 1: bad sum\n"))
+        ran = self.run_tool("map", "--partition", "DH1", "disk.hdf")
+        told = b"adf-map: disk.hdf: DH1: block 880: bad sum\nadf-map: disk.hdf: block 1: bad sum\n"
+        self.assertEqual((ran.returncode, ran.stderr, b"DH1: refused" in ran.stdout), (1, told, True))
 
     def test_draws_large_disks(self):
         written("disk.hdf", disk(volume(blocks=64)))

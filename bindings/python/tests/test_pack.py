@@ -7,7 +7,7 @@ from unittest import mock
 
 import adf
 from adf_tools import trees
-from tests.shared import Folder, built, image_of, listed, nested, written
+from tests.shared import Folder, built, image_of, international, listed, nested, written
 
 
 class Folders(Folder):
@@ -50,6 +50,52 @@ class Folders(Folder):
         written("file")
         for folder, why in (("nix", "No such file"), ("file", "Not a directory")):
             self.refused(3, f"{folder}: {why}", "pack", "ofs", "1760", folder)
+
+
+class International(Folder):
+    """Kinds by whose letters 0xC9 and 0xE9 are one, as É and é."""
+
+    def test_is_named_in_a_manifest(self):
+        os.mkdir("f")
+        written("f/é", b"A")
+        written("f/x-international", b"B")
+        for kind in adf.KINDS:
+            rest = self.tool("pack", "--label", "É", kind, "1760", "f").decode().split("\n", 1)[1]
+            for words in ((f"{kind}-international",), ("--international", kind), ("--international", f"{kind}-international")):
+                made = self.tool("pack", "--label", "É", *words, "1760", "f").decode()
+                self.assertEqual(made, f"volume {kind}-international 1760\n{rest}")
+
+    def test_refuses_names_that_are_one(self):
+        os.makedirs("f/d")
+        written("f/d/É")
+        written("f/d/é")
+        self.assertEqual(sorted(adf.Volume(self.pack("ffs", "1760", "f"))), ["d", "d/É", "d/é"])
+        for words in ((), ("--image", "new.adf")):
+            self.refused(1, "f/d/\\xe9: exists, as d/\\xc9: the case of letters does not count", "pack", *words, "--international", "ffs", "1760", "f")
+        self.leaves("f")
+
+    def test_refuses_names_that_are_one_by_any_letters(self):
+        os.mkdir("f")
+        written("f/A")
+        written("f/a")
+        self.refused(1, "line 4: exists", "pack", "ffs-international", "1760", "f")
+
+    def test_refuses_what_no_volume_is(self):
+        os.mkdir("f")
+        self.refused(1, "line 1: ", "pack", "--international", "ffs", "7", "f")
+        self.refused(2, "without --image the words are KIND", "pack", "--international", "f")
+        self.refused(2, "with --edits the only other words are", "pack", "--edits", "/", "--international", "f")
+
+    def test_goes_into_a_folder_and_back_with_its_boot_code(self):
+        for kind in adf.KINDS:
+            old = adf.with_standard_boot(international(kind))
+            self.tool("unpack", "--boot", f"{kind}.boot", kind, given=old)
+            self.assertEqual(self.tool("pack", "--image", kind + ".adf", "--boot", f"{kind}.boot", "--international", kind, "1760", kind), b"")
+            with open(f"{kind}.adf", "rb") as file:
+                new = file.read()
+            found = [(each.path, each.date, each.is_file and each.read()) for each in adf.Volume(new).entries]
+            self.assertEqual(sorted(found), [("c", (0, 0, 0), False), ("é", (0, 0, 0), b"A")])
+            self.assertEqual((new[:1024], adf.Volume(new).kind, "É" in adf.Volume(new)), (old[:1024], f"{kind}-international", True))
 
 
 class Edits(Folder):
