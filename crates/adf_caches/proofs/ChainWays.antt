@@ -4,7 +4,7 @@ use Rattle.std.specs.Prelude.{◌==◌, ◌&&◌, ◌||◌, not, nat_lt, Option,
 use Rattle.std.specs.{List.list_any, Option.option_and_then}
 use Rattle.std.proofs.Common.{◌≡◌, ◌<◌, ◌≤◌, ◌∙◌, ◌+◌, ℕ, Bool, true, false, List, [], ◌∷◌, ◌++◌, ap, arith, inl, inr, length, refl, set, subst, sym}
 use Rattle.std.proofs.lemmas.Bool.{and_parts, eq-eqb, eqb-true, Decides.nat_tests}
-use Rattle.std.proofs.lemmas.{Grind.common_steps, Grind.flat_map-append}
+use Rattle.std.proofs.lemmas.{Grind.common_steps, Grind.flat_map-append, Option.cond_some}
 use Rattle.std.proofs.lemmas.List.{length-set, Concat.flat_map-cons, Folds.list_any-append, Sums.count_by-le-length}
 use Rattle.adf_base.specs.Words.{block}
 use Rattle.adf_blocks.specs.Sizes.{blocks, in_range}
@@ -22,11 +22,6 @@ use Rattle.adf_caches.proofs.MarkSteps.{mark_append}
 use Rattle.adf_caches.proofs.PathSteps.{longer_path, no_way_round, rest_of_path}
 use Rattle.adf_caches.proofs.RecordSteps.{keeps_both}
 
--- what a test lets pass
-marks_let : (t : Bool) (m new : List Bool) → cond t (Some m) None ≡ Some new → (t ≡ true) × (m ≡ new)
-marks_let true m new e = let same : m ≡ new = cc in (refl, same)
-marks_let false m new e = cc
-
 -- one more mark
 pub record IsMarkedAt (b : ℕ) (old new : List Bool) : Type 0 where
   pub inside : b < length old
@@ -35,7 +30,7 @@ pub record IsMarkedAt (b : ℕ) (old new : List Bool) : Type 0 where
 
 pub marked_at : (b : ℕ) (old new : List Bool) → mark_one (Some b) old ≡ Some new → IsMarkedAt b old new
 marked_at b old new e =
-    let pass = marks_let (nat_lt b (length old) && not (has_mark old b)) (set old b true) new e in record {
+    let pass = cond_some (nat_lt b (length old) && not (has_mark old b)) (set old b true) new e in record {
       inside = grind (arith, nat_tests);
       free = grind (arith, nat_tests);
       is = sym pass.1;

@@ -6,5 +6,7 @@ pub mod MarkSteps
 pub mod RecordSteps
 -- chains of cache blocks, as they are gone through
 pub mod ChainWays
+-- the blocks of caches, as they are listed
+pub mod BlockSteps
 -- which caches are wrong
 pub mod Wrongness

@@ -5,6 +5,7 @@ use Rattle.std.specs.{List.list_all, Option.option_and_then}
 use Rattle.std.proofs.Common.{◌≡◌, ◌<◌, ◌≤◌, ◌∙◌, ◌+◌, ℕ, Bool, true, false, List, [], ◌∷◌, ◌++◌, ap, arith, inl, inr, length, refl, set, subst, sym}
 use Rattle.std.proofs.lemmas.Bool.{and_parts, cases_Bool, cond-true, eq-eqb, eqb-true, Decides.eqb_tells, Decides.nat_tests}
 use Rattle.std.proofs.lemmas.List.{get_or-set_same, get_or-set_other, length-set, Sums.sum_by-cons}
+use Rattle.std.proofs.lemmas.Option.{cond_some}
 use Rattle.adf_findings.specs.Members.{has_mark}
 use Rattle.adf_links.specs.Links.{is_entry_at}
 use Rattle.adf_caches.specs.Marking.{mark_each, mark_one}
@@ -32,11 +33,6 @@ begins_with : (f : List Bool → Option (List Bool)) (o : Option (List Bool)) (n
     → (m : List Bool) × (o ≡ Some m) × (f m ≡ Some new)
 begins_with f (Some m) new e = (m, refl, e)
 begins_with f None new e = cc
-
--- a test that lets something pass
-passes : (t : Bool) (m new : List Bool) → cond t (Some m) None ≡ Some new → (t ≡ true) × (m ≡ new)
-passes true m new e = let same : m ≡ new = cc in (refl, same)
-passes false m new e = cc
 
 weighed : (n k : ℕ) (os : List (Option ℕ)) → count_by (is_entry_at n) (Some k ∷ os) ≡ cond (k == n) 1 0 + count_by (is_entry_at n) os
 weighed n k os = sum_by-cons (λ o. cond (is_entry_at n o) 1 0) (Some k) os
@@ -93,7 +89,7 @@ marked_each [] old new e =
 marked_each (None ∷ os) old new e = cc
 marked_each (Some k ∷ os) old new e =
     let step = begins_with (mark_each os) (mark_one (Some k) old) new e in
-    let pass = passes (nat_lt k (length old) && not (has_mark old k)) (set old k true) step.0 step.1 in
+    let pass = cond_some (nat_lt k (length old) && not (has_mark old k)) (set old k true) step.0 step.1 in
     let parts = and_parts (nat_lt k (length old)) (not (has_mark old k)) pass.0 in
     let lt : k < length old = grind (arith, nat_tests) in
     let free : has_mark old k ≡ false = grind (arith, nat_tests) in

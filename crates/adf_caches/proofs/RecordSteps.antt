@@ -4,7 +4,7 @@ use Rattle.std.specs.Prelude.{◌&&◌, ◌==◌, Option, Some, None, cond, map,
 use Rattle.std.specs.Option.{option_and_then}
 use Rattle.std.proofs.Common.{◌≡◌, ◌<◌, ◌≤◌, ◌∙◌, ◌+◌, ◌-◌, ℕ, suc, Bool, true, false, List, ap, arith, inl, inr, length, refl, set, subst, sym}
 use Rattle.std.proofs.lemmas.Bool.{and_parts, eqb-true, Decides.eqb_tells}
-use Rattle.std.proofs.lemmas.List.{get_or-set_other, length-set}
+use Rattle.std.proofs.lemmas.{List.get_or-set_other, List.length-set, Option.cond_some}
 use Rattle.adf_volume.specs.Walk.{Walk, node_block}
 use Rattle.adf_findings.specs.Members.{has_mark, parent_node}
 use Rattle.adf_links.specs.Links.{has_entry, headed_at}
@@ -55,11 +55,6 @@ named_none c k e at f marks o end lt names none h =
     sym h ∙ (named_more c k e at f marks lt
     ∙ ap (option_and_then (mark_each (map f (records_from c (e - (k + 1)) (record_next c at))))) one)
 
--- what a test lets pass
-let_pass : (t : Bool) (n k : ℕ) → cond t (Some n) None ≡ Some k → (t ≡ true) × (n ≡ k)
-let_pass true n k e = let same : n ≡ k = cc in (refl, same)
-let_pass false n k e = cc
-
 -- a step that leads to something begins with something
 leads_from : (f : ℕ → Option ℕ) (o : Option ℕ) (n : ℕ) → option_and_then f o ≡ Some n → (k : ℕ) × (f k ≡ Some n)
 leads_from f (Some k) n e = (k, e)
@@ -72,16 +67,12 @@ unfolding entry_recorded
 recorded_in image w d r n e =
     let step = leads_from (if_recorded image w d r) (headed_at w r.header) n e in
     let m = step.0 in
-    let pass = let_pass (has_entry w m && ((parent_node w m == d) && is_record_of image (node_block w m) r)) m n step.1 in
+    let pass = cond_some (has_entry w m && ((parent_node w m == d) && is_record_of image (node_block w m) r)) m n step.1 in
     let parts : (has_entry w m ≡ true) × (((parent_node w m == d) && is_record_of image (node_block w m) r) ≡ true) = and_parts _ _ pass.0 in
     let more : ((parent_node w m == d) ≡ true) × (is_record_of image (node_block w m) r ≡ true) = and_parts _ _ parts.1 in (
       subst (λ i. has_entry w i ≡ true) pass.1 parts.0,
       subst (λ i. parent_node w i ≡ d) pass.1 (eqb-true (parent_node w m) d more.0),
     )
-
-marks_passed : (t : Bool) (m new : List Bool) → cond t (Some m) None ≡ Some new → (t ≡ true) × (m ≡ new)
-marks_passed true m new e = let same : m ≡ new = cc in (refl, same)
-marks_passed false m new e = cc
 
 module _ (w : Walk) (d : ℕ) where
   pub keeps_none : (old : List Bool) → KeepsOthers w d old old
@@ -98,7 +89,7 @@ module _ (w : Walk) (d : ℕ) where
       → KeepsOthers w d old new
   keeps_marked None old new e inside = cc
   keeps_marked (Some k) old new e inside =
-      let pass = marks_passed (nat_lt k (length old) && not (has_mark old k)) (set old k true) new e in
+      let pass = cond_some (nat_lt k (length old) && not (has_mark old k)) (set old k true) new e in
       subst (KeepsOthers w d old) pass.1 (record {
         size = length-set old k true;
         others = λ n out. elim (eqb_tells n k) [

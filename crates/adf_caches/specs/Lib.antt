@@ -6,5 +6,7 @@ pub mod Paths
 pub mod Marking
 -- directory caches, and which are right
 pub mod Caches
+-- the blocks of directory caches
+pub mod Blocks
 -- what marks tell of chains
 pub mod Judging

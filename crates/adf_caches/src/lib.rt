@@ -1,10 +1,12 @@
-//! Directory caches: which of them are right.
+//! Directory caches: which of them are right, and their blocks.
 #![tactic(auto)]
 
+mod all_blocks;
 mod blocks;
 mod chains;
 mod listing;
 mod records;
 mod wrong;
 
-pub use crate::wrong::{directory_header, wrong_caches};
+pub use crate::all_blocks::cache_blocks;
+pub use crate::wrong::{directory_header, root_block, wrong_caches};

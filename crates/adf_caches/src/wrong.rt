@@ -26,9 +26,9 @@ fn has_caches(image: &[u8]) -> bool
     image.get(3).copied().unwrap_or(0) >= 4
 }
 
-// The block of the root, if it is taken.
+/// The block of the root, if it is taken.
 #[tactic(auto, using(crate::proofs::Wrongness::root_inside))]
-fn root_block(survey: &Survey<'_>) -> Option<u32>
+pub fn root_block(survey: &Survey<'_>) -> Option<u32>
     ensures root { IfSome result (λ b. b ≡ root_of survey.now.image) }
     ensures inside { IfSome result (λ b. b * 512 + 512 ≤ length survey.now.image) }
     ensures none { OnSurvey survey.now.image (λ w _. IfNone result (w ≡ [])) }
@@ -49,8 +49,8 @@ fn part_at<'s>(survey: &'s Survey<'_>, b: u32) -> Option<Block<'s>>
     None
 }
 
-// The header of a directory that is found.
-fn directory_head<'s>(survey: &'s Survey<'_>, root: u32, d: Node) -> Option<Block<'s>>
+/// The header of a directory that is found.
+pub fn directory_head<'s>(survey: &'s Survey<'_>, root: u32, d: Node) -> Option<Block<'s>>
     requires is { root ≡ root_of survey.now.image }
     requires inside { root * 512 + 512 ≤ length survey.now.image }
     ensures some { OnSurvey survey.now.image (λ w _. is_some result ≡ is_found_directory survey.now.image w d) }
