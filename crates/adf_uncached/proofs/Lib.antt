@@ -1,0 +1,8 @@
+-- the bits of blocks, as they are read and set
+pub mod BitSteps
+-- the first fault where parts have none
+pub mod FaultSteps
+-- one verdict on an image
+pub mod OneVerdict
+-- what the survey of an image gives
+pub mod SurveySteps
