@@ -14,7 +14,7 @@ use Rattle.adf_caches.proofs.BlockSteps.{have_chains}
 use Rattle.adf_blocks.specs.declared.cause.Cause.TheVariants.{DirCache}
 use Rattle.adf_volume.specs.Fault.{fault}
 use Rattle.adf_uncached.specs.declared.images.Uncached.{Uncached}
-use Rattle.adf_uncached.specs.Uncached.{Holds, IsUncached, blocks_if_right, fault_if_wrong, first_wrong, free_fault, freed, is_cached, retyped}
+use Rattle.adf_uncached.specs.Uncached.{KeepsAs, IsUncached, blocks_if_right, fault_if_wrong, first_wrong, free_fault, freed, is_cached, plainly_typed}
 
 -- tests that agree find the same
 find_same : (p q : ℕ → Bool) → ((n : ℕ) → p n ≡ q n) → (ns : List ℕ) → find p ns ≡ find q ns
@@ -95,7 +95,7 @@ module _ (image : List ℕ) (w : Walk) (marks : List Bool) (size : length marks 
 
 module _ (image : List ℕ) (w : Walk) (u : Uncached) where
   -- what is kept where a cache is wrong
-  pub held_wrong : (d : ℕ) → first_wrong image w ≡ Some d → Holds u (retyped image) [] (Some (fault (directory_header image w d) DirCache))
+  pub held_wrong : (d : ℕ) → first_wrong image w ≡ Some d → KeepsAs u (plainly_typed image) [] (Some (fault (directory_header image w d) DirCache))
       → IsUncached image w u
   held_wrong d e h = record {
     bytes = h.bytes ∙ ap (freed image) (sym (ap (blocks_if_right image w) e));
@@ -105,7 +105,7 @@ module _ (image : List ℕ) (w : Walk) (u : Uncached) where
 
   -- and where none is
   pub held_right : first_wrong image w ≡ None
-      → Holds u (freed image (cache_blocks image w)) (cache_blocks image w) (free_fault image (cache_blocks image w)) → IsUncached image w u
+      → KeepsAs u (freed image (cache_blocks image w)) (cache_blocks image w) (free_fault image (cache_blocks image w)) → IsUncached image w u
   held_right e h = record {
     bytes = h.bytes ∙ ap (freed image) (sym (ap (blocks_if_right image w) e));
     blocks = h.blocks ∙ sym (ap (blocks_if_right image w) e);
@@ -113,8 +113,8 @@ module _ (image : List ℕ) (w : Walk) (u : Uncached) where
   }
 
   -- where nothing is found, nothing is freed
-  pub held_none : (bs : List ℕ) → u.image.items ≡ retyped image → u.blocks.items ≡ bs → u.fault ≡ None → bs ≡ []
-      → Holds u (freed image bs) bs (free_fault image bs)
+  pub held_none : (bs : List ℕ) → u.image.items ≡ plainly_typed image → u.blocks.items ≡ bs → u.fault ≡ None → bs ≡ []
+      → KeepsAs u (freed image bs) bs (free_fault image bs)
   held_none bs bytes blocks fault none = record {
     bytes = bytes ∙ ap (freed image) (sym none);
     blocks = blocks;
@@ -123,16 +123,16 @@ module _ (image : List ℕ) (w : Walk) (u : Uncached) where
 
 module _ (image : List ℕ) (w : Walk) {E : Type 0} (r : Result Uncached E) where
   pub wrong_result : (d b : ℕ) → first_wrong image w ≡ Some d → b ≡ directory_header image w d
-      → IfOk r (λ u. Holds u (retyped image) [] (Some (fault b DirCache))) → IfOk r (IsUncached image w)
+      → IfOk r (λ u. KeepsAs u (plainly_typed image) [] (Some (fault b DirCache))) → IfOk r (IsUncached image w)
   wrong_result d b first at h =
-      IfOk-weaker r (λ u. Holds u (retyped image) [] (Some (fault b DirCache))) (IsUncached image w)
-      (λ u k. held_wrong image w u d first (subst (λ n. Holds u (retyped image) [] (Some (fault n DirCache))) at k)) h
+      IfOk-weaker r (λ u. KeepsAs u (plainly_typed image) [] (Some (fault b DirCache))) (IsUncached image w)
+      (λ u k. held_wrong image w u d first (subst (λ n. KeepsAs u (plainly_typed image) [] (Some (fault n DirCache))) at k)) h
 
   pub right_result : first_wrong image w ≡ None
-      → IfOk r (λ u. Holds u (freed image (cache_blocks image w)) (cache_blocks image w) (free_fault image (cache_blocks image w)))
+      → IfOk r (λ u. KeepsAs u (freed image (cache_blocks image w)) (cache_blocks image w) (free_fault image (cache_blocks image w)))
       → IfOk r (IsUncached image w)
   right_result first h =
-      IfOk-weaker r (λ u. Holds u (freed image (cache_blocks image w)) (cache_blocks image w) (free_fault image (cache_blocks image w)))
+      IfOk-weaker r (λ u. KeepsAs u (freed image (cache_blocks image w)) (cache_blocks image w) (free_fault image (cache_blocks image w)))
       (IsUncached image w) (λ u k. held_right image w u first k) h
 
 pub wrong_first : (image : List ℕ) (w : Walk) (d : ℕ) → first_wrong image w ≡ Some d → is_wrong_cache image w d ≡ true

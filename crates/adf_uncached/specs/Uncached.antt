@@ -26,12 +26,12 @@ abbrev pub right_blocks : List ℕ → Walk → List ℕ
 right_blocks image w = blocks_if_right image w (first_wrong image w)
 
 -- the image with the same type without caches: 2 for 4, 3 for 5
-abbrev pub retyped : List ℕ → List ℕ
-retyped image = set image 3 (slice_index image 3 - 2)
+abbrev pub plainly_typed : List ℕ → List ℕ
+plainly_typed image = set image 3 (slice_index image 3 - 2)
 
 -- the image with the same type without caches, and these blocks free in the bitmap
 abbrev pub freed : List ℕ → List ℕ → List ℕ
-freed image bs = fold (with_free image) (retyped image) bs
+freed image bs = fold (with_free image) (plainly_typed image) bs
 
 -- the image as that of a volume without caches: of the type without, and the blocks of right caches free in the bitmap
 abbrev pub uncached : List ℕ → Walk → List ℕ
@@ -51,11 +51,11 @@ abbrev pub cache_fault : List ℕ → Walk → Option Fault
 cache_fault image w = fault_if_wrong image w (first_wrong image w)
 
 -- what is kept of an image as one without caches: its bytes, the blocks of its caches, and their fault
-pub record Holds (u : Uncached) (copy listed : List ℕ) (caches : Option Fault) : Type 0 where
+pub record KeepsAs (u : Uncached) (copy listed : List ℕ) (caches : Option Fault) : Type 0 where
   pub bytes : u.image.items ≡ copy
   pub blocks : u.blocks.items ≡ listed
   pub fault : u.fault ≡ caches
 
 -- it is the image as one without caches
 abbrev pub IsUncached : List ℕ → Walk → Uncached → Type 0
-IsUncached image w u = Holds u (uncached image w) (right_blocks image w) (cache_fault image w)
+IsUncached image w u = KeepsAs u (uncached image w) (right_blocks image w) (cache_fault image w)

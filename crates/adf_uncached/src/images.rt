@@ -6,7 +6,7 @@ ghost use Rattle.adf_caches.specs.Blocks.{HaveChains, cache_blocks};
 ghost use Rattle.adf_findings.specs.Survey.{OnSurvey};
 ghost use Rattle.adf_volume.specs.{Fault.fault, Image.root_of};
 ghost use Rattle.adf_uncached.specs.Bits.{with_free};
-ghost use Rattle.adf_uncached.specs.Uncached.{Holds, IsUncached, free_fault, freed, is_cached, retyped};
+ghost use Rattle.adf_uncached.specs.Uncached.{KeepsAs, IsUncached, free_fault, freed, is_cached, plainly_typed};
 
 use crate::bits::set_free;
 use crate::faults::{first_free, first_marked};
@@ -38,9 +38,9 @@ pub fn is_cached(image: &[u8]) -> bool
 }
 
 // A copy of an image with the same type without caches.
-fn retyped(alloc: Global, image: &[u8]) -> Result<Vec<u8>, NoMemory>
+fn plainly_typed(alloc: Global, image: &[u8]) -> Result<Vec<u8>, NoMemory>
     requires { is_cached image.now ≡ true }
-    ensures { IfOk result (λ v. v.items ≡ retyped image.now) }
+    ensures { IfOk result (λ v. v.items ≡ plainly_typed image.now) }
 {
     let mut copy = Vec::from_slice(alloc, image)?;
     copy[3] -= 2;
@@ -71,10 +71,10 @@ fn free_fault(image: &[u8], root: u32, blocks: &[u32]) -> Option<Fault>
 // The image of a survey as one without caches, where that of the directory with its header in block `b` is wrong.
 fn with_wrong_cache(alloc: Global, image: &[u8], b: u32) -> Result<Uncached, NoMemory>
     requires { is_cached image.now ≡ true }
-    ensures { IfOk result (λ u. Holds u (retyped image.now) [] (Some (fault b DirCache))) }
+    ensures { IfOk result (λ u. KeepsAs u (plainly_typed image.now) [] (Some (fault b DirCache))) }
 {
     Ok(Uncached {
-        image: retyped(alloc, image)?,
+        image: plainly_typed(alloc, image)?,
         blocks: Vec::new(alloc),
         fault: Some(fault_at(b, Cause::DirCache)),
     })
@@ -84,12 +84,12 @@ fn with_wrong_cache(alloc: Global, image: &[u8], b: u32) -> Result<Uncached, NoM
 fn with_right_caches(alloc: Global, survey: &Survey<'_>) -> Result<Uncached, NoMemory>
     requires { is_cached survey.now.image ≡ true }
     ensures { OnSurvey survey.now.image (λ w _. HaveChains survey.now.image w
-        → IfOk result (λ u. Holds u (freed survey.now.image (cache_blocks survey.now.image w))
+        → IfOk result (λ u. KeepsAs u (freed survey.now.image (cache_blocks survey.now.image w))
         (cache_blocks survey.now.image w) (free_fault survey.now.image (cache_blocks survey.now.image w)))) }
 {
     let image = survey.image();
     let blocks = cache_blocks(alloc, survey)?;
-    let mut copy = retyped(alloc, image)?;
+    let mut copy = plainly_typed(alloc, image)?;
     let Some(root) = root_block(survey) else {
         return Ok(Uncached {
             image: copy,
