@@ -13,3 +13,8 @@ pub mod Refusals
 pub mod PathsKept
 pub mod MovedPaths
 pub mod DepthsKept
+pub mod StandingPlaces
+pub mod IndexKeys
+pub mod IndexedPaths
+pub mod IndexSteps
+pub mod IndexEdits

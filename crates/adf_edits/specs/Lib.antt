@@ -3,3 +3,4 @@ pub mod Paths
 pub mod Outline
 pub mod TreeFaults
 pub mod Edits
+pub mod Index

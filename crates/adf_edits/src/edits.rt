@@ -106,7 +106,7 @@ impl From<NoMemory> for EditFault {
 }
 
 // Whether the body is that of a directory.
-fn is_dir(body: &Body) -> bool
+pub fn is_dir(body: &Body) -> bool
     ensures { result ≡ is_dir_body body.now }
 {
     match body {
@@ -116,14 +116,14 @@ fn is_dir(body: &Body) -> bool
 }
 
 // Whether an entry has this path.
-fn is_at(path: &[Name], item: &Item) -> bool
+pub fn is_at(path: &[Name], item: &Item) -> bool
     ensures { result ≡ is_at path.now item.now }
 {
     same_path(&item.path, path)
 }
 
 // Whether an entry has this path, or is in the directory that has it.
-fn is_within(path: &[Name], item: &Item) -> bool
+pub fn is_within(path: &[Name], item: &Item) -> bool
     ensures { result ≡ is_within path.now item.now }
 {
     is_at_or_under(path, &item.path)
@@ -137,7 +137,7 @@ fn is_directory_at(path: &[Name], item: &Item) -> bool
 }
 
 // Whether an entry is a file with this path.
-fn is_file_named(path: &[Name], item: &Item) -> bool
+pub fn is_file_named(path: &[Name], item: &Item) -> bool
     ensures { result ≡ is_file_named path.now item.now }
 {
     !is_dir(&item.body) && same_path(&item.path, path)
@@ -232,7 +232,7 @@ fn room_fault(alloc: Global, items: &[Item], path: &[Name]) -> Result<Option<Edi
 }
 
 // The same entry with the path `to` in the place of its first names, as many as `from` has.
-fn rebased(alloc: Global, item: Item, from: &[Name], to: &[Name]) -> Result<Item, NoMemory>
+pub fn rebased(alloc: Global, item: Item, from: &[Name], to: &[Name]) -> Result<Item, NoMemory>
     requires { length from.now ≤ length item.path }
     ensures { IfOk result (λ x. x ≡ rebased from.now to.now item) }
 {
@@ -248,7 +248,7 @@ fn rebased(alloc: Global, item: Item, from: &[Name], to: &[Name]) -> Result<Item
 
 // Whether an entry's path gets too deep where `to` stands for its first names, as many as `from` has.
 #[tactic(auto, using(crate::proofs::Depths::moved_long))]
-fn gets_deep(from: &[Name], to: &[Name], item: &Item) -> bool
+pub fn gets_deep(from: &[Name], to: &[Name], item: &Item) -> bool
     ensures { result ≡ gets_deep from.now to.now item.now }
 {
     let behind = item.path.len().saturating_sub(from.len());
@@ -390,7 +390,7 @@ impl Change {
 }
 
 // Makes a change of an entry if it has the path.
-fn change_item(item: &mut Item, path: &[Name], change: &Change)
+pub fn change_item(item: &mut Item, path: &[Name], change: &Change)
     ensures { item.new ≡ changed_if path.now change.now item.old }
 {
     if is_at(path, item) {
@@ -422,7 +422,7 @@ fn changed(items: Vec<Item>, path: &[Name], change: &Change) -> Result<Vec<Item>
 }
 
 // A copy of bytes.
-fn bytes_of(alloc: Global, bytes: &[u8]) -> Result<Bytes, NoMemory>
+pub fn bytes_of(alloc: Global, bytes: &[u8]) -> Result<Bytes, NoMemory>
     ensures { IfOk result (λ b. b ≡ bytes.now) }
 {
     let mut copy = Vec::new(alloc);
@@ -431,7 +431,12 @@ fn bytes_of(alloc: Global, bytes: &[u8]) -> Result<Bytes, NoMemory>
 }
 
 // Gives an entry these bytes if it is a file with this path.
-fn refill_item(alloc: Global, item: &mut Item, path: &[Name], bytes: &[u8]) -> Result<(), NoMemory>
+pub fn refill_item(
+    alloc: Global,
+    item: &mut Item,
+    path: &[Name],
+    bytes: &[u8],
+) -> Result<(), NoMemory>
     ensures { OnOk result (item.new ≡ refilled_if path.now bytes.now item.old) }
 {
     if is_file_named(path, item) {
@@ -479,7 +484,7 @@ fn replaced(
 }
 
 // A new entry, with no comment, nothing forbidden and no date.
-fn new_item(path: Vec<Name>, body: Body) -> Item
+pub fn new_item(path: Vec<Name>, body: Body) -> Item
     ensures { result ≡ new_addition path.items body }
 {
     let comment = Comment::new(b"").unwrap();
@@ -491,14 +496,14 @@ fn new_item(path: Vec<Name>, body: Body) -> Item
 }
 
 // The first of the given bytes, as many as a file has.
-fn first_of(given: &[u8], size: u32) -> &[u8]
+pub fn first_of(given: &[u8], size: u32) -> &[u8]
     ensures { result.now ≡ take size given.now }
 {
     &given[..given.len().min(size as usize)]
 }
 
 // A file of these bytes.
-fn new_file(alloc: Global, path: Vec<Name>, bytes: &[u8]) -> Result<Item, NoMemory>
+pub fn new_file(alloc: Global, path: Vec<Name>, bytes: &[u8]) -> Result<Item, NoMemory>
     ensures { IfOk result (λ x. x ≡ new_addition path.items (Body.File bytes.now)) }
 {
     let bytes = bytes_of(alloc, bytes)?;
@@ -531,7 +536,7 @@ fn edited_items(
 }
 
 // The label after an edit.
-fn edited_label(label: Label, edit: &Edit) -> Label
+pub fn edited_label(label: Label, edit: &Edit) -> Label
     ensures { result ≡ edited_label (edit_value edit.now) label }
 {
     match edit {

@@ -2,6 +2,8 @@
 #![tactic(auto)]
 
 mod edits;
+mod index;
+mod indexed;
 mod laws;
 mod outline;
 mod path_text;
@@ -9,6 +11,7 @@ mod paths;
 mod tree_fault;
 
 pub use crate::edits::{Change, Edit, EditFault};
+pub use crate::indexed::IndexedOutline;
 pub use crate::laws::{
     changes_keep_other_paths, directories_keep_other_paths, edits_keep_depth, edits_keep_room,
     files_keep_other_paths, labels_keep_paths, moves_keep_other_paths, outlines_have_their_trees,

@@ -1,0 +1,94 @@
+-- Entries by place, and the index of their paths. ps are the entries by place, None where one was taken away.
+use Rattle.std.specs.Prelude.{◌≡◌, ◌≢◌, ◌⊎◌, ◌==◌, ℕ, Bool, true, false, List, [], ◌∷◌, ◌++◌, Option, Some, None, Result, Ok, length, map, fold}
+use Rattle.std.specs.{List.slice_get, List.filter_map, Option.option_and_then, Ordering.nat_cmp}
+use Rattle.std.specs.{declared.cmp.Ordering.Ordering, BTreeMap.BTreeMap, BTreeMap.get_by, BTreeMap.insert_entry, Cmp.Lexicographic.slice_cmp, Global.Vec}
+use Rattle.adf_names.specs.Texts.{uppers}
+use Rattle.adf_tree.specs.{Additions.Addition, Tree.is_dir_body, Tree.parents_of}
+use Rattle.adf_edits.specs.Edits.{is_at, is_directory_at}
+use Rattle.adf_edits.specs.{declared.edits.EditFault.EditFault, Paths.is_under}
+use Rattle.adf_edits.specs.declared.index.Places.{Places}
+
+-- what stands at one place
+abbrev pub same_entry : Option Addition → Option Addition
+same_entry p = p
+
+-- the entries that stand, in order
+abbrev pub standing : List (Option Addition) → List Addition
+standing ps = filter_map same_entry ps
+
+-- the key of a path: its names in upper case, with a `/` behind each
+abbrev pub with_name : List ℕ → List ℕ → List ℕ
+with_name key name = key ++ (name ++ 47 ∷ [])
+
+abbrev pub path_key : List (List ℕ) → List ℕ
+path_key path = fold with_name [] (map uppers path)
+
+-- the place that an index has at a key, and at that of a path
+abbrev pub place_at : BTreeMap (Vec ℕ) ℕ → List ℕ → Option ℕ
+place_at index key = get_by (λ k. slice_cmp nat_cmp key k.items) index
+
+abbrev pub place_of : BTreeMap (Vec ℕ) ℕ → List (List ℕ) → Option ℕ
+place_of index path = place_at index (path_key path)
+
+-- the new index has a place more, under a key
+abbrev pub by_bytes : Vec ℕ → Vec ℕ → Ordering
+by_bytes a b = slice_cmp nat_cmp a.items b.items
+
+abbrev pub HasPlaceMore : (old new : BTreeMap (Vec ℕ) ℕ) → Vec ℕ → ℕ → Type 0
+HasPlaceMore old new key place = new.entries ≡ insert_entry by_bytes old.entries key place
+
+-- whether an entry stands and is in the directory with this path
+abbrev pub is_entry_under : List (List ℕ) → Option Addition → Bool
+is_entry_under path None = false
+is_entry_under path (Some x) = is_under path x.path
+
+-- the entry at a place
+abbrev pub entry_at : List (Option Addition) → Option ℕ → Option Addition
+entry_at ps place = option_and_then same_entry (option_and_then (slice_get ps) place)
+
+-- x stands at place i
+abbrev pub Stands : List (Option Addition) → ℕ → Addition → Type 0
+Stands ps i x = slice_get ps i ≡ Some (Some x)
+
+-- an entry with this path stands at the place that was found
+abbrev pub StandsAt : List (Option Addition) → List (List ℕ) → Option ℕ → Type 0
+StandsAt ps path None = Unit {0}
+StandsAt ps path (Some i) = (x : Addition) × Stands ps i x × (is_at path x ≡ true)
+
+-- a directory stands at place i
+abbrev pub IsDirectoryAt : List (Option Addition) → ℕ → Type 0
+IsDirectoryAt ps i = (x : Addition) × Stands ps i x × (is_dir_body x.body ≡ true)
+
+-- a file stands at place i
+abbrev pub IsFileAt : List (Option Addition) → ℕ → Type 0
+IsFileAt ps i = (x : Addition) × Stands ps i x × (is_dir_body x.body ≡ false)
+
+-- a path has a name, and its directory is the root or stands
+abbrev pub IsRooted : List (Option Addition) → List (List ℕ) → Type 0
+IsRooted ps path = (length path ≡ 1)
+    ⊎ ((length path ≢ 0) × ((i : ℕ) × (d : Addition) × Stands ps i d × (is_directory_at (parents_of path) d ≡ true)))
+
+-- the index has the place of each entry that stands, and each has its directory
+pub record IsIndexed (ps : List (Option Addition)) (index : BTreeMap (Vec ℕ) ℕ) : Type 0 where
+  pub found : (i : ℕ) (x : Addition) → Stands ps i x → place_of index x.path ≡ Some i
+  pub rooted : (i : ℕ) (x : Addition) → Stands ps i x → IsRooted ps x.path
+
+-- so it is, unless the index is not whole
+abbrev pub IsSound : Places → Type 0
+IsSound p = p.is_whole ≡ true → IsIndexed p.entries.items p.index
+
+-- the index is whole, and an entry with this path stands at place i
+pub record IsFound (p : Places) (i : ℕ) (path : List (List ℕ)) : Type 0 where
+  pub whole : p.is_whole ≡ true
+  pub sound : IsSound p
+  pub entry : StandsAt p.entries.items path (Some i)
+
+-- the directory of a path is there, and nothing stands where the index has the path
+pub record HasRoom (p : Places) (path : List (List ℕ)) : Type 0 where
+  pub rooted : IsRooted p.entries.items path
+  pub free : entry_at p.entries.items (place_of p.index path) ≡ None
+
+-- what an edit makes is done, or else nothing is
+abbrev pub IsStep : Result (List Addition) EditFault → (old new : Places) → (done : Bool) → Type 0
+IsStep made old new true = made ≡ Ok (standing new.entries.items)
+IsStep made old new false = standing new.entries.items ≡ standing old.entries.items
