@@ -6,7 +6,7 @@ use Rattle.adf_tree.specs.{Additions.Addition, Tree.is_dir_body}
 use Rattle.adf_edits.specs.Edits.{change_fault, changed_at, changed_if, has_under, is_at, move_fault, moved_additions, rebased, refilled_at, refilled_if}
 use Rattle.adf_edits.specs.Edits.{remove_fault, removed, replace_fault, unless, with_new}
 use Rattle.adf_edits.specs.declared.edits.Change.{Change}
-use Rattle.adf_edits.specs.Index.{is_entry_under, HasRoom, IsFileAt, IsFound, IsIndexed, IsRooted, IsSound, Stands, entry_at, place_of, standing}
+use Rattle.adf_edits.specs.Index.{is_entry_under, HasRoom, IsFileAt, IsIndexedAt, IsIndexed, IsRooted, IsSoundIndex, StandsIn, entry_placed, place_in_index, standing}
 use Rattle.adf_edits.specs.{declared.index.Places.Places, Paths.is_deep, Paths.is_under}
 use Rattle.adf_edits.proofs.IndexSteps.{add_made, change_made, indexed_changed, indexed_less, indexed_without, move_made, remove_made, replace_made}
 use Rattle.adf_edits.proofs.{IndexedPaths.moved_path, IndexedPaths.not_under_same}
@@ -19,7 +19,7 @@ sound_by p q ps is entries rest =
     subst (λ index. IsIndexed q.entries.items index) (sym (ap (λ (r : Places). r.index) rest))
     (subst (λ (qs : List (Option Addition)). IsIndexed qs p.index) (sym entries) is)
 
-file_here : (ps : List (Option Addition)) (i : ℕ) (x : Addition) → Stands ps i x → IsFileAt ps i → is_dir_body x.body ≡ false
+file_here : (ps : List (Option Addition)) (i : ℕ) (x : Addition) → StandsIn ps i x → IsFileAt ps i → is_dir_body x.body ≡ false
 file_here ps i x s f = let same : f.0 ≡ x = cc in subst (λ (y : Addition). is_dir_body y.body ≡ false) same f.2
 
 same_changed : (path : List (List ℕ)) (what : Change) (x : Addition) → is_at path x ≡ true
@@ -30,20 +30,20 @@ same_refilled : (path : List (List ℕ)) (bytes : List ℕ) (x : Addition) → i
     → ((refilled_if path bytes x).path ≡ x.path) × (is_dir_body (refilled_if path bytes x).body ≡ is_dir_body x.body)
 same_refilled path bytes x at file = (rw (file, at) refl, rw (file, at) refl)
 
-pub nothing_in_file : (p : Places) (path : List (List ℕ)) (i : ℕ) → IsFound p i path → IsFileAt p.entries.items i
+pub nothing_in_file : (p : Places) (path : List (List ℕ)) (i : ℕ) → IsIndexedAt p i path → IsFileAt p.entries.items i
     → has_under (standing p.entries.items) path ≡ false
 nothing_in_file p path i found is_file =
     nothing_under_file p.entries.items p.index (found.sound found.whole) path i found.entry.0 found.entry.1 found.entry.2
     (file_here p.entries.items i found.entry.0 found.entry.1 is_file)
 
-module _ (p q : Places) (path : List (List ℕ)) (i : ℕ) (found : IsFound p i path) (rest : q ≡ record p { entries = q.entries }) where
+module _ (p q : Places) (path : List (List ℕ)) (i : ℕ) (found : IsIndexedAt p i path) (rest : q ≡ record p { entries = q.entries }) where
   abbrev ps : List (Option Addition)
   ps = p.entries.items
 
   abbrev x : Addition
   x = found.entry.0
 
-  s : Stands ps i x
+  s : StandsIn ps i x
   s = found.entry.1
 
   at : is_at path x ≡ true
@@ -52,8 +52,8 @@ module _ (p q : Places) (path : List (List ℕ)) (i : ℕ) (found : IsFound p i 
   is : IsIndexed ps p.index
   is = found.sound found.whole
 
-  pub change_step : (what : Change) → ((y : Addition) → Stands ps i y → q.entries.items ≡ set ps i (Some (changed_if path what y)))
-      → (unless (change_fault (standing ps) path) (changed_at path what (standing ps)) ≡ Ok (standing q.entries.items)) × IsSound q
+  pub change_step : (what : Change) → ((y : Addition) → StandsIn ps i y → q.entries.items ≡ set ps i (Some (changed_if path what y)))
+      → (unless (change_fault (standing ps) path) (changed_at path what (standing ps)) ≡ Ok (standing q.entries.items)) × IsSoundIndex q
   change_step what entries = (
     change_made ps p.index is i x s path at what ∙ ap (λ (qs : List (Option Addition)). Ok (standing qs)) (sym (entries x s)),
     λ whole. sound_by p q (set ps i (Some (changed_if path what x)))
@@ -61,8 +61,8 @@ module _ (p q : Places) (path : List (List ℕ)) (i : ℕ) (found : IsFound p i 
   )
 
   pub replace_step : (bytes : List ℕ) → IsFileAt ps i
-      → ((y : Addition) → Stands ps i y → q.entries.items ≡ set ps i (Some (refilled_if path bytes y)))
-      → (unless (replace_fault (standing ps) path) (refilled_at path bytes (standing ps)) ≡ Ok (standing q.entries.items)) × IsSound q
+      → ((y : Addition) → StandsIn ps i y → q.entries.items ≡ set ps i (Some (refilled_if path bytes y)))
+      → (unless (replace_fault (standing ps) path) (refilled_at path bytes (standing ps)) ≡ Ok (standing q.entries.items)) × IsSoundIndex q
   replace_step bytes is_file entries =
       let file = file_here ps i x s is_file in (
         replace_made ps p.index is i x s path at bytes file ∙ ap (λ (qs : List (Option Addition)). Ok (standing qs)) (sym (entries x s)),
@@ -75,7 +75,7 @@ module _ (p q : Places) (path : List (List ℕ)) (i : ℕ) (found : IsFound p i 
   none_in_itself none = not_under_same (standing ps) path x.path at none
 
   pub remove_step : has_under (standing ps) path ≡ false → q.entries.items ≡ set ps i None
-      → (unless (remove_fault (standing ps) path) (removed path (standing ps)) ≡ Ok (standing q.entries.items)) × IsSound q
+      → (unless (remove_fault (standing ps) path) (removed path (standing ps)) ≡ Ok (standing q.entries.items)) × IsSoundIndex q
   remove_step none entries = (
     remove_made ps p.index is i x s path at none ∙ ap (λ (qs : List (Option Addition)). Ok (standing qs)) (sym entries),
     λ whole. sound_by p q (set ps i None) (indexed_less ps p.index is i x s (none_in_itself none)) entries rest,
@@ -83,11 +83,11 @@ module _ (p q : Places) (path : List (List ℕ)) (i : ℕ) (found : IsFound p i 
 
   -- a file moved: p has it, q has it no more
   module _ (is_file : IsFileAt ps i) (taken : q.entries.items ≡ set ps i None) where
-    pub taken_sound : IsSound q
+    pub taken_sound : IsSoundIndex q
     taken_sound whole =
         sound_by p q (set ps i None) (indexed_without ps p.index is i x s path path at (file_here ps i x s is_file)) taken rest
 
-    module _ (item : Addition) (item_is : Some item ≡ entry_at ps (Some i)) (to : List (List ℕ)) where
+    module _ (item : Addition) (item_is : Some item ≡ entry_placed ps (Some i)) (to : List (List ℕ)) where
       same_item : item ≡ x
       same_item = let both : Some item ≡ Some x = item_is ∙ entry_from ps i x s in cc
 
@@ -102,7 +102,7 @@ module _ (p q : Places) (path : List (List ℕ)) (i : ℕ) (found : IsFound p i 
           h ∙ (ap (λ (qs : List (Option Addition)). set qs i (Some item)) taken
           ∙ (ap (λ (y : Addition). set (set ps i None) i (Some y)) same_item ∙ put_again ps i x s))
 
-      pub put_back_sound : (r : Places) → r.entries.items ≡ set q.entries.items i (Some item) → r ≡ record q { entries = r.entries } → IsSound r
+      pub put_back_sound : (r : Places) → r.entries.items ≡ set q.entries.items i (Some item) → r ≡ record q { entries = r.entries } → IsSoundIndex r
       put_back_sound r h same whole =
           sound_by q r ps (subst (λ index. IsIndexed ps index) (sym (ap (λ (u : Places). u.index) rest)) is) (put_back_is r.entries.items h) same
 
@@ -112,9 +112,9 @@ module _ (p q : Places) (path : List (List ℕ)) (i : ℕ) (found : IsFound p i 
       move_step apart room shallow r moved =
           let rooted = subst (λ (qs : List (Option Addition)). IsRooted qs to) taken room.rooted in
           let index : q.index ≡ p.index = ap (λ (u : Places). u.index) rest in
-          let free : entry_at (set ps i None) (place_of p.index to) ≡ None =
-          subst (λ (qs : List (Option Addition)). entry_at qs (place_of p.index to) ≡ None) taken
-          (subst (λ ix. entry_at q.entries.items (place_of ix to) ≡ None) index room.free) in
+          let free : entry_placed (set ps i None) (place_in_index p.index to) ≡ None =
+          subst (λ (qs : List (Option Addition)). entry_placed qs (place_in_index p.index to) ≡ None) taken
+          (subst (λ ix. entry_placed q.entries.items (place_in_index ix to) ≡ None) index room.free) in
           let made = move_made ps p.index is i x s path to at (file_here ps i x s is_file) apart rooted free shallow in
           let all : r ≡ set ps i None ++ Some (rebased path to x) ∷ [] =
           moved ∙ (ap (λ (qs : List (Option Addition)). qs ++ Some (rebased path to item) ∷ []) taken
@@ -127,7 +127,7 @@ under_standing path (None ∷ qs) = under_standing path qs
 under_standing path (Some y ∷ qs) = ap (λ b. is_under path y.path || b) (under_standing path qs)
 
 -- an entry added
-pub add_step : (p q : Places) (x : Addition) → IsSound p → p.is_whole ≡ true → HasRoom p x.path → is_deep x.path ≡ false
+pub add_step : (p q : Places) (x : Addition) → IsSoundIndex p → p.is_whole ≡ true → HasRoom p x.path → is_deep x.path ≡ false
     → q.entries.items ≡ p.entries.items ++ Some x ∷ [] → with_new x (standing p.entries.items) ≡ Ok (standing q.entries.items)
 add_step p q x sound whole room shallow entries =
     add_made p.entries.items p.index x (sound whole) room.rooted room.free shallow ∙ ap (λ (qs : List (Option Addition)). Ok (standing qs)) (sym entries)

@@ -10,11 +10,11 @@ use Rattle.std.specs.Ordering.{match_ordering}
 use Rattle.std.specs.declared.cmp.Ordering.{Ordering, TheVariants.Less, TheVariants.Equal, TheVariants.Greater}
 use Rattle.adf_names.specs.Texts.{uppers}
 use Rattle.adf_tree.specs.Additions.{same_path}
-use Rattle.adf_edits.specs.Index.{by_bytes, path_key, place_at, with_name}
+use Rattle.adf_edits.specs.Index.{by_bytes, path_key, place_at, with_key_name}
 use Rattle.adf_edits.proofs.Places.{same_paths}
 
 pub same_key : (a b : List (List ℕ)) → same_path a b ≡ true → path_key a ≡ path_key b
-same_key a b h = ap (λ us. fold with_name [] us) ((same_paths a b).0 h)
+same_key a b h = ap (λ us. fold with_key_name [] us) ((same_paths a b).0 h)
 
 abbrev tests : List ℕ → Vec ℕ → Bool
 tests q k = is_eq (slice_cmp nat_cmp q k.items)
@@ -75,4 +75,4 @@ pub key_more : (path : List (List ℕ)) (i : ℕ) (name : List ℕ) → i < leng
 key_more path i name lt is =
     let more : take (i + 1) path ≡ take i path ++ name ∷ [] = take_more path i name lt ∙ ap (λ n. take i path ++ n ∷ []) is in
     append_assoc (path_key (take i path)) (uppers name) (47 ∷ []) ∙ sym (ap path_key more
-    ∙ (ap (λ us. fold with_name [] us) (map-append uppers (take i path) (name ∷ [])) ∙ fold_push with_name [] (map uppers (take i path)) (uppers name)))
+    ∙ (ap (λ us. fold with_key_name [] us) (map-append uppers (take i path) (name ∷ [])) ∙ fold_push with_key_name [] (map uppers (take i path)) (uppers name)))

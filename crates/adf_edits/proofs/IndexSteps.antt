@@ -9,7 +9,7 @@ use Rattle.adf_tree.specs.{Additions.Addition, Additions.same_path, Tree.is_dir_
 use Rattle.adf_edits.specs.Edits.{change_fault, changed_at, changed_if, has_directory, has_under, is_at, is_directory_at, is_within, refilled_at}
 use Rattle.adf_edits.specs.Edits.{move_fault, moved_additions, rebased, refilled_if, room_fault, remove_fault, removed, replace_fault, unless, with_new}
 use Rattle.adf_edits.specs.declared.edits.Change.{Change}
-use Rattle.adf_edits.specs.Index.{by_bytes, HasRoom, IsIndexed, IsRooted, IsSound, Stands, entry_at, path_key, place_at, place_of, standing}
+use Rattle.adf_edits.specs.Index.{by_bytes, HasRoom, IsIndexed, IsRooted, IsSoundIndex, StandsIn, entry_placed, path_key, place_at, place_in_index, standing}
 use Rattle.adf_edits.specs.{declared.index.Places.Places, Paths.is_deep, Paths.is_under}
 use Rattle.adf_edits.proofs.IndexKeys.{put_here, put_other}
 use Rattle.adf_edits.proofs.IndexedPaths.{moved_path, no_room_fault, nothing_under_file, only_at, under_from_parents, within_either, within_itself}
@@ -23,7 +23,7 @@ none_indexed index = record { found = λ i x s. cc; rooted = λ i x s. cc }
 
 -- one entry more
 module _ (ps : List (Option Addition)) (index new : BTreeMap (Vec ℕ) ℕ) (x : Addition) (key : Vec ℕ) (is : IsIndexed ps index)
-    (rooted : IsRooted ps x.path) (free : entry_at ps (place_of index x.path) ≡ None) (key_is : key.items ≡ path_key x.path)
+    (rooted : IsRooted ps x.path) (free : entry_placed ps (place_in_index index x.path) ≡ None) (key_is : key.items ≡ path_key x.path)
     (put : new.entries ≡ insert_entry by_bytes index.entries key (length ps)) where
   rooted_more : (path : List (List ℕ)) → IsRooted ps path → IsRooted (ps ++ Some x ∷ []) path
   rooted_more path r = elim r [
@@ -31,7 +31,7 @@ module _ (ps : List (Option Addition)) (index new : BTreeMap (Vec ℕ) ℕ) (x :
     | inr more ↦ inr (more.0, (more.1.0, more.1.1, stands_before ps x more.1.0 more.1.1 more.1.2, more.1.3))
   ]
 
-  found_more : (i : ℕ) (y : Addition) → Stands (ps ++ Some x ∷ []) i y → place_of new y.path ≡ Some i
+  found_more : (i : ℕ) (y : Addition) → StandsIn (ps ++ Some x ∷ []) i y → place_in_index new y.path ≡ Some i
   found_more i y s = elim (stands_after ps x i y s) [
     | inr last ↦
         put_here index new key (length ps) put (path_key y.path) (ap (λ (z : Addition). path_key z.path) last.1 ∙ sym key_is) ∙ ap Some (sym last.0)
@@ -40,8 +40,8 @@ module _ (ps : List (Option Addition)) (index new : BTreeMap (Vec ℕ) ℕ) (x :
           | inl same ↦ same ∙ is.found i y old
           | inr here ↦
               let keys : path_key x.path ≡ path_key y.path = sym key_is ∙ sym here in
-              let place : place_of index x.path ≡ Some i = ap (place_at index) keys ∙ is.found i y old in
-              let clash : None ≡ Some y = sym free ∙ (ap (entry_at ps) place ∙ entry_from ps i y old) in cc
+              let place : place_in_index index x.path ≡ Some i = ap (place_at index) keys ∙ is.found i y old in
+              let clash : None ≡ Some y = sym free ∙ (ap (entry_placed ps) place ∙ entry_from ps i y old) in cc
         ]
   ]
 
@@ -55,14 +55,14 @@ module _ (ps : List (Option Addition)) (index new : BTreeMap (Vec ℕ) ℕ) (x :
   }
 
 -- one entry taken away
-module _ (ps : List (Option Addition)) (index : BTreeMap (Vec ℕ) ℕ) (is : IsIndexed ps index) (i : ℕ) (x : Addition) (s : Stands ps i x) where
-  rooted_less : has_under (standing ps) x.path ≡ false → (j : ℕ) (y : Addition) → Stands ps j y → IsRooted (set ps i None) y.path
+module _ (ps : List (Option Addition)) (index : BTreeMap (Vec ℕ) ℕ) (is : IsIndexed ps index) (i : ℕ) (x : Addition) (s : StandsIn ps i x) where
+  rooted_less : has_under (standing ps) x.path ≡ false → (j : ℕ) (y : Addition) → StandsIn ps j y → IsRooted (set ps i None) y.path
   rooted_less none j y sy = elim (is.rooted j y sy) [
     | inl one ↦ inl one
     | inr more ↦
         elim (cases_eq more.1.0 i) [
           | inl here ↦
-              let at : Stands ps i more.1.1 = subst (λ k. Stands ps k more.1.1) here more.1.2 in
+              let at : StandsIn ps i more.1.1 = subst (λ k. StandsIn ps k more.1.1) here more.1.2 in
               let same : more.1.1 ≡ x = cc in
               let both = and_parts (is_dir_body more.1.1.body) (same_path more.1.1.path (parents_of y.path)) more.1.3 in
               let under : is_under x.path y.path ≡ true =
@@ -86,7 +86,7 @@ module _ (ps : List (Option Addition)) (index : BTreeMap (Vec ℕ) ℕ) (is : Is
       | inr more ↦
           elim (cases_eq more.1.0 i) [
             | inl here ↦
-                let at : Stands ps i more.1.1 = subst (λ k. Stands ps k more.1.1) here more.1.2 in
+                let at : StandsIn ps i more.1.1 = subst (λ k. StandsIn ps k more.1.1) here more.1.2 in
                 let same : more.1.1 ≡ x = cc in
                 let test : is_directory_at (parents_of other) x ≡ true = subst (λ (w : Addition). is_directory_at (parents_of other) w ≡ true) same more.1.3 in
                 inr (more.0, (i, z, stands_now ps i z (within ps i x s), rw (path, body) test))
@@ -100,7 +100,7 @@ module _ (ps : List (Option Addition)) (index : BTreeMap (Vec ℕ) ℕ) (is : Is
         | inl old ↦ is.found j y old.1
         | inr new ↦
             let same : z ≡ y = cc in
-            ap (place_of index) (ap (λ (v : Addition). v.path) (sym same) ∙ path) ∙ (is.found i x s ∙ ap Some (sym new.0))
+            ap (place_in_index index) (ap (λ (v : Addition). v.path) (sym same) ∙ path) ∙ (is.found i x s ∙ ap Some (sym new.0))
       ];
       rooted = λ j y w. elim (stands_written ps i (Some z) j y w) [
         | inl old ↦ rooted_changed y.path (is.rooted j y old.1)
@@ -131,13 +131,13 @@ module _ (ps : List (Option Addition)) (index : BTreeMap (Vec ℕ) ℕ) (is : Is
             let both = and_parts (is_dir_body one.1.body) (same_path one.1.path path) one.3 in
             elim (cases_eq one.0 i) [
               | inl here ↦
-                  let at_i : Stands ps i one.1 = subst (λ k. Stands ps k one.1) here one.2 in
+                  let at_i : StandsIn ps i one.1 = subst (λ k. StandsIn ps k one.1) here one.2 in
                   let same : one.1 ≡ x = cc in
                   let clash : true ≡ false = sym both.0 ∙ (ap (λ (w : Addition). is_dir_body w.body) same ∙ file) in cc
               | inr ne ↦ let clash : true ≡ false = sym both.1 ∙ only_at ps index is path i x s at one.0 one.1 one.2 ne in cc
             ])
 
-        others : (j : ℕ) (y : Addition) → Stands ps j y → j ≢ i → refilled_if path bytes y ≡ y
+        others : (j : ℕ) (y : Addition) → StandsIn ps j y → j ≢ i → refilled_if path bytes y ≡ y
         others j y sy ne = elim (cases_Bool (is_dir_body y.body)) [
           | inl t ↦ rw t refl
           | inr f ↦ rw (f, only_at ps index is path i x s at j y sy ne) refl
@@ -150,11 +150,11 @@ module _ (ps : List (Option Addition)) (index : BTreeMap (Vec ℕ) ℕ) (is : Is
 
 -- an entry added
 pub add_made : (ps : List (Option Addition)) (index : BTreeMap (Vec ℕ) ℕ) (x : Addition) → IsIndexed ps index → IsRooted ps x.path
-    → entry_at ps (place_of index x.path) ≡ None → is_deep x.path ≡ false → with_new x (standing ps) ≡ Ok (standing (ps ++ Some x ∷ []))
+    → entry_placed ps (place_in_index index x.path) ≡ None → is_deep x.path ≡ false → with_new x (standing ps) ≡ Ok (standing (ps ++ Some x ∷ []))
 add_made ps index x is rooted free shallow = rw (no_room_fault ps index is x.path rooted free shallow) (ap Ok (sym (pushed ps x)))
 
 -- a file moved
-module _ (ps : List (Option Addition)) (index : BTreeMap (Vec ℕ) ℕ) (is : IsIndexed ps index) (i : ℕ) (x : Addition) (s : Stands ps i x)
+module _ (ps : List (Option Addition)) (index : BTreeMap (Vec ℕ) ℕ) (is : IsIndexed ps index) (i : ℕ) (x : Addition) (s : StandsIn ps i x)
     (from to : List (List ℕ)) (at : is_at from x ≡ true) (file : is_dir_body x.body ≡ false) where
   none_under : has_under (standing ps) from ≡ false
   none_under = nothing_under_file ps index is from i x s at file
@@ -162,13 +162,13 @@ module _ (ps : List (Option Addition)) (index : BTreeMap (Vec ℕ) ℕ) (is : Is
   pub indexed_without : IsIndexed (set ps i None) index
   indexed_without = indexed_less ps index is i x s (nothing_under_file ps index is x.path i x s ((same_paths x.path x.path).1 refl) file)
 
-  not_within : (j : ℕ) (y : Addition) → Stands ps j y → j ≢ i → is_within from y ≡ false
+  not_within : (j : ℕ) (y : Addition) → StandsIn ps j y → j ≢ i → is_within from y ≡ false
   not_within j y sy ne = false_from_ne_true (is_within from y) (λ h. elim (within_either from y.path h) [
     | inl same ↦ let clash : true ≡ false = sym same ∙ only_at ps index is from i x s at j y sy ne in cc
     | inr under ↦ let clash : true ≡ false = sym (passing (λ z. is_under from z.path) ps j y sy under) ∙ none_under in cc
   ])
 
-  pub move_made : is_under from to ≡ false → IsRooted (set ps i None) to → entry_at (set ps i None) (place_of index to) ≡ None → is_deep to ≡ false
+  pub move_made : is_under from to ≡ false → IsRooted (set ps i None) to → entry_placed (set ps i None) (place_in_index index to) ≡ None → is_deep to ≡ false
       → unless (move_fault (standing ps) from to) (moved_additions from to (standing ps))
       ≡ Ok (standing (set ps i None ++ Some (rebased from to x) ∷ []))
   move_made apart rooted free shallow =
@@ -180,7 +180,7 @@ module _ (ps : List (Option Addition)) (index : BTreeMap (Vec ℕ) ℕ) (is : Is
 
 -- the index stays sound
 
-pub sound_more : (p : Places) (new : BTreeMap (Vec ℕ) ℕ) (x : Addition) (key : Vec ℕ) (room : Bool) → IsSound p
+pub sound_more : (p : Places) (new : BTreeMap (Vec ℕ) ℕ) (x : Addition) (key : Vec ℕ) (room : Bool) → IsSoundIndex p
     → (room ≡ true → HasRoom p x.path) → key.items ≡ path_key x.path
     → new.entries ≡ insert_entry by_bytes p.index.entries key (length p.entries.items) → (p.is_whole && room) ≡ true
     → IsIndexed (p.entries.items ++ Some x ∷ []) new

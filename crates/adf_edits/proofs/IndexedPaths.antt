@@ -9,7 +9,7 @@ use Rattle.std.specs.{BTreeMap.BTreeMap, Global.Vec}
 use Rattle.adf_names.specs.Texts.{uppers}
 use Rattle.adf_tree.specs.{Additions.Addition, Additions.same_path, Tree.is_dir_body, Tree.parents_of}
 use Rattle.adf_edits.specs.Edits.{has_path, has_under, is_at, is_directory_at, is_file_above, leads_through_file, leads_to_directory, room_fault}
-use Rattle.adf_edits.specs.Index.{IsIndexed, IsRooted, Stands, entry_at, path_key, place_at, place_of, standing, with_name}
+use Rattle.adf_edits.specs.Index.{IsIndexed, IsRooted, StandsIn, entry_placed, path_key, place_at, place_in_index, standing, with_key_name}
 use Rattle.adf_edits.specs.Paths.{is_at_or_under, is_deep, is_under}
 use Rattle.adf_edits.proofs.{IndexKeys.same_key, Places.same_paths, StandingPlaces.entry_from, StandingPlaces.passes, StandingPlaces.passing}
 
@@ -118,31 +118,31 @@ to_directory ps path rooted = elim rooted [
 
 module _ (ps : List (Option Addition)) (index : BTreeMap (Vec ℕ) ℕ) (is : IsIndexed ps index) where
   -- paths that are the same stand at one place
-  pub one_place : (i j : ℕ) (x y : Addition) → Stands ps i x → Stands ps j y → map uppers x.path ≡ map uppers y.path → i ≡ j
+  pub one_place : (i j : ℕ) (x y : Addition) → StandsIn ps i x → StandsIn ps j y → map uppers x.path ≡ map uppers y.path → i ≡ j
   one_place i j x y sx sy same =
-      let keys : path_key x.path ≡ path_key y.path = ap (λ us. fold with_name [] us) same in
+      let keys : path_key x.path ≡ path_key y.path = ap (λ us. fold with_key_name [] us) same in
       let places : Some i ≡ Some j = sym (is.found i x sx) ∙ (ap (place_at index) keys ∙ is.found j y sy) in cc
 
-  pub only_at : (path : List (List ℕ)) (i : ℕ) (x : Addition) → Stands ps i x → is_at path x ≡ true
-      → (j : ℕ) (y : Addition) → Stands ps j y → j ≢ i → is_at path y ≡ false
+  pub only_at : (path : List (List ℕ)) (i : ℕ) (x : Addition) → StandsIn ps i x → is_at path x ≡ true
+      → (j : ℕ) (y : Addition) → StandsIn ps j y → j ≢ i → is_at path y ≡ false
   only_at path i x sx at j y sy ne = false_from_ne_true (is_at path y) (λ h.
       ne (one_place j i y x sy sx ((same_paths y.path path).0 h ∙ sym ((same_paths x.path path).0 at))))
 
   -- nothing has a path where nothing stands at its place
-  pub free_path : (path : List (List ℕ)) → entry_at ps (place_of index path) ≡ None → has_path (standing ps) path ≡ false
+  pub free_path : (path : List (List ℕ)) → entry_placed ps (place_in_index index path) ≡ None → has_path (standing ps) path ≡ false
   free_path path none = false_from_ne_true (has_path (standing ps) path) (λ h.
       let one = passes (is_at path) ps h in
-      let place : place_of index path ≡ Some one.0 = ap (place_at index) (sym (same_key one.1.path path one.3)) ∙ is.found one.0 one.1 one.2 in
-      let clash : None ≡ Some one.1 = sym none ∙ (ap (entry_at ps) place ∙ entry_from ps one.0 one.1 one.2) in cc)
+      let place : place_in_index index path ≡ Some one.0 = ap (place_at index) (sym (same_key one.1.path path one.3)) ∙ is.found one.0 one.1 one.2 in
+      let clash : None ≡ Some one.1 = sym none ∙ (ap (entry_placed ps) place ∙ entry_from ps one.0 one.1 one.2) in cc)
 
-  some_name : (i : ℕ) (x : Addition) → Stands ps i x → length x.path ≢ 0
+  some_name : (i : ℕ) (x : Addition) → StandsIn ps i x → length x.path ≢ 0
   some_name i x s e = elim (is.rooted i x s) [
     | inl one ↦ omega (arith, one, e)
     | inr more ↦ more.0 e
   ]
 
   -- no file is above a path whose directory stands
-  no_file_by : (n : ℕ) (path : List (List ℕ)) → length path ≤ n → IsRooted ps path → (i : ℕ) (f : Addition) → Stands ps i f
+  no_file_by : (n : ℕ) (path : List (List ℕ)) → length path ≤ n → IsRooted ps path → (i : ℕ) (f : Addition) → StandsIn ps i f
       → is_dir_body f.body ≡ false → is_under f.path path ≡ true → ⊥
   no_file_by zero path le rooted i f s file h = let lt : length f.path < length path = (under_parts f.path path h).0 in omega arith
   no_file_by (suc n) path le rooted i f s file h =
@@ -165,7 +165,7 @@ module _ (ps : List (Option Addition)) (index : BTreeMap (Vec ℕ) ℕ) (is : Is
                   let there : map uppers d.path ≡ map uppers f.path =
                   same ∙ (ap (λ m. map uppers (take m path)) equal ∙ (under_parts f.path path h).1) in
                   let place : k ≡ i = one_place k i d f more.1.2 s there in
-                  let here : Stands ps i d = subst (λ m. Stands ps m d) place more.1.2 in
+                  let here : StandsIn ps i d = subst (λ m. StandsIn ps m d) place more.1.2 in
                   let same_entry : d ≡ f = cc in
                   let clash : true ≡ false = sym both.0 ∙ (ap (λ (x : Addition). is_dir_body x.body) same_entry ∙ file) in cc
             ]
@@ -178,7 +178,7 @@ module _ (ps : List (Option Addition)) (index : BTreeMap (Vec ℕ) ℕ) (is : Is
       no_file_by (length path) path (omega arith) rooted one.0 one.1 one.2 (not-true (is_dir_body one.1.body) both.0) both.1)
 
   -- nothing is in a file
-  pub nothing_under_file : (path : List (List ℕ)) (i : ℕ) (x : Addition) → Stands ps i x → is_at path x ≡ true → is_dir_body x.body ≡ false
+  pub nothing_under_file : (path : List (List ℕ)) (i : ℕ) (x : Addition) → StandsIn ps i x → is_at path x ≡ true → is_dir_body x.body ≡ false
       → has_under (standing ps) path ≡ false
   nothing_under_file path i x s at file = false_from_ne_true (has_under (standing ps) path) (λ h.
       let one = passes (λ y. is_under path y.path) ps h in
@@ -186,7 +186,7 @@ module _ (ps : List (Option Addition)) (index : BTreeMap (Vec ℕ) ℕ) (is : Is
       no_file_by (length one.1.path) one.1.path (omega arith) (is.rooted one.0 one.1 one.2) i x s file under)
 
   -- a path has room
-  pub no_room_fault : (path : List (List ℕ)) → IsRooted ps path → entry_at ps (place_of index path) ≡ None → is_deep path ≡ false
+  pub no_room_fault : (path : List (List ℕ)) → IsRooted ps path → entry_placed ps (place_in_index index path) ≡ None → is_deep path ≡ false
       → room_fault (standing ps) path ≡ None
   no_room_fault path rooted free shallow =
       rw (some_of ps path rooted, no_file_above path rooted, to_directory ps path rooted, free_path path free, shallow) refl

@@ -5,42 +5,42 @@ use Rattle.std.proofs.Common.{length, map, set, refl, sym, ap, ◌∙◌, arith,
 use Rattle.std.proofs.{lemmas.Bool.cases_Bool, lemmas.List.Elements.filter_map-append}
 use Rattle.std.specs.List.{filter, list_any, slice_get}
 use Rattle.adf_tree.specs.Additions.{Addition}
-use Rattle.adf_edits.specs.Index.{Stands, entry_at, same_entry, standing}
+use Rattle.adf_edits.specs.Index.{StandsIn, entry_placed, same_entry, standing}
 
-pub same_here : (ps : List (Option Addition)) (i : ℕ) (x y : Addition) → Stands ps i x → Stands ps i y → x ≡ y
+pub same_here : (ps : List (Option Addition)) (i : ℕ) (x y : Addition) → StandsIn ps i x → StandsIn ps i y → x ≡ y
 same_here ps i x y a b = cc
 
-pub within : (ps : List (Option Addition)) (i : ℕ) (x : Addition) → Stands ps i x → i < length ps
+pub within : (ps : List (Option Addition)) (i : ℕ) (x : Addition) → StandsIn ps i x → i < length ps
 within [] i x h = cc
 within (o ∷ ps) zero x h = omega arith
 within (o ∷ ps) (suc i) x h = let lt : i < length ps = within ps i x h in omega arith
 
 -- the entry at a place
-pub stands_from : (ps : List (Option Addition)) (i : ℕ) (x : Addition) → entry_at ps (Some i) ≡ Some x → Stands ps i x
+pub stands_from : (ps : List (Option Addition)) (i : ℕ) (x : Addition) → entry_placed ps (Some i) ≡ Some x → StandsIn ps i x
 stands_from [] i x h = cc
 stands_from (None ∷ ps) zero x h = cc
 stands_from (Some y ∷ ps) zero x h = ap (λ (o : Option Addition). Some o) h
 stands_from (o ∷ ps) (suc i) x h = stands_from ps i x h
 
-pub entry_from : (ps : List (Option Addition)) (i : ℕ) (x : Addition) → Stands ps i x → entry_at ps (Some i) ≡ Some x
+pub entry_from : (ps : List (Option Addition)) (i : ℕ) (x : Addition) → StandsIn ps i x → entry_placed ps (Some i) ≡ Some x
 entry_from [] i x h = cc
 entry_from (None ∷ ps) zero x h = cc
 entry_from (Some y ∷ ps) zero x h = cc
 entry_from (o ∷ ps) (suc i) x h = entry_from ps i x h
 
-pub none_past : (ps : List (Option Addition)) (i : ℕ) → length ps ≤ i → entry_at ps (Some i) ≡ None
+pub none_past : (ps : List (Option Addition)) (i : ℕ) → length ps ≤ i → entry_placed ps (Some i) ≡ None
 none_past [] i le = refl
 none_past (o ∷ ps) zero le = absurd (omega arith)
 none_past (o ∷ ps) (suc i) le = none_past ps i (omega arith)
 
 -- one entry more at the end
-pub stands_before : (ps : List (Option Addition)) (x : Addition) (i : ℕ) (y : Addition) → Stands ps i y → Stands (ps ++ Some x ∷ []) i y
+pub stands_before : (ps : List (Option Addition)) (x : Addition) (i : ℕ) (y : Addition) → StandsIn ps i y → StandsIn (ps ++ Some x ∷ []) i y
 stands_before [] x i y h = cc
 stands_before (o ∷ ps) x zero y h = h
 stands_before (o ∷ ps) x (suc i) y h = stands_before ps x i y h
 
-pub stands_after : (ps : List (Option Addition)) (x : Addition) (i : ℕ) (y : Addition) → Stands (ps ++ Some x ∷ []) i y
-    → Stands ps i y ⊎ ((i ≡ length ps) × (y ≡ x))
+pub stands_after : (ps : List (Option Addition)) (x : Addition) (i : ℕ) (y : Addition) → StandsIn (ps ++ Some x ∷ []) i y
+    → StandsIn ps i y ⊎ ((i ≡ length ps) × (y ≡ x))
 stands_after [] x zero y h = inr (refl, cc)
 stands_after [] x (suc i) y h = cc
 stands_after (o ∷ ps) x zero y h = inl h
@@ -50,15 +50,15 @@ pub pushed : (ps : List (Option Addition)) (x : Addition) → standing (ps ++ So
 pushed ps x = filter_map-append same_entry ps (Some x ∷ [])
 
 -- one entry written
-pub stands_other : (ps : List (Option Addition)) (i : ℕ) (o : Option Addition) (j : ℕ) (y : Addition) → j ≢ i → Stands ps j y → Stands (set ps i o) j y
+pub stands_other : (ps : List (Option Addition)) (i : ℕ) (o : Option Addition) (j : ℕ) (y : Addition) → j ≢ i → StandsIn ps j y → StandsIn (set ps i o) j y
 stands_other [] i o j y ne h = cc
 stands_other (q ∷ ps) zero o zero y ne h = absurd (ne refl)
 stands_other (q ∷ ps) zero o (suc j) y ne h = h
 stands_other (q ∷ ps) (suc i) o zero y ne h = h
 stands_other (q ∷ ps) (suc i) o (suc j) y ne h = stands_other ps i o j y (λ e. ne (ap (λ n. suc n) e)) h
 
-pub stands_written : (ps : List (Option Addition)) (i : ℕ) (o : Option Addition) (j : ℕ) (y : Addition) → Stands (set ps i o) j y
-    → ((j ≢ i) × Stands ps j y) ⊎ ((j ≡ i) × (o ≡ Some y))
+pub stands_written : (ps : List (Option Addition)) (i : ℕ) (o : Option Addition) (j : ℕ) (y : Addition) → StandsIn (set ps i o) j y
+    → ((j ≢ i) × StandsIn ps j y) ⊎ ((j ≡ i) × (o ≡ Some y))
 stands_written [] i o j y h = cc
 stands_written (q ∷ ps) zero o zero y h = inr (refl, cc)
 stands_written (q ∷ ps) zero o (suc j) y h = inl (λ e. omega (arith, e), h)
@@ -68,19 +68,19 @@ stands_written (q ∷ ps) (suc i) o (suc j) y h = elim (stands_written ps i o j 
   | inr new ↦ inr (ap (λ n. suc n) new.0, new.1)
 ]
 
-pub stands_now : (ps : List (Option Addition)) (i : ℕ) (x : Addition) → i < length ps → Stands (set ps i (Some x)) i x
+pub stands_now : (ps : List (Option Addition)) (i : ℕ) (x : Addition) → i < length ps → StandsIn (set ps i (Some x)) i x
 stands_now [] i x lt = absurd (omega arith)
 stands_now (q ∷ ps) zero x lt = refl
 stands_now (q ∷ ps) (suc i) x lt = stands_now ps i x (omega arith)
 
-pub put_again : (ps : List (Option Addition)) (i : ℕ) (x : Addition) → Stands ps i x → set (set ps i None) i (Some x) ≡ ps
+pub put_again : (ps : List (Option Addition)) (i : ℕ) (x : Addition) → StandsIn ps i x → set (set ps i None) i (Some x) ≡ ps
 put_again [] i x h = cc
 put_again (q ∷ ps) zero x h = let is : Some x ≡ q = cc in ap (λ (o : Option Addition). o ∷ ps) is
 put_again (q ∷ ps) (suc i) x h = ap (λ (qs : List (Option Addition)). q ∷ qs) (put_again ps i x h)
 
 -- whether something that stands passes a test
 pub passes : (p : Addition → Bool) (ps : List (Option Addition)) → list_any p (standing ps) ≡ true
-    → (i : ℕ) × (x : Addition) × Stands ps i x × (p x ≡ true)
+    → (i : ℕ) × (x : Addition) × StandsIn ps i x × (p x ≡ true)
 passes p [] h = cc
 passes p (None ∷ ps) h = let more = passes p ps h in (suc more.0, more.1, more.2, more.3)
 passes p (Some y ∷ ps) h = elim (cases_Bool (p y)) [
@@ -88,7 +88,7 @@ passes p (Some y ∷ ps) h = elim (cases_Bool (p y)) [
   | inr f ↦ let more = passes p ps (rw f at h) in (suc more.0, more.1, more.2, more.3)
 ]
 
-pub passing : (p : Addition → Bool) (ps : List (Option Addition)) (i : ℕ) (x : Addition) → Stands ps i x → p x ≡ true
+pub passing : (p : Addition → Bool) (ps : List (Option Addition)) (i : ℕ) (x : Addition) → StandsIn ps i x → p x ≡ true
     → list_any p (standing ps) ≡ true
 passing p [] i x h t = cc
 passing p (None ∷ ps) zero x h t = cc
@@ -97,7 +97,7 @@ passing p (None ∷ ps) (suc i) x h t = passing p ps i x h t
 passing p (Some y ∷ ps) (suc i) x h t = elim (cases_Bool (p y)) [ inl u ↦ rw u refl | inr f ↦ rw f (passing p ps i x h t) ]
 
 -- where nothing passes
-none_left_out : (p : Addition → Bool) (ps : List (Option Addition)) → ((i : ℕ) (x : Addition) → Stands ps i x → p x ≡ false)
+none_left_out : (p : Addition → Bool) (ps : List (Option Addition)) → ((i : ℕ) (x : Addition) → StandsIn ps i x → p x ≡ false)
     → (standing ps ≡ filter (λ x. not (p x)) (standing ps)) × (filter p (standing ps) ≡ [])
 none_left_out p [] h = (refl, refl)
 none_left_out p (None ∷ ps) h = none_left_out p ps (λ i x s. h (suc i) x s)
@@ -107,8 +107,8 @@ none_left_out p (Some y ∷ ps) h =
     (rw f (ap (λ (xs : List Addition). y ∷ xs) more.0), rw f more.1)
 
 -- where one alone passes, the rest is what stands without it
-pub one_taken : (p : Addition → Bool) (ps : List (Option Addition)) (i : ℕ) (x : Addition) → Stands ps i x → p x ≡ true
-    → ((j : ℕ) (y : Addition) → Stands ps j y → j ≢ i → p y ≡ false)
+pub one_taken : (p : Addition → Bool) (ps : List (Option Addition)) (i : ℕ) (x : Addition) → StandsIn ps i x → p x ≡ true
+    → ((j : ℕ) (y : Addition) → StandsIn ps j y → j ≢ i → p y ≡ false)
     → (standing (set ps i None) ≡ filter (λ y. not (p y)) (standing ps)) × (filter p (standing ps) ≡ x ∷ [])
 one_taken p [] i x s t h = cc
 one_taken p (None ∷ ps) zero x s t h = cc
@@ -123,7 +123,7 @@ one_taken p (Some y ∷ ps) (suc i) x s t h =
     (rw f (ap (λ (xs : List Addition). y ∷ xs) rest.0), rw f rest.1)
 
 -- where nothing is changed
-none_done : (f : Addition → Addition) (ps : List (Option Addition)) → ((i : ℕ) (x : Addition) → Stands ps i x → f x ≡ x)
+none_done : (f : Addition → Addition) (ps : List (Option Addition)) → ((i : ℕ) (x : Addition) → StandsIn ps i x → f x ≡ x)
     → standing ps ≡ map f (standing ps)
 none_done f [] h = refl
 none_done f (None ∷ ps) h = none_done f ps (λ i x s. h (suc i) x s)
@@ -132,8 +132,8 @@ none_done f (Some y ∷ ps) h =
     rw same (ap (λ (xs : List Addition). y ∷ xs) (none_done f ps (λ i x s. h (suc i) x s)))
 
 -- where one alone is changed
-pub one_done : (f : Addition → Addition) (ps : List (Option Addition)) (i : ℕ) (x : Addition) → Stands ps i x
-    → ((j : ℕ) (y : Addition) → Stands ps j y → j ≢ i → f y ≡ y) → standing (set ps i (Some (f x))) ≡ map f (standing ps)
+pub one_done : (f : Addition → Addition) (ps : List (Option Addition)) (i : ℕ) (x : Addition) → StandsIn ps i x
+    → ((j : ℕ) (y : Addition) → StandsIn ps j y → j ≢ i → f y ≡ y) → standing (set ps i (Some (f x))) ≡ map f (standing ps)
 one_done f [] i x s h = cc
 one_done f (None ∷ ps) zero x s h = cc
 one_done f (Some y ∷ ps) zero x s h =

@@ -17,18 +17,18 @@ abbrev pub standing : List (Option Addition) → List Addition
 standing ps = filter_map same_entry ps
 
 -- the key of a path: its names in upper case, with a `/` behind each
-abbrev pub with_name : List ℕ → List ℕ → List ℕ
-with_name key name = key ++ (name ++ 47 ∷ [])
+abbrev pub with_key_name : List ℕ → List ℕ → List ℕ
+with_key_name key name = key ++ (name ++ 47 ∷ [])
 
 abbrev pub path_key : List (List ℕ) → List ℕ
-path_key path = fold with_name [] (map uppers path)
+path_key path = fold with_key_name [] (map uppers path)
 
 -- the place that an index has at a key, and at that of a path
 abbrev pub place_at : BTreeMap (Vec ℕ) ℕ → List ℕ → Option ℕ
 place_at index key = get_by (λ k. slice_cmp nat_cmp key k.items) index
 
-abbrev pub place_of : BTreeMap (Vec ℕ) ℕ → List (List ℕ) → Option ℕ
-place_of index path = place_at index (path_key path)
+abbrev pub place_in_index : BTreeMap (Vec ℕ) ℕ → List (List ℕ) → Option ℕ
+place_in_index index path = place_at index (path_key path)
 
 -- the new index has a place more, under a key
 abbrev pub by_bytes : Vec ℕ → Vec ℕ → Ordering
@@ -43,50 +43,50 @@ is_entry_under path None = false
 is_entry_under path (Some x) = is_under path x.path
 
 -- the entry at a place
-abbrev pub entry_at : List (Option Addition) → Option ℕ → Option Addition
-entry_at ps place = option_and_then same_entry (option_and_then (slice_get ps) place)
+abbrev pub entry_placed : List (Option Addition) → Option ℕ → Option Addition
+entry_placed ps place = option_and_then same_entry (option_and_then (slice_get ps) place)
 
 -- x stands at place i
-abbrev pub Stands : List (Option Addition) → ℕ → Addition → Type 0
-Stands ps i x = slice_get ps i ≡ Some (Some x)
+abbrev pub StandsIn : List (Option Addition) → ℕ → Addition → Type 0
+StandsIn ps i x = slice_get ps i ≡ Some (Some x)
 
 -- an entry with this path stands at the place that was found
 abbrev pub StandsAt : List (Option Addition) → List (List ℕ) → Option ℕ → Type 0
 StandsAt ps path None = Unit {0}
-StandsAt ps path (Some i) = (x : Addition) × Stands ps i x × (is_at path x ≡ true)
+StandsAt ps path (Some i) = (x : Addition) × StandsIn ps i x × (is_at path x ≡ true)
 
 -- a directory stands at place i
 abbrev pub IsDirectoryAt : List (Option Addition) → ℕ → Type 0
-IsDirectoryAt ps i = (x : Addition) × Stands ps i x × (is_dir_body x.body ≡ true)
+IsDirectoryAt ps i = (x : Addition) × StandsIn ps i x × (is_dir_body x.body ≡ true)
 
 -- a file stands at place i
 abbrev pub IsFileAt : List (Option Addition) → ℕ → Type 0
-IsFileAt ps i = (x : Addition) × Stands ps i x × (is_dir_body x.body ≡ false)
+IsFileAt ps i = (x : Addition) × StandsIn ps i x × (is_dir_body x.body ≡ false)
 
 -- a path has a name, and its directory is the root or stands
 abbrev pub IsRooted : List (Option Addition) → List (List ℕ) → Type 0
 IsRooted ps path = (length path ≡ 1)
-    ⊎ ((length path ≢ 0) × ((i : ℕ) × (d : Addition) × Stands ps i d × (is_directory_at (parents_of path) d ≡ true)))
+    ⊎ ((length path ≢ 0) × ((i : ℕ) × (d : Addition) × StandsIn ps i d × (is_directory_at (parents_of path) d ≡ true)))
 
 -- the index has the place of each entry that stands, and each has its directory
 pub record IsIndexed (ps : List (Option Addition)) (index : BTreeMap (Vec ℕ) ℕ) : Type 0 where
-  pub found : (i : ℕ) (x : Addition) → Stands ps i x → place_of index x.path ≡ Some i
-  pub rooted : (i : ℕ) (x : Addition) → Stands ps i x → IsRooted ps x.path
+  pub found : (i : ℕ) (x : Addition) → StandsIn ps i x → place_in_index index x.path ≡ Some i
+  pub rooted : (i : ℕ) (x : Addition) → StandsIn ps i x → IsRooted ps x.path
 
 -- so it is, unless the index is not whole
-abbrev pub IsSound : Places → Type 0
-IsSound p = p.is_whole ≡ true → IsIndexed p.entries.items p.index
+abbrev pub IsSoundIndex : Places → Type 0
+IsSoundIndex p = p.is_whole ≡ true → IsIndexed p.entries.items p.index
 
 -- the index is whole, and an entry with this path stands at place i
-pub record IsFound (p : Places) (i : ℕ) (path : List (List ℕ)) : Type 0 where
+pub record IsIndexedAt (p : Places) (i : ℕ) (path : List (List ℕ)) : Type 0 where
   pub whole : p.is_whole ≡ true
-  pub sound : IsSound p
+  pub sound : IsSoundIndex p
   pub entry : StandsAt p.entries.items path (Some i)
 
 -- the directory of a path is there, and nothing stands where the index has the path
 pub record HasRoom (p : Places) (path : List (List ℕ)) : Type 0 where
   pub rooted : IsRooted p.entries.items path
-  pub free : entry_at p.entries.items (place_of p.index path) ≡ None
+  pub free : entry_placed p.entries.items (place_in_index p.index path) ≡ None
 
 -- what an edit makes is done, or else nothing is
 abbrev pub IsStep : Result (List Addition) EditFault → (old new : Places) → (done : Bool) → Type 0

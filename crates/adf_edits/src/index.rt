@@ -4,8 +4,8 @@ ghost use Rattle.std.specs.Prelude.{◌≡◌, ◌<◌, ◌++◌, ◌∷◌, [],
 ghost use Rattle.adf_tree.specs.Additions.{Addition};
 ghost use Rattle.std.specs.List.{list_any};
 ghost use Rattle.adf_edits.specs.Edits.{changed_if, refilled_if};
-ghost use Rattle.adf_edits.specs.Index.{HasPlaceMore, HasRoom, IsDirectoryAt, IsFileAt, IsRooted, IsSound, Stands, StandsAt};
-ghost use Rattle.adf_edits.specs.Index.{entry_at, is_entry_under, path_key, place_at, place_of};
+ghost use Rattle.adf_edits.specs.Index.{HasPlaceMore, HasRoom, IsDirectoryAt, IsFileAt, IsRooted, IsSoundIndex, StandsIn, StandsAt};
+ghost use Rattle.adf_edits.specs.Index.{entry_placed, is_entry_under, path_key, place_at, place_in_index};
 
 use crate::edits::{Change, change_item, is_at, is_dir, refill_item};
 use crate::outline::Item;
@@ -48,8 +48,8 @@ fn place_at(index: &BTreeMap<Vec<u8>, usize>, key: &[u8]) -> Option<usize>
 }
 
 // The entry at a place.
-fn entry_at(entries: &[Option<Item>], place: usize) -> Option<&Item>
-    ensures { option_copied result ≡ entry_at entries.now (Some place) }
+fn entry_placed(entries: &[Option<Item>], place: usize) -> Option<&Item>
+    ensures { option_copied result ≡ entry_placed entries.now (Some place) }
 {
     if entries.len() <= place {
         return None;
@@ -91,7 +91,7 @@ impl Places {
     /// No entries.
     pub fn new(alloc: Global) -> Places
         ensures none { result.entries.items ≡ [] }
-        ensures sound { IsSound result }
+        ensures sound { IsSoundIndex result }
     {
         Places {
             entries: Vec::new(alloc),
@@ -101,8 +101,8 @@ impl Places {
     }
 
     // The place of a path.
-    fn place_of(&self, alloc: Global, path: &[Name]) -> Result<Option<usize>, NoMemory>
-        ensures { IfOk result (λ place. place ≡ place_of self.now.index path.now) }
+    fn place_in_index(&self, alloc: Global, path: &[Name]) -> Result<Option<usize>, NoMemory>
+        ensures { IfOk result (λ place. place ≡ place_in_index self.now.index path.now) }
     {
         let key = key_of(alloc, path)?;
         Ok(place_at(&self.index, &key))
@@ -112,10 +112,10 @@ impl Places {
     pub fn find(&self, alloc: Global, path: &[Name]) -> Result<Option<usize>, NoMemory>
         ensures { IfOk result (λ found. StandsAt self.now.entries.items path.now found) }
     {
-        let Some(place) = self.place_of(alloc, path)? else {
+        let Some(place) = self.place_in_index(alloc, path)? else {
             return Ok(None);
         };
-        match entry_at(&self.entries, place) {
+        match entry_placed(&self.entries, place) {
             Some(item) if is_at(path, item) => Ok(Some(place)),
             _ => Ok(None),
         }
@@ -124,10 +124,10 @@ impl Places {
     // Whether no entry stands where the index has this path.
     fn is_free(&self, alloc: Global, path: &[Name]) -> Result<bool, NoMemory>
         ensures { IfOk result (λ free. free ≡ true
-            → entry_at self.now.entries.items (place_of self.now.index path.now) ≡ None) }
+            → entry_placed self.now.entries.items (place_in_index self.now.index path.now) ≡ None) }
     {
-        match self.place_of(alloc, path)? {
-            Some(place) => Ok(entry_at(&self.entries, place).is_none()),
+        match self.place_in_index(alloc, path)? {
+            Some(place) => Ok(entry_placed(&self.entries, place).is_none()),
             None => Ok(true),
         }
     }
@@ -136,7 +136,7 @@ impl Places {
     fn is_dir_at(&self, place: usize) -> bool
         ensures { result ≡ true → IsDirectoryAt self.now.entries.items place }
     {
-        match entry_at(&self.entries, place) {
+        match entry_placed(&self.entries, place) {
             Some(item) => is_dir(&item.body),
             None => false,
         }
@@ -165,9 +165,9 @@ impl Places {
     /// Appends an entry. If it may have no room, the index is no longer whole.
     pub fn push(&mut self, alloc: Global, item: Item, has_room: bool) -> Result<(), NoMemory>
         requires room { has_room ≡ true → HasRoom self.old item.path }
-        requires sound { IsSound self.old }
+        requires sound { IsSoundIndex self.old }
         ensures entry { OnOk result (self.new.entries.items ≡ self.old.entries.items ++ Some item ∷ []) }
-        ensures sound { OnOk result (IsSound self.new) }
+        ensures sound { OnOk result (IsSoundIndex self.new) }
     {
         let key = key_of(alloc, &item.path)?;
         let place = self.entries.len();
@@ -181,7 +181,7 @@ impl Places {
     pub fn is_file_at(&self, place: usize) -> bool
         ensures { result ≡ true → IsFileAt self.now.entries.items place }
     {
-        match entry_at(&self.entries, place) {
+        match entry_placed(&self.entries, place) {
             Some(item) => !is_dir(&item.body),
             None => false,
         }
@@ -190,7 +190,7 @@ impl Places {
     /// Takes the entry away that stands at a place.
     pub fn take(&mut self, place: usize) -> Option<Item>
         requires { place < length self.old.entries.items }
-        ensures item { result ≡ entry_at self.old.entries.items (Some place) }
+        ensures item { result ≡ entry_placed self.old.entries.items (Some place) }
         ensures entries { self.new.entries.items ≡ set self.old.entries.items place None }
         ensures rest { self.new ≡ record self.old { entries = self.new.entries } }
     {
@@ -209,7 +209,7 @@ impl Places {
     /// Makes a change of the entry at a place, if it has this path.
     pub fn change(&mut self, place: usize, path: &[Name], change: &Change)
         requires { place < length self.old.entries.items }
-        ensures entries { (x : Addition) → Stands self.old.entries.items place x
+        ensures entries { (x : Addition) → StandsIn self.old.entries.items place x
             → self.new.entries.items ≡ set self.old.entries.items place (Some (changed_if path.now change.now x)) }
         ensures rest { self.new ≡ record self.old { entries = self.new.entries } }
     {
@@ -227,7 +227,7 @@ impl Places {
         bytes: &[u8],
     ) -> Result<(), NoMemory>
         requires { place < length self.old.entries.items }
-        ensures entries { OnOk result ((x : Addition) → Stands self.old.entries.items place x
+        ensures entries { OnOk result ((x : Addition) → StandsIn self.old.entries.items place x
             → self.new.entries.items ≡ set self.old.entries.items place (Some (refilled_if path.now bytes.now x))) }
         ensures rest { OnOk result (self.new ≡ record self.old { entries = self.new.entries }) }
     {

@@ -3,7 +3,7 @@
 ghost use Rattle.std.specs.Prelude.{◌≡◌, ◌≢◌, ◌++◌, ◌∷◌, [], Ok, Err, IfOk, IfErr, OnOk, false, true};
 ghost use Rattle.adf_edits.specs.Edits.{change_fault, changed_at, edit_value, edited, edited_additions, move_fault, moved_additions};
 ghost use Rattle.adf_edits.specs.Edits.{has_under, refilled_at, remove_fault, removed, replace_fault, unless, with_new};
-ghost use Rattle.adf_edits.specs.{Index.IsFileAt, Index.IsFound, Index.IsSound, Index.IsStep, Index.standing, Paths.is_under};
+ghost use Rattle.adf_edits.specs.{Index.IsFileAt, Index.IsIndexedAt, Index.IsSoundIndex, Index.IsStep, Index.standing, Paths.is_under};
 
 use crate::edits::{Change, Edit, EditFault, edited_label, first_of, new_file, new_item, rebased};
 use crate::index::{Places, any_under};
@@ -26,7 +26,7 @@ pub struct IndexedOutline {
 
 impl Model for IndexedOutline {
     ghost use Rattle.adf_edits.specs.Outline.{OutlineValue};
-    ghost use Rattle.adf_edits.specs.Index.{IsSound, standing};
+    ghost use Rattle.adf_edits.specs.Index.{IsSoundIndex, standing};
 
     ghost Value = { OutlineValue };
 
@@ -37,7 +37,7 @@ impl Model for IndexedOutline {
       additions = standing o.places.entries.items;
     } };
 
-    ghost invariant = { λ o. IsSound o.places };
+    ghost invariant = { λ o. IsSoundIndex o.places };
 }
 
 // Changes what has a path.
@@ -47,10 +47,10 @@ fn quick_change(
     path: &[Name],
     change: &Change,
 ) -> Result<bool, NoMemory>
-    requires { IsSound places.old }
+    requires { IsSoundIndex places.old }
     ensures step { IfOk result (IsStep (unless (change_fault (standing places.old.entries.items) path.now)
         (changed_at path.now change.now (standing places.old.entries.items))) places.old places.new) }
-    ensures sound { OnOk result (IsSound places.new) }
+    ensures sound { OnOk result (IsSoundIndex places.new) }
 {
     if !places.is_whole {
         return Ok(false);
@@ -71,10 +71,10 @@ fn quick_replace(
     path: &[Name],
     bytes: &[u8],
 ) -> Result<bool, NoMemory>
-    requires { IsSound places.old }
+    requires { IsSoundIndex places.old }
     ensures step { IfOk result (IsStep (unless (replace_fault (standing places.old.entries.items) path.now)
         (refilled_at path.now bytes.now (standing places.old.entries.items))) places.old places.new) }
-    ensures sound { OnOk result (IsSound places.new) }
+    ensures sound { OnOk result (IsSoundIndex places.new) }
 {
     if !places.is_whole {
         return Ok(false);
@@ -93,9 +93,9 @@ fn quick_replace(
 
 // Adds an entry.
 fn quick_add(alloc: Global, places: &mut Places, item: Item) -> Result<bool, NoMemory>
-    requires { IsSound places.old }
+    requires { IsSoundIndex places.old }
     ensures step { IfOk result (IsStep (with_new item (standing places.old.entries.items)) places.old places.new) }
-    ensures sound { OnOk result (IsSound places.new) }
+    ensures sound { OnOk result (IsSoundIndex places.new) }
 {
     if !places.is_whole || is_deep(&item.path) || !places.has_room(alloc, &item.path)? {
         return Ok(false);
@@ -107,7 +107,7 @@ fn quick_add(alloc: Global, places: &mut Places, item: Item) -> Result<bool, NoM
 // Whether nothing stands in the directory with this path, which stands at this place, or it is a file.
 #[tactic(auto, using(crate::proofs::IndexEdits::under_standing))]
 fn is_empty_at(places: &Places, place: usize, path: &[Name]) -> bool
-    requires { IsFound places.now place path.now }
+    requires { IsIndexedAt places.now place path.now }
     ensures { result ≡ true → has_under (standing places.now.entries.items) path.now ≡ false }
 {
     places.is_file_at(place) || !any_under(&places.entries, path)
@@ -115,10 +115,10 @@ fn is_empty_at(places: &Places, place: usize, path: &[Name]) -> bool
 
 // Removes what has a path.
 fn quick_remove(alloc: Global, places: &mut Places, path: &[Name]) -> Result<bool, NoMemory>
-    requires { IsSound places.old }
+    requires { IsSoundIndex places.old }
     ensures step { IfOk result (IsStep (unless (remove_fault (standing places.old.entries.items) path.now)
         (removed path.now (standing places.old.entries.items))) places.old places.new) }
-    ensures sound { OnOk result (IsSound places.new) }
+    ensures sound { OnOk result (IsSoundIndex places.new) }
 {
     if !places.is_whole {
         return Ok(false);
@@ -143,12 +143,12 @@ fn move_file(
     from: &[Name],
     to: &[Name],
 ) -> Result<bool, NoMemory>
-    requires found { IsFound places.old place from.now }
+    requires found { IsIndexedAt places.old place from.now }
     requires file { IsFileAt places.old.entries.items place }
     requires apart { is_under from.now to.now ≡ false }
     ensures step { IfOk result (IsStep (unless (move_fault (standing places.old.entries.items) from.now to.now)
         (moved_additions from.now to.now (standing places.old.entries.items))) places.old places.new) }
-    ensures sound { OnOk result (IsSound places.new) }
+    ensures sound { OnOk result (IsSoundIndex places.new) }
 {
     let Some(item) = places.take(place) else {
         return Ok(false);
@@ -169,10 +169,10 @@ fn quick_move(
     from: &[Name],
     to: &[Name],
 ) -> Result<bool, NoMemory>
-    requires { IsSound places.old }
+    requires { IsSoundIndex places.old }
     ensures step { IfOk result (IsStep (unless (move_fault (standing places.old.entries.items) from.now to.now)
         (moved_additions from.now to.now (standing places.old.entries.items))) places.old places.new) }
-    ensures sound { OnOk result (IsSound places.new) }
+    ensures sound { OnOk result (IsSoundIndex places.new) }
 {
     if !places.is_whole || is_under(from, to) {
         return Ok(false);
@@ -204,10 +204,10 @@ fn quick_edit(
     edit: &Edit,
     given: &[u8],
 ) -> Result<bool, NoMemory>
-    requires { IsSound places.old }
+    requires { IsSoundIndex places.old }
     ensures step { IfOk result (IsStep (edited_additions (edit_value edit.now) given.now (standing places.old.entries.items))
         places.old places.new) }
-    ensures sound { OnOk result (IsSound places.new) }
+    ensures sound { OnOk result (IsSoundIndex places.new) }
 {
     match edit {
         Edit::Remove(path) => quick_remove(alloc, places, path),
@@ -251,7 +251,7 @@ fn items_of(alloc: Global, entries: Vec<Option<Item>>) -> Result<Vec<Item>, NoMe
 // The places of entries.
 fn places_of(alloc: Global, items: Vec<Item>) -> Result<Places, NoMemory>
     ensures standing { IfOk result (λ places. standing places.entries.items ≡ items.items) }
-    ensures sound { IfOk result IsSound }
+    ensures sound { IfOk result IsSoundIndex }
 {
     let mut places = Places::new(alloc);
     for item in items {

@@ -1,12 +1,12 @@
 use Rattle.std.proofs.Common.{◌≡◌, arith, subst, true}
 use Rattle.std.proofs.lemmas.Grind.{common_steps}
-use Rattle.adf_edits.specs.Index.{IsFound, StandsAt}
+use Rattle.adf_edits.specs.Index.{IsIndexedAt, StandsAt}
 use Rattle.adf_edits.proofs.IndexEdits.{remove_step}
 use Rattle.adf_edits.proofs.indexed.quick_remove.Goals as goal
 
 pub returns-else-not-is_empty_at-clause-step : goal.returns-else-not-is_empty_at-clause-step
 returns-else-not-is_empty_at-clause-step c =
-    let found : IsFound c.args.places.now c.in-Some.place c.args.path.now = record {
+    let found : IsIndexedAt c.args.places.now c.in-Some.place c.args.path.now = record {
       whole = grind (arith, common_steps);
       sound = c.requires;
       entry = subst (StandsAt c.args.places.now.entries.items c.args.path.now) c.in-Some.is c.in_ok-place.ensures;
@@ -17,7 +17,7 @@ returns-else-not-is_empty_at-clause-step c =
 
 pub returns-else-not-is_empty_at-clause-sound : goal.returns-else-not-is_empty_at-clause-sound
 returns-else-not-is_empty_at-clause-sound c =
-    let found : IsFound c.args.places.now c.in-Some.place c.args.path.now = record {
+    let found : IsIndexedAt c.args.places.now c.in-Some.place c.args.path.now = record {
       whole = grind (arith, common_steps);
       sound = c.requires;
       entry = subst (StandsAt c.args.places.now.entries.items c.args.path.now) c.in-Some.is c.in_ok-place.ensures;

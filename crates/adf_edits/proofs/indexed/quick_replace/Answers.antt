@@ -1,12 +1,12 @@
 use Rattle.std.proofs.Common.{◌≡◌, arith, subst, true}
 use Rattle.std.proofs.lemmas.Grind.{common_steps}
-use Rattle.adf_edits.specs.Index.{IsFound, StandsAt}
+use Rattle.adf_edits.specs.Index.{IsIndexedAt, StandsAt}
 use Rattle.adf_edits.proofs.IndexEdits.{replace_step}
 use Rattle.adf_edits.proofs.indexed.quick_replace.Goals as goal
 
 pub returns-in_ok-refill-in-Some-clause-step : goal.returns-in_ok-refill-in-Some-clause-step
 returns-in_ok-refill-in-Some-clause-step c =
-    let found : IsFound c.args.places.now c.in-Some.place c.args.path.now = record {
+    let found : IsIndexedAt c.args.places.now c.in-Some.place c.args.path.now = record {
       whole = grind (arith, common_steps);
       sound = c.requires;
       entry = subst (StandsAt c.args.places.now.entries.items c.args.path.now) c.in-Some.is c.in_ok-place.ensures;
@@ -17,7 +17,7 @@ returns-in_ok-refill-in-Some-clause-step c =
 
 pub returns-in_ok-refill-in-Some-clause-sound : goal.returns-in_ok-refill-in-Some-clause-sound
 returns-in_ok-refill-in-Some-clause-sound c =
-    let found : IsFound c.args.places.now c.in-Some.place c.args.path.now = record {
+    let found : IsIndexedAt c.args.places.now c.in-Some.place c.args.path.now = record {
       whole = grind (arith, common_steps);
       sound = c.requires;
       entry = subst (StandsAt c.args.places.now.entries.items c.args.path.now) c.in-Some.is c.in_ok-place.ensures;
