@@ -1,6 +1,7 @@
 -- Answers with a text behind their output, and how a work ends with it.
 -- Letters: s, t what is surveyed; r an inquiry, q its question; w, v outcomes; o, before and after what output held in turn.
-use Rattle.std.proofs.Common.{◌≡◌, ◌∙◌, ◌++◌, ◌||◌, inl, inr, zero, suc, ℕ, Bool, true, false, cond, List, [], ◌∷◌, Option, None, Some, ap, arith, codes, is_some, refl, subst, sym}
+use Rattle.std.proofs.Common.{◌≡◌, ◌∙◌, ◌++◌, ◌||◌, inl, inr, zero, suc, ℕ, Bool, true, false, cond, List, [], ◌∷◌, Option, None, Some}
+use Rattle.std.proofs.Common.{ap, arith, codes, is_some, refl, subst, sym}
 use Rattle.std.specs.Io.KnownBytes.{Appends}
 use Rattle.adf_maps.specs.Maps.{MapValue}
 use Rattle.adf_runs.specs.{Commands.Reply, Commands.WritesFront, Commands.on_output, Streams.Seen}
@@ -15,9 +16,10 @@ use Rattle.adf_survey_cmd.specs.Answers.{AnswerBehind, AreUnreadLines, DroppedAn
 use Rattle.adf_survey_cmd.specs.Answers.{unless_blank, unless_mapped}
 use Rattle.adf_survey_cmd.specs.CommandLine.{InquiryValue, QuestionValue, list, report}
 use Rattle.adf_survey_cmd.specs.UnreadLines.{EndsBehind, IsUnreadText, ToldBehind, reply_behind, status_behind}
-use Rattle.adf_survey_cmd.specs.Work.{Answers, task_json}
-use Rattle.adf_survey_cmd.specs.{declared.work.Task.Task, declared.work.Task.TheVariants.Show, declared.work.Task.TheVariants.Rescue, declared.work.Task.TheVariants.RescueDeleted, declared.work.Task.TheVariants.RescueBefore, declared.work.Task.TheVariants.Deleted}
-use Rattle.adf_survey_cmd.specs.declared.work.View.TheVariants.{Findings, List as ListAll, Cat, Blanks as BlanksOf}
+use Rattle.adf_survey_cmd.specs.{Work.Answers, Work.task_json}
+use Rattle.adf_survey_cmd.specs.declared.work.Task.{Task, TheVariants.Show, TheVariants.Rescue, TheVariants.RescueDeleted}
+use Rattle.adf_survey_cmd.specs.declared.work.Task.TheVariants.{RescueBefore, Deleted}
+use Rattle.adf_survey_cmd.specs.declared.work.View.{TheVariants.Findings, TheVariants.List as ListAll, TheVariants.Cat, TheVariants.Blanks as BlanksOf}
 
 -- a text makes no other status 3
 no_three : (text : List ℕ) (n : ℕ) → ¬ (n ≡ 3) → ¬ (status_behind text n ≡ 3)

@@ -14,7 +14,8 @@ use Rattle.adf_findings.specs.{Files.grave, Lookup.LeadsTo, SoundMarks.AreMarks,
 use Rattle.adf_findings.specs.Survey.{FindingValue, IsSurvey, finding, IsSurvey.unread, UnreadTells.bad_boot}
 use Rattle.adf_findings.proofs.{OneSurvey.one_survey, OwnKinds.none_mistyped}
 use Rattle.adf_runs.specs.Commands.{Reply, on_output}
-use Rattle.adf_rescue.specs.{Directories.directory_of, Hung.hung, Hung.second_image, Lost.has_lost, Lost.is_open, Pruned.image_read, Rescue.Basis, declared.standing.Input.Input}
+use Rattle.adf_rescue.specs.{Directories.directory_of, Hung.hung, Hung.second_image, Lost.has_lost, Lost.is_open, Pruned.image_read}
+use Rattle.adf_rescue.specs.{Rescue.Basis, declared.standing.Input.Input}
 use Rattle.adf_rescue.specs.Opened.{lacks_boot, lacks_root, opened}
 use Rattle.adf_rescue.proofs.{OpenedImages.length_opened, PassedFindings.unread_fault, PrunedKeeps.length_read}
 use Rattle.adf_rescue.proofs.MadeRoots.{sized as sized_len}

@@ -9,8 +9,9 @@ use Rattle.adf_survey_cmd.specs.Answers.{AnswerUnlessOther, InquiryAnswer, Refus
 use Rattle.adf_survey_cmd.specs.CommandLine.{InquiryValue, QuestionValue}
 use Rattle.adf_survey_cmd.specs.UnreadLines.{is_other_disk, other_disk_line}
 use Rattle.adf_survey_cmd.specs.Work.{Answers}
-use Rattle.adf_survey_cmd.specs.{declared.work.Task.Task, declared.work.Task.TheVariants.Show, declared.work.Task.TheVariants.Rescue, declared.work.Task.TheVariants.RescueDeleted, declared.work.Task.TheVariants.RescueBefore, declared.work.Task.TheVariants.Deleted}
-use Rattle.adf_survey_cmd.specs.declared.work.View.TheVariants.{Findings, List as ListAll, Cat, Blanks as BlanksOf}
+use Rattle.adf_survey_cmd.specs.declared.work.Task.{Task, TheVariants.Show, TheVariants.Rescue, TheVariants.RescueDeleted}
+use Rattle.adf_survey_cmd.specs.declared.work.Task.TheVariants.{RescueBefore, Deleted}
+use Rattle.adf_survey_cmd.specs.declared.work.View.{TheVariants.Findings, TheVariants.List as ListAll, TheVariants.Cat, TheVariants.Blanks as BlanksOf}
 
 -- a task has a path that is read, or none
 task_refuses : (task : Task) (q : QuestionValue) → Answers task q → RefusesMap q (on_errors 1 other_disk_line)

@@ -7,7 +7,7 @@ use Rattle.adf_maps.specs.Maps.{MapValue, map_of}
 use Rattle.adf_words.specs.Arguments.{bare_app, cat_app, flag_rule, has_flag, number_named}
 use Rattle.adf_words.specs.FileArguments.{file_met, file_rule}
 use Rattle.adf_survey_cmd.specs.declared.command_line.Inquiry.{Inquiry}
-use Rattle.adf_survey_cmd.specs.{declared.command_line.Question.Question, declared.command_line.Question.TheVariants.Report, declared.command_line.Question.TheVariants.List as ListAll}
+use Rattle.adf_survey_cmd.specs.declared.command_line.Question.{Question, TheVariants.Report, TheVariants.List as ListAll}
 use Rattle.adf_survey_cmd.specs.declared.command_line.Question.TheVariants.{Blanks, Cat, Rescue, RescueBefore, RescueDeleted, Deleted}
 
 -- the option --blocks N

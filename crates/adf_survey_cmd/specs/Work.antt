@@ -4,8 +4,9 @@ use Rattle.adf_names.specs.PathTexts.{IsPathText}
 use Rattle.adf_survey_cmd.specs.CommandLine.{InquiryValue, QuestionValue, blanks, cat, deleted, list, report, rescue, rescue_before, rescue_deleted}
 use Rattle.adf_subjects.specs.Lengths.{AreFew}
 use Rattle.adf_survey_cmd.specs.{Answers.types_kept, declared.work.Work.Work}
-use Rattle.adf_survey_cmd.specs.{declared.work.Task.Task, declared.work.Task.TheVariants.Show, declared.work.Task.TheVariants.Rescue, declared.work.Task.TheVariants.RescueDeleted, declared.work.Task.TheVariants.RescueBefore, declared.work.Task.TheVariants.Deleted}
-use Rattle.adf_survey_cmd.specs.{declared.work.View.View, declared.work.View.TheVariants.Findings, declared.work.View.TheVariants.List as ListAll, declared.work.View.TheVariants.Cat, declared.work.View.TheVariants.Blanks as BlanksOf}
+use Rattle.adf_survey_cmd.specs.declared.work.Task.{Task, TheVariants.Show, TheVariants.Rescue, TheVariants.RescueDeleted}
+use Rattle.adf_survey_cmd.specs.declared.work.Task.TheVariants.{RescueBefore, Deleted}
+use Rattle.adf_survey_cmd.specs.declared.work.View.{View, TheVariants.Findings, TheVariants.List as ListAll, TheVariants.Cat, TheVariants.Blanks as BlanksOf}
 
 -- what is shown is what is asked, with the names of the path
 abbrev pub Shows : View → QuestionValue → Type 0
