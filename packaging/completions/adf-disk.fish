@@ -2,7 +2,7 @@
 
 complete -c adf-disk -n __fish_use_subcommand -a list -d 'list the partitions of a hard disk'
 complete -c adf-disk -n __fish_use_subcommand -a check -d 'tell whether its volumes are sound'
-complete -c adf-disk -n __fish_use_subcommand -a survey -d 'list what can be read of a damaged table'
+complete -c adf-disk -n __fish_use_subcommand -a survey -d 'list the partitions, or look for volumes'
 complete -c adf-disk -n __fish_use_subcommand -a volume -d 'write the volume of a partition'
 complete -c adf-disk -n __fish_use_subcommand -a build -d 'make a hard disk of a plan'
 complete -c adf-disk -n '__fish_seen_subcommand_from list check survey' -l json -d 'write objects in JSON, one a line'

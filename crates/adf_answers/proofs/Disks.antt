@@ -5,14 +5,15 @@ use Rattle.adf_findings.specs.Verdict.{FitsOrHasFaultOf}
 use Rattle.adf_volume.specs.declared.types.Types.TheVariants.{WithInternational}
 use Rattle.adf_partitions.proofs.SomeReadings.{some_disk, some_reading}
 use Rattle.adf_plans.proofs.SomeTexts.{some_text}
-use Rattle.adf_partitions.specs.{Disks.HasListOrFault, FaultTexts.disk_fault_text, FaultTexts.place_fault_text, declared.fault.DiskFault.DiskFault}
+use Rattle.adf_partitions.specs.{Disks.HasListOrFault, FaultTexts.place_fault_text, declared.fault.DiskFault.DiskFault}
 use Rattle.adf_partitions.specs.{declared.partition.Partition.Partition, declared.place.Place.Place, declared.place.PlaceFault.PlaceFault}
 use Rattle.adf_plans.specs.PlanTexts.{HasPlanOrFault, text_fault_text}
 use Rattle.adf_runs.specs.Commands.{Reply, on_output}
-use Rattle.adf_disk_cmd.specs.CommandLine.{DiskRequestValue, WantedValue, build, check, list, search, survey, volume}
-use Rattle.adf_disk_cmd.specs.Answers.{DiskAnswer, OfDisk, OfFault, OfPartitions, volume_reply, wanted_of}
+use Rattle.adf_disk_cmd.specs.CommandLine.{DiskRequestValue, WantedValue, build, check, list, search, volume}
+use Rattle.adf_disk_cmd.specs.Answers.{DiskAnswer, OfDisk, OfPartitions, list_reply, volume_reply, wanted_of}
+use Rattle.adf_disk_cmd.specs.Surveys.{IsSurveyed, fault_lines, is_whole}
 use Rattle.adf_disk_cmd.specs.{Builds.BuildsDisk, Builds.plan_reply, Builds.refusal, Lines.volume_at}
-use Rattle.adf_disk_cmd.specs.{Objects.disk_fault_line, Objects.list_lines, Objects.verdict_line, Searches.search_reply}
+use Rattle.adf_disk_cmd.specs.{Objects.verdict_line, Searches.search_reply}
 use Rattle.adf_disk_cmd.specs.{declared.unchecked.Unchecked.Unchecked, declared.work.TheConstants.MOST_DISK_BYTES}
 use Rattle.adf_disk_cmd.specs.Checks.{AreChecked, TellsPlace, TellsVolume, check_status, unchecked_text, why_unchecked}
 
@@ -36,34 +37,30 @@ some_checks json bytes (p ∷ ps) =
     let (others, rest, are) = some_checks json bytes ps in
     (one && others, verdict_line json p one line ++ rest, (one, others, line, rest, tells, are, refl, refl))
 
--- what answers partitions and faults answers a disk
-module _ (r : DiskRequestValue) (bytes : List ℕ) (of_list : (ps : List Partition) → (reply : Reply) × OfPartitions r bytes ps reply)
-    (of_fault : (f : DiskFault) → (reply : Reply) × OfFault r bytes f reply) where
-  by_list : HasListOrFault bytes (length bytes / 512) → (reply : Reply) × OfDisk r bytes reply
-  by_list (inl (t, ps, disk)) = let (reply, tells) = of_list ps in (reply, inl (t, ps, disk, tells))
-  by_list (inr (f, first)) = let (reply, tells) = of_fault f in (reply, inr (f, first, tells))
+-- what is found on a disk
+some_survey_by : (bytes : List ℕ) (n : ℕ) → HasListOrFault bytes n → (ps : List Partition) × (o : Option DiskFault) × IsSurveyed bytes n ps o
+some_survey_by bytes n (inl (t, ps, disk)) = (ps, None, (t, disk))
+some_survey_by bytes n (inr (f, first)) = let (ps, readable) = some_reading bytes n in (ps, Some f, (readable, first))
 
-  of_disk : (reply : Reply) × OfDisk r bytes reply
-  of_disk = by_list (some_disk bytes (length bytes / 512))
+-- what answers the partitions that are found answers a disk
+of_disk : (r : DiskRequestValue) (bytes : List ℕ) → ((ps : List Partition) (o : Option DiskFault) → (reply : Reply) × OfPartitions r bytes ps o reply)
+    → (reply : Reply) × OfDisk r bytes reply
+of_disk r bytes told =
+    let (ps, o, disk) = some_survey_by bytes (length bytes / 512) (some_disk bytes (length bytes / 512)) in
+    let (reply, tells) = told ps o in
+    (reply, (ps, o, disk, tells))
 
 some_listing : (json : Bool) (bytes : List ℕ) → (reply : Reply) × OfDisk (list json) bytes reply
-some_listing json bytes = of_disk (list json) bytes (λ ps. (on_output 0 (list_lines json 1 ps), refl)) (λ f. (refusal (disk_fault_text f), refl))
+some_listing json bytes = of_disk (list json) bytes (λ ps o. (list_reply json ps o, refl))
 
 some_check : (json : Bool) (bytes : List ℕ) → (reply : Reply) × OfDisk (check json) bytes reply
 some_check json bytes =
     of_disk (check json) bytes
-    (λ ps. let (sound, text, are) = some_checks json bytes ps in (on_output (check_status sound) text, (sound, text, are, refl)))
-    (λ f. (on_output 1 (disk_fault_line json f), refl))
-
-some_survey : (json : Bool) (bytes : List ℕ) → (reply : Reply) × OfDisk (survey json) bytes reply
-some_survey json bytes =
-    of_disk (survey json) bytes (λ ps. (on_output 0 (list_lines json 1 ps), refl))
-    (λ f. let (ps, readable) = some_reading bytes (length bytes / 512) in
-    (on_output 1 (disk_fault_line json f ++ list_lines json 1 ps), (disk_fault_line json f ++ list_lines json 1 ps, (ps, readable, refl), refl)))
+    (λ ps o. let (sound, text, are) = some_checks json bytes ps in
+    (on_output (check_status (is_whole o && sound)) (fault_lines json o ++ text), (sound, text, are, refl)))
 
 some_copy : (bytes : List ℕ) (w : WantedValue) → (reply : Reply) × OfDisk (volume w) bytes reply
-some_copy bytes w =
-    of_disk (volume w) bytes (λ ps. (volume_reply bytes w (wanted_of ps w), refl)) (λ f. (refusal (disk_fault_text f), refl))
+some_copy bytes w = of_disk (volume w) bytes (λ ps o. (volume_reply bytes w (wanted_of ps w) o, refl))
 
 built_by : (text : List ℕ) → HasPlanOrFault text → (reply : Reply) × BuildsDisk text reply
 built_by text (inl (plan, given, is)) = (plan_reply plan given, inl (plan, given, is, refl))
@@ -72,7 +69,6 @@ built_by text (inr (f, is)) = (refusal (text_fault_text f), inr (f, is, refl))
 pub some_answer : (r : DiskRequestValue) (input : List ℕ) → (reply : Reply) × DiskAnswer r input reply
 some_answer (list json) input = some_listing json (take MOST_DISK_BYTES input)
 some_answer (check json) input = some_check json (take MOST_DISK_BYTES input)
-some_answer (survey json) input = some_survey json (take MOST_DISK_BYTES input)
 some_answer (search json) input = (search_reply json (take MOST_DISK_BYTES input), refl)
 some_answer (volume w) input = some_copy (take MOST_DISK_BYTES input) w
 some_answer build input = built_by (take MOST_DISK_BYTES input) (some_text (take MOST_DISK_BYTES input))

@@ -10,6 +10,8 @@ mod boot_runs;
 #[cfg(test)]
 mod changed_disks;
 #[cfg(test)]
+mod damaged_tables;
+#[cfg(test)]
 mod devices;
 #[cfg(test)]
 mod edited_letters;

@@ -103,8 +103,8 @@ const NAMED: &[Row<'static>] = &[
     (
         &["adf-disk", "list", "sound"],
         1,
-        b"",
-        "block 0: no rigid disk\n",
+        b"block 0: no rigid disk\n",
+        "",
     ),
     (
         &["adf-disk", "check", "sound"],
@@ -116,7 +116,7 @@ const NAMED: &[Row<'static>] = &[
         &["adf-disk", "volume", "DH0", "sound"],
         1,
         b"",
-        "block 0: no rigid disk\n",
+        "block 0: no rigid disk\nno such partition: DH0\n",
     ),
     (
         &["adf-disk", "build", "sound"],

@@ -1,12 +1,15 @@
 -- The lines of partitions, one behind the other.
-use Rattle.std.proofs.Common.{◌≡◌, ◌&&◌, ◌<◌, ◌+◌, ◌++◌, ◌∙◌, ℕ, Bool, true, false, List, [], ◌∷◌, Ok, ap₂, arith, refl, subst, sym, None, append-nil}
+use Rattle.std.proofs.Common.{◌≡◌, ◌&&◌, ◌<◌, ◌+◌, ◌++◌, ◌∙◌, ℕ, Bool, true, false, List, [], ◌∷◌, Ok, ap₂, arith, refl, subst, sym, None, Option, append-nil}
 use Rattle.std.proofs.{Common.append_assoc, Common.drop, Common.get_or, Common.length, Math.Seq.drop-cons, Math.Bool.and-true, lemmas.Grind.common_steps}
 use Rattle.adf_disk_cmd.specs.Checks.{AreChecked, TellsPartition, TellsPlace, TellsVolume, check_status, why_unchecked}
 use Rattle.adf_disk_cmd.specs.{Lines.volume_at, Objects.list_lines, Objects.partition_line, Objects.verdict_line}
 use Rattle.adf_cmd.specs.Answers.{Checks}
 use Rattle.adf_volume.specs.declared.types.Types.TheVariants.{WithInternational}
 use Rattle.adf_partitions.specs.{declared.partition.Partition.Partition, declared.place.Place.Place}
-use Rattle.adf_runs.specs.Commands.{on_output}
+use Rattle.adf_partitions.specs.declared.fault.DiskFault.{DiskFault}
+use Rattle.adf_disk_cmd.specs.{Answers.ChecksAll, Surveys.fault_lines, Surveys.is_whole}
+use Rattle.adf_runs.proofs.Endings.{ends_weaker}
+use Rattle.adf_runs.specs.{Commands.on_output, Outcomes.EndsBy, declared.outcome.Outcome.Outcome}
 
 -- what is left from a partition on
 pub split_at : (ps : List Partition) (i : ℕ) (p : Partition) → i < length ps → p ≡ get_or ps i p → drop i ps ≡ p ∷ drop (i + 1) ps
@@ -61,3 +64,12 @@ unfolding AreChecked
 ended json bytes ps sound text all =
     let told = subst (λ s. AreChecked json bytes ps s (text ++ [])) (and-true sound) (all true [] (refl, refl)) in
     subst (λ t. AreChecked json bytes ps sound t) (append-nil text) told
+
+-- the lines of a disk, behind that of a fault of its tables, are the answer
+pub all_told : (json : Bool) (all : List ℕ) (ps : List Partition) (u : Option DiskFault) (sound : Bool) (text bytes : List ℕ) (w : Outcome)
+    (o o' : Option (List ℕ))
+    → ((s : Bool) × (lines : List ℕ) × AreChecked json all ps s lines × (sound ≡ (is_whole u && s)) × (text ≡ fault_lines json u ++ lines))
+    → bytes ≡ text → EndsBy (λ reply. reply ≡ on_output (check_status sound) bytes) w o o' → EndsBy (ChecksAll json all ps u) w o o'
+all_told json all ps u sound text bytes w o o' (s, lines, are, e, f) k h =
+    ends_weaker (λ reply. reply ≡ on_output (check_status sound) bytes) (ChecksAll json all ps u) w o o'
+    (λ reply d. (s, lines, are, d ∙ ap₂ (λ (b : Bool) (l : List ℕ). on_output (check_status b) l) e (k ∙ f))) h

@@ -1,16 +1,15 @@
 -- How works end, and by which answers. `part` are the first bytes of an input, as many as count.
 use Rattle.std.proofs.Common.{◌≡◌, ◌+◌, ◌*◌, ◌-◌, ◌/◌, ◌∙◌, inl, inr, ℕ, Bool, List, Option, None, Some, IfSome, ap, arith, drop, length, min, subst, take}
 use Rattle.std.proofs.lemmas.List.{drop_min, length-drop, take-take, take_all, take_min}
-use Rattle.adf_disk_cmd.specs.Answers.{DiskAnswer, OfBytes, OfDisk, OfFault, OfPartitions}
+use Rattle.adf_disk_cmd.specs.{Answers.DiskAnswer, Answers.OfBytes, Answers.OfDisk, Answers.OfPartitions, Surveys.IsSurveyed}
 use Rattle.adf_disk_cmd.specs.{Builds.BuildsDisk, Searches.search_reply, Lines.volume_at, Work.IsWorkOf, declared.work.TheConstants.MOST_DISK_BYTES}
-use Rattle.adf_disk_cmd.specs.declared.work.Work.{Work, TheVariants.Check, TheVariants.Survey}
-use Rattle.adf_partitions.specs.{Disks.FirstDiskFault, Disks.IsDisk, declared.fault.DiskFault.DiskFault, declared.partition.Partition.Partition}
-use Rattle.adf_partitions.specs.{declared.place.Place.Place, declared.tables.Tables.Tables}
+use Rattle.adf_disk_cmd.specs.declared.work.Work.{Work, TheVariants.Check}
+use Rattle.adf_partitions.specs.{declared.fault.DiskFault.DiskFault, declared.partition.Partition.Partition, declared.place.Place.Place}
 use Rattle.std.proofs.lemmas.Grind.{common_steps}
 use Rattle.adf_runs.proofs.{Endings.ends_weaker, PendingText.appends_nil}
 use Rattle.adf_runs.specs.{Commands.Reply, Outcomes.EndsBy, Outcomes.after_reading, declared.outcome.Outcome.Outcome}
 use Rattle.adf_runs.specs.declared.streams.StreamFault.{StreamFault, TheVariants.Device, TheVariants.NoMemory}
-use Rattle.adf_disk_cmd.specs.CommandLine.{DiskRequestValue, build, check, list, search, survey, volume}
+use Rattle.adf_disk_cmd.specs.CommandLine.{DiskRequestValue, build, check, list, search, volume}
 
 -- what is answered to the front of an input that is longer than the largest disk is answered to the whole of it
 pub long_answers : (r : DiskRequestValue) (front bytes : List ℕ) → front ≡ take (MOST_DISK_BYTES + 1) bytes → (reply : Reply)
@@ -27,26 +26,18 @@ counted bytes n e =
     let swapped : n ≡ min MOST_DISK_BYTES (length bytes) = omega (arith, e) in
     ap (λ (k : ℕ). take k bytes) swapped ∙ take_min MOST_DISK_BYTES bytes
 
--- what is told of the partitions of a disk answers the request
-pub told_ends : (r : DiskRequestValue) (bytes : List ℕ) (t : Tables) (ps : List Partition) (w : Outcome) (o o' : Option (List ℕ))
-    → IsDisk bytes (length bytes / 512) t ps → EndsBy (OfPartitions r bytes ps) w o o' → EndsBy (OfDisk r bytes) w o o'
-told_ends r bytes t ps w o o' disk h = ends_weaker (OfPartitions r bytes ps) (OfDisk r bytes) w o o' (λ reply tells. inl (t, ps, disk, tells)) h
-
--- so does its first fault
-pub refused_ends : (r : DiskRequestValue) (bytes : List ℕ) (f : DiskFault) (w : Outcome) (o o' : Option (List ℕ))
-    → FirstDiskFault bytes (length bytes / 512) f → EndsBy (OfFault r bytes f) w o o' → EndsBy (OfDisk r bytes) w o o'
-refused_ends r bytes f w o o' first h = ends_weaker (OfFault r bytes f) (OfDisk r bytes) w o o' (λ reply tells. inr (f, first, tells)) h
+-- what is told of the partitions that are found on a disk answers the request
+pub told_ends : (r : DiskRequestValue) (bytes : List ℕ) (ps : List Partition) (u : Option DiskFault) (w : Outcome) (o o' : Option (List ℕ))
+    → IsSurveyed bytes (length bytes / 512) ps u → EndsBy (OfPartitions r bytes ps u) w o o' → EndsBy (OfDisk r bytes) w o o'
+told_ends r bytes ps u w o o' disk h = ends_weaker (OfPartitions r bytes ps u) (OfDisk r bytes) w o o' (λ reply tells. (ps, u, disk, tells)) h
 
 -- an answer of a disk answers the request
 of_bytes : (r : DiskRequestValue) (bytes : List ℕ) (reply : Reply) → OfDisk r bytes reply → OfBytes r bytes reply
 of_bytes (list json) bytes reply h = h
 of_bytes (check json) bytes reply h = h
-of_bytes (survey json) bytes reply h = h
 of_bytes (volume w) bytes reply h = h
-of_bytes (search json) bytes reply (inl (t, ps, disk, never)) = absurd never
-of_bytes (search json) bytes reply (inr (f, first, never)) = absurd never
-of_bytes build bytes reply (inl (t, ps, disk, never)) = absurd never
-of_bytes build bytes reply (inr (f, first, never)) = absurd never
+of_bytes (search json) bytes reply (ps, u, disk, never) = absurd never
+of_bytes build bytes reply (ps, u, disk, never) = absurd never
 
 -- what is answered to as many bytes as count is the answer to an input
 pub disk_ends : (r : DiskRequestValue) (bytes part : List ℕ) (w : Outcome) (o o' : Option (List ℕ)) → part ≡ take MOST_DISK_BYTES bytes
@@ -64,12 +55,9 @@ pub search_ends : (json : Bool) (bytes part : List ℕ) (w : Outcome) (o o' : Op
 search_ends json bytes part w o o' e h = ends_weaker (λ reply. reply ≡ search_reply json part) (DiskAnswer (search json) bytes) w o o'
     (λ reply tells. subst (λ (l : List ℕ). reply ≡ search_reply json l) e tells) h
 
--- the work of `check` is that of no other request, nor is that of `survey`
+-- the work of `check` is that of no other request
 pub checks : (json : Bool) (work : Work) (r : DiskRequestValue) → work ≡ Check json → IsWorkOf work r → r ≡ check json
 checks json work r e serves = subst (λ (w : Work). IsWorkOf w r) e serves
-
-pub surveys : (json : Bool) (work : Work) (r : DiskRequestValue) → work ≡ Survey json → IsWorkOf work r → r ≡ survey json
-surveys json work r e serves = subst (λ (w : Work). IsWorkOf w r) e serves
 
 -- a slice of a slice is the volume
 pub volume_is : (bytes : List ℕ) (q : Place) (first count : ℕ) → first ≡ min (q.first * 512) (length bytes)

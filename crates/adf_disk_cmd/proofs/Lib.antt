@@ -2,6 +2,7 @@ pub mod Endings
 pub mod CheckedLines
 pub mod SearchLines
 pub mod OneAnswer
+pub mod AnyReading
 pub mod HeldTables
 pub mod NewVolumes
 pub mod BuiltDisks

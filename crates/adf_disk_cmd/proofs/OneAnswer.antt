@@ -3,19 +3,20 @@
 use Rattle.std.proofs.Common.{◌≡◌, ◌&&◌, ◌++◌, ◌∙◌, ℕ, Bool, true, false, List, [], ◌∷◌, Option, None, Some, Result, Ok, Err, inl, inr, ap, ap₂, refl, sym}
 use Rattle.std.proofs.Common.{subst, length, ◌/◌, take, arith}
 use Rattle.std.proofs.lemmas.Grind.{common_steps}
-use Rattle.adf_disk_cmd.specs.Answers.{ChecksAll, DiskAnswer, OfBytes, OfDisk, OfFault, OfPartitions, TellsReadable}
+use Rattle.adf_disk_cmd.specs.Answers.{ChecksAll, DamagedTablesAreTold, DiskAnswer, OfBytes, OfDisk, OfPartitions}
 use Rattle.adf_disk_cmd.specs.Builds.{BuildsDisk, plan_reply, refusal}
 use Rattle.adf_disk_cmd.specs.Checks.{AreChecked, TellsPlace, TellsText, TellsVolume, check_status, unchecked_text, why_unchecked}
-use Rattle.adf_disk_cmd.specs.{Objects.disk_fault_line, Objects.verdict_line, Lines.volume_at, declared.unchecked.Unchecked.Unchecked, declared.work.TheConstants.MOST_DISK_BYTES}
+use Rattle.adf_disk_cmd.specs.{Objects.verdict_line, Lines.volume_at, declared.unchecked.Unchecked.Unchecked, declared.work.TheConstants.MOST_DISK_BYTES}
+use Rattle.adf_disk_cmd.specs.Surveys.{IsSurveyed, fault_lines, is_whole}
 use Rattle.adf_cmd.proofs.OneAnswer.{one_check}
 use Rattle.adf_volume.specs.declared.types.Types.TheVariants.{WithInternational}
 use Rattle.adf_partitions.proofs.OneAnswer.{no_fault, one_disk, one_fault, one_reading}
 use Rattle.adf_plans.proofs.OnePlan.{no_text_fault, one_plan, one_text_fault}
 use Rattle.adf_partitions.specs.{FaultTexts.place_fault_text, Plans.PlanValue, declared.fault.DiskFault.DiskFault, declared.partition.Partition.Partition}
-use Rattle.adf_partitions.specs.{declared.place.Place.Place, declared.place.PlaceFault.PlaceFault}
+use Rattle.adf_partitions.specs.{Disks.FirstDiskFault, declared.place.Place.Place, declared.place.PlaceFault.PlaceFault}
 use Rattle.adf_plans.specs.{PlanTexts.text_fault_text, declared.plan_text.TextFault.TextFault}
 use Rattle.adf_runs.specs.Commands.{Reply, on_output}
-use Rattle.adf_disk_cmd.specs.CommandLine.{AsksDisk, DiskRequestValue, build, check, list, search, survey, volume}
+use Rattle.adf_disk_cmd.specs.CommandLine.{AsksDisk, DiskRequestValue, build, check, list, search, volume}
 
 pub one_request : (words : List (List ℕ)) (r q : DiskRequestValue) → AsksDisk words r → AsksDisk words q → r ≡ q
 one_request words r q a b = grind (arith, common_steps)
@@ -50,37 +51,51 @@ checked_once json bytes (p ∷ ps) s t l m (one, others, line, rest, tells, are,
     let more = checked_once json bytes ps others others' rest rest' are are' in
     (e ∙ ap₂ (λ (x y : Bool). x && y) told.0 more.0 ∙ sym e', f ∙ ap₂ (λ (x y : List ℕ). x ++ y) (ap₂ (verdict_line json p) told.0 told.1) more.1 ∙ sym f')
 
-all_once : (json : Bool) (bytes : List ℕ) (ps : List Partition) (a b : Reply) → ChecksAll json bytes ps a → ChecksAll json bytes ps b → a ≡ b
-all_once json bytes ps a b (s, l, h, x) (t, m, g, y) = grind (arith, common_steps, checked_once, ap₂)
+all_once : (json : Bool) (bytes : List ℕ) (ps : List Partition) (u : Option DiskFault) (a b : Reply) → ChecksAll json bytes ps u a
+    → ChecksAll json bytes ps u b → a ≡ b
+all_once json bytes ps u a b (s, l, h, x) (t, m, g, y) =
+    let same = checked_once json bytes ps s t l m h g in
+    x ∙ ap₂ (λ (k : Bool) (z : List ℕ). on_output (check_status (is_whole u && k)) (fault_lines json u ++ z)) same.0 same.1 ∙ sym y
 
-of_once : (r : DiskRequestValue) (bytes : List ℕ) (ps : List Partition) (a b : Reply) → OfPartitions r bytes ps a → OfPartitions r bytes ps b → a ≡ b
-of_once (list json) bytes ps a b x y = x ∙ sym y
-of_once (check json) bytes ps a b x y = all_once json bytes ps a b x y
-of_once (survey json) bytes ps a b x y = x ∙ sym y
-of_once (search json) bytes ps a b x y = absurd x
-of_once (volume w) bytes ps a b x y = x ∙ sym y
-of_once build bytes ps a b x y = absurd x
+of_once : (r : DiskRequestValue) (bytes : List ℕ) (ps : List Partition) (u : Option DiskFault) (a b : Reply) → OfPartitions r bytes ps u a
+    → OfPartitions r bytes ps u b → a ≡ b
+of_once (list json) bytes ps u a b x y = x ∙ sym y
+of_once (check json) bytes ps u a b x y = all_once json bytes ps u a b x y
+of_once (search json) bytes ps u a b x y = absurd x
+of_once (volume w) bytes ps u a b x y = x ∙ sym y
+of_once build bytes ps u a b x y = absurd x
 
-readable_once : (json : Bool) (bytes : List ℕ) (n : ℕ) (line a b : List ℕ) → TellsReadable json bytes n line a → TellsReadable json bytes n line b → a ≡ b
-readable_once json bytes n line a b (ps, h, x) (qs, g, y) = grind (arith, common_steps, one_reading)
-
-fault_once : (r : DiskRequestValue) (bytes : List ℕ) (f : DiskFault) (a b : Reply) → OfFault r bytes f a → OfFault r bytes f b → a ≡ b
-fault_once (list json) bytes f a b x y = x ∙ sym y
-fault_once (check json) bytes f a b x y = x ∙ sym y
-fault_once (survey json) bytes f a b (s, h, x) (t, g, y) =
-    x ∙ ap (λ (k : List ℕ). on_output 1 k) (readable_once json bytes (length bytes / 512) (disk_fault_line json f) s t h g) ∙ sym y
-fault_once (search json) bytes f a b x y = absurd x
-fault_once (volume w) bytes f a b x y = x ∙ sym y
-fault_once build bytes f a b x y = absurd x
+-- what is found on a disk is one list and one fault
+surveyed_once : (bytes : List ℕ) (n : ℕ) (ps qs : List Partition) (u v : Option DiskFault) → IsSurveyed bytes n ps u → IsSurveyed bytes n qs v
+    → (ps ≡ qs) × (u ≡ v)
+surveyed_once bytes n ps qs None None (t, disk) (k, also) = ((one_disk bytes n t k ps qs disk also).1, refl)
+surveyed_once bytes n ps qs None (Some f) (t, disk) (readable, first) = absurd (no_fault bytes n t ps f first disk)
+surveyed_once bytes n ps qs (Some f) None (readable, first) (t, disk) = absurd (no_fault bytes n t qs f first disk)
+surveyed_once bytes n ps qs (Some f) (Some g) (readable, first) (also, other) =
+    (one_reading bytes n readable also, ap (λ (k : DiskFault). Some k) (one_fault bytes n f g first other))
 
 disk_once : (r : DiskRequestValue) (bytes : List ℕ) (a b : Reply) → OfDisk r bytes a → OfDisk r bytes b → a ≡ b
-disk_once r bytes a b (inl (t, ps, disk, x)) (inl (u, qs, also, y)) =
-    let same = one_disk bytes (length bytes / 512) t u ps qs disk also in
-    of_once r bytes qs a b (subst (λ (ks : List Partition). OfPartitions r bytes ks a) same.1 x) y
-disk_once r bytes a b (inl (t, ps, disk, x)) (inr (f, first, y)) = absurd (no_fault bytes (length bytes / 512) t ps f first disk)
-disk_once r bytes a b (inr (f, first, x)) (inl (t, ps, disk, y)) = absurd (no_fault bytes (length bytes / 512) t ps f first disk)
-disk_once r bytes a b (inr (f, first, x)) (inr (g, also, y)) =
-    fault_once r bytes g a b (subst (λ (k : DiskFault). OfFault r bytes k a) (one_fault bytes (length bytes / 512) f g first also) x) y
+disk_once r bytes a b (ps, u, disk, x) (qs, v, also, y) =
+    let same = surveyed_once bytes (length bytes / 512) ps qs u v disk also in
+    of_once r bytes qs v a b
+    (subst (λ (k : Option DiskFault). OfPartitions r bytes qs k a) same.1 (subst (λ (ks : List Partition). OfPartitions r bytes ks u a) same.0 x)) y
+
+-- of a disk whose tables have a fault nothing is told at status 0
+damaged_told : (r : DiskRequestValue) (bytes : List ℕ) (ps : List Partition) (f : DiskFault) (a : Reply) → OfPartitions r bytes ps (Some f) a
+    → a.status ≡ 1
+damaged_told (list json) bytes ps f a x = ap (λ (k : Reply). k.status) x
+damaged_told (check json) bytes ps f a (s, l, h, x) = ap (λ (k : Reply). k.status) x
+damaged_told (search json) bytes ps f a x = absurd x
+damaged_told (volume w) bytes ps f a x = ap (λ (k : Reply). k.status) x
+damaged_told build bytes ps f a x = absurd x
+
+told_so : (r : DiskRequestValue) (bytes : List ℕ) (ps : List Partition) (u : Option DiskFault) (f : DiskFault) (a : Reply)
+    → IsSurveyed bytes (length bytes / 512) ps u → FirstDiskFault bytes (length bytes / 512) f → OfPartitions r bytes ps u a → a.status ≡ 1
+told_so r bytes ps None f a (t, disk) first x = absurd (no_fault bytes (length bytes / 512) t ps f first disk)
+told_so r bytes ps (Some g) f a disk first x = damaged_told r bytes ps g a x
+
+pub damaged_tables_are_told : DamagedTablesAreTold
+damaged_tables_are_told r bytes f a first (ps, u, disk, x) = told_so r bytes ps u f a disk first x
 
 build_once : (text : List ℕ) (a b : Reply) → BuildsDisk text a → BuildsDisk text b → a ≡ b
 build_once text a b (inl (plan, given, is, x)) (inl (other, rest, also, y)) =
@@ -94,7 +109,6 @@ build_once text a b (inr (f, fault, x)) (inr (g, also, y)) =
 bytes_once : (r : DiskRequestValue) (bytes : List ℕ) (a b : Reply) → OfBytes r bytes a → OfBytes r bytes b → a ≡ b
 bytes_once (list json) bytes a b x y = disk_once (list json) bytes a b x y
 bytes_once (check json) bytes a b x y = disk_once (check json) bytes a b x y
-bytes_once (survey json) bytes a b x y = disk_once (survey json) bytes a b x y
 bytes_once (search json) bytes a b x y = x ∙ sym y
 bytes_once (volume w) bytes a b x y = disk_once (volume w) bytes a b x y
 bytes_once build bytes a b x y = build_once bytes a b x y

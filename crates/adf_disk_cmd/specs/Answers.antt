@@ -1,20 +1,27 @@
--- What the command answers to its words and its input. `bytes` are those of a disk, ps its partitions.
-use Rattle.std.specs.Prelude.{◌≡◌, ◌++◌, ◌/◌, ◌⊎◌, ◌||◌, ℕ, Bool, List, [], ◌∷◌, bytes_eq, codes, find, length, take, Option, None, Some, Result, Ok, Err}
+-- What the command answers to its words and its input. `bytes` are those of a disk, ps its partitions, o the first fault of its tables, if there is one.
+use Rattle.std.specs.Prelude.{List, [], ◌∷◌, bytes_eq, codes, find, length, take, Option, None, Some, Result, Ok, Err}
+use Rattle.std.specs.Prelude.{◌≡◌, ◌++◌, ◌/◌, ◌&&◌, ◌||◌, ℕ, Bool, false}
 use Rattle.std.specs.Fmt.{decimal}
 use Rattle.adf_names.specs.{Escapes.escaped, Texts.uppers}
 use Rattle.adf_texts.specs.Names.{names_text}
-use Rattle.adf_partitions.specs.{Disks.FirstDiskFault, Disks.IsDisk, FaultTexts.disk_fault_text, FaultTexts.place_fault_text, Partitions.partition_numbered}
-use Rattle.adf_partitions.specs.{Searches.AreReadable, declared.fault.DiskFault.DiskFault, declared.partition.Partition.Partition, declared.place.Place.Place}
-use Rattle.adf_partitions.specs.{declared.place.PlaceFault.PlaceFault, declared.tables.Tables.Tables}
-use Rattle.adf_disk_cmd.specs.CommandLine.{AreRefusedByDisk, AsksDisk, DiskRequestValue, WantedValue, build, check, list, name, number, search, survey}
-use Rattle.adf_disk_cmd.specs.{CommandLine.volume, Builds.BuildsDisk, Builds.refusal, Checks.AreChecked, Checks.check_status, Lines.volume_at}
-use Rattle.adf_disk_cmd.specs.{Objects.disk_fault_line, Objects.list_lines, Searches.search_reply}
+use Rattle.adf_partitions.specs.{Disks.FirstDiskFault, FaultTexts.place_fault_text, Partitions.partition_numbered, declared.fault.DiskFault.DiskFault}
+use Rattle.adf_partitions.specs.{declared.partition.Partition.Partition, declared.place.Place.Place}
+use Rattle.adf_partitions.specs.declared.place.PlaceFault.{PlaceFault, TheVariants.BeyondImage}
+use Rattle.adf_disk_cmd.specs.CommandLine.{AreRefusedByDisk, AsksDisk, DiskRequestValue, WantedValue, build, check, list, name, number, search, volume}
+use Rattle.adf_disk_cmd.specs.{Builds.BuildsDisk, Checks.AreChecked, Checks.check_status, Lines.volume_at, Objects.list_lines, Searches.search_reply}
+use Rattle.adf_disk_cmd.specs.{Surveys.IsSurveyed, Surveys.fault_lines, Surveys.is_whole, Surveys.stated_at}
 use Rattle.adf_runs.specs.Commands.{Command, Reply, on_output}
-use Rattle.adf_disk_cmd.specs.declared.work.TheConstants.{MOST_DISK_BYTES}
+use Rattle.adf_disk_cmd.specs.{declared.list_input.TheConstants.TABLES_LEN, declared.work.TheConstants.MOST_DISK_BYTES}
 
--- `check` writes the lines of all partitions, at status 0 where all of them are sound
-abbrev pub ChecksAll : (json : Bool) → List ℕ → List Partition → Reply → Type 0
-ChecksAll json bytes ps reply = (sound : Bool) × (text : List ℕ) × AreChecked json bytes ps sound text × (reply ≡ on_output (check_status sound) text)
+-- `check` writes the fault of the tables, if there is one, and the lines of all partitions, at status 0 where there is none and all of them are sound
+abbrev pub ChecksAll : (json : Bool) → List ℕ → List Partition → Option DiskFault → Reply → Type 0
+ChecksAll json bytes ps o reply =
+    (sound : Bool) × (text : List ℕ) × AreChecked json bytes ps sound text
+    × (reply ≡ on_output (check_status (is_whole o && sound)) (fault_lines json o ++ text))
+
+-- `list` writes the fault of the tables, if there is one, and the lines of the partitions
+abbrev pub list_reply : (json : Bool) → List Partition → Option DiskFault → Reply
+list_reply json ps o = on_output (check_status (is_whole o)) (fault_lines json o ++ list_lines json 1 ps)
 
 -- whether a text is the name of a partition, as `list` writes it or in the escape form, ignoring case
 abbrev pub is_called : List ℕ → Partition → Bool
@@ -25,11 +32,6 @@ abbrev pub wanted_of : List Partition → WantedValue → Option Partition
 wanted_of ps (number n) = partition_numbered ps n
 wanted_of ps (name text) = find (is_called text) ps
 
--- the bytes of the volume, or what is wrong with its partition
-abbrev pub place_reply : List ℕ → Result Place PlaceFault → Reply
-place_reply bytes (Ok q) = on_output 0 (volume_at bytes q)
-place_reply bytes (Err f) = refusal (place_fault_text f)
-
 -- what is wanted, as errors tell it: a number, or the escape form of a name
 abbrev pub wanted_text : WantedValue → List ℕ
 wanted_text (number n) = decimal n
@@ -39,40 +41,50 @@ wanted_text (name text) = escaped text
 abbrev pub no_partition_text : WantedValue → List ℕ
 no_partition_text w = codes "no such partition: " ++ wanted_text w
 
--- the bytes of the volume of the partition that is wanted, where there is one
-abbrev pub volume_reply : List ℕ → WantedValue → Option Partition → Reply
-volume_reply bytes w None = refusal (no_partition_text w)
-volume_reply bytes w (Some p) = place_reply bytes p.place
+-- the bytes of the volume of a partition, of which b is the block: of one that ends past the end of the image those that are there, and of another
+-- one without a place none
+abbrev pub place_bytes : List ℕ → ℕ → Result Place PlaceFault → List ℕ
+place_bytes bytes b (Ok q) = volume_at bytes q
+place_bytes bytes b (Err BeyondImage) = volume_at bytes (stated_at (take TABLES_LEN bytes) b)
+place_bytes bytes b (Err f) = []
 
--- the answer to a request, of a disk with these partitions: `build` reads no disk, and a search no tables
-abbrev pub OfPartitions : DiskRequestValue → List ℕ → List Partition → Reply → Type 0
-OfPartitions (list json) bytes ps reply = reply ≡ on_output 0 (list_lines json 1 ps)
-OfPartitions (check json) bytes ps reply = ChecksAll json bytes ps reply
-OfPartitions (survey json) bytes ps reply = reply ≡ on_output 0 (list_lines json 1 ps)
-OfPartitions (search json) bytes ps reply = ⊥
-OfPartitions (volume w) bytes ps reply = reply ≡ volume_reply bytes w (wanted_of ps w)
-OfPartitions build bytes ps reply = ⊥
+-- those of the partition that is wanted, where there is one
+abbrev pub found_bytes : List ℕ → Option Partition → List ℕ
+found_bytes bytes None = []
+found_bytes bytes (Some p) = place_bytes bytes p.block p.place
 
--- a line, and the lines of the partitions that can be read of a disk of n blocks
-abbrev pub TellsReadable : (json : Bool) → List ℕ → ℕ → List ℕ → List ℕ → Type 0
-TellsReadable json bytes n line text = (ps : List Partition) × AreReadable bytes n ps × (text ≡ line ++ list_lines json 1 ps)
+-- what is wrong with a place, as a line
+abbrev pub place_lines : Result Place PlaceFault → List ℕ
+place_lines (Ok q) = []
+place_lines (Err f) = place_fault_text f ++ codes "\n"
 
--- The answer of a disk whose tables have a fault: `check` tells it on output, `survey` with the partitions that can be read, the
--- others on errors.
-abbrev pub OfFault : DiskRequestValue → List ℕ → DiskFault → Reply → Type 0
-OfFault (list json) bytes f reply = reply ≡ refusal (disk_fault_text f)
-OfFault (check json) bytes f reply = reply ≡ on_output 1 (disk_fault_line json f)
-OfFault (survey json) bytes f reply =
-    (text : List ℕ) × TellsReadable json bytes (length bytes / 512) (disk_fault_line json f) text × (reply ≡ on_output 1 text)
-OfFault (search json) bytes f reply = ⊥
-OfFault (volume w) bytes f reply = reply ≡ refusal (disk_fault_text f)
-OfFault build bytes f reply = ⊥
+-- that there is no such partition, or what is wrong with its place
+abbrev pub sought_lines : WantedValue → Option Partition → List ℕ
+sought_lines w None = no_partition_text w ++ codes "\n"
+sought_lines w (Some p) = place_lines p.place
 
--- the partitions are told of, or the first fault of the disk, which has as many blocks as the bytes hold
+-- bytes on output, at status 0, or at status 1 where errors get lines
+abbrev pub told_beside : List ℕ → List ℕ → Reply
+told_beside bytes [] = on_output 0 bytes
+told_beside bytes (c ∷ cs) = record { status = 1; output = bytes; errors = c ∷ cs }
+
+-- the bytes of the volume that is wanted, and on errors the fault of the tables, and what is wrong with the volume
+abbrev pub volume_reply : List ℕ → WantedValue → Option Partition → Option DiskFault → Reply
+volume_reply bytes w found o = told_beside (found_bytes bytes found) (fault_lines false o ++ sought_lines w found)
+
+-- The answer to a request, of a disk on which these partitions are found, and this first fault of the tables, if they have one:
+-- `build` reads no disk, and a search no tables.
+abbrev pub OfPartitions : DiskRequestValue → List ℕ → List Partition → Option DiskFault → Reply → Type 0
+OfPartitions (list json) bytes ps o reply = reply ≡ list_reply json ps o
+OfPartitions (check json) bytes ps o reply = ChecksAll json bytes ps o reply
+OfPartitions (search json) bytes ps o reply = ⊥
+OfPartitions (volume w) bytes ps o reply = reply ≡ volume_reply bytes w (wanted_of ps w) o
+OfPartitions build bytes ps o reply = ⊥
+
+-- what is found on a disk is told of; it has as many blocks as the bytes hold
 abbrev pub OfDisk : DiskRequestValue → List ℕ → Reply → Type 0
 OfDisk r bytes reply =
-    ((t : Tables) × (ps : List Partition) × IsDisk bytes (length bytes / 512) t ps × OfPartitions r bytes ps reply)
-    ⊎ ((f : DiskFault) × FirstDiskFault bytes (length bytes / 512) f × OfFault r bytes f reply)
+    (ps : List Partition) × (o : Option DiskFault) × IsSurveyed bytes (length bytes / 512) ps o × OfPartitions r bytes ps o reply
 
 -- the answer to a request and the bytes of an input: those of a plan, or of a disk, which is searched or of which the tables are read
 abbrev pub OfBytes : DiskRequestValue → List ℕ → Reply → Type 0
@@ -91,6 +103,11 @@ WordsAskForOneDiskRequest = (words : List (List ℕ)) (r q : DiskRequestValue) �
 -- a request and an input have one answer at most
 abbrev pub DiskRequestsHaveOneAnswer : Type 0
 DiskRequestsHaveOneAnswer = (r : DiskRequestValue) (input : List ℕ) (a b : Reply) → DiskAnswer r input a → DiskAnswer r input b → a ≡ b
+
+-- what is answered of a disk whose tables have a fault, by its partitions, has status 1
+abbrev pub DamagedTablesAreTold : Type 0
+DamagedTablesAreTold = (r : DiskRequestValue) (bytes : List ℕ) (f : DiskFault) (reply : Reply) → FirstDiskFault bytes (length bytes / 512) f
+    → OfDisk r bytes reply → reply.status ≡ 1
 
 -- what errors get where the words are refused
 abbrev pub disk_usage : List ℕ

@@ -6,7 +6,7 @@ use Rattle.adf_words.specs.Arguments.{bare_app, flag_rule, has_flag, number_name
 use Rattle.adf_words.specs.FileArguments.{file_met, file_rule, with_file}
 use Rattle.adf_blocks.specs.declared.layout.TheConstants.{MOST_BLOCKS}
 use Rattle.adf_disk_cmd.specs.declared.command_line.DiskRequest.{DiskRequest}
-use Rattle.adf_disk_cmd.specs.declared.command_line.DiskRequest.TheVariants.{List as ListAll, Check, Survey, Search, Volume, Build}
+use Rattle.adf_disk_cmd.specs.declared.command_line.DiskRequest.TheVariants.{List as ListAll, Check, Search, Volume, Build}
 use Rattle.adf_disk_cmd.specs.declared.command_line.Wanted.{Wanted, TheVariants.Number, TheVariants.Name}
 
 -- volume NAME [FILE]
@@ -42,7 +42,6 @@ pub data WantedValue : Type 0 where
 pub data DiskRequestValue : Type 0 where
   list : (json : Bool) → DiskRequestValue
   check : (json : Bool) → DiskRequestValue
-  survey : (json : Bool) → DiskRequestValue
   search : (json : Bool) → DiskRequestValue
   volume : WantedValue → DiskRequestValue
   build : DiskRequestValue
@@ -51,10 +50,10 @@ pub data DiskRequestValue : Type 0 where
 abbrev pub wanted_named : Text → WantedValue
 wanted_named text = elim (number_named MOST_BLOCKS text) [ Some n ↦ number n | None ↦ name text ]
 
--- the request to survey a disk: by its tables, or by a search
+-- the request to survey a disk: to search it, or to list its partitions, as `list` does
 abbrev pub survey_request : (searches json : Bool) → DiskRequestValue
 survey_request true json = search json
-survey_request false json = survey json
+survey_request false json = list json
 
 -- the request that a subcommand's name and matches are
 abbrev pub disk_request_named : Text → List Row → Option DiskRequestValue
@@ -95,7 +94,6 @@ wanted_value (Name text) = name text.now
 abbrev pub disk_request_value : DiskRequest → DiskRequestValue
 disk_request_value (ListAll json) = list json
 disk_request_value (Check json) = check json
-disk_request_value (Survey json) = survey json
 disk_request_value (Search json) = search json
 disk_request_value (Volume wanted) = volume (wanted_value wanted)
 disk_request_value Build = build

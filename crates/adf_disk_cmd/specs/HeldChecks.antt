@@ -5,9 +5,9 @@ use Rattle.std.specs.{List.Contains, Io.KnownBytes.Consumes}
 use Rattle.adf_base.specs.Words.{block}
 use Rattle.adf_disk_cmd.specs.{Checks.IsVolumeAnswer, Checks.why_unchecked, Lines.volume_at, declared.checking.CheckedVolume.CheckedVolume}
 use Rattle.adf_disk_cmd.specs.{declared.list_input.TheConstants.TABLES_LEN, declared.work.TheConstants.MOST_DISK_BYTES}
-use Rattle.adf_partitions.specs.{Disks.IsDisk, Places.StatesPlace, Places.end_of, Places.partition_place, declared.layout.TheConstants.MOST_TABLES}
-use Rattle.adf_partitions.specs.{declared.partition.Partition.Partition, declared.place.Place.Place, declared.tables.Tables.Tables}
-use Rattle.adf_disk_cmd.specs.declared.copy_input.TheConstants.{MOST_DISK_BLOCKS}
+use Rattle.adf_partitions.specs.{Places.StatesPlace, Places.end_of, Places.partition_place, Searches.AreReadable, declared.layout.TheConstants.MOST_TABLES}
+use Rattle.adf_partitions.specs.{declared.partition.Partition.Partition, declared.place.Place.Place}
+use Rattle.adf_disk_cmd.specs.declared.volumes.TheConstants.{MOST_DISK_BLOCKS}
 
 -- this is answered to the volume at its place
 abbrev pub IsAnswered : List ℕ → CheckedVolume → Type 0
@@ -60,9 +60,9 @@ IsCovered tables places p = IsBehind tables p → Contains places (partition_pla
 abbrev pub IsReadAt : List Place → Partition → Type 0
 IsReadAt places p = IfOk p.place (λ q. why_unchecked p q ≡ None → MOST_TABLES < end_of q → Contains places q)
 
--- so is that of each partition of a disk of so many blocks, however many
+-- so is that of each partition that can be read of a disk of so many blocks, however many
 abbrev pub CoversDisk : List ℕ → List Place → Type 0
-CoversDisk tables places = (n : ℕ) (t : Tables) (ps : List Partition) → n ≤ MOST_DISK_BLOCKS → IsDisk tables n t ps → All (IsReadAt places) ps
+CoversDisk tables places = (n : ℕ) (ps : List Partition) → n ≤ MOST_DISK_BLOCKS → AreReadable tables n ps → All (IsReadAt places) ps
 
 -- these are the bytes from one on up to where an input stands that began with `start`
 pub record IsStretch (start left : Option (List ℕ)) (begin : ℕ) (bytes : List ℕ) : Type 0 where

@@ -2,6 +2,7 @@
 pub mod CommandLine
 pub mod Lines
 pub mod Objects
+pub mod Surveys
 pub mod Checks
 pub mod Builds
 pub mod Searches

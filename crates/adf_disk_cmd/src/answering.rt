@@ -1,7 +1,7 @@
 // How an answer is written.
 
 ghost use Rattle.std.specs.Prelude.{◌≡◌, ◌++◌, false};
-ghost use Rattle.adf_disk_cmd.specs.{Builds.refusal, Checks.check_status};
+ghost use Rattle.adf_disk_cmd.specs.{Answers.told_beside, Builds.refusal, Checks.check_status};
 ghost use Rattle.adf_runs.specs.{Commands.on_output, Outcomes.Does, Outcomes.DoesSilently, Streams.seen};
 
 use adf_runs::{Outcome, Sink, write_all, write_both};
@@ -27,14 +27,15 @@ pub fn write_text<W: Sink>(output: &mut W, text: &[u8], sound: bool) -> Outcome
     }
 }
 
-/// Writes two texts, one after the other, at status 0.
-pub fn write_parts<W: Sink>(output: &mut W, first: &[u8], second: &[u8]) -> Outcome
+/// Writes two texts, one after the other: at status 0, or at status 1 where errors are to get lines.
+pub fn write_beside<W: Sink>(output: &mut W, first: &[u8], second: &[u8], lines: Vec<u8>) -> Outcome
     requires { W.has_failed output.old ≡ false }
-    ensures { Does (λ reply. reply ≡ on_output 0 (first.now ++ second.now)) result
+    ensures { Does (λ reply. reply ≡ told_beside (first.now ++ second.now) lines.items) result
         (seen W.held W.has_failed output.old output.new) }
 {
     match write_both(output, first, second) {
-        Ok(()) => Outcome::Done,
+        Ok(()) if lines.is_empty() => Outcome::Done,
+        Ok(()) => Outcome::LeftOut(lines),
         Err(_) => Outcome::WriteFault,
     }
 }

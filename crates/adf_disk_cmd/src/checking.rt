@@ -1,18 +1,21 @@
 // The command `check`.
 
-ghost use Rattle.std.specs.Prelude.{◌≡◌, ◌++◌, All, List, ℕ, false, find, option_copied, string_bytes, IfOk, OnOk};
+ghost use Rattle.std.specs.Prelude.{◌≡◌, ◌++◌, ◌&&◌, All, Bool, List, ℕ, false, find, option_copied, string_bytes, IfOk, OnOk};
 ghost use Rattle.adf_disk_cmd.specs.{Answers.ChecksAll, Lines.volume_at, Objects.verdict_line};
 ghost use Rattle.adf_disk_cmd.specs.Checks.{AreChecked, TellsPartition, IsVolumeAnswer};
 ghost use Rattle.adf_disk_cmd.specs.HeldChecks.{IsAnswered, IsKnown, KnowsVolume, KnowsVolumes, lies_at};
+ghost use Rattle.adf_disk_cmd.specs.Surveys.{fault_lines, is_whole};
 ghost use Rattle.adf_runs.specs.Outcomes.{Blames, EndsBy};
 
 use crate::answering::{Telling, write_text};
 use crate::disk_objects::push_verdict_object;
+use crate::faults::fault_lines;
 use crate::listing::push_name;
+use crate::surveying::SurveyedDisk;
 use crate::unchecked::{unchecked_text, why_unchecked};
 use crate::volumes::volume_at;
 use adf_cmd::{CheckAnswer, answer_to_image};
-use adf_partitions::{Partition, Place};
+use adf_partitions::{DiskFault, Partition, Place};
 use adf_runs::{Outcome, Sink};
 use adf_volume::Types;
 use std::alloc::{AllocError, Global};
@@ -124,20 +127,50 @@ fn check_partitions(
     Ok(Checks { sound, text })
 }
 
-/// Writes the lines of all partitions of a disk, of which these bytes are held and these volumes were checked.
+// Whether a disk is sound: its tables have no fault, and all its volumes are sound.
+fn is_sound(fault: Option<DiskFault>, volumes: bool) -> bool
+    ensures { result ≡ (is_whole fault && volumes) }
+{
+    fault.is_none() && volumes
+}
+
+// The line of the fault of the tables, if there is one, and the lines of all partitions; sound if there is no fault and all are.
+fn check_disk(
+    telling: Telling,
+    bytes: &[u8],
+    checked: &[CheckedVolume],
+    disk: &SurveyedDisk,
+) -> Result<Checks, AllocError>
+    ensures { (all : List ℕ) → KnowsVolumes all bytes.now checked.now disk.now.partitions.items
+        → IfOk result (λ c. (sound : Bool) × (lines : List ℕ)
+        × AreChecked telling.json all disk.now.partitions.items sound lines
+        × (c.sound ≡ (is_whole disk.now.fault && sound))
+        × (c.text.items ≡ fault_lines telling.json disk.now.fault ++ lines)) }
+{
+    let checks = check_partitions(telling, bytes, checked, &disk.partitions)?;
+    let mut text = fault_lines(telling, disk.fault)?;
+    text.extend_from_slice(&checks.text)?;
+    Ok(Checks {
+        sound: is_sound(disk.fault, checks.sound),
+        text,
+    })
+}
+
+/// Writes these lines of a disk, of which these bytes are held and these volumes were checked.
 pub fn write_checks<W: Sink>(
     telling: Telling,
     bytes: &[u8],
     checked: &[CheckedVolume],
-    partitions: &[Partition],
+    disk: &SurveyedDisk,
     output: &mut W,
 ) -> Outcome
     requires { W.has_failed output.old ≡ false }
-    ensures ends { (all : List ℕ) → KnowsVolumes all bytes.now checked.now partitions.now
-        → EndsBy (ChecksAll telling.json all partitions.now) result (W.held output.old) (W.held output.new) }
+    ensures ends { (all : List ℕ) → KnowsVolumes all bytes.now checked.now disk.now.partitions.items
+        → EndsBy (ChecksAll telling.json all disk.now.partitions.items disk.now.fault) result
+        (W.held output.old) (W.held output.new) }
     ensures blames { Blames result false (W.has_failed output.new) }
 {
-    match check_partitions(telling, bytes, checked, partitions) {
+    match check_disk(telling, bytes, checked, disk) {
         Ok(checks) => write_text(output, &checks.text, checks.sound),
         Err(_) => Outcome::NoMemory,
     }

@@ -7,7 +7,7 @@ ghost use Rattle.adf_words.specs.{CommandLine.ExplainsArgs, CommandLine.texts_of
 ghost use Rattle.adf_words.specs.declared.command_line.ArgsError.TheVariants.{Usage};
 ghost use Rattle.adf_disk_cmd.specs.CommandLine.{AreRefusedByDisk, AsksDisk, AsksDiskOf, disk_file, build};
 ghost use Rattle.adf_disk_cmd.specs.CommandLine.{check, disk_app, disk_met, disk_request_named, disk_request_value, list};
-ghost use Rattle.adf_disk_cmd.specs.CommandLine.{lists_and_checks, name, number, search, survey, disk_survey_app};
+ghost use Rattle.adf_disk_cmd.specs.CommandLine.{lists_and_checks, name, number, search, disk_survey_app};
 ghost use Rattle.adf_disk_cmd.specs.CommandLine.{survey_request, telling_app, volume, volume_app, wanted_named};
 ghost use Rattle.adf_disk_cmd.specs.CommandLine.{wanted_value, with_telling};
 
@@ -32,7 +32,7 @@ pub const ABOUT: About = About {
     help: "Lists and checks the partitions of a whole Amiga hard disk, cuts out its volumes, and builds a disk from a plan.\n\n\
     usage: adf-disk list [--json] [FILE]     a line for each partition\n\
     \x20      adf-disk check [--json] [FILE]    a verdict on each volume\n\
-    \x20      adf-disk survey [--json] [FILE]   the partitions of a damaged table\n\
+    \x20      adf-disk survey [--json] [FILE]   the same as list\n\
     \x20      adf-disk survey --search [FILE]   the volumes that are found without a table\n\
     \x20      adf-disk volume NAME [FILE]       the volume of a partition, by its name or its number\n\
     \x20      adf-disk build [PLAN] > DISK      a new disk\n\
@@ -55,12 +55,10 @@ pub enum Wanted<'a> {
 /// What a command line asks for.
 #[derive(Clone, Copy, Debug)]
 pub enum DiskRequest<'a> {
-    /// The partitions, as lines or as objects.
+    /// The partitions that are found, as lines or as objects.
     List { json: bool },
     /// What a check says of each volume.
     Check { json: bool },
-    /// The partitions, also of a damaged table.
-    Survey { json: bool },
     /// The volumes that are found by their roots.
     Search { json: bool },
     Volume(Wanted<'a>),
@@ -125,14 +123,14 @@ fn wanted_named<'a>(text: &'a str) -> Wanted<'a>
     }
 }
 
-// The request to survey a disk: by its tables, or by a search.
+// The request to survey a disk: to search it, or to list its partitions, as `list` does.
 fn survey_request<'a>(searches: bool, json: bool) -> DiskRequest<'a>
     ensures { disk_request_value result ≡ survey_request searches json }
 {
     if searches {
         DiskRequest::Search { json }
     } else {
-        DiskRequest::Survey { json }
+        DiskRequest::List { json }
     }
 }
 
@@ -215,7 +213,7 @@ pub fn disk_file<'a>(alloc: Global, args: &'a [&str]) -> Result<Option<&'a str>,
 pub fn disk_words_as_documented()
     ensures list { AsksDiskOf (codes "adf-disk" ∷ codes "list" ∷ []) (list false) None }
     ensures check { AsksDiskOf (codes "adf-disk" ∷ codes "check" ∷ []) (check false) None }
-    ensures survey { AsksDiskOf (codes "adf-disk" ∷ codes "survey" ∷ []) (survey false) None }
+    ensures survey { AsksDiskOf (codes "adf-disk" ∷ codes "survey" ∷ []) (list false) None }
     ensures build { AsksDiskOf (codes "adf-disk" ∷ codes "build" ∷ []) build None }
     ensures number { AsksDiskOf (codes "adf-disk" ∷ codes "volume" ∷ codes "2" ∷ []) (volume (number 2)) None }
     ensures name { AsksDiskOf (codes "adf-disk" ∷ codes "volume" ∷ codes "DH0" ∷ [])
@@ -234,7 +232,7 @@ pub fn disk_words_as_documented()
     ensures check_file { AsksDiskOf (codes "adf-disk" ∷ codes "check" ∷ codes "a.hdf" ∷ [])
         (check false) (Some (codes "a.hdf")) }
     ensures survey_file { AsksDiskOf (codes "adf-disk" ∷ codes "survey" ∷ codes "a.hdf" ∷ [])
-        (survey false) (Some (codes "a.hdf")) }
+        (list false) (Some (codes "a.hdf")) }
     ensures build_file { AsksDiskOf (codes "adf-disk" ∷ codes "build" ∷ codes "plan" ∷ [])
         build (Some (codes "plan")) }
     ensures volume_file { AsksDiskOf
@@ -247,7 +245,7 @@ pub fn disk_words_as_documented()
     ensures check_json { AsksDiskOf (codes "adf-disk" ∷ codes "check" ∷ codes "--json" ∷ codes "a.hdf" ∷ [])
         (check true) (Some (codes "a.hdf")) }
     ensures survey_json { AsksDiskOf (codes "adf-disk" ∷ codes "survey" ∷ codes "a.hdf" ∷ codes "--json" ∷ [])
-        (survey true) (Some (codes "a.hdf")) }
+        (list true) (Some (codes "a.hdf")) }
     ensures search { AsksDiskOf (codes "adf-disk" ∷ codes "survey" ∷ codes "--search" ∷ []) (search false) None }
     ensures search_file { AsksDiskOf (codes "adf-disk" ∷ codes "survey" ∷ codes "--search" ∷ codes "a.hdf" ∷ [])
         (search false) (Some (codes "a.hdf")) }

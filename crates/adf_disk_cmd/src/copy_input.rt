@@ -1,48 +1,30 @@
 // The command `volume` over an input, of which only the blocks that may have tables and the bytes of one volume are held.
 
 ghost use Rattle.std.specs.Prelude.{◌≡◌, ◌+◌, ◌++◌, ◌≤◌, List, ℕ, false, true, IfErr, IfOk, IfSome, OnOk, option_copied};
-ghost use Rattle.adf_disk_cmd.specs.{Answers.DiskAnswer, CommandLine.volume};
-ghost use Rattle.adf_disk_cmd.specs.Work.{HoldsVolume, IsSoughtPlace, held_reply, sought_value};
+ghost use Rattle.adf_disk_cmd.specs.{Answers.DiskAnswer, Answers.wanted_of, CommandLine.volume, Lines.volume_at};
+ghost use Rattle.adf_disk_cmd.specs.Work.{HoldsVolume, IsSoughtPlace, are_there, has_written, held_reply, sought_value};
 ghost use Rattle.adf_partitions.specs.Places.{end_of};
 ghost use Rattle.adf_runs.specs.Outcomes.{Blames, Does, DoesOn, EndsBy, LacksInput, is_read_fault};
 ghost use Rattle.adf_runs.specs.Streams.{TakesAtMost, seen};
 
-use crate::answering::{Telling, refuse, write_parts};
-use crate::list_input::{TABLES_LEN, blocks_of, write_fault};
-use crate::volumes::volume_at;
-use crate::work::{MOST_DISK_BYTES, Sought, partition_sought, refuse_sought};
-use adf_base::NoMemory;
-use adf_partitions::{Disk, DiskCause, Partition, Place, stated_place};
+use crate::answering::write_beside;
+use crate::list_input::{TABLES_LEN, blocks_of};
+use crate::surveying::{SurveyedDisk, survey_disk};
+use crate::volumes::{MOST_DISK_BLOCKS, NOWHERE, stated_at, volume_at};
+use crate::work::{MOST_DISK_BYTES, Sought, partition_sought, volume_lines};
+use adf_partitions::{Partition, Place, PlaceFault, readable_partitions};
 use adf_runs::{Excerpt, Outcome, Sink, Source, read_excerpt, read_first};
-use std::alloc::Global;
-
-/// The most blocks of a disk.
-pub const MOST_DISK_BLOCKS: u64 = 1 << 32;
-
-/// A place without blocks.
-const NOWHERE: Place = Place {
-    first: 0,
-    blocks: 0,
-};
+use std::alloc::{AllocError, Global};
 
 // Where the volume that is sought lies, if the disk is long enough; no blocks if there is none.
-fn sought_place(alloc: Global, tables: &[u8], sought: &Sought) -> Result<Place, NoMemory>
+fn sought_place(alloc: Global, tables: &[u8], sought: &Sought) -> Result<Place, AllocError>
     ensures place { IfOk result (IsSoughtPlace tables.now (sought_value sought.now)) }
     ensures within { IfOk result (λ place. end_of place ≤ MOST_DISK_BLOCKS) }
 {
-    match Disk::open(alloc, tables, MOST_DISK_BLOCKS) {
-        Ok(disk) => match partition_sought(alloc, &disk, sought) {
-            Ok(Some(partition)) => {
-                let stated = stated_place(tables, partition.block, MOST_DISK_BLOCKS);
-                Ok(stated.unwrap_or(NOWHERE))
-            }
-            Ok(None) => Ok(NOWHERE),
-            Err(_) => Err(NoMemory),
-        },
-        Err(fault) => match fault.cause {
-            DiskCause::NoMemory => Err(NoMemory),
-            _ => Ok(NOWHERE),
-        },
+    let partitions = readable_partitions(alloc, tables, MOST_DISK_BLOCKS)?;
+    match partition_sought(alloc, &partitions, sought)? {
+        Some(partition) => Ok(stated_at(tables, partition.block)),
+        None => Ok(NOWHERE),
     }
 }
 
@@ -93,25 +75,51 @@ fn read_volume<R: Source>(
     }
 }
 
-// Writes a volume of two parts, or says why a partition has none.
+// Whether bytes of a volume are written: it has a place, or ends past the end of the image.
+fn are_there(place: Result<Place, PlaceFault>) -> bool
+    ensures { result ≡ are_there place }
+{
+    match place {
+        Ok(_) | Err(PlaceFault::BeyondImage) => true,
+        Err(_) => false,
+    }
+}
+
+// Whether bytes of the volume of the partition that is found are written.
+fn has_written(found: Option<&Partition>) -> bool
+    ensures { result ≡ has_written (option_copied found.entry) }
+{
+    match found {
+        Some(partition) => are_there(partition.place),
+        None => false,
+    }
+}
+
+// Writes the volume that is sought, of which these parts are held, on a disk on which these partitions are found.
 fn write_held<W: Sink>(
     alloc: Global,
-    front: &[u8],
-    behind: &[u8],
+    held: &HeldVolume,
     sought: &Sought,
-    found: Option<&Partition>,
+    disk: &SurveyedDisk,
     output: &mut W,
 ) -> Outcome
     requires { W.has_failed output.old ≡ false }
-    ensures { Does (λ reply. reply ≡ held_reply (front.now ++ behind.now) (sought_value sought.now) (option_copied found.entry))
+    ensures { Does (λ reply. reply
+        ≡ held_reply (volume_at held.now.tables.items held.now.place ++ held.now.behind.bytes.items) (sought_value sought.now)
+        (wanted_of disk.now.partitions.items (sought_value sought.now)) disk.now.fault)
         result (seen W.held W.has_failed output.old output.new) }
 {
-    let Some(partition) = found else {
-        return refuse_sought(alloc, sought);
+    let Ok(found) = partition_sought(alloc, &disk.partitions, sought) else {
+        return Outcome::NoMemory;
     };
-    match partition.place {
-        Ok(_) => write_parts(output, front, behind),
-        Err(fault) => refuse(alloc, fault.text()),
+    let Ok(lines) = volume_lines(alloc, sought, found, disk.fault) else {
+        return Outcome::NoMemory;
+    };
+    if has_written(found) {
+        let front = volume_at(&held.tables, held.place);
+        write_beside(output, front, &held.behind.bytes, lines)
+    } else {
+        write_beside(output, b"", b"", lines)
     }
 }
 
@@ -126,23 +134,9 @@ fn copy_held<W: Sink>(alloc: Global, held: &HeldVolume, sought: &Sought, output:
     ensures blames { Blames result false (W.has_failed output.new) }
 {
     let blocks = blocks_of(held.tables.len().saturating_add(held.behind.len));
-    let tables = held.tables.as_slice();
-    match Disk::open(alloc, tables, blocks) {
-        Ok(disk) => {
-            let front = volume_at(tables, held.place);
-            let behind = held.behind.bytes.as_slice();
-            match partition_sought(alloc, &disk, sought) {
-                Ok(found) => write_held(alloc, front, behind, sought, found, output),
-                Err(_) => Outcome::NoMemory,
-            }
-        }
-        Err(fault) => match fault.cause {
-            DiskCause::NoMemory => Outcome::NoMemory,
-            _ => {
-                let telling = Telling { alloc, json: false };
-                write_fault(telling, tables, blocks, false, fault, output)
-            }
-        },
+    match survey_disk(alloc, &held.tables, blocks) {
+        Ok(disk) => write_held(alloc, held, sought, &disk, output),
+        Err(_) => Outcome::NoMemory,
     }
 }
 

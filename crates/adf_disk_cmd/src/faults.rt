@@ -1,17 +1,15 @@
 // The faults of the tables.
 
-ghost use Rattle.std.specs.Prelude.{◌≡◌, false, IfOk};
-ghost use Rattle.adf_disk_cmd.specs.Objects.{disk_fault_line};
-ghost use Rattle.adf_runs.specs.{Commands.on_output, Outcomes.Does, Streams.seen};
+ghost use Rattle.std.specs.Prelude.{◌≡◌, IfOk};
+ghost use Rattle.adf_disk_cmd.specs.{Objects.disk_fault_line, Surveys.fault_lines};
 
-use crate::answering::{Telling, write_text};
+use crate::answering::Telling;
 use crate::disk_objects::fault_object;
 use adf_partitions::DiskFault;
-use adf_runs::{Outcome, Sink};
 use std::alloc::AllocError;
 
-/// The line of a fault, or with `json` its object.
-pub fn fault_line(telling: Telling, fault: DiskFault) -> Result<Vec<u8>, AllocError>
+// The line of a fault, or with `json` its object.
+fn fault_line(telling: Telling, fault: DiskFault) -> Result<Vec<u8>, AllocError>
     ensures { IfOk result (λ line. line.items ≡ disk_fault_line telling.json fault) }
 {
     if telling.json {
@@ -21,14 +19,12 @@ pub fn fault_line(telling: Telling, fault: DiskFault) -> Result<Vec<u8>, AllocEr
     Vec::from_slice(telling.alloc, line.as_bytes())
 }
 
-/// Writes the line of a fault.
-pub fn write_fault_line<W: Sink>(telling: Telling, fault: DiskFault, output: &mut W) -> Outcome
-    requires { W.has_failed output.old ≡ false }
-    ensures { Does (λ reply. reply ≡ on_output 1 (disk_fault_line telling.json fault)) result
-        (seen W.held W.has_failed output.old output.new) }
+/// The line of a fault, if there is one.
+pub fn fault_lines(telling: Telling, fault: Option<DiskFault>) -> Result<Vec<u8>, AllocError>
+    ensures { IfOk result (λ lines. lines.items ≡ fault_lines telling.json fault) }
 {
-    match fault_line(telling, fault) {
-        Ok(line) => write_text(output, &line, false),
-        Err(_) => Outcome::NoMemory,
+    match fault {
+        None => Ok(Vec::new(telling.alloc)),
+        Some(fault) => fault_line(telling, fault),
     }
 }

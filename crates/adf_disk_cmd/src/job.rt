@@ -33,7 +33,6 @@ fn job_for(alloc: Global, request: DiskRequest<'_>) -> Result<Job, AllocError>
     Ok(match request {
         DiskRequest::List { json } => Job::Tell(Work::List { json }),
         DiskRequest::Check { json } => Job::Tell(Work::Check { json }),
-        DiskRequest::Survey { json } => Job::Tell(Work::Survey { json }),
         DiskRequest::Search { json } => Job::Search { json },
         DiskRequest::Volume(wanted) => Job::Tell(Work::Volume(sought_for(alloc, wanted)?)),
         DiskRequest::Build => Job::Build,
@@ -78,10 +77,7 @@ impl Program for Job {
     ) -> Outcome {
         match self {
             Job::Tell(Work::List { json }) => {
-                list_input(Telling { alloc, json: *json }, input, false, output)
-            }
-            Job::Tell(Work::Survey { json }) => {
-                list_input(Telling { alloc, json: *json }, input, true, output)
+                list_input(Telling { alloc, json: *json }, input, output)
             }
             Job::Tell(Work::Volume(sought)) => copy_input(alloc, input, sought, output),
             Job::Tell(Work::Check { json }) => {

@@ -30,6 +30,6 @@ pub use crate::building::built_disks;
 pub use crate::command_line::{DiskRequest, Wanted, disk_words_as_documented, parse_disk as parse};
 pub use crate::host_plans::{plans_take_any_bytes, run_plans};
 pub use crate::job::Job;
-pub use crate::runner::{one_answer, run_files};
+pub use crate::runner::{damaged_tables_are_told, one_answer, run_files};
 pub use crate::unchecked::large_volumes_are_refused;
 pub use crate::work::{MOST_DISK_BYTES, Sought, Work};

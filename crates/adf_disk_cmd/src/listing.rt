@@ -4,10 +4,13 @@ ghost use Rattle.std.specs.Prelude.{◌≡◌, ◌++◌, false, string_bytes, If
 ghost use Rattle.adf_disk_cmd.specs.Lines.{block_bytes_text, fields_fault_text, list_line, name_text, other_blocks_text};
 ghost use Rattle.adf_disk_cmd.specs.Lines.{place_text, preallocated_text, reserved_text, unusual_text, words_text};
 ghost use Rattle.adf_disk_cmd.specs.Objects.{list_lines, partition_line};
-ghost use Rattle.adf_runs.specs.{Commands.on_output, Outcomes.Does, Streams.seen};
+ghost use Rattle.adf_disk_cmd.specs.{Answers.list_reply, Surveys.fault_lines};
+ghost use Rattle.adf_runs.specs.{Outcomes.Does, Streams.seen};
 
 use crate::answering::{Telling, write_text};
 use crate::disk_objects::push_partition_object;
+use crate::faults::fault_lines;
+use crate::surveying::SurveyedDisk;
 use crate::types::type_text;
 use adf_partitions::{FieldFault, Partition, Place, PlaceFault};
 use adf_runs::{Outcome, Sink};
@@ -142,8 +145,8 @@ fn push_partition(
     }
 }
 
-/// The lines of all partitions, or with `json` their objects.
-pub fn list_lines(telling: Telling, partitions: &[Partition]) -> Result<Vec<u8>, AllocError>
+// The lines of all partitions, or with `json` their objects.
+fn list_lines(telling: Telling, partitions: &[Partition]) -> Result<Vec<u8>, AllocError>
     ensures { IfOk result (λ text. text.items ≡ list_lines telling.json 1 partitions.now) }
 {
     let mut text = Vec::new(telling.alloc);
@@ -153,14 +156,24 @@ pub fn list_lines(telling: Telling, partitions: &[Partition]) -> Result<Vec<u8>,
     Ok(text)
 }
 
-/// Writes the lines of all partitions, or with `json` their objects.
-pub fn write_list<W: Sink>(telling: Telling, partitions: &[Partition], output: &mut W) -> Outcome
+// The line of the fault of the tables, if there is one, and the lines of all partitions.
+fn disk_lines(telling: Telling, disk: &SurveyedDisk) -> Result<Vec<u8>, AllocError>
+    ensures { IfOk result (λ text. text.items
+        ≡ fault_lines telling.json disk.now.fault ++ list_lines telling.json 1 disk.now.partitions.items) }
+{
+    let mut text = fault_lines(telling, disk.fault)?;
+    text.extend_from_slice(&list_lines(telling, &disk.partitions)?)?;
+    Ok(text)
+}
+
+/// Writes these lines, or with `json` objects.
+pub fn write_list<W: Sink>(telling: Telling, disk: &SurveyedDisk, output: &mut W) -> Outcome
     requires { W.has_failed output.old ≡ false }
-    ensures { Does (λ reply. reply ≡ on_output 0 (list_lines telling.json 1 partitions.now)) result
+    ensures { Does (λ reply. reply ≡ list_reply telling.json disk.now.partitions.items disk.now.fault) result
         (seen W.held W.has_failed output.old output.new) }
 {
-    match list_lines(telling, partitions) {
-        Ok(text) => write_text(output, &text, true),
+    match disk_lines(telling, disk) {
+        Ok(text) => write_text(output, &text, disk.fault.is_none()),
         Err(_) => Outcome::NoMemory,
     }
 }

@@ -1,7 +1,8 @@
 // The whole command.
 
 ghost use Rattle.std.specs.Prelude.{◌≡◌, ℕ, List, Some, false, true};
-ghost use Rattle.adf_disk_cmd.specs.Answers.{DiskRequestsHaveOneAnswer, WordsAskForOneDiskRequest, disk_command};
+ghost use Rattle.adf_disk_cmd.specs.Answers.{DamagedTablesAreTold, DiskRequestsHaveOneAnswer};
+ghost use Rattle.adf_disk_cmd.specs.Answers.{WordsAskForOneDiskRequest, disk_command};
 ghost use Rattle.adf_runs.specs.{Commands.IsUnanswered, Commands.TakesEnough, Streams.seen};
 ghost use Rattle.adf_file_runs.specs.FileRuns.{RunEndsOnFiles, known_files};
 ghost use Rattle.adf_words.specs.CommandLine.{texts_of};
@@ -17,9 +18,11 @@ use std::alloc::Global;
 /// Does what the words ask for, on the file that they name, or else on the input; the first word is the program's name. Returns
 /// the status:
 ///
-/// - 0 if the partitions are listed, all of them are sound volumes, a search finds one, or the bytes of a volume or a new disk are written;
-/// - 1 if the partitions of the disk cannot be read, or one of them is not a sound volume, which `check` writes to output; or if
-///   a search finds no volume, there is no such partition, something is wrong with its place, or no disk can be built, which is said on errors;
+/// - 0 if the partitions of sound tables are listed, all of them are sound volumes, a search finds one, or the whole volume or a
+///   new disk is written;
+/// - 1 if the tables have a fault, or a partition is not a sound volume, which output tells; or if a search finds no volume, there
+///   is no such partition, something is wrong with its place, `volume` finds a fault of the tables, or no disk can be built, which
+///   errors tell;
 /// - 2 if the words are not accepted, which is said on errors; nothing is read, and output is empty;
 /// - 3 if the file cannot be opened, a device failed or an allocation failed, which is said on errors.
 pub fn run_files<F: Files, R: Source, W: Sink, E: Sink>(
@@ -70,4 +73,10 @@ impl SystemProgram for Job {
 pub fn one_answer()
     ensures request { WordsAskForOneDiskRequest }
     ensures answer { DiskRequestsHaveOneAnswer }
+{}
+
+/// What is told of a disk whose tables have a fault, by its partitions, is never told at status 0.
+#[tactic(auto, using(crate::proofs::OneAnswer::damaged_tables_are_told))]
+pub fn damaged_tables_are_told()
+    ensures { DamagedTablesAreTold }
 {}

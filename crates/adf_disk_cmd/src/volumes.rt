@@ -1,9 +1,20 @@
-// The bytes of volumes.
+// The bytes of volumes, and where they lie.
 
-ghost use Rattle.std.specs.Prelude.{◌≡◌, ◌*◌, length, min};
-ghost use Rattle.adf_disk_cmd.specs.Lines.{volume_at};
+ghost use Rattle.std.specs.Prelude.{◌≡◌, ◌*◌, length, min, option_copied, take};
+ghost use Rattle.adf_disk_cmd.specs.{Answers.found_bytes, Answers.place_bytes, Lines.volume_at, Surveys.stated_at};
+ghost use Rattle.adf_disk_cmd.specs.declared.list_input.TheConstants.{TABLES_LEN};
 
-use adf_partitions::Place;
+use crate::list_input::TABLES_LEN;
+use adf_partitions::{Partition, Place, PlaceFault, stated_place};
+
+/// The most blocks of a disk.
+pub const MOST_DISK_BLOCKS: u64 = 1 << 32;
+
+/// A place without blocks.
+pub const NOWHERE: Place = Place {
+    first: 0,
+    blocks: 0,
+};
 
 // Where a block begins, or the end of the bytes if that comes before.
 fn begin_of(bytes: &[u8], b: u64) -> usize
@@ -18,4 +29,42 @@ pub fn volume_at(bytes: &[u8], place: Place) -> &[u8]
 {
     let rest = &bytes[begin_of(bytes, place.first)..];
     &rest[..begin_of(rest, place.blocks)]
+}
+
+/// Where a block of the tables says that a volume lies, within the largest disk; nowhere if it does not.
+pub fn stated_at(tables: &[u8], b: u32) -> Place
+    ensures { result ≡ stated_at tables.now b }
+{
+    stated_place(tables, b, MOST_DISK_BLOCKS).unwrap_or(NOWHERE)
+}
+
+// The blocks of a disk that may have tables.
+fn tables_of(bytes: &[u8]) -> &[u8]
+    ensures { result.now ≡ take TABLES_LEN bytes.now }
+{
+    &bytes[..bytes.len().min(TABLES_LEN)]
+}
+
+// The bytes of the volume of a partition: of one that ends past the end of the image those that are there, and of another one
+// without a place none.
+fn place_bytes<'a>(bytes: &'a [u8], partition: &Partition) -> &'a [u8]
+    ensures { result.now ≡ place_bytes bytes.now partition.now.block partition.now.place }
+{
+    match partition.place {
+        Ok(place) => volume_at(bytes, place),
+        Err(PlaceFault::BeyondImage) => {
+            volume_at(bytes, stated_at(tables_of(bytes), partition.block))
+        }
+        Err(_) => &bytes[..0],
+    }
+}
+
+/// The bytes of the volume of the partition that is found, if one is.
+pub fn found_bytes<'a>(bytes: &'a [u8], found: Option<&Partition>) -> &'a [u8]
+    ensures { result.now ≡ found_bytes bytes.now (option_copied found.entry) }
+{
+    match found {
+        Some(partition) => place_bytes(bytes, partition),
+        None => &bytes[..0],
+    }
 }

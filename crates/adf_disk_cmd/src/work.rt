@@ -1,21 +1,22 @@
 // What is done with a disk.
 
-ghost use Rattle.std.specs.Prelude.{◌≡◌, false, IfOk, List, Option, option_copied, string_bytes};
-ghost use Rattle.adf_disk_cmd.specs.Answers.{OfDisk, OfFault, OfPartitions, no_partition_text, volume_reply, wanted_of};
-ghost use Rattle.adf_disk_cmd.specs.{Builds.refusal, Work.IsWorkOf, Work.sought_value};
-ghost use Rattle.adf_runs.specs.{Outcomes.Blames, Outcomes.Does, Outcomes.DoesSilently, Outcomes.EndsBy, Streams.seen};
+ghost use Rattle.std.specs.Prelude.{◌≡◌, ◌++◌, false, IfOk, List, Option, option_copied, string_bytes};
+ghost use Rattle.adf_disk_cmd.specs.Answers.{OfDisk, OfPartitions, sought_lines, no_partition_text, volume_reply, wanted_of};
+ghost use Rattle.adf_disk_cmd.specs.{Surveys.fault_lines, Work.IsWorkOf, Work.sought_value};
+ghost use Rattle.adf_partitions.specs.Partitions.{partition_numbered};
+ghost use Rattle.adf_runs.specs.{Outcomes.Blames, Outcomes.Does, Outcomes.EndsBy, Streams.seen};
 ghost use Rattle.adf_disk_cmd.specs.CommandLine.{DiskRequestValue, wanted_value};
 
-use crate::answering::{Telling, refuse, write_text};
+use crate::answering::{Telling, write_beside};
 use crate::checking::write_checks;
 use crate::command_line::Wanted;
-use crate::faults::write_fault_line;
+use crate::faults::fault_lines;
 use crate::listing::write_list;
 use crate::names::partition_called;
-use crate::surveying::write_readable;
-use crate::volumes::volume_at;
+use crate::surveying::{SurveyedDisk, survey_disk};
+use crate::volumes::found_bytes;
 use adf_base::BLOCK_LEN;
-use adf_partitions::{Disk, DiskCause, DiskFault, Partition};
+use adf_partitions::{DiskFault, Partition};
 use adf_runs::{Outcome, Sink};
 use adf_texts::push_escaped;
 use std::alloc::{AllocError, Global};
@@ -34,12 +35,10 @@ pub enum Sought {
 /// What is done with a disk.
 #[derive(Drop)]
 pub enum Work {
-    /// Its partitions are listed, as lines or as objects.
+    /// The partitions that are found are listed, as lines or as objects.
     List { json: bool },
     /// Their volumes are checked.
     Check { json: bool },
-    /// It is listed, and if the tables have a fault, what can be read of them.
-    Survey { json: bool },
     /// Its volume is written.
     Volume(Sought),
 }
@@ -54,18 +53,27 @@ pub fn sought_for(alloc: Global, wanted: Wanted<'_>) -> Result<Sought, AllocErro
     }
 }
 
-/// The partition that is sought, if the disk has it.
+// The partition with a number, counted from 1.
+fn partition_numbered(partitions: &[Partition], number: usize) -> Option<&Partition>
+    ensures { option_copied result ≡ partition_numbered partitions.now number }
+{
+    if number == 0 {
+        return None;
+    }
+    partitions.get(number - 1)
+}
+
+/// The partition that is sought, if it is one of these.
 pub fn partition_sought<'a>(
     alloc: Global,
-    disk: &'a Disk,
+    partitions: &'a [Partition],
     sought: &Sought,
 ) -> Result<Option<&'a Partition>, AllocError>
-    ensures { IfOk result (λ found. option_copied found
-        ≡ wanted_of disk.now.partitions.items (sought_value sought.now)) }
+    ensures { IfOk result (λ found. option_copied found ≡ wanted_of partitions.now (sought_value sought.now)) }
 {
     match sought {
-        Sought::Numbered(number) => Ok(disk.numbered(*number as usize)),
-        Sought::Named(text) => partition_called(alloc, text.as_bytes(), &disk.partitions),
+        Sought::Numbered(number) => Ok(partition_numbered(partitions, *number as usize)),
+        Sought::Named(text) => partition_called(alloc, text.as_bytes(), partitions),
     }
 }
 
@@ -84,14 +92,38 @@ fn no_partition_text(alloc: Global, sought: &Sought) -> Result<String, AllocErro
     }
 }
 
-/// Says on errors that a disk has no such partition; output gets nothing.
-pub fn refuse_sought(alloc: Global, sought: &Sought) -> Outcome
-    ensures { DoesSilently (λ reply. reply ≡ refusal (no_partition_text (sought_value sought.now))) result }
+// That there is no such partition, or what is wrong with its place, as a line.
+fn sought_lines(
+    alloc: Global,
+    sought: &Sought,
+    found: Option<&Partition>,
+) -> Result<String, AllocError>
+    ensures { IfOk result (λ text. string_bytes text ≡ sought_lines (sought_value sought.now) (option_copied found.entry)) }
 {
-    match no_partition_text(alloc, sought) {
-        Ok(text) => refuse(alloc, &text),
-        Err(_) => Outcome::NoMemory,
+    let Some(partition) = found else {
+        let text = no_partition_text(alloc, sought)?;
+        return format!(in alloc; "{text}\n");
+    };
+    match partition.place {
+        Ok(_) => Ok(String::new(alloc)),
+        Err(fault) => format!(in alloc; "{fault}\n"),
     }
+}
+
+/// What errors get beside the volume of the partition that is found: the fault of the tables, and what is wrong with the volume.
+pub fn volume_lines(
+    alloc: Global,
+    sought: &Sought,
+    found: Option<&Partition>,
+    fault: Option<DiskFault>,
+) -> Result<Vec<u8>, AllocError>
+    ensures { IfOk result (λ lines. lines.items
+        ≡ fault_lines false fault ++ sought_lines (sought_value sought.now) (option_copied found.entry)) }
+{
+    let mut lines = fault_lines(Telling { alloc, json: false }, fault)?;
+    let text = sought_lines(alloc, sought, found)?;
+    lines.extend_from_slice(text.as_bytes())?;
+    Ok(lines)
 }
 
 // Writes the bytes of the volume of the partition that is sought.
@@ -99,71 +131,44 @@ fn write_volume<W: Sink>(
     alloc: Global,
     bytes: &[u8],
     sought: &Sought,
-    found: Option<&Partition>,
+    disk: &SurveyedDisk,
     output: &mut W,
 ) -> Outcome
     requires { W.has_failed output.old ≡ false }
-    ensures { Does (λ reply. reply ≡ volume_reply bytes.now (sought_value sought.now) (option_copied found.entry)) result
+    ensures { Does (λ reply. reply ≡ volume_reply bytes.now (sought_value sought.now)
+        (wanted_of disk.now.partitions.items (sought_value sought.now)) disk.now.fault) result
         (seen W.held W.has_failed output.old output.new) }
 {
-    let Some(partition) = found else {
-        return refuse_sought(alloc, sought);
+    let Ok(found) = partition_sought(alloc, &disk.partitions, sought) else {
+        return Outcome::NoMemory;
     };
-    match partition.place {
-        Ok(place) => write_text(output, volume_at(bytes, place), true),
-        Err(fault) => refuse(alloc, fault.text()),
+    match volume_lines(alloc, sought, found, disk.fault) {
+        Ok(lines) => write_beside(output, found_bytes(bytes, found), b"", lines),
+        Err(_) => Outcome::NoMemory,
     }
 }
 
 impl Work {
-    // Does the work on a disk with these partitions.
-    fn on_disk<W: Sink>(&self, alloc: Global, bytes: &[u8], disk: &Disk, output: &mut W) -> Outcome
-        requires { W.has_failed output.old ≡ false }
-        ensures ends { (r : DiskRequestValue) → IsWorkOf self.now r
-            → EndsBy (OfPartitions r bytes.now disk.now.partitions.items) result
-            (W.held output.old) (W.held output.new) }
-        ensures blames { Blames result false (W.has_failed output.new) }
-    {
-        match self {
-            Work::List { json } | Work::Survey { json } => {
-                write_list(Telling { alloc, json: *json }, &disk.partitions, output)
-            }
-            Work::Check { json } => {
-                let telling = Telling { alloc, json: *json };
-                write_checks(telling, bytes, &[], &disk.partitions, output)
-            }
-            Work::Volume(sought) => match partition_sought(alloc, disk, sought) {
-                Ok(found) => write_volume(alloc, bytes, sought, found, output),
-                Err(_) => Outcome::NoMemory,
-            },
-        }
-    }
-
-    // Does the work on a disk whose tables have a fault.
-    fn on_fault<W: Sink>(
+    // Does the work on a disk on which these partitions are found.
+    fn on_disk<W: Sink>(
         &self,
         alloc: Global,
         bytes: &[u8],
-        fault: DiskFault,
+        disk: &SurveyedDisk,
         output: &mut W,
     ) -> Outcome
         requires { W.has_failed output.old ≡ false }
         ensures ends { (r : DiskRequestValue) → IsWorkOf self.now r
-            → EndsBy (OfFault r bytes.now fault) result (W.held output.old) (W.held output.new) }
+            → EndsBy (OfPartitions r bytes.now disk.now.partitions.items disk.now.fault) result
+            (W.held output.old) (W.held output.new) }
         ensures blames { Blames result false (W.has_failed output.new) }
     {
         match self {
+            Work::List { json } => write_list(Telling { alloc, json: *json }, disk, output),
             Work::Check { json } => {
-                write_fault_line(Telling { alloc, json: *json }, fault, output)
+                write_checks(Telling { alloc, json: *json }, bytes, &[], disk, output)
             }
-            Work::Survey { json } => {
-                let blocks = (bytes.len() / BLOCK_LEN) as u64;
-                write_readable(Telling { alloc, json: *json }, bytes, blocks, fault, output)
-            }
-            Work::List { .. } | Work::Volume(_) => match format!(in alloc; "{fault}\n") {
-                Ok(line) => Outcome::Refused(line),
-                Err(_) => Outcome::NoMemory,
-            },
+            Work::Volume(sought) => write_volume(alloc, bytes, sought, disk, output),
         }
     }
 
@@ -175,12 +180,9 @@ impl Work {
         ensures blames { Blames result false (W.has_failed output.new) }
     {
         let blocks = (bytes.len() / BLOCK_LEN) as u64;
-        match Disk::open(alloc, bytes, blocks) {
+        match survey_disk(alloc, bytes, blocks) {
             Ok(disk) => self.on_disk(alloc, bytes, &disk, output),
-            Err(fault) => match fault.cause {
-                DiskCause::NoMemory => Outcome::NoMemory,
-                _ => self.on_fault(alloc, bytes, fault, output),
-            },
+            Err(_) => Outcome::NoMemory,
         }
     }
 }

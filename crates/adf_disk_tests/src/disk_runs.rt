@@ -24,16 +24,16 @@ const DH0_SOUND: &str = "DH0: ok ffs blocks 32 used 2 free 28 dirs 0 files 0\n";
 // Words of the root, block 16, of which word 79 names the bitmap page.
 const ROOT: &[(usize, u32)] = &[(0, 2), (3, 72), (78, 0xFFFF_FFFF), (79, 17), (127, 1)];
 
-// A change of the words of a block of the tables.
-type Change<'a> = (u32, &'a [(usize, u32)]);
+/// A change of the words of a block of the tables.
+pub type Change<'a> = (u32, &'a [(usize, u32)]);
 
 const NONE: Change<'static> = (0, &[]);
 
 // DH1 begins in the last cylinder of DH0.
 const OVER: Change<'static> = (1, &[(41, 4)]);
 
-// The volume of DH0, which has no label.
-fn volume() -> Volume {
+/// The volume of DH0, which has no label.
+pub fn volume() -> Volume {
     empty_volume((108, 0))
 }
 
@@ -55,8 +55,8 @@ pub fn empty_volume(word: (usize, u32)) -> Volume {
     volume
 }
 
-// The disk, with these words of its tables changed.
-fn disk(alloc: Global, change: Change<'_>) -> Result<Vec<u8>, AllocError> {
+/// The disk, with these words of its tables changed.
+pub fn disk(alloc: Global, change: Change<'_>) -> Result<Vec<u8>, AllocError> {
     let mut disk = Vec::from_slice(alloc, &changed(change.0, change.1))?;
     disk.extend_from_slice(&[0; 2048])?;
     disk.extend_from_slice(&volume())?;
@@ -143,7 +143,13 @@ const LINES: &[(&str, Change<'static>, u8, &str, &str)] = &[
         "1 DH0: ffs first 8 blocks 32 flags 1 priority -5\n2 DH1: PFS\\x03 over partition flags 2 priority 3\n",
         "",
     ),
-    ("list", (0, &[(0, 0)]), 1, "", "block 0: no rigid disk\n"),
+    (
+        "list",
+        (0, &[(0, 0)]),
+        1,
+        "block 0: no rigid disk\n1 DH1: PFS\\x03 first 40 blocks 40 flags 2 priority 3\n2 DH0: ffs first 8 blocks 32 flags 1 priority -5\n",
+        "",
+    ),
     ("check", (2, &[(4, 0xFFFF_FFFF)]), 0, DH0_SOUND, ""),
     (
         "check",
@@ -255,7 +261,7 @@ const LINES: &[(&str, Change<'static>, u8, &str, &str)] = &[
         "check",
         (2, &[(4, 65_536)]),
         1,
-        "block 2: out of range\n",
+        "block 2: out of range\nDH0: ok ffs blocks 32 used 2 free 28 dirs 0 files 0\nDH1: type PFS\\x03\n",
         "",
     ),
     (
@@ -382,9 +388,21 @@ const OBJECTS: &[(&str, Change<'static>, u8, &[&str], &str)] = &[
         &[QUOTED_OBJECT, DH1_OBJECT],
         "",
     ),
-    ("list", (0, &[(0, 0)]), 1, &[], "block 0: no rigid disk\n"),
+    (
+        "list",
+        (2, &[(4, 65_536)]),
+        1,
+        &[OUT_OF_RANGE, DH0_OBJECT, DH1_OBJECT],
+        "",
+    ),
     ("check", NONE, 1, &[CHECK_OBJECTS], ""),
-    ("check", (2, &[(4, 65_536)]), 1, &[OUT_OF_RANGE], ""),
+    (
+        "check",
+        (2, &[(4, 65_536)]),
+        1,
+        &[OUT_OF_RANGE, CHECK_OBJECTS],
+        "",
+    ),
     (
         "survey",
         (2, &[(4, 65_536)]),
@@ -526,7 +544,11 @@ const REFUSED: &[(&str, Change<'static>, &str)] = &[
         "no such partition: DH0BBBBBBBBBBBBBBBBBBBBBBBBBBBCD\n",
     ),
     ("2", OVER, "over partition\n"),
-    ("dh1", (0, &[(4, 1024)]), "block 0: bad block size\n"),
+    (
+        "dh1",
+        (0, &[(4, 1024)]),
+        "block 0: bad block size\nno such partition: dh1\n",
+    ),
 ];
 
 #[test]

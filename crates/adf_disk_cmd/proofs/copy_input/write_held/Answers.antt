@@ -1,16 +1,18 @@
-use Rattle.std.proofs.Common.{◌++◌, ◌∙◌, ap, option_copied}
-use Rattle.adf_disk_cmd.specs.Work.{held_place_reply, held_reply, sought_value}
-use Rattle.adf_runs.proofs.Endings.{does_same, silently}
+use Rattle.std.proofs.Common.{◌++◌, ◌∙◌, ap, ap₂, option_copied, refl, sym}
+use Rattle.adf_disk_cmd.proofs.HeldVolume.{held_no, held_yes}
+use Rattle.adf_disk_cmd.specs.{Lines.volume_at, Work.sought_value}
 use Rattle.adf_disk_cmd.proofs.copy_input.write_held.Goals as goal
 
-pub returns-in_default : goal.returns-in_default
-returns-in_default g c =
-    let reply = held_reply (c.args.front.now ++ c.args.behind.now) (sought_value c.args.sought.now) in
-    does_same (ap (λ found. reply (option_copied found)) c.in_default.is) (silently c.requires c.refuse_sought.ensures)
+pub returns-then-has_written : goal.returns-then-has_written
+returns-then-has_written g c =
+    held_yes _ _ c.in-Ok-volume_lines.lines.items (sought_value c.args.sought.now) (option_copied c.in-Ok.found) _ c.args.disk.now.fault
+    (rw c.deref.ensures.value at c.in-Ok.ensures) (sym c.has_written.ensures ∙ c.if-has_written.true)
+    (ap₂ (λ x y. x ++ y)
+    (c.volume_at-front.ensures ∙ ap (λ l. volume_at l c.args.held.now.place) c.deref-then-has_written.ensures.value)
+    c.deref-then-has_written-2.ensures.value) c.in-Ok-volume_lines.ensures c.write_beside.ensures
 
-pub returns-in-Err : goal.returns-in-Err
-returns-in-Err g c =
-    let bytes = c.args.front.now ++ c.args.behind.now in
-    let reply = held_reply bytes (sought_value c.args.sought.now) in
-    does_same (ap (λ found. reply (option_copied found)) c.in-Some.is ∙ ap (held_place_reply bytes) c.in-Err.is)
-    (silently c.requires (rw c.text.ensures at c.refuse.ensures))
+pub returns-else-has_written : goal.returns-else-has_written
+returns-else-has_written g c =
+    held_no _ _ c.in-Ok-volume_lines.lines.items (sought_value c.args.sought.now) (option_copied c.in-Ok.found) _ c.args.disk.now.fault
+    (rw c.deref.ensures.value at c.in-Ok.ensures) (sym c.has_written.ensures ∙ c.if-has_written.false) refl
+    c.in-Ok-volume_lines.ensures c.write_beside-else-has_written.ensures
