@@ -10,8 +10,6 @@ mod boot_runs;
 #[cfg(test)]
 mod changed_disks;
 #[cfg(test)]
-mod damaged_tables;
-#[cfg(test)]
 mod devices;
 #[cfg(test)]
 mod edited_letters;

@@ -2,6 +2,8 @@
 #![tactic(auto)]
 
 #[cfg(test)]
+mod damaged_tables;
+#[cfg(test)]
 mod disk_builds;
 #[cfg(test)]
 mod disk_checks;
