@@ -7,7 +7,7 @@ use Rattle.adf_cmd.specs.Answers.{Checks}
 use Rattle.adf_volume.specs.declared.types.Types.TheVariants.{WithInternational}
 use Rattle.adf_partitions.specs.{declared.partition.Partition.Partition, declared.place.Place.Place}
 use Rattle.adf_partitions.specs.declared.fault.DiskFault.{DiskFault}
-use Rattle.adf_disk_cmd.specs.{Answers.ChecksAll, Surveys.fault_lines, Surveys.is_whole}
+use Rattle.adf_disk_cmd.specs.{Answers.ChecksAll, Surveys.fault_lines, Surveys.are_faultless}
 use Rattle.adf_runs.proofs.Endings.{ends_weaker}
 use Rattle.adf_runs.specs.{Commands.on_output, Outcomes.EndsBy, declared.outcome.Outcome.Outcome}
 
@@ -68,7 +68,7 @@ ended json bytes ps sound text all =
 -- the lines of a disk, behind that of a fault of its tables, are the answer
 pub all_told : (json : Bool) (all : List ℕ) (ps : List Partition) (u : Option DiskFault) (sound : Bool) (text bytes : List ℕ) (w : Outcome)
     (o o' : Option (List ℕ))
-    → ((s : Bool) × (lines : List ℕ) × AreChecked json all ps s lines × (sound ≡ (is_whole u && s)) × (text ≡ fault_lines json u ++ lines))
+    → ((s : Bool) × (lines : List ℕ) × AreChecked json all ps s lines × (sound ≡ (are_faultless u && s)) × (text ≡ fault_lines json u ++ lines))
     → bytes ≡ text → EndsBy (λ reply. reply ≡ on_output (check_status sound) bytes) w o o' → EndsBy (ChecksAll json all ps u) w o o'
 all_told json all ps u sound text bytes w o o' (s, lines, are, e, f) k h =
     ends_weaker (λ reply. reply ≡ on_output (check_status sound) bytes) (ChecksAll json all ps u) w o o'

@@ -7,7 +7,7 @@ use Rattle.adf_disk_cmd.specs.Answers.{ChecksAll, DamagedTablesAreTold, DiskAnsw
 use Rattle.adf_disk_cmd.specs.Builds.{BuildsDisk, plan_reply, refusal}
 use Rattle.adf_disk_cmd.specs.Checks.{AreChecked, TellsPlace, TellsText, TellsVolume, check_status, unchecked_text, why_unchecked}
 use Rattle.adf_disk_cmd.specs.{Objects.verdict_line, Lines.volume_at, declared.unchecked.Unchecked.Unchecked, declared.work.TheConstants.MOST_DISK_BYTES}
-use Rattle.adf_disk_cmd.specs.Surveys.{IsSurveyed, fault_lines, is_whole}
+use Rattle.adf_disk_cmd.specs.Surveys.{IsSurveyed, fault_lines, are_faultless}
 use Rattle.adf_cmd.proofs.OneAnswer.{one_check}
 use Rattle.adf_volume.specs.declared.types.Types.TheVariants.{WithInternational}
 use Rattle.adf_partitions.proofs.OneAnswer.{no_fault, one_disk, one_fault, one_reading}
@@ -55,7 +55,7 @@ all_once : (json : Bool) (bytes : List ℕ) (ps : List Partition) (u : Option Di
     → ChecksAll json bytes ps u b → a ≡ b
 all_once json bytes ps u a b (s, l, h, x) (t, m, g, y) =
     let same = checked_once json bytes ps s t l m h g in
-    x ∙ ap₂ (λ (k : Bool) (z : List ℕ). on_output (check_status (is_whole u && k)) (fault_lines json u ++ z)) same.0 same.1 ∙ sym y
+    x ∙ ap₂ (λ (k : Bool) (z : List ℕ). on_output (check_status (are_faultless u && k)) (fault_lines json u ++ z)) same.0 same.1 ∙ sym y
 
 of_once : (r : DiskRequestValue) (bytes : List ℕ) (ps : List Partition) (u : Option DiskFault) (a b : Reply) → OfPartitions r bytes ps u a
     → OfPartitions r bytes ps u b → a ≡ b

@@ -9,7 +9,7 @@ use Rattle.adf_partitions.specs.{declared.partition.Partition.Partition, declare
 use Rattle.adf_partitions.specs.declared.place.PlaceFault.{PlaceFault, TheVariants.BeyondImage}
 use Rattle.adf_disk_cmd.specs.CommandLine.{AreRefusedByDisk, AsksDisk, DiskRequestValue, WantedValue, build, check, list, name, number, search, volume}
 use Rattle.adf_disk_cmd.specs.{Builds.BuildsDisk, Checks.AreChecked, Checks.check_status, Lines.volume_at, Objects.list_lines, Searches.search_reply}
-use Rattle.adf_disk_cmd.specs.{Surveys.IsSurveyed, Surveys.fault_lines, Surveys.is_whole, Surveys.stated_at}
+use Rattle.adf_disk_cmd.specs.{Surveys.IsSurveyed, Surveys.fault_lines, Surveys.are_faultless, Surveys.stated_at}
 use Rattle.adf_runs.specs.Commands.{Command, Reply, on_output}
 use Rattle.adf_disk_cmd.specs.{declared.list_input.TheConstants.TABLES_LEN, declared.work.TheConstants.MOST_DISK_BYTES}
 
@@ -17,11 +17,11 @@ use Rattle.adf_disk_cmd.specs.{declared.list_input.TheConstants.TABLES_LEN, decl
 abbrev pub ChecksAll : (json : Bool) → List ℕ → List Partition → Option DiskFault → Reply → Type 0
 ChecksAll json bytes ps o reply =
     (sound : Bool) × (text : List ℕ) × AreChecked json bytes ps sound text
-    × (reply ≡ on_output (check_status (is_whole o && sound)) (fault_lines json o ++ text))
+    × (reply ≡ on_output (check_status (are_faultless o && sound)) (fault_lines json o ++ text))
 
 -- `list` writes the fault of the tables, if there is one, and the lines of the partitions
 abbrev pub list_reply : (json : Bool) → List Partition → Option DiskFault → Reply
-list_reply json ps o = on_output (check_status (is_whole o)) (fault_lines json o ++ list_lines json 1 ps)
+list_reply json ps o = on_output (check_status (are_faultless o)) (fault_lines json o ++ list_lines json 1 ps)
 
 -- whether a text is the name of a partition, as `list` writes it or in the escape form, ignoring case
 abbrev pub is_called : List ℕ → Partition → Bool

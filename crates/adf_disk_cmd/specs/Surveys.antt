@@ -13,9 +13,9 @@ IsSurveyed bytes n ps None = (t : Tables) × IsDisk bytes n t ps
 IsSurveyed bytes n ps (Some f) = AreReadable bytes n ps × FirstDiskFault bytes n f
 
 -- whether tables have no fault
-abbrev pub is_whole : Option DiskFault → Bool
-is_whole None = true
-is_whole (Some f) = false
+abbrev pub are_faultless : Option DiskFault → Bool
+are_faultless None = true
+are_faultless (Some f) = false
 
 -- the line of a fault, if there is one
 abbrev pub fault_lines : (json : Bool) → Option DiskFault → List ℕ

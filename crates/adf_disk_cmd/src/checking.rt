@@ -4,7 +4,7 @@ ghost use Rattle.std.specs.Prelude.{◌≡◌, ◌++◌, ◌&&◌, All, Bool, Li
 ghost use Rattle.adf_disk_cmd.specs.{Answers.ChecksAll, Lines.volume_at, Objects.verdict_line};
 ghost use Rattle.adf_disk_cmd.specs.Checks.{AreChecked, TellsPartition, IsVolumeAnswer};
 ghost use Rattle.adf_disk_cmd.specs.HeldChecks.{IsAnswered, IsKnown, KnowsVolume, KnowsVolumes, lies_at};
-ghost use Rattle.adf_disk_cmd.specs.Surveys.{fault_lines, is_whole};
+ghost use Rattle.adf_disk_cmd.specs.Surveys.{fault_lines, are_faultless};
 ghost use Rattle.adf_runs.specs.Outcomes.{Blames, EndsBy};
 
 use crate::answering::{Telling, write_text};
@@ -129,7 +129,7 @@ fn check_partitions(
 
 // Whether a disk is sound: its tables have no fault, and all its volumes are sound.
 fn is_sound(fault: Option<DiskFault>, volumes: bool) -> bool
-    ensures { result ≡ (is_whole fault && volumes) }
+    ensures { result ≡ (are_faultless fault && volumes) }
 {
     fault.is_none() && volumes
 }
@@ -144,7 +144,7 @@ fn check_disk(
     ensures { (all : List ℕ) → KnowsVolumes all bytes.now checked.now disk.now.partitions.items
         → IfOk result (λ c. (sound : Bool) × (lines : List ℕ)
         × AreChecked telling.json all disk.now.partitions.items sound lines
-        × (c.sound ≡ (is_whole disk.now.fault && sound))
+        × (c.sound ≡ (are_faultless disk.now.fault && sound))
         × (c.text.items ≡ fault_lines telling.json disk.now.fault ++ lines)) }
 {
     let checks = check_partitions(telling, bytes, checked, &disk.partitions)?;
