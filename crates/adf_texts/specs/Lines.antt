@@ -7,11 +7,15 @@ use Rattle.adf_manifest.specs.{Kinds.manifest_fault_text, Texts.hex_word, declar
 use Rattle.adf_volume.specs.{declared.counts.Counts.Counts, Fault.fault_text, declared.fault.Fault.Fault}
 use Rattle.adf_build.specs.Building.{full_text}
 
--- the line of a sound volume with these letters
-abbrev pub ok_line_by : Letters → Counts → List ℕ
-ok_line_by letters c = codes "ok " ++ (kind_text_by letters c.kind ++ (codes " blocks " ++ (decimal c.blocks
+-- the line of a sound volume whose kind has this text
+abbrev pub ok_line_of : List ℕ → Counts → List ℕ
+ok_line_of kind c = codes "ok " ++ (kind ++ (codes " blocks " ++ (decimal c.blocks
     ++ (codes " used " ++ (decimal c.used ++ (codes " free " ++ (decimal c.free
     ++ (codes " dirs " ++ (decimal c.dirs ++ (codes " files " ++ (decimal c.files ++ codes "\n")))))))))))
+
+-- the line of a sound volume with these letters
+abbrev pub ok_line_by : Letters → Counts → List ℕ
+ok_line_by letters c = ok_line_of (kind_text_by letters c.kind) c
 
 -- the line of `check`
 abbrev pub ok_line : Counts → List ℕ

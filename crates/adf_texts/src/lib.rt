@@ -9,6 +9,7 @@ mod volume_lines;
 pub use crate::digits::{push_hex, push_number};
 pub use crate::escapes::{push_escaped, push_names, valid_names_are_alike};
 pub use crate::lines::{
-    push_counts, push_counts_by, push_fault, push_full, push_manifest_fault, push_word_line,
+    push_counts, push_counts_by, push_counts_of, push_fault, push_full, push_manifest_fault,
+    push_word_line,
 };
 pub use crate::volume_lines::{push_entry_lines, push_head_lines, push_opening_lines};

@@ -1,7 +1,7 @@
 // The output lines of the commands.
 
 ghost use Rattle.std.specs.Prelude.{◌≡◌, ◌++◌, OnOk, string_bytes};
-ghost use Rattle.adf_texts.specs.Lines.{fault_line, full_line, manifest_fault_line, ok_line, ok_line_by, word_line};
+ghost use Rattle.adf_texts.specs.Lines.{fault_line, full_line, manifest_fault_line, ok_line, ok_line_by, ok_line_of, word_line};
 
 use crate::digits::{push_hex, push_number};
 use adf_base::Letters;
@@ -12,15 +12,10 @@ use adf_volume::{Counts, Fault};
 use std::alloc::AllocError;
 use std::fmt;
 
-/// Appends the line of a sound volume with these letters.
-pub fn push_counts_by(
-    text: &mut String,
-    letters: Letters,
-    counts: &Counts,
-) -> Result<(), AllocError>
-    ensures { OnOk result (string_bytes text.new ≡ string_bytes text.old ++ ok_line_by letters counts.now) }
+/// Appends the line of a sound volume whose kind has this text.
+pub fn push_counts_of(text: &mut String, kind: &str, counts: &Counts) -> Result<(), AllocError>
+    ensures { OnOk result (string_bytes text.new ≡ string_bytes text.old ++ ok_line_of kind.now counts.now) }
 {
-    let kind = kind_text_by(letters, counts.kind);
     let blocks = counts.blocks;
     let used = counts.used;
     let free = counts.free;
@@ -30,6 +25,17 @@ pub fn push_counts_by(
         text,
         "ok {kind} blocks {blocks} used {used} free {free} dirs {dirs} files {files}\n"
     )
+}
+
+/// Appends the line of a sound volume with these letters.
+pub fn push_counts_by(
+    text: &mut String,
+    letters: Letters,
+    counts: &Counts,
+) -> Result<(), AllocError>
+    ensures { OnOk result (string_bytes text.new ≡ string_bytes text.old ++ ok_line_by letters counts.now) }
+{
+    push_counts_of(text, kind_text_by(letters, counts.kind), counts)
 }
 
 /// Appends the line of `check`.
