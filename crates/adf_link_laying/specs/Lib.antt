@@ -1,0 +1,2 @@
+-- links that are kept, and what stands beside them
+pub mod KeptLinks
