@@ -1,8 +1,6 @@
 -- What is asked of a disk has an answer of `adf-disk`. ps are its partitions, p is one of them.
 use Rattle.std.proofs.Common.{◌&&◌, ◌++◌, ◌/◌, ℕ, Bool, true, false, List, [], ◌∷◌, Option, None, Some, Result, Ok, Err, codes, inl, inr, length, refl, take}
-use Rattle.adf_findings.proofs.FitsOrFault.{fits_or_fault_of}
-use Rattle.adf_findings.specs.Verdict.{FitsOrHasFaultOf}
-use Rattle.adf_volume.specs.declared.types.Types.TheVariants.{WithInternational}
+use Rattle.adf_cmd.proofs.CachedLaws.{some_check}
 use Rattle.adf_partitions.proofs.SomeReadings.{some_disk, some_reading}
 use Rattle.adf_plans.proofs.SomeTexts.{some_text}
 use Rattle.adf_partitions.specs.{Disks.HasListOrFault, FaultTexts.place_fault_text, declared.fault.DiskFault.DiskFault}
@@ -11,18 +9,14 @@ use Rattle.adf_plans.specs.PlanTexts.{HasPlanOrFault, text_fault_text}
 use Rattle.adf_runs.specs.Commands.{Reply, on_output}
 use Rattle.adf_disk_cmd.specs.CommandLine.{DiskRequestValue, WantedValue, build, check, list, search, volume}
 use Rattle.adf_disk_cmd.specs.Answers.{DiskAnswer, OfDisk, OfPartitions, list_reply, volume_reply, wanted_of}
-use Rattle.adf_disk_cmd.specs.Surveys.{IsSurveyed, fault_lines, is_whole}
+use Rattle.adf_disk_cmd.specs.Surveys.{IsSurveyed, fault_lines, are_faultless}
 use Rattle.adf_disk_cmd.specs.{Builds.BuildsDisk, Builds.plan_reply, Builds.refusal, Lines.volume_at}
 use Rattle.adf_disk_cmd.specs.{Objects.verdict_line, Searches.search_reply}
 use Rattle.adf_disk_cmd.specs.{declared.unchecked.Unchecked.Unchecked, declared.work.TheConstants.MOST_DISK_BYTES}
 use Rattle.adf_disk_cmd.specs.Checks.{AreChecked, TellsPlace, TellsVolume, check_status, unchecked_text, why_unchecked}
 
-told_by : (image : List ℕ) → FitsOrHasFaultOf WithInternational image → (sound : Bool) × (line : List ℕ) × TellsVolume image None sound line
-told_by image (inl (t, l, fits)) = (true, _, inl (t, l, fits, refl))
-told_by image (inr (b, c, first)) = (false, _, inr (record { block = b; cause = c }, first, refl))
-
 some_volume : (why : Option Unchecked) (image : List ℕ) → (sound : Bool) × (line : List ℕ) × TellsVolume image why sound line
-some_volume None image = told_by image (fits_or_fault_of WithInternational image)
+some_volume None image = some_check image
 some_volume (Some why) image = (false, unchecked_text why ++ codes "\n", (refl, refl))
 
 some_place : (bytes : List ℕ) (p : Partition) (place : Result Place PlaceFault) → (sound : Bool) × (line : List ℕ) × TellsPlace bytes p place sound line
@@ -53,11 +47,11 @@ of_disk r bytes told =
 some_listing : (json : Bool) (bytes : List ℕ) → (reply : Reply) × OfDisk (list json) bytes reply
 some_listing json bytes = of_disk (list json) bytes (λ ps o. (list_reply json ps o, refl))
 
-some_check : (json : Bool) (bytes : List ℕ) → (reply : Reply) × OfDisk (check json) bytes reply
-some_check json bytes =
+some_disk_check : (json : Bool) (bytes : List ℕ) → (reply : Reply) × OfDisk (check json) bytes reply
+some_disk_check json bytes =
     of_disk (check json) bytes
     (λ ps o. let (sound, text, are) = some_checks json bytes ps in
-    (on_output (check_status (is_whole o && sound)) (fault_lines json o ++ text), (sound, text, are, refl)))
+    (on_output (check_status (are_faultless o && sound)) (fault_lines json o ++ text), (sound, text, are, refl)))
 
 some_copy : (bytes : List ℕ) (w : WantedValue) → (reply : Reply) × OfDisk (volume w) bytes reply
 some_copy bytes w = of_disk (volume w) bytes (λ ps o. (volume_reply bytes w (wanted_of ps w) o, refl))
@@ -68,7 +62,7 @@ built_by text (inr (f, is)) = (refusal (text_fault_text f), inr (f, is, refl))
 
 pub some_answer : (r : DiskRequestValue) (input : List ℕ) → (reply : Reply) × DiskAnswer r input reply
 some_answer (list json) input = some_listing json (take MOST_DISK_BYTES input)
-some_answer (check json) input = some_check json (take MOST_DISK_BYTES input)
+some_answer (check json) input = some_disk_check json (take MOST_DISK_BYTES input)
 some_answer (search json) input = (search_reply json (take MOST_DISK_BYTES input), refl)
 some_answer (volume w) input = some_copy (take MOST_DISK_BYTES input) w
 some_answer build input = built_by (take MOST_DISK_BYTES input) (some_text (take MOST_DISK_BYTES input))

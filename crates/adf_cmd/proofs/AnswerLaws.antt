@@ -14,6 +14,7 @@ use Rattle.adf_volume.specs.{declared.fault.Fault.Fault, declared.types.Types.Ty
 use Rattle.adf_build.specs.{Laid.IsLaid, Laid.volume, Plan.planned, Building.IsBuildable}
 use Rattle.adf_build.proofs.{LaidWrites.CanHold, LaidWrites.volume_blocks, WholeVolume.fits_plain}
 use Rattle.adf_check.specs.Pieces.{bytes_of}
+use Rattle.adf_cmd.specs.CachedAnswers.{takes_caches}
 use Rattle.adf_cmd.specs.Answers.{Answer, BuildsOrIsFull, Checks, Copies, IsBuilt, RefusesImage, contents_at}
 use Rattle.adf_runs.specs.{Commands.Reply, Commands.on_errors, Commands.on_output, Streams.Seen, Outcomes.Does, Outcomes.DoesSilently, Outcomes.EndsBy}
 use Rattle.adf_words.specs.CommandLine.{build, cat, convert, list}
@@ -24,9 +25,9 @@ use Rattle.adf_runs.specs.declared.outcome.Outcome.{Outcome, TheVariants.Refused
 use Rattle.adf_runs.proofs.{Endings.does_weaker, Endings.ends_weaker, PendingText.appends_nil}
 
 -- the line of the first fault of an image answers a check
-pub refused_answer : (types : Types) (image line : List ℕ) (f : Fault) → FirstFaultOf types image f.block f.cause
-    → line ≡ fault_line f → Checks types image (on_output 1 line)
-refused_answer types image line f first e = inr (f, first, ap (on_output 1) e)
+pub refused_answer : (types : Types) (image line : List ℕ) (f : Fault) → takes_caches types image ≡ false
+    → FirstFaultOf types image f.block f.cause → line ≡ fault_line f → Checks types image (on_output 1 line)
+refused_answer types image line f plain first e = inr (inl (plain, (f, first, ap (on_output 1) e)))
 
 -- so does the line of the numbers of a tree and a layout that fit it
 pub accepted_answer : (types : Types) (image line : List ℕ) (t : Tree) (l : Layout) {letters : Letters} {n : Counts}

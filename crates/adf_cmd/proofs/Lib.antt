@@ -5,5 +5,6 @@ pub mod EntryNames
 pub mod EntryLines
 -- answers
 pub mod AnswerLaws
+pub mod CachedLaws
 pub mod LongInputs
 pub mod OneAnswer

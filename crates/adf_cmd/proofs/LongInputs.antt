@@ -1,6 +1,6 @@
 -- What is answered to the front of an input that is longer than the limit is answered to the whole of it.
 use Rattle.std.proofs.Common.{◌≡◌, ◌≢◌, ◌<◌, ◌+◌, ◌*◌, ◌∙◌, inl, inr, ℕ, List, Option, Some, None, IfSome, refl, subst, sym, arith, length, take, length-take}
-use Rattle.std.proofs.{lemmas.Bool.cases_lt, lemmas.List.take_all}
+use Rattle.std.proofs.{lemmas.Bool.cases_lt, lemmas.Bool.false≢true, lemmas.List.take_all}
 use Rattle.adf_blocks.specs.{Sizes.blocks, declared.cause.Cause.TheVariants.BadSize}
 use Rattle.adf_volume.specs.{Fits.FitsOf, Layout.Layout, Walk.FirstFaultOf, Walk.FirstFaultBy.at_boot}
 use Rattle.adf_volume.specs.{Types.most_blocks, declared.fault.Fault.Fault}
@@ -13,6 +13,7 @@ use Rattle.adf_cmd.specs.{Answers.Answer, Answers.Checks, Answers.limit_of, Answ
 use Rattle.adf_runs.specs.Commands.{Reply}
 use Rattle.adf_words.specs.CommandLine.{RequestValue, build, cat, check, convert, list}
 use Rattle.adf_cmd.specs.CheckAnswers.{IsCheckAnswer, IsCheckAnswerTo}
+use Rattle.adf_cmd.proofs.CachedLaws.{long_takes_none}
 
 -- each answer to one input is one to another
 abbrev pub AnswersBoth : RequestValue → List ℕ → List ℕ → Type 0
@@ -42,7 +43,9 @@ long_fault types image bytes f front long first =
 long_check : (types : Types) (image bytes : List ℕ) → most_image_bytes types < length image → most_image_bytes types < length bytes
     → (reply : Reply) → Checks types image reply → Checks types bytes reply
 long_check types image bytes a b reply (inl (t, l, fits, e)) = absurd (too_large types image t l a fits)
-long_check types image bytes a b reply (inr (f, first, e)) = inr (f, long_fault types image bytes f a b first, e)
+long_check types image bytes a b reply (inr (inl (plain, (f, first, e)))) =
+    inr (inl (long_takes_none types bytes b, (f, long_fault types image bytes f a b first, e)))
+long_check types image bytes a b reply (inr (inr (takes, h))) = absurd (false≢true (sym (long_takes_none types image a) ∙ takes))
 
 -- a fault of the front of a long manifest is one of the whole
 long_kind : (kind : ManifestKind) (line : ℕ) (image bytes : List ℕ) → 16777216 < length image → 16777216 < length bytes

@@ -1,6 +1,6 @@
 -- A request and an input have one answer.
 use Rattle.std.proofs.Common.{◌≡◌, ◌≢◌, ◌∙◌, ◌⊎◌, inl, inr, ℕ, Bool, false, List, Option, Some, None, refl, sym, ap, subst, arith}
-use Rattle.std.proofs.lemmas.Grind.{common_steps}
+use Rattle.std.proofs.lemmas.{Bool.false≢true, Grind.common_steps}
 use mathlib.Core.Path.{fun_ext}
 use Rattle.adf_fields.proofs.DateTexts.{one_text}
 use Rattle.adf_base.specs.declared.dates.Stamp.{Stamp}
@@ -18,6 +18,7 @@ use Rattle.adf_manifest.proofs.{TreesOfLines.one_tree_of, Verdicts.one_told}
 use Rattle.adf_texts.specs.{Lines.fault_line, Lines.ok_line_by, VolumeLines.AreDates, VolumeLines.volume_lines}
 use Rattle.adf_cmd.specs.Answers.{Answer, BuildsManifest, BuildsOrIsFull, Checks, Converts, Copies, CopiesFrom, Lists, RefusesImage, RefusesManifest}
 use Rattle.adf_cmd.specs.Answers.{contents_at}
+use Rattle.adf_cmd.proofs.CachedLaws.{fits_no_caches, one_cached}
 use Rattle.adf_runs.specs.Commands.{Reply, on_errors, on_output}
 use Rattle.adf_words.specs.CommandLine.{AsksFor, RequestValue, build, cat, check, convert, list}
 
@@ -44,9 +45,15 @@ pub one_check : (types : Types) (input : List ℕ) (a b : Reply) → Checks type
 one_check types input a b (inl (t, l, fits, x)) (inl (u, m, also, y)) =
     let same = one_fit input t u l m fits.1 also.1 in
     x ∙ (λ i. on_output 0 (ok_line_by (letters_for types input) (counts_of input (same.0 i) (same.1 i)))) ∙ sym y
-one_check types input a b (inl (t, l, fits, x)) (inr (f, first, y)) = absurd (none_fits_of types input f.block f.cause t l first fits)
-one_check types input a b (inr (f, first, x)) (inl (t, l, fits, y)) = absurd (none_fits_of types input f.block f.cause t l first fits)
-one_check types input a b (inr (f, first, x)) (inr (g, also, y)) = x ∙ ap (on_output 1) (one_line types input f g first also) ∙ sym y
+one_check types input a b (inl (t, l, fits, x)) (inr (inl (plain, (f, first, y)))) = absurd (none_fits_of types input f.block f.cause t l first fits)
+one_check types input a b (inl (t, l, fits, x)) (inr (inr (takes, h))) = absurd (fits_no_caches types input t l fits takes)
+one_check types input a b (inr (inl (plain, (f, first, x)))) (inl (t, l, fits, y)) = absurd (none_fits_of types input f.block f.cause t l first fits)
+one_check types input a b (inr (inl (plain, (f, first, x)))) (inr (inl (also, (g, other, y)))) =
+    x ∙ ap (on_output 1) (one_line types input f g first other) ∙ sym y
+one_check types input a b (inr (inl (plain, (f, first, x)))) (inr (inr (takes, h))) = absurd (false≢true (sym plain ∙ takes))
+one_check types input a b (inr (inr (takes, h))) (inl (t, l, fits, y)) = absurd (fits_no_caches types input t l fits takes)
+one_check types input a b (inr (inr (takes, h))) (inr (inl (plain, (f, first, x)))) = absurd (false≢true (sym plain ∙ takes))
+one_check types input a b (inr (inr (takes, h))) (inr (inr (also, k))) = one_cached input a b h k
 
 -- dates have one text each
 pub one_dates : (date other : Stamp → List ℕ) → AreDates date → AreDates other → date ≡ other

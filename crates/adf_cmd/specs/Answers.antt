@@ -1,5 +1,5 @@
 -- What the command answers to its words and its input.
-use Rattle.std.specs.Prelude.{◌≡◌, ◌≢◌, ◌++◌, ◌<◌, ◌-◌, ◌*◌, ◌⊎◌, ℕ, Bool, false, List, codes, Option, None, Some, option_map}
+use Rattle.std.specs.Prelude.{◌≡◌, ◌≢◌, ◌++◌, ◌<◌, ◌-◌, ◌*◌, ◌⊎◌, ℕ, Bool, true, false, List, codes, Option, None, Some, option_map}
 use Rattle.adf_blocks.specs.Sizes.{blocks}
 use Rattle.adf_base.specs.declared.dates.Stamp.{Stamp}
 use Rattle.adf_names.specs.{PathTexts.IsPathText, declared.kind.Kind.Kind}
@@ -10,7 +10,7 @@ use Rattle.adf_build.specs.{Laid.IsLaid, Laid.volume, Plan.blocks_needed, Plan.p
 use Rattle.adf_check.specs.Pieces.{bytes_of}
 use Rattle.adf_words.specs.CommandLine.{AsksFor, AreRefused, RequestValue, build, cat, check, convert, list}
 use Rattle.adf_runs.specs.Commands.{Command, Reply, bad_path, on_errors, on_output}
-use Rattle.adf_cmd.specs.Listing.{image_or_lines}
+use Rattle.adf_cmd.specs.{CachedAnswers.ChecksCached, CachedAnswers.takes_caches, Listing.image_or_lines}
 use Rattle.adf_manifest.specs.{Manifest.ExplainsFault, Manifest.IsManifest, Manifest.most_bytes, declared.manifest.ManifestFault.ManifestFault}
 use Rattle.adf_texts.specs.{Lines.fault_line, Lines.full_line, Lines.manifest_fault_line, Lines.ok_line_by, VolumeLines.AreDates, VolumeLines.volume_lines}
 use Rattle.adf_manifest.specs.declared.manifest.ManifestKind.TheVariants.{NoMemory as ManifestNoMemory}
@@ -20,13 +20,15 @@ abbrev pub AcceptsOf : Types → List ℕ → Reply → Type 0
 AcceptsOf types input reply =
     (t : Tree) × (l : Layout) × FitsOf types input t l × (reply ≡ on_output 0 (ok_line_by (letters_for types input) (counts_of input t l)))
 
--- the first fault of the image where these types are accepted is told on output, with status 1
+-- the first fault of the image where these types are accepted is told on output, with status 1; so not of one with directory caches
 abbrev pub RefusesOf : Types → List ℕ → Reply → Type 0
-RefusesOf types input reply = (f : Fault) × FirstFaultOf types input f.block f.cause × (reply ≡ on_output 1 (fault_line f))
+RefusesOf types input reply =
+    (takes_caches types input ≡ false) × ((f : Fault) × FirstFaultOf types input f.block f.cause × (reply ≡ on_output 1 (fault_line f)))
 
--- what is told of an image where these types are accepted
+-- what is told of an image where these types are accepted, and with types 2 and 3 those of directory caches
 abbrev pub Checks : Types → List ℕ → Reply → Type 0
-Checks types input reply = AcceptsOf types input reply ⊎ RefusesOf types input reply
+Checks types input reply =
+    AcceptsOf types input reply ⊎ (RefusesOf types input reply ⊎ ((takes_caches types input ≡ true) × ChecksCached input reply))
 
 -- the image that is laid of a tree in n blocks, or the lines of its words
 abbrev pub built_output : Bool → Tree → ℕ → List ℕ

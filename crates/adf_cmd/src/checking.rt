@@ -3,12 +3,13 @@
 ghost use Rattle.std.specs.Prelude.{◌≡◌, ◌+◌, false, IfOk, List, string_bytes, true, ℕ};
 ghost use Rattle.adf_tree.specs.Tree.{Tree};
 ghost use Rattle.adf_volume.specs.{Fits.FitsOf, Layout.Layout, Walk.FirstFaultOf, declared.types.Types.Types};
-ghost use Rattle.adf_cmd.specs.{Answers.Answer, Answers.most_image_bytes};
+ghost use Rattle.adf_cmd.specs.{Answers.Answer, Answers.most_image_bytes, CachedAnswers.takes_caches};
 ghost use Rattle.adf_cmd.specs.CheckAnswers.{IsCheckAnswer, IsCheckAnswerTo};
 ghost use Rattle.adf_words.specs.CommandLine.{check};
 ghost use Rattle.adf_runs.specs.{Streams.TakesAtMost, Streams.is_device, Streams.seen, Outcomes.Does};
 ghost use Rattle.adf_texts.specs.Lines.{ok_line_by};
 
+use crate::cached::{answer_to_cached, takes_caches};
 use crate::images::{checked, most_image_bytes, refused_line};
 use adf_base::Letters;
 use adf_check::{Checked, Counts, Fault};
@@ -47,7 +48,7 @@ fn acceptance(alloc: Global, volume: &Checked<'_>) -> Result<CheckAnswer, AllocE
 
 // The answer to an image with this first fault.
 fn refusal(alloc: Global, fault: Fault) -> Result<CheckAnswer, AllocError>
-    ensures { (types : Types) (image : List ℕ)
+    ensures { (types : Types) (image : List ℕ) → takes_caches types image ≡ false
         → FirstFaultOf types image fault.block fault.cause
         → IfOk result (IsCheckAnswer types image) }
 {
@@ -55,10 +56,14 @@ fn refusal(alloc: Global, fault: Fault) -> Result<CheckAnswer, AllocError>
     Ok(CheckAnswer { sound: false, line })
 }
 
-/// Checks an image of one of these types. `AllocError` if an allocation failed; it says nothing about the image.
+/// Checks an image of one of these types, and with types 2 and 3 one of directory caches. `AllocError` if an allocation failed; it
+/// says nothing about the image.
 pub fn answer_to_image(alloc: Global, types: Types, image: &[u8]) -> Result<CheckAnswer, AllocError>
     ensures { IfOk result (IsCheckAnswer types image.now) }
 {
+    if takes_caches(types, image) {
+        return answer_to_cached(alloc, image);
+    }
     match checked(alloc, types, image)? {
         Ok(volume) => acceptance(alloc, &volume),
         Err(fault) => refusal(alloc, fault),

@@ -2,6 +2,7 @@
 #![tactic(auto)]
 
 mod building;
+mod cached;
 mod checking;
 mod converting;
 mod copying;

@@ -8,6 +8,8 @@ mod boot_blocks;
 #[cfg(test)]
 mod boot_runs;
 #[cfg(test)]
+mod cached_volumes;
+#[cfg(test)]
 mod changed_disks;
 #[cfg(test)]
 mod devices;

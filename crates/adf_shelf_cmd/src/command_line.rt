@@ -23,7 +23,7 @@ pub const ABOUT: About = About {
     usage: adf-shelf [--null] [--any-type] [--json] [FILE..]\n\
     \x20      adf-shelf --help, adf-shelf --version\n\n\
     Without a FILE the names come on standard input, one a line; with --null each ends in a zero byte.\n\
-    With --any-type volumes of types 2 and 3 are checked too; with --json each line is an object.\n\
+    With --any-type volumes of types 2 to 5 are checked too; with --json each line is an object.\n\
     man adf-shelf tells more.\n",
     waits: None,
 };
@@ -33,7 +33,7 @@ pub const ABOUT: About = About {
 pub struct Order<'a> {
     /// Whether names that are read end in zero bytes.
     pub null: bool,
-    /// Whether volumes of types 2 and 3 are accepted too.
+    /// Whether volumes of types 2 to 5 are accepted too.
     pub any_type: bool,
     /// Whether objects are written in place of lines.
     pub json: bool,

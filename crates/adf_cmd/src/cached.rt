@@ -1,0 +1,113 @@
+// Images of volumes with directory caches that are checked for a command.
+
+ghost use Rattle.std.specs.Prelude.{◌≡◌, ◌++◌, IfOk, List, OnOk, string_bytes, true, ℕ};
+ghost use Rattle.adf_tree.specs.Tree.{Tree};
+ghost use Rattle.adf_volume.specs.Layout.{Layout};
+ghost use Rattle.adf_findings.specs.Survey.{OnSurvey};
+ghost use Rattle.adf_uncached.specs.{Uncached.IsUncached, Uncached.is_cached, Verdict.FirstFaultUncached, Verdict.FitsUncached};
+ghost use Rattle.adf_cmd.specs.CachedAnswers.{cached_kind_text, cached_ok_line, takes_caches};
+ghost use Rattle.adf_cmd.specs.CheckAnswers.{IsCachedAnswer};
+
+use crate::checking::CheckAnswer;
+use crate::images::refused_line;
+use adf_blocks::Cause;
+use adf_check::{Checked, Counts, Fault};
+use adf_names::Kind;
+use adf_uncached::{Uncached, check_uncached, counts_with_caches, is_cached, without_caches};
+use adf_volume::{Types, is_image_len};
+use std::alloc::{AllocError, Global};
+use std::fmt;
+
+/// Whether an image is checked as that of a volume with directory caches where these types are accepted.
+pub fn takes_caches(types: Types, image: &[u8]) -> bool
+    ensures { result ≡ takes_caches types image.now }
+{
+    match types {
+        Types::Plain => false,
+        Types::WithInternational => is_cached(image) && is_image_len(image.len()),
+    }
+}
+
+// The word for a kind of volumes with directory caches.
+fn cached_kind_text(kind: Kind) -> &'static str
+    ensures { result.now ≡ cached_kind_text kind }
+{
+    match kind {
+        Kind::Ofs => "ofs-cached",
+        Kind::Ffs => "ffs-cached",
+    }
+}
+
+// Appends the line of a sound volume with directory caches.
+fn push_cached(text: &mut String, counts: &Counts) -> Result<(), AllocError>
+    ensures { OnOk result (string_bytes text.new ≡ string_bytes text.old ++ cached_ok_line counts.now) }
+{
+    let kind = cached_kind_text(counts.kind);
+    let blocks = counts.blocks;
+    let used = counts.used;
+    let free = counts.free;
+    let dirs = counts.dirs;
+    let files = counts.files;
+    write!(
+        text,
+        "ok {kind} blocks {blocks} used {used} free {free} dirs {dirs} files {files}\n"
+    )
+}
+
+// The line of a sound volume with directory caches.
+fn cached_line(alloc: Global, counts: &Counts) -> Result<String, AllocError>
+    ensures { IfOk result (λ line. string_bytes line ≡ cached_ok_line counts.now) }
+{
+    let mut line = String::new(alloc);
+    push_cached(&mut line, counts)?;
+    Ok(line)
+}
+
+// The answer to an accepted image.
+fn cached_acceptance(
+    alloc: Global,
+    uncached: &Uncached,
+    volume: &Checked<'_>,
+) -> Result<CheckAnswer, AllocError>
+    requires { volume.now ≡ uncached.now.image.items }
+    ensures { (image : List ℕ) (t : Tree) (l : Layout) → OnSurvey image (λ w _. IsUncached image w uncached.now)
+        → FitsUncached uncached.now.fault volume.now t l → IfOk result (IsCachedAnswer image) }
+{
+    let line = cached_line(alloc, &counts_with_caches(uncached, volume))?;
+    Ok(CheckAnswer { sound: true, line })
+}
+
+// The answer to a refused image.
+fn cached_refusal(alloc: Global, uncached: &Uncached, fault: Fault) -> Result<CheckAnswer, AllocError>
+    requires { FirstFaultUncached uncached.now.fault uncached.now.image.items fault.block fault.cause }
+    ensures { (image : List ℕ) → OnSurvey image (λ w _. IsUncached image w uncached.now)
+        → IfOk result (IsCachedAnswer image) }
+{
+    let line = refused_line(alloc, fault)?;
+    Ok(CheckAnswer { sound: false, line })
+}
+
+// The answer to an image that is kept as one without caches.
+fn answer_to_uncached(alloc: Global, uncached: &Uncached) -> Result<CheckAnswer, AllocError>
+    ensures { (image : List ℕ) → OnSurvey image (λ w _. IsUncached image w uncached.now)
+        → IfOk result (IsCachedAnswer image) }
+{
+    match check_uncached(alloc, uncached) {
+        Ok(volume) => cached_acceptance(alloc, uncached, &volume),
+        Err(fault) => match fault.cause {
+            Cause::NoMemory => Err(AllocError),
+            _ => cached_refusal(alloc, uncached, fault),
+        },
+    }
+}
+
+/// Checks an image of a volume with directory caches. `AllocError` if an allocation failed; it says nothing about the image.
+pub fn answer_to_cached(alloc: Global, image: &[u8]) -> Result<CheckAnswer, AllocError>
+    requires { is_cached image.now ≡ true }
+    ensures { IfOk result (IsCachedAnswer image.now) }
+{
+    match without_caches(alloc, image) {
+        Ok(uncached) => answer_to_uncached(alloc, &uncached),
+        Err(_) => Err(AllocError),
+    }
+}
