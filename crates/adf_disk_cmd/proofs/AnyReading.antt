@@ -1,11 +1,11 @@
 -- What can be read of a disk whatever its number of blocks.
 -- Letters: as in adf_partitions/specs/Searches; n and m two numbers of blocks, ps and p partitions with n, qs and q with m.
-use Rattle.std.proofs.Common.{◌≡◌, ◌∙◌, ℕ, zero, suc, List, [], ◌∷◌, ◌++◌, length, refl, sym, ap, ap₂, subst, arith, Bool, true, false, Option, None, Some}
+use Rattle.std.proofs.Common.{◌≡◌, ◌∙◌, ℕ, zero, suc, List, [], ◌∷◌, ◌++◌, length, refl, sym, ap, subst, arith, Bool, true, false, Option, None, Some}
 use Rattle.std.specs.{Prelude.cond, Prelude.find, Prelude.IfOk, Prelude.slice_get, Prelude.⊤, List.list_any}
 use Rattle.std.proofs.{lemmas.Bool.and_parts, lemmas.Grind.common_steps}
 use Rattle.adf_partitions.specs.{declared.partition.Partition.Partition, declared.place.Place.Place, declared.tables.Tables.Tables, Faults.first_failed}
 use Rattle.adf_partitions.specs.{Partitions.partition_numbered, Volumes.IsStated, declared.layout.TheConstants.MOST_TABLES}
-use Rattle.adf_partitions.specs.Disks.{IsCut, IsDisk, IsFound, is_block_of, part_form, partition_at, IsFound.start, IsFound.step}
+use Rattle.adf_partitions.specs.Disks.{IsFound, is_block_of, part_form, partition_at, IsFound.start, IsFound.step}
 use Rattle.adf_partitions.specs.Searches.{AreReadable, bare_partitions, is_lost_partition, no_tables, with_all_lost, with_lost_partition}
 use Rattle.adf_partitions.specs.Searches.AreReadable.{whole, cut, bare, other}
 use Rattle.adf_partitions.proofs.{NumberTests.le_of, OneAnswer.one_reading, TablesEnough.is_held, VolumesApart.if_placed, VolumesApart.passed}

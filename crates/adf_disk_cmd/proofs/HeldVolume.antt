@@ -1,15 +1,15 @@
 -- What is told of a disk of which the blocks that may have tables and the bytes of one volume are held.
 -- Letters: as in proofs/HeldTables; tables are the first t bytes of all, q is the place of the volume, f its first byte and b how many it has.
-use Rattle.std.proofs.Common.{◌≡◌, ◌≤◌, ◌+◌, ◌-◌, ◌*◌, ◌/◌, ◌∙◌, ◌++◌, ◌&&◌, [], ℕ, List, Option, None, Some, Result, Ok, Err, IfOk, IfSome, inl, inr, ap}
+use Rattle.std.proofs.Common.{◌≡◌, ◌≤◌, ◌+◌, ◌-◌, ◌*◌, ◌/◌, ◌∙◌, ◌++◌, [], ℕ, List, Option, None, Some, Result, Ok, Err, IfOk, IfSome, inl, inr, ap}
 use Rattle.std.proofs.Common.{ap₂, append-nil, arith, drop, false, length, length-drop, length-take, min, refl, subst, sym, take, true}
 use Rattle.std.proofs.{Math.ListN.drop_of_length-le, Math.Seq.take-add, lemmas.Bool.and_parts, lemmas.Bool.cases_lt, lemmas.Grind.common_steps}
-use Rattle.std.specs.Prelude.{Bool, bytes_eq, if◌then◌else◌, nat_le, ◌||◌, ◌∷◌}
+use Rattle.std.specs.Prelude.{Bool, bytes_eq, if◌then◌else◌, ◌||◌, ◌∷◌}
 use Rattle.std.proofs.lemmas.List.{drop-drop, drop-take, take-take, take_all}
 use Rattle.adf_base.specs.Words.{block}
 use Rattle.adf_names.specs.{Escapes.escaped, Texts.uppers}
 use Rattle.adf_partitions.proofs.NumberTests.{le_of, of_le}
-use Rattle.adf_partitions.specs.{Places.StatesPlace, Places.blocks_from, Places.end_of, Places.has_cylinders, Places.partition_place, Searches.AreReadable}
-use Rattle.adf_partitions.specs.{Searches.AreReadable.whole, Summed.holds, Volumes.IsStated}
+use Rattle.adf_partitions.specs.{Places.StatesPlace, Places.blocks_from, Places.end_of, Places.partition_place, Searches.AreReadable}
+use Rattle.adf_partitions.specs.{Searches.AreReadable.whole, Volumes.IsStated}
 use Rattle.adf_partitions.specs.{declared.fault.DiskFault.DiskFault, declared.partition.Partition.Partition, declared.place.Place.Place}
 use Rattle.adf_partitions.specs.declared.place.PlaceFault.{PlaceFault, TheVariants.BeyondImage, TheVariants.NoCylinders, TheVariants.OverPartition}
 use Rattle.adf_partitions.specs.declared.place.PlaceFault.TheVariants.{OverTables}

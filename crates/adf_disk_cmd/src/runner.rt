@@ -20,9 +20,9 @@ use std::alloc::Global;
 ///
 /// - 0 if the partitions of sound tables are listed, all of them are sound volumes, a search finds one, or the whole volume or a
 ///   new disk is written;
-/// - 1 if the tables have a fault, or a partition is not a sound volume, which output tells; or if a search finds no volume, there
-///   is no such partition, something is wrong with its place, `volume` finds a fault of the tables, or no disk can be built, which
-///   errors tell;
+/// - 1 if the tables have a fault, or a partition is not a sound volume, which output tells; or if a search finds no volume,
+///   there is no such partition, something is wrong with its place, `volume` finds a fault of the tables, or no disk can be
+///   built, which errors tell;
 /// - 2 if the words are not accepted, which is said on errors; nothing is read, and output is empty;
 /// - 3 if the file cannot be opened, a device failed or an allocation failed, which is said on errors.
 pub fn run_files<F: Files, R: Source, W: Sink, E: Sink>(
