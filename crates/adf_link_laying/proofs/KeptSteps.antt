@@ -1,11 +1,11 @@
 -- Links that are kept, by what is known of entries.
 -- Letters: x, y what is surveyed of two images, w the walk of one; n an entry, m what it is in the second image; b a block; o what is known of one entry.
-use Rattle.std.specs.Prelude.{◌&&◌, IfSome, Option, Some, None, nat_le}
-use Rattle.std.proofs.Common.{◌≡◌, ◌<◌, ◌≤◌, ◌∙◌, ◌⊎◌, ◌+◌, ℕ, Bool, true, false, List, [], ◌∷◌, ◌++◌, ap, arith, inl, inr, length, refl, subst, sym}
+use Rattle.std.specs.Prelude.{IfSome, Option, Some, None, nat_le}
+use Rattle.std.proofs.Common.{◌≡◌, ◌<◌, ◌≤◌, ◌∙◌, ◌⊎◌, ◌+◌, ℕ, Bool, true, List, [], ◌∷◌, ◌++◌, ap, arith, inl, inr, length, subst, sym}
 use Rattle.std.proofs.lemmas.{Grind.common_steps, Bool.and_parts, Bool.cases_lt, Bool.Decides.nat_tests}
 use Rattle.adf_volume.specs.Walk.{Walk, heads, node_block}
 use Rattle.adf_findings.specs.Members.{has_mark}
-use Rattle.adf_links.specs.Links.{AreRightMarks, has_entry}
+use Rattle.adf_links.specs.Links.{AreRightMarks}
 use Rattle.adf_link_laying.specs.KeptLinks.{AreAll, AreKept, AreKeptLinks, AreHeadersMarked, ArePlaces, AreSources, HasAll, IsSamePlace}
 use Rattle.adf_link_laying.specs.KeptLinks.{IsSamePlace.root, Surveyed, known}
 use Rattle.adf_link_laying.proofs.KnownEntries.{known_more, known_past}

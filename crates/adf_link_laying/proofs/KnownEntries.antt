@@ -1,8 +1,7 @@
 -- What is known of entries, and marks, where one more is set.
 -- Letters: R what holds of an entry and what is known of it; xs what is known; o what is known of one entry; n, k entries, m, j what is known of them.
 use Rattle.std.specs.Prelude.{Option, Some, None}
-use Rattle.std.proofs.Common.{◌≡◌, ◌<◌, ◌≤◌, ◌∙◌, ◌⊎◌, ◌+◌, ℕ, Bool, true, false, List, [], ◌∷◌, ◌++◌, arith, get_or}
-use Rattle.std.proofs.Common.{inl, inr, length, refl, set, subst, sym, ap}
+use Rattle.std.proofs.Common.{◌≡◌, ◌<◌, ◌≤◌, ◌∙◌, ◌⊎◌, ℕ, Bool, true, false, List, [], ◌∷◌, ◌++◌, arith, inl, inr, length, set, subst, sym}
 use Rattle.std.specs.Prelude.{replicate}
 use Rattle.std.proofs.lemmas.Bool.{cases_lt, Decides.eqb_tells}
 use Rattle.std.proofs.lemmas.{Grind.common_steps, List.get_or_append_left, List.get_or_push, List.get_or-set_same, List.get_or-set_other}

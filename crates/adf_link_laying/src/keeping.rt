@@ -50,8 +50,7 @@ fn kept_marks(
     }
 }
 
-// The marks of the links of an input that an image has, if it is a volume with these, and has nothing else that the volume has
-// not.
+// The marks of the links of an input that an image has, if it is a volume with these and with nothing else.
 fn judge_found(
     alloc: Global,
     found: &Survey<'_>,
@@ -103,8 +102,8 @@ fn link_volume(
 
 /// A new volume with the links of an input that can be kept in it: the right ones of which the directory and what they lead to are
 /// in the volume as they are in the input, as far as there are names and blocks for them. All that stands on the volume stands on
-/// it, and it has nothing else; what is found on it is that they are links. `None` if no link is right. `NoMemory` if an
-/// allocation fails.
+/// it, and it has nothing else; but for its type, what is found on it is that they are links. `None` if no link is right, or what
+/// is laid is not found to be so. `NoMemory` if an allocation fails.
 pub fn keep_links(alloc: Global, input: &[u8], volume: &[u8]) -> Result<Option<Linked>, NoMemory>
     ensures { IfOk result (λ linked. IfSome linked (λ l. HasLinks input.now volume.now l.image.items l.kept.items)) }
 {

@@ -220,7 +220,8 @@ fn all_have_sources(marks: &Vec<bool>, sources: &[Option<usize>]) -> bool
     true
 }
 
-/// Whether each right link of the second image is a link that is kept, by the marks of headers. `NoMemory` if an allocation fails.
+/// Whether each right link of the second image is a link that is kept, by the marks of headers. `NoMemory` if an allocation
+/// fails.
 pub fn are_all_kept(
     alloc: Global,
     one: &Survey<'_>,

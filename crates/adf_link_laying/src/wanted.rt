@@ -10,8 +10,8 @@ use adf_tree::Node;
 use adf_volume::letters_in;
 use std::alloc::Global;
 
-/// A link that is to be laid: the block of its directory, the slot of its name, its entry in the image that it comes from, and the
-/// header that it leads to, if it is a hard one.
+/// A link that is to be laid: the block of its directory, the slot of its name, its entry in the image that it comes from, and
+/// the header that it leads to, if it is a hard one.
 #[derive(Clone, Copy, PartialEq, Eq, PartialOrd, Ord, Drop)]
 pub struct Wanted {
     pub directory: u32,

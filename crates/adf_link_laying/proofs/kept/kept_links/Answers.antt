@@ -1,5 +1,5 @@
 use Rattle.std.specs.Prelude.{IfSome, Option, Some, None}
-use Rattle.std.proofs.Common.{◌≡◌, ◌∙◌, ℕ, Bool, List, true, arith, length, subst, sym}
+use Rattle.std.proofs.Common.{◌≡◌, ◌∙◌, ℕ, Bool, List, true, arith, subst, sym}
 use Rattle.adf_findings.specs.Members.{has_mark}
 use Rattle.adf_links.specs.Links.{AreRightMarks}
 use Rattle.adf_link_laying.specs.KeptLinks.{ArePlaces, IsKeptLink, IsSamePlace, Surveyed, is_right, known, surveyed}

@@ -1,4 +1,3 @@
-use Rattle.std.proofs.Common.{arith}
 use Rattle.adf_link_laying.proofs.KeptSteps.{next_all}
 use Rattle.adf_link_laying.specs.KeptLinks.{known}
 use Rattle.std.proofs.Common.{◌≡◌, ℕ}

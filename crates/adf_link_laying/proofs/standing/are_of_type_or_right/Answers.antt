@@ -1,5 +1,5 @@
 use Rattle.std.specs.Prelude.{Some, slice_get}
-use Rattle.std.proofs.Common.{◌≡◌, ◌<◌, ℕ, ap, arith, length, subst, sym}
+use Rattle.std.proofs.Common.{◌≡◌, ◌<◌, ap, arith, length}
 use Rattle.std.proofs.lemmas.{List.length-map, Option.slice_get_within}
 use Rattle.adf_findings.specs.{Parts.finding_value, Survey.FindingValue}
 use Rattle.adf_link_laying.specs.KeptLinks.{IsOfTypeOrRight, surveyed}
