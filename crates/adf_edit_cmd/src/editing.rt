@@ -14,10 +14,13 @@ use crate::script::{BootEdit, Script, behind_file, behind_files, files_len, read
 use crate::stop::Stop;
 use adf_boot_blocks::{STANDARD_CODE, clear, install, restore};
 use adf_build::{BuildFault, build_types};
-use adf_edits::{Edit, EditFault, Outline, OutlineFault, TreeFault};
+use adf_edits::{Edit, EditFault, IndexedOutline, Outline, OutlineFault, TreeFault};
 use adf_tree::Tree;
 use adf_volume::Types;
 use std::alloc::Global;
+
+// The fewest edits that an index is made for.
+const FEWEST_INDEXED: usize = 32;
 
 // Applies the edit of a line.
 fn edit_line(
@@ -59,6 +62,82 @@ fn edit_all(
         given = rest;
     }
     Ok(outline)
+}
+
+// Applies the edit of a line by an index.
+fn edit_line_indexed(
+    alloc: Global,
+    outline: IndexedOutline,
+    edit: Edit,
+    given: &[u8],
+    line: usize,
+) -> Result<IndexedOutline, Stop>
+    ensures ok { IfOk result (λ o. edited (edit_value edit) given.now outline ≡ Ok o) }
+    ensures fault { IfErr result (IsLineStop (edit_value edit) given.now outline line) }
+{
+    match outline.edited(alloc, edit, given) {
+        Ok(outline) => Ok(outline),
+        Err(EditFault::NoMemory) => Err(Stop::NoMemory),
+        Err(fault) => Err(Stop::Line(line, fault)),
+    }
+}
+
+// Applies edits by an index, one after the other; the first one is that of line 1.
+#[tactic(auto, using(crate::proofs::EditSteps::after_err))]
+fn edit_all_indexed(
+    alloc: Global,
+    outline: IndexedOutline,
+    edits: Vec<Edit>,
+    given: &[u8],
+) -> Result<IndexedOutline, Stop>
+    ensures ok { IfOk result (λ o. outline_after 1 (map edit_value edits.items) given.now outline ≡ Ok o) }
+    ensures fault { IfErr result (λ f. f ≢ Stop.NoMemory
+        → outline_after 1 (map edit_value edits.items) given.now outline ≡ Err f) }
+{
+    let mut outline = outline;
+    let mut given = given;
+    let mut line = 0usize;
+    for edit in edits {
+        line += 1;
+        let rest = behind_file(&edit, given);
+        outline = edit_line_indexed(alloc, outline, edit, given, line)?;
+        given = rest;
+    }
+    Ok(outline)
+}
+
+// Whether an edit moves something.
+fn is_move(edit: &Edit) -> bool {
+    matches!(edit, Edit::Move(_, _))
+}
+
+// Whether edits are applied by an index: many of them, and no move, since the index is made anew where a directory was moved.
+fn pays_index(edits: &[Edit]) -> bool {
+    FEWEST_INDEXED <= edits.len() && !edits.iter().any(|edit| is_move(edit))
+}
+
+// Applies edits; many of them by an index, which takes the time of some.
+fn edit_outline(
+    alloc: Global,
+    outline: Outline,
+    edits: Vec<Edit>,
+    given: &[u8],
+) -> Result<Outline, Stop>
+    ensures ok { IfOk result (λ o. outline_after 1 (map edit_value edits.items) given.now outline ≡ Ok o) }
+    ensures fault { IfErr result (λ f. f ≢ Stop.NoMemory
+        → outline_after 1 (map edit_value edits.items) given.now outline ≡ Err f) }
+{
+    if !pays_index(&edits) {
+        return edit_all(alloc, outline, edits, given);
+    }
+    let Ok(outline) = IndexedOutline::of(alloc, outline) else {
+        return Err(Stop::NoMemory);
+    };
+    let outline = edit_all_indexed(alloc, outline, edits, given)?;
+    match outline.outline(alloc) {
+        Ok(outline) => Ok(outline),
+        Err(_) => Err(Stop::NoMemory),
+    }
 }
 
 // Writes the boot blocks of a volume of so many blocks: those that are asked for, or else those of the old image behind the type.
@@ -124,7 +203,7 @@ fn by_old(alloc: Global, old: &Old<'_>, script: Script, given: &[u8]) -> Result<
     let settings = script.settings;
     let letters = settings.letters.unwrap_or(old.letters);
     let outline = outline_of(alloc, &old.tree)?;
-    let outline = edit_all(alloc, outline, script.edits, given)?;
+    let outline = edit_outline(alloc, outline, script.edits, given)?;
     match outline.finish_by(alloc, letters) {
         Ok(tree) => lay(alloc, &tree, old.blocks, old.boot, settings.boot),
         Err(TreeFault::NoMemory) => Err(Stop::NoMemory),
