@@ -45,12 +45,7 @@ fn push_chain(survey: &Survey<'_>, first: u32, list: &mut Vec<u32>) -> Result<()
 }
 
 // Appends the blocks of the cache of directory `d`, if it is found.
-fn push_cache(
-    survey: &Survey<'_>,
-    root: u32,
-    d: Node,
-    list: &mut Vec<u32>,
-) -> Result<(), NoMemory>
+fn push_cache(survey: &Survey<'_>, root: u32, d: Node, list: &mut Vec<u32>) -> Result<(), NoMemory>
     requires is { root ≡ root_of survey.now.image }
     requires inside { root * 512 + 512 ≤ length survey.now.image }
     ensures { OnSurvey survey.now.image (λ w _. HaveChains survey.now.image w
