@@ -78,7 +78,11 @@ fn cached_acceptance(
 }
 
 // The answer to a refused image.
-fn cached_refusal(alloc: Global, uncached: &Uncached, fault: Fault) -> Result<CheckAnswer, AllocError>
+fn cached_refusal(
+    alloc: Global,
+    uncached: &Uncached,
+    fault: Fault,
+) -> Result<CheckAnswer, AllocError>
     requires { FirstFaultUncached uncached.now.fault uncached.now.image.items fault.block fault.cause }
     ensures { (image : List ℕ) → OnSurvey image (λ w _. IsUncached image w uncached.now)
         → IfOk result (IsCachedAnswer image) }

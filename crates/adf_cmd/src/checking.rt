@@ -56,8 +56,8 @@ fn refusal(alloc: Global, fault: Fault) -> Result<CheckAnswer, AllocError>
     Ok(CheckAnswer { sound: false, line })
 }
 
-/// Checks an image of one of these types, and with types 2 and 3 one of directory caches. `AllocError` if an allocation failed; it
-/// says nothing about the image.
+/// Checks an image of one of these types, and with types 2 and 3 one of directory caches. `AllocError` if an allocation failed;
+/// it says nothing about the image.
 pub fn answer_to_image(alloc: Global, types: Types, image: &[u8]) -> Result<CheckAnswer, AllocError>
     ensures { IfOk result (IsCheckAnswer types image.now) }
 {

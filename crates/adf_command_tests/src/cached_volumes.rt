@@ -60,13 +60,7 @@ const ROWS: &[(&[Word], &[Sum], &str)] = &[
 ];
 
 // The image of the volume with these words changed and these sums made anew, where these types are accepted, has this answer.
-fn answers(
-    alloc: Global,
-    types: Types,
-    words: &[Word],
-    sums: &[Sum],
-    line: &str,
-) -> bool {
+fn answers(alloc: Global, types: Types, words: &[Word], sums: &[Sum], line: &str) -> bool {
     let built = sound_image(alloc);
     let mut image = [0u8; 8192];
     if built.len() != image.len() {
@@ -76,7 +70,8 @@ fn answers(
     change(&mut image, CACHED, SUMS);
     change(&mut image, words, sums);
     match answer_to_image(alloc, types, &image) {
-        Ok(answer) => answer.line.as_bytes() == line.as_bytes() && answer.sound == line.starts_with("ok "),
+        Ok(answer) => answer.line.as_bytes() == line.as_bytes()
+            && answer.sound == line.starts_with("ok "),
         Err(_) => false,
     }
 }
@@ -104,5 +99,13 @@ fn cached_volumes_are_checked(rt: HostRuntime) {
 
 #[test]
 fn plain_checks_refuse_them(rt: HostRuntime) {
-    assert!(rt; answers(rt.alloc(), Types::Plain, &[], &[], "block 0: directory cache\n"));
+    assert!(rt;
+        answers(
+            rt.alloc(),
+            Types::Plain,
+            &[],
+            &[],
+            "block 0: directory cache\n"
+        )
+    );
 }
