@@ -1,13 +1,12 @@
 -- What a check answers to images of volumes with directory caches.
 use Rattle.std.specs.Prelude.{◌≡◌, ◌++◌, ◌&&◌, ◌⊎◌, ℕ, Bool, false, List, codes, length}
-use Rattle.std.specs.Fmt.{decimal}
 use Rattle.adf_names.specs.{Kinds.kind_text, declared.kind.Kind.Kind}
 use Rattle.adf_tree.specs.Tree.{Tree}
 use Rattle.adf_volume.specs.{Layout.Layout, Start.is_image_len, declared.counts.Counts.Counts, declared.fault.Fault.Fault}
 use Rattle.adf_volume.specs.declared.types.Types.{Types, TheVariants.Plain, TheVariants.WithInternational}
 use Rattle.adf_uncached.specs.{Uncached.is_cached, Cached.FirstFaultCached, Cached.FitsCached, Cached.cached_counts}
 use Rattle.adf_runs.specs.Commands.{Reply, on_output}
-use Rattle.adf_texts.specs.Lines.{fault_line}
+use Rattle.adf_texts.specs.Lines.{fault_line, ok_line_of}
 
 -- where types 2 and 3 are accepted, an image of an allowed size is that of a volume with directory caches if its type says so
 abbrev pub takes_caches : Types → List ℕ → Bool
@@ -20,9 +19,7 @@ cached_kind_text kind = kind_text kind ++ codes "-cached"
 
 -- the line of a sound volume with directory caches
 abbrev pub cached_ok_line : Counts → List ℕ
-cached_ok_line c = codes "ok " ++ (cached_kind_text c.kind ++ (codes " blocks " ++ (decimal c.blocks
-    ++ (codes " used " ++ (decimal c.used ++ (codes " free " ++ (decimal c.free
-    ++ (codes " dirs " ++ (decimal c.dirs ++ (codes " files " ++ (decimal c.files ++ codes "\n")))))))))))
+cached_ok_line c = ok_line_of (cached_kind_text c.kind) c
 
 -- at status 0 the numbers of the tree and the layout that fit the image are told
 abbrev pub AcceptsCached : List ℕ → Reply → Type 0

@@ -1,6 +1,6 @@
 // Images of volumes with directory caches that are checked for a command.
 
-ghost use Rattle.std.specs.Prelude.{◌≡◌, ◌++◌, IfOk, List, OnOk, string_bytes, true, ℕ};
+ghost use Rattle.std.specs.Prelude.{◌≡◌, IfOk, List, string_bytes, true, ℕ};
 ghost use Rattle.adf_tree.specs.Tree.{Tree};
 ghost use Rattle.adf_volume.specs.Layout.{Layout};
 ghost use Rattle.adf_findings.specs.Survey.{OnSurvey};
@@ -13,10 +13,10 @@ use crate::images::refused_line;
 use adf_blocks::Cause;
 use adf_check::{Checked, Counts, Fault};
 use adf_names::Kind;
+use adf_texts::push_counts_of;
 use adf_uncached::{Uncached, check_uncached, counts_with_caches, is_cached, without_caches};
 use adf_volume::{Types, is_image_len};
 use std::alloc::{AllocError, Global};
-use std::fmt;
 
 /// Whether an image is checked as that of a volume with directory caches where these types are accepted.
 pub fn takes_caches(types: Types, image: &[u8]) -> bool
@@ -38,28 +38,12 @@ fn cached_kind_text(kind: Kind) -> &'static str
     }
 }
 
-// Appends the line of a sound volume with directory caches.
-fn push_cached(text: &mut String, counts: &Counts) -> Result<(), AllocError>
-    ensures { OnOk result (string_bytes text.new ≡ string_bytes text.old ++ cached_ok_line counts.now) }
-{
-    let kind = cached_kind_text(counts.kind);
-    let blocks = counts.blocks;
-    let used = counts.used;
-    let free = counts.free;
-    let dirs = counts.dirs;
-    let files = counts.files;
-    write!(
-        text,
-        "ok {kind} blocks {blocks} used {used} free {free} dirs {dirs} files {files}\n"
-    )
-}
-
 // The line of a sound volume with directory caches.
 fn cached_line(alloc: Global, counts: &Counts) -> Result<String, AllocError>
     ensures { IfOk result (λ line. string_bytes line ≡ cached_ok_line counts.now) }
 {
     let mut line = String::new(alloc);
-    push_cached(&mut line, counts)?;
+    push_counts_of(&mut line, cached_kind_text(counts.kind), counts)?;
     Ok(line)
 }
 
