@@ -1,6 +1,5 @@
 -- What the command answers to its words and its input.
--- Letters: s what is surveyed; w the walk of its survey, fs its findings; n an entry's node, h the block of its header; r an inquiry; held the length of the
--- input.
+-- Letters: s what is surveyed; w the walk of its survey, fs its findings; r an inquiry; held the length of the input.
 use Rattle.std.specs.Prelude.{◌≡◌, ◌*◌, ◌⊎◌, ◌++◌, ◌||◌, ℕ, Bool, true, false, cond, List, Option, None, Some, codes, is_some, length, map}
 use Rattle.adf_blocks.specs.declared.layout.TheConstants.{MOST_BLOCKS}
 use Rattle.adf_names.specs.PathTexts.{IsPathText}
@@ -15,7 +14,8 @@ use Rattle.adf_file_runs.specs.FileRuns.{without_files}
 use Rattle.adf_survey_cmd.specs.CommandLine.{AreRefusedBySurvey, AsksSurvey, InquiryValue, QuestionValue, asked_beside, blanks, cat, deleted, list, report}
 use Rattle.adf_survey_cmd.specs.CommandLine.{rescue, rescue_before, rescue_deleted, survey_file}
 use Rattle.adf_survey_cmd.specs.UnreadLines.{IsBlankText, IsMappedText, TellsBlank, ToldBehind, is_other_disk, other_disk_line}
-use Rattle.adf_remains.specs.{Deletions.TellsTyped}
+use Rattle.adf_listings.specs.Told.{TellsFindings, TellsFound}
+use Rattle.adf_remains.specs.{Copies.CopiesFound, Deletions.TellsTyped}
 use Rattle.adf_survey_cmd.specs.Hints.{Hinted}
 use Rattle.adf_subjects.specs.{declared.remarks.Remark.Remark, declared.remarks.Saying.TheVariants.NoData, Remarks.remark}
 use Rattle.adf_subjects.specs.{Rescues.Replies, Rescues.RescuesTyped}
