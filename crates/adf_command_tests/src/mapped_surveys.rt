@@ -107,12 +107,6 @@ const RUNS: &[(&[&str], u8, &str, &str)] = &[
         "",
         "the map of a disk of another size\n",
     ),
-    (
-        &["adf-survey", "--map", "disk", "disk"],
-        1,
-        "",
-        "disk: not a map of ddrescue\n",
-    ),
     // a path that is not read is told first
     (
         &["adf-survey", "--map", "half", "cat", "a//b", "disk"],

@@ -1,11 +1,9 @@
 -- Runs whose words may name the file of a map: its text is read in place of its name.
--- Letters: files what is known of the files; at the number of the word that names the map, m the map; n the status.
-use Rattle.std.specs.Prelude.{◌≡◌, ◌⊎◌, ◌+◌, ◌++◌, ℕ, List, [], Option, None, Some, codes, slice_index_or, slice_set}
+-- Letters: files what is known of the files; at the number of the word that names the map; n the status.
+use Rattle.std.specs.Prelude.{◌≡◌, ◌⊎◌, ◌+◌, ℕ, List, [], Option, None, Some, slice_index_or, slice_set}
 use Rattle.std.specs.Str.{IsUtf8}
 use Rattle.std.specs.Io.KnownBytes.{Appends}
-use Rattle.adf_names.specs.Escapes.{escaped}
-use Rattle.adf_maps.specs.Maps.{MapValue, map_of}
-use Rattle.adf_runs.specs.Streams.{AreFirst, IsTold, Seen}
+use Rattle.adf_runs.specs.Streams.{AreFirst, Seen}
 use Rattle.adf_file_runs.specs.FileRuns.{KnownFiles, RunEndsOnFiles}
 use Rattle.adf_survey_cmd.specs.{Answers.survey_command, CommandLine.survey_file, MapWords.map_word, declared.map_runs.TheConstants.MOST_MAP}
 
@@ -19,26 +17,12 @@ IsMapText files name text =
 abbrev pub LacksMap : ℕ → Seen → Type 0
 LacksMap n output = (n ≡ 3) × Appends output.before output.after []
 
--- what is said of a file that is no map
-abbrev pub no_map_line : (name : List ℕ) → List ℕ
-no_map_line name = escaped name ++ codes ": not a map of ddrescue\n"
-
--- a file is told to be no map: nothing is written to output
-abbrev pub TellsNoMap : (name : List ℕ) → ℕ → Seen → Seen → Type 0
-TellsNoMap name n output errors = (n ≡ 1) × Appends output.before output.after [] × IsTold errors (no_map_line name)
-
--- how a run ends with this text in place of the name of its map
-abbrev pub EndsWithText : List (List ℕ) → (at : ℕ) → (text : List ℕ) → Option MapValue → KnownFiles → Seen → ℕ → Seen → Seen → Type 0
-EndsWithText words at text None files input n output errors = TellsNoMap (slice_index_or words at []) n output errors
-EndsWithText words at text (Some m) files input n output errors =
-    RunEndsOnFiles survey_command survey_file (slice_set words at text) files input n output errors
-
 -- how a run ends whose words name a map
 abbrev pub EndsWithMap : List (List ℕ) → (at : ℕ) → KnownFiles → Seen → ℕ → Seen → Seen → Type 0
 EndsWithMap words at files input n output errors =
     LacksMap n output
     ⊎ ((text : List ℕ) × IsMapText files (slice_index_or words at []) text
-    × EndsWithText words at text (map_of text) files input n output errors)
+    × RunEndsOnFiles survey_command survey_file (slice_set words at text) files input n output errors)
 
 -- how a run ends, by the word that names a map, if there is one
 abbrev pub EndsByMap : Option ℕ → List (List ℕ) → KnownFiles → Seen → ℕ → Seen → Seen → Type 0

@@ -1,20 +1,17 @@
 // Runs whose words may name the file of a map.
 
-ghost use Rattle.std.specs.Prelude.{◌≡◌, ◌⊎◌, ◌<◌, ◌+◌, IfOk, IfSome, IsSome, None, [], false, length, map, slice_set};
+ghost use Rattle.std.specs.Prelude.{◌≡◌, ◌⊎◌, ◌<◌, ◌+◌, IfSome, [], false, length};
 ghost use Rattle.std.specs.Str.{IsUtf8};
 ghost use Rattle.adf_file_runs.specs.FileRuns.{known_files};
-ghost use Rattle.adf_maps.specs.Maps.{map_of};
-ghost use Rattle.adf_runs.specs.Streams.{AreFirst, IsTold, seen};
-ghost use Rattle.adf_survey_cmd.specs.MapRuns.{EndsWithMap, EndsWithText, SurveyEnds, no_map_line};
+ghost use Rattle.adf_runs.specs.Streams.{AreFirst, seen};
+ghost use Rattle.adf_survey_cmd.specs.MapRuns.{EndsWithMap, SurveyEnds};
 ghost use Rattle.adf_words.specs.CommandLine.{texts_of};
 
 use crate::map_words::{map_word, with_text};
 use crate::runner::run_files;
 use adf_file_runs::{Files, Invocation, refuse_file};
-use adf_maps::{MapFault, read_map};
 use adf_runs::{Outcome, Sink, Source, read_all};
-use adf_texts::push_escaped;
-use std::alloc::{AllocError, Global};
+use std::alloc::Global;
 
 /// The most bytes of the text of a map.
 pub const MOST_MAP: usize = 16_777_216;
@@ -57,47 +54,6 @@ fn text_in(bytes: &[u8]) -> &str
     }
 }
 
-// The words with the text of a map in place of its name; none if it is no map.
-fn with_map<'a>(
-    alloc: Global,
-    words: &[&'a str],
-    at: usize,
-    text: &'a str,
-) -> Result<Option<Vec<&'a str>>, AllocError>
-    requires { at < length words.now }
-    ensures some { IfOk result (λ read. IfSome read (λ ws. IsSome (map_of text.now)
-        × (map (λ w. w.now) ws.items ≡ slice_set (map (λ w. w.now) words.now) at text.now))) }
-    ensures none { IfOk result (λ read. read ≡ None → map_of text.now ≡ None) }
-{
-    match read_map(alloc, text.as_bytes()) {
-        Ok(_) => Ok(Some(with_text(alloc, words, at, text)?)),
-        Err(MapFault::NoMap) => Ok(None),
-        Err(MapFault::NoMemory) => Err(AllocError),
-    }
-}
-
-// The line of a file that is no map.
-fn no_map_line(alloc: Global, name: &str) -> Result<Vec<u8>, AllocError>
-    ensures { IfOk result (λ line. line.items ≡ no_map_line name.now) }
-{
-    let mut line = Vec::new(alloc);
-    push_escaped(&mut line, name.as_bytes())?;
-    line.extend_from_slice(b": not a map of ddrescue\n")?;
-    Ok(line)
-}
-
-// Says on errors that a file is no map, and returns the status.
-fn refuse_map<E: Sink>(alloc: Global, name: &str, errors: &mut E) -> u8
-    requires { E.has_failed errors.old ≡ false }
-    ensures { (result ≡ 3)
-        ⊎ ((result ≡ 1) × IsTold (seen E.held E.has_failed errors.old errors.new) (no_map_line name.now)) }
-{
-    match no_map_line(alloc, name) {
-        Ok(line) => Outcome::LeftOut(line).finish(errors),
-        Err(_) => Outcome::NoMemory.finish(errors),
-    }
-}
-
 // Does what the words ask for, with the text of the map that one of them names in place of its name.
 fn run_with_map<F: Files, R: Source, W: Sink, E: Sink>(
     alloc: Global,
@@ -118,22 +74,19 @@ fn run_with_map<F: Files, R: Source, W: Sink, E: Sink>(
     let Some(bytes) = map_bytes(alloc, asked.files, asked.words[at], errors) else {
         return 3;
     };
-    match with_map(alloc, asked.words, at, text_in(&bytes)) {
-        Ok(Some(words)) => {
-            let read = Invocation {
-                words: &words,
-                files: asked.files,
-            };
-            run_files(alloc, &read, input, output, errors)
-        }
-        Ok(None) => refuse_map(alloc, asked.words[at], errors),
-        Err(_) => Outcome::NoMemory.finish(errors),
-    }
+    let Ok(words) = with_text(alloc, asked.words, at, text_in(&bytes)) else {
+        Outcome::NoMemory.finish(errors);
+        return 3;
+    };
+    let read = Invocation {
+        words: &words,
+        files: asked.files,
+    };
+    run_files(alloc, &read, input, output, errors)
 }
 
 /// Does what the words ask for, as `run_files` does; but where `--map` stands before any command, the word behind it names the
-/// file of a map, whose text is read in its place. Returns the status, which is also 3 if that file cannot be opened or read, and
-/// 1 if it is no map, which is said on errors.
+/// file of a map, whose text is read in its place. Returns the status, which is also 3 if that file cannot be opened or read.
 pub fn run_mapped<F: Files, R: Source, W: Sink, E: Sink>(
     alloc: Global,
     asked: &Invocation<'_, F>,
