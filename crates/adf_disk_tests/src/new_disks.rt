@@ -80,7 +80,7 @@ struct Made {
 }
 
 // What a run with these words makes, of a plan on the input.
-fn made(alloc: Global, words: &[&str]) -> Made {
+fn run_over(alloc: Global, words: &[&str]) -> Made {
     let mut input = Given::new(PLAN, usize::MAX);
     let mut output = Kept::new(alloc, usize::MAX, usize::MAX);
     let mut errors = Kept::new(alloc, usize::MAX, usize::MAX);
@@ -121,7 +121,7 @@ const PUT: &[&[&str]] = &[
 #[test]
 fn disks_are_put_in_their_places(rt: HostRuntime) {
     for words in PUT {
-        let made = made(rt.alloc(), words);
+        let made = run_over(rt.alloc(), words);
         assert!(rt; made.status == 0 && made.output.is_empty() && made.errors.is_empty());
         assert!(rt; made.folder.name.as_slice() == b"new".as_slice());
         assert!(rt; is_disk(rt.alloc(), &made.folder.written));
@@ -130,7 +130,7 @@ fn disks_are_put_in_their_places(rt: HostRuntime) {
 
 #[test]
 fn disks_without_a_file_go_to_output(rt: HostRuntime) {
-    let made = made(rt.alloc(), &["adf-disk", "build", "plan"]);
+    let made = run_over(rt.alloc(), &["adf-disk", "build", "plan"]);
     assert!(rt; made.status == 0 && made.errors.is_empty() && made.folder.name.is_empty());
     assert!(rt; is_disk(rt.alloc(), &made.output));
 }
@@ -171,7 +171,7 @@ const KEPT: &[(&[&str], u8, &str)] = &[
 #[test]
 fn nothing_is_put_there_else(rt: HostRuntime) {
     for (words, status, said) in KEPT {
-        let made = made(rt.alloc(), words);
+        let made = run_over(rt.alloc(), words);
         assert!(rt; made.status == *status && made.output.is_empty());
         assert!(rt; made.errors.as_slice() == said.as_bytes());
         assert!(rt; made.folder.name.is_empty());
