@@ -106,9 +106,17 @@ size_t adf_cause_text(uint8_t cause, uint8_t *room, size_t room_length);
 uint32_t adf_version(void);
 
 /* The type of a volume. Only adf_check_types, adf_owners_types and adf_index_types accept types 2 and 3, only the verdict and the
- * contents that they fill have these numbers, and only adf_find_types takes them.
+ * contents that they fill have these numbers, and only adf_find_types takes them. Types 4 and 5, whose directories have caches, only
+ * adf_check_types accepts. Even numbers are OFS, odd ones FFS, and from 2 on names have international letters.
  */
-enum adf_kind { ADF_OFS = 0, ADF_FFS = 1, ADF_OFS_INTERNATIONAL = 2, ADF_FFS_INTERNATIONAL = 3 };
+enum adf_kind {
+    ADF_OFS = 0,
+    ADF_FFS = 1,
+    ADF_OFS_INTERNATIONAL = 2,
+    ADF_FFS_INTERNATIONAL = 3,
+    ADF_OFS_CACHED = 4,
+    ADF_FFS_CACHED = 5
+};
 
 struct adf_verdict {
     uint32_t kind;   /* an adf_kind */
@@ -132,6 +140,10 @@ uint8_t adf_check(const uint8_t *image, size_t length, struct adf_verdict *verdi
 /* The same of an image of type 0 to 3, of at most 8,388,608 blocks, as for all calls below but those that name types 0 and 1 alone:
  * adf_owners and adf_index. Each is checked by the letters whose case is ignored in its names: on types 2 and 3 these are the bytes
  * 0xE0 to 0xFE too, except 0xF7. Types 0 and 1 have the verdict of adf_check, up to its size. Their tables are made by adf_index_types.
+ *
+ * It takes an image of an allowed size and of type 4 or 5 too, as `adf-disk check` does, with memory for a copy of it. 0: the caches
+ * are right, and without them the volume is sound; `used` counts their blocks. ADF_DIR_CACHE: `block` is the header of the first
+ * directory whose cache is wrong. ADF_NO_MEMORY: nothing else is said about the image.
  */
 uint8_t adf_check_types(const uint8_t *image, size_t length, struct adf_verdict *verdict);
 

@@ -8,6 +8,7 @@ ghost use Rattle.adf_cmd.specs.Answers.{adf_command};
 ghost use Rattle.adf_names.specs.VolumeTypes.{letters_of_type};
 ghost use Rattle.adf_survey_cmd.specs.Answers.{survey_without_files};
 ghost use Rattle.adf_volume.specs.declared.types.Types.TheVariants.{Plain, WithInternational};
+ghost use Rattle.adf_memory_types.specs.CachedCalls.{ChecksAnyType};
 ghost use Rattle.adf_memory.specs.CheckCalls.{ChecksImage, FillsTables, FindsEntry, ReadsFile, TellsOwners};
 ghost use Rattle.adf_memory.specs.SurveyCalls.{FillsFound, FillsLinks, FillsParts, FillsSurvey, FindsFound, PutsSubject};
 ghost use Rattle.adf_memory.specs.SurveyCalls.{ReadsFound, RescuesVolume, TellsFoundRoles};
@@ -26,6 +27,7 @@ use adf_memory::{
     put_subject, put_survey, read_bytes, read_found, rescue_volume, rescue_volume_types,
     run_in_memory, survey_owners, tell_boot,
 };
+use adf_memory_types::check_image_types;
 use adf_names::letters_of_type;
 use adf_volume::Types;
 use std::alloc::Global;
@@ -74,9 +76,9 @@ pub extern "C" fn adf_check(alloc: Global, image: &[u8], verdict: &mut Verdict) 
 
 #[unsafe(no_mangle)]
 pub extern "C" fn adf_check_types(alloc: Global, image: &[u8], verdict: &mut Verdict) -> u8
-    ensures { ChecksImage WithInternational image.now verdict.new result }
+    ensures { ChecksAnyType image.now verdict.new result }
 {
-    check_image(alloc, Types::WithInternational, image, verdict)
+    check_image_types(alloc, image, verdict)
 }
 
 #[unsafe(no_mangle)]

@@ -3,6 +3,7 @@
 
 #[cfg(test)]
 mod boots;
+mod cached_images;
 #[cfg(test)]
 mod disk_tables;
 #[cfg(test)]

@@ -1,0 +1,7 @@
+//! The calls over memory that take images of types 0 to 5: those of volumes with directory caches too.
+#![tactic(auto)]
+
+mod cached;
+mod verdict;
+
+pub use crate::verdict::check_image_types;
