@@ -1,5 +1,7 @@
 -- What is told of an image that is kept as one without caches is told of the image.
 -- Letters: u what is kept; t a tree, l a layout; b a block, c a cause; n a number, or counts; v the image of a checked volume.
+use Rattle.std.specs.Prelude.{None}
+use Rattle.std.proofs.lemmas.Grind.{common_steps}
 use Rattle.std.proofs.Common.{◌≡◌, ◌≢◌, ◌∙◌, ℕ, List, ap, arith, inl, inr, length, refl, subst, sym}
 use Rattle.adf_tree.specs.Tree.{Tree}
 use Rattle.adf_blocks.specs.{Causes.cause_number, declared.cause.Cause.Cause, declared.cause.Cause.TheVariants.NoMemory}
@@ -11,8 +13,8 @@ use Rattle.adf_findings.specs.Survey.{OnSurvey}
 use Rattle.adf_uncached.specs.{Uncached.IsUncached, Uncached.uncached, declared.images.Uncached.Uncached}
 use Rattle.adf_uncached.specs.{Cached.FirstFaultCached, Cached.FitsCached, Cached.cached_counts}
 use Rattle.adf_uncached.specs.Verdict.{FirstFaultUncached, FitsUncached, with_used}
-use Rattle.adf_uncached.proofs.OneVerdict.{none_cached_fits}
-use Rattle.adf_memory.specs.Verdicts.{WantsMemory}
+use Rattle.adf_uncached.proofs.{FaultSteps.other_told, OneVerdict.none_cached_fits}
+use Rattle.adf_memory.specs.{CheckCalls.IsCheckedOf, Verdicts.WantsMemory}
 use Rattle.adf_memory.proofs.ToldCauses.{same_cause, some_number}
 use Rattle.adf_memory_types.specs.CachedCalls.{IsCheckedCached}
 
@@ -93,3 +95,27 @@ pub first_cached : (image : List ℕ) (u : Uncached) → OnSurvey image (λ w _.
     → (c ≢ NoMemory → FirstFaultUncached u.fault u.image.items at c) → (c ≢ NoMemory → b ≡ at) → c ≢ NoMemory → FirstFaultCached image b c
 first_cached image u held c at b first same other =
     first_told image u held b c (subst (λ x. FirstFaultUncached u.fault u.image.items x c) (sym (same other)) (first other))
+
+-- a check of what is kept, where the caches have no fault
+pub kept_told : (image : List ℕ) (u : Uncached) → OnSurvey image (λ w _. IsUncached image w u) → u.fault ≡ None → (b n : ℕ)
+    → IsCheckedOf WithInternational u.image.items b n → IsCheckedCached image b n
+kept_told image u held right b n checked = record {
+  number = checked.number;
+  fits = λ zero. let (t, l, fits) = checked.fits zero in (t, l, fits_told image u held t l (record { right = right; fits = fits }));
+  first = λ some no.
+      let (c, number, first) = checked.first some no in
+      (c, number, first_told image u held b c (other_told u.image.items u.fault b c right first));
+  none = λ some no t l fits. checked.none some no t l (fits_kept image u held t l fits).fits;
+  memory = checked.memory;
+}
+
+-- the block that is told of a fault
+abbrev pub told_at : Cause → ℕ → ℕ
+told_at NoMemory b = 0
+told_at _ b = b
+
+pub told_none : (c : Cause) (b : ℕ) → c ≡ NoMemory → told_at c b ≡ 0
+told_none c b e = subst (λ x. told_at x b ≡ 0) (sym e) refl
+
+pub told_other : (c : Cause) (b : ℕ) → c ≢ NoMemory → told_at c b ≡ b
+told_other c b other = grind (arith, common_steps)

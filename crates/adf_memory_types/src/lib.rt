@@ -2,6 +2,10 @@
 #![tactic(auto)]
 
 mod cached;
+mod index;
+mod owners;
 mod verdict;
 
+pub use crate::index::put_index_types;
+pub use crate::owners::owners_of_types;
 pub use crate::verdict::check_image_types;

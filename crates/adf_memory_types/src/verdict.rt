@@ -78,7 +78,7 @@ fn check_cached(alloc: Global, image: &[u8], verdict: &mut Verdict) -> u8
 }
 
 /// Checks an image as a volume of type 0 to 5, and fills in the verdict. Returns 0 if the image is accepted, otherwise the number
-/// of a cause: that of the first fault, or `NoMemory` if memory ran out. With types 4 and 5 it takes memory for a copy of the image.
+/// of a cause: that of the first fault, or `NoMemory` if memory ran out. Of types 4 and 5 it takes memory for a copy of it.
 pub fn check_image_types(alloc: Global, image: &[u8], verdict: &mut Verdict) -> u8
     ensures { ChecksAnyType image.now verdict.new result }
 {

@@ -3,8 +3,9 @@
 
 use crate::images::{Image, built};
 use adf_base::{seal, set_word};
-use adf_memory::Verdict;
-use adf_memory_types::check_image_types;
+use adf_memory::{Contents, Date, TableEntry, Verdict, find_entry, read_bytes};
+use adf_memory_types::{check_image_types, owners_of_types, put_index_types};
+use adf_names::letters_of_type;
 use std::alloc::Global;
 
 const MANIFEST: &[u8] = b"volume ofs 16\nfile 0:0:0 00000000 a\nfill 489 41\n";
@@ -12,8 +13,8 @@ const MANIFEST: &[u8] = b"volume ofs 16\nfile 0:0:0 00000000 a\nfill 489 41\n";
 // A word of the image that is changed: its block, its number, its value.
 type Word = (u32, usize, u32);
 
-// Type 4. The cache: type 33, own key 5, directory 8, one record from byte 24 on: header 2, size 489, type -3, the name `a` of one
-// byte, and a comment of none. Word 126 of the root names it, and its bit is clear: those of blocks 2 to 15 are bits 0 to 13.
+// Type 4. The cache: type 33, own key 5, directory 8, one record from byte 24 on: header 2, size 489, type -3, the name `a`, and
+// no comment. Word 126 of the root names it, and its bit is clear: those of blocks 2 to 15 are bits 0 to 13.
 const CACHED: &[Word] = &[
     (0, 0, 0x444F_5304),
     (5, 0, 33),
@@ -83,4 +84,108 @@ fn volumes_with_caches_have_verdicts(rt: HostRuntime) {
 fn other_volumes_have_their_verdicts(rt: HostRuntime) {
     assert!(rt; told(rt.alloc(), &[(0, 0, 0x444F_5302)]) == (21, [0, 0, 0, 5], 0));
     assert!(rt; told(rt.alloc(), &[(0, 0, 0x444F_5306)]) == (2, [0, 0, 0, 0], 0));
+}
+
+const DATE: Date = Date {
+    days: 9,
+    mins: 9,
+    ticks: 9,
+};
+
+const ENTRY: TableEntry = TableEntry {
+    parent: 9,
+    header: 9,
+    size: 9,
+    first: 9,
+    protection: 9,
+    date: DATE,
+    is_file: 9,
+    name_length: 9,
+    name: [9; 30],
+    comment_length: 9,
+    comment: [9; 79],
+};
+
+const CONTENTS: Contents = Contents {
+    kind: 9,
+    blocks: 9,
+    used: 9,
+    free: 9,
+    entries: 9,
+    data_blocks: 9,
+    block: 9,
+    root: DATE,
+    altered: DATE,
+    created: DATE,
+    label_length: 9,
+    label: [9; 30],
+};
+
+// The tables of an image.
+#[derive(Clone, Copy)]
+struct CachedTables {
+    cause: u8,
+    entries: [TableEntry; 2],
+    blocks: [u32; 3],
+    contents: Contents,
+}
+
+fn indexed(alloc: Global, image: &Image) -> CachedTables {
+    let mut entries = [ENTRY; 2];
+    let mut blocks = [9; 3];
+    let mut contents = CONTENTS;
+    let cause = put_index_types(alloc, image, &mut entries, &mut blocks, &mut contents);
+    CachedTables {
+        cause,
+        entries,
+        blocks,
+        contents,
+    }
+}
+
+// The one entry has its header in block 2 and its data in 3 and 4, of which a second place has what it had.
+#[test]
+fn volumes_with_caches_have_tables(rt: HostRuntime) {
+    let told = indexed(rt.alloc(), &cached(rt.alloc(), &[]));
+    let contents = told.contents;
+    assert!(rt; (told.cause, contents.kind, contents.block) == (0, 4, 0));
+    assert!(rt; [contents.blocks, contents.used, contents.free] == [16, 6, 8]);
+    assert!(rt; (contents.entries, contents.data_blocks) == (1, 2));
+    assert!(rt; [told.entries[0].header, told.entries[1].header] == [2, 9]);
+    assert!(rt; told.blocks == [3, 4, 9]);
+}
+
+#[test]
+fn wrong_caches_leave_tables(rt: HostRuntime) {
+    let told = indexed(rt.alloc(), &cached(rt.alloc(), &[(5, 3, 0)]));
+    let contents = told.contents;
+    assert!(rt; (told.cause, contents.kind, contents.block, contents.used) == (4, 0, 8, 0));
+    assert!(rt; (told.entries[0].header, told.blocks[0]) == (9, 9));
+}
+
+// The last three bytes of the file, from the image as it is.
+#[test]
+fn files_beside_caches_are_found_and_read(rt: HostRuntime) {
+    let image = cached(rt.alloc(), &[]);
+    let told = indexed(rt.alloc(), &image);
+    let mut node = 9;
+    let letters = letters_of_type(told.contents.kind);
+    let number = find_entry(rt.alloc(), letters, &told.entries[..1], b"A", &mut node);
+    let mut room = [9; 4];
+    let count = read_bytes(&image, &told.entries, &told.blocks, node, 486, &mut room);
+    assert!(rt; (number, node, count) == (0, 1, 3));
+    assert!(rt; room == [0x41, 0x41, 0x41, 9]);
+}
+
+// The roles of boot blocks, header, data, cache, a free block, root and page; behind them is no block.
+#[test]
+fn blocks_of_caches_have_a_role(rt: HostRuntime) {
+    let mut roles = [9; 17];
+    let cause = owners_of_types(rt.alloc(), &cached(rt.alloc(), &[]), &mut roles);
+    assert!(rt; cause == 0);
+    assert!(rt; roles == [1, 1, 5, 7, 7, 6, 0, 0, 2, 3, 0, 0, 0, 0, 0, 0, 9]);
+    let mut left = [9; 6];
+    let wrong = cached(rt.alloc(), &[(5, 3, 0)]);
+    assert!(rt; owners_of_types(rt.alloc(), &wrong, &mut left) == 4);
+    assert!(rt; left == [9; 6]);
 }

@@ -3,6 +3,7 @@
 
 #[cfg(test)]
 mod boots;
+#[cfg(test)]
 mod cached_images;
 #[cfg(test)]
 mod disk_tables;
