@@ -29,8 +29,8 @@ class Volume(ReadOnly):
 
     label, raw_label, kind (one of TYPES, as "ofs" or "ffs-international", or "ofs-cached" or "ffs-cached"), letters ("ascii": the case of
     a to z is ignored in names; "international": that of all letters of Latin-1), blocks, used, free; date, altered and created, the dates of
-    the root, of the last change and of the creation; image, its bytes (an mmap, if it is large); entries, in the order of `adf list`: each directory before what is in it.
-    They can only be read. Once it is closed, its image is empty and nothing more is read of it: ValueError.
+    the root, of the last change and of the creation; image, its bytes (an mmap, if it is large); entries, in the order of `adf list`: each
+    directory before what is in it. They can only be read. Once it is closed, its image is empty and nothing more is read of it: ValueError.
     """
 
     image: bytes | mmap.mmap
