@@ -105,10 +105,18 @@ size_t adf_cause_text(uint8_t cause, uint8_t *room, size_t room_length);
  */
 uint32_t adf_version(void);
 
-/* The type of a volume. Only adf_check_types, adf_owners_types and adf_index_types accept types 2 and 3, only the verdict and the
- * contents that they fill have these numbers, and only adf_find_types takes them.
+/* The type of a volume. Only adf_check_types, adf_owners_types and adf_index_types accept types 2 to 5, only the verdict and the
+ * contents that they fill have these numbers, and only adf_find_types takes them all. Directories of types 4 and 5 have caches. Even
+ * numbers are OFS, odd ones FFS, and from 2 on names have international letters.
  */
-enum adf_kind { ADF_OFS = 0, ADF_FFS = 1, ADF_OFS_INTERNATIONAL = 2, ADF_FFS_INTERNATIONAL = 3 };
+enum adf_kind {
+    ADF_OFS = 0,
+    ADF_FFS = 1,
+    ADF_OFS_INTERNATIONAL = 2,
+    ADF_FFS_INTERNATIONAL = 3,
+    ADF_OFS_CACHED = 4,
+    ADF_FFS_CACHED = 5
+};
 
 struct adf_verdict {
     uint32_t kind;   /* an adf_kind */
@@ -132,6 +140,10 @@ uint8_t adf_check(const uint8_t *image, size_t length, struct adf_verdict *verdi
 /* The same of an image of type 0 to 3, of at most 8,388,608 blocks, as for all calls below but those that name types 0 and 1 alone:
  * adf_owners and adf_index. Each is checked by the letters whose case is ignored in its names: on types 2 and 3 these are the bytes
  * 0xE0 to 0xFE too, except 0xF7. Types 0 and 1 have the verdict of adf_check, up to its size. Their tables are made by adf_index_types.
+ *
+ * It takes an image of an allowed size and of type 4 or 5 too, as `adf-disk check` does, with memory for a copy of it. 0: the caches
+ * are right, and without them the volume is sound; `used` counts their blocks. ADF_DIR_CACHE: `block` is the header of the first
+ * directory whose cache is wrong. ADF_NO_MEMORY: nothing else is said about the image.
  */
 uint8_t adf_check_types(const uint8_t *image, size_t length, struct adf_verdict *verdict);
 
@@ -143,7 +155,7 @@ enum adf_role {
     ADF_ROLE_PAGE = 3,    /* a page of the bitmap */
     ADF_ROLE_MAP_EXT = 4, /* a bitmap extension block */
     ADF_ROLE_HEAD = 5,    /* the header of a directory or file */
-    ADF_ROLE_EXT = 6,     /* an extension block of a file */
+    ADF_ROLE_EXT = 6,     /* an extension block of a file, or a block of the cache of a directory */
     ADF_ROLE_DATA = 7     /* a data block of a file */
 };
 
@@ -155,7 +167,7 @@ enum adf_role {
  */
 uint8_t adf_owners(const uint8_t *image, size_t length, uint8_t *roles, size_t room);
 
-/* The same of an image of type 0 to 3, as adf_check_types checks it. */
+/* The same of an image of type 0 to 5, as adf_check_types checks it. */
 uint8_t adf_owners_types(const uint8_t *image, size_t length, uint8_t *roles, size_t room);
 
 /* Tables of a volume
@@ -220,8 +232,8 @@ struct adf_contents {
 uint8_t adf_index(const uint8_t *image, size_t length, struct adf_entry *entries, size_t entries_room, uint32_t *blocks,
                   size_t blocks_room, struct adf_contents *contents);
 
-/* The same of an image of type 0 to 3, as adf_check_types checks it; types 0 and 1 have the tables and contents of adf_index, up to
- * its size. In these tables a path is looked up by adf_find_types with contents->kind, and files are read by adf_read.
+/* The same of an image of type 0 to 5, as adf_check_types checks it; types 0 and 1 have the tables and contents of adf_index, up to
+ * its size. Blocks of directory caches count as used, and no table has them. In these tables a path is looked up by adf_find_types with contents->kind, and files are read by adf_read.
  */
 uint8_t adf_index_types(const uint8_t *image, size_t length, struct adf_entry *entries, size_t entries_room, uint32_t *blocks,
                         size_t blocks_room, struct adf_contents *contents);
@@ -243,8 +255,8 @@ uint8_t adf_index_types(const uint8_t *image, size_t length, struct adf_entry *e
  */
 uint8_t adf_find(const struct adf_entry *entries, size_t count, const uint8_t *path, size_t path_length, size_t *node);
 
-/* The same in a table of adf_index_types; the kind is that of its contents. With ADF_OFS_INTERNATIONAL and ADF_FFS_INTERNATIONAL the
- * case of the bytes 0xE0 to 0xFE, except 0xF7, is ignored too, and so with any number above 3. With ADF_OFS and ADF_FFS the answer
+/* The same in a table of adf_index_types; the kind is that of its contents. From ADF_OFS_INTERNATIONAL on, and so with any
+ * number above 3, the case of the bytes 0xE0 to 0xFE, except 0xF7, is ignored too. With ADF_OFS and ADF_FFS the answer
  * is that of adf_find.
  */
 uint8_t adf_find_types(uint32_t kind, const struct adf_entry *entries, size_t count, const uint8_t *path, size_t path_length,

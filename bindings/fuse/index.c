@@ -6,7 +6,7 @@
 #include <string.h>
 
 void to_capitals(uint32_t kind, const uint8_t *name, size_t length, uint8_t *capitals) {
-    bool has_all = kind == ADF_OFS_INTERNATIONAL || kind == ADF_FFS_INTERNATIONAL;
+    bool has_all = kind >= ADF_OFS_INTERNATIONAL;
     for (size_t i = 0; i < length; i++) {
         uint8_t byte = name[i];
         bool is_small = ('a' <= byte && byte <= 'z') || (has_all && 0xe0 <= byte && byte <= 0xfe && byte != 0xf7);

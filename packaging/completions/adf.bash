@@ -49,6 +49,8 @@ _adf_disk() {
         COMPREPLY=($(compgen -W "--search --json" -- "$2"))
     elif [[ $2 == -* && ${COMP_WORDS[1]} == @(list|check) ]]; then
         COMPREPLY=($(compgen -W "--json" -- "$2"))
+    elif [[ $2 == -* && $COMP_CWORD:${COMP_WORDS[1]} == 2:build ]]; then
+        COMPREPLY=($(compgen -W "-o" -- "$2"))
     elif [[ ${COMP_WORDS[1]} != volume ]] || ((COMP_CWORD > 2)); then
         compopt -o default
     fi

@@ -8,6 +8,7 @@ MOST_BYTES, LARGE = BLOCK * MOST_BLOCKS, BLOCK * MOST_PLAIN_BLOCKS  # of an imag
 MOST_PARTITIONS, MOST_TABLES = 1024, BLOCK * 65536
 KINDS = ("ofs", "ffs")
 TYPES = (*KINDS, "ofs-international", "ffs-international")
+TOLD_TYPES = (*TYPES, "ofs-cached", "ffs-cached")  # of volumes that are checked; no volume of the last two is built
 LETTERS = ("ascii", "international")
 ROLES = ("free", "boot", "root", "page", "map extension", "header", "extension", "data")
 FILE_TYPE = b"\xff\xff\xff\xfd"

@@ -10,7 +10,7 @@ from typing import Any, Iterator, Sequence
 
 from adf import _arguments, _structs
 from adf._arguments import EntryPath, Image, Path
-from adf._layout import FIRST_ROOM, LETTERS, TYPES
+from adf._layout import FIRST_ROOM, LETTERS, TOLD_TYPES
 from adf._library import NO_MEMORY, accept, calls
 from adf._read_only import ReadOnly
 from adf._rescues import LeftOut
@@ -27,10 +27,10 @@ from adf.surveys import Survey
 class Volume(ReadOnly):
     """The volume of an image in memory, which is checked here; Refused where it is that of none.
 
-    label, raw_label, kind (one of TYPES, as "ofs" or "ffs-international"), letters ("ascii": the case of a to z is ignored in names;
-    "international": that of all letters of Latin-1), blocks, used, free; date, altered and created, the dates of the root, of the
-    last change and of the creation; image, its bytes (an mmap, if it is large); entries, in the order of `adf list`: each directory before what is in it.
-    They can only be read. Once it is closed, its image is empty and nothing more is read of it: ValueError.
+    label, raw_label, kind (one of TYPES, as "ofs" or "ffs-international", or "ofs-cached" or "ffs-cached"), letters ("ascii": the case of
+    a to z is ignored in names; "international": that of all letters of Latin-1), blocks, used, free; date, altered and created, the dates of
+    the root, of the last change and of the creation; image, its bytes (an mmap, if it is large); entries, in the order of `adf list`: each
+    directory before what is in it. They can only be read. Once it is closed, its image is empty and nothing more is read of it: ValueError.
     """
 
     image: bytes | mmap.mmap
@@ -57,7 +57,7 @@ class Volume(ReadOnly):
             wanted = max(rooms[0], contents.entries), max(rooms[1], contents.data_blocks)
         label = bytes(contents.label)[: contents.label_length]
         vars(self).update(
-            image=raw, kind=TYPES[contents.kind], letters=LETTERS[contents.kind // 2],
+            image=raw, kind=TOLD_TYPES[contents.kind], letters=LETTERS[min(contents.kind // 2, 1)],
             blocks=contents.blocks, used=contents.used, free=contents.free,
             date=date_of(contents.root), altered=date_of(contents.altered), created=date_of(contents.created),
             raw_label=label, label=label.decode("latin-1"),
@@ -188,7 +188,7 @@ class Volume(ReadOnly):
         except UnicodeEncodeError:
             return None
         node = ctypes.c_size_t()
-        answer = calls().adf_find_types(TYPES.index(self.kind), *self._tables[1], text, len(text), ctypes.byref(node))
+        answer = calls().adf_find_types(TOLD_TYPES.index(self.kind), *self._tables[1], text, len(text), ctypes.byref(node))
         if answer == NO_MEMORY:
             raise NoMemory
         return node.value if answer == 0 else None

@@ -23,7 +23,8 @@ GROUPS = (
     Advice("sound ffs", "Sound; file contents have no checksums on FFS", "Nothing is to be done: what has a checksum is right. Whether the contents"
            " of files are, only a second reading or a published list can tell."),
     Advice("published", "As published", "A published list has the image, by its checksums: nothing is to be done, whatever a check says."),
-    Advice("other type", "Readable, of another type", "Nothing is wrong: the volume is of type 4 or 5, whose directory caches are not read."),
+    Advice("other type", "Readable, of another type", "The volume is of type 4 or 5, and the cache of a directory is wrong: an Amiga may list it"
+           " wrongly. All files can be read."),
     Advice("bitmap", "Files whole, bitmap wrong", "All files can be read. The disk was perhaps taken out before its bitmap was written."),
     Advice("read again", "Read again", "A checksum, a block or the end is wrong: read the disk once more, and compare. The worst come first."),
     Advice("wrong length", "Wrong length", "The image is cut, or longer than its disk. Its line says the length that fits, in blocks."),

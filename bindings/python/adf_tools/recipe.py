@@ -27,7 +27,7 @@ def entry_lines(entry: adf.Entry) -> Iterator[str]:
 
 
 def lines_of(volume: adf.Volume) -> Iterator[str]:
-    yield f"volume {volume.kind} {volume.blocks}"
+    yield f"volume {volume.kind.replace('-cached', '-international')} {volume.blocks}"  # no volume has new caches
     if volume.raw_label:
         yield f"label {adf.escape(volume.raw_label)}"
     yield f"stamps {volume.date.stamp} {volume.altered.stamp} {volume.created.stamp}"

@@ -4,6 +4,7 @@ from __future__ import annotations
 
 import functools
 import os
+import struct
 import subprocess
 import sys
 import tempfile
@@ -49,6 +50,21 @@ def international(kind: str = "ffs", blocks: int = 1760) -> bytes:
     plain, raised = (512 * (blocks // 2) + 4 * (6 + slot) for slot in (30, 70))
     image[raised : raised + 4], image[plain : plain + 4] = image[plain : plain + 4], bytes(4)
     image[3] |= 2
+    return bytes(image)
+
+
+def cached(kind: int) -> bytes:
+    """A volume of type 4 or 5 in 16 blocks with the file `a`, whose header is block 2 and whose byte is in block 3. The root is block 8, the page of
+    the bitmap 9, and block 5 the cache of the root: type 33, its own number, that of the root, and from word 6 on one record: header 2, size 1,
+    type -3, the name `a` and no comment. The bits of blocks 2, 3, 5, 8 and 9 are clear."""
+    image = bytearray(built(f"volume {adf.KINDS[kind % 2]} 16\nfile 0:0:0 00000000 a\ndata 41\n"))
+    image[3] = kind
+    words = {0: 33, 1: 5, 2: 8, 3: 1, 6: 2, 7: 1, 11: 0xFD01, 12: 0x61000000}
+    for block, word, value in (*((5, word, value) for word, value in words.items()), (8, 126, 5), (9, 1, 0x3F34)):
+        struct.pack_into(">I", image, 512 * block + 4 * word, value)
+    for block, word in ((5, 5), (8, 5), (9, 0)):
+        struct.pack_into(">I", image, 512 * block + 4 * word, 0)
+        struct.pack_into(">I", image, 512 * block + 4 * word, -sum(struct.unpack_from(">128I", image, 512 * block)) % 2**32)
     return bytes(image)
 
 

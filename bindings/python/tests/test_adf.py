@@ -18,7 +18,7 @@ import unittest.mock
 
 import adf
 from adf import _arguments, _library, _sources, _structs, commands
-from tests.shared import HERE, LARGE, NAME_BYTES, TOP, Folder, built, changed, image_of, international, written
+from tests.shared import HERE, LARGE, NAME_BYTES, TOP, Folder, built, cached, changed, image_of, international, written
 
 
 class Longer(bytes):
@@ -48,8 +48,17 @@ class Volumes(unittest.TestCase):
             self.assertEqual(adf.check(image, international=True), adf.check(image))
             self.assertEqual(adf.check(typed, international=True), (f"{kind}-international", *adf.check(image)[1:]))
             self.assertRaisesRegex(adf.Refused, "block 0: international", adf.check, typed)
-            with self.assertRaisesRegex(adf.Refused, "block 0: directory cache"):
+            with self.assertRaisesRegex(adf.Refused, "block [1-9][0-9]*: directory cache"):
                 adf.check(image[:3] + bytes([other + 2]) + image[4:], international=True)
+
+    def test_reads_directory_caches_that_are_right(self):
+        for number, kind in ((4, "ofs-cached"), (5, "ffs-cached")):
+            image = cached(number)
+            volume = adf.Volume(image)
+            self.assertEqual((volume.kind, volume.letters, volume.image), (kind, "international", image))
+            self.assertEqual((volume["A"].read(), volume.owners()[5], volume.used), (b"A", adf.ROLES.index("extension"), 5))
+            self.assertEqual(adf.check(image, international=True), (kind, 16, 5, 9, 0, 1))
+            self.assertRaisesRegex(adf.Refused, "block 0: directory cache", adf.check, image)
 
     def test_reads_international_letters_as_they_come(self):
         for kind in adf.KINDS:
@@ -60,7 +69,7 @@ class Volumes(unittest.TestCase):
             self.assertNotIn("÷", volume)
             self.assertEqual([volume.owners().count(role) for role in (adf.ROLES.index("header"), adf.ROLES.index("data"))], [2, 1])
             self.assertEqual(pickle.loads(pickle.dumps(volume)).kind, volume.kind)
-            self.assertRaisesRegex(adf.Refused, "block 0: directory cache", adf.Volume, image[:3] + bytes([4]) + image[4:])
+            self.assertRaisesRegex(adf.Refused, "block [1-9][0-9]*: directory cache", adf.Volume, image[:3] + bytes([4]) + image[4:])
             plain = image[:3] + bytes([adf.KINDS.index(kind)]) + image[4:]
             self.assertRaisesRegex(adf.Refused, "wrong slot", adf.Volume, plain)
         self.assertEqual((adf.Volume(image_of()).letters, "B\xfccher" in adf.Volume(image_of())), ("ascii", False))

@@ -22,4 +22,8 @@ numbered! {
     OfsInternational = 2,
     /// FFS whose names have international letters.
     FfsInternational = 3,
+    /// OFS whose directories have caches, and its names international letters.
+    OfsCached = 4,
+    /// FFS whose directories have caches, and its names international letters.
+    FfsCached = 5,
 }

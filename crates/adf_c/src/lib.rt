@@ -8,6 +8,7 @@ ghost use Rattle.adf_cmd.specs.Answers.{adf_command};
 ghost use Rattle.adf_names.specs.VolumeTypes.{letters_of_type};
 ghost use Rattle.adf_survey_cmd.specs.Answers.{survey_without_files};
 ghost use Rattle.adf_volume.specs.declared.types.Types.TheVariants.{Plain, WithInternational};
+ghost use Rattle.adf_memory_types.specs.{CachedCalls.ChecksAnyType, CachedOwners.TellsAnyOwners, CachedTables.FillsAnyTables};
 ghost use Rattle.adf_memory.specs.CheckCalls.{ChecksImage, FillsTables, FindsEntry, ReadsFile, TellsOwners};
 ghost use Rattle.adf_memory.specs.SurveyCalls.{FillsFound, FillsLinks, FillsParts, FillsSurvey, FindsFound, PutsSubject};
 ghost use Rattle.adf_memory.specs.SurveyCalls.{ReadsFound, RescuesVolume, TellsFoundRoles};
@@ -26,6 +27,7 @@ use adf_memory::{
     put_subject, put_survey, read_bytes, read_found, rescue_volume, rescue_volume_types,
     run_in_memory, survey_owners, tell_boot,
 };
+use adf_memory_types::{check_image_types, owners_of_types, put_index_types};
 use adf_names::letters_of_type;
 use adf_volume::Types;
 use std::alloc::Global;
@@ -74,9 +76,9 @@ pub extern "C" fn adf_check(alloc: Global, image: &[u8], verdict: &mut Verdict) 
 
 #[unsafe(no_mangle)]
 pub extern "C" fn adf_check_types(alloc: Global, image: &[u8], verdict: &mut Verdict) -> u8
-    ensures { ChecksImage WithInternational image.now verdict.new result }
+    ensures { ChecksAnyType image.now verdict.new result }
 {
-    check_image(alloc, Types::WithInternational, image, verdict)
+    check_image_types(alloc, image, verdict)
 }
 
 #[unsafe(no_mangle)]
@@ -88,9 +90,9 @@ pub extern "C" fn adf_owners(alloc: Global, image: &[u8], roles: &mut [u8]) -> u
 
 #[unsafe(no_mangle)]
 pub extern "C" fn adf_owners_types(alloc: Global, image: &[u8], roles: &mut [u8]) -> u8
-    ensures { TellsOwners WithInternational image.now roles.old roles.new result }
+    ensures { TellsAnyOwners image.now roles.old roles.new result }
 {
-    owners_of(alloc, Types::WithInternational, image, roles)
+    owners_of_types(alloc, image, roles)
 }
 
 #[unsafe(no_mangle)]
@@ -114,16 +116,9 @@ pub extern "C" fn adf_index_types(
     blocks: &mut [u32],
     contents: &mut Contents,
 ) -> u8
-    ensures { FillsTables WithInternational image.now entries.old entries.new blocks.old blocks.new contents.new result }
+    ensures { FillsAnyTables image.now entries.old entries.new blocks.old blocks.new contents.new result }
 {
-    put_index(
-        alloc,
-        Types::WithInternational,
-        image,
-        entries,
-        blocks,
-        contents,
-    )
+    put_index_types(alloc, image, entries, blocks, contents)
 }
 
 #[unsafe(no_mangle)]

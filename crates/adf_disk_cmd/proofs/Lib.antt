@@ -12,3 +12,4 @@ pub mod HeldChecks
 pub mod Gathered
 pub mod HostRuns
 pub mod OtherBytes
+pub mod NewDisks

@@ -114,7 +114,7 @@ abbrev pub disk_usage : List ℕ
 disk_usage =
     codes "usage: adf-disk list [--json] [FILE]\n       adf-disk check [--json] [FILE]\n       adf-disk survey [--search] [--json] [FILE]\n"
     ++ codes "       adf-disk volume NAME [FILE]\n"
-    ++ codes "       adf-disk build [PLAN]\nwithout a FILE the disk or its plan comes on standard input; man adf-disk tells more\n"
+    ++ codes "       adf-disk build [-o DISK] [PLAN]\nwithout a FILE the disk or its plan comes on standard input; man adf-disk tells more\n"
 
 -- the command `adf-disk`, whose words have no path
 abbrev pub disk_command : Command (List (List ℕ))

@@ -13,3 +13,5 @@ pub mod Jobs
 pub mod HeldChecks
 -- Plans whose lines name host files.
 pub mod HostPlans
+-- New disks that are files of their own.
+pub mod NewDisks

@@ -23,7 +23,7 @@ use std::alloc::{AllocError, Global};
 /// What is said of arguments that are refused.
 pub const DISK_USAGE: &str =
     "usage: adf-disk list [--json] [FILE]\n       adf-disk check [--json] [FILE]\n       adf-disk survey [--search] [--json] [FILE]\n       \
-    adf-disk volume NAME [FILE]\n       adf-disk build [PLAN]\n\
+    adf-disk volume NAME [FILE]\n       adf-disk build [-o DISK] [PLAN]\n\
     without a FILE the disk or its plan comes on standard input; man adf-disk tells more\n";
 
 /// What the program tells of itself.
@@ -36,10 +36,11 @@ pub const ABOUT: About = About {
     \x20      adf-disk survey --search [FILE]   the volumes that are found without a table\n\
     \x20      adf-disk volume NAME [FILE]       the volume of a partition, by its name or its number\n\
     \x20      adf-disk build [PLAN] > DISK      a new disk\n\
+    \x20      adf-disk build -o DISK [PLAN]     the same, into a file with holes for zeros\n\
     \x20      adf-disk --help, adf-disk --version\n\n\
     With --json each line is an object.\n\
     Without a FILE, or with -, the disk or its plan comes on standard input. A PLAN that is a file may name the file of a volume:\n\
-    partition DH0 ffs 20 work.hdf. man adf-disk tells more.\n",
+    partition DH0 ffs 20 work.hdf. With -o the DISK is put in its place at once or not at all. man adf-disk tells more.\n",
     waits: Some("waiting for standard input; adf-disk --help tells more\n"),
 };
 

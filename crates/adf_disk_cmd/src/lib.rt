@@ -7,6 +7,7 @@ mod check_input;
 mod checking;
 mod command_line;
 mod copy_input;
+mod disk_files;
 mod disk_objects;
 mod faults;
 mod gathering;
@@ -28,6 +29,7 @@ mod work;
 
 pub use crate::building::built_disks;
 pub use crate::command_line::{DiskRequest, Wanted, disk_words_as_documented, parse_disk as parse};
+pub use crate::disk_files::new_disk_words_as_documented;
 pub use crate::host_plans::{plans_take_any_bytes, run_plans};
 pub use crate::job::Job;
 pub use crate::runner::{damaged_tables_are_told, one_answer, run_files};

@@ -6,13 +6,15 @@ ghost use Rattle.adf_disk_cmd.specs.Answers.{WordsAskForOneDiskRequest, disk_com
 ghost use Rattle.adf_runs.specs.{Commands.IsUnanswered, Commands.TakesEnough, Streams.seen};
 ghost use Rattle.adf_file_runs.specs.FileRuns.{RunEndsOnFiles, known_files};
 ghost use Rattle.adf_words.specs.CommandLine.{texts_of};
-ghost use Rattle.adf_disk_cmd.specs.{CommandLine.disk_file, HostPlans.DiskEnds};
+ghost use Rattle.adf_disk_cmd.specs.{CommandLine.disk_file, NewDisks.DiskRunEnds};
 
 use crate::command_line::ABOUT;
+use crate::disk_files::{build_into, new_disk};
 use crate::host_plans::run_plans;
 use crate::job::Job;
-use adf_file_runs::{About, Files, Invocation, SystemProgram, run_program_on_files};
-use adf_runs::{Sink, Source};
+use adf_file_changes::{Changing, MakingProgram, NewFiles};
+use adf_file_runs::{About, Files, Invocation, run_program_on_files};
+use adf_runs::{Outcome, Sink, Source};
 use std::alloc::Global;
 
 /// Does what the words ask for, on the file that they name, or else on the input; the first word is the program's name. Returns
@@ -49,21 +51,31 @@ pub fn run_files<F: Files, R: Source, W: Sink, E: Sink>(
     run_program_on_files::<Job, F, R, W, E>(alloc, asked, input, output, errors)
 }
 
-impl SystemProgram for Job {
-    ghost ends = { DiskEnds };
+impl MakingProgram for Job {
+    ghost ends = { DiskRunEnds };
 
     fn about() -> About {
         ABOUT
     }
 
-    fn start<F: Files, R: Source, W: Sink, E: Sink>(
+    fn start<F: NewFiles, R: Source, W: Sink, E: Sink>(
         alloc: Global,
-        asked: &Invocation<'_, F>,
+        asked: &mut Changing<'_, F>,
         input: &mut R,
         output: &mut W,
         errors: &mut E,
     ) -> u8 {
-        run_plans(alloc, asked, input, output, errors)
+        match new_disk(alloc, asked.words) {
+            Ok(Some(disk)) => build_into(alloc, &disk, &mut asked.files, input, errors),
+            Ok(None) => {
+                let alone = Invocation {
+                    words: asked.words,
+                    files: &asked.files,
+                };
+                run_plans(alloc, &alone, input, output, errors)
+            }
+            Err(_) => Outcome::NoMemory.finish(errors),
+        }
     }
 }
 

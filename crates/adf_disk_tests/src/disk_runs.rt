@@ -14,7 +14,7 @@ pub type Volume = [u8; 16384];
 /// What errors get where the words are refused.
 pub const USAGE: &str =
     "usage: adf-disk list [--json] [FILE]\n       adf-disk check [--json] [FILE]\n       adf-disk survey [--search] [--json] [FILE]\n       \
-    adf-disk volume NAME [FILE]\n       adf-disk build [PLAN]\n\
+    adf-disk volume NAME [FILE]\n       adf-disk build [-o DISK] [PLAN]\n\
     without a FILE the disk or its plan comes on standard input; man adf-disk tells more\n";
 
 const DH0_LISTED: &str = "1 DH0: ffs first 8 blocks 32 flags 1 priority -5\n";

@@ -16,4 +16,6 @@ mod disks;
 #[cfg(test)]
 mod host_plans;
 #[cfg(test)]
+mod new_disks;
+#[cfg(test)]
 mod planned_disks;

@@ -1,10 +1,12 @@
 // Files of the system that are replaced: a new file beside the old one takes its name.
 
-ghost use Rattle.std.specs.Prelude.{None, true};
+ghost use Rattle.std.specs.Prelude.{◌≡◌, IfOk, None, false, true};
 ghost use Rattle.adf_file_runs.specs.Files.{SystemOpens};
 
 use crate::changes::{ChangeFiles, Unwritten};
+use crate::new_files::NewFiles;
 use adf_file_runs::{Files, SystemFiles, Unopened};
+use adf_runs::{Failed, Sink};
 use std::alloc::Global;
 use std::fs::{self, File, OpenFile, OpenOptions, Permissions};
 use std::io::{self, ErrorKind, Seek, SeekFrom, Write};
@@ -90,58 +92,98 @@ fn write_piece<H: Write + Seek>(file: &mut H, piece: &[u8]) -> io::Result<()> {
     file.write_all(piece)
 }
 
-// Writes all of a new file, to the disk itself; pieces of zeros become holes.
-fn fill<H: Write + Seek + OpenFile + Drop>(
+/// A new file beside the one that it is to replace. Pieces of zeros become holes.
+#[derive(Drop)]
+pub struct NewFile<H> {
     file: H,
-    target: &Target,
-    bytes: &[u8],
-) -> io::Result<()> {
-    let mut file = file;
+    /// Its path until it gets its name.
+    beside: String,
+    target: Target,
+    /// How many bytes it has.
+    len: u64,
+    failed: bool,
+}
+
+impl<H: Write + Seek> Sink for NewFile<H> {
+    ghost held = { λ _. None };
+
+    ghost has_failed = { λ new. new.failed };
+
+    fn write(&mut self, bytes: &[u8]) -> Result<usize, Failed> {
+        let room = PIECE - (self.len % PIECE as u64) as usize;
+        let count = bytes.len().min(room);
+        match write_piece(&mut self.file, &bytes[..count]) {
+            Ok(()) => {
+                self.len = self.len.saturating_add(count as u64);
+                Ok(count)
+            }
+            Err(_) => {
+                self.failed = true;
+                Err(Failed)
+            }
+        }
+    }
+
+    fn failed(&self) -> bool {
+        self.failed
+    }
+}
+
+// Writes all bytes of a new file.
+fn fill<H: Write + Seek>(new: &mut NewFile<H>, bytes: &[u8]) -> io::Result<()> {
+    for piece in bytes.chunks(PIECE) {
+        write_piece(&mut new.file, piece)?;
+    }
+    new.len = bytes.len() as u64;
+    Ok(())
+}
+
+// Gives a new file the permissions of the old one.
+fn permit<H: OpenFile>(file: &mut H, target: &Target) -> io::Result<()> {
     if let Some(permissions) = &target.permissions {
         file.set_permissions(permissions.clone()?)?;
     }
-    for piece in bytes.chunks(PIECE) {
-        write_piece(&mut file, piece)?;
-    }
-    file.set_len(bytes.len() as u64)?;
-    file.sync_all()
+    Ok(())
 }
 
-// Gives the new file the name of the target once it is written; else there is no new file.
-fn put<R: rt::Files>(
+// A new file beside its target, which has no bytes yet.
+fn begun<R: rt::Files>(
     system: &R,
     file: R::File,
-    beside: &str,
-    target: &Target,
-    bytes: &[u8],
-) -> Result<(), Unwritten> {
-    let done = match fill(file, target, bytes) {
-        Ok(()) => fs::rename(system, beside, &target.path),
-        Err(error) => Err(error),
-    };
-    match done {
-        Ok(()) => Ok(()),
-        Err(error) => {
-            let _ = fs::remove_file(system, beside);
-            Err(reason(&error))
-        }
+    beside: String,
+    target: Target,
+) -> Result<NewFile<R::File>, Unwritten>
+    ensures { IfOk result (λ new. new.failed ≡ false) }
+{
+    let mut file = file;
+    if let Err(error) = permit(&mut file, &target) {
+        let _ = fs::remove_file(system, &beside);
+        return Err(reason(&error));
     }
+    Ok(NewFile {
+        file,
+        beside,
+        target,
+        len: 0,
+        failed: false,
+    })
 }
 
-// Writes a new file beside the target, and puts it there.
-fn replace_target<R: rt::Files>(
+// Begins a new file beside a target.
+fn begin_beside<R: rt::Files>(
     system: &R,
     alloc: Global,
-    target: &Target,
-    bytes: &[u8],
-) -> Result<(), Unwritten> {
+    target: Target,
+) -> Result<NewFile<R::File>, Unwritten>
+    ensures { IfOk result (λ new. new.failed ≡ false) }
+{
     for number in 0..MOST_NAMES {
         let path = &target.path;
         let Ok(beside) = format!(in alloc; "{path}.new-{number}") else {
             return Err(Unwritten::NoMemory);
         };
         match File::create_new(system, &beside) {
-            Ok(file) => return put(system, file, &beside, target, bytes),
+            Ok(file) => return begun(system, file, beside, target),
             Err(error) => match error.kind() {
                 ErrorKind::AlreadyExists => {}
                 _ => return Err(reason(&error)),
@@ -149,6 +191,29 @@ fn replace_target<R: rt::Files>(
         }
     }
     Err(Unwritten::Other)
+}
+
+// Gives a new file its length, and brings it to the disk itself.
+fn seal<H: OpenFile + Drop>(file: H, len: u64) -> io::Result<()> {
+    let mut file = file;
+    file.set_len(len)?;
+    file.sync_all()
+}
+
+// Gives a new file the name of its target; if that cannot be done there is no new file.
+fn put<R: rt::Files>(system: &R, new: NewFile<R::File>) -> Result<(), Unwritten> {
+    let beside = new.beside;
+    let done = match seal(new.file, new.len) {
+        Ok(()) => fs::rename(system, &beside, &new.target.path),
+        Err(error) => Err(error),
+    };
+    match done {
+        Ok(()) => Ok(()),
+        Err(error) => {
+            let _ = fs::remove_file(system, &beside);
+            Err(reason(&error))
+        }
+    }
 }
 
 impl<'a, R: rt::Files> Files for SystemChanges<'a, R> {
@@ -165,12 +230,35 @@ impl<'a, R: rt::Files> Files for SystemChanges<'a, R> {
     }
 }
 
-impl<R: rt::Files> ChangeFiles for SystemChanges<'_, R> {
-    fn replace(&mut self, alloc: Global, name: &[u8], bytes: &[u8]) -> Result<(), Unwritten> {
+impl<R: rt::Files> NewFiles for SystemChanges<'_, R> {
+    type New = NewFile<R::File>;
+
+    fn begin(&self, alloc: Global, name: &[u8]) -> Result<NewFile<R::File>, Unwritten> {
         let Ok(path) = str::from_utf8(name) else {
             return Err(Unwritten::Other);
         };
         let target = target_of(self.system, alloc, path)?;
-        replace_target(self.system, alloc, &target, bytes)
+        begin_beside(self.system, alloc, target)
+    }
+
+    fn put(&mut self, _name: &[u8], new: NewFile<R::File>) -> Result<(), Unwritten> {
+        put(self.system, new)
+    }
+
+    fn abandon(&self, new: NewFile<R::File>) {
+        let _ = fs::remove_file(self.system, &new.beside);
+    }
+}
+
+impl<R: rt::Files> ChangeFiles for SystemChanges<'_, R> {
+    fn replace(&mut self, alloc: Global, name: &[u8], bytes: &[u8]) -> Result<(), Unwritten> {
+        let mut new = self.begin(alloc, name)?;
+        match fill(&mut new, bytes) {
+            Ok(()) => put(self.system, new),
+            Err(error) => {
+                self.abandon(new);
+                Err(reason(&error))
+            }
+        }
     }
 }

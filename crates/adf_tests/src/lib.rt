@@ -4,6 +4,8 @@
 #[cfg(test)]
 mod boots;
 #[cfg(test)]
+mod cached_images;
+#[cfg(test)]
 mod disk_tables;
 #[cfg(test)]
 mod found_files;

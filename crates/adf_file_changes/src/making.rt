@@ -1,0 +1,103 @@
+// What starts a program that makes new files.
+
+ghost use Rattle.std.specs.Prelude.{◌≡◌, [], None, OnErr, Some, codes, false, if◌then◌else◌};
+ghost use Rattle.adf_words.specs.CommandLine.{texts_of};
+ghost use Rattle.adf_runs.specs.Streams.{Says, seen};
+ghost use Rattle.adf_file_runs.specs.{About.telling_asked, About.told_text, FileRuns.known_files, declared.about.Telling.Telling};
+
+use crate::changes::Changing;
+use crate::new_files::NewFiles;
+use crate::system::SystemChanges;
+use adf_file_runs::{About, AnnouncedInput, NamedErrors, tell, telling_asked};
+use adf_runs::{Device, Outcome, Sink, Source, command_words, refuse_words};
+use std::alloc::Global;
+use std::io::IsTerminal;
+use std::process::ExitCode;
+
+/// A program that the system starts, on words, files among which it may put new ones, and devices.
+pub trait MakingProgram {
+    ghost use Rattle.std.specs.Prelude.{List, Option, ℕ};
+    ghost use Rattle.adf_runs.specs.Streams.{Seen};
+    ghost use Rattle.adf_file_runs.specs.FileRuns.{KnownFiles};
+
+    /// How a run on words ends: over files, with the bytes of each afterwards, and an input, at a status, with what output and
+    /// errors got.
+    ghost ends: { List (List ℕ) → KnownFiles → (List ℕ → Option (List ℕ)) → Seen → ℕ → Seen → Seen → Type 0 };
+
+    /// What it tells of itself.
+    fn about() -> About;
+
+    /// Does what the words ask for, and returns the status; the first word is the program's name.
+    fn start<F: NewFiles, R: Source, W: Sink, E: Sink>(
+        alloc: Global,
+        asked: &mut Changing<'_, F>,
+        input: &mut R,
+        output: &mut W,
+        errors: &mut E,
+    ) -> u8
+        requires reads { R.has_failed input.old ≡ false }
+        requires writes { W.has_failed output.old ≡ false }
+        requires tells { E.has_failed errors.old ≡ false }
+        ensures ends { ends (texts_of asked.old.words.now)
+            (known_files F.Files.bytes_of F.Files.may_fail F.Files.may_open asked.old.files)
+            (F.Files.bytes_of asked.new.files)
+            (seen R.left R.has_failed input.old input.new) result
+            (seen W.held W.has_failed output.old output.new) (seen E.held E.has_failed errors.old errors.new) };
+}
+
+/// Tells what the words ask of the program itself, or else runs it, and returns the status.
+pub fn answer_making<P: MakingProgram, F: NewFiles, R: Source, W: Sink, E: Sink>(
+    alloc: Global,
+    asked: &mut Changing<'_, F>,
+    input: &mut R,
+    output: &mut W,
+    errors: &mut E,
+) -> u8
+    requires reads { R.has_failed input.old ≡ false }
+    requires writes { W.has_failed output.old ≡ false }
+    requires tells { E.has_failed errors.old ≡ false }
+    ensures told { (telling : Telling) → telling_asked (texts_of asked.old.words.now) ≡ Some telling
+        → (asked.new ≡ asked.old) × (input.new ≡ input.old) × (result ≡ (if W.has_failed output.new then 3 else 0)) }
+    ensures ends { telling_asked (texts_of asked.old.words.now) ≡ None → P.ends (texts_of asked.old.words.now)
+        (known_files F.Files.bytes_of F.Files.may_fail F.Files.may_open asked.old.files)
+        (F.Files.bytes_of asked.new.files)
+        (seen R.left R.has_failed input.old input.new) result
+        (seen W.held W.has_failed output.old output.new) (seen E.held E.has_failed errors.old errors.new) }
+{
+    match telling_asked(asked.words) {
+        Some(telling) => tell(&P::about(), telling, output, errors),
+        None => P::start(alloc, asked, input, output, errors),
+    }
+}
+
+// The status of a run on what the system gives; how it ends if the words cannot be had.
+fn status<P: MakingProgram, E: Sink>(rt: &HostRuntime, errors: &mut E) -> Result<u8, Outcome>
+    requires { E.has_failed errors.old ≡ false }
+    ensures { OnErr result (errors.new ≡ errors.old) }
+{
+    let about = P::about();
+    let words = command_words(rt)?;
+    let texts: Vec<&str> = words.iter().map(|word| word.as_str()).collect(rt.alloc())?;
+    let waits = if rt.stdin().is_terminal() {
+        about.waits
+    } else {
+        None
+    };
+    let waiting = NamedErrors::new(about.name, Device::new(rt.stderr()));
+    let mut input = AnnouncedInput::new(Device::new(rt.stdin()), waiting, waits);
+    let mut output = Device::new(rt.stdout());
+    let mut asked = Changing {
+        words: &texts,
+        files: SystemChanges::new(rt),
+    };
+    Ok(answer_making::<P, _, _, _, E>(rt.alloc(), &mut asked, &mut input, &mut output, errors))
+}
+
+/// What `main` of a program that makes files does.
+pub fn main_of_making<P: MakingProgram>(rt: &HostRuntime) -> ExitCode {
+    let mut errors = NamedErrors::new(P::about().name, Device::new(rt.stderr()));
+    ExitCode::from(match status::<P, _>(rt, &mut errors) {
+        Ok(status) => status,
+        Err(fault) => refuse_words(&fault, &mut errors),
+    })
+}

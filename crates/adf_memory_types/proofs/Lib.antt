@@ -1,0 +1,3 @@
+-- what is told of an image that is kept as one without caches, and its tables
+pub mod KeptImages
+pub mod KeptTables
