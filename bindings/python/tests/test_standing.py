@@ -176,7 +176,7 @@ class Groups(Catalogues):
         written("disks/cached.adf", changed(bytes(cached), 880, 440, 1))
         self.catalogue("disks", "out", status=1)
         (page,) = pages_of("out")
-        self.assertIn("block 0: directory cache", page.text)
+        self.assertIn("block 880: bad sum", page.text)
         self.assertIn("do not add up to 0", page.text)
 
     def test_calls_nothing_sound_that_was_not_read(self):
