@@ -154,14 +154,11 @@ fn an_image_is_refused_with_its_first_fault() {
     let sound = image("ofs");
     let mut bad_sum = sound.clone();
     bad_sum[880 * 512 + 440] ^= 1;
-    let mut link = sound.clone();
-    link[3] = 4;
-    let bad: [(&[u8], Cause, u32); 5] = [
+    let bad: [(&[u8], Cause, u32); 4] = [
         (&[], Cause::BadSize, 0),
         (&sound[1..], Cause::BadSize, 0),
         (&[0; 2048], Cause::NotDos, 0),
         (&bad_sum, Cause::BadSum, 880),
-        (&link, Cause::DirCache, 0),
     ];
     for (image, cause, block) in bad {
         let refused = Volume::check(image).unwrap_err();
@@ -192,7 +189,7 @@ fn are_those_of_the_header<T: Debug>(title: &str, front: &str, ours: impl Iterat
         let spelled = |c: char| [c.is_uppercase().then_some('_'), Some(c)];
         let name: String = format!("{item:?}").chars().flat_map(spelled).flatten().collect();
         let line = format!("{front}{} = {number}", name.to_uppercase());
-        assert!(lines.contains(&format!("{line},")) || lines.contains(&format!("{line} ")), "{line}");
+        assert!([',', ' ', '\n'].iter().any(|end| lines.contains(&format!("{line}{end}"))), "{line}");
         count += 1;
     }
     assert_eq!(lines.matches(" = ").count(), count, "{title}");
