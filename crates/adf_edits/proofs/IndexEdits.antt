@@ -1,19 +1,19 @@
 -- What each edit does to places.
 -- Letters: p are places before, q after; path, from, to paths; i a place; x an addition.
-use Rattle.std.proofs.Common.{◌≡◌, ℕ, List, [], ◌∷◌, ◌++◌, set, refl, sym, ap, subst, ◌∙◌, true, false, Bool, Option, Some, None, Ok, ◌||◌}
-use Rattle.std.specs.{BTreeMap.BTreeMap, BTreeMap.insert_entry, Global.Vec, List.list_any}
+use Rattle.std.proofs.Common.{◌≡◌, ℕ, List, [], ◌∷◌, ◌++◌, set, refl, sym, ap, subst, ◌∙◌, true, false, Option, Some, None, Ok}
 use Rattle.adf_tree.specs.{Additions.Addition, Tree.is_dir_body}
 use Rattle.adf_edits.specs.Edits.{change_fault, changed_at, changed_if, has_under, is_at, move_fault, moved_additions, rebased, refilled_at, refilled_if}
 use Rattle.adf_edits.specs.Edits.{remove_fault, removed, replace_fault, unless, with_new}
 use Rattle.adf_edits.specs.declared.edits.Change.{Change}
-use Rattle.adf_edits.specs.Index.{is_entry_under, HasRoom, IsFileAt, IsIndexedAt, IsIndexed, IsRooted, IsSoundIndex, StandsIn, entry_placed, place_in_index, standing}
+use Rattle.adf_edits.specs.Index.{HasRoom, IsFileAt, IsIndexedAt, IsIndexed, IsRooted, IsSoundIndex, StandsIn}
+use Rattle.adf_edits.specs.Index.{entry_placed, place_in_index, standing}
 use Rattle.adf_edits.specs.{declared.index.Places.Places, Paths.is_deep, Paths.is_under}
 use Rattle.adf_edits.proofs.IndexSteps.{add_made, change_made, indexed_changed, indexed_less, indexed_without, move_made, remove_made, replace_made}
 use Rattle.adf_edits.proofs.{IndexedPaths.moved_path, IndexedPaths.not_under_same}
 use Rattle.adf_edits.proofs.{IndexedPaths.nothing_under_file, StandingPlaces.entry_from, StandingPlaces.put_again}
 
 -- q has these entries, and the index of p
-sound_by : (p q : Places) (ps : List (Option Addition)) → IsIndexed ps p.index → q.entries.items ≡ ps → q ≡ record p { entries = q.entries }
+pub sound_by : (p q : Places) (ps : List (Option Addition)) → IsIndexed ps p.index → q.entries.items ≡ ps → q ≡ record p { entries = q.entries }
     → IsIndexed q.entries.items q.index
 sound_by p q ps is entries rest =
     subst (λ index. IsIndexed q.entries.items index) (sym (ap (λ (r : Places). r.index) rest))
@@ -120,11 +120,6 @@ module _ (p q : Places) (path : List (List ℕ)) (i : ℕ) (found : IsIndexedAt 
           moved ∙ (ap (λ (qs : List (Option Addition)). qs ++ Some (rebased path to item) ∷ []) taken
           ∙ ap (λ (y : Addition). set ps i None ++ Some (rebased path to y) ∷ []) same_item) in
           made ∙ ap (λ (qs : List (Option Addition)). Ok (standing qs)) (sym all)
-
-pub under_standing : (path : List (List ℕ)) (qs : List (Option Addition)) → list_any (is_entry_under path) qs ≡ has_under (standing qs) path
-under_standing path [] = refl
-under_standing path (None ∷ qs) = under_standing path qs
-under_standing path (Some y ∷ qs) = ap (λ b. is_under path y.path || b) (under_standing path qs)
 
 -- an entry added
 pub add_step : (p q : Places) (x : Addition) → IsSoundIndex p → p.is_whole ≡ true → HasRoom p x.path → is_deep x.path ≡ false

@@ -1,22 +1,22 @@
 -- Keys of an index. es are its entries, k a key, q one that is looked up, v a place.
-use Rattle.std.proofs.Common.{◌≡◌, ◌<◌, ◌+◌, ◌++◌, ℕ, Bool, List, fold, length, take, get_or, [], ◌∷◌, inl}
-use Rattle.std.proofs.Common.{inr, cond, ◌⊎◌, refl, sym, ap, ◌∙◌, arith, true, false, Option, Some, None, map}
+use Rattle.std.proofs.Common.{◌≡◌, ◌≢◌, ◌<◌, ◌+◌, ◌++◌, ℕ, Bool, List, fold, length, take, get_or, [], ◌∷◌, inl}
+use Rattle.std.proofs.Common.{inr, cond, ◌⊎◌, refl, sym, ap, ◌∙◌, true, Some, map}
 use Rattle.std.proofs.{lemmas.Bool.cases_Bool, lemmas.Map.Lookups.exact_bytes, lemmas.Map.Text.is_eq-slice_cmp}
 use Rattle.std.proofs.{Common.append_assoc, lemmas.List.map-append, lemmas.List.take_more, lemmas.List.Sums.fold_push}
 use Rattle.std.proofs.lemmas.Slice.Eq.{bytes_eq-Decides}
 use Rattle.std.specs.{BTreeMap.BTreeMap, BTreeMap.insert_entry, Cmp.Lexicographic.slice_cmp, Global.Vec}
-use Rattle.std.specs.{Map.lookup, Ordering.is_eq, Ordering.nat_cmp, Str.bytes_eq}
+use Rattle.std.specs.{Map.lookup, Map.remove_entry, Ordering.is_eq, Ordering.nat_cmp}
 use Rattle.std.specs.Ordering.{match_ordering}
 use Rattle.std.specs.declared.cmp.Ordering.{Ordering, TheVariants.Less, TheVariants.Equal, TheVariants.Greater}
 use Rattle.adf_names.specs.Texts.{uppers}
 use Rattle.adf_tree.specs.Additions.{same_path}
-use Rattle.adf_edits.specs.Index.{by_bytes, path_key, place_at, with_key_name}
+use Rattle.adf_edits.specs.Index.{HasPlaceLess, by_bytes, path_key, place_at, with_key_name}
 use Rattle.adf_edits.proofs.Places.{same_paths}
 
 pub same_key : (a b : List (List ℕ)) → same_path a b ≡ true → path_key a ≡ path_key b
 same_key a b h = ap (λ us. fold with_key_name [] us) ((same_paths a b).0 h)
 
-abbrev tests : List ℕ → Vec ℕ → Bool
+abbrev pub tests : List ℕ → Vec ℕ → Bool
 tests q k = is_eq (slice_cmp nat_cmp q k.items)
 
 -- a place under one key more
@@ -68,6 +68,28 @@ module _ (old new : BTreeMap (Vec ℕ) ℕ) (k : Vec ℕ) (v : ℕ) (put : new.e
     | inl t ↦ inr ((bytes_eq-Decides q k.items).0 (sym (is_eq-slice_cmp q k.items) ∙ t))
     | inr f ↦ inl (put_at q ∙ rw f refl)
   ]
+
+-- a place less, under a key
+place_less : (es : List (Vec ℕ × ℕ)) (k q : List ℕ) → q ≢ k → lookup (tests q) (remove_entry (tests k) es) ≡ lookup (tests q) es
+place_less [] k q ne = refl
+place_less (e ∷ es) k q ne = elim (cases_Bool (tests k e.0)) [
+  | inl t ↦
+      let here : k ≡ e.0.items = (bytes_eq-Decides k e.0.items).0 (sym (is_eq-slice_cmp k e.0.items) ∙ t) in
+      elim (cases_Bool (tests q e.0)) [
+        | inl u ↦
+            let there : q ≡ e.0.items = (bytes_eq-Decides q e.0.items).0 (sym (is_eq-slice_cmp q e.0.items) ∙ u) in
+            absurd (ne (there ∙ sym here))
+        | inr f ↦ rw (t, f) refl
+      ]
+  | inr f ↦
+      elim (cases_Bool (tests q e.0)) [
+        | inl u ↦ rw (f, u) refl
+        | inr g ↦ rw (f, g) (place_less es k q ne)
+      ]
+]
+
+pub place_left : (old new : BTreeMap (Vec ℕ) ℕ) (k q : List ℕ) → HasPlaceLess old new k → q ≢ k → place_at new q ≡ place_at old q
+place_left old new k q less ne = ap (lookup (tests q)) less ∙ place_less old.entries k q ne
 
 -- the key of one name more
 pub key_more : (path : List (List ℕ)) (i : ℕ) (name : List ℕ) → i < length path → get_or path i name ≡ name

@@ -1,17 +1,19 @@
 -- What is done to entries by place, and to what stands; the index stays sound.
 -- Letters: ps are entries by place, index that of their paths; x, y, z, d additions; i, j, k places.
-use Rattle.std.proofs.Common.{◌≡◌, ◌≢◌, ℕ, List, [], ◌∷◌, ◌++◌, inl, inr, ◌-◌, ◌<◌, ◌≤◌, ◌==◌, length, map, take, drop, set, refl, sym, ap, subst}
-use Rattle.std.proofs.{Common.◌∙◌, Common.arith, Common.true, Common.false, Common.Bool}
-use Rattle.std.proofs.{Common.Option, Common.Some, Common.None, Common.not, Common.Ok, Common.◌&&◌}
+use Rattle.std.proofs.Common.{◌≡◌, ◌≢◌, ℕ, List, [], ◌∷◌, ◌++◌, inl, inr, length, set, refl, sym, ap, subst}
+use Rattle.std.proofs.{Common.◌∙◌, Common.true, Common.false, Common.Bool}
+use Rattle.std.proofs.{Common.Option, Common.Some, Common.None, Common.Ok, Common.◌&&◌}
 use Rattle.std.proofs.lemmas.Bool.{and_parts, cases_Bool, cases_eq, false_from_ne_true}
-use Rattle.std.specs.{BTreeMap.BTreeMap, BTreeMap.insert_entry, Global.Vec, List.filter, List.list_any}
+use Rattle.std.specs.{BTreeMap.BTreeMap, BTreeMap.insert_entry, Global.Vec, List.list_any, Str.bytes_eq}
+use Rattle.std.proofs.lemmas.Slice.Eq.{bytes_eq-Decides}
 use Rattle.adf_tree.specs.{Additions.Addition, Additions.same_path, Tree.is_dir_body, Tree.parents_of}
 use Rattle.adf_edits.specs.Edits.{change_fault, changed_at, changed_if, has_directory, has_under, is_at, is_directory_at, is_within, refilled_at}
 use Rattle.adf_edits.specs.Edits.{move_fault, moved_additions, rebased, refilled_if, room_fault, remove_fault, removed, replace_fault, unless, with_new}
 use Rattle.adf_edits.specs.declared.edits.Change.{Change}
-use Rattle.adf_edits.specs.Index.{by_bytes, HasRoom, IsIndexed, IsRooted, IsSoundIndex, StandsIn, entry_placed, path_key, place_at, place_in_index, standing}
+use Rattle.adf_edits.specs.Index.{by_bytes, HasPlaceLess, HasRoom, IsIndexed, IsRooted, IsSoundIndex, StandsIn}
+use Rattle.adf_edits.specs.Index.{entry_placed, path_key, place_at, place_in_index, standing}
 use Rattle.adf_edits.specs.{declared.index.Places.Places, Paths.is_deep, Paths.is_under}
-use Rattle.adf_edits.proofs.IndexKeys.{put_here, put_other}
+use Rattle.adf_edits.proofs.IndexKeys.{place_left, put_here, put_other}
 use Rattle.adf_edits.proofs.IndexedPaths.{moved_path, no_room_fault, nothing_under_file, only_at, under_from_parents, within_either, within_itself}
 use Rattle.adf_edits.proofs.StandingPlaces.{entry_from, one_done, one_taken, passing, pushed}
 use Rattle.adf_edits.proofs.StandingPlaces.{stands_after, stands_before, stands_now, stands_other, stands_written}
@@ -188,3 +190,19 @@ sound_more p new x key room sound has key_is put whole =
     let both = and_parts p.is_whole room whole in
     let r = has both.1 in
     indexed_more p.entries.items p.index new x key (sound both.0) r.rooted r.free key_is put
+
+pub sound_less : (p : Places) (new : BTreeMap (Vec ℕ) ℕ) (key : List ℕ) → IsSoundIndex p
+    → entry_placed p.entries.items (place_at p.index key) ≡ None → HasPlaceLess p.index new key → p.is_whole ≡ true
+    → IsIndexed p.entries.items new
+sound_less p new key sound free less whole = record {
+  found = λ i x s. elim (cases_Bool (bytes_eq (path_key x.path) key)) [
+    | inl t ↦
+        let same : path_key x.path ≡ key = (bytes_eq-Decides (path_key x.path) key).0 t in
+        let place : place_at p.index key ≡ Some i = ap (place_at p.index) (sym same) ∙ (sound whole).found i x s in
+        let clash : None ≡ Some x = sym free ∙ (ap (entry_placed p.entries.items) place ∙ entry_from p.entries.items i x s) in cc
+    | inr f ↦
+        place_left p.index new key (path_key x.path) less (λ e. let clash = sym ((bytes_eq-Decides (path_key x.path) key).1 e) ∙ f in cc)
+        ∙ (sound whole).found i x s
+  ];
+  rooted = (sound whole).rooted;
+}

@@ -1,7 +1,7 @@
 -- What an index says of paths.
 -- Letters: ps are entries by place, index that of their paths; x, y, d, f additions, d a directory, f a file; i, j, k places; path a path.
 use Rattle.std.proofs.Common.{◌≡◌, ◌≢◌, ℕ, zero, suc, List, [], ◌∷◌, inl, inr, ◌-◌, ◌<◌, ◌≤◌, ◌==◌, length, map, take, fold, refl, sym, ap, subst}
-use Rattle.std.proofs.{Common.◌∙◌, Common.arith, Common.true, Common.false, Common.Bool, Common.Option, Common.Some}
+use Rattle.std.proofs.{Common.◌∙◌, Common.arith, Common.true, Common.false, Common.Option, Common.Some}
 use Rattle.std.proofs.{Common.None, Common.nat_lt, Common.nat_le, Common.not, Common.◌⊎◌, Common.◌++◌, Common.drop, Common.take_all}
 use Rattle.std.proofs.lemmas.Bool.{and_from, and_parts, cases_Bool, cases_lt, false_from_ne_true, le-leb, lt-ltb, ltb-true, ne_eqb, not-true}
 use Rattle.std.proofs.lemmas.List.{append-nil, drop_all, length-map, length-take-le}
@@ -13,12 +13,12 @@ use Rattle.adf_edits.specs.Index.{IsIndexed, IsRooted, StandsIn, entry_placed, p
 use Rattle.adf_edits.specs.Paths.{is_at_or_under, is_deep, is_under}
 use Rattle.adf_edits.proofs.{IndexKeys.same_key, Places.same_paths, StandingPlaces.entry_from, StandingPlaces.passes, StandingPlaces.passing}
 
-under_parts : (a path : List (List ℕ)) → is_under a path ≡ true → (length a < length path) × (map uppers (take (length a) path) ≡ map uppers a)
+pub under_parts : (a path : List (List ℕ)) → is_under a path ≡ true → (length a < length path) × (map uppers (take (length a) path) ≡ map uppers a)
 under_parts a path h =
     let both = and_parts (nat_lt (length a) (length path)) (same_path (take (length a) path) a) h in
     (ltb-true (length a) (length path) both.0, (same_paths (take (length a) path) a).0 both.1)
 
-same_long : (a b : List (List ℕ)) → map uppers a ≡ map uppers b → length a ≡ length b
+pub same_long : (a b : List (List ℕ)) → map uppers a ≡ map uppers b → length a ≡ length b
 same_long a b e = sym (length-map a uppers) ∙ (ap length e ∙ length-map b uppers)
 
 map_take : (n : ℕ) (a : List (List ℕ)) → map uppers (take n a) ≡ take n (map uppers a)
@@ -82,7 +82,9 @@ pub within_either : (from path : List (List ℕ)) → is_at_or_under from path �
 within_either from path h =
     let both = and_parts (nat_le (length from) (length path)) (same_path (take (length from) path) from) h in
     elim (cases_lt (length from) (length path)) [
-      | inl less ↦ inr (and_from (nat_lt (length from) (length path)) (same_path (take (length from) path) from) (lt-ltb (length from) (length path) less) both.1)
+      | inl less ↦
+          inr (and_from (nat_lt (length from) (length path)) (same_path (take (length from) path) from)
+          (lt-ltb (length from) (length path) less) both.1)
       | inr more ↦ inl (subst (λ names. same_path names from ≡ true) (take_all (length from) path more) both.1)
     ]
 
@@ -135,7 +137,7 @@ module _ (ps : List (Option Addition)) (index : BTreeMap (Vec ℕ) ℕ) (is : Is
       let place : place_in_index index path ≡ Some one.0 = ap (place_at index) (sym (same_key one.1.path path one.3)) ∙ is.found one.0 one.1 one.2 in
       let clash : None ≡ Some one.1 = sym none ∙ (ap (entry_placed ps) place ∙ entry_from ps one.0 one.1 one.2) in cc)
 
-  some_name : (i : ℕ) (x : Addition) → StandsIn ps i x → length x.path ≢ 0
+  pub some_name : (i : ℕ) (x : Addition) → StandsIn ps i x → length x.path ≢ 0
   some_name i x s e = elim (is.rooted i x s) [
     | inl one ↦ omega (arith, one, e)
     | inr more ↦ more.0 e

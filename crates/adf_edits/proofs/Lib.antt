@@ -17,4 +17,6 @@ pub mod StandingPlaces
 pub mod IndexKeys
 pub mod IndexedPaths
 pub mod IndexSteps
+pub mod LeftPlaces
+pub mod IndexRanges
 pub mod IndexEdits

@@ -35,10 +35,10 @@ front_is d p h = grind (arith, common_steps, same_paths, and_parts, nat_le)
 pub within_from : (d p : List (List ℕ)) → length d ≤ length p → map uppers (take (length d) p) ≡ map uppers d → is_at_or_under d p ≡ true
 within_from d p le same = grind (arith, common_steps, and_from, nat_le, le-leb, same_paths)
 
-parents_long : (p : List (List ℕ)) → length (parents_of p) ≡ length p - 1
+pub parents_long : (p : List (List ℕ)) → length (parents_of p) ≡ length p - 1
 parents_long p = length-take-le (length p - 1) p (omega arith)
 
-within_parent : (d a p : List (List ℕ)) → map uppers a ≡ map uppers (parents_of p) → is_at_or_under d a ≡ true → is_at_or_under d p ≡ true
+pub within_parent : (d a p : List (List ℕ)) → map uppers a ≡ map uppers (parents_of p) → is_at_or_under d a ≡ true → is_at_or_under d p ≡ true
 within_parent d a p same h =
     let le = no_longer d a h in
     let long = as_long a (parents_of p) same in

@@ -1,9 +1,9 @@
 -- What stands at places, and the list of what stands.
 -- Letters: ps are entries by place, o one of them; x, y, z additions; i, j places; p a test of additions, f what is done to them.
 use Rattle.std.proofs.Common.{◌≡◌, ◌≢◌, ℕ, zero, suc, List, [], ◌∷◌, ◌++◌, inl, inr, ◌<◌, ◌≤◌, ◌⊎◌}
-use Rattle.std.proofs.Common.{length, map, set, refl, sym, ap, ◌∙◌, arith, true, false, Bool, Option, Some, None, not}
+use Rattle.std.proofs.Common.{length, map, set, refl, ap, arith, true, false, Bool, Option, Some, None, not}
 use Rattle.std.proofs.{lemmas.Bool.cases_Bool, lemmas.List.Elements.filter_map-append}
-use Rattle.std.specs.List.{filter, list_any, slice_get}
+use Rattle.std.specs.List.{filter, list_any}
 use Rattle.adf_tree.specs.Additions.{Addition}
 use Rattle.adf_edits.specs.Index.{StandsIn, entry_placed, same_entry, standing}
 

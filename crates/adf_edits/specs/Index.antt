@@ -1,11 +1,12 @@
 -- Entries by place, and the index of their paths. ps are the entries by place, None where one was taken away.
-use Rattle.std.specs.Prelude.{◌≡◌, ◌≢◌, ◌⊎◌, ◌==◌, ℕ, Bool, true, false, List, [], ◌∷◌, ◌++◌, Option, Some, None, Result, Ok, length, map, fold}
-use Rattle.std.specs.{List.slice_get, List.filter_map, Option.option_and_then, Ordering.nat_cmp}
+use Rattle.std.specs.Prelude.{◌≡◌, ◌≢◌, ◌⊎◌, ◌&&◌, ◌-◌, ℕ, Bool, true, false, List, [], ◌∷◌, ◌++◌, Option, Some, None, Result, Ok, length, map, fold}
+use Rattle.std.specs.{Prelude.take, Prelude.if◌then◌else◌, List.slice_get, List.filter_map, Option.option_and_then, Ordering.is_eq, Ordering.nat_cmp}
 use Rattle.std.specs.{declared.cmp.Ordering.Ordering, BTreeMap.BTreeMap, BTreeMap.get_by, BTreeMap.insert_entry, Cmp.Lexicographic.slice_cmp, Global.Vec}
+use Rattle.std.specs.Map.{remove_entry}
 use Rattle.adf_names.specs.Texts.{uppers}
 use Rattle.adf_tree.specs.{Additions.Addition, Tree.is_dir_body, Tree.parents_of}
-use Rattle.adf_edits.specs.Edits.{is_at, is_directory_at}
-use Rattle.adf_edits.specs.{declared.edits.EditFault.EditFault, Paths.is_under}
+use Rattle.adf_edits.specs.Edits.{gets_deep, is_at, is_directory_at, is_within}
+use Rattle.adf_edits.specs.declared.edits.EditFault.{EditFault}
 use Rattle.adf_edits.specs.declared.index.Places.{Places}
 
 -- what stands at one place
@@ -37,10 +38,32 @@ by_bytes a b = slice_cmp nat_cmp a.items b.items
 abbrev pub HasPlaceMore : (old new : BTreeMap (Vec ℕ) ℕ) → Vec ℕ → ℕ → Type 0
 HasPlaceMore old new key place = new.entries ≡ insert_entry by_bytes old.entries key place
 
--- whether an entry stands and is in the directory with this path
-abbrev pub is_entry_under : List (List ℕ) → Option Addition → Bool
-is_entry_under path None = false
-is_entry_under path (Some x) = is_under path x.path
+-- the new index has a place less, that of a key
+abbrev pub HasPlaceLess : (old new : BTreeMap (Vec ℕ) ℕ) → List ℕ → Type 0
+HasPlaceLess old new key = new.entries ≡ remove_entry (λ k. is_eq (slice_cmp nat_cmp key k.items)) old.entries
+
+-- the first key behind those of what is in the directory with this path: `0` comes next to `/`
+abbrev pub end_key : List (List ℕ) → List ℕ
+end_key path = take (length (path_key path) - 1) (path_key path) ++ 48 ∷ []
+
+-- whether an entry stands, and has this path or is in the directory that has it
+abbrev pub is_entry_within : List (List ℕ) → Option Addition → Bool
+is_entry_within path None = false
+is_entry_within path (Some x) = is_within path x
+
+-- whether such an entry gets too deep where `to` is put in the place of the path `from`
+abbrev pub is_entry_deep : (from to : List (List ℕ)) → Option Addition → Bool
+is_entry_deep from to None = false
+is_entry_deep from to (Some x) = gets_deep from to x && is_within from x
+
+-- what stands at a place, unless it has this path or is in the directory that has it
+abbrev pub left_by : List (List ℕ) → Option Addition → Option Addition
+left_by path None = None
+left_by path (Some x) = if is_within path x then None else Some x
+
+-- the entries by place without those that have this path or are in the directory that has it
+abbrev pub left_without : List (List ℕ) → List (Option Addition) → List (Option Addition)
+left_without path ps = map (left_by path) ps
 
 -- the entry at a place
 abbrev pub entry_placed : List (Option Addition) → Option ℕ → Option Addition
@@ -87,6 +110,11 @@ pub record IsIndexedAt (p : Places) (i : ℕ) (path : List (List ℕ)) : Type 0 
 pub record HasRoom (p : Places) (path : List (List ℕ)) : Type 0 where
   pub rooted : IsRooted p.entries.items path
   pub free : entry_placed p.entries.items (place_in_index p.index path) ≡ None
+
+-- a path has room where what has the path `from`, and what is in it, is taken away
+pub record HasRoomBut (p : Places) (from to : List (List ℕ)) : Type 0 where
+  pub rooted : IsRooted (left_without from p.entries.items) to
+  pub free : entry_placed (left_without from p.entries.items) (place_in_index p.index to) ≡ None
 
 -- what an edit makes is done, or else nothing is
 abbrev pub IsStep : Result (List Addition) EditFault → (old new : Places) → (done : Bool) → Type 0

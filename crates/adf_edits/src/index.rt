@@ -1,28 +1,35 @@
 // Entries by place, and an index of their paths.
 
-ghost use Rattle.std.specs.Prelude.{◌≡◌, ◌<◌, ◌++◌, ◌∷◌, [], None, Some, length, set, true, IfOk, OnOk, option_copied};
+ghost use Rattle.std.specs.Prelude.{◌≡◌, ◌<◌, ◌++◌, ◌∷◌, [], None, Some, false, length, set, true, IfOk, OnOk, option_copied};
 ghost use Rattle.adf_tree.specs.Additions.{Addition};
-ghost use Rattle.std.specs.List.{list_any};
-ghost use Rattle.adf_edits.specs.Edits.{changed_if, refilled_if};
-ghost use Rattle.adf_edits.specs.Index.{HasPlaceMore, HasRoom, IsDirectoryAt, IsFileAt, IsRooted, IsSoundIndex, StandsIn, StandsAt};
-ghost use Rattle.adf_edits.specs.Index.{entry_placed, is_entry_under, path_key, place_at, place_in_index};
+ghost use Rattle.std.specs.List.{filter, list_any};
+ghost use Rattle.adf_edits.specs.{Edits.changed_if, Edits.has_under, Edits.is_within, Edits.refilled_if, Paths.is_under};
+ghost use Rattle.adf_edits.specs.Index.{HasPlaceLess, HasPlaceMore, HasRoom, HasRoomBut, IsDirectoryAt, IsFileAt, IsIndexedAt};
+ghost use Rattle.adf_edits.specs.Index.{IsRooted, IsSoundIndex, StandsIn, StandsAt, end_key, entry_placed, is_entry_deep};
+ghost use Rattle.adf_edits.specs.Index.{is_entry_within, left_by, left_without, path_key, place_at, place_in_index, standing};
 
-use crate::edits::{Change, change_item, is_at, is_dir, refill_item};
+use crate::edits::{Change, change_item, gets_deep, is_at, is_dir, is_within, refill_item};
 use crate::outline::Item;
-use crate::paths::is_under;
 use adf_base::{Letters, NoMemory};
 use adf_names::Name;
 use std::alloc::Global;
 use std::collections::BTreeMap;
+use std::ops::Bound;
 
 /// Entries in the order of their additions, and an index that has the place of each path. A place is given to one entry alone,
-/// and is empty once that entry is removed or moved.
+/// and is empty once that entry is removed or moved. `made` is the number of places when they were last made without empty ones,
+/// and `left` how many entries may still be moved with their directories before an index no longer pays.
 #[derive(Drop)]
 pub struct Places {
     pub entries: Vec<Option<Item>>,
     pub index: BTreeMap<Vec<u8>, usize>,
     pub is_whole: bool,
+    pub made: usize,
+    pub left: usize,
 }
+
+// So many places more than twice those that were made are still few.
+const FEW_PLACES: usize = 1024;
 
 // The key of a path: its names in upper case, with a `/` behind each.
 fn key_of(alloc: Global, path: &[Name]) -> Result<Vec<u8>, NoMemory>
@@ -60,21 +67,80 @@ fn entry_placed(entries: &[Option<Item>], place: usize) -> Option<&Item>
     }
 }
 
-// Whether an entry stands and is in the directory with this path.
-fn is_entry_under(path: &[Name], entry: &Option<Item>) -> bool
-    ensures { result ≡ is_entry_under path.now entry.now }
+// Whether no entry stands at a place, or one that has the path or is in the directory that has it.
+#[tactic(auto, using(crate::proofs::LeftPlaces::left_entry))]
+fn is_left_free(entries: &[Option<Item>], path: &[Name], place: usize) -> bool
+    ensures { result ≡ true → entry_placed (left_without path.now entries.now) (Some place) ≡ None }
+{
+    match entry_placed(entries, place) {
+        Some(item) => is_within(path, item),
+        None => true,
+    }
+}
+
+// Whether an entry stands, and has the path or is in the directory that has it.
+fn is_entry_within(path: &[Name], entry: &Option<Item>) -> bool
+    ensures { result ≡ is_entry_within path.now entry.now }
 {
     match entry {
-        Some(item) => is_under(path, &item.path),
+        Some(item) => is_within(path, item),
         None => false,
     }
 }
 
-/// Whether one of the entries is in the directory with this path.
-pub fn any_under(entries: &[Option<Item>], path: &[Name]) -> bool
-    ensures { result ≡ list_any (is_entry_under path.now) entries.now }
+// Whether an entry stands, and gets too deep where what has a path, and what is in it, is moved.
+fn is_entry_deep(from: &[Name], to: &[Name], entry: &Option<Item>) -> bool
+    ensures { result ≡ is_entry_deep from.now to.now entry.now }
 {
-    entries.iter().any(|entry| is_entry_under(path, entry))
+    match entry {
+        Some(item) => gets_deep(from, to, item) && is_within(from, item),
+        None => false,
+    }
+}
+
+// Takes an entry away, behind those taken before, if it has the path or is in the directory that has it.
+fn take_if_within(
+    taken: &mut Vec<Item>,
+    entry: &mut Option<Item>,
+    path: &[Name],
+) -> Result<(), NoMemory>
+    ensures entry { OnOk result (entry.new ≡ left_by path.now entry.old) }
+    ensures taken { OnOk result
+        (taken.new.items ≡ taken.old.items ++ filter (is_within path.now) (standing (entry.old ∷ []))) }
+{
+    if !is_entry_within(path, entry) {
+        return Ok(());
+    }
+    match entry.take() {
+        Some(item) => Ok(taken.push(item)?),
+        None => Ok(()),
+    }
+}
+
+// Takes each of these entries away that has the path or is in the directory that has it.
+fn take_each_within(
+    taken: &mut Vec<Item>,
+    entries: &mut [Option<Item>],
+    path: &[Name],
+) -> Result<(), NoMemory>
+    ensures entries { OnOk result (entries.new ≡ left_without path.now entries.old) }
+    ensures taken { OnOk result
+        (taken.new.items ≡ taken.old.items ++ filter (is_within path.now) (standing entries.old)) }
+{
+    for entry in entries.iter_mut() {
+        take_if_within(taken, entry, path)?;
+    }
+    Ok(())
+}
+
+// The first key behind those of what is in the directory with this path.
+fn end_of(alloc: Global, path: &[Name]) -> Result<Vec<u8>, NoMemory>
+    ensures { IfOk result (λ key. key.items ≡ end_key path.now) }
+{
+    let mut key = key_of(alloc, path)?;
+    let _ = key.pop();
+    key.push(b'0')?;
+    Ok(key)
 }
 
 // Puts the place of a key.
@@ -87,6 +153,13 @@ fn put_key(index: &mut BTreeMap<Vec<u8>, usize>, key: Vec<u8>, place: usize) -> 
     }
 }
 
+// Takes the place of a key out.
+fn remove_key(index: &mut BTreeMap<Vec<u8>, usize>, key: &[u8])
+    ensures { HasPlaceLess index.old index.new key.now }
+{
+    let _ = index.remove(key);
+}
+
 impl Places {
     /// No entries.
     pub fn new(alloc: Global) -> Places
@@ -97,7 +170,14 @@ impl Places {
             entries: Vec::new(alloc),
             index: BTreeMap::new(alloc),
             is_whole: true,
+            made: 0,
+            left: 0,
         }
+    }
+
+    /// Whether no more places than these are worth the time to leave the empty ones out.
+    pub fn are_few(&self) -> bool {
+        self.entries.len() / 2 <= self.made.saturating_add(FEW_PLACES / 2)
     }
 
     // The place of a path.
@@ -121,15 +201,23 @@ impl Places {
         }
     }
 
+    // Whether no entry stands where the index has this key.
+    fn is_free_at(&self, key: &[u8]) -> bool
+        ensures { result ≡ true → entry_placed self.now.entries.items (place_at self.now.index key.now) ≡ None }
+    {
+        match place_at(&self.index, key) {
+            Some(place) => entry_placed(&self.entries, place).is_none(),
+            None => true,
+        }
+    }
+
     // Whether no entry stands where the index has this path.
     fn is_free(&self, alloc: Global, path: &[Name]) -> Result<bool, NoMemory>
         ensures { IfOk result (λ free. free ≡ true
             → entry_placed self.now.entries.items (place_in_index self.now.index path.now) ≡ None) }
     {
-        match self.place_in_index(alloc, path)? {
-            Some(place) => Ok(entry_placed(&self.entries, place).is_none()),
-            None => Ok(true),
-        }
+        let key = key_of(alloc, path)?;
+        Ok(self.is_free_at(&key))
     }
 
     // Whether the entry at a place is a directory.
@@ -160,6 +248,93 @@ impl Places {
         ensures { IfOk result (λ room. room ≡ true → HasRoom self.now path.now) }
     {
         Ok(self.is_rooted(alloc, path)? && self.is_free(alloc, path)?)
+    }
+
+    // Whether no entry stands where the index has a path, or one that has the path `from` or is in the directory that has it.
+    fn is_free_but(&self, alloc: Global, from: &[Name], to: &[Name]) -> Result<bool, NoMemory>
+        ensures { IfOk result (λ free. free ≡ true
+            → entry_placed (left_without from.now self.now.entries.items) (place_in_index self.now.index to.now) ≡ None) }
+    {
+        match self.place_in_index(alloc, to)? {
+            Some(place) => Ok(is_left_free(&self.entries, from, place)),
+            None => Ok(true),
+        }
+    }
+
+    /// Whether a path has room where what has the path `from`, and what is in it, is taken away.
+    pub fn has_room_but(&self, alloc: Global, from: &[Name], to: &[Name]) -> Result<bool, NoMemory>
+        requires { is_under from.now to.now ≡ false }
+        ensures { IfOk result (λ room. room ≡ true → HasRoomBut self.now from.now to.now) }
+    {
+        Ok(self.is_rooted(alloc, to)? && self.is_free_but(alloc, from, to)?)
+    }
+
+    /// How many entries have this path or are in it.
+    pub fn count_within(&self, path: &[Name]) -> usize {
+        self.entries
+            .iter()
+            .filter(|entry| is_entry_within(path, entry))
+            .count()
+    }
+
+    /// Whether the path of something that has the path `from`, or is in the directory that has it, gets too deep.
+    pub fn any_gets_deep(&self, from: &[Name], to: &[Name]) -> bool
+        ensures { result ≡ list_any (is_entry_deep from.now to.now) self.now.entries.items }
+    {
+        self.entries
+            .iter()
+            .any(|entry| is_entry_deep(from, to, entry))
+    }
+
+    /// Takes away what has a path, and what is in the directory that has it.
+    pub fn take_within(&mut self, alloc: Global, path: &[Name]) -> Result<Vec<Item>, NoMemory>
+        ensures taken { IfOk result (λ items.
+            items.items ≡ filter (is_within path.now) (standing self.old.entries.items)) }
+        ensures entries { OnOk result (self.new.entries.items ≡ left_without path.now self.old.entries.items) }
+        ensures rest { OnOk result (self.new ≡ record self.old { entries = self.new.entries }) }
+    {
+        let mut taken = Vec::new(alloc);
+        take_each_within(&mut taken, &mut self.entries, path)?;
+        Ok(taken)
+    }
+
+    // Takes a key out of the index, at whose place nothing stands.
+    fn forget_key(&mut self, key: &[u8])
+        requires free { entry_placed self.old.entries.items (place_at self.old.index key.now) ≡ None }
+        requires sound { IsSoundIndex self.old }
+        ensures entries { self.new.entries.items ≡ self.old.entries.items }
+        ensures sound { IsSoundIndex self.new }
+    {
+        remove_key(&mut self.index, key);
+    }
+
+    /// Takes the key of a path out of the index, if nothing stands at its place.
+    pub fn forget(&mut self, alloc: Global, path: &[Name]) -> Result<(), NoMemory>
+        requires { IsSoundIndex self.old }
+        ensures entries { self.new.entries.items ≡ self.old.entries.items }
+        ensures sound { IsSoundIndex self.new }
+    {
+        let key = key_of(alloc, path)?;
+        if self.is_free_at(&key) {
+            self.forget_key(&key);
+        }
+        Ok(())
+    }
+
+    /// Whether the index has a key in the directory with this path, which stands at this place.
+    pub fn may_have_under(
+        &self,
+        alloc: Global,
+        place: usize,
+        path: &[Name],
+    ) -> Result<bool, NoMemory>
+        requires { IsIndexedAt self.now place path.now }
+        ensures { IfOk result (λ may. may ≡ false → has_under (standing self.now.entries.items) path.now ≡ false) }
+    {
+        let key = key_of(alloc, path)?;
+        let end = end_of(alloc, path)?;
+        let inner = (Bound::Excluded(&key), Bound::Excluded(&end));
+        Ok(self.index.range(inner).next().is_some())
     }
 
     /// Appends an entry. If it may have no room, the index is no longer whole.

@@ -1,19 +1,27 @@
 // Outlines with an index of their paths.
 
 ghost use Rattle.std.specs.Prelude.{◌≡◌, ◌≢◌, ◌++◌, ◌∷◌, [], Ok, Err, IfOk, IfErr, OnOk, false, true};
-ghost use Rattle.adf_edits.specs.Edits.{change_fault, changed_at, edit_value, edited, edited_additions, move_fault, moved_additions};
+ghost use Rattle.adf_edits.specs.Edits.{change_fault, changed_at, edit_value, edited, edited_additions};
 ghost use Rattle.adf_edits.specs.Edits.{has_under, refilled_at, remove_fault, removed, replace_fault, unless, with_new};
-ghost use Rattle.adf_edits.specs.{Index.IsFileAt, Index.IsIndexedAt, Index.IsSoundIndex, Index.IsStep, Index.standing, Paths.is_under};
+ghost use Rattle.adf_edits.specs.Index.{IsIndexedAt, IsSoundIndex, IsStep, standing};
 
-use crate::edits::{Change, Edit, EditFault, edited_label, first_of, new_file, new_item, rebased};
-use crate::index::{Places, any_under};
+use crate::edits::{Change, Edit, EditFault, edited_label, first_of, new_file, new_item};
+use crate::index::Places;
+use crate::moves::quick_move;
 use crate::outline::{Item, Outline};
-use crate::paths::{is_deep, is_under, push_names};
+use crate::paths::{is_deep, push_names};
 use adf_base::NoMemory;
 use adf_names::{Kind, Label, Name, Stamps};
 use adf_tree::Body;
 use std::alloc::Global;
+use std::collections::BTreeMap;
 use std::marker::Model;
+
+// How often all entries may be moved with their directories by an index, and how many entries besides, before it no longer pays: a
+// list takes less time to move many at once.
+const MOVES_OF_ALL: usize = 16;
+
+const FEW_MOVED: usize = 65_536;
 
 /// An outline with an index of its paths: an edit looks its paths up there, and reads no list.
 #[derive(Drop)]
@@ -105,12 +113,37 @@ fn quick_add(alloc: Global, places: &mut Places, item: Item) -> Result<bool, NoM
 }
 
 // Whether nothing stands in the directory with this path, which stands at this place, or it is a file.
-#[tactic(auto, using(crate::proofs::IndexEdits::under_standing))]
-fn is_empty_at(places: &Places, place: usize, path: &[Name]) -> bool
+fn is_empty_at(
+    alloc: Global,
+    places: &Places,
+    place: usize,
+    path: &[Name],
+) -> Result<bool, NoMemory>
     requires { IsIndexedAt places.now place path.now }
-    ensures { result ≡ true → has_under (standing places.now.entries.items) path.now ≡ false }
+    ensures { IfOk result (λ empty. empty ≡ true → has_under (standing places.now.entries.items) path.now ≡ false) }
 {
-    places.is_file_at(place) || !any_under(&places.entries, path)
+    if places.is_file_at(place) {
+        return Ok(true);
+    }
+    Ok(!places.may_have_under(alloc, place, path)?)
+}
+
+// Removes what has this path, which stands at this place, and has nothing in it.
+fn remove_at(
+    alloc: Global,
+    places: &mut Places,
+    place: usize,
+    path: &[Name],
+) -> Result<bool, NoMemory>
+    requires found { IsIndexedAt places.old place path.now }
+    requires empty { has_under (standing places.old.entries.items) path.now ≡ false }
+    ensures step { IfOk result (IsStep (unless (remove_fault (standing places.old.entries.items) path.now)
+        (removed path.now (standing places.old.entries.items))) places.old places.new) }
+    ensures sound { OnOk result (IsSoundIndex places.new) }
+{
+    let _ = places.take(place);
+    places.forget(alloc, path)?;
+    Ok(true)
 }
 
 // Removes what has a path.
@@ -125,64 +158,10 @@ fn quick_remove(alloc: Global, places: &mut Places, path: &[Name]) -> Result<boo
     }
     match places.find(alloc, path)? {
         Some(place) => {
-            if !is_empty_at(places, place, path) {
+            if !is_empty_at(alloc, places, place, path)? {
                 return Ok(false);
             }
-            let _ = places.take(place);
-            Ok(true)
-        }
-        None => Ok(false),
-    }
-}
-
-// Moves the file with this path, which stands at this place.
-fn move_file(
-    alloc: Global,
-    places: &mut Places,
-    place: usize,
-    from: &[Name],
-    to: &[Name],
-) -> Result<bool, NoMemory>
-    requires found { IsIndexedAt places.old place from.now }
-    requires file { IsFileAt places.old.entries.items place }
-    requires apart { is_under from.now to.now ≡ false }
-    ensures step { IfOk result (IsStep (unless (move_fault (standing places.old.entries.items) from.now to.now)
-        (moved_additions from.now to.now (standing places.old.entries.items))) places.old places.new) }
-    ensures sound { OnOk result (IsSoundIndex places.new) }
-{
-    let Some(item) = places.take(place) else {
-        return Ok(false);
-    };
-    if is_deep(to) || !places.has_room(alloc, to)? {
-        places.put_back(place, item);
-        return Ok(false);
-    }
-    let item = rebased(alloc, item, from, to)?;
-    places.push(alloc, item, true)?;
-    Ok(true)
-}
-
-// Moves the file that has a path.
-fn quick_move(
-    alloc: Global,
-    places: &mut Places,
-    from: &[Name],
-    to: &[Name],
-) -> Result<bool, NoMemory>
-    requires { IsSoundIndex places.old }
-    ensures step { IfOk result (IsStep (unless (move_fault (standing places.old.entries.items) from.now to.now)
-        (moved_additions from.now to.now (standing places.old.entries.items))) places.old places.new) }
-    ensures sound { OnOk result (IsSoundIndex places.new) }
-{
-    if !places.is_whole || is_under(from, to) {
-        return Ok(false);
-    }
-    match places.find(alloc, from)? {
-        Some(place) => {
-            if !places.is_file_at(place) {
-                return Ok(false);
-            }
-            move_file(alloc, places, place, from, to)
+            remove_at(alloc, places, place, path)
         }
         None => Ok(false),
     }
@@ -258,20 +237,89 @@ fn places_of(alloc: Global, items: Vec<Item>) -> Result<Places, NoMemory>
         let has_room = places.has_room(alloc, &item.path)?;
         places.push(alloc, item, has_room)?;
     }
+    places.made = places.entries.len();
     Ok(places)
 }
 
+// The same places, or without the empty ones where they have become many.
+fn settled(alloc: Global, places: Places) -> Result<Places, NoMemory>
+    requires { IsSoundIndex places }
+    ensures standing { IfOk result (λ new. standing new.entries.items ≡ standing places.entries.items) }
+    ensures sound { IfOk result IsSoundIndex }
+{
+    if places.are_few() {
+        return Ok(places);
+    }
+    let left = places.left;
+    let items = items_of(alloc, places.entries)?;
+    let mut places = places_of(alloc, items)?;
+    places.left = left;
+    Ok(places)
+}
+
+// Entries at their places, without an index.
+fn places_alone(alloc: Global, items: Vec<Item>) -> Result<Places, NoMemory>
+    ensures standing { IfOk result (λ places. standing places.entries.items ≡ items.items) }
+    ensures sound { IfOk result IsSoundIndex }
+{
+    let mut entries = Vec::new(alloc);
+    for item in items {
+        entries.push(Some(item))?;
+    }
+    Ok(Places {
+        entries,
+        index: BTreeMap::new(alloc),
+        is_whole: false,
+        made: 0,
+        left: 0,
+    })
+}
+
 impl IndexedOutline {
-    /// An outline with an index.
-    pub fn of(alloc: Global, outline: Outline) -> Result<IndexedOutline, NoMemory>
+    // An outline with an index, by which so many entries may still be moved with their directories.
+    fn with_left(alloc: Global, outline: Outline, left: usize) -> Result<IndexedOutline, NoMemory>
+        ensures { IfOk result (λ o. o ≡ outline) }
+    {
+        let mut places = places_of(alloc, outline.items)?;
+        places.left = left;
+        Ok(IndexedOutline {
+            kind: outline.kind,
+            label: outline.label,
+            stamps: outline.stamps,
+            places,
+        })
+    }
+
+    // An outline whose edits all read its list.
+    fn without_index(alloc: Global, outline: Outline) -> Result<IndexedOutline, NoMemory>
         ensures { IfOk result (λ o. o ≡ outline) }
     {
         Ok(IndexedOutline {
             kind: outline.kind,
             label: outline.label,
             stamps: outline.stamps,
-            places: places_of(alloc, outline.items)?,
+            places: places_alone(alloc, outline.items)?,
         })
+    }
+
+    // An outline with an index that is made anew, which counts as a move of all, if that still pays.
+    fn again(alloc: Global, outline: Outline, left: usize) -> Result<IndexedOutline, NoMemory>
+        ensures { IfOk result (λ o. o ≡ outline) }
+    {
+        let count = outline.items.len();
+        if left < count {
+            return IndexedOutline::without_index(alloc, outline);
+        }
+        IndexedOutline::with_left(alloc, outline, left - count)
+    }
+
+    /// An outline with an index.
+    pub fn of(alloc: Global, outline: Outline) -> Result<IndexedOutline, NoMemory>
+        ensures { IfOk result (λ o. o ≡ outline) }
+    {
+        let count = outline.items.len();
+        let left = count.saturating_mul(MOVES_OF_ALL).saturating_add(FEW_MOVED);
+        IndexedOutline::with_left(alloc, outline, left)
     }
 
     /// The outline without its index.
@@ -288,7 +336,7 @@ impl IndexedOutline {
     }
 
     /// The outline after an edit, or why the edit cannot be applied, as of `Outline`. The entries are read one by one only
-    /// where the edit cannot be applied, or is of a directory that is removed or moved.
+    /// where the edit cannot be applied, or moves a directory.
     pub fn edited(
         self,
         alloc: Global,
@@ -305,9 +353,10 @@ impl IndexedOutline {
                 kind: self.kind,
                 label: edited_label(self.label, &edit),
                 stamps: self.stamps,
-                places,
+                places: settled(alloc, places)?,
             });
         }
+        let left = places.left;
         let outline = Outline {
             kind: self.kind,
             label: self.label,
@@ -315,6 +364,6 @@ impl IndexedOutline {
             items: items_of(alloc, places.entries)?,
         };
         let outline = outline.edited(alloc, edit, given)?;
-        Ok(IndexedOutline::of(alloc, outline)?)
+        Ok(IndexedOutline::again(alloc, outline, left)?)
     }
 }

@@ -5,6 +5,7 @@ mod edits;
 mod index;
 mod indexed;
 mod laws;
+mod moves;
 mod outline;
 mod path_text;
 mod paths;

@@ -1,4 +1,4 @@
-use Rattle.std.proofs.Common.{◌≡◌, arith, subst, true}
+use Rattle.std.proofs.Common.{arith, subst}
 use Rattle.std.proofs.lemmas.Grind.{common_steps}
 use Rattle.adf_edits.specs.Index.{IsIndexedAt, StandsAt}
 use Rattle.adf_edits.proofs.IndexEdits.{change_step}
