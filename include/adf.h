@@ -142,8 +142,9 @@ uint8_t adf_check(const uint8_t *image, size_t length, struct adf_verdict *verdi
  * 0xE0 to 0xFE too, except 0xF7. Types 0 and 1 have the verdict of adf_check, up to its size. Their tables are made by adf_index_types.
  *
  * It takes an image of an allowed size and of type 4 or 5 too, as `adf-disk check` does, with memory for a copy of it. 0: the caches
- * are right, and without them the volume is sound; `used` counts their blocks. ADF_DIR_CACHE: `block` is the header of the first
- * directory whose cache is wrong. ADF_NO_MEMORY: nothing else is said about the image.
+ * are right, and without them the volume is sound, and the same but for block 0 and the bitmap; `used` counts their blocks.
+ * ADF_DIR_CACHE: `block` is the header of the first directory whose cache is wrong; or if none is, the root, where more than that
+ * is another without caches, as in an image that was made for it. ADF_NO_MEMORY: nothing else is said about the image.
  */
 uint8_t adf_check_types(const uint8_t *image, size_t length, struct adf_verdict *verdict);
 
@@ -233,7 +234,8 @@ uint8_t adf_index(const uint8_t *image, size_t length, struct adf_entry *entries
                   size_t blocks_room, struct adf_contents *contents);
 
 /* The same of an image of type 0 to 5, as adf_check_types checks it; types 0 and 1 have the tables and contents of adf_index, up to
- * its size. Blocks of directory caches count as used, and no table has them. In these tables a path is looked up by adf_find_types with contents->kind, and files are read by adf_read.
+ * its size. Blocks of directory caches count as used, and no table has them. In these tables a path is looked up by adf_find_types
+ * with contents->kind, and files are read by adf_read, of types 4 and 5 too from this image as it is.
  */
 uint8_t adf_index_types(const uint8_t *image, size_t length, struct adf_entry *entries, size_t entries_room, uint32_t *blocks,
                         size_t blocks_room, struct adf_contents *contents);

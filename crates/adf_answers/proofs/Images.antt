@@ -19,7 +19,7 @@ fault_at b c = record { block = b; cause = c }
 
 checked_by : (image : List ℕ) → FitsOrHasFault image → HasAnswer check image
 checked_by image (inl (t, l, fits)) = (on_output 0 (ok_line (counts_of image t l)), inl (t, l, fits, refl))
-checked_by image (inr (b, c, first)) = (on_output 1 (fault_line (fault_at b c)), inr (inl (refl, (fault_at b c, first, refl))))
+checked_by image (inr (b, c, first)) = (on_output 1 (fault_line (fault_at b c)), inr (fault_at b c, first, refl))
 
 pub checked : (image : List ℕ) → HasAnswer check image
 checked image = checked_by image (fits_or_fault image)

@@ -8,8 +8,9 @@ ghost use Rattle.adf_cmd.specs.Answers.{adf_command};
 ghost use Rattle.adf_names.specs.VolumeTypes.{letters_of_type};
 ghost use Rattle.adf_survey_cmd.specs.Answers.{survey_without_files};
 ghost use Rattle.adf_volume.specs.declared.types.Types.TheVariants.{Plain, WithInternational};
-ghost use Rattle.adf_memory_types.specs.{CachedCalls.ChecksAnyType, CachedOwners.TellsAnyOwners, CachedTables.FillsAnyTables};
-ghost use Rattle.adf_memory.specs.CheckCalls.{ChecksImage, FillsTables, FindsEntry, ReadsFile, TellsOwners};
+ghost use Rattle.adf_memory_types.specs.{CachedCalls.ChecksAnyType, CachedFiles.ReadsAnyFile};
+ghost use Rattle.adf_memory_types.specs.{CachedOwners.TellsAnyOwners, CachedTables.FillsAnyTables};
+ghost use Rattle.adf_memory.specs.CheckCalls.{ChecksImage, FillsTables, FindsEntry, TellsOwners};
 ghost use Rattle.adf_memory.specs.SurveyCalls.{FillsFound, FillsLinks, FillsParts, FillsSurvey, FindsFound, PutsSubject};
 ghost use Rattle.adf_memory.specs.SurveyCalls.{ReadsFound, RescuesVolume, TellsFoundRoles};
 ghost use Rattle.adf_memory.specs.TextCalls.{WritesCause, WritesDiskCause, WritesEscape, WritesPartitionFault};
@@ -24,10 +25,10 @@ use adf_memory::{
     TablePartition, Verdict, build_volume, cause_text, check_image, clear_boot, copy_boot,
     disk_cause_text, escape_text, find_entry, find_found, install_boot, need_volume, owners_of,
     partition_fault_text, put_disk, put_found_blocks, put_found_parts, put_index, put_links,
-    put_subject, put_survey, read_bytes, read_found, rescue_volume, rescue_volume_types,
-    run_in_memory, survey_owners, tell_boot,
+    put_subject, put_survey, read_found, rescue_volume, rescue_volume_types, run_in_memory,
+    survey_owners, tell_boot,
 };
-use adf_memory_types::{check_image_types, owners_of_types, put_index_types};
+use adf_memory_types::{check_image_types, owners_of_types, put_index_types, read_bytes_types};
 use adf_names::letters_of_type;
 use adf_volume::Types;
 use std::alloc::Global;
@@ -155,9 +156,9 @@ pub extern "C" fn adf_read(
     offset: usize,
     room: &mut [u8],
 ) -> usize
-    ensures { ReadsFile image.now entries.now blocks.now node offset room.old room.new result }
+    ensures { ReadsAnyFile image.now entries.now blocks.now node offset room.old room.new result }
 {
-    read_bytes(image, entries, blocks, node, offset, room)
+    read_bytes_types(image, entries, blocks, node, offset, room)
 }
 
 #[unsafe(no_mangle)]

@@ -13,7 +13,7 @@ use Rattle.adf_cmd.specs.{Answers.Answer, Answers.Checks, Answers.limit_of, Answ
 use Rattle.adf_runs.specs.Commands.{Reply}
 use Rattle.adf_words.specs.CommandLine.{RequestValue, build, cat, check, convert, list}
 use Rattle.adf_cmd.specs.CheckAnswers.{IsCheckAnswer, IsCheckAnswerTo}
-use Rattle.adf_cmd.proofs.CachedLaws.{long_takes_none}
+use Rattle.adf_cmd.proofs.{AnswerLaws.check_plain, AnswerLaws.plain_check, CachedLaws.long_takes_none}
 
 -- each answer to one input is one to another
 abbrev pub AnswersBoth : RequestValue → List ℕ → List ℕ → Type 0
@@ -58,7 +58,7 @@ pub long_answers : (r : RequestValue) (image bytes : List ℕ) → limit_of r < 
 long_answers (cat path) image bytes a b reply (inl bad) = inl bad
 long_answers (cat path) image bytes a b reply (inr (inl (names, text, t, l, fits, copies))) = absurd (too_large Plain image t l a fits)
 long_answers (cat path) image bytes a b reply (inr (inr (read, h))) = inr (inr (read, (h.0, long_fault Plain image bytes h.0 a b h.1, h.2)))
-long_answers check image bytes a b reply h = long_check Plain image bytes a b reply h
+long_answers check image bytes a b reply h = plain_check bytes reply (long_check Plain image bytes a b reply (check_plain image reply h))
 long_answers (build lines) image bytes a b reply (inl (tree, n, manifest, builds)) = absurd (omega (arith, manifest.0))
 long_answers (build lines) image bytes a b reply (inr h) = inr (h.0, long_kind h.0.kind h.0.line image bytes a b h.2 h.1, h.2, h.3)
 long_answers list image bytes a b reply (inl h) = absurd (too_large Plain image h.0 h.1 a h.2)

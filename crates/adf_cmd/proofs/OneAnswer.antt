@@ -18,7 +18,7 @@ use Rattle.adf_manifest.proofs.{TreesOfLines.one_tree_of, Verdicts.one_told}
 use Rattle.adf_texts.specs.{Lines.fault_line, Lines.ok_line_by, VolumeLines.AreDates, VolumeLines.volume_lines}
 use Rattle.adf_cmd.specs.Answers.{Answer, BuildsManifest, BuildsOrIsFull, Checks, Converts, Copies, CopiesFrom, Lists, RefusesImage, RefusesManifest}
 use Rattle.adf_cmd.specs.Answers.{contents_at}
-use Rattle.adf_cmd.proofs.CachedLaws.{fits_no_caches, one_cached}
+use Rattle.adf_cmd.proofs.{AnswerLaws.check_plain, CachedLaws.fits_no_caches, CachedLaws.one_cached}
 use Rattle.adf_runs.specs.Commands.{Reply, on_errors, on_output}
 use Rattle.adf_words.specs.CommandLine.{AsksFor, RequestValue, build, cat, check, convert, list}
 
@@ -130,7 +130,7 @@ image_once input a b tells fits once (inr h) (inl g) = let (t, l, fit) = fits b 
 image_once input a b tells fits once (inr h) (inr g) = refused_once input a b h g
 
 pub one_answer : (r : RequestValue) (input : List ℕ) (a b : Reply) → Answer r input a → Answer r input b → a ≡ b
-one_answer check input a b h g = one_check Plain input a b h g
+one_answer check input a b h g = one_check Plain input a b (check_plain input a h) (check_plain input b g)
 one_answer list input a b h g = image_once input a b (Lists input) (λ reply x. (x.0, x.1, x.2)) (listed_once input a b) h g
 one_answer (build written) input a b (inl h) (inl g) = manifest_built_once written input a b h g
 one_answer (build written) input a b (inl h) (inr g) = absurd (no_fault g.0.kind g.0.line input h.0 h.1 g.2 g.1 h.2)

@@ -20,15 +20,19 @@ abbrev pub AcceptsOf : Types → List ℕ → Reply → Type 0
 AcceptsOf types input reply =
     (t : Tree) × (l : Layout) × FitsOf types input t l × (reply ≡ on_output 0 (ok_line_by (letters_for types input) (counts_of input t l)))
 
--- the first fault of the image where these types are accepted is told on output, with status 1; so not of one with directory caches
+-- the first fault of the image where these types are accepted is told on output, with status 1
 abbrev pub RefusesOf : Types → List ℕ → Reply → Type 0
-RefusesOf types input reply =
-    (takes_caches types input ≡ false) × ((f : Fault) × FirstFaultOf types input f.block f.cause × (reply ≡ on_output 1 (fault_line f)))
+RefusesOf types input reply = (f : Fault) × FirstFaultOf types input f.block f.cause × (reply ≡ on_output 1 (fault_line f))
+
+-- what `check` tells of an image of type 0 or 1, or of what is none
+abbrev pub ChecksPlain : List ℕ → Reply → Type 0
+ChecksPlain input reply = AcceptsOf Plain input reply ⊎ RefusesOf Plain input reply
 
 -- what is told of an image where these types are accepted, and with types 2 and 3 those of directory caches
 abbrev pub Checks : Types → List ℕ → Reply → Type 0
 Checks types input reply =
-    AcceptsOf types input reply ⊎ (RefusesOf types input reply ⊎ ((takes_caches types input ≡ true) × ChecksCached input reply))
+    AcceptsOf types input reply
+    ⊎ (((takes_caches types input ≡ false) × RefusesOf types input reply) ⊎ ((takes_caches types input ≡ true) × ChecksCached input reply))
 
 -- the image that is laid of a tree in n blocks, or the lines of its words
 abbrev pub built_output : Bool → Tree → ℕ → List ℕ
@@ -104,7 +108,7 @@ Converts kind input reply =
 
 -- the answer to a request
 abbrev pub Answer : RequestValue → List ℕ → Reply → Type 0
-Answer check input reply = Checks Plain input reply
+Answer check input reply = ChecksPlain input reply
 Answer (build lines) input reply = BuildsManifest lines input reply ⊎ RefusesManifest input reply
 Answer list input reply = Lists input reply ⊎ RefusesImage input reply
 Answer (cat path) input reply =

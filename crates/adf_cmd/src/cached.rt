@@ -3,18 +3,19 @@
 ghost use Rattle.std.specs.Prelude.{◌≡◌, IfOk, List, string_bytes, true, ℕ};
 ghost use Rattle.adf_tree.specs.Tree.{Tree};
 ghost use Rattle.adf_volume.specs.Layout.{Layout};
-ghost use Rattle.adf_findings.specs.Survey.{OnSurvey};
-ghost use Rattle.adf_uncached.specs.{Uncached.IsUncached, Uncached.is_cached, Verdict.FirstFaultUncached, Verdict.FitsUncached};
+ghost use Rattle.adf_uncached.specs.Uncached.{is_cached};
+ghost use Rattle.adf_cached_files.specs.InPlace.{FirstFaultInPlace, FitsInPlace, IsKeptOf};
 ghost use Rattle.adf_cmd.specs.CachedAnswers.{cached_kind_text, cached_ok_line, takes_caches};
 ghost use Rattle.adf_cmd.specs.CheckAnswers.{IsCachedAnswer};
 
 use crate::checking::CheckAnswer;
 use crate::images::refused_line;
 use adf_blocks::Cause;
+use adf_cached_files::check_in_place;
 use adf_check::{Checked, Counts, Fault};
 use adf_names::Kind;
 use adf_texts::push_counts_of;
-use adf_uncached::{Uncached, check_uncached, counts_with_caches, is_cached, without_caches};
+use adf_uncached::{Uncached, counts_with_caches, is_cached, without_caches};
 use adf_volume::{Types, is_image_len};
 use std::alloc::{AllocError, Global};
 
@@ -54,37 +55,35 @@ fn cached_acceptance(
     volume: &Checked<'_>,
 ) -> Result<CheckAnswer, AllocError>
     requires { volume.now ≡ uncached.now.image.items }
-    ensures { (image : List ℕ) (t : Tree) (l : Layout) → OnSurvey image (λ w _. IsUncached image w uncached.now)
-        → FitsUncached uncached.now.fault volume.now t l → IfOk result (IsCachedAnswer image) }
+    ensures { (image : List ℕ) (t : Tree) (l : Layout) → IsKeptOf image uncached.now → FitsInPlace image t l
+        → IfOk result (IsCachedAnswer image) }
 {
     let line = cached_line(alloc, &counts_with_caches(uncached, volume))?;
     Ok(CheckAnswer { sound: true, line })
 }
 
 // The answer to a refused image.
-fn cached_refusal(
-    alloc: Global,
-    uncached: &Uncached,
-    fault: Fault,
-) -> Result<CheckAnswer, AllocError>
-    requires { FirstFaultUncached uncached.now.fault uncached.now.image.items fault.block fault.cause }
-    ensures { (image : List ℕ) → OnSurvey image (λ w _. IsUncached image w uncached.now)
-        → IfOk result (IsCachedAnswer image) }
+fn cached_refusal(alloc: Global, fault: Fault) -> Result<CheckAnswer, AllocError>
+    ensures { (image : List ℕ) → FirstFaultInPlace image fault.block fault.cause → IfOk result (IsCachedAnswer image) }
 {
     let line = refused_line(alloc, fault)?;
     Ok(CheckAnswer { sound: false, line })
 }
 
 // The answer to an image that is kept as one without caches.
-fn answer_to_uncached(alloc: Global, uncached: &Uncached) -> Result<CheckAnswer, AllocError>
-    ensures { (image : List ℕ) → OnSurvey image (λ w _. IsUncached image w uncached.now)
-        → IfOk result (IsCachedAnswer image) }
+fn answer_to_uncached(
+    alloc: Global,
+    image: &[u8],
+    uncached: &Uncached,
+) -> Result<CheckAnswer, AllocError>
+    requires { IsKeptOf image.now uncached.now }
+    ensures { IfOk result (IsCachedAnswer image.now) }
 {
-    match check_uncached(alloc, uncached) {
+    match check_in_place(alloc, image, uncached) {
         Ok(volume) => cached_acceptance(alloc, uncached, &volume),
         Err(fault) => match fault.cause {
             Cause::NoMemory => Err(AllocError),
-            _ => cached_refusal(alloc, uncached, fault),
+            _ => cached_refusal(alloc, fault),
         },
     }
 }
@@ -95,7 +94,7 @@ pub fn answer_to_cached(alloc: Global, image: &[u8]) -> Result<CheckAnswer, Allo
     ensures { IfOk result (IsCachedAnswer image.now) }
 {
     match without_caches(alloc, image) {
-        Ok(uncached) => answer_to_uncached(alloc, &uncached),
+        Ok(uncached) => answer_to_uncached(alloc, image, &uncached),
         Err(_) => Err(AllocError),
     }
 }

@@ -3,7 +3,7 @@
 ghost use Rattle.std.specs.Prelude.{◌≡◌, ◌+◌, false, IfOk, List, string_bytes, true, ℕ};
 ghost use Rattle.adf_tree.specs.Tree.{Tree};
 ghost use Rattle.adf_volume.specs.{Fits.FitsOf, Layout.Layout, Walk.FirstFaultOf, declared.types.Types.Types};
-ghost use Rattle.adf_cmd.specs.{Answers.Answer, Answers.most_image_bytes, CachedAnswers.takes_caches};
+ghost use Rattle.adf_cmd.specs.{Answers.Answer, Answers.Checks, Answers.most_image_bytes, CachedAnswers.takes_caches};
 ghost use Rattle.adf_cmd.specs.CheckAnswers.{IsCheckAnswer, IsCheckAnswerTo};
 ghost use Rattle.adf_words.specs.CommandLine.{check};
 ghost use Rattle.adf_runs.specs.{Streams.TakesAtMost, Streams.is_device, Streams.seen, Outcomes.Does};
@@ -90,12 +90,12 @@ pub fn answer_to_input<R: Source>(
     Ok(answer)
 }
 
-/// Checks an image, and writes the verdict.
-pub fn check_image<W: Sink>(alloc: Global, image: &[u8], output: &mut W) -> Outcome
+// Checks an image of one of these types, and writes the verdict.
+fn write_verdict<W: Sink>(alloc: Global, types: Types, image: &[u8], output: &mut W) -> Outcome
     requires { W.has_failed output.old ≡ false }
-    ensures { Does (Answer check image.now) result (seen W.held W.has_failed output.old output.new) }
+    ensures { Does (Checks types image.now) result (seen W.held W.has_failed output.old output.new) }
 {
-    let Ok(answer) = answer_to_image(alloc, Types::Plain, image) else {
+    let Ok(answer) = answer_to_image(alloc, types, image) else {
         return Outcome::NoMemory;
     };
     match write_all(output, answer.line.as_bytes()) {
@@ -103,4 +103,12 @@ pub fn check_image<W: Sink>(alloc: Global, image: &[u8], output: &mut W) -> Outc
         Ok(()) => Outcome::FaultWritten,
         Err(_) => Outcome::WriteFault,
     }
+}
+
+/// Checks an image, and writes the verdict.
+pub fn check_image<W: Sink>(alloc: Global, image: &[u8], output: &mut W) -> Outcome
+    requires { W.has_failed output.old ≡ false }
+    ensures { Does (Answer check image.now) result (seen W.held W.has_failed output.old output.new) }
+{
+    write_verdict(alloc, Types::Plain, image, output)
 }

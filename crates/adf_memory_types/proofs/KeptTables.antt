@@ -1,20 +1,20 @@
 -- The tables of an image that is kept as one without caches are those of the image.
 -- Letters: u what is kept; es, fs tables of entries, bs, ds tables of blocks, before and after; c, d the contents; n, k numbers.
-use Rattle.std.specs.Prelude.{Option, None, Some, min}
+use Rattle.std.specs.Prelude.{min}
 use Rattle.std.proofs.Common.{◌≡◌, ◌<◌, ◌+◌, ◌^◌, ◌∙◌, ℕ, List, ap, arith, length, refl, subst, sym}
 use Rattle.std.proofs.lemmas.Bool.{Decides.nat_tests}
 use Rattle.std.proofs.lemmas.Grind.{common_steps}
 use Rattle.adf_base.specs.declared.hash.Letters.{Letters, TheVariants.Ascii, TheVariants.International}
 use Rattle.adf_names.specs.declared.kind.Kind.{Kind, TheVariants.Ofs, TheVariants.Ffs}
 use Rattle.adf_names.specs.VolumeTypes.{letters_of_type, type_number}
-use Rattle.adf_findings.specs.Survey.{OnSurvey}
-use Rattle.adf_volume.specs.declared.fault.Fault.{Fault}
 use Rattle.adf_volume.specs.declared.types.Types.TheVariants.{WithInternational}
-use Rattle.adf_uncached.specs.{Uncached.IsUncached, declared.images.Uncached.Uncached}
+use Rattle.adf_uncached.specs.declared.images.Uncached.{Uncached}
+use Rattle.adf_cached_files.specs.InPlace.{IsReadInPlace}
+use Rattle.adf_cached_files.proofs.KeptImages.{fits_kept}
 use Rattle.adf_memory.specs.{CheckCalls.FillsTables, Tables.contents_of, Tables.refused_at}
 use Rattle.adf_memory.specs.{declared.tables.Contents.Contents, declared.tables.TableEntry.TableEntry}
 use Rattle.adf_memory_types.specs.{CachedCalls.IsCheckedCached, CachedTables.FillsWithCaches, CachedTables.with_caches}
-use Rattle.adf_memory_types.proofs.KeptImages.{fits_kept, kept_told}
+use Rattle.adf_memory_types.proofs.KeptImages.{kept_told}
 
 letters_cached : (k : ℕ) → letters_of_type (k + 2) ≡ International
 letters_cached k = grind (arith, common_steps, nat_tests)
@@ -37,7 +37,7 @@ small_told v es fs bs ds c n fills zero =
     let all = ap (λ (x : Contents). x.blocks) told in
     (subst (λ k. k < 4) (sym kind) (type_small t.letters t.kind), omega (arith, used, free, all, fills.used zero, fits.0))
 
-module _ (image : List ℕ) (u : Uncached) (held : OnSurvey image (λ w _. IsUncached image w u)) (right : u.fault ≡ None)
+module _ (image : List ℕ) (u : Uncached) (read : IsReadInPlace image u)
     (es fs : List TableEntry) (bs ds : List ℕ) (c : Contents) (n : ℕ) (fills : FillsTables WithInternational u.image.items es fs bs ds c n) where
   pub right_told : (d : Contents) → n ≡ 0 → d ≡ with_caches (length u.blocks.items) c → FillsWithCaches image es fs bs ds d n
   right_told d zero e =
@@ -48,12 +48,12 @@ module _ (image : List ℕ) (u : Uncached) (held : OnSurvey image (λ w _. IsUnc
       let all = ap (λ (x : Contents). x.blocks) told in
       let least : min (length u.blocks.items) c.free < c.free + 1 = grind (arith, common_steps) in
       record {
-        checked = subst (λ k. IsCheckedCached image k n) (sym (ap (λ (x : Contents). x.block) e)) (kept_told image u held right c.block n fills.checked);
-        entries = λ z t l fits. fills.entries z t l (fits_kept image u held t l fits).fits;
-        blocks = λ z t l fits. fills.blocks z t l (fits_kept image u held t l fits).fits;
+        checked = subst (λ k. IsCheckedCached image k n) (sym (ap (λ (x : Contents). x.block) e)) (kept_told image u read c.block n fills.checked);
+        entries = λ z t l fits. fills.entries z t l (fits_kept image u read.kept t l fits.cached).fits;
+        blocks = λ z t l fits. fills.blocks z t l (fits_kept image u read.kept t l fits.cached).fits;
         contents = λ z t l fits.
-            let is = held fits.walk fits.findings fits.survey in
-            e ∙ ap (with_caches (length u.blocks.items)) (fills.contents z t l (fits_kept image u held t l fits).fits)
+            let is = read.kept fits.cached.walk fits.cached.findings fits.cached.survey in
+            e ∙ ap (with_caches (length u.blocks.items)) (fills.contents z t l (fits_kept image u read.kept t l fits.cached).fits)
             ∙ (λ i. with_caches (length (is.blocks i)) (contents_of (is.bytes i) t l));
         letters = λ z. ap (λ (x : Contents). letters_of_type x.kind) e ∙ letters_cached c.kind;
         few = λ z. subst (λ (x : Contents). x.entries + x.data_blocks < x.used) (sym e) (omega (arith, fills.few z));
@@ -65,7 +65,7 @@ module _ (image : List ℕ) (u : Uncached) (held : OnSurvey image (λ w _. IsUnc
   pub wrong_told : ¬ (n ≡ 0) → FillsWithCaches image es fs bs ds c n
   wrong_told not =
       record {
-        checked = kept_told image u held right c.block n fills.checked;
+        checked = kept_told image u read c.block n fills.checked;
         entries = λ zero. absurd (not zero);
         blocks = λ zero. absurd (not zero);
         contents = λ zero. absurd (not zero);
@@ -92,7 +92,3 @@ refused_tables image es bs c b n not told checked =
       refused = λ some. told ∙ ap refused_at (sym block);
       unchanged = λ some. (refl, refl);
     }
-
--- caches have a fault, or none
-pub no_fault : {A : Type 0} (caches : Option Fault) (f : Fault) → caches ≡ None → caches ≡ Some f → A
-no_fault caches f none some = let both : Some f ≡ None = sym some ∙ none in cc

@@ -5,7 +5,8 @@ use Rattle.adf_base.specs.declared.hash.Letters.TheVariants.{International}
 use Rattle.adf_names.specs.VolumeTypes.{letters_of_type}
 use Rattle.adf_tree.specs.Tree.{Tree}
 use Rattle.adf_volume.specs.{Layout.Layout, Walk.Walk, declared.types.Types.TheVariants.WithInternational}
-use Rattle.adf_uncached.specs.{Cached.FitsCached, Uncached.right_blocks, Uncached.uncached}
+use Rattle.adf_uncached.specs.Uncached.{right_blocks, uncached}
+use Rattle.adf_cached_files.specs.InPlace.{FitsInPlace}
 use Rattle.adf_memory.specs.{CheckCalls.FillsTables, Rooms.filled, declared.tables.Contents.Contents, declared.tables.TableEntry.TableEntry}
 use Rattle.adf_memory.specs.Tables.{block_table, contents_of, entry_table, refused_at}
 use Rattle.adf_memory_types.specs.CachedCalls.{IsCheckedCached, is_cached_image}
@@ -36,9 +37,9 @@ cached_contents image w t l = with_caches (length (right_blocks image w)) (conte
 pub record FillsWithCaches (image : List ℕ) (old_entries new_entries : List TableEntry) (old_blocks new_blocks : List ℕ) (c : Contents)
     (n : ℕ) : Type 0 where
   pub checked : IsCheckedCached image c.block n
-  pub entries : n ≡ 0 → (t : Tree) (l : Layout) → FitsCached image t l → new_entries ≡ filled (entry_table t l) old_entries
-  pub blocks : n ≡ 0 → (t : Tree) (l : Layout) → FitsCached image t l → new_blocks ≡ filled (block_table l) old_blocks
-  pub contents : n ≡ 0 → (t : Tree) (l : Layout) (fits : FitsCached image t l) → c ≡ cached_contents image fits.walk t l
+  pub entries : n ≡ 0 → (t : Tree) (l : Layout) → FitsInPlace image t l → new_entries ≡ filled (entry_table t l) old_entries
+  pub blocks : n ≡ 0 → (t : Tree) (l : Layout) → FitsInPlace image t l → new_blocks ≡ filled (block_table l) old_blocks
+  pub contents : n ≡ 0 → (t : Tree) (l : Layout) (fits : FitsInPlace image t l) → c ≡ cached_contents image fits.cached.walk t l
   pub letters : n ≡ 0 → letters_of_type c.kind ≡ International
   pub few : n ≡ 0 → c.entries + c.data_blocks < c.used
   pub used : n ≡ 0 → c.used < c.blocks

@@ -1,15 +1,15 @@
 // The tables of an image of type 0 to 5.
 
-ghost use Rattle.std.specs.Prelude.{◌≡◌, ◌+◌, ◌<◌, ◌^◌, List, None, length, true, ℕ};
-ghost use Rattle.adf_findings.specs.Survey.{OnSurvey};
+ghost use Rattle.std.specs.Prelude.{◌≡◌, ◌+◌, ◌<◌, ◌^◌, List, length, true, ℕ};
+ghost use Rattle.adf_cached_files.specs.InPlace.{IsReadInPlace};
 ghost use Rattle.adf_memory.specs.Tables.{refused_at};
-ghost use Rattle.adf_uncached.specs.Uncached.{IsUncached, is_cached};
+ghost use Rattle.adf_uncached.specs.Uncached.{is_cached};
 ghost use Rattle.adf_memory_types.specs.CachedTables.{FillsAnyTables, FillsWithCaches, with_caches};
 
-use crate::cached::{first_fault, is_cached_image, told_block};
-use adf_blocks::Cause;
+use crate::cached::{is_cached_image, told_block};
+use adf_cached_files::kept_in_place;
 use adf_memory::{Contents, Date, TableEntry, put_index};
-use adf_uncached::{Uncached, without_caches};
+use adf_uncached::Uncached;
 use adf_volume::Types;
 use std::alloc::Global;
 
@@ -51,7 +51,7 @@ fn add_caches(contents: &mut Contents, uncached: &Uncached)
     contents.free -= more;
 }
 
-// Fills the tables of an image that is kept as one without caches, where its caches are right.
+// Fills the tables of an image that is kept as one without caches, where it is read in place.
 fn index_right(
     alloc: Global,
     uncached: &Uncached,
@@ -59,8 +59,7 @@ fn index_right(
     blocks: &mut [u32],
     contents: &mut Contents,
 ) -> u8
-    requires { uncached.now.fault ≡ None }
-    ensures { (image : List ℕ) → OnSurvey image (λ w _. IsUncached image w uncached.now)
+    ensures { (image : List ℕ) → IsReadInPlace image uncached.now
         → FillsWithCaches image entries.old entries.new blocks.old blocks.new contents.new result }
 {
     let types = Types::WithInternational;
@@ -69,27 +68,6 @@ fn index_right(
         add_caches(contents, uncached);
     }
     number
-}
-
-// Fills the tables of an image that is kept as one without caches.
-fn index_kept(
-    alloc: Global,
-    uncached: &Uncached,
-    entries: &mut [TableEntry],
-    blocks: &mut [u32],
-    contents: &mut Contents,
-) -> u8
-    ensures { (image : List ℕ) → OnSurvey image (λ w _. IsUncached image w uncached.now)
-        → FillsWithCaches image entries.old entries.new blocks.old blocks.new contents.new result }
-{
-    match uncached.fault {
-        None => index_right(alloc, uncached, entries, blocks, contents),
-        Some(of_caches) => {
-            let fault = first_fault(alloc, uncached, of_caches);
-            *contents = refused_at(told_block(fault));
-            fault.cause.number()
-        }
-    }
 }
 
 // Fills the tables of an image of a volume with directory caches.
@@ -103,11 +81,11 @@ fn index_cached(
     requires { is_cached image.now ≡ true }
     ensures { FillsWithCaches image.now entries.old entries.new blocks.old blocks.new contents.new result }
 {
-    match without_caches(alloc, image) {
-        Ok(uncached) => index_kept(alloc, &uncached, entries, blocks, contents),
-        Err(_) => {
-            *contents = refused_at(0);
-            Cause::NoMemory.number()
+    match kept_in_place(alloc, image) {
+        Ok(uncached) => index_right(alloc, &uncached, entries, blocks, contents),
+        Err(fault) => {
+            *contents = refused_at(told_block(fault));
+            fault.cause.number()
         }
     }
 }

@@ -4,8 +4,10 @@
 mod cached;
 mod index;
 mod owners;
+mod reading;
 mod verdict;
 
 pub use crate::index::put_index_types;
 pub use crate::owners::owners_of_types;
+pub use crate::reading::read_bytes_types;
 pub use crate::verdict::check_image_types;

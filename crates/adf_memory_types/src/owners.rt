@@ -1,15 +1,15 @@
 // The roles of the blocks of an image of type 0 to 5.
 
-ghost use Rattle.std.specs.Prelude.{◌≡◌, List, None, set, true, ℕ};
-ghost use Rattle.adf_findings.specs.Survey.{OnSurvey};
-ghost use Rattle.adf_uncached.specs.Uncached.{IsUncached, is_cached};
+ghost use Rattle.std.specs.Prelude.{◌≡◌, List, set, true, ℕ};
+ghost use Rattle.adf_cached_files.specs.InPlace.{IsReadInPlace};
+ghost use Rattle.adf_uncached.specs.Uncached.{is_cached};
 ghost use Rattle.adf_memory_types.specs.CachedOwners.{TellsAnyOwners, TellsWithCaches, with_cache_roles};
 
-use crate::cached::{first_fault, is_cached_image};
-use adf_blocks::Cause;
+use crate::cached::is_cached_image;
+use adf_cached_files::kept_in_place;
 use adf_check::OwnerClass;
 use adf_memory::owners_of;
-use adf_uncached::{Uncached, without_caches};
+use adf_uncached::Uncached;
 use adf_volume::Types;
 use std::alloc::Global;
 
@@ -32,10 +32,9 @@ fn put_cache_roles(roles: &mut [u8], blocks: &[u32])
     }
 }
 
-// Writes the roles of an image that is kept as one without caches, where its caches are right.
+// Writes the roles of an image that is kept as one without caches, where it is read in place.
 fn owners_right(alloc: Global, uncached: &Uncached, roles: &mut [u8]) -> u8
-    requires { uncached.now.fault ≡ None }
-    ensures { (image : List ℕ) → OnSurvey image (λ w _. IsUncached image w uncached.now)
+    ensures { (image : List ℕ) → IsReadInPlace image uncached.now
         → TellsWithCaches image roles.old roles.new result }
 {
     let number = owners_of(alloc, Types::WithInternational, &uncached.image, roles);
@@ -45,25 +44,14 @@ fn owners_right(alloc: Global, uncached: &Uncached, roles: &mut [u8]) -> u8
     number
 }
 
-// Writes the roles of an image that is kept as one without caches.
-fn owners_kept(alloc: Global, uncached: &Uncached, roles: &mut [u8]) -> u8
-    ensures { (image : List ℕ) → OnSurvey image (λ w _. IsUncached image w uncached.now)
-        → TellsWithCaches image roles.old roles.new result }
-{
-    match uncached.fault {
-        None => owners_right(alloc, uncached, roles),
-        Some(of_caches) => first_fault(alloc, uncached, of_caches).cause.number(),
-    }
-}
-
 // Writes the roles of an image of a volume with directory caches.
 fn owners_cached(alloc: Global, image: &[u8], roles: &mut [u8]) -> u8
     requires { is_cached image.now ≡ true }
     ensures { TellsWithCaches image.now roles.old roles.new result }
 {
-    match without_caches(alloc, image) {
-        Ok(uncached) => owners_kept(alloc, &uncached, roles),
-        Err(_) => Cause::NoMemory.number(),
+    match kept_in_place(alloc, image) {
+        Ok(uncached) => owners_right(alloc, &uncached, roles),
+        Err(fault) => fault.cause.number(),
     }
 }
 

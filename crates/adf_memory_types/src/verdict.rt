@@ -1,18 +1,19 @@
 // The verdict on an image of type 0 to 5.
 
-ghost use Rattle.std.specs.Prelude.{◌≡◌, List, true, ℕ};
-ghost use Rattle.adf_findings.specs.Survey.{OnSurvey};
+ghost use Rattle.std.specs.Prelude.{◌≡◌, true};
+ghost use Rattle.adf_cached_files.specs.InPlace.{IsKeptOf};
 ghost use Rattle.adf_memory.specs.Verdicts.{refused};
-ghost use Rattle.adf_uncached.specs.Uncached.{IsUncached, is_cached};
+ghost use Rattle.adf_uncached.specs.Uncached.{is_cached};
 ghost use Rattle.adf_memory_types.specs.CachedCalls.{ChecksAnyType, ChecksWithCaches, accepted_cached};
 
 use crate::cached::{is_cached_image, told_block};
 use adf_base::Letters;
 use adf_blocks::Cause;
+use adf_cached_files::check_in_place;
 use adf_check::Counts;
 use adf_memory::{Verdict, check_image};
 use adf_names::type_number;
-use adf_uncached::{Uncached, check_uncached, counts_with_caches, without_caches};
+use adf_uncached::{Uncached, counts_with_caches, without_caches};
 use adf_volume::Types;
 use std::alloc::Global;
 
@@ -47,11 +48,11 @@ fn refused(block: u32) -> Verdict
 }
 
 // Checks an image that is kept as one without caches.
-fn check_kept(alloc: Global, uncached: &Uncached, verdict: &mut Verdict) -> u8
-    ensures { (image : List ℕ) → OnSurvey image (λ w _. IsUncached image w uncached.now)
-        → ChecksWithCaches image verdict.new result }
+fn check_kept(alloc: Global, image: &[u8], uncached: &Uncached, verdict: &mut Verdict) -> u8
+    requires { IsKeptOf image.now uncached.now }
+    ensures { ChecksWithCaches image.now verdict.new result }
 {
-    match check_uncached(alloc, uncached) {
+    match check_in_place(alloc, image, uncached) {
         Ok(volume) => {
             *verdict = accepted_cached(&counts_with_caches(uncached, &volume));
             0
@@ -69,7 +70,7 @@ fn check_cached(alloc: Global, image: &[u8], verdict: &mut Verdict) -> u8
     ensures { ChecksWithCaches image.now verdict.new result }
 {
     match without_caches(alloc, image) {
-        Ok(uncached) => check_kept(alloc, &uncached, verdict),
+        Ok(uncached) => check_kept(alloc, image, &uncached, verdict),
         Err(_) => {
             *verdict = refused(0);
             Cause::NoMemory.number()

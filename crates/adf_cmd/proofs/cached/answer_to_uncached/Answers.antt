@@ -1,4 +1,9 @@
 use Rattle.adf_cmd.proofs.cached.answer_to_uncached.Goals as goal
 
-pub cached_refusal-requires : goal.cached_refusal-requires
-cached_refusal-requires c = c.in-Err.ensures.first c.in_default.not-NoMemory
+pub returns-in-Ok : goal.returns-in-Ok
+returns-in-Ok c =
+    let (t, l, fits) = c.in-Ok.ensures.fits in
+    c.cached_acceptance.ensures c.args.image.now t l c.requires fits
+
+pub returns-in_default : goal.returns-in_default
+returns-in_default c = c.cached_refusal.ensures c.args.image.now (c.in-Err.ensures.first c.in_default.not-NoMemory)

@@ -3,5 +3,4 @@ use Rattle.adf_cmd.proofs.CachedLaws.{cached_refused}
 use Rattle.adf_cmd.proofs.cached.cached_refusal.Goals as goal
 
 pub returns : goal.returns
-returns c = λ image held.
-    cached_refused image (string_bytes c.in_ok-line.line) c.args.uncached.now held c.args.fault c.requires c.in_ok-line.ensures
+returns c = λ image first. cached_refused image (string_bytes c.in_ok-line.line) c.args.fault first c.in_ok-line.ensures

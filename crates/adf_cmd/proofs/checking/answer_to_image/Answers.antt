@@ -1,4 +1,4 @@
-use Rattle.std.proofs.Common.{◌∙◌, inr, sym}
+use Rattle.std.proofs.Common.{◌∙◌, sym}
 use Rattle.adf_cmd.proofs.CachedLaws.{cached_checks, takes_cached}
 use Rattle.adf_cmd.proofs.checking.answer_to_image.Goals as goal
 

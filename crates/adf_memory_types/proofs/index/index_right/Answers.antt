@@ -17,17 +17,17 @@ add_caches-requires-clause-few c =
     (omega (arith, c.if-number-eq0.true))).1
 
 pub returns-then-number-eq0 : goal.returns-then-number-eq0
-returns-then-number-eq0 c = λ image held.
+returns-then-number-eq0 c = λ image read.
     let p = c.put_index-number in
     let fills = subst (λ (v : List ℕ). FillsTables WithInternational v c.args.entries.now p.new.entries c.args.blocks.now p.new.blocks
     p.new.contents p.result) c.deref.ensures.value p.ensures in
-    right_told image c.args.uncached.now held c.requires c.args.entries.now p.new.entries c.args.blocks.now p.new.blocks p.new.contents p.result fills
+    right_told image c.args.uncached.now read c.args.entries.now p.new.entries c.args.blocks.now p.new.blocks p.new.contents p.result fills
     c.add_caches.new.contents (omega (arith, c.if-number-eq0.true)) c.add_caches.ensures
 
 pub returns-else-number-eq0 : goal.returns-else-number-eq0
-returns-else-number-eq0 c = λ image held.
+returns-else-number-eq0 c = λ image read.
     let p = c.put_index-number in
     let fills = subst (λ (v : List ℕ). FillsTables WithInternational v c.args.entries.now p.new.entries c.args.blocks.now p.new.blocks
     p.new.contents p.result) c.deref.ensures.value p.ensures in
-    wrong_told image c.args.uncached.now held c.requires c.args.entries.now p.new.entries c.args.blocks.now p.new.blocks p.new.contents p.result fills
+    wrong_told image c.args.uncached.now read c.args.entries.now p.new.entries c.args.blocks.now p.new.blocks p.new.contents p.result fills
     (λ zero. absurd (omega (arith, c.if-number-eq0.false, zero)))

@@ -7,7 +7,7 @@ use Rattle.adf_memory_types.proofs.KeptImages.{kept_told}
 use Rattle.adf_memory_types.proofs.owners.owners_right.Goals as goal
 
 pub returns-then-number-eq0 : goal.returns-then-number-eq0
-returns-then-number-eq0 c = λ image held.
+returns-then-number-eq0 c = λ image read.
     let p = c.owners_of-number in
     let u = c.args.uncached.now in
     let old = c.args.roles.now in
@@ -16,9 +16,9 @@ returns-then-number-eq0 c = λ image held.
     let fills = subst (λ (v : List ℕ). TellsOwners WithInternational v old plain p.result) c.deref.ensures.value p.ensures in
     let (b, checked) = fills.checked in
     record {
-      checked = (b, kept_told image u held c.requires b p.result checked);
+      checked = (b, kept_told image u read b p.result checked);
       roles = λ also w fs survey.
-          let is = held w fs survey in
+          let is = read.kept w fs survey in
           let here = subst (λ (v : List ℕ). TellsOwners WithInternational v old plain p.result) is.bytes fills in (
             plain,
             subst (λ n. TellsOwners WithInternational (uncached image w) old plain n) zero here,
@@ -28,13 +28,13 @@ returns-then-number-eq0 c = λ image held.
     }
 
 pub returns-else-number-eq0 : goal.returns-else-number-eq0
-returns-else-number-eq0 c = λ image held.
+returns-else-number-eq0 c = λ image read.
     let p = c.owners_of-number in
     let u = c.args.uncached.now in
     let fills = subst (λ (v : List ℕ). TellsOwners WithInternational v c.args.roles.now p.new.roles p.result) c.deref.ensures.value p.ensures in
     let (b, checked) = fills.checked in
     record {
-      checked = (b, kept_told image u held c.requires b p.result checked);
+      checked = (b, kept_told image u read b p.result checked);
       roles = λ zero. absurd (omega (arith, c.if-number-eq0.false, zero));
       unchanged = fills.unchanged;
     }

@@ -7,7 +7,7 @@ use Rattle.adf_memory_types.proofs.KeptImages.{memory_told}
 use Rattle.adf_memory_types.proofs.verdict.check_cached.Goals as goal
 
 pub returns-in-Ok : goal.returns-in-Ok
-returns-in-Ok c = c.check_kept.ensures c.args.image.now c.in-Ok.ensures
+returns-in-Ok c = c.check_kept.ensures
 
 pub returns-in-Err : goal.returns-in-Err
 returns-in-Err c =
