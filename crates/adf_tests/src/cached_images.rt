@@ -3,8 +3,8 @@
 
 use crate::images::{Image, built};
 use adf_base::{seal, set_word};
-use adf_memory::{Contents, Date, TableEntry, Verdict, find_entry, read_bytes};
-use adf_memory_types::{check_image_types, owners_of_types, put_index_types};
+use adf_memory::{Contents, Date, TableEntry, Verdict, find_entry};
+use adf_memory_types::{check_image_types, owners_of_types, put_index_types, read_bytes_types};
 use adf_names::letters_of_type;
 use std::alloc::Global;
 
@@ -77,6 +77,15 @@ fn volumes_with_caches_have_verdicts(rt: HostRuntime) {
     assert!(rt; told(rt.alloc(), &[(5, 3, 0)]) == (4, [0, 0, 0, 8], 0));
     assert!(rt; told(rt.alloc(), &[(9, 1, 0x3F38)]) == (22, [0, 0, 0, 5], 0));
     assert!(rt; told(rt.alloc(), &[(9, 1, 0x3F20)]) == (21, [0, 0, 0, 6], 0));
+}
+
+// Where the root names the first data block as the bitmap page, that is taken twice; so for both calls.
+#[test]
+fn a_page_is_no_data_block(rt: HostRuntime) {
+    assert!(rt; told(rt.alloc(), &[(8, 79, 3)]) == (6, [0, 0, 0, 3], 0));
+    let tables = indexed(rt.alloc(), &cached(rt.alloc(), &[(8, 79, 3)]));
+    assert!(rt; (tables.cause, tables.contents.block) == (6, 3));
+    assert!(rt; (tables.entries[0].header, tables.blocks[0]) == (9, 9));
 }
 
 // Type 2 has no caches, so block 5 is lost; there is no type 6.
@@ -172,9 +181,15 @@ fn files_beside_caches_are_found_and_read(rt: HostRuntime) {
     let letters = letters_of_type(told.contents.kind);
     let number = find_entry(rt.alloc(), letters, &told.entries[..1], b"A", &mut node);
     let mut room = [9; 4];
-    let count = read_bytes(&image, &told.entries, &told.blocks, node, 486, &mut room);
+    let count = read_bytes_types(&image, &told.entries, &told.blocks, node, 486, &mut room);
     assert!(rt; (number, node, count) == (0, 1, 3));
     assert!(rt; room == [0x41, 0x41, 0x41, 9]);
+    let mut whole = [9; 490];
+    let count = read_bytes_types(&image, &told.entries, &told.blocks, node, 0, &mut whole);
+    let mut bytes = [0x41; 490];
+    bytes[489] = 9;
+    assert!(rt; count == 489);
+    assert!(rt; whole == bytes);
 }
 
 // The roles of boot blocks, header, data, cache, a free block, root and page; behind them is no block.

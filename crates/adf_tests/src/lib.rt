@@ -8,6 +8,8 @@ mod cached_images;
 #[cfg(test)]
 mod disk_tables;
 #[cfg(test)]
+mod forged_pages;
+#[cfg(test)]
 mod found_files;
 #[cfg(test)]
 mod found_links;
@@ -15,6 +17,8 @@ mod found_links;
 mod images;
 #[cfg(test)]
 mod images_in_memory;
+#[cfg(test)]
+mod laid_caches;
 #[cfg(test)]
 mod names;
 #[cfg(test)]

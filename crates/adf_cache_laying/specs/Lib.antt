@@ -1,0 +1,2 @@
+-- directory caches that are laid into a volume
+pub mod LaidCaches
