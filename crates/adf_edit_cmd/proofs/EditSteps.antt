@@ -1,9 +1,8 @@
 -- Edits one after the other, and the bytes of their files.
-use Rattle.std.proofs.Common.{◌≡◌, ◌<◌, ◌≤◌, ◌+◌, ℕ, suc, List, [], ◌∷◌, ◌++◌, take, Option, Some, None, Result, Ok, Err, IfErr, length, map, drop, get_or, nat_lt}
+use Rattle.std.proofs.Common.{◌≡◌, ◌<◌, ◌≤◌, ◌+◌, ℕ, suc, List, [], ◌∷◌, ◌++◌, take, Option, Some, None, Result, Ok, Err, IfErr, IfOk, length, map, drop, get_or, nat_lt}
 use Rattle.std.proofs.Common.{slice_index, true, false, ap, refl, sym, subst, inl, inr, arith, ◌∙◌}
 use Rattle.std.proofs.{Math.Seq.drop-cons, Math.Seq.take-append_seam, lemmas.List.drop_all, lemmas.List.get_or-take, lemmas.List.length-map}
 use Rattle.std.proofs.{lemmas.Bool.and_parts, lemmas.Bool.eqb-true, lemmas.Grind.common_steps}
-use Rattle.std.specs.Option.{unwrap_or}
 use Rattle.adf_boot_blocks.proofs.OtherBoots.{other_fits_by}
 use Rattle.adf_boot_blocks.specs.BootBlocks.{IsOtherBoot, begins_with_dos, is_bootable}
 use Rattle.adf_build.specs.{Building.IsBuildable, Laid.volume, Plan.planned}
@@ -12,8 +11,8 @@ use Rattle.adf_edits.specs.{Outline.OutlineValue, Outline.outline_of, TreeFaults
 use Rattle.adf_base.specs.{Words.block, declared.hash.Letters.Letters}
 use Rattle.adf_tree.specs.Tree.{Tree}
 use Rattle.adf_volume.specs.{Fits.FitsBy, Layout.Layout}
-use Rattle.adf_edit_cmd.specs.Edited.{IsLaidOver, IsShallow, StopsInput, StopsOn, StopsTree, booted, next_outline, outline_after}
-use Rattle.adf_edit_cmd.specs.Script.{IsScript, ScriptValue, behind_file, behind_files, bytes_taken, files_len}
+use Rattle.adf_edit_cmd.specs.Edited.{IsByScript, IsEdited, IsLaidOver, IsShallow, StopsInput, StopsOn, StopsTree, booted, next_outline, outline_after}
+use Rattle.adf_edit_cmd.specs.Script.{IsScript, ScriptValue, behind_file, behind_files, bytes_taken, files_len, letters_by}
 use Rattle.adf_edit_cmd.specs.declared.script.{BootEdit.BootEdit, BootEdit.TheVariants.Install, Settings.Settings}
 use Rattle.adf_edit_cmd.specs.declared.stop.Stop.{Stop, TheVariants.Line, TheVariants.NoRoom}
 
@@ -124,6 +123,13 @@ laid_over boot t n image old new room is fits other put starts = record {
   starts = starts (volume_begins old t (planned t n) fits);
 }
 
+-- what a script makes of an image its input gives
+pub edits_input : {T : Type 0} (r : Result T Stop) (items : T → List ℕ) (input : List ℕ) (s : ScriptValue) (given image : List ℕ)
+    → IsScript input s given → behind_files s.edits given ≡ Some image → IfOk r (λ new. IsByScript s given image (items new))
+    → IfOk r (λ new. IsEdited input (items new))
+edits_input (Ok new) items input s given image is files h = (s, given, image, record { script = is; files = files }, h)
+edits_input (Err stop) items input s given image is files h = tt
+
 -- what stops a script on an image stops its input
 pub stops_input : {T : Type 0} (r : Result T Stop) (input : List ℕ) (s : ScriptValue) (given image : List ℕ) → IsScript input s given
     → behind_files s.edits given ≡ Some image → IfErr r (StopsOn s given image) → IfErr r (StopsInput input)
@@ -133,7 +139,7 @@ stops_input (Err stop) input s given image is files h = inr (inr (s, given, imag
 -- the tree after all edits has no room by the letters of the new volume
 pub room_stop : (es : List Edit) (asked : Settings) (given : List ℕ) (t : Tree) (n : ℕ) (o p : OutlineValue) (k : ℕ) (f : TreeFault)
     → IsShallow t → o ≡ outline_of t → outline_after 1 (map edit_value es) given o ≡ Ok p → k ≡ length es
-    → IsTreeFaultBy (unwrap_or asked.letters t.letters) p.additions f
+    → IsTreeFaultBy (letters_by asked.letters t.letters) p.additions f
     → StopsTree (record { edits = map edit_value es; settings = asked }) given t n (NoRoom (k + 1) f)
 room_stop es asked given t n o p k f shallow is made lines h =
     let number : k + 1 ≡ length (map edit_value es) + 1 = ap (λ m. m + 1) (lines ∙ sym (length-map es edit_value)) in

@@ -8,3 +8,5 @@ pub mod TakenLines
 pub mod OrderedRuns
 -- edits in the lines of a file
 pub mod FiledLines
+-- the disk of an image with directory caches
+pub mod CachedSteps

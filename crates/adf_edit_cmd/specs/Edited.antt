@@ -9,13 +9,15 @@ use Rattle.adf_edits.specs.{Edits.EditValue, Edits.edited, Paths.has_deep, decla
 use Rattle.adf_edits.specs.{Outline.OutlineValue, Outline.outline_of, Outline.tree_of_outline_by, TreeFaults.IsTreeFaultBy}
 use Rattle.adf_tree.specs.{Additions.AllHaveRoomBy, Tree.Tree}
 use Rattle.adf_volume.specs.{Fits.FitsBy, Layout.Layout, Types.letters_for, Walk.FirstFaultBy, declared.types.Types.TheVariants.WithInternational}
-use Rattle.std.specs.Option.{unwrap_or}
+use Rattle.adf_cache_laying.specs.LaidCaches.{HasCaches}
+use Rattle.adf_uncached.specs.{Cached.FirstFaultCached, Cached.FitsCached, Uncached.is_cached}
 use Rattle.adf_edit_cmd.specs.{Script.IsScript, Script.IsScriptFault, Script.ScriptValue, Script.behind_file, Script.behind_files, Script.files_len}
+use Rattle.adf_edit_cmd.specs.Script.{caches_by, letters_by}
 use Rattle.adf_edit_cmd.specs.Manifests.{IsManifestBy, IsManifestFault, is_manifest}
 use Rattle.adf_edit_cmd.specs.declared.{old_disk.Old.Old, old_disk.TheConstants.NO_BOOT}
 use Rattle.adf_edit_cmd.specs.declared.script.BootEdit.{BootEdit, TheVariants.Clear, TheVariants.Install}
 use Rattle.adf_edit_cmd.specs.declared.stop.Stop.{Stop}
-use Rattle.adf_edit_cmd.specs.declared.stop.Stop.TheVariants.{Short, Image, TooDeep, Line, NoRoom, Full, NoMemory}
+use Rattle.adf_edit_cmd.specs.declared.stop.Stop.TheVariants.{Short, Image, TooDeep, Line, NoRoom, Full, NoCacheRoom, NoMemory}
 
 -- an outline goes on, or the edit of line n cannot be applied
 abbrev pub next_outline : ℕ → Result OutlineValue EditFault → (OutlineValue → Result OutlineValue Stop) → Result OutlineValue Stop
@@ -55,7 +57,7 @@ IsDepthStop t _ = ⊥
 
 -- the letters of the new volume: those that the script asks for, or else those of the old one
 abbrev pub letters_after : ScriptValue → Tree → Letters
-letters_after s t = unwrap_or s.settings.letters t.letters
+letters_after s t = letters_by s.settings.letters t.letters
 
 -- a volume of n blocks with the boot blocks that a script asks for: the standard code or none, and else those of the old image behind the
 -- type, as they stand, but where that is another, with a checksum that is right if theirs was
@@ -98,26 +100,34 @@ StopsTree s given t n stop =
     × (IsRoomStop (letters_after s t) s o stop
     ⊎ (AllHaveRoomBy (letters_after s t) o.additions × IsFullStop (tree_of_outline_by (letters_after s t) o) n stop)))))
 
--- the disk that is edited: its tree, how many blocks it has, and bytes that begin with its boot blocks
+-- the disk that is edited: its tree, how many blocks it has, bytes that begin with its boot blocks, and whether its directories have caches
 pub record OldDisk : Type 0 where
   pub tree : Tree
   pub blocks : ℕ
   pub boot : List ℕ
+  pub caches : Bool
 
 -- as the code has it: a tree, and the letters by which it is meant
 abbrev pub disk_of : Old → OldDisk
-disk_of o = record { tree = record o.tree { letters = o.letters }; blocks = o.blocks; boot = o.boot.now }
+disk_of o = record { tree = record o.tree { letters = o.letters }; blocks = o.blocks; boot = o.boot.now; caches = o.caches }
+
+-- an image is a volume of this tree: with directory caches, which are right, or of types 0 to 3
+abbrev pub IsVolumeWith : (caches : Bool) → List ℕ → Tree → Type 0
+IsVolumeWith true image t = (l : Layout) × FitsCached image t l
+IsVolumeWith false image t = IsVolume image t
 
 -- it is that of an image
 pub record IsOfImage (image : List ℕ) (old : OldDisk) : Type 0 where
-  pub volume : IsVolume image old.tree
+  pub volume : IsVolumeWith (is_cached image) image old.tree
   pub size : old.blocks ≡ blocks image
   pub boot : old.boot ≡ image
+  pub caches : old.caches ≡ is_cached image
 
 -- it is that of a manifest, which has no boot blocks
 pub record IsOfManifest (text : List ℕ) (old : OldDisk) : Type 0 where
   pub manifest : IsManifestBy text old.tree old.blocks
   pub boot : old.boot ≡ NO_BOOT
+  pub caches : old.caches ≡ false
 
 -- it is that of an image, or of a manifest in its place
 abbrev pub IsOldBy : (manifest : Bool) → List ℕ → OldDisk → Type 0
@@ -127,20 +137,54 @@ IsOldBy false image old = IsOfImage image old
 abbrev pub IsOld : List ℕ → OldDisk → Type 0
 IsOld image old = IsOldBy (is_manifest image) image old
 
+-- why an image is none, with directory caches or without
+abbrev pub IsCachedFault : List ℕ → Stop → Type 0
+IsCachedFault image (Image f) = FirstFaultCached image f.block f.cause
+IsCachedFault image NoMemory = Unit {0}
+IsCachedFault image _ = ⊥
+
+abbrev pub IsFaultWith : (caches : Bool) → List ℕ → Stop → Type 0
+IsFaultWith true image stop = IsCachedFault image stop
+IsFaultWith false image stop = IsImageFault image stop
+
 -- why there is none
 abbrev pub IsOldFaultBy : (manifest : Bool) → List ℕ → Stop → Type 0
 IsOldFaultBy true text stop = IsManifestFault text stop
-IsOldFaultBy false image stop = IsImageFault image stop
+IsOldFaultBy false image stop = IsFaultWith (is_cached image) image stop
 
 abbrev pub IsOldFault : List ℕ → Stop → Type 0
 IsOldFault image stop = IsOldFaultBy (is_manifest image) image stop
 
--- the new image is laid for the tree of a disk after all edits, or why there is none
-abbrev pub IsByDisk : ScriptValue → List ℕ → OldDisk → List ℕ → Type 0
-IsByDisk s given old new = IsByTree s given old.tree old.blocks old.boot new
+-- a volume without directory caches is laid for the tree of a disk after all edits, or why there is none
+abbrev pub IsPlainByDisk : ScriptValue → List ℕ → OldDisk → List ℕ → Type 0
+IsPlainByDisk s given old plain = IsByTree s given old.tree old.blocks old.boot plain
 
+abbrev pub StopsPlain : ScriptValue → List ℕ → OldDisk → Stop → Type 0
+StopsPlain s given old stop = StopsTree s given old.tree old.blocks stop
+
+-- whether the new volume has directory caches: if the script asks for them, or asks of letters nothing and the old one has them
+abbrev pub has_caches_after : ScriptValue → OldDisk → Bool
+has_caches_after s old = caches_by s.settings.letters old.caches
+
+-- the new image is a volume with directory caches, or the volume itself
+abbrev pub IsCachedIf : (caches : Bool) → (plain new : List ℕ) → Type 0
+IsCachedIf true plain new = HasCaches plain new
+IsCachedIf false plain new = new ≡ plain
+
+-- why a volume gets no caches, if it is to have them
+abbrev pub IsCacheStop : (caches : Bool) → Stop → Type 0
+IsCacheStop true NoCacheRoom = Unit {0}
+IsCacheStop true NoMemory = Unit {0}
+IsCacheStop _ _ = ⊥
+
+-- the new image is laid for the tree of a disk after all edits, with directory caches if it is to have them
+abbrev pub IsByDisk : ScriptValue → List ℕ → OldDisk → List ℕ → Type 0
+IsByDisk s given old new = (plain : List ℕ) × IsPlainByDisk s given old plain × IsCachedIf (has_caches_after s old) plain new
+
+-- why there is none: what stops the volume, or its caches
 abbrev pub StopsDisk : ScriptValue → List ℕ → OldDisk → Stop → Type 0
-StopsDisk s given old stop = StopsTree s given old.tree old.blocks stop
+StopsDisk s given old stop =
+    StopsPlain s given old stop ⊎ ((plain : List ℕ) × IsPlainByDisk s given old plain × IsCacheStop (has_caches_after s old) stop)
 
 -- it is that of the image, or of the manifest in its place
 abbrev pub IsByScript : ScriptValue → List ℕ → List ℕ → List ℕ → Type 0

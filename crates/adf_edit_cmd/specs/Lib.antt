@@ -8,3 +8,5 @@ pub mod Changing
 pub mod ScriptFile
 pub mod Answers
 pub mod Stops
+-- the disk of an image with directory caches
+pub mod CachedDisks

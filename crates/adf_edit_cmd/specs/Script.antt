@@ -1,10 +1,12 @@
 -- Scripts. `left` is what is left of a text from a line on, es are edits.
-use Rattle.std.specs.Prelude.{◌≡◌, ◌≤◌, ◌⊎◌, ◌+◌, ℕ, Bool, List, [], ◌∷◌, ◌++◌, Option, Some, None, Result, Ok, Err, codes, drop, if◌then◌else◌, length, nat_lt}
+use Rattle.std.specs.Prelude.{◌≡◌, ◌≤◌, ◌⊎◌, ◌+◌, ℕ, Bool, List, [], ◌∷◌, ◌++◌, Option, Some, None, Result, Ok, Err, codes, drop, false, if◌then◌else◌, length, nat_lt, true}
 use Rattle.std.specs.{Prelude.is_some, Prelude.option_and_then, Str.bytes_eq}
 use Rattle.adf_base.specs.declared.hash.Letters.{Letters, TheVariants.Ascii, TheVariants.International}
 use Rattle.adf_edits.specs.{Edits.EditValue, Edits.edit_value, Edits.file, Edits.replace, declared.edits.Edit.Edit}
 use Rattle.adf_plans.specs.PlanTexts.{behind_line, first_line}
 use Rattle.adf_edit_cmd.specs.{Lines.SaysEdit, declared.script.Settings.Settings, declared.script.TheConstants.MOST_LINES}
+use Rattle.adf_edit_cmd.specs.declared.script.LettersEdit.{LettersEdit, TheVariants.Ascii as ToAscii, TheVariants.Cached as ToCached}
+use Rattle.adf_edit_cmd.specs.declared.script.LettersEdit.TheVariants.{International as ToInternational}
 use Rattle.adf_edit_cmd.specs.declared.script.BootEdit.{BootEdit, TheVariants.Clear, TheVariants.Install}
 use Rattle.adf_edit_cmd.specs.declared.stop.Stop.{Stop, TheVariants.BadLine, TheVariants.NoMemory}
 
@@ -22,11 +24,26 @@ AreEdits left (e ∷ es) end = SaysEdit (first_line left) e × AreEdits (behind_
 abbrev pub is_end : List ℕ → Bool
 is_end line = bytes_eq line (codes "end")
 
--- the letters that a line asks for
-abbrev pub letters_asked : List ℕ → Option Letters
+-- what a line asks of letters and caches
+abbrev pub letters_asked : List ℕ → Option LettersEdit
 letters_asked line =
-    if bytes_eq line (codes "letters ascii") then Some Ascii
-    else if bytes_eq line (codes "letters international") then Some International else None
+    if bytes_eq line (codes "letters ascii") then Some ToAscii
+    else if bytes_eq line (codes "letters international") then Some ToInternational
+    else if bytes_eq line (codes "letters cached") then Some ToCached else None
+
+-- the letters of the new volume: those that are asked for, or else those of the old one
+abbrev pub letters_by : Option LettersEdit → Letters → Letters
+letters_by None old = old
+letters_by (Some ToAscii) old = Ascii
+letters_by (Some ToInternational) old = International
+letters_by (Some ToCached) old = International
+
+-- whether the directories of the new volume have caches: if that is asked for, or else as those of the old one
+abbrev pub caches_by : Option LettersEdit → Bool → Bool
+caches_by None old = old
+caches_by (Some ToAscii) old = false
+caches_by (Some ToInternational) old = false
+caches_by (Some ToCached) old = true
 
 -- what a line asks for the boot blocks
 abbrev pub boot_asked : List ℕ → Option BootEdit
@@ -34,14 +51,14 @@ boot_asked line =
     if bytes_eq line (codes "boot install") then Some Install else if bytes_eq line (codes "boot clear") then Some Clear else None
 
 -- settings with these letters, or this for the boot blocks, unless a line before set them
-abbrev pub with_letters : Settings → Letters → Option Settings
+abbrev pub with_letters : Settings → LettersEdit → Option Settings
 with_letters s letters = if is_some s.letters then None else Some (record { letters = Some letters; boot = s.boot })
 
 abbrev pub with_boot_edit : Settings → BootEdit → Option Settings
 with_boot_edit s boot = if is_some s.boot then None else Some (record { letters = s.letters; boot = Some boot })
 
 -- settings and what a line asks for: letters, or something for the boot blocks
-abbrev pub with_asked : Settings → Option Letters → Option BootEdit → Option Settings
+abbrev pub with_asked : Settings → Option LettersEdit → Option BootEdit → Option Settings
 with_asked s (Some letters) boot = with_letters s letters
 with_asked s None (Some boot) = with_boot_edit s boot
 with_asked s None None = None

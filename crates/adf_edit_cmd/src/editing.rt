@@ -5,15 +5,20 @@ ghost use Rattle.adf_blocks.specs.Sizes.{is_allowed};
 ghost use Rattle.adf_boot_blocks.specs.{BootBlocks.IsOtherBoot, BootBlocks.begins_with_dos, BootBlocks.is_bootable};
 ghost use Rattle.adf_boot_blocks.specs.declared.boot.TheConstants.{BOOT_LEN};
 ghost use Rattle.adf_edits.specs.{Edits.edit_value, Edits.edited, Outline.outline_of};
-ghost use Rattle.adf_edit_cmd.specs.Edited.{IsByDisk, IsByScript, IsDepthStop, IsEdited, IsFullStop, IsLaidOver};
+ghost use Rattle.adf_edit_cmd.specs.Edited.{IsByDisk, IsByScript, IsCacheStop, IsCachedIf, IsDepthStop, IsEdited, IsFullStop, IsLaidOver};
+ghost use Rattle.adf_edit_cmd.specs.Edited.{IsPlainByDisk, StopsPlain};
 ghost use Rattle.adf_edit_cmd.specs.Edited.{IsLineStop, IsShallow, StopsDisk, StopsInput, StopsOn, booted, disk_of, outline_after};
 ghost use Rattle.adf_edit_cmd.specs.declared.script.BootEdit.TheVariants.{Install};
 
 use crate::old_disk::{Old, old_disk};
-use crate::script::{BootEdit, Script, behind_file, behind_files, files_len, read_script};
+use crate::script::{
+    BootEdit, Script, behind_file, behind_files, caches_after, files_len, letters_after,
+    read_script,
+};
 use crate::stop::Stop;
 use adf_boot_blocks::{STANDARD_CODE, clear, install, restore};
 use adf_build::{BuildFault, build_types};
+use adf_cache_laying::lay_caches;
 use adf_edits::{Edit, EditFault, IndexedOutline, Outline, OutlineFault, TreeFault};
 use adf_tree::Tree;
 use adf_volume::Types;
@@ -106,14 +111,9 @@ fn edit_all_indexed(
     Ok(outline)
 }
 
-// Whether an edit moves something.
-fn is_move(edit: &Edit) -> bool {
-    matches!(edit, Edit::Move(_, _))
-}
-
-// Whether edits are applied by an index: many of them, and no move, since the index is made anew where a directory was moved.
+// Whether edits are applied by an index: many of them.
 fn pays_index(edits: &[Edit]) -> bool {
-    FEWEST_INDEXED <= edits.len() && !edits.iter().any(|edit| is_move(edit))
+    FEWEST_INDEXED <= edits.len()
 }
 
 // Applies edits; many of them by an index, which takes the time of some.
@@ -192,16 +192,16 @@ fn outline_of(alloc: Global, tree: &Tree) -> Result<Outline, Stop>
     }
 }
 
-// The image of an old disk after a script.
+// The image of an old disk after a script, without directory caches.
 fn by_old(alloc: Global, old: &Old<'_>, script: Script, given: &[u8]) -> Result<Vec<u8>, Stop>
     requires allowed { is_allowed old.now.blocks ≡ true }
     requires boot { BOOT_LEN ≤ length old.now.boot.now }
-    ensures ok { IfOk result (λ new. IsByDisk script given.now (disk_of old.now) new.items) }
-    ensures stop { IfErr result (StopsDisk script given.now (disk_of old.now)) }
+    ensures ok { IfOk result (λ new. IsPlainByDisk script given.now (disk_of old.now) new.items) }
+    ensures stop { IfErr result (StopsPlain script given.now (disk_of old.now)) }
 {
     let line = script.edits.len() + 1;
     let settings = script.settings;
-    let letters = settings.letters.unwrap_or(old.letters);
+    let letters = letters_after(settings.letters, old.letters);
     let outline = outline_of(alloc, &old.tree)?;
     let outline = edit_outline(alloc, outline, script.edits, given)?;
     match outline.finish_by(alloc, letters) {
@@ -211,13 +211,43 @@ fn by_old(alloc: Global, old: &Old<'_>, script: Script, given: &[u8]) -> Result<
     }
 }
 
+// A volume, with a cache for each directory if it is to have them.
+fn with_caches(alloc: Global, volume: Vec<u8>, has_caches: bool) -> Result<Vec<u8>, Stop>
+    ensures ok { IfOk result (λ new. IsCachedIf has_caches volume.items new.items) }
+    ensures stop { IfErr result (IsCacheStop has_caches) }
+{
+    if !has_caches {
+        return Ok(volume);
+    }
+    match lay_caches(alloc, &volume) {
+        Ok(Some(image)) => Ok(image),
+        Ok(None) => Err(Stop::NoCacheRoom),
+        Err(_) => Err(Stop::NoMemory),
+    }
+}
+
+// The image of an old disk after a script.
+fn by_disk(alloc: Global, old: &Old<'_>, script: Script, given: &[u8]) -> Result<Vec<u8>, Stop>
+    requires allowed { is_allowed old.now.blocks ≡ true }
+    requires boot { BOOT_LEN ≤ length old.now.boot.now }
+    ensures ok { IfOk result (λ new. IsByDisk script given.now (disk_of old.now) new.items) }
+    ensures stop { IfErr result (StopsDisk script given.now (disk_of old.now)) }
+{
+    let has_caches = caches_after(script.settings.letters, old.caches);
+    let plain = by_old(alloc, old, script, given)?;
+    match with_caches(alloc, plain, has_caches) {
+        Ok(new) => Ok(new),
+        Err(stop) => Err(stop),
+    }
+}
+
 // The image after a script.
 fn by_script(alloc: Global, script: Script, given: &[u8], image: &[u8]) -> Result<Vec<u8>, Stop>
     ensures ok { IfOk result (λ new. IsByScript script given.now image.now new.items) }
     ensures stop { IfErr result (StopsOn script given.now image.now) }
 {
     let old = old_disk(alloc, image)?;
-    match by_old(alloc, &old, script, given) {
+    match by_disk(alloc, &old, script, given) {
         Ok(new) => Ok(new),
         Err(stop) => Err(stop),
     }

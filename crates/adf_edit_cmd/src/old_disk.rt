@@ -3,8 +3,14 @@
 ghost use Rattle.std.specs.Prelude.{◌≡◌, ◌≤◌, IfOk, IfErr, length, true};
 ghost use Rattle.adf_blocks.specs.Sizes.{blocks, is_allowed};
 ghost use Rattle.adf_boot_blocks.specs.declared.boot.TheConstants.{BOOT_LEN};
+ghost use Rattle.adf_findings.specs.Survey.{OnSurvey};
 ghost use Rattle.adf_tree.specs.Tree.{Tree as TreeValue};
-ghost use Rattle.adf_edit_cmd.specs.Edited.{IsImageFault, IsOfImage, IsOfManifest, IsOld, IsOldFault, IsVolume, disk_of};
+ghost use Rattle.adf_edit_cmd.specs.Edited.{IsCachedFault, IsFaultWith, IsImageFault, IsOfImage, IsOfManifest, IsOld, IsOldFault, IsVolume};
+ghost use Rattle.adf_edit_cmd.specs.Edited.{IsVolumeWith, disk_of};
+ghost use Rattle.adf_edit_cmd.specs.CachedDisks.{IsUncachedFault, IsUncachedTree};
+ghost use Rattle.adf_uncached.specs.Uncached.{IsUncached, is_cached};
+ghost use Rattle.adf_uncached.specs.Verdict.{FitsUncached};
+ghost use Rattle.adf_volume.specs.Layout.{Layout};
 ghost use Rattle.adf_edit_cmd.specs.Manifests.{IsManifestFault};
 
 use crate::manifests::{is_manifest, manifest_tree};
@@ -14,20 +20,22 @@ use adf_blocks::Cause;
 use adf_boot_blocks::BOOT_LEN;
 use adf_check::{Checked, check_by};
 use adf_tree::Tree;
+use adf_uncached::{Uncached, check_uncached, is_cached, without_caches};
 use adf_volume::Types;
 use std::alloc::Global;
 
 /// The boot blocks of the disk of a manifest.
 pub const NO_BOOT: [u8; BOOT_LEN] = [0; BOOT_LEN];
 
-/// The disk that is edited: its tree, the letters by which it is meant, how many blocks it has, and bytes that begin with its
-/// boot blocks.
+/// The disk that is edited: its tree, the letters by which it is meant, how many blocks it has, bytes that begin with its boot
+/// blocks, and whether its directories have caches.
 #[derive(Drop)]
 pub struct Old<'a> {
     pub tree: Tree,
     pub letters: Letters,
     pub blocks: u32,
     pub boot: &'a [u8],
+    pub caches: bool,
 }
 
 // The volume of an image of types 0 to 3.
@@ -59,20 +67,89 @@ fn tree_in(alloc: Global, image: &[u8]) -> Result<(Tree, u32), Stop>
     }
 }
 
+// An image with directory caches, as one without.
+fn uncached_of(alloc: Global, image: &[u8]) -> Result<Uncached, Stop>
+    requires { is_cached image.now ≡ true }
+    ensures uncached { OnSurvey image.now (λ w _. IfOk result (IsUncached image.now w)) }
+    ensures memory { IfErr result (IsCachedFault image.now) }
+{
+    match without_caches(alloc, image) {
+        Ok(uncached) => Ok(uncached),
+        Err(_) => Err(Stop::NoMemory),
+    }
+}
+
+// The volume of an image with directory caches, as one without.
+fn uncached_volume<'a>(alloc: Global, uncached: &'a Uncached) -> Result<Checked<'a>, Stop>
+    ensures image { IfOk result (λ v. v ≡ uncached.now.image.items) }
+    ensures fits { IfOk result (λ v. (t : TreeValue) × (l : Layout) × FitsUncached uncached.now.fault v t l) }
+    ensures refused { IfErr result (IsUncachedFault uncached.now) }
+{
+    match check_uncached(alloc, uncached) {
+        Ok(volume) => Ok(volume),
+        Err(fault) => match fault.cause {
+            Cause::NoMemory => Err(Stop::NoMemory),
+            _ => Err(Stop::Image(fault)),
+        },
+    }
+}
+
+// The tree of an image with directory caches, as one without, and the number of its blocks.
+fn uncached_tree(alloc: Global, uncached: &Uncached) -> Result<(Tree, u32), Stop>
+    ensures tree { IfOk result (λ r. IsUncachedTree uncached.now r.0) }
+    ensures size { IfOk result (λ r. r.1 ≡ blocks uncached.now.image.items) }
+    ensures refused { IfErr result (IsUncachedFault uncached.now) }
+{
+    let volume = uncached_volume(alloc, uncached)?;
+    let count = volume.counts().blocks;
+    match volume.to_tree(alloc) {
+        Ok(tree) => Ok((tree, count)),
+        Err(_) => Err(Stop::NoMemory),
+    }
+}
+
+// The tree of an image with directory caches, and the number of its blocks.
+fn cached_tree(alloc: Global, image: &[u8]) -> Result<(Tree, u32), Stop>
+    requires { is_cached image.now ≡ true }
+    ensures tree { IfOk result (λ r. IsVolumeWith true image.now r.0) }
+    ensures size { IfOk result (λ r. r.1 ≡ blocks image.now) }
+    ensures refused { IfErr result (IsCachedFault image.now) }
+{
+    let uncached = uncached_of(alloc, image)?;
+    match uncached_tree(alloc, &uncached) {
+        Ok(told) => Ok(told),
+        Err(stop) => Err(stop),
+    }
+}
+
+// The tree of an image with or without directory caches, and the number of its blocks.
+fn any_tree(alloc: Global, image: &[u8]) -> Result<(Tree, u32), Stop>
+    ensures tree { IfOk result (λ r. IsVolumeWith (is_cached image.now) image.now r.0) }
+    ensures size { IfOk result (λ r. r.1 ≡ blocks image.now) }
+    ensures refused { IfErr result (IsFaultWith (is_cached image.now) image.now) }
+{
+    if is_cached(image) {
+        cached_tree(alloc, image)
+    } else {
+        tree_in(alloc, image)
+    }
+}
+
 // The disk of an image.
 fn image_disk<'a>(alloc: Global, image: &'a [u8]) -> Result<Old<'a>, Stop>
     ensures old { IfOk result (λ old. IsOfImage image.entry.now (disk_of old)) }
     ensures size { IfOk result (λ old. is_allowed old.blocks ≡ true) }
     ensures boot { IfOk result (λ old. BOOT_LEN ≤ length old.boot.now) }
-    ensures fault { IfErr result (IsImageFault image.entry.now) }
+    ensures fault { IfErr result (IsFaultWith (is_cached image.entry.now) image.entry.now) }
 {
-    let (tree, blocks) = tree_in(alloc, image)?;
+    let (tree, blocks) = any_tree(alloc, image)?;
     let letters = tree.letters();
     Ok(Old {
         tree,
         letters,
         blocks,
         boot: image,
+        caches: is_cached(image),
     })
 }
 
@@ -89,6 +166,7 @@ fn manifest_disk<'a>(alloc: Global, text: &[u8]) -> Result<Old<'a>, Stop>
         letters: told.letters,
         blocks: told.blocks,
         boot: &NO_BOOT,
+        caches: false,
     })
 }
 

@@ -3,7 +3,8 @@
 ghost use Rattle.std.specs.Prelude.{◌≡◌, ◌<◌, ◌≤◌, ◌^◌, IfOk, IfErr, IfSome, IfNone, None, Some, length, map, option_map};
 ghost use Rattle.adf_edits.specs.Edits.{edit_value};
 ghost use Rattle.adf_edit_cmd.specs.Script.{IsNextRead, IsScript, IsScriptFault, behind_file, behind_files, ending, files_len, is_end};
-ghost use Rattle.adf_edit_cmd.specs.Script.{boot_asked, bytes_taken, ended, ended_next, letters_asked, with_boot_edit, with_letters, with_line_of};
+ghost use Rattle.adf_edit_cmd.specs.Script.{boot_asked, bytes_taken, caches_by, ended, ended_next, letters_asked, letters_by, with_boot_edit};
+ghost use Rattle.adf_edit_cmd.specs.Script.{with_letters, with_line_of};
 ghost use Rattle.adf_edit_cmd.specs.declared.script.TheConstants.{MOST_LINES};
 
 use crate::lines::read_edit;
@@ -27,10 +28,21 @@ pub enum BootEdit {
     Clear,
 }
 
-/// What a script sets of the whole volume: the letters of its names, and its boot blocks.
+/// What the letters of names become, and whether directories have caches.
+#[derive(Clone, Copy, Debug, PartialEq, Eq)]
+pub enum LettersEdit {
+    /// ASCII letters, and no caches.
+    Ascii,
+    /// International letters, and no caches.
+    International,
+    /// International letters, and a cache for each directory.
+    Cached,
+}
+
+/// What a script sets of the whole volume: the letters of its names with the caches of its directories, and its boot blocks.
 #[derive(Clone, Copy, Debug, PartialEq, Eq)]
 pub struct Settings {
-    pub letters: Option<Letters>,
+    pub letters: Option<LettersEdit>,
     pub boot: Option<BootEdit>,
 }
 
@@ -64,14 +76,16 @@ fn is_end(line: &[u8]) -> bool
     line == b"end".as_slice()
 }
 
-// The letters that a line asks for.
-fn letters_asked(line: &[u8]) -> Option<Letters>
+// What a line asks of letters and caches.
+fn letters_asked(line: &[u8]) -> Option<LettersEdit>
     ensures { result ≡ letters_asked line.now }
 {
     if line == b"letters ascii".as_slice() {
-        Some(Letters::Ascii)
+        Some(LettersEdit::Ascii)
     } else if line == b"letters international".as_slice() {
-        Some(Letters::International)
+        Some(LettersEdit::International)
+    } else if line == b"letters cached".as_slice() {
+        Some(LettersEdit::Cached)
     } else {
         None
     }
@@ -90,9 +104,33 @@ fn boot_asked(line: &[u8]) -> Option<BootEdit>
     }
 }
 
+/// The letters of the new volume, where those of the old one are these.
+pub fn letters_after(asked: Option<LettersEdit>, old: Letters) -> Letters
+    ensures { result ≡ letters_by asked old }
+{
+    match asked {
+        None => old,
+        Some(LettersEdit::Ascii) => Letters::Ascii,
+        Some(LettersEdit::International) => Letters::International,
+        Some(LettersEdit::Cached) => Letters::International,
+    }
+}
+
+/// Whether the directories of the new volume have caches, where those of the old one do or do not.
+pub fn caches_after(asked: Option<LettersEdit>, old: bool) -> bool
+    ensures { result ≡ caches_by asked old }
+{
+    match asked {
+        None => old,
+        Some(LettersEdit::Ascii) => false,
+        Some(LettersEdit::International) => false,
+        Some(LettersEdit::Cached) => true,
+    }
+}
+
 impl Settings {
     // These letters too, unless a line before set them.
-    fn with_letters(self, letters: Letters) -> Option<Settings>
+    fn with_letters(self, letters: LettersEdit) -> Option<Settings>
         ensures { result ≡ with_letters self letters }
     {
         if self.letters.is_some() {

@@ -26,6 +26,8 @@ pub enum Stop {
     NoRoom(usize, TreeFault),
     /// The tree needs more blocks than there are.
     Full { need: u64, have: u64 },
+    /// The volume has not enough free blocks for the caches of its directories.
+    NoCacheRoom,
     /// An allocation failed.
     NoMemory,
 }
@@ -48,6 +50,7 @@ impl fmt::Display for Stop {
             Stop::Line(line, fault) => write!(f, "{line}: {fault}"),
             Stop::NoRoom(line, fault) => write!(f, "{line}: by these letters: {fault}"),
             Stop::Full { need, have } => write!(f, "full: need {need}, have {have}"),
+            Stop::NoCacheRoom => f.write_str("no room for directory caches"),
             Stop::NoMemory => f.write_str("no memory"),
         }
     }
