@@ -34,7 +34,7 @@ _adf_survey() {
     elif [[ $2 == -* && ${COMP_WORDS[at]} == cat ]]; then
         COMPREPLY=($(compgen -W "--damaged --deleted" -- "$2"))
     elif [[ $2 == -* && ${COMP_WORDS[at]} == rescue ]]; then
-        COMPREPLY=($(compgen -W "--before-format --deleted --keep-type" -- "$2"))
+        COMPREPLY=($(compgen -W "--before-format --deleted --keep-all --keep-type" -- "$2"))
     elif [[ ${COMP_WORDS[at]} != cat ]] || ((COMP_CWORD > at + 1)); then
         compopt -o default
     fi
@@ -46,7 +46,7 @@ _adf_disk() {
     elif ((COMP_CWORD == 1)); then
         COMPREPLY=($(compgen -W "list check survey volume build --help --version" -- "$2"))
     elif [[ $2 == -* && ${COMP_WORDS[1]} == survey ]]; then
-        COMPREPLY=($(compgen -W "--search --json" -- "$2"))
+        COMPREPLY=($(compgen -W "--search --plan --json" -- "$2"))
     elif [[ $2 == -* && ${COMP_WORDS[1]} == @(list|check) ]]; then
         COMPREPLY=($(compgen -W "--json" -- "$2"))
     elif [[ $2 == -* && $COMP_CWORD:${COMP_WORDS[1]} == 2:build ]]; then

@@ -15,7 +15,7 @@ pub replies_agree : (keep_type : Bool) (n : Option ℕ) (image : List ℕ) (r : 
     → RescuesTyped (types_kept keep_type) (subject n image) r → SurveyAnswer (asked n (rescue keep_type)) image reply
     → reply ≡ hinted image (rescue_reply r)
 replies_agree keep_type n image r reply given answer =
-    one_answer (asked n (rescue keep_type)) image reply (hinted image (rescue_reply r)) answer (rescue_reply r, (r, given, refl), refl)
+    one_answer (asked n (rescue keep_type)) image reply (hinted image (rescue_reply r)) refl answer (rescue_reply r, (r, given, refl), refl)
 
 -- what is answered is that of the room
 pub answers_agree : (n : ℕ) (input old new : List ℕ) (told : SubjectTold) → HasSubject (subject (asked_blocks n) input) old new told

@@ -7,11 +7,11 @@ use Rattle.adf_partitions.specs.{Disks.HasListOrFault, FaultTexts.place_fault_te
 use Rattle.adf_partitions.specs.{declared.partition.Partition.Partition, declared.place.Place.Place, declared.place.PlaceFault.PlaceFault}
 use Rattle.adf_plans.specs.PlanTexts.{HasPlanOrFault, text_fault_text}
 use Rattle.adf_runs.specs.Commands.{Reply, on_output}
-use Rattle.adf_disk_cmd.specs.CommandLine.{DiskRequestValue, WantedValue, build, check, list, search, volume}
+use Rattle.adf_disk_cmd.specs.CommandLine.{DiskRequestValue, WantedValue, build, check, list, propose, search, volume}
 use Rattle.adf_disk_cmd.specs.Answers.{DiskAnswer, OfDisk, OfPartitions, list_reply, volume_reply, wanted_of}
 use Rattle.adf_disk_cmd.specs.Surveys.{IsSurveyed, fault_lines, are_faultless}
 use Rattle.adf_disk_cmd.specs.{Builds.BuildsDisk, Builds.plan_reply, Builds.refusal, Lines.volume_at}
-use Rattle.adf_disk_cmd.specs.{Objects.verdict_line, Searches.search_reply}
+use Rattle.adf_disk_cmd.specs.{Objects.verdict_line, Proposals.proposal_reply, Searches.search_reply}
 use Rattle.adf_disk_cmd.specs.{declared.unchecked.Unchecked.Unchecked, declared.work.TheConstants.MOST_DISK_BYTES}
 use Rattle.adf_disk_cmd.specs.Checks.{AreChecked, TellsPlace, TellsVolume, check_status, unchecked_text, why_unchecked}
 
@@ -64,5 +64,6 @@ pub some_answer : (r : DiskRequestValue) (input : List ℕ) → (reply : Reply) 
 some_answer (list json) input = some_listing json (take MOST_DISK_BYTES input)
 some_answer (check json) input = some_disk_check json (take MOST_DISK_BYTES input)
 some_answer (search json) input = (search_reply json (take MOST_DISK_BYTES input), refl)
+some_answer propose input = (proposal_reply (take MOST_DISK_BYTES input), refl)
 some_answer (volume w) input = some_copy (take MOST_DISK_BYTES input) w
 some_answer build input = built_by (take MOST_DISK_BYTES input) (some_text (take MOST_DISK_BYTES input))

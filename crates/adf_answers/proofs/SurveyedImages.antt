@@ -16,7 +16,7 @@ use Rattle.adf_findings.specs.{Files.file_content, Files.file_in, Files.grave, R
 use Rattle.adf_findings.proofs.{Decidability.dec_true, SomeMarks.dec_sound, SomeMarks.some_marks, SomeSurvey.some_survey}
 use Rattle.adf_findings.proofs.SomeLookups.{dec_is_file, leads_or_not}
 use Rattle.adf_runs.specs.Commands.{Reply, bad_path, on_errors, on_output}
-use Rattle.adf_survey_cmd.specs.CommandLine.{InquiryValue, QuestionValue, blanks, cat, deleted, list, report, rescue, rescue_before, rescue_deleted}
+use Rattle.adf_survey_cmd.specs.CommandLine.{InquiryValue, QuestionValue, blanks, cat, deleted, list, report, rescue, rescue_all, rescue_before, rescue_deleted}
 use Rattle.adf_subjects.proofs.SomeRescues.{some_rescue as rescue_given}
 use Rattle.adf_subjects.proofs.{Formats.before_bytes, Formats.some_before, SubjectBytes.subject_bytes, SubjectBytes.typed_bytes, Subjects.some_typed}
 use Rattle.adf_passages.specs.PassageLines.{passages_text}
@@ -152,6 +152,10 @@ some_before_rescue plus keep_type s are =
     let (reply, (r, told, same)) = some_rescue plus keep_type t (before_bytes s t before are) in
     (reply, (r, (t, before, told), same))
 
+-- where nothing is kept beside a rescue, it is the answer to the question for all that can be kept
+some_rescue_all : (plus : Bool) (s : SubjectValue) → AreBytes s.image → IsAnswered (rescue_all plus) s
+some_rescue_all plus s are = let (reply, (r, (t, typed, told), same)) = some_rescue plus true s are in (reply, (r, (t, typed, inl told), same))
+
 -- the deleted headers
 
 some_second : (o : Option (List ℕ)) → (l : Option Basis) × IsSecond o l
@@ -183,15 +187,17 @@ some_deleted file s =
 
 questioned : (q : QuestionValue) (s : SubjectValue) → ((keep_type : Bool) → q ≡ rescue keep_type → AreBytes s.image)
     → ((keep_type : Bool) → q ≡ rescue_deleted keep_type → AreBytes s.image)
-    → ((with_deleted keep_type : Bool) → q ≡ rescue_before with_deleted keep_type → AreBytes s.image) → IsAnswered q s
-questioned (report json) s are more before = some_report json s
-questioned (list json) s are more before = some_list json s
-questioned (cat damaged path) s are more before = some_copy damaged path s
-questioned blanks s are more before = some_blanks s
-questioned (deleted file) s are more before = some_deleted file s
-questioned (rescue keep_type) s are more before = some_rescue false keep_type s (are keep_type refl)
-questioned (rescue_deleted keep_type) s are more before = some_rescue true keep_type s (more keep_type refl)
-questioned (rescue_before plus keep_type) s are more before = some_before_rescue plus keep_type s (before plus keep_type refl)
+    → ((with_deleted keep_type : Bool) → q ≡ rescue_before with_deleted keep_type → AreBytes s.image)
+    → ((with_deleted : Bool) → q ≡ rescue_all with_deleted → AreBytes s.image) → IsAnswered q s
+questioned (report json) s are more before all = some_report json s
+questioned (list json) s are more before all = some_list json s
+questioned (cat damaged path) s are more before all = some_copy damaged path s
+questioned blanks s are more before all = some_blanks s
+questioned (deleted file) s are more before all = some_deleted file s
+questioned (rescue keep_type) s are more before all = some_rescue false keep_type s (are keep_type refl)
+questioned (rescue_deleted keep_type) s are more before all = some_rescue true keep_type s (more keep_type refl)
+questioned (rescue_before plus keep_type) s are more before all = some_before_rescue plus keep_type s (before plus keep_type refl)
+questioned (rescue_all plus) s are more before all = some_rescue_all plus s (all plus refl)
 
 -- what is surveyed without its blank blocks has bytes too, and so has what is surveyed by a map
 blank_bytes : (blank : Bool) (s : SubjectValue) → AreBytes s.image → AreBytes (unless_blank blank s).image
@@ -227,6 +233,7 @@ some_refusal (deleted file) = (on_errors 1 other_disk_line, refl)
 some_refusal (rescue keep_type) = (on_errors 1 other_disk_line, refl)
 some_refusal (rescue_deleted keep_type) = (on_errors 1 other_disk_line, refl)
 some_refusal (rescue_before plus keep_type) = (on_errors 1 other_disk_line, refl)
+some_refusal (rescue_all plus) = (on_errors 1 other_disk_line, refl)
 
 some_unless_other : (other : Bool) (r : InquiryValue) (s : SubjectValue) → (reply : Reply) × AnswerBehind (lines_form r) r s reply
     → (reply : Reply) × AnswerUnlessOther other r s reply
@@ -235,14 +242,15 @@ some_unless_other false r s answer = answer
 
 pub some_answer : (r : InquiryValue) (input : List ℕ) → ((keep_type : Bool) → r.question ≡ rescue keep_type → AreBytes input)
     → ((keep_type : Bool) → r.question ≡ rescue_deleted keep_type → AreBytes input)
-    → ((with_deleted keep_type : Bool) → r.question ≡ rescue_before with_deleted keep_type → AreBytes input) → HasSurveyAnswer r input
-some_answer r input are more before =
+    → ((with_deleted keep_type : Bool) → r.question ≡ rescue_before with_deleted keep_type → AreBytes input)
+    → ((with_deleted : Bool) → r.question ≡ rescue_all with_deleted → AreBytes input) → HasSurveyAnswer r input
+some_answer r input are more before whole =
     let given = subject r.blocks input in
     let s = unless_mapped r.map given in
     let bytes : AreBytes input → AreBytes (unless_blank r.blank s).image =
     λ all. blank_bytes r.blank s (mapped_bytes r.map given (subject_bytes r.blocks input all)) in
     let question = questioned r.question (unless_blank r.blank s) (λ keep_type is. bytes (are keep_type is)) (λ keep_type is. bytes (more keep_type is))
-    (λ with_deleted keep_type is. bytes (before with_deleted keep_type is)) in
+    (λ with_deleted keep_type is. bytes (before with_deleted keep_type is)) (λ with_deleted is. bytes (whole with_deleted is)) in
     let behind = some_behind (lines_form r) r given question in
     let (told, answer) = some_unless_other (is_other_disk r.map (length input) given.image) r given behind in
     (hinted input told, (told, answer, refl))

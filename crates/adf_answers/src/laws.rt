@@ -6,7 +6,7 @@ ghost use Rattle.std.specs.List.{All};
 ghost use Rattle.adf_names.specs.declared.kind.Kind.{Kind};
 ghost use Rattle.adf_words.specs.CommandLine.{RequestValue, convert};
 ghost use Rattle.adf_disk_cmd.specs.CommandLine.{DiskRequestValue};
-ghost use Rattle.adf_survey_cmd.specs.CommandLine.{InquiryValue, rescue, rescue_before, rescue_deleted};
+ghost use Rattle.adf_survey_cmd.specs.CommandLine.{InquiryValue, rescue, rescue_all, rescue_before, rescue_deleted};
 ghost use Rattle.adf_answers.specs.Answered.{HasAnswer, HasDiskAnswer, HasSurveyAnswer};
 
 /// Whatever is asked of bytes has an answer of `adf`. Of all requests but `convert` this holds of any list of numbers.
@@ -27,5 +27,6 @@ pub fn some_survey_answer()
     ensures every { (r : InquiryValue) (input : List ℕ) → All (λ byte. byte < 256) input → HasSurveyAnswer r input }
     ensures unrescued { (r : InquiryValue) (input : List ℕ) → ((keep_type : Bool) → r.question ≢ rescue keep_type)
         → ((keep_type : Bool) → r.question ≢ rescue_deleted keep_type)
-        → ((with_deleted keep_type : Bool) → r.question ≢ rescue_before with_deleted keep_type) → HasSurveyAnswer r input }
+        → ((with_deleted keep_type : Bool) → r.question ≢ rescue_before with_deleted keep_type)
+        → ((with_deleted : Bool) → r.question ≢ rescue_all with_deleted) → HasSurveyAnswer r input }
 {}

@@ -14,11 +14,17 @@ mod changed_disks;
 #[cfg(test)]
 mod devices;
 #[cfg(test)]
+mod edited_caches;
+#[cfg(test)]
 mod edited_letters;
 #[cfg(test)]
 mod edited_lines;
 #[cfg(test)]
 mod edited_manifests;
+#[cfg(test)]
+mod edited_moves;
+#[cfg(test)]
+mod kept_links;
 #[cfg(test)]
 mod mapped_surveys;
 #[cfg(test)]

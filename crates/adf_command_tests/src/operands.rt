@@ -15,6 +15,7 @@ const SURVEY_USAGE: &str =
     \x20      adf-survey [--blocks N] [--map MAP] [--blank] cat [--damaged] PATH [FILE]\n\
     \x20      adf-survey [--blocks N] [--map MAP] [--blank] cat --deleted BLOCK [FILE]\n\
     \x20      adf-survey [--blocks N] [--map MAP] [--blank] rescue [--keep-type] [--deleted] [--before-format] [FILE]\n\
+    \x20      adf-survey [--blocks N] [--map MAP] [--blank] rescue --keep-all [--deleted] [FILE]\n\
     \x20      adf-survey [--blocks N] [--map MAP] [--blank] deleted [FILE]\n\
     \x20      adf-survey [--blocks N] [--map MAP] [--blank] blank [FILE]\n\
     without a FILE the image comes on standard input; man adf-survey tells more\n";

@@ -18,7 +18,7 @@ use Rattle.adf_survey_cmd.specs.CommandLine.{InquiryValue, QuestionValue, list, 
 use Rattle.adf_survey_cmd.specs.UnreadLines.{EndsBehind, IsUnreadText, ToldBehind, reply_behind, status_behind}
 use Rattle.adf_survey_cmd.specs.{Work.Answers, Work.task_json}
 use Rattle.adf_survey_cmd.specs.declared.work.Task.{Task, TheVariants.Show, TheVariants.Rescue, TheVariants.RescueDeleted}
-use Rattle.adf_survey_cmd.specs.declared.work.Task.TheVariants.{RescueBefore, Deleted}
+use Rattle.adf_survey_cmd.specs.declared.work.Task.TheVariants.{RescueAll, RescueBefore, Deleted}
 use Rattle.adf_survey_cmd.specs.declared.work.View.{TheVariants.Findings, TheVariants.List as ListAll, TheVariants.Cat, TheVariants.Blanks as BlanksOf}
 
 -- a text makes no other status 3
@@ -82,6 +82,7 @@ form_told (Deleted file) q is = sym (ap json_of is)
 form_told (Rescue types) q (keep_type, same, is) = sym (ap json_of is)
 form_told (RescueDeleted types) q (keep_type, same, is) = sym (ap json_of is)
 form_told (RescueBefore plus types) q (keep_type, same, is) = sym (ap json_of is)
+form_told (RescueAll plus) q is = sym (ap json_of is)
 
 form_question : (dropped : Bool) (q : QuestionValue) → cond dropped (json_of q) None ≡ form_behind dropped q
 form_question dropped (report json) = refl

@@ -8,6 +8,7 @@ use Rattle.std.proofs.{Math.Nat.min-eq_left, lemmas.List.take-take, lemmas.Grind
 use Rattle.adf_blocks.specs.{Sizes.blocks, declared.layout.TheConstants.MOST_BLOCKS, declared.cause.Cause.TheVariants.BadSize}
 use Rattle.adf_base.specs.declared.hash.Letters.{Letters}
 use Rattle.adf_volume.specs.{Demands.IsSize, Types.letters_for, declared.fault.Fault.Fault, declared.types.Types.Types, Start.is_image_len}
+use Rattle.adf_volume.specs.declared.types.Types.TheVariants.{WithInternational}
 use Rattle.adf_volume.specs.Walk.{FirstFaultBy, Walk, FirstFaultBy.at_boot}
 use Rattle.adf_volume.proofs.{OneFault.one_fault, Sizes.size_high}
 use Rattle.adf_findings.specs.{Files.grave, Lookup.LeadsTo, SoundMarks.AreMarks, OwnKind.is_mistyped}
@@ -34,8 +35,10 @@ use Rattle.adf_subjects.specs.Subject.{IsTyped, OfTyped, SubjectValue, begun_sub
 use Rattle.adf_subjects.specs.Subject.{IsOtherType, IsTypeTold, kind_image, sized, subject, subject_read, typed_by}
 use Rattle.adf_listings.specs.CacheLines.{caches_text, survey_text}
 use Rattle.adf_listings.proofs.CacheTexts.{none_told}
-use Rattle.adf_survey_cmd.specs.CommandLine.{InquiryValue, QuestionValue, blanks, cat, deleted, list, report, rescue, rescue_before, rescue_deleted}
+use Rattle.adf_survey_cmd.specs.CommandLine.{InquiryValue, QuestionValue, blanks, cat, deleted, list, report, rescue, rescue_all, rescue_before, rescue_deleted}
+use Rattle.adf_rescue_writing.specs.KeptAll.{KeepsAll, RescuesAll}
 use Rattle.adf_subjects.specs.Rescues.{IsNoVolume, Replies, RescueValue, RescuesBefore, RescuesBothOf, RescuesFoundOf, RescuesOf, RescuesTypedOf}
+use Rattle.adf_subjects.specs.Rescues.RescueValue.{refused as given_fault}
 use Rattle.adf_subjects.proofs.Formats.{odd_before, odd_stays}
 use Rattle.adf_maps.specs.Maps.{MapValue}
 use Rattle.adf_unread.specs.{Blank.blank_marks, Mapped.map_marks, Mapped.unread_among, Runs.runs_among}
@@ -235,6 +238,32 @@ long_before plus types s t a b reply (r, (u, before, told), same) =
     let (q, rescues, e) = long_typed_rescue plus types s t a b reply (r, as_it_is, same) in
     (q, (t, odd_stays t (no_volume t.image b), rescues), e)
 
+-- no volume is given, so nothing is kept beside it
+long_refuses : (plus : Bool) (types : Types) (s : SubjectValue) (boot : List ℕ) → 512 * MOST_BLOCKS < length s.image
+    → (r : RescueValue) → RescuesOf plus types s.end s.lost s.image boot r → (f : Fault) × (r ≡ given_fault f [])
+long_refuses plus types s boot a r (refused, is, (w, fs, h, found)) =
+    let known : Input = record { held = s.end; is_refused = refused } in
+    let read : List ℕ = image_read refused s.image in
+    let holds = λ (u : Walk) (gs : List FindingValue). RescuesFoundOf plus types known s.lost s.image read u gs boot r in
+    let (sound, marks, (two, second, by)) = of_long read w fs holds (long_image refused s.image a) h found in
+    elim by [
+      | inl none ↦ (none.1.0, none.1.2)
+      | inr some ↦ absurd (some.0 refl)
+    ]
+
+none_kept : (input : List ℕ) (q r : RescueValue) (f : Fault) → q ≡ given_fault f [] → KeepsAll input q r → ⊥
+none_kept input q r f is keeps = subst (λ (q : RescueValue). KeepsAll input q r) is keeps
+
+long_all : (plus : Bool) (s t : SubjectValue) → 512 * MOST_BLOCKS < length s.image → 512 * MOST_BLOCKS < length t.image
+    → (reply : Reply) → Replies (RescuesAll plus s) reply → Replies (RescuesAll plus t) reply
+long_all plus s t a b reply (r, (u, is, inl given), same) =
+    let (q, (v, typed, rescues), e) = long_typed_rescue plus WithInternational s t a b reply (r, (u, is, given), same) in
+    (q, (v, typed, inl rescues), e)
+long_all plus s t a b reply (r, (u, is, inr (q, given, keeps)), same) =
+    let long : 512 * MOST_BLOCKS < length u.image = subst (λ (u : SubjectValue). 512 * MOST_BLOCKS < length u.image) (sym (typed_so s u a is)) a in
+    let (f, none) = long_refuses plus WithInternational u (sized 2 s.image) long q given in
+    absurd (none_kept (image_read true u.image) q r f none keeps)
+
 -- no bytes of files are told
 unfound_text : (json : Bool) (word : List ℕ) (marks : List Bool) (image : List ℕ) → passages_text json word marks image [] ≡ []
 unfound_text json word marks image =
@@ -294,6 +323,7 @@ long_questions (deleted file) s t front a b reply (u, is, lists) =
 long_questions (rescue keep_type) s t front a b reply told = long_typed_rescue false (types_kept keep_type) s t a b reply told
 long_questions (rescue_deleted keep_type) s t front a b reply told = long_typed_rescue true (types_kept keep_type) s t a b reply told
 long_questions (rescue_before with_deleted keep_type) s t front a b reply told = long_before with_deleted (types_kept keep_type) s t a b reply told
+long_questions (rescue_all with_deleted) s t front a b reply told = long_all with_deleted s t a b reply told
 
 -- an image of n blocks is made of the front alone
 same_sized : (n : ℕ) (image bytes : List ℕ) → n ≤ MOST_BLOCKS → image ≡ take (512 * MOST_BLOCKS + 1) bytes → 512 * MOST_BLOCKS < length image

@@ -1,9 +1,10 @@
 -- What is asked of an image has one answer.
 -- Letters: s, t, u what is surveyed; w, u, v walks of its survey, fs, gs the findings; n, m entries' nodes; r, q inquiries; a, b replies.
+use Rattle.std.specs.Prelude.{◌⊎◌}
 use Rattle.std.proofs.Common.{◌≡◌, ◌∙◌, ◌++◌, inl, inr, ℕ, Bool, true, false, List, [], ◌∷◌, Option, Some, sym, ap, subst, None, codes, length, refl, arith}
 use Rattle.std.proofs.lemmas.Grind.{common_steps}
 use Rattle.adf_names.proofs.PathParts.{one_path}
-use Rattle.adf_volume.specs.{Types.letters_for, declared.fault.Fault.Fault, declared.types.Types.Types}
+use Rattle.adf_volume.specs.{Types.letters_for, declared.fault.Fault.Fault, declared.types.Types.Types, declared.types.Types.TheVariants.WithInternational}
 use Rattle.adf_volume.specs.Walk.{FileAt, FirstFaultBy, node_block, Walk}
 use Rattle.adf_findings.specs.{Files.grave, Lookup.LeadsTo, Survey.FindingValue}
 use Rattle.adf_findings.proofs.{OneSurvey.one_survey, Lookups.one_first}
@@ -16,7 +17,7 @@ use Rattle.adf_volume.proofs.OneFault.{one_fault}
 use Rattle.adf_cmd.proofs.OneAnswer.{one_dates}
 use Rattle.adf_remains.specs.Copies.{CopiesEntry, CopiesFound, IsWholeFile}
 use Rattle.adf_survey_cmd.specs.Answers.{CopiesFromSurvey, ListsSurvey, QuestionAnswer, SurveyAnswer, unless_blank, unless_mapped}
-use Rattle.adf_survey_cmd.specs.Answers.{AnswerBehind, AnswerUnlessOther, AreUnreadLines, RefusesMap, Surveys, lines_form, types_kept}
+use Rattle.adf_survey_cmd.specs.Answers.{AnswerBehind, AnswerUnlessOther, AreUnreadLines, RefusesMap, Surveys, keeps_all, lines_form, types_kept}
 use Rattle.adf_listings.specs.Told.{TellsFound, told_status}
 use Rattle.adf_survey_cmd.specs.UnreadLines.{IsBlankText, IsMappedText, IsUnreadText, TellsBlank, TellsPassages, is_other_disk, reply_behind}
 use Rattle.adf_maps.specs.Maps.{MapValue}
@@ -28,7 +29,10 @@ use Rattle.adf_subjects.specs.Subject.{OfTyped, SubjectValue, begun_subject, siz
 use Rattle.adf_subjects.specs.Rescues.{GivesFault, IsRefusal, Replies, RescueValue, RescuesOf}
 use Rattle.adf_subjects.specs.Rescues.{RescuesBefore, RescuesByOf, RescuesFoundOf, RescuesInOf, RescuesReadOf, RescuesTypedOf}
 use Rattle.adf_subjects.proofs.{Formats.one_before, OneSubject.one_marks, OneSubject.one_typed}
-use Rattle.adf_survey_cmd.specs.CommandLine.{AsksSurvey, InquiryValue, QuestionValue, blanks, cat, deleted, list, report, rescue, rescue_before, rescue_deleted}
+use Rattle.adf_survey_cmd.specs.CommandLine.{AsksSurvey, InquiryValue, QuestionValue, asked_beside, blanks, cat, deleted, list, report, rescue, rescue_all}
+use Rattle.adf_survey_cmd.specs.CommandLine.{rescue_before, rescue_deleted}
+use Rattle.adf_survey_cmd.specs.Laws.{AddsKept, AddsToPlainRescue, plain_rescue}
+use Rattle.adf_rescue_writing.specs.KeptAll.{RescuesAll}
 use Rattle.adf_base.specs.declared.dates.Stamp.{Stamp}
 use Rattle.adf_blocks.specs.Sizes.{blocks}
 use Rattle.adf_deleted.specs.Known.{KnownValue, known_blocks}
@@ -243,24 +247,26 @@ lines_once : (json : Bool) (map : Option MapValue) (blank : Bool) (s : SubjectVa
 lines_once json map blank s a b (c, d, x, y, e) (g, h, z, u, f) =
     e ∙ (λ i. mapped_once json map s c g x z i ++ blank_once json blank (unless_mapped map s) d h y u i) ∙ sym f
 
-one_question : (q : QuestionValue) (s : SubjectValue) (a b : Reply) → QuestionAnswer q s a → QuestionAnswer q s b → a ≡ b
-one_question (report json) s a b x y = typed_once s (Surveys json) (surveyed_once json) a b x y
-one_question (list json) s a b x y = typed_once s (ListsSurvey json) (listed_once json) a b x y
-one_question (cat damaged path) s a b (inl (bad, x)) (inl (worse, y)) = x ∙ sym y
-one_question (cat damaged path) s a b (inl (bad, x)) (inr (t, is, h)) = absurd (bad h.0 h.1)
-one_question (cat damaged path) s a b (inr (t, is, h)) (inl (bad, y)) = absurd (bad h.0 h.1)
-one_question (cat damaged path) s a b (inr h) (inr g) = typed_once s (CopiesFromSurvey damaged path) (copied_once damaged path) a b h g
-one_question blanks s a b x y = typed_once s TellsBlank (λ t. passages_once false (codes "blank") (blank_marks t.image) t) a b x y
-one_question (deleted file) s a b x y = typed_deleted_once file s a b x y
-one_question (rescue keep_type) s a b x y = typed_rescued_once false (types_kept keep_type) s a b x y
-one_question (rescue_deleted keep_type) s a b x y = typed_rescued_once true (types_kept keep_type) s a b x y
-one_question (rescue_before with_deleted keep_type) s a b x y = before_rescued_once with_deleted (types_kept keep_type) s a b x y
+one_question : (q : QuestionValue) (s : SubjectValue) (a b : Reply) → keeps_all q ≡ false → QuestionAnswer q s a → QuestionAnswer q s b → a ≡ b
+one_question (report json) s a b one x y = typed_once s (Surveys json) (surveyed_once json) a b x y
+one_question (list json) s a b one x y = typed_once s (ListsSurvey json) (listed_once json) a b x y
+one_question (cat damaged path) s a b one (inl (bad, x)) (inl (worse, y)) = x ∙ sym y
+one_question (cat damaged path) s a b one (inl (bad, x)) (inr (t, is, h)) = absurd (bad h.0 h.1)
+one_question (cat damaged path) s a b one (inr (t, is, h)) (inl (bad, y)) = absurd (bad h.0 h.1)
+one_question (cat damaged path) s a b one (inr h) (inr g) = typed_once s (CopiesFromSurvey damaged path) (copied_once damaged path) a b h g
+one_question blanks s a b one x y = typed_once s TellsBlank (λ t. passages_once false (codes "blank") (blank_marks t.image) t) a b x y
+one_question (deleted file) s a b one x y = typed_deleted_once file s a b x y
+one_question (rescue keep_type) s a b one x y = typed_rescued_once false (types_kept keep_type) s a b x y
+one_question (rescue_deleted keep_type) s a b one x y = typed_rescued_once true (types_kept keep_type) s a b x y
+one_question (rescue_before with_deleted keep_type) s a b one x y = before_rescued_once with_deleted (types_kept keep_type) s a b x y
+one_question (rescue_all with_deleted) s a b one x y = let clash : true ≡ false = one in absurd cc
 
-answer_once : (form : Option Bool) (r : InquiryValue) (s : SubjectValue) (a b : Reply) → AnswerBehind form r s a → AnswerBehind form r s b → a ≡ b
-answer_once None r s a b x y = one_question r.question (unless_blank r.blank (unless_mapped r.map s)) a b x y
-answer_once (Some json) r s a b (text, lines, (told, x, e)) (more, also, (other, y, f)) =
+answer_once : (form : Option Bool) (r : InquiryValue) (s : SubjectValue) (a b : Reply) → keeps_all r.question ≡ false → AnswerBehind form r s a
+    → AnswerBehind form r s b → a ≡ b
+answer_once None r s a b one x y = one_question r.question (unless_blank r.blank (unless_mapped r.map s)) a b one x y
+answer_once (Some json) r s a b one (text, lines, (told, x, e)) (more, also, (other, y, f)) =
     let same = lines_once json r.map r.blank s text more lines also in
-    let reply = one_question r.question (unless_blank r.blank (unless_mapped r.map s)) told other x y in
+    let reply = one_question r.question (unless_blank r.blank (unless_mapped r.map s)) told other one x y in
     e ∙ (λ i. reply_behind (same i) (reply i)) ∙ sym f
 
 -- with the map of another disk too
@@ -276,13 +282,39 @@ one_refused_map (deleted file) a b x y = x ∙ sym y
 one_refused_map (rescue keep_type) a b x y = x ∙ sym y
 one_refused_map (rescue_deleted keep_type) a b x y = x ∙ sym y
 one_refused_map (rescue_before with_deleted keep_type) a b x y = x ∙ sym y
+one_refused_map (rescue_all with_deleted) a b x y = x ∙ sym y
 
-unless_other_once : (other : Bool) (r : InquiryValue) (s : SubjectValue) (a b : Reply) → AnswerUnlessOther other r s a → AnswerUnlessOther other r s b
-    → a ≡ b
-unless_other_once true r s a b x y = one_refused_map r.question a b x y
-unless_other_once false r s a b x y = answer_once (lines_form r) r s a b x y
+unless_other_once : (other : Bool) (r : InquiryValue) (s : SubjectValue) (a b : Reply) → keeps_all r.question ≡ false → AnswerUnlessOther other r s a
+    → AnswerUnlessOther other r s b → a ≡ b
+unless_other_once true r s a b one x y = one_refused_map r.question a b x y
+unless_other_once false r s a b one x y = answer_once (lines_form r) r s a b one x y
 
-pub one_answer : (r : InquiryValue) (input : List ℕ) (a b : Reply) → SurveyAnswer r input a → SurveyAnswer r input b → a ≡ b
-one_answer r input a b (told, x, e) (other, y, f) =
+pub one_answer : (r : InquiryValue) (input : List ℕ) (a b : Reply) → keeps_all r.question ≡ false → SurveyAnswer r input a → SurveyAnswer r input b → a ≡ b
+one_answer r input a b one (told, x, e) (other, y, f) =
     let s = subject r.blocks input in
-    e ∙ ap (hinted input) (unless_other_once (is_other_disk r.map (length input) s.image) r s told other x y) ∙ sym f
+    e ∙ ap (hinted input) (unless_other_once (is_other_disk r.map (length input) s.image) r s told other one x y) ∙ sym f
+
+-- with all that can be kept, the answer is the one without, or adds what is kept to it
+
+all_or_plain : (plus : Bool) (s : SubjectValue) (a b : Reply) → Replies (RescuesTypedOf plus WithInternational s) a → Replies (RescuesAll plus s) b
+    → (b ≡ a) ⊎ AddsKept s a b
+all_or_plain plus s a b x (r, (t, typed, inl given), is) =
+    inl (typed_rescued_once plus WithInternational s b a (r, (t, typed, given), is) x)
+all_or_plain plus s a b x (r, (t, typed, inr (q, given, keeps)), is) =
+    inr (t, typed, q, r, typed_rescued_once plus WithInternational s a (rescue_reply q) x (q, (t, typed, given), refl), keeps, is)
+
+module _ (map : Option MapValue) (blank : Bool) (blocks : Option ℕ) (s : SubjectValue) where
+  all_unless_other : (plus other : Bool) (a b : Reply) → AnswerUnlessOther other (asked_beside map blank blocks (plain_rescue plus)) s a
+      → AnswerUnlessOther other (asked_beside map blank blocks (rescue_all plus)) s b → (b ≡ a) ⊎ AddsKept (unless_blank blank (unless_mapped map s)) a b
+  all_unless_other true true a b x y = inl (y ∙ sym x)
+  all_unless_other false true a b x y = inl (y ∙ sym x)
+  all_unless_other true false a b x y = all_or_plain true (unless_blank blank (unless_mapped map s)) a b x y
+  all_unless_other false false a b x y = all_or_plain false (unless_blank blank (unless_mapped map s)) a b x y
+
+pub all_beside : AddsToPlainRescue
+all_beside map blank blocks plus input a b (told, x, e) (other, y, f) =
+    let s = subject blocks input in
+    elim (all_unless_other map blank blocks s plus (is_other_disk map (length input) s.image) told other x y) [
+      | inl same ↦ inl (f ∙ ap (hinted input) same ∙ sym e)
+      | inr adds ↦ inr (told, other, adds, e, f)
+    ]

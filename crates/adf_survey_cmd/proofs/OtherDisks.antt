@@ -10,7 +10,7 @@ use Rattle.adf_survey_cmd.specs.CommandLine.{InquiryValue, QuestionValue}
 use Rattle.adf_survey_cmd.specs.UnreadLines.{is_other_disk, other_disk_line}
 use Rattle.adf_survey_cmd.specs.Work.{Answers}
 use Rattle.adf_survey_cmd.specs.declared.work.Task.{Task, TheVariants.Show, TheVariants.Rescue, TheVariants.RescueDeleted}
-use Rattle.adf_survey_cmd.specs.declared.work.Task.TheVariants.{RescueBefore, Deleted}
+use Rattle.adf_survey_cmd.specs.declared.work.Task.TheVariants.{RescueAll, RescueBefore, Deleted}
 use Rattle.adf_survey_cmd.specs.declared.work.View.{TheVariants.Findings, TheVariants.List as ListAll, TheVariants.Cat, TheVariants.Blanks as BlanksOf}
 
 -- a task has a path that is read, or none
@@ -24,6 +24,7 @@ task_refuses (Deleted file) q is = subst (λ q. RefusesMap q (on_errors 1 other_
 task_refuses (Rescue types) q (keep_type, same, is) = subst (λ q. RefusesMap q (on_errors 1 other_disk_line)) (sym is) refl
 task_refuses (RescueDeleted types) q (keep_type, same, is) = subst (λ q. RefusesMap q (on_errors 1 other_disk_line)) (sym is) refl
 task_refuses (RescueBefore plus types) q (keep_type, same, is) = subst (λ q. RefusesMap q (on_errors 1 other_disk_line)) (sym is) refl
+task_refuses (RescueAll plus) q is = subst (λ q. RefusesMap q (on_errors 1 other_disk_line)) (sym is) refl
 
 module _ (r : InquiryValue) (held : ℕ) (s : SubjectValue) (map : Option MapValue) (a : map ≡ r.map) (w : Outcome) (o after : Option (List ℕ)) where
   pub unless_other : (other : Bool) → other ≡ is_other_disk map held s.image → EndsBy (AnswerUnlessOther other r s) w o after

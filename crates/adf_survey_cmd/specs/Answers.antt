@@ -12,7 +12,8 @@ use Rattle.adf_cmd.specs.Answers.{IsBadPath, RefusesPath}
 use Rattle.adf_runs.specs.Commands.{Command, Reply, on_errors}
 use Rattle.adf_file_runs.specs.FileRuns.{without_files}
 use Rattle.adf_survey_cmd.specs.CommandLine.{AreRefusedBySurvey, AsksSurvey, InquiryValue, QuestionValue, asked_beside, blanks, cat, deleted, list, report}
-use Rattle.adf_survey_cmd.specs.CommandLine.{rescue, rescue_before, rescue_deleted, survey_file}
+use Rattle.adf_survey_cmd.specs.CommandLine.{rescue, rescue_all, rescue_before, rescue_deleted, survey_file}
+use Rattle.adf_rescue_writing.specs.KeptAll.{RescuesAll}
 use Rattle.adf_survey_cmd.specs.UnreadLines.{IsBlankText, IsMappedText, TellsBlank, ToldBehind, is_other_disk, other_disk_line}
 use Rattle.adf_listings.specs.Told.{TellsFindings, TellsFound}
 use Rattle.adf_remains.specs.{Copies.CopiesFound, Deletions.TellsTyped}
@@ -50,6 +51,7 @@ QuestionAnswer (deleted file) s reply = TellsTyped file s reply
 QuestionAnswer (rescue keep_type) s reply = Replies (RescuesTyped (types_kept keep_type) s) reply
 QuestionAnswer (rescue_deleted keep_type) s reply = Replies (RescuesTypedOf true (types_kept keep_type) s) reply
 QuestionAnswer (rescue_before with_deleted keep_type) s reply = Replies (RescuesBefore with_deleted (types_kept keep_type) s) reply
+QuestionAnswer (rescue_all with_deleted) s reply = Replies (RescuesAll with_deleted s) reply
 
 -- the remarks on runs of blocks that were not read
 abbrev pub unread_remarks : List UnreadRun → List Remark
@@ -121,9 +123,15 @@ SurveyAnswer r input reply = Hinted input (InquiryAnswer r (length input) (subje
 abbrev pub WordsAskForOneInquiry : Type 0
 WordsAskForOneInquiry = (words : List (List ℕ)) (r q : InquiryValue) → AsksSurvey words r → AsksSurvey words q → r ≡ q
 
--- what is asked of an image has one answer at most
+-- the question is for a volume with all that can be kept: where the links are laid in it is free
+abbrev pub keeps_all : QuestionValue → Bool
+keeps_all (rescue_all with_deleted) = true
+keeps_all q = false
+
+-- what else is asked of an image has one answer at most
 abbrev pub InquiriesHaveOneAnswer : Type 0
-InquiriesHaveOneAnswer = (r : InquiryValue) (input : List ℕ) (a b : Reply) → SurveyAnswer r input a → SurveyAnswer r input b → a ≡ b
+InquiriesHaveOneAnswer =
+    (r : InquiryValue) (input : List ℕ) (a b : Reply) → keeps_all r.question ≡ false → SurveyAnswer r input a → SurveyAnswer r input b → a ≡ b
 
 -- what errors get where the words are refused
 abbrev pub survey_usage : List ℕ
@@ -132,6 +140,7 @@ survey_usage =
     ++ codes "       adf-survey [--blocks N] [--map MAP] [--blank] cat [--damaged] PATH [FILE]\n"
     ++ codes "       adf-survey [--blocks N] [--map MAP] [--blank] cat --deleted BLOCK [FILE]\n"
     ++ codes "       adf-survey [--blocks N] [--map MAP] [--blank] rescue [--keep-type] [--deleted] [--before-format] [FILE]\n"
+    ++ codes "       adf-survey [--blocks N] [--map MAP] [--blank] rescue --keep-all [--deleted] [FILE]\n"
     ++ codes "       adf-survey [--blocks N] [--map MAP] [--blank] deleted [FILE]\n"
     ++ codes "       adf-survey [--blocks N] [--map MAP] [--blank] blank [FILE]\n"
     ++ codes "without a FILE the image comes on standard input; man adf-survey tells more\n"

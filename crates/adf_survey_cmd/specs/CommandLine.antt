@@ -8,7 +8,7 @@ use Rattle.adf_words.specs.Arguments.{bare_app, cat_app, flag_rule, has_flag, nu
 use Rattle.adf_words.specs.FileArguments.{file_met, file_rule}
 use Rattle.adf_survey_cmd.specs.declared.command_line.Inquiry.{Inquiry}
 use Rattle.adf_survey_cmd.specs.declared.command_line.Question.{Question, TheVariants.Report, TheVariants.List as ListAll}
-use Rattle.adf_survey_cmd.specs.declared.command_line.Question.TheVariants.{Blanks, Cat, Rescue, RescueBefore, RescueDeleted, Deleted}
+use Rattle.adf_survey_cmd.specs.declared.command_line.Question.TheVariants.{Blanks, Cat, Rescue, RescueAll, RescueBefore, RescueDeleted, Deleted}
 
 -- the option --blocks N
 abbrev pub blocks_rule : Rule
@@ -18,11 +18,15 @@ blocks_rule = record (new_rule (codes "blocks")) { long = Some (codes "blocks") 
 abbrev pub survey_cat_app : App
 survey_cat_app = with_rule (with_rule (with_rule cat_app (flag_rule (codes "damaged"))) (flag_rule (codes "deleted"))) file_rule
 
--- rescue [--keep-type] [--deleted], and the rest of its words
-abbrev pub flagged_rescue : App
-flagged_rescue = with_rule (with_rule (new_app (codes "rescue")) (flag_rule (codes "keep-type"))) (flag_rule (codes "deleted"))
+-- rescue [--keep-type] [--keep-all], and the rest of its words
+abbrev pub typed_rescue : App
+typed_rescue = with_rule (with_rule (new_app (codes "rescue")) (flag_rule (codes "keep-type"))) (flag_rule (codes "keep-all"))
 
--- rescue [--keep-type] [--deleted] [--before-format] [FILE]
+-- the same with [--deleted]
+abbrev pub flagged_rescue : App
+flagged_rescue = with_rule typed_rescue (flag_rule (codes "deleted"))
+
+-- rescue [--keep-type] [--keep-all] [--deleted] [--before-format] [FILE]
 abbrev pub survey_rescue_app : App
 survey_rescue_app = with_rule (with_rule flagged_rescue (flag_rule (codes "before-format"))) file_rule
 
@@ -47,7 +51,7 @@ abbrev pub flagged_survey : App
 flagged_survey = with_rule (with_rule (with_rule numbered_survey (flag_rule (codes "list"))) (flag_rule (codes "json"))) file_rule
 
 -- the command line: [--blocks N] [--map TEXT] [--blank], and [--list] [--json] [FILE], cat [--damaged] PATH [FILE], cat --deleted BLOCK [FILE], rescue
--- [--keep-type] [--deleted] [--before-format] [FILE], deleted [FILE], or blank [FILE]
+-- [--keep-type] [--keep-all] [--deleted] [--before-format] [FILE], deleted [FILE], or blank [FILE]
 abbrev pub survey_app : App
 survey_app =
     let rescues = with_subcommand (with_subcommand flagged_survey survey_cat_app.top) survey_rescue_app.top in
@@ -55,7 +59,8 @@ survey_app =
 
 -- what is asked of an image: all findings; these and what is found, both as lines or as objects; the bytes of a file, which is sound or may be damaged; a new
 -- volume of all that stands, which keeps the letters of the image, or has ASCII letters; the same with the deleted files that are whole; one of these of what
--- the image held before it was formatted; the deleted headers, or the bytes of the file of one, by its block; or the bytes of files in blank blocks
+-- the image held before it was formatted; a new volume of all that stands with the letters of the image and the links that can be kept, and perhaps with the
+-- deleted files that are whole; the deleted headers, or the bytes of the file of one, by its block; or the bytes of files in blank blocks
 pub data QuestionValue : Type 0 where
   report : (json : Bool) → QuestionValue
   list : (json : Bool) → QuestionValue
@@ -63,6 +68,7 @@ pub data QuestionValue : Type 0 where
   rescue : (keep_type : Bool) → QuestionValue
   rescue_deleted : (keep_type : Bool) → QuestionValue
   rescue_before : (with_deleted keep_type : Bool) → QuestionValue
+  rescue_all : (with_deleted : Bool) → QuestionValue
   deleted : (file : Option ℕ) → QuestionValue
   blanks : QuestionValue
 
@@ -104,16 +110,23 @@ abbrev pub rescue_asked : (before with_deleted keep_type : Bool) → QuestionVal
 rescue_asked before with_deleted keep_type =
     if before then rescue_before with_deleted keep_type else (if with_deleted then rescue_deleted keep_type else rescue keep_type)
 
+-- what it asks with --keep-all, whether --keep-type is beside it or not; nothing with --before-format
+abbrev pub all_asked : (before with_deleted : Bool) → Option QuestionValue
+all_asked before with_deleted = if before then None else Some (rescue_all with_deleted)
+
 -- the same by the matches
-abbrev pub rescue_met : List Row → QuestionValue
+unfoldable pub rescue_met : List Row → Option QuestionValue
 rescue_met rows =
-    rescue_asked (has_flag (codes "before-format") rows) (has_flag (codes "deleted") rows) (has_flag (codes "keep-type") rows)
+    let before = has_flag (codes "before-format") rows in
+    let with_deleted = has_flag (codes "deleted") rows in
+    if has_flag (codes "keep-all") rows then all_asked before with_deleted
+    else Some (rescue_asked before with_deleted (has_flag (codes "keep-type") rows))
 
 -- what a subcommand's name and matches ask
 abbrev pub question_named : Text → List Row → Option QuestionValue
 question_named name rows =
     if bytes_eq name (codes "cat") then cat_met rows
-    else (if bytes_eq name (codes "rescue") then Some (rescue_met rows)
+    else (if bytes_eq name (codes "rescue") then rescue_met rows
     else (if bytes_eq name (codes "deleted") then Some (deleted None)
     else (if bytes_eq name (codes "blank") then Some blanks else None)))
 
@@ -149,7 +162,7 @@ abbrev pub AsksSurveyOf : List Text → InquiryValue → Option Text → Type 0
 AsksSurveyOf args r file = AsksSurvey args r × (survey_file args ≡ file)
 
 -- clap refuses the arguments, or its matches lack the path, have such a flag or a file before a subcommand, have another text than a number of
--- blocks or of a block, another than that of a map, or have --damaged beside --deleted
+-- blocks or of a block, another than that of a map, or have --damaged beside --deleted, or --keep-all beside --before-format
 abbrev pub AreRefusedBySurvey : List Text → Type 0
 AreRefusedBySurvey args = (¬ (fault_of survey_app args ≡ [])) ⊎ (inquiry_of args ≡ None)
 
@@ -161,6 +174,7 @@ question_value (Cat path damaged) = cat damaged path.now
 question_value (Rescue keep_type) = rescue keep_type
 question_value (RescueDeleted keep_type) = rescue_deleted keep_type
 question_value (RescueBefore with_deleted keep_type) = rescue_before with_deleted keep_type
+question_value (RescueAll with_deleted) = rescue_all with_deleted
 question_value (Deleted file) = deleted file
 question_value Blanks = blanks
 

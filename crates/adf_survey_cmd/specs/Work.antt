@@ -1,11 +1,11 @@
 -- What is done for words, once they and their path are read.
 use Rattle.std.specs.Prelude.{◌≡◌, ℕ, Bool, List, Option, None, Some}
 use Rattle.adf_names.specs.PathTexts.{IsPathText}
-use Rattle.adf_survey_cmd.specs.CommandLine.{InquiryValue, QuestionValue, blanks, cat, deleted, list, report, rescue, rescue_before, rescue_deleted}
+use Rattle.adf_survey_cmd.specs.CommandLine.{InquiryValue, QuestionValue, blanks, cat, deleted, list, report, rescue, rescue_all, rescue_before, rescue_deleted}
 use Rattle.adf_subjects.specs.Lengths.{AreFew}
 use Rattle.adf_survey_cmd.specs.{Answers.types_kept, declared.work.Work.Work}
 use Rattle.adf_survey_cmd.specs.declared.work.Task.{Task, TheVariants.Show, TheVariants.Rescue, TheVariants.RescueDeleted}
-use Rattle.adf_survey_cmd.specs.declared.work.Task.TheVariants.{RescueBefore, Deleted}
+use Rattle.adf_survey_cmd.specs.declared.work.Task.TheVariants.{RescueAll, RescueBefore, Deleted}
 use Rattle.adf_survey_cmd.specs.declared.work.View.{View, TheVariants.Findings, TheVariants.List as ListAll, TheVariants.Cat, TheVariants.Blanks as BlanksOf}
 
 -- what is shown is what is asked, with the names of the path
@@ -22,6 +22,7 @@ Answers (Deleted file) q = q ≡ deleted file
 Answers (Rescue types) q = (keep_type : Bool) × (types ≡ types_kept keep_type) × (q ≡ rescue keep_type)
 Answers (RescueDeleted types) q = (keep_type : Bool) × (types ≡ types_kept keep_type) × (q ≡ rescue_deleted keep_type)
 Answers (RescueBefore with_deleted types) q = (keep_type : Bool) × (types ≡ types_kept keep_type) × (q ≡ rescue_before with_deleted keep_type)
+Answers (RescueAll with_deleted) q = q ≡ rescue_all with_deleted
 
 -- the form of the lines that a task tells findings in
 abbrev pub task_json : Task → Option Bool

@@ -9,7 +9,7 @@ ghost use Rattle.adf_survey_cmd.specs.CommandLine.{AsksSurvey, AsksSurveyOf, Are
 ghost use Rattle.adf_subjects.specs.Lengths.{AreFew};
 ghost use Rattle.adf_survey_cmd.specs.CommandLine.{cat_met, flagged_survey, list, inquiry_met, inquiry_value, map_met, question_met};
 ghost use Rattle.adf_survey_cmd.specs.CommandLine.{blanks, deleted, question_named, question_value, report, rescue};
-ghost use Rattle.adf_survey_cmd.specs.CommandLine.{rescue_asked, rescue_before, rescue_deleted};
+ghost use Rattle.adf_survey_cmd.specs.CommandLine.{all_asked, rescue_all, rescue_asked, rescue_before, rescue_deleted, rescue_met};
 ghost use Rattle.adf_survey_cmd.specs.CommandLine.{survey_app, survey_blank_app, survey_cat_app};
 ghost use Rattle.adf_survey_cmd.specs.CommandLine.{survey_deleted_app, survey_file, survey_rescue_app};
 
@@ -29,6 +29,7 @@ pub const SURVEY_USAGE: &str =
     \x20      adf-survey [--blocks N] [--map MAP] [--blank] cat [--damaged] PATH [FILE]\n\
     \x20      adf-survey [--blocks N] [--map MAP] [--blank] cat --deleted BLOCK [FILE]\n\
     \x20      adf-survey [--blocks N] [--map MAP] [--blank] rescue [--keep-type] [--deleted] [--before-format] [FILE]\n\
+    \x20      adf-survey [--blocks N] [--map MAP] [--blank] rescue --keep-all [--deleted] [FILE]\n\
     \x20      adf-survey [--blocks N] [--map MAP] [--blank] deleted [FILE]\n\
     \x20      adf-survey [--blocks N] [--map MAP] [--blank] blank [FILE]\n\
     without a FILE the image comes on standard input; man adf-survey tells more\n";
@@ -47,6 +48,8 @@ pub const ABOUT: About = About {
     \x20          a new volume of all that can be kept; with --keep-type of the letters of the image;\n\
     \x20          with --deleted also of the deleted files that are whole, in a directory deleted;\n\
     \x20          with --before-format of what was there before the disk was formatted, and not of what stands now\n\
+    \x20      adf-survey [--blocks N] [--map MAP] [--blank] rescue --keep-all [--deleted] [FILE] > NEW\n\
+    \x20          as with --keep-type, and with the links that can be kept\n\
     \x20      adf-survey [--blocks N] [--map MAP] [--blank] deleted [FILE]\n\
     \x20          each deleted file and directory whose header still stands, and what speaks for it\n\
     \x20      adf-survey [--blocks N] [--map MAP] [--blank] blank [FILE]\n\
@@ -74,6 +77,9 @@ pub enum Question<'a> {
     RescueDeleted { keep_type: bool },
     /// One of these of what the image held before it was formatted, in place of what stands on it.
     RescueBefore { with_deleted: bool, keep_type: bool },
+    /// A new volume of all that stands, with the letters of the image and the links that can be kept, and perhaps with the deleted
+    /// files that are whole.
+    RescueAll { with_deleted: bool },
     /// The deleted headers, or the bytes of the file of one, by its block.
     Deleted { file: Option<u32> },
     /// The bytes of files in blank blocks.
@@ -115,13 +121,14 @@ fn survey_cat_command<'a>(alloc: Global) -> Result<Command<'a>, AllocError>
     with_argument(cats, file_argument(alloc))
 }
 
-// The command `rescue [--keep-type] [--deleted] [--before-format] [FILE]`.
+// The command `rescue [--keep-type] [--keep-all] [--deleted] [--before-format] [FILE]`.
 fn survey_rescue_command<'a>(alloc: Global) -> Result<Command<'a>, AllocError>
     ensures app { IfOk result (λ c. app_of c ≡ survey_rescue_app) }
     ensures local { IfOk result (λ c. (out-Command c).has_globals ≡ false) }
 {
     let typed = with_argument(Ok(Command::new(alloc, "rescue")), flag(alloc, "keep-type"));
-    let rescues = with_argument(typed, flag(alloc, "deleted"));
+    let linked = with_argument(typed, flag(alloc, "keep-all"));
+    let rescues = with_argument(linked, flag(alloc, "deleted"));
     let formatted = with_argument(rescues, flag(alloc, "before-format"));
     with_argument(formatted, file_argument(alloc))
 }
@@ -214,6 +221,30 @@ fn rescue_asked<'a>(before: bool, with_deleted: bool, keep_type: bool) -> Questi
     Question::Rescue { keep_type }
 }
 
+// What `rescue` asks with `--keep-all`, with the deleted files or without them; nothing of what was there before the format.
+fn all_asked<'a>(before: bool, with_deleted: bool) -> Option<Question<'a>>
+    ensures { option_map question_value result ≡ all_asked before with_deleted }
+{
+    if before {
+        None
+    } else {
+        Some(Question::RescueAll { with_deleted })
+    }
+}
+
+// What the matches of `rescue` ask.
+#[tactic(auto, unfolding(crate::specs::CommandLine::rescue_met))]
+fn rescue_in<'a>(found: &ArgMatches<'a>) -> Option<Question<'a>>
+    ensures { option_map question_value result ≡ rescue_met (rows_of (found_of found.now)) }
+{
+    let before = has_flag(found, "before-format");
+    let with_deleted = has_flag(found, "deleted");
+    if has_flag(found, "keep-all") {
+        return all_asked(before, with_deleted);
+    }
+    Some(rescue_asked(before, with_deleted, has_flag(found, "keep-type")))
+}
+
 // What a subcommand's name and matches ask.
 fn question_named<'a>(name: &str, found: &ArgMatches<'a>) -> Option<Question<'a>>
     ensures { option_map question_value result
@@ -222,12 +253,7 @@ fn question_named<'a>(name: &str, found: &ArgMatches<'a>) -> Option<Question<'a>
     if name == "cat" {
         cat_in(found)
     } else if name == "rescue" {
-        let before = has_flag(found, "before-format");
-        Some(rescue_asked(
-            before,
-            has_flag(found, "deleted"),
-            has_flag(found, "keep-type"),
-        ))
+        rescue_in(found)
     } else if name == "deleted" {
         Some(Question::Deleted { file: None })
     } else if name == "blank" {
@@ -305,9 +331,8 @@ fn survey_matches<'a>(alloc: Global, args: &'a [&str]) -> Result<ArgMatches<'a>,
 }
 
 /// Reads the arguments; the first one is the program's name. `Usage` if and only if clap refuses them or its matches lack the
-/// path, have `--list`, `--json` or a file before a command, have no number of blocks or of a block, no text of a map, or
-/// `--damaged` beside
-/// `--deleted`; `NoMemory` if an allocation failed.
+/// path, have `--list`, `--json` or a file before a command, have no number of blocks or of a block, no text of a map, `--damaged`
+/// beside `--deleted`, or `--keep-all` beside `--before-format`; `NoMemory` if an allocation failed.
 pub fn parse_survey<'a>(alloc: Global, args: &'a [&str]) -> Result<Inquiry<'a>, ArgsError>
     ensures ok { IfOk result (λ inquiry.
         AsksSurvey (texts_of args.entry.now) (inquiry_value inquiry)) }
@@ -331,7 +356,7 @@ pub fn survey_file<'a>(alloc: Global, args: &'a [&str]) -> Result<Option<&'a str
 
 /// The arguments of the documentation are taken with what they ask for and the file that they name, and other
 /// arguments are refused, calls for help among them.
-#[tactic(auto, unfolding(clap::proofs::OnLiterals::clap_on_literals, crate::specs::CommandLine::cat_met))]
+#[tactic(auto, unfolding(clap::proofs::OnLiterals::clap_on_literals, crate::specs::CommandLine::cat_met, crate::specs::CommandLine::rescue_met))]
 pub fn survey_words_as_documented()
     ensures report { AsksSurveyOf (codes "adf-survey" ∷ []) (asked None (report false)) None }
     ensures no_args { AsksSurveyOf [] (asked None (report false)) None }
@@ -428,6 +453,14 @@ pub fn survey_words_as_documented()
     ensures before_all { AsksSurveyOf
         (codes "adf-survey" ∷ codes "rescue" ∷ codes "--before-format" ∷ codes "--deleted" ∷ codes "--keep-type"
         ∷ codes "a.adf" ∷ []) (asked None (rescue_before true true)) (Some (codes "a.adf")) }
+    ensures keep_all { AsksSurveyOf (codes "adf-survey" ∷ codes "rescue" ∷ codes "--keep-all" ∷ [])
+        (asked None (rescue_all false)) None }
+    ensures keep_all_file { AsksSurveyOf
+        (codes "adf-survey" ∷ codes "rescue" ∷ codes "--keep-all" ∷ codes "--deleted" ∷ codes "a.adf" ∷ [])
+        (asked None (rescue_all true)) (Some (codes "a.adf")) }
+    ensures keep_all_type { AsksSurveyOf
+        (codes "adf-survey" ∷ codes "rescue" ∷ codes "--keep-type" ∷ codes "--keep-all" ∷ [])
+        (asked None (rescue_all false)) None }
     ensures deleted { AsksSurveyOf (codes "adf-survey" ∷ codes "deleted" ∷ []) (asked None (deleted None)) None }
     ensures deleted_file { AsksSurveyOf (codes "adf-survey" ∷ codes "deleted" ∷ codes "a.adf" ∷ [])
         (asked None (deleted None)) (Some (codes "a.adf")) }
@@ -506,6 +539,12 @@ pub fn survey_words_as_documented()
         (codes "adf-survey" ∷ codes "cat" ∷ codes "--keep-type" ∷ codes "a" ∷ []) }
     ensures keep_type_twice { AreRefusedBySurvey
         (codes "adf-survey" ∷ codes "rescue" ∷ codes "--keep-type" ∷ codes "--keep-type" ∷ []) }
+    ensures keep_all_before { AreRefusedBySurvey
+        (codes "adf-survey" ∷ codes "rescue" ∷ codes "--keep-all" ∷ codes "--before-format" ∷ []) }
+    ensures keep_all_front { AreRefusedBySurvey
+        (codes "adf-survey" ∷ codes "--keep-all" ∷ codes "rescue" ∷ []) }
+    ensures keep_all_twice { AreRefusedBySurvey
+        (codes "adf-survey" ∷ codes "rescue" ∷ codes "--keep-all" ∷ codes "--keep-all" ∷ []) }
     ensures short_list { AreRefusedBySurvey (codes "adf-survey" ∷ codes "-l" ∷ []) }
     ensures flag { AreRefusedBySurvey (codes "adf-survey" ∷ codes "-x" ∷ []) }
     ensures help { AreRefusedBySurvey (codes "adf-survey" ∷ codes "--help" ∷ []) }

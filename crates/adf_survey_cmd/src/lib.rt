@@ -6,10 +6,8 @@ mod blanks;
 mod command_line;
 mod hints;
 mod laws;
-mod loss_lines;
 mod map_runs;
 mod map_words;
-mod rescuing;
 mod runner;
 mod unread;
 mod work;
@@ -17,7 +15,7 @@ mod work;
 pub use crate::command_line::{
     Inquiry, Question, parse_survey as parse, survey_words_as_documented,
 };
-pub use crate::laws::{rescued_volumes, rescued_with_deleted};
+pub use crate::laws::{rescued_volumes, rescued_with_deleted, rescued_with_links};
 pub use crate::map_runs::run_mapped;
 pub use crate::runner::{one_answer, run_files};
 pub use crate::work::{Task, View, Work};

@@ -17,7 +17,6 @@ use crate::behind::end_behind;
 use crate::blanks::write_blanks;
 use crate::command_line::{Question, SURVEY_USAGE as USAGE, parse_survey, survey_file};
 use crate::hints::{hinted, is_hard_disk};
-use crate::rescuing::{Terms, rescue_image};
 use crate::unread::{Dropped, unless_unread};
 use adf_cmd::most_image_bytes;
 use adf_file_runs::FileProgram;
@@ -26,6 +25,7 @@ use adf_listings::{write_findings, write_list};
 use adf_maps::Map;
 use adf_remains::{Asked, copy_found, tell_deleted};
 use adf_rescue::is_mended;
+use adf_rescue_writing::{Terms, rescue_all, rescue_image};
 use adf_runs::{Outcome, Program, Sink, Source, WorkFault, read_input};
 use adf_subjects::{Subject, before_format, other_type};
 use adf_tree::{Name, read_path};
@@ -53,6 +53,8 @@ pub enum Task {
     RescueDeleted(Types),
     /// One of these of what the image held before it was formatted.
     RescueBefore { with_deleted: bool, types: Types },
+    /// The volume has the letters of the image, and the links that can be kept.
+    RescueAll { with_deleted: bool },
     /// The deleted headers, or what is left of the file of one, by its block.
     Deleted(Option<u32>),
 }
@@ -100,6 +102,7 @@ fn task_for(alloc: Global, question: Question<'_>) -> Result<Task, WorkFault>
             with_deleted,
             types: types_kept(keep_type),
         }),
+        Question::RescueAll { with_deleted } => Ok(Task::RescueAll { with_deleted }),
         Question::Deleted { file } => Ok(Task::Deleted(file)),
         Question::Blanks => Ok(Task::Show(View::Blanks)),
     }
@@ -298,6 +301,7 @@ impl Task {
                 with_deleted,
                 types,
             } => rescue_before(alloc, subject, *types, *with_deleted, output),
+            Task::RescueAll { with_deleted } => rescue_all(alloc, subject, *with_deleted, output),
             Task::Deleted(file) => tell_deleted(alloc, subject, *file, output),
         }
     }

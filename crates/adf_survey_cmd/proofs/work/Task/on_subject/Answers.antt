@@ -2,6 +2,7 @@ use Rattle.std.proofs.Common.{false, subst, sym, true}
 use Rattle.adf_runs.proofs.Endings.{ends_weaker}
 use Rattle.adf_survey_cmd.specs.{Answers.QuestionAnswer, Work.Answers}
 use Rattle.adf_remains.specs.Deletions.{TellsTyped}
+use Rattle.adf_rescue_writing.specs.KeptAll.{RescuesAll}
 use Rattle.adf_subjects.specs.{Rescues.RescuesBefore, Rescues.RescuesTypedOf, Rescues.Replies, Subject.subject_value}
 use Rattle.adf_survey_cmd.proofs.work.Task.on_subject.Goals as goal
 
@@ -36,3 +37,10 @@ returns-in-RescueBefore-clause-ends g c = λ q answers.
     ends_weaker (Replies (RescuesBefore plus _ s)) (QuestionAnswer q s) _ _ _
     (λ reply told. subst (λ q. QuestionAnswer q s reply) (sym asks) (subst (λ types. Replies (RescuesBefore plus types s) reply) same told))
     c.rescue_before.ensures.ends
+
+pub returns-in-RescueAll-clause-ends : goal.returns-in-RescueAll-clause-ends
+returns-in-RescueAll-clause-ends g c = λ q answers.
+    let s = subject_value c.args.subject in
+    let asks = subst (λ task. Answers task q) c.in-RescueAll.is answers in
+    ends_weaker (Replies (RescuesAll c.in-RescueAll.with_deleted s)) (QuestionAnswer q s) _ _ _
+    (λ reply told. subst (λ q. QuestionAnswer q s reply) (sym asks) told) c.rescue_all.ensures.ends

@@ -7,6 +7,7 @@ ghost use Rattle.adf_build.specs.{Building.IsBuildable, Laid.IsLaid};
 ghost use Rattle.adf_runs.specs.{Outcomes.Blames, Outcomes.Does, Outcomes.outcome_text, Outcomes.status_of, Streams.seen};
 ghost use Rattle.adf_subjects.specs.{Losses.loss_values, Losses.losses_text, Losses.runs_lost, Prepared.IsToldRefusal};
 ghost use Rattle.adf_subjects.specs.{Prepared.WritesPrepared, Rescues.Replies, Rescues.RescuesOf, Rescues.text_status};
+ghost use Rattle.adf_rescue_writing.specs.KeptAll.{written_reply};
 ghost use Rattle.adf_texts.specs.Lines.{fault_line};
 
 use crate::loss_lines::push_losses;
@@ -40,9 +41,21 @@ fn told(lines: Vec<u8>) -> Outcome
     }
 }
 
-// Lays the volume of a tree that fits in so many blocks, and puts these boot blocks into it.
+/// Writes the volume of a rescue, and ends with the lines of what is not in it.
+pub fn write_volume<W: Sink>(image: &[u8], lines: Vec<u8>, output: &mut W) -> Outcome
+    requires { W.has_failed output.old ≡ false }
+    ensures { Does (λ reply. reply ≡ written_reply image.now lines.items) result
+        (seen W.held W.has_failed output.old output.new) }
+{
+    match write_all(output, image) {
+        Ok(()) => told(lines),
+        Err(_) => Outcome::WriteFault,
+    }
+}
+
+/// Lays the volume of a tree that fits in so many blocks, and puts these boot blocks into it.
 #[tactic(auto, using(adf_subjects::proofs::KeptBoots::laid_long))]
-fn lay_with(alloc: Global, draft: Draft, blocks: u32, boot: &[u8]) -> Result<Vec<u8>, NoMemory>
+pub fn lay_with(alloc: Global, draft: Draft, blocks: u32, boot: &[u8]) -> Result<Vec<u8>, NoMemory>
     requires fits { IsBuildable draft.tree blocks }
     requires boot { BOOT_LEN ≤ length boot.now }
     ensures { IfOk result (λ image. (volume : List ℕ) × IsLaid volume draft.tree
@@ -53,8 +66,8 @@ fn lay_with(alloc: Global, draft: Draft, blocks: u32, boot: &[u8]) -> Result<Vec
     Ok(image)
 }
 
-// A text, and the lines of losses behind it.
-fn with_losses(alloc: Global, text: &str, losses: &[Loss]) -> Result<Vec<u8>, AllocError>
+/// A text, and the lines of losses behind it.
+pub fn with_losses(alloc: Global, text: &str, losses: &[Loss]) -> Result<Vec<u8>, AllocError>
     ensures { IfOk result (λ lines. lines.items ≡ text.now ++ losses_text (loss_values losses.now)) }
 {
     let mut lines = Vec::from_slice(alloc, text.as_bytes())?;
@@ -82,12 +95,9 @@ fn write_prepared<W: Sink>(
     let Ok(lines) = with_losses(alloc, "", &losses) else {
         return Outcome::NoMemory;
     };
-    let Ok(image) = lay_with(alloc, draft, blocks, boot) else {
-        return Outcome::NoMemory;
-    };
-    match write_all(output, &image) {
-        Ok(()) => told(lines),
-        Err(_) => Outcome::WriteFault,
+    match lay_with(alloc, draft, blocks, boot) {
+        Ok(image) => write_volume(&image, lines, output),
+        Err(_) => Outcome::NoMemory,
     }
 }
 
@@ -99,8 +109,8 @@ fn refusal_lines(alloc: Global, fault: Fault, losses: &[Loss]) -> Result<Vec<u8>
     with_losses(alloc, &line, losses)
 }
 
-// Tells why a rescue gives no volume.
-fn refused(alloc: Global, unrescued: Unrescued) -> Outcome
+/// Tells why a rescue gives no volume.
+pub fn refused(alloc: Global, unrescued: Unrescued) -> Outcome
     ensures { IsToldRefusal unrescued result }
 {
     match unrescued {

@@ -2,7 +2,7 @@ use Rattle.std.proofs.{Common.arith, lemmas.Grind.common_steps}
 use Rattle.adf_runs.proofs.Endings.{does_weaker}
 use Rattle.adf_subjects.specs.{Losses.runs_lost, Prepared.WritesPrepared, Rescues.Replies, Rescues.RescuesOf}
 use Rattle.adf_subjects.proofs.RescueAnswers.{refusal_ends, written_replies}
-use Rattle.adf_survey_cmd.proofs.rescuing.rescue_image.Goals as goal
+use Rattle.adf_rescue_writing.proofs.rescuing.rescue_image.Goals as goal
 
 pub returns-in-Ok : goal.returns-in-Ok
 returns-in-Ok g c =

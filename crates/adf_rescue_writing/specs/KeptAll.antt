@@ -1,0 +1,64 @@
+-- Rescues with all that is kept of an input beside their volumes.
+-- Letters: s, t what is surveyed; p a prepared rescue, boot the boot blocks of the input; input the image that is read; q, r what a rescue gives; ls losses,
+-- l one of them; kept marks of links, by the blocks of their headers; plus whether the deleted files that are whole are kept too.
+use Rattle.std.specs.Prelude.{◌≡◌, ◌⊎◌, ◌==◌, ◌&&◌, ℕ, Bool, true, not, List, []}
+use Rattle.std.specs.List.{filter}
+use Rattle.adf_blocks.specs.Sizes.{blocks}
+use Rattle.adf_boot_blocks.specs.Writing.{restored}
+use Rattle.adf_build.specs.Laid.{IsLaid}
+use Rattle.adf_volume.specs.declared.types.Types.TheVariants.{WithInternational}
+use Rattle.adf_findings.specs.Members.{has_mark}
+use Rattle.adf_cache_laying.specs.LaidCaches.{HasCaches}
+use Rattle.adf_link_laying.specs.KeptLinks.{HasLinks}
+use Rattle.adf_rescue.specs.Pruned.{image_read}
+use Rattle.adf_uncached.specs.Uncached.{is_cached}
+use Rattle.adf_runs.specs.Commands.{Reply}
+use Rattle.adf_subjects.specs.{Losses.LossValue, Losses.loss_values, Losses.reason_number, declared.losses.Reason.TheVariants.Link}
+use Rattle.adf_subjects.specs.declared.preparing.Prepared.{Prepared}
+use Rattle.adf_subjects.specs.{Rescues.RescueValue, Rescues.RescueValue.refused, Rescues.RescueValue.written, Rescues.RescuesOf, Rescues.text_status}
+use Rattle.adf_subjects.specs.Subject.{IsTyped, SubjectValue, sized}
+
+-- a loss tells a link whose header is marked
+abbrev pub tells_kept : List Bool → LossValue → Bool
+tells_kept kept l = (l.why == reason_number Link) && has_mark kept l.first
+
+-- the losses that do not
+abbrev pub losses_beside : List Bool → List LossValue → List LossValue
+losses_beside kept ls = filter (λ l. not (tells_kept kept l)) ls
+
+-- a volume has links of an input, which are marked; or it is as it was, and none is marked
+abbrev pub MayHaveLinks : (input volume linked : List ℕ) → List Bool → Type 0
+MayHaveLinks input volume linked kept = HasLinks input volume linked kept ⊎ ((linked ≡ volume) × (kept ≡ []))
+
+-- a volume has directory caches, since the input has them; or it is as it was
+abbrev pub MayHaveCaches : (input volume image : List ℕ) → Type 0
+MayHaveCaches input volume image = ((is_cached input ≡ true) × HasCaches volume image) ⊎ (image ≡ volume)
+
+-- an image is a volume with what is kept of an input beside it: with links, which are marked, and with directory caches
+abbrev pub IsKeptAll : (input volume image : List ℕ) → List Bool → Type 0
+IsKeptAll input volume image kept = (linked : List ℕ) × MayHaveLinks input volume linked kept × MayHaveCaches input linked image
+
+-- r is q with all that is kept of an input beside its volume, of which no loss tells any more
+abbrev pub KeepsAll : (input : List ℕ) → (q r : RescueValue) → Type 0
+KeepsAll input (written volume ls) r =
+    (image : List ℕ) × (kept : List Bool) × IsKeptAll input volume image kept × (r ≡ written image (losses_beside kept ls))
+KeepsAll input (refused f ls) r = ⊥
+
+-- r is given, or is what is given with all that is kept beside it
+abbrev pub MayKeepAll : (input : List ℕ) → (gives : RescueValue → Type 0) → (r : RescueValue) → Type 0
+MayKeepAll input gives r = gives r ⊎ ((q : RescueValue) × gives q × KeepsAll input q r)
+
+-- the volume that is laid for a prepared rescue, with the boot blocks put back into it, and its losses
+abbrev pub IsLaidFor : Prepared → (boot : List ℕ) → RescueValue → Type 0
+IsLaidFor p boot r =
+    (volume : List ℕ) × IsLaid volume p.draft.tree × (blocks volume ≡ p.blocks) × (r ≡ written (restored volume boot) (loss_values p.losses.items))
+
+-- the rescue of what is surveyed, with the letters of its image, or that with all that is kept beside it of the image that a rescue reads
+abbrev pub RescuesAll : (plus : Bool) → SubjectValue → RescueValue → Type 0
+RescuesAll plus s r =
+    (t : SubjectValue) × IsTyped s t
+    × MayKeepAll (image_read true t.image) (RescuesOf plus WithInternational t.end t.lost t.image (sized 2 s.image)) r
+
+-- the reply with an image on output and lines on errors
+abbrev pub written_reply : (image lines : List ℕ) → Reply
+written_reply image lines = record { status = text_status lines; output = image; errors = lines }

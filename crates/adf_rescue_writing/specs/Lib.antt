@@ -1,0 +1,2 @@
+-- rescues with all that is kept beside their volumes
+pub mod KeptAll
