@@ -2,14 +2,14 @@
 use Rattle.std.proofs.Common.{◌≡◌, ◌+◌, ◌*◌, ◌-◌, ◌/◌, ◌∙◌, inl, ℕ, Bool, List, Option, None, Some, IfSome, ap, arith, drop, length, min, subst, take}
 use Rattle.std.proofs.lemmas.List.{drop_min, length-drop, take-take, take_all, take_min}
 use Rattle.adf_disk_cmd.specs.{Answers.DiskAnswer, Answers.OfBytes, Answers.OfDisk, Answers.OfPartitions, Surveys.IsSurveyed}
-use Rattle.adf_disk_cmd.specs.{Builds.BuildsDisk, Searches.search_reply, Lines.volume_at, Work.IsWorkOf, declared.work.TheConstants.MOST_DISK_BYTES}
+use Rattle.adf_disk_cmd.specs.{Builds.BuildsDisk, Proposals.proposal_reply, Searches.search_reply, Lines.volume_at, Work.IsWorkOf, declared.work.TheConstants.MOST_DISK_BYTES}
 use Rattle.adf_disk_cmd.specs.declared.work.Work.{Work, TheVariants.Check}
 use Rattle.adf_partitions.specs.{declared.fault.DiskFault.DiskFault, declared.partition.Partition.Partition, declared.place.Place.Place}
 use Rattle.std.proofs.lemmas.Grind.{common_steps}
 use Rattle.adf_runs.proofs.{Endings.ends_weaker, PendingText.appends_nil}
 use Rattle.adf_runs.specs.{Commands.Reply, Outcomes.EndsBy, Outcomes.after_reading, declared.outcome.Outcome.Outcome}
 use Rattle.adf_runs.specs.declared.streams.StreamFault.{StreamFault, TheVariants.Device, TheVariants.NoMemory}
-use Rattle.adf_disk_cmd.specs.CommandLine.{DiskRequestValue, build, check, list, search, volume}
+use Rattle.adf_disk_cmd.specs.CommandLine.{DiskRequestValue, build, check, list, propose, search, volume}
 
 -- what is answered to the front of an input that is longer than the largest disk is answered to the whole of it
 pub long_answers : (r : DiskRequestValue) (front bytes : List ℕ) → front ≡ take (MOST_DISK_BYTES + 1) bytes → (reply : Reply)
@@ -37,6 +37,7 @@ of_bytes (list json) bytes reply h = h
 of_bytes (check json) bytes reply h = h
 of_bytes (volume w) bytes reply h = h
 of_bytes (search json) bytes reply (ps, u, disk, never) = absurd never
+of_bytes propose bytes reply (ps, u, disk, never) = absurd never
 of_bytes build bytes reply (ps, u, disk, never) = absurd never
 
 -- what is answered to as many bytes as count is the answer to an input
@@ -54,6 +55,11 @@ pub search_ends : (json : Bool) (bytes part : List ℕ) (w : Outcome) (o o' : Op
     → EndsBy (λ reply. reply ≡ search_reply json part) w o o' → EndsBy (DiskAnswer (search json) bytes) w o o'
 search_ends json bytes part w o o' e h = ends_weaker (λ reply. reply ≡ search_reply json part) (DiskAnswer (search json) bytes) w o o'
     (λ reply tells. subst (λ (l : List ℕ). reply ≡ search_reply json l) e tells) h
+
+pub proposal_ends : (bytes part : List ℕ) (w : Outcome) (o o' : Option (List ℕ)) → part ≡ take MOST_DISK_BYTES bytes
+    → EndsBy (λ reply. reply ≡ proposal_reply part) w o o' → EndsBy (DiskAnswer propose bytes) w o o'
+proposal_ends bytes part w o o' e h = ends_weaker (λ reply. reply ≡ proposal_reply part) (DiskAnswer propose bytes) w o o'
+    (λ reply tells. subst (λ (l : List ℕ). reply ≡ proposal_reply l) e tells) h
 
 -- the work of `check` is that of no other request
 pub checks : (json : Bool) (work : Work) (r : DiskRequestValue) → work ≡ Check json → IsWorkOf work r → r ≡ check json

@@ -22,7 +22,8 @@ use Rattle.adf_disk_cmd.specs.{declared.list_input.TheConstants.TABLES_LEN, decl
 use Rattle.adf_disk_cmd.specs.Surveys.{IsSurveyed, fault_lines, stated_at, states_place}
 use Rattle.adf_disk_cmd.proofs.AnyReading.{AreLike, IsLike, OneLike, named_like, numbered_like, readings_like}
 use Rattle.adf_disk_cmd.proofs.HeldTables.{disk_of, held_ends}
-use Rattle.adf_disk_cmd.specs.Answers.{DiskAnswer, OfPartitions, found_bytes, sought_lines, place_bytes, told_beside, wanted_of}
+use Rattle.adf_disk_cmd.specs.Answers.{DiskAnswer, OfPartitions, found_bytes, sought_lines, place_bytes, wanted_of}
+use Rattle.adf_disk_cmd.specs.Replies.{told_beside}
 
 -- whether a text is this name
 abbrev is_name_of : List ℕ → List ℕ → Bool

@@ -1,6 +1,7 @@
 pub mod Endings
 pub mod CheckedLines
 pub mod SearchLines
+pub mod ProposalLines
 pub mod OneAnswer
 pub mod AnyReading
 pub mod HeldTables

@@ -16,7 +16,7 @@ use Rattle.adf_partitions.specs.{FaultTexts.place_fault_text, Plans.PlanValue, d
 use Rattle.adf_partitions.specs.{Disks.FirstDiskFault, declared.place.Place.Place, declared.place.PlaceFault.PlaceFault}
 use Rattle.adf_plans.specs.{PlanTexts.text_fault_text, declared.plan_text.TextFault.TextFault}
 use Rattle.adf_runs.specs.Commands.{Reply, on_output}
-use Rattle.adf_disk_cmd.specs.CommandLine.{AsksDisk, DiskRequestValue, build, check, list, search, volume}
+use Rattle.adf_disk_cmd.specs.CommandLine.{AsksDisk, DiskRequestValue, build, check, list, propose, search, volume}
 
 pub one_request : (words : List (List ℕ)) (r q : DiskRequestValue) → AsksDisk words r → AsksDisk words q → r ≡ q
 one_request words r q a b = grind (arith, common_steps)
@@ -62,6 +62,7 @@ of_once : (r : DiskRequestValue) (bytes : List ℕ) (ps : List Partition) (u : O
 of_once (list json) bytes ps u a b x y = x ∙ sym y
 of_once (check json) bytes ps u a b x y = all_once json bytes ps u a b x y
 of_once (search json) bytes ps u a b x y = absurd x
+of_once propose bytes ps u a b x y = absurd x
 of_once (volume w) bytes ps u a b x y = x ∙ sym y
 of_once build bytes ps u a b x y = absurd x
 
@@ -86,6 +87,7 @@ damaged_told : (r : DiskRequestValue) (bytes : List ℕ) (ps : List Partition) (
 damaged_told (list json) bytes ps f a x = ap (λ (k : Reply). k.status) x
 damaged_told (check json) bytes ps f a (s, l, h, x) = ap (λ (k : Reply). k.status) x
 damaged_told (search json) bytes ps f a x = absurd x
+damaged_told propose bytes ps f a x = absurd x
 damaged_told (volume w) bytes ps f a x = ap (λ (k : Reply). k.status) x
 damaged_told build bytes ps f a x = absurd x
 
@@ -110,6 +112,7 @@ bytes_once : (r : DiskRequestValue) (bytes : List ℕ) (a b : Reply) → OfBytes
 bytes_once (list json) bytes a b x y = disk_once (list json) bytes a b x y
 bytes_once (check json) bytes a b x y = disk_once (check json) bytes a b x y
 bytes_once (search json) bytes a b x y = x ∙ sym y
+bytes_once propose bytes a b x y = x ∙ sym y
 bytes_once (volume w) bytes a b x y = disk_once (volume w) bytes a b x y
 bytes_once build bytes a b x y = build_once bytes a b x y
 

@@ -7,8 +7,9 @@ use Rattle.adf_texts.specs.Names.{names_text}
 use Rattle.adf_partitions.specs.{Disks.FirstDiskFault, FaultTexts.place_fault_text, Partitions.partition_numbered, declared.fault.DiskFault.DiskFault}
 use Rattle.adf_partitions.specs.{declared.partition.Partition.Partition, declared.place.Place.Place}
 use Rattle.adf_partitions.specs.declared.place.PlaceFault.{PlaceFault, TheVariants.BeyondImage}
-use Rattle.adf_disk_cmd.specs.CommandLine.{AreRefusedByDisk, AsksDisk, DiskRequestValue, WantedValue, build, check, list, name, number, search, volume}
+use Rattle.adf_disk_cmd.specs.CommandLine.{AreRefusedByDisk, AsksDisk, DiskRequestValue, WantedValue, build, check, list, name, number, propose, search, volume}
 use Rattle.adf_disk_cmd.specs.{Builds.BuildsDisk, Checks.AreChecked, Checks.check_status, Lines.volume_at, Objects.list_lines, Searches.search_reply}
+use Rattle.adf_disk_cmd.specs.{Proposals.proposal_reply, Replies.told_beside}
 use Rattle.adf_disk_cmd.specs.{Surveys.IsSurveyed, Surveys.fault_lines, Surveys.are_faultless, Surveys.stated_at}
 use Rattle.adf_runs.specs.Commands.{Command, Reply, on_output}
 use Rattle.adf_disk_cmd.specs.{declared.list_input.TheConstants.TABLES_LEN, declared.work.TheConstants.MOST_DISK_BYTES}
@@ -63,11 +64,6 @@ abbrev pub sought_lines : WantedValue → Option Partition → List ℕ
 sought_lines w None = no_partition_text w ++ codes "\n"
 sought_lines w (Some p) = place_lines p.place
 
--- bytes on output, at status 0, or at status 1 where errors get lines
-abbrev pub told_beside : List ℕ → List ℕ → Reply
-told_beside bytes [] = on_output 0 bytes
-told_beside bytes (c ∷ cs) = record { status = 1; output = bytes; errors = c ∷ cs }
-
 -- the bytes of the volume that is wanted, and on errors the fault of the tables, and what is wrong with the volume
 abbrev pub volume_reply : List ℕ → WantedValue → Option Partition → Option DiskFault → Reply
 volume_reply bytes w found o = told_beside (found_bytes bytes found) (fault_lines false o ++ sought_lines w found)
@@ -78,6 +74,7 @@ abbrev pub OfPartitions : DiskRequestValue → List ℕ → List Partition → O
 OfPartitions (list json) bytes ps o reply = reply ≡ list_reply json ps o
 OfPartitions (check json) bytes ps o reply = ChecksAll json bytes ps o reply
 OfPartitions (search json) bytes ps o reply = ⊥
+OfPartitions propose bytes ps o reply = ⊥
 OfPartitions (volume w) bytes ps o reply = reply ≡ volume_reply bytes w (wanted_of ps w) o
 OfPartitions build bytes ps o reply = ⊥
 
@@ -90,6 +87,7 @@ OfDisk r bytes reply =
 abbrev pub OfBytes : DiskRequestValue → List ℕ → Reply → Type 0
 OfBytes build bytes reply = BuildsDisk bytes reply
 OfBytes (search json) bytes reply = reply ≡ search_reply json bytes
+OfBytes propose bytes reply = reply ≡ proposal_reply bytes
 OfBytes r bytes reply = OfDisk r bytes reply
 
 -- the answer to a request and an input: what is past the largest disk does not count
@@ -112,7 +110,7 @@ DamagedTablesAreTold = (r : DiskRequestValue) (bytes : List ℕ) (f : DiskFault)
 -- what errors get where the words are refused
 abbrev pub disk_usage : List ℕ
 disk_usage =
-    codes "usage: adf-disk list [--json] [FILE]\n       adf-disk check [--json] [FILE]\n       adf-disk survey [--search] [--json] [FILE]\n"
+    codes "usage: adf-disk list [--json] [FILE]\n       adf-disk check [--json] [FILE]\n       adf-disk survey [--search [--plan]] [--json] [FILE]\n"
     ++ codes "       adf-disk volume NAME [FILE]\n"
     ++ codes "       adf-disk build [-o DISK] [PLAN]\nwithout a FILE the disk or its plan comes on standard input; man adf-disk tells more\n"
 

@@ -6,7 +6,7 @@ use Rattle.adf_words.specs.Arguments.{bare_app, flag_rule, has_flag, number_name
 use Rattle.adf_words.specs.FileArguments.{file_met, file_rule, with_file}
 use Rattle.adf_blocks.specs.declared.layout.TheConstants.{MOST_BLOCKS}
 use Rattle.adf_disk_cmd.specs.declared.command_line.DiskRequest.{DiskRequest}
-use Rattle.adf_disk_cmd.specs.declared.command_line.DiskRequest.TheVariants.{List as ListAll, Check, Search, Volume, Build}
+use Rattle.adf_disk_cmd.specs.declared.command_line.DiskRequest.TheVariants.{List as ListAll, Check, Search, Propose, Volume, Build}
 use Rattle.adf_disk_cmd.specs.declared.command_line.Wanted.{Wanted, TheVariants.Number, TheVariants.Name}
 
 -- volume NAME [FILE]
@@ -25,9 +25,14 @@ with_telling app name = with_subcommand app (telling_app name).top
 abbrev pub lists_and_checks : App
 lists_and_checks = with_telling (with_telling (bare_app (codes "adf-disk")) (codes "list")) (codes "check")
 
--- survey [--search] [--json] [FILE]
+-- survey [--search] [--plan] [--json]
+abbrev pub disk_survey_flags : App
+disk_survey_flags =
+    with_rule (with_rule (with_rule (new_app (codes "survey")) (flag_rule (codes "search"))) (flag_rule (codes "plan"))) (flag_rule (codes "json"))
+
+-- the same with [FILE]
 abbrev pub disk_survey_app : App
-disk_survey_app = with_rule (with_rule (with_rule (new_app (codes "survey")) (flag_rule (codes "search"))) (flag_rule (codes "json"))) file_rule
+disk_survey_app = with_rule disk_survey_flags file_rule
 
 -- the command line: these, build [PLAN], and volume NAME [FILE]
 abbrev pub disk_app : App
@@ -38,11 +43,13 @@ pub data WantedValue : Type 0 where
   number : ℕ → WantedValue
   name : Text → WantedValue
 
--- what a command line asks for: what is told of a disk, as lines or as objects, or what is found on it, or the bytes of a volume or of a new disk
+-- what a command line asks for: what is told of a disk, as lines or as objects, or what is found on it, or a plan of that, or the bytes of a volume or of a
+-- new disk
 pub data DiskRequestValue : Type 0 where
   list : (json : Bool) → DiskRequestValue
   check : (json : Bool) → DiskRequestValue
   search : (json : Bool) → DiskRequestValue
+  propose : DiskRequestValue
   volume : WantedValue → DiskRequestValue
   build : DiskRequestValue
 
@@ -50,17 +57,20 @@ pub data DiskRequestValue : Type 0 where
 abbrev pub wanted_named : Text → WantedValue
 wanted_named text = elim (number_named MOST_BLOCKS text) [ Some n ↦ number n | None ↦ name text ]
 
--- the request to survey a disk: to search it, or to list its partitions, as `list` does
-abbrev pub survey_request : (searches json : Bool) → DiskRequestValue
-survey_request true json = search json
-survey_request false json = list json
+-- the request to survey a disk: to search it, or to propose a plan of what is found, which is no object, or to list its partitions, as `list` does
+abbrev pub survey_request : (searches plans json : Bool) → Option DiskRequestValue
+survey_request true false json = Some (search json)
+survey_request true true false = Some propose
+survey_request true true true = None
+survey_request false false json = Some (list json)
+survey_request false true json = None
 
 -- the request that a subcommand's name and matches are
 abbrev pub disk_request_named : Text → List Row → Option DiskRequestValue
 disk_request_named command rows =
     if bytes_eq command (codes "list") then Some (list (has_flag (codes "json") rows))
     else (if bytes_eq command (codes "check") then Some (check (has_flag (codes "json") rows))
-    else (if bytes_eq command (codes "survey") then Some (survey_request (has_flag (codes "search") rows) (has_flag (codes "json") rows))
+    else (if bytes_eq command (codes "survey") then survey_request (has_flag (codes "search") rows) (has_flag (codes "plan") rows) (has_flag (codes "json") rows)
     else (if bytes_eq command (codes "build") then Some build
     else (if bytes_eq command (codes "volume") then option_map (λ text. volume (wanted_named text)) (first_of (codes "name") rows)
     else None))))
@@ -95,5 +105,6 @@ abbrev pub disk_request_value : DiskRequest → DiskRequestValue
 disk_request_value (ListAll json) = list json
 disk_request_value (Check json) = check json
 disk_request_value (Search json) = search json
+disk_request_value Propose = propose
 disk_request_value (Volume wanted) = volume (wanted_value wanted)
 disk_request_value Build = build

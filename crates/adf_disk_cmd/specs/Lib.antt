@@ -6,6 +6,8 @@ pub mod Surveys
 pub mod Checks
 pub mod Builds
 pub mod Searches
+pub mod Replies
+pub mod Proposals
 pub mod Answers
 -- The words of the command, as its work keeps them, and what is known of a disk of which one volume is held.
 pub mod Work

@@ -5,7 +5,7 @@ use Rattle.adf_partitions.specs.{Places.end_of, Searches.AreReadable, declared.f
 use Rattle.adf_partitions.specs.{declared.place.Place.Place, declared.place.PlaceFault.PlaceFault, declared.place.PlaceFault.TheVariants.BeyondImage}
 use Rattle.adf_runs.specs.{Commands.Reply, Streams.IsExcerpt}
 use Rattle.adf_disk_cmd.specs.CommandLine.{DiskRequestValue, WantedValue, check, list, name, number, volume}
-use Rattle.adf_disk_cmd.specs.{Answers.sought_lines, Answers.told_beside, Answers.wanted_of, Surveys.fault_lines, Surveys.stated_at}
+use Rattle.adf_disk_cmd.specs.{Answers.sought_lines, Answers.wanted_of, Replies.told_beside, Surveys.fault_lines, Surveys.stated_at}
 use Rattle.adf_disk_cmd.specs.{declared.list_input.TheConstants.TABLES_LEN, declared.work.TheConstants.MOST_DISK_BYTES}
 use Rattle.adf_disk_cmd.specs.declared.volumes.TheConstants.{MOST_DISK_BLOCKS}
 use Rattle.adf_disk_cmd.specs.declared.work.Sought.{Sought, TheVariants.Numbered, TheVariants.Named}

@@ -1,7 +1,7 @@
 // How an answer is written.
 
 ghost use Rattle.std.specs.Prelude.{◌≡◌, ◌++◌, false};
-ghost use Rattle.adf_disk_cmd.specs.{Answers.told_beside, Builds.refusal, Checks.check_status};
+ghost use Rattle.adf_disk_cmd.specs.{Builds.refusal, Checks.check_status, Replies.told_beside};
 ghost use Rattle.adf_runs.specs.{Commands.on_output, Outcomes.Does, Outcomes.DoesSilently, Streams.seen};
 
 use adf_runs::{Outcome, Sink, write_all, write_both};

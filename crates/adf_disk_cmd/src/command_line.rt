@@ -7,7 +7,7 @@ ghost use Rattle.adf_words.specs.{CommandLine.ExplainsArgs, CommandLine.texts_of
 ghost use Rattle.adf_words.specs.declared.command_line.ArgsError.TheVariants.{Usage};
 ghost use Rattle.adf_disk_cmd.specs.CommandLine.{AreRefusedByDisk, AsksDisk, AsksDiskOf, disk_file, build};
 ghost use Rattle.adf_disk_cmd.specs.CommandLine.{check, disk_app, disk_met, disk_request_named, disk_request_value, list};
-ghost use Rattle.adf_disk_cmd.specs.CommandLine.{lists_and_checks, name, number, search, disk_survey_app};
+ghost use Rattle.adf_disk_cmd.specs.CommandLine.{disk_survey_app, disk_survey_flags, lists_and_checks, name, number, propose, search};
 ghost use Rattle.adf_disk_cmd.specs.CommandLine.{survey_request, telling_app, volume, volume_app, wanted_named};
 ghost use Rattle.adf_disk_cmd.specs.CommandLine.{wanted_value, with_telling};
 
@@ -22,7 +22,7 @@ use std::alloc::{AllocError, Global};
 
 /// What is said of arguments that are refused.
 pub const DISK_USAGE: &str =
-    "usage: adf-disk list [--json] [FILE]\n       adf-disk check [--json] [FILE]\n       adf-disk survey [--search] [--json] [FILE]\n       \
+    "usage: adf-disk list [--json] [FILE]\n       adf-disk check [--json] [FILE]\n       adf-disk survey [--search [--plan]] [--json] [FILE]\n       \
     adf-disk volume NAME [FILE]\n       adf-disk build [-o DISK] [PLAN]\n\
     without a FILE the disk or its plan comes on standard input; man adf-disk tells more\n";
 
@@ -34,6 +34,7 @@ pub const ABOUT: About = About {
     \x20      adf-disk check [--json] [FILE]    a verdict on each volume\n\
     \x20      adf-disk survey [--json] [FILE]   the same as list\n\
     \x20      adf-disk survey --search [FILE]   the volumes that are found without a table\n\
+    \x20      adf-disk survey --search --plan   the same as a plan of a new disk\n\
     \x20      adf-disk volume NAME [FILE]       the volume of a partition, by its name or its number\n\
     \x20      adf-disk build [PLAN] > DISK      a new disk\n\
     \x20      adf-disk build -o DISK [PLAN]     the same, into a file with holes for zeros\n\
@@ -62,6 +63,8 @@ pub enum DiskRequest<'a> {
     Check { json: bool },
     /// The volumes that are found by their roots.
     Search { json: bool },
+    /// A plan of them.
+    Propose,
     Volume(Wanted<'a>),
     Build,
 }
@@ -85,15 +88,23 @@ fn telling_command<'a>(alloc: Global, name: &'a str) -> Result<Command<'a>, Allo
     with_argument(tells, file_argument(alloc))
 }
 
-// The command `survey [--search] [--json] [FILE]`.
-fn survey_command<'a>(alloc: Global) -> Result<Command<'a>, AllocError>
-    ensures app { IfOk result (λ c. app_of c ≡ disk_survey_app) }
+// The command `survey [--search] [--plan] [--json]`, without a file.
+fn survey_flags<'a>(alloc: Global) -> Result<Command<'a>, AllocError>
+    ensures app { IfOk result (λ c. app_of c ≡ disk_survey_flags) }
     ensures local { IfOk result (λ c. (out-Command c).has_globals ≡ false) }
 {
     let named = Ok(Command::new(alloc, "survey"));
     let searches = with_argument(named, flag(alloc, "search"));
-    let tells = with_argument(searches, flag(alloc, "json"));
-    with_argument(tells, file_argument(alloc))
+    let plans = with_argument(searches, flag(alloc, "plan"));
+    with_argument(plans, flag(alloc, "json"))
+}
+
+// The command `survey [--search] [--plan] [--json] [FILE]`.
+fn survey_command<'a>(alloc: Global) -> Result<Command<'a>, AllocError>
+    ensures app { IfOk result (λ c. app_of c ≡ disk_survey_app) }
+    ensures local { IfOk result (λ c. (out-Command c).has_globals ≡ false) }
+{
+    with_argument(survey_flags(alloc), file_argument(alloc))
 }
 
 // The subcommands `list` and `check`.
@@ -124,14 +135,15 @@ fn wanted_named<'a>(text: &'a str) -> Wanted<'a>
     }
 }
 
-// The request to survey a disk: to search it, or to list its partitions, as `list` does.
-fn survey_request<'a>(searches: bool, json: bool) -> DiskRequest<'a>
-    ensures { disk_request_value result ≡ survey_request searches json }
+// The request to survey a disk: to search it, or to propose a plan, which is no object, or to list its partitions, as `list` does.
+fn survey_request<'a>(searches: bool, plans: bool, json: bool) -> Option<DiskRequest<'a>>
+    ensures { option_map disk_request_value result ≡ survey_request searches plans json }
 {
-    if searches {
-        DiskRequest::Search { json }
-    } else {
-        DiskRequest::List { json }
+    match (searches, plans, json) {
+        (true, false, _) => Some(DiskRequest::Search { json }),
+        (true, true, false) => Some(DiskRequest::Propose),
+        (false, false, _) => Some(DiskRequest::List { json }),
+        _ => None,
     }
 }
 
@@ -150,7 +162,8 @@ fn request_named<'a>(command: &str, found: &ArgMatches<'a>) -> Option<DiskReques
         })
     } else if command == "survey" {
         let searches = has_flag(found, "search");
-        Some(survey_request(searches, has_flag(found, "json")))
+        let plans = has_flag(found, "plan");
+        survey_request(searches, plans, has_flag(found, "json"))
     } else if command == "build" {
         Some(DiskRequest::Build)
     } else if command == "volume" {
@@ -253,6 +266,13 @@ pub fn disk_words_as_documented()
     ensures search_json { AsksDiskOf
         (codes "adf-disk" ∷ codes "survey" ∷ codes "--json" ∷ codes "a.hdf" ∷ codes "--search" ∷ [])
         (search true) (Some (codes "a.hdf")) }
+    ensures plan { AsksDiskOf (codes "adf-disk" ∷ codes "survey" ∷ codes "--search" ∷ codes "--plan" ∷ []) propose None }
+    ensures plan_file { AsksDiskOf
+        (codes "adf-disk" ∷ codes "survey" ∷ codes "--plan" ∷ codes "--search" ∷ codes "a.hdf" ∷ [])
+        propose (Some (codes "a.hdf")) }
+    ensures plan_alone { AreRefusedByDisk (codes "adf-disk" ∷ codes "survey" ∷ codes "--plan" ∷ []) }
+    ensures plan_json { AreRefusedByDisk
+        (codes "adf-disk" ∷ codes "survey" ∷ codes "--search" ∷ codes "--plan" ∷ codes "--json" ∷ []) }
     ensures search_list { AreRefusedByDisk (codes "adf-disk" ∷ codes "list" ∷ codes "--search" ∷ []) }
     ensures no_args { AreRefusedByDisk [] }
     ensures no_command { AreRefusedByDisk (codes "adf-disk" ∷ []) }

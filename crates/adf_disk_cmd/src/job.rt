@@ -9,6 +9,7 @@ use crate::check_input::check_input;
 use crate::command_line::{DISK_USAGE as USAGE, DiskRequest, disk_file, parse_disk};
 use crate::copy_input::copy_input;
 use crate::list_input::list_input;
+use crate::proposing::propose_plan;
 use crate::searching::search_disk;
 use crate::work::{MOST_DISK_BYTES, Work, sought_for};
 use adf_file_runs::FileProgram;
@@ -22,6 +23,8 @@ pub enum Job {
     Tell(Work),
     /// It is a disk, which is searched for volumes.
     Search { json: bool },
+    /// It is a disk, of whose volumes a plan is proposed.
+    Propose,
     /// It is a plan, whose disk is built.
     Build,
 }
@@ -34,6 +37,7 @@ fn job_for(alloc: Global, request: DiskRequest<'_>) -> Result<Job, AllocError>
         DiskRequest::List { json } => Job::Tell(Work::List { json }),
         DiskRequest::Check { json } => Job::Tell(Work::Check { json }),
         DiskRequest::Search { json } => Job::Search { json },
+        DiskRequest::Propose => Job::Propose,
         DiskRequest::Volume(wanted) => Job::Tell(Work::Volume(sought_for(alloc, wanted)?)),
         DiskRequest::Build => Job::Build,
     })
@@ -65,6 +69,7 @@ impl Program for Job {
         match self {
             Job::Tell(work) => work.on(alloc, part, output),
             Job::Search { json } => search_disk(Telling { alloc, json: *json }, part, output),
+            Job::Propose => propose_plan(alloc, part, output),
             Job::Build => build_disk(alloc, part, output),
         }
     }
@@ -83,10 +88,12 @@ impl Program for Job {
             Job::Tell(Work::Check { json }) => {
                 check_input(Telling { alloc, json: *json }, input, output)
             }
-            Job::Search { .. } | Job::Build => match read_input(alloc, input, MOST_DISK_BYTES) {
-                Ok(bytes) => self.on(alloc, &bytes, output),
-                Err(outcome) => outcome,
-            },
+            Job::Search { .. } | Job::Propose | Job::Build => {
+                match read_input(alloc, input, MOST_DISK_BYTES) {
+                    Ok(bytes) => self.on(alloc, &bytes, output),
+                    Err(outcome) => outcome,
+                }
+            }
         }
     }
 

@@ -41,8 +41,8 @@ fn push_label(text: &mut Vec<u8>, volume: &FoundVolume) -> Result<(), AllocError
     text.extend_from_slice(b": ")
 }
 
-// Appends the line of the volume with this number.
-fn push_found_line(
+/// Appends the line of the volume with this number.
+pub fn push_found_line(
     alloc: Global,
     number: usize,
     volume: &FoundVolume,

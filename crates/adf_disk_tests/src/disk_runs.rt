@@ -13,7 +13,7 @@ pub type Volume = [u8; 16384];
 
 /// What errors get where the words are refused.
 pub const USAGE: &str =
-    "usage: adf-disk list [--json] [FILE]\n       adf-disk check [--json] [FILE]\n       adf-disk survey [--search] [--json] [FILE]\n       \
+    "usage: adf-disk list [--json] [FILE]\n       adf-disk check [--json] [FILE]\n       adf-disk survey [--search [--plan]] [--json] [FILE]\n       \
     adf-disk volume NAME [FILE]\n       adf-disk build [-o DISK] [PLAN]\n\
     without a FILE the disk or its plan comes on standard input; man adf-disk tells more\n";
 

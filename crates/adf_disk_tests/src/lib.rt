@@ -14,6 +14,8 @@ mod disk_searches;
 #[cfg(test)]
 mod disks;
 #[cfg(test)]
+mod found_plans;
+#[cfg(test)]
 mod host_plans;
 #[cfg(test)]
 mod new_disks;

@@ -1,14 +1,10 @@
-use Rattle.std.proofs.Common.{codes}
-use Rattle.adf_words.specs.{Arguments.flag_rule, FileArguments.file_rule}
+use Rattle.adf_words.specs.FileArguments.{file_rule}
+use Rattle.adf_disk_cmd.specs.CommandLine.{disk_survey_flags}
 use Rattle.adf_disk_cmd.proofs.command_line.survey_command.Goals as goal
 
 pub returns-clause-app : goal.returns-clause-app
 returns-clause-app c =
-    let one = c.with_argument-searches.ensures.app _ (flag_rule (codes "search")) c.new.ensures.app c.flag.ensures.rule c.flag.ensures.local in
-    let two = c.with_argument-tells.ensures.app _ (flag_rule (codes "json")) one c.flag-2.ensures.rule c.flag-2.ensures.local in
-    c.with_argument.ensures.app _ file_rule two c.file_argument.ensures.rule c.file_argument.ensures.local
+    c.with_argument.ensures.app disk_survey_flags file_rule c.survey_flags.ensures.app c.file_argument.ensures.rule c.file_argument.ensures.local
 
 pub returns-clause-local : goal.returns-clause-local
-returns-clause-local c =
-    let one = c.with_argument-searches.ensures.local c.new.ensures.local c.flag.ensures.local in
-    c.with_argument.ensures.local (c.with_argument-tells.ensures.local one c.flag-2.ensures.local) c.file_argument.ensures.local
+returns-clause-local c = c.with_argument.ensures.local c.survey_flags.ensures.local c.file_argument.ensures.local
