@@ -146,7 +146,8 @@ def history(seed: str, number: int) -> History:
     return History(dice, blocks, dice.choice(STATES))
 
 
-def large(seed: str, number: int) -> History:
-    """One above 25 bitmap pages, which has bitmap extension blocks."""
+def large(seed: str, number: int, blocks: int = 0) -> History:
+    """One above 25 bitmap pages, which has bitmap extension blocks; of so many blocks, if they are given."""
     dice = random.Random(f"{seed} large {number}")
-    return History(dice, dice.choice([101620, 104000, 110000, 122880]), dice.choice(STATES))
+    some = dice.choice([101620, 104000, 110000, 122880])
+    return History(dice, blocks or some, dice.choice(STATES))
