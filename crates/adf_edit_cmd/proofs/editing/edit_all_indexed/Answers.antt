@@ -1,6 +1,6 @@
 use Rattle.std.proofs.Common.{◌≡◌, ◌+◌, ◌∷◌, [], arith, append_assoc}
 use Rattle.std.proofs.{lemmas.Grind.common_steps, lemmas.List.length_push}
-use Rattle.adf_edit_cmd.proofs.EditSteps.{edit_next, edits_over}
+use Rattle.adf_edit_cmd.proofs.EditSteps.{after_err, edit_next, edits_over}
 use Rattle.adf_edit_cmd.proofs.editing.edit_all_indexed.Goals as goal
 
 pub loop-edit-preserved : goal.loop-edit-preserved
@@ -18,3 +18,6 @@ pub returns-clause-ok : goal.returns-clause-ok
 returns-clause-ok c =
     let none : c.loop-edit.edit-iterator.rest.items ≡ [] = grind (arith, common_steps) in
     edits_over (c.loop-edit.line + 1) c.loop-edit.edit-iterator.rest.items c.loop-edit.given.now c.loop-edit.outline _ none c.loop-edit.invariant.rest
+
+pub returns-in_err-outline-clause-fault : goal.returns-in_err-outline-clause-fault
+returns-in_err-outline-clause-fault c = grind (arith, common_steps, after_err)
