@@ -31,8 +31,24 @@ const LINKS: &[Word] = &[
     (10, 6, 0x622F_7800),
 ];
 
-// What `--list` says of the volume with all links, of the one without `a`, and of the one whose soft link is wrong.
+// What `--list` says of the volume with all links, of the same of type 4, of the one without `a`, and of the one whose soft link is wrong.
 const WHOLE: &str = "block 5: link: c: to a\n\
+    block 6: link: d: to a\n\
+    block 7: link: e: to b\n\
+    block 10: link: f: path b/x\n\
+    volume ofs blocks 16\n\
+    root 1978-01-01 00:00:00.00\n\
+    altered 1978-01-01 00:00:00.00\n\
+    created 1978-01-01 00:00:00.00\n\
+    sound   file 00000000          1 1978-01-01 00:00:00.00 a\n\
+    sound   dir  00000000          - 1978-01-01 00:00:00.00 b\n\
+    sound   link 00000000          - 1978-01-01 00:00:00.00 c -> a\n\
+    sound   link 00000000          - 1978-01-01 00:00:00.00 d -> a\n\
+    sound   link 00000000          - 1978-01-01 00:00:00.00 e -> b\n\
+    sound   link 00000000          - 1978-01-01 00:00:00.00 f -> b/x\n";
+
+const CACHED: &str = "block 0: directory cache\n\
+    block 5: link: c: to a\n\
     block 6: link: d: to a\n\
     block 7: link: e: to b\n\
     block 10: link: f: path b/x\n\
@@ -199,14 +215,5 @@ fn without_links_the_type_alone_is_kept(rt: HostRuntime) {
 fn caches_are_laid(rt: HostRuntime) {
     let mut image = linked(rt.alloc());
     image[3] = 4;
-    let came = run_words(
-        rt.alloc(),
-        &["adf-survey", "rescue", "--keep-all", "sound"],
-        &image,
-    );
-    let told = run_words(rt.alloc(), &["adf-survey", "--list", "sound"], &came.output);
-    assert!(rt; came.status == 0 && came.errors.is_empty());
-    assert!(rt; told.output.len() == 25 + WHOLE.len());
-    assert!(rt; told.output[..25] == *b"block 0: directory cache\n".as_slice());
-    assert!(rt; told.output[25..] == *WHOLE.as_bytes());
+    assert!(rt; keeps(rt.alloc(), &image, 0, "", CACHED));
 }
