@@ -6,12 +6,11 @@ use Rattle.std.proofs.{Common.append_assoc, Common.length-append, Math.Nat.div-m
 use Rattle.std.proofs.lemmas.Bool.{and_parts, eqb-true, le-leb, leb-true, lt-ltb, Decides.nat_tests}
 use Rattle.std.proofs.lemmas.{List.Folds.list_all-append, List.Sums.list_all-from_AllPass}
 use Rattle.std.specs.{Fmt.decimal, List.list_all, Str.bytes_eq}
-use Rattle.adf_names.specs.VolumeTypes.{letters_of_type}
 use Rattle.adf_partitions.specs.{declared.found_volumes.FoundVolume.FoundVolume, declared.plan.PartitionPlan.PartitionPlan}
-use Rattle.adf_partitions.specs.Plans.{PlanValue, cylinder_blocks, cylinders_of, planned_blocks, planned_type}
+use Rattle.adf_partitions.specs.{FileSystems.planned_type, Plans.PlanValue, Plans.cylinder_blocks, Plans.cylinders_of, Plans.planned_blocks}
 use Rattle.adf_plans.specs.PlanTexts.{AreLines, IsDiskLine, IsText, behind_line, first_line, has_volume, is_plan}
 use Rattle.adf_found_plans.specs.FoundPlans.{ArePartitionsOf, can_name, divides_all, divisor_up_to, fit_plan, fits_partition, blocks_of_all}
-use Rattle.adf_found_plans.specs.FoundPlans.{found_cylinder, found_kind, found_name, found_partition, found_partitions, found_plan, is_word_byte, keeps_label}
+use Rattle.adf_found_plans.specs.FoundPlans.{found_cylinder, found_name, found_partition, found_partitions, found_plan, found_system, is_word_byte, keeps_label}
 use Rattle.adf_found_plans.specs.WrittenPlans.{FoundPlansAreRead, disk_line, given_partition_lines, plan_text}
 use Rattle.adf_found_plans.specs.declared.choice.TheConstants.{FIRST_PLANNED, LAST_PLANNED}
 use Rattle.adf_found_plans.specs.declared.cylinder.TheConstants.{MOST_CYLINDER, MOST_CYLINDERS, MOST_GIVEN}
@@ -105,18 +104,20 @@ given_all c before (v ∷ vs) h le =
       given_all c (before ++ v ∷ []) vs parts.1 (omega (arith, length-append before (v ∷ []), le)),
     )
 
--- a type is that of its kind and its letters
-type_of_number : (j : ℕ) → j ≤ 3 → planned_type (letters_of_type j) (found_kind (FIRST_PLANNED + j)) ≡ FIRST_PLANNED + j
+-- a type is that of its file system
+type_of_number : (j : ℕ) → j ≤ 5 → planned_type (found_system (FIRST_PLANNED + j)) ≡ FIRST_PLANNED + j
 type_of_number zero le = refl
 type_of_number (suc zero) le = refl
 type_of_number (suc (suc zero)) le = refl
 type_of_number (suc (suc (suc zero))) le = refl
-type_of_number (suc (suc (suc (suc j)))) le = absurd (omega (arith, le))
+type_of_number (suc (suc (suc (suc zero)))) le = refl
+type_of_number (suc (suc (suc (suc (suc zero))))) le = refl
+type_of_number (suc (suc (suc (suc (suc (suc j)))))) le = absurd (omega (arith, le))
 
-type_told : (t : ℕ) → FIRST_PLANNED ≤ t → t ≤ LAST_PLANNED → planned_type (letters_of_type (t - FIRST_PLANNED)) (found_kind t) ≡ t
+type_told : (t : ℕ) → FIRST_PLANNED ≤ t → t ≤ LAST_PLANNED → planned_type (found_system t) ≡ t
 type_told t low high =
     let e : FIRST_PLANNED + (t - FIRST_PLANNED) ≡ t = omega (arith, low) in
-    ap (λ k. planned_type (letters_of_type (t - FIRST_PLANNED)) (found_kind k)) (sym e)
+    ap (λ k. planned_type (found_system k)) (sym e)
     ∙ (type_of_number (t - FIRST_PLANNED) (omega (arith, low, high)) ∙ e)
 
 plus_none : (n : ℕ) → n + 0 ≡ n

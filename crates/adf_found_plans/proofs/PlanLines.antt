@@ -5,10 +5,11 @@ use Rattle.std.proofs.{Common.append_assoc, Common.length-append, Math.Seq.get_o
 use Rattle.std.proofs.{lemmas.Bool.and_parts, lemmas.Bool.Decides.nat_tests, lemmas.Grind.common_steps}
 use Rattle.std.proofs.lemmas.{Int.fits_signed_from_abs, List.Sums.AllPass-from_list_all, List.Sums.list_all-from_AllPass}
 use Rattle.std.specs.{Fmt.decimal, Int.w8, List.list_all, Prelude.FitsSigned, Prelude.slice_index, Str.bytes_eq}
-use Rattle.adf_base.specs.declared.hash.Letters.{Letters, TheVariants.Ascii, TheVariants.International}
-use Rattle.adf_names.specs.declared.kind.Kind.{Kind, TheVariants.Ofs, TheVariants.Ffs}
+use Rattle.adf_base.specs.declared.hash.Letters.TheVariants.{Ascii, International}
+use Rattle.adf_names.specs.declared.kind.Kind.TheVariants.{Ofs, Ffs}
 use Rattle.adf_names.specs.{Escapes.IsSpelling, Escapes.escape_of, Escapes.escaped, Escapes.hex_digit, Escapes.is_plain, Texts.is_name_byte}
-use Rattle.adf_names.specs.VolumeTypes.{kind_named_by, kind_text_by}
+use Rattle.adf_partitions.specs.{FileSystems.system_named, FileSystems.system_text, declared.file_system.FileSystem.FileSystem}
+use Rattle.adf_partitions.specs.declared.file_system.FileSystem.TheVariants.{WithCaches, WithoutCaches}
 use Rattle.adf_partitions.specs.{Plans.PlanValue, declared.plan.PartitionPlan.PartitionPlan}
 use Rattle.adf_plans.specs.{declared.plan_words.TheConstants.MOST_NUMBER}
 use Rattle.adf_plans.specs.PlanTexts.{AreLines, HasNoPartition, IsDiskLine, IsPartitionLine, IsPartitionText, before_byte, behind_byte, behind_line, behind_word}
@@ -71,24 +72,30 @@ name_bytes : (name : List ℕ) → IsWordName name → list_all is_name_byte nam
 name_bytes name h =
     list_all-from_AllPass is_name_byte name (λ k d lt. word_byte_named (get_or name k d) (AllPass-from_list_all is_word_byte name h.bytes k d lt))
 
--- the word for a kind
-kind_lacks_space : (l : Letters) (k : Kind) → Lacks 32 (kind_text_by l k)
-kind_lacks_space Ascii Ofs = refl
-kind_lacks_space Ascii Ffs = refl
-kind_lacks_space International Ofs = refl
-kind_lacks_space International Ffs = refl
+-- the word for a file system
+system_lacks_space : (system : FileSystem) → Lacks 32 (system_text system)
+system_lacks_space (WithoutCaches Ofs Ascii) = refl
+system_lacks_space (WithoutCaches Ffs Ascii) = refl
+system_lacks_space (WithoutCaches Ofs International) = refl
+system_lacks_space (WithoutCaches Ffs International) = refl
+system_lacks_space (WithCaches Ofs) = refl
+system_lacks_space (WithCaches Ffs) = refl
 
-kind_lacks_end : (l : Letters) (k : Kind) → Lacks 10 (kind_text_by l k)
-kind_lacks_end Ascii Ofs = refl
-kind_lacks_end Ascii Ffs = refl
-kind_lacks_end International Ofs = refl
-kind_lacks_end International Ffs = refl
+system_lacks_end : (system : FileSystem) → Lacks 10 (system_text system)
+system_lacks_end (WithoutCaches Ofs Ascii) = refl
+system_lacks_end (WithoutCaches Ffs Ascii) = refl
+system_lacks_end (WithoutCaches Ofs International) = refl
+system_lacks_end (WithoutCaches Ffs International) = refl
+system_lacks_end (WithCaches Ofs) = refl
+system_lacks_end (WithCaches Ffs) = refl
 
-kind_read_back : (l : Letters) (k : Kind) → kind_named_by (kind_text_by l k) ≡ Some (k, l)
-kind_read_back Ascii Ofs = refl
-kind_read_back Ascii Ffs = refl
-kind_read_back International Ofs = refl
-kind_read_back International Ffs = refl
+system_read_back : (system : FileSystem) → system_named (system_text system) ≡ Some system
+system_read_back (WithoutCaches Ofs Ascii) = refl
+system_read_back (WithoutCaches Ffs Ascii) = refl
+system_read_back (WithoutCaches Ofs International) = refl
+system_read_back (WithoutCaches Ffs International) = refl
+system_read_back (WithCaches Ofs) = refl
+system_read_back (WithCaches Ffs) = refl
 
 no_digit : (c : ℕ) → c ≤ 32 → (d : ℕ) → 48 ≤ d → d ≤ 57 → not (d == c) ≡ true
 no_digit c small d low high = other_byte c d small (omega (arith, low))
@@ -101,7 +108,7 @@ abbrev cylinder_words : PartitionPlan → List ℕ
 cylinder_words p = decimal p.cylinders ++ 32 ∷ codes "given"
 
 abbrev kind_words : PartitionPlan → List ℕ
-kind_words p = kind_text_by p.letters p.kind ++ 32 ∷ cylinder_words p
+kind_words p = system_text p.system ++ 32 ∷ cylinder_words p
 
 abbrev name_words : PartitionPlan → List ℕ
 name_words p = escaped p.name ++ 32 ∷ kind_words p
@@ -117,7 +124,7 @@ ends_words e k d z = append_assoc e (32 ∷ (k ++ 32 ∷ d)) z ∙ ap (λ l. e +
 pub line_split : (p : PartitionPlan) (rest : List ℕ) → given_partition_line p ++ rest ≡ bare_line p ++ 10 ∷ rest
 line_split p rest =
     let e = escaped p.name in
-    let k = kind_text_by p.letters p.kind in
+    let k = system_text p.system in
     let d = decimal p.cylinders in
     let ended : bare_line p ++ 10 ∷ [] ≡ given_partition_line p =
     ap (λ l. codes "partition" ++ 32 ∷ l) (ends_words e k (d ++ 32 ∷ codes "given") (10 ∷ [])
@@ -132,7 +139,7 @@ last_byte xs c =
 no_space_last : (p : PartitionPlan) → ends_in_space (bare_line p) ≡ false
 no_space_last p =
     let e = escaped p.name in
-    let k = kind_text_by p.letters p.kind in
+    let k = system_text p.system in
     let d = decimal p.cylinders in
     let front : List ℕ = codes "partition" ++ 32 ∷ (e ++ 32 ∷ (k ++ 32 ∷ (d ++ 32 ∷ codes "give"))) in
     let ended : front ++ 110 ∷ [] ≡ bare_line p =
@@ -157,19 +164,19 @@ zero_fits = search (rules, fits_signed_from_abs)
 words_read : (p : PartitionPlan) → IsGiven p → IsPartitionText (name_words p) p
 words_read p h =
     let e = escaped p.name in
-    let k = kind_text_by p.letters p.kind in
+    let k = system_text p.system in
     let d = decimal p.cylinders in
     let no_space : Lacks 32 e = name_lacks 32 p.name (omega arith) h.name.bytes in
     let first : first_word (name_words p) ≡ e = cut_before 32 e (kind_words p) no_space in
     let behind : behind_word (name_words p) ≡ kind_words p = cut_behind 32 e (kind_words p) no_space in
-    let second : first_word (kind_words p) ≡ k = cut_before 32 k (cylinder_words p) (kind_lacks_space p.letters p.kind) in
-    let behind_kind : behind_word (kind_words p) ≡ cylinder_words p = cut_behind 32 k (cylinder_words p) (kind_lacks_space p.letters p.kind) in
+    let second : first_word (kind_words p) ≡ k = cut_before 32 k (cylinder_words p) (system_lacks_space p.system) in
+    let behind_kind : behind_word (kind_words p) ≡ cylinder_words p = cut_behind 32 k (cylinder_words p) (system_lacks_space p.system) in
     let third : first_word (cylinder_words p) ≡ d = cut_before 32 d (codes "given") (number_lacks 32 p.cylinders (omega arith) h.few) in
     let last : behind_word (cylinder_words p) ≡ codes "given" = cut_behind 32 d (codes "given") (number_lacks 32 p.cylinders (omega arith) h.few) in
     let two_behind : behind_word (behind_word (name_words p)) ≡ cylinder_words p = ap (λ l. behind_word l) behind ∙ behind_kind in
     record {
       name = subst (λ (w : List ℕ). IsSpelling 31 w p.name) (sym first) (name_spelled p.name h.name);
-      kind = ap (λ l. kind_named_by (first_word l)) behind ∙ (ap (λ w. kind_named_by w) second ∙ kind_read_back p.letters p.kind);
+      system = ap (λ l. system_named (first_word l)) behind ∙ (ap (λ w. system_named w) second ∙ system_read_back p.system);
       cylinders = ap (λ l. decimal_number (first_word l)) two_behind ∙ (ap (λ w. decimal_number w) third ∙ number_read_back p.cylinders h.few);
       options = ap (λ l. options_of (behind_word l)) two_behind ∙ (ap (λ l. options_of l) last ∙ (given_options ∙ options_same p h));
       some = h.name.some;
@@ -196,7 +203,7 @@ line_lacks p h =
     let cylinders : Lacks 10 (cylinder_words p) =
     lacks_both 10 (decimal p.cylinders) (32 ∷ codes "given") (number_lacks 10 p.cylinders (omega arith) h.few) refl in
     let kinds : Lacks 10 (kind_words p) =
-    lacks_both 10 (kind_text_by p.letters p.kind) (32 ∷ cylinder_words p) (kind_lacks_end p.letters p.kind)
+    lacks_both 10 (system_text p.system) (32 ∷ cylinder_words p) (system_lacks_end p.system)
     (lacks_both 10 (32 ∷ []) (cylinder_words p) refl cylinders) in
     let names : Lacks 10 (name_words p) =
     lacks_both 10 (escaped p.name) (32 ∷ kind_words p) (name_lacks 10 p.name (omega arith) h.name.bytes) (lacks_both 10 (32 ∷ []) (kind_words p) refl kinds) in

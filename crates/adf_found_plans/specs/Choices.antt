@@ -7,7 +7,7 @@ use Rattle.adf_partitions.specs.declared.layout.TheConstants.{MOST_PARTITIONS}
 use Rattle.adf_found_plans.specs.declared.choice.Choice.{Choice}
 use Rattle.adf_found_plans.specs.declared.choice.TheConstants.{FIRST_PLANNED, LAST_PLANNED}
 
--- whether a volume can be in a plan: it has blocks, all on the disk, and a type that a kind of plans names
+-- whether a volume can be in a plan: it has blocks, all on the disk, and a type that a word of plans names
 abbrev pub can_be_planned : ℕ → FoundVolume → Bool
 can_be_planned n v =
     nat_le 1 v.place.blocks && nat_le (end_of v.place) n && nat_le FIRST_PLANNED v.dos_type && nat_le v.dos_type LAST_PLANNED

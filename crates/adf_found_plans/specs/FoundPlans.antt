@@ -5,10 +5,11 @@ use Rattle.std.specs.Prelude.{cond, if◌then◌else◌, length, take}
 use Rattle.std.specs.{Fmt.decimal, List.list_all, List.list_any, Str.bytes_eq}
 use Rattle.adf_names.specs.{Texts.is_name_byte, Texts.uppers, VolumeTypes.letters_of_type, declared.kind.Kind.Kind}
 use Rattle.adf_names.specs.declared.kind.Kind.TheVariants.{Ofs, Ffs}
-use Rattle.adf_partitions.specs.{Plans.PlanValue, Plans.planned_type, declared.found_volumes.FoundVolume.FoundVolume}
+use Rattle.adf_partitions.specs.{FileSystems.planned_type, Plans.PlanValue, declared.found_volumes.FoundVolume.FoundVolume}
+use Rattle.adf_partitions.specs.declared.file_system.FileSystem.{FileSystem, TheVariants.WithCaches, TheVariants.WithoutCaches}
 use Rattle.adf_partitions.specs.declared.layout.TheConstants.{MOST_PARTITIONS}
 use Rattle.adf_partitions.specs.declared.plan.PartitionPlan.{PartitionPlan}
-use Rattle.adf_found_plans.specs.declared.choice.TheConstants.{FIRST_PLANNED, LAST_PLANNED}
+use Rattle.adf_found_plans.specs.declared.choice.TheConstants.{FIRST_PLANNED, FIRST_WITH_CACHES, LAST_PLANNED}
 use Rattle.adf_found_plans.specs.declared.cylinder.TheConstants.{MOST_CYLINDER, MOST_CYLINDERS, MOST_GIVEN}
 
 -- whether c blocks divide each volume
@@ -52,12 +53,16 @@ found_name before v = if keeps_label before v then v.label else codes "DH" ++ de
 abbrev pub found_kind : ℕ → Kind
 found_kind type = cond (type % 2 == 0) Ofs Ffs
 
+-- the file system of a volume of this type
+abbrev pub found_system : ℕ → FileSystem
+found_system type =
+    cond (nat_lt type FIRST_WITH_CACHES) (WithoutCaches (found_kind type) (letters_of_type (type - FIRST_PLANNED))) (WithCaches (found_kind type))
+
 -- the partition of a volume
 abbrev pub found_partition : ℕ → List FoundVolume → FoundVolume → PartitionPlan
 found_partition c before v = record {
   name = found_name before v;
-  kind = found_kind v.dos_type;
-  letters = letters_of_type (v.dos_type - FIRST_PLANNED);
+  system = found_system v.dos_type;
   cylinders = v.place.blocks / c;
   bootable = false;
   priority = pos 0;
@@ -78,7 +83,7 @@ unfoldable pub blocks_of_all : List FoundVolume → ℕ
 blocks_of_all [] = 0
 blocks_of_all (v ∷ vs) = v.place.blocks + blocks_of_all vs
 
--- whether a partition of a plan can have this volume: as many cylinders as a plan can write, and a type that one of its kinds names
+-- whether a partition of a plan can have this volume: as many cylinders as a plan can write, and a type that one of its words names
 abbrev pub fits_partition : ℕ → FoundVolume → Bool
 fits_partition c v =
     nat_le 1 (v.place.blocks / c) && nat_le (v.place.blocks / c) MOST_CYLINDERS && nat_le FIRST_PLANNED v.dos_type && nat_le v.dos_type LAST_PLANNED
@@ -91,7 +96,7 @@ fit_plan vs =
 -- a partition is that of a volume: given, of its type, and with as many blocks as were found
 pub record IsPartitionOf (c : ℕ) (p : PartitionPlan) (v : FoundVolume) : Type 0 where
   pub given : p.given ≡ true
-  pub type : planned_type p.letters p.kind ≡ v.dos_type
+  pub type : planned_type p.system ≡ v.dos_type
   pub blocks : p.cylinders * c ≡ v.place.blocks
 
 -- partitions are those of volumes, one for each, in their order

@@ -1,15 +1,15 @@
 -- The text of a plan whose volumes are all given, and what it says. vs are volumes that were found.
 use Rattle.std.specs.Prelude.{◌≡◌, ◌++◌, ℕ, true, List, [], ◌∷◌, codes}
 use Rattle.std.specs.Fmt.{decimal}
-use Rattle.adf_names.specs.{Escapes.escaped, VolumeTypes.kind_text_by}
-use Rattle.adf_partitions.specs.{Plans.PlanValue, Plans.cylinder_blocks, declared.found_volumes.FoundVolume.FoundVolume}
+use Rattle.adf_names.specs.Escapes.{escaped}
+use Rattle.adf_partitions.specs.{FileSystems.system_text, Plans.PlanValue, Plans.cylinder_blocks, declared.found_volumes.FoundVolume.FoundVolume}
 use Rattle.adf_partitions.specs.declared.plan.PartitionPlan.{PartitionPlan}
 use Rattle.adf_plans.specs.PlanTexts.{IsText}
 use Rattle.adf_found_plans.specs.FoundPlans.{ArePartitionsOf, fit_plan, found_plan}
 
 -- the words of a partition's line behind its name
 abbrev pub given_words : PartitionPlan → List ℕ
-given_words p = kind_text_by p.letters p.kind ++ (codes " " ++ (decimal p.cylinders ++ codes " given\n"))
+given_words p = system_text p.system ++ (codes " " ++ (decimal p.cylinders ++ codes " given\n"))
 
 -- the line of a partition whose volume is given
 abbrev pub given_partition_line : PartitionPlan → List ℕ

@@ -12,8 +12,11 @@ use std::alloc::{AllocError, Global};
 /// The lowest type of a volume, `DOS\0`.
 pub const FIRST_PLANNED: u32 = 0x444F_5300;
 
-/// The highest type that a plan's kinds name, `DOS\3`.
-pub const LAST_PLANNED: u32 = 0x444F_5303;
+/// The lowest type of a volume with directory caches, `DOS\4`.
+pub const FIRST_WITH_CACHES: u32 = 0x444F_5304;
+
+/// The highest type that a word of a plan names, `DOS\5`.
+pub const LAST_PLANNED: u32 = 0x444F_5305;
 
 /// A choice of volumes that were found.
 #[derive(Drop)]

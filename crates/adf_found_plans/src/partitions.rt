@@ -2,13 +2,14 @@
 
 ghost use Rattle.std.specs.Prelude.{◌≡◌, ◌≤◌, [], IfOk, length, true};
 ghost use Rattle.std.specs.List.{list_all, list_any};
-ghost use Rattle.adf_found_plans.specs.FoundPlans.{begins_as_given, can_name, fit_plan, fits_partition, found_cylinder, found_kind};
+ghost use Rattle.adf_found_plans.specs.declared.choice.TheConstants.{FIRST_PLANNED};
+ghost use Rattle.adf_found_plans.specs.FoundPlans.{begins_as_given, can_name, fit_plan, fits_partition, found_cylinder, found_kind, found_system};
 ghost use Rattle.adf_found_plans.specs.FoundPlans.{found_name, found_partition, found_partitions, has_label, is_word_byte, keeps_label};
 
-use crate::choice::FIRST_PLANNED;
+use crate::choice::{FIRST_PLANNED, FIRST_WITH_CACHES};
 use crate::cylinder::found_cylinder;
 use adf_names::{Kind, letters_of_type};
-use adf_partitions::{DriveName, FoundVolume, PartitionPlan, are_same};
+use adf_partitions::{DriveName, FileSystem, FoundVolume, PartitionPlan, are_same};
 use std::alloc::{AllocError, Global};
 
 // Whether a word of a plan can have a byte.
@@ -85,6 +86,19 @@ fn found_kind(dos_type: u32) -> Kind
     }
 }
 
+// The file system of a volume of a type that a word of a plan names.
+fn found_system(dos_type: u32) -> FileSystem
+    requires { FIRST_PLANNED ≤ dos_type }
+    ensures { result ≡ found_system dos_type }
+{
+    let kind = found_kind(dos_type);
+    if dos_type < FIRST_WITH_CACHES {
+        FileSystem::WithoutCaches(kind, letters_of_type(dos_type - FIRST_PLANNED))
+    } else {
+        FileSystem::WithCaches(kind)
+    }
+}
+
 // The partition of a volume, behind those of others, with such cylinders.
 fn found_partition(
     alloc: Global,
@@ -99,8 +113,7 @@ fn found_partition(
 {
     Ok(PartitionPlan {
         name: found_name(alloc, before, volume)?,
-        kind: found_kind(volume.dos_type),
-        letters: letters_of_type(volume.dos_type - FIRST_PLANNED),
+        system: found_system(volume.dos_type),
         cylinders: (volume.place.blocks / cylinder) as u32,
         bootable: false,
         priority: 0,

@@ -8,7 +8,6 @@ ghost use Rattle.adf_partitions.specs.Plans.{plan_value};
 
 use crate::cylinder::{fit_plan, found_cylinder};
 use crate::partitions::found_partitions;
-use adf_names::kind_text_by;
 use adf_partitions::{DiskPlan, FoundVolume, PartitionPlan};
 use std::alloc::{AllocError, Global};
 
@@ -34,9 +33,9 @@ fn disk_line(alloc: Global, plan: &DiskPlan) -> Result<String, AllocError>
 fn given_words(alloc: Global, partition: &PartitionPlan) -> Result<String, AllocError>
     ensures { IfOk result (λ words. string_bytes words ≡ given_words partition.now) }
 {
-    let kind = kind_text_by(partition.letters, partition.kind);
+    let system = partition.system.text();
     let cylinders = partition.cylinders;
-    format!(in alloc; "{kind} {cylinders} given\n")
+    format!(in alloc; "{system} {cylinders} given\n")
 }
 
 // Appends the line of a partition whose volume is given.

@@ -3,16 +3,18 @@ use Rattle.std.proofs.Common.{◌≡◌, ◌≢◌, ◌≤◌, ◌<◌, ◌+◌,
 use Rattle.std.specs.Prelude.{slice_index, take, ◌&&◌, ◌==◌, not, nat_le, if◌then◌else◌, FitsSigned, ℤ, pos, negsuc}
 use Rattle.std.specs.Int.{cast_signed, cast_unsigned, w32, w8}
 use Rattle.std.proofs.{lemmas.Bool.Decides.nat_tests, lemmas.Int.to_z-of_z, lemmas.List.take_all, lemmas.Grind.common_steps}
-use Rattle.adf_base.specs.{Words.word, declared.hash.Letters.TheVariants.Ascii, declared.hash.Letters.TheVariants.International, declared.hash.Letters.Letters}
+use Rattle.adf_base.specs.{Words.word, declared.hash.Letters.TheVariants.Ascii, declared.hash.Letters.TheVariants.International}
 use Rattle.adf_blocks.specs.{Fields.Descends, Fields.long, Forms.text_at}
 use Rattle.adf_blocks.proofs.FieldLaws.{HasField, apart_between}
-use Rattle.adf_names.specs.declared.kind.Kind.{TheVariants.Ofs, TheVariants.Ffs, Kind}
+use Rattle.adf_names.specs.declared.kind.Kind.TheVariants.{Ofs, Ffs}
+use Rattle.adf_partitions.specs.{FileSystems.planned_type, declared.file_system.FileSystem.FileSystem}
+use Rattle.adf_partitions.specs.declared.file_system.FileSystem.TheVariants.{WithCaches, WithoutCaches}
 use Rattle.adf_partitions.specs.declared.layout.TheConstants.{BLOCK_BYTES, BLOCK_SECTORS, BOOT_PRIORITY, BOOTABLE, CHECKSUM, DOS_TYPE, DRIVE_NAME}
 use Rattle.adf_partitions.specs.declared.layout.TheConstants.{ENV_BLOCK_WORDS, ENV_LENGTH, FIRST_PART, FLAGS, HIGH_CYLINDER, HIGHEST_TABLE, LOW_CYLINDER}
 use Rattle.adf_partitions.specs.declared.layout.TheConstants.{LOWEST_TABLE, MARK, MOST_PARTITIONS, NEXT_PART, PART, PREALLOCATED, RDSK, RESERVED, SUMMED_LONGS}
 use Rattle.adf_partitions.specs.{declared.layout.TheConstants.SURFACES, declared.layout.TheConstants.TRACK_BLOCKS, declared.plan.PartitionPlan.PartitionPlan, Partitions.has_drive_name}
 use Rattle.adf_partitions.specs.{Partitions.name_at, Places.blocks_from, Places.has_cylinders, Places.partition_place, Summed.is_summed}
-use Rattle.adf_partitions.specs.Plans.{PlanValue, IsPartitionPlan, IsPlan, cylinder_blocks, planned_cylinders, planned_flags, planned_type, table_cylinders}
+use Rattle.adf_partitions.specs.Plans.{PlanValue, IsPartitionPlan, IsPlan, cylinder_blocks, planned_cylinders, planned_flags, table_cylinders}
 use Rattle.adf_partitions.specs.WrittenTables.{block_after, part_block, part_table, planned_tables, rdsk_block, rdsk_table}
 use Rattle.adf_partitions.proofs.NumberTests.{of_le}
 use Rattle.adf_partitions.proofs.PlanSizes.{blocks_fit, cylinders_fit, heads_fit, sectors_fit, some_blocks}
@@ -65,11 +67,13 @@ unsigned_fits (negsuc n) f = omega (arith, f.sfits)
 positive : (c : ℕ) → 1 ≤ c → (true && not (c == 0)) ≡ true
 positive c h = grind (arith, nat_tests)
 
-types_fit : (letters : Letters) (k : Kind) → planned_type letters k < 2 ^ 32
-types_fit Ascii Ofs = omega arith
-types_fit Ascii Ffs = omega arith
-types_fit International Ofs = omega arith
-types_fit International Ffs = omega arith
+types_fit : (system : FileSystem) → planned_type system < 2 ^ 32
+types_fit (WithoutCaches Ofs Ascii) = omega arith
+types_fit (WithoutCaches Ffs Ascii) = omega arith
+types_fit (WithoutCaches Ofs International) = omega arith
+types_fit (WithoutCaches Ffs International) = omega arith
+types_fit (WithCaches Ofs) = omega arith
+types_fit (WithCaches Ffs) = omega arith
 
 flags_fit : (b : Bool) → (if b then BOOTABLE else 0) < 2 ^ 32
 flags_fit true = omega arith
@@ -135,8 +139,8 @@ module _ (plan : PlanValue) (h : IsPlan plan) (b low : ℕ) (p : PartitionPlan) 
   part-high : word (part_block plan b low p) HIGH_CYLINDER ≡ low + p.cylinders - 1
   part-high = part_word HIGH_CYLINDER (low + p.cylinders - 1) (search rules) (omega arith) (omega (arith, within, cylinders_fit plan h))
 
-  pub part-type : word (part_block plan b low p) DOS_TYPE ≡ planned_type p.letters p.kind
-  part-type = part_word DOS_TYPE (planned_type p.letters p.kind) (search rules) (omega arith) (types_fit p.letters p.kind)
+  pub part-type : word (part_block plan b low p) DOS_TYPE ≡ planned_type p.system
+  part-type = part_word DOS_TYPE (planned_type p.system) (search rules) (omega arith) (types_fit p.system)
 
   pub part_priority : cast_signed w32 (word (part_block plan b low p) BOOT_PRIORITY) ≡ p.priority
   part_priority =

@@ -9,5 +9,6 @@ pub mod Disks
 pub mod Searches
 pub mod FoundVolumes
 pub mod Volumes
+pub mod FileSystems
 pub mod Plans
 pub mod WrittenTables

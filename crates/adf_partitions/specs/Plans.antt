@@ -1,9 +1,9 @@
 -- Plans of hard disks. p is the plan of a partition, c the number of blocks of a cylinder, low a partition's lowest cylinder.
 use Rattle.std.specs.Prelude.{◌≡◌, ◌≤◌, ◌<◌, ◌+◌, ◌*◌, ◌/◌, ◌^◌, ℕ, true, List, [], ◌∷◌, All, IfOk, None, Ok, length, slice_range, FitsSigned, if◌then◌else◌}
 use Rattle.std.specs.{Int.w8, List.list_all}
-use Rattle.adf_base.specs.declared.hash.Letters.{Letters}
-use Rattle.adf_names.specs.{Texts.is_name_byte, VolumeTypes.type_number, declared.kind.Kind.Kind}
-use Rattle.adf_partitions.specs.{Places.blocks_from, Places.end_of, declared.layout.TheConstants.BOOTABLE, declared.layout.TheConstants.MOST_PARTITIONS}
+use Rattle.adf_names.specs.Texts.{is_name_byte}
+use Rattle.adf_partitions.specs.{FileSystems.planned_type, Places.blocks_from, Places.end_of}
+use Rattle.adf_partitions.specs.declared.layout.TheConstants.{BOOTABLE, MOST_PARTITIONS}
 use Rattle.adf_partitions.specs.{declared.partition.Partition.Partition, declared.plan.DiskPlan.DiskPlan, declared.plan.PartitionPlan.PartitionPlan}
 
 -- a plan
@@ -15,10 +15,6 @@ pub record PlanValue : Type 0 where
 -- the value of a plan in the code
 abbrev pub plan_value : DiskPlan → PlanValue
 plan_value plan = record { sectors = plan.sectors; heads = plan.heads; partitions = plan.partitions.items }
-
--- the type of a file system: `DOS\0` or `DOS\1`, and `DOS\2` or `DOS\3` where names have international letters
-abbrev pub planned_type : Letters → Kind → ℕ
-planned_type letters kind = 0x444F5300 + type_number letters kind
 
 -- the flags of a partition
 abbrev pub planned_flags : PartitionPlan → ℕ
@@ -68,7 +64,7 @@ planned_partition c b low p = record {
   name = p.name;
   flags = planned_flags p;
   priority = p.priority;
-  dos_type = planned_type p.letters p.kind;
+  dos_type = planned_type p.system;
   reserved = 2;
   preallocated = 0;
   sector_words = 128;

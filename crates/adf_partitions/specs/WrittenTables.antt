@@ -3,7 +3,8 @@ use Rattle.std.specs.Prelude.{ℕ, ◌+◌, ◌-◌, ◌*◌, nat_lt, List, [], 
 use Rattle.std.specs.{Int.cast_unsigned, Int.w32, List.flat_map}
 use Rattle.adf_blocks.specs.Fields.{Field, block_of_fields, long, longs, text}
 use Rattle.adf_base.specs.Words.{sealed}
-use Rattle.adf_partitions.specs.Plans.{PlanValue, cylinder_blocks, planned_cylinders, planned_flags, planned_type, table_cylinders}
+use Rattle.adf_partitions.specs.FileSystems.{planned_type}
+use Rattle.adf_partitions.specs.Plans.{PlanValue, cylinder_blocks, planned_cylinders, planned_flags, table_cylinders}
 use Rattle.adf_partitions.specs.declared.layout.TheConstants.{ADDRESS_MASK, BAD_BLOCKS, BLOCK_BYTES, BLOCK_SECTORS, BOOT_PRIORITY, BUFFERS, CHECKSUM, CYLINDERS}
 use Rattle.adf_partitions.specs.declared.layout.TheConstants.{CYLINDER_BLOCKS, DOS_TYPE, DRIVE_NAME, ENV_BLOCK_WORDS, ENV_LENGTH, FIRST_PART, FLAGS, HEADS}
 use Rattle.adf_partitions.specs.declared.layout.TheConstants.{HIGHEST_CYLINDER, HIGHEST_TABLE, HIGHEST_USED, HIGH_CYLINDER, HOST, INTERLEAVE, LOWEST_CYLINDER}
@@ -56,7 +57,7 @@ rdsk_block plan = sealed CHECKSUM (block_of_fields (rdsk_table plan))
 -- transfers of at most 255 blocks to any memory
 abbrev pub part_table : PlanValue → ℕ → ℕ → PartitionPlan → List Field
 part_table plan b low p =
-    (4 * DOS_TYPE, long (planned_type p.letters p.kind))
+    (4 * DOS_TYPE, long (planned_type p.system))
     ∷ (4 * BOOT_PRIORITY, long (cast_unsigned w32 p.priority))
     ∷ (4 * ADDRESS_MASK, long 0xFFFFFFFE)
     ∷ (4 * MOST_TRANSFER, long 0x1FE00)

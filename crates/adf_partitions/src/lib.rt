@@ -4,6 +4,7 @@
 mod disk;
 mod fault;
 mod field_fault;
+mod file_system;
 mod found_volumes;
 mod laws;
 mod layout;
@@ -20,6 +21,7 @@ mod tables_out;
 pub use crate::disk::Disk;
 pub use crate::fault::{DiskCause, DiskFault, disk_fault};
 pub use crate::field_fault::FieldFault;
+pub use crate::file_system::{FileSystem, system_words_decide};
 pub use crate::found_volumes::{FoundVolume, find_volumes};
 pub use crate::laws::{
     first_blocks_are_enough, length_moves_no_volume, no_fault_on_a_disk, one_disk, one_disk_fault,

@@ -1,21 +1,18 @@
 // Plans of hard disks.
 
 ghost use Rattle.std.specs.Prelude.{◌≡◌};
-ghost use Rattle.adf_partitions.specs.Plans.{IsPlan, cylinder_blocks, planned_cylinders, planned_flags, planned_type};
+ghost use Rattle.adf_partitions.specs.Plans.{IsPlan, cylinder_blocks, planned_cylinders, planned_flags};
 ghost use Rattle.adf_partitions.specs.Plans.{table_cylinders, plan_value};
 
+use crate::file_system::FileSystem;
 use crate::layout::BOOTABLE;
 use crate::partition::DriveName;
-use adf_base::Letters;
-use adf_names::{Kind, type_number};
 
 /// A partition to be made.
 #[derive(Drop)]
 pub struct PartitionPlan {
     pub name: DriveName,
-    pub kind: Kind,
-    /// The letters of which case is ignored in the names of its volume.
-    pub letters: Letters,
+    pub system: FileSystem,
     pub cylinders: u32,
     pub bootable: bool,
     pub priority: i8,
@@ -30,13 +27,6 @@ pub struct DiskPlan {
     pub sectors: u32,
     pub heads: u32,
     pub partitions: Vec<PartitionPlan>,
-}
-
-/// The type of a file system of this kind whose names have these letters.
-pub fn planned_type(letters: Letters, kind: Kind) -> u32
-    ensures { result ≡ planned_type letters kind }
-{
-    0x444F_5300 + u32::from(type_number(letters, kind))
 }
 
 /// The flags of a partition.

@@ -18,8 +18,7 @@ use crate::layout::{
     WRITTEN_LONGS,
 };
 use crate::plan::{
-    DiskPlan, PartitionPlan, cylinder_blocks, planned_cylinders, planned_flags, planned_type,
-    table_cylinders,
+    DiskPlan, PartitionPlan, cylinder_blocks, planned_cylinders, planned_flags, table_cylinders,
 };
 use adf_base::{BLOCK_LEN, put_bytes, put_word, put_words, seal_block};
 use std::alloc::{AllocError, Global};
@@ -85,7 +84,7 @@ fn part_bytes(plan: &DiskPlan, b: u32, low: u32, partition: &PartitionPlan) -> [
     let next = block_after(plan.partitions.len() as u32, b);
     let high = low + (partition.cylinders - 1);
     let priority = i32::from(partition.priority).cast_unsigned();
-    let dos_type = planned_type(partition.letters, partition.kind);
+    let dos_type = partition.system.planned_type();
     let mut block = [0u8; 512];
     put_word(&mut block, MARK, PART);
     put_word(&mut block, SUMMED_LONGS, WRITTEN_LONGS);

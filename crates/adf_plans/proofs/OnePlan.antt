@@ -13,10 +13,10 @@ use Rattle.adf_plans.specs.PlanTexts.{behind_line, first_line, begins_with_end, 
 one_partition : (text : List ℕ) (p q : PartitionPlan) → IsPartitionText text p → IsPartitionText text q → p ≡ q
 one_partition text p q h k =
     let name = only_spelled p.name q.name h.name.are_bytes k.name.are_bytes (sym h.name.spells ∙ k.name.spells) in
-    let kind = one_some _ (p.kind, p.letters) (q.kind, q.letters) h.kind k.kind in
+    let system = one_some _ p.system q.system h.system k.system in
     let cylinders = one_some _ p.cylinders q.cylinders h.cylinders k.cylinders in
     let options = one_some _ (options_in p) (options_in q) h.options k.options in
-    let same : made p.name (p.kind, p.letters) p.cylinders (options_in p) ≡ made q.name (q.kind, q.letters) q.cylinders (options_in q) = cc in
+    let same : made p.name p.system p.cylinders (options_in p) ≡ made q.name q.system q.cylinders (options_in q) = cc in
     same
 
 one_front : (left : List ℕ) (ps qs : List PartitionPlan) (e d : List ℕ) → AreLines left ps e → AreLines left qs d → HasNoPartition e → HasNoPartition d

@@ -1,5 +1,5 @@
 -- Texts whose lines name host files. left is what is left of a text, k, j are numbers of lines, `plain` is the plain text so far.
-use Rattle.std.proofs.Common.{◌≡◌, ◌≢◌, ◌∙◌, ◌++◌, ◌-◌, ◌<◌, ℕ, zero, suc, true, false, List, None, Option, ap, append_assoc, arith, codes, length, refl, sym, take}
+use Rattle.std.proofs.Common.{◌≡◌, ◌≢◌, ◌∙◌, ◌++◌, ◌-◌, ◌<◌, ℕ, zero, suc, true, false, List, None, ap, append_assoc, arith, codes, length, refl, sym, take}
 use Rattle.std.proofs.Common.{[], ◌∷◌}
 use Rattle.adf_plans.proofs.TextLines.{shorter}
 use Rattle.adf_plans.specs.HostFiles.{ArePlain, BeginsPartition, IsPlainText, NamesHostAt, NamesHosts, host_of, line_without}

@@ -5,9 +5,9 @@ use Rattle.std.proofs.{Common.subst, Common.sym, Math.IntN.ℤ_discrete, lemmas.
 use Rattle.std.specs.{Prelude.FitsSigned, Int.int_wrap, Int.w8, List.list_all}
 use native.Mathlib.Decide.{dec_le, map_dec}
 use mathlib.Core.Logic.Dec.{and as dec_and}
-use Rattle.adf_base.specs.declared.hash.Letters.{Letters}
 use Rattle.adf_names.proofs.{SomeSpellings.Spells, SomeSpellings.spelt, Spellings.only_spelled}
-use Rattle.adf_names.specs.{Escapes.IsSpelling, VolumeTypes.kind_named_by, Texts.is_name_byte, declared.kind.Kind.Kind}
+use Rattle.adf_names.specs.{Escapes.IsSpelling, Texts.is_name_byte}
+use Rattle.adf_partitions.specs.{FileSystems.system_named, declared.file_system.FileSystem.FileSystem}
 use Rattle.adf_partitions.proofs.NamedPartitions.{none_or_some}
 use Rattle.adf_plans.proofs.{TextLines.line_taken, VolumeFaults.all_have}
 use Rattle.adf_partitions.specs.{declared.plan.PartitionPlan.PartitionPlan, Plans.PlanValue, Plans.cylinder_blocks}
@@ -54,11 +54,10 @@ dec_fits z =
     map_dec (λ (e : int_wrap w8 z ≡ z). subst (FitsSigned w8) e (SFits-int_wrap w8 z)) (λ (f : FitsSigned w8 z). int_wrap_fits w8 z f)
     (ℤ_discrete (int_wrap w8 z) z)
 
-abbrev pub made : List ℕ → Kind × Letters → ℕ → Options → PartitionPlan
-made name kind cylinders o = record {
+abbrev pub made : List ℕ → FileSystem → ℕ → Options → PartitionPlan
+made name system cylinders o = record {
   name = name;
-  kind = kind.0;
-  letters = kind.1;
+  system = system;
   cylinders = cylinders;
   bootable = o.bootable;
   priority = o.priority;
@@ -69,14 +68,14 @@ made name kind cylinders o = record {
 partition_text : (t : List ℕ) → ((p : PartitionPlan) × IsPartitionText t p) ⊎ ((p : PartitionPlan) → ¬ IsPartitionText t p)
 partition_text t = elim (some_name (first_word t)) [
   | inr none ↦ inr (λ p is. none p.name (is.name, is.some, is.bytes))
-  | inl name ↦ elim (none_or_some (kind_named_by (kind_word t))) [
-    | inl none ↦ inr (λ p is. let e = is.kind in absurd cc)
-    | inr kind ↦ elim (none_or_some (decimal_number (first_word (behind_word (behind_word t))))) [
+  | inl name ↦ elim (none_or_some (system_named (kind_word t))) [
+    | inl none ↦ inr (λ p is. let e = is.system in absurd cc)
+    | inr system ↦ elim (none_or_some (decimal_number (first_word (behind_word (behind_word t))))) [
       | inl none ↦ inr (λ p is. let e = is.cylinders in absurd cc)
       | inr cylinders ↦ elim (none_or_some (options_of (behind_word (behind_word (behind_word t))))) [
         | inl none ↦ inr (λ p is. let e = is.options in absurd cc)
         | inr options ↦ elim (dec_and (dec_le 1 cylinders.0) (dec_fits options.0.priority)) [
-          | yes good ↦ inl (made name.0 kind.0 cylinders.0 options.0, of_words name kind cylinders options good)
+          | yes good ↦ inl (made name.0 system.0 cylinders.0 options.0, of_words name system cylinders options good)
           | no bad ↦ inr (λ p is. bad (same_words cylinders options p is))
         ]
       ]
@@ -84,13 +83,13 @@ partition_text t = elim (some_name (first_word t)) [
   ]
 ]
   where
-    of_words : (name : (n : List ℕ) × IsDriveName (first_word t) n) (kind : (x : Kind × Letters) × (kind_named_by (kind_word t) ≡ Some x))
+    of_words : (name : (n : List ℕ) × IsDriveName (first_word t) n) (system : (s : FileSystem) × (system_named (kind_word t) ≡ Some s))
         (cylinders : (n : ℕ) × (decimal_number (first_word (behind_word (behind_word t))) ≡ Some n))
         (options : (o : Options) × (options_of (behind_word (behind_word (behind_word t))) ≡ Some o))
-        → (1 ≤ cylinders.0) × FitsSigned w8 options.0.priority → IsPartitionText t (made name.0 kind.0 cylinders.0 options.0)
-    of_words name kind cylinders options good = record {
+        → (1 ≤ cylinders.0) × FitsSigned w8 options.0.priority → IsPartitionText t (made name.0 system.0 cylinders.0 options.0)
+    of_words name system cylinders options good = record {
       name = name.1.0;
-      kind = kind.1;
+      system = system.1;
       cylinders = cylinders.1;
       options = options.1;
       some = name.1.1;

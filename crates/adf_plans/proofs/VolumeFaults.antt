@@ -6,34 +6,38 @@ use Rattle.std.specs.{List.list_all, Prelude.nat_le}
 use Rattle.adf_blocks.specs.Sizes.{is_allowed}
 use Rattle.adf_partitions.specs.declared.plan.PartitionPlan.{PartitionPlan}
 use Rattle.adf_plans.specs.{declared.plan_text.TextFault.TextFault, declared.plan_text.TextKind.TextKind}
-use Rattle.adf_plans.specs.declared.plan_text.TextKind.TheVariants.{BadVolume, LongName}
-use Rattle.adf_plans.specs.PlanTexts.{fault_or, first_volume_fault, has_volume, volume_fault}
+use Rattle.adf_plans.specs.declared.plan_text.TextKind.TheVariants.{BadVolume, FewBlocks, LongName}
+use Rattle.adf_plans.specs.PlanTexts.{fault_or, first_volume_fault, has_cache_room, has_volume, volume_fault}
 
--- of the three tests of a volume, with and without a fault
-kind_of : Bool → Bool → Bool → Option TextKind
-kind_of given allowed short = if given then None else (if not allowed then Some BadVolume else (if short then None else Some LongName))
+-- of the four tests of a volume, with and without a fault
+kind_of : Bool → Bool → Bool → Bool → Option TextKind
+kind_of given allowed room short =
+    if given then None
+    else (if not allowed then Some BadVolume else (if not room then Some FewBlocks else (if short then None else Some LongName)))
 
-passes : (given allowed short : Bool) → kind_of given allowed short ≡ None → (given || (allowed && short)) ≡ true
+passes : (given allowed room short : Bool) → kind_of given allowed room short ≡ None → (given || (allowed && room && short)) ≡ true
 unfolding kind_of
-passes true allowed short h = refl
-passes false false short h = absurd cc
-passes false true true h = refl
-passes false true false h = absurd cc
+passes true allowed room short h = refl
+passes false false room short h = absurd cc
+passes false true false short h = absurd cc
+passes false true true true h = refl
+passes false true true false h = absurd cc
 
-passed : (given allowed short : Bool) → (given || (allowed && short)) ≡ true → kind_of given allowed short ≡ None
+passed : (given allowed room short : Bool) → (given || (allowed && room && short)) ≡ true → kind_of given allowed room short ≡ None
 unfolding kind_of
-passed true allowed short h = refl
-passed false false short h = absurd cc
-passed false true true h = refl
-passed false true false h = absurd cc
+passed true allowed room short h = refl
+passed false false room short h = absurd cc
+passed false true false short h = absurd cc
+passed false true true true h = refl
+passed false true true false h = absurd cc
 
 has : (c : ℕ) (p : PartitionPlan) → volume_fault c p ≡ None → has_volume c p ≡ true
 unfolding kind_of
-has c p h = passes p.given (is_allowed (p.cylinders * c)) (nat_le (length p.name) 30) h
+has c p h = passes p.given (is_allowed (p.cylinders * c)) (has_cache_room p.system (p.cylinders * c)) (nat_le (length p.name) 30) h
 
 none : (c : ℕ) (p : PartitionPlan) → has_volume c p ≡ true → volume_fault c p ≡ None
 unfolding kind_of
-none c p h = passed p.given (is_allowed (p.cylinders * c)) (nat_le (length p.name) 30) h
+none c p h = passed p.given (is_allowed (p.cylinders * c)) (has_cache_room p.system (p.cylinders * c)) (nat_le (length p.name) 30) h
 
 one_more : (c n : ℕ) (p : PartitionPlan) (ps : List PartitionPlan)
     → first_volume_fault c n (p ∷ ps) ≡ fault_or n (volume_fault c p) (first_volume_fault c (n + 1) ps)

@@ -4,12 +4,14 @@ use Rattle.std.specs.Prelude.{◌≡◌, ◌≤◌, ◌⊎◌, ◌+◌, ◌-◌,
 use Rattle.std.specs.Prelude.{[], ◌∷◌, ◌++◌, codes, decimal, not, Option, Some, None, if◌then◌else◌, length, slice_index}
 use Rattle.std.specs.{Int.w8, List.after_first, List.before_first, List.list_all, Str.bytes_eq}
 use Rattle.adf_blocks.specs.Sizes.{is_allowed}
-use Rattle.adf_names.specs.{Escapes.IsSpelling, VolumeTypes.kind_named_by, Texts.is_name_byte}
+use Rattle.adf_names.specs.{Escapes.IsSpelling, Texts.is_name_byte}
 use Rattle.adf_partitions.specs.{declared.layout.TheConstants.MOST_PARTITIONS, declared.plan.PartitionPlan.PartitionPlan}
 use Rattle.adf_plans.specs.{declared.plan_line.Options.Options, declared.plan_text.TextFault.TextFault, declared.plan_words.TheConstants.MOST_NUMBER}
-use Rattle.adf_plans.specs.declared.plan_text.TextKind.{TextKind, TheVariants.BadLine, TheVariants.BadVolume, TheVariants.LongName, TheVariants.NoEnd}
-use Rattle.adf_plans.specs.declared.plan_text.TextKind.TheVariants.{NoMemory, TooLarge}
-use Rattle.adf_partitions.specs.Plans.{PlanValue, cylinder_blocks, planned_blocks}
+use Rattle.adf_plans.specs.declared.plan_text.TextKind.{TextKind, TheVariants.BadLine, TheVariants.BadVolume, TheVariants.FewBlocks, TheVariants.LongName}
+use Rattle.adf_plans.specs.declared.plan_text.TextKind.TheVariants.{NoEnd, NoMemory, TooLarge}
+use Rattle.adf_partitions.specs.{Plans.PlanValue, Plans.cylinder_blocks, Plans.planned_blocks, FileSystems.system_named}
+use Rattle.adf_partitions.specs.declared.file_system.FileSystem.{FileSystem, TheVariants.WithCaches, TheVariants.WithoutCaches}
+use Rattle.adf_plans.specs.declared.plan_text.TheConstants.{FEWEST_WITH_CACHES}
 
 -- what is wrong with the text of a plan
 abbrev pub text_kind_text : TextKind → List ℕ
@@ -18,6 +20,7 @@ text_kind_text NoEnd = codes "no end"
 text_kind_text TooLarge = codes "too large, or without sectors or heads"
 text_kind_text BadVolume = codes "a new volume has an even number of blocks, 4 to 8388608"
 text_kind_text LongName = codes "the name of a new volume has 30 bytes at most"
+text_kind_text FewBlocks = codes "a new volume with directory caches has 6 blocks at least"
 text_kind_text NoMemory = codes "no memory"
 
 -- the line and what is wrong
@@ -101,14 +104,14 @@ options_of text =
 abbrev pub options_in : PartitionPlan → Options
 options_in p = record { bootable = p.bootable; priority = p.priority; given = p.given }
 
--- the word for the kind, behind the name
+-- the word for the file system, behind the name
 abbrev pub kind_word : List ℕ → List ℕ
 kind_word text = first_word (behind_word text)
 
 -- NAME KIND CYLINDERS, and options
 pub record IsPartitionText (text : List ℕ) (p : PartitionPlan) : Type 0 where
   pub name : IsSpelling 31 (first_word text) p.name
-  pub kind : kind_named_by (kind_word text) ≡ Some (p.kind, p.letters)
+  pub system : system_named (kind_word text) ≡ Some p.system
   pub cylinders : decimal_number (first_word (behind_word (behind_word text))) ≡ Some p.cylinders
   pub options : options_of (behind_word (behind_word (behind_word text))) ≡ Some (options_in p)
   pub some : 1 ≤ length p.name
@@ -153,15 +156,22 @@ HasPartition text = (p : PartitionPlan) × IsPartitionLine (first_line text) p
 abbrev pub HasBegun : List ℕ → Type 0
 HasBegun text = (sectors : ℕ) × (heads : ℕ) × IsDiskLine (first_line text) sectors heads × HasPartition (behind_line text)
 
+-- whether a new volume of n blocks has one for the directory cache of its root, if it has caches
+abbrev pub has_cache_room : FileSystem → ℕ → Bool
+has_cache_room (WithoutCaches kind letters) n = true
+has_cache_room (WithCaches kind) n = nat_le FEWEST_WITH_CACHES n
+
 -- whether the volume of a partition is given, or may be a new one with the drive's name as label
 abbrev pub has_volume : ℕ → PartitionPlan → Bool
-has_volume c p = p.given || (is_allowed (p.cylinders * c) && nat_le (length p.name) 30)
+has_volume c p = p.given || (is_allowed (p.cylinders * c) && has_cache_room p.system (p.cylinders * c) && nat_le (length p.name) 30)
 
 -- why a partition has no volume
 abbrev pub volume_fault : ℕ → PartitionPlan → Option TextKind
 volume_fault c p =
     if p.given then None
-    else (if not (is_allowed (p.cylinders * c)) then Some BadVolume else (if nat_le (length p.name) 30 then None else Some LongName))
+    else (if not (is_allowed (p.cylinders * c)) then Some BadVolume
+    else (if not (has_cache_room p.system (p.cylinders * c)) then Some FewBlocks
+    else (if nat_le (length p.name) 30 then None else Some LongName)))
 
 -- a fault of a line, or else what is said of the others
 abbrev pub fault_or : ℕ → Option TextKind → Option TextFault → Option TextFault

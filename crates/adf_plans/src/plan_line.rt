@@ -9,8 +9,7 @@ ghost use Rattle.adf_plans.specs.PlanTexts.{options_of, without_priority, withou
 ghost use Rattle.adf_partitions.specs.declared.plan.PartitionPlan.{PartitionPlan as PlanOfPartition};
 
 use crate::plan_words::{cut, ends_in_space, read_number, read_priority};
-use adf_names::kind_named_by;
-use adf_partitions::{DriveName, PartitionPlan, are_name_bytes};
+use adf_partitions::{DriveName, FileSystem, PartitionPlan, are_name_bytes};
 
 /// What stands behind the cylinders of a partition.
 #[derive(Clone, Copy, Debug)]
@@ -90,10 +89,10 @@ fn read_words(text: &[u8]) -> Option<PartitionPlan>
     ensures none { IfNone result ((p : PlanOfPartition) → ¬ IsPartitionText text.now p) }
 {
     let (name, rest) = cut(text, b' ');
-    let (kind, rest) = cut(rest, b' ');
+    let (system, rest) = cut(rest, b' ');
     let (cylinders, rest) = cut(rest, b' ');
     let name = read_name(name)?;
-    let (kind, letters) = kind_named_by(kind)?;
+    let system = FileSystem::named(system)?;
     let cylinders = read_number(cylinders)?;
     let Options {
         bootable,
@@ -105,8 +104,7 @@ fn read_words(text: &[u8]) -> Option<PartitionPlan>
     }
     Some(PartitionPlan {
         name,
-        kind,
-        letters,
+        system,
         cylinders,
         bootable,
         priority,

@@ -2,18 +2,18 @@
 
 ghost use Rattle.std.specs.Prelude.{◌≡◌, ◌≢◌, ◌≤◌, ◌*◌, ◌^◌, ℕ, List, IfErr, IfOk, IfSome, OnErr, length, nat_lt};
 ghost use Rattle.adf_blocks.specs.Sizes.{is_allowed};
-ghost use Rattle.adf_names.specs.VolumeTypes.{kind_text_by};
-ghost use Rattle.adf_partitions.specs.Plans.{IsPlan, cylinder_blocks, plan_value, planned_blocks, planned_type};
+ghost use Rattle.adf_partitions.specs.{FileSystems.planned_type, FileSystems.system_text};
+ghost use Rattle.adf_partitions.specs.Plans.{IsPlan, cylinder_blocks, plan_value, planned_blocks};
 ghost use Rattle.adf_plans.specs.PlanTexts.{AreLines, HasBegun, HasNoPartition, HasPartition, HasPlanOrFault, IsPartitionText};
 ghost use Rattle.adf_plans.specs.PlanTexts.{IsText, IsTextFault, PlansHaveNoFault, TextsHaveOneFault, TextsHaveOnePlan};
-ghost use Rattle.adf_plans.specs.PlanTexts.{first_volume_fault, has_size, kind_word, plan_fault, text_kind_text, volume_fault};
+ghost use Rattle.adf_plans.specs.PlanTexts.{first_volume_fault, has_cache_room, has_size, kind_word, plan_fault, text_kind_text, volume_fault};
 ghost use Rattle.adf_partitions.specs.{declared.layout.TheConstants.MOST_PARTITIONS, declared.plan.PartitionPlan.PartitionPlan};
 ghost use Rattle.adf_plans.specs.declared.plan_text.TextKind.{TextKind};
 
 use crate::plan_line::{read_disk, read_partition};
 use crate::plan_words::cut_line;
 use adf_blocks::MOST_BLOCKS;
-use adf_partitions::{DiskPlan, MOST_PARTITIONS, PartitionPlan};
+use adf_partitions::{DiskPlan, FileSystem, MOST_PARTITIONS, PartitionPlan};
 use std::alloc::{AllocError, Global};
 use std::fmt;
 
@@ -32,7 +32,13 @@ pub enum TextKind {
     BadVolume = 5,
     /// No new volume has so long a name.
     LongName = 6,
+    /// No new volume with directory caches has so few blocks.
+    FewBlocks = 7,
 }
+
+/// The fewest blocks of a new volume with directory caches: the boot blocks, the root, a bitmap page, and the cache of the root; their
+/// number is even.
+pub const FEWEST_WITH_CACHES: u64 = 6;
 
 impl TextKind {
     /// The text of the kind as printed.
@@ -46,6 +52,7 @@ impl TextKind {
             TextKind::NoMemory => "no memory",
             TextKind::BadVolume => "a new volume has an even number of blocks, 4 to 8388608",
             TextKind::LongName => "the name of a new volume has 30 bytes at most",
+            TextKind::FewBlocks => "a new volume with directory caches has 6 blocks at least",
         }
     }
 }
@@ -117,6 +124,21 @@ fn is_allowed(partition: &PartitionPlan, cylinder: u64) -> bool
     }
 }
 
+// Whether a new volume has a block for the directory cache of its root, if it has caches.
+fn has_cache_room(partition: &PartitionPlan, cylinder: u64) -> bool
+    ensures { result ≡ has_cache_room partition.now.system (partition.now.cylinders * cylinder) }
+{
+    match partition.system {
+        FileSystem::WithoutCaches(_, _) => true,
+        FileSystem::WithCaches(_) => {
+            match u64::from(partition.cylinders).checked_mul(cylinder) {
+                Some(blocks) => FEWEST_WITH_CACHES <= blocks,
+                None => true,
+            }
+        }
+    }
+}
+
 // Why a partition has no volume, if it has none.
 fn volume_fault(partition: &PartitionPlan, cylinder: u64) -> Option<TextKind>
     ensures exact { result ≡ volume_fault cylinder partition.now }
@@ -126,6 +148,8 @@ fn volume_fault(partition: &PartitionPlan, cylinder: u64) -> Option<TextKind>
         None
     } else if !is_allowed(partition, cylinder) {
         Some(TextKind::BadVolume)
+    } else if !has_cache_room(partition, cylinder) {
+        Some(TextKind::FewBlocks)
     } else if partition.name.bytes().len() <= 30 {
         None
     } else {
@@ -200,7 +224,7 @@ fn plan_fault(plan: &DiskPlan, end: &[u8]) -> Option<TextFault>
 /// Reads the text of a plan, whose lines end in a line feed, with one space between their words: a line `disk SECTORS HEADS`,
 /// a line `partition NAME KIND CYLINDERS` for each partition, perhaps with `bootable`, `priority P` and `given` behind it in
 /// this order, and a line `end`. Returns the plan, and the bytes behind the text. KIND is `ofs` or `ffs`, or one of these with
-/// `-international` behind it. A number is at most 1,048,576, P is -128 to 127.
+/// `-international` or `-cached` behind it. A number is at most 1,048,576, P is -128 to 127.
 ///
 /// The first line with a fault; `NoMemory`, at line 0, if an allocation fails, which can happen only if a line of a partition
 /// stands behind the first.
@@ -236,12 +260,12 @@ pub fn some_text()
     ensures { (text : List ℕ) → HasPlanOrFault text }
 {}
 
-/// The line of a partition has the word for its kind and letters, and partitions of one type have the same.
-pub fn kind_words_tell_types()
+/// The line of a partition has the word for its file system, and partitions of one type have the same.
+pub fn words_tell_file_systems()
     ensures word { (text : List ℕ) (p : PartitionPlan) → IsPartitionText text p
-        → kind_word text ≡ kind_text_by p.letters p.kind }
-    ensures types { (p q : PartitionPlan) → planned_type p.letters p.kind ≡ planned_type q.letters q.kind
-        → (p.letters ≡ q.letters) × (p.kind ≡ q.kind) }
+        → kind_word text ≡ system_text p.system }
+    ensures types { (p q : PartitionPlan) → planned_type p.system ≡ planned_type q.system
+        → p.system ≡ q.system }
 {}
 
 /// A text has one plan, or one first fault.
