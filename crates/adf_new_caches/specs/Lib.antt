@@ -1,0 +1,2 @@
+-- new volumes with directory caches
+pub mod NewCaches
