@@ -5,7 +5,7 @@ use Rattle.std.proofs.Common.{Option, get_or, ◌^◌, inl, inr, length, length-
 use Rattle.std.proofs.lemmas.List.{drop_all, length-take-le, Folds.list_all_at}
 use Rattle.std.specs.List.{flat_map, list_all}
 use Rattle.std.proofs.{lemmas.Bool.and_parts, lemmas.Bool.Decides.nat_tests, lemmas.Grind.common_steps}
-use Rattle.adf_disk_cmd.proofs.NewVolumes.{MayBeNew, length_new, may_be_new, new_volume}
+use Rattle.adf_disk_cmd.proofs.NewVolumes.{MayBeNew, length_new, may_be_new, new_sound}
 use Rattle.adf_disk_cmd.specs.Builds.{BuildsDisk, HasPlanned, behind_volume, built_disk, given_bytes, given_cylinders, given_line, given_size, plan_reply}
 use Rattle.adf_disk_cmd.specs.Builds.{volume_of, volumes_of}
 use Rattle.adf_partitions.proofs.PlanSizes.{blocks_fit, cylinders_fit, plans_at}
@@ -153,8 +153,8 @@ pub given_end : (ps : List PartitionPlan) (i : ℕ) → length ps ≤ i → give
 unfolding given_cylinders
 given_end ps i le = ap given_cylinders (drop_all i ps le)
 
-length_one : (n : ℕ) (p : PartitionPlan) (given : List ℕ) → (p.given ≡ true → n * 512 ≤ length given) → (p.given ≡ false → MayBeNew n p)
-    → length (volume_of n p given) ≡ n * 512
+length_one : (n : ℕ) (p : PartitionPlan) (given : List ℕ) → (p.given ≡ true → n * 512 ≤ length given)
+    → (p.given ≡ false → MayBeNew n p.system p.name) → length (volume_of n p given) ≡ n * 512
 length_one n p given enough new = grind (arith, common_steps, length-take-le, length_new)
 
 are_volumes : (c : ℕ) (ps : List PartitionPlan) (given : List ℕ) → AreEnough c ps given → list_all (has_volume c) ps ≡ true
@@ -186,7 +186,7 @@ has_planned text plan given is enough =
       volumes = volumes_stand plan vs h are;
       sound = λ k d lt new.
           let p = get_or plan.partitions k d in
-          new_volume (p.cylinders * c) p (may_be_new c p (has_volume_at c plan.partitions k d all lt) new);
+          new_sound (p.cylinders * c) p.system p.name (may_be_new c p (has_volume_at c plan.partitions k d all lt) new);
     }
 
 pub other_bytes : (plan : PlanValue) (given : List ℕ) → length given ≢ given_bytes plan

@@ -4,26 +4,41 @@ use Rattle.std.specs.Prelude.{◌≡◌, ◌+◌, ◌*◌, ◌/◌, ◌==◌, �
 use Rattle.std.specs.Fmt.{decimal}
 use Rattle.adf_tree.specs.Tree.{Tree}
 use Rattle.adf_names.specs.declared.meta.TheConstants.{NO_STAMPS}
-use Rattle.adf_volume.specs.{Counts.counts_of, Fits.FitsBy, Image.word_in, declared.types.Types.TheVariants.WithInternational}
+use Rattle.adf_volume.specs.{Counts.counts_of, Fits.FitsBy, Image.word_in, Layout.Layout, declared.types.Types.TheVariants.WithInternational}
 use Rattle.adf_build.specs.{Laid.volume, Plan.planned}
+use Rattle.adf_cached_files.specs.InPlace.{FitsInPlace}
+use Rattle.adf_new_caches.specs.NewCaches.{cached_volume}
+use Rattle.adf_uncached.specs.Cached.{cached_counts}
 use Rattle.adf_partitions.specs.{Disks.IsDisk, WrittenTables.disk_bytes, WrittenTables.planned_tables, declared.plan.PartitionPlan.PartitionPlan}
-use Rattle.adf_partitions.specs.Plans.{PlanValue, StandInPlaces, cylinder_blocks, planned_partitions, planned_type}
+use Rattle.adf_partitions.specs.{FileSystems.kind_of_system, FileSystems.letters_of_system, FileSystems.planned_type}
+use Rattle.adf_partitions.specs.declared.file_system.FileSystem.{FileSystem, TheVariants.WithCaches, TheVariants.WithoutCaches}
+use Rattle.adf_partitions.specs.Plans.{PlanValue, StandInPlaces, cylinder_blocks, planned_partitions}
 use Rattle.adf_plans.specs.{PlanTexts.IsText, PlanTexts.IsTextFault, PlanTexts.text_fault_text, declared.plan_text.TextFault.TextFault}
 use Rattle.adf_runs.specs.Commands.{Reply, on_errors, on_output}
 use Rattle.adf_texts.specs.Lines.{ok_line_by}
-use Rattle.adf_cmd.specs.Answers.{Checks}
+use Rattle.adf_cmd.specs.{Answers.Checks, CachedAnswers.cached_ok_line}
 
 -- a text and a line feed on errors, at status 1
 abbrev pub refusal : List ℕ → Reply
 refusal text = on_errors 1 (text ++ codes "\n")
 
--- what is on a new volume of the planned kind and letters: nothing, under the drive's name
-abbrev pub planned_tree : PartitionPlan → Tree
-planned_tree p = record { kind = p.kind; letters = p.letters; label = p.name; stamps = NO_STAMPS; entries = [] }
+-- what is on a new volume of this file system: nothing, under a label
+abbrev pub empty_tree : FileSystem → List ℕ → Tree
+empty_tree system label =
+    record { kind = kind_of_system system; letters = letters_of_system system; label = label; stamps = NO_STAMPS; entries = [] }
+
+-- the new volume of a tree without entries, with a directory cache if its file system has them
+abbrev pub new_bytes : FileSystem → Tree → ℕ → List ℕ
+new_bytes (WithoutCaches kind letters) t n = volume t n
+new_bytes (WithCaches kind) t n = cached_volume t n
+
+-- the new volume of a partition: empty, under the drive's name
+abbrev pub new_volume : ℕ → PartitionPlan → List ℕ
+new_volume n p = new_bytes p.system (empty_tree p.system p.name) n
 
 -- the volume of a partition: the first of the given bytes, or a new one
 abbrev pub volume_of : ℕ → PartitionPlan → List ℕ → List ℕ
-volume_of n p given = if p.given then take (n * 512) given else volume (planned_tree p) n
+volume_of n p given = if p.given then take (n * 512) given else new_volume n p
 
 -- the given bytes behind it
 abbrev pub behind_volume : ℕ → PartitionPlan → List ℕ → List ℕ
@@ -72,15 +87,29 @@ RefusesPlan text reply = (f : TextFault) × IsTextFault text f × (reply ≡ ref
 abbrev pub BuildsDisk : List ℕ → Reply → Type 0
 BuildsDisk text reply = BuildsPlan text reply ⊎ RefusesPlan text reply
 
--- these bytes are a new volume of n blocks: valid by the planned letters and empty, so that `check` accepts them, and of the planned type
-pub record IsNewVolume (n : ℕ) (p : PartitionPlan) (bytes : List ℕ) : Type 0 where
-  pub fits : FitsBy p.letters bytes (planned_tree p) (planned (planned_tree p) n)
-  pub checked : Checks WithInternational bytes (on_output 0 (ok_line_by p.letters (counts_of bytes (planned_tree p) (planned (planned_tree p) n))))
-  pub type : word_in bytes 0 0 ≡ planned_type p.letters p.kind
+-- these bytes are a volume of this tree, valid by its letters, so that `check` accepts them
+pub record IsWithoutCaches (bytes : List ℕ) (t : Tree) (l : Layout) : Type 0 where
+  pub fits : FitsBy t.letters bytes t l
+  pub checked : Checks WithInternational bytes (on_output 0 (ok_line_by t.letters (counts_of bytes t l)))
+
+-- these bytes are a volume of this tree with right directory caches, and `check` accepts them
+pub record IsWithCaches (bytes : List ℕ) (t : Tree) (l : Layout) : Type 0 where
+  pub fits : FitsInPlace bytes t l
+  pub checked : Checks WithInternational bytes (on_output 0 (cached_ok_line (cached_counts bytes fits.cached.walk t l)))
+
+-- these bytes are a sound volume of this file system and this tree
+abbrev pub FitsSystem : FileSystem → List ℕ → Tree → Layout → Type 0
+FitsSystem (WithoutCaches kind letters) bytes t l = IsWithoutCaches bytes t l
+FitsSystem (WithCaches kind) bytes t l = IsWithCaches bytes t l
+
+-- these bytes are a new volume of n blocks: sound and empty, under this label, and of the type of its file system
+pub record IsNewVolume (n : ℕ) (system : FileSystem) (label bytes : List ℕ) : Type 0 where
+  pub sound : FitsSystem system bytes (empty_tree system label) (planned (empty_tree system label) n)
+  pub type : word_in bytes 0 0 ≡ planned_type system
 
 -- a volume that is not given is such a new one
 abbrev pub IsSoundIfNew : ℕ → PartitionPlan → Type 0
-IsSoundIfNew c p = p.given ≡ false → IsNewVolume (p.cylinders * c) p (volume (planned_tree p) (p.cylinders * c))
+IsSoundIfNew c p = p.given ≡ false → IsNewVolume (p.cylinders * c) p.system p.name (new_volume (p.cylinders * c) p)
 
 -- a disk has the planned partitions and no others, and each volume at its partition's place
 pub record HasPlanned (plan : PlanValue) (given disk : List ℕ) : Type 0 where

@@ -11,7 +11,7 @@ use Rattle.adf_disk_cmd.specs.declared.host_volumes.NoVolume.TheVariants.{Unopen
 use Rattle.adf_disk_cmd.specs.declared.host_volumes.VolumeRefusal.TheVariants.{Short, Long, OtherType}
 use Rattle.adf_file_runs.specs.FileRuns.{KnownFiles, RunEndsOnFiles, refusal_text}
 use Rattle.adf_names.specs.Escapes.{escaped}
-use Rattle.adf_partitions.specs.{Plans.PlanValue, Plans.cylinder_blocks, Plans.planned_type, declared.plan.PartitionPlan.PartitionPlan}
+use Rattle.adf_partitions.specs.{FileSystems.planned_type, Plans.PlanValue, Plans.cylinder_blocks, declared.plan.PartitionPlan.PartitionPlan}
 use Rattle.adf_plans.specs.{HostFiles.IsPlainText, HostFiles.NamesHosts, HostFiles.host_of, PlanTexts.IsText, PlanTexts.behind_line, PlanTexts.first_line}
 use Rattle.adf_runs.specs.{Commands.Reply, Outcomes.Does, Outcomes.outcome_text, Outcomes.status_of, Streams.AreFirst, Streams.IsTold, Streams.Seen}
 use Rattle.adf_runs.specs.declared.outcome.Outcome.{Outcome}
@@ -37,7 +37,7 @@ type_refusal planned found = if names_type planned found then None else Some (Ot
 abbrev pub volume_refusal : ℕ → PartitionPlan → List ℕ → Option VolumeRefusal
 volume_refusal need p bytes =
     if nat_lt (length bytes) need then Some (Short need (length bytes))
-    else (if nat_lt need (length bytes) then Some (Long need) else type_refusal (planned_type p.letters p.kind) (boot_type bytes))
+    else (if nat_lt need (length bytes) then Some (Long need) else type_refusal (planned_type p.system) (boot_type bytes))
 
 -- the volume of a partition whose line names no host file: the first of the bytes that are left, if it is given
 abbrev pub left_volume : ℕ → PartitionPlan → List ℕ → List ℕ

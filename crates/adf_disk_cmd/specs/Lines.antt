@@ -7,19 +7,22 @@ use Rattle.adf_partitions.specs.{declared.partition.Partition.Partition, declare
 use Rattle.adf_texts.specs.Names.{names_text}
 use Rattle.adf_base.specs.declared.hash.Letters.TheVariants.{Ascii, International}
 use Rattle.adf_names.specs.{Escapes.escaped, VolumeTypes.kind_text_by, declared.kind.Kind.TheVariants.Ofs, declared.kind.Kind.TheVariants.Ffs}
+use Rattle.adf_partitions.specs.{FileSystems.system_text, declared.file_system.FileSystem.TheVariants.WithCaches}
 use Rattle.adf_disk_cmd.specs.declared.types.TheConstants.{DOS}
 
 -- the four bytes of a type, in the escape form
 abbrev pub bytes_text : ℕ → List ℕ
 bytes_text t = escaped (to_be_bytes w32 t)
 
--- the word for the kind and the letters of a type, of `DOS\0` to `DOS\3`
+-- the word for the file system of a type, of `DOS\0` to `DOS\5`
 unfoldable pub word_of_type : ℕ → Option (List ℕ)
 word_of_type t =
     if t == DOS then Some (kind_text_by Ascii Ofs)
     else (if t == DOS + 1 then Some (kind_text_by Ascii Ffs)
     else (if t == DOS + 2 then Some (kind_text_by International Ofs)
-    else (if t == DOS + 3 then Some (kind_text_by International Ffs) else None)))
+    else (if t == DOS + 3 then Some (kind_text_by International Ffs)
+    else (if t == DOS + 4 then Some (system_text (WithCaches Ofs))
+    else (if t == DOS + 5 then Some (system_text (WithCaches Ffs)) else None)))))
 
 -- a type in a line: its word, else its four bytes in the escape form
 unfoldable pub type_text : ℕ → List ℕ

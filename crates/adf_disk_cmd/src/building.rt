@@ -1,20 +1,21 @@
 // The command `build`.
 
-ghost use Rattle.std.specs.Prelude.{◌≡◌, ◌≢◌, ◌≤◌, ◌*◌, ℕ, false, length, true, List, Option, IfOk, OnErr, OnOk};
+ghost use Rattle.std.specs.Prelude.{◌≡◌, ◌≢◌, ◌≤◌, ◌*◌, ℕ, [], false, length, true, List, Option, IfOk, OnErr, OnOk};
 ghost use Rattle.std.specs.{Io.KnownBytes.Appends, List.list_all};
 ghost use Rattle.adf_blocks.specs.Sizes.{is_allowed};
-ghost use Rattle.adf_build.specs.Laid.{volume};
 ghost use Rattle.adf_disk_cmd.specs.Builds.{BuildsDisk, DisksHavePlanned, RefusesPlan, behind_volume, built_disk, given_bytes};
-ghost use Rattle.adf_disk_cmd.specs.Builds.{given_line, plan_reply, planned_tree, volume_of};
+ghost use Rattle.adf_build.specs.Laid.{volume};
+ghost use Rattle.adf_disk_cmd.specs.Builds.{given_line, new_volume, plan_reply, volume_of};
 ghost use Rattle.adf_partitions.specs.Plans.{IsPlan, cylinder_blocks, plan_value};
-ghost use Rattle.adf_plans.specs.PlanTexts.{IsTextFault, has_volume, is_plan};
+ghost use Rattle.adf_plans.specs.PlanTexts.{IsTextFault, has_cache_room, has_volume, is_plan};
 ghost use Rattle.adf_plans.specs.declared.plan_text.TextKind.{TextKind};
 ghost use Rattle.adf_runs.specs.{Commands.on_errors, Streams.AppendsPart, Streams.is_device, Streams.seen};
 ghost use Rattle.adf_runs.specs.Outcomes.{Blames, Does, DoesSilently, EndsBy};
 
 use adf_base::BLOCK_LEN;
 use adf_build::{BuildFault, build_types};
-use adf_partitions::{DiskPlan, PartitionPlan, cylinder_blocks, write_tables};
+use adf_new_caches::build_cached;
+use adf_partitions::{DiskPlan, FileSystem, PartitionPlan, cylinder_blocks, write_tables};
 use adf_plans::{TextFault, TextKind, read_plan};
 use adf_runs::{Outcome, Sink, StreamFault, write_all};
 use adf_tree::{Label, NO_STAMPS, Tree};
@@ -35,19 +36,33 @@ fn given_bytes(plan: &DiskPlan) -> usize
     cylinders as usize * cylinder_blocks(plan) as usize * BLOCK_LEN
 }
 
-// A new volume of so many blocks, of the planned type, with the drive's name as its label.
-fn new_volume(alloc: Global, partition: &PartitionPlan, blocks: u32) -> Result<Vec<u8>, AllocError>
+// A new volume of so many blocks, without directory caches, of a tree without entries.
+fn new_without_caches(alloc: Global, tree: &Tree, blocks: u32) -> Result<Vec<u8>, AllocError>
     requires size { is_allowed blocks ≡ true }
-    requires label { length partition.now.name ≤ 30 }
-    ensures { IfOk result (λ bytes. bytes.items ≡ volume (planned_tree partition.now) blocks) }
+    requires empty { tree.now.entries ≡ [] }
+    ensures { IfOk result (λ bytes. bytes.items ≡ volume tree.now blocks) }
 {
-    let label = Label::new(partition.name.bytes()).unwrap();
-    let tree = Tree::with_letters(alloc, partition.kind, partition.letters, label, NO_STAMPS);
-    match build_types(alloc, Types::WithInternational, &tree, blocks) {
+    match build_types(alloc, Types::WithInternational, tree, blocks) {
         Ok(bytes) => Ok(bytes),
         Err(BuildFault::BadSize) => unreachable!(),
         Err(BuildFault::Full { .. }) => unreachable!(),
         Err(BuildFault::NoMemory) => Err(AllocError),
+    }
+}
+
+// A new volume of so many blocks, of the planned file system, with the drive's name as its label.
+fn new_volume(alloc: Global, partition: &PartitionPlan, blocks: u32) -> Result<Vec<u8>, AllocError>
+    requires size { is_allowed blocks ≡ true }
+    requires room { has_cache_room partition.now.system blocks ≡ true }
+    requires label { length partition.now.name ≤ 30 }
+    ensures { IfOk result (λ bytes. bytes.items ≡ new_volume blocks partition.now) }
+{
+    let label = Label::new(partition.name.bytes()).unwrap();
+    let (kind, letters) = (partition.system.kind(), partition.system.letters());
+    let tree = Tree::with_letters(alloc, kind, letters, label, NO_STAMPS);
+    match partition.system {
+        FileSystem::WithoutCaches(_, _) => new_without_caches(alloc, &tree, blocks),
+        FileSystem::WithCaches(_) => build_cached(alloc, &tree, blocks),
     }
 }
 
@@ -64,6 +79,7 @@ fn write_volume<'a, W: Sink>(
     requires works { W.has_failed output.old ≡ false }
     requires enough { partition.now.given ≡ true → blocks * 512 ≤ length given.now }
     requires size { partition.now.given ≡ false → is_allowed blocks ≡ true }
+    requires room { partition.now.given ≡ false → has_cache_room partition.now.system blocks ≡ true }
     requires label { partition.now.given ≡ false → length partition.now.name ≤ 30 }
     ensures volume { OnOk result
         (Appends (W.held output.old) (W.held output.new) (volume_of blocks partition.now given.now)) }

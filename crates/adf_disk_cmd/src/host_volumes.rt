@@ -6,10 +6,9 @@ ghost use Rattle.adf_disk_cmd.specs.HostPlans.{IsFaultTold, refusal_end, volume_
 ghost use Rattle.adf_file_runs.specs.FileRuns.{known_files, refusal_text as unopened_end};
 ghost use Rattle.adf_runs.specs.Streams.{seen};
 
-use crate::types::{DOS, type_text};
+use crate::types::type_text;
 use adf_base::Block;
 use adf_file_runs::{Files, Unopened};
-use adf_names::type_number;
 use adf_partitions::PartitionPlan;
 use adf_runs::{Outcome, Sink, StreamFault, read_all, say};
 use adf_texts::push_escaped;
@@ -83,7 +82,7 @@ fn volume_refusal(partition: &PartitionPlan, need: usize, bytes: &[u8]) -> Optio
         return Some(VolumeRefusal::Long { need });
     }
     let found = boot_type(bytes);
-    let planned = DOS + u32::from(type_number(partition.letters, partition.kind));
+    let planned = partition.system.planned_type();
     if found == 0 || found == planned {
         None
     } else {

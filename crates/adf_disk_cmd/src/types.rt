@@ -5,6 +5,7 @@ ghost use Rattle.adf_disk_cmd.specs.Lines.{bytes_text, is_checked, type_bytes, t
 
 use adf_base::Letters;
 use adf_names::kind_text_by;
+use adf_partitions::FileSystem;
 use adf_tree::{Kind, ShortText};
 use std::alloc::{AllocError, Global};
 
@@ -30,7 +31,7 @@ pub fn bytes_text(alloc: Global, dos_type: u32) -> Result<String, AllocError>
     }
 }
 
-// The word for the kind and the letters of a type.
+// The word for the file system of a type.
 #[tactic(auto, unfolding(crate::specs::Lines::word_of_type))]
 fn word_of_type(dos_type: u32) -> Option<&'static str>
     ensures { option_map (λ word. word.now) result ≡ word_of_type dos_type }
@@ -43,12 +44,16 @@ fn word_of_type(dos_type: u32) -> Option<&'static str>
         Some(kind_text_by(Letters::International, Kind::Ofs))
     } else if dos_type == DOS + 3 {
         Some(kind_text_by(Letters::International, Kind::Ffs))
+    } else if dos_type == DOS + 4 {
+        Some(FileSystem::WithCaches(Kind::Ofs).text())
+    } else if dos_type == DOS + 5 {
+        Some(FileSystem::WithCaches(Kind::Ffs).text())
     } else {
         None
     }
 }
 
-/// A type: of `DOS\0` to `DOS\3` the word for its kind and letters, as `ffs-international`, else its four bytes in the escape form.
+/// A type: of `DOS\0` to `DOS\5` the word for its file system, as `ffs-international`, else its four bytes in the escape form.
 #[tactic(auto, unfolding(crate::specs::Lines::type_text))]
 pub fn type_text(alloc: Global, dos_type: u32) -> Result<String, AllocError>
     ensures { IfOk result (λ text. string_bytes text ≡ type_text dos_type) }
@@ -59,7 +64,7 @@ pub fn type_text(alloc: Global, dos_type: u32) -> Result<String, AllocError>
     }
 }
 
-/// A type: of `DOS\0` to `DOS\3` the word for its kind and letters, else its four bytes.
+/// A type: of `DOS\0` to `DOS\5` the word for its file system, else its four bytes.
 #[tactic(auto, unfolding(crate::specs::Lines::type_bytes))]
 pub fn type_bytes(alloc: Global, dos_type: u32) -> Result<Vec<u8>, AllocError>
     ensures { IfOk result (λ bytes. bytes.items ≡ type_bytes dos_type) }

@@ -26,17 +26,23 @@ const KINDS: &[u8] = b"disk 4 2\n\
     partition DH1 ffs 2\n\
     partition DH2 ofs-international 2\n\
     partition DH3 ffs-international 2\n\
+    partition DH4 ofs-cached 2\n\
+    partition DH5 ffs-cached 2\n\
     end\n";
 
 const KINDS_LISTED: &[u8] = b"1 DH0: ofs first 8 blocks 16 flags 0 priority 0\n\
     2 DH1: ffs first 24 blocks 16 flags 0 priority 0\n\
     3 DH2: ofs-international first 40 blocks 16 flags 0 priority 0\n\
-    4 DH3: ffs-international first 56 blocks 16 flags 0 priority 0\n";
+    4 DH3: ffs-international first 56 blocks 16 flags 0 priority 0\n\
+    5 DH4: ofs-cached first 72 blocks 16 flags 0 priority 0\n\
+    6 DH5: ffs-cached first 88 blocks 16 flags 0 priority 0\n";
 
 const KINDS_CHECKED: &[u8] = b"DH0: ok ofs blocks 16 used 2 free 12 dirs 0 files 0\n\
     DH1: ok ffs blocks 16 used 2 free 12 dirs 0 files 0\n\
     DH2: ok ofs-international blocks 16 used 2 free 12 dirs 0 files 0\n\
-    DH3: ok ffs-international blocks 16 used 2 free 12 dirs 0 files 0\n";
+    DH3: ok ffs-international blocks 16 used 2 free 12 dirs 0 files 0\n\
+    DH4: ok ofs-cached blocks 16 used 3 free 11 dirs 0 files 0\n\
+    DH5: ok ffs-cached blocks 16 used 3 free 11 dirs 0 files 0\n";
 
 // The words, and what output gets of the disk of KINDS.
 const ASKED_OF_KINDS: &[(&[&str], &[u8])] = &[

@@ -78,7 +78,7 @@ const SEARCHES: &[(Change, usize, &str)] = &[
     (
         ((108, 0), (0, 0, 0x444F_5305)),
         16_384,
-        "1 \\x: DOS\\x05 first 3 blocks 32\n",
+        "1 \\x: ffs-cached first 3 blocks 32\n",
     ),
     (((108, 0), (0, 0, 0x444F_5306)), 16_384, ""),
 ];

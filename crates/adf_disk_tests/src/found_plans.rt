@@ -73,19 +73,20 @@ const PLANS: &[(Volumes, usize, &str, &str)] = &[
         "disk 4 1\npartition W ffs 8 given\npartition \\xe9 ffs 1 given\nend\n",
         "",
     ),
-    // No kind has the type of B, or of both; or B ends beyond the image.
+    // With directory caches, of one or of both.
     (
         (WOR, GA, FFS, FFS + 3),
         34_304,
-        "disk 32 1\npartition Wor ffs 1 given\nend\n",
-        "left out: 2 Ga: DOS\\x04 first 49 blocks 4\n",
+        "disk 4 1\npartition Wor ffs 8 given\npartition Ga ofs-cached 1 given\nend\n",
+        "",
     ),
     (
         (WOR, GA, FFS + 4, FFS + 3),
         34_304,
+        "disk 4 1\npartition Wor ffs-cached 8 given\npartition Ga ofs-cached 1 given\nend\n",
         "",
-        "left out: 1 Wor: DOS\\x05 first 3 blocks 32\nleft out: 2 Ga: DOS\\x04 first 49 blocks 4\n",
     ),
+    // B ends beyond the image.
     (
         (WOR, GA, FFS, FFS),
         26_900,

@@ -75,6 +75,16 @@ const FAULTS: &[(&[u8], usize, TextKind)] = &[
     (b"disk 2 2\npartition A pfs 1\nend\n", 2, TextKind::BadLine),
     (b"disk 2 2\npartition A dos3 1\nend\n", 2, TextKind::BadLine),
     (
+        b"disk 2 2\npartition A ofs-caches 2\nend\n",
+        2,
+        TextKind::BadLine,
+    ),
+    (
+        b"disk 2 2\npartition A ffs-cached 1\nend\n",
+        2,
+        TextKind::FewBlocks,
+    ),
+    (
         b"disk 2 2\npartition A ofs 1 priority 128\nend\n",
         2,
         TextKind::BadLine,

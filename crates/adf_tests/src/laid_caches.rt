@@ -1,10 +1,13 @@
 // Directory caches that are laid into volumes of type 2 and 3.
 
 use crate::images::{Image, NOT_MOVED, built, with_bytes};
-use adf_base::{seal, set_word};
+use adf_base::{Letters, seal, set_word};
 use adf_cache_laying::lay_caches;
 use adf_memory::{Verdict, run_in_memory};
 use adf_memory_types::check_image_types;
+use adf_names::Label;
+use adf_new_caches::build_cached;
+use adf_tree::{Kind, NO_STAMPS, Tree};
 use std::alloc::Global;
 
 // An FFS volume of 16 blocks: the directory `d` with its header in block 2, and in it the file `xy`, in blocks 3 and 4. The root
@@ -208,4 +211,36 @@ fn used_with_caches(alloc: Global, manifest: &[u8]) -> u32 {
 #[test]
 fn large_directories_get_several_blocks(rt: HostRuntime) {
     assert!(rt; used_with_caches(rt.alloc(), MANY) == 2 + 43 + 3 + 1 + 1);
+}
+
+// An empty FFS volume of type 5, of 16 blocks: the cache of the root is block 2, without records, and of blocks 2 to 15 the blocks 3
+// to 7 and 10 to 15 are free.
+const NEW: Words<'static> = &[
+    (0, 0, 0x444F_5305),
+    (2, 0, 33),
+    (2, 1, 2),
+    (2, 2, 8),
+    (8, 126, 2),
+    (9, 1, 0x3F3E),
+];
+
+// The new volume of that size, under the label `DH0`.
+fn new_volume(alloc: Global) -> Option<Vec<u8>> {
+    let label = Label::new(b"DH0")?;
+    let tree = Tree::with_letters(alloc, Kind::Ffs, Letters::International, label, NO_STAMPS);
+    build_cached(alloc, &tree, 16).ok()
+}
+
+#[test]
+fn a_new_volume_has_a_cache(rt: HostRuntime) {
+    let volume = typed(rt.alloc(), b"volume ffs 16\nlabel DH0\n", 3);
+    let wanted = with_words(&volume, NEW, &[(2, 5), (8, 5), (9, 0)]);
+    let laid = lay_caches(rt.alloc(), &volume);
+    match (new_volume(rt.alloc()), laid) {
+        (Some(new), Ok(Some(image))) => {
+            assert!(rt; new.as_slice() == wanted.as_slice());
+            assert!(rt; image.as_slice() == wanted.as_slice());
+        }
+        _ => assert!(rt; false),
+    }
 }

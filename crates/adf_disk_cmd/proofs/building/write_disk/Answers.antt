@@ -62,7 +62,8 @@ returns-clause-ok g c =
 
 -- the partition has a volume
 planned : (plan : PlanValue) (i : ℕ) (p : PartitionPlan) → list_all (has_volume (cylinder_blocks plan)) plan.partitions ≡ true
-    → i < length plan.partitions → p ≡ get_or plan.partitions i p → p.given ≡ false → MayBeNew (p.cylinders * cylinder_blocks plan) p
+    → i < length plan.partitions → p ≡ get_or plan.partitions i p → p.given ≡ false
+    → MayBeNew (p.cylinders * cylinder_blocks plan) p.system p.name
 planned plan i p all lt e =
     may_be_new (cylinder_blocks plan) p (rw (← e) at (has_volume_at (cylinder_blocks plan) plan.partitions i p all lt))
 
@@ -71,6 +72,12 @@ write_volume-requires-clause-size g c = λ new.
     rw c.cylinder_blocks-cylinder.ensures
     (planned (plan_value c.args.plan.now) c.loop-partition.partition-index c.partition-item.result c.requires.volumes (search rules) (search rules)
     new).size
+
+pub write_volume-requires-clause-room : goal.write_volume-requires-clause-room
+write_volume-requires-clause-room g c = λ new.
+    rw c.cylinder_blocks-cylinder.ensures
+    (planned (plan_value c.args.plan.now) c.loop-partition.partition-index c.partition-item.result c.requires.volumes (search rules) (search rules)
+    new).room
 
 pub write_volume-requires-clause-label : goal.write_volume-requires-clause-label
 write_volume-requires-clause-label g c = λ new.
