@@ -18,8 +18,8 @@ type_name n =
     else (if n == 1 then codes "ffs"
     else (if n == 2 then codes "ofs-international"
     else (if n == 3 then codes "ffs-international"
-    else (if n == 4 then codes "ofs-dc"
-    else (if n == 5 then codes "ffs-dc" else codes "other")))))
+    else (if n == 4 then codes "ofs-cached"
+    else (if n == 5 then codes "ffs-cached" else codes "other")))))
 
 -- the type of an image, or a dash where it does not begin with `DOS`
 abbrev pub type_of : List ℕ → List ℕ

@@ -35,8 +35,8 @@ fn type_name(number: u8) -> &'static str
         1 => "ffs",
         2 => "ofs-international",
         3 => "ffs-international",
-        4 => "ofs-dc",
-        5 => "ffs-dc",
+        4 => "ofs-cached",
+        5 => "ffs-cached",
         _ => "other",
     }
 }
