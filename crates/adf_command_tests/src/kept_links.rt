@@ -31,6 +31,9 @@ const LINKS: &[Word] = &[
     (10, 6, 0x622F_7800),
 ];
 
+// The root leads to `b` and `f` no more, and `f` is in `b`: the slots of `b` and `f` in the root, that of `f` in `b`, and its directory.
+const CUT_OFF: &[Word] = &[(8, 13, 0), (8, 17, 0), (4, 17, 10), (10, 125, 4)];
+
 // What `--list` says of the volume with all links, of the same of type 4, of the one without `a`, and of the one whose soft link is wrong.
 const WHOLE: &str = "block 5: link: c: to a\n\
     block 6: link: d: to a\n\
@@ -72,6 +75,22 @@ const WITHOUT_A: &str = "block 3: link: e: to b\n\
     sound   dir  00000000          - 1978-01-01 00:00:00.00 b\n\
     sound   link 00000000          - 1978-01-01 00:00:00.00 e -> b\n\
     sound   link 00000000          - 1978-01-01 00:00:00.00 f -> b/x\n";
+
+// That of the volume whose link `f` is in `b`.
+const F_IN_B: &str = "block 6: link: c: to a\n\
+    block 7: link: d: to a\n\
+    block 10: link: e: to b\n\
+    block 5: link: b/f: path b/x\n\
+    volume ofs blocks 16\n\
+    root 1978-01-01 00:00:00.00\n\
+    altered 1978-01-01 00:00:00.00\n\
+    created 1978-01-01 00:00:00.00\n\
+    sound   file 00000000          1 1978-01-01 00:00:00.00 a\n\
+    sound   dir  00000000          - 1978-01-01 00:00:00.00 b\n\
+    sound   link 00000000          - 1978-01-01 00:00:00.00 c -> a\n\
+    sound   link 00000000          - 1978-01-01 00:00:00.00 d -> a\n\
+    sound   link 00000000          - 1978-01-01 00:00:00.00 e -> b\n\
+    sound   link 00000000          - 1978-01-01 00:00:00.00 b/f -> b/x\n";
 
 const WITHOUT_F: &str = "block 5: link: c: to a\n\
     block 6: link: d: to a\n\
@@ -185,6 +204,22 @@ fn wrong_links_are_lost(rt: HostRuntime) {
     let mut image = linked(rt.alloc());
     set_words(&mut image, &[(10, 6, 0)]);
     assert!(rt; keeps(rt.alloc(), &image, 1, "link: f\n", WITHOUT_F));
+}
+
+// Nothing leads to the directory `b`, which the bitmap has in use: `f` in it is kept, and `e` leads to it again.
+#[test]
+fn links_of_lost_directories_are_kept(rt: HostRuntime) {
+    let mut image = linked(rt.alloc());
+    set_words(&mut image, CUT_OFF);
+    assert!(rt;
+        keeps(
+            rt.alloc(),
+            &image,
+            1,
+            "found again: b/f\nfound again: b\n",
+            F_IN_B
+        )
+    );
 }
 
 // Whether a rescue that keeps all gives what one that keeps the type gives.

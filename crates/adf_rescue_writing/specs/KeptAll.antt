@@ -1,19 +1,23 @@
 -- Rescues with all that is kept of an input beside their volumes.
--- Letters: s, t what is surveyed; p a prepared rescue, boot the boot blocks of the input; input the image that is read; q, r what a rescue gives; ls losses,
--- l one of them; kept marks of links, by the blocks of their headers; plus whether the deleted files that are whole are kept too.
-use Rattle.std.specs.Prelude.{◌≡◌, ◌⊎◌, ◌==◌, ◌&&◌, ℕ, Bool, true, not, List, []}
-use Rattle.std.specs.List.{filter}
+-- Letters: s, t what is surveyed; p a prepared rescue, boot the boot blocks of the input; image, w what a rescue reads of an input, and the walk of its survey,
+-- x both; searched what is searched for what is kept; q, r what a rescue gives; ls losses, l one of them; kept marks of links, by the blocks of their headers;
+-- plus whether the deleted files that are whole are kept too.
+use Rattle.std.specs.Prelude.{◌≡◌, ◌⊎◌, ◌==◌, ◌&&◌, ℕ, Bool, true, cond, List, [], ◌∷◌}
+use Rattle.std.specs.List.{flat_map}
 use Rattle.adf_blocks.specs.Sizes.{blocks}
 use Rattle.adf_boot_blocks.specs.Writing.{restored}
 use Rattle.adf_build.specs.Laid.{IsLaid}
 use Rattle.adf_volume.specs.declared.types.Types.TheVariants.{WithInternational}
-use Rattle.adf_findings.specs.Members.{has_mark}
+use Rattle.adf_volume.specs.Walk.{Walk}
+use Rattle.adf_findings.specs.Members.{has_mark, owns}
 use Rattle.adf_cache_laying.specs.LaidCaches.{HasCaches}
-use Rattle.adf_link_laying.specs.KeptLinks.{HasLinks}
-use Rattle.adf_rescue.specs.Pruned.{image_read}
+use Rattle.adf_link_laying.specs.KeptLinks.{HasLinks, Surveyed}
+use Rattle.adf_rescue.specs.{Lost.is_stated_used, Opened.lacks_root}
+use Rattle.adf_rescue_writing.specs.Searched.{IsReadSurvey, IsSearched}
 use Rattle.adf_uncached.specs.Uncached.{is_cached}
 use Rattle.adf_runs.specs.Commands.{Reply}
-use Rattle.adf_subjects.specs.{Losses.LossValue, Losses.loss_values, Losses.reason_number, declared.losses.Reason.TheVariants.Link}
+use Rattle.adf_subjects.specs.Losses.{LossValue, loss_values, reason_number}
+use Rattle.adf_subjects.specs.declared.losses.Reason.{Reason, TheVariants.FoundAgain, TheVariants.Link, TheVariants.PerhapsDeleted}
 use Rattle.adf_subjects.specs.declared.preparing.Prepared.{Prepared}
 use Rattle.adf_subjects.specs.{Rescues.RescueValue, Rescues.RescueValue.refused, Rescues.RescueValue.written, Rescues.RescuesOf, Rescues.text_status}
 use Rattle.adf_subjects.specs.Subject.{IsTyped, SubjectValue, sized}
@@ -22,9 +26,21 @@ use Rattle.adf_subjects.specs.Subject.{IsTyped, SubjectValue, sized}
 abbrev pub tells_kept : List Bool → LossValue → Bool
 tells_kept kept l = (l.why == reason_number Link) && has_mark kept l.first
 
--- the losses that do not
-abbrev pub losses_beside : List Bool → List LossValue → List LossValue
-losses_beside kept ls = filter (λ l. not (tells_kept kept l)) ls
+-- why a link is in doubt that nothing led to: the bitmap has it in use, or does not tell so
+abbrev pub again_reason : (image : List ℕ) → Walk → (b : ℕ) → Reason
+again_reason image w b = cond (is_stated_used image w b) FoundAgain PerhapsDeleted
+
+-- a loss of a link as that of one that is kept, although nothing led to it
+abbrev pub again : (image : List ℕ) → Walk → LossValue → LossValue
+again image w l = record l { why = reason_number (again_reason image w l.first) }
+
+-- what is left of a loss: nothing of that of a kept link that is found; but of one that nothing led to, that it is in doubt
+abbrev pub loss_beside : (image : List ℕ) → Walk → List Bool → LossValue → List LossValue
+loss_beside image w kept l = cond (tells_kept kept l) (cond (owns w l.first) [] (again image w l ∷ [])) (l ∷ [])
+
+-- what is left of losses
+abbrev pub losses_beside : (image : List ℕ) → Walk → List Bool → List LossValue → List LossValue
+losses_beside image w kept ls = flat_map (loss_beside image w kept) ls
 
 -- a volume has links of an input, which are marked; or it is as it was, and none is marked
 abbrev pub MayHaveLinks : (input volume linked : List ℕ) → List Bool → Type 0
@@ -38,10 +54,12 @@ MayHaveCaches input volume image = ((is_cached input ≡ true) × HasCaches volu
 abbrev pub IsKeptAll : (input volume image : List ℕ) → List Bool → Type 0
 IsKeptAll input volume image kept = (linked : List ℕ) × MayHaveLinks input volume linked kept × MayHaveCaches input linked image
 
--- r is q with all that is kept of an input beside its volume, of which no loss tells any more
+-- r is q with all that is kept of an input beside its volume; no loss tells of that any more, but of links that nothing led to it tells that they are in doubt
 abbrev pub KeepsAll : (input : List ℕ) → (q r : RescueValue) → Type 0
 KeepsAll input (written volume ls) r =
-    (image : List ℕ) × (kept : List Bool) × IsKeptAll input volume image kept × (r ≡ written image (losses_beside kept ls))
+    (x : Surveyed) × (searched : List ℕ) × (image : List ℕ) × (kept : List Bool)
+    × IsReadSurvey input x × IsSearched (lacks_root input) x searched × IsKeptAll searched volume image kept
+    × (r ≡ written image (losses_beside x.image x.walk kept ls))
 KeepsAll input (refused f ls) r = ⊥
 
 -- r is given, or is what is given with all that is kept beside it
@@ -53,11 +71,10 @@ abbrev pub IsLaidFor : Prepared → (boot : List ℕ) → RescueValue → Type 0
 IsLaidFor p boot r =
     (volume : List ℕ) × IsLaid volume p.draft.tree × (blocks volume ≡ p.blocks) × (r ≡ written (restored volume boot) (loss_values p.losses.items))
 
--- the rescue of what is surveyed, with the letters of its image, or that with all that is kept beside it of the image that a rescue reads
+-- the rescue of what is surveyed, with the letters of its image, or that with all that is kept beside it
 abbrev pub RescuesAll : (plus : Bool) → SubjectValue → RescueValue → Type 0
 RescuesAll plus s r =
-    (t : SubjectValue) × IsTyped s t
-    × MayKeepAll (image_read true t.image) (RescuesOf plus WithInternational t.end t.lost t.image (sized 2 s.image)) r
+    (t : SubjectValue) × IsTyped s t × MayKeepAll t.image (RescuesOf plus WithInternational t.end t.lost t.image (sized 2 s.image)) r
 
 -- the reply with an image on output and lines on errors
 abbrev pub written_reply : (image lines : List ℕ) → Reply

@@ -3,7 +3,10 @@
 
 mod keeping_all;
 mod loss_lines;
+mod rechained;
+mod rechaining;
 mod rescuing;
+mod searching;
 
 pub use crate::keeping_all::rescue_all;
 pub use crate::rescuing::{Terms, rescue_image};

@@ -1,11 +1,13 @@
 // The lines of what is not in the volume of a rescue, or in doubt there.
 
-ghost use Rattle.std.specs.Prelude.{◌≡◌, ◌++◌, ◌∷◌, [], IfOk, OnOk};
-ghost use Rattle.adf_rescue_writing.specs.KeptAll.{losses_beside, tells_kept};
+ghost use Rattle.std.specs.Prelude.{◌≡◌, ◌++◌, ◌∷◌, [], IfOk, OnOk, codes, cond};
+ghost use Rattle.adf_findings.specs.{Members.owns, Survey.OnSurvey};
+ghost use Rattle.adf_rescue_writing.specs.KeptAll.{again, again_reason, loss_beside, losses_beside, tells_kept};
 ghost use Rattle.adf_subjects.specs.Losses.{path_line, headers_line, loss_line, loss_value, loss_values, losses_text};
 ghost use Rattle.adf_subjects.specs.Losses.{number_text, reason_number};
 
-use adf_findings::has_mark;
+use adf_findings::{Survey, has_mark};
+use adf_rescue::is_stated_used;
 use adf_subjects::{Loss, Reason, push_blocks};
 use std::alloc::{AllocError, Global};
 
@@ -24,13 +26,21 @@ fn push_word(text: &mut Vec<u8>, why: Reason) -> Result<(), AllocError>
     }
 }
 
+// Appends the line of an entry for this reason.
+fn push_path_line(text: &mut Vec<u8>, why: Reason, path: &[u8]) -> Result<(), AllocError>
+    ensures { OnOk result (text.new.items
+        ≡ text.old.items ++ (number_text (reason_number why) ++ (path.now ++ codes "\n"))) }
+{
+    push_word(text, why)?;
+    text.extend_from_slice(path)?;
+    text.extend_from_slice(b"\n")
+}
+
 // Appends the line of an entry.
 fn push_entry(text: &mut Vec<u8>, loss: &Loss) -> Result<(), AllocError>
     ensures { OnOk result (text.new.items ≡ text.old.items ++ path_line (loss_value loss.now)) }
 {
-    push_word(text, loss.why)?;
-    text.extend_from_slice(&loss.path)?;
-    text.extend_from_slice(b"\n")
+    push_path_line(text, loss.why, &loss.path)
 }
 
 // Appends the line of headers in a directory.
@@ -76,26 +86,70 @@ fn tells_kept(loss: &Loss, kept: &Vec<bool>) -> bool
     }
 }
 
-// Appends the line of a loss, but not of a link whose header has a mark.
-#[tactic(auto, using(crate::proofs::Beside::beside_one, crate::proofs::Beside::beside_none))]
-fn push_unless_kept(text: &mut Vec<u8>, loss: &Loss, kept: &Vec<bool>) -> Result<(), AllocError>
-    ensures { OnOk result (text.new.items
-        ≡ text.old.items ++ losses_text (losses_beside kept.now.items (loss_value loss.now ∷ []))) }
+// Why a link is in doubt that nothing led to, by what is surveyed of the image that a rescue reads.
+fn again_reason(found: &Survey<'_>, b: u32) -> Reason
+    ensures { OnSurvey found.now.image (λ w _. result ≡ again_reason found.now.image w b) }
+{
+    if is_stated_used(found, b) {
+        Reason::FoundAgain
+    } else {
+        Reason::PerhapsDeleted
+    }
+}
+
+// Appends the line of a link that is kept, although nothing led to it.
+#[tactic(auto, using(crate::proofs::Beside::again_line))]
+fn push_again(text: &mut Vec<u8>, found: &Survey<'_>, loss: &Loss) -> Result<(), AllocError>
+    ensures { OnSurvey found.now.image (λ w _. OnOk result
+        (text.new.items ≡ text.old.items ++ loss_line (again found.now.image w (loss_value loss.now)))) }
+{
+    push_path_line(text, again_reason(found, loss.first), &loss.path)
+}
+
+// Appends the line of a link that is kept, if nothing led to it.
+#[tactic(auto, using(crate::proofs::Beside::led_to, crate::proofs::Beside::not_led_to))]
+fn push_kept(text: &mut Vec<u8>, found: &Survey<'_>, loss: &Loss) -> Result<(), AllocError>
+    ensures { OnSurvey found.now.image (λ w _. OnOk result (text.new.items ≡ text.old.items
+        ++ losses_text (cond (owns w loss.now.first) [] (again found.now.image w (loss_value loss.now) ∷ [])))) }
+{
+    if found.has_part(loss.first) {
+        return Ok(());
+    }
+    push_again(text, found, loss)
+}
+
+// Appends what is left of the line of a loss, by the marks of links that are kept.
+#[tactic(auto, using(crate::proofs::Beside::beside_kept, crate::proofs::Beside::beside_one))]
+fn push_beside(
+    text: &mut Vec<u8>,
+    found: &Survey<'_>,
+    loss: &Loss,
+    kept: &Vec<bool>,
+) -> Result<(), AllocError>
+    ensures { OnSurvey found.now.image (λ w _. OnOk result (text.new.items
+        ≡ text.old.items ++ losses_text (loss_beside found.now.image w kept.now.items (loss_value loss.now)))) }
 {
     if tells_kept(loss, kept) {
-        return Ok(());
+        return push_kept(text, found, loss);
     }
     push_line(text, loss)
 }
 
-/// The lines of losses, but not of links whose headers have marks.
+/// The lines of losses, but not of links that are kept, by the marks of their headers; of those that nothing led to in what is
+/// surveyed, that they are in doubt.
 #[tactic(auto, using(crate::proofs::Beside::beside_more))]
-pub fn losses_but(alloc: Global, losses: &[Loss], kept: &Vec<bool>) -> Result<Vec<u8>, AllocError>
-    ensures { IfOk result (λ text. text.items ≡ losses_text (losses_beside kept.now.items (loss_values losses.now))) }
+pub fn losses_but(
+    alloc: Global,
+    found: &Survey<'_>,
+    losses: &[Loss],
+    kept: &Vec<bool>,
+) -> Result<Vec<u8>, AllocError>
+    ensures { OnSurvey found.now.image (λ w _. IfOk result (λ text. text.items
+        ≡ losses_text (losses_beside found.now.image w kept.now.items (loss_values losses.now)))) }
 {
     let mut text = Vec::new(alloc);
     for i in 0..losses.len() {
-        push_unless_kept(&mut text, &losses[i], kept)?;
+        push_beside(&mut text, found, &losses[i], kept)?;
     }
     Ok(text)
 }

@@ -262,7 +262,7 @@ long_all plus s t a b reply (r, (u, is, inl given), same) =
 long_all plus s t a b reply (r, (u, is, inr (q, given, keeps)), same) =
     let long : 512 * MOST_BLOCKS < length u.image = subst (λ (u : SubjectValue). 512 * MOST_BLOCKS < length u.image) (sym (typed_so s u a is)) a in
     let (f, none) = long_refuses plus WithInternational u (sized 2 s.image) long q given in
-    absurd (none_kept (image_read true u.image) q r f none keeps)
+    absurd (none_kept u.image q r f none keeps)
 
 -- no bytes of files are told
 unfound_text : (json : Bool) (word : List ℕ) (marks : List Bool) (image : List ℕ) → passages_text json word marks image [] ≡ []

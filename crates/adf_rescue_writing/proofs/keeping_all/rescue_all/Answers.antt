@@ -1,5 +1,4 @@
-use Rattle.std.proofs.Common.{◌∙◌, true}
-use Rattle.adf_rescue.specs.Pruned.{image_read}
+use Rattle.std.proofs.Common.{◌∙◌}
 use Rattle.adf_runs.proofs.Endings.{does_weaker, nothing_done, silently}
 use Rattle.adf_rescue_writing.specs.KeptAll.{MayKeepAll, RescuesAll}
 use Rattle.adf_subjects.specs.{Rescues.Replies, Rescues.RescuesOf, Subject.sized, Subject.subject_value}
@@ -11,7 +10,7 @@ returns-in-Ok-be_typed g c =
     let t = subject_value c.be_typed.new.self in
     let boot = sized 2 c.args.subject.image.items in
     let same = c.deref.ensures.value ∙ c.in-Ok.ensures.boot in
-    does_weaker (Replies (MayKeepAll (image_read true t.image) (RescuesOf c.args.with_deleted WithInternational t.end t.lost t.image boot)))
+    does_weaker (Replies (MayKeepAll t.image (RescuesOf c.args.with_deleted WithInternational t.end t.lost t.image boot)))
     (Replies (RescuesAll c.args.with_deleted (subject_value c.args.subject)))
     (λ reply (r, told, is). (r, (t, c.in-Ok-be_typed.ensures, told), is)) (rw same at c.rescue_linked.ensures)
 
