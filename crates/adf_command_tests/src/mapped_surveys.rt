@@ -8,7 +8,8 @@ use adf_survey_cmd::run_mapped;
 use adf_test_devices::{Came, Given, Kept};
 use std::alloc::Global;
 
-// An image of 16 blocks, and maps of its reading: one of all of it, one that lacks block 4, and one of a disk of 8 blocks.
+// An image of 16 blocks, and maps of its reading: one of all of it, one that lacks block 4, and one of a disk of 8 blocks; a map
+// without the row of its status, which is none, and a file without bytes.
 #[derive(Drop)]
 struct Reading<'a> {
     image: &'a [u8],
@@ -32,6 +33,10 @@ impl<'a> Files for Reading<'a> {
             Ok(Given::new(b"0 +\n0 2048 +\n2048 512 -\n2560 5632 +\n", usize::MAX))
         } else if name == b"half".as_slice() {
             Ok(Given::new(b"0 +\n0 4096 +\n", usize::MAX))
+        } else if name == b"no\\status".as_slice() {
+            Ok(Given::new(b"0 8192 +\n", usize::MAX))
+        } else if name == b"empty".as_slice() {
+            Ok(Given::new(b"", usize::MAX))
         } else if name == b"fails".as_slice() {
             Ok(Given::new(self.image, 0))
         } else {
@@ -125,6 +130,31 @@ const RUNS: &[(&[&str], u8, &str, &str)] = &[
         3,
         "",
         "read fault\n",
+    ),
+    (
+        &["adf-survey", "--map", "disk", "disk"],
+        1,
+        "",
+        "disk: not a map of ddrescue\n",
+    ),
+    (
+        &["adf-survey", "--map", "no\\status", "rescue", "disk"],
+        1,
+        "",
+        "no\\x5cstatus: not a map of ddrescue\n",
+    ),
+    // what is no map is told before words that are refused, and before a file that is not there
+    (
+        &["adf-survey", "--map", "empty", "cat"],
+        1,
+        "",
+        "empty: not a map of ddrescue\n",
+    ),
+    (
+        &["adf-survey", "--map", "empty", "gone"],
+        1,
+        "",
+        "empty: not a map of ddrescue\n",
     ),
     // behind a command it is a path
     (

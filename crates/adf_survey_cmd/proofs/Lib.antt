@@ -8,3 +8,5 @@ pub mod LongSurveys
 pub mod OneAnswer
 -- the word that names a map
 pub mod MapWords
+-- runs whose map is not had, is none, or is read
+pub mod MapEnds

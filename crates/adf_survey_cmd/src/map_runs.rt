@@ -1,17 +1,19 @@
 // Runs whose words may name the file of a map.
 
-ghost use Rattle.std.specs.Prelude.{◌≡◌, ◌⊎◌, ◌<◌, ◌+◌, IfSome, [], false, length};
+ghost use Rattle.std.specs.Prelude.{◌≡◌, ◌⊎◌, ◌<◌, ◌+◌, IfErr, IfOk, IfSome, [], false, length, true};
 ghost use Rattle.std.specs.Str.{IsUtf8};
 ghost use Rattle.adf_file_runs.specs.FileRuns.{known_files};
-ghost use Rattle.adf_runs.specs.Streams.{AreFirst, seen};
-ghost use Rattle.adf_survey_cmd.specs.MapRuns.{EndsWithMap, SurveyEnds};
+ghost use Rattle.adf_runs.specs.Streams.{AreFirst, IsTold, seen};
+ghost use Rattle.adf_survey_cmd.specs.MapRuns.{AreReadOf, EndsWithMap, SurveyEnds, TellsNoMap, is_map, no_map_line};
 ghost use Rattle.adf_words.specs.CommandLine.{texts_of};
 
 use crate::map_words::{map_word, with_text};
 use crate::runner::run_files;
 use adf_file_runs::{Files, Invocation, refuse_file};
+use adf_maps::{MapFault, read_map};
 use adf_runs::{Outcome, Sink, Source, read_all};
-use std::alloc::Global;
+use adf_texts::push_escaped;
+use std::alloc::{AllocError, Global};
 
 /// The most bytes of the text of a map.
 pub const MOST_MAP: usize = 16_777_216;
@@ -44,6 +46,66 @@ fn map_bytes<F: Files, E: Sink>(
     }
 }
 
+// Whether bytes are a map of ddrescue.
+#[tactic(auto, unfolding(crate::specs::MapRuns::is_map))]
+fn is_map(alloc: Global, bytes: &[u8]) -> Result<bool, AllocError>
+    ensures { IfOk result (λ is. is ≡ is_map bytes.now) }
+{
+    match read_map(alloc, bytes) {
+        Ok(_) => Ok(true),
+        Err(MapFault::NoMap) => Ok(false),
+        Err(MapFault::NoMemory) => Err(AllocError),
+    }
+}
+
+// The line of a file that is no map.
+fn no_map_line(alloc: Global, name: &str) -> Result<Vec<u8>, AllocError>
+    ensures { IfOk result (λ line. line.items ≡ no_map_line name.now) }
+{
+    let mut line = Vec::new(alloc);
+    push_escaped(&mut line, name.as_bytes())?;
+    line.extend_from_slice(b": not a map of ddrescue\n")?;
+    Ok(line)
+}
+
+// Says on errors that the file of a name is no map, and returns the status: 3 if memory is refused for that.
+fn refuse_map<E: Sink>(alloc: Global, name: &str, errors: &mut E) -> u8
+    requires { E.has_failed errors.old ≡ false }
+    ensures { (result ≡ 3)
+        ⊎ ((result ≡ 1) × IsTold (seen E.held E.has_failed errors.old errors.new) (no_map_line name.now)) }
+{
+    match no_map_line(alloc, name) {
+        Ok(line) => Outcome::LeftOut(line).finish(errors),
+        Err(_) => Outcome::NoMemory.finish(errors),
+    }
+}
+
+// The bytes of a file that is a map; where it is not had, or is none, that is said on errors, and the status comes back.
+fn map_had<F: Files, E: Sink>(
+    alloc: Global,
+    files: &F,
+    name: &str,
+    errors: &mut E,
+) -> Result<Vec<u8>, u8>
+    requires { E.has_failed errors.old ≡ false }
+    ensures bytes { IfOk result (λ bytes.
+        AreReadOf (known_files F.bytes_of F.may_fail F.may_open files.now) name.now bytes.items) }
+    ensures map { IfOk result (λ bytes. is_map bytes.items ≡ true) }
+    ensures errors { IfOk result (λ _. errors.new ≡ errors.old) }
+    ensures refused { IfErr result (λ status. (status ≡ 3)
+        ⊎ TellsNoMap (known_files F.bytes_of F.may_fail F.may_open files.now) name.now status
+        (seen E.held E.has_failed errors.old errors.new)) }
+{
+    let Some(bytes) = map_bytes(alloc, files, name, errors) else {
+        return Err(3);
+    };
+    match is_map(alloc, &bytes) {
+        Ok(true) => Ok(bytes),
+        Ok(false) => Err(refuse_map(alloc, name, errors)),
+        Err(_) => Err(Outcome::NoMemory.finish(errors)),
+    }
+}
+
 // The text of bytes; none if they are no text.
 fn text_in(bytes: &[u8]) -> &str
     ensures { (IsUtf8 bytes.now × (result.now ≡ bytes.now)) ⊎ ((¬ IsUtf8 bytes.now) × (result.now ≡ [])) }
@@ -71,8 +133,9 @@ fn run_with_map<F: Files, R: Source, W: Sink, E: Sink>(
         (known_files F.bytes_of F.may_fail F.may_open asked.now.files.now) (seen R.left R.has_failed input.old input.new) result
         (seen W.held W.has_failed output.old output.new) (seen E.held E.has_failed errors.old errors.new) }
 {
-    let Some(bytes) = map_bytes(alloc, asked.files, asked.words[at], errors) else {
-        return 3;
+    let bytes = match map_had(alloc, asked.files, asked.words[at], errors) {
+        Ok(bytes) => bytes,
+        Err(status) => return status,
     };
     let Ok(words) = with_text(alloc, asked.words, at, text_in(&bytes)) else {
         Outcome::NoMemory.finish(errors);
@@ -86,7 +149,8 @@ fn run_with_map<F: Files, R: Source, W: Sink, E: Sink>(
 }
 
 /// Does what the words ask for, as `run_files` does; but where `--map` stands before any command, the word behind it names the
-/// file of a map, whose text is read in its place. Returns the status, which is also 3 if that file cannot be opened or read.
+/// file of a map, whose text is read in its place. Returns the status, which is also 3 if that file cannot be opened or read, and
+/// 1 if it is no map, as errors say.
 pub fn run_mapped<F: Files, R: Source, W: Sink, E: Sink>(
     alloc: Global,
     asked: &Invocation<'_, F>,
