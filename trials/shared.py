@@ -72,12 +72,15 @@ def tree(chance, letters=NAME_LETTERS):
 
 
 def built(kind, blocks, lines=()):
-    """The image that adf builds of these lines; of international letters, with the other type, and its headers in the slots of these."""
+    """The image that adf builds of these lines; of international letters, with the other type, and its headers in the slots of these; with
+    directory caches, as adf-edit lays them."""
     plain, *letters = kind.split("-")
     manifest = "".join(f"{line}\n" for line in (f"volume {plain} {blocks}", "label Peer", *lines) if line != "data ")
     status, image, errors = adf.run(["build"], manifest.encode())
     if status != 0:
         sys.exit(errors.decode())
+    if letters == ["cached"]:
+        return said("adf-edit", status=0, input=b"letters cached\nend\n" + image)
     return international(image) if letters else image
 
 
