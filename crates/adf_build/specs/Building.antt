@@ -36,4 +36,4 @@ build_fault_text NoMemory = codes "no memory"
 abbrev pub IsBuildFault : Types → Tree → ℕ → BuildFault → Type 0
 IsBuildFault types tree n BadSize = is_size_of types n ≡ false
 IsBuildFault types tree n (Full need have) = (is_size_of types n ≡ true) × (need ≡ need_of tree n) × (have ≡ n - 2) × (have < need)
-IsBuildFault types tree n NoMemory = IsBuildable tree n
+IsBuildFault types tree n NoMemory = (is_size_of types n ≡ true) × IsBuildable tree n

@@ -1,16 +1,21 @@
-// Library calls of the commands' crates that take memory and that no command makes, each with a name.
+// Library calls that take memory and that no command makes, each with a name.
 
 ghost use Rattle.std.specs.Prelude.{◌≡◌, IfSome, false};
 
+use crate::devices::Output;
+use crate::entry_calls::{entries_add_outcome, tree_letters_outcome};
+use crate::image_calls::{FILE, check_types_outcome, file_image, owners_new_outcome};
+use crate::outcome::CallOutcome;
+use crate::text_calls::{comment_write_outcome, label_write_outcome, stamp_text_outcome};
+use crate::tree_calls::{draft_add_outcome, tree_add_outcome, write_path_outcome};
+use crate::trees::{first_other, tree_of_lines};
 use adf_build::BuildFault;
 use adf_cmd::{Work, build_and_read};
-use adf_row_calls::{CallOutcome, FILE, file_image, first_other, outcome_of, tree_of_lines};
-use adf_row_lines::Output;
 use adf_runs::run_program_on;
 use std::alloc::Global;
 
 /// The names of all calls.
-pub const CALLS: [&str; 13] = [
+pub const CALLS: [&str; 12] = [
     "stamp_text",
     "label_write",
     "comment_write",
@@ -20,7 +25,6 @@ pub const CALLS: [&str; 13] = [
     "tree_letters",
     "draft_add",
     "owners_new",
-    "read_sound_file",
     "check_types",
     "build_and_read",
     "convert_in_memory",
@@ -28,16 +32,30 @@ pub const CALLS: [&str; 13] = [
 
 /// Makes the call of a name, and tells how it ended: `not made` where what it needs could not be made, or no call has the name.
 pub fn text_of_call(alloc: Global, name: &str) -> &'static str {
-    let outcome = match name {
-        "build_and_read" => build_and_read_outcome(alloc),
-        "convert_in_memory" => convert_outcome(alloc),
-        _ => outcome_of(alloc, name),
-    };
-    match outcome {
+    match outcome_of(alloc, name) {
         Some(CallOutcome::Done) => "done",
         Some(CallOutcome::NoMemory) => "no memory",
         Some(CallOutcome::Failed) => "wrong",
         None => "not made",
+    }
+}
+
+// Makes the call: `None` where what it needs could not be made, or no call has the name.
+fn outcome_of(alloc: Global, name: &str) -> Option<CallOutcome> {
+    match name {
+        "stamp_text" => stamp_text_outcome(alloc),
+        "label_write" => label_write_outcome(alloc),
+        "comment_write" => comment_write_outcome(alloc),
+        "write_path" => write_path_outcome(alloc),
+        "tree_add" => tree_add_outcome(alloc),
+        "entries_add" => entries_add_outcome(alloc),
+        "tree_letters" => tree_letters_outcome(alloc),
+        "draft_add" => draft_add_outcome(alloc),
+        "owners_new" => owners_new_outcome(alloc),
+        "check_types" => check_types_outcome(alloc),
+        "build_and_read" => build_and_read_outcome(alloc),
+        "convert_in_memory" => convert_outcome(alloc),
+        _ => None,
     }
 }
 

@@ -1,16 +1,31 @@
 //! Runs the worked rows of the files that the command line names, or single library calls, and says which of them fail.
 #![tactic(auto)]
 
+mod bench;
 mod calls;
-mod commands;
+mod changes;
+mod devices;
+mod entry_calls;
+mod failing;
+mod files;
+mod image_calls;
+mod outcome;
+mod questions;
+mod report;
+mod row_error;
+mod state;
+mod tables;
+mod text_calls;
+mod texts;
+mod tree_calls;
+mod trees;
+mod trial;
+mod wants;
+mod words;
 
-use crate::commands::Commands;
-use adf_row_calls::LibraryCalls;
 use std::io;
 use std::process::ExitCode;
 
 fn main(rt: HostRuntime) -> io::Result<ExitCode> {
-    let alloc = rt.alloc();
-    let is_done = adf_row_lines::run(&rt, &Commands { alloc }, &LibraryCalls { alloc })?;
-    Ok(ExitCode::from(if is_done { 0 } else { 1 }))
+    Ok(ExitCode::from(if files::run(&rt)? { 0 } else { 1 }))
 }

@@ -58,14 +58,6 @@ pub fn lines_text(alloc: Global, lines: &str) -> Result<Vec<u8>, AllocError> {
     Ok(text.into_bytes())
 }
 
-/// Appends what stands between two items, if one stands before.
-pub fn begin_item(text: &mut Vec<u8>) -> Result<(), AllocError> {
-    if text.is_empty() {
-        return Ok(());
-    }
-    text.extend_from_slice(b", ")
-}
-
 /// Appends lengths, equal ones that follow on one another as `LEN x COUNT`; `no pieces` where there is none.
 pub fn push_runs(text: &mut String, lengths: &[usize]) -> Result<(), AllocError> {
     if lengths.is_empty() {

@@ -2,11 +2,10 @@
 
 ghost use Rattle.std.specs.Prelude.{◌≡◌, false};
 
+use crate::bench::Bench;
 use crate::devices::Devices;
-use crate::library::{Command, Library, Program, Programs};
 use crate::report::Report;
 use crate::row_error::RowError;
-use crate::runs::Bench;
 use crate::texts::{first_word, number};
 use crate::wants::{Answer, Wanted};
 use std::alloc::Global;
@@ -31,7 +30,7 @@ struct Fault {
 struct Runs<'a> {
     alloc: Global,
     image: &'a [u8],
-    command: Command<'a>,
+    command: &'a str,
     /// The bytes of a read and of a write, at most.
     read: usize,
     write: usize,
@@ -61,17 +60,11 @@ const FAULTS: [Fault; 5] = [
     },
 ];
 
-impl<P: Programs, L: Library> Bench<'_, P, L> {
+impl Bench {
     /// Runs a command, `READ WRITE WORDS`, over an image by devices that move at most so many bytes at a call, and lets each
     /// call of each device fail in turn.
-    pub fn fail_each_call(
-        &self,
-        program: Program,
-        image: &[u8],
-        text: &str,
-        report: &mut Report<'_>,
-    ) {
-        let Some(runs) = runs_of(self.alloc, program, image, text) else {
+    pub fn fail_each_call(&self, image: &[u8], text: &str, report: &mut Report<'_>) {
+        let Some(runs) = runs_of(self.alloc, image, text) else {
             return report.fail(RowError::Unread);
         };
         if let Some(whole) = self.answer_by(runs.command, runs.devices(), report) {
@@ -100,19 +93,14 @@ impl<P: Programs, L: Library> Bench<'_, P, L> {
 }
 
 // The runs that a line tells.
-fn runs_of<'a>(
-    alloc: Global,
-    program: Program,
-    image: &'a [u8],
-    text: &'a str,
-) -> Option<Runs<'a>> {
+fn runs_of<'a>(alloc: Global, image: &'a [u8], text: &'a str) -> Option<Runs<'a>> {
     let (read, rest) = first_word(text);
-    let (write, words) = first_word(rest);
+    let (write, command) = first_word(rest);
     let (read, write) = number(read).zip(number(write))?;
     Some(Runs {
         alloc,
         image,
-        command: Command { program, words },
+        command,
         read,
         write,
     })

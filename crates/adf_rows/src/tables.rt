@@ -1,31 +1,16 @@
 // What each line of a file does, and rows of one line.
 
+use crate::bench::Bench;
+use crate::calls::text_of_call;
 use crate::changes::patched;
 use crate::devices::Devices;
-use crate::library::{Command, Library, Program, Programs, TreeOf};
+use crate::questions::push_answer;
 use crate::report::Report;
 use crate::row_error::RowError;
-use crate::runs::{BUILD, Bench};
 use crate::state::State;
-use crate::surveys::{compare_first_lines, push_items};
 use crate::texts::{first_word, line_text, lines_text, number, rising};
-use crate::wants::{Answer, Wanted};
-
-/// The commands that rows of one line run over images.
-const CHECK: Command<'static> = Command {
-    program: Program::Adf,
-    words: "check",
-};
-
-const SURVEY: Command<'static> = Command {
-    program: Program::Survey,
-    words: "",
-};
-
-const RESCUE: Command<'static> = Command {
-    program: Program::Survey,
-    words: "rescue",
-};
+use crate::trees::{TreeOf, other_entry};
+use crate::wants::Wanted;
 
 /// A row of one line: its first word, and what stands before and behind its arrow.
 #[derive(Clone, Copy)]
@@ -35,7 +20,7 @@ struct Arrow<'a> {
     line: &'a str,
 }
 
-impl<P: Programs, L: Library> Bench<'_, P, L> {
+impl Bench {
     /// Does what a line with a number says.
     pub fn step(&self, state: &mut State, number: usize, line: &str, report: &mut Report<'_>) {
         report.go_to(number);
@@ -60,19 +45,17 @@ impl<P: Programs, L: Library> Bench<'_, P, L> {
                     state.image = image;
                 }
             }
-            "run" => self.run(state, Program::Adf, rest, report),
-            "survey" => self.run(state, Program::Survey, rest, report),
+            "run" => self.run(state, rest, report),
             _ => {
-                state.has_rows = true;
+                state.count();
                 self.try_row(&state.image, word, rest, report);
             }
         }
     }
 
     // Runs a command over the image.
-    fn run(&self, state: &mut State, program: Program, words: &str, report: &mut Report<'_>) {
-        let came = self.answer(Command { program, words }, &state.image, report);
-        if let Some(came) = came {
+    fn run(&self, state: &mut State, command: &str, report: &mut Report<'_>) {
+        if let Some(came) = self.answer(command, &state.image, report) {
             report.take(state.set_answer(came));
         }
     }
@@ -81,9 +64,7 @@ impl<P: Programs, L: Library> Bench<'_, P, L> {
     fn try_row(&self, image: &[u8], word: &str, rest: &str, report: &mut Report<'_>) {
         match word {
             "tree" => self.has_tree(TreeOf::Lines(rest), image, report),
-            "alike" => self.are_fronts(image, rest, None, report),
-            "failing" => self.fail_each_call(Program::Adf, image, rest, report),
-            "failing-survey" => self.fail_each_call(Program::Survey, image, rest, report),
+            "failing" => self.fail_each_call(image, rest, report),
             _ => match rest.split_once(" -> ") {
                 Some((what, line)) => self.try_arrow(image, Arrow { word, what, line }, report),
                 None => report.fail(RowError::Unread),
@@ -95,9 +76,9 @@ impl<P: Programs, L: Library> Bench<'_, P, L> {
     fn try_arrow(&self, image: &[u8], row: Arrow<'_>, report: &mut Report<'_>) {
         let Arrow { word, what, line } = row;
         match word {
-            "patch" | "findings" | "rescue" => self.try_patched(image, row, report),
+            "patch" => self.try_patched(image, what, line, report),
             "flips" => self.are_flipped(image, what, line, report),
-            "cuts" => self.are_fronts(image, what, Some(line), report),
+            "cuts" => self.are_fronts(image, what, line, report),
             "refused" => self.is_refused(what, line, report),
             "sound" => {
                 if let Some(image) = self.built(what, report) {
@@ -105,7 +86,11 @@ impl<P: Programs, L: Library> Bench<'_, P, L> {
                 }
             }
             "endless" => self.is_refused_in_the_end(what, line, report),
-            "call" => report.compare("call", line.as_bytes(), self.programs.call(what).as_bytes()),
+            "call" => report.compare(
+                "call",
+                line.as_bytes(),
+                text_of_call(self.alloc, what).as_bytes(),
+            ),
             _ => self.is_answered(image, row, report),
         }
     }
@@ -113,7 +98,7 @@ impl<P: Programs, L: Library> Bench<'_, P, L> {
     // A library call answers the line that is wanted.
     fn is_answered(&self, image: &[u8], row: Arrow<'_>, report: &mut Report<'_>) {
         let mut text = String::new(self.alloc);
-        match self.library.answer(row.word, row.what, image, &mut text) {
+        match push_answer(self.alloc, row.word, row.what, image, &mut text) {
             Ok(()) => report.compare("answer", row.line.as_bytes(), text.as_bytes()),
             Err(error) => report.fail(error),
         }
@@ -123,61 +108,22 @@ impl<P: Programs, L: Library> Bench<'_, P, L> {
     fn is_told(&self, image: &[u8], line: &str, report: &mut Report<'_>) {
         let status = if line.starts_with("ok ") { 0 } else { 1 };
         match line_text(self.alloc, line) {
-            Ok(text) => self.meets(CHECK, image, &Wanted::texts(status, &text, b""), report),
+            Ok(text) => self.meets("check", image, &Wanted::texts(status, &text, b""), report),
             Err(_) => report.fail(RowError::NoMemory),
         }
     }
 
-    // `check`, `adf-survey` or a rescue of an image with changes answers a line.
-    fn try_patched(&self, image: &[u8], row: Arrow<'_>, report: &mut Report<'_>) {
-        match patched(self.alloc, image, row.what) {
-            Ok(image) => match row.word {
-                "patch" => self.is_told(&image, row.line, report),
-                "findings" => self.is_surveyed(&image, row.line, report),
-                _ => self.is_rescued(&image, row.line, report),
-            },
+    // `check` on an image with changes answers a line.
+    fn try_patched(&self, image: &[u8], items: &str, line: &str, report: &mut Report<'_>) {
+        match patched(self.alloc, image, items) {
+            Ok(image) => self.is_told(&image, line, report),
             Err(error) => report.fail(error),
         }
-    }
-
-    // `adf-survey` on an image has these findings, or none.
-    fn is_surveyed(&self, image: &[u8], lines: &str, report: &mut Report<'_>) {
-        if lines == "nothing" {
-            return self.meets(SURVEY, image, &Wanted::texts(0, b"", b""), report);
-        }
-        match lines_text(self.alloc, lines) {
-            Ok(text) => self.meets(SURVEY, image, &Wanted::texts(1, &text, b""), report),
-            Err(_) => report.fail(RowError::NoMemory),
-        }
-    }
-
-    // `adf-survey rescue` on an image writes a valid volume with these paths, in the order of its walk, and on errors what
-    // follows: a line for each entry that it leaves out, and for what is lost. If nothing stands, it writes nothing, and the
-    // line of the first finding stands in front of these.
-    fn is_rescued(&self, image: &[u8], line: &str, report: &mut Report<'_>) {
-        let Some(came) = self.answer(RESCUE, image, report) else {
-            return;
-        };
-        let status = if came.errors.is_empty() { 0 } else { 1 };
-        report.compare_numbers("status", status, came.status as usize);
-        let mut text = Vec::new(self.alloc);
-        match self.push_rescue(&came, &mut text) {
-            Ok(()) => report.compare("rescue", line.as_bytes(), &text),
-            Err(error) => report.fail(error),
-        }
-    }
-
-    // Appends the paths of the volume that a rescue writes, and the lines that it writes on errors.
-    fn push_rescue(&self, came: &Answer, text: &mut Vec<u8>) -> Result<(), RowError> {
-        if !came.output.is_empty() {
-            self.library.push_paths(&came.output, text)?;
-        }
-        push_items(text, &came.errors)
     }
 
     // An image has the tree that is wanted.
     fn has_tree(&self, wanted: TreeOf<'_>, image: &[u8], report: &mut Report<'_>) {
-        match self.library.other_entry(wanted, image) {
+        match other_entry(self.alloc, wanted, image) {
             Ok(None) => {}
             Ok(Some(node)) => {
                 report.case = Some(report.case.unwrap_or(node));
@@ -191,7 +137,7 @@ impl<P: Programs, L: Library> Bench<'_, P, L> {
     fn is_refused(&self, lines: &str, line: &str, report: &mut Report<'_>) {
         match (lines_text(self.alloc, lines), line_text(self.alloc, line)) {
             (Ok(text), Ok(errors)) => {
-                self.meets(BUILD, &text, &Wanted::texts(1, b"", &errors), report);
+                self.meets("build", &text, &Wanted::texts(1, b"", &errors), report);
             }
             _ => report.fail(RowError::NoMemory),
         }
@@ -199,7 +145,7 @@ impl<P: Programs, L: Library> Bench<'_, P, L> {
 
     // `build` on line feeds without end takes so many of them, and says a line on errors.
     fn is_refused_in_the_end(&self, count: &str, line: &str, report: &mut Report<'_>) {
-        if let Some(came) = self.answer_by(BUILD, Devices::endless(self.alloc), report) {
+        if let Some(came) = self.answer_by("build", Devices::endless(self.alloc), report) {
             match (number(count), line_text(self.alloc, line)) {
                 (Some(count), Ok(errors)) => {
                     Wanted::texts(1, b"", &errors).compare(&came, report);
@@ -237,9 +183,8 @@ impl<P: Programs, L: Library> Bench<'_, P, L> {
         }
     }
 
-    // `check` answers a line on the first bytes of an image, of each of these lengths. Without a line, `adf-survey` says first
-    // what `check` says.
-    fn are_fronts(&self, image: &[u8], lens: &str, line: Option<&str>, report: &mut Report<'_>) {
+    // `check` answers a line on the first bytes of an image, of each of these lengths.
+    fn are_fronts(&self, image: &[u8], lens: &str, line: &str, report: &mut Report<'_>) {
         let Some((first, last)) = rising(lens) else {
             return report.fail(RowError::Unread);
         };
@@ -248,20 +193,7 @@ impl<P: Programs, L: Library> Bench<'_, P, L> {
                 return report.fail(RowError::NoPlace);
             };
             report.case = Some(len);
-            match line {
-                Some(line) => self.is_told(front, line, report),
-                None => self.begin_alike(front, report),
-            }
-        }
-    }
-
-    // What `adf-survey` finds first in an image is the verdict of `check`, and it finds nothing where that accepts.
-    fn begin_alike(&self, image: &[u8], report: &mut Report<'_>) {
-        let Some(verdict) = self.answer(CHECK, image, report) else {
-            return;
-        };
-        if let Some(found) = self.answer(SURVEY, image, report) {
-            compare_first_lines(&verdict, &found, report);
+            self.is_told(front, line, report);
         }
     }
 }

@@ -1,31 +1,25 @@
-// Runs of the programs, and what they answer.
+// Runs of `adf`, and what it answers.
 
 ghost use Rattle.std.specs.Prelude.{◌≡◌, false};
 
 use crate::devices::Devices;
-use crate::library::{Command, Library, Program, Programs};
 use crate::report::Report;
 use crate::row_error::RowError;
 use crate::texts::lines_text;
 use crate::wants::{Answer, Wanted};
 use std::alloc::{AllocError, Global};
 
-/// What the rows try, with the memory that it takes.
-#[derive(Drop)]
-pub struct Bench<'a, P, L> {
-    pub programs: &'a P,
-    pub library: &'a L,
+/// What runs the rows, with the memory that it takes.
+#[derive(Clone, Copy)]
+pub struct Bench {
     pub alloc: Global,
 }
 
-// The words of a command, the program's name in front.
-fn words_of<'a>(alloc: Global, command: Command<'a>) -> Result<Vec<&'a str>, AllocError> {
+// The words of a command, which are joined by spaces, after the name of the program.
+fn words_of(alloc: Global, command: &str) -> Result<Vec<&str>, AllocError> {
     let mut words = Vec::new(alloc);
-    words.push(match command.program {
-        Program::Adf => "adf",
-        Program::Survey => "adf-survey",
-    })?;
-    for word in command.words.split(' ') {
+    words.push("adf")?;
+    for word in command.split(' ') {
         if !word.is_empty() {
             words.push(word)?;
         }
@@ -33,11 +27,11 @@ fn words_of<'a>(alloc: Global, command: Command<'a>) -> Result<Vec<&'a str>, All
     Ok(words)
 }
 
-impl<P: Programs, L: Library> Bench<'_, P, L> {
+impl Bench {
     /// Runs a command over these devices.
     pub fn answer_by(
         &self,
-        command: Command<'_>,
+        command: &str,
         mut devices: Devices<'_>,
         report: &mut Report<'_>,
     ) -> Option<Answer>
@@ -49,17 +43,17 @@ impl<P: Programs, L: Library> Bench<'_, P, L> {
             report.fail(RowError::NoMemory);
             return None;
         };
-        let status = self.programs.run(command.program, &words, &mut devices);
+        let Devices {
+            input,
+            output,
+            errors,
+        } = &mut devices;
+        let status = adf_cmd::run(self.alloc, &words, input, output, errors);
         Some(devices.answer(status))
     }
 
     /// Runs a command over bytes.
-    pub fn answer(
-        &self,
-        command: Command<'_>,
-        bytes: &[u8],
-        report: &mut Report<'_>,
-    ) -> Option<Answer> {
+    pub fn answer(&self, command: &str, bytes: &[u8], report: &mut Report<'_>) -> Option<Answer> {
         self.answer_by(
             command,
             Devices::new(self.alloc, bytes, usize::MAX, usize::MAX),
@@ -68,13 +62,7 @@ impl<P: Programs, L: Library> Bench<'_, P, L> {
     }
 
     /// A command answers over bytes what is wanted.
-    pub fn meets(
-        &self,
-        command: Command<'_>,
-        bytes: &[u8],
-        wanted: &Wanted<'_>,
-        report: &mut Report<'_>,
-    ) {
+    pub fn meets(&self, command: &str, bytes: &[u8], wanted: &Wanted<'_>, report: &mut Report<'_>) {
         if let Some(came) = self.answer(command, bytes, report) {
             wanted.compare(&came, report);
         }
@@ -86,7 +74,7 @@ impl<P: Programs, L: Library> Bench<'_, P, L> {
             report.fail(RowError::NoMemory);
             return None;
         };
-        let came = self.answer(BUILD, &text, report)?;
+        let came = self.answer("build", &text, report)?;
         report.compare_numbers("status", 0, came.status as usize);
         if came.status == 0 {
             Some(came.output)
@@ -95,9 +83,3 @@ impl<P: Programs, L: Library> Bench<'_, P, L> {
         }
     }
 }
-
-/// The command `build`.
-pub const BUILD: Command<'static> = Command {
-    program: Program::Adf,
-    words: "build",
-};

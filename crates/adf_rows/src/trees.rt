@@ -4,12 +4,21 @@ ghost use Rattle.std.specs.Prelude.{◌≡◌, IfOk};
 ghost use Rattle.adf_base.specs.declared.hash.Letters.TheVariants.{Ascii};
 
 use crate::questions::NOTHING;
+use crate::row_error::RowError;
+use crate::texts::{block, first_word, lines_text};
 use adf_build::{BuildFault, build, need};
 use adf_check::check;
 use adf_manifest::read_manifest;
-use adf_row_lines::{RowError, block, first_word, lines_text};
 use adf_tree::{Body, Entry, Node, Tree};
 use std::alloc::Global;
+
+/// What has a tree.
+#[derive(Clone, Copy)]
+pub enum TreeOf<'a> {
+    /// The lines of a manifest, told with ` | ` between them.
+    Lines(&'a str),
+    Image(&'a [u8]),
+}
 
 /// The tree of the lines of a manifest, told with ` | ` between them.
 pub fn tree_of_lines(alloc: Global, lines: &str) -> Result<Tree, RowError>
@@ -48,12 +57,25 @@ pub fn push_fault(alloc: Global, about: &str, text: &mut String) -> Result<(), R
     }?)
 }
 
-/// The tree of an image.
-pub fn tree_of_image(alloc: Global, image: &[u8]) -> Result<Tree, RowError> {
+// The tree of an image.
+fn tree_of_image(alloc: Global, image: &[u8]) -> Result<Tree, RowError> {
     let Ok(volume) = check(alloc, image) else {
         return Err(RowError::Refused);
     };
     volume.to_tree(alloc).ok().ok_or(RowError::NoMemory)
+}
+
+/// The first entry in which an image has not the tree that is wanted: 0 the root, `None` if it has that tree.
+pub fn other_entry(
+    alloc: Global,
+    wanted: TreeOf<'_>,
+    image: &[u8],
+) -> Result<Option<usize>, RowError> {
+    let wanted = match wanted {
+        TreeOf::Lines(lines) => tree_of_lines(alloc, lines)?,
+        TreeOf::Image(other) => tree_of_image(alloc, other)?,
+    };
+    Ok(first_other(&wanted, &tree_of_image(alloc, image)?))
 }
 
 /// The first entry in which two trees differ: 0 the root, `None` if they are equal.

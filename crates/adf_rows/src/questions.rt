@@ -1,7 +1,9 @@
 // What calls on a checked volume answer: `nothing` where they answer nothing.
 
+use crate::row_error::RowError;
+use crate::texts::{block, push_runs};
+use crate::trees::{push_fault, push_need};
 use adf_check::{Checked, Owner, check};
-use adf_row_lines::{RowError, block, push_runs};
 use adf_tree::{Node, read_path, write_path};
 use std::alloc::{AllocError, Global};
 
@@ -11,8 +13,24 @@ const CALLS: [&str; 5] = ["find", "entry", "owner", "pieces", "read"];
 /// What stands for no answer.
 pub const NOTHING: &str = "nothing";
 
-/// Appends what the call of a name answers on the volume of an image.
+/// Appends what the call of a name answers about a text, on the volume of an image or on the tree of the lines that the text
+/// tells, `nothing` where it answers nothing: `Unread` if no call has the name, or it takes another text.
 pub fn push_answer(
+    alloc: Global,
+    call: &str,
+    about: &str,
+    image: &[u8],
+    text: &mut String,
+) -> Result<(), RowError> {
+    match call {
+        "need" => push_need(alloc, about, text),
+        "unlaid" => push_fault(alloc, about, text),
+        _ => push_volume_answer(alloc, call, about, image, text),
+    }
+}
+
+// Appends what the call of a name answers on the volume of an image.
+fn push_volume_answer(
     alloc: Global,
     call: &str,
     about: &str,

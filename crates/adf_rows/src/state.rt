@@ -18,8 +18,8 @@ pub struct State {
     /// What the last run wrote to output.
     output: Vec<u8>,
     row: Option<Trial>,
-    /// Whether a row was begun.
-    pub has_rows: bool,
+    /// How many rows were begun.
+    pub rows: usize,
 }
 
 /// An image with its name.
@@ -37,13 +37,18 @@ impl State {
             named: Vec::new(alloc),
             output: Vec::new(alloc),
             row: None,
-            has_rows: false,
+            rows: 0,
         }
+    }
+
+    /// Counts a row.
+    pub fn count(&mut self) {
+        self.rows = self.rows.saturating_add(1);
     }
 
     /// Begins a row at a line.
     pub fn begin(&mut self, line: usize) {
-        self.has_rows = true;
+        self.count();
         self.row = Some(Trial::new(self.alloc, line));
     }
 

@@ -5,8 +5,8 @@ use crate::tree_calls::meta;
 use adf_blocks::Cause;
 use adf_build::{BuildFault, build};
 use adf_check::check_types;
-use adf_findings::Types;
 use adf_tree::{AddFault, Body, Kind, Label, Letters, NO_STAMPS, Name, Node, Tree, TreeEntries};
+use adf_volume::Types;
 use std::alloc::Global;
 
 /// Names of one byte that are added, in this order: 0xC9 is 0xE9 in upper case by international letters alone, and 0xF7 and
