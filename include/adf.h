@@ -22,8 +22,9 @@
  *     kit=$(dirname "$(rt doc)")
  *     cc -Iinclude program.c crates/adf_c/out/libadf_c.a "$kit/c/liblibc_c.a"
  *
- * Each function is proved to keep its contract, which is in the source (crates/adf_memory/src). The comments here say it in
- * words, and what is not proved is marked so. The proofs begin at the call: the obligations of the caller are not checked.
+ * Each function is proved to keep its contract, which is in the source (crates/adf_memory/src and crates/adf_memory_types/src).
+ * The comments here say it in words, and what is not proved is marked so. The proofs begin at the call: the obligations of the
+ * caller are not checked.
  *
  * What the caller owes
  *
@@ -64,9 +65,11 @@ extern "C" {
 #pragma clang diagnostic ignored "-Wc99-extensions"
 #endif
 
-/* Why an image is refused: what adf_check, adf_owners and adf_index return, and those of types 0 to 3. Within one block the causes
- * are tested in this order, except that ADF_SAME_NAME comes after all other causes of a header. FAULTS.md explains them. A later
- * version may have more of them, from 25 on: an image is accepted if and only if the call returns 0. */
+/* Why an image is refused: what adf_check, adf_owners and adf_index return, and adf_check_types, adf_owners_types and
+ * adf_index_types. Within one block the causes are tested in this order, except that ADF_SAME_NAME comes after all other causes of
+ * a header. FAULTS.md explains them. A later version may have more of them, from 25 on: an image is accepted if and only if the
+ * call returns 0.
+ */
 enum adf_cause {
     ADF_ACCEPTED = 0,
     ADF_BAD_SIZE = 1,       /* The length is not a multiple of 512, or not an allowed number of blocks: even, 4 to the most. */
@@ -105,9 +108,9 @@ size_t adf_cause_text(uint8_t cause, uint8_t *room, size_t room_length);
  */
 uint32_t adf_version(void);
 
-/* The type of a volume. Only adf_check_types, adf_owners_types and adf_index_types accept types 2 to 5, only the verdict and the
- * contents that they fill have these numbers, and only adf_find_types takes them all. Directories of types 4 and 5 have caches. Even
- * numbers are OFS, odd ones FFS, and from 2 on names have international letters.
+/* The type of a volume. Even numbers are OFS, odd ones FFS; from 2 on names have international letters, and directories of types 4
+ * and 5 have caches. adf_check, adf_owners and adf_index accept 0 and 1; adf_check_types, adf_owners_types, adf_index_types and
+ * adf_find_types accept all; adf_build and adf_need make 0 to 3, adf_rescue 0 and 1, adf_rescue_types 0 to 3.
  */
 enum adf_kind {
     ADF_OFS = 0,
@@ -137,8 +140,8 @@ struct adf_verdict {
  */
 uint8_t adf_check(const uint8_t *image, size_t length, struct adf_verdict *verdict);
 
-/* The same of an image of type 0 to 3, of at most 8,388,608 blocks, as for all calls below but those that name types 0 and 1 alone:
- * adf_owners and adf_index. Each is checked by the letters whose case is ignored in its names: on types 2 and 3 these are the bytes
+/* The same of an image of type 0 to 3, of at most 8,388,608 blocks. So do all calls below accept it, except adf_owners and adf_index,
+ * which accept types 0 and 1 alone. Each is checked by the letters whose case is ignored in its names: on types 2 and 3 these are the bytes
  * 0xE0 to 0xFE too, except 0xF7. Types 0 and 1 have the verdict of adf_check, up to its size. Their tables are made by adf_index_types.
  *
  * It takes an image of an allowed size and of type 4 or 5 too, as `adf-disk check` does, with memory for a copy of it. 0: the caches
@@ -317,7 +320,7 @@ struct adf_built {
  * and last whether the tree fits. */
 enum adf_build_refusal {
     ADF_BUILD_DONE = 0,
-    ADF_BUILD_BAD_KIND = 1,       /* The kind is no adf_kind. */
+    ADF_BUILD_BAD_KIND = 1,       /* The kind is above 3: no volume with caches is built. */
     ADF_BUILD_BAD_LABEL = 2,      /* The label is longer than 30 bytes. */
     ADF_BUILD_BAD_SIZE = 3,       /* The number of blocks is not allowed. */
     ADF_BUILD_SMALL_ROOM = 4,     /* The room has fewer than blocks * 512 bytes. */
@@ -394,7 +397,7 @@ struct adf_subject {
  *    many bytes is not refused so.
  * ADF_NO_MEMORY: an allocation failed. All fields are 0.
  *
- * Whatever is returned but 0, the room is unchanged.
+ * Whatever is returned but 0, the room is unchanged. Besides the room, the call allocates a copy of the image, and a survey of it.
  */
 uint8_t adf_survey_subject(const uint8_t *image, size_t length, uint32_t blocks, uint8_t *room, size_t room_length,
                            struct adf_subject *subject);
@@ -601,17 +604,18 @@ struct adf_rescue_told {
  * losses come in the order of the lines of that command, and their paths are spelled as there: also of what is in the volume they are
  * those of the image, so a name may be another one in the volume. Returns:
  *
- * 0: the room begins with the volume, of told->blocks * 512 bytes, which adf_check accepts, up to its size, and the tables have what is not in it, and
- *    what is in it in doubt.
+ * 0: the room begins with the volume, of told->blocks * 512 bytes, which adf_check accepts, up to its size, and the tables have
+ *    what is not in it, and what is in it in doubt.
  *    told->losses and told->paths are the whole numbers: a table that is smaller has the front part. The rest of each room is
  *    unchanged.
- * An adf_cause: nothing stands, and more is wrong than the type. It is the first fault of the image, at told->block; where adf_survey_subject would change the type,
- *    of the image with that type.
+ * An adf_cause: nothing stands, and more is wrong than the type. It is the first fault of the image, at told->block; where
+ *    adf_survey_subject would change the type, of the image with that type.
  * ADF_RESCUE_SMALL_ROOM: the volume has told->blocks blocks, and the room has fewer bytes. A volume has as many blocks as what
  *    adf_survey_subject writes, which may be more than the image has. A room of as many blocks is not refused so.
  * ADF_NO_MEMORY: an allocation failed. All fields are 0.
  *
- * Whatever is returned but 0, the three rooms are unchanged.
+ * Whatever is returned but 0, the three rooms are unchanged. Besides the rooms, the call allocates copies of the image and surveys of
+ * them.
  */
 uint8_t adf_rescue(const uint8_t *image, size_t length, uint32_t blocks, uint8_t *room, size_t room_length, struct adf_loss *losses,
                    size_t losses_room, uint8_t *paths, size_t paths_room, struct adf_rescue_told *told);
@@ -799,7 +803,8 @@ uint8_t adf_run(const uint8_t *words, size_t words_length, const uint8_t *input,
  *    hard disk, for adf_disk_index.
  * 2, 3: as for adf_run. The image is `input`, and no file is opened: arguments that name a file are refused, at status 2.
  *
- * Nothing is said about the bytes of a room after those that `moved` counts.
+ * Nothing is said about the bytes of a room after those that `moved` counts. The call allocates what the command holds: copies of the
+ * image, and surveys of them.
  */
 uint8_t adf_survey_run(const uint8_t *words, size_t words_length, const uint8_t *input, size_t input_length, uint8_t *output,
                        size_t output_room, uint8_t *errors, size_t errors_room, struct adf_moved *moved);
