@@ -3,6 +3,7 @@
 import functools
 import gzip
 import io
+import lzma
 import os
 import sqlite3
 import struct
@@ -184,15 +185,23 @@ def lha(name, content, method):
     return bytes([len(head), sum(head) % 256]) + head + content + b"\0"
 
 
+def filtered(chance, content):
+    """What libarchive's filters would unpack, or would run a program for."""
+    begins = (b"\x89LZO\0\r\n\x1a\n", b"LRZI\0\6", b"GRZipII\0\2\4:)", b"begin 644 a\n", b"\xed\xab\xee\xdb\3\0")
+    return chance.choice((lzma.compress(content), lzma.compress(lzma.compress(content)), chance.choice(begins) + content))
+
+
 def packed(chance):
     """A file that has images, or says so."""
-    given, way = image(chance), chance.randrange(8)
+    given, way = image(chance), chance.randrange(9)
     if way < 2:
         return given
     if way == 2:
         whole = gzip.compress(given, 1)
     elif way == 3:
         whole = b"DMS!" + chance.randbytes(chance.randint(0, 99)) + given
+    elif way == 5:
+        whole = filtered(chance, lha(b"a.adf", given, b"-lh0-"))
     elif way == 4:
         whole = lha(chance.choice(RAW_NAMES)[:60] + b".adf", given, chance.choice((b"-lh0-", b"-lh5-", b"-lzs-")))
     else:

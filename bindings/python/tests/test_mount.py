@@ -14,7 +14,7 @@ import zipfile
 import adf
 from adf_tools.names import host_name
 from tests.shared import TOP, Folder, built, changed, image_of, written
-from tests.test_packed import dms, lha
+from tests.packing import dms, lha
 from tests.test_unpack import renamed
 
 SOURCES = glob.glob(os.path.join(TOP, "bindings", "fuse", "*.c"))
