@@ -88,8 +88,8 @@ class Found(_Fields):
         return self.remains()[0]
 
     def remains(self) -> tuple[bytes, list[range]]:
-        """What is left of a file, sound or damaged: its bytes, with zeros for those that are lost, and the ranges of these. NotAFile if
-        it is a directory or a link."""
+        """What is left of a file, sound or damaged: its bytes up to the last block that is its own, with zeros for those that are lost,
+        and the ranges of these, up to the size that its header states. NotAFile if it is a directory or a link."""
         if not self._has_bytes():
             raise NotAFile(errno.EISDIR, os.strerror(errno.EISDIR), self.path)
         return self.survey._remains(self)

@@ -151,25 +151,32 @@ class Survey(ReadOnly):
             raise NoMemory
         return rows
 
-    def _remains(self, found: Found) -> tuple[bytes, list[range]]:
-        """What is left of a file, by its number."""
-        image, parts = self._opened, self._parts
-        size = min(found.size, len(image))
-        most = size // LEAST_CHUNK + 1
-        blocks, content, gap = (_structs.WORD * most)(), bytearray(size), _structs.SIZE()
+    def _own_blocks(self, found: Found, size: int) -> tuple[Any, int]:
+        """The table of a file of so many bytes, by its number, and how many data blocks it has up to the last that is left."""
+        image, parts, most = self._opened, self._parts, size // LEAST_CHUNK + 1
+        blocks = (_structs.WORD * most)()
         count = min(calls().adf_found_blocks(image, len(image), parts, len(parts), found.number, found.header, blocks, most), most)
-        for place in range(count):
-            if blocks[place] >= self._held:
+        last = 0
+        for place, block in enumerate(blocks[:count]):
+            if block < self._held:
+                last = place + 1
+            else:
                 blocks[place] = NO_BLOCK
-        lost, at = [], 0
-        while at < size:
-            room = (ctypes.c_char * (size - at)).from_buffer(content, at)
-            at += calls().adf_found_read(image, len(image), found.header, blocks, count, at, room, size - at, ctypes.byref(gap))
+        return blocks, last
+
+    def _remains(self, found: Found) -> tuple[bytes, list[range]]:
+        """What is left of a file, by its number: its bytes up to the last block that is its own, and what is lost of those that it states."""
+        image, size = self._opened, min(found.size, len(self._opened))
+        blocks, count = self._own_blocks(found, size)
+        content, gap, lost, at = bytearray(min(size, BLOCK * count)), _structs.SIZE(), [], 0
+        while at < len(content):
+            room = (ctypes.c_char * (len(content) - at)).from_buffer(content, at)
+            at += calls().adf_found_read(image, len(image), found.header, blocks, count, at, room, len(content) - at, ctypes.byref(gap))
             if not gap.value:
                 break
             lost.append(range(at, at + gap.value))
             at += gap.value
-        return bytes(content), lost
+        return bytes(memoryview(content)[:at]), lost + ([range(at, size)] if at < size else [])
 
     def ranges(self) -> Iterator[range]:
         """The blocks of each finding, without paths, which can be very long."""
@@ -210,8 +217,9 @@ class Survey(ReadOnly):
         return self._remains(found)[0]
 
     def remains(self, path: EntryPath) -> tuple[bytes, list[range]]:
-        """What is left of a file, sound or damaged, for which the image is surveyed again: its bytes, with zeros for those that are
-        lost, and the ranges of these; of several with this path those of the first. NoSuchPath and NotAFile as of `read`."""
+        """What is left of a file, sound or damaged, for which the image is surveyed again: its bytes up to the last block that is its own,
+        with zeros for those that are lost, and the ranges of these, up to the size that its header states; of several with this path those
+        of the first. NoSuchPath and NotAFile as of `read`."""
         return self._remains(self._file(path))
 
     def owners(self) -> bytes:

@@ -23,6 +23,7 @@ from adf_tools.trees import Place, named
 DAYS_TO_1978 = 2922
 DAMAGED, GAPS, BESIDE = b".damaged", b".gaps", os.fsencode(uaem.ENDING)
 LONGEST_PATH = 4095
+MOST_TIMES = 16  # so often the bytes of the image what is left of damaged files may have, with zeros
 OF_ALL = (errno.ENOSPC, errno.EDQUOT, errno.EROFS, errno.EIO, errno.ENOMEM, errno.EMFILE, errno.ENFILE)  # errors that each file would have
 
 
@@ -77,12 +78,15 @@ NOTHING_MORE = Additions()
 
 class Unpacker:
     """Writes the tree of a volume into a folder, by the form of names, and whether files NAME.uaem are written. An error of the host
-    costs one file, or one directory with what is in it; `failed` has all of them."""
+    costs one file, or one directory with what is in it; `failed` has all of them. `short` says, by their headers, what of the damaged files
+    that are written is not, of the size that they state."""
 
     def __init__(self, volume: adf.Volume, form: Form, writes_uaem: bool, more: Additions = NOTHING_MORE) -> None:
         self.entries, self.form, self.endings = volume.entries, form, (b"", BESIDE) if writes_uaem else (b"",)
         self.is_followed = more.is_followed
         self.failed: List[OSError] = []
+        self.short: Dict[int, str] = {}
+        self.room = MOST_TIMES * len(volume.survey.image) if isinstance(volume, adf.Rescued) and more.damaged else 0
         self.inside = {number: list(each) for number, each in itertools.groupby(volume.entries, lambda entry: entry.parent)}
         self.ways: Dict[int, List[Way]] = {}
         for way in more.ways:
@@ -205,12 +209,19 @@ class Unpacker:
         return b"/".join([b".."] * ups + behind[::-1]) or b"."
 
     def write_damaged(self, place: Place, number: int, taken: Set[bytes]) -> None:
-        """Writes what is left of the damaged files of a directory, with zeros for what is lost, and beside it a line for each gap."""
+        """Writes what is left of the damaged files of a directory, with zeros for what is lost up to the last block that is the file's own,
+        and beside it a line for each gap."""
         for found in self.damaged.get(number, ()):
             try:
-                left, lost = found.remains()
+                left, lost = found.remains() if self.room >= 0 else (b"", [])
             except adf.NotAFile:  # a link
                 continue
+            self.room -= len(left)
+            if self.room < 0:
+                self.short[found.header] = "not written, since all damaged files together have too many bytes"
+                continue
+            if len(left) < found.size:
+                self.short[found.header] = f"{len(left)} of {found.size} bytes are written"
             name = host_name(found.raw_name, self.form, (DAMAGED, GAPS), taken, found.header)
             lines = b"".join(b"bytes %d to %d: no data\n" % (gap.start, gap.stop - 1) for gap in lost)
             contents = ((DAMAGED, Content(len(left), runs(left, lost), found.date)), (GAPS, text(lines)))
@@ -263,7 +274,7 @@ def work(words: argparse.Namespace) -> int:
     unpacker = Unpacker(volume, form, words.uaem, Additions(ways, words.follow, damaged_files(volume) if words.damaged else ()))
     with boot_file(words.boot, image), new_folder(words.folder) as folder:
         unpacker.write(folder)
-    status = image.tell_lines("adf-unpack", left_out_with(volume, ways))
+    status = image.tell_lines("adf-unpack", left_out_with(volume, ways, unpacker.short))
     for error in unpacker.failed:
         tell("adf-unpack", why(moved_error(error, folder, words.folder))[1])
     return FAILED if unpacker.failed else status

@@ -124,12 +124,11 @@ class Confined(Folder):
 
     def ran(self, script: str) -> confined.Ran:
         """How a script ended that writes out."""
-        before = set(os.listdir(tempfile.gettempdir()))
-        with self.program("unpacker", script):
+        with tempfile.TemporaryDirectory() as folders, self.program("unpacker", script), unittest.mock.patch.object(tempfile, "tempdir", folders):
             path = confined.path_of("unpacker")
             assert path is not None
             ran = confined.run([path], "given", b"packed", "out", self.LIMITS)
-        self.assertEqual(set(os.listdir(tempfile.gettempdir())) - before, set())
+            self.assertEqual(os.listdir(folders), [])
         return ran
 
     def test_writes_a_file(self) -> None:
