@@ -47,7 +47,8 @@ class Found(_Fields):
     the root; a link counts as a file.
 
     The name is that of the header, which need not be one: `raw_name` and `raw_path` may have any bytes, as `/` in a name, or `..`, which
-    leads out of a folder. `name` and `path` are these as `adf-survey` spells them: in the escape form, with \\x2f for a `/` in a name.
+    leads out of a folder. `name` and `path` are these as `adf-survey` spells them: in the escape form, with \\x2f for a `/` in a name. A path
+    of more than 1,024 bytes is `\\block B/` and its last names, where B is the block of the header of the directory that the first is in.
     """
 
     __slots__ = ()
@@ -66,11 +67,11 @@ class Found(_Fields):
 
     @property
     def path(self) -> str:
-        return self.survey._path_to(self.parent)[1] + self.name
+        return self.survey._paths.text_in(self.survey._tree(), self.parent, self.name)
 
     @property
     def raw_path(self) -> bytes:
-        return self.survey._path_to(self.parent)[0] + self.raw_name
+        return self.survey._path_to(self.parent) + self.raw_name
 
     @property
     def target(self) -> Found | bytes | None:

@@ -12,6 +12,7 @@ from adf import _arguments, _sizes, _structs, _texts
 from adf._arguments import EntryPath, Image, Mapped
 from adf._layout import BLOCK, FIRST_ROOM, KINDS, LEAST_CHUNK, TYPES
 from adf._library import NO_MEMORY, NOT_DOS, SMALL_ROOM, calls, cause_text
+from adf._paths import Paths, Tree
 from adf._read_only import ReadOnly
 from adf._texts import escape
 from adf.dates import Date, date_of
@@ -80,7 +81,7 @@ class Survey(ReadOnly):
     _opened: bytes | Mapped
     _held: int
     _own_causes: list[str]
-    _last_path: tuple[int, bytes, str]
+    _last_path: tuple[int, bytes]
 
     def __init__(self, image: Image, blocks: int | None = None) -> None:
         blocks = _sizes.number_of_blocks(blocks)
@@ -99,7 +100,7 @@ class Survey(ReadOnly):
             image=given[:4] + raw[4:] if subject.is_begun or subject.is_retyped else raw, kind=KINDS[told.kind] if told.blocks else "",
             date=date_of(told.root), altered=date_of(told.altered), created=date_of(told.created),
             raw_label=label, label=label.decode("latin-1"), is_begun=bool(subject.is_begun), is_retyped=bool(subject.is_retyped),
-            _given=(given, blocks), _opened=raw, _held=subject.held, _last_path=(0, b"", ""),
+            _given=(given, blocks), _opened=raw, _held=subject.held, _last_path=(0, b""),
         )
         self._mark_missing(tables[2])
         vars(self)["entries"] = [self._entry(place + 1, tables[2][place]) for place in range(told.entries)]
@@ -182,17 +183,28 @@ class Survey(ReadOnly):
         """The blocks of each finding, without paths, which can be very long."""
         return (range(row.first, row.last + 1) for row in self._rows)
 
-    def _path_to(self, number: int) -> tuple[bytes, str]:
-        """The path of a directory and a slash, as bytes and as `adf-survey` spells it; nothing for the root. The last one is kept: so the
-        paths of a deep tree, one after the other, take no longer than they are."""
-        (kept, raw, spelled), above, at = self._last_path, [], number
+    def _path_to(self, number: int) -> bytes:
+        """The path of a directory and a slash; nothing for the root. The last one is kept: so the paths of a deep tree, one after the other,
+        take no longer than they are."""
+        (kept, raw), above, at = self._last_path, [], number
         while at not in (0, kept):
             above.append(self.entries[at - 1])
             at = above[-1].parent
         raw = (raw if at else b"") + b"".join(found.raw_name + b"/" for found in reversed(above))
-        spelled = (spelled if at else "") + "".join(found.name + "/" for found in reversed(above))
-        vars(self)["_last_path"] = number, raw, spelled
-        return raw, spelled
+        vars(self)["_last_path"] = number, raw
+        return raw
+
+    @functools.cached_property
+    def _paths(self) -> Paths:
+        return Paths()
+
+    def _tree(self) -> Tree:
+        return Tree(self._step, lambda number: self.entries[number - 1].header)
+
+    def _step(self, number: int) -> tuple[int, str]:
+        """The number of the directory of an entry, and its name as `adf-survey` spells it."""
+        found = self.entries[number - 1]
+        return found.parent, found.name
 
     def _entry(self, number: int, row: Any) -> Found:
         name, comment = bytes(row.name)[: row.name_length], bytes(row.comment)[: row.comment_length]

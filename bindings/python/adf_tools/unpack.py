@@ -12,6 +12,7 @@ import os
 from typing import Dict, Iterable, Iterator, List, NamedTuple, Optional, Sequence, Set, Tuple
 
 import adf
+from adf._paths import Paths, Tree, is_long
 from adf_tools import uaem
 from adf_tools.given import Given, add_image, add_strict, given
 from adf_tools.links import Way, left_out_with, ways_of
@@ -84,6 +85,7 @@ class Unpacker:
     def __init__(self, volume: adf.Volume, form: Form, writes_uaem: bool, more: Additions = NOTHING_MORE) -> None:
         self.entries, self.form, self.endings = volume.entries, form, (b"", BESIDE) if writes_uaem else (b"",)
         self.is_followed = more.is_followed
+        self.folder, self.paths, self.tree = b"", Paths(), Tree(self.step, volume._block_of)
         self.failed: List[OSError] = []
         self.short: Dict[int, str] = {}
         self.room = MOST_TIMES * len(volume.survey.image) if isinstance(volume, adf.Rescued) and more.damaged else 0
@@ -98,6 +100,7 @@ class Unpacker:
 
     def write(self, folder: str) -> None:
         """Writes all directories and files. A directory gets its date when all that is in it is written."""
+        self.folder = os.fsencode(folder).rstrip(b"/")
         with Place(folder, is_link_followed=False) as place:
             self.write_beside(place, 0)
             waiting = [self.entries_in(0)]
@@ -112,15 +115,25 @@ class Unpacker:
                     continue
                 waiting.pop()
                 if above:
-                    with self.kept(place.path):
-                        set_date(place.fd, above.pop().date)
+                    entry = above.pop()
+                    with self.kept(entry.parent, self.host(entry)):
+                        set_date(place.fd, entry.date)
                     place.go_out()
 
+    def path_of(self, directory: int, name: bytes) -> bytes:
+        """The path of what has this name in a directory; a long one is written from a block on, as all texts of paths."""
+        return self.folder + b"/" + self.paths.text_in(self.tree, directory, name.decode("latin-1")).encode("latin-1")
+
+    def step(self, number: int) -> Tuple[int, str]:
+        """The number of the directory of an entry, and the bytes of its name on the host."""
+        entry = self.entries[number - 1]
+        return entry.parent, self.host(entry).decode("latin-1")
+
     @contextlib.contextmanager
-    def kept(self, path: bytes) -> Iterator[None]:
-        """An error in here is kept as one of this path, unless all other files would have it too."""
+    def kept(self, directory: int, name: bytes) -> Iterator[None]:
+        """An error in here is kept as one of what has this name in a directory, unless all other files would have it too."""
         try:
-            with named(path):
+            with named(lambda: self.path_of(directory, name)):
                 yield
         except OSError as error:
             if error.errno in OF_ALL:
@@ -135,7 +148,7 @@ class Unpacker:
         """The name of an entry on the host; those of a directory of a volume all differ."""
         return host_name(entry.raw_name, self.form, self.endings)
 
-    def write_file(self, place: Place, name: bytes, content: Content) -> None:
+    def write_file(self, place: Place, directory: int, name: bytes, content: Content) -> None:
         """Writes a new file; nothing is left of one that cannot be written. It stays if its date is refused."""
         with place.create(name) as file:
             try:
@@ -147,20 +160,20 @@ class Unpacker:
                 os.unlink(name, dir_fd=place.fd)
                 raise
             if content.date:
-                with self.kept(place.path_of(name)):
+                with self.kept(directory, name):
                     set_date(file.fileno(), content.date)
 
     def write_entry(self, place: Place, entry: adf.Entry) -> bool:
         """Writes a file or a directory, and beside it what the host has no room for. Goes into a directory, and says whether it did."""
         name = self.host(entry)
-        with self.kept(place.path_of(name)):
+        with self.kept(entry.parent, name):
             if entry.is_file:
-                self.write_file(place, name, content_of(entry))
+                self.write_file(place, entry.parent, name, content_of(entry))
             else:
                 place.make(name)
             for beside in (name + ending for ending in self.endings[1:]):
-                with self.kept(place.path_of(beside)):
-                    self.write_file(place, beside, text(uaem.line_of(entry)))
+                with self.kept(entry.parent, beside):
+                    self.write_file(place, entry.parent, beside, text(uaem.line_of(entry)))
             if not entry.is_file:
                 place.go_in(name)
                 return True
@@ -179,19 +192,19 @@ class Unpacker:
             found, target = way.link.entry, way.target or 0
             name = host_name(found.raw_name, self.form, self.endings, taken, found.header)
             taken.update(name + ending for ending in self.endings)
-            with self.kept(place.path_of(name)):
+            with self.kept(number, name):
                 if self.is_followed and target and self.entries[target - 1].is_file:
-                    self.write_copy(place, name, self.entries[target - 1])
+                    self.write_copy(place, number, name, self.entries[target - 1])
                     continue
                 place.link(name, self.path_between(number, target))
                 if found.date.civil:
                     os.utime(name, ns=times_of(found.date), dir_fd=place.fd, follow_symlinks=False)
 
-    def write_copy(self, place: Place, name: bytes, entry: adf.Entry) -> None:
+    def write_copy(self, place: Place, directory: int, name: bytes, entry: adf.Entry) -> None:
         """Writes the file that a link leads to in its place."""
-        self.write_file(place, name, content_of(entry))
+        self.write_file(place, directory, name, content_of(entry))
         for beside in (name + ending for ending in self.endings[1:]):
-            self.write_file(place, beside, text(uaem.line_of(entry)))
+            self.write_file(place, directory, beside, text(uaem.line_of(entry)))
 
     def path_between(self, directory: int, target: int) -> bytes:
         """The path on the host from a directory to an entry or the root, which leads up no further than both have in common. An error if it
@@ -227,8 +240,8 @@ class Unpacker:
             contents = ((DAMAGED, Content(len(left), runs(left, lost), found.date)), (GAPS, text(lines)))
             for path, content in ((name + ending, content) for ending, content in contents):
                 taken.add(path)
-                with self.kept(place.path_of(path)):
-                    self.write_file(place, path, content)
+                with self.kept(number, path):
+                    self.write_file(place, number, path, content)
 
 
 def directory_of(volume: adf.Volume, found: adf.Found) -> int:
@@ -264,6 +277,15 @@ def boot_file(path: Optional[str], image: Given) -> Iterator[None]:
         yield
 
 
+def line_of(error: OSError, folder: str) -> str:
+    """The line of an error in a folder. No name that is written there has a `\\` with `block` behind it."""
+    top, path = os.fsencode(folder).rstrip(b"/") + b"/", os.fsencode(error.filename or b"")
+    front, _, names = path[len(top) :].partition(b"/")
+    if not path.startswith(top) or not is_long(front.decode("latin-1")):
+        return why(error)[1]
+    return f"{host_text(top)}{front.decode('ascii')}/{host_text(names)}: {error.strerror or error}"
+
+
 def work(words: argparse.Namespace) -> int:
     image = given(words)
     volume = image.volume(words.strict)
@@ -276,8 +298,9 @@ def work(words: argparse.Namespace) -> int:
         unpacker.write(folder)
     status = image.tell_lines("adf-unpack", left_out_with(volume, ways, unpacker.short))
     for error in unpacker.failed:
-        tell("adf-unpack", why(moved_error(error, folder, words.folder))[1])
-    return FAILED if unpacker.failed else status
+        tell("adf-unpack", line_of(moved_error(error, folder, words.folder), words.folder))
+    is_refused = all(error.errno == errno.ENAMETOOLONG for error in unpacker.failed)
+    return status if not unpacker.failed else REFUSED if is_refused else FAILED
 
 
 def main() -> None:
