@@ -113,8 +113,26 @@ def disk(chance, *volumes):
     return b"".join(part.ljust(-(-len(part) // (BLOCK * 16)) * BLOCK * 16, b"\0") for part in (image, *volumes))
 
 
+@functools.lru_cache(maxsize=None)
+def deep():
+    """A volume of directories in directories with names without letters, and a file in each; the host has its paths just so."""
+    paths = [b"/".join([b"\x1b" * 30] * depth) for depth in range(1, 31)]
+    return adf.build("ffs", 400, [addition for path in paths for addition in (adf.Addition(path), adf.Addition(path + b"/f", b"A"))])
+
+
+@functools.lru_cache(maxsize=None)
+def claiming():
+    """A volume whose files each state as many bytes as it has."""
+    whole = bytearray(adf.build("ffs", 400, [adf.Addition(b"f%d" % number, b"A") for number in range(190)]))
+    for entry in adf.Volume(whole).entries:
+        struct.pack_into(">I", whole, BLOCK * entry.header + 324, len(whole))
+    return bytes(whole)
+
+
 def image(chance, raw_names=RAW_NAMES):
     """An image, mostly a damaged volume."""
+    if chance.random() < 0.02:
+        return mutated(chance, chance.choice((deep(), claiming())), raw_names)
     given = volume(chance.choice(("ofs", "ffs")), chance.choice((64, 120, 400)), chance.randrange(40))
     way = chance.random()
     if way < 0.05:
