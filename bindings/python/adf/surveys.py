@@ -22,7 +22,7 @@ from adf.findings import Finding, Findings, Found
 from adf.links import Link, links_of
 
 OWN = 0  # of findings for which the library has no number: `owner` is then the place of their text
-NO_BLOCK = 2**32 - 1
+NO_BLOCK, NO_BYTES = 2**32 - 1, b"\xff"  # in the table of a file, and each of its bytes there; a number of a block has one that is 0
 
 
 def survey(image: Image, blocks: int | None = None) -> Survey:
@@ -157,13 +157,10 @@ class Survey(ReadOnly):
         image, parts, most = self._opened, self._parts, size // LEAST_CHUNK + 1
         blocks = (_structs.WORD * most)()
         count = min(calls().adf_found_blocks(image, len(image), parts, len(parts), found.number, found.header, blocks, most), most)
-        last = 0
-        for place, block in enumerate(blocks[:count]):
-            if block < self._held:
-                last = place + 1
-            else:
-                blocks[place] = NO_BLOCK
-        return blocks, last
+        if self._held < len(image) // BLOCK:
+            blocks[:count] = [block if block < self._held else NO_BLOCK for block in blocks[:count]]
+        left = len(bytes(memoryview(blocks).cast("B")[: 4 * count]).rstrip(NO_BYTES))
+        return blocks, -(-left // 4)
 
     def _remains(self, found: Found) -> tuple[bytes, list[range]]:
         """What is left of a file, by its number: its bytes up to the last block that is its own, and what is lost of those that it states."""

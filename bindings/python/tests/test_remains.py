@@ -73,6 +73,13 @@ class Remains(unittest.TestCase):
         ):
             self.assertEqual(self.remains(table, size), want, (table[:4], size))
 
+    def test_have_no_block_that_the_image_lacks(self) -> None:
+        survey = survey_of(bytes(901120))
+        vars(survey)["_held"] = 100
+        with mock.patch.object(_library, "_loaded", Library({7: [99, 100, 99, 255, 100]}, {7: 5 * CHUNK})):
+            left, lost = survey._remains(found_of(survey, 7, 5 * CHUNK))
+        self.assertEqual((left, lost), (b"A" * CHUNK + bytes(CHUNK) + b"A" * CHUNK, [range(488, 976), range(1464, 2440)]))
+
     def test_take_no_memory_for_what_is_stated(self) -> None:
         with mock.patch("builtins.bytearray", wraps=bytearray) as room:
             self.remains([SOME, *[NONE] * 1846], 901120)
