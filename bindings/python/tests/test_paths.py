@@ -15,7 +15,7 @@ from unittest import mock
 import adf
 from adf import _structs
 from adf._paths import LONGEST_TEXT, Paths, Tree
-from adf_tools import compare, trees, volumes
+from adf_tools import compare, tables, trees, volumes
 from adf_tools.names import LETTERS
 from adf_tools.standing import Names, Standing
 from adf_tools.unpack import Unpacker, line_of
@@ -150,6 +150,11 @@ class Surveys(unittest.TestCase):
 
 
 class Tools(unittest.TestCase):
+    def test_escape_names_and_no_blocks(self) -> None:
+        form = tables.form_of("path", True)
+        for text, want in (("\\block 12/B\xfc/\\x1b", "\\block 12/B\\xfc/\\x1b"), ("\\x5cblock 12/\xfc", "\\x5cblock 12/\\xfc")):
+            self.assertEqual(form(text), want)
+
     def test_sum_trees_whatever_blocks_they_have(self) -> None:
         deep = [*chain(), (DEPTH, 5, b"f", True)]
         sums = []
