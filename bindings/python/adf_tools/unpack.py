@@ -95,8 +95,9 @@ class Unpacker:
             if way.target is not None:
                 self.ways.setdefault(way.directory, []).append(way)
         self.damaged: Dict[int, List[adf.Found]] = {}
+        directories = directories_of(volume) if more.damaged else {}
         for found in more.damaged:
-            self.damaged.setdefault(directory_of(volume, found), []).append(found)
+            self.damaged.setdefault(directories.get(found.parent, 0), []).append(found)
 
     def write(self, folder: str) -> None:
         """Writes all directories and files. A directory gets its date when all that is in it is written."""
@@ -244,14 +245,16 @@ class Unpacker:
                     self.write_file(place, number, path, content)
 
 
-def directory_of(volume: adf.Volume, found: adf.Found) -> int:
-    """The number of the directory of a volume that a found entry is in; of the next one above it that the volume has."""
-    while isinstance(volume, adf.Rescued) and found.parent:
-        found = volume.survey.entries[found.parent - 1]
-        kept = volume.entry_of(found)
-        if kept:
-            return kept.number
-    return 0
+def directories_of(volume: adf.Volume) -> Dict[int, int]:
+    """The numbers in a volume of the directories that are found, by their numbers there; of one that it lacks that of the next one above."""
+    numbers: Dict[int, int] = {}
+    if not isinstance(volume, adf.Rescued):
+        return numbers
+    for found in volume.survey.entries:
+        if not found.is_file:
+            kept = volume.entry_of(found)
+            numbers[found.number] = kept.number if kept else numbers.get(found.parent, 0)
+    return numbers
 
 
 def damaged_files(volume: adf.Volume) -> List[adf.Found]:

@@ -4,6 +4,7 @@ from __future__ import annotations
 
 import os
 import tempfile
+import types
 import unittest
 from typing import Any, Dict, Sequence
 from unittest import mock
@@ -13,7 +14,7 @@ from adf import _library, _structs
 from adf.surveys import NO_BLOCK
 from adf_tools.links import left_out_with
 from adf_tools.names import LETTERS
-from adf_tools.unpack import Additions, Unpacker
+from adf_tools.unpack import Additions, Unpacker, directories_of
 
 CHUNK, SOME, NONE = 488, 5, NO_BLOCK  # bytes in an OFS data block; a block, and none, of a table
 
@@ -47,7 +48,7 @@ class Library:
 def survey_of(image: bytes) -> Any:
     """A survey of an image, of which nothing is known but its bytes."""
     survey: Any = object.__new__(adf.Survey)
-    vars(survey).update(image=image, _opened=image, _held=len(image) // 512, _parts=())
+    vars(survey).update(image=image, entries=[], _opened=image, _held=len(image) // 512, _parts=())
     return survey
 
 
@@ -92,6 +93,18 @@ class Remains(unittest.TestCase):
         table = [SOME, NONE, SOME, *[NONE] * 1844]
         with mock.patch.object(_library, "_loaded", Library({7: table}, {7: 901120})):
             self.assertEqual(list(found_of(survey, 7, 901120).pieces()), [(0, b"A" * CHUNK), (976, b"A" * CHUNK)])
+
+
+class Directories(unittest.TestCase):
+    def test_are_those_that_the_volume_has(self) -> None:
+        volume: Any = object.__new__(adf.Rescued)
+        survey = survey_of(bytes(901120))
+        rest = 0, 0, adf.Date(0, 0, 0), False, True, b"d", b""
+        vars(survey)["entries"] = [adf.Found(survey, number, parent, number, *rest) for number, parent in ((1, 0), (2, 1), (3, 2), (4, 0))]
+        kept = {1: 7, 4: 9}
+        vars(volume)["survey"] = survey
+        with mock.patch.object(adf.Rescued, "entry_of", lambda _, each: types.SimpleNamespace(number=kept[each.number]) if each.number in kept else None):
+            self.assertEqual(directories_of(volume), {1: 7, 2: 7, 3: 7, 4: 9})
 
 
 class Unpacked(unittest.TestCase):
