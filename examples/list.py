@@ -13,7 +13,7 @@ try:
         sys.stdout.buffer.write(volume[adf.unescape(sys.argv[2])].read())
     else:
         for entry in volume.entries:
-            print(f"{entry.size:10} {entry.date} {adf.escape(entry.path)}")
+            print(f"{entry.size:10} {entry.date} {entry.path_text}")
         for each in volume.left_out:
             print(each)  # damaged: c/list
 except (adf.Error, OSError, ValueError) as error:

@@ -3,6 +3,7 @@
 import functools
 import gzip
 import io
+import lzma
 import os
 import sqlite3
 import struct
@@ -112,8 +113,26 @@ def disk(chance, *volumes):
     return b"".join(part.ljust(-(-len(part) // (BLOCK * 16)) * BLOCK * 16, b"\0") for part in (image, *volumes))
 
 
+@functools.lru_cache(maxsize=None)
+def deep():
+    """A volume of directories in directories with names without letters, and a file in each; the host has its paths just so."""
+    paths = [b"/".join([b"\x1b" * 30] * depth) for depth in range(1, 31)]
+    return adf.build("ffs", 400, [addition for path in paths for addition in (adf.Addition(path), adf.Addition(path + b"/f", b"A"))])
+
+
+@functools.lru_cache(maxsize=None)
+def claiming():
+    """A volume whose files each state as many bytes as it has."""
+    whole = bytearray(adf.build("ffs", 400, [adf.Addition(b"f%d" % number, b"A") for number in range(190)]))
+    for entry in adf.Volume(whole).entries:
+        struct.pack_into(">I", whole, BLOCK * entry.header + 324, len(whole))
+    return bytes(whole)
+
+
 def image(chance, raw_names=RAW_NAMES):
     """An image, mostly a damaged volume."""
+    if chance.random() < 0.02:
+        return mutated(chance, chance.choice((deep(), claiming())), raw_names)
     given = volume(chance.choice(("ofs", "ffs")), chance.choice((64, 120, 400)), chance.randrange(40))
     way = chance.random()
     if way < 0.05:
@@ -184,15 +203,23 @@ def lha(name, content, method):
     return bytes([len(head), sum(head) % 256]) + head + content + b"\0"
 
 
+def filtered(chance, content):
+    """What libarchive's filters would unpack, or would run a program for."""
+    begins = (b"\x89LZO\0\r\n\x1a\n", b"LRZI\0\6", b"GRZipII\0\2\4:)", b"begin 644 a\n", b"\xed\xab\xee\xdb\3\0")
+    return chance.choice((lzma.compress(content), lzma.compress(lzma.compress(content)), chance.choice(begins) + content))
+
+
 def packed(chance):
     """A file that has images, or says so."""
-    given, way = image(chance), chance.randrange(8)
+    given, way = image(chance), chance.randrange(9)
     if way < 2:
         return given
     if way == 2:
         whole = gzip.compress(given, 1)
     elif way == 3:
         whole = b"DMS!" + chance.randbytes(chance.randint(0, 99)) + given
+    elif way == 5:
+        whole = filtered(chance, lha(b"a.adf", given, b"-lh0-"))
     elif way == 4:
         whole = lha(chance.choice(RAW_NAMES)[:60] + b".adf", given, chance.choice((b"-lh0-", b"-lh5-", b"-lzs-")))
     else:

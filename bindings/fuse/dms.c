@@ -6,6 +6,7 @@
 
 #include <errno.h>
 #include <fcntl.h>
+#include <sched.h>
 #include <signal.h>
 #include <stdio.h>
 #include <stdlib.h>
@@ -15,10 +16,10 @@
 #include <time.h>
 #include <unistd.h>
 
-/* What xdms may use, and what is read of it. */
+/* What the program that unpacks may use, and what is read of it. */
 enum {
     MOST_DMS = 16 << 20,
-    MOST_MEMORY = 1 << 30,
+    MOST_MEMORY = 256 << 20,
     MOST_SECONDS = 60,
     MOST_LINE = 200,
     NO_PROCESS = 126,
@@ -51,38 +52,46 @@ static void limit(int what, rlim_t most) {
     }
 }
 
-/* Becomes xdms in a folder, in a group of its own, within limits. */
-static void become_xdms(int folder) {
+/* Becomes the program that unpacks in a folder, in a group of its own, without an environment and, where the system gives a name
+ * space, without a network, within limits. */
+static void become_unpacker(int folder) {
+    char *words[] = {"ancient", "decompress", (char *)PACKED, (char *)DISK, NULL}, *nothing[] = {NULL};
     int null = open("/dev/null", O_RDWR), errors = openat(folder, ERRORS, O_WRONLY | O_CREAT | O_EXCL, 0600);
     setsid();
     limit(RLIMIT_FSIZE, MOST_DMS);
     limit(RLIMIT_AS, MOST_MEMORY);
     limit(RLIMIT_CPU, MOST_SECONDS);
+    limit(RLIMIT_CORE, 0);
+    if (unshare(CLONE_NEWUSER | CLONE_NEWNET) != 0)
+        (void)unshare(CLONE_NEWNET);
     if (null >= 0 && errors >= 0 && fchdir(folder) == 0 && dup2(null, 0) == 0 && dup2(null, 1) == 1 && dup2(errors, 2) == 2)
-        execlp("xdms", "xdms", "u", PACKED, "+disk.adf", (char *)NULL);
+        execvpe(words[0], words, nothing);
     _exit(NO_PROGRAM);
 }
 
-/* Runs xdms in a folder: its status as of waitpid, or -1 if it was stopped since it took too long. */
-static int run_xdms(int folder) {
-    int status = -1;
-    pid_t child = fork();
-    if (child == 0)
-        become_xdms(folder);
-    if (child < 0)
-        return NO_PROCESS << 8;
-    for (int step = 0; step < MOST_SECONDS * STEPS; step++) {
-        if (waitpid(child, &status, WNOHANG) == child)
-            return status;
-        nanosleep(&(struct timespec){.tv_nsec = 1000000000L / STEPS}, NULL);
-    }
-    kill(-child, SIGKILL);
-    waitpid(child, &status, 0);
-    return -1;
+/* Whether a process has ended. It stays known to the system, so that its group is no other one. */
+static bool has_ended(pid_t child) {
+    siginfo_t told = {.si_pid = 0};
+    return waitid(P_PID, (id_t)child, &told, WEXITED | WNOHANG | WNOWAIT) == 0 && told.si_pid == child;
 }
 
-/* Says what xdms says of a file that it does not unpack: its first line, or how it ended. */
-static int say_xdms(int folder, const char *name, int status) {
+/* Runs the program that unpacks in a folder, and ends all that it started: its status as of waitpid, or -1 if it took too long. */
+static int run_unpacker(int folder) {
+    int status = -1, step = 0;
+    pid_t child = fork();
+    if (child == 0)
+        become_unpacker(folder);
+    if (child < 0)
+        return NO_PROCESS << 8;
+    for (; step < MOST_SECONDS * STEPS && !has_ended(child); step++)
+        nanosleep(&(struct timespec){.tv_nsec = 1000000000L / STEPS}, NULL);
+    kill(-child, SIGKILL);
+    waitpid(child, &status, 0);
+    return step < MOST_SECONDS * STEPS ? status : -1;
+}
+
+/* Says what the program says of a file that it does not unpack: its first line, or how it ended. */
+static int say_unpacker(int folder, const char *name, int status) {
     char text[MOST_LINE + 1] = "", why[4 * MOST_LINE + 64];
     int errors = openat(folder, ERRORS, O_RDONLY | O_NOFOLLOW | O_CLOEXEC);
     ssize_t count = errors < 0 ? 0 : read(errors, text, MOST_LINE);
@@ -92,15 +101,15 @@ static int say_xdms(int folder, const char *name, int status) {
     text[strcspn(text, "\n")] = '\0';
     char *line = host_line(text);
     if (WIFEXITED(status) && WEXITSTATUS(status) == NO_PROGRAM)
-        strcpy(why, "packed by DMS: xdms (Debian's) is needed to read it");
+        strcpy(why, "packed by DMS: ancient (Debian's) is needed to read it");
     else if (status == -1)
-        snprintf(why, sizeof why, "xdms: stopped after %d seconds", MOST_SECONDS);
+        snprintf(why, sizeof why, "ancient: stopped after %d seconds", MOST_SECONDS);
     else if (line != NULL && *line != '\0')
-        snprintf(why, sizeof why, "xdms: %s", line);
+        snprintf(why, sizeof why, "ancient: %s", line);
     else if (WIFSIGNALED(status))
-        snprintf(why, sizeof why, "xdms: stopped by signal %d", WTERMSIG(status));
+        snprintf(why, sizeof why, "ancient: stopped by signal %d", WTERMSIG(status));
     else
-        snprintf(why, sizeof why, "xdms: status %d", WEXITSTATUS(status));
+        snprintf(why, sizeof why, "ancient: status %d", WEXITSTATUS(status));
     free(line);
     return say(name, why, FAILED);
 }
@@ -115,14 +124,14 @@ static int unpack_in(int folder, int file, int unpacked, const char *name) {
         return say(name, strerror(errno), FAILED);
     if (count > MOST_DMS)
         return say(name, "DMS of more than 16777216 bytes is not unpacked", FAILED);
-    int status = run_xdms(folder);
+    int status = run_unpacker(folder);
     if (status != 0)
-        return say_xdms(folder, name, status);
+        return say_unpacker(folder, name, status);
     int disk = openat(folder, DISK, O_RDONLY | O_NOFOLLOW | O_NONBLOCK | O_CLOEXEC);
     count = disk < 0 ? -1 : copy_file(disk, unpacked);
     if (disk >= 0)
         close(disk);
-    return count < 0 ? say(name, "xdms: it wrote no disk", FAILED) : SOUND;
+    return count < 0 ? say(name, "ancient: it wrote no disk", FAILED) : SOUND;
 }
 
 int unpack_dms(int file, int unpacked, const char *name) {

@@ -1,5 +1,5 @@
 /* Packed images: those of gzip (zlib, ADF_ZLIB), zip and LHA (libarchive, ADF_LIBARCHIVE) are unpacked, if the program is built with
- * these libraries, and those of DMS by xdms. */
+ * these libraries, and those of DMS by the program ancient. */
 #ifndef ADF_MOUNT_PACKED_H
 #define ADF_MOUNT_PACKED_H
 

@@ -21,7 +21,7 @@ bool is_too_much(int unpacked, off_t whole, const char *name, const char *how);
 /* Writes a file of an archive of zip or LHA, as libarchive reads it: the one that is wanted, or the only image if that is NULL. */
 int unpack_member(int file, int unpacked, const char *name, const char *form, const char *wanted);
 
-/* Writes the disk in a file of DMS, which xdms unpacks in a temporary folder. */
+/* Writes the disk in a file of DMS, which the program ancient unpacks in a temporary folder. */
 int unpack_dms(int file, int unpacked, const char *name);
 
 #endif

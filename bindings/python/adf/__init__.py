@@ -8,7 +8,7 @@
         print(each)
     volume = adf.open("games.adf", strict=True)     # or adf.Refused: .filename, .block and .cause, as "bad sum"
     for entry in volume.entries:
-        print(adf.escape(entry.path), entry.size, entry.date, adf.escape(entry.comment))
+        print(entry.path_text, entry.size, entry.date, adf.escape(entry.comment))
     start = volume["s/startup-sequence"].read()     # bytes; the case of its letters does not count; KeyError where nothing is there
     file = volume["c/list"].open()                  # a file of Python, which seeks
     rows = [entry._asdict() for entry in volume.entries]  # as for pandas.DataFrame(rows)
@@ -30,9 +30,9 @@
 
 Texts are in Latin-1, as Amigas have them, so each byte is one character and nothing is lost; where a path is given, bytes do
 as well, and mean themselves. `raw_label`, `raw_name`, `raw_path` and `raw_comment` are the bytes. Any byte but `/` and `:` may be in a
-name, also one that a terminal obeys: adf.escape(text) is fit to print, and adf.unescape the way back. Of a damaged image even these may
-be in a name: the paths of what is found there, and of what is left out, are spelled as by adf-survey, and fit to print as they are. No
-path is one of the host: a name may be `..`.
+name, also one that a terminal obeys: adf.escape(text) is fit to print, and adf.unescape the way back; `entry.path_text` is that of a path,
+or of a long one `\\block B/` and its last names. Of a damaged image even these may be in a name: the paths of what is found there, and of
+what is left out, are spelled as by adf-survey, and fit to print as they are. No path is one of the host: a name may be `..`.
 
 The shared library is the one that `adf.load(path)` is given; else the one that ADF_LIBRARY names; else that beside this file;
 else libadf.so.1, where the loader finds it; else that in PREFIX/lib, if this module is installed in PREFIX or the program

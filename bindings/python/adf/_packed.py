@@ -41,8 +41,7 @@ def unpacked(file: BinaryIO, form: str, wanted: bytes, name: Path | None) -> byt
     """The image that is wanted of an open packed file; a large one is mapped, in a temporary file. NotUnpacked if there is none."""
     archives, members = _reader("archives"), _reader("members")
     try:
-        with members.opened_member(file, form, wanted) as packed:
-            image = archives.unpacked(packed, b"", 0, archives.MOST_UNPACKED)
+        image = members.image_of_member(file, form, wanted, b"")
     except MemoryError:
         raise
     except archives.FAULTS as error:

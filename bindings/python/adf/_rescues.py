@@ -45,7 +45,8 @@ class LeftOut(_Loss):
     """What a rescue leaves out, and what it keeps in doubt: the bytes of the path of an entry, or of the directory in which headers are
     lost, and the block of its header twice (0 for the root); or the first and the last of the blocks that are lost. A reason of a newer
     library is its number. As a text it is the line of `adf-survey rescue`. A name in the bytes may have any, as `/`, or be `..`, which
-    leads out of a folder; the entry may have another name in the new volume."""
+    leads out of a folder; the entry may have another name in the new volume. Of a path that the library tells from a block on
+    (`\\block B/` and the last names) the bytes are those of this text."""
 
     _text: str | None = None
 

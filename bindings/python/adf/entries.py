@@ -10,6 +10,8 @@ from typing import TYPE_CHECKING, Any, NamedTuple, Sequence, overload
 from adf import _arguments
 from adf._arguments import Buffer
 from adf._library import calls
+from adf._paths import is_long
+from adf._texts import escape
 from adf.dates import Date
 from adf.errors import NotAFile
 
@@ -64,8 +66,9 @@ class Entry(_Fields):
     __slots__ = ()
 
     def _asdict(self) -> dict[str, Any]:
-        """The entry as a row, as for a table of pandas: its date as `civil`, and no bytes."""
-        return row_of(self)
+        """The entry as a row, as for a table of pandas: its date as `civil`, no bytes, and of a long path its `path_text`."""
+        text = self.path_text
+        return {**row_of(self), **({"path": text} if is_long(text) else {})}
 
     @property
     def name(self) -> str:
@@ -78,6 +81,13 @@ class Entry(_Fields):
     @property
     def path(self) -> str:
         return self.raw_path.decode("latin-1")
+
+    @property
+    def path_text(self) -> str:
+        """The path in the escape form, to be printed: one of more than 1,024 bytes is `\\block B/` and its last names, where B is the block of
+        the header of the directory that the first of these is in; of a volume of what stands that is a block of the image, 0 if no chain leads
+        to the directory."""
+        return self.volume._paths.text_in(self.volume._tree(), self.parent, escape(self.raw_name))
 
     @property
     def raw_path(self) -> bytes:

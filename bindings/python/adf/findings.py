@@ -47,7 +47,8 @@ class Found(_Fields):
     the root; a link counts as a file.
 
     The name is that of the header, which need not be one: `raw_name` and `raw_path` may have any bytes, as `/` in a name, or `..`, which
-    leads out of a folder. `name` and `path` are these as `adf-survey` spells them: in the escape form, with \\x2f for a `/` in a name.
+    leads out of a folder. `name` and `path` are these as `adf-survey` spells them: in the escape form, with \\x2f for a `/` in a name. A path
+    of more than 1,024 bytes is `\\block B/` and its last names, where B is the block of the header of the directory that the first is in.
     """
 
     __slots__ = ()
@@ -66,11 +67,11 @@ class Found(_Fields):
 
     @property
     def path(self) -> str:
-        return self.survey._path_to(self.parent)[1] + self.name
+        return self.survey._paths.text_in(self.survey._tree(), self.parent, self.name)
 
     @property
     def raw_path(self) -> bytes:
-        return self.survey._path_to(self.parent)[0] + self.raw_name
+        return self.survey._path_to(self.parent) + self.raw_name
 
     @property
     def target(self) -> Found | bytes | None:
@@ -88,8 +89,8 @@ class Found(_Fields):
         return self.remains()[0]
 
     def remains(self) -> tuple[bytes, list[range]]:
-        """What is left of a file, sound or damaged: its bytes, with zeros for those that are lost, and the ranges of these. NotAFile if
-        it is a directory or a link."""
+        """What is left of a file, sound or damaged: its bytes up to the last block that is its own, with zeros for those that are lost,
+        and the ranges of these, up to the size that its header states. NotAFile if it is a directory or a link."""
         if not self._has_bytes():
             raise NotAFile(errno.EISDIR, os.strerror(errno.EISDIR), self.path)
         return self.survey._remains(self)

@@ -45,7 +45,8 @@ class Rescued(Volume):
     def close(self) -> None:
         super().close()
         vars(self).update(_given=None)
-        vars(self).pop("survey", None)
+        for name in ("survey", "_places", "_headers"):
+            vars(self).pop(name, None)
 
     @property
     def _image_given(self) -> tuple[bytes | Mapped, Path | None, int | None]:
@@ -83,6 +84,15 @@ class Rescued(Volume):
                 if (parent, name) in named:
                     places[found.number] = named.pop((parent, name))
         return places
+
+    @functools.cached_property
+    def _headers(self) -> dict[int, int]:
+        """The blocks of the headers that the survey finds, by the numbers of the entries that they are here."""
+        found = self.survey.entries
+        return {place: found[number - 1].header for number, place in self._places.items() if number}
+
+    def _block_of(self, number: int) -> int:
+        return self._headers.get(number, 0)
 
     @property
     def findings(self) -> Findings:

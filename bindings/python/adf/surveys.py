@@ -12,6 +12,7 @@ from adf import _arguments, _sizes, _structs, _texts
 from adf._arguments import EntryPath, Image, Mapped
 from adf._layout import BLOCK, FIRST_ROOM, KINDS, LEAST_CHUNK, TYPES
 from adf._library import NO_MEMORY, NOT_DOS, SMALL_ROOM, calls, cause_text
+from adf._paths import Paths, Tree
 from adf._read_only import ReadOnly
 from adf._texts import escape
 from adf.dates import Date, date_of
@@ -21,7 +22,7 @@ from adf.findings import Finding, Findings, Found
 from adf.links import Link, links_of
 
 OWN = 0  # of findings for which the library has no number: `owner` is then the place of their text
-NO_BLOCK = 2**32 - 1
+NO_BLOCK, NO_BYTES = 2**32 - 1, b"\xff"  # in the table of a file, and each of its bytes there; a number of a block has one that is 0
 
 
 def survey(image: Image, blocks: int | None = None) -> Survey:
@@ -80,7 +81,7 @@ class Survey(ReadOnly):
     _opened: bytes | Mapped
     _held: int
     _own_causes: list[str]
-    _last_path: tuple[int, bytes, str]
+    _last_path: tuple[int, bytes]
 
     def __init__(self, image: Image, blocks: int | None = None) -> None:
         blocks = _sizes.number_of_blocks(blocks)
@@ -99,7 +100,7 @@ class Survey(ReadOnly):
             image=given[:4] + raw[4:] if subject.is_begun or subject.is_retyped else raw, kind=KINDS[told.kind] if told.blocks else "",
             date=date_of(told.root), altered=date_of(told.altered), created=date_of(told.created),
             raw_label=label, label=label.decode("latin-1"), is_begun=bool(subject.is_begun), is_retyped=bool(subject.is_retyped),
-            _given=(given, blocks), _opened=raw, _held=subject.held, _last_path=(0, b"", ""),
+            _given=(given, blocks), _opened=raw, _held=subject.held, _last_path=(0, b""),
         )
         self._mark_missing(tables[2])
         vars(self)["entries"] = [self._entry(place + 1, tables[2][place]) for place in range(told.entries)]
@@ -151,41 +152,56 @@ class Survey(ReadOnly):
             raise NoMemory
         return rows
 
-    def _remains(self, found: Found) -> tuple[bytes, list[range]]:
-        """What is left of a file, by its number."""
-        image, parts = self._opened, self._parts
-        size = min(found.size, len(image))
-        most = size // LEAST_CHUNK + 1
-        blocks, content, gap = (_structs.WORD * most)(), bytearray(size), _structs.SIZE()
+    def _own_blocks(self, found: Found, size: int) -> tuple[Any, int]:
+        """The table of a file of so many bytes, by its number, and how many data blocks it has up to the last that is left."""
+        image, parts, most = self._opened, self._parts, size // LEAST_CHUNK + 1
+        blocks = (_structs.WORD * most)()
         count = min(calls().adf_found_blocks(image, len(image), parts, len(parts), found.number, found.header, blocks, most), most)
-        for place in range(count):
-            if blocks[place] >= self._held:
-                blocks[place] = NO_BLOCK
-        lost, at = [], 0
-        while at < size:
-            room = (ctypes.c_char * (size - at)).from_buffer(content, at)
-            at += calls().adf_found_read(image, len(image), found.header, blocks, count, at, room, size - at, ctypes.byref(gap))
+        if self._held < len(image) // BLOCK:
+            blocks[:count] = [block if block < self._held else NO_BLOCK for block in blocks[:count]]
+        left = len(bytes(memoryview(blocks).cast("B")[: 4 * count]).rstrip(NO_BYTES))
+        return blocks, -(-left // 4)
+
+    def _remains(self, found: Found) -> tuple[bytes, list[range]]:
+        """What is left of a file, by its number: its bytes up to the last block that is its own, and what is lost of those that it states."""
+        image, size = self._opened, min(found.size, len(self._opened))
+        blocks, count = self._own_blocks(found, size)
+        content, gap, lost, at = bytearray(min(size, BLOCK * count)), _structs.SIZE(), [], 0
+        while at < len(content):
+            room = (ctypes.c_char * (len(content) - at)).from_buffer(content, at)
+            at += calls().adf_found_read(image, len(image), found.header, blocks, count, at, room, len(content) - at, ctypes.byref(gap))
             if not gap.value:
                 break
             lost.append(range(at, at + gap.value))
             at += gap.value
-        return bytes(content), lost
+        return bytes(memoryview(content)[:at]), lost + ([range(at, size)] if at < size else [])
 
     def ranges(self) -> Iterator[range]:
         """The blocks of each finding, without paths, which can be very long."""
         return (range(row.first, row.last + 1) for row in self._rows)
 
-    def _path_to(self, number: int) -> tuple[bytes, str]:
-        """The path of a directory and a slash, as bytes and as `adf-survey` spells it; nothing for the root. The last one is kept: so the
-        paths of a deep tree, one after the other, take no longer than they are."""
-        (kept, raw, spelled), above, at = self._last_path, [], number
+    def _path_to(self, number: int) -> bytes:
+        """The path of a directory and a slash; nothing for the root. The last one is kept: so the paths of a deep tree, one after the other,
+        take no longer than they are."""
+        (kept, raw), above, at = self._last_path, [], number
         while at not in (0, kept):
             above.append(self.entries[at - 1])
             at = above[-1].parent
         raw = (raw if at else b"") + b"".join(found.raw_name + b"/" for found in reversed(above))
-        spelled = (spelled if at else "") + "".join(found.name + "/" for found in reversed(above))
-        vars(self)["_last_path"] = number, raw, spelled
-        return raw, spelled
+        vars(self)["_last_path"] = number, raw
+        return raw
+
+    @functools.cached_property
+    def _paths(self) -> Paths:
+        return Paths()
+
+    def _tree(self) -> Tree:
+        return Tree(self._step, lambda number: self.entries[number - 1].header)
+
+    def _step(self, number: int) -> tuple[int, str]:
+        """The number of the directory of an entry, and its name as `adf-survey` spells it."""
+        found = self.entries[number - 1]
+        return found.parent, found.name
 
     def _entry(self, number: int, row: Any) -> Found:
         name, comment = bytes(row.name)[: row.name_length], bytes(row.comment)[: row.comment_length]
@@ -210,8 +226,9 @@ class Survey(ReadOnly):
         return self._remains(found)[0]
 
     def remains(self, path: EntryPath) -> tuple[bytes, list[range]]:
-        """What is left of a file, sound or damaged, for which the image is surveyed again: its bytes, with zeros for those that are
-        lost, and the ranges of these; of several with this path those of the first. NoSuchPath and NotAFile as of `read`."""
+        """What is left of a file, sound or damaged, for which the image is surveyed again: its bytes up to the last block that is its own,
+        with zeros for those that are lost, and the ranges of these, up to the size that its header states; of several with this path those
+        of the first. NoSuchPath and NotAFile as of `read`."""
         return self._remains(self._file(path))
 
     def owners(self) -> bytes:

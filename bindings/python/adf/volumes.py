@@ -12,6 +12,7 @@ from adf import _arguments, _structs
 from adf._arguments import EntryPath, Image, Path
 from adf._layout import FIRST_ROOM, LETTERS, TOLD_TYPES
 from adf._library import NO_MEMORY, accept, calls
+from adf._paths import Paths, Tree
 from adf._read_only import ReadOnly
 from adf._rescues import LeftOut
 from adf._texts import escape
@@ -169,6 +170,22 @@ class Volume(ReadOnly):
         path = (begin if at else b"") + b"".join(reversed(names))
         vars(self)["_last_path"] = number, path
         return path
+
+    @functools.cached_property
+    def _paths(self) -> Paths:
+        return Paths()
+
+    def _tree(self) -> Tree:
+        return Tree(self._step, self._block_of)
+
+    def _step(self, number: int) -> tuple[int, str]:
+        """The number of the directory of an entry, and its name in the escape form."""
+        row = self._table[number - 1]
+        return row.parent, escape(bytes(row.name)[: row.name_length])
+
+    def _block_of(self, number: int) -> int:
+        """The block of the header of a directory."""
+        return int(self._table[number - 1].header)
 
     @functools.cached_property
     def _parents(self) -> list[int]:

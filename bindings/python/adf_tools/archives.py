@@ -1,8 +1,9 @@
-"""Packed images: those of gzip and zip are unpacked by Python's own libraries, those of LHA by libarchive, and those of DMS by xdms, in a
-temporary folder. What is long is unpacked into a temporary file, which has no name, if it begins as a volume does or is a hard disk.
+"""Packed images: those of gzip and zip are unpacked by Python's own libraries, those of LHA by libarchive, which reads that form alone and
+no filter, and those of DMS by the program ancient (adf_tools/confined.py). A file is read in one form: that of its first bytes. What is
+long is unpacked into a temporary file, which has no name, if it begins as a volume does or is a hard disk.
 
-What an archive says of itself is not relied on: of anything else at most adf.LARGE bytes are unpacked, and of an archive so many images
-and bytes as MOST_IMAGES and MOST_UNPACKED say; the rest is told in one line.
+What an archive says of itself is not relied on: of anything else at most adf.LARGE bytes are unpacked, and of all of an archive together so
+many images, bytes and seconds as MOST_IMAGES, MOST_UNPACKED and MOST_SECONDS say; the rest is told in one line.
 """
 
 from __future__ import annotations
@@ -12,18 +13,16 @@ import gzip
 import importlib
 import io
 import logging
-import os
 import re
-import resource
-import signal
 import struct
-import subprocess
 import tempfile
+import time
 import zipfile
 import zlib
 from typing import IO, Any, Callable, Iterator, NamedTuple, Union
 
 import adf
+from adf_tools import confined
 from adf_tools.content import CHANGED, Content, FileContent
 from adf_tools.names import one_line
 
@@ -42,8 +41,9 @@ OTHERS = (
 )
 METHODS = (zipfile.ZIP_STORED, zipfile.ZIP_DEFLATED)
 ENCRYPTED = 1
-MOST_IMAGES, MOST_UNPACKED = 4096, 4 << 30
-MOST_DMS, MOST_SECONDS, MOST_MEMORY, MOST_LINE = 16 << 20, 60, 1 << 30, 200  # of a disk of DMS, and of xdms; of a line that it writes
+MOST_IMAGES, MOST_UNPACKED, MOST_SECONDS = 4096, 4 << 30, 120  # of all of an archive; the seconds are those of a processor
+MOST_DMS, DMS_SECONDS, DMS_MEMORY = 16 << 20, 60, 256 << 20  # of a disk of DMS, and of the program that unpacks it
+PACKED_DISK, DISK, UNPACKER = "disk.dms", "disk.adf", "ancient"
 NO_FILE, DAMAGED = "not a file", "damaged archive"
 FAULTS = (OSError, EOFError, ValueError, RuntimeError, MemoryError, struct.error, zlib.error, zipfile.BadZipFile)
 
@@ -73,6 +73,39 @@ class Member(NamedTuple):
     name: bytes
     open: Callable[[], Stream]
     fault: str = ""
+
+
+class Budget:
+    """What may still be unpacked of an archive, of all that is in it together: bytes, and seconds of a processor."""
+
+    def __init__(self) -> None:
+        self.most, self.left, self.seconds = MOST_UNPACKED, MOST_UNPACKED, float(MOST_SECONDS)
+
+    def is_spent(self) -> bool:
+        return self.left <= 0 or self.seconds <= 0
+
+    def spent(self, work: Callable[[], Any]) -> Any:
+        """What the work answers, whose time is taken from what is left. Unread if that is too much."""
+        begun = time.thread_time()
+        try:
+            return work()
+        finally:
+            self.seconds -= time.thread_time() - begun
+            if self.seconds < 0:
+                raise Unread(f"stopped after {MOST_SECONDS} seconds")
+
+    def read(self, packed: Stream, count: int) -> bytes:
+        """At most so many bytes of a stream."""
+        part: bytes = self.spent(lambda: packed.read(min(count, self.left + 1)))
+        self.left -= len(part)
+        if self.left < 0:
+            raise Unread(f"more than {self.most} bytes are not unpacked")
+        return part
+
+    def each(self, members: Iterator[Member]) -> Iterator[Member]:
+        """The members of an archive, one after the other."""
+        while (member := self.spent(lambda: next(members, None))) is not None:
+            yield member
 
 
 def unread(name: bytes, fault: str, number: int = 0, member: bytes | None = None) -> Image:
@@ -109,7 +142,12 @@ def form_named(path: bytes) -> str:
 
 
 def members_of(file: IO[bytes], form: str) -> Iterator[Member]:
-    """All that is packed in an open file of this form."""
+    """All that is packed in an open file of this form, if its first bytes say that form."""
+    file.seek(0)
+    begin = file.read(LONGEST_BEGIN)
+    file.seek(0)
+    if form_of(begin) != form:
+        raise Unread(DAMAGED)
     if form == GZIP:
         return iter([Member(b"", lambda: gzip.GzipFile(fileobj=file))])
     if form == DMS:
@@ -119,69 +157,69 @@ def members_of(file: IO[bytes], form: str) -> Iterator[Member]:
 
 def images_in_archive(file: IO[bytes], name: bytes, form: str) -> Iterator[Image]:
     """The images in a file of this form, by their names there; one without a name if it is named as an image, or begins as a volume does."""
+    budget = Budget()
     if form in (GZIP, DMS):
         (member,) = members_of(file, form)
         if form == DMS or name.lower().endswith(PACKED_IMAGES) or begins_as_volume(gzip.GzipFile(fileobj=file)):
             file.seek(0)
-            yield unpacked_member(member, name, 0, MOST_UNPACKED)
+            yield unpacked_member(member, name, 0, budget)
         return
-    whole = sum(is_image(member) for member in members_of(file, form))
+    whole = sum(map(is_image, budget.each(members_of(file, form))))
     seen: dict[bytes, int] = {}
-    left = MOST_UNPACKED
-    for place, member in enumerate(filter(is_image, members_of(file, form))):
-        if place == MOST_IMAGES or left <= 0:
-            yield unread(name, f"{whole - place} of {whole} images in it are left out")
-            return
+    for place, member in enumerate(filter(is_image, budget.each(members_of(file, form)))):
         seen[member.name] = seen.get(member.name, -1) + 1
-        image = unpacked_member(member, name + b"/" + member.name, seen[member.name], left)._replace(member=member.name)
-        left -= image.content.size
-        yield image
+        yield unpacked_member(member, name + b"/" + member.name, seen[member.name], budget)._replace(member=member.name)
+        left_out = whole - place - 1
+        if left_out and (place + 1 == MOST_IMAGES or budget.is_spent()):
+            yield unread(name, f"{left_out} of {whole} images in it are left out")
+            return
 
 
 def is_image(member: Member) -> bool:
     return member.name.lower().endswith(IMAGES)
 
 
-def unpacked_member(member: Member, name: bytes, number: int, most: int) -> Image:
+def unpacked_member(member: Member, name: bytes, number: int, budget: Budget) -> Image:
     """The image of a member, which is called so."""
     if member.fault:
         return unread(name, member.fault, number)
     try:
         with member.open() as packed:
-            return unpacked(packed, name, number, most)
+            return unpacked(packed, name, number, budget)
     except FAULTS as error:
         return unread(name, fault_of(error), number)
 
 
-def begin_of(packed: Stream) -> bytes:
-    """What is unpacked of a stream into memory."""
+def begin_of(read: Callable[[int], bytes]) -> bytes:
+    """What is read into memory of what is so read: as much as the largest image that is kept there has, and a byte."""
     room = io.BytesIO()
-    while part := packed.read(min(adf.LARGE + 1 - room.tell(), adf.PART)):
+    while part := read(min(adf.LARGE + 1 - room.tell(), adf.PART)):
         room.write(part)
     return room.getvalue()
 
 
-def unpacked(packed: Stream, name: bytes, number: int, most: int) -> Image:
-    """The image in an open archive, of which at most so many bytes are unpacked."""
-    content = begin_of(packed)
+def unpacked(packed: Stream, name: bytes, number: int, budget: Budget) -> Image:
+    """The image in an open archive, of which no more is unpacked than is left."""
+    content = begin_of(lambda count: budget.read(packed, count))
     image = Image(name, number, Content(content), len(content), "")
     if len(content) <= adf.LARGE:
         return image
     if content[: len(SIGN)] != SIGN and image.content.disk() is None:
         return unread(name, f"no volume, and more than {adf.LARGE} bytes: it is not unpacked", number)
-    return unpacked_long(packed, image, most)
+    return unpacked_long(packed, image, budget)
 
 
-def unpacked_long(packed: Stream, image: Image, most: int) -> Image:
+def unpacked_long(packed: Stream, image: Image, budget: Budget) -> Image:
     """A large image in a temporary file; its beginning is unpacked already."""
     file = tempfile.TemporaryFile()
-    size = file.write(image.content.begin())
-    while part := packed.read(adf.PART):
-        if size + len(part) > most:
-            file.close()
-            return unread(image.name, f"more than {most} bytes are not unpacked", image.number)
-        size += file.write(part)
-    file.flush()
+    try:
+        size = file.write(image.content.begin())
+        while part := budget.read(packed, adf.PART):
+            size += file.write(part)
+        file.flush()
+    except BaseException:
+        file.close()
+        raise
     return image._replace(content=FileContent(file, size), length=size)
 
 
@@ -258,16 +296,16 @@ def libarchive_module() -> Any:
 
 
 def members_of_lha(file: IO[bytes]) -> Iterator[Member]:
-    """All files of an LHA archive."""
+    """All files of an LHA archive. No filter is enabled: some are programs, which libarchive runs on what begins as theirs."""
     libarchive, warnings = libarchive_module(), Warnings()
     file.seek(0)
-    content = begin_of(file)
+    content = begin_of(file.read)
     if len(content) > adf.LARGE:
         raise Unread(f"an archive of more than {adf.LARGE} bytes is not unpacked")
     fault, logger = libarchive.exception.ArchiveError, logging.getLogger("libarchive")
     logger.addHandler(warnings)
     try:
-        with libarchive.memory_reader(content, format_name="lha") as archive:
+        with libarchive.memory_reader(content, format_name="lha", filter_name="none") as archive:
             for entry in archive:
                 if entry.isfile:
                     name = entry.pathname or b""
@@ -282,54 +320,26 @@ def members_of_lha(file: IO[bytes]) -> Iterator[Member]:
 # DMS
 
 
-def limit_xdms() -> None:
-    """What xdms may use, of what it writes, of memory and of a processor."""
-    for what, most in ((resource.RLIMIT_FSIZE, MOST_DMS), (resource.RLIMIT_AS, MOST_MEMORY), (resource.RLIMIT_CPU, MOST_SECONDS)):
-        _, own = resource.getrlimit(what)
-        least = most if own == resource.RLIM_INFINITY else min(most, own)
-        resource.setrlimit(what, (least, least))
-
-
-def run_xdms(folder: str) -> None:
-    """Unpacks disk.dms of a folder to disk.adf, or says why not."""
-    line = ["xdms", "u", "disk.dms", "+disk.adf"]
-    with open(os.path.join(folder, "errors"), "w+b") as errors:
-        try:
-            ran = subprocess.Popen(
-                line, cwd=folder, stdin=subprocess.DEVNULL, stdout=subprocess.DEVNULL, stderr=errors, start_new_session=True, preexec_fn=limit_xdms)
-        except (FileNotFoundError, PermissionError):
-            raise Unread("packed by DMS: xdms (Debian's) is needed to read it") from None
-        try:
-            status = ran.wait(MOST_SECONDS)
-        except subprocess.TimeoutExpired:
-            raise Unread(f"xdms: stopped after {MOST_SECONDS} seconds") from None
-        finally:
-            end_group(ran)
-        if status:
-            errors.seek(0)
-            said = errors.read(MOST_LINE).decode("utf-8", "replace").strip().splitlines()
-            raise Unread("xdms: " + (one_line(said[0]) if said else f"stopped by signal {-status}" if status < 0 else f"status {status}"))
-
-
-def end_group(ran: subprocess.Popen[bytes]) -> None:
-    """Ends a program, and those that it started."""
-    if ran.poll() is None:
-        os.killpg(ran.pid, signal.SIGKILL)
-        ran.wait()
-
-
 def disk_of_dms(file: IO[bytes]) -> Stream:
-    """The disk in a file of DMS, which xdms unpacks in a temporary folder."""
+    """The disk in a file of DMS, which a program unpacks."""
     file.seek(0)
-    content = file.read(MOST_DMS + 1)
+    content, program = file.read(MOST_DMS + 1), confined.path_of(UNPACKER)
     if len(content) > MOST_DMS:
         raise Unread(f"DMS of more than {MOST_DMS} bytes is not unpacked")
-    with tempfile.TemporaryDirectory() as folder:
-        with open(os.path.join(folder, "disk.dms"), "xb") as packed:
-            packed.write(content)
-        run_xdms(folder)
-        try:
-            with open(os.open(os.path.join(folder, "disk.adf"), os.O_RDONLY | os.O_NOFOLLOW | os.O_NONBLOCK | os.O_CLOEXEC), "rb") as disk:
-                return io.BytesIO(disk.read(MOST_DMS))
-        except FileNotFoundError:
-            raise Unread("xdms: it wrote no disk") from None
+    if program is None:
+        raise Unread(f"packed by DMS: {UNPACKER} (Debian's) is needed to read it")
+    limits = confined.Limits(MOST_DMS, DMS_MEMORY, DMS_SECONDS)
+    ran = confined.run([program, "decompress", PACKED_DISK, DISK], PACKED_DISK, content, DISK, limits)
+    if ran.status != 0 or ran.written is None:
+        raise Unread(f"{UNPACKER}: {why_not_unpacked(ran)}")
+    return io.BytesIO(ran.written)
+
+
+def why_not_unpacked(ran: confined.Ran) -> str:
+    """Why a program wrote no disk: what it says, else how it ended."""
+    said = ran.errors.decode("utf-8", "replace").strip().splitlines()
+    if ran.status is None:
+        return f"stopped after {DMS_SECONDS} seconds"
+    if ran.status == 0:
+        return "it wrote no disk"
+    return one_line(said[0]) if said else f"stopped by signal {-ran.status}" if ran.status < 0 else f"status {ran.status}"

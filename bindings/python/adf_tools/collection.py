@@ -9,7 +9,8 @@ from collections import Counter
 from typing import BinaryIO, Callable, Container, Iterable, Iterator
 
 from adf_tools.archives import (
-    DMS, ENDINGS, FAULTS, GZIP, IMAGES, NO_FILE, Image, begins_as_volume, fault_of, form_named, images_in_archive, is_image, members_of, unforeseen, unread)
+    DMS, ENDINGS, FAULTS, GZIP, IMAGES, NO_FILE, Budget, Image, begins_as_volume, fault_of, form_named, images_in_archive, is_image, members_of,
+    unforeseen, unread)
 from adf_tools.content import content_in
 from adf_tools.names import host_letters
 from adf_tools.program import WORKING
@@ -136,7 +137,8 @@ def kinds_passed(path: bytes, has_image: bool) -> Counter[str]:
     if form:
         try:
             with opened(path) as file:
-                kinds.update(kind_of(member.name.rpartition(b"/")[2]) for member in members_of(file, form) if not is_image(member))
+                members = Budget().each(members_of(file, form))
+                kinds.update(kind_of(member.name.rpartition(b"/")[2]) for member in members if not is_image(member))
         except Exception as error:  # which is told of the file
             if sys.flags.dev_mode and not isinstance(error, FAULTS):
                 raise

@@ -5,14 +5,14 @@ from __future__ import annotations
 import argparse
 import os
 import sys
-from typing import Dict, Iterator, List, NamedTuple, Optional
+from typing import Dict, Iterable, Iterator, List, NamedTuple, Optional, Tuple
 
 import adf
 from adf_tools.collection import Image, images_in
 from adf_tools.names import letters
 from adf_tools.program import FAILED, REFUSED, command_line, host_text, stop
 from adf_tools.standing import Source, Standing, Stood
-from adf_tools.volumes import file_sum, path_of
+from adf_tools.volumes import file_sum, path_of, path_sums
 
 
 class Thing(NamedTuple):
@@ -26,12 +26,22 @@ class Thing(NamedTuple):
 
 
 class Side(NamedTuple):
-    """One of the two images: its bytes, its verdict and label, and its entries by their paths."""
+    """One of the two images: its bytes, its verdict and label, and its entries, each with the text of its path, by the sums of their paths."""
 
     image: bytes
     verdict: str
     label: str
-    things: Dict[str, Thing]
+    things: Dict[bytes, Tuple[str, Thing]]
+
+    def path(self, which: bytes) -> str:
+        return self.things[which][0]
+
+    def thing(self, which: bytes) -> Thing:
+        return self.things[which][1]
+
+    def in_order(self, which: Iterable[bytes]) -> List[bytes]:
+        """These, in the order of their paths."""
+        return sorted(which, key=self.path)
 
 
 def image_at(path: bytes) -> bytes:
@@ -88,33 +98,41 @@ def side_of(image: bytes) -> Side:
         volume = adf.Volume(image)
     except adf.Refused as refused:
         standing = Standing(image, refused)
-        things = {path_of(stood.source): thing_of(stood.source, stood_sum(stood)) for stood in reversed(standing.entries)}
-        return Side(image, str(refused), letters(standing.survey.label), things)
-    sums = ((entry, file_sum(entry) if entry.is_file else "") for entry in volume.entries)
-    return Side(image, "ok", letters(volume.label), {letters(entry.path): thing_of(entry, digest) for entry, digest in sums})
+        return Side(image, str(refused), letters(standing.survey.label), things_of(standing))
+    entries = list(volume.entries)
+    sums, digests = path_sums(entries), ((entry, file_sum(entry) if entry.is_file else "") for entry in entries)
+    return Side(image, "ok", letters(volume.label), {sums[entry.number]: (path_of(entry), thing_of(entry, digest)) for entry, digest in digests})
 
 
-def same_elsewhere(gone: List[str], new: List[str], one: Side, other: Side) -> Dict[str, str]:
-    """The files that stand under another name: the old name, and the new one."""
-    waiting: Dict[str, List[str]] = {}
+def things_of(standing: Standing) -> Dict[bytes, Tuple[str, Thing]]:
+    """What stands of a refused image; of several things with one path the first."""
+    kept, found = path_sums(standing.volume.entries if standing.volume else ()), path_sums(standing.survey.entries)
+    sources = ((stood, (kept if stood.is_kept else found)[stood.source.number]) for stood in reversed(standing.entries))
+    return {path: (path_of(stood.source), thing_of(stood.source, stood_sum(stood))) for stood, path in sources}
+
+
+def same_elsewhere(gone: List[bytes], new: List[bytes], one: Side, other: Side) -> Dict[bytes, bytes]:
+    """The files that stand under another name, by the sums of their paths: the old one, and the new one."""
+    waiting: Dict[str, List[bytes]] = {}
     for path in reversed(new):
-        if other.things[path].kind == "file":
-            waiting.setdefault(other.things[path].bytes, []).append(path)
-    return {path: waiting[one.things[path].bytes].pop() for path in gone if one.things[path].kind == "file" and waiting.get(one.things[path].bytes)}
+        if other.thing(path).kind == "file":
+            waiting.setdefault(other.thing(path).bytes, []).append(path)
+    return {path: waiting[one.thing(path).bytes].pop() for path in gone if one.thing(path).kind == "file" and waiting.get(one.thing(path).bytes)}
 
 
 def by_path(one: Side, other: Side) -> Iterator[str]:
     """What differs in the entries."""
-    gone, new = sorted(set(one.things) - set(other.things)), sorted(set(other.things) - set(one.things))
+    gone, new = one.in_order(set(one.things) - set(other.things)), other.in_order(set(other.things) - set(one.things))
     moved = same_elsewhere(gone, new, one, other)
-    yield from (f"removed\t{path}" for path in gone if path not in moved)
-    yield from (f"added\t{path}" for path in new if path not in moved.values())
-    yield from (f"renamed\t{path}\t{moved[path]}" for path in gone if path in moved)
-    for path in sorted(set(one.things) & set(other.things)):
-        pair = one.things[path], other.things[path]
+    come = set(moved.values())
+    yield from (f"removed\t{one.path(path)}" for path in gone if path not in moved)
+    yield from (f"added\t{other.path(path)}" for path in new if path not in come)
+    yield from (f"renamed\t{one.path(path)}\t{other.path(moved[path])}" for path in gone if path in moved)
+    for path in one.in_order(set(one.things) & set(other.things)):
+        pair = one.thing(path), other.thing(path)
         differing = [name for name, first, second in zip(Thing._fields, *pair) if first != second]
         if differing:
-            yield f"changed\t{path}\t{', '.join(differing)}"
+            yield f"changed\t{one.path(path)}\t{', '.join(differing)}"
 
 
 def by_block(one: bytes, other: bytes) -> Iterator[str]:

@@ -16,8 +16,8 @@ from typing import IO, BinaryIO, Iterator, NamedTuple, Optional, Sequence, Tuple
 import adf
 from adf._arguments import Mapped, mapped
 from adf_tools.advice import length_that_fits
-from adf_tools.archives import FAULTS, LONGEST_BEGIN, MOST_UNPACKED, fault_of, foreign, form_of, unpacked
-from adf_tools.members import NotChosen, opened_member, place_of
+from adf_tools.archives import FAULTS, LONGEST_BEGIN, fault_of, foreign, form_of
+from adf_tools.members import NotChosen, image_of_member, place_of
 from adf_tools.names import letters
 from adf_tools.processes import accept_memory
 from adf_tools.program import FAILED, REFUSED, host_text, open_input, stop, tell
@@ -152,8 +152,7 @@ def unpacked_from(file: IO[bytes], form: str, path: str, wanted: bytes) -> Conte
     """The bytes of the one image that is wanted of a packed file."""
     name = name_of(path)
     try:
-        with opened_member(file, form, wanted) as packed:
-            image = unpacked(packed, os.fsencode(path), 0, MOST_UNPACKED)
+        image = image_of_member(file, form, wanted, os.fsencode(path))
     except NotChosen as error:
         stop(REFUSED, f"{name}: {error}")
     except FAULTS as error:

@@ -3,7 +3,7 @@ nothing. The rescue that the programs show has no links: they are those of the s
 
 from __future__ import annotations
 
-from typing import Dict, Generator, Iterator, List, NamedTuple, Optional, Tuple, Union
+from typing import Dict, Generator, Iterator, List, Mapping, NamedTuple, Optional, Tuple, Union
 
 import adf
 from adf._layout import ALL_CAPITALS
@@ -123,13 +123,17 @@ def is_led(state: str) -> bool:
     return state.startswith(("to ", "path "))
 
 
-def left_out_with(volume: adf.Volume, ways: List[Way]) -> List[str]:
+NOTHING_SHORT: Mapping[int, str] = {}
+
+
+def left_out_with(volume: adf.Volume, ways: List[Way], short: Mapping[int, str] = NOTHING_SHORT) -> List[str]:
     """The lines for what is left out of a volume that is shown with its links: a link that leads to something is not, and another one has
-    why behind it."""
+    why behind it; a damaged file has what is said of its header, if there is something."""
     told = {way.link.entry.header: way for way in ways}
     lines = []
     for each in volume.left_out:
         way = told.get(each.first) if each.reason == adf.Reason.LINK else None
+        why = way.why if way else short.get(each.first, "") if each.reason == adf.Reason.DAMAGED else ""
         if way is None or way.why:
-            lines.append(f"{each}: {way.why}" if way else str(each))
+            lines.append(f"{each}: {why}" if why else str(each))
     return lines

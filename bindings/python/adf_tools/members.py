@@ -2,12 +2,11 @@
 
 from __future__ import annotations
 
-import contextlib
 import itertools
 import os
-from typing import IO, Iterator, List, Tuple
+from typing import IO, List, Tuple
 
-from adf_tools.archives import Member, Stream, Unread, is_image, members_of
+from adf_tools.archives import Budget, Image, Member, Unread, is_image, members_of, unpacked
 from adf_tools.names import host_letters
 
 MOST_MEMBERS, MOST_LISTED = 65536, 20  # of an archive; of those that are to be chosen from
@@ -43,13 +42,13 @@ def chosen(members: List[Member], wanted: bytes) -> int:
     raise NotChosen(f"{len(fit)} images in it, give one as FILE/NAME: {', '.join(listed)}{more}")
 
 
-@contextlib.contextmanager
-def opened_member(file: IO[bytes], form: str, wanted: bytes) -> Iterator[Stream]:
-    """The one image that is wanted of an open packed file, to be read."""
-    place = chosen(list(itertools.islice(members_of(file, form), MOST_MEMBERS + 1)), wanted)
+def image_of_member(file: IO[bytes], form: str, wanted: bytes, name: bytes) -> Image:
+    """The one image that is wanted of an open packed file, which is called so."""
+    budget = Budget()
+    place = chosen(list(itertools.islice(budget.each(members_of(file, form)), MOST_MEMBERS + 1)), wanted)
     members = members_of(file, form)  # the archive is open as long as this is kept
-    member = next(itertools.islice(members, place, None))
+    member = next(itertools.islice(budget.each(members), place, None))
     if member.fault:
         raise Unread(member.fault)
     with member.open() as packed:
-        yield packed
+        return unpacked(packed, name, 0, budget)

@@ -27,7 +27,8 @@ from adf_tools.trees import Identity
 
 HERE = os.path.dirname(os.path.abspath(__file__))
 READING = (  # the modules by which files are read
-    "advice", "archives", "collection", "content", "deletions", "icons", "links", "names", "picture", "reader", "standing", "sums", "volumes")  # fmt: skip
+    "advice", "archives", "collection", "confined", "content", "deletions", "icons", "links", "names", "picture", "reader", "standing", "sums",
+    "volumes")  # fmt: skip
 LEAST_MEMORY, PACKED = 256 << 20, 8  # what a process takes, and how small an archive packs an image
 FILES, WEIGHT, SECONDS = 100, 16 << 20, 2.0  # of a transaction
 

@@ -5,10 +5,12 @@ from __future__ import annotations
 
 import functools
 import struct
-from typing import Dict, Iterator, List, NamedTuple, Optional, Sequence, Set, Tuple, Union
+from typing import Dict, Iterable, Iterator, List, NamedTuple, Optional, Sequence, Set, Tuple, Union
 
 import adf
+from adf import _texts
 from adf._arguments import Mapped
+from adf._paths import BLOCK_FRONT, is_long
 from adf_tools.advice import length_that_fits
 
 Source = Union[adf.Entry, adf.Found]
@@ -49,6 +51,36 @@ def rescued(image: bytes, blocks: Optional[int]) -> Tuple[Optional[adf.Rescued],
     return volume, volume.survey
 
 
+class Names:
+    """Which entries of a rescue the paths of its lines mean: by the names of all entries, and by the headers of those that are known."""
+
+    def __init__(self, entries: Iterable[adf.Entry], headers: Dict[int, int]) -> None:
+        self.named = {(entry.parent, entry.raw_name): entry.number for entry in entries}
+        self.headers = dict(headers)
+        self.called: Dict[str, List[int]] = {"": [0]}  # directories by their paths as the lines tell them
+
+    def numbers(self, path: str, header: int) -> Iterator[int]:
+        """What has a path may be: what is called lost- and its block, or has its name, in a directory with the path before that."""
+        above, _, name = path.rpartition("/")
+        directories = self.called.get(above) or self._led_to(above)
+        places = ((directory, last) for last in (b"lost-%d" % header, _texts.raw_name(name)) for directory in directories)
+        return (self.named[place] for place in places if place in self.named)
+
+    def add(self, path: str, header: int, number: int) -> None:
+        """An entry is what has this path and this header."""
+        self.called.setdefault(path, []).append(number)
+        self.headers.setdefault(header, number)
+
+    def _led_to(self, path: str) -> List[int]:
+        """The directory that a path leads to, from the root or from a block on; none if there is none."""
+        names = path.split("/")
+        block = names.pop(0)[len(BLOCK_FRONT) :] if is_long(path) else ""
+        number = self.headers.get(int(block)) if block.isdecimal() else 0
+        for name in names:
+            number = None if number is None else self.named.get((number, _texts.raw_name(name)))
+        return [] if number is None else [number]
+
+
 class Standing:
     """What stands of an image that is refused: its survey, its rescue, if anything stands, what that leaves out, and all entries. It is read
     as the programs read it; where then nothing stands, at the length that fits."""
@@ -85,16 +117,14 @@ class Standing:
         """The header and the mark of each entry that only the rescue finds. An entry whose name is used already, or is none, is called lost-
         and its block."""
         found: Dict[int, Tuple[int, str]] = {}
-        waiting = {entry.raw_path: entry for entry in rest}
-        called: Dict[bytes, List[bytes]] = {b"": [b""]}  # the paths of directories, by those that the lines tell
-        for each in self.left_out:
+        waiting, names = {entry.number for entry in rest}, Names(self.volume.entries if self.volume and rest else (), seen)
+        for each in self.left_out if waiting else ():
             if each.is_kept and each.first not in seen:
-                above, slash, name = each.raw_path.rpartition(b"/")
-                names = [front + slash + last for last in (b"lost-%d" % each.first, name) for front in called.get(above, [above])]
-                entry = next((waiting.pop(path) for path in names if path in waiting), None)
-                if entry is not None:
-                    called.setdefault(each.raw_path, []).append(entry.raw_path)
-                    found[entry.number] = each.first, each.why
+                number = next((number for number in names.numbers(each.path, each.first) if number in waiting), None)
+                if number is not None:
+                    waiting.discard(number)
+                    names.add(each.path, each.first, number)
+                    found[number] = each.first, each.why
         return found
 
     @property

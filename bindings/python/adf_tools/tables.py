@@ -6,6 +6,7 @@ import sqlite3
 from typing import Any, BinaryIO, Callable, Iterable, Sequence
 
 import adf
+from adf._paths import is_long
 from adf_tools.names import CONTROL, bytes_of, one_line
 
 IMAGE_QUERY = """SELECT name AS image, images.bytes, images.sha256, verdict, kind, blocks, used, free, dirs, images.files, label, root, altered, created,
@@ -17,7 +18,7 @@ CASE WHEN file IS NULL THEN 'no image' ELSE 'no image, in an archive' END AS ver
 FROM passed GROUP BY kind, verdict ORDER BY 2, 1"""
 ENTRY_QUERY = """SELECT images.name AS image, entries.kind, size, printf('%08x', protection) AS protection, date, header, entries.sha256,
 path, comment, state FROM entries JOIN images ON images.id = image ORDER BY images.name, images.number, entries.id"""
-NAMES, TEXTS = ("image", "file", "form", "known_as"), ("label", "path", "comment")
+NAMES, PATH, TEXTS = ("image", "file", "form", "known_as"), "path", ("label", "comment")
 
 
 def escaped_name(name: str) -> str:
@@ -33,10 +34,16 @@ def escaped_text(text: str) -> str:
         return escaped_name(text)
 
 
+def escaped_path(text: str) -> str:
+    """The escape form of a path of an Amiga; of a long one that of its names, behind the block."""
+    front, slash, names = text.partition("/") if is_long(text) else ("", "", text)
+    return front + slash + escaped_text(names)
+
+
 def form_of(column: str, is_escaped: bool) -> Callable[[Any], str]:
     """How the values of a column are written."""
-    if is_escaped and column in (*NAMES, *TEXTS):
-        change = escaped_name if column in NAMES else escaped_text
+    if is_escaped and column in (*NAMES, PATH, *TEXTS):
+        change = escaped_name if column in NAMES else escaped_path if column == PATH else escaped_text
         return lambda value: "" if value is None else change(value)
     return lambda value: "" if value is None else one_line(value)
 

@@ -5,7 +5,7 @@ from __future__ import annotations
 import contextlib
 import errno
 import os
-from typing import BinaryIO, Iterator, Optional, Tuple
+from typing import BinaryIO, Callable, Iterator, Optional, Tuple, Union
 
 FOLDER = os.O_RDONLY | os.O_DIRECTORY | os.O_CLOEXEC
 FILE = os.O_RDONLY | os.O_NOFOLLOW | os.O_NONBLOCK | os.O_NOCTTY | os.O_CLOEXEC
@@ -15,12 +15,12 @@ Identity = Tuple[int, int]
 
 
 @contextlib.contextmanager
-def named(path: str | bytes) -> Iterator[None]:
-    """Errors of files in here are those of the file with this path."""
+def named(path: Union[str, bytes, Callable[[], bytes]]) -> Iterator[None]:
+    """Errors of files in here are those of the file with this path, which may be made for an error alone."""
     try:
         yield
     except OSError as error:
-        error.filename = path
+        error.filename = path() if callable(path) else path
         raise
 
 
@@ -57,24 +57,24 @@ class Place:
 
     def names(self) -> list[bytes]:
         """The names of all that is here."""
-        with named(self.path):
+        with named(lambda: self.path):
             return list(map(os.fsencode, os.listdir(self.fd)))
 
     def status(self, name: bytes) -> os.stat_result:
         """What the system says of a name here; a link is not followed."""
-        with named(self.path_of(name)):
+        with named(lambda: self.path_of(name)):
             return os.stat(name, dir_fd=self.fd, follow_symlinks=False)
 
     def open(self, name: bytes) -> BinaryIO:
         """A file here, to be read. A link is not followed, and a pipe not waited for."""
-        with named(self.path_of(name)):
+        with named(lambda: self.path_of(name)):
             return os.fdopen(os.open(name, FILE, dir_fd=self.fd), "rb")
 
     def attribute(self, name: bytes, attribute: str) -> Optional[bytes]:
         """An extended attribute of a file or folder here, if it has that; a link is not followed."""
         if not hasattr(os, "getxattr"):
             return None
-        with named(self.path_of(name)):
+        with named(lambda: self.path_of(name)):
             fd = os.open(name, FILE, dir_fd=self.fd)
             try:
                 return os.getxattr(fd, attribute)
@@ -87,22 +87,22 @@ class Place:
 
     def create(self, name: bytes) -> BinaryIO:
         """A new file here, to be written."""
-        with named(self.path_of(name)):
+        with named(lambda: self.path_of(name)):
             return os.fdopen(os.open(name, NEW_FILE, 0o666, dir_fd=self.fd), "wb")
 
     def link(self, name: bytes, target: bytes) -> None:
         """A new symbolic link here."""
-        with named(self.path_of(name)):
+        with named(lambda: self.path_of(name)):
             os.symlink(target, name, dir_fd=self.fd)
 
     def make(self, name: bytes) -> None:
         """Makes a new folder here."""
-        with named(self.path_of(name)):
+        with named(lambda: self.path_of(name)):
             os.mkdir(name, dir_fd=self.fd)
 
     def go_in(self, name: bytes) -> None:
         """Goes into the folder with this name."""
-        with named(self.path_of(name)):
+        with named(lambda: self.path_of(name)):
             inner = os.open(name, FOLDER | os.O_NOFOLLOW, dir_fd=self.fd)
         self._above.append(identity(self.fd))
         self._names.append(name)
@@ -110,7 +110,7 @@ class Place:
 
     def go_out(self) -> bytes:
         """Goes out of the folder, to where it was gone in, and gives its name. A folder that was moved in the meantime is an error."""
-        with named(self.path):
+        with named(lambda: self.path):
             self._be_in(os.open("..", FOLDER, dir_fd=self.fd))
             if identity(self.fd) != self._above.pop():
                 raise OSError(errno.ESTALE, "The folder was moved")

@@ -12,6 +12,7 @@ import os
 from typing import Dict, Iterable, Iterator, List, NamedTuple, Optional, Sequence, Set, Tuple
 
 import adf
+from adf._paths import Paths, Tree, is_long
 from adf_tools import uaem
 from adf_tools.given import Given, add_image, add_strict, given
 from adf_tools.links import Way, left_out_with, ways_of
@@ -23,6 +24,7 @@ from adf_tools.trees import Place, named
 DAYS_TO_1978 = 2922
 DAMAGED, GAPS, BESIDE = b".damaged", b".gaps", os.fsencode(uaem.ENDING)
 LONGEST_PATH = 4095
+MOST_TIMES = 16  # so often the bytes of the image what is left of damaged files may have, with zeros
 OF_ALL = (errno.ENOSPC, errno.EDQUOT, errno.EROFS, errno.EIO, errno.ENOMEM, errno.EMFILE, errno.ENFILE)  # errors that each file would have
 
 
@@ -77,23 +79,29 @@ NOTHING_MORE = Additions()
 
 class Unpacker:
     """Writes the tree of a volume into a folder, by the form of names, and whether files NAME.uaem are written. An error of the host
-    costs one file, or one directory with what is in it; `failed` has all of them."""
+    costs one file, or one directory with what is in it; `failed` has all of them. `short` says, by their headers, what of the damaged files
+    that are written is not, of the size that they state."""
 
     def __init__(self, volume: adf.Volume, form: Form, writes_uaem: bool, more: Additions = NOTHING_MORE) -> None:
         self.entries, self.form, self.endings = volume.entries, form, (b"", BESIDE) if writes_uaem else (b"",)
         self.is_followed = more.is_followed
+        self.folder, self.paths, self.tree = b"", Paths(), Tree(self.step, volume._block_of)
         self.failed: List[OSError] = []
+        self.short: Dict[int, str] = {}
+        self.room = MOST_TIMES * len(volume.survey.image) if isinstance(volume, adf.Rescued) and more.damaged else 0
         self.inside = {number: list(each) for number, each in itertools.groupby(volume.entries, lambda entry: entry.parent)}
         self.ways: Dict[int, List[Way]] = {}
         for way in more.ways:
             if way.target is not None:
                 self.ways.setdefault(way.directory, []).append(way)
         self.damaged: Dict[int, List[adf.Found]] = {}
+        directories = directories_of(volume) if more.damaged else {}
         for found in more.damaged:
-            self.damaged.setdefault(directory_of(volume, found), []).append(found)
+            self.damaged.setdefault(directories.get(found.parent, 0), []).append(found)
 
     def write(self, folder: str) -> None:
         """Writes all directories and files. A directory gets its date when all that is in it is written."""
+        self.folder = os.fsencode(folder).rstrip(b"/")
         with Place(folder, is_link_followed=False) as place:
             self.write_beside(place, 0)
             waiting = [self.entries_in(0)]
@@ -108,15 +116,25 @@ class Unpacker:
                     continue
                 waiting.pop()
                 if above:
-                    with self.kept(place.path):
-                        set_date(place.fd, above.pop().date)
+                    entry = above.pop()
+                    with self.kept(entry.parent, self.host(entry)):
+                        set_date(place.fd, entry.date)
                     place.go_out()
 
+    def path_of(self, directory: int, name: bytes) -> bytes:
+        """The path of what has this name in a directory; a long one is written from a block on, as all texts of paths."""
+        return self.folder + b"/" + self.paths.text_in(self.tree, directory, name.decode("latin-1")).encode("latin-1")
+
+    def step(self, number: int) -> Tuple[int, str]:
+        """The number of the directory of an entry, and the bytes of its name on the host."""
+        entry = self.entries[number - 1]
+        return entry.parent, self.host(entry).decode("latin-1")
+
     @contextlib.contextmanager
-    def kept(self, path: bytes) -> Iterator[None]:
-        """An error in here is kept as one of this path, unless all other files would have it too."""
+    def kept(self, directory: int, name: bytes) -> Iterator[None]:
+        """An error in here is kept as one of what has this name in a directory, unless all other files would have it too."""
         try:
-            with named(path):
+            with named(lambda: self.path_of(directory, name)):
                 yield
         except OSError as error:
             if error.errno in OF_ALL:
@@ -131,7 +149,7 @@ class Unpacker:
         """The name of an entry on the host; those of a directory of a volume all differ."""
         return host_name(entry.raw_name, self.form, self.endings)
 
-    def write_file(self, place: Place, name: bytes, content: Content) -> None:
+    def write_file(self, place: Place, directory: int, name: bytes, content: Content) -> None:
         """Writes a new file; nothing is left of one that cannot be written. It stays if its date is refused."""
         with place.create(name) as file:
             try:
@@ -143,20 +161,20 @@ class Unpacker:
                 os.unlink(name, dir_fd=place.fd)
                 raise
             if content.date:
-                with self.kept(place.path_of(name)):
+                with self.kept(directory, name):
                     set_date(file.fileno(), content.date)
 
     def write_entry(self, place: Place, entry: adf.Entry) -> bool:
         """Writes a file or a directory, and beside it what the host has no room for. Goes into a directory, and says whether it did."""
         name = self.host(entry)
-        with self.kept(place.path_of(name)):
+        with self.kept(entry.parent, name):
             if entry.is_file:
-                self.write_file(place, name, content_of(entry))
+                self.write_file(place, entry.parent, name, content_of(entry))
             else:
                 place.make(name)
             for beside in (name + ending for ending in self.endings[1:]):
-                with self.kept(place.path_of(beside)):
-                    self.write_file(place, beside, text(uaem.line_of(entry)))
+                with self.kept(entry.parent, beside):
+                    self.write_file(place, entry.parent, beside, text(uaem.line_of(entry)))
             if not entry.is_file:
                 place.go_in(name)
                 return True
@@ -175,19 +193,19 @@ class Unpacker:
             found, target = way.link.entry, way.target or 0
             name = host_name(found.raw_name, self.form, self.endings, taken, found.header)
             taken.update(name + ending for ending in self.endings)
-            with self.kept(place.path_of(name)):
+            with self.kept(number, name):
                 if self.is_followed and target and self.entries[target - 1].is_file:
-                    self.write_copy(place, name, self.entries[target - 1])
+                    self.write_copy(place, number, name, self.entries[target - 1])
                     continue
                 place.link(name, self.path_between(number, target))
                 if found.date.civil:
                     os.utime(name, ns=times_of(found.date), dir_fd=place.fd, follow_symlinks=False)
 
-    def write_copy(self, place: Place, name: bytes, entry: adf.Entry) -> None:
+    def write_copy(self, place: Place, directory: int, name: bytes, entry: adf.Entry) -> None:
         """Writes the file that a link leads to in its place."""
-        self.write_file(place, name, content_of(entry))
+        self.write_file(place, directory, name, content_of(entry))
         for beside in (name + ending for ending in self.endings[1:]):
-            self.write_file(place, beside, text(uaem.line_of(entry)))
+            self.write_file(place, directory, beside, text(uaem.line_of(entry)))
 
     def path_between(self, directory: int, target: int) -> bytes:
         """The path on the host from a directory to an entry or the root, which leads up no further than both have in common. An error if it
@@ -205,29 +223,38 @@ class Unpacker:
         return b"/".join([b".."] * ups + behind[::-1]) or b"."
 
     def write_damaged(self, place: Place, number: int, taken: Set[bytes]) -> None:
-        """Writes what is left of the damaged files of a directory, with zeros for what is lost, and beside it a line for each gap."""
+        """Writes what is left of the damaged files of a directory, with zeros for what is lost up to the last block that is the file's own,
+        and beside it a line for each gap."""
         for found in self.damaged.get(number, ()):
             try:
-                left, lost = found.remains()
+                left, lost = found.remains() if self.room >= 0 else (b"", [])
             except adf.NotAFile:  # a link
                 continue
+            self.room -= len(left)
+            if self.room < 0:
+                self.short[found.header] = "not written, since all damaged files together have too many bytes"
+                continue
+            if len(left) < found.size:
+                self.short[found.header] = f"{len(left)} of {found.size} bytes are written"
             name = host_name(found.raw_name, self.form, (DAMAGED, GAPS), taken, found.header)
             lines = b"".join(b"bytes %d to %d: no data\n" % (gap.start, gap.stop - 1) for gap in lost)
             contents = ((DAMAGED, Content(len(left), runs(left, lost), found.date)), (GAPS, text(lines)))
             for path, content in ((name + ending, content) for ending, content in contents):
                 taken.add(path)
-                with self.kept(place.path_of(path)):
-                    self.write_file(place, path, content)
+                with self.kept(number, path):
+                    self.write_file(place, number, path, content)
 
 
-def directory_of(volume: adf.Volume, found: adf.Found) -> int:
-    """The number of the directory of a volume that a found entry is in; of the next one above it that the volume has."""
-    while isinstance(volume, adf.Rescued) and found.parent:
-        found = volume.survey.entries[found.parent - 1]
-        kept = volume.entry_of(found)
-        if kept:
-            return kept.number
-    return 0
+def directories_of(volume: adf.Volume) -> Dict[int, int]:
+    """The numbers in a volume of the directories that are found, by their numbers there; of one that it lacks that of the next one above."""
+    numbers: Dict[int, int] = {}
+    if not isinstance(volume, adf.Rescued):
+        return numbers
+    for found in volume.survey.entries:
+        if not found.is_file:
+            kept = volume.entry_of(found)
+            numbers[found.number] = kept.number if kept else numbers.get(found.parent, 0)
+    return numbers
 
 
 def damaged_files(volume: adf.Volume) -> List[adf.Found]:
@@ -253,6 +280,15 @@ def boot_file(path: Optional[str], image: Given) -> Iterator[None]:
         yield
 
 
+def line_of(error: OSError, folder: str) -> str:
+    """The line of an error in a folder. No name that is written there has a `\\` with `block` behind it."""
+    top, path = os.fsencode(folder).rstrip(b"/") + b"/", os.fsencode(error.filename or b"")
+    front, _, names = path[len(top) :].partition(b"/")
+    if not path.startswith(top) or not is_long(front.decode("latin-1")):
+        return why(error)[1]
+    return f"{host_text(top)}{front.decode('ascii')}/{host_text(names)}: {error.strerror or error}"
+
+
 def work(words: argparse.Namespace) -> int:
     image = given(words)
     volume = image.volume(words.strict)
@@ -263,10 +299,11 @@ def work(words: argparse.Namespace) -> int:
     unpacker = Unpacker(volume, form, words.uaem, Additions(ways, words.follow, damaged_files(volume) if words.damaged else ()))
     with boot_file(words.boot, image), new_folder(words.folder) as folder:
         unpacker.write(folder)
-    status = image.tell_lines("adf-unpack", left_out_with(volume, ways))
+    status = image.tell_lines("adf-unpack", left_out_with(volume, ways, unpacker.short))
     for error in unpacker.failed:
-        tell("adf-unpack", why(moved_error(error, folder, words.folder))[1])
-    return FAILED if unpacker.failed else status
+        tell("adf-unpack", line_of(moved_error(error, folder, words.folder), words.folder))
+    is_refused = all(error.errno == errno.ENAMETOOLONG for error in unpacker.failed)
+    return status if not unpacker.failed else REFUSED if is_refused else FAILED
 
 
 def main() -> None:

@@ -5,7 +5,6 @@ from __future__ import annotations
 import functools
 import hashlib
 import itertools
-import operator
 import struct
 import zlib
 from typing import Any, Dict, Iterable, Iterator, List, NamedTuple, Optional, Sequence, Tuple
@@ -94,8 +93,21 @@ def date_text(date: adf.Date) -> str:
 
 
 def path_of(entry: Source) -> str:
-    """The path of an entry in letters; of one that is found as adf-survey spells it."""
-    return letters(entry.path) if isinstance(entry, adf.Entry) else spelled_letters(entry.path)
+    """The text of the path of an entry in letters; of one that is found as adf-survey spells it."""
+    return spelled_letters(entry.path_text if isinstance(entry, adf.Entry) else entry.path)
+
+
+def name_of(entry: Source) -> str:
+    """The name of an entry in letters; of one that is found as adf-survey spells it."""
+    return letters(entry.name) if isinstance(entry, adf.Entry) else spelled_letters(entry.name)
+
+
+def path_sums(entries: Iterable[Source]) -> Dict[int, bytes]:
+    """A sum of the names that lead to each entry, by its number. Each is behind its directory."""
+    sums = {0: b""}
+    for entry in entries:
+        sums[entry.number] = hashlib.sha256(sums[entry.parent] + b"/" + name_of(entry).encode("utf-8")).digest()
+    return sums
 
 
 def entry_row(entry: Source, header: int, state: str, digest: Optional[str]) -> Tuple[Any, ...]:
@@ -125,11 +137,12 @@ def dates_of(volume: adf.Volume | adf.Survey) -> Columns:
     return {"root": str(volume.date), "altered": str(volume.altered), "created": str(volume.created)}
 
 
-def tree_sum(volume: adf.Volume, rows: Rows) -> str:
-    """A sum of all that a volume is but its dates, its free blocks, and which blocks hold what."""
-    digest = hashlib.sha256(volume.boot.raw)
+def tree_sum(volume: adf.Volume, entries: Sequence[adf.Entry], rows: Rows) -> str:
+    """A sum of all that a volume is but its dates, its free blocks, and which blocks hold what, by the rows of its entries."""
+    digest, sums = hashlib.sha256(volume.boot.raw), path_sums(entries)
     digest.update(repr((volume.kind, volume.blocks, volume.label)).encode())
-    for kind, path, size, protection, _, comment, _, _, content in sorted(rows, key=operator.itemgetter(1)):
+    for path, row in sorted((sums[entry.number], row) for entry, row in zip(entries, rows)):
+        kind, _, size, protection, _, comment, _, _, content = row
         digest.update(repr((kind, path, size, protection, comment, content)).encode())
     return digest.hexdigest()
 
@@ -164,7 +177,7 @@ def volume_record(volume: adf.Volume, columns: Columns, has_texts: bool) -> Reco
     whole, files = len(entries), sum(entry.is_file for entry in entries)
     numbers = {"kind": volume.kind, "blocks": volume.blocks, "used": volume.used, "free": volume.free, "type": volume.image[3]}
     counts = {"dirs": whole - files, "files": files, "faults": 0, "sound": whole, "lost": 0, "lost_least": 0, "unlisted": whole - len(rows)}
-    tree = tree_sum(volume, rows) if len(rows) == whole else None
+    tree = tree_sum(volume, entries, rows) if len(rows) == whole else None
     told = {"verdict": "ok", "advice": sound_group(volume.kind), "label": letters(volume.label), "tree": tree, "roles": zlib.compress(volume.owners())}
     texts = limited(text_rows(entries[: len(rows)])) if has_texts else []
     drawn = list(itertools.islice(icon_rows(entries), MOST_ICONS))

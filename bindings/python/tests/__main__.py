@@ -10,7 +10,7 @@ import unittest
 
 import adf
 
-WITHOUT_LIBRARY = ("test_deletions", "test_names", "test_plain", "test_search")
+WITHOUT_LIBRARY = ("test_archives", "test_deletions", "test_names", "test_paths", "test_plain", "test_remains", "test_search")
 
 
 def main() -> None:

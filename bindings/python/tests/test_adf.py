@@ -425,7 +425,7 @@ class Surveys(unittest.TestCase):
         sound = built("volume ofs 16\nfile 0:0:0 00000000 a\nfill 1000 41\ndir 0:0:0 00000000 c\n")
         self.assertEqual(adf.survey(sound).remains("a"), (b"A" * 1000, []))
         damaged = adf.survey(changed(changed(sound, 3, 3, 8), 5, 3, 8))
-        left = bytes(488) + b"A" * 488 + bytes(24), [range(0, 488), range(976, 1000)]
+        left = bytes(488) + b"A" * 488, [range(0, 488), range(976, 1000)]
         self.assertEqual((damaged.remains(b"A"), damaged.entries[0].remains()), (left, left))
         with self.assertRaises(IsADirectoryError):
             damaged.remains("c")

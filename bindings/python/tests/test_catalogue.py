@@ -223,7 +223,7 @@ class Bounds(Catalogues):
                 archive.writestr(f"{number}.adf", SMALLEST)
         for limit, read, told in (
             ("archives.MOST_IMAGES = 4", 4, "5 of 9 images in it are left out"),
-            (f"archives.MOST_UNPACKED = {len(SMALLEST) * 5 - 1}", 5, "4 of 9 images in it are left out"),
+            (f"archives.MOST_UNPACKED = {len(SMALLEST) * 5}", 5, "4 of 9 images in it are left out"),
             ("reader.MOST_WRITTEN = 250", 0, "further images in it are left out"),
         ):
             line = f"from adf_tools import archives, catalogue, collection, reader; {limit}; catalogue.main()"

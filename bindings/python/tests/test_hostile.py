@@ -15,10 +15,11 @@ import unittest.mock
 import zipfile
 import zlib
 
-from adf_tools import content, database, image_pages, markup, program
+import adf
+from adf_tools import content, database, image_pages, markup, program, trees
 from adf_tools.reader import page_name
 from tests.samples import BAD, OFS, disk, icon, volume
-from tests.shared import HERE, written
+from tests.shared import HERE, changed, written
 from tests.test_catalogue import Catalogues, Page, trees_of
 
 TOOLS = os.path.join(os.path.dirname(HERE), "adf_tools")
@@ -347,6 +348,54 @@ class Templates(unittest.TestCase):
             for node in ast.walk(tree):
                 if isinstance(node, ast.Constant) and isinstance(node.value, str) and re.search("<[a-z]", node.value):
                     self.assertNotRegex(node.value, r"<[a-z][^>]*=[{']", f"{name}:{node.lineno}")
+
+
+class Deep(Catalogues):
+    """An image of 880 KB that has nothing but directories in directories, whose names have no letters."""
+
+    def setUp(self):
+        super().setUp()
+        name = b"\x1b" * 30
+        self.image = adf.build("ffs", 1760, [adf.Addition(b"/".join([name] * depth)) for depth in range(1, 1757)])
+        os.mkdir("disks")
+        written("disks/a.adf", self.image)
+
+    def test_has_pages_in_proportion(self):
+        for image, status in ((self.image, 0), (changed(self.image, 880, 440, 1), 1)):
+            written("disks/a.adf", image)
+            self.catalogue("disks", "out", "--tsv", status=status)
+            (path,) = glob.glob("out/images/*.html")
+            self.assertLess(os.path.getsize(path), 8 << 20)
+            self.assertLess(sum(os.path.getsize(os.path.join(above, name)) for above, _, names in os.walk("out") for name in names), 32 << 20)
+            paths = [path for path, in self.asked("out", "SELECT path FROM entries ORDER BY LENGTH(path)")]
+            self.assertEqual((len(paths), paths[0], paths[-1][:7]), (1756, "\\x1b" * 30, "\\block "))
+            self.assertLessEqual(len(paths[-1]), 1024)
+
+    def test_is_unpacked_with_its_names(self):
+        self.tool("unpack", "disks/a.adf", "new")
+        with trees.Place("new") as place:
+            for _ in range(1756):
+                place.go_in(b"\\x1b" * 30)
+        trees.remove("new")
+
+    def test_is_surveyed_with_short_paths(self):
+        damaged = changed(self.image, 880, 440, 1)
+        self.assertLessEqual(max(len(found.path) for found in adf.survey(damaged).entries), 1024)
+        volume = adf.open_image(self.image)
+        headers = [entry.header for entry in volume.entries]
+        self.assertEqual(volume.entries[-1].path_text, f"\\block {headers[-9]}/" + "/".join(["\\x1b" * 30] * 8))
+
+
+class Claims(Catalogues):
+    """An image of 880 KB with many damaged files that each state 901,120 bytes."""
+
+    def test_are_written_as_far_as_there_are_blocks(self):
+        image = bytearray(adf.build("ffs", 1760, [adf.Addition(b"f%d" % number, b"A") for number in range(870)]))
+        for entry in adf.Volume(image).entries:
+            image[512 * entry.header + 324 : 512 * entry.header + 328] = (901120).to_bytes(4, "big")
+        ran = self.run_tool("unpack", "--damaged", "-", "new", given=bytes(image))
+        self.assertEqual((ran.returncode, ran.stderr.count(b"of 901120 bytes are written")), (1, 870), ran.stderr[-200:])
+        self.assertLessEqual(sum(os.path.getsize(f"new/{name}") for name in os.listdir("new")), len(image))
 
 
 class Disks(Catalogues):

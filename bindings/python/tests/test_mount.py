@@ -14,7 +14,7 @@ import zipfile
 import adf
 from adf_tools.names import host_name
 from tests.shared import TOP, Folder, built, changed, image_of, written
-from tests.test_packed import dms, lha
+from tests.packing import dms, lha
 from tests.test_unpack import renamed
 
 SOURCES = glob.glob(os.path.join(TOP, "bindings", "fuse", "*.c"))
@@ -152,26 +152,26 @@ class Mounts(Folder):
             status, output, errors = self.mount("other", "seen")
             self.assertEqual((status in (1, 3), output, errors.count("\n")), (True, "", 1), errors)
 
-    @unittest.skipUnless(shutil.which("xdms"), "needs xdms")
+    @unittest.skipUnless(shutil.which("ancient"), "needs ancient")
     def test_reads_disks_of_dms(self):
         written("a.dms", dms(image_of()))
         self.assertEqual(self.seen("a.dms"), ["c", "empty", "large", "none"])
         written("a.dms", dms(image_of())[:5000])
-        self.assertRegex(self.mount("a.dms", "seen")[2], "^adf-mount: a.dms: xdms: [^\n]*\n$")
+        self.assertRegex(self.mount("a.dms", "seen")[2], "^adf-mount: a.dms: ancient: [^\n]*\n$")
 
-    def test_says_what_xdms_says(self):
+    def test_says_what_ancient_says(self):
         written("disk.dms", b"DMS!".ljust(1000, b"\1"))
-        program = "xdms: " if shutil.which("xdms") else "packed by DMS: xdms (Debian's) is needed to read it"
+        program = "ancient: " if shutil.which("ancient") else "packed by DMS: ancient (Debian's) is needed to read it"
         status, output, errors = self.mount("disk.dms", "seen")
         self.assertEqual((status, output, errors.count("\n")), (3, "", 1))
         self.assertIn(f"adf-mount: disk.dms: {program}", errors)
         os.mkdir("bin")
         for line, told in (
-            *((f"cp {os.path.abspath('a.adf')} disk.adf", ""), ("echo 'a\x1bb' >&2; exit 1", "xdms: a\\x1bb")),
-            *(("exit 0", "xdms: it wrote no disk"), ("exit 4", "xdms: status 4")),
+            *((f"cp {os.path.abspath('a.adf')} disk.adf", ""), ("echo 'a\x1bb' >&2; exit 1", "ancient: a\\x1bb")),
+            *(("exit 0", "ancient: it wrote no disk"), ("exit 4", "ancient: status 4")),
         ):
-            written("bin/xdms", f"#!/bin/sh\n{line}\n".encode())
-            os.chmod("bin/xdms", 0o755)
+            written("bin/ancient", f"#!/bin/sh\n{line}\n".encode())
+            os.chmod("bin/ancient", 0o755)
             with unittest.mock.patch.dict(os.environ, {"PATH": os.path.abspath("bin") + ":" + os.environ["PATH"], "TMPDIR": os.getcwd()}):
                 self.assertEqual(self.mount("disk.dms", "seen"), (3 if told else 0, "", f"adf-mount: disk.dms: {told}\n" if told else ""))
             if not told:

@@ -7,65 +7,24 @@ import io
 import os
 import pty
 import shutil
-import struct
 import subprocess
 import sys
 import unittest
 import unittest.mock
-import warnings
 import zipfile
 import zlib
 
 from adf_tools import archives
+from tests.packing import MODES, dms, lha, zipped
 from tests.shared import Folder, built, image_of, written
 
 SMALL = built("volume ofs 1760\nlabel Small\nfile 8035:0:0 00000000 a\ndata 41\n")
-XDMS = "#!/bin/sh\n{}\n"
-
-
-def zipped(*members: tuple[str, bytes], method: int = zipfile.ZIP_DEFLATED) -> bytes:
-    """A zip archive of these members, some of which may have one name."""
-    room = io.BytesIO()
-    with warnings.catch_warnings(), zipfile.ZipFile(room, "w", method) as archive:
-        warnings.simplefilter("ignore")
-        for name, content in members:
-            archive.writestr(zipfile.ZipInfo(name), content, method)
-    return room.getvalue()
 
 
 def encrypted(archive: bytes) -> bytes:
     """An archive of one member, of which the directory says that it is encrypted."""
     at = archive.index(b"PK\1\2") + 8
     return archive[:at] + b"\1" + archive[at + 1 :]
-
-
-def crc16(content: bytes, value: int = 0) -> int:
-    """The CRC of LHA and DMS: CRC-16/ARC."""
-    for byte in content:
-        value ^= byte
-        for _ in range(8):
-            value = value >> 1 ^ (0xA001 if value & 1 else 0)
-    return value
-
-
-def lha(name: bytes, content: bytes, crc: int | None = None) -> bytes:
-    """An LHA archive of a stored file, with a header of level 0."""
-    sizes = struct.pack("<IIIBB", len(content), len(content), 0, 0x20, 0)
-    head = b"-lh0-" + sizes + bytes([len(name)]) + name + struct.pack("<H", crc16(content) if crc is None else crc)
-    return bytes([len(head), sum(head) % 256]) + head + content + b"\0"
-
-
-def dms(image: bytes) -> bytes:
-    """A DMS archive of a disk of 80 cylinders, which are stored."""
-    tracks = b"".join(dms_track(number, image[11264 * number : 11264 * (number + 1)]) for number in range(len(image) // 11264))
-    head = b" PRO" + struct.pack(">IIHHII", 0, 0, 0, len(image) // 11264 - 1, len(image), len(image)) + bytes(18) + struct.pack(">HHHH", 111, 0, 0, 0)
-    return b"DMS!" + head + struct.pack(">H", crc16(head)) + tracks
-
-
-def dms_track(number: int, content: bytes) -> bytes:
-    size = len(content)
-    head = b"TR" + struct.pack(">HHHHHBBHH", number, 0, size, size, size, 0, 0, sum(content) % 65536, crc16(content))
-    return head + struct.pack(">H", crc16(head)) + content
 
 
 class Packed(Folder):
@@ -141,54 +100,18 @@ class Packed(Folder):
 
 
 class Dms(Folder):
-    """Disks of DMS, by a program in place of xdms."""
-
-    def by(self, script: str) -> unittest.mock._patch_dict:  # type: ignore[name-defined]
-        """What the environment is with a program of this script in place of xdms."""
-        os.mkdir("bin")
-        written("bin/xdms", XDMS.format(script).encode())
-        os.chmod("bin/xdms", 0o755)
-        return unittest.mock.patch.dict(os.environ, {"PATH": f"{os.path.abspath('bin')}:{os.environ['PATH']}", "HERE": os.getcwd()})
-
-    def fault(self, script: str, limit: tuple[str, int] = ("MOST_LINE", 200)) -> str:
-        """Why a disk is not read by this script; nothing is left of its folder."""
-        before = set(os.listdir("/tmp"))
-        with self.by(script), unittest.mock.patch.object(archives, *limit):
-            member = next(archives.members_of(io.BytesIO(b"DMS!"), archives.DMS))
-            image = archives.unpacked_member(member, b"a.dms", 0, 1 << 30)
-        self.assertFalse([name for name in set(os.listdir("/tmp")) - before if os.path.exists(f"/tmp/{name}/disk.dms")])
-        return image.fault
-
-    def test_are_read(self) -> None:
-        written("a.dms", b"DMS!")
-        written("disk", SMALL)
-        with self.by('[ "$*" = "u disk.dms +disk.adf" ] && cp "$HERE/disk" disk.adf'):
-            self.assertEqual(self.tool("recipe", "a.dms"), self.tool("recipe", "disk"))
-
-    def test_say_what_xdms_says(self) -> None:
-        self.assertEqual(self.fault("echo 'Error: password' >&2; echo more >&2; exit 1"), "xdms: Error: password")
-
-    def test_end_in_time(self) -> None:
-        self.assertEqual(self.fault("sleep 60 & sleep 60", ("MOST_SECONDS", 1)), "xdms: stopped after 1 seconds")
-
-    def test_are_not_larger_than_the_limit(self) -> None:
-        self.assertEqual(self.fault("exec cat /dev/zero > disk.adf", ("MOST_DMS", 1 << 20)), "xdms: stopped by signal 25")
-
-    def test_need_what_xdms_writes(self) -> None:
-        self.assertEqual(self.fault("exit 0"), "xdms: it wrote no disk")
-
-    def test_need_xdms(self) -> None:
-        written("a.dms", b"DMS!")
+    def test_need_ancient(self) -> None:
+        written("a.dms", dms(SMALL))
         os.mkdir("empty")
         with unittest.mock.patch.dict(os.environ, {"PATH": os.path.abspath("empty")}):
-            self.refused(3, "a.dms: packed by DMS: xdms (Debian's) is needed to read it\n", "recipe", "a.dms")
+            self.refused(3, "a.dms: packed by DMS: ancient (Debian's) is needed to read it\n", "recipe", "a.dms")
 
-    @unittest.skipUnless(shutil.which("xdms"), "needs xdms")
-    def test_are_read_by_xdms(self) -> None:
-        written("a.dms", dms(image_of()))
+    @unittest.skipUnless(shutil.which("ancient"), "needs ancient")
+    def test_are_read_by_ancient(self) -> None:
+        written("a.dms", dms(image_of(), MODES))
         self.assertEqual(self.tool("recipe", "a.dms"), self.tool("recipe", given=image_of()))
         written("a.dms", dms(image_of())[:5000])
-        self.refused(3, "a.dms: xdms: ", "recipe", "a.dms")
+        self.refused(3, "a.dms: ancient: ", "recipe", "a.dms")
 
 
 class Lha(Folder):

@@ -17,7 +17,7 @@ import adf
 from adf import _arguments, _sources
 from tests.samples import disk, table, volume
 from tests.shared import Folder, image_of, nested, written
-from tests.test_packed import dms, lha
+from tests.packing import dms, lha
 
 OFS = image_of()
 
@@ -65,12 +65,12 @@ class Sources(Folder):
         written("plain.adf", OFS)
         self.assertRaises(NotADirectoryError, adf.open, "plain.adf/a.adf")
 
-    @unittest.skipUnless(shutil.which("xdms"), "needs xdms")
+    @unittest.skipUnless(shutil.which("ancient"), "needs ancient")
     def test_unpacks_disks_of_dms(self):
         written("a.dms", dms(OFS))
         self.assertEqual(adf.open("a.dms").image, OFS)
         self.assertEqual(adf.open(io.BytesIO(dms(OFS))).image, OFS)
-        self.assertRaisesRegex(adf.NotUnpacked, "xdms: ", adf.open, io.BytesIO(dms(OFS)[:5000]))
+        self.assertRaisesRegex(adf.NotUnpacked, "ancient: ", adf.open, io.BytesIO(dms(OFS)[:5000]))
 
     def test_unpacks_archives_of_lha(self):
         written("a.lha", lha(b"a.adf", OFS))

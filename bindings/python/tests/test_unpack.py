@@ -148,14 +148,24 @@ class Damaged(Folder):
         other = adf.Volume(image)["a"].header
         self.assertEqual(sorted(os.listdir("new")), sorted(["b.damaged", *(f"b-{block}.{end}" for block in (header, other) for end in ("damaged", "gaps"))]))
 
-    def test_is_written_with_holes(self):
+    def test_ends_with_its_last_block(self):
         image = bytearray(self.image)
         header = 512 * adf.Volume(self.image)["a"].header
         image[header + 324 : header + 328] = (900_000).to_bytes(4, "big")
-        self.run_tool("unpack", "--damaged", "new", given=bytes(image))
+        ran = self.run_tool("unpack", "--damaged", "new", given=bytes(image))
+        self.assertIn(b"adf-unpack: damaged: a: 488 of 900000 bytes are written\n", ran.stderr)
+        self.assertEqual(os.stat("new/a.damaged").st_size, 488)
+        with open("new/a.gaps", "rb") as file:
+            self.assertEqual(file.read(), b"bytes 488 to 899999: no data\n")
+
+    def test_is_written_with_holes(self):
+        image = built("volume ofs 1760\nfile 8035:0:0 00000000 a\nfill 800000 41\n")
+        first = 512 * adf.Volume(image)["a"].header + 512
+        holes = b"".join(bytes(512) if first <= at < first + 700_000 and image[at + 3] == 8 else image[at : at + 512] for at in range(0, len(image), 512))
+        self.run_tool("unpack", "--damaged", "new", given=holes)
         status = os.stat("new/a.damaged")
-        self.assertEqual(status.st_size, 900_000)
-        self.assertLess(512 * status.st_blocks, 100_000)
+        self.assertEqual(status.st_size, 800_000)
+        self.assertLess(512 * status.st_blocks, 300_000)
 
 
 class Sidecars(Folder):
