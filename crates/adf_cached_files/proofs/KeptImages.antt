@@ -12,7 +12,7 @@ use Rattle.adf_uncached.specs.{Cached.FitsCached, Uncached.uncached, declared.im
 use Rattle.adf_uncached.specs.Verdict.{FirstFaultUncached, FitsUncached}
 use Rattle.adf_cached_files.specs.InPlace.{FirstFaultInPlace, FirstFaultInPlace.of_pages, FirstFaultInPlace.of_volume, FitsInPlace, IsKeptOf}
 use Rattle.adf_cached_files.specs.Sameness.{IsSameButBitmap}
-use Rattle.adf_cached_files.proofs.SameLength.{length-uncached}
+use Rattle.adf_uncached.proofs.SameLength.{length-uncached}
 
 module _ (image : List ℕ) (u : Uncached) (held : IsKeptOf image u) where
   pub fits_told : (t : Tree) (l : Layout) → FitsUncached u.fault u.image.items t l → FitsCached image t l

@@ -1,5 +1,3 @@
--- the image as one without caches is as long as the image
-pub mod SameLength
 -- what is the same in both
 pub mod SameParts
 -- one verdict on an image that is read in place

@@ -12,7 +12,7 @@ use Rattle.adf_uncached.specs.{Uncached.uncached}
 use Rattle.adf_uncached.proofs.OneVerdict.{some_verdict}
 use Rattle.adf_cached_files.specs.InPlace.{FirstFaultInPlace, FirstFaultInPlace.of_pages, FirstFaultInPlace.of_volume, FitsInPlace}
 use Rattle.adf_cached_files.specs.Sameness.{IsSameButBitmap}
-use Rattle.adf_cached_files.proofs.SameLength.{length-uncached}
+use Rattle.adf_uncached.proofs.SameLength.{length-uncached}
 
 in_or_not : (bs : List ℕ) (b : ℕ) → In bs b ⊎ ¬ In bs b
 in_or_not [] b = inr (λ h. h)

@@ -55,6 +55,20 @@ const ROWS: &[(&[Word], &[Sum], &str)] = &[
     // A sum that was wrong stays wrong: of the page, and of a header, of which the cache has a record.
     (&[(9, 0, 1)], &[], "block 9: bad sum\n"),
     (&[(2, 0, 9)], &[], "block 2: bad sum\n"),
+    // Word 79 of the root names no page: block 0, or the root itself. No bit is set there. An invalid bitmap is told before.
+    (&[(8, 79, 0)], &[(8, 5)], "block 8: out of range\n"),
+    (&[(8, 79, 8)], &[(8, 5)], "block 8: taken\n"),
+    (&[(8, 78, 0)], &[(8, 5)], "block 8: not validated\n"),
+    (
+        &[(8, 78, 0), (8, 79, 0)],
+        &[(8, 5)],
+        "block 8: not validated\n",
+    ),
+    (
+        &[(8, 78, 0), (8, 79, 8)],
+        &[(8, 5)],
+        "block 8: not validated\n",
+    ),
     // No type.
     (&[(0, 0, 0x444F_5306)], &[], "block 0: not dos\n"),
 ];

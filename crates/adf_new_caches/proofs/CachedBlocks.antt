@@ -11,7 +11,7 @@ use Rattle.adf_names.specs.{VolumeTypes.type_number, declared.kind.Kind.Kind, de
 use Rattle.adf_tree.specs.Tree.{Tree}
 use Rattle.adf_blocks.specs.{Fields.block_of_fields, Forms.first_cause, Forms.text_at, PageBlock.page_block, RootBlock.root_block, RootBlock.root_form}
 use Rattle.adf_blocks.specs.Sizes.{middle, pages_needed}
-use Rattle.adf_blocks.specs.declared.layout.TheConstants.{CHECKSUM, EXTENSION, FIRST_PAGE, NAME}
+use Rattle.adf_blocks.specs.declared.layout.TheConstants.{CHECKSUM, EXTENSION, NAME}
 use Rattle.adf_blocks.proofs.FieldLaws.{length-block_of_fields}
 use Rattle.adf_blocks.proofs.RootLaws.{root_block-text}
 use Rattle.adf_volume.specs.{Fits.FitsBy, Image.map_exts_needed, Image.name_of, Image.root_of, Image.word_in, Lists.At}
@@ -189,10 +189,5 @@ module _ {t : Tree} {n : ℕ} (roomy : IsRoomy t n) where
   plain_fits = other_root_fits (volume t n) plain t (planned t n) other_root roomy.none (volume_fits roomy.can)
 
   -- the first page stands behind the root
-  pub page_named : word (cached_root t n 2) FIRST_PAGE ≡ middle n + 1
-  page_named =
-      let six = roomy.six in
-      root_word FIRST_PAGE (omega arith) (omega arith)
-      ∙ ap (λ (x : List ℕ). word x FIRST_PAGE) (sym (holds_root roomy.can))
-      ∙ ap (λ r. word_in (volume t n) r FIRST_PAGE) (sym builder_root)
-      ∙ (volume_fits roomy.can).page_named 0 (middle n + 1) (omega arith) (first_of_range (middle n + 1) (pages_needed n) (omega arith))
+  pub planned_page : At (planned t n).pages 0 (middle n + 1)
+  planned_page = let six = roomy.six in first_of_range (middle n + 1) (pages_needed n) (omega arith)

@@ -1,22 +1,22 @@
 -- The tree of a new volume with directory caches fits it.
 -- Letters: t a tree without entries, n the number of blocks; image the volume, w the walk of its survey.
-use Rattle.std.specs.Prelude.{None, ◌==◌, ◌||◌, slice_index}
+use Rattle.std.specs.Prelude.{None, Some, ◌==◌, ◌||◌, slice_index}
 use Rattle.std.proofs.Common.{◌≡◌, ◌≤◌, ◌∙◌, ◌+◌, ◌*◌, ℕ, true, List, [], ap, length, refl, subst, sym}
 use Rattle.adf_base.specs.declared.hash.Letters.TheVariants.{International}
 use Rattle.adf_base.specs.Words.{block, with_bytes, word}
 use Rattle.adf_names.specs.{VolumeTypes.type_number, declared.kind.Kind.Kind, declared.kind.Kind.TheVariants.Ofs, declared.kind.Kind.TheVariants.Ffs}
 use Rattle.adf_tree.specs.Tree.{Tree}
-use Rattle.adf_blocks.specs.Sizes.{is_allowed}
-use Rattle.adf_volume.specs.{Fits.FitsOf, Image.word_in, Walk.Walk, declared.types.Types.TheVariants.WithInternational}
+use Rattle.adf_blocks.specs.Sizes.{is_allowed, middle}
+use Rattle.adf_volume.specs.{Fits.FitsOf, Image.word_in, Walk.Role.Page, Walk.Walk, declared.types.Types.TheVariants.WithInternational}
 use Rattle.adf_volume.proofs.{ImageStart.type_byte, TypeLaws.own_fit_of}
-use Rattle.adf_findings.specs.Survey.{FindingValue, IsSurvey}
+use Rattle.adf_findings.specs.{Members.at_role, Survey.FindingValue, Survey.IsSurvey}
 use Rattle.adf_findings.proofs.SomeSurvey.{some_survey}
 use Rattle.adf_uncached.specs.Uncached.{cache_fault, freed, is_cached, uncached}
 use Rattle.adf_cached_files.specs.{InPlace.FitsInPlace, Sameness.IsSameButBitmap}
 use Rattle.adf_build.specs.{Laid.IsWellFormed, Plan.planned}
 use Rattle.adf_new_caches.specs.NewCaches.{cached_boot, cached_volume}
 use Rattle.adf_new_caches.proofs.{CacheWrites.cached_is, CacheWrites.empty_room, NewSurveys.survey_of_new, Uncaching.cache_in_use, Uncaching.freed_is}
-use Rattle.adf_new_caches.proofs.CachedBlocks.{IsRoomy, cached, cached_boot_block, cached_long, plain}
+use Rattle.adf_new_caches.proofs.CachedBlocks.{IsRoomy, cached, cached_boot_block, cached_long, plain, planned_page}
 use Rattle.adf_new_caches.proofs.NewParts.{boot_word, new_cache, new_copy, new_plain_fits, new_same, new_with_caches}
 use Rattle.adf_new_caches.proofs.RightCache.{FindsRootAlone, block_freed, no_cache_fault}
 
@@ -24,17 +24,22 @@ module _ {t : Tree} {n : ℕ} (roomy : IsRoomy t n) (letters : t.letters ≡ Int
   module _ (w : Walk) (fs : List FindingValue) (survey : IsSurvey (cached roomy) w fs) where
     finds : FindsRootAlone (cached roomy) w 2
     finds =
-        let (none, root, unowned) = survey_of_new (new_with_caches roomy letters) w fs survey in
+        let (none, root, unowned, page) = survey_of_new (new_with_caches roomy letters) w fs survey in
         record { none = none; root = root; unowned = unowned }
+
+    page_found : at_role w (Page 0) ≡ Some (middle n + 1)
+    page_found =
+        let (none, root, unowned, page) = survey_of_new (new_with_caches roomy letters) w fs survey in
+        page (middle n + 1) (planned_page roomy)
 
     plain_is : uncached (cached roomy) w ≡ plain roomy
     plain_is =
-        ap (freed (cached roomy)) (block_freed (cached roomy) w 2 (new_cache roomy) finds)
-        ∙ freed_is n (cached roomy) (plain roomy) (new_copy roomy letters)
+        ap (freed (cached roomy) w) (block_freed (cached roomy) w 2 (new_cache roomy) finds)
+        ∙ freed_is n (cached roomy) (plain roomy) (new_copy roomy letters) w page_found
 
     no_fault : cache_fault (cached roomy) w ≡ None
     no_fault =
-        no_cache_fault (cached roomy) w 2 (new_cache roomy) finds (cache_in_use n (cached roomy) (plain roomy) (new_copy roomy letters))
+        no_cache_fault (cached roomy) w 2 (new_cache roomy) finds (cache_in_use n (cached roomy) (plain roomy) (new_copy roomy letters) w page_found)
 
     fits_on : FitsInPlace (cached roomy) t (planned t n)
     fits_on = record {

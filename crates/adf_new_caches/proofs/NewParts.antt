@@ -1,26 +1,27 @@
 -- What a new volume with directory caches is by its parts.
 -- Letters: t a tree without entries, n the number of blocks; b a block, o its owner; i a word; k, j indices of pages.
-use Rattle.std.specs.Prelude.{◌==◌, ◌%◌, cond, nat_le}
+use Rattle.std.specs.Prelude.{◌==◌, ◌%◌, ◌*◌, None, cond, length, nat_le}
 use Rattle.std.proofs.Common.{◌≡◌, ◌≢◌, ◌⊎◌, ◌≤◌, ◌<◌, ◌∙◌, ◌+◌, ◌-◌, ◌^◌, ℕ, true, List, [], ◌∷◌, ap, inl, inr, refl, set, slice_index, subst, sym, arith}
-use Rattle.std.proofs.lemmas.Bool.{true≢false}
+use Rattle.std.proofs.lemmas.{Bool.true≢false, List.FromFn.length-map-range_with_len}
 use Rattle.adf_base.specs.Words.{block, long_sum, with_bytes, word}
 use Rattle.adf_base.specs.declared.hash.Letters.{Letters, TheVariants.International}
 use Rattle.adf_names.specs.{VolumeTypes.type_number, declared.kind.Kind.Kind, declared.kind.Kind.TheVariants.Ofs, declared.kind.Kind.TheVariants.Ffs}
 use Rattle.adf_tree.specs.Tree.{Tree}
-use Rattle.adf_blocks.specs.Fields.{block_of_fields}
+use Rattle.adf_blocks.specs.{Fields.block_of_fields, Forms.first_cause, PageBlock.page_form}
 use Rattle.adf_blocks.specs.Sizes.{blocks, middle, pages_needed}
-use Rattle.adf_blocks.specs.declared.layout.TheConstants.{EXTENSION, FIRST_PAGE}
-use Rattle.adf_volume.specs.Demands.{AllHold, is_dos, root_demands}
+use Rattle.adf_blocks.specs.declared.layout.TheConstants.{EXTENSION, PAGE_BITS}
+use Rattle.adf_blocks.proofs.PageLaws.{page_block-form}
+use Rattle.adf_volume.specs.Demands.{AllHold, is_dos, page_demands, root_demands}
 use Rattle.adf_volume.specs.{Fits.FitsBy, Image.kind_of, Image.map_exts_needed, Image.root_of, Image.word_in, Lists.At, Lists.In}
 use Rattle.adf_volume.specs.{Layout.owned, declared.owner.Owner.Owner}
-use Rattle.adf_volume.proofs.DistinctBlocks.{block_in}
-use Rattle.adf_build.specs.{Bits.is_used, Laid.boot_bytes_by, Plan.entries_blocks, Plan.planned}
+use Rattle.adf_volume.proofs.{DistinctBlocks.block_in, FormDemands.all_demanded}
+use Rattle.adf_build.specs.{Bits.bits_from, Bits.is_free_bit, Bits.is_used, Bits.page_words, Laid.boot_bytes_by, Plan.entries_blocks, Plan.planned}
 use Rattle.adf_build.proofs.{AllocatedBlocks.range_in, Bits.owned_used, LaidFits.range_at, LaidWrites.holds_boot, LaidWrites.small as volume_small}
 use Rattle.adf_build.proofs.{Planned.owned_blocks}
 use Rattle.adf_cached_files.specs.Sameness.{IsSameButBitmap}
 use Rattle.adf_new_caches.specs.NewCaches.{cached_boot, cached_root}
 use Rattle.adf_new_caches.proofs.CachedBlocks.{IsRoomy, cached, cached_boot_block, cached_cache, cached_long, cached_page, cached_root_block, cached_same}
-use Rattle.adf_new_caches.proofs.CachedBlocks.{page_named, plain, plain_boot, plain_fits, plain_long, plain_other, plain_page, root_extension, root_holds}
+use Rattle.adf_new_caches.proofs.CachedBlocks.{plain, plain_boot, plain_fits, plain_long, plain_other, plain_page, root_extension, root_holds}
 use Rattle.adf_new_caches.proofs.{FirstPage.first_unused, NewSurveys.IsNewWithCaches, RightCache.HasRootCache, Uncaching.IsCachedCopy}
 use Rattle.adf_new_caches.proofs.RootCache.{cache_count, cache_header, cache_next, cache_own, cache_sum, cache_type}
 
@@ -69,6 +70,9 @@ module _ {t : Tree} {n : ℕ} (roomy : IsRoomy t n) where
   root_word_is : (i : ℕ) → word_in (cached roomy) (root_of (cached roomy)) i ≡ word (cached_root t n 2) i
   root_word_is i = ap (λ r. word_in (cached roomy) r i) root_place ∙ ap (λ (x : List ℕ). word x i) (cached_root_block roomy)
 
+  words_long : (m : ℕ) → length (page_words m 1 0) ≡ 127
+  words_long m = length-map-range_with_len (λ w. bits_from (is_free_bit m 1) (PAGE_BITS * 0 + 32 * w) 32) 0 127
+
   root_small : middle n < 2 ^ 32
   root_small = let few = volume_small roomy.can in omega arith
 
@@ -105,7 +109,6 @@ module _ {t : Tree} {n : ℕ} (roomy : IsRoomy t n) where
       room = roomy.six;
       long = cached_long roomy;
       plain_long = plain_long roomy;
-      named = root_word_is FIRST_PAGE ∙ page_named roomy;
       page = cached_page roomy;
       plain_page = plain_page roomy;
       boot =
@@ -133,6 +136,15 @@ module _ {t : Tree} {n : ℕ} (roomy : IsRoomy t n) where
         let is = range_at (middle n + 1 + pages_needed n) (map_exts_needed (pages_needed n)) j b at in
         cached_same roomy b (omega arith) (omega arith)
 
+    -- its first page has its form
+    page_formed : (b : ℕ) → At (planned t n).pages 0 b → AllHold (page_demands (cached roomy) b)
+    page_formed b at =
+        let is = range_at (middle n + 1) (pages_needed n) 0 b at in
+        let here : middle n + 1 ≡ b = omega (arith, is.1) in
+        subst (λ b. AllHold (page_demands (cached roomy) b)) here
+        (all_demanded (middle n + 1) (page_form (block (cached roomy) (middle n + 1)))
+        (subst (λ bs. first_cause (page_form bs) ≡ None) (sym (cached_page roomy)) (page_block-form (page_words n 1 0) (words_long n))))
+
     -- what its survey rests on
     pub new_with_caches : IsNewWithCaches (cached roomy) (plain roomy) t (planned t n) 2
     new_with_caches =
@@ -149,6 +161,7 @@ module _ {t : Tree} {n : ℕ} (roomy : IsRoomy t n) where
               ∙ ap (λ (x : List ℕ). word x i) (cached_same roomy (middle n) (omega arith) (omega arith))
               ∙ sym (ap (λ r. word_in (plain roomy) r i) root_place);
           map_exts = map_ext_same;
+          page = page_formed;
           unowned = unowned_cache;
         }
 

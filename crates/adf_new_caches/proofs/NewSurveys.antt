@@ -1,28 +1,31 @@
--- The survey of a new volume with directory caches finds its root and its bitmap alone.
+-- The survey of a new volume with directory caches finds its root and its bitmap alone, with the first page.
 -- Letters: image a new volume with directory caches, plain one without at the same blocks; t its tree, which is empty; l its layout;
 -- c a block that neither has; w a walk, s a course; r, q roles; b the block of a role; a, i the block and the word that point to it;
 -- k the number of a page, j that of a bitmap extension block; n a node; p a directory's node.
-use Rattle.std.specs.Prelude.{true, false, not, ◌==◌, ◌&&◌, ◌*◌, ◌/◌}
+use Rattle.std.specs.Prelude.{Option, Some, None, true, false, not, ◌==◌, ◌&&◌, ◌*◌, ◌/◌}
 use Rattle.std.proofs.Common.{◌≡◌, ◌≢◌, ◌⊎◌, ℕ, zero, suc, List, [], ◌∷◌, inl, inr, ◌+◌, ◌<◌, length, map, slice_index, refl, sym, ap, subst, ◌∙◌, arith}
 use Rattle.std.proofs.lemmas.Bool.{cases_Bool}
 use Rattle.adf_base.specs.{Words.block, Words.word, declared.hash.Letters.TheVariants.Ascii, declared.hash.Letters.TheVariants.International}
 use Rattle.adf_tree.specs.{Tree.Tree, declared.entry.Entry.Entry}
 use Rattle.adf_blocks.specs.Sizes.{blocks, is_allowed, middle, pages_needed}
-use Rattle.adf_blocks.specs.declared.cause.Cause.TheVariants.{DirCache}
+use Rattle.adf_blocks.specs.declared.cause.Cause.{Cause, TheVariants.DirCache}
 use Rattle.adf_blocks.specs.declared.layout.TheConstants.{CHECKSUM, EXTENSION, FIRST_MAP_EXT, FIRST_PAGE, FIRST_SLOT, MAP_EXT_NEXT, NEXT_IN_CHAIN, SLOTS}
-use Rattle.adf_volume.specs.Demands.{AllHold, FirstFails, boot_demands, boot_form, demands_at, has_letters, is_dos, root_demands}
+use Rattle.adf_volume.specs.Demands.{AllHold, FirstFails, boot_demands, boot_form, demands_at, has_letters, is_dos, page_demands}
+use Rattle.adf_volume.specs.Demands.{root_demands}
 use Rattle.adf_volume.specs.{Fits.FitsBy, Image.map_exts_needed, Image.root_of, Image.word_in, Lists.At, Lists.In, Lists.Spelled}
 use Rattle.adf_volume.specs.{Layout.Layout, Layout.at_node, Layout.nodes_from_by, Layout.owned, declared.owner.Owner.Owner, LayoutRoles.owner_of}
-use Rattle.adf_volume.specs.Walk.{Role, Walk, Has, HeadAt, DirAt, NamesPage, Asks, IsAbsent, heads}
+use Rattle.adf_volume.specs.Walk.{Role, Walk, Has, HeadAt, DirAt, NamesPage, Asks, IsAbsent, Lacks, Same, heads}
 use Rattle.adf_volume.specs.Walk.{Role.Root, Role.Page, Role.MapExt, Role.Head, Role.Ext, Role.Data}
-use Rattle.adf_volume.proofs.{Gathered.root_in, Images.map_exts_high, LayoutRoles.part_owned, Lists.at_some, TreeOrder.is_dir}
-use Rattle.adf_findings.specs.{Forms.Tells, Members.owns, Survey.JudgementValue.clean, Survey.JudgementValue.reported, Survey.JudgementValue.skipped}
-use Rattle.adf_findings.specs.Survey.{Course, IsCourse, OnSurvey, BootTells.other_type, IsCourse.start, IsCourse.step}
+use Rattle.adf_volume.proofs.{Gathered.root_in, Images.map_exts_high, LayoutRoles.part_owned, TreeOrder.is_dir}
+use Rattle.adf_volume.proofs.Lists.{at_below, at_fun, at_some, fails_not_all, one_member}
+use Rattle.adf_findings.specs.{Demands.demands_in, Forms.Tells, Members.at_role, Members.owns, Survey.JudgementValue.clean, Survey.JudgementValue.reported, Survey.JudgementValue.skipped}
+use Rattle.adf_findings.specs.Survey.{Course, IsCourse, IsDone, OnSurvey, BootTells.other_type, IsCourse.start, IsCourse.step}
 use Rattle.adf_findings.specs.Survey.{IsSurvey.read, IsSurvey.unread, RootTells.clean_root}
+use Rattle.adf_findings.proofs.{BitSteps.has_page, RoleBlocks.lacks_at}
 use Rattle.adf_findings.proofs.{Known.no_owner, Known.tells_absent, OneSurvey.gathered, Starts.not_unread}
 
 -- An empty volume with directory caches, beside one without at the same blocks: their roots differ in the checksum and the first cache alone,
--- their bitmap extension blocks are the same, and block c is no part of them.
+-- their bitmap extension blocks are the same, the first page has its form, and block c is no part of them.
 pub record IsNewWithCaches (image plain : List ℕ) (t : Tree) (l : Layout) (c : ℕ) : Type 0 where
   pub fits : FitsBy International plain t l
   pub empty : t.entries ≡ []
@@ -32,6 +35,7 @@ pub record IsNewWithCaches (image plain : List ℕ) (t : Tree) (l : Layout) (c :
   pub root : AllHold (root_demands image (root_of image))
   pub root_words : (i : ℕ) → i < 128 → i ≢ CHECKSUM → i ≢ EXTENSION → word_in image (root_of image) i ≡ word_in plain (root_of image) i
   pub map_exts : (j b : ℕ) → At l.map_exts j b → block image b ≡ block plain b
+  pub page : (b : ℕ) → At l.pages 0 b → AllHold (page_demands image b)
   pub unowned : (o : Owner) → In (owned plain l) (o, c) → ⊥
 
 -- a block that has a role is owned
@@ -163,6 +167,59 @@ module _ {image plain : List ℕ} {t : Tree} {l : Layout} {c : ℕ} (new : IsNew
   course_parts (step (reported at cause) v d g) r b (inr h) = course_parts v r b h
   course_parts (step (skipped at cause) v d g) r b h = course_parts v r b h
 
+  -- no course skips the first page
+  page_role : (r : Role) (b : ℕ) → IsPart r b → Same r (Page 0) → r ≡ Page 0
+  page_role Root b h same = absurd (omega (arith, same.1))
+  page_role (Page k) b h same = let first : k ≡ 0 = omega (arith, same.2) in ap Page first
+  page_role (MapExt j) b h same = absurd (omega (arith, same.2))
+  page_role _ b h same = absurd h
+
+  same_owner : (r : Role) → owner_of r ≡ owner_of (Page 0) → Same r (Page 0)
+  same_owner Root e = cc
+  same_owner (Page k) e = let first : k ≡ 0 = cc in subst (λ n. Same (Page n) (Page 0)) (sym first) (refl, refl, refl)
+  same_owner (MapExt j) e = cc
+  same_owner (Head n p s j) e = cc
+  same_owner (Ext n k) e = cc
+  same_owner (Data n k) e = cc
+
+  module _ (w : Walk) (parts : (r : Role) (b : ℕ) → Has w r b → IsPart r b) where
+    page_free : (b : ℕ) → Lacks w (Page 0) → At l.pages 0 b → IsAbsent w b
+    page_free b lacks at q h =
+        let one = one_member (owned plain l) (owner_of q) (owner_of (Page 0)) b new.fits.once (part_owner q b (parts q b h)) (part_owner (Page 0) b at) in
+        lacks q b h (same_owner q one)
+
+    page_demanded : (a b : ℕ) → Lacks w (Page 0) → At l.pages 0 b → AllHold (demands_in image w (Page 0) a b)
+    page_demanded a b lacks at =
+        let range = new.fits.range (owner_of (Page 0)) b (part_owner (Page 0) b at) in
+        (tt, ((range.0, subst (λ n. b < n) (sym same_blocks) range.1), (page_free b lacks at, ((new.page b at).0, (tt, tt)))))
+
+    never_fails : (r : Role) (a b d : ℕ) (e : Cause) → r ≡ Page 0 → Lacks w r → IsPart r b → FirstFails (demands_in image w r a b) d e → ⊥
+    never_fails r a b d e is lacks part fails =
+        fails_not_all (demands_in image w (Page 0) a b) d e (subst (λ q. FirstFails (demands_in image w q a b) d e) is fails)
+        (page_demanded a b (subst (Lacks w) is lacks) (subst (λ q. IsPart q b) is part))
+
+  unskipped : {s : Course} → IsCourse image s → Lacks s.skipped (Page 0)
+  unskipped (start boot root) q b h same = absurd h
+  unskipped (step clean v d g) q b h same = unskipped v q b h same
+  unskipped (step (reported at cause) v d g) q b h same = unskipped v q b h same
+  unskipped (step {s = s} {r = r} {a = a} {i = i} (skipped at cause) v d g) q b (inl e) same =
+      let part = asked s.walk (course_parts v) r a i d.asked in
+      let is : r ≡ Page 0 = page_role r (word_in image a i) part (subst (λ x. Same x (Page 0)) (sym e.0) same) in
+      never_fails s.walk (course_parts v) r a (word_in image a i) at cause is d.lacks part g.0
+  unskipped (step (skipped at cause) v d g) q b (inr h) same = unskipped v q b h same
+
+  -- so a course that is done has it
+  page_found : {s : Course} → IsCourse image s → IsDone image s → (b : ℕ) → At l.pages 0 b → at_role s.walk (Page 0) ≡ Some b
+  page_found {s} v done b at = go (at_role s.walk (Page 0)) refl
+    where
+      some : 0 < pages_needed (blocks image)
+      some = let low = at_below l.pages 0 b at in subst (λ n. 0 < n) (new.fits.pages ∙ ap pages_needed (sym same_blocks)) low
+
+      go : (o : Option ℕ) → at_role s.walk (Page 0) ≡ o → at_role s.walk (Page 0) ≡ Some b
+      go None e =
+          absurd (done (Page 0) (root_of image) FIRST_PAGE (some, inl (omega arith, refl, omega arith)) (lacks_at s.walk (Page 0) e) (unskipped v))
+      go (Some x) e = e ∙ ap (λ k. Some k) (at_fun l.pages 0 x b (course_parts v (Page 0) x (has_page s.walk 0 x e)) at)
+
   no_heads : (w : Walk) → ((r : Role) (b : ℕ) → Has w r b → IsPart r b) → heads w ≡ 0
   no_heads [] parts = refl
   no_heads ((Head n p s j, b) ∷ w) parts = absurd (parts (Head n p s j) b (inl (refl, refl)))
@@ -174,12 +231,14 @@ module _ {image plain : List ℕ} {t : Tree} {l : Layout} {c : ℕ} (new : IsNew
       let size = new.fits.boots.0 in
       inr ((new.long ∙ size.0 ∙ ap (λ n. 512 * n) (sym same_blocks), ap is_allowed same_blocks ∙ size.1), type_fails (block image 0) new.dos new.type)
 
-  -- the survey has no header, the root, and not block c
-  pub survey_of_new : OnSurvey image (λ w fs. (heads w ≡ 0) × (owns w (root_of image) ≡ true) × (owns w c ≡ false))
+  -- the survey has no header, the root, not block c, and the first page
+  pub survey_of_new : OnSurvey image (λ w fs. (heads w ≡ 0) × (owns w (root_of image) ≡ true) × (owns w c ≡ false)
+      × ((b : ℕ) → At l.pages 0 b → at_role w (Page 0) ≡ Some b))
   survey_of_new w fs (unread f) = absurd (not_unread image (other_type boot_fails refl) (clean_root new.root) f)
   survey_of_new w fs (read {s = s} v d bits) =
       let parts = course_parts v in (
         no_heads s.walk parts,
         has_owns s.walk Root (root_of image) (root_in image (gathered image v)),
         no_owner s.walk c (λ q h. new.unowned (owner_of q) (part_owner q c (parts q c h))),
+        page_found v d,
       )

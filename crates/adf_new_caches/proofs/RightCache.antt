@@ -125,8 +125,8 @@ module _ (image : List ℕ) (w : Walk) (c : ℕ) (has : HasRootCache image c) (f
   block_freed = ap (blocks_if_right image w) none_wrong ∙ one_block
 
   -- and nothing is wrong, if it is in use
-  pub no_cache_fault : is_free image c ≡ false → cache_fault image w ≡ None
+  pub no_cache_fault : is_free image w c ≡ false → cache_fault image w ≡ None
   no_cache_fault used =
       ap (fault_if_wrong image w) none_wrong
-      ∙ ap (free_fault image) one_block
-      ∙ ap (option_map (λ b. fault b OwnedFree)) (cond-false (is_free image c) (Some c) None used)
+      ∙ ap (free_fault image w) one_block
+      ∙ ap (option_map (λ b. fault b OwnedFree)) (cond-false (is_free image w c) (Some c) None used)

@@ -1,6 +1,6 @@
 -- A new volume with directory caches as one without.
 -- Letters: n the number of blocks; image the volume, plain the one without caches; copy a copy of the image, page the block of its first bitmap page.
-use Rattle.std.specs.Prelude.{◌==◌, ◌&&◌, cond, nat_lt, not}
+use Rattle.std.specs.Prelude.{◌==◌, ◌&&◌, Some, nat_lt, not}
 use Rattle.std.specs.Int.{bit_at, RustNames.bit_or}
 use Rattle.std.proofs.Common.{◌≡◌, ◌≢◌, ◌≤◌, ◌<◌, ◌∙◌, ◌+◌, ◌-◌, ◌*◌, ◌/◌, ◌%◌, ◌^◌, ℕ, true, false, List, [], ◌∷◌, ap, inl, inr, length, set}
 use Rattle.std.proofs.Common.{slice_index, sym, arith}
@@ -9,10 +9,10 @@ use Rattle.std.proofs.lemmas.{List.length-set, Nat.Bits.bit_at_lowest, Nat.or_sh
 use Rattle.adf_base.specs.Words.{block, with_block, with_word, word}
 use Rattle.adf_base.proofs.WordLaws.{length-with_word}
 use Rattle.adf_blocks.specs.{PageBlock.page_block, Sizes.blocks, Sizes.middle}
-use Rattle.adf_blocks.specs.declared.layout.TheConstants.{FIRST_PAGE}
-use Rattle.adf_volume.specs.Image.{root_of, word_in}
+use Rattle.adf_volume.specs.{Image.word_in, Walk.Role.Page, Walk.Walk}
 use Rattle.adf_build.specs.{Bits.page_words}
-use Rattle.adf_uncached.specs.Bits.{is_free, page_of, with_bit, word_at}
+use Rattle.adf_findings.specs.Members.{at_role}
+use Rattle.adf_uncached.specs.Bits.{is_free, is_free_on, with_bit, with_free_on, word_at}
 use Rattle.adf_uncached.specs.Uncached.{freed, plainly_typed}
 use Rattle.adf_new_caches.proofs.FirstPage.{first_word, first_words, page_first, page_freed, page_whole}
 use Rattle.adf_new_caches.proofs.WrittenImages.{IsWritten, first_byte, is_written, same_images, set_behind, set_first}
@@ -22,7 +22,6 @@ pub record IsCachedCopy (n : ℕ) (image plain : List ℕ) : Type 0 where
   pub room : 6 ≤ n
   pub long : length image ≡ n * 512
   pub plain_long : length plain ≡ n * 512
-  pub named : word_in image (root_of image) FIRST_PAGE ≡ middle n + 1
   pub page : block image (middle n + 1) ≡ page_block (page_words n 1 0)
   pub plain_page : block plain (middle n + 1) ≡ page_block (page_words n 0 0)
   pub boot : set (block image 0) 3 (slice_index (block image 0) 3 - 2) ≡ block plain 0
@@ -47,9 +46,6 @@ module _ (n : ℕ) (image plain : List ℕ) (is : IsCachedCopy n image plain) wh
   in_volume : middle n + 1 < n
   in_volume = let room = is.room in omega arith
 
-  many : blocks image ≡ n
-  many = let long = is.long in omega arith
-
   -- the word of an image of n blocks with that page
   page_word : (copy : List ℕ) (i : ℕ) → length copy ≡ n * 512 → block copy (middle n + 1) ≡ page_block (page_words n 1 0)
       → word_at copy (middle n + 1) i ≡ word (page_block (page_words n 1 0)) i
@@ -58,19 +54,10 @@ module _ (n : ℕ) (image plain : List ℕ) (is : IsCachedCopy n image plain) wh
       cond-true (nat_lt (middle n + 1) (blocks copy)) (word_in copy (middle n + 1) i) 0 (is_below (middle n + 1) (blocks copy) (omega arith))
       ∙ ap (λ (x : List ℕ). word x i) held
 
-  -- the page of the first bit
-  page_is_next : page_of image 2 ≡ middle n + 1
-  page_is_next =
-      let size = many in
-      let room = is.room in
-      cond-true (nat_lt (root_of image) (blocks image)) (word_in image (root_of image) FIRST_PAGE) 0
-      (is_below (root_of image) (blocks image) (omega arith))
-      ∙ is.named
-
-  -- the block of the cache is in use
-  pub cache_in_use : is_free image 2 ≡ false
-  cache_in_use =
-      ap (λ p. bit_at (word_at image p 1) 0 == 1) page_is_next
+  -- the block of the cache is in use, where the page of the first bit is found
+  pub cache_in_use : (w : Walk) → at_role w (Page 0) ≡ Some (middle n + 1) → is_free image w 2 ≡ false
+  cache_in_use w found =
+      ap (λ o. is_free_on image o 2) found
       ∙ ap (λ v. bit_at v 0 == 1) (page_word image 1 is.long is.page ∙ page_first n 1)
       ∙ lowest_clear (first_word n 1) (first_words n third).1
 
@@ -169,9 +156,8 @@ module _ (n : ℕ) (image plain : List ℕ) (is : IsCachedCopy n image plain) wh
       ∙ ap (λ x. x && true) (is_below (middle n + 1) (blocks (plainly_typed image)) (omega arith))
 
   -- without its cache the image is the plain one
-  pub freed_is : freed image (2 ∷ []) ≡ plain
-  freed_is =
-      ap (λ p. cond (nat_lt p (blocks (plainly_typed image)) && not (bit_at (word_at (plainly_typed image) p 1) 0 == 1))
-      (with_bit (plainly_typed image) p 1 0) (plainly_typed image)) page_is_next
+  pub freed_is : (w : Walk) → at_role w (Page 0) ≡ Some (middle n + 1) → freed image w (2 ∷ []) ≡ plain
+  freed_is w found =
+      ap (λ o. with_free_on (plainly_typed image) o 2) found
       ∙ cond-true _ (with_bit (plainly_typed image) (middle n + 1) 1 0) (plainly_typed image) bit_clear
       ∙ same_images n (with_bit (plainly_typed image) (middle n + 1) 1 0) plain sum_written.size is.plain_long freed_block

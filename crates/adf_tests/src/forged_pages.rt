@@ -1,13 +1,13 @@
 // The calls over memory, on an image of type 5 whose root names itself and a data block as its bitmap pages: an FFS volume of 4,608
 // blocks with the file `a`, 512 bytes 0x41, whose header is block 2 and whose data are block 3. The root is block 2304.
 //
-// Its cache is right, and takes so many blocks that the image without caches is a volume: their bits make words 79 and 80 of the
-// root the numbers 2816 and 515 of right bitmap pages, and change the data block.
+// Its cache is right, and takes so many blocks that the image would be a volume if their bits were set in these blocks: they would
+// make words 79 and 80 of the root the numbers 2816 and 515 of right bitmap pages, and change the data block.
 
-use adf_base::{seal, set_word};
+use adf_base::{Block, seal, set_word};
 use adf_memory::{Contents, Date, Moved, TableEntry, Verdict, run_in_memory};
 use adf_memory_types::{check_image_types, owners_of_types, put_index_types};
-use adf_uncached::{check_uncached, is_cached, without_caches};
+use adf_uncached::{is_cached, without_caches};
 use std::alloc::Global;
 
 const MANIFEST: &[u8] = b"volume ffs 4608\nfile 0:0:0 00000000 a\nfill 512 41\n";
@@ -128,26 +128,24 @@ fn forged(alloc: Global) -> Vec<u8> {
     image
 }
 
-// Byte 7 of the data block in the image as one without caches, if that is a volume.
-fn byte_without_caches(alloc: Global, image: &[u8]) -> Option<u8> {
+// Byte 7 of the data block in the image as one without caches, and word 79 of the root there.
+fn parts_without_caches(alloc: Global, image: &[u8]) -> Option<(u8, u32)> {
     if !is_cached(image) {
         return None;
     }
     let Ok(uncached) = without_caches(alloc, image) else {
         return None;
     };
-    if check_uncached(alloc, &uncached).is_err() {
-        return None;
-    }
-    uncached.image.get(3 * 512 + 7).copied()
+    let byte = uncached.image.get(3 * 512 + 7).copied()?;
+    let root = Block::at(&uncached.image, ROOT)?;
+    Some((byte, root.word(79)))
 }
 
-// Without caches it is a volume, whose file has another byte.
+// The blocks that the root names are no pages, so that no bit is set in them.
 #[test]
-fn forged_pages_leave_a_volume(rt: HostRuntime) {
+fn forged_pages_stay(rt: HostRuntime) {
     let image = forged(rt.alloc());
-    assert!(rt; image.get(3 * 512 + 7).copied() == Some(0x41));
-    assert!(rt; byte_without_caches(rt.alloc(), &image) == Some(0x43));
+    assert!(rt; parts_without_caches(rt.alloc(), &image) == Some((0x41, ROOT)));
 }
 
 const DATE: Date = Date {
@@ -195,20 +193,20 @@ const VERDICT: Verdict = Verdict {
     block: 9,
 };
 
-// Each call refuses the image: a wrong directory cache, that of the root; and leaves the tables and the roles as they were.
+// Each call refuses the image: the root is its own page, so that it is taken; and leaves the tables and the roles as they were.
 #[test]
 fn forged_pages_are_refused(rt: HostRuntime) {
     let image = forged(rt.alloc());
     let mut verdict = VERDICT;
     let cause = check_image_types(rt.alloc(), &image, &mut verdict);
-    assert!(rt; (cause, verdict.block, verdict.used) == (4, ROOT, 0));
+    assert!(rt; (cause, verdict.block, verdict.used) == (6, ROOT, 0));
     let mut entries = [ENTRY; 1];
     let mut blocks = [9; 1];
     let mut contents = CONTENTS;
     let cause = put_index_types(rt.alloc(), &image, &mut entries, &mut blocks, &mut contents);
-    assert!(rt; (cause, contents.block, contents.used) == (4, ROOT, 0));
+    assert!(rt; (cause, contents.block, contents.used) == (6, ROOT, 0));
     assert!(rt; (entries[0].header, blocks[0]) == (9, 9));
     let mut roles = [9; 4];
-    assert!(rt; owners_of_types(rt.alloc(), &image, &mut roles) == 4);
+    assert!(rt; owners_of_types(rt.alloc(), &image, &mut roles) == 6);
     assert!(rt; roles == [9; 4]);
 }

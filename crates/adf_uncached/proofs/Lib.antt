@@ -1,5 +1,7 @@
 -- the bits of blocks, as they are read and set
 pub mod BitSteps
+-- the image as one without caches is as long as the image
+pub mod SameLength
 -- the first fault where parts have none
 pub mod FaultSteps
 -- one verdict on an image

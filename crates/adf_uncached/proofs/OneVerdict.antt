@@ -7,7 +7,7 @@ use Rattle.std.proofs.lemmas.Bool.{cases_Bool, false≢true}
 use Rattle.std.proofs.lemmas.Option.{same_Some}
 use Rattle.adf_tree.specs.Tree.{Tree}
 use Rattle.adf_blocks.specs.declared.cause.Cause.{Cause}
-use Rattle.adf_volume.specs.{Fault.fault, Fits.FitsOf, Layout.Layout, Walk.FirstFaultOf, Walk.Walk, declared.fault.Fault.Fault}
+use Rattle.adf_volume.specs.{Fault.fault, Fits.FitsOf, Layout.Layout, Walk.FirstFaultOf, declared.fault.Fault.Fault}
 use Rattle.adf_volume.specs.declared.types.Types.TheVariants.{WithInternational}
 use Rattle.adf_volume.proofs.{FitWalks.one_fit, TypeLaws.none_fits_of, TypeLaws.one_fault_of}
 use Rattle.adf_findings.proofs.{FitsOrFault.fits_or_fault_of, OneSurvey.one_survey, SomeSurvey.some_survey}

@@ -98,27 +98,18 @@ module _ (image : List ℕ) (w : Walk) (u : Uncached) where
   pub held_wrong : (d : ℕ) → first_wrong image w ≡ Some d → KeepsAs u (plainly_typed image) [] (Some (fault (directory_header image w d) DirCache))
       → IsUncached image w u
   held_wrong d e h = record {
-    bytes = h.bytes ∙ ap (freed image) (sym (ap (blocks_if_right image w) e));
+    bytes = h.bytes ∙ ap (freed image w) (sym (ap (blocks_if_right image w) e));
     blocks = h.blocks ∙ sym (ap (blocks_if_right image w) e);
     fault = h.fault ∙ sym (ap (fault_if_wrong image w) e);
   }
 
   -- and where none is
   pub held_right : first_wrong image w ≡ None
-      → KeepsAs u (freed image (cache_blocks image w)) (cache_blocks image w) (free_fault image (cache_blocks image w)) → IsUncached image w u
+      → KeepsAs u (freed image w (cache_blocks image w)) (cache_blocks image w) (free_fault image w (cache_blocks image w)) → IsUncached image w u
   held_right e h = record {
-    bytes = h.bytes ∙ ap (freed image) (sym (ap (blocks_if_right image w) e));
+    bytes = h.bytes ∙ ap (freed image w) (sym (ap (blocks_if_right image w) e));
     blocks = h.blocks ∙ sym (ap (blocks_if_right image w) e);
     fault = h.fault ∙ sym (ap (fault_if_wrong image w) e);
-  }
-
-  -- where nothing is found, nothing is freed
-  pub held_none : (bs : List ℕ) → u.image.items ≡ plainly_typed image → u.blocks.items ≡ bs → u.fault ≡ None → bs ≡ []
-      → KeepsAs u (freed image bs) bs (free_fault image bs)
-  held_none bs bytes blocks fault none = record {
-    bytes = bytes ∙ ap (freed image) (sym none);
-    blocks = blocks;
-    fault = fault ∙ ap (free_fault image) (sym none);
   }
 
 module _ (image : List ℕ) (w : Walk) {E : Type 0} (r : Result Uncached E) where
@@ -129,10 +120,10 @@ module _ (image : List ℕ) (w : Walk) {E : Type 0} (r : Result Uncached E) wher
       (λ u k. held_wrong image w u d first (subst (λ n. KeepsAs u (plainly_typed image) [] (Some (fault n DirCache))) at k)) h
 
   pub right_result : first_wrong image w ≡ None
-      → IfOk r (λ u. KeepsAs u (freed image (cache_blocks image w)) (cache_blocks image w) (free_fault image (cache_blocks image w)))
+      → IfOk r (λ u. KeepsAs u (freed image w (cache_blocks image w)) (cache_blocks image w) (free_fault image w (cache_blocks image w)))
       → IfOk r (IsUncached image w)
   right_result first h =
-      IfOk-weaker r (λ u. KeepsAs u (freed image (cache_blocks image w)) (cache_blocks image w) (free_fault image (cache_blocks image w)))
+      IfOk-weaker r (λ u. KeepsAs u (freed image w (cache_blocks image w)) (cache_blocks image w) (free_fault image w (cache_blocks image w)))
       (IsUncached image w) (λ u k. held_right image w u first k) h
 
 pub wrong_first : (image : List ℕ) (w : Walk) (d : ℕ) → first_wrong image w ≡ Some d → is_wrong_cache image w d ≡ true

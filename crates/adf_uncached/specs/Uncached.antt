@@ -30,21 +30,21 @@ abbrev pub plainly_typed : List ℕ → List ℕ
 plainly_typed image = set image 3 (slice_index image 3 - 2)
 
 -- the image with the same type without caches, and these blocks free in the bitmap
-abbrev pub freed : List ℕ → List ℕ → List ℕ
-freed image bs = fold (with_free image) (plainly_typed image) bs
+abbrev pub freed : List ℕ → Walk → List ℕ → List ℕ
+freed image w bs = fold (with_free w) (plainly_typed image) bs
 
 -- the image as that of a volume without caches: of the type without, and the blocks of right caches free in the bitmap
 abbrev pub uncached : List ℕ → Walk → List ℕ
-uncached image w = freed image (right_blocks image w)
+uncached image w = freed image w (right_blocks image w)
 
 -- the fault of the first of these blocks that is free in the bitmap
-abbrev pub free_fault : List ℕ → List ℕ → Option Fault
-free_fault image bs = option_map (λ b. fault b OwnedFree) (find (is_free image) bs)
+abbrev pub free_fault : List ℕ → Walk → List ℕ → Option Fault
+free_fault image w bs = option_map (λ b. fault b OwnedFree) (find (is_free image w) bs)
 
 -- the fault of the wrong cache of a directory, at its header; if none is wrong, of a block of a cache that is free in the bitmap
 abbrev pub fault_if_wrong : List ℕ → Walk → Option ℕ → Option Fault
 fault_if_wrong image w (Some d) = Some (fault (directory_header image w d) DirCache)
-fault_if_wrong image w None = free_fault image (cache_blocks image w)
+fault_if_wrong image w None = free_fault image w (cache_blocks image w)
 
 -- the fault of the caches, if they have one
 abbrev pub cache_fault : List ℕ → Walk → Option Fault

@@ -2,14 +2,12 @@
 
 ghost use Rattle.std.specs.Prelude.{◌≡◌, ◌==◌, ◌+◌, ◌*◌, ◌≤◌, ◌<◌, length};
 ghost use Rattle.std.specs.Int.{bit_at};
-ghost use Rattle.adf_volume.specs.Image.{root_of};
-ghost use Rattle.adf_uncached.specs.Bits.{bit_of, is_free, map_ext_named, page_named, page_of, with_bit, with_free};
-ghost use Rattle.adf_uncached.specs.Bits.{word_at, word_of};
+ghost use Rattle.adf_findings.specs.Survey.{OnSurvey};
+ghost use Rattle.adf_uncached.specs.Bits.{bit_of, is_free, is_free_on, page_of, with_bit, with_free, with_free_on, word_at, word_of};
 
 use adf_base::{BLOCK_LEN, Block, set_word};
-use adf_blocks::{
-    FIRST_MAP_EXT, FIRST_PAGE, MAP_EXT_NEXT, MAP_EXT_PAGES, PAGE_BITS, PAGE_FIRST, ROOT_PAGES,
-};
+use adf_blocks::{PAGE_BITS, PAGE_FIRST};
+use adf_findings::Survey;
 
 // The word of a bitmap page that makes the sum of its words 0.
 const PAGE_SUM: usize = 0;
@@ -25,38 +23,11 @@ fn word_at(image: &[u8], b: u32, i: usize) -> u32
     }
 }
 
-// The block of bitmap extension block `j`.
-#[tactic(auto, using(crate::proofs::BitSteps::map_ext_more))]
-fn map_ext_named(image: &[u8], root: u32, j: u32) -> u32
-    requires { root ≡ root_of image.now }
-    ensures { result ≡ map_ext_named image.now j }
+// The page with the bit of a block, if the survey found it.
+fn page_of(survey: &Survey<'_>, b: u32) -> Option<u32>
+    ensures { OnSurvey survey.now.image (λ w _. result ≡ page_of w b) }
 {
-    let mut b = word_at(image, root, FIRST_MAP_EXT);
-    for _k in 0..j {
-        b = word_at(image, b, MAP_EXT_NEXT);
-    }
-    b
-}
-
-// The block of page `k`.
-fn page_named(image: &[u8], root: u32, k: u32) -> u32
-    requires { root ≡ root_of image.now }
-    ensures { result ≡ page_named image.now k }
-{
-    if k < ROOT_PAGES as u32 {
-        return word_at(image, root, FIRST_PAGE + k as usize);
-    }
-    let rest = k - ROOT_PAGES as u32;
-    let holder = map_ext_named(image, root, rest / MAP_EXT_PAGES as u32);
-    word_at(image, holder, rest as usize % MAP_EXT_PAGES)
-}
-
-// The page with the bit of a block.
-fn page_of(image: &[u8], root: u32, b: u32) -> u32
-    requires { root ≡ root_of image.now }
-    ensures { result ≡ page_of image.now b }
-{
-    page_named(image, root, b.saturating_sub(2) / PAGE_BITS)
+    survey.page_of(b.max(2))
 }
 
 // The word with the bit of a block.
@@ -84,15 +55,21 @@ fn is_set(word: u32, bit: u32) -> bool
     (word >> bit) & 1 == 1
 }
 
-/// Whether a block is free in the bitmap of an image, where the root is in block `root`.
-pub fn is_free(image: &[u8], root: u32, b: u32) -> bool
-    requires { root ≡ root_of image.now }
-    ensures { result ≡ is_free image.now b }
+// Whether the bit of a block is set in a page; it is not where there is none.
+fn is_free_on(image: &[u8], page: Option<u32>, b: u32) -> bool
+    ensures { result ≡ is_free_on image.now page b }
 {
-    is_set(
-        word_at(image, page_of(image, root, b), word_of(b)),
-        bit_of(b),
-    )
+    match page {
+        Some(page) => is_set(word_at(image, page, word_of(b)), bit_of(b)),
+        None => false,
+    }
+}
+
+/// Whether a block is free in the bitmap of the image of a survey.
+pub fn is_free(survey: &Survey<'_>, b: u32) -> bool
+    ensures { OnSurvey survey.now.image (λ w _. result ≡ is_free survey.now.image w b) }
+{
+    is_free_on(survey.image(), page_of(survey, b), b)
 }
 
 // Sets a bit of word `i` of a page, and makes the checksum less by as much.
@@ -110,16 +87,22 @@ fn set_bit(copy: &mut [u8], page: u32, i: usize, bit: u32)
     set_word(copy, page, PAGE_SUM, sum);
 }
 
-/// Makes a block free in the bitmap of a copy of an image, where the root is in block `root` of the image.
-pub fn set_free(image: &[u8], root: u32, copy: &mut [u8], b: u32)
-    requires { root ≡ root_of image.now }
-    ensures { copy.new ≡ with_free image.now copy.old b }
+// Makes a block free in a page of a copy of an image, if there is one.
+fn set_free_on(copy: &mut [u8], page: Option<u32>, b: u32)
+    ensures { copy.new ≡ with_free_on copy.old page b }
 {
-    let page = page_of(image, root, b);
+    let Some(page) = page else { return };
     let i = word_of(b);
     let bit = bit_of(b);
     let is_inside = (page as usize) < copy.len() / BLOCK_LEN;
     if is_inside && !is_set(word_at(copy, page, i), bit) {
         set_bit(copy, page, i, bit);
     }
+}
+
+/// Makes a block free in the bitmap of a copy of the image of a survey, if the survey found its page.
+pub fn set_free(survey: &Survey<'_>, copy: &mut [u8], b: u32)
+    ensures { OnSurvey survey.now.image (λ w _. copy.new ≡ with_free w copy.old b) }
+{
+    set_free_on(copy, page_of(survey, b), b);
 }

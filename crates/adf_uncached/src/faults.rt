@@ -2,12 +2,11 @@
 
 ghost use Rattle.std.specs.Prelude.{◌≡◌, find, length};
 ghost use Rattle.std.specs.List.{range_with_len};
-ghost use Rattle.adf_findings.specs.Members.{has_mark};
-ghost use Rattle.adf_volume.specs.Image.{root_of};
+ghost use Rattle.adf_findings.specs.{Members.has_mark, Survey.OnSurvey};
 ghost use Rattle.adf_uncached.specs.Bits.{is_free};
 
 use crate::bits::is_free;
-use adf_findings::has_mark;
+use adf_findings::{Survey, has_mark};
 
 /// The first thing that has a mark.
 pub fn first_marked(marks: &Vec<bool>) -> Option<usize>
@@ -21,13 +20,12 @@ pub fn first_marked(marks: &Vec<bool>) -> Option<usize>
     None
 }
 
-/// The first of these blocks that is free in the bitmap of an image, where the root is in block `root`.
-pub fn first_free(image: &[u8], root: u32, blocks: &[u32]) -> Option<u32>
-    requires { root ≡ root_of image.now }
-    ensures { result ≡ find (is_free image.now) blocks.now }
+/// The first of these blocks that is free in the bitmap of the image of a survey.
+pub fn first_free(survey: &Survey<'_>, blocks: &[u32]) -> Option<u32>
+    ensures { OnSurvey survey.now.image (λ w _. result ≡ find (is_free survey.now.image w) blocks.now) }
 {
     for b in blocks {
-        if is_free(image, root, *b) {
+        if is_free(survey, *b) {
             return Some(*b);
         }
     }

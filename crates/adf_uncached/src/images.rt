@@ -4,7 +4,7 @@ ghost use Rattle.std.specs.Prelude.{◌≡◌, [], IfOk, Some, fold, true};
 ghost use Rattle.adf_blocks.specs.declared.cause.Cause.TheVariants.{DirCache};
 ghost use Rattle.adf_caches.specs.Blocks.{HaveChains, cache_blocks};
 ghost use Rattle.adf_findings.specs.Survey.{OnSurvey};
-ghost use Rattle.adf_volume.specs.{Fault.fault, Image.root_of};
+ghost use Rattle.adf_volume.specs.Fault.{fault};
 ghost use Rattle.adf_uncached.specs.Bits.{with_free};
 ghost use Rattle.adf_uncached.specs.Uncached.{KeepsAs, IsUncached, free_fault, freed, is_cached, plainly_typed};
 
@@ -12,7 +12,7 @@ use crate::bits::set_free;
 use crate::faults::{first_free, first_marked};
 use adf_base::NoMemory;
 use adf_blocks::Cause;
-use adf_caches::{cache_blocks, directory_header, root_block, wrong_caches};
+use adf_caches::{cache_blocks, directory_header, wrong_caches};
 use adf_findings::{Survey, survey};
 use adf_tree::Node;
 use adf_volume::{Fault, fault_at};
@@ -47,22 +47,20 @@ fn plainly_typed(alloc: Global, image: &[u8]) -> Result<Vec<u8>, NoMemory>
     Ok(copy)
 }
 
-// Makes these blocks free in the bitmap of a copy of an image, where the root is in block `root`.
-fn set_all_free(image: &[u8], root: u32, copy: &mut [u8], blocks: &[u32])
-    requires { root ≡ root_of image.now }
-    ensures { copy.new ≡ fold (with_free image.now) copy.old blocks.now }
+// Makes these blocks free in the bitmap of a copy of the image of a survey.
+fn set_all_free(survey: &Survey<'_>, copy: &mut [u8], blocks: &[u32])
+    ensures { OnSurvey survey.now.image (λ w _. copy.new ≡ fold (with_free w) copy.old blocks.now) }
 {
     for b in blocks {
-        set_free(image, root, copy, *b);
+        set_free(survey, copy, *b);
     }
 }
 
-// The fault of the first of these blocks that is free in the bitmap of an image, where the root is in block `root`.
-fn free_fault(image: &[u8], root: u32, blocks: &[u32]) -> Option<Fault>
-    requires { root ≡ root_of image.now }
-    ensures { result ≡ free_fault image.now blocks.now }
+// The fault of the first of these blocks that is free in the bitmap of the image of a survey.
+fn free_fault(survey: &Survey<'_>, blocks: &[u32]) -> Option<Fault>
+    ensures { OnSurvey survey.now.image (λ w _. result ≡ free_fault survey.now.image w blocks.now) }
 {
-    match first_free(image, root, blocks) {
+    match first_free(survey, blocks) {
         Some(b) => Some(fault_at(b, Cause::OwnedFree)),
         None => None,
     }
@@ -84,21 +82,13 @@ fn with_wrong_cache(alloc: Global, image: &[u8], b: u32) -> Result<Uncached, NoM
 fn with_right_caches(alloc: Global, survey: &Survey<'_>) -> Result<Uncached, NoMemory>
     requires { is_cached survey.now.image ≡ true }
     ensures { OnSurvey survey.now.image (λ w _. HaveChains survey.now.image w
-        → IfOk result (λ u. KeepsAs u (freed survey.now.image (cache_blocks survey.now.image w))
-        (cache_blocks survey.now.image w) (free_fault survey.now.image (cache_blocks survey.now.image w)))) }
+        → IfOk result (λ u. KeepsAs u (freed survey.now.image w (cache_blocks survey.now.image w))
+        (cache_blocks survey.now.image w) (free_fault survey.now.image w (cache_blocks survey.now.image w)))) }
 {
-    let image = survey.image();
     let blocks = cache_blocks(alloc, survey)?;
-    let mut copy = plainly_typed(alloc, image)?;
-    let Some(root) = root_block(survey) else {
-        return Ok(Uncached {
-            image: copy,
-            blocks,
-            fault: None,
-        });
-    };
-    let fault = free_fault(image, root, &blocks);
-    set_all_free(image, root, &mut copy, &blocks);
+    let mut copy = plainly_typed(alloc, survey.image())?;
+    let fault = free_fault(survey, &blocks);
+    set_all_free(survey, &mut copy, &blocks);
     Ok(Uncached {
         image: copy,
         blocks,
