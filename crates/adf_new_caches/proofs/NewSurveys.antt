@@ -18,7 +18,8 @@ use Rattle.adf_volume.specs.Walk.{Role, Walk, Has, HeadAt, DirAt, NamesPage, Ask
 use Rattle.adf_volume.specs.Walk.{Role.Root, Role.Page, Role.MapExt, Role.Head, Role.Ext, Role.Data}
 use Rattle.adf_volume.proofs.{Gathered.root_in, Images.map_exts_high, LayoutRoles.part_owned, TreeOrder.is_dir}
 use Rattle.adf_volume.proofs.Lists.{at_below, at_fun, at_some, fails_not_all, one_member}
-use Rattle.adf_findings.specs.{Demands.demands_in, Forms.Tells, Members.at_role, Members.owns, Survey.JudgementValue.clean, Survey.JudgementValue.reported, Survey.JudgementValue.skipped}
+use Rattle.adf_findings.specs.{Demands.demands_in, Forms.Tells, Members.at_role, Members.owns, Survey.JudgementValue.clean}
+use Rattle.adf_findings.specs.Survey.{JudgementValue.reported, JudgementValue.skipped}
 use Rattle.adf_findings.specs.Survey.{Course, IsCourse, IsDone, OnSurvey, BootTells.other_type, IsCourse.start, IsCourse.step}
 use Rattle.adf_findings.specs.Survey.{IsSurvey.read, IsSurvey.unread, RootTells.clean_root}
 use Rattle.adf_findings.proofs.{BitSteps.has_page, RoleBlocks.lacks_at}

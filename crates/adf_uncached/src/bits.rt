@@ -3,7 +3,8 @@
 ghost use Rattle.std.specs.Prelude.{◌≡◌, ◌==◌, ◌+◌, ◌*◌, ◌≤◌, ◌<◌, length};
 ghost use Rattle.std.specs.Int.{bit_at};
 ghost use Rattle.adf_findings.specs.Survey.{OnSurvey};
-ghost use Rattle.adf_uncached.specs.Bits.{bit_of, is_free, is_free_on, page_of, with_bit, with_free, with_free_on, word_at, word_of};
+ghost use Rattle.adf_uncached.specs.Bits.{bit_of, is_free, is_free_on, page_of, with_bit, with_free, with_free_on};
+ghost use Rattle.adf_uncached.specs.Bits.{word_at, word_of};
 
 use adf_base::{BLOCK_LEN, Block, set_word};
 use adf_blocks::{PAGE_BITS, PAGE_FIRST};
