@@ -2,9 +2,8 @@
 
 ghost use Rattle.std.specs.Prelude.{◌≡◌, IfOk};
 
-use adf_cmd::{Device, Sink, Source};
-use adf_runs::{SeekingDevice, read_excerpt};
-use adf_test_devices::Given;
+use crate::memory::Given;
+use adf_runs::{Device, SeekingDevice, Sink, Source, read_excerpt};
 use std::io;
 use std::io::{Read, Seek, SeekFrom, Write};
 

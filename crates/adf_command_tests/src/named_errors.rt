@@ -1,8 +1,8 @@
 // Standard error with the name of a program before each line.
 
+use crate::memory::Kept;
 use adf_file_runs::NamedErrors;
 use adf_runs::{Sink, say};
-use adf_test_devices::Kept;
 use std::alloc::Global;
 
 // What is kept of texts that are said one after the other, by a device that takes at most so many bytes a call and fails once
