@@ -2,7 +2,7 @@
 use Rattle.std.proofs.Common.{◌≡◌, ◌+◌, ◌*◌, ◌-◌, ◌/◌, ◌∙◌, inl, ℕ, Bool, List, Option, None, Some, IfSome, ap, arith, drop, length, min, subst, take}
 use Rattle.std.proofs.lemmas.List.{drop_min, length-drop, take-take, take_all, take_min}
 use Rattle.adf_disk_cmd.specs.{Answers.DiskAnswer, Answers.OfBytes, Answers.OfDisk, Answers.OfPartitions, Surveys.IsSurveyed}
-use Rattle.adf_disk_cmd.specs.{Builds.BuildsDisk, Proposals.proposal_reply, Searches.search_reply, Lines.volume_at, Work.IsWorkOf, declared.work.TheConstants.MOST_DISK_BYTES}
+use Rattle.adf_disk_cmd.specs.{Builds.BuildsDisk, Proposals.Proposes, Searches.search_reply, Lines.volume_at, Work.IsWorkOf, declared.work.TheConstants.MOST_DISK_BYTES}
 use Rattle.adf_disk_cmd.specs.declared.work.Work.{Work, TheVariants.Check}
 use Rattle.adf_partitions.specs.{declared.fault.DiskFault.DiskFault, declared.partition.Partition.Partition, declared.place.Place.Place}
 use Rattle.std.proofs.lemmas.Grind.{common_steps}
@@ -57,9 +57,9 @@ search_ends json bytes part w o o' e h = ends_weaker (λ reply. reply ≡ search
     (λ reply tells. subst (λ (l : List ℕ). reply ≡ search_reply json l) e tells) h
 
 pub proposal_ends : (bytes part : List ℕ) (w : Outcome) (o o' : Option (List ℕ)) → part ≡ take MOST_DISK_BYTES bytes
-    → EndsBy (λ reply. reply ≡ proposal_reply part) w o o' → EndsBy (DiskAnswer propose bytes) w o o'
-proposal_ends bytes part w o o' e h = ends_weaker (λ reply. reply ≡ proposal_reply part) (DiskAnswer propose bytes) w o o'
-    (λ reply tells. subst (λ (l : List ℕ). reply ≡ proposal_reply l) e tells) h
+    → EndsBy (Proposes part) w o o' → EndsBy (DiskAnswer propose bytes) w o o'
+proposal_ends bytes part w o o' e h = ends_weaker (Proposes part) (DiskAnswer propose bytes) w o o'
+    (λ reply tells. subst (λ (l : List ℕ). Proposes l reply) e tells) h
 
 -- the work of `check` is that of no other request
 pub checks : (json : Bool) (work : Work) (r : DiskRequestValue) → work ≡ Check json → IsWorkOf work r → r ≡ check json

@@ -1,8 +1,8 @@
 pub mod Endings
 pub mod CheckedLines
 pub mod SearchLines
-pub mod ProposalLines
-pub mod OneAnswer
+pub mod Proposing
+pub mod DamagedTables
 pub mod AnyReading
 pub mod HeldTables
 pub mod NewVolumes

@@ -9,7 +9,7 @@ use Rattle.adf_partitions.specs.{declared.partition.Partition.Partition, declare
 use Rattle.adf_partitions.specs.declared.place.PlaceFault.{PlaceFault, TheVariants.BeyondImage}
 use Rattle.adf_disk_cmd.specs.CommandLine.{AreRefusedByDisk, AsksDisk, DiskRequestValue, WantedValue, build, check, list, name, number, propose, search, volume}
 use Rattle.adf_disk_cmd.specs.{Builds.BuildsDisk, Checks.AreChecked, Checks.check_status, Lines.volume_at, Objects.list_lines, Searches.search_reply}
-use Rattle.adf_disk_cmd.specs.{Proposals.proposal_reply, Replies.told_beside}
+use Rattle.adf_disk_cmd.specs.{Proposals.Proposes, Replies.told_beside}
 use Rattle.adf_disk_cmd.specs.{Surveys.IsSurveyed, Surveys.fault_lines, Surveys.are_faultless, Surveys.stated_at}
 use Rattle.adf_runs.specs.Commands.{Command, Reply, on_output}
 use Rattle.adf_disk_cmd.specs.{declared.list_input.TheConstants.TABLES_LEN, declared.work.TheConstants.MOST_DISK_BYTES}
@@ -87,20 +87,12 @@ OfDisk r bytes reply =
 abbrev pub OfBytes : DiskRequestValue → List ℕ → Reply → Type 0
 OfBytes build bytes reply = BuildsDisk bytes reply
 OfBytes (search json) bytes reply = reply ≡ search_reply json bytes
-OfBytes propose bytes reply = reply ≡ proposal_reply bytes
+OfBytes propose bytes reply = Proposes bytes reply
 OfBytes r bytes reply = OfDisk r bytes reply
 
 -- the answer to a request and an input: what is past the largest disk does not count
 abbrev pub DiskAnswer : DiskRequestValue → List ℕ → Reply → Type 0
 DiskAnswer r input reply = OfBytes r (take MOST_DISK_BYTES input) reply
-
--- words ask for one request at most
-abbrev pub WordsAskForOneDiskRequest : Type 0
-WordsAskForOneDiskRequest = (words : List (List ℕ)) (r q : DiskRequestValue) → AsksDisk words r → AsksDisk words q → r ≡ q
-
--- a request and an input have one answer at most
-abbrev pub DiskRequestsHaveOneAnswer : Type 0
-DiskRequestsHaveOneAnswer = (r : DiskRequestValue) (input : List ℕ) (a b : Reply) → DiskAnswer r input a → DiskAnswer r input b → a ≡ b
 
 -- what is answered of a disk whose tables have a fault, by its partitions, has status 1
 abbrev pub DamagedTablesAreTold : Type 0

@@ -33,7 +33,6 @@ pub use crate::command_line::{DiskRequest, Wanted, disk_words_as_documented, par
 pub use crate::disk_files::new_disk_words_as_documented;
 pub use crate::host_plans::{plans_take_any_bytes, run_plans};
 pub use crate::job::Job;
-pub use crate::proposing::proposals_are_built;
-pub use crate::runner::{damaged_tables_are_told, one_answer, run_files};
+pub use crate::runner::{damaged_tables_are_told, run_files};
 pub use crate::unchecked::large_volumes_are_refused;
 pub use crate::work::{MOST_DISK_BYTES, Sought, Work};

@@ -79,16 +79,8 @@ impl MakingProgram for Job {
     }
 }
 
-/// Words ask for one thing at most, and what is asked of a disk has one answer at most: one status, one output and one text on
-/// errors.
-#[tactic(auto, using(crate::proofs::OneAnswer::one_request))]
-pub fn one_answer()
-    ensures request { WordsAskForOneDiskRequest }
-    ensures answer { DiskRequestsHaveOneAnswer }
-{}
-
 /// What is told of a disk whose tables have a fault, by its partitions, is never told at status 0.
-#[tactic(auto, using(crate::proofs::OneAnswer::damaged_tables_are_told))]
+#[tactic(auto, using(crate::proofs::DamagedTables::damaged_tables_are_told))]
 pub fn damaged_tables_are_told()
     ensures { DamagedTablesAreTold }
 {}

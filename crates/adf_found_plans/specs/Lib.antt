@@ -1,4 +1,2 @@
--- The promise: which of the volumes that were found a plan has, what the plan is, and its text.
-pub mod Choices
+-- The promise: what a plan of found volumes is.
 pub mod FoundPlans
-pub mod WrittenPlans

@@ -1,9 +1,7 @@
 // The choice of those of the volumes found on a disk that a plan can have.
 
-ghost use Rattle.std.specs.Prelude.{◌≡◌, ◌≤◌, ◌<◌, ◌^◌, IfOk, OnOk, ℕ, if◌then◌else◌, length, nat_le, option_copied, slice_index};
-ghost use Rattle.adf_found_plans.specs.Choices.{can_be_planned, can_begin, can_choose_at, choice_before, choice_of, choice_value, last_at};
-ghost use Rattle.adf_found_plans.specs.Choices.{volume_for, volume_numbered, was_chosen, with_number};
-ghost use Rattle.adf_partitions.specs.Places.{end_of};
+ghost use Rattle.std.specs.Prelude.{◌≡◌, All, IfOk, OnOk};
+ghost use Rattle.adf_found_plans.specs.FoundPlans.{IsFound};
 
 use adf_names::Label;
 use adf_partitions::{FoundVolume, MOST_PARTITIONS, Place};
@@ -12,68 +10,58 @@ use std::alloc::{AllocError, Global};
 /// The lowest type of a volume, `DOS\0`.
 pub const FIRST_PLANNED: u32 = 0x444F_5300;
 
-/// The lowest type of a volume with directory caches, `DOS\4`.
-pub const FIRST_WITH_CACHES: u32 = 0x444F_5304;
-
 /// The highest type that a word of a plan names, `DOS\5`.
 pub const LAST_PLANNED: u32 = 0x444F_5305;
 
 /// A choice of volumes that were found.
 #[derive(Drop)]
 pub struct Choice {
-    /// Of each block of the disk the number of the volume that was chosen there, counted from 1; 0 if none begins there.
-    pub numbers: Vec<usize>,
+    /// Of each volume that was found, whether it was chosen.
+    marks: Vec<bool>,
     /// The volumes that were chosen, in the order of their first blocks. No two of them have a block in common.
     pub volumes: Vec<FoundVolume>,
-    /// The place of the last of them.
-    pub last: Place,
+}
+
+/// A volume that can be chosen: its first block, its number among those that were found, from 0, and how many blocks it has.
+#[derive(Clone, Copy, Debug, PartialEq, Eq, PartialOrd, Ord)]
+struct Candidate {
+    first: u64,
+    number: usize,
+    blocks: u64,
 }
 
 // Whether a place ends at a block, or before it.
-fn ends_by(place: Place, block: u64) -> bool
-    ensures { result ≡ nat_le (end_of place) block }
-{
+fn ends_by(place: Place, block: u64) -> bool {
     place.first <= block && place.blocks <= block - place.first
 }
 
 // Whether a volume can be in a plan of a disk of so many blocks.
-fn can_be_planned(volume: &FoundVolume, blocks: u64) -> bool
-    ensures { result ≡ can_be_planned blocks volume.now }
-{
+fn can_be_planned(volume: &FoundVolume, blocks: u64) -> bool {
     1 <= volume.place.blocks
         && ends_by(volume.place, blocks)
         && FIRST_PLANNED <= volume.dos_type
         && volume.dos_type <= LAST_PLANNED
 }
 
-// Puts the number of a volume at its first block, if it can be in a plan.
-fn put_number(numbers: &mut Vec<usize>, volume: &FoundVolume, blocks: u64, number: usize)
-    requires { length numbers.old.items ≡ blocks }
-    ensures length { length numbers.new.items ≡ length numbers.old.items }
-    ensures numbers { (b : ℕ) → b < blocks → slice_index numbers.new.items b
-        ≡ (if can_begin blocks b volume.now then number else slice_index numbers.old.items b) }
-{
-    if can_be_planned(volume, blocks) {
-        numbers[volume.place.first as usize] = number;
-    }
-}
-
-// Of each block the number of the last volume that can begin there, or 0.
-#[tactic(auto, using(crate::proofs::ChoiceSteps::none_put))]
-fn last_numbers(
+// The volumes that can be chosen, in the order of their first blocks.
+fn candidates(
     alloc: Global,
     volumes: &[FoundVolume],
     blocks: u64,
-) -> Result<Vec<usize>, AllocError>
-    requires { blocks ≤ 2 ^ 32 }
-    ensures length { IfOk result (λ numbers. length numbers.items ≡ blocks) }
-    ensures numbers { IfOk result (λ numbers. (b : ℕ) → b < blocks → slice_index numbers.items b ≡ last_at blocks volumes.now b) }
-{
-    let mut numbers = vec![in alloc; 0usize; blocks as usize]?;
-    for (i, volume) in volumes.iter().enumerate() {
-        put_number(&mut numbers, volume, blocks, i + 1);
+) -> Result<Vec<Candidate>, AllocError> {
+    let mut found = Vec::new(alloc);
+    for (number, volume) in volumes.iter().enumerate() {
+        if can_be_planned(volume, blocks) {
+            let Place { first, blocks } = volume.place;
+            found.push(Candidate {
+                first,
+                number,
+                blocks,
+            })?;
+        }
     }
-    Ok(numbers)
+    found.sort()?;
+    Ok(found)
 }
 
 // A copy of a volume that was found.
@@ -88,85 +76,70 @@ fn copy_of(volume: &FoundVolume) -> FoundVolume
     }
 }
 
-// The volume with a number, counted from 1.
-fn volume_numbered(volumes: &[FoundVolume], number: usize) -> Option<&FoundVolume>
-    ensures { option_copied result ≡ volume_numbered volumes.now number }
-{
-    if number == 0 {
-        return None;
+impl Choice {
+    /// Whether the volume with this number, from 0, was chosen.
+    pub fn has(&self, number: usize) -> bool {
+        self.marks.get(number).copied().unwrap_or(false)
     }
-    volumes.get(number - 1)
 }
 
-impl Choice {
-    // Whether one more volume can be chosen, which begins at a block.
-    fn can_choose_at(&self, block: u64) -> bool
-        ensures { result ≡ can_choose_at (choice_value self.now) block }
-    {
-        ends_by(self.last, block) && self.volumes.len() < MOST_PARTITIONS
+// Whether candidate `i` is the last of those with its first block.
+fn is_last(order: &[Candidate], i: usize) -> bool {
+    match (order.get(i), order.get(i.saturating_add(1))) {
+        (Some(one), Some(next)) => one.first != next.first,
+        _ => true,
     }
+}
 
-    // The volume with this number, if it can be chosen at a block.
-    fn volume_for<'a>(
-        &self,
-        volumes: &'a [FoundVolume],
-        block: u64,
-        number: usize,
-    ) -> Option<&'a FoundVolume>
-        ensures { option_copied result ≡ volume_for volumes.now (choice_value self.now) block number }
-    {
-        if self.can_choose_at(block) {
-            volume_numbered(volumes, number)
-        } else {
-            None
-        }
-    }
+// Adds the volume with a number to those that were chosen.
+#[tactic(auto, using(crate::proofs::Firsts::found_more))]
+fn push_found(
+    chosen: &mut Vec<FoundVolume>,
+    found: &[FoundVolume],
+    number: usize,
+) -> Result<(), AllocError>
+    requires { All (IsFound found.now) chosen.old.items }
+    ensures { OnOk result (All (IsFound found.now) chosen.new.items) }
+{
+    let Some(volume) = found.get(number) else {
+        return Ok(());
+    };
+    chosen.push(copy_of(volume))?;
+    Ok(())
+}
 
-    // Adds a block, and the volume with this number if it can be chosen there.
-    fn add(&mut self, volumes: &[FoundVolume], block: u64, number: usize) -> Result<(), AllocError>
-        ensures { OnOk result (choice_value self.new ≡ with_number volumes.now (choice_value self.old) block number) }
-    {
-        match self.volume_for(volumes, block, number) {
-            Some(volume) => {
-                self.last = volume.place;
-                self.volumes.push(copy_of(volume))?;
-                self.numbers.push(number)?;
-            }
-            None => self.numbers.push(0)?,
-        }
-        Ok(())
-    }
-
-    /// Whether a volume, with this number, was chosen.
-    pub fn has(&self, number: usize, volume: &FoundVolume) -> bool
-        ensures { result ≡ was_chosen (choice_value self.now) number volume.now }
-    {
-        match self.numbers.get(volume.place.first as usize) {
-            Some(chosen) => *chosen == number,
-            None => false,
-        }
+// Marks the volume with a number.
+fn set_mark(marks: &mut Vec<bool>, number: usize) {
+    if let Some(mark) = marks.get_mut(number) {
+        *mark = true;
     }
 }
 
 /// The choice of those of the volumes found on a disk of so many blocks that a plan can have, at most 1,024: from its first block
-/// on the last that begins there, ends on the disk, has a type of 0 to 3 and no block of one that was chosen before. The last of
+/// on the last that begins there, ends on the disk, has a type of 0 to 5 and no block of one that was chosen before. The last of
 /// those with one first block is the largest, since its root is the last. `AllocError` if an allocation fails.
-#[tactic(auto, using(crate::proofs::ChoiceSteps::none_chosen, crate::proofs::ChoiceSteps::one_chosen))]
-pub fn choose(alloc: Global, volumes: &[FoundVolume], blocks: u64) -> Result<Choice, AllocError>
-    requires { blocks ≤ 2 ^ 32 }
-    ensures { IfOk result (λ c. choice_value c ≡ choice_of blocks volumes.now) }
+pub fn choose(alloc: Global, found: &[FoundVolume], blocks: u64) -> Result<Choice, AllocError>
+    ensures { IfOk result (λ c. All (IsFound found.now) c.volumes.items) }
 {
-    let last = last_numbers(alloc, volumes, blocks)?;
-    let mut choice = Choice {
-        numbers: Vec::new(alloc),
-        volumes: Vec::new(alloc),
-        last: Place {
-            first: 0,
-            blocks: 0,
-        },
+    let order = candidates(alloc, found, blocks)?;
+    let mut marks = vec![in alloc; false; found.len()]?;
+    let mut volumes = Vec::new(alloc);
+    let mut last = Place {
+        first: 0,
+        blocks: 0,
     };
-    for b in 0..blocks {
-        choice.add(volumes, b, last[b as usize])?;
+    for (i, candidate) in order.iter().enumerate() {
+        let Candidate {
+            first,
+            number,
+            blocks,
+        } = *candidate;
+        if !is_last(&order, i) || !ends_by(last, first) || MOST_PARTITIONS <= volumes.len() {
+            continue;
+        }
+        push_found(&mut volumes, found, number)?;
+        set_mark(&mut marks, number);
+        last = Place { first, blocks };
     }
-    Ok(choice)
+    Ok(Choice { marks, volumes })
 }

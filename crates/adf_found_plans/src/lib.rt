@@ -3,8 +3,8 @@
 
 mod choice;
 mod cylinder;
-mod partitions;
+mod names;
 mod plans;
 
 pub use crate::choice::{Choice, choose};
-pub use crate::plans::{NoPlan, found_plan_text, found_plans_are_read};
+pub use crate::plans::{NoPlan, found_plan_text};

@@ -1,15 +1,21 @@
-// The plan of volumes that were found, and its text.
+// The text of a plan of volumes that were found.
 
-ghost use Rattle.std.specs.Prelude.{◌≡◌, ◌++◌, IfErr, IfOk, OnOk, false, string_bytes, true};
-ghost use Rattle.adf_found_plans.specs.FoundPlans.{fit_plan, found_plan};
-ghost use Rattle.adf_found_plans.specs.WrittenPlans.{FoundPlansAreRead, IsFoundPlanText, given_partition_line, given_words, plan_text};
-ghost use Rattle.adf_found_plans.specs.WrittenPlans.{disk_line, given_partition_lines};
-ghost use Rattle.adf_partitions.specs.Plans.{plan_value};
+ghost use Rattle.std.specs.Prelude.{◌≡◌, ◌≤◌, IfOk, length, string_bytes, true};
+ghost use Rattle.adf_found_plans.specs.FoundPlans.{AreFirstOf, IsPartitionOf, IsPlanOf};
+ghost use Rattle.adf_partitions.specs.Plans.{IsPlan, cylinder_blocks, plan_value};
 
-use crate::cylinder::{fit_plan, found_cylinder};
-use crate::partitions::found_partitions;
-use adf_partitions::{DiskPlan, FoundVolume, PartitionPlan};
+use crate::choice::FIRST_PLANNED;
+use crate::cylinder::found_cylinder;
+use crate::names::found_name;
+use adf_names::{Kind, letters_of_type};
+use adf_partitions::{
+    DiskPlan, DriveName, FileSystem, FoundVolume, PartitionPlan, cylinder_blocks,
+};
+use adf_plans::{TextKind, read_plan};
 use std::alloc::{AllocError, Global};
+
+/// The lowest type of a volume with directory caches, `DOS\4`.
+const FIRST_WITH_CACHES: u32 = 0x444F_5304;
 
 /// Why there is no plan.
 #[derive(Clone, Copy, Debug, PartialEq, Eq)]
@@ -20,88 +26,121 @@ pub enum NoPlan {
     NoMemory,
 }
 
-// The line of a disk.
-fn disk_line(alloc: Global, plan: &DiskPlan) -> Result<String, AllocError>
-    ensures { IfOk result (λ line. string_bytes line ≡ disk_line (plan_value plan.now)) }
-{
-    let sectors = plan.sectors;
-    let heads = plan.heads;
-    format!(in alloc; "disk {sectors} {heads}\n")
-}
-
-// The words of a partition behind its name.
-fn given_words(alloc: Global, partition: &PartitionPlan) -> Result<String, AllocError>
-    ensures { IfOk result (λ words. string_bytes words ≡ given_words partition.now) }
-{
-    let system = partition.system.text();
-    let cylinders = partition.cylinders;
-    format!(in alloc; "{system} {cylinders} given\n")
-}
-
-// Appends the line of a partition whose volume is given.
-fn push_partition(
-    alloc: Global,
-    text: &mut String,
-    partition: &PartitionPlan,
-) -> Result<(), AllocError>
-    ensures { OnOk result (string_bytes text.new ≡ string_bytes text.old ++ given_partition_line partition.now) }
-{
-    let words = given_words(alloc, partition)?;
-    text.push_str("partition ")?;
-    match partition.name.write(text) {
-        Ok(()) => {
-            text.push_str(" ")?;
-            text.push_str(&words)
-        }
-        Err(_) => Err(AllocError),
+impl From<AllocError> for NoPlan {
+    fn from(_e: AllocError) -> NoPlan {
+        NoPlan::NoMemory
     }
 }
 
-// The text of a plan whose volumes are all given.
-fn plan_text(alloc: Global, plan: &DiskPlan) -> Result<String, AllocError>
-    ensures { IfOk result (λ text. string_bytes text ≡ plan_text (plan_value plan.now)) }
+// The file system of a volume of a type.
+fn found_system(dos_type: u32) -> FileSystem {
+    let kind = if dos_type % 2 == 0 {
+        Kind::Ofs
+    } else {
+        Kind::Ffs
+    };
+    if dos_type < FIRST_WITH_CACHES {
+        FileSystem::WithoutCaches(
+            kind,
+            letters_of_type(dos_type.saturating_sub(FIRST_PLANNED)),
+        )
+    } else {
+        FileSystem::WithCaches(kind)
+    }
+}
+
+// Appends the line of the partition of a volume.
+fn push_partition(
+    alloc: Global,
+    text: &mut String,
+    name: &DriveName,
+    volume: &FoundVolume,
+    cylinder: u64,
+) -> Result<(), NoPlan>
+    requires { 1 ≤ cylinder }
 {
-    let mut text = disk_line(alloc, plan)?;
-    for partition in &plan.partitions {
-        push_partition(alloc, &mut text, partition)?;
+    text.push_str("partition ")?;
+    if name.write(text).is_err() {
+        return Err(NoPlan::NoMemory);
+    }
+    let system = found_system(volume.dos_type).text();
+    let cylinders = volume.place.blocks / cylinder;
+    let words = format!(in alloc; " {system} {cylinders} given\n")?;
+    text.push_str(&words)?;
+    Ok(())
+}
+
+// The text of the plan of volumes, each of which is given.
+fn written(alloc: Global, volumes: &[FoundVolume]) -> Result<String, NoPlan> {
+    let cylinder = found_cylinder(volumes);
+    let mut text = format!(in alloc; "disk {cylinder} 1\n")?;
+    for (i, volume) in volumes.iter().enumerate() {
+        match found_name(alloc, &volumes[..i], volume)? {
+            Some(name) => push_partition(alloc, &mut text, &name, volume, cylinder)?,
+            None => return Err(NoPlan::TooLarge),
+        }
     }
     text.push_str("end\n")?;
     Ok(text)
 }
 
-// The plan of volumes.
-fn found_plan(alloc: Global, volumes: &[FoundVolume]) -> Result<DiskPlan, AllocError>
-    requires { fit_plan volumes.now ≡ true }
-    ensures { IfOk result (λ plan. plan_value plan ≡ found_plan volumes.now) }
+// Whether a partition of a plan is that of a volume.
+fn is_partition_of(cylinder: u32, partition: &PartitionPlan, volume: &FoundVolume) -> bool
+    ensures { result ≡ true → IsPartitionOf cylinder partition.now volume.now }
 {
-    Ok(DiskPlan {
-        sectors: found_cylinder(volumes) as u32,
-        heads: 1,
-        partitions: found_partitions(alloc, volumes)?,
-    })
+    partition.given
+        && partition.system.planned_type() == volume.dos_type
+        && u64::from(partition.cylinders) * u64::from(cylinder) == volume.place.blocks
 }
 
-/// The text of the plan of volumes that were found, each of which is given: whatever stands behind it, it is read as this plan.
-/// A cylinder has as many blocks, at most 2,048, as divide each volume; a partition has the label of its volume as its name, if a
-/// word can be that and no volume before has it, else `DH` and its number, from 0. `TooLarge` if and only if no plan can have all
-/// of them, `NoMemory` if an allocation fails.
-#[tactic(auto, using(crate::proofs::FoundLaws::found_plans_are_read))]
-pub fn found_plan_text(alloc: Global, volumes: &[FoundVolume]) -> Result<String, NoPlan>
-    ensures fit { IfOk result (λ _. fit_plan volumes.now ≡ true) }
-    ensures text { IfOk result (λ text. string_bytes text ≡ plan_text (found_plan volumes.now)) }
-    ensures read { IfOk result (λ _. IsFoundPlanText volumes.now) }
-    ensures refused { IfErr result (λ e. e ≡ NoPlan.TooLarge → fit_plan volumes.now ≡ false) }
+// Whether the partitions of a plan are those of volumes.
+#[tactic(auto, using(crate::proofs::Firsts::one_more))]
+fn are_partitions_of(plan: &DiskPlan, volumes: &[FoundVolume]) -> bool
+    requires { IsPlan (plan_value plan.now) }
+    ensures count { result ≡ true → length plan.now.partitions.items ≡ length volumes.now }
+    ensures each { result ≡ true → AreFirstOf (length volumes.now) (cylinder_blocks (plan_value plan.now)) plan.now.partitions.items volumes.now }
 {
-    if !fit_plan(volumes) {
-        return Err(NoPlan::TooLarge);
+    let cylinder = cylinder_blocks(plan);
+    if plan.partitions.len() != volumes.len() {
+        return false;
     }
-    let Ok(plan) = found_plan(alloc, volumes) else {
-        return Err(NoPlan::NoMemory);
-    };
-    plan_text(alloc, &plan).map_err(|_| NoPlan::NoMemory)
+    for i in 0..volumes.len() {
+        let (Some(partition), Some(volume)) = (plan.partitions.get(i), volumes.get(i)) else {
+            return false;
+        };
+        if !is_partition_of(cylinder, partition, volume) {
+            return false;
+        }
+    }
+    true
 }
 
-/// The text that is written for volumes is read as their plan.
-pub fn found_plans_are_read()
-    ensures { FoundPlansAreRead }
-{}
+// Whether a text is read as the plan of volumes.
+fn is_read(alloc: Global, text: &[u8], volumes: &[FoundVolume]) -> Result<bool, AllocError>
+    ensures { IfOk result (λ is. is ≡ true → IsPlanOf text.now volumes.now) }
+{
+    match read_plan(alloc, text) {
+        Ok((plan, rest)) => {
+            if !rest.is_empty() {
+                return Ok(false);
+            }
+            Ok(are_partitions_of(&plan, volumes))
+        }
+        Err(fault) if fault.kind == TextKind::NoMemory => Err(AllocError),
+        Err(_) => Ok(false),
+    }
+}
+
+/// The text of the plan of volumes that were found, each of which is given: it is read as this plan. A cylinder has as many blocks, at
+/// most 2,048, as divide each volume; a partition has the label of its volume as its name, if a word can be that and no volume before
+/// has it, else `DH` and its number, from 0. `TooLarge` if no plan can have all of them, `NoMemory` if an allocation fails.
+pub fn found_plan_text(alloc: Global, volumes: &[FoundVolume]) -> Result<String, NoPlan>
+    ensures { IfOk result (λ text. IsPlanOf (string_bytes text) volumes.now) }
+{
+    let text = written(alloc, volumes)?;
+    if is_read(alloc, text.as_bytes(), volumes)? {
+        Ok(text)
+    } else {
+        Err(NoPlan::TooLarge)
+    }
+}

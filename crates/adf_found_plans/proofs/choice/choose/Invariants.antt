@@ -1,6 +1,6 @@
-use Rattle.std.proofs.Common.{◌≡◌}
-use Rattle.adf_found_plans.specs.Choices.{choice_before, choice_value}
+use Rattle.std.proofs.Common.{All}
+use Rattle.adf_found_plans.specs.FoundPlans.{IsFound}
 use Rattle.adf_found_plans.proofs.choice.choose.Given as goal
 
-abbrev pub invariant-loop-b : goal.invariant-loop-b
-invariant-loop-b l = choice_value l.choice ≡ choice_before l.blocks l.volumes l.b
+abbrev pub invariant-loop-i : goal.invariant-loop-i
+invariant-loop-i l = All (IsFound l.found) l.volumes.items

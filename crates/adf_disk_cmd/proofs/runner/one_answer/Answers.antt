@@ -1,5 +1,0 @@
-use Rattle.adf_disk_cmd.proofs.OneAnswer.{one_answer}
-use Rattle.adf_disk_cmd.proofs.runner.one_answer.Goals as goal
-
-pub returns-clause-answer : goal.returns-clause-answer
-returns-clause-answer c = λ r input a b x y. one_answer r input a b x y
