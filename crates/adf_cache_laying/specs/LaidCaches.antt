@@ -1,6 +1,6 @@
 -- Directory caches that are laid into a volume of type 2 or 3.
 -- Letters: w the walk of the volume's survey, fs its findings, v and gs those of the image's; d a directory, n an entry, by their nodes; b a block;
--- i a word; t a tree; l, m layouts.
+-- i a word; t a tree; l, m layouts; boot bytes that begin with the boot blocks that are kept.
 use Rattle.std.specs.Prelude.{◌≡◌, ◌≢◌, ◌<◌, ◌+◌, ◌==◌, ◌⊎◌, ◌||◌, ℕ, Bool, List, None, Some, false, length, set, slice_get, slice_index}
 use Rattle.std.specs.Prelude.{take, true}
 use Rattle.adf_base.specs.Words.{block}
@@ -17,9 +17,10 @@ use Rattle.adf_links.specs.Links.{has_entry}
 use Rattle.adf_caches.specs.Caches.{directory_header, first_cache, is_found_directory}
 use Rattle.adf_uncached.specs.{Cached.FitsCached, Uncached.cache_fault}
 
--- the boot blocks of a volume, of the type with caches, which is 2 more, with a checksum that is right if theirs was
-abbrev pub boot_with_caches : List ℕ → List ℕ
-boot_with_caches volume = restored (set (take BOOT_LEN volume) 3 (slice_index volume 3 + 2)) volume
+-- the boot blocks that are kept, behind the type of a volume with caches, which is 2 more: as they stand, but where their type is another, with a
+-- checksum that is right if theirs was
+abbrev pub boot_with_caches : (volume boot : List ℕ) → List ℕ
+boot_with_caches volume boot = restored (set (take BOOT_LEN volume) 3 (slice_index volume 3 + 2)) boot
 
 -- each directory that is found has a cache: its header names the first block
 abbrev pub AllHaveCaches : List ℕ → Walk → Type 0
@@ -64,10 +65,10 @@ pub record KeepsBlocks (volume image : List ℕ) (w : Walk) : Type 0 where
 abbrev pub KeepsTree : (volume image : List ℕ) → Type 0
 KeepsTree volume image = (t : Tree) (l : Layout) → FitsOf WithInternational volume t l → (m : Layout) × FitsCached image t m
 
--- an image is a volume with directory caches, which are right
-pub record HasCaches (volume image : List ℕ) : Type 0 where
+-- an image is a volume with directory caches, which are right, and with the boot blocks that are kept
+pub record HasCaches (volume boot image : List ℕ) : Type 0 where
   pub long : length image ≡ length volume
-  pub boot : take BOOT_LEN image ≡ boot_with_caches volume
+  pub boots : take BOOT_LEN image ≡ boot_with_caches volume boot
   pub right : OnSurvey image (λ v _. cache_fault image v ≡ None)
   pub all : OnSurvey image (λ v _. AllHaveCaches image v)
   pub found : OnSurvey volume (λ w fs. OnSurvey image (λ v gs. AreFoundAlike (blocks volume) w fs v gs))

@@ -14,27 +14,29 @@ pub fn may_have_caches(image: &[u8]) -> bool
     BOOT_LEN <= image.len() && (image[3] == 2 || image[3] == 3)
 }
 
-/// Gives an image the boot blocks of a volume, of the type with caches.
-pub fn put_boot(image: &mut [u8], volume: &[u8])
+/// Gives an image the type of a volume with caches, and the boot blocks that are kept behind it.
+pub fn put_boot(image: &mut [u8], volume: &[u8], boot: &[u8])
     requires whole { BOOT_LEN ≤ length image.old }
-    requires boot { BOOT_LEN ≤ length volume.now }
+    requires volume { BOOT_LEN ≤ length volume.now }
+    requires boot { BOOT_LEN ≤ length boot.now }
     requires low { slice_index volume.now 3 < 4 }
-    ensures { image.new ≡ restored (set image.old 3 (slice_index volume.now 3 + 2)) volume.now }
+    ensures { image.new ≡ restored (set image.old 3 (slice_index volume.now 3 + 2)) boot.now }
 {
     image[3] = volume[3] + 2;
-    restore(image, volume);
+    restore(image, boot);
 }
 
-// The boot blocks of a volume, of the type with caches.
-fn boot_with_caches(volume: &[u8]) -> [u8; BOOT_LEN]
-    requires boot { BOOT_LEN ≤ length volume.now }
+// The boot blocks that are kept, behind the type of a volume with caches.
+fn boot_with_caches(volume: &[u8], boot: &[u8]) -> [u8; BOOT_LEN]
+    requires volume { BOOT_LEN ≤ length volume.now }
+    requires boot { BOOT_LEN ≤ length boot.now }
     requires low { slice_index volume.now 3 < 4 }
-    ensures { result ≡ boot_with_caches volume.now }
+    ensures { result ≡ boot_with_caches volume.now boot.now }
 {
-    let mut boot = [0u8; BOOT_LEN];
-    boot.copy_from_slice(&volume[..BOOT_LEN]);
-    put_boot(&mut boot, volume);
-    boot
+    let mut blocks = [0u8; BOOT_LEN];
+    blocks.copy_from_slice(&volume[..BOOT_LEN]);
+    put_boot(&mut blocks, volume, boot);
+    blocks
 }
 
 // The boot blocks of an image, if it has them.
@@ -48,13 +50,14 @@ fn boot_of(image: &[u8]) -> Option<&[u8]>
     }
 }
 
-/// Whether an image has the boot blocks of a volume, of the type with caches.
-pub fn has_boot(volume: &[u8], image: &[u8]) -> bool
-    requires boot { BOOT_LEN ≤ length volume.now }
+/// Whether an image has the boot blocks that are kept, behind the type of a volume with caches.
+pub fn has_boot(volume: &[u8], boot: &[u8], image: &[u8]) -> bool
+    requires volume { BOOT_LEN ≤ length volume.now }
+    requires boot { BOOT_LEN ≤ length boot.now }
     requires low { slice_index volume.now 3 < 4 }
-    ensures { result ≡ true → take BOOT_LEN image.now ≡ boot_with_caches volume.now }
+    ensures { result ≡ true → take BOOT_LEN image.now ≡ boot_with_caches volume.now boot.now }
 {
-    let wanted = boot_with_caches(volume);
+    let wanted = boot_with_caches(volume, boot);
     match boot_of(image) {
         Some(boot) => boot == wanted.as_slice(),
         None => false,

@@ -52,14 +52,20 @@ fn has_right_caches(alloc: Global, volume: &[u8], image: &[u8]) -> Result<bool, 
     Ok(keeps)
 }
 
-// Whether an image is a volume with directory caches. `NoMemory` if an allocation fails.
-fn is_with_caches(alloc: Global, found: &Survey<'_>, image: &[u8]) -> Result<bool, NoMemory>
-    requires boot { BOOT_LEN ≤ length found.now.image }
+// Whether an image is a volume with directory caches, with the boot blocks that are kept. `NoMemory` if an allocation fails.
+fn is_with_caches(
+    alloc: Global,
+    found: &Survey<'_>,
+    boot: &[u8],
+    image: &[u8],
+) -> Result<bool, NoMemory>
+    requires volume { BOOT_LEN ≤ length found.now.image }
+    requires boot { BOOT_LEN ≤ length boot.now }
     requires low { slice_index found.now.image 3 < 4 }
-    ensures { IfOk result (λ has. has ≡ true → HasCaches found.now.image image.now) }
+    ensures { IfOk result (λ has. has ≡ true → HasCaches found.now.image boot.now image.now) }
 {
     let volume = found.image();
-    if image.len() != volume.len() || !has_boot(volume, image) {
+    if image.len() != volume.len() || !has_boot(volume, boot, image) {
         return Ok(false);
     }
     let stands = stands_with_caches(alloc, found, image)?;
@@ -70,12 +76,18 @@ fn is_with_caches(alloc: Global, found: &Survey<'_>, image: &[u8]) -> Result<boo
     Ok(right)
 }
 
-// The volume of a survey with directory caches.
-fn with_caches(alloc: Global, found: &Survey<'_>, root: u32) -> Result<Option<Vec<u8>>, NoMemory>
+// The volume of a survey with directory caches, and with the boot blocks that are kept.
+fn with_caches(
+    alloc: Global,
+    found: &Survey<'_>,
+    boot: &[u8],
+    root: u32,
+) -> Result<Option<Vec<u8>>, NoMemory>
     requires root { root ≡ root_of found.now.image }
-    requires boot { BOOT_LEN ≤ length found.now.image }
+    requires volume { BOOT_LEN ≤ length found.now.image }
+    requires boot { BOOT_LEN ≤ length boot.now }
     requires low { slice_index found.now.image 3 < 4 }
-    ensures { IfOk result (λ laid. IfSome laid (λ image. HasCaches found.now.image image.items)) }
+    ensures { IfOk result (λ laid. IfSome laid (λ image. HasCaches found.now.image boot.now image.items)) }
 {
     let Some(mut image) = laid(alloc, found, root)? else {
         return Ok(None);
@@ -83,25 +95,26 @@ fn with_caches(alloc: Global, found: &Survey<'_>, root: u32) -> Result<Option<Ve
     if image.len() < BOOT_LEN {
         return Ok(None);
     }
-    put_boot(&mut image, found.image());
-    match is_with_caches(alloc, found, &image)? {
+    put_boot(&mut image, found.image(), boot);
+    match is_with_caches(alloc, found, boot, &image)? {
         true => Ok(Some(image)),
         false => Ok(None),
     }
 }
 
 /// A volume of type 2 or 3 with directory caches: one of type 4 or 5 with a cache for each directory, in the first free blocks of
-/// its bitmap. `None` if it has not enough of them, if it is of another type or has a fault other than links, or if what is laid is
-/// not found to be right. `NoMemory` if an allocation fails.
-pub fn lay_caches(alloc: Global, volume: &[u8]) -> Result<Option<Vec<u8>>, NoMemory>
-    ensures { IfOk result (λ laid. IfSome laid (λ image. HasCaches volume.now image.items)) }
+/// its bitmap, and with the boot blocks that `boot` begins with. They stay as they are, but where their type is another, their
+/// checksum is made right if it was. `None` if the volume has not enough free blocks, if it is of another type or has a fault
+/// other than links, if `boot` is too short, or if what is laid is not found to be right. `NoMemory` if an allocation fails.
+pub fn lay_caches(alloc: Global, volume: &[u8], boot: &[u8]) -> Result<Option<Vec<u8>>, NoMemory>
+    ensures { IfOk result (λ laid. IfSome laid (λ image. HasCaches volume.now boot.now image.items)) }
 {
-    if !may_have_caches(volume) {
+    if !may_have_caches(volume) || boot.len() < BOOT_LEN {
         return Ok(None);
     }
     let found = survey(alloc, volume)?;
     match root_block(&found) {
-        Some(root) if are_of_type_or_links(&found) => with_caches(alloc, &found, root),
+        Some(root) if are_of_type_or_links(&found) => with_caches(alloc, &found, boot, root),
         _ => Ok(None),
     }
 }

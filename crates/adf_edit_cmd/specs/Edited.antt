@@ -166,10 +166,15 @@ StopsPlain s given old stop = StopsTree s given old.tree old.blocks stop
 abbrev pub has_caches_after : ScriptValue → OldDisk → Bool
 has_caches_after s old = caches_by s.settings.letters old.caches
 
--- the new image is a volume with directory caches, or the volume itself
-abbrev pub IsCachedIf : (caches : Bool) → (plain new : List ℕ) → Type 0
-IsCachedIf true plain new = HasCaches plain new
-IsCachedIf false plain new = new ≡ plain
+-- the bytes that begin with the boot blocks of a new volume with directory caches: those of the old image, or those that the script asks for
+abbrev pub boot_kept : Option BootEdit → (image plain : List ℕ) → List ℕ
+boot_kept None image plain = image
+boot_kept (Some edit) image plain = plain
+
+-- the new image is a volume with directory caches and these boot blocks, or the volume itself
+abbrev pub IsCachedIf : (caches : Bool) → (boot plain new : List ℕ) → Type 0
+IsCachedIf true boot plain new = HasCaches plain boot new
+IsCachedIf false boot plain new = new ≡ plain
 
 -- why a volume gets no caches, if it is to have them
 abbrev pub IsCacheStop : (caches : Bool) → Stop → Type 0
@@ -179,7 +184,9 @@ IsCacheStop _ _ = ⊥
 
 -- the new image is laid for the tree of a disk after all edits, with directory caches if it is to have them
 abbrev pub IsByDisk : ScriptValue → List ℕ → OldDisk → List ℕ → Type 0
-IsByDisk s given old new = (plain : List ℕ) × IsPlainByDisk s given old plain × IsCachedIf (has_caches_after s old) plain new
+IsByDisk s given old new =
+    (plain : List ℕ) × IsPlainByDisk s given old plain
+    × IsCachedIf (has_caches_after s old) (boot_kept s.settings.boot old.boot plain) plain new
 
 -- why there is none: what stops the volume, or its caches
 abbrev pub StopsDisk : ScriptValue → List ℕ → OldDisk → Stop → Type 0

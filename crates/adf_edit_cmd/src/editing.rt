@@ -6,7 +6,7 @@ ghost use Rattle.adf_boot_blocks.specs.{BootBlocks.IsOtherBoot, BootBlocks.begin
 ghost use Rattle.adf_boot_blocks.specs.declared.boot.TheConstants.{BOOT_LEN};
 ghost use Rattle.adf_edits.specs.{Edits.edit_value, Edits.edited, Outline.outline_of};
 ghost use Rattle.adf_edit_cmd.specs.Edited.{IsByDisk, IsByScript, IsCacheStop, IsCachedIf, IsDepthStop, IsEdited, IsFullStop, IsLaidOver};
-ghost use Rattle.adf_edit_cmd.specs.Edited.{IsPlainByDisk, StopsPlain};
+ghost use Rattle.adf_edit_cmd.specs.Edited.{IsPlainByDisk, StopsPlain, boot_kept};
 ghost use Rattle.adf_edit_cmd.specs.Edited.{IsLineStop, IsShallow, StopsDisk, StopsInput, StopsOn, booted, disk_of, outline_after};
 ghost use Rattle.adf_edit_cmd.specs.declared.script.BootEdit.TheVariants.{Install};
 
@@ -211,15 +211,33 @@ fn by_old(alloc: Global, old: &Old<'_>, script: Script, given: &[u8]) -> Result<
     }
 }
 
-// A volume, with a cache for each directory if it is to have them.
-fn with_caches(alloc: Global, volume: Vec<u8>, has_caches: bool) -> Result<Vec<u8>, Stop>
-    ensures ok { IfOk result (λ new. IsCachedIf has_caches volume.items new.items) }
+// The bytes that begin with the boot blocks of a volume with directory caches: those of the old image, or those asked for.
+fn boot_kept<'a>(boot: Option<BootEdit>, image: &'a [u8], volume: &'a [u8]) -> &'a [u8]
+    ensures { result.now ≡ boot_kept boot image.now volume.now }
+{
+    match boot {
+        None => image,
+        Some(_) => volume,
+    }
+}
+
+// A volume, with a cache for each directory if it is to have them. It then has the boot blocks that are asked for, or else those of
+// an image behind the type.
+fn with_caches(
+    alloc: Global,
+    volume: Vec<u8>,
+    has_caches: bool,
+    boot: Option<BootEdit>,
+    image: &[u8],
+) -> Result<Vec<u8>, Stop>
+    ensures ok { IfOk result (λ new.
+        IsCachedIf has_caches (boot_kept boot image.now volume.items) volume.items new.items) }
     ensures stop { IfErr result (IsCacheStop has_caches) }
 {
     if !has_caches {
         return Ok(volume);
     }
-    match lay_caches(alloc, &volume) {
+    match lay_caches(alloc, &volume, boot_kept(boot, image, &volume)) {
         Ok(Some(image)) => Ok(image),
         Ok(None) => Err(Stop::NoCacheRoom),
         Err(_) => Err(Stop::NoMemory),
@@ -234,8 +252,9 @@ fn by_disk(alloc: Global, old: &Old<'_>, script: Script, given: &[u8]) -> Result
     ensures stop { IfErr result (StopsDisk script given.now (disk_of old.now)) }
 {
     let has_caches = caches_after(script.settings.letters, old.caches);
+    let boot = script.settings.boot;
     let plain = by_old(alloc, old, script, given)?;
-    match with_caches(alloc, plain, has_caches) {
+    match with_caches(alloc, plain, has_caches, boot, old.boot) {
         Ok(new) => Ok(new),
         Err(stop) => Err(stop),
     }

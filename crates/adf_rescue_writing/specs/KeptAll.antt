@@ -46,25 +46,25 @@ losses_beside image w kept ls = flat_map (loss_beside image w kept) ls
 abbrev pub MayHaveLinks : (input volume linked : List ℕ) → List Bool → Type 0
 MayHaveLinks input volume linked kept = HasLinks input volume linked kept ⊎ ((linked ≡ volume) × (kept ≡ []))
 
--- a volume has directory caches, since the input has them; or it is as it was
-abbrev pub MayHaveCaches : (input volume image : List ℕ) → Type 0
-MayHaveCaches input volume image = ((is_cached input ≡ true) × HasCaches volume image) ⊎ (image ≡ volume)
+-- a volume has directory caches, since the input has them, and the boot blocks that are kept; or it is as it was
+abbrev pub MayHaveCaches : (input boot volume image : List ℕ) → Type 0
+MayHaveCaches input boot volume image = ((is_cached input ≡ true) × HasCaches volume boot image) ⊎ (image ≡ volume)
 
--- an image is a volume with what is kept of an input beside it: with links, which are marked, and with directory caches
-abbrev pub IsKeptAll : (input volume image : List ℕ) → List Bool → Type 0
-IsKeptAll input volume image kept = (linked : List ℕ) × MayHaveLinks input volume linked kept × MayHaveCaches input linked image
+-- an image is a volume with what is kept of an input beside it: with links, which are marked, and with directory caches and the boot blocks
+abbrev pub IsKeptAll : (input boot volume image : List ℕ) → List Bool → Type 0
+IsKeptAll input boot volume image kept = (linked : List ℕ) × MayHaveLinks input volume linked kept × MayHaveCaches input boot linked image
 
 -- r is q with all that is kept of an input beside its volume; no loss tells of that any more, but of links that nothing led to it tells that they are in doubt
-abbrev pub KeepsAll : (input : List ℕ) → (q r : RescueValue) → Type 0
-KeepsAll input (written volume ls) r =
+abbrev pub KeepsAll : (input boot : List ℕ) → (q r : RescueValue) → Type 0
+KeepsAll input boot (written volume ls) r =
     (x : Surveyed) × (searched : List ℕ) × (image : List ℕ) × (kept : List Bool)
-    × IsReadSurvey input x × IsSearched (lacks_root input) x searched × IsKeptAll searched volume image kept
+    × IsReadSurvey input x × IsSearched (lacks_root input) x searched × IsKeptAll searched boot volume image kept
     × (r ≡ written image (losses_beside x.image x.walk kept ls))
-KeepsAll input (refused f ls) r = ⊥
+KeepsAll input boot (refused f ls) r = ⊥
 
 -- r is given, or is what is given with all that is kept beside it
-abbrev pub MayKeepAll : (input : List ℕ) → (gives : RescueValue → Type 0) → (r : RescueValue) → Type 0
-MayKeepAll input gives r = gives r ⊎ ((q : RescueValue) × gives q × KeepsAll input q r)
+abbrev pub MayKeepAll : (input boot : List ℕ) → (gives : RescueValue → Type 0) → (r : RescueValue) → Type 0
+MayKeepAll input boot gives r = gives r ⊎ ((q : RescueValue) × gives q × KeepsAll input boot q r)
 
 -- the volume that is laid for a prepared rescue, with the boot blocks put back into it, and its losses
 abbrev pub IsLaidFor : Prepared → (boot : List ℕ) → RescueValue → Type 0
@@ -74,7 +74,7 @@ IsLaidFor p boot r =
 -- the rescue of what is surveyed, with the letters of its image, or that with all that is kept beside it
 abbrev pub RescuesAll : (plus : Bool) → SubjectValue → RescueValue → Type 0
 RescuesAll plus s r =
-    (t : SubjectValue) × IsTyped s t × MayKeepAll t.image (RescuesOf plus WithInternational t.end t.lost t.image (sized 2 s.image)) r
+    (t : SubjectValue) × IsTyped s t × MayKeepAll t.image (sized 2 s.image) (RescuesOf plus WithInternational t.end t.lost t.image (sized 2 s.image)) r
 
 -- the reply with an image on output and lines on errors
 abbrev pub written_reply : (image lines : List ℕ) → Reply

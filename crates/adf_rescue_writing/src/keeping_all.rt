@@ -43,6 +43,13 @@ struct ReadImage {
     made: bool,
 }
 
+// A volume that is laid, and bytes that begin with the boot blocks that it keeps.
+#[derive(Drop)]
+struct LaidVolume<'b> {
+    image: Vec<u8>,
+    boot: &'b [u8],
+}
+
 // Makes an image the one that a rescue reads of it.
 fn read_image(image: &mut [u8])
     ensures { image.new ≡ image_read true image.old }
@@ -83,14 +90,19 @@ fn with_links(alloc: Global, input: &[u8], volume: Vec<u8>) -> Result<Linked, No
     }
 }
 
-// A volume with directory caches, if the input has them and they can be laid; otherwise as it is.
-fn with_caches(alloc: Global, input: &[u8], volume: Vec<u8>) -> Result<Vec<u8>, NoMemory>
-    ensures { IfOk result (λ image. MayHaveCaches input.now volume.items image.items) }
+// A volume with directory caches and these boot blocks, if the input has caches and they can be laid; otherwise as it is.
+fn with_caches(
+    alloc: Global,
+    input: &[u8],
+    boot: &[u8],
+    volume: Vec<u8>,
+) -> Result<Vec<u8>, NoMemory>
+    ensures { IfOk result (λ image. MayHaveCaches input.now boot.now volume.items image.items) }
 {
     if !is_cached(input) {
         return Ok(volume);
     }
-    match lay_caches(alloc, &volume)? {
+    match lay_caches(alloc, &volume, boot)? {
         Some(image) => Ok(image),
         None => Ok(volume),
     }
@@ -102,15 +114,16 @@ fn keep_of(
     alloc: Global,
     found: &Survey<'_>,
     searched: &[u8],
-    volume: Vec<u8>,
+    volume: LaidVolume<'_>,
     losses: &[Loss],
 ) -> Result<Told, NoMemory>
     ensures { OnSurvey found.now.image (λ w _. IfOk result (λ told. (kept : List Bool)
-        × IsKeptAll searched.now volume.items told.image.items kept
+        × IsKeptAll searched.now volume.boot.now volume.image.items told.image.items kept
         × (told.lines.items ≡ losses_text (losses_beside found.now.image w kept (loss_values losses.now))))) }
 {
-    let Linked { image, kept } = with_links(alloc, searched, volume)?;
-    let image = with_caches(alloc, searched, image)?;
+    let LaidVolume { image, boot } = volume;
+    let Linked { image, kept } = with_links(alloc, searched, image)?;
+    let image = with_caches(alloc, searched, boot, image)?;
     let lines = losses_but(alloc, found, losses, &kept)?;
     Ok(Told { image, lines })
 }
@@ -121,11 +134,12 @@ fn keep_found(
     alloc: Global,
     found: &Survey<'_>,
     made: bool,
-    volume: Vec<u8>,
+    volume: LaidVolume<'_>,
     losses: &[Loss],
 ) -> Result<Told, NoMemory>
     ensures { OnSurvey found.now.image (λ w fs. IfOk result (λ told. (searched : List ℕ) × (kept : List Bool)
-        × IsSearched made (surveyed found.now.image w fs) searched × IsKeptAll searched volume.items told.image.items kept
+        × IsSearched made (surveyed found.now.image w fs) searched
+        × IsKeptAll searched volume.boot.now volume.image.items told.image.items kept
         × (told.lines.items ≡ losses_text (losses_beside found.now.image w kept (loss_values losses.now))))) }
 {
     match searched_image(alloc, found, made)? {
@@ -145,11 +159,12 @@ fn keep_found(
 fn keep_all(
     alloc: Global,
     read: &ReadImage,
-    volume: Vec<u8>,
+    volume: LaidVolume<'_>,
     losses: &[Loss],
 ) -> Result<Told, NoMemory>
     ensures { (input : List ℕ) → read.now.image.items ≡ image_read true input → read.now.made ≡ lacks_root input
-        → IfOk result (λ told. Replies (MayKeepAll input (λ r. r ≡ written volume.items (loss_values losses.now)))
+        → IfOk result (λ told. Replies (MayKeepAll input volume.boot.now
+        (λ r. r ≡ written volume.image.items (loss_values losses.now)))
         (written_reply told.image.items told.lines.items)) }
 {
     let found = survey(alloc, &read.image)?;
@@ -170,7 +185,7 @@ fn write_all_kept<W: Sink>(
     requires fits { IsBuildable prepared.draft.tree prepared.blocks }
     requires boot { BOOT_LEN ≤ length boot.now }
     ensures { (input : List ℕ) → read.now.image.items ≡ image_read true input → read.now.made ≡ lacks_root input
-        → Does (Replies (MayKeepAll input (IsLaidFor prepared boot.now))) result
+        → Does (Replies (MayKeepAll input boot.now (IsLaidFor prepared boot.now))) result
         (seen W.held W.has_failed output.old output.new) }
 {
     let Prepared {
@@ -178,10 +193,10 @@ fn write_all_kept<W: Sink>(
         blocks,
         losses,
     } = prepared;
-    let Ok(volume) = lay_with(alloc, draft, blocks, boot) else {
+    let Ok(image) = lay_with(alloc, draft, blocks, boot) else {
         return Outcome::NoMemory;
     };
-    match keep_all(alloc, read, volume, &losses) {
+    match keep_all(alloc, read, LaidVolume { image, boot }, &losses) {
         Ok(told) => {
             let Told { image, lines } = told;
             write_volume(&image, lines, output)
@@ -201,7 +216,7 @@ fn rescue_linked<W: Sink>(
 ) -> Outcome
     requires works { W.has_failed output.old ≡ false }
     requires boot { BOOT_LEN ≤ length boot.now }
-    ensures { Does (Replies (MayKeepAll subject.image.items
+    ensures { Does (Replies (MayKeepAll subject.image.items boot.now
         (RescuesOf with_deleted WithInternational subject.end (runs_lost subject.lost.items) subject.image.items boot.now)))
         result (seen W.held W.has_failed output.old output.new) }
 {

@@ -251,8 +251,8 @@ long_refuses plus types s boot a r (refused, is, (w, fs, h, found)) =
       | inr some ↦ absurd (some.0 refl)
     ]
 
-none_kept : (input : List ℕ) (q r : RescueValue) (f : Fault) → q ≡ given_fault f [] → KeepsAll input q r → ⊥
-none_kept input q r f is keeps = subst (λ (q : RescueValue). KeepsAll input q r) is keeps
+none_kept : (input boot : List ℕ) (q r : RescueValue) (f : Fault) → q ≡ given_fault f [] → KeepsAll input boot q r → ⊥
+none_kept input boot q r f is keeps = subst (λ (q : RescueValue). KeepsAll input boot q r) is keeps
 
 long_all : (plus : Bool) (s t : SubjectValue) → 512 * MOST_BLOCKS < length s.image → 512 * MOST_BLOCKS < length t.image
     → (reply : Reply) → Replies (RescuesAll plus s) reply → Replies (RescuesAll plus t) reply
@@ -262,7 +262,7 @@ long_all plus s t a b reply (r, (u, is, inl given), same) =
 long_all plus s t a b reply (r, (u, is, inr (q, given, keeps)), same) =
     let long : 512 * MOST_BLOCKS < length u.image = subst (λ (u : SubjectValue). 512 * MOST_BLOCKS < length u.image) (sym (typed_so s u a is)) a in
     let (f, none) = long_refuses plus WithInternational u (sized 2 s.image) long q given in
-    absurd (none_kept u.image q r f none keeps)
+    absurd (none_kept u.image (sized 2 s.image) q r f none keeps)
 
 -- no bytes of files are told
 unfound_text : (json : Bool) (word : List ℕ) (marks : List Bool) (image : List ℕ) → passages_text json word marks image [] ≡ []

@@ -8,7 +8,7 @@ use Rattle.adf_volume.specs.{Types.letters_for, declared.types.Types.Types}
 use Rattle.adf_rescue.specs.{Rescue.Basis, Rescue.rescued_tree_by, declared.standing.Input.Input}
 use Rattle.adf_rescue_writing.specs.KeptAll.{KeepsAll}
 use Rattle.adf_runs.specs.Commands.{Reply}
-use Rattle.adf_subjects.specs.{Rescues.RescueValue, Rescues.rescue_reply, Subject.IsTyped, Subject.SubjectValue, Subject.subject}
+use Rattle.adf_subjects.specs.{Rescues.RescueValue, Rescues.rescue_reply, Subject.IsTyped, Subject.SubjectValue, Subject.sized, Subject.subject}
 use Rattle.adf_survey_cmd.specs.{Answers.SurveyAnswer, Answers.unless_blank, Answers.unless_mapped, Hints.hinted}
 use Rattle.adf_survey_cmd.specs.CommandLine.{QuestionValue, asked_beside, rescue, rescue_all, rescue_deleted}
 use Rattle.adf_deleted.specs.{Kept.KeptValue, Kept.deleted_kept, Known.known_asked}
@@ -26,7 +26,7 @@ plain_rescue plus = if plus then rescue_deleted true else rescue true
 abbrev pub AddsKept : SubjectValue → (plain all : Reply) → Type 0
 AddsKept s plain all =
     (t : SubjectValue) × IsTyped s t
-    × (q : RescueValue) × (r : RescueValue) × (plain ≡ rescue_reply q) × KeepsAll t.image q r × (all ≡ rescue_reply r)
+    × (q : RescueValue) × (r : RescueValue) × (plain ≡ rescue_reply q) × KeepsAll t.image (sized 2 s.image) q r × (all ≡ rescue_reply r)
 
 -- the answer to the question for all that can be kept is that of the rescue that keeps the type alone, or adds what is kept to it; the hint comes to both
 abbrev pub AddsToPlainRescue : Type 0

@@ -75,7 +75,7 @@ fn with_words(image: &Image, words: Words<'_>, sums: &[(u32, usize)]) -> Image {
 fn each_directory_gets_a_cache(rt: HostRuntime) {
     let volume = typed(rt.alloc(), MANIFEST, 3);
     let wanted = with_words(&volume, WITH_CACHES, SUMS);
-    match lay_caches(rt.alloc(), &volume) {
+    match lay_caches(rt.alloc(), &volume, &volume) {
         Ok(Some(image)) => assert!(rt; image.as_slice() == wanted.as_slice()),
         _ => assert!(rt; false),
     }
@@ -83,7 +83,7 @@ fn each_directory_gets_a_cache(rt: HostRuntime) {
 
 // Whether a volume gets no caches.
 fn gets_none(alloc: Global, volume: &[u8]) -> bool {
-    matches!(lay_caches(alloc, volume), Ok(None))
+    matches!(lay_caches(alloc, volume, volume), Ok(None))
 }
 
 #[test]
@@ -138,7 +138,7 @@ fn links_have_records(rt: HostRuntime) {
         LINKS,
         &[(2, 5), (4, 5), (5, 5)],
     );
-    match lay_caches(rt.alloc(), &links) {
+    match lay_caches(rt.alloc(), &links, &links) {
         Ok(Some(image)) if image.len() == 8192 => {
             assert!(rt; image[6 * 512 + 15] == 4 && image[7 * 512 + 15] == 0);
             assert!(rt; (image[8 * 512 + 507], image[3 * 512 + 507]) == (6, 7));
@@ -196,7 +196,7 @@ fn used_with_caches(alloc: Global, manifest: &[u8]) -> u32 {
     let Some(volume) = large(alloc, manifest) else {
         return 0;
     };
-    let Ok(Some(image)) = lay_caches(alloc, &volume) else {
+    let Ok(Some(image)) = lay_caches(alloc, &volume, &volume) else {
         return 0;
     };
     let mut verdict = VERDICT;
@@ -235,7 +235,7 @@ fn new_volume(alloc: Global) -> Option<Vec<u8>> {
 fn a_new_volume_has_a_cache(rt: HostRuntime) {
     let volume = typed(rt.alloc(), b"volume ffs 16\nlabel DH0\n", 3);
     let wanted = with_words(&volume, NEW, &[(2, 5), (8, 5), (9, 0)]);
-    let laid = lay_caches(rt.alloc(), &volume);
+    let laid = lay_caches(rt.alloc(), &volume, &volume);
     match (new_volume(rt.alloc()), laid) {
         (Some(new), Ok(Some(image))) => {
             assert!(rt; new.as_slice() == wanted.as_slice());

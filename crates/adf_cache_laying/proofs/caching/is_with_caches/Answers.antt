@@ -6,7 +6,7 @@ returns c = λ yes.
     let is = c.image-volume.ensures in
     record {
       long = omega (arith, c.if-image-volume.false, ap length is);
-      boot = rw is at (c.has_boot.ensures c.if-not-has_boot.false);
+      boots = rw is at (c.has_boot.ensures c.if-not-has_boot.false);
       right = c.in_ok-right.ensures.right yes;
       all = c.in_ok-stands.ensures.all c.if-not-stands.false;
       found = c.in_ok-stands.ensures.found c.if-not-stands.false;

@@ -15,7 +15,7 @@ returns c = λ input image made.
     let x : Surveyed = surveyed v.image w fs in
     let (searched, kept, is, keeps, lines) = c.in_ok-told.ensures w fs here in
     let new : List ℕ = c.in_ok-told.told.image.items in
-    let volume : List ℕ = c.args.volume.items in
+    let volume : List ℕ = c.args.volume.image.items in
     let ls : List LossValue = loss_values c.args.losses.now in
     let read : IsReadSurvey input x = record { image = c.in_ok-found.ensures.image ∙ (c.deref.ensures.value ∙ image); survey = here } in
     let of_input = subst (λ (b : Bool). IsSearched b x searched) made is in (

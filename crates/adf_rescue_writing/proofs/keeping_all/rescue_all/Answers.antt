@@ -10,7 +10,7 @@ returns-in-Ok-be_typed g c =
     let t = subject_value c.be_typed.new.self in
     let boot = sized 2 c.args.subject.image.items in
     let same = c.deref.ensures.value ∙ c.in-Ok.ensures.boot in
-    does_weaker (Replies (MayKeepAll t.image (RescuesOf c.args.with_deleted WithInternational t.end t.lost t.image boot)))
+    does_weaker (Replies (MayKeepAll t.image boot (RescuesOf c.args.with_deleted WithInternational t.end t.lost t.image boot)))
     (Replies (RescuesAll c.args.with_deleted (subject_value c.args.subject)))
     (λ reply (r, told, is). (r, (t, c.in-Ok-be_typed.ensures, told), is)) (rw same at c.rescue_linked.ensures)
 

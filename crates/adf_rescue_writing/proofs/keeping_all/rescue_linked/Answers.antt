@@ -17,8 +17,8 @@ returns-in-Ok-prepare_asked g c =
     λ r (volume, laid, size, e). subst gives (sym e) ((c.in-Ok-prepare_asked.ensures boot).1 volume laid size) in
     let image = c.in-Ok.ensures.image ∙ ap (image_read true) c.deref.ensures.value in
     let made = c.in-Ok.ensures.made ∙ ap lacks_root c.deref.ensures.value in
-    does_weaker (Replies (MayKeepAll s.image.items (IsLaidFor p boot))) (Replies (MayKeepAll s.image.items gives))
-    (λ reply told. replies_weaker _ _ (may_weaker s.image.items (IsLaidFor p boot) gives lays) reply told)
+    does_weaker (Replies (MayKeepAll s.image.items boot (IsLaidFor p boot))) (Replies (MayKeepAll s.image.items boot gives))
+    (λ reply told. replies_weaker _ _ (may_weaker s.image.items boot (IsLaidFor p boot) gives lays) reply told)
     (c.write_all_kept.ensures s.image.items image made)
 
 pub returns : goal.returns
@@ -26,7 +26,7 @@ returns g c =
     let s = c.args.subject in
     let boot : List ℕ = c.args.boot.now in
     record {
-      ends = refusal_kept s.image.items
+      ends = refusal_kept s.image.items boot
           (RescuesOf c.args.with_deleted WithInternational s.end (runs_lost s.lost.items) s.image.items boot)
           c.in-Err.unrescued c.refused.result _
           (c.in-Err.ensures boot) c.refused.ensures;

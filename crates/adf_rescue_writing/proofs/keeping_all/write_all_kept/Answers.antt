@@ -12,11 +12,11 @@ returns-in-Ok-keep_all g c = λ input image made.
     let boot : List ℕ = c.args.boot.now in
     let ls = loss_values p.losses.items in
     let (volume, laid, size, is) = c.in-Ok.ensures in
-    let few : RescueValue → Type 0 = λ r. r ≡ written c.in-Ok.volume.items (loss_values _) in
+    let few : RescueValue → Type 0 = λ r. r ≡ written c.in-Ok.image.items (loss_values _) in
     let lays : (r : RescueValue) → few r → IsLaidFor p boot r =
     λ r e. (volume, laid, size, e ∙ (λ i. written (is i) (loss_values (c.deref.ensures.value i)))) in
-    let answers : Reply → Type 0 = Replies (MayKeepAll input (IsLaidFor p boot)) in
-    let told = replies_weaker _ _ (may_weaker input few (IsLaidFor p boot) lays) _ (c.in-Ok-keep_all.ensures input image made) in
+    let answers : Reply → Type 0 = Replies (MayKeepAll input boot (IsLaidFor p boot)) in
+    let told = replies_weaker _ _ (may_weaker input boot few (IsLaidFor p boot) lays) _ (c.in-Ok-keep_all.ensures input image made) in
     let same = ap (λ (image : List ℕ). written_reply image c.in-Ok-keep_all.told.lines.items) c.deref-in-Ok-keep_all.ensures.value in
     does_weaker (λ reply. reply ≡ written_reply _ c.in-Ok-keep_all.told.lines.items) answers
     (λ reply e. subst answers (sym (e ∙ same)) told) c.write_volume.ensures
