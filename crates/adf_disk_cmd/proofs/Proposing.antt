@@ -2,7 +2,7 @@
 use Rattle.std.proofs.Common.{◌≡◌, ◌++◌, ◌≤◌, ◌⊎◌, ◌∙◌, All, List, [], ◌∷◌, Option, ℕ, append-nil, ap, arith, inl, inr, refl, subst, sym}
 use Rattle.adf_disk_cmd.specs.Proposals.{IsProposal, Proposes}
 use Rattle.adf_disk_cmd.specs.{Builds.refusal, Replies.told_beside}
-use Rattle.adf_found_plans.specs.FoundPlans.{IsFound, IsPlanOf}
+use Rattle.adf_found_plans.specs.FoundPlans.{IsOneOf, PlansVolumes}
 use Rattle.adf_partitions.specs.{FoundVolumes.found_volumes, declared.found_volumes.FoundVolume.FoundVolume}
 use Rattle.adf_runs.proofs.Endings.{does_weaker}
 use Rattle.adf_runs.specs.{Commands.Reply, Outcomes.Does, Streams.Seen, declared.outcome.Outcome.Outcome}
@@ -25,6 +25,6 @@ proposes bytes text lines is h = does_weaker (λ reply. reply ≡ told_beside (t
     (λ reply e. subst (λ (r : Reply). Proposes bytes r) (sym (e ∙ ap (λ (l : List ℕ). told_beside l lines) (append-nil text))) (beside bytes text lines is)) h
 
 -- the plan of volumes that are found
-pub of_found : (bytes text : List ℕ) (vs : List FoundVolume) → All (IsFound (found_volumes bytes)) vs → IsPlanOf text vs
+pub of_found : (bytes text : List ℕ) (vs : List FoundVolume) → All (IsOneOf (found_volumes bytes)) vs → PlansVolumes text vs
     → (text ≡ []) ⊎ IsProposal bytes text
 of_found bytes text vs found is = inr (vs, found, is)

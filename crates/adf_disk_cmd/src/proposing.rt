@@ -2,7 +2,7 @@
 
 ghost use Rattle.std.specs.Prelude.{◌≡◌, false, All, List, ℕ};
 ghost use Rattle.adf_disk_cmd.specs.Proposals.{Proposes};
-ghost use Rattle.adf_found_plans.specs.FoundPlans.{IsFound};
+ghost use Rattle.adf_found_plans.specs.FoundPlans.{IsOneOf};
 ghost use Rattle.adf_partitions.specs.FoundVolumes.{found_volumes};
 ghost use Rattle.adf_runs.specs.{Outcomes.Does, Streams.seen};
 
@@ -43,7 +43,7 @@ fn write_choice<W: Sink>(
     output: &mut W,
 ) -> Outcome
     requires works { W.has_failed output.old ≡ false }
-    ensures { (bytes : List ℕ) → All (IsFound (found_volumes bytes)) choice.now.volumes.items
+    ensures { (bytes : List ℕ) → All (IsOneOf (found_volumes bytes)) choice.now.volumes.items
         → Does (Proposes bytes) result (seen W.held W.has_failed output.old output.new) }
 {
     let Ok(lines) = left_lines(alloc, choice, volumes) else {

@@ -3,7 +3,7 @@ use native.Mathlib.Decide.{dec_lt}
 use Rattle.std.proofs.Common.{All, subst, ◌≡◌, ◌<◌, ◌+◌, ◌++◌, ◌∷◌, [], ℕ, List, Some, get_or, length, slice_get, arith}
 use Rattle.std.proofs.lemmas.List.Elements.{All-push}
 use Rattle.adf_partitions.specs.{declared.found_volumes.FoundVolume.FoundVolume, declared.plan.PartitionPlan.PartitionPlan}
-use Rattle.adf_found_plans.specs.FoundPlans.{AreFirstOf, IsFound, IsPartitionOf, IsPlanOf}
+use Rattle.adf_found_plans.specs.FoundPlans.{AreFirstOf, IsOneOf, IsPartitionOf, PlansVolumes}
 use Rattle.adf_partitions.specs.Plans.{PlanValue, cylinder_blocks}
 use Rattle.adf_plans.specs.PlanTexts.{IsText}
 
@@ -13,12 +13,12 @@ pub one_more : (n c : ℕ) (ps : List PartitionPlan) (vs : List FoundVolume) (p 
 one_more n c ps vs p v at there is before k q w lt atk therek = grind arith
 
 -- one volume more is one of those that were found
-pub found_more : (found vs : List FoundVolume) (v : FoundVolume) (n : ℕ) → All (IsFound found) vs → n < length found → v ≡ get_or found n v
-    → All (IsFound found) (vs ++ v ∷ [])
-found_more found vs v n all lt is = All-push (IsFound found) vs v all (n, lt, is)
+pub found_more : (found vs : List FoundVolume) (v : FoundVolume) (n : ℕ) → All (IsOneOf found) vs → n < length found → v ≡ get_or found n v
+    → All (IsOneOf found) (vs ++ v ∷ [])
+found_more found vs v n all lt is = All-push (IsOneOf found) vs v all (n, lt, is)
 
 -- what was read of a text to its end is the plan of volumes
 pub read_whole : (text rest : List ℕ) (plan : PlanValue) (vs : List FoundVolume) → IsText text plan rest → rest ≡ []
-    → length plan.partitions ≡ length vs → AreFirstOf (length vs) (cylinder_blocks plan) plan.partitions vs → IsPlanOf text vs
+    → length plan.partitions ≡ length vs → AreFirstOf (length vs) (cylinder_blocks plan) plan.partitions vs → PlansVolumes text vs
 read_whole text rest plan vs read none count partitions =
     record { plan = plan; read = subst (λ (end : List ℕ). IsText text plan end) none read; count = count; partitions = partitions }

@@ -5,8 +5,8 @@ use Rattle.adf_partitions.specs.declared.plan.PartitionPlan.{PartitionPlan}
 use Rattle.adf_plans.specs.PlanTexts.{IsText}
 
 -- a volume is one of those that were found
-abbrev pub IsFound : List FoundVolume → FoundVolume → Type 0
-IsFound found v = (k : ℕ) × (k < length found) × (v ≡ get_or found k v)
+abbrev pub IsOneOf : List FoundVolume → FoundVolume → Type 0
+IsOneOf found v = (k : ℕ) × (k < length found) × (v ≡ get_or found k v)
 
 -- a partition of a plan is that of a volume: given, of its type, and with as many blocks as were found
 pub record IsPartitionOf (c : ℕ) (p : PartitionPlan) (v : FoundVolume) : Type 0 where
@@ -19,7 +19,7 @@ abbrev pub AreFirstOf : ℕ → ℕ → List PartitionPlan → List FoundVolume 
 AreFirstOf n c ps vs = (k : ℕ) (p : PartitionPlan) (v : FoundVolume) → k < n → slice_get ps k ≡ Some p → slice_get vs k ≡ Some v → IsPartitionOf c p v
 
 -- a text is read as a plan with a partition for each volume, in their order
-pub record IsPlanOf (text : List ℕ) (vs : List FoundVolume) : Type 0 where
+pub record PlansVolumes (text : List ℕ) (vs : List FoundVolume) : Type 0 where
   pub plan : PlanValue
   pub read : IsText text plan []
   pub count : length plan.partitions ≡ length vs

@@ -1,7 +1,7 @@
 // The choice of those of the volumes found on a disk that a plan can have.
 
 ghost use Rattle.std.specs.Prelude.{◌≡◌, All, IfOk, OnOk};
-ghost use Rattle.adf_found_plans.specs.FoundPlans.{IsFound};
+ghost use Rattle.adf_found_plans.specs.FoundPlans.{IsOneOf};
 
 use adf_names::Label;
 use adf_partitions::{FoundVolume, MOST_PARTITIONS, Place};
@@ -98,8 +98,8 @@ fn push_found(
     found: &[FoundVolume],
     number: usize,
 ) -> Result<(), AllocError>
-    requires { All (IsFound found.now) chosen.old.items }
-    ensures { OnOk result (All (IsFound found.now) chosen.new.items) }
+    requires { All (IsOneOf found.now) chosen.old.items }
+    ensures { OnOk result (All (IsOneOf found.now) chosen.new.items) }
 {
     let Some(volume) = found.get(number) else {
         return Ok(());
@@ -119,7 +119,7 @@ fn set_mark(marks: &mut Vec<bool>, number: usize) {
 /// on the last that begins there, ends on the disk, has a type of 0 to 5 and no block of one that was chosen before. The last of
 /// those with one first block is the largest, since its root is the last. `AllocError` if an allocation fails.
 pub fn choose(alloc: Global, found: &[FoundVolume], blocks: u64) -> Result<Choice, AllocError>
-    ensures { IfOk result (λ c. All (IsFound found.now) c.volumes.items) }
+    ensures { IfOk result (λ c. All (IsOneOf found.now) c.volumes.items) }
 {
     let order = candidates(alloc, found, blocks)?;
     let mut marks = vec![in alloc; false; found.len()]?;

@@ -1,7 +1,7 @@
 // The text of a plan of volumes that were found.
 
 ghost use Rattle.std.specs.Prelude.{◌≡◌, ◌≤◌, IfOk, length, string_bytes, true};
-ghost use Rattle.adf_found_plans.specs.FoundPlans.{AreFirstOf, IsPartitionOf, IsPlanOf};
+ghost use Rattle.adf_found_plans.specs.FoundPlans.{AreFirstOf, IsPartitionOf, PlansVolumes};
 ghost use Rattle.adf_partitions.specs.Plans.{IsPlan, cylinder_blocks, plan_value};
 
 use crate::choice::FIRST_PLANNED;
@@ -117,7 +117,7 @@ fn are_partitions_of(plan: &DiskPlan, volumes: &[FoundVolume]) -> bool
 
 // Whether a text is read as the plan of volumes.
 fn is_read(alloc: Global, text: &[u8], volumes: &[FoundVolume]) -> Result<bool, AllocError>
-    ensures { IfOk result (λ is. is ≡ true → IsPlanOf text.now volumes.now) }
+    ensures { IfOk result (λ is. is ≡ true → PlansVolumes text.now volumes.now) }
 {
     match read_plan(alloc, text) {
         Ok((plan, rest)) => {
@@ -135,7 +135,7 @@ fn is_read(alloc: Global, text: &[u8], volumes: &[FoundVolume]) -> Result<bool, 
 /// most 2,048, as divide each volume; a partition has the label of its volume as its name, if a word can be that and no volume before
 /// has it, else `DH` and its number, from 0. `TooLarge` if no plan can have all of them, `NoMemory` if an allocation fails.
 pub fn found_plan_text(alloc: Global, volumes: &[FoundVolume]) -> Result<String, NoPlan>
-    ensures { IfOk result (λ text. IsPlanOf (string_bytes text) volumes.now) }
+    ensures { IfOk result (λ text. PlansVolumes (string_bytes text) volumes.now) }
 {
     let text = written(alloc, volumes)?;
     if is_read(alloc, text.as_bytes(), volumes)? {
