@@ -1,7 +1,7 @@
 pub mod Endings
 pub mod CheckedLines
 pub mod SearchLines
-pub mod Proposing
+pub mod ProposalEndings
 pub mod DamagedTables
 pub mod AnyReading
 pub mod HeldTables
