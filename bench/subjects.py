@@ -81,22 +81,24 @@ class Subject:
         return None if b in self.contested else b
 
     def left(self, n):
-        """The bytes of a file, with zeros where no data block is left that the input holds, and a line for each run of these."""
+        """The bytes of a file up to its last data block that is left and that the input holds, with zeros where one is not, and a line for
+        each run of these and of those behind."""
         survey = self.survey
         size = min(survey.size(n), len(survey.image))
-        content, gaps = b"", []
+        content, gaps, end = b"", [], 0
         for k in range(-(-size // survey.chunk)):
             b = self.own_data(n, k)
             many = min(survey.chunk, size - survey.chunk * k)
             if b is not None and b < self.held:
                 content += survey.image[512 * b + survey.offset : 512 * b + survey.offset + many]
+                end = len(content)
                 continue
             if gaps and gaps[-1][1] + 1 == len(content):
                 gaps[-1][1] += many
             else:
                 gaps.append([len(content), len(content) + many - 1])
             content += bytes(many)
-        return content, [f"bytes {first} to {last}: no data" for first, last in gaps]
+        return content[:end], [f"bytes {first} to {last}: no data" for first, last in gaps]
 
 
 def run_text(first, last):

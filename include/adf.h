@@ -490,7 +490,9 @@ uint8_t adf_survey_links(const uint8_t *image, size_t length, struct adf_link *l
  *         write_at(at, room, n);
  *     }
  *
- * What lies between the parts that are read is lost: `lost` bytes behind each. Zeros are never given in their place.
+ * What lies between the parts that are read is lost: `lost` bytes behind each. Zeros are never given in their place. What is left of the
+ * file ends with the last part that is read: the `lost` bytes that reach the end of the file, at its entry's size, belong to no part, and
+ * `adf-survey cat --damaged` does not write them.
  */
 
 /* What a survey has at a block. Block b is at index b of the table. */
@@ -601,8 +603,9 @@ struct adf_rescue_told {
 
 /* Rescues an image of this length, as `adf-survey rescue` does: as it is, or if blocks is not 0, as if it had so many blocks, with
  * zeros for what is not there; a number that no volume has is ADF_BAD_SIZE, and memory for so many blocks is taken all the same. The
- * losses come in the order of the lines of that command, and their paths are spelled as there: also of what is in the volume they are
- * those of the image, so a name may be another one in the volume. Returns:
+ * losses come in the order of the lines of that command, and their paths are spelled as there, one of more than 1,024 bytes from a block
+ * on, as `\block 412/c/list`: also of what is in the volume they are those of the image, so a name may be another one in the volume.
+ * Returns:
  *
  * 0: the room begins with the volume, of told->blocks * 512 bytes, which adf_check accepts, up to its size, and the tables have
  *    what is not in it, and what is in it in doubt.
@@ -792,7 +795,8 @@ uint8_t adf_run(const uint8_t *words, size_t words_length, const uint8_t *input,
  *    With `--map` the word behind that is not the name of a map, but its text.
  * 1: output has the lines of the findings; for `cat`, it is empty, and errors say `no such path: PATH`, `not a file` or
  *    `damaged`.
- *    For `cat --damaged`, output has what is left of the file, and errors a line for each range of bytes that are lost, and zeros.
+ *    For `cat --damaged`, output has what is left of the file, and errors a line for each range of bytes that are lost: zeros, or left out
+ *    at the end.
  *    For `cat --deleted`, the same of a deleted file, with the line of its state behind them; or output is empty, and errors say
  *    `no deleted header in block B` or `not a file`. Where nothing is surveyed, these and `deleted` say `no volume`.
  *    With `--list` the lines of what is found follow those of the findings, at status 0 too.
