@@ -8,8 +8,6 @@ mod cached_images;
 #[cfg(test)]
 mod disk_tables;
 #[cfg(test)]
-mod forged_pages;
-#[cfg(test)]
 mod found_files;
 #[cfg(test)]
 mod found_links;
