@@ -1,4 +1,4 @@
-//! Tests of names by letters, and of the calls over slices.
+//! Tests of the calls over slices.
 #![tactic(auto)]
 
 #[cfg(test)]
@@ -17,8 +17,6 @@ mod images;
 mod images_in_memory;
 #[cfg(test)]
 mod laid_caches;
-#[cfg(test)]
-mod names;
 #[cfg(test)]
 mod rescues;
 #[cfg(test)]
