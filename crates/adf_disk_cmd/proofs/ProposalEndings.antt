@@ -11,7 +11,8 @@ use Rattle.adf_runs.specs.{Commands.Reply, Outcomes.Does, Streams.Seen, declared
 refused : (bytes text : List ℕ) (reply : Reply) → reply ≡ refusal text → Proposes bytes reply
 refused bytes text reply e = subst (λ (r : Reply). Proposes bytes r) (sym e) (record { status = omega arith; output = inl refl })
 
-pub refuses : (bytes text : List ℕ) {w : Outcome} {output : Seen} → Does (λ reply. reply ≡ refusal text) w output → Does (Proposes bytes) w output
+pub refuses : (bytes text : List ℕ) {w : Outcome} {output : Seen} → Does (λ reply. reply ≡ refusal text) w output
+    → Does (Proposes bytes) w output
 refuses bytes text h = does_weaker (λ reply. reply ≡ refusal text) (Proposes bytes) (refused bytes text) h
 
 -- a text that is proposed, with lines on errors or none

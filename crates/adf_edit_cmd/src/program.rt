@@ -50,7 +50,7 @@ const ABOUT: About = About {
     \x20 protect PATH FLAGS   set a protection: hsparwed with - for a letter, or 0000000f\n\
     \x20 date PATH DATE       set a date: as `adf list` writes it, or 5295:750:0\n\
     \x20 label TEXT           set the label\n\
-    \x20 letters KIND         make it `international` or `ascii`; among the last ones\n\
+    \x20 letters KIND         make it `ascii`, `international` or `cached`; among the last ones\n\
     \x20 boot KIND            `install` code that starts it, or `clear` it; among the last ones\n\n\
     The new disk takes the place of IMAGE, or of NEW, at once or not at all.\n\
     With -o a manifest may stand for the IMAGE, and EDIT be left out.\n\

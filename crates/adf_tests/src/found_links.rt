@@ -3,7 +3,6 @@
 
 use crate::images::{Image, built};
 use adf_base::{seal, set_word};
-use adf_link_laying::keep_links;
 use adf_memory::{TableLink, put_links};
 use std::alloc::Global;
 
@@ -100,45 +99,4 @@ fn wrong_links_have_no_rows(rt: HostRuntime) {
 fn nothing_has_no_links(rt: HostRuntime) {
     let (answer, count, rows) = links_of(rt.alloc(), b"", 5);
     assert!(rt; (answer, count, rows[0].node) == (0, 0, 9));
-}
-
-// The file and the directory that the links lead to, without the links.
-const TARGETS: &[u8] = b"volume ofs 16\nfile 0:0:0 00000000 a\ndir 0:0:0 00000000 b\n";
-
-// The file alone.
-const ONE_TARGET: &[u8] = b"volume ofs 16\nfile 0:0:0 00000000 a\n";
-
-// The marks of the headers in these blocks.
-fn marks(headers: &[usize]) -> [bool; 16] {
-    let mut marks = [false; 16];
-    for header in headers {
-        if *header < 16 {
-            marks[*header] = true;
-        }
-    }
-    marks
-}
-
-// Whether the links with these headers, and no others, are kept in the volume of a manifest, which has so many right links then.
-fn are_kept(alloc: Global, manifest: &[u8], headers: &[usize]) -> bool {
-    match keep_links(alloc, &linked(alloc), &built(alloc, manifest)) {
-        Ok(Some(volume)) => {
-            let (answer, count, _) = links_of(alloc, &volume.image, 5);
-            volume.kept.as_slice() == marks(headers).as_slice()
-                && (answer, count) == (0, headers.len())
-        }
-        _ => false,
-    }
-}
-
-#[test]
-fn right_links_are_kept_in_a_new_volume(rt: HostRuntime) {
-    assert!(rt; are_kept(rt.alloc(), TARGETS, &[4, 5, 6, 7]));
-    assert!(rt; are_kept(rt.alloc(), ONE_TARGET, &[4, 5, 7]));
-}
-
-#[test]
-fn a_volume_without_links_gets_none(rt: HostRuntime) {
-    let image = built(rt.alloc(), TARGETS);
-    assert!(rt; matches!(keep_links(rt.alloc(), &image, &image), Ok(None)));
 }

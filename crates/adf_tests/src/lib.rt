@@ -1,4 +1,4 @@
-//! Tests of names by letters, and of the calls over slices.
+//! Tests of the calls over slices.
 #![tactic(auto)]
 
 #[cfg(test)]
@@ -7,8 +7,6 @@ mod boots;
 mod cached_images;
 #[cfg(test)]
 mod disk_tables;
-#[cfg(test)]
-mod forged_pages;
 #[cfg(test)]
 mod found_files;
 #[cfg(test)]
@@ -19,8 +17,6 @@ mod images;
 mod images_in_memory;
 #[cfg(test)]
 mod laid_caches;
-#[cfg(test)]
-mod names;
 #[cfg(test)]
 mod rescues;
 #[cfg(test)]
