@@ -6,7 +6,7 @@ use Rattle.adf_names.specs.declared.meta.Meta.{Meta}
 use Rattle.adf_blocks.specs.declared.head.HeadBody.{HeadBody}
 use Rattle.adf_volume.specs.{Rows.row_body, declared.row.RowBody.RowBody, declared.row.RowBody.TheVariants.Dir, declared.row.RowBody.TheVariants.File}
 use Rattle.adf_manifest.specs.Texts.{hex_word}
-use Rattle.adf_texts.specs.{Names.names_text, VolumeLines.lines_with, VolumeLines.right_in_ten}
+use Rattle.adf_texts.specs.VolumeLines.{lines_with, right_in_ten}
 
 -- the word of a row, left-aligned in four columns
 abbrev pub row_word : RowBody → List ℕ
@@ -23,6 +23,6 @@ abbrev pub columns : (Stamp → List ℕ) → RowBody → Meta → List ℕ
 columns date body meta = row_word body ++ (codes " " ++ (hex_word meta.protect ++ (codes " " ++ (right_in_ten (row_size body) ++ (codes " "
     ++ (date meta.stamp ++ codes " "))))))
 
--- the line of an entry with these names, which need not be valid, and this header, and the line of its note
-abbrev pub head_lines : (Stamp → List ℕ) → List (List ℕ) → HeadBody → Meta → List ℕ
-head_lines date names body meta = lines_with date (names_text names) (row_word (row_body body)) (row_size (row_body body)) meta
+-- the line of an entry with this text of its path, and this header, and the line of its note
+abbrev pub head_lines : (Stamp → List ℕ) → (path : List ℕ) → HeadBody → Meta → List ℕ
+head_lines date path body meta = lines_with date path (row_word (row_body body)) (row_size (row_body body)) meta

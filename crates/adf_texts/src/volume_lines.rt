@@ -1,6 +1,6 @@
 // The lines of `list`.
 
-ghost use Rattle.std.specs.Prelude.{◌≡◌, ◌++◌, codes, ℕ, List, OnOk, map};
+ghost use Rattle.std.specs.Prelude.{◌≡◌, ◌++◌, codes, ℕ, List, OnOk};
 ghost use Rattle.adf_tree.specs.declared.entry.Entry.{Entry};
 ghost use Rattle.adf_names.specs.PathTexts.{path_text};
 ghost use Rattle.adf_volume.specs.Rows.{row_of_entry};
@@ -9,7 +9,7 @@ ghost use Rattle.adf_texts.specs.VolumeLines.{AreDates, blocks_line, entry_lines
 ghost use Rattle.adf_texts.specs.VolumeLines.{right_in_ten, text_line};
 
 use crate::digits::{push_hex, push_number, push_right};
-use crate::escapes::{push_escaped, push_names, push_path};
+use crate::escapes::{push_escaped, push_path};
 use adf_base::Stamp;
 use adf_blocks::HeadBody;
 use adf_fields::push_stamp;
@@ -56,20 +56,18 @@ fn push_row_lines(text: &mut Vec<u8>, row: &Row, path: &[Name]) -> Result<(), Al
     push_line_end(text, &row.meta)
 }
 
-/// Appends the line of an entry, from its header, and the line of its note if it has one. The names of the path need
-/// not be valid.
+/// Appends the line of an entry with this text of its path, from its header, and the line of its note if it has one.
 pub fn push_head_lines(
     text: &mut Vec<u8>,
     body: HeadBody,
     meta: &Meta,
-    path: &[&[u8]],
+    path: &[u8],
 ) -> Result<(), AllocError>
     ensures { (date : Stamp → List ℕ) → AreDates date
-        → OnOk result (text.new.items ≡ text.old.items
-        ++ head_lines date (map (λ name. name.now) path.now) body meta.now) }
+        → OnOk result (text.new.items ≡ text.old.items ++ head_lines date path.now body meta.now) }
 {
     push_columns(text, RowBody::of(body), meta)?;
-    push_names(text, path)?;
+    text.extend_from_slice(path)?;
     push_line_end(text, meta)
 }
 
