@@ -9,8 +9,9 @@ ghost use Rattle.adf_passages.specs.PassageLines.{lines_of_passages, passage_lin
 use crate::passages::{Passage, marked_passages};
 use adf_base::NoMemory;
 use adf_findings::Survey;
-use adf_json::{Member, joined, push_object};
-use adf_texts::{push_names, push_number};
+use adf_json::{Member, push_object};
+use adf_subjects::{push_path, written_path};
+use adf_texts::push_number;
 use std::alloc::{AllocError, Global};
 
 // How passages are told: by this word, as objects in place of lines.
@@ -31,12 +32,9 @@ fn push_line(
     ensures { OnSurvey survey.now.image (λ w _.
         OnOk result (text.new.items ≡ text.old.items ++ passage_line word.now survey.now.image w p.now)) }
 {
-    let Ok(path) = survey.path(alloc, p.entry) else {
-        return Err(AllocError);
-    };
     text.extend_from_slice(word.as_bytes())?;
     text.extend_from_slice(b": ")?;
-    push_names(text, &path)?;
+    push_path(alloc, survey, p.entry, text)?;
     text.extend_from_slice(b", bytes ")?;
     push_number(text, p.first, b' ')?;
     text.extend_from_slice(b"to ")?;
@@ -70,10 +68,7 @@ fn push_text(
     if !telling.json {
         return push_line(alloc, survey, telling.word, p, text);
     }
-    let Ok(path) = survey.path(alloc, p.entry) else {
-        return Err(AllocError);
-    };
-    let path = joined(alloc, &path)?;
+    let path = written_path(alloc, survey, p.entry, true)?;
     push_object(text, &passage_members(telling.word, &path, p))
 }
 

@@ -9,3 +9,4 @@ pub mod Subjects
 pub mod SubjectBytes
 pub mod SomeRescues
 pub mod Formats
+pub mod PathNames

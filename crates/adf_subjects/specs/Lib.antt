@@ -1,6 +1,7 @@
 -- The promise: what is surveyed, the lines of its findings, and what a rescue gives.
 pub mod Lengths
 pub mod Remarks
+pub mod WrittenPaths
 pub mod LinkTargets
 pub mod Lines
 pub mod Subject

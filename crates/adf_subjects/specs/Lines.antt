@@ -1,15 +1,14 @@
 -- The lines of findings, and their objects.
 -- Letters: w the walk of an image's survey, fs its findings; f a finding; r, s runs; n, m entries' nodes; b a block.
 use Rattle.std.specs.Prelude.{ℕ, ◌+◌, ◌==◌, ◌&&◌, ◌||◌, Bool, true, false, List, [], ◌∷◌, ◌++◌, Option, Some, None, codes, if◌then◌else◌}
-use Rattle.std.specs.List.{flat_map, join_with_byte}
+use Rattle.std.specs.List.{flat_map}
 use Rattle.adf_blocks.specs.Causes.{cause_number, cause_text}
 use Rattle.adf_volume.specs.Walk.{Walk}
 use Rattle.adf_findings.specs.declared.concern.Concern.{Concern, TheVariants.Entry, TheVariants.Within}
-use Rattle.adf_findings.specs.{Concerned.concern_of, Concerned.taker_of, Lookup.path_to, Survey.FindingValue}
-use Rattle.adf_texts.specs.Names.{names_text}
+use Rattle.adf_findings.specs.{Concerned.concern_of, Concerned.taker_of, Survey.FindingValue}
 use Rattle.adf_json.specs.Objects.{JsonValue, MemberValue, characters, member, nothing, numeral, object_line, truth}
 use Rattle.adf_subjects.specs.LinkTargets.{right_concerned, soft_link, soft_path, target_of, target_text}
-use Rattle.adf_subjects.specs.{Remarks.blocks_text, declared.runs.Run.Run}
+use Rattle.adf_subjects.specs.{Remarks.blocks_text, WrittenPaths.written_path, declared.runs.Run.Run}
 
 -- a finding by itself
 abbrev pub run_of : Walk → FindingValue → Run
@@ -50,13 +49,13 @@ runs w (f ∷ fs) = runs_from w (run_of w f) fs
 -- what a run concerns: the path of an entry, or of the directory in which a header was skipped, and `/` behind it
 abbrev pub concern_text : List ℕ → Walk → Option Concern → List ℕ
 concern_text image w None = []
-concern_text image w (Some (Entry n)) = codes ": " ++ names_text (path_to image w n)
-concern_text image w (Some (Within n)) = codes ": in " ++ (names_text (path_to image w n) ++ codes "/")
+concern_text image w (Some (Entry n)) = codes ": " ++ written_path false image w n
+concern_text image w (Some (Within n)) = codes ": in " ++ (written_path false image w n ++ codes "/")
 
 -- the path of the entry that holds the blocks of a run
 abbrev pub owner_text : List ℕ → Walk → Option ℕ → List ℕ
 owner_text image w None = []
-owner_text image w (Some n) = codes ": owned by " ++ names_text (path_to image w n)
+owner_text image w (Some n) = codes ": owned by " ++ written_path false image w n
 
 -- the line of a run, and what the right link leads to that it concerns
 abbrev pub findings_line : List ℕ → Walk → (link : Option ℕ) → Run → List ℕ
@@ -64,10 +63,10 @@ findings_line image w link r =
     blocks_text r.first r.last ++ (codes ": " ++ (cause_text r.cause
     ++ (concern_text image w r.concern ++ (owner_text image w r.owner ++ (target_text image w link ++ codes "\n")))))
 
--- the names of the path of an entry, joined by `/`; empty where there is no entry
+-- the path of an entry, as objects have it; empty where there is no entry
 abbrev pub entry_path : List ℕ → Walk → Option ℕ → List ℕ
 entry_path image w None = []
-entry_path image w (Some n) = join_with_byte 47 (path_to image w n)
+entry_path image w (Some n) = written_path true image w n
 
 -- the value of the path of an entry, where there is one
 abbrev pub path_value : Option ℕ → (path : List ℕ) → JsonValue

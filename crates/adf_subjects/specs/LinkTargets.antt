@@ -1,14 +1,14 @@
 -- What the right links that findings concern lead to.
 -- Letters: w the walk of an image's survey, fs its findings; n an entry; o one, or none.
-use Rattle.std.specs.Prelude.{ℕ, List, [], ◌++◌, Option, Some, None, cond, codes}
+use Rattle.std.specs.Prelude.{ℕ, false, List, [], ◌++◌, Option, Some, None, cond, codes}
 use Rattle.std.specs.Option.{option_and_then}
 use Rattle.adf_volume.specs.Walk.{Walk}
 use Rattle.adf_names.specs.Escapes.{escaped}
 use Rattle.adf_findings.specs.declared.concern.Concern.{Concern, TheVariants.Entry, TheVariants.Within}
-use Rattle.adf_findings.specs.{Lookup.path_to, Survey.FindingValue}
+use Rattle.adf_findings.specs.Survey.{FindingValue}
 use Rattle.adf_links.specs.declared.kinds.LinkKind.{LinkKind, TheVariants.Soft}
 use Rattle.adf_links.specs.Links.{is_right_link, link_in, link_path, original}
-use Rattle.adf_texts.specs.Names.{names_text}
+use Rattle.adf_subjects.specs.WrittenPaths.{written_path}
 
 -- the right link that is concerned
 abbrev pub right_concerned : List ℕ → Walk → List FindingValue → Option Concern → Option ℕ
@@ -19,7 +19,7 @@ right_concerned image w fs (Some (Within n)) = None
 -- the path of the entry that a hard link leads to
 abbrev pub original_text : List ℕ → Walk → Option ℕ → List ℕ
 original_text image w None = []
-original_text image w (Some m) = codes ": to " ++ names_text (path_to image w m)
+original_text image w (Some m) = codes ": to " ++ written_path false image w m
 
 -- what a link of a kind leads to
 abbrev pub link_text : List ℕ → Walk → ℕ → Option LinkKind → List ℕ

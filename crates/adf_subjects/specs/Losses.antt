@@ -2,19 +2,19 @@
 -- Letters: w the walk of a survey, fs its findings; a a survey, b the second one, if there is one; x an entry that is left out or in doubt; n, p the
 -- node of an entry, of a directory; ps nodes of directories; k a block, ks blocks; rs runs of blocks; t what a rescue tells; l a loss, ls losses;
 -- held the number of blocks that the input holds whole, known what else is known of it; lost the losses of blocks that are not read at all.
-use Rattle.std.specs.Prelude.{◌+◌, ◌-◌, ℕ, ◌&&◌, ◌==◌, Bool, false, List, [], ◌∷◌, ◌++◌, Option, None, Some, codes, cond, map, nat_le, nat_lt}
+use Rattle.std.specs.Prelude.{◌+◌, ◌-◌, ℕ, ◌==◌, Bool, false, List, [], ◌∷◌, ◌++◌, Option, None, Some, codes, cond, map, nat_lt}
 use Rattle.std.specs.List.{flat_map}
 use Rattle.adf_base.specs.declared.hash.Letters.{Letters}
 use Rattle.adf_blocks.specs.Sizes.{blocks, middle}
-use Rattle.adf_volume.specs.Walk.{heads, node_block, Walk}
-use Rattle.adf_findings.specs.{Lookup.path_to, Survey.FindingValue}
+use Rattle.adf_volume.specs.Walk.{Walk}
+use Rattle.adf_findings.specs.Survey.{FindingValue}
 use Rattle.adf_rescue.specs.{Doubts.first_doubts_by, Doubts.second_doubts_by, Losses.lost_blocks, Losses.lost_headers, Opened.lacks_root, Opened.states_type}
 use Rattle.adf_rescue.specs.{Rescue.Basis, Rescue.rescue_leaves_by, Rescue.second_leaves_by, declared.left_out.LeftOut.LeftOut, declared.left_out.Why.Why}
 use Rattle.adf_rescue.specs.{declared.doubts.Doubt.Doubt, declared.doubts.Doubtful.Doubtful, declared.rescues.Rescued.Rescued, declared.standing.Input.Input}
 use Rattle.adf_rescue.specs.declared.left_out.Why.TheVariants as why
 use Rattle.adf_rescue.specs.declared.doubts.Doubt.TheVariants as doubt
-use Rattle.adf_texts.specs.Names.{names_text}
-use Rattle.adf_subjects.specs.{Remarks.blocks_text, declared.losses.BlockRun.BlockRun, declared.losses.Loss.Loss}
+use Rattle.adf_subjects.specs.{Remarks.blocks_text, WrittenPaths.header_of, WrittenPaths.written_path, declared.losses.BlockRun.BlockRun}
+use Rattle.adf_subjects.specs.declared.losses.Loss.{Loss}
 use Rattle.adf_subjects.specs.declared.losses.Reason.{Reason, TheVariants.Blocks, TheVariants.Damaged, TheVariants.FoundAgain, TheVariants.Headers}
 use Rattle.adf_subjects.specs.declared.losses.Reason.{TheVariants.InDoubt, TheVariants.Link, TheVariants.Made, TheVariants.NoRoom}
 use Rattle.adf_subjects.specs.declared.losses.Reason.{TheVariants.PerhapsDeleted}
@@ -51,13 +51,9 @@ doubt_reason doubt.PerhapsDeleted = PerhapsDeleted
 doubt_reason doubt.FoundAgain = FoundAgain
 doubt_reason doubt.Made = Made
 
--- the header of an entry; 0 for the root
-abbrev pub header_of : Walk → ℕ → ℕ
-header_of w n = cond (nat_le 1 n && nat_le n (heads w)) (node_block w n) 0
-
 -- the loss of an entry, or of headers in a directory: its header, and its path
 abbrev pub path_loss : List ℕ → Walk → Reason → ℕ → LossValue
-path_loss image w why n = record { why = reason_number why; first = header_of w n; last = header_of w n; path = names_text (path_to image w n) }
+path_loss image w why n = record { why = reason_number why; first = header_of w n; last = header_of w n; path = written_path false image w n }
 
 -- the loss of an entry that is left out
 abbrev pub left_out_loss : List ℕ → Walk → LeftOut → LossValue

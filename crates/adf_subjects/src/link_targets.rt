@@ -7,7 +7,7 @@ ghost use Rattle.adf_names.specs.Escapes.{escaped};
 ghost use Rattle.adf_links.specs.Links.{is_right_link, link_path};
 ghost use Rattle.adf_subjects.specs.LinkTargets.{original_text, right_concerned, soft_link, soft_path, target_of, target_text};
 
-use crate::runs::push_path;
+use crate::paths::push_path;
 use adf_findings::{Concern, Survey, has_mark};
 use adf_links::{LinkKind, link_of, link_path, original_of};
 use adf_texts::push_escaped;

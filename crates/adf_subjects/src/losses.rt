@@ -4,11 +4,11 @@ ghost use Rattle.std.specs.Prelude.{◌≡◌, ◌+◌, ◌<◌, ◌++◌, ◌�
 ghost use Rattle.std.specs.Prelude.{slice_index};
 ghost use Rattle.adf_findings.specs.Survey.{OnSurvey};
 ghost use Rattle.adf_rescue.specs.Rescue.{OnSecond};
-ghost use Rattle.adf_subjects.specs.Losses.{begins_with, block_losses, doubt_losses, doubt_reason, header_losses, header_of};
+ghost use Rattle.adf_subjects.specs.Losses.{begins_with, block_losses, doubt_losses, doubt_reason, header_losses};
 ghost use Rattle.adf_subjects.specs.Losses.{left_out_losses, left_out_reason, loss_values, losses_of, of_second, path_loss};
 ghost use Rattle.adf_subjects.specs.Losses.{reason_number, run_loss, runs_lost, told_value};
 
-use crate::runs::push_path;
+use crate::paths::{header_of, push_path};
 use adf_findings::Survey;
 use adf_rescue::{Doubt, Doubtful, LeftOut, Rescued, Why};
 use adf_tree::Node;
@@ -98,13 +98,6 @@ impl BlockRun {
             last: block,
         }
     }
-}
-
-// The header of an entry; 0 for the root.
-fn header_of(survey: &Survey<'_>, n: Node) -> u32
-    ensures { OnSurvey survey.now.image (λ w _. result ≡ header_of w n) }
-{
-    survey.block_of(n).unwrap_or(0)
 }
 
 // Appends the loss of an entry, or of headers in a directory.

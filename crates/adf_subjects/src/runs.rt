@@ -5,8 +5,7 @@ ghost use Rattle.std.specs.Prelude.{map};
 ghost use Rattle.std.specs.{Prelude.option_map, Prelude.slice_get, Io.KnownBytes.Appends};
 ghost use Rattle.adf_volume.specs.Walk.{Walk};
 ghost use Rattle.adf_findings.specs.Concerned.{concern_of, taker_of};
-ghost use Rattle.adf_findings.specs.{Lookup.path_to, Parts.finding_value, Survey.OnSurvey};
-ghost use Rattle.adf_texts.specs.Names.{names_text};
+ghost use Rattle.adf_findings.specs.{Parts.finding_value, Survey.OnSurvey};
 ghost use Rattle.adf_runs.specs.Streams.{AppendsPart, is_device};
 ghost use Rattle.adf_json.specs.Objects.{member, member_value};
 ghost use Rattle.adf_subjects.specs.LinkTargets.{soft_link, soft_path, target_of};
@@ -16,13 +15,13 @@ ghost use Rattle.adf_subjects.specs.Lines.{findings_line, findings_text, concern
 ghost use Rattle.adf_subjects.specs.Lines.{run_members, run_of, runs, told_run};
 
 use crate::link_targets::{push_target, right_concerned, soft_link, soft_path, target_of};
+use crate::paths::{push_path, written_path};
 use crate::remarks::push_blocks;
 use adf_blocks::Cause;
 use adf_findings::{Concern, Finding, Survey};
-use adf_json::{Member, Value, joined, push_object};
+use adf_json::{Member, Value, push_object};
 use adf_links::right_links;
 use adf_runs::{Sink, StreamFault, flush_long, write_all};
-use adf_texts::push_names;
 use adf_tree::Node;
 use std::alloc::{AllocError, Global};
 
@@ -124,22 +123,6 @@ pub fn run_from(survey: &Survey<'_>, k: usize) -> Option<(Run, usize)>
     Some((run, next))
 }
 
-/// Appends the path of an entry, 0 for the root.
-pub fn push_path(
-    alloc: Global,
-    survey: &Survey<'_>,
-    n: Node,
-    text: &mut Vec<u8>,
-) -> Result<(), AllocError>
-    ensures { OnSurvey survey.now.image (λ w _. OnOk result
-        (text.new.items ≡ text.old.items ++ names_text (path_to survey.now.image w n))) }
-{
-    let Ok(path) = survey.path(alloc, n) else {
-        return Err(AllocError);
-    };
-    push_names(text, &path)
-}
-
 // Appends what is concerned, where there is something.
 fn push_concern(
     alloc: Global,
@@ -201,17 +184,14 @@ fn push_line(
     text.extend_from_slice(b"\n")
 }
 
-// The path of an entry, where there is one.
-fn path_of(alloc: Global, survey: &Survey<'_>, n: Option<Node>) -> Result<Vec<u8>, AllocError>
+/// The path of an entry, as objects have it, where there is one.
+pub fn path_of(alloc: Global, survey: &Survey<'_>, n: Option<Node>) -> Result<Vec<u8>, AllocError>
     ensures { OnSurvey survey.now.image (λ w _. IfOk result (λ path. path.items ≡ entry_path survey.now.image w n)) }
 {
     let Some(n) = n else {
         return Ok(Vec::new(alloc));
     };
-    match survey.path(alloc, n) {
-        Ok(names) => joined(alloc, &names),
-        Err(_) => Err(AllocError),
-    }
+    written_path(alloc, survey, n, true)
 }
 
 // The member of the path of an entry, where there is one.
