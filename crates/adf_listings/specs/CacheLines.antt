@@ -1,21 +1,20 @@
 -- The lines of wrong directory caches.
 -- Letters: w the walk of an image's survey, fs its findings; d a directory, by its node, o one, or none; b a block; k a number of nodes; s what is surveyed.
 use Rattle.std.specs.Prelude.{ℕ, ◌+◌, ◌++◌, Bool, true, false, cond, List, [], ◌∷◌, Option, Some, None, codes}
-use Rattle.std.specs.List.{flat_map, join_with_byte, range_with_len}
+use Rattle.std.specs.List.{flat_map, range_with_len}
 use Rattle.adf_volume.specs.Walk.{Walk, heads}
-use Rattle.adf_findings.specs.{Lookup.path_to, Survey.FindingValue}
+use Rattle.adf_findings.specs.Survey.{FindingValue}
 use Rattle.adf_caches.specs.Caches.{directory_header, is_wrong_cache}
 use Rattle.adf_json.specs.Objects.{MemberValue, characters, member, nothing, numeral, object_line, truth}
-use Rattle.adf_texts.specs.Names.{names_text}
-use Rattle.adf_subjects.specs.{Remarks.blocks_text, Subject.SubjectValue, Subject.subject_text}
+use Rattle.adf_subjects.specs.{Remarks.blocks_text, Subject.SubjectValue, Subject.subject_text, WrittenPaths.written_path}
 
 -- the line of the wrong cache of a directory with its header in block b
-abbrev pub wrong_line : (b : ℕ) → (path : List (List ℕ)) → List ℕ
-wrong_line b path = blocks_text b b ++ (codes ": wrong cache: " ++ (names_text path ++ codes "/\n"))
+abbrev pub wrong_line : (b : ℕ) → (path : List ℕ) → List ℕ
+wrong_line b path = blocks_text b b ++ (codes ": wrong cache: " ++ (path ++ codes "/\n"))
 
 -- the line of the wrong cache of directory d
 abbrev pub cache_line : List ℕ → Walk → (d : ℕ) → List ℕ
-cache_line image w d = wrong_line (directory_header image w d) (path_to image w d)
+cache_line image w d = wrong_line (directory_header image w d) (written_path false image w d)
 
 -- the members of its object, those of a finding
 unfoldable pub cache_members : (b : ℕ) → (path : List ℕ) → List MemberValue
@@ -25,7 +24,7 @@ cache_members b path = member (codes "line") (characters (codes "finding")) ∷ 
 
 -- its object
 abbrev pub cache_object : List ℕ → Walk → (d : ℕ) → List ℕ
-cache_object image w d = object_line (cache_members (directory_header image w d) (join_with_byte 47 (path_to image w d)))
+cache_object image w d = object_line (cache_members (directory_header image w d) (written_path true image w d))
 
 -- directory d, if its cache is wrong
 abbrev pub if_wrong : List ℕ → Walk → (d : ℕ) → Option ℕ

@@ -2,7 +2,7 @@
 -- whether it is a right link.
 -- Letters: s what is surveyed; w the walk of its image's survey, fs its findings; end a block; n an entry's node; k how many entries.
 use Rattle.std.specs.Prelude.{ℕ, ◌&&◌, Bool, true, false, cond, List, [], ◌∷◌, ◌++◌, codes}
-use Rattle.std.specs.List.{flat_map, join_with_byte, range_with_len}
+use Rattle.std.specs.List.{flat_map, range_with_len}
 use Rattle.adf_base.specs.{Words.block, declared.dates.Stamp.Stamp}
 use Rattle.adf_names.specs.{declared.meta.Meta.Meta, Kinds.kind_text}
 use Rattle.adf_json.specs.Objects.{JsonValue, MemberValue, characters, member, nothing, numeral, object_line, truth}
@@ -10,11 +10,11 @@ use Rattle.adf_blocks.specs.declared.head.HeadBody.{HeadBody}
 use Rattle.adf_blocks.specs.{HeadBlock.body_at, HeadBlock.meta_stated}
 use Rattle.adf_volume.specs.{Rows.row_body, Walk.heads, Walk.node_block, Walk.Walk}
 use Rattle.adf_volume.specs.declared.row.RowBody.{RowBody, TheVariants.Dir, TheVariants.File}
-use Rattle.adf_findings.specs.{Lookup.path_to, SoundMarks.AreMarks, Opening.opening_in, Survey.FindingValue, declared.opening.Opening.Opening}
+use Rattle.adf_findings.specs.{SoundMarks.AreMarks, Opening.opening_in, Survey.FindingValue, declared.opening.Opening.Opening}
 use Rattle.adf_links.specs.Links.{is_right_link}
 use Rattle.adf_passages.specs.Held.{has_its_data}
 use Rattle.adf_texts.specs.{RowTexts.head_lines, VolumeLines.AreDates, VolumeLines.opening_lines}
-use Rattle.adf_subjects.specs.Subject.{SubjectValue}
+use Rattle.adf_subjects.specs.{Subject.SubjectValue, WrittenPaths.written_path}
 use Rattle.adf_listings.specs.CacheLines.{survey_text}
 use Rattle.adf_listings.specs.FoundLinks.{told_link}
 
@@ -44,19 +44,19 @@ entry_members sound path date body meta = member (codes "line") (characters (cod
 abbrev pub entry_object : (Stamp → List ℕ) → (sound : Bool) → (path : List ℕ) → RowBody → Meta → List ℕ
 entry_object date sound path body meta = object_line (entry_members sound path (date meta.stamp) body meta)
 
--- the mark and the lines of an entry with these names, as `list` writes them of this header; or with `json` its object
-abbrev pub entry_text : (json : Bool) → (Stamp → List ℕ) → (sound : Bool) → (names : List (List ℕ)) → HeadBody → Meta → List ℕ
-entry_text false date sound names body meta = mark_text sound ++ head_lines date names body meta
-entry_text true date sound names body meta = entry_object date sound (join_with_byte 47 names) (row_body body) meta
+-- the mark and the lines of an entry with this path, as `list` writes them of this header; or with `json` its object
+abbrev pub entry_text : (json : Bool) → (Stamp → List ℕ) → (sound : Bool) → (path : List ℕ) → HeadBody → Meta → List ℕ
+entry_text false date sound path body meta = mark_text sound ++ head_lines date path body meta
+entry_text true date sound path body meta = entry_object date sound path (row_body body) meta
 
--- that of an entry with these names, as its header tells
-abbrev pub header_text : (json : Bool) → (Stamp → List ℕ) → (sound : Bool) → (names : List (List ℕ)) → (head : List ℕ) → List ℕ
-header_text json date sound names head = entry_text json date sound names (body_at head) (meta_stated head)
+-- that of an entry with this path, as its header tells
+abbrev pub header_text : (json : Bool) → (Stamp → List ℕ) → (sound : Bool) → (path : List ℕ) → (head : List ℕ) → List ℕ
+header_text json date sound path head = entry_text json date sound path (body_at head) (meta_stated head)
 
 -- that of entry n, or of the right link that it is
 abbrev pub found_lines : (json : Bool) → (Stamp → List ℕ) → (sound link : ℕ → Bool) → List ℕ → Walk → ℕ → List ℕ
 found_lines json date sound link image w n =
-    cond (link n) (told_link json date image w n) (header_text json date (sound n) (path_to image w n) (block image (node_block w n)))
+    cond (link n) (told_link json date image w n) (header_text json date (sound n) (written_path json image w n) (block image (node_block w n)))
 
 -- an entry is marked sound if it is sound and has its data
 abbrev pub marked : (ℕ → Bool) → ℕ → List ℕ → Walk → ℕ → Bool

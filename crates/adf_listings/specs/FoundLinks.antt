@@ -1,26 +1,24 @@
 -- The lines of right links, and their objects. In each definition `date` gives the text of a date.
 -- Letters: w the walk of an image's survey; n a right link, m what it leads to.
 use Rattle.std.specs.Prelude.{ℕ, Bool, true, false, List, [], ◌∷◌, ◌++◌, Option, Some, None, codes}
-use Rattle.std.specs.List.{join_with_byte}
 use Rattle.adf_base.specs.{Words.block, declared.dates.Stamp.Stamp}
 use Rattle.adf_names.specs.{declared.meta.Meta.Meta, Escapes.escaped}
 use Rattle.adf_json.specs.Objects.{JsonValue, MemberValue, characters, member, nothing, numeral, object_line}
 use Rattle.adf_blocks.specs.HeadBlock.{meta_stated}
 use Rattle.adf_volume.specs.Walk.{Walk, node_block}
-use Rattle.adf_findings.specs.Lookup.{path_to}
 use Rattle.adf_links.specs.Links.{link_path, original}
-use Rattle.adf_texts.specs.{Names.names_text, VolumeLines.lines_with}
-use Rattle.adf_subjects.specs.Lines.{entry_path, path_value}
+use Rattle.adf_texts.specs.VolumeLines.{lines_with}
+use Rattle.adf_subjects.specs.{Lines.entry_path, Lines.path_value, WrittenPaths.written_path}
 
 -- what a link leads to: an entry, by its path; otherwise the path in its header
 abbrev pub led_text : List ℕ → Walk → (path : List ℕ) → Option ℕ → List ℕ
 led_text image w path None = escaped path
-led_text image w path (Some m) = names_text (path_to image w m)
+led_text image w path (Some m) = written_path false image w m
 
 -- the path of a link, and what it leads to
 abbrev pub arrow_text : List ℕ → Walk → ℕ → List ℕ
 arrow_text image w n =
-    names_text (path_to image w n) ++ (codes " -> " ++ led_text image w (link_path image w n) (original image w n))
+    written_path false image w n ++ (codes " -> " ++ led_text image w (link_path image w n) (original image w n))
 
 -- the line of a link, as that of an entry without a size, and the line of its note
 abbrev pub link_lines : (Stamp → List ℕ) → List ℕ → Walk → ℕ → Meta → List ℕ
@@ -41,7 +39,7 @@ link_members path date meta target to own = member (codes "line") (characters (c
 abbrev pub link_object : (Stamp → List ℕ) → List ℕ → Walk → ℕ → Meta → List ℕ
 link_object date image w n meta =
     let target = original image w n in
-    object_line (link_members (join_with_byte 47 (path_to image w n)) (date meta.stamp) meta target (entry_path image w target) (link_path image w n))
+    object_line (link_members (written_path true image w n) (date meta.stamp) meta target (entry_path image w target) (link_path image w n))
 
 -- the lines of a link, or with `json` its object
 abbrev pub link_entry : (json : Bool) → (Stamp → List ℕ) → List ℕ → Walk → ℕ → Meta → List ℕ

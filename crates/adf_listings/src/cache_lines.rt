@@ -1,8 +1,8 @@
 // The lines of wrong directory caches.
 
-ghost use Rattle.std.specs.Prelude.{◌≡◌, ◌++◌, ℕ, List, IfOk, OnErr, OnOk, false, map, true};
-ghost use Rattle.std.specs.{Io.KnownBytes.Appends, List.join_with_byte};
-ghost use Rattle.adf_findings.specs.{Lookup.path_to, Members.has_mark, Survey.OnSurvey};
+ghost use Rattle.std.specs.Prelude.{◌≡◌, ◌++◌, ℕ, List, OnErr, OnOk, false, map, true};
+ghost use Rattle.std.specs.Io.KnownBytes.{Appends};
+ghost use Rattle.adf_findings.specs.{Members.has_mark, Survey.OnSurvey};
 ghost use Rattle.adf_volume.specs.Walk.{Walk};
 ghost use Rattle.adf_caches.specs.Caches.{is_wrong_cache};
 ghost use Rattle.adf_json.specs.Objects.{member_value};
@@ -13,10 +13,9 @@ ghost use Rattle.adf_listings.specs.CacheLines.{if_wrong, wrong_line};
 
 use adf_caches::{directory_header, wrong_caches};
 use adf_findings::{Survey, has_mark};
-use adf_json::{Member, Value, joined, push_object};
+use adf_json::{Member, Value, push_object};
 use adf_runs::{Sink, StreamFault, flush_long, write_all};
-use adf_subjects::{push_blocks, write_runs};
-use adf_texts::push_names;
+use adf_subjects::{push_blocks, write_runs, written_path};
 use adf_tree::Node;
 use std::alloc::{AllocError, Global};
 
@@ -32,12 +31,12 @@ fn if_wrong(wrong: &Vec<bool>, d: usize) -> Option<Node>
 }
 
 // Appends the line of the wrong cache of a directory with its header in a block.
-fn push_wrong_line(text: &mut Vec<u8>, block: u32, path: &[&[u8]]) -> Result<(), AllocError>
-    ensures { OnOk result (text.new.items ≡ text.old.items ++ wrong_line block (map (λ name. name.now) path.now)) }
+fn push_wrong_line(text: &mut Vec<u8>, block: u32, path: &[u8]) -> Result<(), AllocError>
+    ensures { OnOk result (text.new.items ≡ text.old.items ++ wrong_line block path.now) }
 {
     push_blocks(text, block, block, b':')?;
     text.extend_from_slice(b" wrong cache: ")?;
-    push_names(text, path)?;
+    text.extend_from_slice(path)?;
     text.extend_from_slice(b"/\n")
 }
 
@@ -51,10 +50,8 @@ fn push_cache_line(
     ensures { OnSurvey survey.now.image (λ w _. is_wrong_cache survey.now.image w d ≡ true
         → OnOk result (text.new.items ≡ text.old.items ++ cache_line survey.now.image w d)) }
 {
-    match survey.path(alloc, d) {
-        Ok(path) => push_wrong_line(text, directory_header(survey, d), &path),
-        Err(_) => Err(AllocError),
-    }
+    let path = written_path(alloc, survey, d, false)?;
+    push_wrong_line(text, directory_header(survey, d), &path)
 }
 
 // The members of the object of the wrong cache of a directory with its header in a block.
@@ -75,17 +72,6 @@ fn cache_members<'a>(block: u32, path: &'a [u8]) -> [Member<'a>; 9]
     ]
 }
 
-// The names of the path of a directory, joined by `/`.
-fn joined_path(alloc: Global, survey: &Survey<'_>, d: Node) -> Result<Vec<u8>, AllocError>
-    ensures { OnSurvey survey.now.image (λ w _.
-        IfOk result (λ path. path.items ≡ join_with_byte 47 (path_to survey.now.image w d))) }
-{
-    match survey.path(alloc, d) {
-        Ok(names) => joined(alloc, &names),
-        Err(_) => Err(AllocError),
-    }
-}
-
 // Appends the object of the wrong cache of a directory.
 fn push_cache_object(
     alloc: Global,
@@ -96,7 +82,7 @@ fn push_cache_object(
     ensures { OnSurvey survey.now.image (λ w _. is_wrong_cache survey.now.image w d ≡ true
         → OnOk result (text.new.items ≡ text.old.items ++ cache_object survey.now.image w d)) }
 {
-    let path = joined_path(alloc, survey, d)?;
+    let path = written_path(alloc, survey, d, true)?;
     push_object(text, &cache_members(directory_header(survey, d), &path))
 }
 

@@ -1,14 +1,15 @@
 // The lines of what is found.
 
-ghost use Rattle.std.specs.Prelude.{◌≡◌, ◌++◌, ◌≤◌, ℕ, Bool, List, IfOk, OnErr, OnOk, false, map};
+ghost use Rattle.std.specs.Prelude.{◌≡◌, ◌++◌, ◌≤◌, ℕ, Bool, List, IfOk, OnErr, OnOk, false};
 ghost use Rattle.std.specs.{Io.KnownBytes.Appends};
 ghost use Rattle.adf_base.specs.{Words.block, declared.dates.Stamp.Stamp};
 ghost use Rattle.adf_volume.specs.Walk.{heads, node_block};
-ghost use Rattle.adf_findings.specs.{Lookup.path_to, SoundMarks.AreMarks, Survey.OnSurvey};
+ghost use Rattle.adf_findings.specs.{SoundMarks.AreMarks, Survey.OnSurvey};
 ghost use Rattle.adf_links.specs.Links.{AreRightMarks, is_right_link};
 ghost use Rattle.adf_texts.specs.VolumeLines.{AreDates};
 ghost use Rattle.adf_runs.specs.Streams.{AppendsPart, is_device};
 ghost use Rattle.adf_texts.specs.RowTexts.{head_lines};
+ghost use Rattle.adf_subjects.specs.WrittenPaths.{written_path};
 ghost use Rattle.adf_listings.specs.FoundLines.{InAnyTexts, entry_text, found_lines, found_text, header_text};
 ghost use Rattle.adf_listings.specs.FoundLines.{lines_of_found, mark_text, marked, opening_text};
 
@@ -18,6 +19,7 @@ use adf_findings::{Opening, Survey, has_mark};
 use adf_links::right_links;
 use adf_passages::are_before;
 use adf_runs::{Sink, StreamFault, flush_long, write_all};
+use adf_subjects::written_path;
 use adf_texts::{push_head_lines, push_opening_lines};
 use adf_tree::Node;
 use std::alloc::{AllocError, Global};
@@ -61,7 +63,7 @@ fn is_marked(alloc: Global, survey: &Survey<'_>, n: Node, end: u32) -> Result<bo
 fn push_entry_lines(text: &mut Vec<u8>, entry: &FoundEntry<'_>) -> Result<(), AllocError>
     ensures { (date : Stamp → List ℕ) → AreDates date → OnOk result (text.new.items ≡ text.old.items
         ++ (mark_text entry.now.is_sound
-        ++ head_lines date (map (λ name. name.now) entry.now.path.now) entry.now.body entry.now.meta.now)) }
+        ++ head_lines date entry.now.path.now entry.now.body entry.now.meta.now)) }
 {
     push_mark(text, entry.is_sound)?;
     push_head_lines(text, entry.body, entry.meta, entry.path)
@@ -75,8 +77,7 @@ fn push_entry(
     text: &mut Vec<u8>,
 ) -> Result<(), AllocError>
     ensures { (date : Stamp → List ℕ) → AreDates date → OnOk result (text.new.items ≡ text.old.items
-        ++ entry_text json date entry.now.is_sound (map (λ name. name.now) entry.now.path.now)
-        entry.now.body entry.now.meta.now) }
+        ++ entry_text json date entry.now.is_sound entry.now.path.now entry.now.body entry.now.meta.now) }
 {
     if json {
         push_entry_object(alloc, entry, text)
@@ -96,15 +97,13 @@ fn push_header(
     ensures { OnSurvey survey.now.image (λ w fs.
         InAnyTexts survey.now.image w fs (λ date sound. 1 ≤ n → n ≤ heads w → OnOk result
         (text.new.items ≡ text.old.items
-        ++ header_text form.json date (marked sound form.end survey.now.image w n) (path_to survey.now.image w n)
+        ++ header_text form.json date (marked sound form.end survey.now.image w n) (written_path form.json survey.now.image w n)
         (block survey.now.image (node_block w n))))) }
 {
     let (Some(body), Some(meta)) = (survey.body(n), survey.meta(n)) else {
         return Ok(());
     };
-    let Ok(path) = survey.path(alloc, n) else {
-        return Err(AllocError);
-    };
+    let path = written_path(alloc, survey, n, form.json)?;
     let entry = FoundEntry {
         is_sound: is_marked(alloc, survey, n, form.end)?,
         body,

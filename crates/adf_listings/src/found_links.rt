@@ -1,14 +1,13 @@
 // The lines of right links, and their objects.
 
-ghost use Rattle.std.specs.Prelude.{◌≡◌, ◌++◌, ◌≤◌, List, IfOk, OnOk, codes, map, ℕ};
-ghost use Rattle.std.specs.List.{join_with_byte};
+ghost use Rattle.std.specs.Prelude.{◌≡◌, ◌++◌, ◌≤◌, List, IfOk, OnOk, codes, map, true, ℕ};
 ghost use Rattle.adf_base.specs.declared.dates.Stamp.{Stamp};
-ghost use Rattle.adf_findings.specs.{Lookup.path_to, Survey.OnSurvey};
+ghost use Rattle.adf_findings.specs.Survey.{OnSurvey};
 ghost use Rattle.adf_json.specs.Objects.{member_value, value_value};
 ghost use Rattle.adf_links.specs.Links.{link_path, original};
 ghost use Rattle.adf_manifest.specs.Texts.{hex_word};
 ghost use Rattle.adf_subjects.specs.Lines.{entry_path, path_value};
-ghost use Rattle.adf_texts.specs.Names.{names_text};
+ghost use Rattle.adf_subjects.specs.WrittenPaths.{written_path};
 ghost use Rattle.adf_texts.specs.VolumeLines.{AreDates, escaped_line, right_in_ten};
 ghost use Rattle.adf_volume.specs.Walk.{heads};
 ghost use Rattle.adf_listings.specs.FoundLinks.{arrow_text, led_text, link_entry, link_lines, link_members};
@@ -18,27 +17,12 @@ use crate::found_objects::date_text;
 use adf_base::Stamp;
 use adf_fields::push_stamp;
 use adf_findings::Survey;
-use adf_json::{Member, Value, joined, push_object};
+use adf_json::{Member, Value, push_object};
 use adf_links::{link_path, original_of};
-use adf_texts::{push_escaped, push_hex, push_names};
+use adf_subjects::{path_of, push_path, written_path};
+use adf_texts::{push_escaped, push_hex};
 use adf_tree::{Meta, Node};
 use std::alloc::{AllocError, Global};
-
-// Appends the path of an entry.
-fn push_path(
-    alloc: Global,
-    survey: &Survey<'_>,
-    n: Node,
-    text: &mut Vec<u8>,
-) -> Result<(), AllocError>
-    ensures { OnSurvey survey.now.image (λ w _. OnOk result
-        (text.new.items ≡ text.old.items ++ names_text (path_to survey.now.image w n))) }
-{
-    match survey.path(alloc, n) {
-        Ok(path) => push_names(text, &path),
-        Err(_) => Err(AllocError),
-    }
-}
 
 // Appends what a link leads to: an entry, by its path; otherwise the path in its header.
 fn push_led(
@@ -129,19 +113,6 @@ fn push_link_lines(
     push_end(text, meta)
 }
 
-// The path of an entry, where there is one, with its names joined by `/`.
-fn joined_path(alloc: Global, survey: &Survey<'_>, n: Option<Node>) -> Result<Vec<u8>, AllocError>
-    ensures { OnSurvey survey.now.image (λ w _. IfOk result (λ path. path.items ≡ entry_path survey.now.image w n)) }
-{
-    let Some(n) = n else {
-        return Ok(Vec::new(alloc));
-    };
-    match survey.path(alloc, n) {
-        Ok(names) => joined(alloc, &names),
-        Err(_) => Err(AllocError),
-    }
-}
-
 // The texts of the object of a link: its path, and what it leads to.
 #[derive(Drop)]
 struct LinkTexts {
@@ -156,7 +127,7 @@ struct LinkTexts {
 impl LinkTexts {
     fn of(alloc: Global, survey: &Survey<'_>, n: Node, meta: &Meta) -> Result<LinkTexts, AllocError>
         ensures path { OnSurvey survey.now.image (λ w _.
-            IfOk result (λ t. t.path.items ≡ join_with_byte 47 (path_to survey.now.image w n))) }
+            IfOk result (λ t. t.path.items ≡ written_path true survey.now.image w n)) }
         ensures date { (date : Stamp → List ℕ) → AreDates date → IfOk result (λ t. t.date.items ≡ date meta.now.stamp) }
         ensures comment { IfOk result (λ t. t.comment.items ≡ meta.now.comment) }
         ensures target { OnSurvey survey.now.image (λ w _.
@@ -168,11 +139,11 @@ impl LinkTexts {
     {
         let target = original_of(survey, n);
         Ok(LinkTexts {
-            path: joined_path(alloc, survey, Some(n))?,
+            path: written_path(alloc, survey, n, true)?,
             date: date_text(alloc, meta.stamp)?,
             comment: meta.comment.bytes().to_vec(alloc)?,
             target,
-            to: joined_path(alloc, survey, target)?,
+            to: path_of(alloc, survey, target)?,
             own: link_path(survey, n).to_vec(alloc)?,
         })
     }

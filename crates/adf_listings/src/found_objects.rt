@@ -1,7 +1,6 @@
 // The objects of what is found.
 
 ghost use Rattle.std.specs.Prelude.{◌≡◌, ◌++◌, ℕ, List, IfOk, OnOk, map};
-ghost use Rattle.std.specs.List.{join_with_byte};
 ghost use Rattle.adf_base.specs.declared.dates.Stamp.{Stamp};
 ghost use Rattle.adf_json.specs.Objects.{member_value, value_value};
 ghost use Rattle.adf_texts.specs.VolumeLines.{AreDates};
@@ -13,18 +12,18 @@ use adf_base::Stamp;
 use adf_blocks::HeadBody;
 use adf_fields::push_stamp;
 use adf_findings::Opening;
-use adf_json::{Member, Value, joined, push_object};
+use adf_json::{Member, Value, push_object};
 use adf_tree::{Meta, Stamps};
 use adf_volume::RowBody;
 use std::alloc::{AllocError, Global};
 
-/// What is told of an entry: whether it is sound, and what its header and those of its directories say.
+/// What is told of an entry: whether it is sound, what its header says, and its path, as it is written.
 #[derive(Clone, Copy)]
 pub struct FoundEntry<'a> {
     pub is_sound: bool,
     pub body: HeadBody,
     pub meta: &'a Meta,
-    pub path: &'a [&'a [u8]],
+    pub path: &'a [u8],
 }
 
 /// The text of a date.
@@ -66,12 +65,12 @@ struct EntryTexts {
 
 impl EntryTexts {
     fn of(alloc: Global, entry: &FoundEntry<'_>) -> Result<EntryTexts, AllocError>
-        ensures path { IfOk result (λ t. t.path.items ≡ join_with_byte 47 (map (λ name. name.now) entry.now.path.now)) }
+        ensures path { IfOk result (λ t. t.path.items ≡ entry.now.path.now) }
         ensures date { (date : Stamp → List ℕ) → AreDates date → IfOk result (λ t. t.date.items ≡ date entry.now.meta.now.stamp) }
         ensures comment { IfOk result (λ t. t.comment.items ≡ entry.now.meta.now.comment) }
     {
         Ok(EntryTexts {
-            path: joined(alloc, entry.path)?,
+            path: entry.path.to_vec(alloc)?,
             date: date_text(alloc, entry.meta.stamp)?,
             comment: entry.meta.comment.bytes().to_vec(alloc)?,
         })
@@ -105,7 +104,7 @@ pub fn push_entry_object(
     text: &mut Vec<u8>,
 ) -> Result<(), AllocError>
     ensures { (date : Stamp → List ℕ) → AreDates date → OnOk result (text.new.items ≡ text.old.items
-        ++ entry_object date entry.now.is_sound (join_with_byte 47 (map (λ name. name.now) entry.now.path.now))
+        ++ entry_object date entry.now.is_sound entry.now.path.now
         (row_body entry.now.body) entry.now.meta.now) }
 {
     let texts = EntryTexts::of(alloc, entry)?;
