@@ -1,15 +1,16 @@
 -- The lines of deleted headers.
 -- Letters: k what is known of an image; h the block of a deleted header, s what speaks for its file; b a block; n a number of blocks; t a text, and
 -- the same with one part more, and with two, three and four.
-use Rattle.std.proofs.Common.{◌≡◌, ◌∙◌, ◌+◌, ◌++◌, ℕ, Bool, List, [], ap, append_assoc, arith, codes, cond, refl, sym, true}
+use Rattle.std.proofs.Common.{◌≡◌, ◌∙◌, ◌≤◌, ◌+◌, ◌++◌, ℕ, Bool, List, [], ap, append_assoc, arith, codes, cond, refl, sym, true}
 use Rattle.adf_base.specs.{Words.block, declared.dates.Stamp.Stamp}
 use Rattle.adf_blocks.specs.HeadBlock.{body_at, meta_stated}
 use Rattle.adf_blocks.specs.declared.head.HeadBody.{HeadBody}
 use Rattle.adf_names.specs.declared.meta.Meta.{Meta}
-use Rattle.adf_deleted.specs.{Deletions.state_of, Known.KnownValue, Known.is_deleted, Paths.former_path}
+use Rattle.adf_deleted.specs.{Deletions.state_of, Known.KnownValue, Known.is_deleted}
 use Rattle.adf_deleted.specs.declared.deletions.State.{State}
 use Rattle.adf_texts.specs.RowTexts.{head_lines}
-use Rattle.adf_texts.proofs.Ranges.{flat_map_next}
+use Rattle.adf_texts.proofs.Ranges.{flat_map_front, flat_map_next}
+use Rattle.adf_subjects.specs.WrittenPaths.{former_written}
 use Rattle.adf_remains.specs.Deletions.{block_text, deleted_line, deleted_lines, header_line, line_if_deleted, what_stands_text}
 
 -- four parts behind a text
@@ -22,9 +23,9 @@ chosen : (x : Bool) (a b : List ℕ) → x ≡ true → cond x a b ≡ a
 chosen x a b e = rw e refl
 
 module _ (date : Stamp → List ℕ) where
-  pub header_said : (image : List ℕ) (h : ℕ) (names : List (List ℕ)) (body : HeadBody) (meta : Meta) → names ≡ former_path image h
-      → body ≡ body_at (block image h) → meta ≡ meta_stated (block image h) → head_lines date names body meta ≡ header_line date image h
-  header_said image h names body meta n b m = rw (n, b, m) refl
+  pub header_said : (image : List ℕ) (h : ℕ) (path : List ℕ) (body : HeadBody) (meta : Meta) → path ≡ former_written image h
+      → body ≡ body_at (block image h) → meta ≡ meta_stated (block image h) → head_lines date path body meta ≡ header_line date image h
+  header_said image h path body meta n b m = rw (n, b, m) refl
 
 module _ (date : Stamp → List ℕ) (k : KnownValue) where
   pub deleted_said : (h : ℕ) (s : State) (t0 t1 t2 t3 t4 : List ℕ) → s ≡ state_of k h → t1 ≡ t0 ++ block_text h → t2 ≡ t1 ++ what_stands_text k.image s
@@ -44,4 +45,7 @@ module _ (date : Stamp → List ℕ) (k : KnownValue) where
   unfolding deleted_lines
   more_lines n = flat_map_next (line_if_deleted date k) 0 n n (omega arith)
 
-pub ruleset line_steps = (no_lines, more_lines)
+  -- the lines of fewer blocks stand in front
+  pub lines_front : (m n : ℕ) → m ≤ n → (rest : List ℕ) × (deleted_lines date k n ≡ deleted_lines date k m ++ rest)
+  unfolding deleted_lines
+  lines_front m n h = flat_map_front (line_if_deleted date k) 0 m n h

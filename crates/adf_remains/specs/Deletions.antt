@@ -9,17 +9,17 @@ use Rattle.adf_blocks.specs.{HeadBlock.body_at, HeadBlock.meta_stated, Sizes.blo
 use Rattle.adf_volume.specs.{Start.is_image_len, Walk.Walk}
 use Rattle.adf_findings.specs.Survey.{FindingValue, IsSurvey}
 use Rattle.adf_rescue.specs.{Hung.second_image, Opened.lacks_root, Opened.opened, Pruned.pruned, Rescue.Basis, Rescue.IsSecond}
-use Rattle.adf_deleted.specs.{Deletions.state_of, Known.KnownValue, Known.is_deleted, Known.known_blocks, Paths.former_path}
+use Rattle.adf_deleted.specs.{Deletions.state_of, Known.KnownValue, Known.is_deleted, Known.known_blocks}
 use Rattle.adf_deleted.specs.Left.{deleted_bytes, deleted_gaps, is_deleted_file}
 use Rattle.adf_deleted.specs.declared.deletions.State.{State, TheVariants.Whole, TheVariants.Contested, TheVariants.Overwritten}
-use Rattle.adf_texts.specs.{RowTexts.head_lines, VolumeLines.AreDates, Names.names_text}
+use Rattle.adf_texts.specs.{RowTexts.head_lines, VolumeLines.AreDates}
 use Rattle.adf_runs.specs.Commands.{Reply, on_errors, on_output}
-use Rattle.adf_subjects.specs.{Rescues.text_status, Subject.IsTyped, Subject.SubjectValue}
+use Rattle.adf_subjects.specs.{Rescues.text_status, Subject.IsTyped, Subject.SubjectValue, WrittenPaths.former_written}
 use Rattle.adf_remains.specs.Remains.{gap_line}
 
 -- another deleted header names a block of a file
 abbrev pub contested_text : List ℕ → ℕ → List ℕ
-contested_text image r = codes "contested: " ++ names_text (former_path image r)
+contested_text image r = codes "contested: " ++ former_written image r
 
 -- of so many blocks
 abbrev pub of_text : ℕ → List ℕ
@@ -41,7 +41,7 @@ block_text b = codes "block " ++ (decimal b ++ codes ": ")
 
 -- what header h says, as in the lines of what is found
 abbrev pub header_line : (Stamp → List ℕ) → List ℕ → ℕ → List ℕ
-header_line date image h = head_lines date (former_path image h) (body_at (block image h)) (meta_stated (block image h))
+header_line date image h = head_lines date (former_written image h) (body_at (block image h)) (meta_stated (block image h))
 
 -- the line of a deleted header: its block, what speaks for it, and what it says
 abbrev pub deleted_line : (Stamp → List ℕ) → KnownValue → ℕ → List ℕ

@@ -1,11 +1,11 @@
 // The bytes of sound files, and what is left of those that may be damaged.
 
-ghost use Rattle.std.specs.Prelude.{◌≡◌, ◌++◌, IfOk, OnOk, false, true};
+ghost use Rattle.std.specs.Prelude.{◌≡◌, ◌≤◌, ◌++◌, IfOk, OnOk, false, length, take, true};
 ghost use Rattle.std.specs.List.{flat_map};
 ghost use Rattle.adf_findings.specs.{Files.file_content, Survey.OnSurvey};
 ghost use Rattle.adf_runs.specs.{Commands.on_errors, Commands.on_output, Streams.seen};
 ghost use Rattle.adf_remains.specs.Copies.{CopiesEntry, CopiesFound, no_path_line};
-ghost use Rattle.adf_remains.specs.Remains.{gap_line, remains_reply};
+ghost use Rattle.adf_remains.specs.Remains.{gap_line, kept_len, remains_reply};
 ghost use Rattle.adf_subjects.specs.Subject.{surveyed_as};
 ghost use Rattle.adf_runs.specs.Outcomes.{Blames, Does, DoesSilently, EndsBy};
 
@@ -75,7 +75,26 @@ pub fn gap_lines(alloc: Global, gaps: &[Gap]) -> Result<Vec<u8>, AllocError>
     Ok(text)
 }
 
-// Writes the bytes of a file, and tells which are no data.
+// How many of so many bytes are written: all up to the last that is data.
+fn kept_len(len: usize, gaps: &[Gap]) -> usize
+    ensures kept { result ≡ kept_len len gaps.now }
+    ensures most { result ≤ len }
+{
+    match gaps.last().copied() {
+        Some(gap) if gap.last as usize + 1 == len => len.min(gap.first as usize),
+        _ => len,
+    }
+}
+
+// The bytes of a file up to the last that is data.
+fn kept_bytes<'a>(remains: &'a Remains) -> &'a [u8]
+    ensures { result.now ≡ take (kept_len (length remains.now.bytes.items) remains.now.gaps.items) remains.now.bytes.items }
+{
+    let end = kept_len(remains.bytes.len(), &remains.gaps);
+    &remains.bytes[..end]
+}
+
+// Writes the bytes of a file up to the last that is data, and tells which are no data.
 fn write_remains<W: Sink>(alloc: Global, remains: &Remains, output: &mut W) -> Outcome
     requires { W.has_failed output.old ≡ false }
     ensures { Does (λ reply. reply ≡ remains_reply remains.now.bytes.items remains.now.gaps.items) result
@@ -84,7 +103,7 @@ fn write_remains<W: Sink>(alloc: Global, remains: &Remains, output: &mut W) -> O
     let Ok(lines) = gap_lines(alloc, &remains.gaps) else {
         return Outcome::NoMemory;
     };
-    match write_all(output, &remains.bytes) {
+    match write_all(output, kept_bytes(remains)) {
         Ok(()) if remains.gaps.is_empty() => Outcome::Done,
         Ok(()) => Outcome::LeftOut(lines),
         Err(_) => Outcome::WriteFault,

@@ -1,15 +1,16 @@
 // The lines of deleted headers.
 
-ghost use Rattle.std.specs.Prelude.{◌≡◌, ◌++◌, ◌<◌, ℕ, List, IfOk, OnOk, Some, codes, false, length, option_map, true};
+ghost use Rattle.std.specs.Prelude.{◌≡◌, ◌++◌, ◌<◌, ℕ, List, OnErr, OnOk, Some, codes, false, length, option_map, true};
+ghost use Rattle.std.specs.Io.KnownBytes.{Appends};
 ghost use Rattle.adf_base.specs.declared.dates.Stamp.{Stamp};
 ghost use Rattle.adf_blocks.specs.Sizes.{blocks};
 ghost use Rattle.adf_volume.specs.Start.{is_image_len};
 ghost use Rattle.adf_findings.specs.Survey.{OnSurvey};
 ghost use Rattle.adf_rescue.specs.{Opened.opened, Pruned.pruned, Rescue.OnSecond};
-ghost use Rattle.adf_deleted.specs.Paths.{former_path};
-ghost use Rattle.adf_texts.specs.Names.{names_text};
+ghost use Rattle.adf_subjects.specs.WrittenPaths.{former_written};
 ghost use Rattle.adf_texts.specs.VolumeLines.{AreDates};
 ghost use Rattle.adf_runs.specs.{Commands.on_errors, Commands.on_output, Outcomes.Does, Outcomes.DoesSilently, Streams.seen};
+ghost use Rattle.adf_runs.specs.Streams.{AppendsPart, is_device};
 ghost use Rattle.adf_remains.specs.Deletions.{ListsHeaders, TellsBy, TellsRead, TellsSecond, TellsRefused, TellsTyped};
 ghost use Rattle.adf_remains.specs.Deletions.{TellsDeleted, deleted_line, what_stands_text};
 ghost use Rattle.adf_remains.specs.Deletions.{block_text, contested_text, deleted_lines, header_line};
@@ -21,9 +22,9 @@ use adf_blocks::{HeadBody, meta_stated};
 use adf_deleted::{Deletions, Known, State, know};
 use adf_findings::{Survey, survey};
 use adf_rescue::{hung_image, lacks_root, open_image, prune_image};
-use adf_runs::{Outcome, Sink, write_all};
-use adf_subjects::Subject;
-use adf_texts::{push_head_lines, push_names, push_number};
+use adf_runs::{Outcome, Sink, StreamFault, flush_long, write_all};
+use adf_subjects::{Subject, former_written};
+use adf_texts::{push_head_lines, push_number};
 use adf_volume::is_image_len;
 use std::alloc::{AllocError, Global};
 
@@ -34,12 +35,10 @@ fn push_path(
     h: u32,
     text: &mut Vec<u8>,
 ) -> Result<(), AllocError>
-    ensures { OnOk result (text.new.items ≡ text.old.items ++ names_text (former_path deletions.now.image h)) }
+    ensures { OnOk result (text.new.items ≡ text.old.items ++ former_written deletions.now.image h) }
 {
-    let Ok(path) = deletions.path(alloc, h) else {
-        return Err(AllocError);
-    };
-    push_names(text, &path)
+    let path = former_written(alloc, deletions, h)?;
+    text.extend_from_slice(&path)
 }
 
 /// Appends that another header names a block of a file.
@@ -109,9 +108,7 @@ fn push_header(
     ensures { (date : Stamp → List ℕ) → AreDates date
         → OnOk result (text.new.items ≡ text.old.items ++ header_line date deletions.now.image h) }
 {
-    let Ok(path) = deletions.path(alloc, h) else {
-        return Err(AllocError);
-    };
+    let path = former_written(alloc, deletions, h)?;
     let head = deletions.header(h);
     push_head_lines(text, HeadBody::of(&head), &meta_stated(&head), &path)
 }
@@ -153,17 +150,27 @@ fn push_if_deleted(
     Ok(())
 }
 
-// The lines of the deleted headers.
-#[tactic(auto, using(crate::proofs::DeletedTexts::line_steps))]
-fn deleted_lines(alloc: Global, deletions: &Deletions<'_>) -> Result<Vec<u8>, AllocError>
-    ensures { (date : Stamp → List ℕ) → AreDates date
-        → IfOk result (λ text. text.items ≡ deleted_lines date deletions.now (blocks deletions.now.image)) }
+// Writes the lines of the deleted headers.
+fn write_headers<W: Sink>(
+    alloc: Global,
+    deletions: &Deletions<'_>,
+    output: &mut W,
+) -> Result<(), StreamFault>
+    requires works { W.has_failed output.old ≡ false }
+    ensures ok { (date : Stamp → List ℕ) → AreDates date → OnOk result (Appends (W.held output.old) (W.held output.new)
+        (deleted_lines date deletions.now (blocks deletions.now.image))) }
+    ensures err { (date : Stamp → List ℕ) → AreDates date → OnErr result (AppendsPart
+        (W.has_failed output.new) (W.held output.old) (W.held output.new)
+        (deleted_lines date deletions.now (blocks deletions.now.image))) }
+    ensures failed { W.has_failed output.new ≡ is_device result }
 {
     let mut text = Vec::new(alloc);
     for b in 0..deletions.blocks() {
         push_if_deleted(alloc, deletions, b, &mut text)?;
+        flush_long(output, &mut text)?;
     }
-    Ok(text)
+    write_all(output, &text)?;
+    Ok(())
 }
 
 /// Writes a text.
@@ -177,14 +184,14 @@ pub fn write_text<W: Sink>(text: &Vec<u8>, output: &mut W) -> Outcome
     }
 }
 
-// Writes the lines of the deleted headers.
+// Tells the deleted headers by their lines.
 fn list_headers<W: Sink>(alloc: Global, deletions: &Deletions<'_>, output: &mut W) -> Outcome
     requires { W.has_failed output.old ≡ false }
     ensures { Does (ListsHeaders deletions.now) result (seen W.held W.has_failed output.old output.new) }
 {
-    match deleted_lines(alloc, deletions) {
-        Ok(text) => write_text(&text, output),
-        Err(_) => Outcome::NoMemory,
+    match write_headers(alloc, deletions, output) {
+        Ok(()) => Outcome::Done,
+        Err(fault) => Outcome::after_writing(fault),
     }
 }
 

@@ -1,17 +1,19 @@
-use Rattle.std.proofs.Common.{◌≡◌, ◌∙◌, ap}
-use Rattle.adf_blocks.specs.Sizes.{blocks}
+use Rattle.std.proofs.Common.{refl}
 use Rattle.adf_fields.proofs.DateTexts.{date_of, date_of_is}
-use Rattle.adf_runs.specs.Commands.{on_output}
-use Rattle.adf_runs.proofs.Endings.{does_weaker, nothing_done, silently}
-use Rattle.adf_remains.specs.Deletions.{ListsHeaders, deleted_lines}
+use Rattle.adf_runs.specs.Streams.{seen}
+use Rattle.adf_runs.proofs.Endings.{front_ends}
+use Rattle.adf_remains.specs.Deletions.{ListsHeaders}
 use Rattle.adf_remains.proofs.deleting.list_headers.Goals as goal
 
 pub returns-in-Ok : goal.returns-in-Ok
-returns-in-Ok g c =
-    let k = c.args.deletions.now in
-    let lines : c.in-Ok.text.items ≡ deleted_lines date_of k (blocks k.image) = c.in-Ok.ensures date_of date_of_is in
-    does_weaker (λ reply. reply ≡ on_output 0 c.in-Ok.text.items) (ListsHeaders k)
-    (λ reply e. (date_of, date_of_is, e ∙ ap (on_output 0) lines)) c.write_text.ensures
+returns-in-Ok g c = record {
+  ends = (_, (date_of, date_of_is, refl), c.in-Ok.ensures.ok date_of date_of_is);
+  read = refl;
+  written = c.in-Ok.ensures.failed;
+}
 
 pub returns-in-Err : goal.returns-in-Err
-returns-in-Err g c = silently c.requires nothing_done
+returns-in-Err g c =
+    front_ends c.in-Err.fault _ (ListsHeaders c.args.deletions.now)
+    (seen g.W.Sink.held g.W.Sink.has_failed c.args.output.now c.write_headers.new.output) c.after_writing.ensures c.in-Err.ensures.failed
+    (_, (date_of, date_of_is, refl), c.in-Err.ensures.err date_of date_of_is)
