@@ -1,8 +1,7 @@
 // The whole command.
 
 ghost use Rattle.std.specs.Prelude.{◌≡◌, ℕ, List, Some, false, true};
-ghost use Rattle.adf_disk_cmd.specs.Answers.{DamagedTablesAreTold, DiskRequestsHaveOneAnswer};
-ghost use Rattle.adf_disk_cmd.specs.Answers.{WordsAskForOneDiskRequest, disk_command};
+ghost use Rattle.adf_disk_cmd.specs.Answers.{DamagedTablesAreTold, disk_command};
 ghost use Rattle.adf_runs.specs.{Commands.IsUnanswered, Commands.TakesEnough, Streams.seen};
 ghost use Rattle.adf_file_runs.specs.FileRuns.{RunEndsOnFiles, known_files};
 ghost use Rattle.adf_words.specs.CommandLine.{texts_of};
@@ -80,7 +79,6 @@ impl MakingProgram for Job {
 }
 
 /// What is told of a disk whose tables have a fault, by its partitions, is never told at status 0.
-#[tactic(auto, using(crate::proofs::DamagedTables::damaged_tables_are_told))]
 pub fn damaged_tables_are_told()
     ensures { DamagedTablesAreTold }
 {}
