@@ -118,7 +118,7 @@ fn keep_of(
     losses: &[Loss],
 ) -> Result<Told, NoMemory>
     ensures { OnSurvey found.now.image (λ w _. IfOk result (λ told. (kept : List Bool)
-        × IsKeptAll searched.now volume.boot.now volume.image.items told.image.items kept
+        × IsKeptAll searched.now volume.entry.boot.now volume.entry.image.items told.image.items kept
         × (told.lines.items ≡ losses_text (losses_beside found.now.image w kept (loss_values losses.now))))) }
 {
     let LaidVolume { image, boot } = volume;
@@ -139,7 +139,7 @@ fn keep_found(
 ) -> Result<Told, NoMemory>
     ensures { OnSurvey found.now.image (λ w fs. IfOk result (λ told. (searched : List ℕ) × (kept : List Bool)
         × IsSearched made (surveyed found.now.image w fs) searched
-        × IsKeptAll searched volume.boot.now volume.image.items told.image.items kept
+        × IsKeptAll searched volume.entry.boot.now volume.entry.image.items told.image.items kept
         × (told.lines.items ≡ losses_text (losses_beside found.now.image w kept (loss_values losses.now))))) }
 {
     match searched_image(alloc, found, made)? {
@@ -163,8 +163,8 @@ fn keep_all(
     losses: &[Loss],
 ) -> Result<Told, NoMemory>
     ensures { (input : List ℕ) → read.now.image.items ≡ image_read true input → read.now.made ≡ lacks_root input
-        → IfOk result (λ told. Replies (MayKeepAll input volume.boot.now
-        (λ r. r ≡ written volume.image.items (loss_values losses.now)))
+        → IfOk result (λ told. Replies (MayKeepAll input volume.entry.boot.now
+        (λ r. r ≡ written volume.entry.image.items (loss_values losses.now)))
         (written_reply told.image.items told.lines.items)) }
 {
     let found = survey(alloc, &read.image)?;
