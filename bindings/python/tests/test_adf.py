@@ -570,14 +570,15 @@ class Surveys(unittest.TestCase):
         self.assertFalse(findings == [] or findings == 7)
 
     def test_makes_paths_when_they_are_asked_for(self):
-        # Each directory of 1,000 has a finding; all their paths together have 15 million letters.
+        # Each directory of 1,000 has a finding; from the root on all their paths together have 15 million letters.
         names = ["/".join(["d" * 30] * (level + 1)) for level in range(1000)]
         image = bytearray(built(["volume ffs 4000", *(f"dir 0:0:0 00000000 {name}" for name in names)]))
         for entry in adf.Volume(image).entries:
             image[512 * entry.header + 323] ^= 1
         survey = adf.survey(image)
         self.assertEqual((len(survey.findings), len(list(survey.ranges()))), (1000, 1000))
-        self.assertEqual(len(survey.findings[-1].path), 31 * 1000 - 1)
+        # Behind `\\block 963/`, of 11 bytes, 32 names with their separators fit into 1,024.
+        self.assertEqual(survey.findings[-1].path.partition("/")[2], "/".join(["d" * 30] * 32))
 
     def test_finds_nothing_in_no_volume(self):
         nothing = adf.survey(b"")

@@ -7,7 +7,6 @@ import gzip
 import hashlib
 import html.parser
 import os
-import re
 import shutil
 import signal
 import sqlite3
@@ -172,16 +171,15 @@ class Bounds(Catalogues):
         names = ("/".join(["d" * 30] * (level + 1)) for level in range(depth))
         return built(["volume ffs 4000", *(f"dir 0:0:0 00000000 {name}" for name in names)])
 
-    def test_ends_tables_of_long_paths(self):
+    def test_has_all_of_long_paths(self):
         os.mkdir("disks")
         written("disks/deep.adf", self.nested(1000))
         self.catalogue("disks", "out")
         (page,) = pages_of("out")
         self.assertLess(len(page.text), 10 << 20)
-        (left_out,) = re.findall(r"(\d+) more are left out: <code>adf list &lt; IMAGE</code>", page.text)
-        self.assertEqual(page.text.partition("<caption>Entries")[2].count("<tr>") - 1, 1000 - int(left_out))
+        self.assertEqual(page.text.partition("<caption>Entries")[2].count("<tr>") - 1, 1000)
 
-    def test_ends_tables_of_findings(self):
+    def test_has_all_of_findings(self):
         os.mkdir("disks")
         image = bytearray(self.nested(1000))
         for entry in adf.Volume(image).entries:
@@ -190,11 +188,10 @@ class Bounds(Catalogues):
         self.catalogue("disks", "out", "--rescue", status=1)
         (page,) = pages_of("out")
         self.assertLess(len(page.text), 30 << 20)
-        self.assertIn("more are left out: <code>adf-survey &lt; IMAGE</code>", page.text)
-        self.assertIn("more are left out: <code>adf-survey --list &lt; IMAGE</code>", page.text)
+        self.assertNotIn("left out: <code>", page.text)
 
     def test_bounds_what_deleted_headers_take(self):
-        """A sound floppy that is full of deleted directories, each in the one before, with long names: their paths have 127 MB."""
+        """A sound floppy that is full of deleted directories, each in the one before, with long names: from the root their paths have 127 MB."""
         image, above = bytearray(built("volume ffs 1760\n")), 880
         for block in (*range(2, 880), *range(882, 1760)):
             header = bytearray(struct.pack(">2I424xB79s", 2, block, 79, bytes([1]) * 79))
@@ -204,8 +201,8 @@ class Bounds(Catalogues):
         os.mkdir("disks")
         written("disks/deep.adf", image)
         self.catalogue("disks", "out")
-        self.assertEqual(self.asked("out", "SELECT verdict, deleted, deleted_whole FROM images"), [("ok", None, None)])
-        self.assertNotIn("eleted", pages_of("out")[0].text)
+        self.assertEqual(self.asked("out", "SELECT verdict, deleted, deleted_whole FROM images"), [("ok", 1756, 1756)])
+        self.assertLess(len(pages_of("out")[0].text), 10 << 20)
 
     def test_says_what_is_not_in_the_table(self):
         os.mkdir("disks")

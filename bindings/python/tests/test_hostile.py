@@ -390,8 +390,8 @@ class Claims(Catalogues):
     """An image of 880 KB with many damaged files that each state 901,120 bytes."""
 
     def test_are_written_as_far_as_there_are_blocks(self):
-        image = bytearray(adf.build("ffs", 1760, [adf.Addition(b"f%d" % number, b"A") for number in range(870)]))
-        for entry in adf.Volume(image).entries:
+        image = bytearray(adf.build("ffs", 1760, [adf.Addition(b"f%d" % number, b"A") for number in range(871)]))
+        for entry in adf.Volume(image).entries[1:]:
             image[512 * entry.header + 324 : 512 * entry.header + 328] = (901120).to_bytes(4, "big")
         ran = self.run_tool("unpack", "--damaged", "-", "new", given=bytes(image))
         self.assertEqual((ran.returncode, ran.stderr.count(b"of 901120 bytes are written")), (1, 870), ran.stderr[-200:])

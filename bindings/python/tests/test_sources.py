@@ -174,9 +174,10 @@ class LookUps(Folder):
         image = nested(1700)
         opened, found = adf.open_image(image), adf.survey(image)
         begun = time.monotonic()
-        for entries in (opened.entries, found.entries):
+        # Behind `\\block 1449/`, of 12 bytes, 252 directories and the file fit into 1,024.
+        for entries, last in ((opened.entries, "ddd/" * 1700 + "f"), (found.entries, "\\block 1449/" + "ddd/" * 252 + "f")):
             paths = [entry.path for entry in entries]
-            self.assertEqual((paths[0], paths[-1]), ("ddd", "ddd/" * 1700 + "f"))
+            self.assertEqual((paths[0], paths[-1]), ("ddd", last))
         self.assertEqual(sum(1 for _ in opened.walk()), 1701)
         self.assertLess(time.monotonic() - begun, 1)
         self.assertEqual(opened.entries[5].path, "/".join(["ddd"] * 6))

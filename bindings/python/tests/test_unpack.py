@@ -159,7 +159,7 @@ class Damaged(Folder):
             self.assertEqual(file.read(), b"bytes 488 to 899999: no data\n")
 
     def test_is_written_with_holes(self):
-        image = built("volume ofs 1760\nfile 8035:0:0 00000000 a\nfill 800000 41\n")
+        image = built("volume ofs 1760\nfile 8035:0:0 00000000 a\nfill 800000 41\ndir 0:0:0 00000000 c\n")
         first = 512 * adf.Volume(image)["a"].header + 512
         holes = b"".join(bytes(512) if first <= at < first + 700_000 and image[at + 3] == 8 else image[at : at + 512] for at in range(0, len(image), 512))
         self.run_tool("unpack", "--damaged", "new", given=holes)
