@@ -1,7 +1,7 @@
 -- The line of the boot blocks of an image, which begins with them.
 use Rattle.std.specs.Prelude.{◌==◌, not, ℕ, Bool, true, false, List, [], ◌∷◌, ◌++◌, codes, if◌then◌else◌, slice_index, take}
 use Rattle.adf_json.specs.Objects.{JsonValue, characters, member, nothing, numeral, object_line}
-use Rattle.adf_manifest.specs.Texts.{hex_word}
+use Rattle.adf_names.specs.Digits.{hex_word}
 use Rattle.adf_boot_blocks.specs.{BootBlocks.begins_with_dos, BootBlocks.has_no_code, BootBlocks.has_right_sum, Crc.crc_32, declared.boot.TheConstants.BOOT_LEN}
 
 -- whether an Amiga starts from the boot blocks, or why it does not, in one word

@@ -7,7 +7,7 @@ ghost use Rattle.adf_json.specs.Objects.{value_value};
 
 use adf_boot_blocks::{BOOT_LEN, begins_with_dos, crc_32, has_no_code, has_right_sum};
 use adf_json::{Member, Value, push_object};
-use adf_texts::push_hex;
+use adf_names::push_hex;
 use std::alloc::{AllocError, Global};
 
 // Whether an Amiga starts from the boot blocks, or why it does not.

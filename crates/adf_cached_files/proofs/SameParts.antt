@@ -13,8 +13,8 @@ use Rattle.adf_volume.specs.declared.owner.Owner.TheVariants.{Page as APage}
 use Rattle.adf_volume.specs.LayoutRoles.{LayoutHasBy, owner_of}
 use Rattle.adf_volume.specs.Walk.{Role, Role.Data, Role.Ext, Role.Head, Role.MapExt, Role.Page, Role.Root}
 use Rattle.adf_volume.proofs.{LayoutRoles.one_part, LayoutRoles.owned_part, LayoutRoles.part_owned, LayoutRoles.part_range}
-use Rattle.adf_walk.specs.OwnerClass.{class_of}
-use Rattle.adf_walk.specs.declared.owner_class.OwnerClass.{OwnerClass, TheVariants.Boot, TheVariants.Free, TheVariants.Page as ThePage}
+use Rattle.adf_volume.specs.OwnerClass.{class_of}
+use Rattle.adf_volume.specs.declared.owner_class.OwnerClass.{OwnerClass, TheVariants.Boot, TheVariants.Free, TheVariants.Page as ThePage}
 use Rattle.adf_uncached.specs.Uncached.{uncached}
 use Rattle.adf_cached_files.specs.InPlace.{FitsInPlace}
 use Rattle.adf_cached_files.specs.Sameness.{AreSameButPages, IsSameButBitmap}

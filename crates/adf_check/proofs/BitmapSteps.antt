@@ -12,7 +12,7 @@ use Rattle.adf_volume.proofs.{Gathered.one_block, Images.page_in, WalkFits.fits,
 use Rattle.adf_volume.proofs.Lists.{all_append, all_split, fails_right}
 use Rattle.adf_check.specs.{Pages.AreListed, Pages.IsBitFault, Store.StoreValue, Own.IsOwnFault}
 use Rattle.adf_check.specs.Reading.{block_of_page, IsListed, IsMapped, StoreFits}
-use Rattle.adf_walk.specs.KeptOwner.{kept_at, no_owner}
+use Rattle.adf_volume.specs.KeptOwner.{kept_at, no_owner}
 use Rattle.adf_check.proofs.{ClaimSteps.first_fault, NodeSteps.at_or, PageSteps.page_is, StoreSteps.free_absent, StoreSteps.taken_present}
 
 clash : {t : Bool} → t ≡ true → t ≡ false → ⊥

@@ -18,7 +18,7 @@ use Rattle.adf_volume.proofs.{Chains.SlotEntry, Chains.chain_rises, Chains.entry
 use Rattle.adf_volume.proofs.{LayoutRoles.part_owned, LayoutRoles.part_range, TreeOrder.DirNode, TreeOrder.is_dir, TreeOrder.ordered}
 use Rattle.adf_volume.proofs.Lists.{at_below, at_fun, at_map, at_some, at_unmap, spelled_first, spelled_link, spelled_next, spelled_word}
 use Rattle.adf_check.specs.{Lookup.headed, Reading.StoreFits, Store.StoreValue, Volumes.OnVolume}
-use Rattle.adf_walk.specs.KeptOwner.{kept_at}
+use Rattle.adf_volume.specs.KeptOwner.{kept_at}
 use Rattle.adf_check.proofs.{RowLaws.head_facts, StoreStands.StoreStandsForBy, StoreStands.keeps}
 
 -- the name of a header, as it is read and compared

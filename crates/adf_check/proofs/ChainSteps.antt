@@ -14,7 +14,7 @@ use Rattle.adf_volume.specs.{Image.letters_of, Walk.Role, Walk.heads, Walk.Walk,
 use Rattle.adf_volume.proofs.{Gathered.node_is, Pointers.link_asks, Pointers.link_ends, PositionSteps.end_chain, Roles.dir_is_node, Roles.dir_up}
 use Rattle.adf_volume.proofs.FormDemands.{all_demanded, first_demanded}
 use Rattle.adf_check.specs.Reading.{IsAtSlot, IsInChain, Sees, sees_of}
-use Rattle.adf_walk.specs.KeptOwner.{kept_at, no_owner}
+use Rattle.adf_volume.specs.KeptOwner.{kept_at, no_owner}
 use Rattle.adf_check.proofs.ClaimSteps.{IsNextAt, IsStored, form_fault, gathered, name_fault, read_one, read_to}
 
 -- the next header, at position j of the chain

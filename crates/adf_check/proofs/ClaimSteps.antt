@@ -9,7 +9,7 @@ use Rattle.adf_volume.specs.{Positions.Position, Positions.IsUpTo, Positions.beh
 use Rattle.adf_volume.specs.Walk.{Role, first, heads, Asks, IsDue, Enough, Walk, FirstFaultBy, demands_by, form_demands_by, NewNameBy, Role.Head, IsWalkBy.step}
 use Rattle.adf_volume.proofs.Lists.{fails_left, fails_right, all_append, snoc_length}
 use Rattle.adf_volume.proofs.{Memory.fault_of_image, Gathered.IsGathered, PositionSteps.not_taken, PositionSteps.past_taken, Roles.asks_number, Walks.of_walk}
-use Rattle.adf_walk.specs.{declared.kept_header.KeptHeader.KeptHeader, KeptOwner.kept_at, KeptOwner.no_owner}
+use Rattle.adf_volume.specs.{declared.kept_header.KeptHeader.KeptHeader, KeptOwner.kept_at, KeptOwner.no_owner}
 use Rattle.adf_check.specs.Store.{StoreValue, next_kept, push_header, push_block, ext_file, data_file, is_dir_at, stored, StoreMatches}
 use Rattle.adf_check.proofs.StoreSteps.{free_absent, taken_present, tells_more}
 

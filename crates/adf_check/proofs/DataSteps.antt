@@ -9,7 +9,7 @@ use Rattle.adf_volume.specs.{Positions.IsUpTo, Positions.behind, Positions.posit
 use Rattle.adf_volume.specs.Walk.{Asks, Enough, FileAt, MemberAt, Role, data_count, ext_count, member_block, node_block, Walk, form_demands_by}
 use Rattle.adf_volume.proofs.{Lists.at_some, MemberFacts.in_range, Gathered.file_one, Gathered.member_is, PositionSteps.end_datas, Walks.file_is}
 use Rattle.adf_volume.proofs.Roles.{head_role, member_up, typed_up}
-use Rattle.adf_walk.specs.KeptOwner.{kept_at, no_owner}
+use Rattle.adf_volume.specs.KeptOwner.{kept_at, no_owner}
 use Rattle.adf_check.proofs.{NodeSteps.at_or, NumberBounds.many_blocks}
 use Rattle.adf_check.proofs.ClaimSteps.{IsNextAt, IsStored, form_fault, gathered, read_one, read_to, short_fault}
 

@@ -11,7 +11,7 @@ use Rattle.adf_volume.proofs.{FormDemands.all_demanded, FormDemands.first_demand
 use Rattle.adf_volume.proofs.{Roles.typed_up, Pointers.ext_asks, Pointers.ext_ends, Walks.file_is}
 use Rattle.adf_volume.proofs.PositionSteps.{end_exts, enter_file, no_exts}
 use Rattle.adf_check.specs.Reading.{HasExtTable, IsInDatas, IsInExts, IsInNode}
-use Rattle.adf_walk.specs.KeptOwner.{kept_at, no_owner}
+use Rattle.adf_volume.specs.KeptOwner.{kept_at, no_owner}
 use Rattle.adf_check.proofs.ClaimSteps.{IsNextAt, IsStored, form_fault, gathered, read_one, read_to}
 
 -- a file's table begins with its header

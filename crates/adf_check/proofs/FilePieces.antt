@@ -13,7 +13,7 @@ use Rattle.adf_volume.specs.{Walk.Role.Data, Image.area, Image.held, Image.kind_
 use Rattle.adf_volume.specs.{Layout.Place, Layout.at_node, Layout.datas_at, Layout.datas_of, Lists.At, Pieces.AreInside, Fits.BodyFits, Fits.FitsBy}
 use Rattle.adf_volume.proofs.{Images.area_length, Images.count_small, Lists.at_index_or, LayoutRoles.part_range, Chains.entry_is_at, Chains.entry_some}
 use Rattle.adf_volume.proofs.PieceBytes.{held_some, piece_at, pieces_joined, pieces_length}
-use Rattle.adf_walk.specs.declared.node_start.NodeStart.{NodeStart}
+use Rattle.adf_volume.specs.declared.node_start.NodeStart.{NodeStart}
 use Rattle.adf_check.specs.{Store.StoreValue, Reading.StoreFits, Volumes.OnVolume}
 use Rattle.adf_check.proofs.{ChainLookups.body_dir, NodeSteps.at_or, StoreStands.StoreStandsForBy, StoreStands.keeps, StoreStands.stands}
 use Rattle.adf_check.specs.Pieces.{body_bytes, bytes_of, pieces_at, pieces_in, pieces_of}

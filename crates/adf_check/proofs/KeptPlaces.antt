@@ -4,7 +4,7 @@ use Rattle.std.proofs.Common.{◌≡◌, ℕ, zero, suc, List, [], ◌∷◌, �
 use Rattle.std.proofs.{lemmas.List.get_or-take, lemmas.List.get_or-drop, lemmas.List.length-take, lemmas.List.length-drop, lemmas.Grind.common_steps}
 use Rattle.adf_volume.specs.{Layout.Layout, Layout.exts_of, Layout.datas_of, Lists.At, Lists.In, Lists.NoBlockTwice, Made.picked, Walk.Role, Walk.Walk}
 use Rattle.adf_volume.proofs.{Lists.at_below, Lists.at_index_or, Lists.at_snoc, Places.datas_below, Places.exts_below}
-use Rattle.adf_walk.specs.{declared.node_start.NodeStart.NodeStart, Places.start_of}
+use Rattle.adf_volume.specs.{declared.node_start.NodeStart.NodeStart, Places.start_of}
 use Rattle.adf_check.proofs.NodeSteps.{at_or}
 
 -- a member of a part of a list, in the whole list

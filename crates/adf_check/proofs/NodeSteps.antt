@@ -7,7 +7,7 @@ use Rattle.adf_volume.specs.{Image.root_of, Image.word_in, Lists.At, Walk.Has, W
 use Rattle.adf_volume.proofs.{Gathered.root_in, FormDemands.head_type, MemberFacts.in_range, MemberFacts.kept, Roles.head_role, Walks.numbered}
 use Rattle.adf_volume.proofs.Lists.{at_below, at_fun, at_index_or, at_snoc, at_some, snoc_length}
 use Rattle.adf_volume.proofs.PositionSteps.{end_nodes, enter_dir, low_first}
-use Rattle.adf_walk.specs.declared.kept_header.KeptHeader.{KeptHeader}
+use Rattle.adf_volume.specs.declared.kept_header.KeptHeader.{KeptHeader}
 use Rattle.adf_check.specs.Reading.{IsAtNode, IsAtSlot, IsInExts, IsInNode, IsRead}
 use Rattle.adf_check.specs.{Datas.ext_link, declared.file.File.File, Store.StoreValue, Store.StoreMatches, Store.entered, Own.IsOwnWalk}
 use Rattle.adf_check.proofs.{NumberBounds.many_blocks, ClaimSteps.gathered, ClaimSteps.read_to, ExtSteps.enter_exts}

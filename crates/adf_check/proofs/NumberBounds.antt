@@ -5,7 +5,7 @@ use Rattle.adf_blocks.specs.{declared.layout.TheConstants.MOST_BLOCKS, Sizes.blo
 use Rattle.adf_volume.specs.{Walk.heads, Walk.Walk, Positions.Position, Start.IsOwnBegun}
 use Rattle.adf_volume.proofs.{Sizes.size_high, Sizes.size_low, Gathered.dir_number, Walks.of_walk, WalkMembers.picked_within, WalkLengths.heads_within}
 use Rattle.adf_check.specs.{Reading.HasRead, Reading.IsInChain, declared.chains.Chain.Chain, declared.claims.Link.Link, Store.StoreValue, Store.StoreMatches}
-use Rattle.adf_walk.specs.KeptOwner.{claimed_count}
+use Rattle.adf_volume.specs.KeptOwner.{claimed_count}
 
 -- there are at least 4 blocks
 pub many_blocks : (image : List ℕ) → IsOwnBegun image → 4 ≤ blocks image

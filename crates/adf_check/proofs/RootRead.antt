@@ -5,8 +5,8 @@ use Rattle.adf_blocks.specs.Sizes.{blocks}
 use Rattle.adf_volume.specs.{Image.root_of, Walk.IsWalkBy.start, Start.IsOwnBegun}
 use Rattle.adf_volume.specs.Walk.Role.{Root as TheRoot}
 use Rattle.adf_volume.proofs.PositionSteps.{with_root}
-use Rattle.adf_walk.specs.{declared.kept_owner.KeptOwner.KeptOwner, declared.owner_class.OwnerClass.TheVariants.Root}
-use Rattle.adf_walk.specs.KeptOwner.{boot_owner, claimed_count, kept_at, no_owner}
+use Rattle.adf_volume.specs.{declared.kept_owner.KeptOwner.KeptOwner, declared.owner_class.OwnerClass.TheVariants.Root}
+use Rattle.adf_volume.specs.KeptOwner.{boot_owner, claimed_count, kept_at, no_owner}
 use Rattle.adf_check.specs.{Reading.IsBeforePage, Store.StoreValue, Store.StoreMatches}
 use Rattle.adf_check.proofs.{StoreSteps.tells_more, NumberBounds.many_blocks}
 

@@ -13,7 +13,7 @@ use Rattle.adf_volume.specs.{Demands.AllHold, Demands.root_demands, Demands.dema
 use Rattle.adf_volume.specs.{Layout.at_node, Lists.At, Start.IsOwnBegun, Rows.row_body, Rows.row_in, Rows.row_of_body, Rows.row_of_entry, declared.row.Row.Row}
 use Rattle.adf_volume.specs.Image.{kind_of, meta_of, name_of, root_of, word_in, letters_of}
 use Rattle.adf_volume.proofs.{MemberFacts.kept, Roles.head_role, FormDemands.demanded, Lists.all_append, Lists.at_below, Lists.at_some, Chains.entry_is_at}
-use Rattle.adf_walk.specs.declared.kept_header.KeptHeader.{KeptHeader as Kept}
+use Rattle.adf_volume.specs.declared.kept_header.KeptHeader.{KeptHeader as Kept}
 use Rattle.adf_check.proofs.{StoreStands.StoreStandsForBy, NodeSteps.node_here}
 use Rattle.adf_check.specs.{Reading.StoreFits, Store.StoreValue}
 use Rattle.adf_volume.specs.declared.row.RowBody.TheVariants.{Dir as DirRow, File as FileRow}

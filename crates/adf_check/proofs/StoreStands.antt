@@ -12,10 +12,10 @@ use Rattle.adf_volume.proofs.{FitWalks.one_fit, ImageStart.own_letters, LayoutRo
 use Rattle.adf_volume.proofs.{WalkAgreement.agreement, WalkCompleteness.part_walked, WholeWalks.head_is, WholeWalks.entry_is, WalkOwners.owned_has}
 use Rattle.adf_volume.proofs.{WalkOwners.is_owned, WalkLengths.walk_length, WalkLengths.walked_once}
 use Rattle.adf_volume.proofs.WalkMembers.{entries_length, has_ext, ext_has, has_data, data_has}
-use Rattle.adf_walk.specs.{declared.kept_header.KeptHeader.KeptHeader, declared.kept_owner.KeptOwner.KeptOwner, declared.node_start.NodeStart.NodeStart}
-use Rattle.adf_walk.specs.declared.owner_class.OwnerClass.TheVariants as class
-use Rattle.adf_walk.specs.KeptOwner.{boot_owner, kept_at, no_owner}
-use Rattle.adf_walk.specs.Places.{AreStarts, IsNumbered, first_data, first_ext, kept_as, start_of}
+use Rattle.adf_volume.specs.{declared.kept_header.KeptHeader.KeptHeader, declared.kept_owner.KeptOwner.KeptOwner, declared.node_start.NodeStart.NodeStart}
+use Rattle.adf_volume.specs.declared.owner_class.OwnerClass.TheVariants as class
+use Rattle.adf_volume.specs.KeptOwner.{boot_owner, kept_at, no_owner}
+use Rattle.adf_volume.specs.Places.{AreStarts, IsNumbered, first_data, first_ext, kept_as, start_of}
 use Rattle.adf_check.specs.{Store.StoreValue, Store.blocks_before, Store.data_file, Store.ext_file, Store.file_blocks, Reading.StoreFits}
 use Rattle.adf_check.proofs.{NodeSteps.node_here, KeptPlaces.at_whole, KeptPlaces.data_node, KeptPlaces.ext_node, KeptPlaces.one_place, KeptPlaces.start_at}
 use Rattle.adf_check.proofs.FileBlocks.{exts_apart, exts_stored, datas_apart, datas_stored, no_datas_before, no_exts_before}

@@ -8,7 +8,7 @@ use Rattle.adf_blocks.specs.{declared.layout.TheConstants.SECONDARY_TYPE, declar
 use Rattle.adf_volume.specs.{Image.word_in, Lists.At, Made.picked}
 use Rattle.adf_volume.specs.Walk.{Role, first, second, Has, head_count, heads, IsAbsent, Walk, Role.Head, Role.Ext, Role.Data}
 use Rattle.adf_volume.proofs.Lists.{at_new, at_old, at_below, snoc_length}
-use Rattle.adf_walk.specs.{declared.kept_header.KeptHeader.KeptHeader, declared.kept_owner.KeptOwner.KeptOwner, KeptOwner.kept_at, KeptOwner.no_owner}
+use Rattle.adf_volume.specs.{declared.kept_header.KeptHeader.KeptHeader, declared.kept_owner.KeptOwner.KeptOwner, KeptOwner.kept_at, KeptOwner.no_owner}
 use Rattle.adf_check.specs.Store.{StoreValue, IsKeptOwner, Owns, KeepsHeaders, StoreMatches, file_blocks, next_kept, push_header, push_block, ext_file}
 use Rattle.adf_check.specs.Store.{data_file, is_dir_at, blocks_before, stored}
 use Rattle.adf_check.proofs.FileBlocks.{TellsFile, data_tells, ext_tells, not_below}

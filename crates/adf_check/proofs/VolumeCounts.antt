@@ -6,7 +6,7 @@ use Rattle.adf_names.specs.declared.kind.Kind.{Kind}
 use Rattle.adf_tree.specs.Tree.{Tree}
 use Rattle.adf_volume.specs.{Image.kind_of, Image.word_in, Layout.Layout, Layout.at_node, Lists.At, declared.counts.Counts.Counts}
 use Rattle.adf_volume.proofs.{MemberFacts.in_range, Roles.head_role, WalkCounts.others, WalkCounts.same_count}
-use Rattle.adf_walk.specs.declared.kept_header.KeptHeader.{KeptHeader}
+use Rattle.adf_volume.specs.declared.kept_header.KeptHeader.{KeptHeader}
 use Rattle.adf_check.proofs.{StoreStands.StoreStandsForBy, NodeSteps.node_here, NumberBounds.many_blocks, RowLaws.tells_begun, RowLaws.type_told}
 use Rattle.adf_check.specs.{Reading.StoreFits, Store.StoreValue, Store.is_dir_at}
 use Rattle.adf_volume.specs.Counts.{counts_of, is_directory}

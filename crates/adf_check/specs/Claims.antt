@@ -1,7 +1,7 @@
 -- Claims of blocks that a word points to.
 use Rattle.std.specs.Prelude.{◌≡◌, ◌≢◌, ◌⊎◌, ◌≤◌, ◌<◌, ℕ, List, length}
 use Rattle.adf_blocks.specs.declared.cause.Cause.TheVariants.{OutOfRange, Taken}
-use Rattle.adf_walk.specs.{KeptOwner.kept_at, KeptOwner.no_owner, declared.kept_owner.KeptOwner.KeptOwner}
+use Rattle.adf_volume.specs.{KeptOwner.kept_at, KeptOwner.no_owner, declared.kept_owner.KeptOwner.KeptOwner}
 use Rattle.adf_volume.specs.{Fault.fault, declared.fault.Fault.Fault}
 
 -- block b may belong to a part of a volume of n blocks

@@ -1,7 +1,7 @@
 -- Look-up along the chains of an image.
 use Rattle.std.specs.Prelude.{ℕ, Option, Some, None}
-use Rattle.adf_walk.specs.declared.kept_owner.KeptOwner.{KeptOwner}
-use Rattle.adf_walk.specs.declared.owner_class.OwnerClass.{OwnerClass, TheVariants.Head}
+use Rattle.adf_volume.specs.declared.kept_owner.KeptOwner.{KeptOwner}
+use Rattle.adf_volume.specs.declared.owner_class.OwnerClass.{OwnerClass, TheVariants.Head}
 
 -- the node of a header, by the class of its owner and its place
 abbrev pub headed_by : OwnerClass → ℕ → Option ℕ

@@ -2,7 +2,7 @@
 use Rattle.std.specs.Prelude.{◌≡◌, ◌≢◌, ◌⊎◌, Bool, true, false, ℕ, List, ◌<◌, length, slice_index}
 use Rattle.adf_blocks.specs.{Sizes.blocks, declared.cause.Cause.TheVariants.LostBlock, declared.cause.Cause.TheVariants.OwnedFree}
 use Rattle.adf_check.specs.Reading.{IsListed}
-use Rattle.adf_walk.specs.{KeptOwner.kept_at, KeptOwner.no_owner, declared.kept_owner.KeptOwner.KeptOwner}
+use Rattle.adf_volume.specs.{KeptOwner.kept_at, KeptOwner.no_owner, declared.kept_owner.KeptOwner.KeptOwner}
 use Rattle.adf_volume.specs.{Fault.fault, declared.fault.Fault.Fault}
 
 -- these are the blocks of the first k pages, and they are inside the image

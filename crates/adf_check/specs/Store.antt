@@ -6,9 +6,9 @@ use Rattle.std.proofs.Common.{suc}
 use Rattle.adf_blocks.specs.{declared.layout.TheConstants.SECONDARY_TYPE, declared.layout.TheConstants.ST_DIR, Sizes.blocks}
 use Rattle.adf_volume.specs.{Image.word_in, Lists.At, LayoutRoles.owner_of, Made.picked}
 use Rattle.adf_volume.specs.Walk.{Role, Has, heads, Walk, Role.Head, Role.Ext, Role.Data}
-use Rattle.adf_walk.specs.{KeptOwner.boot_owner, KeptOwner.claimed_count, KeptOwner.kept_at, KeptOwner.no_owner, declared.kept_owner.KeptOwner.KeptOwner}
-use Rattle.adf_walk.specs.{Places.kept_by, declared.kept_header.KeptHeader.KeptHeader, declared.node_start.NodeStart.NodeStart}
-use Rattle.adf_walk.specs.declared.owner_class.OwnerClass.TheVariants as class
+use Rattle.adf_volume.specs.{KeptOwner.boot_owner, KeptOwner.claimed_count, KeptOwner.kept_at, KeptOwner.no_owner, declared.kept_owner.KeptOwner.KeptOwner}
+use Rattle.adf_volume.specs.{Places.kept_by, declared.kept_header.KeptHeader.KeptHeader, declared.node_start.NodeStart.NodeStart}
+use Rattle.adf_volume.specs.declared.owner_class.OwnerClass.TheVariants as class
 use Rattle.adf_check.specs.declared.store.Store.{Store}
 
 -- the value of a store: headers of nodes 1, 2, ..; how many are of directories; starts of nodes 0, 1, ..; the number of blocks with an owner

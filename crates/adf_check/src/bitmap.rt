@@ -4,12 +4,11 @@ ghost use Rattle.adf_check.specs.{Own.IsOwnFault, Store.store_value, Pages.AreLi
 ghost use Rattle.std.specs.Prelude.{◌≡◌, ◌<◌, ◌≤◌, ◌+◌, ◌-◌, ◌*◌, ◌↔◌, ℕ, IsBitSet, IsTrue, length, min, OnOk, IfErr};
 ghost use Rattle.adf_blocks.specs.Sizes.{blocks, pages_needed};
 ghost use Rattle.adf_check.specs.Reading.{IsMapped, IsRead, StoreFits};
-ghost use Rattle.adf_walk.specs.KeptOwner.{kept_at, no_owner};
+ghost use Rattle.adf_volume.specs.KeptOwner.{kept_at, no_owner};
 
 use crate::store::Store;
 use adf_blocks::{Cause, PAGE_WORDS, Page, is_set};
-use adf_volume::{Fault, Image, fault_at};
-use adf_walk::OwnerTable;
+use adf_volume::{Fault, Image, OwnerTable, OwnerTable, fault_at};
 
 // Compares the bit of block `b` with its owner.
 fn check_block(owners: &OwnerTable, b: u32, is_free: bool) -> Result<(), Fault>

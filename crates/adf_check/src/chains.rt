@@ -12,8 +12,9 @@ use crate::claims::{Link, claim_named};
 use crate::store::Store;
 use adf_blocks::{Cause, Directory, Head, HeadBody, HeadPlace, SLOTS, read_head_at};
 use adf_tree::{NameSet, Node};
-use adf_volume::{Fault, Image, fault_at};
-use adf_walk::{KeptHeader, KeptOwner, OwnerClass};
+use adf_volume::{
+    Fault, Image, KeptHeader, KeptHeader, KeptOwner, KeptOwner, OwnerClass, OwnerClass, fault_at,
+};
 
 /// The chain of a slot of a directory; `up` is the directory's block.
 #[derive(Drop)]

@@ -7,7 +7,7 @@ ghost use Rattle.adf_blocks.specs.Sizes.{blocks};
 ghost use Rattle.adf_volume.specs.{declared.owner.Owner.Owner, Layout.Layout, Layout.at_node, Layout.datas_of, Layout.owned};
 ghost use Rattle.adf_volume.specs.{Lists.In, Rows.row_of_entry, Fits.FitsBy, Counts.counts_of, Image.letters_of};
 ghost use Rattle.adf_check.specs.{Store.store_value, Pieces.bytes_of, Pieces.pieces_at, Volumes.IsChecked, Volumes.OnVolume};
-ghost use Rattle.adf_walk.specs.OwnerClass.{class_of};
+ghost use Rattle.adf_volume.specs.OwnerClass.{class_of};
 
 use crate::lookup::{block_of, find};
 use crate::pieces::{blocks_of, pieces_of};
@@ -16,8 +16,9 @@ use crate::store::Store;
 use adf_base::{Letters, NoMemory};
 use adf_blocks::Head;
 use adf_tree::{Kind, Label, Name, Node, Stamps};
-use adf_volume::{Counts, Image, Owner, Pieces, Row, joined, row_of};
-use adf_walk::{OwnerClass, owner_of};
+use adf_volume::{
+    Counts, Image, Owner, OwnerClass, OwnerClass, Pieces, Row, joined, owner_of, owner_of, row_of,
+};
 use std::alloc::Global;
 use std::marker::Model;
 

@@ -2,11 +2,10 @@
 
 ghost use Rattle.adf_check.specs.Claims.{InRange, IsClaimFault};
 ghost use Rattle.std.specs.Prelude.{◌≡◌, ◌+◌, ◌<◌, ◌≤◌, ◌^◌, OnOk, IfErr, length, set, true};
-ghost use Rattle.adf_walk.specs.KeptOwner.{claimed_count, is_claimed, kept_at, no_owner};
+ghost use Rattle.adf_volume.specs.KeptOwner.{claimed_count, is_claimed, kept_at, no_owner};
 
 use adf_blocks::Cause;
-use adf_volume::{Fault, fault_at};
-use adf_walk::{KeptOwner, OwnerTable};
+use adf_volume::{Fault, KeptOwner, KeptOwner, OwnerTable, OwnerTable, fault_at};
 
 /// A word of block `holder` that points to `block`.
 #[derive(Drop)]

@@ -20,5 +20,4 @@ mod store;
 pub use crate::checked::Checked;
 pub use crate::checker::{check, check_by, check_types};
 pub use crate::owners::Owners;
-pub use adf_volume::{Counts, Fault, Owner, Pieces, Row, RowBody};
-pub use adf_walk::OwnerClass;
+pub use adf_volume::{Counts, Fault, Owner, OwnerClass, Pieces, Row, RowBody};

@@ -5,14 +5,13 @@ ghost use Rattle.adf_blocks.specs.{declared.layout.TheConstants.NEXT_IN_CHAIN, d
 ghost use Rattle.adf_tree.specs.Tree.{child_by, find_from_by};
 ghost use Rattle.adf_volume.specs.{Image.word_in, Layout.at_node, Layout.chain_nodes_by, Lists.Spelled};
 ghost use Rattle.adf_check.specs.{Reading.StoreFits, Store.store_value, Lookup.headed, Volumes.OnVolume};
-ghost use Rattle.adf_walk.specs.KeptOwner.{kept_at};
+ghost use Rattle.adf_volume.specs.KeptOwner.{kept_at};
 
 use crate::store::Store;
 use adf_base::slot_by;
 use adf_blocks::{Head, HeadBody};
 use adf_tree::{Name, Node};
-use adf_volume::Image;
-use adf_walk::{OwnerClass, OwnerTable};
+use adf_volume::{Image, OwnerClass, OwnerClass, OwnerTable, OwnerTable};
 
 /// The block of a node.
 pub fn block_of(image: &Image<'_>, store: &Store, node: Node) -> u32

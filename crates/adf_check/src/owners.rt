@@ -2,7 +2,7 @@
 
 ghost use Rattle.std.specs.Prelude.{◌≡◌, ◌≢◌, ◌≤◌, ◌<◌, ◌+◌, ◌-◌, ◌∷◌, ◌++◌, ◌↔◌, [], length, replicate, true, false, IsOk, IfOk};
 ghost use Rattle.std.specs.Prelude.{IfErr, OnOk, OnErr, slice_set};
-ghost use Rattle.adf_walk.specs.Owners.{is_part, owned_count, owner_at};
+ghost use Rattle.adf_volume.specs.Owners.{is_part, owned_count, owner_at};
 
 use adf_base::NoMemory;
 use adf_blocks::Cause;
@@ -20,7 +20,7 @@ pub struct Owners {
 
 impl Model for Owners {
     ghost use Rattle.std.specs.Prelude.{List};
-    ghost use Rattle.adf_walk.specs.{Owners.is_part, OwnerTable.IsTable};
+    ghost use Rattle.adf_volume.specs.{Owners.is_part, OwnerTable.IsTable};
     ghost use Rattle.adf_volume.specs.{declared.owner.Owner.Owner, declared.owner.Owner.TheVariants.Boot};
 
     ghost Value = { List Owner };

@@ -13,7 +13,7 @@ use Rattle.adf_partitions.specs.{Searches.AreReadable.whole, Volumes.IsStated}
 use Rattle.adf_partitions.specs.{declared.fault.DiskFault.DiskFault, declared.partition.Partition.Partition, declared.place.Place.Place}
 use Rattle.adf_partitions.specs.declared.place.PlaceFault.{PlaceFault, TheVariants.BeyondImage, TheVariants.NoCylinders, TheVariants.OverPartition}
 use Rattle.adf_partitions.specs.declared.place.PlaceFault.TheVariants.{OverTables}
-use Rattle.adf_texts.specs.Names.{names_text}
+use Rattle.adf_names.specs.Written.{names_text}
 use Rattle.adf_runs.proofs.{Endings.does_same, Endings.ends_weaker, KnownBytes.left_over}
 use Rattle.adf_runs.specs.{Outcomes.Does, Outcomes.EndsBy, Streams.IsExcerpt, Streams.Seen, Streams.TakesFirst, declared.outcome.Outcome.Outcome}
 use Rattle.adf_disk_cmd.specs.{CommandLine.WantedValue, CommandLine.name, CommandLine.number, CommandLine.volume, Lines.volume_at, Work.HoldsVolume}

@@ -3,7 +3,7 @@ use Rattle.std.specs.Prelude.{List, [], ◌∷◌, bytes_eq, codes, find, length
 use Rattle.std.specs.Prelude.{◌≡◌, ◌++◌, ◌/◌, ◌&&◌, ◌||◌, ℕ, Bool, false}
 use Rattle.std.specs.Fmt.{decimal}
 use Rattle.adf_names.specs.{Escapes.escaped, Texts.uppers}
-use Rattle.adf_texts.specs.Names.{names_text}
+use Rattle.adf_names.specs.Written.{names_text}
 use Rattle.adf_partitions.specs.{Disks.FirstDiskFault, FaultTexts.place_fault_text, Partitions.partition_numbered, declared.fault.DiskFault.DiskFault}
 use Rattle.adf_partitions.specs.{declared.partition.Partition.Partition, declared.place.Place.Place}
 use Rattle.adf_partitions.specs.declared.place.PlaceFault.{PlaceFault, TheVariants.BeyondImage}

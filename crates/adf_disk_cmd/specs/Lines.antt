@@ -4,7 +4,7 @@ use Rattle.std.specs.Prelude.{if◌then◌else◌}
 use Rattle.std.specs.{Fmt.decimal, Fmt.signed_decimal, Int.to_be_bytes, Int.w32}
 use Rattle.adf_partitions.specs.{FaultTexts.field_fault_text, FaultTexts.place_fault_text, declared.field_fault.FieldFault.FieldFault}
 use Rattle.adf_partitions.specs.{declared.partition.Partition.Partition, declared.place.Place.Place, declared.place.PlaceFault.PlaceFault}
-use Rattle.adf_texts.specs.Names.{names_text}
+use Rattle.adf_names.specs.Written.{names_text}
 use Rattle.adf_base.specs.declared.hash.Letters.TheVariants.{Ascii, International}
 use Rattle.adf_names.specs.{Escapes.escaped, VolumeTypes.kind_text_by, declared.kind.Kind.TheVariants.Ofs, declared.kind.Kind.TheVariants.Ffs}
 use Rattle.adf_partitions.specs.{FileSystems.system_text, declared.file_system.FileSystem.TheVariants.WithCaches}

@@ -5,7 +5,7 @@ use Rattle.adf_json.specs.Objects.{JsonValue, MemberValue, characters, member, n
 use Rattle.adf_partitions.specs.{FaultTexts.place_fault_text, FoundVolumes.found_volumes, declared.found_volumes.FoundVolume.FoundVolume}
 use Rattle.adf_partitions.specs.declared.place.PlaceFault.{PlaceFault}
 use Rattle.adf_runs.specs.Commands.{Reply, on_output}
-use Rattle.adf_texts.specs.Names.{names_text}
+use Rattle.adf_names.specs.Written.{names_text}
 use Rattle.adf_disk_cmd.specs.{Builds.refusal, Lines.place_text, Lines.type_bytes, Lines.type_text}
 
 -- its label, which need not be valid, and a colon

@@ -9,9 +9,9 @@ ghost use Rattle.adf_runs.specs.Streams.{seen};
 use crate::types::type_text;
 use adf_base::Block;
 use adf_file_runs::{Files, Unopened};
+use adf_names::push_escaped;
 use adf_partitions::PartitionPlan;
 use adf_runs::{Outcome, Sink, StreamFault, read_all, say};
-use adf_texts::push_escaped;
 use std::alloc::{AllocError, Global};
 
 /// Why the bytes of a host file are no volume of a partition.

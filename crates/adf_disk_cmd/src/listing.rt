@@ -12,9 +12,9 @@ use crate::disk_objects::push_partition_object;
 use crate::faults::fault_lines;
 use crate::surveying::SurveyedDisk;
 use crate::types::type_text;
+use adf_names::push_names;
 use adf_partitions::{FieldFault, Partition, Place, PlaceFault};
 use adf_runs::{Outcome, Sink};
-use adf_texts::push_names;
 use std::alloc::{AllocError, Global};
 
 /// Where a volume lies, or why it has no place.

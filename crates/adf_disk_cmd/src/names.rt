@@ -3,8 +3,8 @@
 ghost use Rattle.std.specs.Prelude.{◌≡◌, IfOk, find, option_copied};
 ghost use Rattle.adf_disk_cmd.specs.Answers.{is_called};
 
+use adf_names::{push_escaped, push_names};
 use adf_partitions::{Partition, are_same};
-use adf_texts::{push_escaped, push_names};
 use std::alloc::{AllocError, Global};
 
 // Whether a text is the name of a partition, as `list` writes it or in the escape form, ignoring the case of `a` to `z`.

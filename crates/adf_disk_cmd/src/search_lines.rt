@@ -9,8 +9,8 @@ use crate::answering::Telling;
 use crate::listing::place_text;
 use crate::types::{type_bytes, type_text};
 use adf_json::{Member, Value, push_object};
+use adf_names::push_names;
 use adf_partitions::{FoundVolume, PlaceFault};
-use adf_texts::push_names;
 use std::alloc::{AllocError, Global};
 
 // What is wrong with the end of a volume, if something is.

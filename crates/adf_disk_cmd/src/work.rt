@@ -16,9 +16,9 @@ use crate::names::partition_called;
 use crate::surveying::{SurveyedDisk, survey_disk};
 use crate::volumes::found_bytes;
 use adf_base::BLOCK_LEN;
+use adf_names::push_escaped;
 use adf_partitions::{DiskFault, Partition};
 use adf_runs::{Outcome, Sink};
-use adf_texts::push_escaped;
 use std::alloc::{AllocError, Global};
 
 /// The most bytes of a disk: 2^32 blocks.

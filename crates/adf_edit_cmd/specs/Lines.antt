@@ -6,7 +6,7 @@ use Rattle.adf_base.specs.{Dates.IsStamp, Dates.plain_text, declared.dates.Stamp
 use Rattle.adf_fields.specs.Dates.{IsStampText}
 use Rattle.adf_edits.specs.Edits.{EditValue, change, dir, file, label, move, remove, replace}
 use Rattle.adf_edits.specs.declared.edits.Change.TheVariants as what
-use Rattle.adf_manifest.specs.Texts.{hex_word}
+use Rattle.adf_names.specs.Digits.{hex_word}
 use Rattle.adf_names.specs.{Escapes.IsSpelling, PathTexts.IsPathText}
 use Rattle.adf_plans.specs.PlanTexts.{before_byte, behind_byte, behind_word, first_word}
 use Rattle.adf_edit_cmd.specs.declared.lines.Verb.{Verb}

@@ -5,8 +5,8 @@ ghost use Rattle.adf_runs.specs.Streams.{IsTold, seen};
 ghost use Rattle.adf_file_changes.specs.Changes.{unwritten_line};
 
 use crate::changes::Unwritten;
+use adf_names::push_escaped;
 use adf_runs::{Sink, say};
-use adf_texts::push_escaped;
 use std::alloc::{AllocError, Global};
 
 // The line of a file that is not replaced.

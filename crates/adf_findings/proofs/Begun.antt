@@ -11,7 +11,7 @@ use Rattle.adf_volume.specs.declared.part.Part.TheVariants.{Root as RootPart}
 use Rattle.adf_findings.specs.{declared.found.Found.Found, declared.progress.Progress.Progress, Courses.HasReachedPage, Courses.noted, WalkOwners.OwnersValue}
 use Rattle.adf_findings.specs.Survey.{FindingValue, IsCourse, begun}
 use Rattle.adf_volume.specs.declared.owner.Owner.TheVariants.{Free, Boot, Root as TheRoot}
-use Rattle.adf_walk.specs.Owners.{owned_count, owner_at}
+use Rattle.adf_volume.specs.Owners.{owned_count, owner_at}
 use Rattle.adf_findings.specs.Found.{AreNamed, AreOwned, AreSame, IsNextPart, IsOwned, Stands, owner_by}
 use Rattle.adf_findings.proofs.{Taking.none_default, Taking.stands_but, WalkOwners.count_more, WalkOwners.owned_more}
 

@@ -4,7 +4,7 @@ use Rattle.std.specs.Option.{option_and_then, unwrap_or}
 use Rattle.std.proofs.Common.{◌≡◌, ℕ, zero, suc, List, [], ◌∷◌, Option, ◌≤◌, inl, inr, refl, sym, ap, ◌∙◌, arith}
 use Rattle.std.proofs.{lemmas.Bool.cases_Bool, lemmas.Bool.Decides.eqb_tells, lemmas.Grind.common_steps}
 use Rattle.adf_volume.specs.{declared.owner.Owner.Owner, Parts.entry_of}
-use Rattle.adf_walk.specs.Owners.{owner_at}
+use Rattle.adf_volume.specs.Owners.{owner_at}
 use Rattle.adf_volume.specs.Walk.{Role, Asks, Has, Walk, Role.Head, Role.Ext, Role.Data}
 use Rattle.adf_volume.proofs.Gathered.{IsGathered, asked_file, number_of, IsGathered.start, IsGathered.step}
 use Rattle.adf_volume.proofs.Roles.{asks_number}

@@ -6,7 +6,7 @@ use Rattle.adf_tree.specs.NameSet.{has}
 use Rattle.adf_volume.specs.{Image.word_in, LayoutRoles.owner_of, Parts.renumbered, Parts.role_of}
 use Rattle.adf_volume.specs.Positions.{Position, IsNoLater, IsUpTo, behind, position_of}
 use Rattle.adf_volume.specs.Walk.{Role, Same, Asks, Enough, Has, Lacks, first, heads, second, Walk, Role.Head, Role.Ext, Role.Data}
-use Rattle.adf_walk.specs.Owners.{is_part}
+use Rattle.adf_volume.specs.Owners.{is_part}
 use Rattle.adf_findings.specs.{WalkOwners.HasNumber, WalkOwners.node_after, declared.course.Due.Due, declared.course.Reference.Reference}
 use Rattle.adf_findings.specs.{declared.forms.Context.Context, declared.judge.Facts.Facts, declared.found.Found.Found, declared.progress.Progress.Progress}
 use Rattle.adf_findings.specs.{Survey.Course, Forms.IsContext, Forms.Knows, Forms.Tells, Demands.uppers_in, Courses.role_asked}

@@ -13,7 +13,7 @@ use Rattle.adf_findings.specs.{Sound.says_data_of, SurveyResult.SurveyValue, Sur
 use Rattle.adf_findings.specs.Remains.{below, blocks_stated, bytes_left, data_alone, data_found, data_left, data_named, gaps_left, left_below}
 use Rattle.adf_findings.specs.Remains.{named_below, own_data, size_stated, unless_contested}
 use Rattle.adf_findings.specs.Survey.{FindingValue, IsSurvey, IsSurvey.read, IsSurvey.unread}
-use Rattle.adf_walk.specs.Owners.{owner_at}
+use Rattle.adf_volume.specs.Owners.{owner_at}
 use Rattle.adf_findings.proofs.{BlockOwners.first_with, BlockOwners.held_data, Starts.course_size, FileBlocks.data_is, Lookups.file_between, RoleBlocks.at_has}
 use Rattle.adf_findings.proofs.{RoleBlocks.lacks_at, OneSurvey.gathered, SoundEntries.one_part, SoundMarks.data_inside}
 use Rattle.adf_findings.proofs.Contested.{alone_number, kept_alone, said_inside}

@@ -7,7 +7,7 @@ use Rattle.std.proofs.{lemmas.Bool.and_parts, lemmas.Bool.le-leb, lemmas.Bool.lt
 use Rattle.adf_names.specs.declared.kind.Kind.{Kind, TheVariants.Ofs, TheVariants.Ffs}
 use Rattle.adf_blocks.specs.{Forms.first_cause, Sizes.in_range, declared.layout.TheConstants.FIRST_POINTER, declared.layout.TheConstants.POINTERS}
 use Rattle.adf_volume.specs.{declared.owner.Owner.TheVariants.Free, Image.kind_of, Image.word_in}
-use Rattle.adf_walk.specs.Owners.{owner_at}
+use Rattle.adf_volume.specs.Owners.{owner_at}
 use Rattle.adf_volume.specs.declared.part.Part.{Part, TheVariants.Data as DataPart}
 use Rattle.adf_findings.specs.{declared.course.FileTable.FileTable, declared.course.Reference.Reference, declared.found.Found.Found}
 use Rattle.adf_findings.specs.{declared.progress.Progress.Progress, declared.judge.Facts.Facts, declared.judge.Judgement.TheVariants.Clean}

@@ -6,7 +6,7 @@ use Rattle.std.proofs.{lemmas.Bool.cases_lt, lemmas.Bool.Decides.nat_tests, lemm
 use Rattle.adf_base.specs.Words.{block, word}
 use Rattle.adf_blocks.specs.declared.layout.TheConstants.{TYPE, T_DATA}
 use Rattle.adf_volume.specs.declared.owner.Owner.{Owner}
-use Rattle.adf_walk.specs.Owners.{is_part}
+use Rattle.adf_volume.specs.Owners.{is_part}
 use Rattle.adf_findings.specs.{WalkOwners.data_number_of, declared.found.Found.Found, Found.is_owned, Marks.doubted, Marks.is_doubted, Marks.is_node}
 use Rattle.adf_findings.proofs.SoundMarks.{none_doubted}
 

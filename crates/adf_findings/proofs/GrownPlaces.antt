@@ -8,12 +8,12 @@ use Rattle.std.proofs.lemmas.List.{get_or-append_right, get_or_append_left, leng
 use Rattle.adf_volume.specs.declared.owner.Owner.{Owner}
 use Rattle.adf_volume.specs.declared.owner.Owner.TheVariants as owner
 use Rattle.adf_findings.specs.declared.given_places.GivenPlaces.{GivenPlaces}
-use Rattle.adf_walk.specs.{declared.kept_owner.KeptOwner.KeptOwner, declared.node_start.NodeStart.NodeStart, KeptOwner.boot_owner, KeptOwner.is_claimed}
-use Rattle.adf_walk.specs.{KeptOwner.kept_at, KeptOwner.no_owner, OwnerClass.is_part_class, Owners.is_part, Owners.owner_at}
-use Rattle.adf_walk.specs.declared.owner_class.OwnerClass.{OwnerClass, TheVariants.Free, TheVariants.Ext, TheVariants.Data}
-use Rattle.adf_walk.specs.Places.{AreStarts, first_data, first_ext, last_start, owner_kept, owner_with, start_of}
+use Rattle.adf_volume.specs.{declared.kept_owner.KeptOwner.KeptOwner, declared.node_start.NodeStart.NodeStart, KeptOwner.boot_owner, KeptOwner.is_claimed}
+use Rattle.adf_volume.specs.{KeptOwner.kept_at, KeptOwner.no_owner, OwnerClass.is_part_class, Owners.is_part, Owners.owner_at}
+use Rattle.adf_volume.specs.declared.owner_class.OwnerClass.{OwnerClass, TheVariants.Free, TheVariants.Ext, TheVariants.Data}
+use Rattle.adf_volume.specs.Places.{AreStarts, first_data, first_ext, last_start, owner_kept, owner_with, start_of}
 use Rattle.adf_findings.specs.WalkOwners.{AreFit, AreGrown, IsGiven, IsInside, IsKeptBy}
-use Rattle.adf_walk.proofs.KeptPlaces.{last_is}
+use Rattle.adf_volume.proofs.KeptPlaces.{last_is}
 
 at_replicate : (c : ℕ) (x : NodeStart) (n : ℕ) (d : NodeStart) → n < c → get_or (replicate c x) n d ≡ x
 at_replicate zero x n d lt = absurd (omega (arith, lt))

@@ -12,7 +12,7 @@ use Rattle.adf_findings.specs.{declared.own_kind.Tally.Tally, Members.number_at,
 use Rattle.adf_findings.specs.{Sound.IsSound, Sound.says_data_of, WalkOwners.data_number_of, SurveyResult.SurveyValue, SurveyResult.TellsOf}
 use Rattle.adf_findings.specs.OwnKind.{has_other_kind, is_filled, is_full_file, is_mistyped, is_other_kind, kind_said, passing, said_at, said_in, claims_data}
 use Rattle.adf_findings.specs.Survey.{FindingValue, IsSurvey, IsSurvey.read, IsSurvey.unread}
-use Rattle.adf_walk.specs.Owners.{owner_at}
+use Rattle.adf_volume.specs.Owners.{owner_at}
 use Rattle.adf_findings.proofs.{BlockOwners.held_data, OneSurvey.gathered, SoundMarks.taken_wanted}
 
 -- the number kept of a block is that of its entry

@@ -6,7 +6,7 @@ use Rattle.adf_blocks.specs.Sizes.{blocks}
 use Rattle.adf_volume.specs.declared.owner.Owner.TheVariants.{Boot, Free}
 use Rattle.adf_volume.specs.{Image.root_of, Image.word_in, LayoutRoles.owner_of, Walk.Has, Walk.Role, Walk.Walk, Walk.Role.Root}
 use Rattle.adf_volume.proofs.{PartDemands.part_holds_by, Sizes.size_low}
-use Rattle.adf_walk.specs.Owners.{owned_count}
+use Rattle.adf_volume.specs.Owners.{owned_count}
 use Rattle.adf_findings.specs.{WalkOwners.OwnersValue, WalkOwners.node_after, Found.AreOwned}
 use Rattle.adf_findings.specs.Survey.{Course, IsCourse, IsCourse.start, IsCourse.step, JudgementValue.clean, JudgementValue.reported, JudgementValue.skipped}
 use Rattle.adf_findings.proofs.{Begun.new_count, Begun.new_owned, JudgementTests.itself_holds, Known.no_owner, Starts.course_size}

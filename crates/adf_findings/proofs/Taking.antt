@@ -7,7 +7,7 @@ use Rattle.std.proofs.{lemmas.Grind.common_steps, lemmas.Bool.cases_lt, lemmas.B
 use Rattle.adf_blocks.specs.Sizes.{blocks}
 use Rattle.adf_volume.proofs.Lists.{snoc_length}
 use Rattle.adf_volume.specs.{declared.owner.Owner.Owner, LayoutRoles.owner_of, Parts.role_of}
-use Rattle.adf_walk.specs.Owners.{owned_count}
+use Rattle.adf_volume.specs.Owners.{owned_count}
 use Rattle.adf_findings.proofs.WalkOwners.{count_more, free_is, owned_more, part_owns}
 use Rattle.adf_volume.specs.Walk.{Role, heads, head_count, node_block, node_block_of, Walk, Role.Root, Role.Page, Role.Head}
 use Rattle.adf_volume.specs.declared.part.Part.{Part, TheVariants.Page as PagePart, TheVariants.Head as HeadPart}

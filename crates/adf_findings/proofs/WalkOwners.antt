@@ -6,7 +6,7 @@ use Rattle.std.proofs.Common.{◌≡◌, ◌==◌, ℕ, Bool, true, false, cond,
 use Rattle.std.proofs.{Common.get_or-set_same, Common.get_or-set_other, lemmas.Bool.le-ltb, lemmas.Bool.Decides.eqb_tells, lemmas.Grind.common_steps}
 use Rattle.adf_volume.specs.declared.owner.Owner.{Owner, TheVariants.Free, TheVariants.Boot}
 use Rattle.adf_volume.specs.{LayoutRoles.owner_of, Walk.Role, Walk.Walk, Parts.entry_of}
-use Rattle.adf_walk.specs.Owners.{is_part, owned_count, owner_at}
+use Rattle.adf_volume.specs.Owners.{is_part, owned_count, owner_at}
 use Rattle.adf_findings.specs.{WalkOwners.OwnersValue, WalkOwners.data_number_of, WalkOwners.node_after, Found.AreOwned, Found.owner_by}
 use Rattle.adf_findings.specs.Members.{data_number, role_entry, number_at, owning_entry, owns}
 

@@ -10,7 +10,7 @@ use Rattle.adf_blocks.specs.{declared.cause.Cause.Cause, declared.cause.Cause.Th
 use Rattle.adf_volume.specs.{Demands.AllHold, Demands.FirstFails, Image.IsFreeAt, Image.name_of, LayoutRoles.owner_of, Positions.Position, Parts.role_of}
 use Rattle.adf_volume.specs.declared.owner.Owner.{Owner, TheVariants.Free, TheVariants.Boot}
 use Rattle.adf_volume.specs.Walk.{Role, Has, bitmap_demands, heads, node_block, Walk, Role.Page, Role.Head}
-use Rattle.adf_walk.specs.Owners.{is_part, owned_count, owner_at}
+use Rattle.adf_volume.specs.Owners.{is_part, owned_count, owner_at}
 use Rattle.adf_findings.specs.{WalkOwners.HasNumber, WalkOwners.OwnersValue, WalkOwners.node_after, Demands.uppers_in, declared.found.ChainPlace.ChainPlace}
 use Rattle.adf_findings.specs.{declared.found.Found.Found, Members.at_role, Members.owns, Members.parent_node}
 use Rattle.adf_volume.specs.declared.part.Part.{Part, TheVariants.Page as PagePart, TheVariants.Head as HeadPart}

@@ -11,7 +11,7 @@ use Rattle.adf_volume.specs.declared.part.Part.{Part, TheVariants.Head as HeadPa
 use Rattle.adf_findings.specs.{declared.finding.Finding.Finding, declared.found.Found.Found, WalkOwners.data_number_of, Concerned.node_of, Sound.says_data_of}
 use Rattle.adf_findings.specs.declared.found.ChainPlace.{ChainPlace}
 use Rattle.adf_findings.specs.declared.concern.Concern.{Concern, TheVariants.Entry, TheVariants.Within}
-use Rattle.adf_walk.specs.Owners.{owner_at}
+use Rattle.adf_volume.specs.Owners.{owner_at}
 
 -- whether a position is this one
 abbrev pub is_place : Option ChainPlace → ℕ → ℕ → Bool

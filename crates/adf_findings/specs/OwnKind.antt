@@ -11,7 +11,7 @@ use Rattle.adf_names.specs.declared.kind.Kind.{Kind, TheVariants.Ofs, TheVariant
 use Rattle.adf_blocks.specs.Sizes.{blocks}
 use Rattle.adf_blocks.specs.declared.layout.TheConstants.{DATA_HEAD, OWN_KEY, SECONDARY_TYPE, SIZE, ST_FILE, TYPE, T_DATA, T_SHORT}
 use Rattle.adf_volume.specs.{Image.kind_of, Image.letters_of, Image.name_of, Image.word_in, Walk.heads, Walk.node_block, Walk.Walk, Parts.entry_of}
-use Rattle.adf_walk.specs.Owners.{owner_at}
+use Rattle.adf_volume.specs.Owners.{owner_at}
 use Rattle.adf_findings.specs.{WalkOwners.data_number_of, declared.found.ChainPlace.ChainPlace, declared.own_kind.Tally.Tally, Found.places_of}
 use Rattle.adf_findings.specs.{Members.number_at, Members.owning_entry, Sound.says_data_of, SurveyResult.SurveyValue}
 use Rattle.adf_findings.specs.declared.own_kind.TheConstants.{FILES_THAT_TELL}

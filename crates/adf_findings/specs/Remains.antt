@@ -7,7 +7,7 @@ use Rattle.adf_base.specs.Words.{block}
 use Rattle.adf_names.specs.declared.kind.Kind.{Kind, TheVariants.Ofs, TheVariants.Ffs}
 use Rattle.adf_blocks.specs.{declared.layout.TheConstants.SIZE, Sizes.blocks, Sizes.chunk, Sizes.count}
 use Rattle.adf_volume.specs.{Image.held, Image.kind_of, Image.piece, Image.word_in, Walk.node_block, Walk.Walk, Walk.Role.Data, Parts.entry_of}
-use Rattle.adf_walk.specs.Owners.{owner_at}
+use Rattle.adf_volume.specs.Owners.{owner_at}
 use Rattle.adf_findings.specs.{declared.remains.Gap.Gap, Concerned.is_contested, Members.at_role, Files.named_from, Sound.says_data_of, Survey.FindingValue}
 use Rattle.adf_findings.specs.SurveyResult.{SurveyValue, alone_in}
 

@@ -4,7 +4,7 @@ use Rattle.std.specs.Prelude.{◌≡◌, ◌≤◌, ◌-◌, ◌/◌, ◌==◌, 
 use Rattle.std.specs.{BTreeMap.is_at, Map.lookup, Option.option_flatten, Ordering.nat_cmp}
 use Rattle.adf_blocks.specs.declared.layout.TheConstants.{PAGE_BITS}
 use Rattle.adf_volume.specs.{declared.owner.Owner.Owner, Parts.entry_of, Walk.Has, Walk.heads, Walk.node_block, Walk.Walk, Walk.Role.Page}
-use Rattle.adf_walk.specs.Owners.{is_part, owner_at}
+use Rattle.adf_volume.specs.Owners.{is_part, owner_at}
 use Rattle.adf_findings.specs.{WalkOwners.data_number_of, declared.concern.Concern.Concern, declared.finding.Finding.Finding}
 use Rattle.adf_findings.specs.{declared.found.ChainPlace.ChainPlace, Concerned.concern_of_nth, Concerned.is_contested, Concerned.is_taken, Files.grave}
 use Rattle.adf_findings.specs.{Found.places_of, Parts.finding_value, Sound.IsSound, Survey.FindingValue, Survey.IsSurvey, Survey.IsValidated}

@@ -4,8 +4,8 @@ use Rattle.std.specs.Prelude.{◌≡◌, ◌≤◌, ◌<◌, ◌^◌, ℕ, List,
 use Rattle.adf_volume.specs.declared.owner.Owner.{Owner}
 use Rattle.adf_volume.specs.declared.owner.Owner.TheVariants as owner
 use Rattle.adf_findings.specs.declared.given_places.GivenPlaces.{GivenPlaces}
-use Rattle.adf_walk.specs.{declared.kept_owner.KeptOwner.KeptOwner, Places.AreStarts, Places.first_data, Places.first_ext, Places.owner_kept, Places.start_of}
-use Rattle.adf_walk.specs.declared.owner_class.OwnerClass.{OwnerClass, TheVariants.Free, TheVariants.Ext, TheVariants.Data}
+use Rattle.adf_volume.specs.{declared.kept_owner.KeptOwner.KeptOwner, Places.AreStarts, Places.first_data, Places.first_ext, Places.owner_kept, Places.start_of}
+use Rattle.adf_volume.specs.declared.owner_class.OwnerClass.{OwnerClass, TheVariants.Free, TheVariants.Ext, TheVariants.Data}
 
 -- the owners of blocks, and the last node of which an extension block or a data block has an owner; 0 if there is none
 pub record OwnersValue : Type 0 where

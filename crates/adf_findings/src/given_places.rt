@@ -2,13 +2,12 @@
 
 ghost use Rattle.std.specs.Prelude.{◌≡◌, ◌≤◌, ◌<◌, ◌+◌, ◌-◌, ◌^◌, ◌++◌, IfOk, OnOk, length, replicate, true};
 ghost use Rattle.adf_volume.specs.{declared.owner.Owner.Owner, Parts.entry_of};
-ghost use Rattle.adf_walk.specs.Owners.{is_part};
+ghost use Rattle.adf_volume.specs.Owners.{is_part};
 ghost use Rattle.adf_findings.specs.WalkOwners.{AreFit, AreGrown, HasNumber, IsKeptBy, node_after};
 
 use adf_base::NoMemory;
 use adf_tree::Node;
-use adf_volume::Owner;
-use adf_walk::{KeptOwner, NodeStart, OwnerClass};
+use adf_volume::{KeptOwner, KeptOwner, NodeStart, NodeStart, Owner, OwnerClass, OwnerClass};
 use std::alloc::Global;
 
 /// The number of places for which four bytes of an owner have room.

@@ -1,14 +1,13 @@
 // The owners of the blocks of a walk.
 
 ghost use Rattle.std.specs.Prelude.{◌≡◌, ◌≤◌, ◌<◌, ◌-◌, ◌^◌, ◌∷◌, ℕ, IfOk, IsTrue, OnOk, length, replicate, slice_set, true};
-ghost use Rattle.adf_walk.specs.Owners.{is_part, owner_at};
+ghost use Rattle.adf_volume.specs.Owners.{is_part, owner_at};
 ghost use Rattle.adf_findings.specs.WalkOwners.{HasNumber, node_after};
 ghost use Rattle.adf_volume.specs.Parts.{entry_of};
 
 use crate::given_places::GivenPlaces;
 use adf_base::NoMemory;
-use adf_volume::Owner;
-use adf_walk::{OwnerTable, owner_of};
+use adf_volume::{Owner, OwnerTable, OwnerTable, owner_of, owner_of};
 use std::alloc::Global;
 use std::marker::Model;
 
@@ -23,7 +22,7 @@ pub struct WalkOwners {
 impl Model for WalkOwners {
     ghost use Rattle.std.specs.Prelude.{List, ◌-◌, length, map};
     ghost use Rattle.std.specs.List.{All};
-    ghost use Rattle.adf_walk.specs.Places.{owner_kept};
+    ghost use Rattle.adf_volume.specs.Places.{owner_kept};
     ghost use Rattle.adf_findings.specs.WalkOwners.{AreFit, IsInside, OwnersValue};
 
     ghost Value = { OwnersValue };

@@ -4,7 +4,8 @@ use Rattle.std.proofs.{Common.suc, lemmas.Bool.and_from, lemmas.Bool.and_parts, 
 use Rattle.std.specs.List.{All, list_all}
 use Rattle.std.proofs.lemmas.List.Elements.{All-cons, All-head, All-nil, All-tail}
 use Rattle.adf_names.specs.Escapes.{hex_digit}
-use Rattle.adf_manifest.specs.{Tokens.LacksByte, Texts.digit, Texts.hex_word, Texts.is_digit, Texts.pair, Texts.pairs, Texts.unpaired, Texts.AreDigits}
+use Rattle.adf_manifest.specs.{Tokens.LacksByte, Texts.digit, Texts.is_digit, Texts.pairs, Texts.unpaired, Texts.AreDigits}
+use Rattle.adf_names.specs.Digits.{hex_word, pair}
 use Rattle.adf_names.proofs.Spellings.{same_digits}
 
 -- the digits of a byte at the head of a text are of one byte

@@ -3,7 +3,8 @@ use Rattle.std.proofs.Common.{◌≡◌, ◌≤◌, ◌++◌, ◌∙◌, ℕ, Li
 use Rattle.std.specs.Fmt.{decimal}
 use Rattle.std.proofs.{lemmas.List.append_cancel_left, lemmas.Grind.common_steps}
 use Rattle.adf_base.specs.{Dates.plain_text, Dates.IsStamp, declared.dates.Stamp.Stamp}
-use Rattle.adf_manifest.specs.{Tokens.LacksByte, Texts.hex_word, Texts.pair, Lines.fields_text, Lines.fill_line, Lines.most_fill}
+use Rattle.adf_manifest.specs.{Tokens.LacksByte, Lines.fields_text, Lines.fill_line, Lines.most_fill}
+use Rattle.adf_names.specs.Digits.{hex_word, pair}
 use Rattle.adf_manifest.proofs.TokenLaws.{CutTwice, one_cut, one_cut_twice, space_lacks, stamp_lacks}
 use Rattle.adf_manifest.proofs.DigitLaws.{word_lacks}
 

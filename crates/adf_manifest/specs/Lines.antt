@@ -3,7 +3,8 @@ use Rattle.std.specs.Prelude.{◌≡◌, ◌<◌, ◌≤◌, ◌^◌, ℕ, List,
 use Rattle.std.specs.Fmt.{decimal}
 use Rattle.adf_base.specs.{Dates.plain_text, Dates.IsStamp, declared.dates.Stamp.Stamp}
 use Rattle.adf_names.specs.{declared.kind.Kind.Kind, declared.meta.Stamps.Stamps, Meta.AreStamps, Kinds.kind_text}
-use Rattle.adf_manifest.specs.{Tokens.stamps_text, Texts.hex_word, Texts.pair, Texts.pairs, declared.lines.Sort.Sort, declared.lines.Sort.TheVariants.Dir}
+use Rattle.adf_manifest.specs.{Tokens.stamps_text, Texts.pairs, declared.lines.Sort.Sort, declared.lines.Sort.TheVariants.Dir}
+use Rattle.adf_names.specs.Digits.{hex_word, pair}
 use Rattle.adf_manifest.specs.{declared.lines.Sort.TheVariants.File, declared.lines.EntryText.EntryText, declared.lines.Run.Run, declared.lines.Line.Line}
 use Rattle.adf_manifest.specs.declared.lines.Run.TheVariants as run
 use Rattle.adf_manifest.specs.declared.lines.Line.TheVariants as line

@@ -1,19 +1,11 @@
 -- The texts of bytes and words.
-use Rattle.std.specs.Prelude.{◌≡◌, ◌<◌, All, ◌/◌, ◌%◌, ◌^◌, ◌+◌, ◌-◌, ◌*◌, ◌&&◌, ◌||◌, nat_le, nat_lt, Bool, ℕ, List, [], ◌∷◌, ◌++◌, if◌then◌else◌}
+use Rattle.std.specs.Prelude.{◌≡◌, ◌<◌, All, ◌+◌, ◌-◌, ◌*◌, ◌&&◌, ◌||◌, nat_le, nat_lt, Bool, ℕ, List, [], ◌∷◌, ◌++◌, if◌then◌else◌}
 use Rattle.std.specs.List.{flat_map}
-use Rattle.adf_names.specs.Escapes.{hex_digit}
-
--- the two hexadecimal digits of a byte
-abbrev pub pair : ℕ → List ℕ
-pair b = hex_digit (b / 16) ∷ hex_digit (b % 16) ∷ []
+use Rattle.adf_names.specs.Digits.{pair}
 
 -- the digits of bytes, without separators
 abbrev pub pairs : List ℕ → List ℕ
 pairs bytes = flat_map pair bytes
-
--- the eight hexadecimal digits of a word, big-endian
-abbrev pub hex_word : ℕ → List ℕ
-hex_word w = pair (w / 2 ^ 24 % 256) ++ (pair (w / 2 ^ 16 % 256) ++ (pair (w / 2 ^ 8 % 256) ++ pair (w % 256)))
 
 -- the value of a hexadecimal digit
 abbrev pub digit : ℕ → ℕ

@@ -2,7 +2,8 @@
 
 ghost use Rattle.std.specs.Prelude.{◌≡◌, ◌≢◌, ◌<◌, ◌^◌, ◌/◌, ◌++◌, ◌∷◌, [], ℕ, List, IfSome, IfNone, IfOk, All, length, true};
 ghost use Rattle.std.specs.List.{list_all};
-ghost use Rattle.adf_manifest.specs.Texts.{digit, hex_word, is_digit, pair, pairs, unpaired};
+ghost use Rattle.adf_manifest.specs.Texts.{digit, is_digit, pairs, unpaired};
+ghost use Rattle.adf_names.specs.Digits.{hex_word, pair};
 
 use adf_tree::digit_value;
 use std::alloc::AllocError;

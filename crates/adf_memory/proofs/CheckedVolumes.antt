@@ -5,8 +5,8 @@ use Rattle.adf_tree.specs.Tree.{Tree}
 use Rattle.adf_blocks.specs.Sizes.{blocks}
 use Rattle.adf_volume.specs.{declared.counts.Counts.Counts, declared.owner.Owner.Owner, declared.types.Types.Types}
 use Rattle.adf_volume.specs.{Counts.counts_of, Fits.FitsBy, Fits.FitsOf, Layout.Layout, Layout.owned, Lists.In}
-use Rattle.adf_walk.specs.OwnerClass.{class_number, class_of}
-use Rattle.adf_walk.specs.declared.owner_class.OwnerClass.{OwnerClass, TheVariants.Free, TheVariants.Boot}
+use Rattle.adf_volume.specs.OwnerClass.{class_number, class_of}
+use Rattle.adf_volume.specs.declared.owner_class.OwnerClass.{OwnerClass, TheVariants.Free, TheVariants.Boot}
 use Rattle.adf_check.specs.Volumes.{OnVolume}
 use Rattle.adf_memory.specs.{CheckCalls.IsCheckedOf, OwnerNumbers.IsOwnerNumber, Verdicts.WantsMemory}
 

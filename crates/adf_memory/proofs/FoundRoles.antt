@@ -3,8 +3,8 @@
 use Rattle.std.specs.Prelude.{◌≢◌, ◌||◌, Bool, true, false, Some, None, cond, nat_lt}
 use Rattle.std.proofs.Common.{◌≡◌, ℕ, zero, suc, List, [], ◌∷◌, ◌==◌, ◌≤◌, ◌<◌, ◌+◌, length, get_or, set, inl, inr, refl, sym, ap, subst, ◌∙◌, arith}
 use Rattle.std.proofs.lemmas.Bool.{eq-eqb}
-use Rattle.adf_walk.specs.declared.owner_class.OwnerClass.{OwnerClass}
-use Rattle.adf_walk.specs.declared.owner_class.OwnerClass.TheVariants as class
+use Rattle.adf_volume.specs.declared.owner_class.OwnerClass.{OwnerClass}
+use Rattle.adf_volume.specs.declared.owner_class.OwnerClass.TheVariants as class
 use Rattle.adf_volume.specs.Image.{root_of}
 use Rattle.adf_volume.specs.Walk.{Role, Asks, Has, HeadAt, heads, node_block, Walk, Role.Root, Role.Page, Role.MapExt, Role.Head, Role.Ext, Role.Data}
 use Rattle.adf_volume.proofs.Gathered.{IsGathered, head_block, number_of, root_in, root_is, IsGathered.start, IsGathered.step}

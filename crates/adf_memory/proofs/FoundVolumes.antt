@@ -10,8 +10,8 @@ use Rattle.adf_blocks.specs.declared.layout.TheConstants.{SECONDARY_TYPE, SIZE, 
 use Rattle.adf_blocks.specs.Sizes.{blocks, chunk, count}
 use Rattle.adf_build.specs.Plan.{data_blocks, entries_blocks}
 use Rattle.adf_build.proofs.FreeBlocks.{size_small}
-use Rattle.adf_walk.specs.OwnerClass.{class_number}
-use Rattle.adf_walk.specs.declared.owner_class.OwnerClass.TheVariants as class
+use Rattle.adf_volume.specs.OwnerClass.{class_number}
+use Rattle.adf_volume.specs.declared.owner_class.OwnerClass.TheVariants as class
 use Rattle.adf_findings.specs.{Remains.data_left, Remains.size_stated, Survey.FindingValue, Survey.IsSurvey}
 use Rattle.adf_findings.proofs.{LeftOfSound.clean_left, PlainFindings.finds_none, PlainFindings.shown}
 use Rattle.adf_names.specs.declared.kind.Kind.{Kind}

@@ -1,8 +1,8 @@
 -- The roles of blocks by what a survey finds: an `adf_role` of include/adf.h for each.
 -- Letters: w the walk of a survey; b a block; r a role.
 use Rattle.std.specs.Prelude.{◌≡◌, ℕ, cond, nat_lt}
-use Rattle.adf_walk.specs.{declared.owner_class.OwnerClass.OwnerClass, OwnerClass.class_number, OwnerClass.class_of}
-use Rattle.adf_walk.specs.declared.owner_class.OwnerClass.TheVariants as class
+use Rattle.adf_volume.specs.{declared.owner_class.OwnerClass.OwnerClass, OwnerClass.class_number, OwnerClass.class_of}
+use Rattle.adf_volume.specs.declared.owner_class.OwnerClass.TheVariants as class
 use Rattle.adf_volume.specs.{Walk.Role, Walk.Has, Walk.Walk, LayoutRoles.owner_of}
 
 -- the class of the owner that a part is

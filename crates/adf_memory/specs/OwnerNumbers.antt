@@ -4,7 +4,7 @@ use Rattle.adf_base.specs.declared.hash.Letters.{Letters}
 use Rattle.adf_tree.specs.Tree.{Tree}
 use Rattle.adf_volume.specs.{declared.owner.Owner.Owner, Fits.FitsBy, Layout.Layout, Layout.owned, Lists.In}
 use Rattle.adf_volume.specs.declared.owner.Owner.TheVariants as owner
-use Rattle.adf_walk.specs.OwnerClass.{class_number, class_of}
+use Rattle.adf_volume.specs.OwnerClass.{class_number, class_of}
 
 -- the number of an owner
 abbrev pub owner_number : Owner → ℕ

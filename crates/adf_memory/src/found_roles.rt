@@ -2,7 +2,7 @@
 
 ghost use Rattle.std.specs.Prelude.{◌≡◌, ◌≢◌, ◌≤◌, ◌<◌, ◌↔◌, ℕ, [], IsTrue, None, Some, cond, length, nat_lt, slice_index};
 ghost use Rattle.adf_blocks.specs.Sizes.{blocks};
-ghost use Rattle.adf_walk.specs.declared.owner_class.OwnerClass.TheVariants as class;
+ghost use Rattle.adf_volume.specs.declared.owner_class.OwnerClass.TheVariants as class;
 ghost use Rattle.adf_volume.specs.Walk.{Has, Role, heads, node_block, Role.Root};
 ghost use Rattle.adf_findings.specs.{Members.role_entry, Survey.OnSurvey};
 ghost use Rattle.adf_memory.specs.FoundRoles.{IsFoundClass, IsFoundRole, role_class};

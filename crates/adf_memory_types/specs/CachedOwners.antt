@@ -3,8 +3,8 @@
 use Rattle.std.specs.Prelude.{◌≡◌, ℕ, true, false, List, fold, set}
 use Rattle.adf_findings.specs.Survey.{OnSurvey}
 use Rattle.adf_volume.specs.declared.types.Types.TheVariants.{WithInternational}
-use Rattle.adf_walk.specs.OwnerClass.{class_number}
-use Rattle.adf_walk.specs.declared.owner_class.OwnerClass.TheVariants.{Ext}
+use Rattle.adf_volume.specs.OwnerClass.{class_number}
+use Rattle.adf_volume.specs.declared.owner_class.OwnerClass.TheVariants.{Ext}
 use Rattle.adf_uncached.specs.Uncached.{right_blocks, uncached}
 use Rattle.adf_memory.specs.CheckCalls.{TellsOwners}
 use Rattle.adf_memory_types.specs.CachedCalls.{IsCheckedCached, is_cached_image}

@@ -4,8 +4,8 @@ ghost use Rattle.std.specs.Prelude.{◌≡◌, ◌++◌, ◌∷◌, [], IfOk, On
 ghost use Rattle.adf_merge_cmd.specs.Answers.{begun_stretch, differing_text, doubt_lines, goes_on, is_same_why, stretch_blocks};
 ghost use Rattle.adf_merge_cmd.specs.Answers.{stretch_line, why_text};
 
+use adf_names::push_number;
 use adf_readings::{Doubt, Why};
-use adf_texts::push_number;
 use std::alloc::{AllocError, Global};
 
 /// Blocks that follow one another, of which the same is told.

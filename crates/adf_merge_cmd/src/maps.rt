@@ -9,8 +9,8 @@ ghost use Rattle.adf_merge_cmd.specs.Answers.{IsMapStop, map_refusal_text, mappe
 
 use crate::read_file::ReadFile;
 use adf_maps::{Map, MapFault, read_map};
+use adf_names::push_escaped;
 use adf_readings::MappedReading;
-use adf_texts::push_escaped;
 use std::alloc::{AllocError, Global};
 
 /// Why a map is not taken.

@@ -9,8 +9,8 @@ ghost use Rattle.adf_merge_cmd.specs.Answers.{AreReadings, IsUnreadAmong, IsUnre
 use crate::read_file::ReadFile;
 use adf_boot_blocks::MOST_BYTES;
 use adf_file_runs::{Files, Unopened, refuse_file};
+use adf_names::push_escaped;
 use adf_runs::{Sink, StreamFault, read_all, say};
-use adf_texts::push_escaped;
 use std::alloc::{AllocError, Global};
 
 /// Why a reading is not had.

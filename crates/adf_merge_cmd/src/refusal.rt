@@ -8,7 +8,7 @@ ghost use Rattle.adf_merge_cmd.specs.Answers.{differ_in_type, first_refused, rea
 
 use crate::read_file::ReadFile;
 use adf_boot_blocks::{BootRefusal, begins_with_dos, image_refusal};
-use adf_texts::push_escaped;
+use adf_names::push_escaped;
 use std::alloc::{AllocError, Global};
 
 /// Why a reading is not merged with the first one.

@@ -7,3 +7,4 @@ pub mod Spellings
 pub mod PathParts
 pub mod SomeSpellings
 pub mod SomePaths
+pub mod PathSteps

@@ -6,3 +6,6 @@ pub mod Meta
 pub mod Escapes
 pub mod PathTexts
 pub mod PathFaults
+pub mod Digits
+pub mod Growth
+pub mod Written

@@ -10,8 +10,8 @@ use crate::passages::{Passage, marked_passages};
 use adf_base::NoMemory;
 use adf_findings::Survey;
 use adf_json::{Member, push_object};
+use adf_names::push_number;
 use adf_subjects::{push_path, written_path};
-use adf_texts::push_number;
 use std::alloc::{AllocError, Global};
 
 // How passages are told: by this word, as objects in place of lines.

@@ -11,10 +11,10 @@ ghost use Rattle.adf_runs.specs.Outcomes.{Blames, Does, DoesSilently, EndsBy};
 
 use adf_cmd::{ROOM, write_through};
 use adf_findings::{Gap, Remains, SoundFile, Survey};
+use adf_names::push_number;
 use adf_passages::are_before;
 use adf_runs::{Outcome, Sink, write_all};
 use adf_subjects::Subject;
-use adf_texts::push_number;
 use adf_tree::{Name, Node, write_path};
 use std::alloc::{AllocError, Global};
 

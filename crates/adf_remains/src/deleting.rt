@@ -21,10 +21,11 @@ use crate::recovering::copy_deleted;
 use adf_blocks::{HeadBody, meta_stated};
 use adf_deleted::{Deletions, Known, State, know};
 use adf_findings::{Survey, survey};
+use adf_names::push_number;
 use adf_rescue::{hung_image, lacks_root, open_image, prune_image};
 use adf_runs::{Outcome, Sink, StreamFault, flush_long, write_all};
 use adf_subjects::{Subject, former_written};
-use adf_texts::{push_head_lines, push_number};
+use adf_texts::push_head_lines;
 use adf_volume::is_image_len;
 use std::alloc::{AllocError, Global};
 

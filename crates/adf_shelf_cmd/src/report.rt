@@ -9,8 +9,8 @@ ghost use Rattle.adf_file_runs.specs.Files.{why_line};
 use adf_cmd::{CheckAnswer, answer_to_input};
 use adf_file_runs::{Files, Unopened};
 use adf_json::{Member, push_object, without_feed};
+use adf_names::push_escaped;
 use adf_runs::{Source, StreamFault};
-use adf_texts::push_escaped;
 use adf_volume::Types;
 use std::alloc::{AllocError, Global};
 

@@ -5,7 +5,7 @@ use Rattle.std.specs.Prelude.{ℕ, Bool, false, true, List, [], ◌∷◌, ◌++
 use Rattle.adf_tree.specs.Tree.{Tree}
 use Rattle.adf_volume.specs.Image.{name_of}
 use Rattle.adf_deleted.specs.{Kept.deleted_kept, Kept.home_called, Kept.home_path, Known.KnownValue}
-use Rattle.adf_texts.specs.Names.{names_text}
+use Rattle.adf_names.specs.Written.{names_text}
 use Rattle.adf_subjects.specs.{Losses.LossValue, Losses.reason_number, declared.losses.Reason.TheVariants.NoRoom}
 
 -- the loss of a file that there is no room for

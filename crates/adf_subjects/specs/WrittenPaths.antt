@@ -9,7 +9,7 @@ use Rattle.adf_blocks.specs.{declared.layout.TheConstants.PARENT, Sizes.blocks}
 use Rattle.adf_volume.specs.{Image.name_of, Image.word_in, Walk.heads, Walk.node_block, Walk.Walk}
 use Rattle.adf_findings.specs.Members.{parent_node}
 use Rattle.adf_deleted.specs.Paths.{former_path}
-use Rattle.adf_texts.specs.Names.{names_text}
+use Rattle.adf_names.specs.Written.{names_text}
 
 -- an entry
 abbrev pub is_found_entry : Walk → ℕ → Bool

@@ -8,7 +8,7 @@ ghost use Rattle.adf_subjects.specs.Losses.{loss_values};
 
 use crate::losses::{Loss, Reason};
 use adf_deleted::{Deletions, Kept};
-use adf_texts::push_names;
+use adf_names::push_names;
 use std::alloc::{AllocError, Global};
 
 // Appends the loss of the file with header `h`.

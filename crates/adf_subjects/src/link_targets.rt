@@ -10,7 +10,7 @@ ghost use Rattle.adf_subjects.specs.LinkTargets.{original_text, right_concerned,
 use crate::paths::push_path;
 use adf_findings::{Concern, Survey, has_mark};
 use adf_links::{LinkKind, link_of, link_path, original_of};
-use adf_texts::push_escaped;
+use adf_names::push_escaped;
 use adf_tree::Node;
 use std::alloc::{AllocError, Global};
 

@@ -10,7 +10,7 @@ use adf_blocks::PARENT;
 use adf_deleted::Deletions;
 use adf_findings::Survey;
 use adf_json::joined;
-use adf_texts::{push_names, push_number};
+use adf_names::{push_names, push_number};
 use adf_tree::Node;
 use std::alloc::{AllocError, Global};
 

@@ -4,8 +4,7 @@ ghost use Rattle.std.specs.Prelude.{◌≡◌, ◌++◌, ◌∷◌, [], IfOk, On
 ghost use Rattle.adf_subjects.specs.Remarks.{blocks_text, remark_line, remarks_text, saying_text, type_word};
 
 use adf_json::{Member, push_object};
-use adf_names::{kind_text_by, letters_of_type};
-use adf_texts::push_number;
+use adf_names::{kind_text_by, letters_of_type, push_number};
 use adf_tree::Kind;
 use std::alloc::{AllocError, Global};
 

@@ -11,8 +11,8 @@ use crate::map_words::{map_word, with_text};
 use crate::runner::run_files;
 use adf_file_runs::{Files, Invocation, refuse_file};
 use adf_maps::{MapFault, read_map};
+use adf_names::push_escaped;
 use adf_runs::{Outcome, Sink, Source, read_all};
-use adf_texts::push_escaped;
 use std::alloc::{AllocError, Global};
 
 /// The most bytes of the text of a map.

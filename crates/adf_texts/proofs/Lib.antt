@@ -1,4 +1,3 @@
 pub mod Ranges
-pub mod PathSteps
 -- the lines of `list`
 pub mod VolumeTexts

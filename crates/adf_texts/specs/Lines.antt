@@ -3,7 +3,8 @@ use Rattle.std.specs.Prelude.{ℕ, List, [], ◌∷◌, ◌++◌, codes}
 use Rattle.std.specs.Fmt.{decimal}
 use Rattle.adf_base.specs.declared.hash.Letters.{Letters, TheVariants.Ascii}
 use Rattle.adf_names.specs.VolumeTypes.{kind_text_by}
-use Rattle.adf_manifest.specs.{Kinds.manifest_fault_text, Texts.hex_word, declared.manifest.ManifestFault.ManifestFault}
+use Rattle.adf_manifest.specs.{Kinds.manifest_fault_text, declared.manifest.ManifestFault.ManifestFault}
+use Rattle.adf_names.specs.Digits.{hex_word}
 use Rattle.adf_volume.specs.{declared.counts.Counts.Counts, Fault.fault_text, declared.fault.Fault.Fault}
 use Rattle.adf_build.specs.Building.{full_text}
 

@@ -5,8 +5,8 @@ use Rattle.adf_base.specs.declared.dates.Stamp.{Stamp}
 use Rattle.adf_names.specs.declared.meta.Meta.{Meta}
 use Rattle.adf_blocks.specs.declared.head.HeadBody.{HeadBody}
 use Rattle.adf_volume.specs.{Rows.row_body, declared.row.RowBody.RowBody, declared.row.RowBody.TheVariants.Dir, declared.row.RowBody.TheVariants.File}
-use Rattle.adf_manifest.specs.Texts.{hex_word}
-use Rattle.adf_texts.specs.VolumeLines.{lines_with, right_in_ten}
+use Rattle.adf_names.specs.Digits.{hex_word, right_in_ten}
+use Rattle.adf_texts.specs.VolumeLines.{lines_with}
 
 -- the word of a row, left-aligned in four columns
 abbrev pub row_word : RowBody → List ℕ

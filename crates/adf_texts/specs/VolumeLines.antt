@@ -1,5 +1,5 @@
 -- The lines of `list`. In each definition `date` is the text of a date.
-use Rattle.std.specs.Prelude.{ℕ, ◌-◌, ◌==◌, List, [], ◌++◌, codes, if◌then◌else◌, length, replicate, Some, None}
+use Rattle.std.specs.Prelude.{ℕ, ◌==◌, List, [], ◌++◌, codes, if◌then◌else◌, length, Some, None}
 use Rattle.std.specs.{Fmt.decimal, List.flat_map, List.range_with_len}
 use Rattle.adf_fields.specs.Dates.{IsStampText}
 use Rattle.adf_base.specs.declared.dates.Stamp.{Stamp}
@@ -7,7 +7,7 @@ use Rattle.adf_names.specs.{Escapes.escaped, PathTexts.path_text, declared.kind.
 use Rattle.adf_tree.specs.{Paths.names_of, Tree.Tree, Tree.entry, declared.entry.Entry.Entry}
 use Rattle.adf_tree.specs.declared.entry.Body.{Body, TheVariants.Dir, TheVariants.File}
 use Rattle.adf_names.specs.declared.meta.Stamps.{Stamps}
-use Rattle.adf_manifest.specs.Texts.{hex_word}
+use Rattle.adf_names.specs.Digits.{hex_word, right_in_ten}
 
 -- each date has its text
 abbrev pub AreDates : (Stamp → List ℕ) → Type 0
@@ -33,10 +33,6 @@ dates_lines date s = text_line (codes "root ") (date s.root)
 -- the lines before the entries
 abbrev pub opening_lines : (Stamp → List ℕ) → Kind → List ℕ → Stamps → ℕ → List ℕ
 opening_lines date kind label stamps n = blocks_line kind n ++ (escaped_line (codes "label ") label ++ dates_lines date stamps)
-
--- a text, right-aligned in ten columns
-abbrev pub right_in_ten : List ℕ → List ℕ
-right_in_ten text = replicate (10 - length text) 32 ++ text
 
 -- the word of an entry, left-aligned in four columns
 abbrev pub body_word : Body → List ℕ

@@ -1,13 +1,9 @@
-//! The texts that the programs write: kinds, numbers and lines.
+//! The lines that the programs write.
 #![tactic(auto)]
 
-mod digits;
-mod escapes;
 mod lines;
 mod volume_lines;
 
-pub use crate::digits::{push_hex, push_number};
-pub use crate::escapes::{push_escaped, push_names, valid_names_are_alike};
 pub use crate::lines::{
     push_counts, push_counts_by, push_counts_of, push_fault, push_full, push_manifest_fault,
     push_word_line,

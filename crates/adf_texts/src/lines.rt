@@ -3,11 +3,10 @@
 ghost use Rattle.std.specs.Prelude.{◌≡◌, ◌++◌, OnOk, string_bytes};
 ghost use Rattle.adf_texts.specs.Lines.{fault_line, full_line, manifest_fault_line, ok_line, ok_line_by, ok_line_of, word_line};
 
-use crate::digits::{push_hex, push_number};
 use adf_base::Letters;
 use adf_build::BuildFault;
 use adf_manifest::ManifestFault;
-use adf_names::kind_text_by;
+use adf_names::{kind_text_by, push_hex, push_number};
 use adf_volume::{Counts, Fault};
 use std::alloc::AllocError;
 use std::fmt;

@@ -6,13 +6,13 @@ ghost use Rattle.adf_names.specs.PathTexts.{path_text};
 ghost use Rattle.adf_volume.specs.Rows.{row_of_entry};
 ghost use Rattle.adf_texts.specs.RowTexts.{columns, head_lines, row_size, row_word};
 ghost use Rattle.adf_texts.specs.VolumeLines.{AreDates, blocks_line, entry_lines, escaped_line, lines_with, opening_lines};
-ghost use Rattle.adf_texts.specs.VolumeLines.{right_in_ten, text_line};
+ghost use Rattle.adf_texts.specs.VolumeLines.{text_line};
+ghost use Rattle.adf_names.specs.Digits.{right_in_ten};
 
-use crate::digits::{push_hex, push_number, push_right};
-use crate::escapes::{push_escaped, push_path};
 use adf_base::Stamp;
 use adf_blocks::HeadBody;
 use adf_fields::push_stamp;
+use adf_names::{push_escaped, push_hex, push_number, push_path, push_right};
 use adf_tree::{Kind, Label, Meta, Name, Stamps};
 use adf_volume::{Row, RowBody};
 use std::alloc::AllocError;

@@ -47,3 +47,7 @@ pub mod WalkFits
 pub mod SampleEmpty
 pub mod SampleFile
 pub mod SampleLost
+-- what a walk keeps
+pub mod OwnerTables
+pub mod KeptPlaces
+pub mod WordBits

@@ -1,7 +1,7 @@
 use Rattle.std.specs.Prelude.{Some}
 use Rattle.std.proofs.Common.{◌∙◌, ap, sym}
 use Rattle.std.proofs.lemmas.Option.{same_Some}
-use Rattle.adf_walk.specs.declared.owner_class.OwnerClass.TheVariants.{Page}
+use Rattle.adf_volume.specs.declared.owner_class.OwnerClass.TheVariants.{Page}
 use Rattle.adf_cached_files.proofs.SameParts.{page_only, page_told}
 use Rattle.adf_cached_files.proofs.sameness.is_page.Goals as goal
 

@@ -1,5 +1,5 @@
 use Rattle.std.proofs.Common.{◌≡◌, ◌++◌, ◌∷◌, [], length, set, ap, refl, ◌∙◌, rules, arith}
-use Rattle.adf_walk.specs.declared.owner_class.OwnerClass.TheVariants as class
+use Rattle.adf_volume.specs.declared.owner_class.OwnerClass.TheVariants as class
 use Rattle.adf_check.specs.Store.{store_value}
 use Rattle.adf_check.proofs.{ClaimSteps.claim_refused, NumberBounds.lists_short}
 use Rattle.adf_check.proofs.DataSteps.{data_done, data_enough, data_fault, data_named, table_inside}

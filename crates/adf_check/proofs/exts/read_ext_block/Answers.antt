@@ -1,5 +1,5 @@
 use Rattle.std.proofs.Common.{◌≡◌, ◌++◌, ◌∷◌, [], length, set, ap, refl, ◌∙◌, rules, arith}
-use Rattle.adf_walk.specs.declared.owner_class.OwnerClass.TheVariants as class
+use Rattle.adf_volume.specs.declared.owner_class.OwnerClass.TheVariants as class
 use Rattle.adf_check.specs.Store.{store_value}
 use Rattle.adf_check.proofs.{NumberBounds.lists_short, ClaimSteps.claim_refused, ExtSteps.ext_named, ExtSteps.ext_fault, ExtSteps.ext_done}
 use Rattle.adf_check.proofs.exts.read_ext_block.Goals as goal

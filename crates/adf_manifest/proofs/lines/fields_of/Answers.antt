@@ -1,7 +1,7 @@
 use Rattle.std.proofs.Common.{◌≡◌, ap, arith, length}
 use Rattle.std.proofs.lemmas.Bool.Decides.{nat_tests}
 use Rattle.adf_base.specs.Dates.{plain_text}
-use Rattle.adf_manifest.specs.Texts.{hex_word}
+use Rattle.adf_names.specs.Digits.{hex_word}
 use Rattle.adf_manifest.proofs.{TokenLaws.if_none, TokenLaws.stamp_lacks, DigitLaws.word_lacks, LineLaws.fields_parts}
 use Rattle.adf_manifest.proofs.lines.fields_of.Goals as goal
 

@@ -1,7 +1,7 @@
 use Rattle.std.proofs.Common.{◌≡◌, ◌∙◌, sym, arith}
 use Rattle.std.specs.Fmt.{decimal}
 use Rattle.std.proofs.lemmas.Fmt.{decimal_injective}
-use Rattle.adf_manifest.specs.Texts.{pair}
+use Rattle.adf_names.specs.Digits.{pair}
 use Rattle.adf_manifest.proofs.{TokenLaws.if_none, TokenLaws.not_cut, LineLaws.fill_parts, LineLaws.fill_text}
 use Rattle.adf_manifest.proofs.lines.fill_of.Goals as goal
 use Rattle.adf_manifest.proofs.lines.fill_of.Goals.{else-count-gt0-via-then-count-gt0+else-count-le-MOST_FILL, else-count-gt0-via-else-count-gt0}

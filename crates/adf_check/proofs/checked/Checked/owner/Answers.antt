@@ -1,7 +1,7 @@
 use Rattle.std.proofs.Common.{◌≡◌, ◌≤◌, ◌<◌, ℕ, List, ap, subst, sym, Some, ◌∙◌, arith}
 use Rattle.adf_blocks.specs.Sizes.{blocks}
 use Rattle.adf_volume.specs.{declared.owner.Owner.Owner, declared.owner.Owner.TheVariants.Free, Layout.owned, Lists.In}
-use Rattle.adf_walk.specs.Places.{kept_as}
+use Rattle.adf_volume.specs.Places.{kept_as}
 use Rattle.adf_check.specs.{Store.store_value, Volumes.OnVolume}
 use Rattle.adf_check.proofs.StoreStands.{data_starts, ext_starts, keeps, part_numbered, stands}
 use Rattle.adf_check.proofs.checked.Checked.owner.Goals as goal

@@ -1,7 +1,7 @@
 use Rattle.std.proofs.Common.{◌≡◌, ◌≤◌, ◌<◌, ℕ, List, ap, subst, Some, ◌∙◌}
 use Rattle.adf_blocks.specs.Sizes.{blocks}
 use Rattle.adf_volume.specs.{declared.owner.Owner.Owner, Layout.owned, Lists.In}
-use Rattle.adf_walk.specs.{OwnerClass.class_of, declared.owner_class.OwnerClass.TheVariants.Free, declared.kept_owner.KeptOwner.KeptOwner}
+use Rattle.adf_volume.specs.{OwnerClass.class_of, declared.owner_class.OwnerClass.TheVariants.Free, declared.kept_owner.KeptOwner.KeptOwner}
 use Rattle.adf_check.specs.Volumes.{OnVolume}
 use Rattle.adf_check.proofs.StoreStands.{stands}
 use Rattle.adf_check.proofs.checked.Checked.owner_class.Goals as goal

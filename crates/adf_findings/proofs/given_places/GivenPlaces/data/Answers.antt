@@ -1,6 +1,6 @@
 use Rattle.std.proofs.Common.{◌<◌, ◌∙◌, ap, arith}
 use Rattle.std.proofs.{lemmas.List.get_or_default, lemmas.Grind.common_steps}
-use Rattle.adf_walk.specs.Places.{first_data}
+use Rattle.adf_volume.specs.Places.{first_data}
 use Rattle.adf_findings.proofs.GrownPlaces.{data_kept}
 use Rattle.adf_findings.proofs.given_places.GivenPlaces.data.Goals as goal
 

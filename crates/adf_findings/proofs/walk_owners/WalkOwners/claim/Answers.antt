@@ -1,5 +1,5 @@
 use Rattle.std.proofs.Common.{ap, ◌∙◌, arith}
-use Rattle.adf_walk.specs.Owners.{owner_at}
+use Rattle.adf_volume.specs.Owners.{owner_at}
 use Rattle.adf_findings.specs.WalkOwners.{OwnersValue}
 use Rattle.std.proofs.lemmas.Grind.{common_steps}
 use Rattle.adf_findings.proofs.GrownPlaces.{free_kept, owners_claimed}

@@ -1,6 +1,0 @@
-use Rattle.std.proofs.Common.{◌≡◌, ◌++◌, take}
-use Rattle.adf_names.specs.PathTexts.{path_text}
-use Rattle.adf_texts.proofs.escapes.push_path.Given as goal
-
-abbrev pub invariant-loop-i : goal.invariant-loop-i
-invariant-loop-i l = l.text.items ≡ l.initial.text.items ++ path_text (take l.i l.path)

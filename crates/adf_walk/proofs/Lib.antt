@@ -1,3 +1,0 @@
-pub mod OwnerTables
-pub mod KeptPlaces
-pub mod WordBits
