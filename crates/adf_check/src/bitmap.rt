@@ -8,7 +8,7 @@ ghost use Rattle.adf_volume.specs.KeptOwner.{kept_at, no_owner};
 
 use crate::store::Store;
 use adf_blocks::{Cause, PAGE_WORDS, Page, is_set};
-use adf_volume::{Fault, Image, OwnerTable, OwnerTable, fault_at};
+use adf_volume::{Fault, Image, OwnerTable, fault_at};
 
 // Compares the bit of block `b` with its owner.
 fn check_block(owners: &OwnerTable, b: u32, is_free: bool) -> Result<(), Fault>

@@ -12,9 +12,7 @@ use crate::claims::{Link, claim_named};
 use crate::store::Store;
 use adf_blocks::{Cause, Directory, Head, HeadBody, HeadPlace, SLOTS, read_head_at};
 use adf_tree::{NameSet, Node};
-use adf_volume::{
-    Fault, Image, KeptHeader, KeptHeader, KeptOwner, KeptOwner, OwnerClass, OwnerClass, fault_at,
-};
+use adf_volume::{Fault, Image, KeptHeader, KeptOwner, OwnerClass, fault_at};
 
 /// The chain of a slot of a directory; `up` is the directory's block.
 #[derive(Drop)]

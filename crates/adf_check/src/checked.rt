@@ -16,9 +16,7 @@ use crate::store::Store;
 use adf_base::{Letters, NoMemory};
 use adf_blocks::Head;
 use adf_tree::{Kind, Label, Name, Node, Stamps};
-use adf_volume::{
-    Counts, Image, Owner, OwnerClass, OwnerClass, Pieces, Row, joined, owner_of, owner_of, row_of,
-};
+use adf_volume::{Counts, Image, Owner, OwnerClass, Pieces, Row, joined, owner_of, row_of};
 use std::alloc::Global;
 use std::marker::Model;
 

@@ -5,7 +5,7 @@ ghost use Rattle.std.specs.Prelude.{◌≡◌, ◌+◌, ◌<◌, ◌≤◌, ◌^
 ghost use Rattle.adf_volume.specs.KeptOwner.{claimed_count, is_claimed, kept_at, no_owner};
 
 use adf_blocks::Cause;
-use adf_volume::{Fault, KeptOwner, KeptOwner, OwnerTable, OwnerTable, fault_at};
+use adf_volume::{Fault, KeptOwner, OwnerTable, fault_at};
 
 /// A word of block `holder` that points to `block`.
 #[derive(Drop)]

@@ -11,9 +11,7 @@ use crate::file::File;
 use crate::store::Store;
 use adf_blocks::{Cause, POINTERS, Table, read_data};
 use adf_tree::Kind;
-use adf_volume::{
-    Fault, Image, KeptOwner, KeptOwner, OwnerClass, OwnerClass, count_of, fault_at, held_in,
-};
+use adf_volume::{Fault, Image, KeptOwner, OwnerClass, count_of, fault_at, held_in};
 
 /// The data blocks of a file: the file, its table, which is its header and its extension blocks, and their number.
 #[derive(Drop)]

@@ -8,7 +8,7 @@ use crate::claims::{Link, claim_named};
 use crate::file::File;
 use crate::store::Store;
 use adf_blocks::read_ext;
-use adf_volume::{Fault, Image, KeptOwner, KeptOwner, OwnerClass, OwnerClass, fault_at};
+use adf_volume::{Fault, Image, KeptOwner, OwnerClass, fault_at};
 
 // Claims and reads the extension block that a link of the file points to, and appends it to the table, which has the
 // header and the earlier extension blocks; returns the next link, of a block 0 at the end.

@@ -11,7 +11,7 @@ use crate::store::Store;
 use adf_base::slot_by;
 use adf_blocks::{Head, HeadBody};
 use adf_tree::{Name, Node};
-use adf_volume::{Image, OwnerClass, OwnerClass, OwnerTable, OwnerTable};
+use adf_volume::{Image, OwnerClass, OwnerTable};
 
 /// The block of a node.
 pub fn block_of(image: &Image<'_>, store: &Store, node: Node) -> u32

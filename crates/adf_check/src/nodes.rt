@@ -12,7 +12,7 @@ use crate::file::File;
 use crate::store::Store;
 use adf_blocks::{Cause, HeadBody};
 use adf_tree::{NameSet, Node};
-use adf_volume::{Fault, Image, NodeStart, NodeStart};
+use adf_volume::{Fault, Image, NodeStart};
 use std::alloc::Global;
 
 // Starts the next node: its blocks follow those already read.

@@ -11,7 +11,7 @@ ghost use Rattle.adf_check.specs.Reading.{IsAtNode, IsAtPage, IsBeforePage, bloc
 use crate::claims::claim_named;
 use crate::store::Store;
 use adf_blocks::{MAP_EXT_PAGES, ROOT_PAGES, Root, page_count, read_map_ext, read_page};
-use adf_volume::{Fault, Image, KeptOwner, KeptOwner, OwnerClass, OwnerClass, fault_at};
+use adf_volume::{Fault, Image, KeptOwner, OwnerClass, fault_at};
 use std::alloc::Global;
 
 // Whether page `i` is the first one of a bitmap extension block.

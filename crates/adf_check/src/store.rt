@@ -6,10 +6,7 @@ ghost use Rattle.adf_volume.specs.Image.{root_of};
 ghost use Rattle.adf_check.specs.{Reading.IsBeforePage, Store.store_value};
 
 use adf_base::NoMemory;
-use adf_volume::{
-    Image, KeptHeader, KeptHeader, KeptOwner, KeptOwner, NodeStart, NodeStart, OwnerClass,
-    OwnerClass, OwnerTable, OwnerTable,
-};
+use adf_volume::{Image, KeptHeader, KeptOwner, NodeStart, OwnerClass, OwnerTable};
 use std::alloc::Global;
 
 /// The state of a check: the owner of each block, the header of each entry, how many of them are of directories, and for

@@ -7,7 +7,7 @@ ghost use Rattle.adf_findings.specs.WalkOwners.{AreFit, AreGrown, HasNumber, IsK
 
 use adf_base::NoMemory;
 use adf_tree::Node;
-use adf_volume::{KeptOwner, KeptOwner, NodeStart, NodeStart, Owner, OwnerClass, OwnerClass};
+use adf_volume::{KeptOwner, NodeStart, Owner, OwnerClass};
 use std::alloc::Global;
 
 /// The number of places for which four bytes of an owner have room.

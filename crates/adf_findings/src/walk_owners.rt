@@ -7,7 +7,7 @@ ghost use Rattle.adf_volume.specs.Parts.{entry_of};
 
 use crate::given_places::GivenPlaces;
 use adf_base::NoMemory;
-use adf_volume::{Owner, OwnerTable, OwnerTable, owner_of, owner_of};
+use adf_volume::{Owner, OwnerTable, owner_of};
 use std::alloc::Global;
 use std::marker::Model;
 
