@@ -1,8 +1,8 @@
 use Rattle.std.proofs.Common.{◌≤◌, ◌-◌, leb, rules}
 use Rattle.std.proofs.lemmas.List.Sorted.{IsPartitionPoint-from_clause, IsPartitionedBy-leb}
 use Rattle.adf_volume.specs.{declared.node_start.NodeStart.NodeStart, Places.IsLastStart, Places.first_data}
-use Rattle.adf_volume.proofs.{KeptPlaces.last_found, KeptPlaces.last_is, places.file_of_data.Goals.After-partition_point}
-use Rattle.adf_volume.proofs.places.file_of_data.Goals as goal
+use Rattle.adf_volume.proofs.{KeptPlaces.last_found, KeptPlaces.last_is, kept_places.file_of_data.Goals.After-partition_point}
+use Rattle.adf_volume.proofs.kept_places.file_of_data.Goals as goal
 
 found : (c : After-partition_point)
     → (1 ≤ c.partition_point.result) × IsLastStart first_data c.args.starts.now c.args.place (c.partition_point.result - 1)
