@@ -2,49 +2,36 @@
 use Rattle.std.proofs.Common.{◌≤◌, true}
 use Rattle.std.proofs.Common.{◌≡◌, ◌∙◌, ap, inl, inr, ℕ, Bool, false, List, [], Option, None, Some, refl, sym, subst, arith, string_bytes}
 use Rattle.std.specs.Prelude.{codes, option_map}
-use Rattle.std.proofs.lemmas.{Bool.false≢true, Grind.common_steps}
-use Rattle.adf_base.specs.declared.hash.Letters.{Letters, TheVariants.Ascii}
+use Rattle.std.proofs.lemmas.Grind.{common_steps}
+use Rattle.adf_base.specs.declared.hash.Letters.TheVariants.{Ascii}
 use Rattle.adf_fields.proofs.DateTexts.{date_of, date_of_is}
 use Rattle.adf_names.specs.{PathTexts.IsPathText, declared.kind.Kind.Kind}
 use Rattle.adf_tree.specs.Tree.{Tree, entry, find, with_kind}
 use Rattle.adf_blocks.specs.{declared.layout.TheConstants.MOST_PLAIN_BLOCKS, Sizes.blocks, Sizes.is_plain_size}
 use Rattle.adf_volume.proofs.Sizes.{plain_size_high}
-use Rattle.adf_volume.specs.{Fits.Fits, Fits.FitsBy, Fits.FitsOf, Layout.Layout, Walk.FirstFaultOf, Counts.counts_of, declared.counts.Counts.Counts}
-use Rattle.adf_volume.specs.{declared.fault.Fault.Fault, declared.types.Types.Types, declared.types.Types.TheVariants.Plain}
+use Rattle.adf_volume.specs.{Fits.Fits, Fits.FitsBy, Layout.Layout, Walk.FirstFault, Counts.counts_of, declared.counts.Counts.Counts}
+use Rattle.adf_volume.specs.declared.fault.Fault.{Fault}
 use Rattle.adf_build.specs.{Laid.IsLaid, Laid.volume, Plan.planned, Building.IsBuildable}
 use Rattle.adf_build.proofs.{LaidWrites.CanHold, LaidWrites.volume_blocks, WholeVolume.fits_plain}
 use Rattle.adf_check.specs.Pieces.{bytes_of}
-use Rattle.adf_cmd.specs.CachedAnswers.{takes_caches}
-use Rattle.adf_cmd.specs.Answers.{Answer, BuildsOrIsFull, Checks, Copies, IsBuilt, RefusesImage, contents_at}
+use Rattle.adf_cmd.specs.Answers.{Answer, BuildsOrIsFull, Copies, IsBuilt, RefusesImage, contents_at}
 use Rattle.adf_runs.specs.{Commands.Reply, Commands.on_errors, Commands.on_output, Streams.Seen, Outcomes.Does, Outcomes.DoesSilently, Outcomes.EndsBy}
 use Rattle.adf_words.specs.CommandLine.{build, cat, check, convert, list}
 use Rattle.adf_manifest.specs.{Manifest.ExplainsFault, Manifest.IsManifest, declared.manifest.ManifestFault.ManifestFault}
 use Rattle.adf_cmd.specs.Refusals.{IsFaultOutcome, IsRefusedImage}
-use Rattle.adf_texts.specs.{Lines.fault_line, Lines.ok_line_by, VolumeLines.volume_lines}
+use Rattle.adf_texts.specs.{Lines.fault_line, Lines.ok_line, VolumeLines.volume_lines}
 use Rattle.adf_runs.specs.declared.outcome.Outcome.{Outcome, TheVariants.Refused, TheVariants.NoMemory}
 use Rattle.adf_runs.proofs.{Endings.does_weaker, Endings.ends_weaker, PendingText.appends_nil}
 
 -- the line of the first fault of an image answers a check
-pub refused_answer : (types : Types) (image line : List ℕ) (f : Fault) → takes_caches types image ≡ false
-    → FirstFaultOf types image f.block f.cause → line ≡ fault_line f → Checks types image (on_output 1 line)
-refused_answer types image line f plain first e = inr (inl (plain, (f, first, ap (on_output 1) e)))
+pub refused_answer : (image line : List ℕ) (f : Fault) → FirstFault image f.block f.cause → line ≡ fault_line f
+    → Answer check image (on_output 1 line)
+refused_answer image line f first e = inr (f, first, ap (on_output 1) e)
 
 -- so does the line of the numbers of a tree and a layout that fit it
-pub accepted_answer : (types : Types) (image line : List ℕ) (t : Tree) (l : Layout) {letters : Letters} {n : Counts}
-    → FitsOf types image t l → letters ≡ t.letters → n ≡ counts_of image t l → line ≡ ok_line_by letters n
-    → Checks types image (on_output 0 line)
-accepted_answer types image line t l fits by counted e =
-    inl (t, l, fits, ap (on_output 0) (e ∙ (λ i. ok_line_by ((by ∙ fits.1.letters) i) (counted i))))
-
--- a check of an image of type 0 or 1, or of what is none, is told alike
-pub plain_check : (image : List ℕ) (reply : Reply) → Checks Plain image reply → Answer check image reply
-plain_check image reply (inl accepts) = inl accepts
-plain_check image reply (inr (inl (plain, refuses))) = inr refuses
-plain_check image reply (inr (inr (takes, h))) = absurd (false≢true takes)
-
-pub check_plain : (image : List ℕ) (reply : Reply) → Answer check image reply → Checks Plain image reply
-check_plain image reply (inl accepts) = inl accepts
-check_plain image reply (inr refuses) = inr (inl (refl, refuses))
+pub accepted_answer : (image line : List ℕ) (t : Tree) (l : Layout) {n : Counts} → Fits image t l → n ≡ counts_of image t l → line ≡ ok_line n
+    → Answer check image (on_output 0 line)
+accepted_answer image line t l fits counted e = inl (t, l, fits, ap (on_output 0) (e ∙ ap ok_line counted))
 
 -- what is said of a refused image is one of the answers that refuse it so
 pub refused_image_ends : (w : Outcome) (image : List ℕ) (answers : Reply → Type 0)

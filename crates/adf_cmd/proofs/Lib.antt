@@ -5,6 +5,5 @@ pub mod EntryNames
 pub mod EntryLines
 -- answers
 pub mod AnswerLaws
-pub mod CachedLaws
 pub mod LongInputs
 pub mod OneAnswer

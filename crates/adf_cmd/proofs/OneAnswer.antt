@@ -8,17 +8,16 @@ use Rattle.adf_tree.specs.Tree.{Tree, with_kind}
 use Rattle.adf_names.specs.declared.kind.Kind.{Kind}
 use Rattle.adf_names.proofs.PathParts.{one_path}
 use Rattle.adf_blocks.specs.{Sizes.blocks, declared.cause.Cause.Cause}
-use Rattle.adf_volume.specs.{Counts.counts_of, Fits.Fits, Layout.Layout, Walk.FirstFault, Walk.FirstFaultOf, Types.letters_for, declared.fault.Fault.Fault}
+use Rattle.adf_volume.specs.{Counts.counts_of, Fits.Fits, Layout.Layout, Walk.FirstFault, declared.fault.Fault.Fault}
 use Rattle.adf_volume.proofs.{FitWalks.one_fit, TypeLaws.none_fits_of, TypeLaws.one_fault_of}
-use Rattle.adf_volume.specs.declared.types.Types.{Types, TheVariants.Plain}
+use Rattle.adf_volume.specs.declared.types.Types.TheVariants.{Plain}
 use Rattle.adf_manifest.specs.Manifest.{ExplainsKind, IsManifest, lines}
 use Rattle.adf_manifest.specs.declared.manifest.ManifestKind.{ManifestKind, TheVariants.NoMemory, TheVariants.TooLong}
 use Rattle.adf_manifest.proofs.Faults as manifests
 use Rattle.adf_manifest.proofs.{TreesOfLines.one_tree_of, Verdicts.one_told}
-use Rattle.adf_texts.specs.{Lines.fault_line, Lines.ok_line_by, VolumeLines.AreDates, VolumeLines.volume_lines}
-use Rattle.adf_cmd.specs.Answers.{Answer, BuildsManifest, BuildsOrIsFull, Checks, Converts, Copies, CopiesFrom, Lists, RefusesImage, RefusesManifest}
-use Rattle.adf_cmd.specs.Answers.{contents_at}
-use Rattle.adf_cmd.proofs.{AnswerLaws.check_plain, CachedLaws.fits_no_caches, CachedLaws.one_cached}
+use Rattle.adf_texts.specs.{Lines.fault_line, Lines.ok_line, VolumeLines.AreDates, VolumeLines.volume_lines}
+use Rattle.adf_cmd.specs.Answers.{Answer, BuildsManifest, BuildsOrIsFull, Converts, Copies, CopiesFrom, Lists, RefusesImage, RefusesManifest}
+use Rattle.adf_cmd.specs.Answers.{TellsCounts, TellsFault, contents_at}
 use Rattle.adf_runs.specs.Commands.{Reply, on_errors, on_output}
 use Rattle.adf_words.specs.CommandLine.{AsksFor, RequestValue, build, cat, check, convert, list}
 
@@ -26,11 +25,10 @@ pub one_request : (words : List (List ℕ)) (r r' : RequestValue) → AsksFor wo
 one_request words r r' a b = grind (arith, common_steps)
 
 -- the first fault of an image has one line
-one_line : (types : Types) (input : List ℕ) (f g : Fault) → FirstFaultOf types input f.block f.cause
-    → FirstFaultOf types input g.block g.cause → fault_line f ≡ fault_line g
-one_line types input f g p q =
+one_line : (input : List ℕ) (f g : Fault) → FirstFault input f.block f.cause → FirstFault input g.block g.cause → fault_line f ≡ fault_line g
+one_line input f g p q =
     let by : ℕ → Cause → List ℕ = λ b c. fault_line (record { block = b; cause = c }) in
-    let same = one_fault_of types input f.block f.cause g.block g.cause p q in
+    let same = one_fault_of Plain input f.block f.cause g.block g.cause p q in
     ap (λ b. by b f.cause) same.0 ∙ ap (λ c. by g.block c) same.1
 
 -- an image is not refused where a tree fits
@@ -38,22 +36,16 @@ not_both : (input : List ℕ) (f : Fault) (t : Tree) (l : Layout) → FirstFault
 not_both input f t l first fits = none_fits_of Plain input f.block f.cause t l first fits
 
 pub refused_once : (input : List ℕ) (a b : Reply) → RefusesImage input a → RefusesImage input b → a ≡ b
-refused_once input a b (f, first, x) (g, also, y) = x ∙ ap (on_errors 1) (one_line Plain input f g first also) ∙ sym y
+refused_once input a b (f, first, x) (g, also, y) = x ∙ ap (on_errors 1) (one_line input f g first also) ∙ sym y
 
 -- a check has one answer
-pub one_check : (types : Types) (input : List ℕ) (a b : Reply) → Checks types input a → Checks types input b → a ≡ b
-one_check types input a b (inl (t, l, fits, x)) (inl (u, m, also, y)) =
+told_once : (input : List ℕ) (a b : Reply) → TellsFault input a → TellsFault input b → a ≡ b
+told_once input a b (f, first, x) (g, also, y) = x ∙ ap (on_output 1) (one_line input f g first also) ∙ sym y
+
+counted_once : (input : List ℕ) (a b : Reply) → TellsCounts input a → TellsCounts input b → a ≡ b
+counted_once input a b (t, l, fits, x) (u, m, also, y) =
     let same = one_fit input t u l m fits.1 also.1 in
-    x ∙ (λ i. on_output 0 (ok_line_by (letters_for types input) (counts_of input (same.0 i) (same.1 i)))) ∙ sym y
-one_check types input a b (inl (t, l, fits, x)) (inr (inl (plain, (f, first, y)))) = absurd (none_fits_of types input f.block f.cause t l first fits)
-one_check types input a b (inl (t, l, fits, x)) (inr (inr (takes, h))) = absurd (fits_no_caches types input t l fits takes)
-one_check types input a b (inr (inl (plain, (f, first, x)))) (inl (t, l, fits, y)) = absurd (none_fits_of types input f.block f.cause t l first fits)
-one_check types input a b (inr (inl (plain, (f, first, x)))) (inr (inl (also, (g, other, y)))) =
-    x ∙ ap (on_output 1) (one_line types input f g first other) ∙ sym y
-one_check types input a b (inr (inl (plain, (f, first, x)))) (inr (inr (takes, h))) = absurd (false≢true (sym plain ∙ takes))
-one_check types input a b (inr (inr (takes, h))) (inl (t, l, fits, y)) = absurd (fits_no_caches types input t l fits takes)
-one_check types input a b (inr (inr (takes, h))) (inr (inl (plain, (f, first, x)))) = absurd (false≢true (sym plain ∙ takes))
-one_check types input a b (inr (inr (takes, h))) (inr (inr (also, k))) = one_cached input a b h k
+    x ∙ (λ i. on_output 0 (ok_line (counts_of input (same.0 i) (same.1 i)))) ∙ sym y
 
 -- dates have one text each
 pub one_dates : (date other : Stamp → List ℕ) → AreDates date → AreDates other → date ≡ other
@@ -130,7 +122,10 @@ image_once input a b tells fits once (inr h) (inl g) = let (t, l, fit) = fits b 
 image_once input a b tells fits once (inr h) (inr g) = refused_once input a b h g
 
 pub one_answer : (r : RequestValue) (input : List ℕ) (a b : Reply) → Answer r input a → Answer r input b → a ≡ b
-one_answer check input a b h g = one_check Plain input a b (check_plain input a h) (check_plain input b g)
+one_answer check input a b (inl h) (inl g) = counted_once input a b h g
+one_answer check input a b (inl (t, l, fits, x)) (inr (f, first, y)) = absurd (not_both input f t l first fits)
+one_answer check input a b (inr (f, first, x)) (inl (t, l, fits, y)) = absurd (not_both input f t l first fits)
+one_answer check input a b (inr h) (inr g) = told_once input a b h g
 one_answer list input a b h g = image_once input a b (Lists input) (λ reply x. (x.0, x.1, x.2)) (listed_once input a b) h g
 one_answer (build written) input a b (inl h) (inl g) = manifest_built_once written input a b h g
 one_answer (build written) input a b (inl h) (inr g) = absurd (no_fault g.0.kind g.0.line input h.0 h.1 g.2 g.1 h.2)

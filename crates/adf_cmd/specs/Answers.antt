@@ -1,38 +1,27 @@
 -- What the command answers to its words and its input.
-use Rattle.std.specs.Prelude.{◌≡◌, ◌≢◌, ◌++◌, ◌<◌, ◌-◌, ◌*◌, ◌⊎◌, ℕ, Bool, true, false, List, codes, Option, None, Some, option_map}
+use Rattle.std.specs.Prelude.{◌≡◌, ◌≢◌, ◌++◌, ◌<◌, ◌-◌, ◌*◌, ◌⊎◌, ℕ, Bool, false, List, codes, Option, None, Some, option_map}
 use Rattle.adf_blocks.specs.Sizes.{blocks}
 use Rattle.adf_base.specs.declared.dates.Stamp.{Stamp}
 use Rattle.adf_names.specs.{PathTexts.IsPathText, declared.kind.Kind.Kind}
 use Rattle.adf_tree.specs.Tree.{Tree, entry, find, with_kind}
-use Rattle.adf_volume.specs.{Fits.Fits, Fits.FitsOf, Layout.Layout, Walk.FirstFault, Walk.FirstFaultOf, Counts.counts_of, Types.letters_for, Types.most_blocks}
-use Rattle.adf_volume.specs.{declared.fault.Fault.Fault, declared.types.Types.Types, declared.types.Types.TheVariants.Plain}
+use Rattle.adf_volume.specs.{Fits.Fits, Layout.Layout, Walk.FirstFault, Counts.counts_of, Types.most_blocks}
+use Rattle.adf_volume.specs.{declared.fault.Fault.Fault, declared.types.Types.TheVariants.Plain}
 use Rattle.adf_build.specs.{Laid.IsLaid, Laid.volume, Plan.blocks_needed, Plan.planned, Building.IsBuildable, Building.need_of}
 use Rattle.adf_check.specs.Pieces.{bytes_of}
 use Rattle.adf_words.specs.CommandLine.{AsksFor, AreRefused, RequestValue, build, cat, check, convert, list}
 use Rattle.adf_runs.specs.Commands.{Command, Reply, bad_path, on_errors, on_output}
-use Rattle.adf_cmd.specs.{CachedAnswers.ChecksCached, CachedAnswers.takes_caches, Listing.image_or_lines}
+use Rattle.adf_cmd.specs.{BuildLines.full_line, BuildLines.manifest_fault_line, Listing.image_or_lines}
 use Rattle.adf_manifest.specs.{Manifest.ExplainsFault, Manifest.IsManifest, Manifest.most_bytes, declared.manifest.ManifestFault.ManifestFault}
-use Rattle.adf_texts.specs.{Lines.fault_line, Lines.full_line, Lines.manifest_fault_line, Lines.ok_line_by, VolumeLines.AreDates, VolumeLines.volume_lines}
+use Rattle.adf_texts.specs.{Lines.fault_line, Lines.ok_line, VolumeLines.AreDates, VolumeLines.volume_lines}
 use Rattle.adf_manifest.specs.declared.manifest.ManifestKind.TheVariants.{NoMemory as ManifestNoMemory}
 
--- `check` at status 0 tells the numbers of the tree and the layout that fit the image where these types are accepted
-abbrev pub AcceptsOf : Types → List ℕ → Reply → Type 0
-AcceptsOf types input reply =
-    (t : Tree) × (l : Layout) × FitsOf types input t l × (reply ≡ on_output 0 (ok_line_by (letters_for types input) (counts_of input t l)))
+-- `check` at status 0 tells the numbers of the tree and the layout that fit the image
+abbrev pub TellsCounts : List ℕ → Reply → Type 0
+TellsCounts input reply = (t : Tree) × (l : Layout) × Fits input t l × (reply ≡ on_output 0 (ok_line (counts_of input t l)))
 
--- the first fault of the image where these types are accepted is told on output, with status 1
-abbrev pub RefusesOf : Types → List ℕ → Reply → Type 0
-RefusesOf types input reply = (f : Fault) × FirstFaultOf types input f.block f.cause × (reply ≡ on_output 1 (fault_line f))
-
--- what `check` tells of an image of type 0 or 1, or of what is none
-abbrev pub ChecksPlain : List ℕ → Reply → Type 0
-ChecksPlain input reply = AcceptsOf Plain input reply ⊎ RefusesOf Plain input reply
-
--- what is told of an image where these types are accepted, and with types 2 and 3 those of directory caches
-abbrev pub Checks : Types → List ℕ → Reply → Type 0
-Checks types input reply =
-    AcceptsOf types input reply
-    ⊎ (((takes_caches types input ≡ false) × RefusesOf types input reply) ⊎ ((takes_caches types input ≡ true) × ChecksCached input reply))
+-- at status 1 it tells the first fault of the image
+abbrev pub TellsFault : List ℕ → Reply → Type 0
+TellsFault input reply = (f : Fault) × FirstFault input f.block f.cause × (reply ≡ on_output 1 (fault_line f))
 
 -- the image that is laid of a tree in n blocks, or the lines of its words
 abbrev pub built_output : Bool → Tree → ℕ → List ℕ
@@ -108,7 +97,7 @@ Converts kind input reply =
 
 -- the answer to a request
 abbrev pub Answer : RequestValue → List ℕ → Reply → Type 0
-Answer check input reply = ChecksPlain input reply
+Answer check input reply = TellsCounts input reply ⊎ TellsFault input reply
 Answer (build lines) input reply = BuildsManifest lines input reply ⊎ RefusesManifest input reply
 Answer list input reply = Lists input reply ⊎ RefusesImage input reply
 Answer (cat path) input reply =
@@ -123,14 +112,10 @@ WordsAskForOneRequest = (words : List (List ℕ)) (r r' : RequestValue) → Asks
 abbrev pub RequestsHaveOneAnswer : Type 0
 RequestsHaveOneAnswer = (r : RequestValue) (input : List ℕ) (a b : Reply) → Answer r input a → Answer r input b → a ≡ b
 
--- the most bytes of an image where these types are accepted
-abbrev pub most_image_bytes : Types → ℕ
-most_image_bytes types = 512 * most_blocks types
-
 -- the most bytes of the input that belong to an answer: those of the largest image or manifest
 abbrev pub limit_of : RequestValue → ℕ
 limit_of (build lines) = most_bytes
-limit_of _ = most_image_bytes Plain
+limit_of _ = 512 * most_blocks Plain
 
 -- what errors get where the words are refused
 abbrev pub usage_line : List ℕ

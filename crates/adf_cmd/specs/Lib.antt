@@ -1,6 +1,6 @@
 -- The promise: what the command answers.
 pub mod Answers
-pub mod CachedAnswers
+pub mod BuildLines
 pub mod CheckAnswers
 pub mod Listing
 pub mod Refusals

@@ -1,7 +1,8 @@
 -- What an outcome says of an input that is refused.
 use Rattle.std.specs.Prelude.{◌≡◌, ◌≢◌, ℕ, List, string_bytes}
 use Rattle.adf_volume.specs.{Walk.FirstFault, declared.fault.Fault.Fault}
-use Rattle.adf_texts.specs.Lines.{fault_line, full_line, manifest_fault_line}
+use Rattle.adf_texts.specs.Lines.{fault_line}
+use Rattle.adf_cmd.specs.BuildLines.{full_line, manifest_fault_line}
 use Rattle.adf_manifest.specs.declared.manifest.ManifestFault.{ManifestFault}
 use Rattle.adf_manifest.specs.declared.manifest.ManifestKind.TheVariants.{NoMemory as ManifestNoMemory}
 use Rattle.adf_runs.specs.declared.outcome.Outcome.{Outcome, TheVariants.Refused, TheVariants.NoMemory}

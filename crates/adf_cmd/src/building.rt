@@ -9,11 +9,11 @@ ghost use Rattle.adf_words.specs.CommandLine.{build};
 ghost use Rattle.adf_cmd.specs.Refusals.{IsFaultOutcome, IsFullOutcome};
 ghost use Rattle.adf_runs.specs.{Streams.AppendsPart, Streams.is_device, Streams.seen, Outcomes.Does};
 
+use crate::build_lines::{push_full, push_manifest_fault};
 use crate::listing::write_listing;
 use adf_build::{BuildFault, build};
 use adf_manifest::{ManifestFault, ManifestKind, read_manifest};
 use adf_runs::{Outcome, Sink, StreamFault, write_all};
-use adf_texts::{push_full, push_manifest_fault};
 use adf_tree::Tree;
 use std::alloc::Global;
 

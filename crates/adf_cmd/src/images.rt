@@ -1,35 +1,21 @@
 // Images that are checked for a command.
 
-ghost use Rattle.std.specs.Prelude.{◌≡◌, false, IfErr, IfOk, string_bytes};
+ghost use Rattle.std.specs.Prelude.{◌≡◌, false, IfErr, IfOk};
 ghost use Rattle.adf_tree.specs.Tree.{Tree};
 ghost use Rattle.adf_volume.specs.{Fits.Fits, Fits.FitsOf, Layout.Layout, Walk.FirstFaultOf};
-ghost use Rattle.adf_cmd.specs.{Answers.most_image_bytes, Refusals.IsRefusedImage};
-ghost use Rattle.adf_texts.specs.Lines.{fault_line};
+ghost use Rattle.adf_cmd.specs.Refusals.{IsRefusedImage};
 ghost use Rattle.adf_runs.specs.Outcomes.{Blames};
 
 use adf_base::BLOCK_LEN;
-use adf_blocks::Cause;
+use adf_blocks::{Cause, MOST_PLAIN_BLOCKS};
 use adf_check::{Checked, Fault, check_types};
 use adf_runs::Outcome;
-use adf_texts::push_fault;
+use adf_texts::refused_line;
 use adf_volume::Types;
 use std::alloc::{AllocError, Global};
 
-/// The most bytes of an image where these types are accepted.
-pub fn most_image_bytes(types: Types) -> usize
-    ensures { result ≡ most_image_bytes types }
-{
-    types.most_blocks() as usize * BLOCK_LEN
-}
-
-/// The line of a refused image.
-pub fn refused_line(alloc: Global, fault: Fault) -> Result<String, AllocError>
-    ensures { IfOk result (λ line. string_bytes line ≡ fault_line fault) }
-{
-    let mut line = String::new(alloc);
-    push_fault(&mut line, fault)?;
-    Ok(line)
-}
+/// The most bytes of an image.
+pub const MOST_IMAGE_BYTES: usize = MOST_PLAIN_BLOCKS as usize * BLOCK_LEN;
 
 /// Checks an image of one of these types: its volume, or its first fault. `AllocError` if an allocation failed; it says
 /// nothing about the image.

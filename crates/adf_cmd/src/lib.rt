@@ -1,8 +1,8 @@
 //! The command `adf`: its works and their answers.
 #![tactic(auto)]
 
+mod build_lines;
 mod building;
-mod cached;
 mod checking;
 mod converting;
 mod copying;
@@ -13,9 +13,7 @@ mod runner;
 mod volume_listing;
 mod work;
 
-pub use crate::checking::{CheckAnswer, answer_to_image, answer_to_input};
-pub use crate::copying::{ROOM, write_through};
-pub use crate::images::{checked, most_image_bytes, refused_line};
+pub use crate::images::checked;
 pub use crate::listing::write_listing;
 pub use crate::round_trip::build_and_read;
 pub use crate::runner::{one_answer, run};

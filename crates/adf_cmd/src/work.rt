@@ -9,12 +9,11 @@ use crate::building::build_manifest;
 use crate::checking::check_image;
 use crate::converting::{convert_image, convert_read};
 use crate::copying::cat_image;
-use crate::images::most_image_bytes;
+use crate::images::MOST_IMAGE_BYTES;
 use crate::volume_listing::list_image;
 use adf_manifest::MOST_BYTES;
 use adf_runs::{Outcome, Program, Sink, Source, WorkFault, read_input};
 use adf_tree::{Kind, Name, read_path};
-use adf_volume::Types;
 use adf_words::{Request, USAGE, parse};
 use std::alloc::Global;
 
@@ -80,7 +79,7 @@ impl Program for Work {
     fn limit(&self) -> usize {
         match self {
             Work::Build { .. } => MOST_BYTES,
-            _ => most_image_bytes(Types::Plain),
+            _ => MOST_IMAGE_BYTES,
         }
     }
 

@@ -3,10 +3,8 @@ use Rattle.std.specs.Prelude.{ℕ, List, [], ◌∷◌, ◌++◌, codes}
 use Rattle.std.specs.Fmt.{decimal}
 use Rattle.adf_base.specs.declared.hash.Letters.{Letters, TheVariants.Ascii}
 use Rattle.adf_names.specs.VolumeTypes.{kind_text_by}
-use Rattle.adf_manifest.specs.{Kinds.manifest_fault_text, declared.manifest.ManifestFault.ManifestFault}
 use Rattle.adf_names.specs.Digits.{hex_word}
 use Rattle.adf_volume.specs.{declared.counts.Counts.Counts, Fault.fault_text, declared.fault.Fault.Fault}
-use Rattle.adf_build.specs.Building.{full_text}
 
 -- the line of a sound volume whose kind has this text
 abbrev pub ok_line_of : List ℕ → Counts → List ℕ
@@ -25,14 +23,6 @@ ok_line = ok_line_by Ascii
 -- the line of a refused image
 abbrev pub fault_line : Fault → List ℕ
 fault_line f = fault_text f ++ codes "\n"
-
--- the line of a tree that needs more blocks than the volume has
-abbrev pub full_line : ℕ → ℕ → List ℕ
-full_line need have = full_text need have ++ codes "\n"
-
--- the line of a manifest's fault
-abbrev pub manifest_fault_line : ManifestFault → List ℕ
-manifest_fault_line f = manifest_fault_text f ++ codes "\n"
 
 -- the line of word i of block b: the block, the number of the word, its value
 abbrev pub word_line : ℕ → ℕ → ℕ → List ℕ

@@ -1,14 +1,12 @@
 // The output lines of the commands.
 
-ghost use Rattle.std.specs.Prelude.{◌≡◌, ◌++◌, OnOk, string_bytes};
-ghost use Rattle.adf_texts.specs.Lines.{fault_line, full_line, manifest_fault_line, ok_line, ok_line_by, ok_line_of, word_line};
+ghost use Rattle.std.specs.Prelude.{◌≡◌, ◌++◌, IfOk, OnOk, string_bytes};
+ghost use Rattle.adf_texts.specs.Lines.{fault_line, ok_line, ok_line_by, ok_line_of, word_line};
 
 use adf_base::Letters;
-use adf_build::BuildFault;
-use adf_manifest::ManifestFault;
 use adf_names::{kind_text_by, push_hex, push_number};
 use adf_volume::{Counts, Fault};
-use std::alloc::AllocError;
+use std::alloc::{AllocError, Global};
 use std::fmt;
 
 /// Appends the line of a sound volume whose kind has this text.
@@ -51,20 +49,13 @@ pub fn push_fault(text: &mut String, fault: Fault) -> Result<(), AllocError>
     write!(text, "{fault}\n")
 }
 
-/// Appends the line of a tree that needs more blocks than the volume has.
-pub fn push_full(text: &mut String, need: u64, have: u64) -> Result<(), AllocError>
-    ensures { OnOk result (string_bytes text.new ≡ string_bytes text.old ++ full_line need have) }
+/// The line of a refused image.
+pub fn refused_line(alloc: Global, fault: Fault) -> Result<String, AllocError>
+    ensures { IfOk result (λ line. string_bytes line ≡ fault_line fault) }
 {
-    let fault = BuildFault::Full { need, have };
-    write!(text, "{fault}\n")
-}
-
-/// Appends the line of a manifest's fault.
-pub fn push_manifest_fault(text: &mut String, fault: ManifestFault) -> Result<(), AllocError>
-    ensures { OnOk result
-        (string_bytes text.new ≡ string_bytes text.old ++ manifest_fault_line fault) }
-{
-    write!(text, "{fault}\n")
+    let mut line = String::new(alloc);
+    push_fault(&mut line, fault)?;
+    Ok(line)
 }
 
 /// Appends the line of a word: the block, the number of the word, its value.

@@ -3,5 +3,4 @@ use Rattle.adf_cmd.proofs.AnswerLaws.{accepted_answer}
 use Rattle.adf_cmd.proofs.checking.acceptance.Goals as goal
 
 pub returns : goal.returns
-returns c = λ types t l fits. accepted_answer types c.args.volume.now (string_bytes c.in_ok-line.line) t l fits
-    (c.letters.ensures.tree _ t l fits.1) (c.counts.ensures.exact _ t l fits.1) c.in_ok-line.ensures
+returns c = λ t l fits. accepted_answer c.args.volume.now (string_bytes c.in_ok-line.line) t l fits (c.counts.ensures.exact _ t l fits.1) c.in_ok-line.ensures

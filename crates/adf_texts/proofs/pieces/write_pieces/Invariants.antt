@@ -1,7 +1,7 @@
 use Rattle.std.proofs.Common.{◌≡◌, ◌≤◌, ◌++◌, ℕ, List, false, length, take}
 use Rattle.std.specs.List.{concat}
 use Rattle.adf_runs.specs.Streams.{Pending}
-use Rattle.adf_cmd.proofs.copying.write_pieces.Given as goal
+use Rattle.adf_texts.proofs.pieces.write_pieces.Given as goal
 
 abbrev pub invariant-loop-piece : goal.invariant-loop-piece
 invariant-loop-piece g l = record {

@@ -1,7 +1,7 @@
 use Rattle.std.proofs.Common.{[], refl}
 use Rattle.adf_base.proofs.Results.{on_err}
 use Rattle.adf_runs.proofs.{KnownBytes.appends_two, PendingText.part_behind, PendingText.part_of_more, PendingText.pending_cleared, PendingText.pending_flushed}
-use Rattle.adf_cmd.proofs.copying.copy_piece.Goals as goal
+use Rattle.adf_texts.proofs.pieces.copy_piece.Goals as goal
 
 pub returns-in_err-write_all-clause-err : goal.returns-in_err-write_all-clause-err
 returns-in_err-write_all-clause-err g c = on_err c.from_residual.result (part_of_more _ _ _ c.args.piece.now c.in_err-write_all.ensures.err)

@@ -3,7 +3,7 @@ use Rattle.std.specs.List.{concat}
 use Rattle.std.proofs.lemmas.Result.{on_err_weaker}
 use Rattle.adf_base.proofs.Results.{on_err}
 use Rattle.adf_runs.proofs.PendingText.{pending_fails, pending_more}
-use Rattle.adf_cmd.proofs.copying.write_pieces.Goals as goal
+use Rattle.adf_texts.proofs.pieces.write_pieces.Goals as goal
 
 -- one piece more is done
 piece_done : (done piece rest rest' whole : List ℕ) → rest ≡ piece ++ rest' → whole ≡ done ++ rest → whole ≡ (done ++ piece) ++ rest'

@@ -1,0 +1,2 @@
+pub mod LongInputs
+pub mod VerdictLaws

@@ -1,0 +1,2 @@
+-- All of it is the promise: when an image is valid.
+pub mod Verdicts
