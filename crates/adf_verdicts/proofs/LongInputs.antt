@@ -7,8 +7,9 @@ use Rattle.adf_tree.specs.Tree.{Tree}
 use Rattle.adf_volume.specs.{Fits.FitsOf, Layout.Layout, Walk.FirstFaultOf, Walk.FirstFaultBy.at_boot}
 use Rattle.adf_volume.specs.{Start.is_image_len, Types.most_blocks, declared.fault.Fault.Fault}
 use Rattle.adf_volume.specs.declared.types.Types.{Types, TheVariants.Plain, TheVariants.WithInternational}
+use Rattle.adf_volume.proofs.TypeLaws.{one_fault_of}
 use Rattle.adf_uncached.specs.Uncached.{is_cached}
-use Rattle.adf_verdicts.specs.Verdicts.{IsVerdict, IsVerdictOn, most_image_bytes, takes_caches}
+use Rattle.adf_verdicts.specs.Verdicts.{HasFirstFault, IsVerdict, IsVerdictOn, most_image_bytes, takes_caches}
 
 -- an image that is too long has no caches
 pub long_takes_none : (types : Types) (image : List ℕ) → most_image_bytes types < length image → takes_caches types image ≡ false
@@ -32,27 +33,37 @@ bad_size types image h =
       | inr few ↦ inr (few, at_boot (inl ((λ size. let whole : length image ≡ 512 * blocks image = size.0 in omega (arith, few, whole, h)), refl, refl)))
     ]
 
--- the verdict on an image that is too long
-pub long_verdict : (types : Types) (image : List ℕ) → most_image_bytes types < length image → IsVerdict types image false
-long_verdict types image h = (record { block = 0; cause = BadSize }, inl (long_takes_none types image h, bad_size types image h))
+-- an image that is too long has the first fault of each other one
+long_fault : (types : Types) (image bytes : List ℕ) (f : Fault) → most_image_bytes types < length image → most_image_bytes types < length bytes
+    → HasFirstFault types image f → HasFirstFault types bytes f
+long_fault types image bytes f front long (inr (takes, first)) = absurd (false≢true (sym (long_takes_none types image front) ∙ takes))
+long_fault types image bytes f front long (inl (none, first)) =
+    let same = one_fault_of types image f.block f.cause 0 BadSize first (bad_size types image front) in
+    inl (
+      long_takes_none types bytes long,
+      subst (λ b. FirstFaultOf types bytes b f.cause) (sym same.0)
+          (subst (λ c. FirstFaultOf types bytes 0 c) (sym same.1) (bad_size types bytes long)),
+    )
 
--- no other
-long_is_refused : (types : Types) (image : List ℕ) (sound : Bool) → most_image_bytes types < length image → IsVerdict types image sound → sound ≡ false
-long_is_refused types image false h is = refl
-long_is_refused types image true h (inl (t, l, fits)) = absurd (too_large types image t l h fits)
-long_is_refused types image true h (inr (takes, x)) = absurd (false≢true (sym (long_takes_none types image h) ∙ takes))
+-- so its verdict is theirs
+long_verdict : (types : Types) (image bytes : List ℕ) (sound : Bool) (line : List ℕ) → most_image_bytes types < length image
+    → most_image_bytes types < length bytes → IsVerdict types image sound line → IsVerdict types bytes sound line
+long_verdict types image bytes true line a b (inl (t, l, fits), ok) = absurd (too_large types image t l a fits)
+long_verdict types image bytes true line a b (inr (takes, x), ok) = absurd (false≢true (sym (long_takes_none types image a) ∙ takes))
+long_verdict types image bytes false line a b (f, first, e) = (f, long_fault types image bytes f a b first, e)
 
 -- the verdict on the bytes that are read is that on the whole input, where that is known
-pub read_verdict : (types : Types) (sound : Bool) (image : List ℕ) (left : Option (List ℕ))
-    → IfSome left (λ bytes. image ≡ take (most_image_bytes types + 1) bytes) → IsVerdict types image sound → IsVerdictOn types left sound
-read_verdict types sound image None e h = (image, tt, h)
-read_verdict types sound image (Some bytes) e h = (
+pub read_verdict : (types : Types) (sound : Bool) (line image : List ℕ) (left : Option (List ℕ))
+    → IfSome left (λ bytes. image ≡ take (most_image_bytes types + 1) bytes) → IsVerdict types image sound line
+    → IsVerdictOn types left sound line
+read_verdict types sound line image None e h = (image, tt, h)
+read_verdict types sound line image (Some bytes) e h = (
   bytes,
   refl,
   elim (cases_lt (most_image_bytes types) (length bytes)) [
-    | inr short ↦ subst (λ l. IsVerdict types l sound) (e ∙ take_all (most_image_bytes types + 1) bytes (omega arith)) h
+    | inr short ↦ subst (λ l. IsVerdict types l sound line) (e ∙ take_all (most_image_bytes types + 1) bytes (omega arith)) h
     | inl long ↦
         let cut : most_image_bytes types < length image = rw e (omega (arith, length-take {A = ℕ})) in
-        subst (λ s. IsVerdict types bytes s) (sym (long_is_refused types image sound cut h)) (long_verdict types bytes long)
+        long_verdict types image bytes sound line cut long h
   ],
 )

@@ -3,6 +3,8 @@ use Rattle.std.specs.Prelude.{◌≡◌, ◌&&◌, ◌*◌, ◌⊎◌, ℕ, Bool
 use Rattle.adf_tree.specs.Tree.{Tree}
 use Rattle.adf_volume.specs.{Fits.FitsOf, Layout.Layout, Start.is_image_len, Types.most_blocks, Walk.FirstFaultOf, declared.fault.Fault.Fault}
 use Rattle.adf_volume.specs.declared.types.Types.{Types, TheVariants.Plain, TheVariants.WithInternational}
+use Rattle.adf_volume.specs.declared.counts.Counts.{Counts}
+use Rattle.adf_texts.specs.Lines.{fault_line, ok_line_of}
 use Rattle.adf_uncached.specs.Uncached.{is_cached}
 use Rattle.adf_cached_files.specs.InPlace.{FirstFaultInPlace, FitsInPlace}
 
@@ -23,14 +25,18 @@ HasFirstFault types image f =
     ((takes_caches types image ≡ false) × FirstFaultOf types image f.block f.cause)
     ⊎ ((takes_caches types image ≡ true) × FirstFaultInPlace image f.block f.cause)
 
--- the image is valid if it is called sound, and else has a first fault
-abbrev pub IsVerdict : Types → List ℕ → (sound : Bool) → Type 0
-IsVerdict types image true = IsValid types image
-IsVerdict types image false = (f : Fault) × HasFirstFault types image f
+-- a line of the numbers of a sound volume
+abbrev pub IsOkLine : List ℕ → Type 0
+IsOkLine line = (kind : List ℕ) × (counts : Counts) × (line ≡ ok_line_of kind counts)
+
+-- the image is valid if it is called sound, by a line of some numbers; else the line tells its first fault
+abbrev pub IsVerdict : Types → List ℕ → (sound : Bool) → (line : List ℕ) → Type 0
+IsVerdict types image true line = IsValid types image × IsOkLine line
+IsVerdict types image false line = (f : Fault) × HasFirstFault types image f × (line ≡ fault_line f)
 
 -- the verdict on bytes, on the known ones where some are
-abbrev pub IsVerdictOn : Types → Option (List ℕ) → (sound : Bool) → Type 0
-IsVerdictOn types known sound = (bytes : List ℕ) × IfSome known (λ all. all ≡ bytes) × IsVerdict types bytes sound
+abbrev pub IsVerdictOn : Types → Option (List ℕ) → (sound : Bool) → (line : List ℕ) → Type 0
+IsVerdictOn types known sound line = (bytes : List ℕ) × IfSome known (λ all. all ≡ bytes) × IsVerdict types bytes sound line
 
 -- the most bytes of an image where these types are accepted
 abbrev pub most_image_bytes : Types → ℕ

@@ -1,11 +1,9 @@
 // Verdicts on images of volumes with directory caches.
 
-ghost use Rattle.std.specs.Prelude.{◌≡◌, IfOk, List, true, ℕ};
-ghost use Rattle.adf_uncached.specs.Uncached.{is_cached};
-ghost use Rattle.adf_cached_files.specs.InPlace.{FirstFaultInPlace, FitsInPlace, IsKeptOf};
-ghost use Rattle.adf_tree.specs.Tree.{Tree};
-ghost use Rattle.adf_volume.specs.{Layout.Layout, declared.types.Types.TheVariants.WithInternational};
-ghost use Rattle.adf_verdicts.specs.Verdicts.{IsVerdict, takes_caches};
+ghost use Rattle.std.specs.Prelude.{◌≡◌, IfOk, string_bytes, true};
+ghost use Rattle.adf_cached_files.specs.InPlace.{IsKeptOf};
+ghost use Rattle.adf_volume.specs.declared.types.Types.TheVariants.{WithInternational};
+ghost use Rattle.adf_verdicts.specs.Verdicts.{IsOkLine, IsVerdict, takes_caches};
 
 use crate::verdicts::{Verdict, refused};
 use adf_cached_files::check_in_place;
@@ -35,7 +33,9 @@ fn cached_kind_text(kind: Kind) -> &'static str {
 }
 
 // The line of a sound volume with directory caches.
-fn cached_line(alloc: Global, counts: &Counts) -> Result<String, AllocError> {
+fn cached_line(alloc: Global, counts: &Counts) -> Result<String, AllocError>
+    ensures { IfOk result (λ line. IsOkLine (string_bytes line)) }
+{
     let mut line = String::new(alloc);
     push_counts_of(&mut line, cached_kind_text(counts.kind), counts)?;
     Ok(line)
@@ -47,7 +47,8 @@ fn cached_acceptance(
     uncached: &Uncached,
     volume: &Checked<'_>,
 ) -> Result<Verdict, AllocError>
-    ensures { IfOk result (λ v. v.sound ≡ true) }
+    ensures sound { IfOk result (λ v. v.sound ≡ true) }
+    ensures line { IfOk result (λ v. IsOkLine (string_bytes v.line)) }
 {
     let line = cached_line(alloc, &counts_with_caches(uncached, volume))?;
     Ok(Verdict { sound: true, line })
@@ -61,7 +62,7 @@ fn verdict_on_uncached(
 ) -> Result<Verdict, AllocError>
     requires kept { IsKeptOf image.now uncached.now }
     requires takes { takes_caches WithInternational image.now ≡ true }
-    ensures { IfOk result (λ v. IsVerdict WithInternational image.now v.sound) }
+    ensures { IfOk result (λ v. IsVerdict WithInternational image.now v.sound (string_bytes v.line)) }
 {
     match check_in_place(alloc, image, uncached) {
         Ok(volume) => cached_acceptance(alloc, uncached, &volume),
@@ -73,7 +74,7 @@ fn verdict_on_uncached(
 /// image.
 pub fn verdict_on_cached(alloc: Global, image: &[u8]) -> Result<Verdict, AllocError>
     requires { takes_caches WithInternational image.now ≡ true }
-    ensures { IfOk result (λ v. IsVerdict WithInternational image.now v.sound) }
+    ensures { IfOk result (λ v. IsVerdict WithInternational image.now v.sound (string_bytes v.line)) }
 {
     match without_caches(alloc, image) {
         Ok(uncached) => verdict_on_uncached(alloc, image, &uncached),

@@ -1,9 +1,10 @@
 // Verdicts on images.
 
-ghost use Rattle.std.specs.Prelude.{◌≡◌, ◌≢◌, ◌+◌, false, IfOk, true};
+ghost use Rattle.std.specs.Prelude.{◌≡◌, ◌≢◌, ◌+◌, false, IfOk, string_bytes, true};
 ghost use Rattle.adf_blocks.specs.declared.cause.Cause.TheVariants.{NoMemory};
 ghost use Rattle.adf_runs.specs.Streams.{TakesAtMost, is_device};
-ghost use Rattle.adf_verdicts.specs.Verdicts.{IsVerdict, IsVerdictOn, most_image_bytes};
+ghost use Rattle.adf_verdicts.specs.Verdicts.{IsOkLine, IsVerdict, IsVerdictOn, most_image_bytes};
+ghost use Rattle.adf_texts.specs.Lines.{fault_line};
 
 use crate::cached::{takes_caches, verdict_on_cached};
 use adf_base::BLOCK_LEN;
@@ -25,7 +26,8 @@ pub struct Verdict {
 
 // The verdict on an accepted image.
 fn accepted(alloc: Global, volume: &Checked<'_>) -> Result<Verdict, AllocError>
-    ensures { IfOk result (λ v. v.sound ≡ true) }
+    ensures sound { IfOk result (λ v. v.sound ≡ true) }
+    ensures line { IfOk result (λ v. IsOkLine (string_bytes v.line)) }
 {
     let mut line = String::new(alloc);
     push_counts_by(&mut line, volume.letters(), &volume.counts())?;
@@ -36,6 +38,7 @@ fn accepted(alloc: Global, volume: &Checked<'_>) -> Result<Verdict, AllocError>
 pub fn refused(alloc: Global, fault: Fault) -> Result<Verdict, AllocError>
     ensures refused { IfOk result (λ v. v.sound ≡ false) }
     ensures told { IfOk result (λ _. fault.cause ≢ NoMemory) }
+    ensures line { IfOk result (λ v. string_bytes v.line ≡ fault_line fault) }
 {
     if let Cause::NoMemory = fault.cause {
         return Err(AllocError);
@@ -47,7 +50,7 @@ pub fn refused(alloc: Global, fault: Fault) -> Result<Verdict, AllocError>
 /// The verdict on an image of one of these types, and with types 2 and 3 on one with directory caches. `AllocError` if an
 /// allocation failed; it says nothing about the image.
 pub fn verdict_of(alloc: Global, types: Types, image: &[u8]) -> Result<Verdict, AllocError>
-    ensures { IfOk result (λ v. IsVerdict types image.now v.sound) }
+    ensures { IfOk result (λ v. IsVerdict types image.now v.sound (string_bytes v.line)) }
 {
     if takes_caches(types, image) {
         return verdict_on_cached(alloc, image);
@@ -74,7 +77,7 @@ pub fn verdict_of_input<R: Source>(
     buffer: &mut Vec<u8>,
 ) -> Result<Verdict, StreamFault>
     requires { R.has_failed input.old ≡ false }
-    ensures verdict { IfOk result (λ v. IsVerdictOn types (R.left input.old) v.sound) }
+    ensures verdict { IfOk result (λ v. IsVerdictOn types (R.left input.old) v.sound (string_bytes v.line)) }
     ensures failed { R.has_failed input.new ≡ is_device result }
     ensures reliable { R.may_fail input.old ≡ false → R.has_failed input.new ≡ false }
     ensures at_most { TakesAtMost (most_image_bytes types + 1)
