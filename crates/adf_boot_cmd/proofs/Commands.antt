@@ -3,7 +3,7 @@ use Rattle.std.proofs.Common.{◌≡◌, ◌∙◌, ℕ, List, Option, Some, Non
 use Rattle.adf_boot_cmd.specs.{CommandLine.AreRefusedByBoot, CommandLine.AsksBoot, CommandLine.BootRequestValue, Answers.boot_command}
 use Rattle.adf_runs.specs.Commands.{IsConsistent, IsUnanswered}
 
-not_refused : (words : List (List ℕ)) (r : BootRequestValue) → AsksBoot words r → ¬ AreRefusedByBoot words
+pub not_refused : (words : List (List ℕ)) (r : BootRequestValue) → AsksBoot words r → ¬ AreRefusedByBoot words
 not_refused words r asks (inl fault) = fault asks.0
 not_refused words r asks (inr none) = let clash : Some r ≡ None = sym asks.1 ∙ none in absurd cc
 

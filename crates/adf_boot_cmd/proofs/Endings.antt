@@ -1,14 +1,12 @@
 -- How runs end in which a work is done, over an input or a file.
 -- Letters: c a command, r what is asked, w the outcome of its work; n the status.
-use Rattle.std.proofs.Common.{◌≡◌, ◌≢◌, ◌∙◌, ℕ, List, Option, None, Some, IfSome, ap, subst, take, sym, arith}
+use Rattle.std.proofs.Common.{◌≡◌, ◌∙◌, ℕ, List, Option, None, Some, IfSome, take, sym, arith}
 use Rattle.std.proofs.lemmas.Grind.{common_steps}
 use Rattle.adf_words.specs.CommandLine.{ExplainsArgs}
 use Rattle.adf_boot_cmd.specs.CommandLine.{AreRefusedByBoot}
 use Rattle.adf_words.specs.declared.command_line.ArgsError.{ArgsError, TheVariants.Usage, TheVariants.NoMemory as ArgsNoMemory}
-use Rattle.adf_runs.specs.Commands.{Command, IsUnanswered, Reply, RunEnds, on_errors}
-use Rattle.adf_runs.specs.Outcomes.{DoesOn, DoesSilently, outcome_text, status_of}
-use Rattle.adf_runs.specs.declared.outcome.Outcome.TheVariants.{Done, FaultWritten, Refused, LeftOut, NoSuchPath, NotAFile, Damaged, ReadFault, WriteFault}
-use Rattle.adf_runs.specs.declared.outcome.Outcome.TheVariants.{NoMemory as NoMemoryLeft}
+use Rattle.adf_runs.specs.Commands.{Command, IsUnanswered, RunEnds}
+use Rattle.adf_runs.specs.Outcomes.{DoesOn, outcome_text, status_of}
 use Rattle.adf_runs.specs.{Streams.AreFirst, Streams.IsTold, Streams.Seen, WorkFaults.IsNoWork, WorkFaults.args_refused, declared.outcome.Outcome.Outcome}
 use Rattle.adf_file_runs.specs.FileRuns.{KnownFiles, RunEndsOnFiles}
 use Rattle.adf_boot_blocks.specs.declared.boot.TheConstants.{BOOT_LEN}
@@ -39,20 +37,3 @@ pub file_front : (known left : Option (List ℕ)) (bytes : List ℕ) → IfSome 
     → IfSome known (λ all. bytes ≡ take BOOT_LEN all)
 file_front None left bytes same first = tt
 file_front (Some all) left bytes same first = rw same at first
-
--- what says one reply silently says another that it is
-pub silently_same : {a b : Reply} {w : Outcome} → a ≡ b → DoesSilently (λ r. r ≡ b) w → DoesSilently (λ r. r ≡ a) w
-silently_same {w = w} e h = subst (λ (x : Reply). DoesSilently (λ r. r ≡ x) w) (sym e) h
-
--- a refusal ends at another status than 0
-pub refused_status : (text : List ℕ) (w : Outcome) → DoesSilently (λ r. r ≡ on_errors 1 text) w → status_of w ≢ 0
-refused_status text Done h e = let clash : 0 ≡ 1 = ap (λ (r : Reply). r.status) (h.ends None).1 in omega (arith, clash)
-refused_status text FaultWritten h e = omega (arith, e)
-refused_status text (Refused line) h e = omega (arith, e)
-refused_status text (LeftOut lines) h e = omega (arith, e)
-refused_status text NoSuchPath h e = omega (arith, e)
-refused_status text NotAFile h e = omega (arith, e)
-refused_status text Damaged h e = omega (arith, e)
-refused_status text ReadFault h e = omega (arith, e)
-refused_status text WriteFault h e = omega (arith, e)
-refused_status text NoMemoryLeft h e = omega (arith, e)

@@ -1,5 +1,5 @@
 -- Images that are written have the tree of the image that they are made of.
-use Rattle.std.proofs.Common.{◌≡◌, ◌≢◌, ℕ, Bool, List, ◌++◌, ◌+◌, ◌-◌, ◌≤◌, Option, None, Some, sym, ◌∙◌, refl, arith, drop, take, length, replicate}
+use Rattle.std.proofs.Common.{◌≡◌, ◌≢◌, ℕ, List, ◌++◌, ◌+◌, ◌-◌, ◌≤◌, Option, None, Some, sym, ◌∙◌, refl, arith, drop, take, length, replicate}
 use Rattle.std.proofs.Common.{slice_range, subst, length-append, length-drop, length-take}
 use Rattle.std.proofs.lemmas.List.{drop_at, length-take-le, take-append-le, take-take}
 use Rattle.adf_base.specs.Words.{with_bytes, with_word}
@@ -11,8 +11,8 @@ use Rattle.adf_boot_blocks.specs.Writing.{cleared, copied, installed}
 use Rattle.adf_boot_blocks.specs.declared.boot.TheConstants.{BOOT_LEN, CODE, ROOT}
 use Rattle.adf_boot_blocks.proofs.{OtherBoots.other_fits, Writes.other_bytes, Writes.other_next, Writes.other_sum, Writes.other_word, Writes.same_boot}
 use Rattle.adf_runs.specs.Commands.{Reply}
-use Rattle.adf_boot_cmd.proofs.Replies.{is_written, refused, taken}
-use Rattle.adf_boot_cmd.specs.Answers.{Order, changed_boot, clear, copy, install, order_refusal, reply_of, tell, written}
+use Rattle.adf_boot_cmd.proofs.Replies.{taken}
+use Rattle.adf_boot_cmd.specs.Answers.{BootAnswer, Order, Writes, changed_boot, clear, copy, install, order_refusal, tell}
 
 length_copied : (boot : List ℕ) → length (slice_range boot 4 BOOT_LEN) ≤ BOOT_LEN - 4
 length_copied boot = omega (arith, length-take {A = ℕ})
@@ -38,7 +38,7 @@ other_installed front root code long room =
 
 -- the boot blocks that an order leaves, and what is behind them
 other_changed : (order : Order) (image : List ℕ) → BOOT_LEN ≤ length image → IsOtherBoot (take BOOT_LEN image) (changed_boot order image)
-other_changed (tell json) image long = same_boot (take BOOT_LEN image)
+other_changed tell image long = same_boot (take BOOT_LEN image)
 other_changed install image long =
     other_installed (take BOOT_LEN image) (middle (blocks image)) STANDARD_CODE (omega (arith, length-take-le BOOT_LEN image long)) (omega arith)
 other_changed clear image long = other_cleared (take BOOT_LEN image) (omega (arith, length-take-le BOOT_LEN image long))
@@ -54,18 +54,18 @@ other_image image boot long o =
     }
 
 -- what is written at status 0
-written_fits : (order : Order) (image : List ℕ) (t : Tree) (l : Layout) (r : Option BootRefusal) → order_refusal order image ≡ r
-    → (written order image).status ≡ 0 → Fits image t l → Fits (written order image).output t l
-written_fits order image t l (Some refusal) e s fit = let no : 1 ≡ 0 = rw (refused order image refusal e) at s in absurd (omega (arith, no))
-written_fits order image t l None e s fit =
+written_fits : (order : Order) (image : List ℕ) (reply : Reply) (t : Tree) (l : Layout) (r : Option BootRefusal) → order_refusal order image ≡ r
+    → Writes r order image reply → reply.status ≡ 0 → Fits image t l → Fits reply.output t l
+written_fits order image reply t l (Some refusal) e h s fit = absurd (omega (arith, h.0, s))
+written_fits order image reply t l None e h s fit =
     let long : BOOT_LEN ≤ length image = omega (arith, (taken order image e).taken.least) in
-    subst (λ (r : Reply). Fits r.output t l) (sym (is_written order image e))
+    subst (λ (r : Reply). Fits r.output t l) (sym h)
     (other_fits image (changed_boot order image ++ drop BOOT_LEN image)
     (other_image image (changed_boot order image) long (other_changed order image long)) t l fit)
 
-pub trees_stay : (order : Order) (image : List ℕ) (t : Tree) (l : Layout) → ((json : Bool) → order ≢ tell json) → (reply_of order image).status ≡ 0
-    → Fits image t l → Fits (reply_of order image).output t l
-trees_stay (tell json) image t l writes s fit = absurd (writes json refl)
-trees_stay install image t l writes s fit = written_fits install image t l (order_refusal install image) refl s fit
-trees_stay clear image t l writes s fit = written_fits clear image t l (order_refusal clear image) refl s fit
-trees_stay (copy boot) image t l writes s fit = written_fits (copy boot) image t l (order_refusal (copy boot) image) refl s fit
+pub trees_stay : (order : Order) (image : List ℕ) (reply : Reply) (t : Tree) (l : Layout) → order ≢ tell → BootAnswer order image reply
+    → reply.status ≡ 0 → Fits image t l → Fits reply.output t l
+trees_stay tell image reply t l writes h s fit = absurd (writes refl)
+trees_stay install image reply t l writes h s fit = written_fits install image reply t l (order_refusal install image) refl h s fit
+trees_stay clear image reply t l writes h s fit = written_fits clear image reply t l (order_refusal clear image) refl h s fit
+trees_stay (copy boot) image reply t l writes h s fit = written_fits (copy boot) image reply t l (order_refusal (copy boot) image) refl h s fit

@@ -1,5 +1,5 @@
 -- The command line of `adf-boot`, as clap reads it, and what its matches ask for.
-use Rattle.std.specs.Prelude.{◌≡◌, ◌⊎◌, ◌||◌, Bool, List, [], Option, Some, None, codes, is_some, option_map, if◌then◌else◌}
+use Rattle.std.specs.Prelude.{◌≡◌, ◌⊎◌, ◌||◌, List, [], Option, Some, None, codes, is_some, option_map, if◌then◌else◌}
 use Rattle.std.specs.Str.{bytes_eq}
 use Rattle.clap.specs.Words.{App, Row, Text, fault_of, first_of, matches_of, new_app, subcommand_of, with_rule, with_subcommand}
 use Rattle.adf_words.specs.{Arguments.bare_app, Arguments.flag_rule, Arguments.has_flag, Arguments.required_rule, FileArguments.file_met, FileArguments.file_rule, FileArguments.with_file}
@@ -17,9 +17,9 @@ told_app = with_rule (with_rule (bare_app (codes "adf-boot")) (flag_rule (codes 
 abbrev pub boot_app : App
 boot_app = with_subcommand (with_file (with_file told_app (codes "install")) (codes "clear")) copy_app.top
 
--- what a command line asks for; `tell` as an object or not; `copy` names the boot file
+-- what a command line asks for; `copy` names the boot file
 pub data BootRequestValue : Type 0 where
-  tell : (json : Bool) → BootRequestValue
+  tell : BootRequestValue
   install : BootRequestValue
   clear : BootRequestValue
   copy : Text → BootRequestValue
@@ -34,7 +34,7 @@ boot_request_named name rows =
 
 -- what the matches ask for, by their own rows: with no subcommand what is there; no subcommand goes with the flag, or with a file before it
 abbrev pub boot_met : List Row → Option (Text × List Row) → Option BootRequestValue
-boot_met rows None = Some (tell (has_flag (codes "json") rows))
+boot_met rows None = Some tell
 boot_met rows (Some p) = if has_flag (codes "json") rows || is_some (first_of (codes "file") rows) then None else boot_request_named p.0 p.1
 
 -- the request of the arguments, where clap takes them
@@ -49,17 +49,13 @@ boot_file args = file_met (matches_of boot_app args) (subcommand_of boot_app arg
 abbrev pub AsksBoot : List Text → BootRequestValue → Type 0
 AsksBoot args r = (fault_of boot_app args ≡ []) × (boot_request_of args ≡ Some r)
 
--- the arguments ask for this, of a file or of standard input
-abbrev pub AsksBootOf : List Text → BootRequestValue → Option Text → Type 0
-AsksBootOf args r file = AsksBoot args r × (boot_file args ≡ file)
-
 -- clap refuses the arguments, or its matches lack the boot file or have the flag or a file before a subcommand
 abbrev pub AreRefusedByBoot : List Text → Type 0
 AreRefusedByBoot args = (¬ (fault_of boot_app args ≡ [])) ⊎ (boot_request_of args ≡ None)
 
 -- the value of a request as the code has it
 abbrev pub boot_request_value : BootRequest → BootRequestValue
-boot_request_value (Tell json) = tell json
+boot_request_value (Tell json) = tell
 boot_request_value Install = install
 boot_request_value Clear = clear
 boot_request_value (Copy name) = copy name.now

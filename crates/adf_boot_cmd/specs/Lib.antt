@@ -1,6 +1,5 @@
--- The promise: the command line, the line of boot blocks, what the command answers, and what becomes of files.
+-- The promise: the command line, what the command answers, and what becomes of files.
 pub mod CommandLine
-pub mod Lines
 pub mod Answers
 pub mod Changing
 -- The work of the command, as the code has it.

@@ -1,13 +1,12 @@
 -- What is done with the boot blocks of an image.
-use Rattle.std.specs.Prelude.{◌≡◌, ◌≤◌, ℕ, List, length}
+use Rattle.std.specs.Prelude.{◌≤◌, ℕ, List, length}
 use Rattle.adf_boot_blocks.specs.declared.boot.TheConstants.{BOOT_LEN}
 use Rattle.adf_boot_cmd.specs.Answers.{Order, clear, copy, install, tell}
-use Rattle.adf_boot_cmd.specs.declared.boot_file.BootFault.{BootFault, TheVariants.Unopened, TheVariants.Unread, TheVariants.NoMemory}
 use Rattle.adf_boot_cmd.specs.declared.work.Work.{Work, TheVariants.Tell, TheVariants.Install, TheVariants.Clear, TheVariants.Copy}
 
 -- the order that is done
 abbrev pub order_of : Work → Order
-order_of (Tell json) = tell json
+order_of (Tell json) = tell
 order_of Install = install
 order_of Clear = clear
 order_of (Copy boot) = copy boot.items
@@ -16,9 +15,3 @@ order_of (Copy boot) = copy boot.items
 abbrev pub HasBoot : Order → Type 0
 HasBoot (copy boot) = BOOT_LEN ≤ length boot
 HasBoot _ = Unit {0}
-
--- the fault is one of the boot file of this name
-abbrev pub IsBootFaultOf : List ℕ → BootFault → Type 0
-IsBootFaultOf name (Unopened named why) = named.now ≡ name
-IsBootFaultOf name Unread = Unit {0}
-IsBootFaultOf name NoMemory = Unit {0}

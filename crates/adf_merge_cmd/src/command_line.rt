@@ -1,10 +1,9 @@
 // The arguments of `adf-merge`, by clap.
 
-ghost use Rattle.std.specs.Prelude.{◌≡◌, IfErr, IfOk, [], ◌∷◌, codes, false, option_map, unwrap_or};
+ghost use Rattle.std.specs.Prelude.{◌≡◌, IfErr, IfOk, [], false, option_map, unwrap_or};
 ghost use Rattle.clap.specs.Words.{all_of, app_of, fault_of, found_of, matches_of, rows_of, rule_of};
 ghost use Rattle.adf_words.specs.{CommandLine.texts_of, declared.command_line.ArgsError.TheVariants.Usage};
-ghost use Rattle.adf_merge_cmd.specs.CommandLine.{AreRefusedByMerge, AsksMerge, ExplainsMergeArgs, are_enough, map_rule};
-ghost use Rattle.adf_merge_cmd.specs.CommandLine.{merge_app, order_met, readings_rule};
+ghost use Rattle.adf_merge_cmd.specs.CommandLine.{AsksMerge, ExplainsMergeArgs, are_enough, map_rule, merge_app, readings_rule};
 
 use adf_file_runs::About;
 use adf_readings::MOST_READINGS;
@@ -127,23 +126,3 @@ pub fn parse_merge<'a>(alloc: Global, args: &'a [&str]) -> Result<MergeOrder<'a>
         Err(ArgsError::Usage)
     }
 }
-
-/// The arguments of the documentation are taken with the readings that they name, and other arguments are refused.
-#[tactic(auto, unfolding(clap::proofs::OnLiterals::clap_on_literals))]
-pub fn merge_words_as_documented()
-    ensures two { AsksMerge (codes "adf-merge" ∷ codes "a.adf" ∷ codes "b.adf" ∷ [])
-        (record { readings = codes "a.adf" ∷ codes "b.adf" ∷ []; maps = [] }) }
-    ensures three { AsksMerge (codes "adf-merge" ∷ codes "a" ∷ codes "b" ∷ codes "c" ∷ [])
-        (record { readings = codes "a" ∷ codes "b" ∷ codes "c" ∷ []; maps = [] }) }
-    ensures any_files { AsksMerge (codes "adf-merge" ∷ codes "--" ∷ codes "-a" ∷ codes "-b" ∷ [])
-        (record { readings = codes "-a" ∷ codes "-b" ∷ []; maps = [] }) }
-    ensures maps { AsksMerge
-        (codes "adf-merge" ∷ codes "--map" ∷ codes "-" ∷ codes "--map" ∷ codes "m" ∷ codes "a" ∷ codes "b" ∷ [])
-        (record { readings = codes "a" ∷ codes "b" ∷ []; maps = codes "-" ∷ codes "m" ∷ [] }) }
-    ensures none { AreRefusedByMerge (codes "adf-merge" ∷ []) }
-    ensures one { AreRefusedByMerge (codes "adf-merge" ∷ codes "a.adf" ∷ []) }
-    ensures more_maps { AreRefusedByMerge
-        (codes "adf-merge" ∷ codes "--map=a" ∷ codes "--map=b" ∷ codes "--map=c" ∷ codes "a" ∷ codes "b" ∷ []) }
-    ensures unknown { AreRefusedByMerge (codes "adf-merge" ∷ codes "-x" ∷ codes "a" ∷ codes "b" ∷ []) }
-    ensures help { AreRefusedByMerge (codes "adf-merge" ∷ codes "--help" ∷ []) }
-{}

@@ -10,5 +10,5 @@ mod read_file;
 mod refusal;
 mod runner;
 
-pub use crate::command_line::{merge_words_as_documented, parse_merge as parse};
+pub use crate::command_line::parse_merge as parse;
 pub use crate::runner::{Merging, run};

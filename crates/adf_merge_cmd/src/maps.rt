@@ -1,11 +1,9 @@
 // The maps of readings.
 
-ghost use Rattle.std.specs.Prelude.{◌≡◌, ◌++◌, Err, IfErr, IfOk, List, None, Ok, Option, Result, length, option_map};
-ghost use Rattle.std.specs.Prelude.{slice_index_or, ℕ};
+ghost use Rattle.std.specs.Prelude.{◌≡◌, IfErr, IfOk, List, None, OnErr, Option, Some, length, option_map, slice_index_or};
 ghost use Rattle.adf_maps.specs.Maps.{MapValue};
-ghost use Rattle.adf_names.specs.Escapes.{escaped};
 ghost use Rattle.adf_words.specs.CommandLine.{texts_of};
-ghost use Rattle.adf_merge_cmd.specs.Answers.{IsMapStop, map_refusal_text, mapped, named_map, named_maps, with_map};
+ghost use Rattle.adf_merge_cmd.specs.Answers.{IsMapStop, mapped, named_map, named_maps, with_map};
 
 use crate::read_file::ReadFile;
 use adf_maps::{Map, MapFault, read_map};
@@ -30,9 +28,7 @@ pub enum MapStop {
 
 impl MapRefusal {
     // What is said behind the name.
-    fn text(self) -> &'static str
-        ensures { result.now ≡ map_refusal_text self }
-    {
+    fn text(self) -> &'static str {
         match self {
             MapRefusal::NoMap => ": not a map of ddrescue\n",
             MapRefusal::OtherDisk => ": the map of a disk of another size\n",
@@ -47,7 +43,8 @@ fn named_map(
     name: &str,
     text: &[u8],
 ) -> Result<Result<Option<Map>, MapRefusal>, AllocError>
-    ensures { IfOk result (λ map. map ≡ named_map size name.now text.now) }
+    ensures taken { IfOk result (λ map. IfOk map (λ m. named_map size name.now text.now ≡ Some m)) }
+    ensures refused { IfOk result (λ map. OnErr map (named_map size name.now text.now ≡ None)) }
 {
     if name == "-" {
         return Ok(Ok(None));
@@ -61,9 +58,7 @@ fn named_map(
 }
 
 // The line of a map that is refused.
-fn refusal_line(alloc: Global, name: &str, why: MapRefusal) -> Result<Vec<u8>, AllocError>
-    ensures { IfOk result (λ line. line.items ≡ escaped name.now ++ map_refusal_text why) }
-{
+fn refusal_line(alloc: Global, name: &str, why: MapRefusal) -> Result<Vec<u8>, AllocError> {
     let mut line = Vec::new(alloc);
     push_escaped(&mut line, name.as_bytes())?;
     line.extend_from_slice(why.text().as_bytes())?;
@@ -72,7 +67,7 @@ fn refusal_line(alloc: Global, name: &str, why: MapRefusal) -> Result<Vec<u8>, A
 
 // Why the map of a name is not taken.
 fn refused(alloc: Global, name: &str, why: MapRefusal) -> MapStop
-    ensures { IsMapStop (Err (escaped name.now ++ map_refusal_text why)) result }
+    ensures { IsMapStop None result }
 {
     match refusal_line(alloc, name, why) {
         Ok(line) => MapStop::Refused(line),
@@ -82,9 +77,9 @@ fn refused(alloc: Global, name: &str, why: MapRefusal) -> MapStop
 
 // The map of a name and a text, if there is one; or why it is not taken.
 fn taken_map(alloc: Global, size: usize, name: &str, text: &[u8]) -> Result<Option<Map>, MapStop>
-    ensures ok { IfOk result (λ map. named_map size name.now text.now ≡ Ok map) }
-    ensures stop { IfErr result (λ stop. (rest : Result (List (Option MapValue)) (List ℕ))
-        → IsMapStop (with_map name.now (named_map size name.now text.now) rest) stop) }
+    ensures ok { IfOk result (λ map. named_map size name.now text.now ≡ Some map) }
+    ensures stop { IfErr result (λ stop. (rest : Option (List (Option MapValue)))
+        → IsMapStop (with_map (named_map size name.now text.now) rest) stop) }
 {
     match named_map(alloc, size, name, text) {
         Ok(Ok(map)) => Ok(map),
@@ -101,7 +96,7 @@ pub fn named_maps(
     texts: &[ReadFile],
 ) -> Result<Vec<Option<Map>>, MapStop>
     requires { length names.now ≡ length texts.now }
-    ensures ok { IfOk result (λ maps. named_maps size (texts_of names.now) texts.now ≡ Ok maps.items) }
+    ensures ok { IfOk result (λ maps. named_maps size (texts_of names.now) texts.now ≡ Some maps.items) }
     ensures stop { IfErr result (IsMapStop (named_maps size (texts_of names.now) texts.now)) }
 {
     let mut maps = Vec::new(alloc);

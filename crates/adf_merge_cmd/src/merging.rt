@@ -1,9 +1,9 @@
 // What is answered to readings.
 
-ghost use Rattle.std.specs.Prelude.{◌≡◌, ◌≤◌, ◌<◌, ◌*◌, All, [], false, length, slice_index_or};
+ghost use Rattle.std.specs.Prelude.{◌≡◌, ◌≤◌, ◌<◌, ◌*◌, All, false, length};
 ghost use Rattle.adf_readings.specs.{Merge.HaveBlocks, declared.choice.TheConstants.MOST_READINGS};
 ghost use Rattle.adf_runs.specs.{Outcomes.Does, Streams.seen};
-ghost use Rattle.adf_merge_cmd.specs.Answers.{IsLikeFirst, mapped, mapped_reply, merge_reply, merged_reply, named_maps};
+ghost use Rattle.adf_merge_cmd.specs.Answers.{IsLikeFirst, IsMergeReply, MappedReply, MergeReply, first_of, mapped, named_maps, told_reply};
 
 use crate::command_line::MergeOrder;
 use crate::doubt_lines::doubt_lines;
@@ -16,6 +16,19 @@ use adf_readings::{MappedReading, merge};
 use adf_runs::{Outcome, Sink, write_all};
 use std::alloc::Global;
 
+// Writes an image, and says what is told of its blocks.
+fn write_image<W: Sink>(image: &[u8], lines: Vec<u8>, sound: bool, output: &mut W) -> Outcome
+    requires works { W.has_failed output.old ≡ false }
+    ensures { Does (λ reply. reply ≡ told_reply sound image.now lines.items) result
+        (seen W.held W.has_failed output.old output.new) }
+{
+    match write_all(output, image) {
+        Ok(()) if sound => Outcome::Done,
+        Ok(()) => Outcome::LeftOut(lines),
+        Err(_) => Outcome::WriteFault,
+    }
+}
+
 // Writes what readings of so many blocks are merged into.
 fn write_merged<W: Sink>(
     alloc: Global,
@@ -27,19 +40,14 @@ fn write_merged<W: Sink>(
     requires whole { HaveBlocks blocks readings.now }
     requires some { 0 < length readings.now }
     requires few { length readings.now ≤ MOST_READINGS }
-    ensures { Does (λ reply. reply ≡ merged_reply blocks readings.now) result
-        (seen W.held W.has_failed output.old output.new) }
+    ensures { Does (IsMergeReply blocks readings.now) result (seen W.held W.has_failed output.old output.new) }
 {
-    let Ok(merged) = merge(alloc, readings, blocks) else {
-        return Outcome::NoMemory;
-    };
-    let Ok(lines) = doubt_lines(alloc, &merged.doubts) else {
-        return Outcome::NoMemory;
-    };
-    match write_all(output, &merged.image) {
-        Ok(()) if merged.doubts.is_empty() => Outcome::Done,
-        Ok(()) => Outcome::LeftOut(lines),
-        Err(_) => Outcome::WriteFault,
+    match merge(alloc, readings, blocks) {
+        Ok(merged) => match doubt_lines(alloc, &merged.doubts) {
+            Ok(lines) => write_image(&merged.image, lines, merged.doubts.is_empty(), output),
+            Err(_) => Outcome::NoMemory,
+        },
+        Err(_) => Outcome::NoMemory,
     }
 }
 
@@ -55,7 +63,7 @@ fn write_mapped<W: Sink>(
     requires whole { All (λ r. length r ≡ blocks * 512) readings.now }
     requires some { 0 < length readings.now }
     requires few { length readings.now ≤ MOST_READINGS }
-    ensures { Does (λ reply. reply ≡ merged_reply blocks (mapped readings.now maps.now)) result
+    ensures { Does (IsMergeReply blocks (mapped readings.now maps.now)) result
         (seen W.held W.has_failed output.old output.new) }
 {
     match mapped(alloc, readings, maps) {
@@ -73,13 +81,12 @@ fn answer_sized<W: Sink>(
     output: &mut W,
 ) -> Outcome
     requires works { W.has_failed output.old ≡ false }
-    requires sized { All (IsLikeFirst (slice_index_or readings.now 0 [])) readings.now }
+    requires sized { All (IsLikeFirst (first_of readings.now)) readings.now }
     requires maps { length order.now.maps ≡ length texts.now }
     requires some { 0 < length readings.now }
     requires few { length readings.now ≤ MOST_READINGS }
-    ensures { Does (λ reply. reply ≡ mapped_reply (named_maps (length (slice_index_or readings.now 0 []))
-        order.now.maps texts.now) (length (slice_index_or readings.now 0 [])) readings.now) result
-        (seen W.held W.has_failed output.old output.new) }
+    ensures { Does (MappedReply (named_maps (length (first_of readings.now)) order.now.maps texts.now)
+        (length (first_of readings.now)) readings.now) result (seen W.held W.has_failed output.old output.new) }
 {
     let size = readings[0].bytes().len();
     match named_maps(alloc, size, &order.maps, texts) {
@@ -102,7 +109,7 @@ pub fn answer<W: Sink>(
     requires maps { length order.now.maps ≡ length texts.now }
     requires some { 0 < length readings.now }
     requires few { length readings.now ≤ MOST_READINGS }
-    ensures { Does (λ reply. reply ≡ merge_reply order.now readings.now texts.now) result
+    ensures { Does (MergeReply order.now readings.now texts.now) result
         (seen W.held W.has_failed output.old output.new) }
 {
     match first_refused(alloc, readings[0].bytes(), &order.readings, readings) {

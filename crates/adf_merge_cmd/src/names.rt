@@ -1,10 +1,9 @@
 // The files of names.
 
-ghost use Rattle.std.specs.Prelude.{◌≡◌, ◌⊎◌, ◌+◌, ◌++◌, Contains, IfErr, IfOk, IfSome, List, codes, false, take, ℕ};
+ghost use Rattle.std.specs.Prelude.{◌≡◌, ◌+◌, IfOk, IfSome, false, take};
 ghost use Rattle.adf_boot_blocks.specs.declared.refusal.TheConstants.{MOST_BYTES};
-ghost use Rattle.adf_runs.specs.Streams.{seen};
 ghost use Rattle.adf_words.specs.CommandLine.{texts_of};
-ghost use Rattle.adf_merge_cmd.specs.Answers.{AreReadings, IsUnreadAmong, IsUnreadOf, TellsUnread, map_bytes, unread_line};
+ghost use Rattle.adf_merge_cmd.specs.Answers.{AreReadings, map_bytes};
 
 use crate::read_file::ReadFile;
 use adf_boot_blocks::MOST_BYTES;
@@ -26,9 +25,8 @@ pub enum Unread<'a> {
 
 // The bytes of the file of a name.
 fn read_one<'a, F: Files>(alloc: Global, files: &F, name: &'a str) -> Result<Vec<u8>, Unread<'a>>
-    ensures ok { IfOk result (λ bytes.
+    ensures { IfOk result (λ bytes.
         IfSome (F.bytes_of files.now name.entry.now) (λ all. bytes.items ≡ take (MOST_BYTES + 1) all)) }
-    ensures fault { IfErr result (IsUnreadOf name.entry.now) }
 {
     match files.open(name.as_bytes()) {
         Ok(mut source) => match read_all(alloc, &mut source, MOST_BYTES) {
@@ -46,8 +44,7 @@ pub fn read_names<'a, F: Files>(
     files: &F,
     names: &[&'a str],
 ) -> Result<Vec<ReadFile>, Unread<'a>>
-    ensures ok { IfOk result (λ readings. AreReadings (F.bytes_of files.now) (texts_of names.now) readings.items) }
-    ensures fault { IfErr result (IsUnreadAmong (texts_of names.now)) }
+    ensures { IfOk result (λ readings. AreReadings (F.bytes_of files.now) (texts_of names.now) readings.items) }
 {
     let mut readings = Vec::new(alloc);
     for i in 0..names.len() {
@@ -65,9 +62,8 @@ fn read_map_text<'a, F: Files>(
     files: &F,
     name: &'a str,
 ) -> Result<Vec<u8>, Unread<'a>>
-    ensures ok { IfOk result (λ bytes.
+    ensures { IfOk result (λ bytes.
         IfSome (map_bytes (F.bytes_of files.now) name.entry.now) (λ all. bytes.items ≡ take (MOST_BYTES + 1) all)) }
-    ensures fault { IfErr result (IsUnreadOf name.entry.now) }
 {
     if name == "-" {
         Ok(Vec::new(alloc))
@@ -82,8 +78,7 @@ pub fn read_map_texts<'a, F: Files>(
     files: &F,
     names: &[&'a str],
 ) -> Result<Vec<ReadFile>, Unread<'a>>
-    ensures ok { IfOk result (λ texts. AreReadings (map_bytes (F.bytes_of files.now)) (texts_of names.now) texts.items) }
-    ensures fault { IfErr result (IsUnreadAmong (texts_of names.now)) }
+    ensures { IfOk result (λ texts. AreReadings (map_bytes (F.bytes_of files.now)) (texts_of names.now) texts.items) }
 {
     let mut texts = Vec::new(alloc);
     for i in 0..names.len() {
@@ -96,9 +91,7 @@ pub fn read_map_texts<'a, F: Files>(
 }
 
 // The line of a file that failed.
-fn unread_line(alloc: Global, name: &str) -> Result<Vec<u8>, AllocError>
-    ensures { IfOk result (λ line. line.items ≡ unread_line name.now) }
-{
+fn unread_line(alloc: Global, name: &str) -> Result<Vec<u8>, AllocError> {
     let mut line = Vec::new(alloc);
     push_escaped(&mut line, name.as_bytes())?;
     line.extend_from_slice(b": read fault\n")?;
@@ -109,9 +102,7 @@ impl Unread<'_> {
     /// Says on errors why a reading is not had, and returns the status.
     pub fn refuse<E: Sink>(self, alloc: Global, errors: &mut E) -> u8
         requires { E.has_failed errors.old ≡ false }
-        ensures status { result ≡ 3 }
-        ensures said { (names : List (List ℕ)) → IsUnreadAmong names self.entry
-            → TellsUnread names (seen E.held E.has_failed errors.old errors.new) }
+        ensures { result ≡ 3 }
     {
         match self {
             Unread::Unopened(name, why) => refuse_file(alloc, name, why, errors),

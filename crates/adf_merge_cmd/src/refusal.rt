@@ -1,10 +1,8 @@
 // Why readings are not merged.
 
-ghost use Rattle.std.specs.Prelude.{◌≡◌, ◌≤◌, ◌++◌, false, not, length, IfOk, option_map};
+ghost use Rattle.std.specs.Prelude.{◌≡◌, ◌≤◌, All, IfOk, false, is_some, length, not, true};
 ghost use Rattle.adf_boot_blocks.specs.Refusals.{has_image_size};
-ghost use Rattle.adf_words.specs.CommandLine.{texts_of};
-ghost use Rattle.adf_names.specs.Escapes.{escaped};
-ghost use Rattle.adf_merge_cmd.specs.Answers.{differ_in_type, first_refused, reading_refusal, reading_refusal_text};
+ghost use Rattle.adf_merge_cmd.specs.Answers.{differ_in_type, is_alike};
 
 use crate::read_file::ReadFile;
 use adf_boot_blocks::{BootRefusal, begins_with_dos, image_refusal};
@@ -22,9 +20,7 @@ pub enum ReadingRefusal {
 
 impl ReadingRefusal {
     // What is said behind the name.
-    fn text(self) -> &'static str
-        ensures { result.now ≡ reading_refusal_text self }
-    {
+    fn text(self) -> &'static str {
         match self {
             ReadingRefusal::BadSize => ": bad size\n",
             ReadingRefusal::OtherSize => ": another size than the first reading\n",
@@ -52,7 +48,7 @@ fn differ_in_type(first: &[u8], other: &[u8]) -> bool
 
 // Why a reading is not merged with the first one.
 fn reading_refusal(first: &[u8], other: &[u8]) -> Option<ReadingRefusal>
-    ensures { result ≡ reading_refusal first.now other.now }
+    ensures { is_some result ≡ not (is_alike first.now other.now) }
 {
     if has_bad_size(other) {
         Some(ReadingRefusal::BadSize)
@@ -66,9 +62,7 @@ fn reading_refusal(first: &[u8], other: &[u8]) -> Option<ReadingRefusal>
 }
 
 // The line of a reading that is refused.
-fn refusal_line(alloc: Global, name: &str, why: ReadingRefusal) -> Result<Vec<u8>, AllocError>
-    ensures { IfOk result (λ line. line.items ≡ escaped name.now ++ reading_refusal_text why) }
-{
+fn refusal_line(alloc: Global, name: &str, why: ReadingRefusal) -> Result<Vec<u8>, AllocError> {
     let mut line = Vec::new(alloc);
     push_escaped(&mut line, name.as_bytes())?;
     line.extend_from_slice(why.text().as_bytes())?;
@@ -83,8 +77,8 @@ pub fn first_refused(
     readings: &[ReadFile],
 ) -> Result<Option<Vec<u8>>, AllocError>
     requires { length names.now ≡ length readings.now }
-    ensures { IfOk result (λ line. option_map (λ l. l.items) line
-        ≡ first_refused first.now (texts_of names.now) readings.now) }
+    ensures taken { IfOk result (λ line. is_some line ≡ false → All (λ r. is_alike first.now r ≡ true) readings.now) }
+    ensures refused { IfOk result (λ line. is_some line ≡ true → ¬ All (λ r. is_alike first.now r ≡ true) readings.now) }
 {
     for i in 0..readings.len() {
         if let Some(why) = reading_refusal(first, readings[i].bytes()) {

@@ -1,7 +1,6 @@
 // The whole command.
 
 ghost use Rattle.std.specs.Prelude.{◌≡◌, false};
-ghost use Rattle.adf_file_runs.specs.FileRuns.{known_files};
 ghost use Rattle.adf_runs.specs.Streams.{seen};
 ghost use Rattle.adf_words.specs.CommandLine.{texts_of};
 ghost use Rattle.adf_merge_cmd.specs.{Answers.MergeEnds, CommandLine.AreRefusedByMerge};
@@ -29,7 +28,7 @@ pub fn run<F: Files, W: Sink, E: Sink>(
 ) -> u8
     requires writes { W.has_failed output.old ≡ false }
     requires tells { E.has_failed errors.old ≡ false }
-    ensures ends { MergeEnds (texts_of words.now) (known_files F.bytes_of F.may_fail F.may_open files.now) result
+    ensures ends { MergeEnds (texts_of words.now) (F.bytes_of files.now) result
         (seen W.held W.has_failed output.old output.new) (seen E.held E.has_failed errors.old errors.new) }
     ensures untouched { AreRefusedByMerge (texts_of words.now) → output.new ≡ output.old }
 {
@@ -51,7 +50,7 @@ pub fn run<F: Files, W: Sink, E: Sink>(
 pub struct Merging;
 
 impl SystemProgram for Merging {
-    ghost ends = { λ words files input. MergeEnds words files };
+    ghost ends = { λ words files input. MergeEnds words files.bytes_of };
 
     fn about() -> About {
         ABOUT

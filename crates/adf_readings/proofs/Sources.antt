@@ -1,8 +1,10 @@
 -- The readings whose versions of a block count. Letters: ms readings with their maps, b the number of a block; P what holds of images.
-use Rattle.std.proofs.Common.{◌≡◌, ◌≤◌, ◌<◌, ◌+◌, ◌*◌, ◌⊎◌, ◌∙◌, ℕ, suc, zero, Bool, true, false, not, List, [], ◌∷◌, All, Contains, if◌then◌else◌, length, inl, inr, refl, sym, ap, arith}
+use Rattle.std.proofs.Common.{◌≡◌, ◌≤◌, ◌<◌, ◌+◌, ◌*◌, ◌⊎◌, ◌∙◌, ◌++◌, ℕ, suc, zero, Bool, true, false, not, List, [], ◌∷◌, All, Contains, if◌then◌else◌, length, get_or, inl, inr, refl, subst, sym, ap, arith}
+use Rattle.std.proofs.{Common.length-take, lemmas.List.length-drop}
 use Rattle.std.proofs.lemmas.{Bool.cond_both, List.length-map, List.Elements.All-filter, List.Elements.All-map, List.Sums.count_by-le-length, List.Sums.length-filter}
-use Rattle.adf_readings.specs.Merge.{HaveBlocks, doubt_at, block_told}
-use Rattle.adf_readings.specs.declared.doubt.Why.TheVariants.{Unread}
+use Rattle.std.proofs.lemmas.List.Elements.{Contains-get_or}
+use Rattle.adf_base.specs.Words.{block}
+use Rattle.adf_readings.specs.Merge.{HasVersion, HaveBlocks}
 use Rattle.adf_readings.specs.Mapped.{MappedValue, having, images, is_lacked, is_none, lacks, sources}
 
 -- what holds of both lists holds of the one that counts
@@ -53,14 +55,26 @@ source_of ms b r = of_sources ms b (λ rs. Contains rs r → (m : MappedValue) �
     (λ none found. let (m, one, is) = image_of ms r found in (m, one, is, inr none))
     (λ _ found. let (m, one, is) = image_of (having ms b) r found in let (here, has) = having_one ms b m one in (m, here, is, inl has))
 
--- where a reading has a block, and nothing there is left to chance, nothing is told
-pub nothing_told : (ms : List MappedValue) (b : ℕ) → is_lacked ms b ≡ false → doubt_at (sources ms b) b ≡ [] → block_told ms b ≡ []
-nothing_told ms b has settled = ap (λ t. if t then record { block = b; why = Unread } ∷ [] else doubt_at (sources ms b) b) has ∙ settled
-
 -- each image that counts has so many blocks
 pub sources_reach : (n : ℕ) (ms : List MappedValue) (b : ℕ) → HaveBlocks n ms → b < n → All (λ r. b * 512 + 512 ≤ length r) (sources ms b)
 sources_reach n ms b whole lt = sources_whole ms b (λ r. b * 512 + 512 ≤ length r) (λ k d less. let long = whole k d less in omega arith)
 
--- what is told of a block that some reading has
-pub told_some : (ms : List MappedValue) (b : ℕ) → is_lacked ms b ≡ false → block_told ms b ≡ doubt_at (sources ms b) b
-told_some ms b has = ap (λ t. if t then record { block = b; why = Unread } ∷ [] else doubt_at (sources ms b) b) has
+-- the version of an image that counts is that of a reading
+version_of : (ms : List MappedValue) (b : ℕ) (rs : List (List ℕ)) (i : ℕ) (r v : List ℕ) → rs ≡ sources ms b → i < length rs → r ≡ get_or rs i r
+    → v ≡ block r b → HasVersion ms b v
+version_of ms b rs i r v same lt at is =
+    let found = source_of ms b r (subst (λ xs. Contains xs r) same (subst (Contains rs) (sym at) (Contains-get_or rs i r lt))) in
+    record { reading = found.0; one = found.1; version = ap (λ x. block x b) found.2 ∙ sym is; has = found.3 }
+
+block_long : (r : List ℕ) (b : ℕ) → b * 512 + 512 ≤ length r → length (block r b) ≡ 512
+unfolding block
+block_long r b room = omega (arith, length-take {A = ℕ}, length-drop (b * 512) r)
+
+-- a version that is added to others
+pub version_added : (n : ℕ) (ms : List MappedValue) (b : ℕ) (rs : List (List ℕ)) (i : ℕ) (r v old new : List ℕ) → HaveBlocks n ms → b < n
+    → rs ≡ sources ms b → i < length rs → r ≡ get_or rs i r → v ≡ block r b → new ≡ old ++ v
+    → (x : List ℕ) × (new ≡ old ++ x) × (length x ≡ 512) × HasVersion ms b x
+version_added n ms b rs i r v old new whole lt same inside at is added =
+    let all : All (λ r. b * 512 + 512 ≤ length r) rs = subst (All (λ r. b * 512 + 512 ≤ length r)) (sym same) (sources_reach n ms b whole lt) in
+    let room : b * 512 + 512 ≤ length r = subst (λ x. b * 512 + 512 ≤ length x) (sym at) (all i r inside) in
+    (v, added, ap length is ∙ block_long r b room, version_of ms b rs i r v same inside at is)

@@ -1,4 +1,3 @@
--- All of it is the promise: which version of a block is taken, and what is left to chance.
-pub mod Versions
+-- All of it is the promise: which readings count at a block, and what they are merged into.
 pub mod Mapped
 pub mod Merge

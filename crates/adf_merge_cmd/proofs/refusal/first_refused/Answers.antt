@@ -1,41 +1,21 @@
-use Rattle.std.proofs.Common.{rules, ◌≡◌, ◌∙◌, ◌≤◌, ◌<◌, [], ℕ, List, Bor, Some, None, ap, arith, sym, get_or, length}
-use Rattle.std.proofs.lemmas.List.{get_or_default}
-use Rattle.adf_words.specs.CommandLine.{texts_of}
-use Rattle.adf_merge_cmd.specs.Answers.{reading_refusal}
-use Rattle.adf_merge_cmd.proofs.Refused.{all_taken, named, refused_here, taken_here, texts_long}
+use Rattle.std.proofs.Common.{rules, ◌≡◌, ◌∙◌, ◌<◌, ℕ, Bool, List, false, true, not, ap, arith, get_or, inl, inr, length, refl, subst, sym}
+use Rattle.std.proofs.{lemmas.Bool.cases_lt, lemmas.List.get_or_default}
+use Rattle.adf_merge_cmd.specs.Answers.{is_alike}
 use Rattle.adf_merge_cmd.proofs.refusal.first_refused.Goals as goal
 
-pub returns-in-Some : goal.returns-in-Some
-returns-in-Some c =
-    let first : List ℕ = c.args.first.now in
-    let words : List (Bor (List ℕ)) = c.args.names.now in
-    let i : ℕ = c.loop-i.i in
-    let r : List ℕ = c.index-readings-i.result in
-    let none : Bor (List ℕ) = record { ref_ptr = (0, 0); now = [] } in
-    let word : Bor (List ℕ) = get_or words i none in
-    let within : i < length c.args.readings.now = search rules in
-    let less : i < length words = omega (arith, within, c.requires) in
-    let why : reading_refusal first r ≡ Some c.in-Some.why = ap (reading_refusal first) (sym c.bytes.ensures) ∙ sym c.in-Some.ensures in
-    ap Some c.in_ok-refusal_line.ensures
-    ∙ (sym (refused_here first (texts_of words) c.args.readings.now i word.now r c.in-Some.why (omega (arith, less, texts_long words)) within
-    (named words i word less (get_or_default words i none word less)) c.index-readings-i.is why) ∙ c.loop-i.invariant)
+not_refused : (b : Bool) → false ≡ not b → b ≡ true
+not_refused true e = refl
+not_refused false e = cc
 
 pub loop-i-preserved : goal.loop-i-preserved
-loop-i-preserved c =
-    let first : List ℕ = c.args.first.now in
-    let words : List (Bor (List ℕ)) = c.args.names.now in
-    let i : ℕ = c.loop-i.i in
-    let r : List ℕ = c.index-readings-i.result in
-    let none : Bor (List ℕ) = record { ref_ptr = (0, 0); now = [] } in
-    let word : Bor (List ℕ) = get_or words i none in
-    let within : i < length c.args.readings.now = search rules in
-    let less : i < length words = omega (arith, within, c.requires) in
-    let why : reading_refusal first r ≡ None = ap (reading_refusal first) (sym c.bytes.ensures) ∙ sym c.in_default.ensures in
-    taken_here first (texts_of words) c.args.readings.now i word.now r (omega (arith, less, texts_long words)) within
-    (named words i word less (get_or_default words i none word less)) c.index-readings-i.is why ∙ c.loop-i.invariant
-
-pub returns : goal.returns
-returns c =
-    let past : length c.args.readings.now ≤ c.loop-i.i = search rules in
-    sym (all_taken c.args.first.now (texts_of c.args.names.now) c.args.readings.now c.loop-i.i
-    (omega (arith, past, c.requires, texts_long c.args.names.now))) ∙ c.loop-i.invariant
+loop-i-preserved c = λ k r lt.
+    let rs : List (List ℕ) = c.args.readings.now in
+    let within : c.loop-i.i < length rs = search rules in
+    let at : c.bytes.result.now ≡ get_or rs c.loop-i.i r =
+    c.bytes.ensures ∙ (c.index-readings-i.is ∙ get_or_default rs c.loop-i.i c.index-readings-i.result r within) in
+    let here : is_alike c.args.first.now (get_or rs c.loop-i.i r) ≡ true =
+    subst (λ x. is_alike c.args.first.now x ≡ true) at (not_refused _ c.in_default.ensures) in
+    elim (cases_lt k c.loop-i.i) [
+      | inl less ↦ c.loop-i.invariant k r less
+      | inr past ↦ let same : c.loop-i.i ≡ k = omega (arith, lt, past) in subst (λ j. is_alike c.args.first.now (get_or rs j r) ≡ true) same here
+    ]

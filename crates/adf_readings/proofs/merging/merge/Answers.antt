@@ -1,12 +1,14 @@
-use Rattle.std.proofs.Common.{◌∙◌, ◌++◌, ap, sym}
-use Rattle.adf_readings.specs.Merge.{taken_of, block_told}
-use Rattle.adf_readings.proofs.Joined.{joined_more}
+use Rattle.std.proofs.Common.{◌+◌, subst, sym}
+use Rattle.adf_readings.specs.Merge.{IsMergeOf}
+use Rattle.adf_readings.proofs.Joined.{found_more, merged_more}
 use Rattle.adf_readings.proofs.merging.merge.Goals as goal
 
 pub loop-block-preserved : goal.loop-block-preserved
-loop-block-preserved c = record {
-  image = c.in_ok-merge_block.ensures.image ∙ (ap (λ xs. xs ++ taken_of c.args.readings.now c.loop-block.block) c.loop-block.invariant.image
-      ∙ sym (joined_more (taken_of c.args.readings.now) c.loop-block.block));
-  doubts = c.in_ok-merge_block.ensures.doubts ∙ (ap (λ ds. ds ++ block_told c.args.readings.now c.loop-block.block) c.loop-block.invariant.doubts
-      ∙ sym (joined_more (block_told c.args.readings.now) c.loop-block.block));
-}
+loop-block-preserved c =
+    let added = c.in_ok-merge_block.ensures.image in
+    record {
+      image = subst (IsMergeOf (c.loop-block.block + 1) c.args.readings.now) (sym added.1)
+          (merged_more c.loop-block.block c.args.readings.now c.loop-block.merged.image.items added.0 c.loop-block.invariant.image added.2 added.3);
+      told = λ none. let before = c.in_ok-merge_block.ensures.told none in
+          found_more c.loop-block.block c.args.readings.now (c.loop-block.invariant.told before.0) before.1;
+    }

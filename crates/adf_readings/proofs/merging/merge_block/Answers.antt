@@ -1,6 +1,5 @@
-use Rattle.std.proofs.Common.{◌≡◌, ◌≤◌, ◌<◌, ◌+◌, ◌*◌, ◌∙◌, ◌++◌, ◌==◌, ℕ, [], All, ap, sym, subst, false, true, length, if◌then◌else◌, arith, ne_eqb, eq-eqb, append-nil}
-use Rattle.adf_readings.specs.{Merge.doubt_at, Merge.block_told}
-use Rattle.adf_readings.proofs.{Prevailing.one_doubt, Sources.sources_few, Sources.sources_reach, Sources.told_some}
+use Rattle.std.proofs.Common.{◌≡◌, ◌≤◌, ◌<◌, ◌+◌, ◌*◌, ◌∙◌, ℕ, All, ap, sym, subst, length, arith}
+use Rattle.adf_readings.proofs.Sources.{sources_few, sources_reach, version_added}
 use Rattle.adf_readings.proofs.merging.merge_block.Goals as goal
 use Rattle.adf_readings.proofs.merging.merge_block.Goals.{then-differing-gt0+in_ok-push-2, else-differing-gt0}
 
@@ -31,20 +30,19 @@ pub doubtful-differing-requires-clause-few : goal.doubtful-differing-requires-cl
 doubtful-differing-requires-clause-few c =
     omega (arith, ap length (c.deref-2.ensures.value ∙ c.in_ok-images.ensures.sources), sources_few c.args.readings.now c.args.block)
 
-pub returns-clause-doubts : goal.returns-clause-doubts
-returns-clause-doubts c =
-    let b : ℕ = c.args.block in
-    let k : ℕ = c.doubtful-differing.result in
-    let here : block_told c.args.readings.now b ≡ (if k == 0 then [] else one_doubt b k) =
-    told_some c.args.readings.now b (sym c.in_ok-images.ensures.lacked ∙ c.if-lacked.false)
-    ∙ (ap (λ rs. doubt_at rs b) (sym (c.deref-2.ensures.value ∙ c.in_ok-images.ensures.sources)) ∙ c.doubtful-differing.ensures) in
-    elim c.if-differing-gt0.branch [
-      | then-differing-gt0+in_ok-push-2 w ↦
-          let some : (k == 0) ≡ false = ne_eqb k 0 (λ e. omega (arith, e, w.if-differing-gt0.true)) in
-          let one : block_told c.args.readings.now b ≡ one_doubt b k = here ∙ ap (λ x. if x then [] else one_doubt b k) some in
-          ap (λ m. m.doubts.items) w.merged-is ∙ (w.in_ok-push-2.ensures.items ∙ ap (λ ds. c.args.merged.now.doubts.items ++ ds) (sym one))
-      | else-differing-gt0 w ↦
-          let none : (k == 0) ≡ true = eq-eqb k 0 (omega (arith, w.if-differing-gt0.false)) in
-          let nothing : block_told c.args.readings.now b ≡ [] = here ∙ ap (λ x. if x then [] else one_doubt b k) none in
-          ap (λ m. m.doubts.items) w.merged-is ∙ (sym (append-nil c.args.merged.now.doubts.items) ∙ ap (λ ds. c.args.merged.now.doubts.items ++ ds) (sym nothing))
-    ]
+pub returns-then-lacked-clause-image : goal.returns-then-lacked-clause-image
+returns-then-lacked-clause-image c =
+    let inside : c.taken-i.result < length c.in_ok-images.images.items = omega (arith, ap length c.deref.ensures.value) in
+    version_added c.args.blocks c.args.readings.now c.args.block c.in_ok-images.images.items c.taken-i.result c.index.result.now c.version.result.now _ _
+    c.requires.whole c.requires.within c.in_ok-images.ensures.sources inside c.index.ensures c.version.ensures c.in_ok-extend_from_slice.ensures.items
+
+pub returns-clause-image : goal.returns-clause-image
+returns-clause-image c =
+    let inside : c.taken-i.result < length c.in_ok-images.images.items = omega (arith, ap length c.deref.ensures.value) in
+    let kept : c.if-differing-gt0.merged.image.items ≡ c.extend_from_slice.new.self.items = elim c.if-differing-gt0.branch [
+      | then-differing-gt0+in_ok-push-2 w ↦ ap (λ m. m.image.items) w.merged-is
+      | else-differing-gt0 w ↦ ap (λ m. m.image.items) w.merged-is
+    ] in
+    version_added c.args.blocks c.args.readings.now c.args.block c.in_ok-images.images.items c.taken-i.result c.index.result.now c.version.result.now _ _
+    c.requires.whole c.requires.within c.in_ok-images.ensures.sources inside c.index.ensures c.version.ensures
+    (kept ∙ c.in_ok-extend_from_slice.ensures.items)
