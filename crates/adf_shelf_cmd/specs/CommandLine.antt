@@ -11,9 +11,6 @@ pub record ShelfOrder : Type 0 where
   pub json : Bool
   pub files : List Text
 
-abbrev pub shelf_order : (null any_type json : Bool) → List Text → ShelfOrder
-shelf_order null any_type json files = record { null = null; any_type = any_type; json = json; files = files }
-
 -- the arguments FILE ..
 abbrev pub files_rule : Rule
 files_rule = record (new_rule (codes "files")) { action = Some Append }

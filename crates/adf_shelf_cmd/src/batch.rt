@@ -1,14 +1,12 @@
 // The lines of many names.
 
-ghost use Rattle.std.specs.Prelude.{◌≡◌, ℕ, List, Option, false, IfOk, OnErr};
+ghost use Rattle.std.specs.Prelude.{◌≡◌, ℕ, List, false, IfOk, OnErr};
 ghost use Rattle.std.specs.Io.KnownBytes.{Appends};
-ghost use Rattle.adf_runs.specs.Streams.{Says};
-ghost use Rattle.adf_file_runs.specs.{declared.files.Unopened.Unopened, Files.why_line};
-ghost use Rattle.adf_shelf_cmd.specs.Lines.{BreaksLine, IsLineOf, IsReportOf, IsRunStatus, SaysMore, WritesAll, WritesPart};
-ghost use Rattle.adf_shelf_cmd.specs.Lines.{is_names_stop, is_write_stop, stop_line};
+ghost use Rattle.adf_shelf_cmd.specs.Lines.{BreaksLine, IsLineOf, IsReportOf, IsRunStatus, WritesAll, WritesPart};
+ghost use Rattle.adf_shelf_cmd.specs.Lines.{is_names_stop, is_write_stop};
 
 use crate::names::Names;
-use crate::report::{ImageChecks, check_file, push_line, push_why};
+use crate::report::{ImageChecks, check_file, push_why, put_line};
 use adf_file_runs::Files;
 use adf_runs::{Sink, StreamFault, say, write_all};
 
@@ -25,9 +23,7 @@ pub enum Stop {
 
 impl Stop {
     /// What is said on errors, with its line feed.
-    pub fn line(self) -> &'static str
-        ensures { result.now ≡ stop_line self }
-    {
+    pub fn line(self) -> &'static str {
         match self {
             Stop::ReadFault => "read fault\n",
             Stop::WriteFault => "write fault\n",
@@ -46,10 +42,7 @@ struct Buffers {
 }
 
 /// Says more on errors, unless they have failed.
-pub fn say_more<E: Sink>(errors: &mut E, text: &[u8])
-    ensures { SaysMore (E.has_failed errors.old) (E.held errors.old)
-        (E.has_failed errors.new) (E.held errors.new) text.now }
-{
+pub fn say_more<E: Sink>(errors: &mut E, text: &[u8]) {
     if !errors.failed() {
         say(errors, text);
     }
@@ -65,23 +58,18 @@ fn write_line<F: Files, W: Sink, E: Sink>(
     errors: &mut E,
 ) -> Result<u8, Stop>
     requires { W.has_failed output.old ≡ false }
-    ensures ok { IfOk result (λ s. (line : List ℕ) × (why : Option Unopened)
-        × IsLineOf checks.json (IsReportOf checks.types (F.bytes_of files.now) (F.may_fail files.now) (F.may_open files.now))
-        name.now s line why
-        × Appends (W.held output.old) (W.held output.new) line
-        × SaysMore (E.has_failed errors.old) (E.held errors.old)
-        (E.has_failed errors.new) (E.held errors.new) (why_line name.now why)) }
+    ensures ok { IfOk result (λ s. (line : List ℕ)
+        × IsLineOf checks.json (IsReportOf checks.types (F.bytes_of files.now) (F.may_fail files.now)) name.now s line
+        × Appends (W.held output.old) (W.held output.new) line) }
     ensures err { OnErr result
-        (BreaksLine (IsLineOf checks.json (IsReportOf checks.types (F.bytes_of files.now) (F.may_fail files.now) (F.may_open files.now)))
+        (BreaksLine (IsLineOf checks.json (IsReportOf checks.types (F.bytes_of files.now) (F.may_fail files.now)))
         name.now (W.has_failed output.new) (W.held output.old) (W.held output.new)) }
-    ensures unsaid { OnErr result (errors.new ≡ errors.old) }
     ensures status { IfOk result IsRunStatus }
     ensures read { is_names_stop result ≡ false }
     ensures failed { W.has_failed output.new ≡ is_write_stop result }
 {
     let report = check_file(checks, files, name, &mut buffers.image);
-    buffers.line.clear();
-    if push_line(&mut buffers.line, name, &report, checks.json).is_err() {
+    if put_line(&mut buffers.line, name, &report, checks.json).is_err() {
         return Err(Stop::NoMemory);
     }
     buffers.why.clear();
@@ -110,15 +98,12 @@ pub fn write_verdicts<N: Names, F: Files, W: Sink, E: Sink>(
     errors: &mut E,
 ) -> Result<u8, Stop>
     requires writes { W.has_failed output.old ≡ false }
-    requires tells { E.has_failed errors.old ≡ false }
-    ensures all { IfOk result (λ s. (said : List ℕ)
-        × WritesAll (IsLineOf checks.json (IsReportOf checks.types (F.bytes_of files.now) (F.may_fail files.now) (F.may_open files.now)))
-        (N.left names.old) s (W.held output.old) (W.held output.new) said
-        × Says (E.has_failed errors.new) (E.held errors.old) (E.held errors.new) said) }
-    ensures part { OnErr result ((said : List ℕ)
-        × WritesPart (IsLineOf checks.json (IsReportOf checks.types (F.bytes_of files.now) (F.may_fail files.now) (F.may_open files.now)))
-        (N.left names.old) (W.has_failed output.new) (W.held output.old) (W.held output.new) said
-        × Says (E.has_failed errors.new) (E.held errors.old) (E.held errors.new) said) }
+    ensures all { IfOk result (λ s.
+        WritesAll (IsLineOf checks.json (IsReportOf checks.types (F.bytes_of files.now) (F.may_fail files.now)))
+        (N.left names.old) s (W.held output.old) (W.held output.new)) }
+    ensures part { OnErr result
+        (WritesPart (IsLineOf checks.json (IsReportOf checks.types (F.bytes_of files.now) (F.may_fail files.now)))
+        (N.left names.old) (W.has_failed output.new) (W.held output.old) (W.held output.new)) }
     ensures status { IfOk result IsRunStatus }
     ensures unread { N.has_failed names.new ≡ is_names_stop result }
     ensures failed { W.has_failed output.new ≡ is_write_stop result }

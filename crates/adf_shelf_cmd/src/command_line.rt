@@ -1,11 +1,10 @@
 // The arguments of `adf-shelf`, by clap.
 
-ghost use Rattle.std.specs.Prelude.{◌≡◌, ◌==◌, IfOk, IfErr, ℕ, List, [], ◌∷◌, codes, false, option_map, true, unwrap_or};
+ghost use Rattle.std.specs.Prelude.{◌≡◌, IfOk, IfErr, [], codes, option_map, unwrap_or};
 ghost use Rattle.clap.specs.Words.{all_of, app_of, fault_of, found_of, matches_of, rows_of};
 ghost use Rattle.adf_words.specs.CommandLine.{ExplainsArgs, texts_of};
 ghost use Rattle.adf_words.specs.declared.command_line.ArgsError.TheVariants.{Usage};
 ghost use Rattle.adf_shelf_cmd.specs.CommandLine.{AsksShelf, AreRefusedByShelf, order_in, shelf_app};
-ghost use Rattle.adf_shelf_cmd.specs.CommandLine.{shelf_order};
 
 use adf_file_runs::About;
 use adf_words::{ArgsError, flag, has_flag, matches_of, with_argument};
@@ -117,38 +116,3 @@ pub fn parse_shelf<'a>(alloc: Global, args: &'a [&str]) -> Result<Order<'a>, Arg
     let matches = shelf_matches(alloc, args)?;
     Ok(order_in(alloc, &matches)?)
 }
-
-/// The arguments of the documentation are taken with the order that they are, and other arguments are refused,
-/// calls for help among them.
-#[tactic(auto, unfolding(clap::proofs::OnLiterals::clap_on_literals))]
-pub fn shelf_words_as_documented()
-    ensures none { AsksShelf (codes "adf-shelf" ∷ []) (shelf_order false false false []) }
-    ensures null { AsksShelf (codes "adf-shelf" ∷ codes "--null" ∷ []) (shelf_order true false false []) }
-    ensures any_type { AsksShelf (codes "adf-shelf" ∷ codes "--any-type" ∷ []) (shelf_order false true false []) }
-    ensures file { (first : ℕ) (rest : List ℕ) → (first == 45) ≡ false
-        → AsksShelf (codes "adf-shelf" ∷ (first ∷ rest) ∷ []) (shelf_order false false false ((first ∷ rest) ∷ [])) }
-    ensures files { (first : ℕ) (rest : List ℕ) → (first == 45) ≡ false
-        → AsksShelf (codes "adf-shelf" ∷ codes "a.adf" ∷ (first ∷ rest) ∷ [])
-        (shelf_order false false false (codes "a.adf" ∷ (first ∷ rest) ∷ [])) }
-    ensures null_file { AsksShelf (codes "adf-shelf" ∷ codes "--null" ∷ codes "a.adf" ∷ [])
-        (shelf_order true false false (codes "a.adf" ∷ [])) }
-    ensures both_file { AsksShelf
-        (codes "adf-shelf" ∷ codes "--any-type" ∷ codes "--null" ∷ codes "a.adf" ∷ [])
-        (shelf_order true true false (codes "a.adf" ∷ [])) }
-    ensures json { AsksShelf (codes "adf-shelf" ∷ codes "--json" ∷ []) (shelf_order false false true []) }
-    ensures all_file { AsksShelf
-        (codes "adf-shelf" ∷ codes "--json" ∷ codes "--any-type" ∷ codes "--null" ∷ codes "a.adf" ∷ [])
-        (shelf_order true true true (codes "a.adf" ∷ [])) }
-    ensures any_files { (one two : List ℕ)
-        → AsksShelf (codes "adf-shelf" ∷ codes "--" ∷ one ∷ two ∷ [])
-        (shelf_order false false false (one ∷ two ∷ [])) }
-    ensures no_args { AsksShelf [] (shelf_order false false false []) }
-    ensures dash { AreRefusedByShelf (codes "adf-shelf" ∷ codes "-x" ∷ []) }
-    ensures null_twice { AreRefusedByShelf
-        (codes "adf-shelf" ∷ codes "--null" ∷ codes "--null" ∷ []) }
-    ensures json_twice { AreRefusedByShelf
-        (codes "adf-shelf" ∷ codes "--json" ∷ codes "--json" ∷ []) }
-    ensures help { AreRefusedByShelf (codes "adf-shelf" ∷ codes "--help" ∷ []) }
-    ensures help_letter { AreRefusedByShelf (codes "adf-shelf" ∷ codes "-h" ∷ []) }
-    ensures version { AreRefusedByShelf (codes "adf-shelf" ∷ codes "--version" ∷ []) }
-{}

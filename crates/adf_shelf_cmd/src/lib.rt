@@ -8,9 +8,7 @@ mod report;
 mod runner;
 
 pub use crate::batch::{Stop, say_more, write_verdicts};
-pub use crate::command_line::{
-    ABOUT, Order, parse_shelf as parse, shelf_words_as_documented as words_as_documented,
-};
+pub use crate::command_line::{ABOUT, Order, parse_shelf as parse};
 pub use crate::names::{Names, TextNames, WordNames};
-pub use crate::report::{ImageChecks, Report, check_file, push_line, push_why};
+pub use crate::report::{ImageChecks, Report, check_file, push_why, put_line};
 pub use crate::runner::run;

@@ -1,23 +1,20 @@
 // What is reported of a file, and the line of its name.
 
-ghost use Rattle.std.specs.Prelude.{◌≡◌, ◌++◌, None, false, OnOk};
-ghost use Rattle.adf_shelf_cmd.specs.Lines.{IsOpenedReport, IsReport, IsRunStatus, failed_in_reading, report_status, report_text};
-ghost use Rattle.adf_shelf_cmd.specs.Lines.{report_why, batch_line, line_of_name, shelf_object};
-ghost use Rattle.adf_json.specs.Objects.{without_feed};
-ghost use Rattle.adf_file_runs.specs.Files.{why_line};
+ghost use Rattle.std.specs.Prelude.{◌≡◌, ◌++◌, false, OnOk};
+ghost use Rattle.adf_shelf_cmd.specs.Lines.{IsLine, IsReport, IsRunStatus, batch_line, report_status, report_text};
 
-use adf_cmd::{CheckAnswer, answer_to_input};
 use adf_file_runs::{Files, Unopened};
 use adf_json::{Member, push_object, without_feed};
 use adf_names::push_escaped;
 use adf_runs::{Source, StreamFault};
+use adf_verdicts::{Verdict, verdict_of_input};
 use adf_volume::Types;
 use std::alloc::{AllocError, Global};
 
 /// What is reported of a file.
 #[derive(Drop)]
 pub enum Report {
-    Checked(CheckAnswer),
+    Checked(Verdict),
     /// It could not be opened.
     NotOpened(Unopened),
     /// It was opened, and could not be read.
@@ -33,7 +30,7 @@ impl Report {
         ensures run { IsRunStatus result }
     {
         match self {
-            Report::Checked(answer) if answer.sound => 0,
+            Report::Checked(verdict) if verdict.sound => 0,
             Report::Checked(_) => 1,
             Report::NotOpened(_) => 3,
             Report::ReadFault => 3,
@@ -46,7 +43,7 @@ impl Report {
         ensures { result.now ≡ report_text self.now }
     {
         match self {
-            Report::Checked(answer) => answer.line.as_str(),
+            Report::Checked(verdict) => verdict.line.as_str(),
             Report::NotOpened(_) => "read fault\n",
             Report::ReadFault => "read fault\n",
             Report::NoMemory => "no memory\n",
@@ -54,9 +51,7 @@ impl Report {
     }
 
     /// Why the file could not be opened, `None` if it was.
-    pub fn why(&self) -> Option<Unopened>
-        ensures { result ≡ report_why self.now }
-    {
+    pub fn why(&self) -> Option<Unopened> {
         match self {
             Report::NotOpened(why) => Some(*why),
             _ => None,
@@ -75,13 +70,11 @@ pub struct ImageChecks {
 // Reads an image into the buffer and checks it.
 fn check_source<S: Source>(checks: ImageChecks, source: &mut S, buffer: &mut Vec<u8>) -> Report
     requires { S.has_failed source.old ≡ false }
-    ensures report { IsOpenedReport checks.types (S.left source.old) (S.may_fail source.old)
+    ensures { IsReport checks.types (S.left source.old) (S.may_fail source.old)
         (report_status result) (report_text result) }
-    ensures opened { report_why result ≡ None }
-    ensures failed { S.has_failed source.new ≡ failed_in_reading result }
 {
-    match answer_to_input(checks.alloc, checks.types, source, buffer) {
-        Ok(answer) => Report::Checked(answer),
+    match verdict_of_input(checks.alloc, checks.types, source, buffer) {
+        Ok(verdict) => Report::Checked(verdict),
         Err(StreamFault::Device) => Report::ReadFault,
         Err(StreamFault::NoMemory) => Report::NoMemory,
     }
@@ -97,8 +90,7 @@ pub fn check_file<F: Files>(
     buffer: &mut Vec<u8>,
 ) -> Report
     ensures { IsReport checks.types (F.bytes_of files.now name.now) (F.may_fail files.now name.now)
-        (F.may_open files.now name.now)
-        (report_status result) (report_text result) (report_why result) }
+        (report_status result) (report_text result) }
 {
     match files.open(name) {
         Ok(mut source) => check_source(checks, &mut source, buffer),
@@ -117,17 +109,12 @@ fn push_text(text: &mut Vec<u8>, name: &[u8], report: &Report) -> Result<(), All
 }
 
 // What is reported of a file, without its line feed.
-fn verdict(report: &Report) -> &[u8]
-    ensures { result.now ≡ without_feed (report_text report.now) }
-{
+fn verdict(report: &Report) -> &[u8] {
     without_feed(report.text().as_bytes())
 }
 
 // Appends the object of a name.
-fn push_shelf_object(text: &mut Vec<u8>, name: &[u8], report: &Report) -> Result<(), AllocError>
-    ensures { OnOk result (text.new.items ≡ text.old.items
-        ++ shelf_object name.now (report_status report.now) (report_text report.now)) }
-{
+fn push_shelf_object(text: &mut Vec<u8>, name: &[u8], report: &Report) -> Result<(), AllocError> {
     push_object(
         text,
         &[
@@ -139,16 +126,16 @@ fn push_shelf_object(text: &mut Vec<u8>, name: &[u8], report: &Report) -> Result
     )
 }
 
-/// Appends the line of a name: its escape form, a tab, and what is reported of its file; or with `json` its object.
-pub fn push_line(
+/// Puts the line of a name in place of another: its escape form, a tab, and what is reported of its file; or with `json` its object.
+pub fn put_line(
     text: &mut Vec<u8>,
     name: &[u8],
     report: &Report,
     json: bool,
 ) -> Result<(), AllocError>
-    ensures { OnOk result (text.new.items ≡ text.old.items
-        ++ line_of_name json name.now (report_status report.now) (report_text report.now)) }
+    ensures { OnOk result (IsLine json name.now (report_text report.now) text.new.items) }
 {
+    text.clear();
     if json {
         push_shelf_object(text, name, report)
     } else {
@@ -158,9 +145,7 @@ pub fn push_line(
 
 /// Appends what is said on errors of a file that could not be opened: the escape form of its name, and
 /// why. Nothing if it was opened, or the system does not say why.
-pub fn push_why(text: &mut Vec<u8>, name: &[u8], why: Option<Unopened>) -> Result<(), AllocError>
-    ensures { OnOk result (text.new.items ≡ text.old.items ++ why_line name.now why) }
-{
+pub fn push_why(text: &mut Vec<u8>, name: &[u8], why: Option<Unopened>) -> Result<(), AllocError> {
     match why {
         None | Some(Unopened::Other) => Ok(()),
         Some(why) => {

@@ -1,9 +1,9 @@
 // The whole command.
 
-ghost use Rattle.std.specs.Prelude.{◌≡◌, ◌≢◌, ◌≤◌, Bool, [], codes, false, if◌then◌else◌};
+ghost use Rattle.std.specs.Prelude.{◌≡◌, ◌≢◌, ◌≤◌, Bool, [], false, if◌then◌else◌};
 ghost use Rattle.adf_volume.specs.declared.types.Types.TheVariants.{Plain, WithInternational};
 ghost use Rattle.adf_words.specs.CommandLine.{texts_of};
-ghost use Rattle.adf_runs.specs.Streams.{IsTold, seen};
+ghost use Rattle.adf_runs.specs.Streams.{seen};
 ghost use Rattle.adf_shelf_cmd.specs.CommandLine.{AsksShelf, AreRefusedByShelf, ShelfOrder};
 ghost use Rattle.adf_shelf_cmd.specs.Lines.{Ends, IsLineOf, IsReportOf, IsRunStatus};
 ghost use Rattle.adf_shelf_cmd.specs.Names.{are_unread, name_end, names_asked, types_asked};
@@ -29,9 +29,8 @@ fn run_names<N: Names, F: Files, W: Sink, E: Sink>(
 ) -> u8
     requires writes { W.has_failed output.old ≡ false }
     requires tells { E.has_failed errors.old ≡ false }
-    ensures ends { Ends (IsLineOf checks.json (IsReportOf checks.types (F.bytes_of files.now) (F.may_fail files.now) (F.may_open files.now)))
-        (N.left names.old) (N.has_failed names.new) result
-        (seen W.held W.has_failed output.old output.new) (seen E.held E.has_failed errors.old errors.new) }
+    ensures ends { Ends (IsLineOf checks.json (IsReportOf checks.types (F.bytes_of files.now) (F.may_fail files.now)))
+        (N.left names.old) (N.has_failed names.new) result (seen W.held W.has_failed output.old output.new) }
     ensures status { IsRunStatus result }
 {
     match write_verdicts(checks, names, files, output, errors) {
@@ -73,9 +72,9 @@ fn run_order<B: BufRead, F: Files, W: Sink, E: Sink>(
     requires writes { W.has_failed output.old ≡ false }
     requires tells { E.has_failed errors.old ≡ false }
     ensures ends { Ends (IsLineOf order.now.json
-        (IsReportOf (types_asked order.now) (F.bytes_of files.now) (F.may_fail files.now) (F.may_open files.now)))
+        (IsReportOf (types_asked order.now) (F.bytes_of files.now) (F.may_fail files.now)))
         (names_asked order.now (B.remaining input.old.text)) (are_unread order.now.files input.new.failed) result
-        (seen W.held W.has_failed output.old output.new) (seen E.held E.has_failed errors.old errors.new) }
+        (seen W.held W.has_failed output.old output.new) }
     ensures status { IsRunStatus result }
     ensures unread { order.now.files ≢ [] → input.new ≡ input.old }
 {
@@ -115,14 +114,13 @@ pub fn run<B: BufRead, F: Files, W: Sink, E: Sink>(
     requires tells { E.has_failed errors.old ≡ false }
     ensures most { result ≤ 3 }
 
-    // Where the words are taken, output and errors have the lines of the names, or the work stopped: with
-    // `read fault` if and only if the names could not be read.
+    // Where the words are taken, output has the lines of the names, or the work stopped.
     ensures ends { (order : ShelfOrder) → AsksShelf (texts_of words.now) order
         → (unread : Bool) × (input.old.failed ≡ false → unread ≡ are_unread order.files input.new.failed)
         × Ends (IsLineOf order.json
-        (IsReportOf (types_asked order) (F.bytes_of files.now) (F.may_fail files.now) (F.may_open files.now)))
+        (IsReportOf (types_asked order) (F.bytes_of files.now) (F.may_fail files.now)))
         (names_asked order (B.remaining input.old.text)) unread result
-        (seen W.held W.has_failed output.old output.new) (seen E.held E.has_failed errors.old errors.new) }
+        (seen W.held W.has_failed output.old output.new) }
 
     // Where the words name images, the input is not read.
     ensures unread { (order : ShelfOrder) → AsksShelf (texts_of words.now) order
@@ -133,10 +131,6 @@ pub fn run<B: BufRead, F: Files, W: Sink, E: Sink>(
     ensures refused { AreRefusedByShelf (texts_of words.now) → ¬ (result ≡ 3) → result ≡ 2 }
     ensures untouched { AreRefusedByShelf (texts_of words.now)
         → (input.new ≡ input.old) × (output.new ≡ output.old) }
-    ensures said { result ≡ 2 → IsTold (seen E.held E.has_failed errors.old errors.new)
-        (codes "usage: adf-shelf [--null] [--any-type] [--json] [FILE..]\n") }
-    ensures memory { AreRefusedByShelf (texts_of words.now) → result ≡ 3
-        → IsTold (seen E.held E.has_failed errors.old errors.new) (codes "no memory\n") }
 {
     match parse_shelf(alloc, words) {
         Ok(order) => run_order(alloc, &order, input, files, output, errors),

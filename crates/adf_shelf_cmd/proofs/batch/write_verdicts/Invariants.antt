@@ -7,10 +7,8 @@ abbrev pub invariant-loop-name : goal.invariant-loop-name
 invariant-loop-name g l = record {
   works : g.W.Sink.has_failed l.output ≡ false;
   status : IsRunStatus l.status;
-  progress : Progress (IsLineOf l.checks.json
-      (IsReportOf l.checks.types (g.F.Files.bytes_of l.files) (g.F.Files.may_fail l.files) (g.F.Files.may_open l.files)))
-      (g.N.Names.left l.fn.names) (g.N.Names.left l.names) l.status (g.W.Sink.held l.fn.output) (g.W.Sink.held l.output)
-      (g.E.Sink.has_failed l.errors) (g.E.Sink.held l.fn.errors) (g.E.Sink.held l.errors);
+  progress : Progress (IsLineOf l.checks.json (IsReportOf l.checks.types (g.F.Files.bytes_of l.files) (g.F.Files.may_fail l.files)))
+      (g.N.Names.left l.fn.names) (g.N.Names.left l.names) l.status (g.W.Sink.held l.fn.output) (g.W.Sink.held l.output);
 }
 
 abbrev pub decreases-loop-name : goal.decreases-loop-name

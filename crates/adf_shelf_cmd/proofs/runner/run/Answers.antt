@@ -12,17 +12,7 @@ pub returns-in-Err-NoMemory-clause-ends : goal.returns-in-Err-NoMemory-clause-en
 returns-in-Err-NoMemory-clause-ends g c = λ order asks. (
   false,
   λ reads. sym (unfailed order.files _ reads),
-  (
-    [],
-    inr (
-      NoMemory,
-      refl,
-      refl,
-      c.requires.writes,
-      nothing_written _ _ _ _ c.requires.writes,
-      rw (c.as_bytes-in-Err-NoMemory.ensures.value, c.line.ensures) at c.say-in-Err-NoMemory.ensures,
-    ),
-  ),
+  inr (NoMemory, refl, refl, c.requires.writes, nothing_written _ _ _ _ c.requires.writes),
 )
 
 pub returns-in-Ok-clause-ends : goal.returns-in-Ok-clause-ends
