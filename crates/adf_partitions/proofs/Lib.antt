@@ -4,7 +4,6 @@ pub mod FoundSteps
 pub mod TablesEnough
 pub mod FirstBlocks
 pub mod VolumesApart
-pub mod AnyLength
 pub mod NumberTests
 pub mod Searches
 pub mod FoundVolumes
@@ -15,4 +14,4 @@ pub mod WrittenTables
 pub mod PlannedDisk
 pub mod PlannedVolumes
 pub mod SeparatePartitions
-pub mod SomeReadings
+pub mod SomeDisks

@@ -1,5 +1,5 @@
 -- The volumes of a disk, each in its place.
-use Rattle.std.specs.Prelude.{◌≡◌, ◌≢◌, ◌<◌, ◌≤◌, ℕ, List, Option, None, Some, All, AllPairs, IfOk, length, ⊤}
+use Rattle.std.specs.Prelude.{◌≡◌, ◌≢◌, ◌<◌, ◌≤◌, ℕ, List, All, AllPairs, IfOk, length}
 use Rattle.adf_base.specs.Words.{block}
 use Rattle.adf_partitions.specs.{declared.layout.TheConstants.MOST_PARTITIONS, declared.partition.Partition.Partition, declared.place.Place.Place}
 use Rattle.adf_partitions.specs.{declared.tables.Tables.Tables, Places.IsIn, Places.StatesPlace, Places.end_of, Places.partition_place}
@@ -48,16 +48,3 @@ pub record AreSeparate (n : ℕ) (ps : List Partition) : Type 0 where
 pub record IsStated (bytes : List ℕ) (n b : ℕ) (q : Place) : Type 0 where
   pub states : StatesPlace bytes n b
   pub same : q ≡ partition_place (block bytes b)
-
--- two partitions have one block and one name, and the first has no other place than the block says, within n blocks
-pub record AreAlike (bytes : List ℕ) (n : ℕ) (p q : Partition) : Type 0 where
-  pub block : p.block ≡ q.block
-  pub name : p.name ≡ q.name
-  pub place : IfOk p.place (IsStated bytes n p.block)
-
--- so have two that are found, or neither is
-abbrev pub FoundAlike : List ℕ → ℕ → Option Partition → Option Partition → Type 0
-FoundAlike bytes n None None = ⊤
-FoundAlike bytes n (Some p) (Some q) = AreAlike bytes n p q
-FoundAlike bytes n (Some p) None = ⊥
-FoundAlike bytes n None (Some q) = ⊥

@@ -1,12 +1,11 @@
 // The laws of disks. Each law is the contract of a function that does nothing at run time.
 
-ghost use Rattle.std.specs.Prelude.{◌≡◌, ◌≤◌, ◌*◌, ◌++◌, ◌↔◌, ℕ, List, length, find, take, true, All, AllPairs};
+ghost use Rattle.std.specs.Prelude.{◌≡◌, ◌≤◌, ◌*◌, ◌++◌, ◌↔◌, ℕ, List, length, take, All, AllPairs};
 ghost use Rattle.adf_partitions.specs.Disks.{FirstDiskFault, HasListOrFault, IsDisk};
-ghost use Rattle.adf_partitions.specs.Partitions.{is_partition_named, partition_numbered};
-ghost use Rattle.adf_partitions.specs.Searches.{AreReadable, is_searched, no_tables};
+ghost use Rattle.adf_partitions.specs.Searches.{AreReadable};
 ghost use Rattle.adf_partitions.specs.{Tables.HasNoTables, Tables.IsTables, declared.fault.DiskFault.DiskFault};
 ghost use Rattle.adf_partitions.specs.{declared.partition.Partition.Partition, declared.tables.Tables.Tables};
-ghost use Rattle.adf_partitions.specs.Volumes.{AreSeparate, FoundAlike, VolumeLiesWell, VolumesAreApart};
+ghost use Rattle.adf_partitions.specs.Volumes.{AreSeparate, VolumeLiesWell, VolumesAreApart};
 ghost use Rattle.adf_partitions.specs.declared.layout.TheConstants.{MOST_TABLES, RDSK_BLOCKS};
 
 /// A disk has at most one rigid disk block, and at most one list of partitions.
@@ -34,22 +33,10 @@ pub fn some_disk()
     ensures { (bytes : List ℕ) (n : ℕ) → HasListOrFault bytes n }
 {}
 
-/// Every disk has a list of partitions that can be read, which may be empty.
-#[tactic(auto, using(crate::proofs::SomeReadings::some_reading))]
-pub fn some_reading()
-    ensures { (bytes : List ℕ) (n : ℕ) → (ps : List Partition) × AreReadable bytes n ps }
-{}
-
 /// The partitions that can be read are at most 1,024, each in a block of its own, and their volumes lie within the disk and
 /// apart.
 pub fn readable_are_separate()
     ensures { (bytes : List ℕ) (n : ℕ) (ps : List Partition) → AreReadable bytes n ps → AreSeparate n ps }
-{}
-
-/// Where tables have a fault, each block is searched that is searched without a rigid disk block.
-pub fn tables_hide_no_block()
-    ensures { (bytes : List ℕ) (t : Tables) (b : ℕ) → is_searched bytes no_tables b ≡ true
-        → is_searched bytes t b ≡ true }
 {}
 
 /// A disk has one list of partitions that can be read. If its tables have no fault these are all of its list.
@@ -81,19 +68,6 @@ pub fn first_blocks_are_enough()
         → FirstDiskFault (take (MOST_TABLES * 512) bytes) n f ↔ FirstDiskFault bytes n f }
     ensures readable { (bytes : List ℕ) (n : ℕ) (ps : List Partition)
         → AreReadable (take (MOST_TABLES * 512) bytes) n ps ↔ AreReadable bytes n ps }
-{}
-
-/// A number or a name finds the same partition block whatever the number of blocks, and no volume lies elsewhere than its block
-/// says: so it is known where a volume may lie before the end of the disk is.
-pub fn length_moves_no_volume()
-    ensures disk { (bytes : List ℕ) (n m : ℕ) (t : Tables) (ps : List Partition) → IsDisk bytes n t ps
-        → (qs : List Partition) × IsDisk bytes m t qs }
-    ensures numbered { (bytes : List ℕ) (n m : ℕ) (t u : Tables) (ps qs : List Partition) (number : ℕ)
-        → IsDisk bytes n t ps → IsDisk bytes m u qs
-        → FoundAlike bytes n (partition_numbered ps number) (partition_numbered qs number) }
-    ensures named { (bytes : List ℕ) (n m : ℕ) (t u : Tables) (ps qs : List Partition) (name : List ℕ)
-        → IsDisk bytes n t ps → IsDisk bytes m u qs
-        → FoundAlike bytes n (find (is_partition_named name) ps) (find (is_partition_named name) qs) }
 {}
 
 /// The volumes of a disk lie within it, beside its tables and apart from each other.

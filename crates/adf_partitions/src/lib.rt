@@ -24,9 +24,8 @@ pub use crate::field_fault::FieldFault;
 pub use crate::file_system::{FileSystem, system_words_decide};
 pub use crate::found_volumes::{FoundVolume, find_volumes};
 pub use crate::laws::{
-    first_blocks_are_enough, length_moves_no_volume, no_fault_on_a_disk, one_disk, one_disk_fault,
-    one_reading, readable_are_separate, some_disk, some_reading, tables_are_enough,
-    tables_hide_no_block, volumes_lie_apart,
+    first_blocks_are_enough, no_fault_on_a_disk, one_disk, one_disk_fault, one_reading,
+    readable_are_separate, some_disk, tables_are_enough, volumes_lie_apart,
 };
 pub use crate::layout::{
     BLOCK_BYTES, BLOCK_SECTORS, BOOT_PRIORITY, BOOTABLE, DOS_TYPE, DRIVE_NAME, ENV_BLOCK_WORDS,

@@ -1,5 +1,5 @@
-use Rattle.adf_partitions.proofs.SomeReadings as readings
+use Rattle.adf_partitions.proofs.SomeDisks as disks
 use Rattle.adf_partitions.proofs.laws.some_disk.Goals as goal
 
 pub returns : goal.returns
-returns c = λ bytes n. readings.some_disk bytes n
+returns c = λ bytes n. disks.some_disk bytes n

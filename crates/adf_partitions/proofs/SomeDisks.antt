@@ -1,14 +1,13 @@
--- Every disk has a list of partitions or a first fault, and partitions that can be read.
+-- Every disk has a list of partitions or a first fault.
 -- Letters: as in specs/Disks; k is the room that is left, or a number of blocks.
-use Rattle.std.proofs.Common.{◌≡◌, ◌<◌, ◌≤◌, ◌+◌, ◌⊎◌, [], ℕ, zero, suc, List, Option, Bool, true, false, None, Some, arith, inl, inr, length, refl, subst, sym}
+use Rattle.std.proofs.Common.{◌≡◌, ◌<◌, ◌≤◌, ◌+◌, ◌⊎◌, ℕ, zero, suc, List, Option, Bool, true, false, None, Some, arith, inl, inr, length, refl, subst, sym}
 use Rattle.std.proofs.{lemmas.Bool.cases_eq, lemmas.List.length_push}
 use Rattle.adf_base.specs.Words.{block, word}
 use Rattle.adf_partitions.specs.declared.fault.DiskCause.TheVariants.{BlockSize, NoRigidDisk}
 use Rattle.adf_partitions.specs.{declared.fault.DiskFault.DiskFault, declared.partition.Partition.Partition, declared.tables.Tables.Tables, Disks.IsFound.start}
 use Rattle.adf_partitions.specs.{Disks.IsFound.step, Faults.disk_fault, Faults.first_failed}
-use Rattle.adf_partitions.specs.declared.layout.TheConstants.{BLOCK_BYTES, MOST_PARTITIONS, MOST_TABLES, NO_BLOCK, RDSK_BLOCKS}
+use Rattle.adf_partitions.specs.declared.layout.TheConstants.{BLOCK_BYTES, MOST_PARTITIONS, NO_BLOCK, RDSK_BLOCKS}
 use Rattle.adf_partitions.specs.Disks.{HasListOrFault, IsFollowed, IsFound, part_form, partition_at, FirstDiskFault.at_list, FirstDiskFault.at_tables}
-use Rattle.adf_partitions.specs.Searches.{AreReadable, bare_partitions, with_all_lost, AreReadable.bare, AreReadable.cut, AreReadable.other, AreReadable.whole}
 use Rattle.adf_partitions.specs.Tables.{HasNoRdsk, IsRdsk, IsTables, is_rdsk, tables_at}
 use Rattle.adf_partitions.proofs.NamedPartitions.{no_more, none_or_some}
 
@@ -53,11 +52,6 @@ module _ (bytes : List ℕ) where
     disk_of t tables ps None h = inl (t, ps, record { tables = tables; whole = h })
     disk_of t tables ps (Some f) h = inr (f, at_list tables (ps, h))
 
-    reading_of : (t : Tables) → IsTables bytes t → (ps : List Partition) (o : Option DiskFault) → IsFollowed bytes n t ps o
-        → (qs : List Partition) × AreReadable bytes n qs
-    reading_of t tables ps None h = (ps, whole (record { tables = tables; whole = h }))
-    reading_of t tables ps (Some f) h = (with_all_lost bytes n t ps MOST_TABLES, cut tables h)
-
     tables_of : (b : ℕ) → IsRdsk bytes b → word (block bytes b) BLOCK_BYTES ≡ 512 → IsTables bytes (tables_at bytes b)
     tables_of b r e = record { rdsk = r; size = e; same = refl }
 
@@ -71,16 +65,4 @@ module _ (bytes : List ℕ) where
         | inr size ↦ inr (disk_fault found.0 BlockSize, at_tables (inr (found.1, size, refl)))
       ]
       | inr none ↦ inr (disk_fault 0 NoRigidDisk, at_tables (inl (none, refl)))
-    ]
-
-    pub some_reading : (ps : List Partition) × AreReadable bytes n ps
-    some_reading = elim some_rdsk [
-      | inl found ↦ elim (cases_eq (word (block bytes found.0) BLOCK_BYTES) 512) [
-        | inl size ↦
-            let t = tables_at bytes found.0 in
-            let (ps, o, h) = has_list t in
-            reading_of t (tables_of found.0 found.1 size) ps o h
-        | inr size ↦ ([], other found.1 size)
-      ]
-      | inr none ↦ (bare_partitions bytes n, bare none)
     ]
