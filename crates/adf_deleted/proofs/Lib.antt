@@ -17,4 +17,3 @@ pub mod RoomSteps
 -- what is kept of them
 pub mod KeptSteps
 pub mod KeptTrees
-pub mod KeptBounds

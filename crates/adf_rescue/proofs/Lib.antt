@@ -12,7 +12,7 @@ pub mod GivenBlocks
 pub mod RescuedTrees
 -- files that are kept
 pub mod KeptFiles
--- sound files stand, and one survey has one rescue
+-- sound files stand
 pub mod RescueLaws
 -- the blocks of a tree that fits
 pub mod FitBlocks
@@ -36,13 +36,9 @@ pub mod OutrankedHeaders
 pub mod DirectorySteps
 -- hung images
 pub mod HungImages
--- what stays in a hung image
-pub mod HungKeeps
 -- pruned images
 pub mod PrunedImages
 -- what stays in a pruned image
 pub mod PrunedKeeps
--- what is made of bytes is bytes
-pub mod RescuedBytes
 -- what stands fits in a volume, and is laid there
 pub mod RescuedVolumes

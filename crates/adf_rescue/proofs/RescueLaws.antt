@@ -1,4 +1,4 @@
--- Laws of verdicts: sound files stand, and one survey has one rescue.
+-- Laws of verdicts: sound files stand.
 use Rattle.std.proofs.Common.{◌≡◌, ℕ, Bool, false, true, List, [], Ok, ap, arith}
 use Rattle.std.proofs.{Math.Bool.and-false, lemmas.Bool.and_from, lemmas.Bool.eq-eqb, lemmas.Grind.common_steps}
 use Rattle.adf_base.specs.{Words.block, declared.hash.Letters.Letters}
@@ -7,10 +7,10 @@ use Rattle.adf_blocks.specs.{HeadBlock.meta_stated, Sizes.blocks}
 use Rattle.adf_volume.specs.{Made.datas_in, Walk.node_block, Walk.Walk}
 use Rattle.adf_findings.specs.Files.{IsSoundFile, file_content, file_in, grave}
 use Rattle.adf_findings.specs.{Members.parent_node, SoundMarks.AreMarks, Survey.FindingValue, Survey.IsSurvey}
-use Rattle.adf_findings.proofs.{OneSurvey.one_survey, SoundFiles.file_told}
+use Rattle.adf_findings.proofs.{SoundFiles.file_told}
 use Rattle.adf_rescue.specs.{Lost.has_lost, Outranked.none_untold, Salvage.are_data, declared.standing.Input.Input}
 use Rattle.adf_rescue.proofs.GivenBlocks.{first_given_all}
-use Rattle.adf_rescue.specs.Rescue.{IsBasis, Basis, Verdict, as_given, at_path, before_first_by, by_body, body_of}
+use Rattle.adf_rescue.specs.Rescue.{Basis, Verdict, as_given, at_path, before_first_by, by_body, body_of}
 use Rattle.adf_rescue.specs.Rescue.{name_for, path_by, new_path, verdict_tree, verdict}
 
 -- a sound file stands with its content, if its blocks may be data
@@ -32,15 +32,6 @@ sound_verdict letters input a fs n vs survey marks is all =
     let t : Tree = verdict_tree (before_first_by letters input a.image) vs in
     ap (by_body a.image (blocks a.image) t (new_path vs (parent_node a.walk n)) (name_for letters none_untold a.image a.walk (node_block a.walk n))
     (node_block a.walk n)) (sound_stands letters input a fs n survey marks is all)
-
--- the marks of a survey are one function, so there is one list of verdicts
-pub same_basis : (image : List ℕ) (w : Walk) (fs : List FindingValue) (s t : ℕ → Bool) → AreMarks image w fs s → AreMarks image w fs t
-    → (let r : (ℕ → Bool) → Basis = λ m. record { image = image; walk = w; sound = m } in r s ≡ r t)
-same_basis image w fs s t a b = grind (arith, common_steps)
-
--- an image has one survey as a rescue takes it
-pub one_basis : (image : List ℕ) (l m : Basis) → IsBasis image l → IsBasis image m → l ≡ m
-one_basis image l m x y = grind (arith, one_survey, same_basis)
 
 -- nothing is lost without a finding
 pub nothing_lost : (image : List ℕ) (w : Walk) (fs : List FindingValue) → fs ≡ [] → (made : Bool) → has_lost made image w fs ≡ false

@@ -29,10 +29,6 @@ abbrev pub is_container : List ℕ → Walk → (ℕ → Bool) → (ℕ → ℕ)
 is_container given w s d p =
     in_range given p && (is_some (directory_at given w p) || is_lost given w s p && says_directory given p || is_made given w s d p)
 
--- block b is loose: it is lost, or made
-abbrev pub is_loose : List ℕ → Walk → (ℕ → Bool) → (ℕ → ℕ) → ℕ → Bool
-is_loose given w s d b = is_lost given w s b || is_made given w s d b
-
 -- the home of block b, in which it is hung: of one that is made the root, of a lost header its directory, if that is one
 unfoldable pub home : List ℕ → Walk → (ℕ → Bool) → (ℕ → ℕ) → ℕ → Option ℕ
 home given w s d b =

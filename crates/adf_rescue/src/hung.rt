@@ -1,16 +1,15 @@
 // The hung image: each lost header hangs in its directory, if that is found, lost itself or made.
 
-ghost use Rattle.std.specs.Prelude.{◌≡◌, ◌≢◌, ◌<◌, ◌≤◌, ◌||◌, ◌&&◌, ◌==◌, ℕ, Bool, List, Some, None, true, false, cond};
-ghost use Rattle.std.specs.Prelude.{length, is_some, option_map, slice_index, IfOk, IfSome, OnErr, OnOk};
-ghost use Rattle.adf_base.specs.Words.{block, with_block};
+ghost use Rattle.std.specs.Prelude.{◌≡◌, ◌<◌, ◌≤◌, ◌||◌, ◌&&◌, ◌==◌, ℕ, Bool, true};
+ghost use Rattle.std.specs.Prelude.{length, option_map, IfOk, IfSome, OnErr, OnOk};
+ghost use Rattle.adf_base.specs.Words.{with_block};
 ghost use Rattle.adf_blocks.specs.{HeadBlock.head_block, Sizes.blocks};
-ghost use Rattle.adf_blocks.specs.declared.layout.TheConstants.{CHECKSUM, PARENT};
-ghost use Rattle.adf_volume.specs.{Image.kind_of, Image.word_in, Start.is_image_len, Walk.heads, Walk.node_block, Walk.Walk};
-ghost use Rattle.adf_findings.specs.{Members.owning_entry, Members.owns, Members.has_mark, Survey.OnSurvey};
-ghost use Rattle.adf_rescue.specs.Lost.{AreLost, IsEvidence, directory_at, has_findings, is_vacant, lost_among};
+ghost use Rattle.adf_volume.specs.{Start.is_image_len, Walk.heads};
+ghost use Rattle.adf_findings.specs.{Members.has_mark, Survey.OnSurvey};
+ghost use Rattle.adf_rescue.specs.Lost.{AreLost, IsEvidence, has_findings, is_vacant, lost_among};
 ghost use Rattle.adf_rescue.specs.{Directories.AreDirectories, Hung.second_image, Hung.slot_word, Rescue.lost_name};
 ghost use Rattle.adf_rescue.specs.Hung.{AreEnds, AreLoose, directory_end, emptied, home, hung, hung_at, hung_in, hung_loose};
-ghost use Rattle.adf_rescue.specs.Hung.{is_container, is_loose, is_made, made_header, open_end, ready_in, readied};
+ghost use Rattle.adf_rescue.specs.Hung.{is_container, is_made, made_header, open_end, ready_in, readied};
 
 use crate::chains::leads_to;
 use crate::directories::{directories, directory_of, put};
@@ -412,27 +411,3 @@ pub fn hung(alloc: Global, survey: &Survey<'_>, made: bool) -> Result<Option<Vec
     };
     Ok(Some(changed(alloc, survey, &loose)?))
 }
-
-/// What stays of the image of a survey in its hung image, if it has the length of a volume: the length; each block that
-/// is not loose, nor a home of what is hung, nor the end there; each block of an entry that is no header; the boot block, with
-/// the kind; and of each block that is not loose, the words but the sum that lead to a part of the survey.
-pub fn hung_keeps()
-    ensures length { (given : List ℕ) (w : Walk) (s : ℕ → Bool) (d : ℕ → ℕ)
-        → is_image_len (length given) ≡ true → length (hung given w s d) ≡ length given }
-    ensures blocks { (given : List ℕ) (w : Walk) (s : ℕ → Bool) (d : ℕ → ℕ)
-        → is_image_len (length given) ≡ true → (b : ℕ) → is_loose given w s d b ≡ false
-        → ((c : ℕ) → home given w s d c ≢ Some b)
-        → ((c p : ℕ) → home given w s d c ≡ Some p → directory_end given w p ≢ b)
-        → block (hung given w s d) b ≡ block given b }
-    ensures entries { (given : List ℕ) (w : Walk) (s : ℕ → Bool) (d : ℕ → ℕ)
-        → is_image_len (length given) ≡ true → (b : ℕ) → is_some (owning_entry w b) ≡ true
-        → directory_at given w b ≡ None → ((n : ℕ) → node_block w n ≢ b)
-        → block (hung given w s d) b ≡ block given b }
-    ensures words { (given : List ℕ) (w : Walk) (s : ℕ → Bool) (d : ℕ → ℕ)
-        → is_image_len (length given) ≡ true → (b i : ℕ) → is_loose given w s d b ≡ false → i < 128 → i ≢ CHECKSUM
-        → owns w (word_in given b i) ≡ true → word_in (hung given w s d) b i ≡ word_in given b i }
-    ensures boot { (given : List ℕ) (w : Walk) (s : ℕ → Bool) (d : ℕ → ℕ)
-        → is_image_len (length given) ≡ true → block (hung given w s d) 0 ≡ block given 0 }
-    ensures kind { (given : List ℕ) (w : Walk) (s : ℕ → Bool) (d : ℕ → ℕ)
-        → is_image_len (length given) ≡ true → kind_of (hung given w s d) ≡ kind_of given }
-{}

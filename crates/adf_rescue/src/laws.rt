@@ -51,18 +51,6 @@ pub fn sound_files_stand()
         ≡ verdict_additions (first_verdicts_by letters input a) ++ verdict_additions (second_verdicts_by letters input a b) }
 {}
 
-/// A survey has one list of verdicts.
-pub fn one_rescue()
-    ensures first { (letters : Letters) (input : Input) (image : List ℕ) (w : Walk) (fs : List FindingValue) (s t : ℕ → Bool)
-        → AreMarks image w (grave fs) s → AreMarks image w (grave fs) t
-        → first_verdicts_by letters input (record { image = image; walk = w; sound = s })
-        ≡ first_verdicts_by letters input (record { image = image; walk = w; sound = t }) }
-    ensures second { (letters : Letters) (input : Input) (a : Basis) (image : List ℕ) (w : Walk) (fs : List FindingValue)
-        (s t : ℕ → Bool) → AreMarks image w (grave fs) s → AreMarks image w (grave fs) t
-        → second_verdicts_by letters input a (Some (record { image = image; walk = w; sound = s }))
-        ≡ second_verdicts_by letters input a (Some (record { image = image; walk = w; sound = t })) }
-{}
-
 /// Where a tree and a layout fit an image that is held whole, by the letters of the types that are accepted, and no data block
 /// of an FFS volume says that it is an OFS one, the rescue by these letters has that tree and leaves out nothing. Of a volume
 /// of type 0 or 1 nothing is lost, so that there is no second survey.

@@ -23,10 +23,10 @@ mod standing;
 
 pub use crate::claims::{claims_cache, claims_extension, claims_header};
 pub use crate::doubts::{Doubt, Doubtful};
-pub use crate::hung::{hung as hung_image, hung_keeps};
+pub use crate::hung::hung as hung_image;
 pub use crate::image::{block_count, block_in, name_of, root_of};
 pub use crate::laws::{
-    kept_files_are_whole, kept_files_lie_apart, one_rescue, rescued_additions_have_their_tree,
+    kept_files_are_whole, kept_files_lie_apart, rescued_additions_have_their_tree,
     rescues_are_laid, sound_files_stand, whole_files, whole_is_kept, whole_tells_nothing,
 };
 pub use crate::left_out::{LeftOut, Why};

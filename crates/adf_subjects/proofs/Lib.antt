@@ -6,7 +6,5 @@ pub mod OneSubject
 pub mod RescueAnswers
 pub mod SizedImages
 pub mod Subjects
-pub mod SubjectBytes
-pub mod SomeRescues
 pub mod Formats
 pub mod PathNames

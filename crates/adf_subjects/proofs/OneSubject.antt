@@ -1,22 +1,17 @@
 -- An input is surveyed as one thing.
 -- Letters: s, t, u what is surveyed; w, u, v walks of a survey, fs, gs, hs the findings; o, p the type that its entries tell, if it is another.
-use Rattle.std.proofs.Common.{◌≡◌, ◌∙◌, ℕ, Bool, true, false, List, Option, None, Some, ap, arith, refl, subst, sym}
-use Rattle.std.proofs.lemmas.Grind.{common_steps}
+use Rattle.std.proofs.Common.{◌≡◌, ◌∙◌, ℕ, Bool, true, false, List, Option, None, Some, ap, refl, subst, sym}
 use Rattle.adf_volume.specs.Walk.{Walk}
-use Rattle.adf_findings.specs.{OwnKind.told_type, SoundMarks.AreMarks, Survey.FindingValue}
+use Rattle.adf_findings.specs.{OwnKind.told_type, Survey.FindingValue}
 use Rattle.adf_findings.proofs.OneSurvey.{one_survey}
 use Rattle.adf_rescue.specs.Opened.{lacks_root, opened}
-use Rattle.adf_subjects.specs.Subject.{IsOtherType, IsTypeTold, IsTyped, SubjectValue, kind_image, typed_by, unless_own, with_kind_of}
+use Rattle.adf_subjects.specs.Subject.{IsOtherType, IsTypeTold, kind_image, unless_own, with_kind_of}
 
 -- two tests that hold of the same are one
 pub same_tests : (a b : Bool) → (a ≡ true → b ≡ true) → (b ≡ true → a ≡ true) → a ≡ b
 same_tests true b f g = sym (f refl)
 same_tests false true f g = let clash : false ≡ true = g refl in cc
 same_tests false false f g = refl
-
-pub one_marks : (image : List ℕ) (w : Walk) (fs : List FindingValue) (sound others : ℕ → Bool) → AreMarks image w fs sound
-    → AreMarks image w fs others → sound ≡ others
-one_marks image w fs sound others p q = grind (arith, common_steps, same_tests)
 
 one_other_type : (image : List ℕ) (w : Walk) (k : Option (List ℕ)) (o p : Option ℕ) → IsOtherType image w k o → IsOtherType image w k p → o ≡ p
 one_other_type image w None o p x y = x ∙ sym y
@@ -30,6 +25,3 @@ one_told input o p (w, fs, h, x) (v, gs, g, y) =
     let moved = subst (λ (u : Walk). IsOtherType image u (kind_image (lacks_root input) image u fs) o) same.0 x in
     one_other_type image v (kind_image (lacks_root input) image v gs) o p
     (subst (λ (hs : List FindingValue). IsOtherType image v (kind_image (lacks_root input) image v hs) o) same.1 moved) y
-
-pub one_typed : (s t u : SubjectValue) → IsTyped s t → IsTyped s u → t ≡ u
-one_typed s t u (o, is, x) (p, also, y) = x ∙ (ap (typed_by s) (one_told s.image o p is also) ∙ sym y)

@@ -130,24 +130,6 @@ RescuesBefore plus types s r = (t : SubjectValue) × IsBeforeFormat s t × Rescu
 
 -- the same without the deleted files
 
-abbrev pub RescuesSome : Types → Input → List LossValue → List ℕ → Basis → Option Basis → List FindingValue → (boot : List ℕ) → RescueValue → Type 0
-RescuesSome = RescuesSomeOf false
-
-abbrev pub RescuesBy : Types → Input → List LossValue → List ℕ → Basis → Option Basis → List FindingValue → (boot : List ℕ) → RescueValue → Type 0
-RescuesBy = RescuesByOf false
-
-abbrev pub RescuesBoth : Types → Input → List LossValue → List ℕ → Basis → Option (List ℕ) → List FindingValue → (boot : List ℕ) → RescueValue → Type 0
-RescuesBoth = RescuesBothOf false
-
-abbrev pub RescuesFound : Types → Input → List LossValue → List ℕ → List ℕ → Walk → List FindingValue → (boot : List ℕ) → RescueValue → Type 0
-RescuesFound = RescuesFoundOf false
-
-abbrev pub RescuesIn : Types → Input → List LossValue → List ℕ → List ℕ → (boot : List ℕ) → RescueValue → Type 0
-RescuesIn = RescuesInOf false
-
-abbrev pub RescuesRead : Types → Input → (lost : List LossValue) → List ℕ → (boot : List ℕ) → RescueValue → Type 0
-RescuesRead = RescuesReadOf false
-
 abbrev pub Rescues : Types → (held : ℕ) → (lost : List LossValue) → List ℕ → (boot : List ℕ) → RescueValue → Type 0
 Rescues = RescuesOf false
 

@@ -1,10 +1,8 @@
 // What an image held before it was formatted: all but what its survey has.
 
-ghost use Rattle.std.specs.Prelude.{◌≡◌, ◌<◌, ℕ, List, IfOk, OnOk, false, length, true};
-ghost use Rattle.adf_base.specs.Words.{block, with_block};
+ghost use Rattle.std.specs.Prelude.{◌≡◌, ◌<◌, IfOk, OnOk};
 ghost use Rattle.adf_blocks.specs.Sizes.{blocks};
-ghost use Rattle.adf_findings.specs.{Members.owns, Survey.OnSurvey};
-ghost use Rattle.adf_volume.specs.{Start.is_image_len, Walk.Walk};
+ghost use Rattle.adf_findings.specs.{Survey.OnSurvey};
 ghost use Rattle.adf_subjects.specs.Formatted.{IsBeforeFormat, masked, masked_at, masked_block};
 ghost use Rattle.adf_subjects.specs.Subject.{IsTyped, begun_subject, subject_value};
 
@@ -93,12 +91,3 @@ pub fn before_format(alloc: Global, subject: Subject) -> Result<Subject, NoMemor
     mask_standing(alloc, &stands, &mut hidden.image)?;
     Ok(hidden)
 }
-
-/// What an image held before it was formatted has as many bytes, and each block that the survey does not have is as it is in the
-/// image. Of the length of a volume, each block that the survey has is masked.
-pub fn masked_keeps()
-    ensures length { (image : List ℕ) (w : Walk) → length (masked image w) ≡ length image }
-    ensures others { (image : List ℕ) (w : Walk) (b : ℕ) → owns w b ≡ false → block (masked image w) b ≡ block image b }
-    ensures parts { (image : List ℕ) (w : Walk) (b : ℕ) → is_image_len (length image) ≡ true → b < blocks image
-        → owns w b ≡ true → block (masked image w) b ≡ masked_block b }
-{}

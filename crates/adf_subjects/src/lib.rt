@@ -12,7 +12,7 @@ mod remarks;
 mod runs;
 mod subject;
 
-pub use crate::formatted::{before_format, masked_keeps, standing};
+pub use crate::formatted::{before_format, standing};
 pub use crate::lengths::{blocks_read, stated_length};
 pub use crate::losses::{BlockRun, Loss, Reason};
 pub use crate::paths::{former_written, push_path, written_path};

@@ -5,7 +5,6 @@ pub mod BehindAnswers
 -- the answer with the map of another disk
 pub mod OtherDisks
 pub mod LongSurveys
-pub mod OneAnswer
 -- the word that names a map
 pub mod MapWords
 -- runs whose map is not had, is none, or is read

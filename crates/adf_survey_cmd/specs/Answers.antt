@@ -119,20 +119,6 @@ InquiryAnswer r held s reply = AnswerUnlessOther (is_other_disk r.map held s.ima
 abbrev pub SurveyAnswer : InquiryValue → List ℕ → Reply → Type 0
 SurveyAnswer r input reply = Hinted input (InquiryAnswer r (length input) (subject r.blocks input)) reply
 
--- words ask for one thing at most
-abbrev pub WordsAskForOneInquiry : Type 0
-WordsAskForOneInquiry = (words : List (List ℕ)) (r q : InquiryValue) → AsksSurvey words r → AsksSurvey words q → r ≡ q
-
--- the question is for a volume with all that can be kept: where the links are laid in it is free
-abbrev pub keeps_all : QuestionValue → Bool
-keeps_all (rescue_all with_deleted) = true
-keeps_all q = false
-
--- what else is asked of an image has one answer at most
-abbrev pub InquiriesHaveOneAnswer : Type 0
-InquiriesHaveOneAnswer =
-    (r : InquiryValue) (input : List ℕ) (a b : Reply) → keeps_all r.question ≡ false → SurveyAnswer r input a → SurveyAnswer r input b → a ≡ b
-
 -- what errors get where the words are refused
 abbrev pub survey_usage : List ℕ
 survey_usage =

@@ -157,10 +157,6 @@ survey_file args = file_met (matches_of survey_app args) (subcommand_of survey_a
 abbrev pub AsksSurvey : List Text → InquiryValue → Type 0
 AsksSurvey args r = (fault_of survey_app args ≡ []) × (inquiry_of args ≡ Some r)
 
--- the arguments ask for this, of a file or of standard input
-abbrev pub AsksSurveyOf : List Text → InquiryValue → Option Text → Type 0
-AsksSurveyOf args r file = AsksSurvey args r × (survey_file args ≡ file)
-
 -- clap refuses the arguments, or its matches lack the path, have such a flag or a file before a subcommand, have another text than a number of
 -- blocks or of a block, another than that of a map, or have --damaged beside --deleted, or --keep-all beside --before-format
 abbrev pub AreRefusedBySurvey : List Text → Type 0

@@ -13,7 +13,7 @@ ghost use Rattle.adf_runs.specs.Commands.{Reply};
 ghost use Rattle.adf_survey_cmd.specs.{CommandLine.asked, CommandLine.rescue, Answers.SurveyAnswer};
 ghost use Rattle.adf_subjects.specs.{Losses.LossValue, Subject.meant};
 ghost use Rattle.adf_subjects.specs.Rescues.{GivesAsked, GivesVolume, RescueValue, rescue_reply};
-ghost use Rattle.adf_survey_cmd.specs.Laws.{AddsToPlainRescue, kept_beside};
+ghost use Rattle.adf_survey_cmd.specs.Laws.{kept_beside};
 
 /// The volume that a rescue writes fits the tree of all that stands, by its letters. It has the boot blocks of an image that
 /// begins with `DOS`: the bytes behind the checksum, the checksum unless it is right for another type, and it is bootable if
@@ -44,10 +44,4 @@ pub fn rescued_with_deleted()
     ensures apart { (known : Input) (a : Basis) (b : Option Basis) (dir : List (List ℕ)) (x : Addition) (h i c : ℕ)
         → IsWholeIn (known_asked a.image a.walk b known) dir x h
         → data_standing (known_asked a.image a.walk b known) h i ≡ Some c → is_reached a.walk b c ≡ false }
-{}
-
-/// The answer of a rescue that keeps all is that of the rescue that keeps the type alone, or that one with links of the image that is
-/// read: the volume with them, and its lines but those of them.
-pub fn rescued_with_links()
-    ensures { AddsToPlainRescue }
 {}

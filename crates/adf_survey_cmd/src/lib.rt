@@ -12,10 +12,8 @@ mod runner;
 mod unread;
 mod work;
 
-pub use crate::command_line::{
-    Inquiry, Question, parse_survey as parse, survey_words_as_documented,
-};
-pub use crate::laws::{rescued_volumes, rescued_with_deleted, rescued_with_links};
+pub use crate::command_line::{Inquiry, Question, parse_survey as parse};
+pub use crate::laws::{rescued_volumes, rescued_with_deleted};
 pub use crate::map_runs::run_mapped;
-pub use crate::runner::{one_answer, run_files};
+pub use crate::runner::run_files;
 pub use crate::work::{Task, View, Work};

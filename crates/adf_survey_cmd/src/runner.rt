@@ -6,7 +6,7 @@ ghost use Rattle.adf_survey_cmd.specs.CommandLine.{survey_file};
 ghost use Rattle.adf_runs.specs.{Commands.IsUnanswered, Commands.TakesEnough, Streams.seen};
 ghost use Rattle.adf_file_runs.specs.FileRuns.{RunEndsOnFiles, known_files};
 ghost use Rattle.adf_survey_cmd.specs.MapRuns.{SurveyEnds};
-ghost use Rattle.adf_survey_cmd.specs.Answers.{InquiriesHaveOneAnswer, WordsAskForOneInquiry, survey_command};
+ghost use Rattle.adf_survey_cmd.specs.Answers.{survey_command};
 
 use crate::command_line::ABOUT;
 use crate::map_runs::run_mapped;
@@ -64,11 +64,3 @@ impl SystemProgram for Work {
         run_mapped(alloc, asked, input, output, errors)
     }
 }
-
-/// Words ask for one thing at most, and what is asked of an image has one answer at most: one status, one output and one text on
-/// errors.
-#[tactic(auto, using(crate::proofs::OneAnswer::one_answer, crate::proofs::OneAnswer::one_inquiry))]
-pub fn one_answer()
-    ensures request { WordsAskForOneInquiry }
-    ensures answer { InquiriesHaveOneAnswer }
-{}
