@@ -1,2 +1,0 @@
--- calls over memory
-pub mod CallAnswers
