@@ -6,8 +6,8 @@ use std::alloc::Global;
 /// An image of 16 blocks.
 pub type Image = [u8; 8192];
 
-/// Nothing moved.
-pub const NOT_MOVED: Moved = Moved {
+// Nothing moved.
+const NOT_MOVED: Moved = Moved {
     input: 0,
     output: 0,
     errors: 0,
