@@ -3,7 +3,7 @@ use Rattle.std.proofs.Common.{◌≡◌, ◌&&◌, ◌<◌, ◌+◌, ◌++◌, �
 use Rattle.std.proofs.{Common.append_assoc, Common.drop, Common.get_or, Common.length, Math.Seq.drop-cons, Math.Bool.and-true, lemmas.Grind.common_steps}
 use Rattle.adf_disk_cmd.specs.Checks.{AreChecked, TellsPartition, TellsPlace, TellsVolume, check_status, why_unchecked}
 use Rattle.adf_disk_cmd.specs.{Lines.volume_at, Objects.list_lines, Objects.partition_line, Objects.verdict_line}
-use Rattle.adf_cmd.specs.Answers.{Checks}
+use Rattle.adf_verdicts.specs.Verdicts.{IsVerdict}
 use Rattle.adf_volume.specs.declared.types.Types.TheVariants.{WithInternational}
 use Rattle.adf_partitions.specs.{declared.partition.Partition.Partition, declared.place.Place.Place}
 use Rattle.adf_partitions.specs.declared.fault.DiskFault.{DiskFault}
@@ -29,7 +29,7 @@ lines_end json ps n text h = sym (append-nil text) ∙ h
 
 -- what is answered to a volume that is checked is told of its partition
 pub told : (bytes line : List ℕ) (p : Partition) (q : Place) (sound : Bool) → p.place ≡ Ok q → why_unchecked p q ≡ None
-    → Checks WithInternational (volume_at bytes q) (on_output (check_status sound) line) → TellsPartition bytes p sound line
+    → IsVerdict WithInternational (volume_at bytes q) sound line → TellsPartition bytes p sound line
 told bytes line p q sound e why h =
     subst (λ place. TellsPlace bytes p place sound line) (sym e)
     (subst (λ o. TellsVolume (volume_at bytes q) o sound line) (sym why) h)

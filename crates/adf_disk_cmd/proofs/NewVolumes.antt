@@ -1,5 +1,5 @@
 -- New volumes. p is the plan of a partition, n the number of its blocks, c that of a cylinder.
-use Rattle.std.proofs.Common.{◌≡◌, ◌≤◌, ◌-◌, ◌*◌, ◌/◌, ◌%◌, ◌==◌, ◌∙◌, ℕ, Bool, true, false, List, [], ◌∷◌, length, ap, ap₂, inl, inr, refl, sym, arith, ◌&&◌, ◌||◌}
+use Rattle.std.proofs.Common.{◌≡◌, ◌≤◌, ◌-◌, ◌*◌, ◌/◌, ◌%◌, ◌==◌, ◌∙◌, ℕ, Bool, true, false, List, [], ◌∷◌, length, ap, ap₂, inl, inr, refl, arith, ◌&&◌, ◌||◌}
 use Rattle.std.proofs.lemmas.{Bool.leb-true, Grind.common_steps}
 use Rattle.std.specs.Prelude.{nat_le}
 use Rattle.adf_base.specs.{Dates.IsStamp, Words.with_bytes, Words.word}
@@ -11,10 +11,10 @@ use Rattle.adf_build.specs.declared.builder.BuildFault.TheVariants.{Full}
 use Rattle.adf_cached_files.specs.InPlace.{FitsInPlace}
 use Rattle.adf_new_caches.proofs.NewFits.{cached_by_type, cached_size, cached_tree_fits, cached_type}
 use Rattle.adf_new_caches.specs.NewCaches.{cached_volume}
-use Rattle.adf_uncached.specs.{Cached.cached_counts, Uncached.is_cached}
+use Rattle.adf_uncached.specs.Uncached.{is_cached}
 use Rattle.adf_disk_cmd.specs.Builds.{IsNewVolume, empty_tree, new_bytes}
-use Rattle.adf_cmd.specs.{Answers.Checks, CachedAnswers.cached_ok_line}
-use Rattle.adf_volume.specs.{declared.types.Types.TheVariants.WithInternational, Counts.counts_of, Fits.FitsBy, Image.letters_of, Image.word_in}
+use Rattle.adf_verdicts.specs.Verdicts.{IsValid}
+use Rattle.adf_volume.specs.{declared.types.Types.TheVariants.WithInternational, Fits.FitsBy, Image.word_in}
 use Rattle.adf_volume.specs.{Layout.Layout, Start.is_image_len}
 use Rattle.adf_names.specs.declared.kind.Kind.{Kind, TheVariants.Ofs, TheVariants.Ffs}
 use Rattle.adf_partitions.specs.{FileSystems.letters_of_system, FileSystems.planned_type, declared.plan.PartitionPlan.PartitionPlan}
@@ -22,9 +22,7 @@ use Rattle.adf_partitions.specs.declared.file_system.FileSystem.{FileSystem, The
 use Rattle.adf_plans.specs.PlanTexts.{has_cache_room, has_volume}
 use Rattle.adf_tree.proofs.TreeOfAdditions.{nothing_added_by}
 use Rattle.adf_tree.specs.Tree.{Tree}
-use Rattle.adf_runs.specs.Commands.{on_output}
-use Rattle.adf_texts.specs.Lines.{ok_line_by}
-use Rattle.adf_volume.proofs.{ImageStart.own_letters, Sizes.size_low, TypeLaws.own_fit_of}
+use Rattle.adf_volume.proofs.{Sizes.size_low, TypeLaws.own_fit_of}
 
 -- the label fits, the size is allowed, and there is room for a directory cache if there is to be one
 pub record MayBeNew (n : ℕ) (system : FileSystem) (name : List ℕ) : Type 0 where
@@ -61,12 +59,10 @@ boot_type Ffs Ascii = refl
 boot_type Ofs International = refl
 boot_type Ffs International = refl
 
--- what `check` answers to an image that fits a tree by these letters
+-- an image that fits a tree by these letters is valid
 accepted : (letters : Letters) (image : List ℕ) (t : Tree) (l : Layout) → FitsBy letters image t l
-    → Checks WithInternational image (on_output 0 (ok_line_by letters (counts_of image t l)))
-accepted letters image t l fits =
-    let own : letters_of image ≡ letters = own_letters letters image fits.boots in
-    inl (t, l, own_fit_of fits, ap (λ x. on_output 0 (ok_line_by x (counts_of image t l))) (sym own))
+    → IsValid WithInternational image
+accepted letters image t l fits = inl (t, l, own_fit_of fits)
 
 -- whole blocks of an allowed number
 sized : (n : ℕ) (image : List ℕ) → is_allowed n ≡ true → length image ≡ n * 512 → is_image_len (length image) ≡ true
@@ -75,10 +71,10 @@ sized n image size long =
     let count : length image / 512 ≡ n = omega (arith, long) in
     ap₂ (λ (a b : Bool). a && b) (ap (λ k. k == 0) whole) (ap is_allowed count ∙ size)
 
--- what `check` answers to an image that is read in place
+-- and one that is read in place
 accepted_cached : (image : List ℕ) (t : Tree) (l : Layout) (fits : FitsInPlace image t l) → is_cached image ≡ true → is_image_len (length image) ≡ true
-    → Checks WithInternational image (on_output 0 (cached_ok_line (cached_counts image fits.cached.walk t l)))
-accepted_cached image t l fits cached size = inr (inr (ap₂ (λ a b. a && b) cached size, inl (t, l, fits, refl)))
+    → IsValid WithInternational image
+accepted_cached image t l fits cached size = inr (ap₂ (λ a b. a && b) cached size, (t, l, fits))
 
 pub new_sound : (n : ℕ) (system : FileSystem) (label : List ℕ) → MayBeNew n system label
     → IsNewVolume n system label (new_bytes system (empty_tree system label) n)

@@ -4,19 +4,17 @@ use Rattle.std.specs.Prelude.{◌≡◌, ◌+◌, ◌*◌, ◌/◌, ◌==◌, �
 use Rattle.std.specs.Fmt.{decimal}
 use Rattle.adf_tree.specs.Tree.{Tree}
 use Rattle.adf_names.specs.declared.meta.TheConstants.{NO_STAMPS}
-use Rattle.adf_volume.specs.{Counts.counts_of, Fits.FitsBy, Image.word_in, Layout.Layout, declared.types.Types.TheVariants.WithInternational}
+use Rattle.adf_volume.specs.{Fits.FitsBy, Image.word_in, Layout.Layout, declared.types.Types.TheVariants.WithInternational}
 use Rattle.adf_build.specs.{Laid.volume, Plan.planned}
 use Rattle.adf_cached_files.specs.InPlace.{FitsInPlace}
 use Rattle.adf_new_caches.specs.NewCaches.{cached_volume}
-use Rattle.adf_uncached.specs.Cached.{cached_counts}
 use Rattle.adf_partitions.specs.{Disks.IsDisk, WrittenTables.disk_bytes, WrittenTables.planned_tables, declared.plan.PartitionPlan.PartitionPlan}
 use Rattle.adf_partitions.specs.{FileSystems.kind_of_system, FileSystems.letters_of_system, FileSystems.planned_type}
 use Rattle.adf_partitions.specs.declared.file_system.FileSystem.{FileSystem, TheVariants.WithCaches, TheVariants.WithoutCaches}
 use Rattle.adf_partitions.specs.Plans.{PlanValue, StandInPlaces, cylinder_blocks, planned_partitions}
 use Rattle.adf_plans.specs.{PlanTexts.IsText, PlanTexts.IsTextFault, PlanTexts.text_fault_text, declared.plan_text.TextFault.TextFault}
 use Rattle.adf_runs.specs.Commands.{Reply, on_errors, on_output}
-use Rattle.adf_texts.specs.Lines.{ok_line_by}
-use Rattle.adf_cmd.specs.{Answers.Checks, CachedAnswers.cached_ok_line}
+use Rattle.adf_verdicts.specs.Verdicts.{IsValid}
 
 -- a text and a line feed on errors, at status 1
 abbrev pub refusal : List ℕ → Reply
@@ -87,15 +85,15 @@ RefusesPlan text reply = (f : TextFault) × IsTextFault text f × (reply ≡ ref
 abbrev pub BuildsDisk : List ℕ → Reply → Type 0
 BuildsDisk text reply = BuildsPlan text reply ⊎ RefusesPlan text reply
 
--- these bytes are a volume of this tree, valid by its letters, so that `check` accepts them
+-- these bytes are a volume of this tree, valid by its letters
 pub record IsWithoutCaches (bytes : List ℕ) (t : Tree) (l : Layout) : Type 0 where
   pub fits : FitsBy t.letters bytes t l
-  pub checked : Checks WithInternational bytes (on_output 0 (ok_line_by t.letters (counts_of bytes t l)))
+  pub checked : IsValid WithInternational bytes
 
--- these bytes are a volume of this tree with right directory caches, and `check` accepts them
+-- these bytes are a valid volume of this tree with right directory caches
 pub record IsWithCaches (bytes : List ℕ) (t : Tree) (l : Layout) : Type 0 where
   pub fits : FitsInPlace bytes t l
-  pub checked : Checks WithInternational bytes (on_output 0 (cached_ok_line (cached_counts bytes fits.cached.walk t l)))
+  pub checked : IsValid WithInternational bytes
 
 -- these bytes are a sound volume of this file system and this tree
 abbrev pub FitsSystem : FileSystem → List ℕ → Tree → Layout → Type 0

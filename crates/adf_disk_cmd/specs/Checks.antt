@@ -3,18 +3,17 @@ use Rattle.std.specs.Prelude.{◌≡◌, ℕ, ◌==◌, ◌%◌, ◌&&◌, nat_l
 use Rattle.std.specs.Prelude.{if◌then◌else◌}
 use Rattle.std.specs.Fmt.{decimal}
 use Rattle.adf_blocks.specs.declared.layout.TheConstants.{MOST_BLOCKS}
-use Rattle.adf_runs.specs.Commands.{on_output}
 use Rattle.adf_partitions.specs.{Faults.first_failed, FaultTexts.field_fault_text, FaultTexts.place_fault_text, declared.field_fault.FieldFault.FieldFault}
 use Rattle.adf_partitions.specs.{declared.partition.Partition.Partition, declared.place.Place.Place, declared.place.PlaceFault.PlaceFault}
 use Rattle.adf_partitions.specs.declared.field_fault.FieldFault.TheVariants.{OtherBlocks}
 use Rattle.adf_disk_cmd.specs.{Lines.block_bytes_text, Lines.bytes_text, Lines.is_checked, Lines.volume_at, Objects.verdict_line, declared.unchecked.Unchecked.Unchecked}
-use Rattle.adf_cmd.specs.{Answers.Checks, CheckAnswers.IsCheckAnswer, declared.checking.CheckAnswer.CheckAnswer}
+use Rattle.adf_verdicts.specs.{Verdicts.IsVerdict, declared.verdicts.Verdict.Verdict}
 use Rattle.adf_volume.specs.declared.types.Types.TheVariants.{WithInternational}
 use Rattle.adf_disk_cmd.specs.declared.unchecked.Unchecked.TheVariants.{OtherType, BlockBytes, Fields, Reserved, OddBlocks, BadSize}
 
--- what a check answers to a volume, one of types 0 to 3
-abbrev pub IsVolumeAnswer : List ℕ → CheckAnswer → Type 0
-IsVolumeAnswer = IsCheckAnswer WithInternational
+-- the verdict on a volume, one of types 0 to 5
+abbrev pub IsVolumeAnswer : List ℕ → Verdict → Type 0
+IsVolumeAnswer image v = IsVerdict WithInternational image v.sound (string_bytes v.line)
 
 -- the status of a check: 0 where all is sound
 abbrev pub check_status : Bool → ℕ
@@ -49,7 +48,7 @@ unchecked_text BadSize = codes "block 0: bad size"
 
 -- of a volume that is checked its line tells what is answered to it, of another one why it is not checked
 abbrev pub TellsVolume : List ℕ → Option Unchecked → Bool → List ℕ → Type 0
-TellsVolume volume None sound line = Checks WithInternational volume (on_output (check_status sound) line)
+TellsVolume volume None sound line = IsVerdict WithInternational volume sound line
 TellsVolume volume (Some why) sound line = TellsText (unchecked_text why) sound line
 
 -- of a partition that has a place its line tells of the volume there, and of another one why it has none

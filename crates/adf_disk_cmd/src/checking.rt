@@ -14,9 +14,9 @@ use crate::listing::push_name;
 use crate::surveying::SurveyedDisk;
 use crate::unchecked::{unchecked_text, why_unchecked};
 use crate::volumes::volume_at;
-use adf_cmd::{CheckAnswer, answer_to_image};
 use adf_partitions::{DiskFault, Partition, Place};
 use adf_runs::{Outcome, Sink};
+use adf_verdicts::{Verdict, verdict_of};
 use adf_volume::Types;
 use std::alloc::{AllocError, Global};
 
@@ -31,7 +31,7 @@ struct Checks {
 #[derive(Drop)]
 pub struct CheckedVolume {
     pub place: Place,
-    pub answer: CheckAnswer,
+    pub answer: Verdict,
 }
 
 // The volume at a place, if it was checked.
@@ -52,7 +52,7 @@ fn answer_to_volume(
     bytes: &[u8],
     checked: &[CheckedVolume],
     place: Place,
-) -> Result<CheckAnswer, AllocError>
+) -> Result<Verdict, AllocError>
     ensures { (all : List ℕ) → All (IsAnswered all) checked.now → IsKnown all bytes.now checked.now place
         → IfOk result (IsVolumeAnswer (volume_at all place)) }
 {
@@ -60,9 +60,9 @@ fn answer_to_volume(
         Some(volume) => {
             let line = volume.answer.line.clone()?;
             let sound = volume.answer.sound;
-            Ok(CheckAnswer { sound, line })
+            Ok(Verdict { sound, line })
         }
-        None => answer_to_image(alloc, Types::WithInternational, volume_at(bytes, place)),
+        None => verdict_of(alloc, Types::WithInternational, volume_at(bytes, place)),
     }
 }
 
@@ -72,7 +72,7 @@ fn answer_to_partition(
     bytes: &[u8],
     checked: &[CheckedVolume],
     partition: &Partition,
-) -> Result<CheckAnswer, AllocError>
+) -> Result<Verdict, AllocError>
     ensures { (all : List ℕ) → All (IsAnswered all) checked.now → KnowsVolume all bytes.now checked.now partition.now
         → IfOk result (λ a. TellsPartition all partition.now a.sound (string_bytes a.line)) }
 {
@@ -86,14 +86,14 @@ fn answer_to_partition(
         },
         Err(fault) => format!(in alloc; "{fault}\n")?,
     };
-    Ok(CheckAnswer { sound: false, line })
+    Ok(Verdict { sound: false, line })
 }
 
 // Appends the line of a partition: its name, and what is told of it; or with `json` its object.
 fn push_line(
     text: &mut Vec<u8>,
     partition: &Partition,
-    answer: &CheckAnswer,
+    answer: &Verdict,
     json: bool,
 ) -> Result<(), AllocError>
     ensures { OnOk result (text.new.items ≡ text.old.items

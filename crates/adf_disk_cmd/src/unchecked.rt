@@ -1,11 +1,10 @@
 // Why a volume is not checked.
 
-ghost use Rattle.std.specs.Prelude.{◌≡◌, ◌<◌, ◌*◌, ◌++◌, List, ℕ, codes, length, string_bytes, IfOk};
+ghost use Rattle.std.specs.Prelude.{◌≡◌, ◌<◌, ◌*◌, ◌++◌, List, ℕ, codes, false, length, string_bytes, IfOk};
 ghost use Rattle.adf_blocks.specs.declared.layout.TheConstants.{MOST_BLOCKS};
 ghost use Rattle.adf_disk_cmd.specs.{Checks.unchecked_text, Checks.why_unchecked, declared.unchecked.Unchecked.Unchecked};
-ghost use Rattle.adf_cmd.specs.Answers.{Checks};
+ghost use Rattle.adf_verdicts.specs.Verdicts.{IsVerdict};
 ghost use Rattle.adf_volume.specs.declared.types.Types.TheVariants.{WithInternational};
-ghost use Rattle.adf_runs.specs.Commands.{on_output};
 
 use crate::listing::block_bytes_text;
 use crate::types::{bytes_text, is_checked};
@@ -80,5 +79,5 @@ pub fn unchecked_text(alloc: Global, why: Unchecked) -> Result<String, AllocErro
 /// What is written of a volume of more blocks than one that is read is what is answered to it.
 pub fn large_volumes_are_refused()
     ensures { (volume : List ℕ) → 512 * MOST_BLOCKS < length volume
-        → Checks WithInternational volume (on_output 1 (unchecked_text Unchecked.BadSize ++ codes "\n")) }
+        → IsVerdict WithInternational volume false (unchecked_text Unchecked.BadSize ++ codes "\n") }
 {}

@@ -9,12 +9,12 @@ ghost use Rattle.adf_remains.specs.Remains.{gap_line, kept_len, remains_reply};
 ghost use Rattle.adf_subjects.specs.Subject.{surveyed_as};
 ghost use Rattle.adf_runs.specs.Outcomes.{Blames, Does, DoesSilently, EndsBy};
 
-use adf_cmd::{ROOM, write_through};
 use adf_findings::{Gap, Remains, SoundFile, Survey};
 use adf_names::push_number;
 use adf_passages::are_before;
 use adf_runs::{Outcome, Sink, write_all};
 use adf_subjects::Subject;
+use adf_texts::{ROOM, write_through};
 use adf_tree::{Name, Node, write_path};
 use std::alloc::{AllocError, Global};
 

@@ -13,11 +13,11 @@ ghost use Rattle.adf_texts.specs.Lines.{fault_line};
 use crate::loss_lines::push_losses;
 use adf_base::NoMemory;
 use adf_boot_blocks::{BOOT_LEN, restore};
-use adf_cmd::refused_line;
 use adf_drafts::Draft;
 use adf_rescue::lay;
 use adf_runs::{Outcome, Sink, write_all};
 use adf_subjects::{Loss, Prepared, Subject, Unrescued, prepare_asked};
+use adf_texts::refused_line;
 use adf_volume::{Fault, Types};
 use std::alloc::{AllocError, Global};
 

@@ -18,7 +18,8 @@ use crate::blanks::write_blanks;
 use crate::command_line::{Question, SURVEY_USAGE as USAGE, parse_survey, survey_file};
 use crate::hints::{hinted, is_hard_disk};
 use crate::unread::{Dropped, unless_unread};
-use adf_cmd::most_image_bytes;
+use adf_base::BLOCK_LEN;
+use adf_blocks::MOST_BLOCKS;
 use adf_file_runs::FileProgram;
 use adf_findings::{Survey, some_survey, survey};
 use adf_listings::{write_findings, write_list};
@@ -31,6 +32,9 @@ use adf_subjects::{Subject, before_format, other_type};
 use adf_tree::{Name, read_path};
 use adf_volume::Types;
 use std::alloc::{AllocError, Global};
+
+/// The most bytes of an image.
+const MOST_IMAGE_BYTES: usize = MOST_BLOCKS as usize * BLOCK_LEN;
 
 /// What is shown of the survey of an image.
 #[derive(Drop)]
@@ -313,9 +317,7 @@ fn is_other_disk(map: &Option<Map>, held: usize, image: &[u8]) -> bool
 {
     match map {
         Some(map) => {
-            held <= most_image_bytes(Types::WithInternational)
-                && map.end() != held as u64
-                && map.end() != image.len() as u64
+            held <= MOST_IMAGE_BYTES && map.end() != held as u64 && map.end() != image.len() as u64
         }
         None => false,
     }
@@ -441,7 +443,7 @@ impl Program for Work {
     }
 
     fn limit(&self) -> usize {
-        most_image_bytes(Types::WithInternational)
+        MOST_IMAGE_BYTES
     }
 
     fn on<W: Sink>(&self, alloc: Global, bytes: &[u8], output: &mut W) -> Outcome {
@@ -456,7 +458,7 @@ impl Program for Work {
         input: &mut R,
         output: &mut W,
     ) -> Outcome {
-        match read_input(alloc, input, most_image_bytes(Types::WithInternational)) {
+        match read_input(alloc, input, MOST_IMAGE_BYTES) {
             Ok(bytes) => self.on_read(alloc, bytes, output),
             Err(outcome) => outcome,
         }
