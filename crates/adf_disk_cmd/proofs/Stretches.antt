@@ -11,7 +11,7 @@ use Rattle.adf_partitions.specs.{Places.end_of, declared.place.Place.Place}
 use Rattle.adf_runs.proofs.KnownBytes.{consumes_more, two_at_most}
 use Rattle.adf_runs.specs.Streams.{PassesOver, TakesAtMost, TakesCount, TakesFirst}
 use Rattle.adf_disk_cmd.proofs.HeldVolume.{whole_place}
-use Rattle.adf_disk_cmd.specs.HeldChecks.{IsAnswered, BeginsFrom, IsStretch, IsWithin, first_of_place, checked_places}
+use Rattle.adf_disk_cmd.specs.HeldChecks.{HasVerdict, BeginsFrom, IsStretch, IsWithin, first_of_place, checked_places}
 use Rattle.adf_disk_cmd.specs.declared.checking.CheckedVolume.{CheckedVolume}
 
 pub stretch_at_most : (start left : Option (List ℕ)) (k n : ℕ) (bytes : List ℕ) → IsStretch start left k bytes → k + length bytes ≤ n
@@ -68,7 +68,7 @@ volume_held all (Some rest) k f n bytes s before end =
 pub one_answered : (all image bytes : List ℕ) (left : Option (List ℕ)) (k : ℕ) (q : Place) (v : CheckedVolume) → IsStretch (Some all) left k bytes
     → BeginsFrom k q → IsWithin q → (k + length bytes < end_of q * 512 → IsAtEnd left)
     → image ≡ take (q.blocks * 512) (drop (q.first * 512 - k) bytes) → v.place ≡ q → IsVolumeAnswer image v.answer
-    → IsAnswered (take MOST_DISK_BYTES all) v
+    → HasVerdict (take MOST_DISK_BYTES all) v
 unfolding volume_at
 one_answered all image bytes left k q v s from within end e f answer =
     let f0 : ℕ = q.first * 512 in
@@ -114,14 +114,14 @@ AddsCheck image q few more = (v : CheckedVolume) × (v.place ≡ q) × IsVolumeA
 
 pub answer_added : (all image bytes : List ℕ) (left : Option (List ℕ)) (k : ℕ) (q : Place) (few more : List CheckedVolume)
     → AddsCheck image q few more
-    → All (IsAnswered (take MOST_DISK_BYTES all)) few → IsStretch (Some all) left k bytes → BeginsFrom k q → IsWithin q
+    → All (HasVerdict (take MOST_DISK_BYTES all)) few → IsStretch (Some all) left k bytes → BeginsFrom k q → IsWithin q
     → (k + length bytes < end_of q * 512 → IsAtEnd left) → image ≡ take (q.blocks * 512) (drop (q.first * 512 - k) bytes)
-    → All (IsAnswered (take MOST_DISK_BYTES all)) more
+    → All (HasVerdict (take MOST_DISK_BYTES all)) more
 answer_added all image bytes left k q few more (v, place, answer, e) h s from within end same =
     let one = one_answered all image bytes left k q v s from within end same place answer in
     let disk : List ℕ = take MOST_DISK_BYTES all in
-    subst (All (IsAnswered disk)) (sym e)
-    (All-append (IsAnswered disk) few (v ∷ []) h (All-cons (IsAnswered disk) v [] one (All-nil (IsAnswered disk))))
+    subst (All (HasVerdict disk)) (sym e)
+    (All-append (HasVerdict disk) few (v ∷ []) h (All-cons (HasVerdict disk) v [] one (All-nil (HasVerdict disk))))
 
 -- and its place behind theirs
 pub place_added : (image : List ℕ) (few more : List CheckedVolume) (places : List Place) (i : ℕ) (d : Place)

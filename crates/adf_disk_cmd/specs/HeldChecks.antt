@@ -10,8 +10,8 @@ use Rattle.adf_partitions.specs.{declared.partition.Partition.Partition, declare
 use Rattle.adf_disk_cmd.specs.declared.volumes.TheConstants.{MOST_DISK_BLOCKS}
 
 -- this is answered to the volume at its place
-abbrev pub IsAnswered : List ℕ → CheckedVolume → Type 0
-IsAnswered all v = IsVolumeAnswer (volume_at all v.place) v.answer
+abbrev pub HasVerdict : List ℕ → CheckedVolume → Type 0
+HasVerdict all v = IsVolumeAnswer (volume_at all v.place) v.answer
 
 -- whether a volume lies at this place
 abbrev pub lies_at : Place → CheckedVolume → Bool
@@ -31,7 +31,7 @@ KnowsVolume all bytes checked p = IfOk p.place (λ q. why_unchecked p q ≡ None
 
 -- all volumes of partitions are known that are checked
 pub record KnowsVolumes (all bytes : List ℕ) (checked : List CheckedVolume) (ps : List Partition) : Type 0 where
-  pub answered : All (IsAnswered all) checked
+  pub answered : All (HasVerdict all) checked
   pub known : All (KnowsVolume all bytes checked) ps
 
 -- a place lies within the largest disk
@@ -73,6 +73,6 @@ pub record IsStretch (start left : Option (List ℕ)) (begin : ℕ) (bytes : Lis
 -- what is held of an input, and how many bytes it has
 pub record HoldsChecks (all bytes : List ℕ) (checked : List CheckedVolume) (len : ℕ) : Type 0 where
   pub counted : min len MOST_DISK_BYTES ≡ min (length all) MOST_DISK_BYTES
-  pub answered : All (IsAnswered (take MOST_DISK_BYTES all)) checked
+  pub answered : All (HasVerdict (take MOST_DISK_BYTES all)) checked
   pub tables : bytes ≡ take TABLES_LEN all
   pub covered : CoversDisk bytes (checked_places checked)

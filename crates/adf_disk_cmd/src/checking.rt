@@ -3,7 +3,7 @@
 ghost use Rattle.std.specs.Prelude.{◌≡◌, ◌++◌, ◌&&◌, All, Bool, List, ℕ, false, find, option_copied, string_bytes, IfOk, OnOk};
 ghost use Rattle.adf_disk_cmd.specs.{Answers.ChecksAll, Lines.volume_at, Objects.verdict_line};
 ghost use Rattle.adf_disk_cmd.specs.Checks.{AreChecked, TellsPartition, IsVolumeAnswer};
-ghost use Rattle.adf_disk_cmd.specs.HeldChecks.{IsAnswered, IsKnown, KnowsVolume, KnowsVolumes, lies_at};
+ghost use Rattle.adf_disk_cmd.specs.HeldChecks.{HasVerdict, IsKnown, KnowsVolume, KnowsVolumes, lies_at};
 ghost use Rattle.adf_disk_cmd.specs.Surveys.{fault_lines, are_faultless};
 ghost use Rattle.adf_runs.specs.Outcomes.{Blames, EndsBy};
 
@@ -53,7 +53,7 @@ fn answer_to_volume(
     checked: &[CheckedVolume],
     place: Place,
 ) -> Result<Verdict, AllocError>
-    ensures { (all : List ℕ) → All (IsAnswered all) checked.now → IsKnown all bytes.now checked.now place
+    ensures { (all : List ℕ) → All (HasVerdict all) checked.now → IsKnown all bytes.now checked.now place
         → IfOk result (IsVolumeAnswer (volume_at all place)) }
 {
     match volume_checked(checked, place) {
@@ -73,7 +73,7 @@ fn answer_to_partition(
     checked: &[CheckedVolume],
     partition: &Partition,
 ) -> Result<Verdict, AllocError>
-    ensures { (all : List ℕ) → All (IsAnswered all) checked.now → KnowsVolume all bytes.now checked.now partition.now
+    ensures { (all : List ℕ) → All (HasVerdict all) checked.now → KnowsVolume all bytes.now checked.now partition.now
         → IfOk result (λ a. TellsPartition all partition.now a.sound (string_bytes a.line)) }
 {
     let line = match partition.place {

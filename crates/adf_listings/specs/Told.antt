@@ -15,15 +15,15 @@ findings_status [] = 0
 findings_status (f ∷ fs) = 1
 
 -- the status of findings with remarks in front
-abbrev pub told_status : List Remark → List FindingValue → ℕ
-told_status [] fs = findings_status fs
-told_status (r ∷ front) fs = 1
+abbrev pub listing_status : List Remark → List FindingValue → ℕ
+listing_status [] fs = findings_status fs
+listing_status (r ∷ front) fs = 1
 
 -- the lines of the findings and of wrong caches are told, or with `json` their objects
 abbrev pub TellsFindings : (json : Bool) → SubjectValue → Walk → List FindingValue → Reply → Type 0
-TellsFindings json s w fs reply = reply ≡ on_output (told_status s.front fs) (survey_text json s w fs)
+TellsFindings json s w fs reply = reply ≡ on_output (listing_status s.front fs) (survey_text json s w fs)
 
 -- so they are, and behind them those of what is found, in which each date has its text and the sound entries are marked
 abbrev pub TellsFound : (json : Bool) → SubjectValue → Walk → List FindingValue → Reply → Type 0
 TellsFound json s w fs reply = (date : Stamp → List ℕ) × AreDates date × (sound : ℕ → Bool) × AreMarks s.image w fs sound
-    × (reply ≡ on_output (told_status s.front fs) (listing_text json date sound s w fs))
+    × (reply ≡ on_output (listing_status s.front fs) (listing_text json date sound s w fs))

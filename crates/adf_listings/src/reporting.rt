@@ -2,7 +2,7 @@
 
 ghost use Rattle.std.specs.Prelude.{◌≡◌, cond, false};
 ghost use Rattle.adf_findings.specs.Survey.{OnSurvey};
-ghost use Rattle.adf_listings.specs.Told.{TellsFindings, told_status};
+ghost use Rattle.adf_listings.specs.Told.{TellsFindings, listing_status};
 ghost use Rattle.adf_subjects.specs.Subject.{surveyed_as};
 ghost use Rattle.adf_runs.specs.Outcomes.{Blames, EndsBy};
 
@@ -14,7 +14,7 @@ use std::alloc::Global;
 
 /// Whether there are no findings and no remarks in front.
 pub fn is_clean(subject: &Subject, survey: &Survey<'_>) -> bool
-    ensures { OnSurvey survey.now.image (λ _ fs. cond result 0 1 ≡ told_status subject.now.front.items fs) }
+    ensures { OnSurvey survey.now.image (λ _ fs. cond result 0 1 ≡ listing_status subject.now.front.items fs) }
 {
     subject.front.is_empty() && survey.findings().is_empty()
 }

@@ -9,7 +9,7 @@ use Rattle.adf_words.specs.CommandLine.{texts_of}
 use Rattle.adf_boot_blocks.specs.{Refusals.has_image_size, declared.refusal.TheConstants.MOST_BYTES}
 use Rattle.adf_runs.specs.{Commands.Reply, Streams.AreFirst}
 use Rattle.adf_readings.specs.{Mapped.MappedValue, Merge.AreFound, Merge.IsMergeOf, declared.doubt.Doubt.Doubt}
-use Rattle.adf_merge_cmd.specs.Answers.{AreAlike, AreReadings, IsLikeFirst, IsMergeReply, differ_in_type, first_of, is_alike, told_reply}
+use Rattle.adf_merge_cmd.specs.Answers.{AreAlike, AreReadings, IsLikeFirst, IsMergeReply, differ_in_type, first_reading, is_alike, told_reply}
 
 -- the name of a word
 pub named : (ws : List (Bor (List ℕ))) (i : ℕ) (w : Bor (List ℕ)) → i < length ws → w ≡ get_or ws i w → w.now ≡ get_or (texts_of ws) i w.now
@@ -52,8 +52,8 @@ like_first first r e =
     let size = image_size r parts.0 in
     (size.0, size.1, eqb-true (length r) (length first) (and_parts (length r == length first) (not (differ_in_type first r)) parts.1).0)
 
-pub all_sized : (rs : List (List ℕ)) → AreAlike rs → All (IsLikeFirst (first_of rs)) rs
-all_sized rs alike = λ k d lt. like_first (first_of rs) (get_or rs k d) (alike k d lt)
+pub all_sized : (rs : List (List ℕ)) → AreAlike rs → All (IsLikeFirst (first_reading rs)) rs
+all_sized rs alike = λ k d lt. like_first (first_reading rs) (get_or rs k d) (alike k d lt)
 
 -- what readings are merged into is answered, with the lines of what is told of its blocks
 pub merged_answer : (blocks : ℕ) (ms : List MappedValue) (doubts : List Doubt) (image lines : List ℕ) (sound : Bool) → IsMergeOf blocks ms image

@@ -21,12 +21,12 @@ differ_in_type first r = begins_with_dos first && (begins_with_dos r && not (sli
 abbrev pub is_alike : List ℕ → List ℕ → Bool
 is_alike first r = has_image_size r && ((length r == length first) && not (differ_in_type first r))
 
-abbrev pub first_of : List (List ℕ) → List ℕ
-first_of rs = slice_index_or rs 0 []
+abbrev pub first_reading : List (List ℕ) → List ℕ
+first_reading rs = slice_index_or rs 0 []
 
 -- all readings are like the first one
 abbrev pub AreAlike : List (List ℕ) → Type 0
-AreAlike rs = All (λ r. is_alike (first_of rs) r ≡ true) rs
+AreAlike rs = All (λ r. is_alike (first_reading rs) r ≡ true) rs
 
 -- a reading of whole blocks, not too many, and as long as the first one
 abbrev pub IsLikeFirst : List ℕ → List ℕ → Type 0
@@ -85,7 +85,7 @@ MappedReply (Some maps) size rs reply = IsMergeReply (size / 512) (mapped rs map
 -- the answer to readings of these names, and to the maps of these names and texts
 abbrev pub MergeReply : MergeOrder → List (List ℕ) → (texts : List (List ℕ)) → Reply → Type 0
 MergeReply o rs texts reply =
-    (AreAlike rs × MappedReply (named_maps (length (first_of rs)) o.maps texts) (length (first_of rs)) rs reply)
+    (AreAlike rs × MappedReply (named_maps (length (first_reading rs)) o.maps texts) (length (first_reading rs)) rs reply)
     ⊎ ((¬ AreAlike rs) × (reply.status ≡ 1) × (reply.output ≡ []))
 
 -- the readings are those of the files of these names, as far as they are known; of a longer file than the largest image one byte more

@@ -3,7 +3,7 @@
 ghost use Rattle.std.specs.Prelude.{◌≡◌, ◌≤◌, ◌<◌, ◌*◌, All, false, length};
 ghost use Rattle.adf_readings.specs.{Merge.HaveBlocks, declared.choice.TheConstants.MOST_READINGS};
 ghost use Rattle.adf_runs.specs.{Outcomes.Does, Streams.seen};
-ghost use Rattle.adf_merge_cmd.specs.Answers.{IsLikeFirst, IsMergeReply, MappedReply, MergeReply, first_of, mapped, named_maps, told_reply};
+ghost use Rattle.adf_merge_cmd.specs.Answers.{IsLikeFirst, IsMergeReply, MappedReply, MergeReply, first_reading, mapped, named_maps, told_reply};
 
 use crate::command_line::MergeOrder;
 use crate::doubt_lines::doubt_lines;
@@ -81,12 +81,12 @@ fn answer_sized<W: Sink>(
     output: &mut W,
 ) -> Outcome
     requires works { W.has_failed output.old ≡ false }
-    requires sized { All (IsLikeFirst (first_of readings.now)) readings.now }
+    requires sized { All (IsLikeFirst (first_reading readings.now)) readings.now }
     requires maps { length order.now.maps ≡ length texts.now }
     requires some { 0 < length readings.now }
     requires few { length readings.now ≤ MOST_READINGS }
-    ensures { Does (MappedReply (named_maps (length (first_of readings.now)) order.now.maps texts.now)
-        (length (first_of readings.now)) readings.now) result (seen W.held W.has_failed output.old output.new) }
+    ensures { Does (MappedReply (named_maps (length (first_reading readings.now)) order.now.maps texts.now)
+        (length (first_reading readings.now)) readings.now) result (seen W.held W.has_failed output.old output.new) }
 {
     let size = readings[0].bytes().len();
     match named_maps(alloc, size, &order.maps, texts) {

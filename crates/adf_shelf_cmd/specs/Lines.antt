@@ -14,9 +14,9 @@ abbrev pub batch_line : List ℕ → List ℕ → List ℕ
 batch_line name text = escaped name ++ (9 ∷ text)
 
 -- a line tells of a name what is reported of its file; an object may tell it in any way
-abbrev pub IsLine : (json : Bool) → List ℕ → List ℕ → List ℕ → Type 0
-IsLine false name text line = line ≡ batch_line name text
-IsLine true name text line = Unit {0}
+abbrev pub TellsReport : (json : Bool) → List ℕ → List ℕ → List ℕ → Type 0
+TellsReport false name text line = line ≡ batch_line name text
+TellsReport true name text line = Unit {0}
 
 -- the verdict on bytes for these types, on the known ones where some are: status 0 if they are sound, else 1
 abbrev pub ChecksKnown : Types → Option (List ℕ) → ℕ → List ℕ → Type 0
@@ -48,7 +48,7 @@ Reports = List ℕ → ℕ → List ℕ → Type 0
 
 -- a line may be that of a name: by a text that may be reported of its file
 abbrev pub IsLineOf : (json : Bool) → Reports → Reports
-IsLineOf json may name status line = (text : List ℕ) × may name status text × IsLine json name text line
+IsLineOf json may name status line = (text : List ℕ) × may name status text × TellsReport json name text line
 
 -- the lines of names in order, and the greatest status of one
 unfoldable pub AreBatchLines : Reports → List (List ℕ) → ℕ → List ℕ → Type 0

@@ -1,7 +1,7 @@
 // What is reported of a file, and the line of its name.
 
 ghost use Rattle.std.specs.Prelude.{◌≡◌, ◌++◌, false, OnOk};
-ghost use Rattle.adf_shelf_cmd.specs.Lines.{IsLine, IsReport, IsRunStatus, batch_line, report_status, report_text};
+ghost use Rattle.adf_shelf_cmd.specs.Lines.{TellsReport, IsReport, IsRunStatus, batch_line, report_status, report_text};
 
 use adf_file_runs::{Files, Unopened};
 use adf_json::{Member, push_object, without_feed};
@@ -133,7 +133,7 @@ pub fn put_line(
     report: &Report,
     json: bool,
 ) -> Result<(), AllocError>
-    ensures { OnOk result (IsLine json name.now (report_text report.now) text.new.items) }
+    ensures { OnOk result (TellsReport json name.now (report_text report.now) text.new.items) }
 {
     text.clear();
     if json {

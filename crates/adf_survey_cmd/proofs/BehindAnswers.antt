@@ -73,7 +73,7 @@ module _ (text : List ℕ) (answers : Reply → Type 0) (o before : Option (List
 
 -- a task tells findings in the form that is asked for
 
-form_told : (task : Task) (q : QuestionValue) → Answers task q → task_json task ≡ json_of q
+form_told : (task : Task) (q : QuestionValue) → ServesQuestion task q → task_json task ≡ json_of q
 form_told (Show (Findings json)) q is = sym (ap json_of is)
 form_told (Show (ListAll json)) q is = sym (ap json_of is)
 form_told (Show BlanksOf) q is = sym (ap json_of is)
@@ -91,7 +91,7 @@ form_question true q = refl
 form_question false q = refl
 
 -- the form by what a work has is that by what is asked
-pub form_asked : (r : InquiryValue) (map : Option MapValue) (blank : Bool) (task : Task) → map ≡ r.map → blank ≡ r.blank → Answers task r.question
+pub form_asked : (r : InquiryValue) (map : Option MapValue) (blank : Bool) (task : Task) → map ≡ r.map → blank ≡ r.blank → ServesQuestion task r.question
     → cond (is_some map || blank) (task_json task) None ≡ lines_form r
 form_asked r map blank task a b is =
     (λ i. cond (is_some (a i) || b i) (form_told task r.question is i) None) ∙ form_question (is_some r.map || r.blank) r.question

@@ -22,7 +22,7 @@ use Rattle.adf_rescue.proofs.{OpenedImages.length_opened, PassedFindings.unread_
 use Rattle.adf_rescue.proofs.MadeRoots.{sized as sized_len}
 use Rattle.adf_remains.specs.Copies.{CopiesFound}
 use Rattle.adf_survey_cmd.specs.Answers.{CopiesFromSurvey, ListsSurvey, QuestionAnswer, SurveyAnswer, Surveys, types_kept, unless_blank, unless_mapped}
-use Rattle.adf_listings.specs.Told.{TellsFound, told_status}
+use Rattle.adf_listings.specs.Told.{TellsFound, listing_status}
 use Rattle.adf_survey_cmd.specs.Answers.{AnswerBehind, AnswerUnlessOther, DroppedAnswer, InquiryAnswer, lines_form, unread_remarks}
 use Rattle.adf_survey_cmd.specs.UnreadLines.{IsBlankText, IsMappedText, IsUnreadText, TellsBlank, TellsPassages, is_other_disk}
 use Rattle.adf_passages.specs.PassageLines.{lines_of_passages, passages_text}
@@ -294,16 +294,16 @@ long_blank json true s t a b text is = long_unread json (blank_marks s.image) (b
 long_questions : (q : QuestionValue) (s t : SubjectValue) → s.front ≡ t.front → 512 * MOST_BLOCKS < length s.image
     → 512 * MOST_BLOCKS < length t.image → (reply : Reply) → QuestionAnswer q s reply → QuestionAnswer q t reply
 long_questions (report json) s t front a b reply told = of_typed s t (Surveys json) a b reply (λ x.
-    let e = of_long s.image x.0 x.1 (λ u gs. reply ≡ on_output (told_status s.front gs) (survey_text json s u gs)) a x.2 x.3 in
+    let e = of_long s.image x.0 x.1 (λ u gs. reply ≡ on_output (listing_status s.front gs) (survey_text json s u gs)) a x.2 x.3 in
     let text = λ (f : List Remark). (remarks_text json f ++ findings_text json s.image [] bad_size) ++ caches_text json s.image [] in
-    let same = ap (λ f. on_output (told_status f bad_size) (text f)) front
-    ∙ ap (on_output (told_status t.front bad_size)) (same_told json t.front s.image t.image) in
+    let same = ap (λ f. on_output (listing_status f bad_size) (text f)) front
+    ∙ ap (on_output (listing_status t.front bad_size)) (same_told json t.front s.image t.image) in
     ([], bad_size, long_survey t.image b, e ∙ same)) told
 long_questions (list json) s t front a b reply told = of_typed s t (ListsSurvey json) a b reply (λ x.
     let (date, dates, sound, marks, e) = of_long s.image x.0 x.1 (λ u gs. TellsFound json s u gs reply) a x.2 x.3 in
     let text = λ (f : List Remark). (remarks_text json f ++ findings_text json s.image [] bad_size) ++ caches_text json s.image [] in
-    let same = ap (λ f. on_output (told_status f bad_size) (text f ++ [])) front
-    ∙ ap (λ m. on_output (told_status t.front bad_size) (m ++ [])) (same_told json t.front s.image t.image) in
+    let same = ap (λ f. on_output (listing_status f bad_size) (text f ++ [])) front
+    ∙ ap (λ m. on_output (listing_status t.front bad_size) (m ++ [])) (same_told json t.front s.image t.image) in
     ([], bad_size, long_survey t.image b, (date, dates, (λ n. false), no_marks t.image bad_size, e ∙ same))) told
 long_questions (cat damaged path) s t front a b reply (inl bad) = inl bad
 long_questions (cat damaged path) s t front a b reply (inr told) = inr (of_typed s t (CopiesFromSurvey damaged path) a b reply (λ x.

@@ -8,13 +8,13 @@ use Rattle.adf_subjects.specs.Subject.{SubjectValue}
 use Rattle.adf_survey_cmd.specs.Answers.{AnswerUnlessOther, InquiryAnswer, RefusesMap}
 use Rattle.adf_survey_cmd.specs.CommandLine.{InquiryValue, QuestionValue}
 use Rattle.adf_survey_cmd.specs.UnreadLines.{is_other_disk, other_disk_line}
-use Rattle.adf_survey_cmd.specs.Work.{Answers}
+use Rattle.adf_survey_cmd.specs.Work.{ServesQuestion}
 use Rattle.adf_survey_cmd.specs.declared.work.Task.{Task, TheVariants.Show, TheVariants.Rescue, TheVariants.RescueDeleted}
 use Rattle.adf_survey_cmd.specs.declared.work.Task.TheVariants.{RescueAll, RescueBefore, Deleted}
 use Rattle.adf_survey_cmd.specs.declared.work.View.{TheVariants.Findings, TheVariants.List as ListAll, TheVariants.Cat, TheVariants.Blanks as BlanksOf}
 
 -- a task has a path that is read, or none
-task_refuses : (task : Task) (q : QuestionValue) → Answers task q → RefusesMap q (on_errors 1 other_disk_line)
+task_refuses : (task : Task) (q : QuestionValue) → ServesQuestion task q → RefusesMap q (on_errors 1 other_disk_line)
 task_refuses (Show (Findings json)) q is = subst (λ q. RefusesMap q (on_errors 1 other_disk_line)) (sym is) refl
 task_refuses (Show (ListAll json)) q is = subst (λ q. RefusesMap q (on_errors 1 other_disk_line)) (sym is) refl
 task_refuses (Show BlanksOf) q is = subst (λ q. RefusesMap q (on_errors 1 other_disk_line)) (sym is) refl
@@ -32,7 +32,7 @@ module _ (r : InquiryValue) (held : ℕ) (s : SubjectValue) (map : Option MapVal
   unless_other other is h = subst (λ x. EndsBy (AnswerUnlessOther x r s) w o after) (is ∙ ap (λ m. is_other_disk m held s.image) a) h
 
   -- what says that a map is that of another disk is the answer
-  pub other_told : (task : Task) → Answers task r.question → true ≡ is_other_disk map held s.image
+  pub other_told : (task : Task) → ServesQuestion task r.question → true ≡ is_other_disk map held s.image
       → EndsBy (λ reply. reply ≡ on_errors 1 other_disk_line) w o after → EndsBy (InquiryAnswer r held s) w o after
   other_told task asks other h =
       unless_other true other

@@ -16,13 +16,13 @@ Shows BlanksOf q = q ≡ blanks
 Shows (Cat names damaged) q = (path : List ℕ) × (q ≡ cat damaged path) × IsPathText path names.items
 
 -- the task is what is asked
-abbrev pub Answers : Task → QuestionValue → Type 0
-Answers (Show view) q = Shows view q
-Answers (Deleted file) q = q ≡ deleted file
-Answers (Rescue types) q = (keep_type : Bool) × (types ≡ types_kept keep_type) × (q ≡ rescue keep_type)
-Answers (RescueDeleted types) q = (keep_type : Bool) × (types ≡ types_kept keep_type) × (q ≡ rescue_deleted keep_type)
-Answers (RescueBefore with_deleted types) q = (keep_type : Bool) × (types ≡ types_kept keep_type) × (q ≡ rescue_before with_deleted keep_type)
-Answers (RescueAll with_deleted) q = q ≡ rescue_all with_deleted
+abbrev pub ServesQuestion : Task → QuestionValue → Type 0
+ServesQuestion (Show view) q = Shows view q
+ServesQuestion (Deleted file) q = q ≡ deleted file
+ServesQuestion (Rescue types) q = (keep_type : Bool) × (types ≡ types_kept keep_type) × (q ≡ rescue keep_type)
+ServesQuestion (RescueDeleted types) q = (keep_type : Bool) × (types ≡ types_kept keep_type) × (q ≡ rescue_deleted keep_type)
+ServesQuestion (RescueBefore with_deleted types) q = (keep_type : Bool) × (types ≡ types_kept keep_type) × (q ≡ rescue_before with_deleted keep_type)
+ServesQuestion (RescueAll with_deleted) q = q ≡ rescue_all with_deleted
 
 -- the form of the lines that a task tells findings in
 abbrev pub task_json : Task → Option Bool
@@ -32,4 +32,4 @@ task_json task = None
 
 -- the work is what is asked for, of as many blocks, if any are named, by a map, if one is given, and of blank blocks or not
 abbrev pub Meets : Work → InquiryValue → Type 0
-Meets work r = (work.blocks ≡ r.blocks) × (work.map ≡ r.map) × (work.blank ≡ r.blank) × AreFew r.blocks × Answers work.task r.question
+Meets work r = (work.blocks ≡ r.blocks) × (work.map ≡ r.map) × (work.blank ≡ r.blank) × AreFew r.blocks × ServesQuestion work.task r.question

@@ -9,7 +9,7 @@ ghost use Rattle.adf_survey_cmd.specs.Answers.{AnswerBehind, HasBadSurveyPath, I
 ghost use Rattle.adf_survey_cmd.specs.Answers.{lines_form, types_kept};
 ghost use Rattle.adf_survey_cmd.specs.CommandLine.{InquiryValue, QuestionValue, question_value};
 ghost use Rattle.adf_survey_cmd.specs.UnreadLines.{is_other_disk, other_disk_line};
-ghost use Rattle.adf_survey_cmd.specs.Work.{Answers, Meets, Shows, task_json};
+ghost use Rattle.adf_survey_cmd.specs.Work.{ServesQuestion, Meets, Shows, task_json};
 ghost use Rattle.adf_subjects.specs.Rescues.{Replies, RescuesBefore, RescuesTypedOf};
 ghost use Rattle.adf_subjects.specs.Subject.{IsTyped, SubjectValue, begun_subject, other_type, subject_value};
 
@@ -86,7 +86,7 @@ fn types_kept(keep_type: bool) -> Types
 
 // The task that is asked.
 fn task_for(alloc: Global, question: Question<'_>) -> Result<Task, WorkFault>
-    ensures ok { IfOk result (λ task. Answers task (question_value question.entry)) }
+    ensures ok { IfOk result (λ task. ServesQuestion task (question_value question.entry)) }
     ensures fault { IfErr result (λ fault.
         IsNoWork fault ⊥ (HasBadSurveyPath (question_value question.entry))) }
 {
@@ -292,7 +292,7 @@ impl Task {
     // Does the task with what is surveyed of an input, and lets that go where it is no longer wanted.
     fn on_subject<W: Sink>(&self, alloc: Global, subject: Subject, output: &mut W) -> Outcome
         requires { W.has_failed output.old ≡ false }
-        ensures ends { (q : QuestionValue) → Answers self.now q
+        ensures ends { (q : QuestionValue) → ServesQuestion self.now q
             → EndsBy (QuestionAnswer q (subject_value subject)) result
             (W.held output.old) (W.held output.new) }
         ensures blames { Blames result false (W.has_failed output.new) }
