@@ -1,22 +1,15 @@
 -- From outcomes to answers. `part` are the first bytes of an input, as many as count.
-use Rattle.std.proofs.Common.{◌≡◌, ◌≢◌, ◌+◌, ◌++◌, ◌∙◌, inl, inr, ℕ, List, Option, ap, arith, codes, length, min, subst, take}
+use Rattle.std.proofs.Common.{◌≡◌, ◌+◌, ◌∙◌, inl, ℕ, List, Option, ap, arith, length, min, subst, take}
 use Rattle.std.proofs.lemmas.List.{take-take, take_min}
-use Rattle.adf_edit_cmd.specs.{Answers.EditAnswer, Answers.Edits, Edited.IsEdited, Edited.StopsInput, Stops.stop_text}
-use Rattle.adf_edit_cmd.specs.{declared.program.TheConstants.MOST_INPUT_BYTES, declared.stop.Stop.Stop, declared.stop.Stop.TheVariants.NoMemory}
+use Rattle.adf_edit_cmd.specs.{Answers.EditAnswer, Answers.Edits, Edited.IsEdited, declared.program.TheConstants.MOST_INPUT_BYTES}
 use Rattle.adf_runs.proofs.Endings.{does_weaker, ends_weaker}
-use Rattle.adf_runs.specs.Commands.{Reply, on_errors, on_output}
+use Rattle.adf_runs.specs.Commands.{Reply, on_output}
 use Rattle.adf_runs.specs.{Outcomes.Does, Outcomes.EndsBy, Streams.Seen, declared.outcome.Outcome.Outcome}
 
 -- a new image that is written is an answer
 pub written : {w : Outcome} {output : Seen} (input new : List ℕ) → IsEdited input new → Does (λ reply. reply ≡ on_output 0 new) w output
     → Does (Edits input) w output
 written input new is h = does_weaker (λ reply. reply ≡ on_output 0 new) (Edits input) (λ reply e. inl (new, is, e)) h
-
--- so is why there is none
-pub refused : (input : List ℕ) (stop : Stop) (w : Outcome) (o o' : Option (List ℕ)) → StopsInput input stop → stop ≢ NoMemory
-    → EndsBy (λ reply. reply ≡ on_errors 1 (stop_text stop ++ codes "\n")) w o o' → EndsBy (Edits input) w o o'
-refused input stop w o o' is ne h =
-    ends_weaker (λ reply. reply ≡ on_errors 1 (stop_text stop ++ codes "\n")) (Edits input) w o o' (λ reply e. inr (stop, ne, is, e)) h
 
 -- what is answered to as many bytes as count is the answer to an input
 pub part_ends : (bytes part : List ℕ) (w : Outcome) (o o' : Option (List ℕ)) → part ≡ take MOST_INPUT_BYTES bytes → EndsBy (Edits part) w o o'

@@ -1,22 +1,18 @@
 -- The disk of an image with directory caches is that of the image as one without.
--- Letters: u the image as one without caches; n a number of blocks; b a block, c a cause; t a tree, l a layout.
+-- Letters: u the image as one without caches; n a number of blocks; t a tree, l a layout.
 use Rattle.std.specs.Prelude.{Bool, false, ◌/◌}
 use Rattle.std.proofs.Common.{◌≡◌, ◌≤◌, ◌∙◌, ℕ, true, List, ap, arith, length, subst}
 use Rattle.std.proofs.lemmas.Bool.Decides.{nat_tests}
 use Rattle.adf_blocks.specs.Sizes.{blocks, is_allowed}
-use Rattle.adf_blocks.specs.declared.cause.Cause.{Cause}
 use Rattle.adf_boot_blocks.specs.declared.boot.TheConstants.{BOOT_LEN}
 use Rattle.adf_tree.specs.Tree.{Tree}
 use Rattle.adf_volume.specs.Layout.{Layout}
 use Rattle.adf_findings.proofs.SomeSurvey.{some_survey}
 use Rattle.adf_findings.specs.Survey.{OnSurvey}
 use Rattle.adf_uncached.proofs.SameLength.{length-uncached}
-use Rattle.adf_uncached.specs.{Cached.FirstFaultCached, Cached.FitsCached, Uncached.IsUncached, Uncached.uncached}
-use Rattle.adf_uncached.specs.{Verdict.FirstFaultUncached, Verdict.FitsUncached, declared.images.Uncached.Uncached}
+use Rattle.adf_uncached.specs.{Cached.FitsCached, Uncached.IsUncached, Verdict.FitsUncached, declared.images.Uncached.Uncached}
 use Rattle.adf_cache_laying.proofs.TreeSteps.{fits_image}
-use Rattle.adf_edit_cmd.specs.CachedDisks.{IsUncachedFault}
-use Rattle.adf_edit_cmd.specs.Edited.{IsCachedFault, IsVolumeWith}
-use Rattle.adf_edit_cmd.specs.declared.stop.Stop.{Stop, TheVariants.Image, TheVariants.NoMemory}
+use Rattle.adf_edit_cmd.specs.Edited.{IsVolumeWith}
 
 -- the image of a volume has an allowed size
 pub allowed_with : (caches : Bool) (image : List ℕ) (t : Tree) → IsVolumeWith caches image t → is_allowed (blocks image) ≡ true
@@ -36,19 +32,3 @@ module _ (image : List ℕ) (u : Uncached) (held : OnSurvey image (λ w _. IsUnc
 
   pub same_tree : (t : Tree) → (l : Layout) × FitsUncached u.fault u.image.items t l → (l : Layout) × FitsCached image t l
   same_tree t fits = (fits.0, fits_image image u held t fits.0 fits.1)
-
-  first_image : (b : ℕ) (c : Cause) → FirstFaultUncached u.fault u.image.items b c → FirstFaultCached image b c
-  first_image b c first =
-      let s = some_survey image in
-      let is = held s.0 s.1 s.2 in
-      record {
-        walk = s.0;
-        findings = s.1;
-        survey = s.2;
-        first = subst (λ f. FirstFaultUncached f (uncached image s.0) b c) is.fault (subst (λ v. FirstFaultUncached u.fault v b c) is.bytes first);
-      }
-
-  pub same_stop : (stop : Stop) → IsUncachedFault u stop → IsCachedFault image stop
-  same_stop (Image f) first = first_image f.block f.cause first
-  same_stop NoMemory h = tt
-  same_stop _ h = h

@@ -2,9 +2,8 @@
 use Rattle.std.specs.Prelude.{◌≡◌, ℕ, Bool, List, ◌++◌, Option, None, Some, codes, drop, if◌then◌else◌, is_some, length, option_map, take}
 use Rattle.std.specs.{Option.option_or, Str.bytes_eq}
 use Rattle.adf_base.specs.declared.hash.Letters.{Letters, TheVariants.Ascii, TheVariants.International}
-use Rattle.adf_manifest.specs.Manifest.{ExplainsFault, IsManifest}
+use Rattle.adf_manifest.specs.Manifest.{IsManifest}
 use Rattle.adf_tree.specs.Tree.{Tree}
-use Rattle.adf_edit_cmd.specs.declared.stop.Stop.{Stop, TheVariants.Manifest, TheVariants.NoMemory}
 
 -- what stands behind these first bytes of a text, if it begins with them
 abbrev pub behind_front : List ℕ → List ℕ → Option (List ℕ)
@@ -38,13 +37,3 @@ letters_of_plain (Some plain) = International
 abbrev pub IsManifestBy : List ℕ → Tree → ℕ → Type 0
 IsManifestBy text t n =
     (u : Tree) × IsManifest (plain_of (international_plain text) text) u n × (t ≡ record u { letters = letters_of_plain (international_plain text) })
-
--- why a plain manifest has no tree
-abbrev pub IsPlainFault : List ℕ → Stop → Type 0
-IsPlainFault plain (Manifest f) = ExplainsFault f plain
-IsPlainFault plain NoMemory = Unit {0}
-IsPlainFault plain _ = ⊥
-
--- why any has none
-abbrev pub IsManifestFault : List ℕ → Stop → Type 0
-IsManifestFault text stop = IsPlainFault (plain_of (international_plain text) text) stop

@@ -1,5 +1,5 @@
 -- Scripts. `left` is what is left of a text from a line on, es are edits.
-use Rattle.std.specs.Prelude.{◌≡◌, ◌≤◌, ◌⊎◌, ◌+◌, ℕ, Bool, List, [], ◌∷◌, ◌++◌, Option, Some, None, Result, Ok, Err, codes, drop, false, if◌then◌else◌, length, nat_lt, true}
+use Rattle.std.specs.Prelude.{◌≡◌, ◌≤◌, ◌⊎◌, ◌+◌, ℕ, Bool, List, [], ◌∷◌, ◌++◌, Option, Some, None, Result, Ok, Err, codes, drop, false, if◌then◌else◌, length, true}
 use Rattle.std.specs.{Prelude.is_some, Prelude.option_and_then, Str.bytes_eq}
 use Rattle.adf_base.specs.declared.hash.Letters.{Letters, TheVariants.Ascii, TheVariants.International}
 use Rattle.adf_edits.specs.{Edits.EditValue, Edits.edit_value, Edits.file, Edits.replace, declared.edits.Edit.Edit}
@@ -134,8 +134,3 @@ files_len (e ∷ es) = bytes_taken e + files_len es
 -- the bytes behind those that an edit takes
 abbrev pub behind_file : EditValue → List ℕ → List ℕ
 behind_file e given = drop (bytes_taken e) given
-
--- the bytes behind those of all files, if there are enough
-unfoldable pub behind_files : List EditValue → List ℕ → Option (List ℕ)
-behind_files [] given = Some given
-behind_files (e ∷ es) given = if nat_lt (length given) (bytes_taken e) then None else behind_files es (behind_file e given)

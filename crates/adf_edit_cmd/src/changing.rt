@@ -1,15 +1,13 @@
 // A disk that is changed in its place, or into a new file.
 
-ghost use Rattle.std.specs.Prelude.{◌≡◌, ◌++◌, ℕ, List, codes, false, IfErr, IfOk, OnOk, string_bytes};
-ghost use Rattle.adf_edit_cmd.specs.Changing.{AreRead, AreTaken, IsFileFault, IsInputOf, IsLineTaken, IsNoChange, IsNoChangeTold, OrderEnds};
-ghost use Rattle.adf_edit_cmd.specs.{Changing.IsNoInput, Changing.IsStopTold, Changing.change_stop_line, Changing.replaces_manifest};
-ghost use Rattle.adf_edit_cmd.specs.{Edited.IsEdited};
+ghost use Rattle.std.specs.Prelude.{◌≡◌, ◌≢◌, ◌≤◌, false, IfOk};
+ghost use Rattle.adf_edit_cmd.specs.{Changing.AreRead, Changing.IsNewImage, Changing.OrderEnds, Manifests.is_manifest};
 ghost use Rattle.adf_file_runs.specs.FileRuns.{known_files};
-ghost use Rattle.adf_runs.specs.Streams.{seen};
 
-use crate::editing::new_image;
+use crate::editing::by_script;
 use crate::manifests::is_manifest;
 use crate::program::MOST_INPUT_BYTES;
+use crate::script::read_script;
 use crate::stop::Stop;
 use crate::words::{Line, Order};
 use adf_file_changes::{ChangeFiles, refuse_change};
@@ -33,12 +31,17 @@ pub enum NoChange<'a> {
 }
 
 impl<'a> From<AllocError> for NoChange<'a> {
-    ghost use Rattle.adf_edit_cmd.specs.declared.changing.NoChange.TheVariants.{NoMemory};
-
-    ghost from_gives = { λ _ f. f ≡ NoMemory };
-
     fn from(_e: AllocError) -> NoChange<'a> {
         NoChange::NoMemory
+    }
+}
+
+impl<'a> From<Stop> for NoChange<'a> {
+    fn from(stop: Stop) -> NoChange<'a> {
+        match stop {
+            Stop::NoMemory => NoChange::NoMemory,
+            _ => NoChange::Edits(stop),
+        }
     }
 }
 
@@ -55,8 +58,7 @@ pub fn read_file<'a, F: Files>(
     files: &F,
     name: &'a str,
 ) -> Result<Vec<u8>, NoChange<'a>>
-    ensures read { IfOk result (λ bytes. AreRead (F.bytes_of files.now) name.now bytes.items) }
-    ensures fault { IfErr result (IsFileFault (known_files F.bytes_of F.may_fail F.may_open files.now)) }
+    ensures { IfOk result (λ bytes. AreRead (F.bytes_of files.now) name.now bytes.items) }
 {
     let mut source = match files.open(name.as_bytes()) {
         Ok(source) => source,
@@ -70,11 +72,7 @@ pub fn read_file<'a, F: Files>(
 }
 
 // Appends a line with this end, and these bytes.
-fn push_line(taken: &mut Taken, text: &str, end: &str, bytes: &[u8]) -> Result<(), AllocError>
-    ensures script { OnOk result
-        (taken.new.script.items ≡ taken.old.script.items ++ (text.now ++ (end.now ++ codes "\n"))) }
-    ensures given { OnOk result (taken.new.given.items ≡ taken.old.given.items ++ bytes.now) }
-{
+fn push_line(taken: &mut Taken, text: &str, end: &str, bytes: &[u8]) -> Result<(), AllocError> {
     taken.script.extend_from_slice(text.as_bytes())?;
     taken.script.extend_from_slice(end.as_bytes())?;
     taken.script.extend_from_slice(b"\n")?;
@@ -87,11 +85,7 @@ fn take_line<'a, F: Files>(
     files: &F,
     line: &Line<'a>,
     taken: &mut Taken,
-) -> Result<(), NoChange<'a>>
-    ensures taken { OnOk result (IsLineTaken (F.bytes_of files.now) line.now taken.old.script.items taken.old.given.items
-        taken.new.script.items taken.new.given.items) }
-    ensures fault { IfErr result (IsFileFault (known_files F.bytes_of F.may_fail F.may_open files.now)) }
-{
+) -> Result<(), NoChange<'a>> {
     let Some(host) = line.host else {
         push_line(taken, &line.text, "", b"")?;
         return Ok(());
@@ -108,10 +102,7 @@ fn take_lines<'a, F: Files>(
     alloc: Global,
     files: &F,
     lines: &[Line<'a>],
-) -> Result<Taken, NoChange<'a>>
-    ensures taken { IfOk result (λ taken. AreTaken (F.bytes_of files.now) lines.now taken.script.items taken.given.items) }
-    ensures fault { IfErr result (IsFileFault (known_files F.bytes_of F.may_fail F.may_open files.now)) }
-{
+) -> Result<Taken, NoChange<'a>> {
     let mut taken = Taken {
         script: Vec::new(alloc),
         given: Vec::new(alloc),
@@ -124,58 +115,31 @@ fn take_lines<'a, F: Files>(
 
 // Whether an order would put the new image in the place of a manifest.
 fn replaces_manifest(order: &Order<'_>, image: &[u8]) -> bool
-    ensures { result ≡ replaces_manifest order.now image.now }
+    ensures { result ≡ false → order.now.target.now ≡ order.now.image.now → is_manifest image.now ≡ false }
 {
     order.target == order.image && is_manifest(image)
 }
 
-// The input that an order stands for.
-fn input_of<'a, F: Files>(
-    alloc: Global,
-    files: &F,
-    order: &Order<'a>,
-) -> Result<Vec<u8>, NoChange<'a>>
-    ensures input { IfOk result (λ input. IsInputOf (F.bytes_of files.now) order.now input.items) }
-    ensures fault { IfErr result (IsNoInput (known_files F.bytes_of F.may_fail F.may_open files.now) order.now) }
-{
-    let taken = take_lines(alloc, files, &order.lines)?;
-    let image = read_file(alloc, files, order.image)?;
-    if replaces_manifest(order, &image) {
-        return Err(NoChange::InPlace);
-    }
-    let mut input = taken.script;
-    input.extend_from_slice(b"end\n")?;
-    input.extend_from_slice(&taken.given)?;
-    input.extend_from_slice(&image)?;
-    Ok(input)
-}
-
 // The new image.
-#[tactic(auto, using(crate::proofs::TakenLines::file_fault))]
 fn changed_image<'a, F: Files>(
     alloc: Global,
     files: &F,
     order: &Order<'a>,
 ) -> Result<Vec<u8>, NoChange<'a>>
-    ensures image { IfOk result (λ new. (input : List ℕ) × IsInputOf (F.bytes_of files.now) order.now input
-        × IsEdited input new.items) }
-    ensures fault { IfErr result (IsNoChange (known_files F.bytes_of F.may_fail F.may_open files.now) order.now) }
+    ensures { IfOk result (λ new. IsNewImage (F.bytes_of files.now) order.now.image.now order.now.target.now new.items) }
 {
-    let input = match input_of(alloc, files, order) {
-        Ok(input) => input,
-        Err(why) => return Err(why),
-    };
-    match new_image(alloc, &input) {
-        Ok(new) => Ok(new),
-        Err(Stop::NoMemory) => Err(NoChange::NoMemory),
-        Err(stop) => Err(NoChange::Edits(stop)),
+    let mut taken = take_lines(alloc, files, &order.lines)?;
+    let image = read_file(alloc, files, order.image)?;
+    if replaces_manifest(order, &image) {
+        return Err(NoChange::InPlace);
     }
+    taken.script.extend_from_slice(b"end\n")?;
+    let (script, _) = read_script(alloc, &taken.script)?;
+    Ok(by_script(alloc, script, &taken.given, &image)?)
 }
 
 // The line of why the edits cannot be applied.
-fn change_stop_line(alloc: Global, stop: Stop) -> Result<String, AllocError>
-    ensures { IfOk result (λ line. string_bytes line ≡ change_stop_line stop) }
-{
+fn change_stop_line(alloc: Global, stop: Stop) -> Result<String, AllocError> {
     match stop {
         Stop::Image(fault) => format!(in alloc; "image: {fault}\n"),
         Stop::TooDeep => format!(in alloc; "image: too deep: 255 names at most\n"),
@@ -186,7 +150,7 @@ fn change_stop_line(alloc: Global, stop: Stop) -> Result<String, AllocError>
 // Says why the edits cannot be applied, and returns the status.
 fn tell_stop<E: Sink>(alloc: Global, stop: Stop, errors: &mut E) -> u8
     requires { E.has_failed errors.old ≡ false }
-    ensures { IsStopTold stop result (seen E.held E.has_failed errors.old errors.new) }
+    ensures { (result ≢ 0) × (result ≤ 3) }
 {
     match change_stop_line(alloc, stop) {
         Ok(line) => {
@@ -203,7 +167,7 @@ fn tell_stop<E: Sink>(alloc: Global, stop: Stop, errors: &mut E) -> u8
 /// Says why there is no new image, and returns the status.
 pub fn tell_no_change<E: Sink>(alloc: Global, why: NoChange<'_>, errors: &mut E) -> u8
     requires { E.has_failed errors.old ≡ false }
-    ensures { IsNoChangeTold why.entry result (seen E.held E.has_failed errors.old errors.new) }
+    ensures { (result ≢ 0) × (result ≤ 3) }
 {
     match why {
         NoChange::Unopened(name, why) => refuse_file(alloc, name, why, errors),
@@ -236,7 +200,7 @@ pub fn change_disk<F: ChangeFiles, E: Sink>(
 ) -> u8
     requires { E.has_failed errors.old ≡ false }
     ensures { OrderEnds (known_files F.Files.bytes_of F.Files.may_fail F.Files.may_open files.old) (F.Files.bytes_of files.new)
-        order.now result (seen E.held E.has_failed errors.old errors.new) }
+        order.now.image.now order.now.target.now result }
 {
     let image = match changed_image(alloc, files, order) {
         Ok(image) => image,

@@ -1,19 +1,17 @@
 // An image by a script.
 
-ghost use Rattle.std.specs.Prelude.{◌≡◌, ◌≢◌, ◌≤◌, ◌*◌, IfOk, IfErr, OnOk, Ok, Err, Some, length, map, true};
+ghost use Rattle.std.specs.Prelude.{◌≡◌, ◌≤◌, IfOk, Some, length, map, true};
 ghost use Rattle.adf_blocks.specs.Sizes.{is_allowed};
 ghost use Rattle.adf_boot_blocks.specs.{BootBlocks.IsOtherBoot, BootBlocks.begins_with_dos, BootBlocks.is_bootable};
 ghost use Rattle.adf_boot_blocks.specs.declared.boot.TheConstants.{BOOT_LEN};
 ghost use Rattle.adf_edits.specs.{Edits.edit_value, Edits.edited, Outline.outline_of};
-ghost use Rattle.adf_edit_cmd.specs.Edited.{IsByDisk, IsByScript, IsCacheStop, IsCachedIf, IsDepthStop, IsEdited, IsFullStop, IsLaidOver};
-ghost use Rattle.adf_edit_cmd.specs.Edited.{IsPlainByDisk, StopsPlain, boot_kept};
-ghost use Rattle.adf_edit_cmd.specs.Edited.{IsLineStop, IsShallow, StopsDisk, StopsInput, StopsOn, booted, disk_of, outline_after};
+ghost use Rattle.adf_edit_cmd.specs.Edited.{AreApplied, IsByDisk, IsByScript, IsByTree, IsCachedIf, IsEdited, IsLaidOver};
+ghost use Rattle.adf_edit_cmd.specs.Edited.{boot_kept, booted, disk_of};
 ghost use Rattle.adf_edit_cmd.specs.declared.script.BootEdit.TheVariants.{Install};
 
 use crate::old_disk::{Old, old_disk};
 use crate::script::{
-    BootEdit, Script, behind_file, behind_files, caches_after, files_len, letters_after,
-    read_script,
+    BootEdit, Script, behind_file, caches_after, files_len, letters_after, read_script,
 };
 use crate::stop::Stop;
 use adf_boot_blocks::{STANDARD_CODE, clear, install, restore};
@@ -35,8 +33,7 @@ fn edit_line(
     given: &[u8],
     line: usize,
 ) -> Result<Outline, Stop>
-    ensures ok { IfOk result (λ o. edited (edit_value edit) given.now outline ≡ Ok o) }
-    ensures fault { IfErr result (IsLineStop (edit_value edit) given.now outline line) }
+    ensures { IfOk result (λ o. edited (edit_value edit) given.now outline ≡ Some o) }
 {
     match outline.edited(alloc, edit, given) {
         Ok(outline) => Ok(outline),
@@ -46,16 +43,13 @@ fn edit_line(
 }
 
 // Applies edits, one after the other; the first one is that of line 1.
-#[tactic(auto, using(crate::proofs::EditSteps::after_err))]
 fn edit_all(
     alloc: Global,
     outline: Outline,
     edits: Vec<Edit>,
     given: &[u8],
 ) -> Result<Outline, Stop>
-    ensures ok { IfOk result (λ o. outline_after 1 (map edit_value edits.items) given.now outline ≡ Ok o) }
-    ensures fault { IfErr result (λ f. f ≢ Stop.NoMemory
-        → outline_after 1 (map edit_value edits.items) given.now outline ≡ Err f) }
+    ensures { IfOk result (AreApplied (map edit_value edits.items) given.now outline) }
 {
     let mut outline = outline;
     let mut given = given;
@@ -77,8 +71,7 @@ fn edit_line_indexed(
     given: &[u8],
     line: usize,
 ) -> Result<IndexedOutline, Stop>
-    ensures ok { IfOk result (λ o. edited (edit_value edit) given.now outline ≡ Ok o) }
-    ensures fault { IfErr result (IsLineStop (edit_value edit) given.now outline line) }
+    ensures { IfOk result (λ o. edited (edit_value edit) given.now outline ≡ Some o) }
 {
     match outline.edited(alloc, edit, given) {
         Ok(outline) => Ok(outline),
@@ -88,16 +81,13 @@ fn edit_line_indexed(
 }
 
 // Applies edits by an index, one after the other; the first one is that of line 1.
-#[tactic(auto, using(crate::proofs::EditSteps::after_err))]
 fn edit_all_indexed(
     alloc: Global,
     outline: IndexedOutline,
     edits: Vec<Edit>,
     given: &[u8],
 ) -> Result<IndexedOutline, Stop>
-    ensures ok { IfOk result (λ o. outline_after 1 (map edit_value edits.items) given.now outline ≡ Ok o) }
-    ensures fault { IfErr result (λ f. f ≢ Stop.NoMemory
-        → outline_after 1 (map edit_value edits.items) given.now outline ≡ Err f) }
+    ensures { IfOk result (AreApplied (map edit_value edits.items) given.now outline) }
 {
     let mut outline = outline;
     let mut given = given;
@@ -123,9 +113,7 @@ fn edit_outline(
     edits: Vec<Edit>,
     given: &[u8],
 ) -> Result<Outline, Stop>
-    ensures ok { IfOk result (λ o. outline_after 1 (map edit_value edits.items) given.now outline ≡ Ok o) }
-    ensures fault { IfErr result (λ f. f ≢ Stop.NoMemory
-        → outline_after 1 (map edit_value edits.items) given.now outline ≡ Err f) }
+    ensures { IfOk result (AreApplied (map edit_value edits.items) given.now outline) }
 {
     if !pays_index(&edits) {
         return edit_all(alloc, outline, edits, given);
@@ -165,8 +153,7 @@ fn lay(
 ) -> Result<Vec<u8>, Stop>
     requires allowed { is_allowed blocks ≡ true }
     requires boot { BOOT_LEN ≤ length image.now }
-    ensures laid { IfOk result (λ new. IsLaidOver boot tree.now blocks image.now new.items) }
-    ensures full { IfErr result (IsFullStop tree.now blocks) }
+    ensures { IfOk result (λ new. IsLaidOver boot tree.now blocks image.now new.items) }
 {
     match build_types(alloc, Types::WithInternational, tree, blocks) {
         Ok(mut new) => {
@@ -181,9 +168,7 @@ fn lay(
 
 // The outline of a tree.
 fn outline_of(alloc: Global, tree: &Tree) -> Result<Outline, Stop>
-    ensures outline { IfOk result (λ o. o ≡ outline_of tree.now) }
-    ensures shallow { OnOk result (IsShallow tree.now) }
-    ensures deep { IfErr result (IsDepthStop tree.now) }
+    ensures { IfOk result (λ o. o ≡ outline_of tree.now) }
 {
     match Outline::of(alloc, tree) {
         Ok(outline) => Ok(outline),
@@ -196,8 +181,7 @@ fn outline_of(alloc: Global, tree: &Tree) -> Result<Outline, Stop>
 fn by_old(alloc: Global, old: &Old<'_>, script: Script, given: &[u8]) -> Result<Vec<u8>, Stop>
     requires allowed { is_allowed old.now.blocks ≡ true }
     requires boot { BOOT_LEN ≤ length old.now.boot.now }
-    ensures ok { IfOk result (λ new. IsPlainByDisk script given.now (disk_of old.now) new.items) }
-    ensures stop { IfErr result (StopsPlain script given.now (disk_of old.now)) }
+    ensures { IfOk result (λ new. IsByTree script given.now (disk_of old.now) new.items) }
 {
     let line = script.edits.len() + 1;
     let settings = script.settings;
@@ -230,9 +214,8 @@ fn with_caches(
     boot: Option<BootEdit>,
     image: &[u8],
 ) -> Result<Vec<u8>, Stop>
-    ensures ok { IfOk result (λ new.
+    ensures { IfOk result (λ new.
         IsCachedIf has_caches (boot_kept boot image.now volume.items) volume.items new.items) }
-    ensures stop { IfErr result (IsCacheStop has_caches) }
 {
     if !has_caches {
         return Ok(volume);
@@ -248,28 +231,22 @@ fn with_caches(
 fn by_disk(alloc: Global, old: &Old<'_>, script: Script, given: &[u8]) -> Result<Vec<u8>, Stop>
     requires allowed { is_allowed old.now.blocks ≡ true }
     requires boot { BOOT_LEN ≤ length old.now.boot.now }
-    ensures ok { IfOk result (λ new. IsByDisk script given.now (disk_of old.now) new.items) }
-    ensures stop { IfErr result (StopsDisk script given.now (disk_of old.now)) }
+    ensures { IfOk result (λ new. IsByDisk script given.now (disk_of old.now) new.items) }
 {
     let has_caches = caches_after(script.settings.letters, old.caches);
     let boot = script.settings.boot;
     let plain = by_old(alloc, old, script, given)?;
-    match with_caches(alloc, plain, has_caches, boot, old.boot) {
-        Ok(new) => Ok(new),
-        Err(stop) => Err(stop),
-    }
+    let new = with_caches(alloc, plain, has_caches, boot, old.boot)?;
+    Ok(new)
 }
 
-// The image after a script.
-fn by_script(alloc: Global, script: Script, given: &[u8], image: &[u8]) -> Result<Vec<u8>, Stop>
-    ensures ok { IfOk result (λ new. IsByScript script given.now image.now new.items) }
-    ensures stop { IfErr result (StopsOn script given.now image.now) }
+/// The image after a script, where these bytes are given for its files.
+pub fn by_script(alloc: Global, script: Script, given: &[u8], image: &[u8]) -> Result<Vec<u8>, Stop>
+    ensures { IfOk result (λ new. IsByScript script given.now image.now new.items) }
 {
     let old = old_disk(alloc, image)?;
-    match by_disk(alloc, &old, script, given) {
-        Ok(new) => Ok(new),
-        Err(stop) => Err(stop),
-    }
+    let new = by_disk(alloc, &old, script, given)?;
+    Ok(new)
 }
 
 /// The image that a script makes of another. The input is the script, behind it the bytes of its files in their order, and behind
@@ -277,15 +254,17 @@ fn by_script(alloc: Global, script: Script, given: &[u8], image: &[u8]) -> Resul
 /// else an entry that is too deep; else the first line that cannot be applied, which may be the one behind the edits, where
 /// names of one directory are one by them; else a tree that does not fit.
 pub fn new_image(alloc: Global, input: &[u8]) -> Result<Vec<u8>, Stop>
-    ensures image { IfOk result (λ new. IsEdited input.now new.items) }
-    ensures stop { IfErr result (StopsInput input.now) }
+    ensures { IfOk result (λ new. IsEdited input.now new.items) }
 {
     let (script, given) = read_script(alloc, input)?;
-    match behind_files(&script.edits, given) {
-        Some(image) => by_script(alloc, script, given, image),
-        None => Err(Stop::Short {
-            need: files_len(&script.edits),
+    let need = files_len(&script.edits);
+    if given.len() < need {
+        return Err(Stop::Short {
+            need: need as u64,
             have: given.len() as u64,
-        }),
+        });
     }
+    let image = &given[need..];
+    let new = by_script(alloc, script, given, image)?;
+    Ok(new)
 }

@@ -9,7 +9,7 @@ ghost use Rattle.adf_edit_cmd.specs.Lines.{letter_if_set, verb_of};
 use crate::dates::said_date;
 use adf_edits::{Change, Edit};
 use adf_manifest::{read_number, read_word};
-use adf_names::{Comment, Label, Name, PathFault, read_path};
+use adf_names::{Comment, Label, PathFault, read_path};
 use adf_plans::cut;
 use std::alloc::Global;
 

@@ -1,11 +1,9 @@
 // Manifests in place of images.
 
-ghost use Rattle.std.specs.Prelude.{◌≡◌, ◌++◌, IfErr, IfOk, OnOk, option_map, true};
-ghost use Rattle.adf_base.specs.declared.hash.Letters.TheVariants.{Ascii};
+ghost use Rattle.std.specs.Prelude.{◌≡◌, IfOk, option_map, true};
 ghost use Rattle.adf_manifest.specs.Manifest.{IsManifest};
 ghost use Rattle.adf_blocks.specs.Sizes.{is_allowed};
-ghost use Rattle.adf_edit_cmd.specs.Manifests.{IsManifestBy, IsManifestFault, IsPlainFault};
-ghost use Rattle.adf_edit_cmd.specs.Manifests.{international_plain, is_manifest, with_front};
+ghost use Rattle.adf_edit_cmd.specs.Manifests.{IsManifestBy, international_plain, is_manifest, with_front};
 
 use crate::stop::Stop;
 use adf_base::Letters;
@@ -50,8 +48,7 @@ fn international_plain(alloc: Global, text: &[u8]) -> Result<Option<Vec<u8>>, Al
 
 // The tree and the number of blocks of a plain manifest.
 fn plain_tree(alloc: Global, plain: &[u8]) -> Result<(Tree, u32), Stop>
-    ensures tree { IfOk result (λ r. IsManifest plain.now r.0 r.1) }
-    ensures fault { IfErr result (IsPlainFault plain.now) }
+    ensures { IfOk result (λ r. IsManifest plain.now r.0 r.1) }
 {
     match read_manifest(alloc, plain) {
         Ok(told) => Ok(told),
@@ -74,7 +71,6 @@ pub struct ManifestTree {
 fn tree_by(alloc: Global, letters: Letters, plain: &[u8]) -> Result<ManifestTree, Stop>
     ensures tree { IfOk result (λ m. IsManifest plain.now m.tree m.blocks) }
     ensures letters { IfOk result (λ m. m.letters ≡ letters) }
-    ensures fault { IfErr result (IsPlainFault plain.now) }
 {
     let (tree, blocks) = plain_tree(alloc, plain)?;
     Ok(ManifestTree {
@@ -88,7 +84,6 @@ fn tree_by(alloc: Global, letters: Letters, plain: &[u8]) -> Result<ManifestTree
 pub fn manifest_tree(alloc: Global, text: &[u8]) -> Result<ManifestTree, Stop>
     ensures tree { IfOk result (λ m. IsManifestBy text.now (record m.tree { letters = m.letters }) m.blocks) }
     ensures size { IfOk result (λ m. is_allowed m.blocks ≡ true) }
-    ensures fault { IfErr result (IsManifestFault text.now) }
 {
     let Ok(plain) = international_plain(alloc, text) else {
         return Err(Stop::NoMemory);

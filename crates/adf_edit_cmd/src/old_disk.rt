@@ -1,17 +1,14 @@
 // The disk that is edited: that of an image, or of a manifest in its place.
 
-ghost use Rattle.std.specs.Prelude.{◌≡◌, ◌≤◌, IfOk, IfErr, length, true};
+ghost use Rattle.std.specs.Prelude.{◌≡◌, ◌≤◌, IfOk, length, true};
 ghost use Rattle.adf_blocks.specs.Sizes.{blocks, is_allowed};
 ghost use Rattle.adf_boot_blocks.specs.declared.boot.TheConstants.{BOOT_LEN};
 ghost use Rattle.adf_findings.specs.Survey.{OnSurvey};
 ghost use Rattle.adf_tree.specs.Tree.{Tree as TreeValue};
-ghost use Rattle.adf_edit_cmd.specs.Edited.{IsCachedFault, IsFaultWith, IsImageFault, IsOfImage, IsOfManifest, IsOld, IsOldFault, IsVolume};
-ghost use Rattle.adf_edit_cmd.specs.Edited.{IsVolumeWith, disk_of};
-ghost use Rattle.adf_edit_cmd.specs.CachedDisks.{IsUncachedFault, IsUncachedTree};
+ghost use Rattle.adf_edit_cmd.specs.Edited.{IsOfImage, IsOfManifest, IsOld, IsUncachedTree, IsVolume, IsVolumeWith, disk_of};
 ghost use Rattle.adf_uncached.specs.Uncached.{IsUncached, is_cached};
 ghost use Rattle.adf_uncached.specs.Verdict.{FitsUncached};
 ghost use Rattle.adf_volume.specs.Layout.{Layout};
-ghost use Rattle.adf_edit_cmd.specs.Manifests.{IsManifestFault};
 
 use crate::manifests::{is_manifest, manifest_tree};
 use crate::stop::Stop;
@@ -42,7 +39,6 @@ pub struct Old<'a> {
 fn volume_of<'a>(alloc: Global, image: &'a [u8]) -> Result<Checked<'a>, Stop>
     ensures image { IfOk result (λ v. v ≡ image.now) }
     ensures fits { IfOk result (λ v. (t : TreeValue) × IsVolume v t) }
-    ensures refused { IfErr result (IsImageFault image.now) }
 {
     match check_by(alloc, Types::WithInternational.letters_for(image), image) {
         Ok(volume) => Ok(volume),
@@ -57,7 +53,6 @@ fn volume_of<'a>(alloc: Global, image: &'a [u8]) -> Result<Checked<'a>, Stop>
 fn tree_in(alloc: Global, image: &[u8]) -> Result<(Tree, u32), Stop>
     ensures tree { IfOk result (λ r. IsVolume image.now r.0) }
     ensures size { IfOk result (λ r. r.1 ≡ blocks image.now) }
-    ensures refused { IfErr result (IsImageFault image.now) }
 {
     let volume = volume_of(alloc, image)?;
     let count = volume.counts().blocks;
@@ -70,8 +65,7 @@ fn tree_in(alloc: Global, image: &[u8]) -> Result<(Tree, u32), Stop>
 // An image with directory caches, as one without.
 fn uncached_of(alloc: Global, image: &[u8]) -> Result<Uncached, Stop>
     requires { is_cached image.now ≡ true }
-    ensures uncached { OnSurvey image.now (λ w _. IfOk result (IsUncached image.now w)) }
-    ensures memory { IfErr result (IsCachedFault image.now) }
+    ensures { OnSurvey image.now (λ w _. IfOk result (IsUncached image.now w)) }
 {
     match without_caches(alloc, image) {
         Ok(uncached) => Ok(uncached),
@@ -83,7 +77,6 @@ fn uncached_of(alloc: Global, image: &[u8]) -> Result<Uncached, Stop>
 fn uncached_volume<'a>(alloc: Global, uncached: &'a Uncached) -> Result<Checked<'a>, Stop>
     ensures image { IfOk result (λ v. v ≡ uncached.now.image.items) }
     ensures fits { IfOk result (λ v. (t : TreeValue) × (l : Layout) × FitsUncached uncached.now.fault v t l) }
-    ensures refused { IfErr result (IsUncachedFault uncached.now) }
 {
     match check_uncached(alloc, uncached) {
         Ok(volume) => Ok(volume),
@@ -98,7 +91,6 @@ fn uncached_volume<'a>(alloc: Global, uncached: &'a Uncached) -> Result<Checked<
 fn uncached_tree(alloc: Global, uncached: &Uncached) -> Result<(Tree, u32), Stop>
     ensures tree { IfOk result (λ r. IsUncachedTree uncached.now r.0) }
     ensures size { IfOk result (λ r. r.1 ≡ blocks uncached.now.image.items) }
-    ensures refused { IfErr result (IsUncachedFault uncached.now) }
 {
     let volume = uncached_volume(alloc, uncached)?;
     let count = volume.counts().blocks;
@@ -113,20 +105,16 @@ fn cached_tree(alloc: Global, image: &[u8]) -> Result<(Tree, u32), Stop>
     requires { is_cached image.now ≡ true }
     ensures tree { IfOk result (λ r. IsVolumeWith true image.now r.0) }
     ensures size { IfOk result (λ r. r.1 ≡ blocks image.now) }
-    ensures refused { IfErr result (IsCachedFault image.now) }
 {
     let uncached = uncached_of(alloc, image)?;
-    match uncached_tree(alloc, &uncached) {
-        Ok(told) => Ok(told),
-        Err(stop) => Err(stop),
-    }
+    let told = uncached_tree(alloc, &uncached)?;
+    Ok(told)
 }
 
 // The tree of an image with or without directory caches, and the number of its blocks.
 fn any_tree(alloc: Global, image: &[u8]) -> Result<(Tree, u32), Stop>
     ensures tree { IfOk result (λ r. IsVolumeWith (is_cached image.now) image.now r.0) }
     ensures size { IfOk result (λ r. r.1 ≡ blocks image.now) }
-    ensures refused { IfErr result (IsFaultWith (is_cached image.now) image.now) }
 {
     if is_cached(image) {
         cached_tree(alloc, image)
@@ -140,7 +128,6 @@ fn image_disk<'a>(alloc: Global, image: &'a [u8]) -> Result<Old<'a>, Stop>
     ensures old { IfOk result (λ old. IsOfImage image.entry.now (disk_of old)) }
     ensures size { IfOk result (λ old. is_allowed old.blocks ≡ true) }
     ensures boot { IfOk result (λ old. BOOT_LEN ≤ length old.boot.now) }
-    ensures fault { IfErr result (IsFaultWith (is_cached image.entry.now) image.entry.now) }
 {
     let (tree, blocks) = any_tree(alloc, image)?;
     let letters = tree.letters();
@@ -158,7 +145,6 @@ fn manifest_disk<'a>(alloc: Global, text: &[u8]) -> Result<Old<'a>, Stop>
     ensures old { IfOk result (λ old. IsOfManifest text.now (disk_of old)) }
     ensures size { IfOk result (λ old. is_allowed old.blocks ≡ true) }
     ensures boot { IfOk result (λ old. BOOT_LEN ≤ length old.boot.now) }
-    ensures fault { IfErr result (IsManifestFault text.now) }
 {
     let told = manifest_tree(alloc, text)?;
     Ok(Old {
@@ -175,7 +161,6 @@ pub fn old_disk<'a>(alloc: Global, image: &'a [u8]) -> Result<Old<'a>, Stop>
     ensures old { IfOk result (λ old. IsOld image.entry.now (disk_of old)) }
     ensures size { IfOk result (λ old. is_allowed old.blocks ≡ true) }
     ensures boot { IfOk result (λ old. BOOT_LEN ≤ length old.boot.now) }
-    ensures fault { IfErr result (IsOldFault image.entry.now) }
 {
     if is_manifest(image) {
         manifest_disk(alloc, image)

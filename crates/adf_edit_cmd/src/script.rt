@@ -1,8 +1,8 @@
 // Scripts: lines of edits, perhaps one or two that set something of the whole volume, and a line `end`. Each ends in a line feed.
 
-ghost use Rattle.std.specs.Prelude.{◌≡◌, ◌<◌, ◌≤◌, ◌^◌, IfOk, IfErr, IfSome, IfNone, None, Some, length, map, option_map};
+ghost use Rattle.std.specs.Prelude.{◌≡◌, ◌<◌, ◌≤◌, ◌^◌, IfOk, IfErr, length, map, option_map};
 ghost use Rattle.adf_edits.specs.Edits.{edit_value};
-ghost use Rattle.adf_edit_cmd.specs.Script.{IsNextRead, IsScript, IsScriptFault, behind_file, behind_files, ending, files_len, is_end};
+ghost use Rattle.adf_edit_cmd.specs.Script.{IsNextRead, IsScript, IsScriptFault, behind_file, ending, files_len, is_end};
 ghost use Rattle.adf_edit_cmd.specs.Script.{boot_asked, bytes_taken, caches_by, ended, ended_next, letters_asked, letters_by, with_boot_edit};
 ghost use Rattle.adf_edit_cmd.specs.Script.{with_letters, with_line_of};
 ghost use Rattle.adf_edit_cmd.specs.declared.script.TheConstants.{MOST_LINES};
@@ -251,13 +251,13 @@ fn bytes_taken(edit: &Edit) -> usize
 }
 
 /// How many bytes the files of edits take.
-pub fn files_len(edits: &[Edit]) -> u64
+pub fn files_len(edits: &[Edit]) -> usize
     requires { length edits.now ≤ MOST_LINES }
     ensures { result ≡ files_len (map edit_value edits.now) }
 {
     let mut len = 0;
     for edit in edits {
-        len += bytes_taken(edit) as u64;
+        len += bytes_taken(edit);
     }
     len
 }
@@ -268,20 +268,4 @@ pub fn behind_file<'a>(edit: &Edit, given: &'a [u8]) -> &'a [u8]
 {
     let size = bytes_taken(edit).min(given.len());
     &given[size..]
-}
-
-/// The bytes behind those of all files; `None` if there are fewer.
-#[tactic(auto, using(crate::proofs::EditSteps::file_over))]
-pub fn behind_files<'a>(edits: &[Edit], given: &'a [u8]) -> Option<&'a [u8]>
-    ensures some { IfSome result (λ rest. behind_files (map edit_value edits.now) given.now ≡ Some rest.now) }
-    ensures none { IfNone result (behind_files (map edit_value edits.now) given.now ≡ None) }
-{
-    let mut rest = given;
-    for edit in edits {
-        if rest.len() < bytes_taken(edit) {
-            return None;
-        }
-        rest = behind_file(edit, rest);
-    }
-    Some(rest)
 }

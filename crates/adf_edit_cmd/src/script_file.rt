@@ -1,12 +1,9 @@
 // Edits in a file: each line has the words of one.
 
-ghost use Rattle.std.specs.Prelude.{◌≡◌, ◌≢◌, ◌⊎◌, Err, IfErr, IfOk, Ok, false, option_map};
-ghost use Rattle.std.specs.{Str.Lines.lines};
-ghost use Rattle.adf_edit_cmd.specs.ScriptFile.{FiledEnds, ScriptEnds, lines_filed, script_asked};
-ghost use Rattle.adf_edit_cmd.specs.ScriptFile.{script_behind, script_on, words_in};
-ghost use Rattle.adf_edit_cmd.specs.{Changing.IsNoChangeTold, Words.AddsLine};
+ghost use Rattle.std.specs.Prelude.{◌≡◌, IfSome, false, option_map};
+ghost use Rattle.std.specs.Option.{unwrap_or};
+ghost use Rattle.adf_edit_cmd.specs.Changing.{IsTargetOf, OrderEnds};
 ghost use Rattle.adf_file_runs.specs.FileRuns.{known_files};
-ghost use Rattle.adf_runs.specs.Streams.{seen};
 ghost use Rattle.adf_words.specs.CommandLine.{texts_of};
 
 use crate::changing::{NoChange, change_disk, read_file, tell_no_change};
@@ -17,7 +14,6 @@ use adf_file_changes::ChangeFiles;
 use adf_file_runs::{Unopened, refuse_file};
 use adf_runs::Sink;
 use std::alloc::{AllocError, Global};
-use std::marker::Model;
 use std::str;
 
 /// What words ask for: the file of the edits, the image that they are applied to, and the file that gets the new one.
@@ -28,18 +24,8 @@ pub struct ScriptOrder<'a> {
     pub target: &'a str,
 }
 
-impl<'a> Model for ScriptOrder<'a> {
-    ghost use Rattle.adf_edit_cmd.specs.ScriptFile.{ScriptOrder as ScriptOrderValue};
-
-    ghost Value = { ScriptOrderValue };
-
-    ghost view = { λ s. record { script = s.script.now; image = s.image.now; target = s.target.now } };
-}
-
 // The words of a line.
-fn words_in<'a>(alloc: Global, line: &'a str) -> Result<Vec<&'a str>, AllocError>
-    ensures { IfOk result (λ words. texts_of words.items ≡ words_in line.now) }
-{
+fn words_in<'a>(alloc: Global, line: &'a str) -> Result<Vec<&'a str>, AllocError> {
     if has_byte(line.as_bytes(), b'\t') {
         return line.split('\t').collect(alloc);
     }
@@ -47,9 +33,7 @@ fn words_in<'a>(alloc: Global, line: &'a str) -> Result<Vec<&'a str>, AllocError
 }
 
 // The lines of a text.
-fn text_lines<'a>(alloc: Global, text: &'a str) -> Result<Vec<&'a str>, AllocError>
-    ensures { IfOk result (λ found. texts_of found.items ≡ lines text.now) }
-{
+fn text_lines<'a>(alloc: Global, text: &'a str) -> Result<Vec<&'a str>, AllocError> {
     text.lines().collect(alloc)
 }
 
@@ -58,18 +42,13 @@ fn add_filed<'a>(
     alloc: Global,
     edits: &mut Vec<Line<'a>>,
     line: &'a str,
-) -> Result<bool, AllocError>
-    ensures { IfOk result (λ added. AddsLine added edits.old.items (words_in line.now) edits.new.items) }
-{
+) -> Result<bool, AllocError> {
     let words = words_in(alloc, line)?;
     add_line(alloc, edits, &words)
 }
 
 // The edits of lines. `BadLine` is the first line that is none.
-fn lines_filed<'a>(alloc: Global, lines: Vec<&'a str>) -> Result<Vec<Line<'a>>, Stop>
-    ensures ok { IfOk result (λ edits. lines_filed 1 (texts_of lines.entry.items) ≡ Ok edits.items) }
-    ensures fault { IfErr result (λ f. f ≢ Stop.NoMemory → lines_filed 1 (texts_of lines.entry.items) ≡ Err f) }
-{
+fn lines_filed<'a>(alloc: Global, lines: Vec<&'a str>) -> Result<Vec<Line<'a>>, Stop> {
     let mut edits = Vec::new(alloc);
     let mut number = 0usize;
     for line in lines {
@@ -84,10 +63,7 @@ fn lines_filed<'a>(alloc: Global, lines: Vec<&'a str>) -> Result<Vec<Line<'a>>, 
 }
 
 // The edits of a text.
-fn edits_in<'a>(alloc: Global, text: &'a str) -> Result<Vec<Line<'a>>, Stop>
-    ensures ok { IfOk result (λ edits. lines_filed 1 (lines text.now) ≡ Ok edits.items) }
-    ensures fault { IfErr result (λ f. f ≢ Stop.NoMemory → lines_filed 1 (lines text.now) ≡ Err f) }
-{
+fn edits_in<'a>(alloc: Global, text: &'a str) -> Result<Vec<Line<'a>>, Stop> {
     match text_lines(alloc, text) {
         Ok(lines) => lines_filed(alloc, lines),
         Err(_) => Err(Stop::NoMemory),
@@ -100,7 +76,7 @@ fn script_on<'a>(
     script: &'a str,
     words: &'a [&'a str],
 ) -> Option<ScriptOrder<'a>>
-    ensures { result ≡ script_on (option_map (λ s. s.now) target.entry) script.entry.now (texts_of words.now) }
+    ensures { IfSome result (λ o. o.target.now ≡ unwrap_or (option_map (λ s. s.now) target.entry) o.image.now) }
 {
     match words {
         [image] => Some(ScriptOrder {
@@ -114,7 +90,7 @@ fn script_on<'a>(
 
 // -f SCRIPT IMAGE
 fn script_behind<'a>(target: Option<&'a str>, words: &'a [&'a str]) -> Option<ScriptOrder<'a>>
-    ensures { result ≡ script_behind (option_map (λ s. s.now) target.entry) (texts_of words.now) }
+    ensures { IfSome result (λ o. o.target.now ≡ unwrap_or (option_map (λ s. s.now) target.entry) o.image.now) }
 {
     match words {
         [flag, script, rest @ ..] if *flag == "-f" => script_on(target, *script, operands(rest)),
@@ -124,7 +100,7 @@ fn script_behind<'a>(target: Option<&'a str>, words: &'a [&'a str]) -> Option<Sc
 
 /// The order of a file of edits that words ask for, behind the name of the program: `[-o NEW] -f SCRIPT IMAGE`.
 pub fn script_asked<'a>(words: &'a [&'a str]) -> Option<ScriptOrder<'a>>
-    ensures { result ≡ script_asked (texts_of words.now) }
+    ensures { IfSome result (λ o. IsTargetOf (texts_of words.now) o.image.now o.target.now) }
 {
     match words {
         [flag, target, rest @ ..] if *flag == "-o" => script_behind(Some(*target), rest),
@@ -142,11 +118,8 @@ fn change_by_text<F: ChangeFiles, E: Sink>(
     errors: &mut E,
 ) -> u8
     requires { E.has_failed errors.old ≡ false }
-    ensures { FiledEnds order.now (lines_filed 1 (lines text.now))
-        (known_files F.Files.bytes_of F.Files.may_fail F.Files.may_open files.old) (F.Files.bytes_of files.new)
-        result (seen E.held E.has_failed errors.old errors.new)
-        ⊎ ((F.Files.bytes_of files.new ≡ F.Files.bytes_of files.old)
-        × IsNoChangeTold NoChange.NoMemory result (seen E.held E.has_failed errors.old errors.new)) }
+    ensures { OrderEnds (known_files F.Files.bytes_of F.Files.may_fail F.Files.may_open files.old) (F.Files.bytes_of files.new)
+        order.now.image.now order.now.target.now result }
 {
     let lines = match edits_in(alloc, text) {
         Ok(lines) => lines,
@@ -169,8 +142,8 @@ pub fn change_by_file<F: ChangeFiles, E: Sink>(
     errors: &mut E,
 ) -> u8
     requires { E.has_failed errors.old ≡ false }
-    ensures { ScriptEnds order.now (known_files F.Files.bytes_of F.Files.may_fail F.Files.may_open files.old)
-        (F.Files.bytes_of files.new) result (seen E.held E.has_failed errors.old errors.new) }
+    ensures { OrderEnds (known_files F.Files.bytes_of F.Files.may_fail F.Files.may_open files.old) (F.Files.bytes_of files.new)
+        order.now.image.now order.now.target.now result }
 {
     let bytes = match read_file(alloc, files, order.script) {
         Ok(bytes) => bytes,

@@ -1,7 +1,5 @@
 // Why no image is written.
 
-ghost use Rattle.std.specs.Prelude.{◌≡◌};
-
 use adf_edits::{EditFault, TreeFault};
 use adf_manifest::ManifestFault;
 use adf_volume::Fault;
@@ -33,11 +31,6 @@ pub enum Stop {
 }
 
 impl fmt::Display for Stop {
-    ghost use Rattle.std.specs.Prelude.{Some};
-    ghost use Rattle.adf_edit_cmd.specs.Stops.{stop_text};
-
-    ghost output = { λ x. Some (stop_text x) };
-
     fn fmt<W: fmt::Write>(&self, f: &mut fmt::Formatter<W>) -> fmt::Result {
         match self {
             Stop::BadLine(line) => write!(f, "{line}: bad line"),

@@ -1,28 +1,18 @@
 // The words of the program: an image, and edits that stand for lines of a script.
 
-ghost use Rattle.std.specs.Prelude.{◌≡◌, IfOk, [], map, option_map, codes};
-ghost use Rattle.adf_edit_cmd.specs.Words.{begins_dash, host_verb, line_of, line_of_host, line_of_one, line_of_two, lines_for};
-ghost use Rattle.adf_edit_cmd.specs.Words.{AddsLine, IsWordRead, lines_worded, may_end, may_lead, operands, order_asked, order_on, takes_one, takes_two};
+ghost use Rattle.std.specs.Prelude.{◌≡◌, IfOk, IfSome, option_map};
+ghost use Rattle.std.specs.Option.{unwrap_or};
 ghost use Rattle.adf_words.specs.CommandLine.{texts_of};
+ghost use Rattle.adf_edit_cmd.specs.Changing.{IsTargetOf};
 
 use crate::lines::has_byte;
 use std::alloc::{AllocError, Global};
-use std::marker::Model;
 
 /// A line of a script, up to the size of the host file that it takes, if it takes one.
 #[derive(Drop)]
 pub struct Line<'a> {
     pub text: String,
     pub host: Option<&'a str>,
-}
-
-impl<'a> Model for Line<'a> {
-    ghost use Rattle.std.specs.Prelude.{option_map, string_bytes};
-    ghost use Rattle.adf_edit_cmd.specs.Words.{WordedLine};
-
-    ghost Value = { WordedLine };
-
-    ghost view = { λ l. record { text = string_bytes l.text; host = option_map (λ s. s.now) l.host } };
 }
 
 /// What words ask for: the lines, the image that they are applied to, and the file that gets the new one.
@@ -33,46 +23,28 @@ pub struct Order<'a> {
     pub target: &'a str,
 }
 
-impl<'a> Model for Order<'a> {
-    ghost use Rattle.adf_edit_cmd.specs.Words.{EditOrder};
-
-    ghost Value = { EditOrder };
-
-    ghost view = { λ o. record { lines = o.lines.items; image = o.image.now; target = o.target.now } };
-}
-
 // Whether a word may end a line.
-fn may_end(word: &str) -> bool
-    ensures { result ≡ may_end word.now }
-{
+fn may_end(word: &str) -> bool {
     !has_byte(word.as_bytes(), b'\n')
 }
 
 // Whether a word may stand before a `:`.
-fn may_lead(word: &str) -> bool
-    ensures { result ≡ may_lead word.now }
-{
+fn may_lead(word: &str) -> bool {
     !has_byte(word.as_bytes(), b'\n') && !has_byte(word.as_bytes(), b':')
 }
 
 // Whether a verb has one word behind it.
-fn takes_one(verb: &str) -> bool
-    ensures { result ≡ takes_one verb.now }
-{
+fn takes_one(verb: &str) -> bool {
     verb == "remove" || verb == "dir" || verb == "label" || verb == "letters" || verb == "boot"
 }
 
 // Whether a verb has a path and a value behind it.
-fn takes_two(verb: &str) -> bool
-    ensures { result ≡ takes_two verb.now }
-{
+fn takes_two(verb: &str) -> bool {
     verb == "move" || verb == "note" || verb == "protect" || verb == "date"
 }
 
 // The first word of the line for a verb with a host file and a path.
-fn host_verb(verb: &str) -> Option<&'static str>
-    ensures { option_map (λ s. s.now) result ≡ host_verb verb.now }
-{
+fn host_verb(verb: &str) -> Option<&'static str> {
     if verb == "put" {
         Some("file")
     } else if verb == "replace" {
@@ -83,9 +55,7 @@ fn host_verb(verb: &str) -> Option<&'static str>
 }
 
 // VERB TEXT
-fn line_of_one<'a>(alloc: Global, verb: &str, text: &str) -> Result<Option<Line<'a>>, AllocError>
-    ensures { IfOk result (λ line. line ≡ line_of_one verb.now text.now) }
-{
+fn line_of_one<'a>(alloc: Global, verb: &str, text: &str) -> Result<Option<Line<'a>>, AllocError> {
     if !(takes_one(verb) && may_end(text)) {
         return Ok(None);
     }
@@ -99,9 +69,7 @@ fn line_of_two<'a>(
     verb: &str,
     path: &str,
     value: &str,
-) -> Result<Option<Line<'a>>, AllocError>
-    ensures { IfOk result (λ line. line ≡ line_of_two verb.now path.now value.now) }
-{
+) -> Result<Option<Line<'a>>, AllocError> {
     if !(takes_two(verb) && may_lead(path) && may_end(value)) {
         return Ok(None);
     }
@@ -115,9 +83,7 @@ fn line_of_host<'a>(
     verb: &str,
     host: &'a str,
     path: &str,
-) -> Result<Option<Line<'a>>, AllocError>
-    ensures { IfOk result (λ line. line ≡ line_of_host (host_verb verb.now) host.now path.now) }
-{
+) -> Result<Option<Line<'a>>, AllocError> {
     let Some(verb) = host_verb(verb) else {
         return Ok(None);
     };
@@ -130,10 +96,7 @@ fn line_of_host<'a>(
 }
 
 // The line of an edit.
-#[tactic(auto, using(crate::proofs::WordLines::no_line))]
-fn line_of<'a>(alloc: Global, edit: &[&'a str]) -> Result<Option<Line<'a>>, AllocError>
-    ensures { IfOk result (λ line. line ≡ line_of (texts_of edit.now)) }
-{
+fn line_of<'a>(alloc: Global, edit: &[&'a str]) -> Result<Option<Line<'a>>, AllocError> {
     match edit {
         [] | [_] => Ok(None),
         [verb, text] => line_of_one(alloc, verb, text),
@@ -150,9 +113,7 @@ pub fn add_line<'a>(
     alloc: Global,
     lines: &mut Vec<Line<'a>>,
     edit: &[&'a str],
-) -> Result<bool, AllocError>
-    ensures { IfOk result (λ added. AddsLine added lines.old.items (texts_of edit.now) lines.new.items) }
-{
+) -> Result<bool, AllocError> {
     match line_of(alloc, edit)? {
         Some(line) => {
             lines.push(line)?;
@@ -170,15 +131,11 @@ struct Reading<'a> {
 }
 
 // Reads a word, and returns whether the edit that it ends has a line.
-#[tactic(auto, using(crate::proofs::WordLines::plus_read, crate::proofs::WordLines::word_read))]
 fn read_word<'a>(
     alloc: Global,
     reading: &mut Reading<'a>,
     word: &'a str,
-) -> Result<bool, AllocError>
-    ensures { IfOk result (λ goes_on. IsWordRead goes_on reading.old.lines.items (texts_of reading.old.edit.items)
-        word.now reading.new.lines.items (texts_of reading.new.edit.items)) }
-{
+) -> Result<bool, AllocError> {
     if word == "+" {
         let added = add_line(alloc, &mut reading.lines, &reading.edit)?;
         reading.edit.clear();
@@ -189,10 +146,7 @@ fn read_word<'a>(
 }
 
 // The lines of edits with `+` between them; `None` if an edit has none.
-#[tactic(auto, using(crate::proofs::WordLines::words_wrong, crate::proofs::WordLines::last_line, crate::proofs::WordLines::last_wrong))]
-fn lines_of<'a>(alloc: Global, words: &'a [&'a str]) -> Result<Option<Vec<Line<'a>>>, AllocError>
-    ensures { IfOk result (λ lines. option_map (λ ls. ls.items) lines ≡ lines_worded [] (texts_of words.now)) }
-{
+fn lines_of<'a>(alloc: Global, words: &'a [&'a str]) -> Result<Option<Vec<Line<'a>>>, AllocError> {
     let mut reading = Reading {
         lines: Vec::new(alloc),
         edit: Vec::new(alloc),
@@ -210,9 +164,7 @@ fn lines_of<'a>(alloc: Global, words: &'a [&'a str]) -> Result<Option<Vec<Line<'
 }
 
 // Whether a word begins with `-`.
-fn begins_dash(word: &str) -> bool
-    ensures { result ≡ begins_dash word.now }
-{
+fn begins_dash(word: &str) -> bool {
     match word.as_bytes() {
         [first, ..] => *first == b'-',
         [] => false,
@@ -220,9 +172,7 @@ fn begins_dash(word: &str) -> bool
 }
 
 /// The image and the edits: what stands behind `--`, or begins with no `-`.
-pub fn operands<'a>(words: &'a [&'a str]) -> &'a [&'a str]
-    ensures { texts_of result.now ≡ operands (texts_of words.now) }
-{
+pub fn operands<'a>(words: &'a [&'a str]) -> &'a [&'a str] {
     match words {
         [] => words,
         [word, rest @ ..] => {
@@ -242,10 +192,7 @@ fn lines_for<'a>(
     alloc: Global,
     target: Option<&'a str>,
     words: &'a [&'a str],
-) -> Result<Option<Vec<Line<'a>>>, AllocError>
-    ensures { IfOk result (λ lines.
-        option_map (λ ls. ls.items) lines ≡ lines_for (option_map (λ s. s.now) target.entry) (texts_of words.now)) }
-{
+) -> Result<Option<Vec<Line<'a>>>, AllocError> {
     match (target, words) {
         (Some(_), []) => Ok(Some(Vec::new(alloc))),
         _ => lines_of(alloc, words),
@@ -258,7 +205,8 @@ fn order_on<'a>(
     target: Option<&'a str>,
     words: &'a [&'a str],
 ) -> Result<Option<Order<'a>>, AllocError>
-    ensures { IfOk result (λ order. order ≡ order_on (option_map (λ s. s.now) target.entry) (texts_of words.now)) }
+    ensures { IfOk result (λ order. IfSome order (λ o.
+        o.target.now ≡ unwrap_or (option_map (λ s. s.now) target.entry) o.image.now)) }
 {
     let [image, edits @ ..] = words else {
         return Ok(None);
@@ -277,7 +225,7 @@ fn order_on<'a>(
 /// What words ask for, behind the name of the program: `[-o NEW] IMAGE EDIT [+ EDIT]..` or `-o NEW IMAGE`; `None` if they are
 /// refused.
 pub fn order_asked<'a>(alloc: Global, words: &'a [&'a str]) -> Result<Option<Order<'a>>, AllocError>
-    ensures { IfOk result (λ order. order ≡ order_asked (texts_of words.now)) }
+    ensures { IfOk result (λ order. IfSome order (λ o. IsTargetOf (texts_of words.now) o.image.now o.target.now)) }
 {
     match words {
         [flag, target, rest @ ..] if *flag == "-o" => {

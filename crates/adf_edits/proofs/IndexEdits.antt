@@ -1,13 +1,13 @@
 -- What each edit does to places.
 -- Letters: p are places before, q after; path, from, to paths; i a place; x an addition.
-use Rattle.std.proofs.Common.{◌≡◌, ℕ, List, [], ◌∷◌, ◌++◌, set, refl, sym, ap, subst, ◌∙◌, true, false, Option, Some, None, Ok}
+use Rattle.std.proofs.Common.{◌≡◌, ℕ, List, [], ◌∷◌, ◌++◌, set, refl, sym, ap, subst, ◌∙◌, true, false, Option, Some, None}
 use Rattle.adf_tree.specs.{Additions.Addition, Tree.is_dir_body}
-use Rattle.adf_edits.specs.Edits.{change_fault, changed_at, changed_if, has_under, is_at, move_fault, moved_additions, rebased, refilled_at, refilled_if}
-use Rattle.adf_edits.specs.Edits.{remove_fault, removed, replace_fault, unless, with_new}
+use Rattle.adf_edits.specs.Edits.{can_move, can_remove, can_replace, changed_at, changed_if, has_path, has_under, is_at, moved_additions, rebased, refilled_at, refilled_if}
+use Rattle.adf_edits.specs.Edits.{only_if, removed, with_new}
 use Rattle.adf_edits.specs.declared.edits.Change.{Change}
 use Rattle.adf_edits.specs.Index.{HasRoom, IsFileAt, IsIndexedAt, IsIndexed, IsRooted, IsSoundIndex, StandsIn}
 use Rattle.adf_edits.specs.Index.{entry_placed, place_in_index, standing}
-use Rattle.adf_edits.specs.{declared.index.Places.Places, Paths.is_deep, Paths.is_under}
+use Rattle.adf_edits.specs.declared.index.Places.{Places}
 use Rattle.adf_edits.proofs.IndexSteps.{add_made, change_made, indexed_changed, indexed_less, indexed_without, move_made, remove_made, replace_made}
 use Rattle.adf_edits.proofs.{IndexedPaths.moved_path, IndexedPaths.not_under_same}
 use Rattle.adf_edits.proofs.{IndexedPaths.nothing_under_file, StandingPlaces.entry_from, StandingPlaces.put_again}
@@ -53,19 +53,19 @@ module _ (p q : Places) (path : List (List ℕ)) (i : ℕ) (found : IsIndexedAt 
   is = found.sound found.whole
 
   pub change_step : (what : Change) → ((y : Addition) → StandsIn ps i y → q.entries.items ≡ set ps i (Some (changed_if path what y)))
-      → (unless (change_fault (standing ps) path) (changed_at path what (standing ps)) ≡ Ok (standing q.entries.items)) × IsSoundIndex q
+      → (only_if (has_path (standing ps) path) (changed_at path what (standing ps)) ≡ Some (standing q.entries.items)) × IsSoundIndex q
   change_step what entries = (
-    change_made ps p.index is i x s path at what ∙ ap (λ (qs : List (Option Addition)). Ok (standing qs)) (sym (entries x s)),
+    change_made ps p.index is i x s path at what ∙ ap (λ (qs : List (Option Addition)). Some (standing qs)) (sym (entries x s)),
     λ whole. sound_by p q (set ps i (Some (changed_if path what x)))
         (indexed_changed ps p.index is i x s (changed_if path what x) (same_changed path what x at).0 (same_changed path what x at).1) (entries x s) rest,
   )
 
   pub replace_step : (bytes : List ℕ) → IsFileAt ps i
       → ((y : Addition) → StandsIn ps i y → q.entries.items ≡ set ps i (Some (refilled_if path bytes y)))
-      → (unless (replace_fault (standing ps) path) (refilled_at path bytes (standing ps)) ≡ Ok (standing q.entries.items)) × IsSoundIndex q
+      → (only_if (can_replace (standing ps) path) (refilled_at path bytes (standing ps)) ≡ Some (standing q.entries.items)) × IsSoundIndex q
   replace_step bytes is_file entries =
       let file = file_here ps i x s is_file in (
-        replace_made ps p.index is i x s path at bytes file ∙ ap (λ (qs : List (Option Addition)). Ok (standing qs)) (sym (entries x s)),
+        replace_made ps p.index is i x s path at bytes file ∙ ap (λ (qs : List (Option Addition)). Some (standing qs)) (sym (entries x s)),
         λ whole. sound_by p q (set ps i (Some (refilled_if path bytes x)))
             (indexed_changed ps p.index is i x s (refilled_if path bytes x) (same_refilled path bytes x at file).0 (same_refilled path bytes x at file).1)
             (entries x s) rest,
@@ -75,9 +75,9 @@ module _ (p q : Places) (path : List (List ℕ)) (i : ℕ) (found : IsIndexedAt 
   none_in_itself none = not_under_same (standing ps) path x.path at none
 
   pub remove_step : has_under (standing ps) path ≡ false → q.entries.items ≡ set ps i None
-      → (unless (remove_fault (standing ps) path) (removed path (standing ps)) ≡ Ok (standing q.entries.items)) × IsSoundIndex q
+      → (only_if (can_remove (standing ps) path) (removed path (standing ps)) ≡ Some (standing q.entries.items)) × IsSoundIndex q
   remove_step none entries = (
-    remove_made ps p.index is i x s path at none ∙ ap (λ (qs : List (Option Addition)). Ok (standing qs)) (sym entries),
+    remove_made ps p.index is i x s path at none ∙ ap (λ (qs : List (Option Addition)). Some (standing qs)) (sym entries),
     λ whole. sound_by p q (set ps i None) (indexed_less ps p.index is i x s (none_in_itself none)) entries rest,
   )
 
@@ -106,23 +106,23 @@ module _ (p q : Places) (path : List (List ℕ)) (i : ℕ) (found : IsIndexedAt 
       put_back_sound r h same whole =
           sound_by q r ps (subst (λ index. IsIndexed ps index) (sym (ap (λ (u : Places). u.index) rest)) is) (put_back_is r.entries.items h) same
 
-      pub move_step : is_under path to ≡ false → HasRoom q to → is_deep to ≡ false → (r : List (Option Addition))
+      pub move_step : HasRoom q to → (r : List (Option Addition))
           → r ≡ q.entries.items ++ Some (rebased path to item) ∷ []
-          → unless (move_fault (standing ps) path to) (moved_additions path to (standing ps)) ≡ Ok (standing r)
-      move_step apart room shallow r moved =
+          → only_if (can_move (standing ps) path to) (moved_additions path to (standing ps)) ≡ Some (standing r)
+      move_step room r moved =
           let rooted = subst (λ (qs : List (Option Addition)). IsRooted qs to) taken room.rooted in
           let index : q.index ≡ p.index = ap (λ (u : Places). u.index) rest in
           let free : entry_placed (set ps i None) (place_in_index p.index to) ≡ None =
           subst (λ (qs : List (Option Addition)). entry_placed qs (place_in_index p.index to) ≡ None) taken
           (subst (λ ix. entry_placed q.entries.items (place_in_index ix to) ≡ None) index room.free) in
-          let made = move_made ps p.index is i x s path to at (file_here ps i x s is_file) apart rooted free shallow in
+          let made = move_made ps p.index is i x s path to at (file_here ps i x s is_file) rooted free in
           let all : r ≡ set ps i None ++ Some (rebased path to x) ∷ [] =
           moved ∙ (ap (λ (qs : List (Option Addition)). qs ++ Some (rebased path to item) ∷ []) taken
           ∙ ap (λ (y : Addition). set ps i None ++ Some (rebased path to y) ∷ []) same_item) in
-          made ∙ ap (λ (qs : List (Option Addition)). Ok (standing qs)) (sym all)
+          made ∙ ap (λ (qs : List (Option Addition)). Some (standing qs)) (sym all)
 
 -- an entry added
-pub add_step : (p q : Places) (x : Addition) → IsSoundIndex p → p.is_whole ≡ true → HasRoom p x.path → is_deep x.path ≡ false
-    → q.entries.items ≡ p.entries.items ++ Some x ∷ [] → with_new x (standing p.entries.items) ≡ Ok (standing q.entries.items)
-add_step p q x sound whole room shallow entries =
-    add_made p.entries.items p.index x (sound whole) room.rooted room.free shallow ∙ ap (λ (qs : List (Option Addition)). Ok (standing qs)) (sym entries)
+pub add_step : (p q : Places) (x : Addition) → IsSoundIndex p → p.is_whole ≡ true → HasRoom p x.path
+    → q.entries.items ≡ p.entries.items ++ Some x ∷ [] → with_new x (standing p.entries.items) ≡ Some (standing q.entries.items)
+add_step p q x sound whole room entries =
+    add_made p.entries.items p.index x (sound whole) room.rooted room.free ∙ ap (λ (qs : List (Option Addition)). Some (standing qs)) (sym entries)

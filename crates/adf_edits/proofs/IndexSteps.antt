@@ -2,19 +2,19 @@
 -- Letters: ps are entries by place, index that of their paths; x, y, z, d additions; i, j, k places.
 use Rattle.std.proofs.Common.{◌≡◌, ◌≢◌, ℕ, List, [], ◌∷◌, ◌++◌, inl, inr, length, set, refl, sym, ap, subst}
 use Rattle.std.proofs.{Common.◌∙◌, Common.true, Common.false, Common.Bool}
-use Rattle.std.proofs.{Common.Option, Common.Some, Common.None, Common.Ok, Common.◌&&◌}
+use Rattle.std.proofs.{Common.Option, Common.Some, Common.None, Common.◌&&◌}
 use Rattle.std.proofs.lemmas.Bool.{and_parts, cases_Bool, cases_eq, false_from_ne_true}
 use Rattle.std.specs.{BTreeMap.BTreeMap, BTreeMap.insert_entry, Global.Vec, List.list_any, Str.bytes_eq}
 use Rattle.std.proofs.lemmas.Slice.Eq.{bytes_eq-Decides}
 use Rattle.adf_tree.specs.{Additions.Addition, Additions.same_path, Tree.is_dir_body, Tree.parents_of}
-use Rattle.adf_edits.specs.Edits.{change_fault, changed_at, changed_if, has_directory, has_under, is_at, is_directory_at, is_within, refilled_at}
-use Rattle.adf_edits.specs.Edits.{move_fault, moved_additions, rebased, refilled_if, room_fault, remove_fault, removed, replace_fault, unless, with_new}
+use Rattle.adf_edits.specs.Edits.{can_add, can_move, can_remove, can_replace, changed_at, changed_if, has_directory, has_path, has_under, is_at, is_directory_at, is_within, refilled_at}
+use Rattle.adf_edits.specs.Edits.{moved_additions, only_if, rebased, refilled_if, removed, with_new}
 use Rattle.adf_edits.specs.declared.edits.Change.{Change}
 use Rattle.adf_edits.specs.Index.{by_bytes, HasPlaceLess, HasRoom, IsIndexed, IsRooted, IsSoundIndex, StandsIn}
 use Rattle.adf_edits.specs.Index.{entry_placed, path_key, place_at, place_in_index, standing}
-use Rattle.adf_edits.specs.{declared.index.Places.Places, Paths.is_deep, Paths.is_under}
+use Rattle.adf_edits.specs.{declared.index.Places.Places, Paths.is_under}
 use Rattle.adf_edits.proofs.IndexKeys.{place_left, put_here, put_other}
-use Rattle.adf_edits.proofs.IndexedPaths.{moved_path, no_room_fault, nothing_under_file, only_at, under_from_parents, within_either, within_itself}
+use Rattle.adf_edits.proofs.IndexedPaths.{may_be_added, nothing_under_file, only_at, under_from_parents, within_either, within_itself}
 use Rattle.adf_edits.proofs.StandingPlaces.{entry_from, one_done, one_taken, passing, pushed}
 use Rattle.adf_edits.proofs.StandingPlaces.{stands_after, stands_before, stands_now, stands_other, stands_written}
 use Rattle.adf_edits.proofs.{Places.same_paths, StandingPlaces.passes, StandingPlaces.within}
@@ -117,15 +117,15 @@ module _ (ps : List (Option Addition)) (index : BTreeMap (Vec ℕ) ℕ) (is : Is
     there : list_any (is_at path) (standing ps) ≡ true
     there = passing (is_at path) ps i x s at
 
-    pub change_made : (what : Change) → unless (change_fault (standing ps) path) (changed_at path what (standing ps))
-        ≡ Ok (standing (set ps i (Some (changed_if path what x))))
+    pub change_made : (what : Change) → only_if (has_path (standing ps) path) (changed_at path what (standing ps))
+        ≡ Some (standing (set ps i (Some (changed_if path what x))))
     change_made what =
-        rw there (ap Ok (sym (one_done (changed_if path what) ps i x s (λ j y sy ne. rw (only_at ps index is path i x s at j y sy ne) refl))))
+        rw there (ap Some (sym (one_done (changed_if path what) ps i x s (λ j y sy ne. rw (only_at ps index is path i x s at j y sy ne) refl))))
 
     pub replace_made : (bytes : List ℕ) → is_dir_body x.body ≡ false
-        → unless (replace_fault (standing ps) path) (refilled_at path bytes (standing ps)) ≡ Ok (standing (set ps i (Some (refilled_if path bytes x))))
+        → only_if (can_replace (standing ps) path) (refilled_at path bytes (standing ps)) ≡ Some (standing (set ps i (Some (refilled_if path bytes x))))
     replace_made bytes file =
-        rw (there, no_directory) (ap Ok (sym (one_done (refilled_if path bytes) ps i x s others)))
+        rw (there, no_directory) (ap Some (sym (one_done (refilled_if path bytes) ps i x s others)))
       where
         no_directory : has_directory (standing ps) path ≡ false
         no_directory = false_from_ne_true (has_directory (standing ps) path) (λ h.
@@ -145,15 +145,15 @@ module _ (ps : List (Option Addition)) (index : BTreeMap (Vec ℕ) ℕ) (is : Is
           | inr f ↦ rw (f, only_at ps index is path i x s at j y sy ne) refl
         ]
 
-    pub remove_made : has_under (standing ps) path ≡ false → unless (remove_fault (standing ps) path) (removed path (standing ps))
-        ≡ Ok (standing (set ps i None))
+    pub remove_made : has_under (standing ps) path ≡ false → only_if (can_remove (standing ps) path) (removed path (standing ps))
+        ≡ Some (standing (set ps i None))
     remove_made none =
-        rw (there, none) (ap Ok (sym (one_taken (is_at path) ps i x s at (λ j y sy ne. only_at ps index is path i x s at j y sy ne)).0))
+        rw (there, none) (ap Some (sym (one_taken (is_at path) ps i x s at (λ j y sy ne. only_at ps index is path i x s at j y sy ne)).0))
 
 -- an entry added
 pub add_made : (ps : List (Option Addition)) (index : BTreeMap (Vec ℕ) ℕ) (x : Addition) → IsIndexed ps index → IsRooted ps x.path
-    → entry_placed ps (place_in_index index x.path) ≡ None → is_deep x.path ≡ false → with_new x (standing ps) ≡ Ok (standing (ps ++ Some x ∷ []))
-add_made ps index x is rooted free shallow = rw (no_room_fault ps index is x.path rooted free shallow) (ap Ok (sym (pushed ps x)))
+    → entry_placed ps (place_in_index index x.path) ≡ None → with_new x (standing ps) ≡ Some (standing (ps ++ Some x ∷ []))
+add_made ps index x is rooted free = rw (may_be_added ps index is x.path rooted free) (ap Some (sym (pushed ps x)))
 
 -- a file moved
 module _ (ps : List (Option Addition)) (index : BTreeMap (Vec ℕ) ℕ) (is : IsIndexed ps index) (i : ℕ) (x : Addition) (s : StandsIn ps i x)
@@ -170,15 +170,14 @@ module _ (ps : List (Option Addition)) (index : BTreeMap (Vec ℕ) ℕ) (is : Is
     | inr under ↦ let clash : true ≡ false = sym (passing (λ z. is_under from z.path) ps j y sy under) ∙ none_under in cc
   ])
 
-  pub move_made : is_under from to ≡ false → IsRooted (set ps i None) to → entry_placed (set ps i None) (place_in_index index to) ≡ None → is_deep to ≡ false
-      → unless (move_fault (standing ps) from to) (moved_additions from to (standing ps))
-      ≡ Ok (standing (set ps i None ++ Some (rebased from to x) ∷ []))
-  move_made apart rooted free shallow =
+  pub move_made : IsRooted (set ps i None) to → entry_placed (set ps i None) (place_in_index index to) ≡ None
+      → only_if (can_move (standing ps) from to) (moved_additions from to (standing ps))
+      ≡ Some (standing (set ps i None ++ Some (rebased from to x) ∷ []))
+  move_made rooted free =
       let two = one_taken (is_within from) ps i x s (within_itself from x.path at) not_within in
-      let room : room_fault (standing (set ps i None)) to ≡ None = no_room_fault (set ps i None) index indexed_without to rooted free shallow in
+      let room : can_add (standing (set ps i None)) to ≡ true = may_be_added (set ps i None) index indexed_without to rooted free in
       let there : list_any (is_at from) (standing ps) ≡ true = passing (is_at from) ps i x s at in
-      let short : is_deep (rebased from to x).path ≡ false = ap is_deep (moved_path from to x.path at) ∙ shallow in
-      rw (there, apart, ← two.0, room, two.1, short) (ap Ok (sym (pushed (set ps i None) (rebased from to x))))
+      rw (there, ← two.0, room, two.1) (ap Some (sym (pushed (set ps i None) (rebased from to x))))
 
 -- the index stays sound
 

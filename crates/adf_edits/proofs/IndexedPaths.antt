@@ -2,15 +2,15 @@
 -- Letters: ps are entries by place, index that of their paths; x, y, d, f additions, d a directory, f a file; i, j, k places; path a path.
 use Rattle.std.proofs.Common.{◌≡◌, ◌≢◌, ℕ, zero, suc, List, [], ◌∷◌, inl, inr, ◌-◌, ◌<◌, ◌≤◌, ◌==◌, length, map, take, fold, refl, sym, ap, subst}
 use Rattle.std.proofs.{Common.◌∙◌, Common.arith, Common.true, Common.false, Common.Option, Common.Some}
-use Rattle.std.proofs.{Common.None, Common.nat_lt, Common.nat_le, Common.not, Common.◌⊎◌, Common.◌++◌, Common.drop, Common.take_all}
-use Rattle.std.proofs.lemmas.Bool.{and_from, and_parts, cases_Bool, cases_lt, false_from_ne_true, le-leb, lt-ltb, ltb-true, ne_eqb, not-true}
+use Rattle.std.proofs.{Common.None, Common.nat_lt, Common.nat_le, Common.◌⊎◌, Common.◌++◌, Common.drop, Common.take_all}
+use Rattle.std.proofs.lemmas.Bool.{and_from, and_parts, cases_Bool, cases_lt, false_from_ne_true, le-leb, lt-ltb, ltb-true, ne_eqb}
 use Rattle.std.proofs.lemmas.List.{append-nil, drop_all, length-map, length-take-le}
 use Rattle.std.specs.{BTreeMap.BTreeMap, Global.Vec}
 use Rattle.adf_names.specs.Texts.{uppers}
 use Rattle.adf_tree.specs.{Additions.Addition, Additions.same_path, Tree.is_dir_body, Tree.parents_of}
-use Rattle.adf_edits.specs.Edits.{has_path, has_under, is_at, is_directory_at, is_file_above, leads_through_file, leads_to_directory, room_fault}
+use Rattle.adf_edits.specs.Edits.{can_add, has_path, has_under, is_at, is_directory_at, leads_to_directory}
 use Rattle.adf_edits.specs.Index.{IsIndexed, IsRooted, StandsIn, entry_placed, path_key, place_at, place_in_index, standing, with_key_name}
-use Rattle.adf_edits.specs.Paths.{is_at_or_under, is_deep, is_under}
+use Rattle.adf_edits.specs.Paths.{is_at_or_under, is_under}
 use Rattle.adf_edits.proofs.{IndexKeys.same_key, Places.same_paths, StandingPlaces.entry_from, StandingPlaces.passes, StandingPlaces.passing}
 
 pub under_parts : (a path : List (List ℕ)) → is_under a path ≡ true → (length a < length path) × (map uppers (take (length a) path) ≡ map uppers a)
@@ -173,12 +173,6 @@ module _ (ps : List (Option Addition)) (index : BTreeMap (Vec ℕ) ℕ) (is : Is
             ]
       ]
 
-  pub no_file_above : (path : List (List ℕ)) → IsRooted ps path → leads_through_file (standing ps) path ≡ false
-  no_file_above path rooted = false_from_ne_true (leads_through_file (standing ps) path) (λ h.
-      let one = passes (is_file_above path) ps h in
-      let both = and_parts (not (is_dir_body one.1.body)) (is_under one.1.path path) one.3 in
-      no_file_by (length path) path (omega arith) rooted one.0 one.1 one.2 (not-true (is_dir_body one.1.body) both.0) both.1)
-
   -- nothing is in a file
   pub nothing_under_file : (path : List (List ℕ)) (i : ℕ) (x : Addition) → StandsIn ps i x → is_at path x ≡ true → is_dir_body x.body ≡ false
       → has_under (standing ps) path ≡ false
@@ -188,7 +182,6 @@ module _ (ps : List (Option Addition)) (index : BTreeMap (Vec ℕ) ℕ) (is : Is
       no_file_by (length one.1.path) one.1.path (omega arith) (is.rooted one.0 one.1 one.2) i x s file under)
 
   -- a path has room
-  pub no_room_fault : (path : List (List ℕ)) → IsRooted ps path → entry_placed ps (place_in_index index path) ≡ None → is_deep path ≡ false
-      → room_fault (standing ps) path ≡ None
-  no_room_fault path rooted free shallow =
-      rw (some_of ps path rooted, no_file_above path rooted, to_directory ps path rooted, free_path path free, shallow) refl
+  pub may_be_added : (path : List (List ℕ)) → IsRooted ps path → entry_placed ps (place_in_index index path) ≡ None
+      → can_add (standing ps) path ≡ true
+  may_be_added path rooted free = rw (some_of ps path rooted, to_directory ps path rooted, free_path path free) refl

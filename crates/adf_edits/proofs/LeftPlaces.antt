@@ -1,17 +1,17 @@
 -- What is left where what has a path, and what is in the directory that has it, is taken away.
 -- Letters: ps are entries by place, index that of their paths; x, y, d additions; i a place; from, to, path paths.
 use Rattle.std.proofs.Common.{◌≡◌, ℕ, zero, suc, List, [], ◌∷◌, ◌++◌, inl, inr, ◌-◌, ◌<◌, ◌≤◌, length, map, take, refl, sym, ap, subst}
-use Rattle.std.proofs.Common.{◌∙◌, ◌≢◌, ◌+◌, arith, true, false, Option, Some, None, Ok, drop, get_or, nat_lt, nat_le}
+use Rattle.std.proofs.Common.{◌∙◌, ◌≢◌, ◌+◌, arith, true, false, Option, Some, None, drop, get_or, nat_lt, nat_le}
 use Rattle.std.proofs.{lemmas.List.take_more, lemmas.List.Elements.filter-append, lemmas.List.Elements.filter_map-append}
 use Rattle.std.proofs.lemmas.Bool.{and_from, and_parts, cases_Bool, false_from_ne_true, le-leb, lt-ltb, ltb-true}
 use Rattle.std.specs.{BTreeMap.BTreeMap, Global.Vec, List.filter, List.list_any}
 use Rattle.adf_names.specs.Texts.{uppers}
 use Rattle.adf_tree.specs.{Additions.Addition, Additions.same_path, Tree.is_dir_body, Tree.parents_of}
-use Rattle.adf_edits.specs.Edits.{gets_deep, is_at, is_within, move_fault, moved_additions, rebased, room_fault, unless, without}
-use Rattle.adf_edits.specs.Index.{HasRoomBut, IsIndexed, IsIndexedAt, IsRooted, StandsIn, entry_placed, is_entry_deep, left_by, left_without}
+use Rattle.adf_edits.specs.Edits.{can_add, can_move, is_at, is_within, moved_additions, only_if, rebased, without}
+use Rattle.adf_edits.specs.Index.{HasRoomBut, IsIndexed, IsIndexedAt, IsRooted, StandsIn, entry_placed, left_by, left_without}
 use Rattle.adf_edits.specs.Index.{same_entry, standing}
-use Rattle.adf_edits.specs.{declared.index.Places.Places, Paths.is_at_or_under, Paths.is_deep, Paths.is_under}
-use Rattle.adf_edits.proofs.{IndexedPaths.no_room_fault, Places.same_paths, StandingPlaces.passing}
+use Rattle.adf_edits.specs.{declared.index.Places.Places, Paths.is_at_or_under, Paths.is_under}
+use Rattle.adf_edits.proofs.{IndexedPaths.may_be_added, Places.same_paths, StandingPlaces.passing}
 use Rattle.adf_edits.proofs.MovesKept.{as_long, front_is, no_longer, parents_long, within_parent}
 
 pub left_entry : (path : List (List ℕ)) (ps : List (Option Addition)) (i : ℕ)
@@ -49,16 +49,6 @@ left_standing path (None ∷ ps) = left_standing path ps
 left_standing path (Some y ∷ ps) = elim (cases_Bool (is_within path y)) [
   | inl t ↦ rw t (left_standing path ps)
   | inr f ↦ rw f (ap (λ (xs : List Addition). y ∷ xs) (left_standing path ps))
-]
-
--- what gets too deep
-any_deep : (from to : List (List ℕ)) (ps : List (Option Addition))
-    → list_any (is_entry_deep from to) ps ≡ list_any (gets_deep from to) (filter (is_within from) (standing ps))
-any_deep from to [] = refl
-any_deep from to (None ∷ ps) = any_deep from to ps
-any_deep from to (Some y ∷ ps) = elim (cases_Bool (is_within from y)) [
-  | inl t ↦ elim (cases_Bool (gets_deep from to y)) [ inl g ↦ rw (t, g) refl | inr g ↦ rw (t, g) (any_deep from to ps) ]
-  | inr f ↦ elim (cases_Bool (gets_deep from to y)) [ inl g ↦ rw (f, g) (any_deep from to ps) | inr g ↦ rw (f, g) (any_deep from to ps) ]
 ]
 
 -- paths
@@ -107,22 +97,21 @@ indexed_left from ps index is = record {
 
 -- what is moved
 pub directory_step : (p : Places) (i : ℕ) (from to : List (List ℕ)) → IsIndexedAt p i from → is_under from to ≡ false → HasRoomBut p from to
-    → is_deep to ≡ false → list_any (is_entry_deep from to) p.entries.items ≡ false → (qs : List (Option Addition))
+    → (qs : List (Option Addition))
     → qs ≡ left_without from p.entries.items → (taken : List Addition) → taken ≡ filter (is_within from) (standing p.entries.items)
     → (all : List Addition) → all ≡ standing qs ++ map (rebased from to) taken
-    → unless (move_fault (standing p.entries.items) from to) (moved_additions from to (standing p.entries.items)) ≡ Ok all
-directory_step p i from to found apart room shallow none qs left taken are all is =
+    → only_if (can_move (standing p.entries.items) from to) (moved_additions from to (standing p.entries.items)) ≡ Some all
+directory_step p i from to found apart room qs left taken are all is =
     let ps : List (Option Addition) = p.entries.items in
     let stay : standing (left_without from ps) ≡ without from (standing ps) = left_standing from ps in
-    let fault : room_fault (without from (standing ps)) to ≡ None =
-    subst (λ xs. room_fault xs to ≡ None) stay
-    (no_room_fault (left_without from ps) p.index (indexed_left from ps p.index (found.sound found.whole)) to room.rooted room.free shallow) in
+    let may : can_add (without from (standing ps)) to ≡ true =
+    subst (λ xs. can_add xs to ≡ true) stay
+    (may_be_added (left_without from ps) p.index (indexed_left from ps p.index (found.sound found.whole)) to room.rooted room.free) in
     let there : list_any (is_at from) (standing ps) ≡ true = passing (is_at from) ps i found.entry.0 found.entry.1 found.entry.2 in
-    let low : list_any (gets_deep from to) (filter (is_within from) (standing ps)) ≡ false = sym (any_deep from to ps) ∙ none in
     let made : all ≡ moved_additions from to (standing ps) =
     is ∙ (ap (λ (us : List (Option Addition)). standing us ++ map (rebased from to) taken) left
     ∙ (ap (λ xs. xs ++ map (rebased from to) taken) stay ∙ ap (λ xs. without from (standing ps) ++ map (rebased from to) xs) are)) in
-    rw (there, apart, fault, low) (ap Ok (sym made))
+    rw (there, may) (ap Some (sym made))
 
 -- what is taken entry by entry
 

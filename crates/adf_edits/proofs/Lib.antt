@@ -1,6 +1,5 @@
 pub mod SamePaths
 pub mod Additions
-pub mod Depths
 pub mod OutlineTrees
 pub mod Places
 pub mod PlacedInOrder
@@ -9,10 +8,8 @@ pub mod MovesKept
 pub mod EditsKept
 pub mod FirstAt
 pub mod StandingEntries
-pub mod Refusals
 pub mod PathsKept
 pub mod MovedPaths
-pub mod DepthsKept
 pub mod StandingPlaces
 pub mod IndexKeys
 pub mod IndexedPaths

@@ -1,6 +1,6 @@
 -- What each path leads to after a move.
 -- Letters: xs are additions, ys what the move makes of them; y an addition; r the names behind a path; q a path.
-use Rattle.std.proofs.Common.{◌≡◌, ℕ, List, [], ◌∷◌, ◌++◌, ◌<◌, length, map, refl, sym, ap, ◌∙◌, arith, true, false, Bool, None, Ok, Some, Option, drop}
+use Rattle.std.proofs.Common.{◌≡◌, ℕ, List, [], ◌∷◌, ◌++◌, ◌<◌, length, map, refl, sym, ap, ◌∙◌, arith, true, false, Bool, None, Some, Option, drop}
 use Rattle.std.proofs.{Common.option_map, Math.ListN.drop_of_length-le, Math.Seq.drop-append_seam, lemmas.Bool.false_from_ne_true, lemmas.Grind.common_steps}
 use Rattle.std.specs.{Cmp.both_ways, List.filter, List.find, Option.option_or}
 use Rattle.std.proofs.lemmas.Iterator.Adapters.{option_map_id}
@@ -8,7 +8,7 @@ use Rattle.std.proofs.lemmas.List.{append-nil, get_or-append-add, get_or-drop, l
 use Rattle.adf_names.specs.Texts.{uppers}
 use Rattle.adf_tree.specs.Additions.{Addition, AllHaveRoom, content_of, entries_of_additions}
 use Rattle.adf_tree.specs.{Paths.Content, Paths.content_at, Tree.last_of}
-use Rattle.adf_edits.specs.Edits.{is_at, is_within, move_fault, moved_additions, rebased, unless, without}
+use Rattle.adf_edits.specs.Edits.{can_move, is_at, is_within, moved_additions, only_if, rebased, without}
 use Rattle.adf_edits.specs.Paths.{is_at_or_under}
 use Rattle.adf_edits.proofs.FirstAt.{content_done, first_kept, first_left_out, first_through, first_unlike, none_first, or_nothing, told}
 use Rattle.adf_edits.proofs.MovesKept.{MayMove, as_long, backs, fronts, front_is, free_rest, joined_within, may_move, move_kept, no_longer, rejoined}
@@ -31,7 +31,7 @@ last_behind to p n lt = grind (arith, common_steps, length-append, length-drop, 
 -- a move
 
 module _ (from to : List (List ℕ)) (xs ys : List Addition) (room : AllHaveRoom xs)
-    (h : unless (move_fault xs from to) (moved_additions from to xs) ≡ Ok ys) where
+    (h : only_if (can_move xs from to) (moved_additions from to xs) ≡ Some ys) where
   abbrev w : Addition → Bool
   w = is_within from
 
@@ -45,7 +45,7 @@ module _ (from to : List (List ℕ)) (xs ys : List Addition) (room : AllHaveRoom
   rest = without from xs
 
   may : MayMove from to xs
-  may = may_move from to xs room (made_is (move_fault xs from to) (moved_additions from to xs) ys h).0
+  may = may_move from to xs room (made_is (can_move xs from to) (moved_additions from to xs) ys h).0
 
   after : (q : List (List ℕ)) → content_at (entries_of_additions ys) q
       ≡ option_map content_of (option_or (find (is_at q) rest) (find (is_at q) (map rb (filter w xs))))

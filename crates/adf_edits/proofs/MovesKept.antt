@@ -1,8 +1,8 @@
 -- A move keeps room: what stays keeps its place, and what is moved has one behind it.
 -- Letters: xs are additions, front those before them, rest what stays; x, y additions; a, b, d, p, r paths; n a number of names.
 use Rattle.std.proofs.Common.{◌≡◌, ◌≢◌, ℕ, zero, suc, List, [], ◌∷◌, ◌++◌, inl, inr, ◌-◌, ◌<◌, ◌≤◌, ◌==◌, length, get_or, map, refl, sym, ap, subst, ◌∙◌, arith}
-use Rattle.std.proofs.Common.{true, false, Bool, cond, drop, take, nat_le, not, None, Ok, Option, Some}
-use Rattle.std.specs.{List.filter, List.list_any, List.take-map, Option.option_or}
+use Rattle.std.proofs.Common.{true, false, Bool, cond, drop, take, nat_le, not, Some}
+use Rattle.std.specs.{List.filter, List.list_any, List.take-map}
 use Rattle.std.proofs.{Math.Seq.take-append_seam, Math.ListN.drop_of_length-le, lemmas.List.take-append-drop, lemmas.List.take-take, lemmas.List.take_all}
 use Rattle.std.proofs.{lemmas.List.Elements.filter-append, lemmas.List.Folds.list_any-append, lemmas.List.Folds.list_any_at, lemmas.Grind.common_steps}
 use Rattle.std.proofs.lemmas.Bool.{and_from, and_parts, cases_Bool, cases_lt, eqb-false, false_from_ne_true, le-leb, ne_eqb, Decides.nat_tests}
@@ -10,10 +10,10 @@ use Rattle.std.proofs.lemmas.List.{append-nil, append_assoc, append_cancel_left,
 use Rattle.adf_names.specs.Texts.{uppers}
 use Rattle.adf_tree.specs.{Additions.Addition, Additions.AllHaveRoom, Additions.same_path, Tree.is_dir_body, Tree.last_of, Tree.parents_of}
 use Rattle.adf_tree.proofs.{AddRoom.whole_path, Lists.some_in}
-use Rattle.adf_edits.specs.{declared.edits.EditFault.EditFault, Edits.room_fault, Edits.unless, Edits.without, Paths.is_at_or_under}
-use Rattle.adf_edits.specs.Edits.{has_directory, has_path, is_at, leads_to_directory, is_directory_at, is_within, move_fault, moved_additions, rebased}
+use Rattle.adf_edits.specs.{Edits.can_add, Edits.can_move, Edits.only_if, Edits.without, Paths.is_at_or_under}
+use Rattle.adf_edits.specs.Edits.{has_directory, has_path, is_at, leads_to_directory, is_directory_at, is_within, moved_additions, rebased}
 use Rattle.adf_edits.proofs.PlacedInOrder.{KeepsDirectory, PlacedAfter, any_kept, filtered_after, nothing_before, placed, roomy}
-use Rattle.adf_edits.proofs.{Places.HasPlace, Places.same_paths, Places.some_passes, RoomKept.made_is, RoomKept.place_without_fault}
+use Rattle.adf_edits.proofs.{Places.HasPlace, Places.same_paths, Places.some_passes, RoomKept.made_is, RoomKept.place_to_add}
 
 -- paths within a directory
 
@@ -235,14 +235,6 @@ has_name path front (x ∷ xs) h there = elim (cases_Bool (is_at path x)) [
   | inr f ↦ has_name path (front ++ x ∷ []) xs h.1 (rw f at there)
 ]
 
-first_none : (o n : Option EditFault) → option_or o n ≡ None → o ≡ None
-first_none None n h = refl
-first_none (Some f) n h = cc
-
-no_move_fault : (from to : List (List ℕ)) (xs : List Addition) → move_fault xs from to ≡ None
-    → (has_path xs from ≡ true) × (room_fault (without from xs) to ≡ None)
-no_move_fault from to xs h = grind (arith, common_steps, cases_Bool, first_none)
-
 -- what is moved has a path with a name, and what stays has room for it
 pub record MayMove (from to : List (List ℕ)) (xs : List Addition) : Type 0 where
   pub named : (length from == 0) ≡ false
@@ -252,11 +244,11 @@ pub record MayMove (from to : List (List ℕ)) (xs : List Addition) : Type 0 whe
 stay : (from : List (List ℕ)) (xs : List Addition) → PlacedAfter [] xs → PlacedAfter [] (without from xs)
 stay from xs was = filtered_after (λ y. not (is_within from y)) [] xs (λ i d lt. stays_with from (get_or xs i d)) was
 
-pub may_move : (from to : List (List ℕ)) (xs : List Addition) → AllHaveRoom xs → move_fault xs from to ≡ None → MayMove from to xs
+pub may_move : (from to : List (List ℕ)) (xs : List Addition) → AllHaveRoom xs → can_move xs from to ≡ true → MayMove from to xs
 may_move from to xs room free =
-    let says = no_move_fault from to xs free in
+    let says = and_parts (has_path xs from) (can_add (without from xs) to) free in
     let was : PlacedAfter [] xs = placed [] xs nothing_before room in
-    let place : HasPlace (without from xs) to = place_without_fault (without from xs) to says.1 in
+    let place : HasPlace (without from xs) to = place_to_add (without from xs) to says.1 in
     record {
       named = has_name from [] xs was says.0;
       place = place;
@@ -264,9 +256,9 @@ may_move from to xs room free =
     }
 
 pub move_kept : (from to : List (List ℕ)) (xs ys : List Addition) → AllHaveRoom xs
-    → unless (move_fault xs from to) (moved_additions from to xs) ≡ Ok ys → AllHaveRoom ys
+    → only_if (can_move xs from to) (moved_additions from to xs) ≡ Some ys → AllHaveRoom ys
 move_kept from to xs ys room h =
-    let made = made_is (move_fault xs from to) (moved_additions from to xs) ys h in
+    let made = made_is (can_move xs from to) (moved_additions from to xs) ys h in
     let may = may_move from to xs room made.0 in
     let rest : List Addition = without from xs in
     let was : PlacedAfter [] xs = placed [] xs nothing_before room in

@@ -1,17 +1,17 @@
 -- What each path leads to after a removal, an addition, a change or a new label.
 -- Letters: xs are additions, ys what the edit makes of them; x, y additions; q a path.
-use Rattle.std.proofs.Common.{◌≡◌, ◌≢◌, ℕ, List, [], ◌∷◌, inl, inr, map, refl, sym, ap, ◌∙◌, true, false, None, Ok, Some, Result, not, option_map, arith}
+use Rattle.std.proofs.Common.{◌≡◌, ◌≢◌, ℕ, List, [], ◌∷◌, inl, inr, map, refl, sym, ap, ◌∙◌, true, false, None, Option, Some, not, option_map, arith}
 use Rattle.std.specs.{List.find, List.list_any, Option.option_or}
-use Rattle.std.proofs.lemmas.Bool.{cases_Bool, false_from_ne_true}
+use Rattle.std.proofs.lemmas.Bool.{and_parts, cases_Bool, false_from_ne_true, not-true}
 use Rattle.std.proofs.{lemmas.Iterator.Adapters.option_map_id, lemmas.List.Folds.find-append, lemmas.Grind.common_steps}
 use Rattle.adf_names.specs.Texts.{uppers}
 use Rattle.adf_tree.specs.{Additions.Addition, Additions.AllHaveRoom, Additions.content_of, Additions.entries_of_additions, Paths.Content, Paths.content_at}
-use Rattle.adf_edits.specs.{declared.edits.Change.Change, declared.edits.EditFault.EditFault}
+use Rattle.adf_edits.specs.declared.edits.Change.{Change}
 use Rattle.adf_tree.specs.declared.entry.Body.TheVariants.{File}
-use Rattle.adf_edits.specs.Edits.{change_fault, changed_meta, changed_at, changed_if, is_at, is_directory_at, is_file_named, refilled_at, refilled_if, remove_fault, removed}
-use Rattle.adf_edits.specs.Edits.{replace_fault, unless, with_new}
+use Rattle.adf_edits.specs.Edits.{can_remove, can_replace, changed_meta, changed_at, changed_if, has_directory, has_path, is_at, is_directory_at, is_file_named, refilled_at, refilled_if, removed}
+use Rattle.adf_edits.specs.Edits.{only_if, with_new}
 use Rattle.adf_edits.proofs.FirstAt.{content_done, first_kept, first_left_out, first_mapped, none_first, or_nothing, told}
-use Rattle.adf_edits.proofs.{Places.same_paths, RoomKept.change_kept, RoomKept.made_is, RoomKept.new_kept, RoomKept.place_without_fault, RoomKept.remove_kept}
+use Rattle.adf_edits.proofs.{Places.same_paths, RoomKept.change_kept, RoomKept.made_is, RoomKept.new_kept, RoomKept.place_to_add, RoomKept.remove_kept}
 use Rattle.adf_edits.proofs.RoomKept.{replace_kept}
 
 -- what has one path does not have another
@@ -21,7 +21,7 @@ not_both a b y far at = false_from_ne_true (is_at b y) (λ t. far (sym ((same_pa
 -- removals
 
 module _ (path : List (List ℕ)) (xs ys : List Addition) (room : AllHaveRoom xs)
-    (h : unless (remove_fault xs path) (removed path xs) ≡ Ok ys) where
+    (h : only_if (can_remove xs path) (removed path xs) ≡ Some ys) where
   left : (q : List (List ℕ)) → content_at (entries_of_additions ys) q ≡ option_map content_of (find (is_at q) (removed path xs))
   left q = grind (arith, common_steps, told, remove_kept, option_map, made_is)
 
@@ -37,13 +37,13 @@ module _ (path : List (List ℕ)) (xs ys : List Addition) (room : AllHaveRoom xs
 
 -- additions
 
-module _ (x : Addition) (xs ys : List Addition) (room : AllHaveRoom xs) (h : with_new x xs ≡ Ok ys) where
+module _ (x : Addition) (xs ys : List Addition) (room : AllHaveRoom xs) (h : with_new x xs ≡ Some ys) where
   more : (q : List (List ℕ))
       → content_at (entries_of_additions ys) q ≡ option_map content_of (option_or (find (is_at q) xs) (find (is_at q) (x ∷ [])))
   more q = grind (arith, told, new_kept, option_map, made_is, find-append)
 
   pub new_there : content_at (entries_of_additions ys) x.path ≡ Some (content_of x)
-  new_there = grind (arith, common_steps, place_without_fault, made_is, same_paths, more, none_first)
+  new_there = grind (arith, common_steps, place_to_add, made_is, same_paths, more, none_first)
 
   pub old_kept : (q : List (List ℕ)) → map uppers q ≢ map uppers x.path
       → content_at (entries_of_additions ys) q ≡ content_at (entries_of_additions xs) q
@@ -52,7 +52,7 @@ module _ (x : Addition) (xs ys : List Addition) (room : AllHaveRoom xs) (h : wit
 -- changes
 
 module _ (path : List (List ℕ)) (what : Change) (xs ys : List Addition) (room : AllHaveRoom xs)
-    (h : unless (change_fault xs path) (changed_at path what xs) ≡ Ok ys) where
+    (h : only_if (has_path xs path) (changed_at path what xs) ≡ Some ys) where
   same_at : (q : List (List ℕ)) (y : Addition) → is_at q (changed_if path what y) ≡ is_at q y
   same_at q y = elim (cases_Bool (is_at path y)) [ inl t ↦ rw t refl | inr f ↦ rw f refl ]
 
@@ -80,7 +80,7 @@ first_refilled path bytes [] none = refl
 first_refilled path bytes (x ∷ xs) none = grind (arith, common_steps, cases_Bool, first_refilled path bytes xs)
 
 module _ (path : List (List ℕ)) (bytes : List ℕ) (xs ys : List Addition) (room : AllHaveRoom xs)
-    (h : unless (replace_fault xs path) (refilled_at path bytes xs) ≡ Ok ys) where
+    (h : only_if (can_replace xs path) (refilled_at path bytes xs) ≡ Some ys) where
   refilled_same_at : (q : List (List ℕ)) (y : Addition) → is_at q (refilled_if path bytes y) ≡ is_at q y
   refilled_same_at q y = elim (cases_Bool (is_file_named path y)) [ inl t ↦ rw t refl | inr f ↦ rw f refl ]
 
@@ -90,7 +90,9 @@ module _ (path : List (List ℕ)) (bytes : List ℕ) (xs ys : List Addition) (ro
 
   -- what has the path is a file
   no_directory : list_any (is_directory_at path) xs ≡ false
-  no_directory = grind (arith, common_steps, cases_Bool, made_is (replace_fault xs path) (refilled_at path bytes xs) ys h)
+  no_directory =
+      not-true (has_directory xs path)
+      (and_parts (has_path xs path) (not (has_directory xs path)) (made_is (can_replace xs path) (refilled_at path bytes xs) ys h).0).1
 
   pub replace_there : content_at (entries_of_additions ys) path
       ≡ option_map (λ (c : Content). record c { body = File bytes }) (content_at (entries_of_additions xs) path)
@@ -110,6 +112,6 @@ module _ (path : List (List ℕ)) (bytes : List ℕ) (xs ys : List Addition) (ro
 
 -- labels
 
-pub label_keeps : (xs ys : List Addition) (q : List (List ℕ)) → (let r : Result (List Addition) EditFault = Ok xs in r ≡ Ok ys)
+pub label_keeps : (xs ys : List Addition) (q : List (List ℕ)) → (let r : Option (List Addition) = Some xs in r ≡ Some ys)
     → content_at (entries_of_additions ys) q ≡ content_at (entries_of_additions xs) q
 label_keeps xs ys q h = let same : xs ≡ ys = cc in ap (λ us. content_at (entries_of_additions us) q) (sym same)

@@ -4,10 +4,10 @@
 use Rattle.std.proofs.Common.{◌≡◌, ℕ, suc, List, [], ◌∷◌, ◌++◌, inl, inr, ◌+◌, ◌==◌, length, map, refl, sym, ap, subst, ◌∙◌, arith, true, false, Bool, IsOk}
 use Rattle.std.proofs.{Common.cond, Math.Seq.take-append_seam, Math.Seq.get_or-append_seam, lemmas.Bool.cases_Bool, lemmas.Grind.common_steps}
 use Rattle.std.specs.List.{All, filter, list_any}
-use Rattle.std.proofs.lemmas.List.{append-nil, append_assoc, length-append, map-append, Elements.filter-append, Elements.filter-append}
+use Rattle.std.proofs.lemmas.List.{append-nil, append_assoc, length-append, map-append, Elements.filter-append}
 use Rattle.adf_tree.specs.{Additions.Addition, Additions.AllHaveRoom, Additions.entries_of_additions, Tree.is_dir_body, Tree.parents_of, Tree.room_for}
 use Rattle.adf_tree.proofs.TreeOfAdditions.{all_built}
-use Rattle.adf_edits.specs.{declared.edits.Change.Change, Edits.changed_at, Edits.changed_if, Edits.is_at, Edits.is_directory_at, Edits.is_file_above}
+use Rattle.adf_edits.specs.{declared.edits.Change.Change, Edits.changed_at, Edits.changed_if, Edits.is_at, Edits.is_directory_at}
 use Rattle.adf_edits.specs.Edits.{is_file_named, refilled_at, refilled_if}
 use Rattle.adf_edits.proofs.{Additions.room_more, Places.HasPlace, Places.place_from, Places.room_from}
 
@@ -48,11 +48,8 @@ module _ (f : Addition → Addition) (paths : (y : Addition) → (f y).path ≡ 
   same_directory : (dir : List (List ℕ)) (y : Addition) → is_directory_at dir (f y) ≡ is_directory_at dir y
   same_directory dir y = grind (arith, common_steps, directories, paths)
 
-  same_above : (to : List (List ℕ)) (y : Addition) → is_file_above to (f y) ≡ is_file_above to y
-  same_above to y = grind (arith, common_steps, directories, paths)
-
   mapped_place : (front : List Addition) (to : List (List ℕ)) → HasPlace front to → HasPlace (map f front) to
-  mapped_place front to h = grind (arith, common_steps, any_mapped, same_directory, same_above, paths)
+  mapped_place front to h = grind (arith, common_steps, any_mapped, same_directory, paths)
 
   pub mapped_after : (front xs : List Addition) → PlacedAfter front xs → PlacedAfter (map f front) (map f xs)
   mapped_after front [] h = tt

@@ -1,15 +1,14 @@
 -- What an edit makes of a tree. xs are the additions of the tree, x is one of them.
-use Rattle.std.specs.Prelude.{◌==◌, ◌&&◌, ◌||◌, not, ℕ, Bool, List, [], ◌∷◌, ◌++◌, Option, Some, None, Result, Ok, Err, codes, drop, take, if◌then◌else◌}
-use Rattle.std.specs.{Prelude.find, Prelude.length, Prelude.map, List.filter, List.list_any, Option.option_or}
+use Rattle.std.specs.Prelude.{◌==◌, ◌&&◌, ◌||◌, not, ℕ, Bool, List, [], ◌∷◌, ◌++◌, Option, Some, None, drop, take, if◌then◌else◌}
+use Rattle.std.specs.{Prelude.length, Prelude.map, List.filter, List.list_any}
 use Rattle.adf_base.specs.declared.dates.TheConstants.{NO_STAMP}
-use Rattle.adf_names.specs.{Meta.new_meta, PathTexts.path_text, declared.meta.Meta.Meta}
+use Rattle.adf_names.specs.{Meta.new_meta, declared.meta.Meta.Meta}
 use Rattle.adf_tree.specs.declared.entry.Body.{Body, TheVariants.Dir, TheVariants.File}
 use Rattle.adf_tree.specs.{Additions.Addition, Additions.same_path, Tree.is_dir_body, Tree.parents_of}
-use Rattle.adf_edits.specs.{Outline.OutlineValue, declared.edits.Edit.Edit, declared.edits.EditFault.EditFault, declared.edits.EditFault.TheVariants.NoMemory}
-use Rattle.adf_edits.specs.Paths.{is_at_or_under, is_deep, is_under}
+use Rattle.adf_edits.specs.{Outline.OutlineValue, declared.edits.Edit.Edit}
+use Rattle.adf_edits.specs.Paths.{is_at_or_under, is_under}
 use Rattle.adf_edits.specs.declared.edits.Change.{Change, TheVariants.Note, TheVariants.Protect, TheVariants.Date}
 use Rattle.adf_edits.specs.declared.edits.Edit.TheVariants as edit
-use Rattle.adf_edits.specs.declared.edits.EditFault.TheVariants.{NoSuchPath, NotAFile, NotEmpty, WithinItself, EmptyPath, NoParent, ParentIsFile, Exists, TooDeep}
 
 -- one edit of a tree
 pub data EditValue : Type 0 where
@@ -47,10 +46,6 @@ is_directory_at path x = is_dir_body x.body && same_path x.path path
 abbrev pub is_file_named : List (List ℕ) → Addition → Bool
 is_file_named path x = not (is_dir_body x.body) && same_path x.path path
 
--- whether x is a file that the path leads through
-abbrev pub is_file_above : List (List ℕ) → Addition → Bool
-is_file_above path x = not (is_dir_body x.body) && is_under x.path path
-
 -- whether something has this path
 abbrev pub has_path : List Addition → List (List ℕ) → Bool
 has_path xs path = list_any (is_at path) xs
@@ -58,10 +53,6 @@ has_path xs path = list_any (is_at path) xs
 -- whether something is in the directory with this path
 abbrev pub has_under : List Addition → List (List ℕ) → Bool
 has_under xs path = list_any (λ x. is_under path x.path) xs
-
--- whether a path leads through a file
-abbrev pub leads_through_file : List Addition → List (List ℕ) → Bool
-leads_through_file xs path = list_any (is_file_above path) xs
 
 -- whether a directory has this path
 abbrev pub has_directory : List Addition → List (List ℕ) → Bool
@@ -71,18 +62,9 @@ has_directory xs path = list_any (is_directory_at path) xs
 abbrev pub leads_to_directory : List Addition → List (List ℕ) → Bool
 leads_to_directory xs path = (length path == 0) || has_directory xs path
 
--- the text of the path of the first of xs that has this path
-unfoldable pub standing_text : List Addition → List (List ℕ) → List ℕ
-standing_text xs path = elim (find (is_at path) xs) [ Some x ↦ path_text x.path | None ↦ [] ]
-
--- why nothing can be added under a path: it has no name, leads through a file or to no directory, something has it, or it is too deep
-abbrev pub room_fault : List Addition → List (List ℕ) → Option EditFault
-room_fault xs path =
-    if length path == 0 then Some EmptyPath
-    else if leads_through_file xs path then Some ParentIsFile
-    else if not (leads_to_directory xs (parents_of path)) then Some NoParent
-    else if has_path xs path then Some (Exists (standing_text xs path))
-    else if is_deep path then Some TooDeep else None
+-- whether something can be added under a path: it has a name, its directory is there, and nothing has it
+abbrev pub can_add : List Addition → List (List ℕ) → Bool
+can_add xs path = not (length path == 0) && (leads_to_directory xs (parents_of path) && not (has_path xs path))
 
 -- all but what has this path
 abbrev pub removed : List (List ℕ) → List Addition → List Addition
@@ -95,10 +77,6 @@ without path xs = filter (λ x. not (is_within path x)) xs
 -- x with the path `to` in the place of its first names, as many as `from` has
 abbrev pub rebased : List (List ℕ) → List (List ℕ) → Addition → Addition
 rebased from to x = record x { path = to ++ drop (length from) x.path }
-
--- whether the path of x gets too deep
-abbrev pub gets_deep : List (List ℕ) → List (List ℕ) → Addition → Bool
-gets_deep from to x = is_deep (rebased from to x).path
 
 -- what has the path `from`, or is in the directory that has it, comes last and gets the path `to` in its place
 abbrev pub moved_additions : List (List ℕ) → List (List ℕ) → List Addition → List Addition
@@ -126,32 +104,21 @@ refilled_if path bytes x = if is_file_named path x then record x { body = File b
 abbrev pub refilled_at : List (List ℕ) → List ℕ → List Addition → List Addition
 refilled_at path bytes xs = map (refilled_if path bytes) xs
 
--- a fault, or else these additions
-abbrev pub unless : Option EditFault → List Addition → Result (List Addition) EditFault
-unless (Some fault) xs = Err fault
-unless None xs = Ok xs
+-- these additions, if an edit can be applied
+abbrev pub only_if : Bool → List Addition → Option (List Addition)
+only_if may xs = if may then Some xs else None
 
--- why a path cannot be removed
-abbrev pub remove_fault : List Addition → List (List ℕ) → Option EditFault
-remove_fault xs path = if not (has_path xs path) then Some NoSuchPath else if has_under xs path then Some NotEmpty else None
+-- whether a path can be removed: something has it, and nothing is in it
+abbrev pub can_remove : List Addition → List (List ℕ) → Bool
+can_remove xs path = has_path xs path && not (has_under xs path)
 
--- a path that is moved gets too deep
-abbrev pub depth_fault : List Addition → List (List ℕ) → List (List ℕ) → Option EditFault
-depth_fault xs from to = if list_any (gets_deep from to) (filter (is_within from) xs) then Some TooDeep else None
+-- whether a path can be moved to another: something has it, and without what has it or is in it the other can be added
+abbrev pub can_move : List Addition → List (List ℕ) → List (List ℕ) → Bool
+can_move xs from to = has_path xs from && can_add (without from xs) to
 
--- why a path cannot be moved to another
-abbrev pub move_fault : List Addition → List (List ℕ) → List (List ℕ) → Option EditFault
-move_fault xs from to =
-    if not (has_path xs from) then Some NoSuchPath else if is_under from to then Some WithinItself
-    else option_or (room_fault (without from xs) to) (depth_fault xs from to)
-
--- why what has this path cannot be changed
-abbrev pub change_fault : List Addition → List (List ℕ) → Option EditFault
-change_fault xs path = if has_path xs path then None else Some NoSuchPath
-
--- why the bytes of the file with this path cannot be replaced
-abbrev pub replace_fault : List Addition → List (List ℕ) → Option EditFault
-replace_fault xs path = if not (has_path xs path) then Some NoSuchPath else if has_directory xs path then Some NotAFile else None
+-- whether the bytes of what has this path can be replaced: a file has it
+abbrev pub can_replace : List Addition → List (List ℕ) → Bool
+can_replace xs path = has_path xs path && not (has_directory xs path)
 
 -- a file of the first of these bytes
 abbrev pub file_of : ℕ → List ℕ → Body
@@ -162,42 +129,29 @@ abbrev pub new_addition : List (List ℕ) → Body → Addition
 new_addition path body = record { path = path; meta = new_meta [] 0 NO_STAMP; body = body }
 
 -- one addition more, if there is room for it
-abbrev pub with_new : Addition → List Addition → Result (List Addition) EditFault
-with_new x xs = unless (room_fault xs x.path) (xs ++ x ∷ [])
+abbrev pub with_new : Addition → List Addition → Option (List Addition)
+with_new x xs = only_if (can_add xs x.path) (xs ++ x ∷ [])
 
--- what an edit makes of additions, where these bytes are given, or why it cannot be applied
-abbrev pub edited_additions : EditValue → List ℕ → List Addition → Result (List Addition) EditFault
-edited_additions (remove path) given xs = unless (remove_fault xs path) (removed path xs)
-edited_additions (move from to) given xs = unless (move_fault xs from to) (moved_additions from to xs)
+-- what an edit makes of additions, where these bytes are given, if it can be applied
+abbrev pub edited_additions : EditValue → List ℕ → List Addition → Option (List Addition)
+edited_additions (remove path) given xs = only_if (can_remove xs path) (removed path xs)
+edited_additions (move from to) given xs = only_if (can_move xs from to) (moved_additions from to xs)
 edited_additions (dir path) given xs = with_new (new_addition path Dir) xs
 edited_additions (file path size) given xs = with_new (new_addition path (file_of size given)) xs
-edited_additions (replace path size) given xs = unless (replace_fault xs path) (refilled_at path (take size given) xs)
-edited_additions (change path what) given xs = unless (change_fault xs path) (changed_at path what xs)
-edited_additions (label text) given xs = Ok xs
+edited_additions (replace path size) given xs = only_if (can_replace xs path) (refilled_at path (take size given) xs)
+edited_additions (change path what) given xs = only_if (has_path xs path) (changed_at path what xs)
+edited_additions (label text) given xs = Some xs
 
 -- the label after an edit
 abbrev pub edited_label : EditValue → List ℕ → List ℕ
 edited_label (label text) old = text
 edited_label _ old = old
 
--- an outline with another label and other additions, or a fault
-abbrev pub with_additions : OutlineValue → List ℕ → Result (List Addition) EditFault → Result OutlineValue EditFault
-with_additions o text (Ok xs) = Ok (record o { label = text; additions = xs })
-with_additions o text (Err fault) = Err fault
+-- an outline with another label and other additions, if there are some
+abbrev pub with_additions : OutlineValue → List ℕ → Option (List Addition) → Option OutlineValue
+with_additions o text (Some xs) = Some (record o { label = text; additions = xs })
+with_additions o text None = None
 
--- what an edit makes of a tree, where these bytes are given, or why it cannot be applied
-abbrev pub edited : EditValue → List ℕ → OutlineValue → Result OutlineValue EditFault
+-- what an edit makes of a tree, where these bytes are given, if it can be applied
+abbrev pub edited : EditValue → List ℕ → OutlineValue → Option OutlineValue
 edited edit given o = with_additions o (edited_label edit o.label) (edited_additions edit given o.additions)
-
--- the text of a fault
-abbrev pub edit_fault_text : EditFault → List ℕ
-edit_fault_text NoSuchPath = codes "no such path"
-edit_fault_text NotAFile = codes "not a file"
-edit_fault_text NotEmpty = codes "not empty: remove what is in it first"
-edit_fault_text WithinItself = codes "within itself"
-edit_fault_text EmptyPath = codes "no name"
-edit_fault_text NoParent = codes "no parent: add the directory first"
-edit_fault_text ParentIsFile = codes "parent is file"
-edit_fault_text (Exists text) = codes "exists: remove it first, or take another name: " ++ text
-edit_fault_text TooDeep = codes "too deep: 255 names at most"
-edit_fault_text NoMemory = codes "no memory"

@@ -1,12 +1,11 @@
 -- Entries by place, and the index of their paths. ps are the entries by place, None where one was taken away.
-use Rattle.std.specs.Prelude.{◌≡◌, ◌≢◌, ◌⊎◌, ◌&&◌, ◌-◌, ℕ, Bool, true, false, List, [], ◌∷◌, ◌++◌, Option, Some, None, Result, Ok, length, map, fold}
+use Rattle.std.specs.Prelude.{◌≡◌, ◌≢◌, ◌⊎◌, ◌-◌, ℕ, Bool, true, false, List, [], ◌∷◌, ◌++◌, Option, Some, None, length, map, fold}
 use Rattle.std.specs.{Prelude.take, Prelude.if◌then◌else◌, List.slice_get, List.filter_map, Option.option_and_then, Ordering.is_eq, Ordering.nat_cmp}
 use Rattle.std.specs.{declared.cmp.Ordering.Ordering, BTreeMap.BTreeMap, BTreeMap.get_by, BTreeMap.insert_entry, Cmp.Lexicographic.slice_cmp, Global.Vec}
 use Rattle.std.specs.Map.{remove_entry}
 use Rattle.adf_names.specs.Texts.{uppers}
 use Rattle.adf_tree.specs.{Additions.Addition, Tree.is_dir_body, Tree.parents_of}
-use Rattle.adf_edits.specs.Edits.{gets_deep, is_at, is_directory_at, is_within}
-use Rattle.adf_edits.specs.declared.edits.EditFault.{EditFault}
+use Rattle.adf_edits.specs.Edits.{is_at, is_directory_at, is_within}
 use Rattle.adf_edits.specs.declared.index.Places.{Places}
 
 -- what stands at one place
@@ -50,11 +49,6 @@ end_key path = take (length (path_key path) - 1) (path_key path) ++ 48 ∷ []
 abbrev pub is_entry_within : List (List ℕ) → Option Addition → Bool
 is_entry_within path None = false
 is_entry_within path (Some x) = is_within path x
-
--- whether such an entry gets too deep where `to` is put in the place of the path `from`
-abbrev pub is_entry_deep : (from to : List (List ℕ)) → Option Addition → Bool
-is_entry_deep from to None = false
-is_entry_deep from to (Some x) = gets_deep from to x && is_within from x
 
 -- what stands at a place, unless it has this path or is in the directory that has it
 abbrev pub left_by : List (List ℕ) → Option Addition → Option Addition
@@ -117,6 +111,6 @@ pub record HasRoomBut (p : Places) (from to : List (List ℕ)) : Type 0 where
   pub free : entry_placed (left_without from p.entries.items) (place_in_index p.index to) ≡ None
 
 -- what an edit makes is done, or else nothing is
-abbrev pub IsStep : Result (List Addition) EditFault → (old new : Places) → (done : Bool) → Type 0
-IsStep made old new true = made ≡ Ok (standing new.entries.items)
+abbrev pub IsStep : Option (List Addition) → (old new : Places) → (done : Bool) → Type 0
+IsStep made old new true = made ≡ Some (standing new.entries.items)
 IsStep made old new false = standing new.entries.items ≡ standing old.entries.items

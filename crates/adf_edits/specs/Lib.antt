@@ -1,6 +1,5 @@
 -- The promise: what an outline of a tree is, and what an edit makes of it.
 pub mod Paths
 pub mod Outline
-pub mod TreeFaults
 pub mod Edits
 pub mod Index

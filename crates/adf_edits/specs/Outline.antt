@@ -1,11 +1,9 @@
 -- Trees as lists of additions.
-use Rattle.std.specs.Prelude.{◌≡◌, ◌==◌, ◌-◌, ℕ, List, [], ◌∷◌, ◌++◌, Err, fold, if◌then◌else◌, slice_get, Option, Some, None}
+use Rattle.std.specs.Prelude.{◌==◌, ◌-◌, ℕ, List, [], ◌∷◌, ◌++◌, fold, if◌then◌else◌, Option, Some, None}
 use Rattle.std.specs.List.{slice_get}
 use Rattle.adf_base.specs.declared.hash.Letters.{Letters, TheVariants.Ascii}
 use Rattle.adf_names.specs.{declared.kind.Kind.Kind, declared.meta.Stamps.Stamps}
-use Rattle.adf_tree.specs.{declared.entry.Entry.Entry, declared.tree.AddFault.AddFault, declared.tree.RoomFault.RoomFault, Additions.Addition}
-use Rattle.adf_tree.specs.{Additions.AllHaveRoom, Additions.entries_of_additions, Additions.entries_of_additions_by, Additions.with_addition_by}
-use Rattle.adf_tree.specs.{Faults.add_fault, Tree.Tree, Tree.room_for}
+use Rattle.adf_tree.specs.{declared.entry.Entry.Entry, Additions.Addition, Additions.entries_of_additions_by, Additions.with_addition_by, Tree.Tree}
 
 -- the value of an outline: the kind, label and dates of a tree, and its additions
 pub record OutlineValue : Type 0 where
@@ -57,8 +55,3 @@ with_addition_in t x = record t { entries = with_addition_by t.letters t.entries
 
 abbrev pub tree_of_outline : OutlineValue → Tree
 tree_of_outline = tree_of_outline_by Ascii
-
--- the first addition that has no room in the tree of those before it has this fault there
-abbrev pub IsWithoutRoom : List Addition → AddFault → Type 0
-IsWithoutRoom xs f = (front rest : List Addition) × (x : Addition) × (why : RoomFault) × (xs ≡ front ++ x ∷ rest) × AllHaveRoom front
-    × (room_for (entries_of_additions front) x.path ≡ Err why) × (f ≡ add_fault why)

@@ -1,13 +1,12 @@
 // What an edit makes of a tree.
 
-ghost use Rattle.std.specs.Prelude.{◌≡◌, ◌≢◌, ◌≤◌, ◌++◌, ◌∷◌, [], None, Some, Ok, Err, IfOk, IfErr, OnOk, All, find, length, map, option_copied, take, true};
-ghost use Rattle.std.specs.List.{filter, list_any};
+ghost use Rattle.std.specs.Prelude.{◌≡◌, ◌≤◌, ◌++◌, ◌∷◌, [], None, Some, IfOk, OnOk, All, length, map, take, true};
+ghost use Rattle.std.specs.List.{filter};
 ghost use Rattle.adf_tree.specs.{Tree.is_dir_body, declared.entry.Body.Body};
-ghost use Rattle.adf_edits.specs.Edits.{change_fault, changed_at, changed_if, changed_meta, edit_value, edited, edited_additions};
-ghost use Rattle.adf_edits.specs.Edits.{edited_label, gets_deep, has_directory, has_path, has_under, is_at, is_file_named};
-ghost use Rattle.adf_edits.specs.Edits.{is_directory_at, is_file_above, is_within, leads_through_file, leads_to_directory, refilled_at};
-ghost use Rattle.adf_edits.specs.Edits.{move_fault, moved_additions, new_addition, rebased, refilled_if, remove_fault, removed, room_fault};
-ghost use Rattle.adf_edits.specs.Edits.{replace_fault, standing_text, without};
+ghost use Rattle.adf_edits.specs.Edits.{can_add, can_move, can_remove, can_replace, changed_at, changed_if, changed_meta, edit_value, edited};
+ghost use Rattle.adf_edits.specs.Edits.{edited_additions, edited_label, has_directory, has_path, has_under, is_at, is_directory_at};
+ghost use Rattle.adf_edits.specs.Edits.{is_file_named, is_within, leads_to_directory, moved_additions, new_addition, rebased};
+ghost use Rattle.adf_edits.specs.Edits.{refilled_at, refilled_if, removed, without};
 
 use crate::outline::{Item, Outline};
 use crate::path_text::PathText;
@@ -71,11 +70,6 @@ pub enum EditFault {
 }
 
 impl fmt::Display for EditFault {
-    ghost use Rattle.std.specs.Prelude.{Some};
-    ghost use Rattle.adf_edits.specs.Edits.{edit_fault_text};
-
-    ghost output = { λ x. Some (edit_fault_text x) };
-
     fn fmt<W: fmt::Write>(&self, f: &mut fmt::Formatter<W>) -> fmt::Result {
         match self {
             EditFault::NoSuchPath => f.write_str("no such path"),
@@ -96,10 +90,6 @@ impl fmt::Display for EditFault {
 }
 
 impl From<NoMemory> for EditFault {
-    ghost use Rattle.adf_edits.specs.declared.edits.EditFault.TheVariants.{NoMemory};
-
-    ghost from_gives = { λ _ f. f ≡ NoMemory };
-
     fn from(_fault: NoMemory) -> EditFault {
         EditFault::NoMemory
     }
@@ -144,9 +134,7 @@ pub fn is_file_named(path: &[Name], item: &Item) -> bool
 }
 
 // Whether an entry is a file that the path leads through.
-fn is_file_above(path: &[Name], item: &Item) -> bool
-    ensures { result ≡ is_file_above path.now item.now }
-{
+fn is_file_above(path: &[Name], item: &Item) -> bool {
     !is_dir(&item.body) && is_under(&item.path, path)
 }
 
@@ -165,9 +153,7 @@ fn has_under(items: &[Item], path: &[Name]) -> bool
 }
 
 // Whether a path leads through a file.
-fn leads_through_file(items: &[Item], path: &[Name]) -> bool
-    ensures { result ≡ leads_through_file items.now path.now }
-{
+fn leads_through_file(items: &[Item], path: &[Name]) -> bool {
     items.iter().any(|item| is_file_above(path, item))
 }
 
@@ -186,9 +172,7 @@ fn leads_to_directory(items: &[Item], path: &[Name]) -> bool
 }
 
 // The first entry that has this path.
-fn first_at<'a>(items: &'a [Item], path: &[Name]) -> Option<&'a Item>
-    ensures { option_copied result ≡ find (is_at path.now) items.now }
-{
+fn first_at<'a>(items: &'a [Item], path: &[Name]) -> Option<&'a Item> {
     for item in items {
         if is_at(path, item) {
             return Some(item);
@@ -198,10 +182,7 @@ fn first_at<'a>(items: &'a [Item], path: &[Name]) -> Option<&'a Item>
 }
 
 // The text of its path.
-#[tactic(auto, unfolding(crate::specs::Edits::standing_text))]
-fn standing_text(alloc: Global, items: &[Item], path: &[Name]) -> Result<PathText, NoMemory>
-    ensures { IfOk result (λ t. t ≡ standing_text items.now path.now) }
-{
+fn standing_text(alloc: Global, items: &[Item], path: &[Name]) -> Result<PathText, NoMemory> {
     match first_at(items, path) {
         Some(item) => PathText::of(alloc, &item.path),
         None => PathText::of(alloc, &[]),
@@ -210,7 +191,7 @@ fn standing_text(alloc: Global, items: &[Item], path: &[Name]) -> Result<PathTex
 
 // Why no entry can be added under a path.
 fn room_fault(alloc: Global, items: &[Item], path: &[Name]) -> Result<Option<EditFault>, NoMemory>
-    ensures { IfOk result (λ fault. fault ≡ room_fault items.now path.now) }
+    ensures { IfOk result (λ fault. fault ≡ None → can_add items.now path.now ≡ true) }
 {
     if path.is_empty() {
         return Ok(Some(EditFault::EmptyPath));
@@ -247,18 +228,13 @@ pub fn rebased(alloc: Global, item: Item, from: &[Name], to: &[Name]) -> Result<
 }
 
 // Whether an entry's path gets too deep where `to` stands for its first names, as many as `from` has.
-#[tactic(auto, using(crate::proofs::Depths::moved_long))]
-pub fn gets_deep(from: &[Name], to: &[Name], item: &Item) -> bool
-    ensures { result ≡ gets_deep from.now to.now item.now }
-{
+pub fn gets_deep(from: &[Name], to: &[Name], item: &Item) -> bool {
     let behind = item.path.len().saturating_sub(from.len());
     MOST_DEPTH < to.len().saturating_add(behind)
 }
 
 // Whether the path of one of the entries gets too deep.
-fn any_gets_deep(items: &[Item], from: &[Name], to: &[Name]) -> bool
-    ensures { result ≡ list_any (gets_deep from.now to.now) items.now }
-{
+fn any_gets_deep(items: &[Item], from: &[Name], to: &[Name]) -> bool {
     items.iter().any(|item| gets_deep(from, to, item))
 }
 
@@ -320,10 +296,8 @@ fn moved(
     from: &[Name],
     to: &[Name],
 ) -> Result<Vec<Item>, EditFault>
-    ensures ok { IfOk result (λ xs. move_fault items.items from.now to.now ≡ None) }
+    ensures ok { OnOk result (can_move items.items from.now to.now ≡ true) }
     ensures moved { IfOk result (λ xs. xs.items ≡ moved_additions from.now to.now items.items) }
-    ensures fault { IfErr result (λ f. f ≢ EditFault.NoMemory
-        → move_fault items.items from.now to.now ≡ Some f) }
 {
     if !has_path(&items, from) {
         return Err(EditFault::NoSuchPath);
@@ -344,9 +318,8 @@ fn moved(
 
 // Removes what has a path.
 fn removed(items: Vec<Item>, path: &[Name]) -> Result<Vec<Item>, EditFault>
-    ensures ok { IfOk result (λ xs. remove_fault items.items path.now ≡ None) }
+    ensures ok { OnOk result (can_remove items.items path.now ≡ true) }
     ensures removed { IfOk result (λ xs. xs.items ≡ removed path.now items.items) }
-    ensures fault { IfErr result (λ f. remove_fault items.items path.now ≡ Some f) }
 {
     if !has_path(&items, path) {
         return Err(EditFault::NoSuchPath);
@@ -361,10 +334,8 @@ fn removed(items: Vec<Item>, path: &[Name]) -> Result<Vec<Item>, EditFault>
 
 // Adds an entry.
 fn added(alloc: Global, items: Vec<Item>, item: Item) -> Result<Vec<Item>, EditFault>
-    ensures ok { IfOk result (λ xs. room_fault items.items item.path ≡ None) }
+    ensures ok { OnOk result (can_add items.items item.path ≡ true) }
     ensures added { IfOk result (λ xs. xs.items ≡ items.items ++ item ∷ []) }
-    ensures fault { IfErr result (λ f. f ≢ EditFault.NoMemory
-        → room_fault items.items item.path ≡ Some f) }
 {
     if let Some(fault) = room_fault(alloc, &items, &item.path)? {
         return Err(fault);
@@ -409,9 +380,8 @@ fn change_items(items: &mut [Item], path: &[Name], change: &Change)
 
 // Changes what has a path.
 fn changed(items: Vec<Item>, path: &[Name], change: &Change) -> Result<Vec<Item>, EditFault>
-    ensures ok { IfOk result (λ xs. change_fault items.items path.now ≡ None) }
+    ensures ok { OnOk result (has_path items.items path.now ≡ true) }
     ensures changed { IfOk result (λ xs. xs.items ≡ changed_at path.now change.now items.items) }
-    ensures fault { IfErr result (λ f. change_fault items.items path.now ≡ Some f) }
 {
     if !has_path(&items, path) {
         return Err(EditFault::NoSuchPath);
@@ -467,10 +437,8 @@ fn replaced(
     path: &[Name],
     bytes: &[u8],
 ) -> Result<Vec<Item>, EditFault>
-    ensures ok { IfOk result (λ xs. replace_fault items.items path.now ≡ None) }
+    ensures ok { OnOk result (can_replace items.items path.now ≡ true) }
     ensures refilled { IfOk result (λ xs. xs.items ≡ refilled_at path.now bytes.now items.items) }
-    ensures fault { IfErr result (λ f. f ≢ EditFault.NoMemory
-        → replace_fault items.items path.now ≡ Some f) }
 {
     if !has_path(&items, path) {
         return Err(EditFault::NoSuchPath);
@@ -517,9 +485,7 @@ fn edited_items(
     edit: Edit,
     given: &[u8],
 ) -> Result<Vec<Item>, EditFault>
-    ensures ok { IfOk result (λ xs. edited_additions (edit_value edit) given.now items.items ≡ Ok xs.items) }
-    ensures fault { IfErr result (λ f. f ≢ EditFault.NoMemory
-        → edited_additions (edit_value edit) given.now items.items ≡ Err f) }
+    ensures { IfOk result (λ xs. edited_additions (edit_value edit) given.now items.items ≡ Some xs.items) }
 {
     match edit {
         Edit::Remove(path) => removed(items, &path),
@@ -549,9 +515,7 @@ impl Outline {
     /// The outline after an edit, or why the edit cannot be applied; `NoMemory` if an allocation fails. The bytes of a file
     /// are the first of the given ones.
     pub fn edited(self, alloc: Global, edit: Edit, given: &[u8]) -> Result<Outline, EditFault>
-        ensures ok { IfOk result (λ o. edited (edit_value edit) given.now self ≡ Ok o) }
-        ensures fault { IfErr result (λ f. f ≢ EditFault.NoMemory
-            → edited (edit_value edit) given.now self ≡ Err f) }
+        ensures { IfOk result (λ o. edited (edit_value edit) given.now self ≡ Some o) }
     {
         let label = edited_label(self.label, &edit);
         Ok(Outline {

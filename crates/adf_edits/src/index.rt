@@ -2,10 +2,10 @@
 
 ghost use Rattle.std.specs.Prelude.{◌≡◌, ◌<◌, ◌++◌, ◌∷◌, [], None, Some, false, length, set, true, IfOk, OnOk, option_copied};
 ghost use Rattle.adf_tree.specs.Additions.{Addition};
-ghost use Rattle.std.specs.List.{filter, list_any};
+ghost use Rattle.std.specs.List.{filter};
 ghost use Rattle.adf_edits.specs.{Edits.changed_if, Edits.has_under, Edits.is_within, Edits.refilled_if, Paths.is_under};
 ghost use Rattle.adf_edits.specs.Index.{HasPlaceLess, HasPlaceMore, HasRoom, HasRoomBut, IsDirectoryAt, IsFileAt, IsIndexedAt};
-ghost use Rattle.adf_edits.specs.Index.{IsRooted, IsSoundIndex, StandsIn, StandsAt, end_key, entry_placed, is_entry_deep};
+ghost use Rattle.adf_edits.specs.Index.{IsRooted, IsSoundIndex, StandsIn, StandsAt, end_key, entry_placed};
 ghost use Rattle.adf_edits.specs.Index.{is_entry_within, left_by, left_without, path_key, place_at, place_in_index, standing};
 
 use crate::edits::{Change, change_item, gets_deep, is_at, is_dir, is_within, refill_item};
@@ -89,9 +89,7 @@ fn is_entry_within(path: &[Name], entry: &Option<Item>) -> bool
 }
 
 // Whether an entry stands, and gets too deep where what has a path, and what is in it, is moved.
-fn is_entry_deep(from: &[Name], to: &[Name], entry: &Option<Item>) -> bool
-    ensures { result ≡ is_entry_deep from.now to.now entry.now }
-{
+fn is_entry_deep(from: &[Name], to: &[Name], entry: &Option<Item>) -> bool {
     match entry {
         Some(item) => gets_deep(from, to, item) && is_within(from, item),
         None => false,
@@ -278,9 +276,7 @@ impl Places {
     }
 
     /// Whether the path of something that has the path `from`, or is in the directory that has it, gets too deep.
-    pub fn any_gets_deep(&self, from: &[Name], to: &[Name]) -> bool
-        ensures { result ≡ list_any (is_entry_deep from.now to.now) self.now.entries.items }
-    {
+    pub fn any_gets_deep(&self, from: &[Name], to: &[Name]) -> bool {
         self.entries
             .iter()
             .any(|entry| is_entry_deep(from, to, entry))

@@ -1,8 +1,8 @@
 // Outlines with an index of their paths.
 
-ghost use Rattle.std.specs.Prelude.{◌≡◌, ◌≢◌, ◌++◌, ◌∷◌, [], Ok, Err, IfOk, IfErr, OnOk, false, true};
-ghost use Rattle.adf_edits.specs.Edits.{change_fault, changed_at, edit_value, edited, edited_additions};
-ghost use Rattle.adf_edits.specs.Edits.{has_under, refilled_at, remove_fault, removed, replace_fault, unless, with_new};
+ghost use Rattle.std.specs.Prelude.{◌≡◌, ◌++◌, ◌∷◌, [], IfOk, OnOk, Some, false, true};
+ghost use Rattle.adf_edits.specs.Edits.{can_remove, can_replace, changed_at, edit_value, edited, edited_additions};
+ghost use Rattle.adf_edits.specs.Edits.{has_path, has_under, only_if, refilled_at, removed, with_new};
 ghost use Rattle.adf_edits.specs.Index.{IsIndexedAt, IsSoundIndex, IsStep, standing};
 
 use crate::edits::{Change, Edit, EditFault, edited_label, first_of, new_file, new_item};
@@ -56,7 +56,7 @@ fn quick_change(
     change: &Change,
 ) -> Result<bool, NoMemory>
     requires { IsSoundIndex places.old }
-    ensures step { IfOk result (IsStep (unless (change_fault (standing places.old.entries.items) path.now)
+    ensures step { IfOk result (IsStep (only_if (has_path (standing places.old.entries.items) path.now)
         (changed_at path.now change.now (standing places.old.entries.items))) places.old places.new) }
     ensures sound { OnOk result (IsSoundIndex places.new) }
 {
@@ -80,7 +80,7 @@ fn quick_replace(
     bytes: &[u8],
 ) -> Result<bool, NoMemory>
     requires { IsSoundIndex places.old }
-    ensures step { IfOk result (IsStep (unless (replace_fault (standing places.old.entries.items) path.now)
+    ensures step { IfOk result (IsStep (only_if (can_replace (standing places.old.entries.items) path.now)
         (refilled_at path.now bytes.now (standing places.old.entries.items))) places.old places.new) }
     ensures sound { OnOk result (IsSoundIndex places.new) }
 {
@@ -137,7 +137,7 @@ fn remove_at(
 ) -> Result<bool, NoMemory>
     requires found { IsIndexedAt places.old place path.now }
     requires empty { has_under (standing places.old.entries.items) path.now ≡ false }
-    ensures step { IfOk result (IsStep (unless (remove_fault (standing places.old.entries.items) path.now)
+    ensures step { IfOk result (IsStep (only_if (can_remove (standing places.old.entries.items) path.now)
         (removed path.now (standing places.old.entries.items))) places.old places.new) }
     ensures sound { OnOk result (IsSoundIndex places.new) }
 {
@@ -149,7 +149,7 @@ fn remove_at(
 // Removes what has a path.
 fn quick_remove(alloc: Global, places: &mut Places, path: &[Name]) -> Result<bool, NoMemory>
     requires { IsSoundIndex places.old }
-    ensures step { IfOk result (IsStep (unless (remove_fault (standing places.old.entries.items) path.now)
+    ensures step { IfOk result (IsStep (only_if (can_remove (standing places.old.entries.items) path.now)
         (removed path.now (standing places.old.entries.items))) places.old places.new) }
     ensures sound { OnOk result (IsSoundIndex places.new) }
 {
@@ -343,9 +343,7 @@ impl IndexedOutline {
         edit: Edit,
         given: &[u8],
     ) -> Result<IndexedOutline, EditFault>
-        ensures ok { IfOk result (λ o. edited (edit_value edit) given.now self ≡ Ok o) }
-        ensures fault { IfErr result (λ f. f ≢ EditFault.NoMemory
-            → edited (edit_value edit) given.now self ≡ Err f) }
+        ensures { IfOk result (λ o. edited (edit_value edit) given.now self ≡ Some o) }
     {
         let mut places = self.places;
         if quick_edit(alloc, &mut places, &edit, given)? {

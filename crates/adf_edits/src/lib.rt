@@ -14,7 +14,7 @@ mod tree_fault;
 pub use crate::edits::{Change, Edit, EditFault};
 pub use crate::indexed::IndexedOutline;
 pub use crate::laws::{
-    changes_keep_other_paths, directories_keep_other_paths, edits_keep_depth, edits_keep_room,
+    changes_keep_other_paths, directories_keep_other_paths, edits_keep_room,
     files_keep_other_paths, labels_keep_paths, moves_keep_other_paths, outlines_have_their_trees,
     removals_keep_other_paths, replacements_keep_other_paths,
 };

@@ -1,7 +1,7 @@
 // Moves by an index of paths.
 
 ghost use Rattle.std.specs.Prelude.{◌≡◌, ◌++◌, All, IfOk, OnOk, false, map, true};
-ghost use Rattle.adf_edits.specs.Edits.{is_within, move_fault, moved_additions, rebased, unless};
+ghost use Rattle.adf_edits.specs.Edits.{can_move, is_within, moved_additions, only_if, rebased};
 ghost use Rattle.adf_edits.specs.Index.{IsFileAt, IsIndexedAt, IsSoundIndex, IsStep, standing};
 ghost use Rattle.adf_edits.specs.Paths.{is_under};
 
@@ -24,7 +24,7 @@ fn move_file(
     requires found { IsIndexedAt places.old place from.now }
     requires file { IsFileAt places.old.entries.items place }
     requires apart { is_under from.now to.now ≡ false }
-    ensures step { IfOk result (IsStep (unless (move_fault (standing places.old.entries.items) from.now to.now)
+    ensures step { IfOk result (IsStep (only_if (can_move (standing places.old.entries.items) from.now to.now)
         (moved_additions from.now to.now (standing places.old.entries.items))) places.old places.new) }
     ensures sound { OnOk result (IsSoundIndex places.new) }
 {
@@ -74,7 +74,7 @@ fn move_directory(
 ) -> Result<bool, NoMemory>
     requires found { IsIndexedAt places.old place from.now }
     requires apart { is_under from.now to.now ≡ false }
-    ensures step { IfOk result (IsStep (unless (move_fault (standing places.old.entries.items) from.now to.now)
+    ensures step { IfOk result (IsStep (only_if (can_move (standing places.old.entries.items) from.now to.now)
         (moved_additions from.now to.now (standing places.old.entries.items))) places.old places.new) }
     ensures sound { OnOk result (IsSoundIndex places.new) }
 {
@@ -96,7 +96,7 @@ fn move_if_paid(
 ) -> Result<bool, NoMemory>
     requires found { IsIndexedAt places.old place from.now }
     requires apart { is_under from.now to.now ≡ false }
-    ensures step { IfOk result (IsStep (unless (move_fault (standing places.old.entries.items) from.now to.now)
+    ensures step { IfOk result (IsStep (only_if (can_move (standing places.old.entries.items) from.now to.now)
         (moved_additions from.now to.now (standing places.old.entries.items))) places.old places.new) }
     ensures sound { OnOk result (IsSoundIndex places.new) }
 {
@@ -118,7 +118,7 @@ pub fn quick_move(
     to: &[Name],
 ) -> Result<bool, NoMemory>
     requires { IsSoundIndex places.old }
-    ensures step { IfOk result (IsStep (unless (move_fault (standing places.old.entries.items) from.now to.now)
+    ensures step { IfOk result (IsStep (only_if (can_move (standing places.old.entries.items) from.now to.now)
         (moved_additions from.now to.now (standing places.old.entries.items))) places.old places.new) }
     ensures sound { OnOk result (IsSoundIndex places.new) }
 {

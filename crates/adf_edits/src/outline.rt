@@ -1,18 +1,15 @@
 // Trees as lists of additions.
 
-ghost use Rattle.std.specs.Prelude.{◌≡◌, ◌≢◌, ◌++◌, ◌∷◌, [], ◌≤◌, length, IfOk, IfErr, IsOk, OnOk, false, true};
-ghost use Rattle.adf_tree.specs.{Additions.AllHaveRoom, Additions.AllHaveRoomBy, Tree.room_for_by};
-ghost use Rattle.adf_edits.specs.Outline.{IsWithoutRoom, addition_for, tree_additions, outline_of, path_at};
-ghost use Rattle.adf_edits.specs.Outline.{tree_of_outline, tree_of_outline_by, with_addition_in, with_addition_for};
-ghost use Rattle.adf_edits.specs.Paths.{has_deep, is_deep};
-ghost use Rattle.adf_edits.specs.TreeFaults.{IsRefusedBy, IsTreeFaultBy};
+ghost use Rattle.std.specs.Prelude.{◌≡◌, ◌≤◌, length, IfOk, IsOk, OnOk};
+ghost use Rattle.adf_tree.specs.{Additions.AllHaveRoomBy, Tree.room_for_by};
+ghost use Rattle.adf_edits.specs.Outline.{addition_for, outline_of, tree_additions, tree_of_outline_by, with_addition_for, with_addition_in};
 
 use crate::paths::{MOST_DEPTH, push_names};
 use crate::tree_fault::{TreeFault, refusal};
 use adf_base::{Letters, NoMemory};
 use adf_drafts::Draft;
 use adf_names::{Kind, Label, Meta, Name, Stamps};
-use adf_tree::{AddFault, Body, Bytes, Entry, Node, Tree};
+use adf_tree::{Body, Bytes, Entry, Node, Tree};
 use std::alloc::Global;
 use std::marker::Model;
 
@@ -59,10 +56,6 @@ pub enum OutlineFault {
 }
 
 impl From<NoMemory> for OutlineFault {
-    ghost use Rattle.adf_edits.specs.declared.outline.OutlineFault.TheVariants.{NoMemory};
-
-    ghost from_gives = { λ _ f. f ≡ NoMemory };
-
     fn from(_fault: NoMemory) -> OutlineFault {
         OutlineFault::NoMemory
     }
@@ -85,7 +78,6 @@ fn copy_body(alloc: Global, body: &Body) -> Result<Body, NoMemory>
 // The number of names in the path of an entry's directory.
 fn parent_depth(items: &[Item], entry: &Entry) -> usize
     requires { entry.now.parent ≤ length items.now }
-    ensures { result ≡ length (path_at items.now entry.now.parent) }
 {
     if entry.parent.0 == 0 {
         return 0;
@@ -111,10 +103,7 @@ fn path_for(alloc: Global, items: &[Item], entry: &Entry) -> Result<Vec<Name>, N
 // Appends an entry to the additions of the entries before it, if its path is not too deep.
 fn push_entry(alloc: Global, items: &mut Vec<Item>, entry: &Entry) -> Result<(), OutlineFault>
     requires { entry.now.parent ≤ length items.old.items }
-    ensures entry { OnOk result (items.new.items ≡ with_addition_for items.old.items entry.now) }
-    ensures shallow { OnOk result (is_deep (addition_for items.old.items entry.now).path ≡ false) }
-    ensures deep { IfErr result (λ f. f ≢ OutlineFault.NoMemory
-        → is_deep (addition_for items.old.items entry.now).path ≡ true) }
+    ensures { OnOk result (items.new.items ≡ with_addition_for items.old.items entry.now) }
 {
     if MOST_DEPTH <= parent_depth(items, entry) {
         return Err(OutlineFault::TooDeep);
@@ -131,10 +120,7 @@ fn push_entry(alloc: Global, items: &mut Vec<Item>, entry: &Entry) -> Result<(),
 // The additions of the entries of a tree.
 #[tactic(auto, using(crate::proofs::Additions::some_entry, crate::proofs::Additions::entry_step, crate::proofs::Additions::parent_early, crate::proofs::Additions::additions_all))]
 fn items_of(alloc: Global, tree: &Tree) -> Result<Vec<Item>, OutlineFault>
-    ensures entries { IfOk result (λ items. items.items ≡ tree_additions tree.now.entries) }
-    ensures shallow { IfOk result (λ items. has_deep items.items ≡ false) }
-    ensures deep { IfErr result (λ f. f ≢ OutlineFault.NoMemory
-        → has_deep (tree_additions tree.now.entries) ≡ true) }
+    ensures { IfOk result (λ items. items.items ≡ tree_additions tree.now.entries) }
 {
     let mut items = Vec::new(alloc);
     for i in 0..tree.len() {
@@ -151,8 +137,6 @@ fn items_of(alloc: Global, tree: &Tree) -> Result<Vec<Item>, OutlineFault>
 fn with_item(alloc: Global, draft: Draft, item: Item) -> Result<Draft, TreeFault>
     ensures room { OnOk result (IsOk (room_for_by draft.tree.letters draft.tree.entries item.path)) }
     ensures tree { IfOk result (λ d. d.tree ≡ with_addition_in draft.tree item) }
-    ensures fault { IfErr result (λ f. f ≢ TreeFault.NoMemory
-        → IsRefusedBy draft.tree.letters draft.tree.entries item.path f) }
 {
     let mut draft = draft;
     let path = item.path;
@@ -166,10 +150,7 @@ impl Outline {
     /// The outline of a tree; `TooDeep` where an entry is deeper than `MOST_DEPTH` names, and `NoMemory` if an allocation fails.
     /// No path is kept that has more names.
     pub fn of(alloc: Global, tree: &Tree) -> Result<Outline, OutlineFault>
-        ensures outline { IfOk result (λ o. o ≡ outline_of tree.now) }
-        ensures shallow { IfOk result (λ o. has_deep o.additions ≡ false) }
-        ensures deep { IfErr result (λ f. f ≢ OutlineFault.NoMemory
-            → has_deep (outline_of tree.now).additions ≡ true) }
+        ensures { IfOk result (λ o. o ≡ outline_of tree.now) }
     {
         Ok(Outline {
             kind: tree.kind(),
@@ -179,29 +160,11 @@ impl Outline {
         })
     }
 
-    /// The tree of the outline. The fault of the first addition that has no room in the tree of those before it; or `NoMemory`.
-    /// Where each addition has room, as in the outline of a tree after edits, `NoMemory` is the only fault.
-    pub fn finish(self, alloc: Global) -> Result<Tree, AddFault>
-        ensures room { OnOk result (AllHaveRoom self.additions) }
-        ensures tree { IfOk result (λ t. t ≡ tree_of_outline self) }
-        ensures fault { IfErr result (λ f. f ≢ AddFault.NoMemory → IsWithoutRoom self.additions f) }
-        ensures memory { IfErr result (λ f. AllHaveRoom self.additions → f ≡ AddFault.NoMemory) }
-    {
-        match self.finish_by(alloc, Letters::Ascii) {
-            Ok(tree) => Ok(tree),
-            Err(TreeFault::Exists(_, _)) => Err(AddFault::Exists),
-            Err(TreeFault::NoRoom(fault)) => Err(fault),
-            Err(TreeFault::NoMemory) => Err(AddFault::NoMemory),
-        }
-    }
-
     /// The tree of the outline by these letters. Why there is none: the first addition that has no room in the tree of those
     /// before it, with both entries where two names of one directory are one by these letters; or `NoMemory`.
     pub fn finish_by(self, alloc: Global, letters: Letters) -> Result<Tree, TreeFault>
         ensures room { OnOk result (AllHaveRoomBy letters self.additions) }
         ensures tree { IfOk result (λ t. t ≡ tree_of_outline_by letters self) }
-        ensures fault { IfErr result (λ f. f ≢ TreeFault.NoMemory → IsTreeFaultBy letters self.additions f) }
-        ensures memory { IfErr result (λ f. AllHaveRoomBy letters self.additions → f ≡ TreeFault.NoMemory) }
     {
         let mut draft = Draft::with_letters(alloc, self.kind, letters, self.label, self.stamps);
         for item in self.items {

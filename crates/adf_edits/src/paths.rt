@@ -1,8 +1,8 @@
 // Paths, compared without regard to case.
 
-ghost use Rattle.std.specs.Prelude.{◌≡◌, ◌++◌, ◌≤◌, drop, length, take, IfOk, OnOk};
+ghost use Rattle.std.specs.Prelude.{◌≡◌, ◌++◌, OnOk};
 ghost use Rattle.adf_tree.specs.Additions.{same_path};
-ghost use Rattle.adf_edits.specs.Paths.{is_at_or_under, is_deep, is_under};
+ghost use Rattle.adf_edits.specs.Paths.{is_at_or_under, is_under};
 
 use adf_base::NoMemory;
 use adf_names::Name;
@@ -27,9 +27,7 @@ pub fn same_path(a: &[Name], b: &[Name]) -> bool
 }
 
 /// Whether a path has more than `MOST_DEPTH` names.
-pub fn is_deep(path: &[Name]) -> bool
-    ensures { result ≡ is_deep path.now }
-{
+pub fn is_deep(path: &[Name]) -> bool {
     MOST_DEPTH < path.len()
 }
 

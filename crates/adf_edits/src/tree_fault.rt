@@ -1,14 +1,10 @@
 // Why additions have no tree.
 
-ghost use Rattle.std.specs.Prelude.{◌≡◌, Err, IfOk};
-ghost use Rattle.adf_tree.specs.{Paths.names_of, Tree.IsAnswer, Tree.room_for_by};
-ghost use Rattle.adf_edits.specs.TreeFaults.{IsRefusedBy, IsStandingBy};
-
 use crate::path_text::PathText;
 use adf_base::NoMemory;
 use adf_drafts::Draft;
 use adf_names::Name;
-use adf_tree::{AddFault, Node, RoomFault, Tree};
+use adf_tree::{AddFault, Node, Tree};
 use std::alloc::Global;
 use std::fmt;
 
@@ -24,11 +20,6 @@ pub enum TreeFault {
 }
 
 impl fmt::Display for TreeFault {
-    ghost use Rattle.std.specs.Prelude.{Some};
-    ghost use Rattle.adf_edits.specs.TreeFaults.{tree_fault_text};
-
-    ghost output = { λ x. Some (tree_fault_text x) };
-
     fn fmt<W: fmt::Write>(&self, f: &mut fmt::Formatter<W>) -> fmt::Result {
         match self {
             TreeFault::Exists(standing, path) => {
@@ -43,19 +34,13 @@ impl fmt::Display for TreeFault {
 }
 
 impl From<NoMemory> for TreeFault {
-    ghost use Rattle.adf_edits.specs.declared.tree_fault.TreeFault.TheVariants.{NoMemory};
-
-    ghost from_gives = { λ _ f. f ≡ NoMemory };
-
     fn from(_fault: NoMemory) -> TreeFault {
         TreeFault::NoMemory
     }
 }
 
 // The names of an entry from the root on, as written.
-fn names_of(alloc: Global, tree: &Tree, n: Node) -> Result<Vec<Name>, NoMemory>
-    ensures { IfOk result (λ names. names.items ≡ names_of tree.now.entries n) }
-{
+fn names_of(alloc: Global, tree: &Tree, n: Node) -> Result<Vec<Name>, NoMemory> {
     let mut names = Vec::new(alloc);
     let mut node = n;
     while let Some(entry) = tree.entry(node) {
@@ -67,24 +52,18 @@ fn names_of(alloc: Global, tree: &Tree, n: Node) -> Result<Vec<Name>, NoMemory>
 }
 
 // The text of the own path of the entry that has this path.
-fn standing_text(alloc: Global, tree: &Tree, path: &[Name]) -> Result<PathText, NoMemory>
-    requires { room_for_by tree.now.letters tree.now.entries path.now ≡ Err RoomFault.Exists }
-    ensures { IfOk result (IsStandingBy tree.now.letters tree.now.entries path.now) }
-{
+fn standing_text(alloc: Global, tree: &Tree, path: &[Name]) -> Result<PathText, NoMemory> {
     match tree.find(path) {
         Some(n) => {
             let names = names_of(alloc, tree, n)?;
             PathText::of(alloc, &names)
         }
-        None => unreachable!(),
+        None => PathText::of(alloc, path),
     }
 }
 
 // Why there is no room for this path where an entry has it: both are named.
-fn both_named(alloc: Global, draft: Draft, path: &[Name]) -> Result<TreeFault, NoMemory>
-    requires { room_for_by draft.tree.letters draft.tree.entries path.now ≡ Err RoomFault.Exists }
-    ensures { IfOk result (IsRefusedBy draft.tree.letters draft.tree.entries path.now) }
-{
+fn both_named(alloc: Global, draft: Draft, path: &[Name]) -> Result<TreeFault, NoMemory> {
     let tree = draft.finish(alloc)?;
     let standing = standing_text(alloc, &tree, path)?;
     let own = PathText::of(alloc, path)?;
@@ -97,10 +76,7 @@ pub fn refusal(
     draft: Draft,
     path: &[Name],
     fault: AddFault,
-) -> Result<TreeFault, NoMemory>
-    requires { IsAnswer (room_for_by draft.tree.letters draft.tree.entries path.now) (Err fault) }
-    ensures { IfOk result (IsRefusedBy draft.tree.letters draft.tree.entries path.now) }
-{
+) -> Result<TreeFault, NoMemory> {
     match fault {
         AddFault::Exists => both_named(alloc, draft, path),
         AddFault::NoMemory => Err(NoMemory),

@@ -2,8 +2,8 @@ use Rattle.std.proofs.Common.{◌≡◌, length, drop, arith}
 use Rattle.adf_edit_cmd.proofs.EditSteps.{laid_over, whole_block}
 use Rattle.adf_edit_cmd.proofs.editing.lay.Goals as goal
 
-pub returns-in-Ok-clause-laid : goal.returns-in-Ok-clause-laid
-returns-in-Ok-clause-laid c =
+pub returns-in-Ok : goal.returns-in-Ok
+returns-in-Ok c =
     let other = rw c.deref_mut.ensures.value at c.put_boot.ensures.other in
     let put = rw (c.deref_mut.ensures.value) at c.put_boot.ensures.exact in
     let starts = rw (c.deref_mut.ensures.value) at c.put_boot.ensures.starts in

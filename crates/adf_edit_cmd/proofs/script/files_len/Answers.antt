@@ -8,8 +8,8 @@ loop-edit-preserved c =
     let is : get_or c.args.edits.now c.loop-edit.edit-index c.edit-item.result ≡ c.edit-item.result = grind (arith, common_steps) in
     let from = len_next c.args.edits.now c.loop-edit.edit-index c.edit-item.result (omega arith) is in
     record {
-      small = omega (arith, c.loop-edit.invariant.small, c.bytes_taken.ensures.few);
-      total = omega (arith, c.loop-edit.invariant.total, from, c.bytes_taken.ensures.exact);
+      small = omega (arith, c.loop-edit.invariant.small, c.bytes_taken-len.ensures.few);
+      total = omega (arith, c.loop-edit.invariant.total, from, c.bytes_taken-len.ensures.exact);
     }
 
 pub returns : goal.returns

@@ -1,6 +1,6 @@
-use Rattle.std.proofs.Common.{◌≡◌, arith, false, subst, true}
+use Rattle.std.proofs.Common.{◌≡◌, arith, subst, true}
 use Rattle.std.proofs.lemmas.Grind.{common_steps}
-use Rattle.adf_edits.specs.{Index.HasRoom, Paths.is_deep}
+use Rattle.adf_edits.specs.Index.{HasRoom}
 use Rattle.adf_edits.proofs.IndexEdits.{add_step}
 use Rattle.adf_edits.proofs.indexed.quick_add.Goals as goal
 
@@ -10,5 +10,4 @@ returns-clause-step c =
     let has : c.in_ok-has_room.field-0 ≡ true = grind (arith, common_steps) in
     let room : HasRoom c.args.places.now c.args.item.path = subst (HasRoom c.args.places.now) path (c.in_ok-has_room.ensures has) in
     let whole : c.args.places.now.is_whole ≡ true = grind (arith, common_steps) in
-    let shallow : is_deep c.args.item.path ≡ false = grind (arith, common_steps) in
-    add_step c.args.places.now c.push.new.self c.args.item c.requires whole room shallow c.in_ok-push.ensures.entry
+    add_step c.args.places.now c.push.new.self c.args.item c.requires whole room c.in_ok-push.ensures.entry

@@ -1,4 +1,4 @@
-use Rattle.std.proofs.Common.{◌≡◌, ◌∙◌, List, Ok, Option, ap, arith, sym}
+use Rattle.std.proofs.Common.{◌≡◌, ◌∙◌, List, Option, Some, ap, arith, sym}
 use Rattle.std.proofs.lemmas.Grind.{common_steps}
 use Rattle.adf_tree.specs.Additions.{Addition}
 use Rattle.adf_edits.specs.Index.{standing}
@@ -15,4 +15,4 @@ returns-clause-step c =
     let same : c.forget.new.self.entries.items ≡ c.take.new.self.entries.items = grind (arith, common_steps) in
     (remove_step c.args.places.now c.take.new.self c.args.path.now c.args.place c.requires.found c.take.ensures.rest c.requires.empty
     c.take.ensures.entries).0
-    ∙ ap (λ (qs : List (Option Addition)). Ok (standing qs)) (sym same)
+    ∙ ap (λ (qs : List (Option Addition)). Some (standing qs)) (sym same)

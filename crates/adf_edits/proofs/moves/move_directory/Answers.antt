@@ -1,7 +1,6 @@
-use Rattle.std.proofs.Common.{◌≡◌, arith, false, true}
+use Rattle.std.proofs.Common.{◌≡◌, arith, true}
 use Rattle.std.proofs.{lemmas.Grind.common_steps, lemmas.List.Elements.filter_passes}
-use Rattle.std.specs.List.{list_any}
-use Rattle.adf_edits.specs.{Edits.is_within, Index.is_entry_deep, Index.left_without, Index.standing, Paths.is_deep}
+use Rattle.adf_edits.specs.{Edits.is_within, Index.left_without, Index.standing}
 use Rattle.adf_edits.proofs.{IndexEdits.sound_by, LeftPlaces.directory_step, LeftPlaces.indexed_left}
 use Rattle.adf_edits.proofs.moves.move_directory.Goals as goal
 
@@ -18,8 +17,6 @@ push_moved-requires-clause-sound c = λ whole.
 pub returns-clause-step : goal.returns-clause-step
 returns-clause-step c =
     let has : c.in_ok-has_room_but.field-0 ≡ true = grind (arith, common_steps) in
-    let shallow : is_deep c.args.to.now ≡ false = grind (arith, common_steps) in
-    let none : list_any (is_entry_deep c.args.from.now c.args.to.now) c.args.places.now.entries.items ≡ false = grind (arith, common_steps) in
     directory_step c.args.places.now c.args.place c.args.from.now c.args.to.now c.requires.found c.requires.apart (c.in_ok-has_room_but.ensures has)
-    shallow none c.take_within.new.self.entries.items c.in_ok-within.ensures.entries c.in_ok-within.within.items c.in_ok-within.ensures.taken
+    c.take_within.new.self.entries.items c.in_ok-within.ensures.entries c.in_ok-within.within.items c.in_ok-within.ensures.taken
     (standing c.push_moved.new.places.entries.items) c.in_ok-push_moved.ensures.standing

@@ -1,7 +1,7 @@
-use Rattle.std.proofs.Common.{◌≡◌, ◌∙◌, ◌++◌, ◌∷◌, [], List, Ok, Option, Some, ap, arith, false, subst, sym, true}
+use Rattle.std.proofs.Common.{◌≡◌, ◌∙◌, ◌++◌, ◌∷◌, [], List, Option, Some, ap, arith, subst, sym, true}
 use Rattle.std.proofs.lemmas.Grind.{common_steps}
 use Rattle.adf_tree.specs.Additions.{Addition}
-use Rattle.adf_edits.specs.{Index.HasRoom, Index.standing, Paths.is_deep}
+use Rattle.adf_edits.specs.Index.{HasRoom, standing}
 use Rattle.adf_edits.proofs.IndexEdits.{move_step, put_back_is, put_back_sound, room_moved, taken_sound}
 use Rattle.adf_edits.proofs.moves.move_file.Goals as goal
 
@@ -31,10 +31,9 @@ push-requires-clause-sound c =
 pub returns-clause-step : goal.returns-clause-step
 returns-clause-step c =
     let has : c.in_ok-has_room.field-0 ≡ true = grind (arith, common_steps) in
-    let shallow : is_deep c.args.to.now ≡ false = grind (arith, common_steps) in
     let same : c.forget.new.self.entries.items ≡ c.push.new.self.entries.items = grind (arith, common_steps) in
     move_step c.args.places.now c.take.new.self c.args.from.now c.args.place c.requires.found c.in-Some.ensures.rest
-    c.requires.file c.in-Some.ensures.entries c.in-Some.item c.in-Some.ensures.item c.args.to.now c.requires.apart
-    (c.in_ok-has_room.ensures has) shallow c.push.new.self.entries.items
+    c.requires.file c.in-Some.ensures.entries c.in-Some.item c.in-Some.ensures.item c.args.to.now
+    (c.in_ok-has_room.ensures has) c.push.new.self.entries.items
     (c.in_ok-push.ensures.entry ∙ ap (λ (y : Addition). c.take.new.self.entries.items ++ Some y ∷ []) c.in_ok-item.ensures)
-    ∙ ap (λ (qs : List (Option Addition)). Ok (standing qs)) (sym same)
+    ∙ ap (λ (qs : List (Option Addition)). Some (standing qs)) (sym same)
