@@ -50,12 +50,10 @@ fn add_filed<'a>(
 // The edits of lines. `BadLine` is the first line that is none.
 fn lines_filed<'a>(alloc: Global, lines: Vec<&'a str>) -> Result<Vec<Line<'a>>, Stop> {
     let mut edits = Vec::new(alloc);
-    let mut number = 0usize;
     for line in lines {
-        number += 1;
         match add_filed(alloc, &mut edits, line) {
             Ok(true) => {}
-            Ok(false) => return Err(Stop::BadLine(number)),
+            Ok(false) => return Err(Stop::BadLine(edits.len() + 1)),
             Err(_) => return Err(Stop::NoMemory),
         }
     }
