@@ -26,12 +26,12 @@ IsChanged files after name target =
     (new : List ℕ) × IsNewImage files.bytes_of name target new × IsReplaced files.bytes_of after target new
 
 -- at any other status each file is as it was
-abbrev pub IsKept : KnownFiles → (List ℕ → Option (List ℕ)) → ℕ → Type 0
-IsKept files after n = (n ≢ 0) × (n ≤ 3) × (after ≡ files.bytes_of)
+abbrev pub LeavesFiles : KnownFiles → (List ℕ → Option (List ℕ)) → ℕ → Type 0
+LeavesFiles files after n = (n ≢ 0) × (n ≤ 3) × (after ≡ files.bytes_of)
 
 -- how a run ends that edits the image in a file, for a target
 abbrev pub OrderEnds : KnownFiles → (List ℕ → Option (List ℕ)) → (name target : List ℕ) → ℕ → Type 0
-OrderEnds files after name target n = ((n ≡ 0) × IsChanged files after name target) ⊎ IsKept files after n
+OrderEnds files after name target n = ((n ≡ 0) × IsChanged files after name target) ⊎ LeavesFiles files after n
 
 -- the file that words name for the new image, behind the name of the program: that behind `-o`
 abbrev pub named_target : List (List ℕ) → Option (List ℕ)
