@@ -1,6 +1,6 @@
 -- What the calls promise that survey an image or rescue what stands on it.
 -- Letters: w the walk of an image's survey, fs its findings; node and header a file's; s what is surveyed of an input; n what a call returns.
-use Rattle.std.specs.Prelude.{◌≡◌, ◌≤◌, ◌<◌, ◌+◌, ◌↔◌, ◌⊎◌, ℕ, Bool, List, [], drop, length, min, slice_index}
+use Rattle.std.specs.Prelude.{◌≡◌, ◌≤◌, ◌<◌, ◌+◌, ◌↔◌, ◌⊎◌, ℕ, Bool, List, drop, length, min, slice_index}
 use Rattle.adf_names.specs.PathTexts.{IsPathText}
 use Rattle.adf_blocks.specs.Sizes.{blocks as blocks_of}
 use Rattle.adf_volume.specs.{Walk.FileAt, declared.types.Types.Types}
