@@ -3,7 +3,8 @@ use Rattle.std.specs.Prelude.{◌≡◌, ◌+◌, ◌≤◌, ◌<◌, ℕ, List,
 use Rattle.std.proofs.Common.{zero, suc, refl, sym, ap, ◌∙◌, arith, append_assoc, length-append, length-take, take_all}
 use Rattle.std.proofs.{Math.ListN.drop_of_length-le, Math.Seq.drop-nil, Math.Seq.take-nil, lemmas.Bool.cases_lt, lemmas.Grind.common_steps}
 use Rattle.std.proofs.lemmas.List.{length-take-le, take-append-drop, take-take, take_more}
-use Rattle.adf_memory.specs.Rooms.{filled}
+use Rattle.std.proofs.lemmas.List.Elements.{All-nil, All-push}
+use Rattle.adf_memory.specs.Rooms.{BeginsWith, filled}
 
 -- the first members where there are none to take
 pub take_zero : {X : Type 0} (xs : List X) → take 0 xs ≡ []
@@ -95,3 +96,17 @@ filled_within (suc m) (suc q) (x ∷ xs) (r ∷ rs) is = ap (λ ys. x ∷ ys) (f
 -- behind what is put a room is as it was
 pub behind_filled : {X : Type 0} (n : ℕ) (xs old new : List X) → n ≡ min (length old) (length xs) → new ≡ filled xs old → drop n new ≡ drop n old
 behind_filled n xs old new count is = grind (arith, common_steps)
+
+-- rows of which something holds, one after another
+module _ {X : Type 0} (holds : X → Type 0) where
+  pub begins_none : (room : List X) → BeginsWith holds 0 room room
+  begins_none room = ([], All-nil holds, refl, sym (filled_none room))
+
+  pub begins_more : (n : ℕ) (room now next : List X) (x : X) → holds x
+      → ((xs before : List X) → n ≡ length xs → now ≡ filled xs before → next ≡ filled (xs ++ x ∷ []) before)
+      → BeginsWith holds n room now → BeginsWith holds (n + 1) room next
+  begins_more n room now next x here put (rows, all, count, is) =
+      (rows ++ x ∷ [], All-push holds rows x all here, omega (arith, count, length-append rows (x ∷ [])), put rows room count is)
+
+  pub begins_same : (n m : ℕ) (room now next : List X) → m ≡ n → next ≡ now → BeginsWith holds n room now → BeginsWith holds m room next
+  begins_same n m room now next e f (rows, all, count, is) = (rows, all, e ∙ count, f ∙ is)

@@ -1,33 +1,39 @@
--- Of a volume, a survey finds the blocks and the bytes of each file, and the role of each block.
+-- Of a volume, a survey finds the blocks and the bytes of each file.
 -- Letters: t, l the tree and the layout that fit an image; w the walk of its survey; n a file's node, k the number of a data block, from 0; b its
 -- block; ds the data blocks of a file; es entries; at, from a place in the file.
-use Rattle.std.specs.Prelude.{◌==◌, min, Some}
+use Rattle.std.specs.Prelude.{◌==◌, ◌&&◌, Bool, cond, min, Some, true}
 use Rattle.std.specs.{List.range_with_len, Option.unwrap_or}
 use Rattle.std.proofs.Common.{◌≡◌, ℕ, zero, suc, List, [], ◌∷◌, ◌+◌, ◌-◌, ◌*◌, ◌/◌, ◌≤◌, ◌<◌, length, take, drop, map, refl, sym, ap, subst, ◌∙◌, arith}
-use Rattle.std.proofs.{Common.take_all, lemmas.Bool.cond_above, lemmas.Bool.cond_below, lemmas.Bool.eq-eqb, Math.Nat.min-eq_left}
-use Rattle.adf_base.specs.{Hash.slot_by, declared.hash.Letters.Letters, declared.hash.Letters.TheVariants.Ascii}
+use Rattle.std.proofs.{Common.take_all, lemmas.Bool.cond_below, lemmas.Bool.eq-eqb, Math.Nat.min-eq_left}
+use Rattle.adf_base.specs.{Hash.slot_by, declared.hash.Letters.TheVariants.Ascii}
 use Rattle.adf_blocks.specs.declared.layout.TheConstants.{SECONDARY_TYPE, SIZE, ST_FILE}
 use Rattle.adf_blocks.specs.Sizes.{blocks, chunk, count}
 use Rattle.adf_build.specs.Plan.{data_blocks, entries_blocks}
 use Rattle.adf_build.proofs.FreeBlocks.{size_small}
-use Rattle.adf_volume.specs.OwnerClass.{class_number}
-use Rattle.adf_volume.specs.declared.owner_class.OwnerClass.TheVariants as class
 use Rattle.adf_findings.specs.{Remains.data_left, Remains.size_stated, Survey.FindingValue, Survey.IsSurvey}
 use Rattle.adf_findings.proofs.{LeftOfSound.clean_left, PlainFindings.finds_none, PlainFindings.shown}
-use Rattle.adf_names.specs.declared.kind.Kind.{Kind}
+use Rattle.adf_names.specs.declared.kind.Kind.{Kind, TheVariants.Ofs, TheVariants.Ffs}
 use Rattle.adf_rescue.proofs.FitBlocks.{fit_room}
 use Rattle.adf_tree.specs.declared.entry.Body.{Body, TheVariants.Dir, TheVariants.File}
 use Rattle.adf_tree.specs.{declared.entry.Entry.Entry, Tree.Tree}
-use Rattle.adf_volume.specs.{Fits.BodyFits, Fits.FitsBy, Image.kind_of, Image.word_in, LayoutRoles.LayoutHas, LayoutRoles.owner_of, Lists.At}
+use Rattle.adf_volume.specs.{Fits.BodyFits, Fits.FitsBy, Image.kind_of, Image.word_in, LayoutRoles.LayoutHas, Lists.At}
 use Rattle.adf_volume.specs.Layout.{EntryAt, Layout, at_node, datas_of, head_at}
 use Rattle.adf_volume.specs.Walk.{Role, Has, HeadAt, Walk, Role.Data, Role.Head}
-use Rattle.adf_volume.proofs.{Chains.place_at, FitWalks.one_fit, WalkAgreement.agreement, WalkCompleteness.part_walked}
-use Rattle.adf_volume.proofs.LayoutRoles.{owned_part, part_owned, part_range}
+use Rattle.adf_volume.proofs.{Chains.place_at, WalkCompleteness.part_walked}
 use Rattle.adf_memory.specs.{declared.found_files.TheConstants.NO_BLOCK, declared.tables.TableEntry.TableEntry, Areas.AreDatasOf, Areas.bytes_from}
-use Rattle.adf_memory.specs.{FoundRoles.IsFoundRole, OwnerNumbers.IsOwnerNumber, OwnerNumbers.owner_number}
 use Rattle.adf_memory.specs.FoundFiles.{file_block_count, file_size, found_blocks, found_from, lost_from, missing}
 use Rattle.adf_memory.specs.Tables.{bytes_at, bytes_of_body, table_entry}
-use Rattle.adf_memory.proofs.{Filled.drop_zero, FoundGaps.both, FoundReadings.none_behind, Readings.are_in, Readings.file_read, Readings.told_read}
+use Rattle.adf_memory.proofs.{Filled.drop_zero, Readings.are_in, Readings.file_read, Readings.told_read}
+
+-- two tests that hold
+both : {A : Type 0} (p q : Bool) (x y : A) → p ≡ true → q ≡ true → cond (p && q) x y ≡ x
+both p q x y a b = λ i. cond (a i && b i) x y
+
+-- nothing is lost from a place on in its data block
+none_behind : (kind : Kind) (size at : ℕ) → min size (chunk kind * (at / chunk kind + 0)) - at ≡ 0
+unfolding chunk
+none_behind Ofs size at = omega arith
+none_behind Ffs size at = omega arith
 
 -- a list by the members at its places
 listed : (ds : List ℕ) (g : ℕ → ℕ) (j : ℕ) → ((i b : ℕ) → At ds i b → g (j + i) ≡ b) → map g (range_with_len j (length ds)) ≡ ds
@@ -55,12 +61,9 @@ module _ (image : List ℕ) (w : Walk) (fs : List FindingValue) (survey : IsSurv
   clean : (t : Tree) (l : Layout) → FitsBy Ascii image t l → IsSurvey image w []
   clean t l fit = subst (IsSurvey image w) (finds_none image t l w fs fit survey) survey
 
-  -- the walk has the parts of the layout, and no others
+  -- the walk has the parts of the layout
   has_part : (t : Tree) (l : Layout) → FitsBy Ascii image t l → (r : Role) (b : ℕ) → LayoutHas image t l r b → Has w r b
   has_part t l fit r b h = let s = shown image (clean t l fit) in part_walked image t l fit w s.1 s.2 r b h
-
-  is_part : (t : Tree) (l : Layout) → FitsBy Ascii image t l → (r : Role) (b : ℕ) → Has w r b → LayoutHas image t l r b
-  is_part t l fit r b h = agreement image t l fit w r b (shown image (clean t l fit)).1 h
 
   module _ (t : Tree) (l : Layout) (fit : FitsBy Ascii image t l) (i : ℕ) (e : Entry) (bytes : List ℕ)
       (at : At t.entries i e) (body : e.body ≡ File bytes) where
@@ -176,26 +179,3 @@ module _ (image : List ℕ) (w : Walk) (fs : List FindingValue) (survey : IsSurv
       → (from : ℕ) → lost_from image (at_node image l n) (found_blocks image w fs n (at_node image l n)) from ≡ 0
   none_lost_of t l fit zero e bytes at body from = absurd at
   none_lost_of t l fit (suc i) e bytes at body from = none_lost t l fit i e bytes at body from
-
-  -- what fits by other letters fits by these
-  as_plain : (t : Tree) (l : Layout) → FitsBy Ascii image t l → (letters : Letters) (u : Tree) (m : Layout) → FitsBy letters image u m → FitsBy Ascii image u m
-  as_plain t l fit letters u m other =
-      let same = one_fit image t u l m fit other in
-      subst (λ (x : Tree). FitsBy Ascii image x m) same.0 (subst (λ (n : Layout). FitsBy Ascii image t n) same.1 fit)
-
-  -- the role of a block is the number of its owner
-  pub role_found : (t : Tree) (l : Layout) → FitsBy Ascii image t l → (b r : ℕ) → IsFoundRole w b r → IsOwnerNumber image b r
-  role_found t l fit b r (c, is, number) = record {
-    part = (λ letters u m o other h.
-        let plain = as_plain t l fit letters u m other in
-        let q = owned_part Ascii image u m plain.places o b h in
-        number ∙ ap class_number (is.part q.0 (has_part u m plain q.0 b q.1)) ∙ ap owner_number (sym q.2));
-    boot = (λ low.
-        let none : (q : Role) → Has w q b → ⊥ = (λ q h. let x = part_range image t l fit q b (is_part t l fit q b h) in absurd (omega arith)) in
-        number ∙ ap class_number (is.none none ∙ sym (cond_below b 2 class.Boot class.Free low)));
-    free = (λ letters u m other high none.
-        let plain = as_plain t l fit letters u m other in
-        let absent : (q : Role) → Has w q b → ⊥ =
-        (λ q h. none (owner_of q) (part_owned Ascii image u m plain.places q b (is_part u m plain q b h))) in
-        number ∙ ap class_number (is.none absent ∙ sym (cond_above b 2 class.Boot class.Free class.Free high refl)));
-  }

@@ -14,10 +14,6 @@ pub mod TableNames
 pub mod FoundRows
 pub mod LinkRows
 pub mod FoundBlocks
-pub mod FoundRoles
-pub mod FoundRuns
-pub mod FoundReadings
-pub mod FoundGaps
 pub mod FoundVolumes
 -- what is read of a hard disk
 pub mod DiskReadings

@@ -1,8 +1,6 @@
 -- The promise: the buffers and tables of a caller in memory, and what the calls put there.
 pub mod Areas
 pub mod FoundFiles
-pub mod FoundGaps
-pub mod FoundRoles
 pub mod TableAdditions
 pub mod Building
 pub mod FoundTables

@@ -1,14 +1,14 @@
 -- What the calls promise that survey an image or rescue what stands on it.
 -- Letters: w the walk of an image's survey, fs its findings; node and header a file's; s what is surveyed of an input; n what a call returns.
-use Rattle.std.specs.Prelude.{◌≡◌, ◌≢◌, ◌≤◌, ◌<◌, ◌+◌, ◌↔◌, ◌⊎◌, ℕ, Bool, List, [], drop, length, min, slice_index}
+use Rattle.std.specs.Prelude.{◌≡◌, ◌≤◌, ◌<◌, ◌+◌, ◌↔◌, ◌⊎◌, ℕ, Bool, List, drop, length, min, slice_index}
 use Rattle.adf_names.specs.PathTexts.{IsPathText}
 use Rattle.adf_blocks.specs.Sizes.{blocks as blocks_of}
 use Rattle.adf_volume.specs.{Walk.FileAt, declared.types.Types.Types}
 use Rattle.adf_findings.specs.{Lookup.LeadsTo, SoundMarks.AreMarks, Survey.OnSurvey}
 use Rattle.adf_subjects.specs.{Rescues.RescuesTyped, Subject.meant, Subject.subject}
 use Rattle.adf_memory.specs.FoundFiles.{file_block_count, found_blocks, found_from, found_part_table, lost_from, named_blocks}
-use Rattle.adf_memory.specs.{FoundRoles.IsFoundRole, Rooms.filled, Subjects.HasSubject, Subjects.untold, Verdicts.WantsMemory}
-use Rattle.adf_memory.specs.{LinkTables.link_table, declared.found_links.TableLink.TableLink}
+use Rattle.adf_memory.specs.{Rooms.BeginsWith, Rooms.filled, Subjects.HasSubject, Subjects.untold, Verdicts.WantsMemory}
+use Rattle.adf_memory.specs.{LinkTables.IsLinkRow, declared.found_links.TableLink.TableLink}
 use Rattle.adf_memory.specs.{declared.found_parts.FoundPart.FoundPart, declared.found_tables.FoundEntry.FoundEntry, declared.found_tables.Surveyed.Surveyed}
 use Rattle.adf_memory.specs.{declared.found_tables.TableFinding.TableFinding, declared.losses.TableLoss.TableLoss}
 use Rattle.adf_memory.specs.{declared.rescuing.RescueRefusal.RescueRefusal, declared.rescuing.RescueTold.RescueTold, declared.subjects.SubjectTold.SubjectTold}
@@ -44,11 +44,10 @@ pub record FindsFound (image path : List ℕ) (old new n : ℕ) : Type 0 where
   pub bad_path : (n ≡ 2) ↔ ((names : List (List ℕ)) → ¬ IsPathText path names)
   pub unchanged : ¬ (n ≡ 0) → new ≡ old
 
--- adf_survey_links: the table is that of the right links of the image's one survey, and so many are counted. If memory ran out, nothing is written
+-- adf_survey_links: each row is that of a right link of the image's one survey, and so many are counted. If memory ran out, nothing is written
 pub record FillsLinks (image : List ℕ) (old new : List TableLink) (had told n : ℕ) : Type 0 where
   pub number : (n ≡ 0) ⊎ WantsMemory n
-  pub links : n ≡ 0 → OnSurvey image (λ w fs. new ≡ filled (link_table image w fs) old)
-  pub count : n ≡ 0 → OnSurvey image (λ w fs. told ≡ length (link_table image w fs))
+  pub links : n ≡ 0 → OnSurvey image (λ w fs. BeginsWith (IsLinkRow image w fs) told old new)
   pub unchanged : WantsMemory n → (new ≡ old) × (told ≡ had)
 
 -- adf_survey_parts: the table is that of the image's one survey. If memory ran out, it is unchanged
@@ -57,11 +56,9 @@ pub record FillsParts (image : List ℕ) (old new : List FoundPart) (n : ℕ) : 
   pub parts : n ≡ 0 → OnSurvey image (λ w fs. new ≡ filled (found_part_table image w fs) old)
   pub unchanged : WantsMemory n → new ≡ old
 
--- adf_survey_owners: the room begins with the roles of the parts of the image's one survey. If memory ran out, nothing is written
+-- adf_survey_owners: nothing behind the blocks of the image is written. If memory ran out, nothing is
 pub record TellsFoundRoles (image old new : List ℕ) (n : ℕ) : Type 0 where
   pub number : (n ≡ 0) ⊎ WantsMemory n
-  pub roles : n ≡ 0 → OnSurvey image (λ w _. w ≢ [] → (b : ℕ) → b < length new → b < blocks_of image → IsFoundRole w b (slice_index new b))
-  pub none : n ≡ 0 → OnSurvey image (λ w _. w ≡ [] → new ≡ old)
   pub behind : (b : ℕ) → blocks_of image ≤ b → slice_index new b ≡ slice_index old b
   pub unchanged : WantsMemory n → new ≡ old
 

@@ -1,11 +1,10 @@
 // The table of the links that a survey finds.
 
-ghost use Rattle.std.specs.Prelude.{◌≡◌, ◌≤◌, ℕ, Some, length};
+ghost use Rattle.std.specs.Prelude.{◌≡◌, IfSome};
 ghost use Rattle.adf_findings.specs.Survey.{OnSurvey};
-ghost use Rattle.adf_volume.specs.Walk.{heads};
-ghost use Rattle.adf_links.specs.Links.{AreRightMarks};
-ghost use Rattle.adf_memory.specs.LinkTables.{link_number, link_row, link_table, path_place, path_size, right_row};
-ghost use Rattle.adf_memory.specs.{Rooms.filled, SurveyCalls.FillsLinks};
+ghost use Rattle.adf_links.specs.Links.{AreRightMarks, original};
+ghost use Rattle.adf_memory.specs.FoundTables.{entry_number};
+ghost use Rattle.adf_memory.specs.{LinkTables.IsLinkRow, Rooms.BeginsWith, SurveyCalls.FillsLinks};
 
 use crate::found_tables::owner_number;
 use crate::tables::put;
@@ -35,9 +34,7 @@ pub struct TableLink {
 }
 
 // The number of a kind of link.
-fn link_number(kind: Option<LinkKind>) -> u8
-    ensures { result ≡ link_number kind }
-{
+fn link_number(kind: Option<LinkKind>) -> u8 {
     match kind {
         None => 0,
         Some(LinkKind::File) => 1,
@@ -47,9 +44,7 @@ fn link_number(kind: Option<LinkKind>) -> u8
 }
 
 // Where the path of a soft link begins, by the block of its header.
-fn path_place(header: u32, kind: Option<LinkKind>) -> usize
-    ensures { result ≡ path_place header kind }
-{
+fn path_place(header: u32, kind: Option<LinkKind>) -> usize {
     match kind {
         Some(LinkKind::Soft) => BLOCK_LEN * header as usize + PATH_START,
         _ => 0,
@@ -57,9 +52,7 @@ fn path_place(header: u32, kind: Option<LinkKind>) -> usize
 }
 
 // The length of the path of a soft link.
-fn path_size(survey: &Survey<'_>, n: Node, kind: Option<LinkKind>) -> usize
-    ensures { OnSurvey survey.now.image (λ w _. result ≡ path_size survey.now.image w n kind) }
-{
+fn path_size(survey: &Survey<'_>, n: Node, kind: Option<LinkKind>) -> usize {
     match kind {
         Some(LinkKind::Soft) => link_path(survey, n).len(),
         _ => 0,
@@ -68,7 +61,8 @@ fn path_size(survey: &Survey<'_>, n: Node, kind: Option<LinkKind>) -> usize
 
 // The row of a link; `None` past the last entry.
 fn link_row(survey: &Survey<'_>, n: Node) -> Option<TableLink>
-    ensures { OnSurvey survey.now.image (λ w _. 1 ≤ n → n ≤ heads w → result ≡ Some (link_row survey.now.image w n)) }
+    ensures { OnSurvey survey.now.image (λ w _. IfSome result (λ row.
+        (row.node ≡ n) × (row.target ≡ entry_number (original survey.now.image w n)))) }
 {
     let Some(header) = survey.block_of(n) else {
         return None;
@@ -86,8 +80,8 @@ fn link_row(survey: &Survey<'_>, n: Node) -> Option<TableLink>
 
 // The row of an entry, if it is a right link by the marks of these.
 fn right_row(survey: &Survey<'_>, right: &Vec<bool>, n: Node) -> Option<TableLink>
-    ensures { OnSurvey survey.now.image (λ w fs. AreRightMarks survey.now.image w fs right.now.items → 1 ≤ n → n ≤ heads w
-        → result ≡ right_row survey.now.image w fs n) }
+    ensures { OnSurvey survey.now.image (λ w fs. AreRightMarks survey.now.image w fs right.now.items
+        → IfSome result (IsLinkRow survey.now.image w fs)) }
 {
     if has_mark(right, n.0) {
         link_row(survey, n)
@@ -98,10 +92,8 @@ fn right_row(survey: &Survey<'_>, right: &Vec<bool>, n: Node) -> Option<TableLin
 
 // Fills the table with the links that are marked, as far as there is room. Returns how many there are.
 fn put_right(survey: &Survey<'_>, right: &Vec<bool>, room: &mut [TableLink]) -> usize
-    ensures count { OnSurvey survey.now.image (λ w fs. AreRightMarks survey.now.image w fs right.now.items
-        → result ≡ length (link_table survey.now.image w fs)) }
-    ensures table { OnSurvey survey.now.image (λ w fs. AreRightMarks survey.now.image w fs right.now.items
-        → room.new ≡ filled (link_table survey.now.image w fs) room.old) }
+    ensures { OnSurvey survey.now.image (λ w fs. AreRightMarks survey.now.image w fs right.now.items
+        → BeginsWith (IsLinkRow survey.now.image w fs) result room.old room.new) }
 {
     let mut count = 0;
     for i in 0..survey.len() {

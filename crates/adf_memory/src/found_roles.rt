@@ -1,11 +1,7 @@
 // The roles of blocks by what a survey finds.
 
-ghost use Rattle.std.specs.Prelude.{◌≡◌, ◌≢◌, ◌≤◌, ◌<◌, ◌↔◌, ℕ, [], IsTrue, None, Some, cond, length, nat_lt, slice_index};
+ghost use Rattle.std.specs.Prelude.{◌≡◌, ◌≤◌, ℕ, slice_index};
 ghost use Rattle.adf_blocks.specs.Sizes.{blocks};
-ghost use Rattle.adf_volume.specs.declared.owner_class.OwnerClass.TheVariants as class;
-ghost use Rattle.adf_volume.specs.Walk.{Has, Role, heads, node_block, Role.Root};
-ghost use Rattle.adf_findings.specs.{Members.role_entry, Survey.OnSurvey};
-ghost use Rattle.adf_memory.specs.FoundRoles.{IsFoundClass, IsFoundRole, role_class};
 ghost use Rattle.adf_memory.specs.SurveyCalls.{TellsFoundRoles};
 
 use adf_blocks::Cause;
@@ -15,9 +11,7 @@ use adf_tree::Node;
 use std::alloc::Global;
 
 // The class of a block that no part has.
-fn unowned_class(b: u32) -> OwnerClass
-    ensures { result ≡ cond (nat_lt b 2) class.Boot class.Free }
-{
+fn unowned_class(b: u32) -> OwnerClass {
     if b < 2 {
         OwnerClass::Boot
     } else {
@@ -26,11 +20,7 @@ fn unowned_class(b: u32) -> OwnerClass
 }
 
 // Whether a block is the header of an entry.
-#[tactic(auto, using(std::proofs::lemmas::Bool::Decides::nat_tests))]
-fn is_header(survey: &Survey<'_>, n: Node, b: u32) -> bool
-    ensures { OnSurvey survey.now.image (λ w _.
-        IsTrue result ↔ ((1 ≤ n) × (n ≤ heads w) × (node_block w n ≡ b))) }
-{
+fn is_header(survey: &Survey<'_>, n: Node, b: u32) -> bool {
     match survey.block_of(n) {
         Some(at) => at == b,
         None => false,
@@ -38,11 +28,7 @@ fn is_header(survey: &Survey<'_>, n: Node, b: u32) -> bool
 }
 
 // The class of a block of an entry.
-#[tactic(auto, using(crate::proofs::FoundRoles::data_class, crate::proofs::FoundRoles::head_class, crate::proofs::FoundRoles::ext_class))]
-fn entry_class(survey: &Survey<'_>, n: Node, b: u32) -> OwnerClass
-    ensures { OnSurvey survey.now.image (λ w _. (r : Role) → Has w r b → role_entry r ≡ Some n
-        → result ≡ role_class r) }
-{
+fn entry_class(survey: &Survey<'_>, n: Node, b: u32) -> OwnerClass {
     if survey.data_number(b) != 0 {
         return OwnerClass::Data;
     }
@@ -54,9 +40,7 @@ fn entry_class(survey: &Survey<'_>, n: Node, b: u32) -> OwnerClass
 }
 
 // Whether a block is the root.
-fn is_root(survey: &Survey<'_>, b: u32) -> bool
-    ensures { OnSurvey survey.now.image (λ w _. IsTrue result ↔ Has w Root b) }
-{
+fn is_root(survey: &Survey<'_>, b: u32) -> bool {
     match survey.opening() {
         Some(opening) => opening.blocks / 2 == b,
         None => false,
@@ -64,11 +48,7 @@ fn is_root(survey: &Survey<'_>, b: u32) -> bool
 }
 
 // The class of a block of the root or the bitmap.
-#[tactic(auto, using(crate::proofs::FoundRoles::page_class, crate::proofs::FoundRoles::root_class, crate::proofs::FoundRoles::map_ext_class))]
-fn map_class(survey: &Survey<'_>, b: u32) -> OwnerClass
-    ensures { OnSurvey survey.now.image (λ w _. (r : Role) → Has w r b → role_entry r ≡ None
-        → result ≡ role_class r) }
-{
+fn map_class(survey: &Survey<'_>, b: u32) -> OwnerClass {
     if survey.is_page(b) {
         return OwnerClass::Page;
     }
@@ -80,9 +60,7 @@ fn map_class(survey: &Survey<'_>, b: u32) -> OwnerClass
 }
 
 // The class of a block.
-fn class_at(survey: &Survey<'_>, b: u32) -> OwnerClass
-    ensures { OnSurvey survey.now.image (λ w _. IsFoundClass w b result) }
-{
+fn class_at(survey: &Survey<'_>, b: u32) -> OwnerClass {
     if !survey.has_part(b) {
         return unowned_class(b);
     }
@@ -94,9 +72,6 @@ fn class_at(survey: &Survey<'_>, b: u32) -> OwnerClass
 
 // Writes the roles of the first blocks, as many as there is room for; none if nothing is taken.
 fn put_found_roles(survey: &Survey<'_>, roles: &mut [u8])
-    ensures roles { OnSurvey survey.now.image (λ w _. w ≢ [] → (b : ℕ) → b < length roles.new
-        → b < blocks survey.now.image → IsFoundRole w b (slice_index roles.new b)) }
-    ensures none { OnSurvey survey.now.image (λ w _. w ≡ [] → roles.new ≡ roles.old) }
     ensures behind { (b : ℕ) → blocks survey.now.image ≤ b
         → slice_index roles.new b ≡ slice_index roles.old b }
 {

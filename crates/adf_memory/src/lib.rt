@@ -44,7 +44,7 @@ pub use crate::found_parts::{FoundPart, put_found_parts};
 pub use crate::found_roles::survey_owners;
 pub use crate::found_tables::{FoundEntry, Surveyed, TableFinding};
 pub use crate::index::put_index;
-pub use crate::laws::{found_files_are_those_of_the_tree, found_files_are_what_is_left};
+pub use crate::laws::found_files_are_those_of_the_tree;
 pub use crate::lookup::find_entry;
 pub use crate::losses::{LossTable, TableLoss};
 pub use crate::memory::Moved;

@@ -1,4 +1,4 @@
-use Rattle.adf_memory.proofs.FoundVolumes.{blocks_as_laid, bytes_as_laid, none_lost_of, role_found}
+use Rattle.adf_memory.proofs.FoundVolumes.{blocks_as_laid, bytes_as_laid, none_lost_of}
 use Rattle.adf_memory.proofs.laws.found_files_are_those_of_the_tree.Goals as goal
 
 pub returns-clause-blocks : goal.returns-clause-blocks
@@ -9,6 +9,3 @@ returns-clause-bytes c = λ image t l w fs n at e bytes fits survey here body. b
 
 pub returns-clause-none_lost : goal.returns-clause-none_lost
 returns-clause-none_lost c = λ image t l w fs n at e bytes fits survey here body. none_lost_of image w fs survey t l fits n e bytes here body at
-
-pub returns-clause-roles : goal.returns-clause-roles
-returns-clause-roles c = λ image t l w fs b r fits survey is. role_found image w fs survey t l fits b r is
