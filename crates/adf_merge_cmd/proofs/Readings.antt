@@ -6,7 +6,7 @@ use Rattle.std.specs.{Prelude.◌&&◌, List.AllZip}
 use Rattle.std.proofs.lemmas.List.{get_or-map, length-map, take_more, Elements.AllZip-push}
 use Rattle.clap.specs.Words.{Text}
 use Rattle.adf_words.specs.CommandLine.{texts_of}
-use Rattle.adf_boot_blocks.specs.{Refusals.has_image_size, declared.refusal.TheConstants.MOST_BYTES}
+use Rattle.adf_merge_cmd.specs.{Sizes.has_reading_size, declared.sizes.TheConstants.MOST_BYTES}
 use Rattle.adf_runs.specs.{Commands.Reply, Streams.AreFirst}
 use Rattle.adf_readings.specs.{Mapped.MappedValue, Merge.AreFound, Merge.IsMergeOf, declared.doubt.Doubt.Doubt}
 use Rattle.adf_merge_cmd.specs.Answers.{AreAlike, AreReadings, IsLikeFirst, IsMergeReply, differ_in_type, first_reading, is_alike, told_reply}
@@ -43,12 +43,12 @@ pub as_many : (bytes_of : List ℕ → Option (List ℕ)) (ns : List Text) (rs :
 as_many bytes_of ns rs are = AllZip-long (λ name r. IfSome (bytes_of name) (λ all. r ≡ take (MOST_BYTES + 1) all)) ns rs are
 
 -- what is alike has the size of the first one
-image_size : (r : List ℕ) → has_image_size r ≡ true → (length r % 512 ≡ 0) × (length r ≤ MOST_BYTES)
+image_size : (r : List ℕ) → has_reading_size r ≡ true → (length r % 512 ≡ 0) × (length r ≤ MOST_BYTES)
 image_size r e = grind (arith, common_steps)
 
 like_first : (first r : List ℕ) → is_alike first r ≡ true → IsLikeFirst first r
 like_first first r e =
-    let parts = and_parts (has_image_size r) ((length r == length first) && not (differ_in_type first r)) e in
+    let parts = and_parts (has_reading_size r) ((length r == length first) && not (differ_in_type first r)) e in
     let size = image_size r parts.0 in
     (size.0, size.1, eqb-true (length r) (length first) (and_parts (length r == length first) (not (differ_in_type first r)) parts.1).0)
 

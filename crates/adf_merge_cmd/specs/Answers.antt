@@ -5,21 +5,21 @@ use Rattle.std.specs.Prelude.{IfSome, None, Option, Some, slice_index_or, take, 
 use Rattle.std.specs.{Str.bytes_eq, List.AllZip, Io.KnownBytes.Appends}
 use Rattle.clap.specs.Words.{Text}
 use Rattle.adf_words.specs.declared.command_line.ArgsError.{ArgsError}
-use Rattle.adf_boot_blocks.specs.{BootBlocks.begins_with_dos, Refusals.has_image_size, declared.refusal.TheConstants.MOST_BYTES}
 use Rattle.adf_readings.specs.{Mapped.MappedValue, Merge.AreFound, Merge.IsMergeOf}
 use Rattle.adf_runs.specs.{Commands.Reply, Outcomes.Does, Outcomes.outcome_text, Outcomes.status_of, Streams.IsTold, Streams.Seen}
 use Rattle.adf_runs.specs.{WorkFaults.args_refused, WorkFaults.refusal_status, declared.outcome.Outcome.Outcome}
+use Rattle.adf_merge_cmd.specs.{Sizes.has_dos, Sizes.has_reading_size, declared.sizes.TheConstants.MOST_BYTES}
 use Rattle.adf_merge_cmd.specs.CommandLine.{AsksMerge, ExplainsMergeArgs, MergeOrder}
 use Rattle.adf_maps.specs.Maps.{MapValue, map_of}
 use Rattle.adf_merge_cmd.specs.declared.maps.MapStop.{MapStop, TheVariants.Refused, TheVariants.NoMemory}
 
 -- both begin with DOS, and their types differ
 abbrev pub differ_in_type : List ℕ → List ℕ → Bool
-differ_in_type first r = begins_with_dos first && (begins_with_dos r && not (slice_index r 3 == slice_index first 3))
+differ_in_type first r = has_dos first && (has_dos r && not (slice_index r 3 == slice_index first 3))
 
 -- a reading has the size of an image and that of the first one, and no other type
 abbrev pub is_alike : List ℕ → List ℕ → Bool
-is_alike first r = has_image_size r && ((length r == length first) && not (differ_in_type first r))
+is_alike first r = has_reading_size r && ((length r == length first) && not (differ_in_type first r))
 
 abbrev pub first_reading : List (List ℕ) → List ℕ
 first_reading rs = slice_index_or rs 0 []

@@ -9,6 +9,7 @@ mod names;
 mod read_file;
 mod refusal;
 mod runner;
+mod sizes;
 
 pub use crate::command_line::parse_merge as parse;
 pub use crate::runner::{Merging, run};

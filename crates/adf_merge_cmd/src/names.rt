@@ -1,12 +1,12 @@
 // The files of names.
 
 ghost use Rattle.std.specs.Prelude.{◌≡◌, ◌+◌, IfOk, IfSome, false, take};
-ghost use Rattle.adf_boot_blocks.specs.declared.refusal.TheConstants.{MOST_BYTES};
+ghost use Rattle.adf_merge_cmd.specs.declared.sizes.TheConstants.{MOST_BYTES};
 ghost use Rattle.adf_words.specs.CommandLine.{texts_of};
 ghost use Rattle.adf_merge_cmd.specs.Answers.{AreReadings, map_bytes};
 
 use crate::read_file::ReadFile;
-use adf_boot_blocks::MOST_BYTES;
+use crate::sizes::MOST_BYTES;
 use adf_file_runs::{Files, Unopened, refuse_file};
 use adf_names::push_escaped;
 use adf_runs::{Sink, StreamFault, read_all, say};

@@ -1,11 +1,11 @@
 // Why readings are not merged.
 
 ghost use Rattle.std.specs.Prelude.{◌≡◌, ◌≤◌, All, IfOk, false, is_some, length, not, true};
-ghost use Rattle.adf_boot_blocks.specs.Refusals.{has_image_size};
+ghost use Rattle.adf_merge_cmd.specs.Sizes.{has_reading_size};
 ghost use Rattle.adf_merge_cmd.specs.Answers.{differ_in_type, is_alike};
 
 use crate::read_file::ReadFile;
-use adf_boot_blocks::{BootRefusal, begins_with_dos, image_refusal};
+use crate::sizes::{has_dos, has_reading_size};
 use adf_names::push_escaped;
 use std::alloc::{AllocError, Global};
 
@@ -29,12 +29,12 @@ impl ReadingRefusal {
     }
 }
 
-// Whether an image has no size of an image.
+// Whether a reading has no size of an image.
 fn has_bad_size(image: &[u8]) -> bool
-    ensures exact { result ≡ not (has_image_size image.now) }
+    ensures exact { result ≡ not (has_reading_size image.now) }
     ensures long { result ≡ false → 4 ≤ length image.now }
 {
-    matches!(image_refusal(image), Some(BootRefusal::BadSize))
+    !has_reading_size(image)
 }
 
 // Whether both begin with `DOS`, and their types differ.
@@ -43,7 +43,7 @@ fn differ_in_type(first: &[u8], other: &[u8]) -> bool
     requires other { 4 ≤ length other.now }
     ensures { result ≡ differ_in_type first.now other.now }
 {
-    begins_with_dos(first) && begins_with_dos(other) && other[3] != first[3]
+    has_dos(first) && has_dos(other) && other[3] != first[3]
 }
 
 // Why a reading is not merged with the first one.
