@@ -1,5 +1,4 @@
-use Rattle.std.proofs.Common.{◌∙◌, ap, refl, sym, arith, option_copied}
-use Rattle.std.proofs.lemmas.Grind.{common_steps}
+use Rattle.std.proofs.Common.{◌∙◌, ap, refl, sym, option_copied}
 use Rattle.adf_disk_cmd.proofs.HeldChecks.{found_answer, held_answer}
 use Rattle.adf_disk_cmd.proofs.checking.answer_to_volume.Goals as goal
 
@@ -10,4 +9,6 @@ returns-in_ok-line-in-Some c = λ all answered known.
     (sym c.volume_checked.ensures ∙ ap option_copied c.in-Some.is) answered refl c.in_ok-line-in-Some.ensures.cases
 
 pub returns-in-None : goal.returns-in-None
-returns-in-None c = grind (arith, common_steps, held_answer)
+returns-in-None c = λ all answered known.
+    held_answer all c.args.bytes.now c.volume_at.result.now c.args.checked.now c.args.place c.verdict_of.result
+    (sym c.volume_checked.ensures ∙ ap option_copied c.in-None.is) known c.volume_at.ensures c.verdict_of.ensures
