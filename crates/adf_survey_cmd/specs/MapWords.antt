@@ -1,5 +1,5 @@
 -- The word of a command line that names a map. Letters: ws words, w one of them; i a word's number, k a number of words.
-use Rattle.std.specs.Prelude.{ℕ, ◌+◌, ◌&&◌, ◌||◌, nat_lt, Bool, cond, List, [], Option, None, Some, codes, length, slice_index_or, unwrap_or}
+use Rattle.std.specs.Prelude.{ℕ, ◌+◌, ◌||◌, Bool, cond, List, [], Option, None, Some, codes, length, slice_index_or, unwrap_or}
 use Rattle.std.specs.Str.{bytes_eq}
 use Rattle.std.proofs.Common.{zero, suc}
 
