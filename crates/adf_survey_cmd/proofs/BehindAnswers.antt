@@ -16,7 +16,7 @@ use Rattle.adf_survey_cmd.specs.Answers.{AnswerBehind, AreUnreadLines, DroppedAn
 use Rattle.adf_survey_cmd.specs.Answers.{unless_blank, unless_mapped}
 use Rattle.adf_survey_cmd.specs.CommandLine.{InquiryValue, QuestionValue, list, report}
 use Rattle.adf_survey_cmd.specs.UnreadLines.{EndsBehind, IsUnreadText, ToldBehind, reply_behind, status_behind}
-use Rattle.adf_survey_cmd.specs.{Work.Answers, Work.task_json}
+use Rattle.adf_survey_cmd.specs.{Work.ServesQuestion, Work.task_json}
 use Rattle.adf_survey_cmd.specs.declared.work.Task.{Task, TheVariants.Show, TheVariants.Rescue, TheVariants.RescueDeleted}
 use Rattle.adf_survey_cmd.specs.declared.work.Task.TheVariants.{RescueAll, RescueBefore, Deleted}
 use Rattle.adf_survey_cmd.specs.declared.work.View.{TheVariants.Findings, TheVariants.List as ListAll, TheVariants.Cat, TheVariants.Blanks as BlanksOf}

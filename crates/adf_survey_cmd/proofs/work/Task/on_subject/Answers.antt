@@ -1,6 +1,6 @@
 use Rattle.std.proofs.Common.{false, subst, sym, true}
 use Rattle.adf_runs.proofs.Endings.{ends_weaker}
-use Rattle.adf_survey_cmd.specs.{Answers.QuestionAnswer, Work.Answers}
+use Rattle.adf_survey_cmd.specs.{Answers.QuestionAnswer, Work.ServesQuestion}
 use Rattle.adf_remains.specs.Deletions.{TellsTyped}
 use Rattle.adf_rescue_writing.specs.KeptAll.{RescuesAll}
 use Rattle.adf_subjects.specs.{Rescues.RescuesBefore, Rescues.RescuesTypedOf, Rescues.Replies, Subject.subject_value}
