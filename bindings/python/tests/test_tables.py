@@ -134,7 +134,7 @@ class Checked(Images):
         self.assertEqual(self.roles(self.damaged), (7, GUARD * 17))
 
     def test_surveys_fill_their_tables(self):
-        # The headers of `c` and of `short` with a bit in their part of zeros.
+        # The headers of `c` and of `short` with a bit in the low byte of their protection (word 80), so with a wrong sum.
         image = with_bytes(self.image, (2 * 512 + 323, 1), (6 * 512 + 323, 1))
         findings, rows, told = self.room(_structs.Finding, 3), self.room(_structs.Found, 4), self.told(_structs.Surveyed)
         cause = self.library.adf_survey_index(image, len(image), findings, 3, rows, 4, told)
@@ -143,7 +143,7 @@ class Checked(Images):
         self.assertEqual([fields(row, names) for row in findings[:2]], [(2, 2, 1, 0, 7, 0), (6, 6, 3, 0, 7, 0)])
         self.assertEqual([row.is_sound for row in rows[:3]], [0, 1, 0])
         names = "parent header size protection is_file name_length comment_length"
-        self.assertEqual([fields(row, names) for row in rows[:2]], [(0, 2, 0, 0, 0, 1, 0), (1, 3, 489, 0, 1, 4, 0)])
+        self.assertEqual([fields(row, names) for row in rows[:2]], [(0, 2, 0, 1, 0, 1, 0), (1, 3, 489, 0, 1, 4, 0)])
         self.assertEqual(bytes(rows[1].name), b"long".ljust(79, b"\0"))
         self.assertTrue(self.is_nines(findings, 2) and self.is_nines(rows, 3))
         self.assertEqual(self.library.adf_survey_index(b"", 0, findings, 0, rows, 0, told), 0)
