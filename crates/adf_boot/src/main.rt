@@ -2,9 +2,9 @@
 #![tactic(auto)]
 
 use adf_boot_cmd::Work;
-use adf_file_changes::main_of_changing;
+use adf_file_runs::main_of;
 use std::process::ExitCode;
 
 fn main(rt: HostRuntime) -> ExitCode {
-    main_of_changing::<Work>(&rt)
+    main_of::<Work>(&rt)
 }

@@ -6,7 +6,7 @@ use Rattle.adf_boot_cmd.specs.Answers.{IsOrderOf, Order}
 use Rattle.adf_boot_cmd.specs.Changing.{Answers, AsksChange, BootChange, ChangeEnds, image_asked}
 use Rattle.adf_boot_cmd.specs.CommandLine.{AreRefusedByBoot, AsksBoot, BootRequestValue, boot_file}
 use Rattle.adf_boot_cmd.proofs.Commands.{not_refused}
-use Rattle.adf_file_changes.specs.Changes.{IsReplaced}
+use Rattle.adf_file_runs.specs.FileChanges.{IsReplaced}
 use Rattle.adf_file_runs.specs.FileRuns.{KnownFiles}
 use Rattle.adf_runs.specs.{WorkFaults.args_refused, WorkFaults.refusal_status}
 use Rattle.adf_words.specs.CommandLine.{ExplainsArgs}

@@ -4,7 +4,7 @@ use Rattle.std.specs.{Option.unwrap_or, Str.bytes_eq}
 use Rattle.clap.specs.Words.{Text}
 use Rattle.adf_boot_cmd.specs.{Answers.BootAnswer, Answers.BootEnds, Answers.IsOrderOf, Answers.Order, CommandLine.AsksBoot}
 use Rattle.adf_boot_cmd.specs.CommandLine.{BootRequestValue, boot_file, tell}
-use Rattle.adf_file_changes.specs.Changes.{IsReplaced}
+use Rattle.adf_file_runs.specs.FileChanges.{IsReplaced}
 use Rattle.adf_file_runs.specs.FileRuns.{KnownFiles}
 use Rattle.adf_runs.specs.{Commands.Reply, Streams.Seen}
 

@@ -10,8 +10,7 @@ use crate::boot_file::work_for;
 use crate::changing::{boot_change, change_boot};
 use crate::command_line::{ABOUT, BOOT_USAGE as USAGE, parse_boot};
 use crate::work::Work;
-use adf_file_changes::{ChangeFiles, Changing, ChangingProgram};
-use adf_file_runs::{About, Files, refuse_file};
+use adf_file_runs::{About, ChangeFiles, Changing, Files, SystemProgram, refuse_file};
 use adf_runs::{Sink, Source, WorkFault};
 use std::alloc::Global;
 
@@ -56,7 +55,7 @@ pub fn run<F: Files, R: Source, W: Sink, E: Sink>(
     }
 }
 
-impl ChangingProgram for Work {
+impl SystemProgram for Work {
     ghost ends = { BootRunEnds };
 
     fn about() -> About {

@@ -2,9 +2,9 @@
 #![tactic(auto)]
 
 use adf_disk_cmd::Job;
-use adf_file_changes::main_of_making;
+use adf_file_runs::main_of;
 use std::process::ExitCode;
 
 fn main(rt: HostRuntime) -> ExitCode {
-    main_of_making::<Job>(&rt)
+    main_of::<Job>(&rt)
 }

@@ -4,7 +4,7 @@ use Rattle.std.proofs.lemmas.Bool.{false≢true}
 use Rattle.std.specs.Prelude.{IsSome, codes}
 use Rattle.clap.specs.Words.{Text}
 use Rattle.adf_disk_cmd.specs.NewDisks.{EndsByDisk, IsUnwrittenTold, NewDisk}
-use Rattle.adf_file_changes.specs.{Changes.unwritten_line, declared.changes.Unwritten.Unwritten}
+use Rattle.adf_file_runs.specs.{FileChanges.unwritten_line, declared.changes.Unwritten.Unwritten}
 use Rattle.adf_file_runs.specs.FileRuns.{KnownFiles}
 use Rattle.adf_runs.specs.Streams.{IsTold, Seen}
 

@@ -3,7 +3,7 @@ use Rattle.std.specs.Prelude.{◌≡◌, ◌≢◌, ◌⊎◌, ◌&&◌, ℕ, Bo
 use Rattle.std.specs.Str.{bytes_eq}
 use Rattle.clap.specs.Words.{Text}
 use Rattle.adf_disk_cmd.specs.HostPlans.{DiskEnds}
-use Rattle.adf_file_changes.specs.{Changes.IsReplaced, Changes.unwritten_line, declared.changes.Unwritten.Unwritten}
+use Rattle.adf_file_runs.specs.{FileChanges.IsReplaced, declared.changes.Unwritten.Unwritten}
 use Rattle.adf_file_runs.specs.FileRuns.{KnownFiles}
 use Rattle.adf_runs.specs.Streams.{IsTold, Seen}
 

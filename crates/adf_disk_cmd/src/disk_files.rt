@@ -8,8 +8,7 @@ ghost use Rattle.adf_runs.specs.Streams.{seen};
 ghost use Rattle.adf_words.specs.CommandLine.{texts_of};
 
 use crate::host_plans::run_plans;
-use adf_file_changes::{NewFiles, refuse_change};
-use adf_file_runs::Invocation;
+use adf_file_runs::{ChangeFiles, Invocation, refuse_change};
 use adf_runs::{Sink, Source};
 use std::alloc::{AllocError, Global};
 use std::marker::Model;
@@ -65,7 +64,7 @@ pub fn new_disk<'a>(alloc: Global, args: &'a [&'a str]) -> Result<Option<NewDisk
 
 /// Builds a disk into a file, which gets its name once the disk is whole, and returns the status, that of `run_plans` with the
 /// words alone, or 3 if the file cannot be written. If it is not 0, each file is as it was, and errors say why.
-pub fn build_into<F: NewFiles, R: Source, E: Sink>(
+pub fn build_into<F: ChangeFiles, R: Source, E: Sink>(
     alloc: Global,
     disk: &NewDisk<'_>,
     files: &mut F,

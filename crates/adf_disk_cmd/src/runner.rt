@@ -11,8 +11,9 @@ use crate::command_line::ABOUT;
 use crate::disk_files::{build_into, new_disk};
 use crate::host_plans::run_plans;
 use crate::job::Job;
-use adf_file_changes::{Changing, MakingProgram, NewFiles};
-use adf_file_runs::{About, Files, Invocation, run_program_on_files};
+use adf_file_runs::{
+    About, ChangeFiles, Changing, Files, Invocation, SystemProgram, run_program_on_files,
+};
 use adf_runs::{Outcome, Sink, Source};
 use std::alloc::Global;
 
@@ -50,14 +51,14 @@ pub fn run_files<F: Files, R: Source, W: Sink, E: Sink>(
     run_program_on_files::<Job, F, R, W, E>(alloc, asked, input, output, errors)
 }
 
-impl MakingProgram for Job {
+impl SystemProgram for Job {
     ghost ends = { DiskRunEnds };
 
     fn about() -> About {
         ABOUT
     }
 
-    fn start<F: NewFiles, R: Source, W: Sink, E: Sink>(
+    fn start<F: ChangeFiles, R: Source, W: Sink, E: Sink>(
         alloc: Global,
         asked: &mut Changing<'_, F>,
         input: &mut R,

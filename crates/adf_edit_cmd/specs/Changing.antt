@@ -3,7 +3,7 @@ use Rattle.std.specs.Prelude.{◌≡◌, ◌≢◌, ◌≤◌, ◌+◌, ◌⊎�
 use Rattle.std.specs.{Option.unwrap_or, Str.bytes_eq}
 use Rattle.adf_edit_cmd.specs.{Answers.edit_command, Edited.IsByScript, Manifests.is_manifest, Script.ScriptValue}
 use Rattle.adf_edit_cmd.specs.declared.program.TheConstants.{MOST_INPUT_BYTES}
-use Rattle.adf_file_changes.specs.Changes.{IsReplaced}
+use Rattle.adf_file_runs.specs.FileChanges.{IsReplaced}
 use Rattle.adf_file_runs.specs.FileRuns.{KnownFiles}
 use Rattle.adf_runs.specs.{Commands.RunEnds, Streams.AreFirst, Streams.Seen}
 

@@ -10,8 +10,7 @@ use crate::program::MOST_INPUT_BYTES;
 use crate::script::read_script;
 use crate::stop::Stop;
 use crate::words::{Line, Order};
-use adf_file_changes::{ChangeFiles, refuse_change};
-use adf_file_runs::{Files, Unopened, refuse_file};
+use adf_file_runs::{ChangeFiles, Files, Unopened, refuse_change, refuse_file};
 use adf_runs::{Sink, StreamFault, read_all, say};
 use std::alloc::{AllocError, Global};
 

@@ -12,8 +12,7 @@ use crate::editing::new_image;
 use crate::script_file::{change_by_file, script_asked};
 use crate::stop::Stop;
 use crate::words::order_asked;
-use adf_file_changes::{ChangeFiles, Changing, ChangingProgram};
-use adf_file_runs::About;
+use adf_file_runs::{About, ChangeFiles, Changing, SystemProgram};
 use adf_runs::{
     Outcome, Program, Sink, Source, WorkFault, read_input, run_program, say, write_all,
 };
@@ -212,7 +211,7 @@ fn run_words<F: ChangeFiles, E: Sink>(
     }
 }
 
-impl ChangingProgram for Work {
+impl SystemProgram for Work {
     ghost ends = { EditEnds };
 
     fn about() -> About {

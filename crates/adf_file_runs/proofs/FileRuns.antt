@@ -1,8 +1,8 @@
 -- Runs whose words may name a file.
 -- Letters: c a command, file_of the file that its words name; n the status; o what output held.
-use Rattle.std.proofs.Common.{◌≡◌, ◌⊎◌, ◌∙◌, rules, inl, inr, Bool, List, Option, ℕ, Some, None, IfSome, refl, false, true, codes}
+use Rattle.std.proofs.Common.{◌≡◌, ◌⊎◌, ◌∙◌, rules, inl, inr, Bool, List, Option, ℕ, Some, None, IfSome, refl, false, true}
 use Rattle.adf_runs.specs.{Commands.Command, Commands.IsConsistent, Commands.RunEnds, Streams.IsTold, Streams.Seen, Streams.still}
-use Rattle.adf_file_runs.specs.{FileRuns.KnownFiles, FileRuns.RunEndsOnFiles, FileRuns.unopened_line, declared.files.Unopened.Unopened}
+use Rattle.adf_file_runs.specs.{FileRuns.KnownFiles, FileRuns.RunEndsOnFiles, declared.files.Unopened.Unopened}
 use Rattle.adf_runs.specs.WorkFaults.{IsNoWork, refusal_line, refusal_status}
 use Rattle.adf_runs.specs.declared.work_fault.WorkFault.{WorkFault, TheVariants.BadPath, TheVariants.NoMemory, TheVariants.Usage}
 use Rattle.adf_runs.proofs.{CommandRuns.no_work_ends, PendingText.appends_nil}
@@ -41,17 +41,12 @@ module _ {Words : Type 0} (c : Command Words) (file_of : Words → Option (List 
     opened = λ other is two three. let one : name ≡ other = cc in rw one at may;
   }
 
-  -- a file that is not opened, or no memory for its line
-  pub unopened_ends : (o : Option (List ℕ)) (no_output : Bool) (name : List ℕ) (why : Unopened) → IsConsistent c → Some name ≡ file_of words
-      → n ≡ 3 → no_output ≡ false → files.may_fail name ≡ true → files.may_open name (Some why)
-      → IsTold errors (unopened_line name why) ⊎ IsTold errors (codes "no memory\n")
+  -- a file that is not opened
+  pub unopened_ends : (o : Option (List ℕ)) (no_output : Bool) (name : List ℕ) (why : Unopened) → Some name ≡ file_of words
+      → n ≡ 3 → files.may_fail name ≡ true → files.may_open name (Some why)
       → RunEndsOnFiles c file_of words files input n (still o no_output) errors
-  unopened_ends o no_output name why laws named three sound fails reason said = record {
+  unopened_ends o no_output name why named three fails reason = record {
     on_input = λ none. let clash : Some name ≡ None = named ∙ none in absurd cc;
-    on_file = λ other is. let one : name ≡ other = cc in rw (← one) (elim said [
-      | inl told ↦ inr (three, fails, appends_nil o, (why, reason, told))
-      | inr memory ↦
-          inl (false, no_work_ends c words NoMemory (still (files.bytes_of name) false) o no_output errors n laws tt three refl sound memory)
-    ]);
+    on_file = λ other is. let one : name ≡ other = cc in rw (← one) (inr (three, fails, appends_nil o, (why, reason)));
     opened = λ other is two no_three. absurd (no_three three);
   }

@@ -1,3 +1,1 @@
-pub mod AskedHelp
 pub mod FileRuns
-pub mod NamedLines

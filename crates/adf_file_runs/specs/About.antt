@@ -1,7 +1,6 @@
 -- What a program tells of itself.
-use Rattle.std.specs.Prelude.{◌≡◌, ℕ, Bool, false, List, [], ◌∷◌, ◌++◌, Option, None, Some, codes, if◌then◌else◌}
+use Rattle.std.specs.Prelude.{ℕ, Bool, List, [], ◌∷◌, Option, None, Some, codes, if◌then◌else◌}
 use Rattle.std.specs.{Option.option_or, Str.bytes_eq}
-use Rattle.adf_file_runs.specs.declared.about.About.{About}
 use Rattle.adf_file_runs.specs.declared.about.Telling.{Telling, TheVariants.Help, TheVariants.Version}
 
 -- what a lone argument asks of the program itself
@@ -22,12 +21,3 @@ telling_among (word ∷ words) = if is_last word then None else option_or (telli
 abbrev pub telling_asked : List (List ℕ) → Option Telling
 telling_asked [] = None
 telling_asked (name ∷ words) = telling_among words
-
--- an argument asks nothing, and is not `--`
-abbrev pub AsksNothing : List ℕ → Type 0
-AsksNothing word = (telling_named word ≡ None) × (is_last word ≡ false)
-
--- the text that is told: the help, or the name and the version
-abbrev pub told_text : About → Telling → List ℕ
-told_text about Help = about.help.now
-told_text about Version = about.name.now ++ codes " 1.1\n"

@@ -1,10 +1,9 @@
 -- Runs whose words may name a file, which is then the input.
 -- Letters: c a command, file_of the file that its words name; n the status.
-use Rattle.std.specs.Prelude.{◌≡◌, ◌⊎◌, ◌++◌, ℕ, Bool, true, List, [], codes, Option, None, Some}
+use Rattle.std.specs.Prelude.{◌≡◌, ◌⊎◌, ℕ, Bool, true, List, [], Option, None, Some}
 use Rattle.std.specs.Io.KnownBytes.{Appends}
-use Rattle.adf_names.specs.Escapes.{escaped}
-use Rattle.adf_runs.specs.{Commands.Command, Commands.RunEnds, Streams.IsTold, Streams.Seen, Streams.still}
-use Rattle.adf_file_runs.specs.{Files.unopened_text, declared.files.Unopened.Unopened, declared.files.Unopened.TheVariants.Other}
+use Rattle.adf_runs.specs.{Commands.Command, Commands.RunEnds, Streams.Seen, Streams.still}
+use Rattle.adf_file_runs.specs.{declared.files.Unopened.Unopened}
 
 -- the command where there are no files: words that name one are refused
 abbrev pub without_files : {Words : Type 0} → Command Words → (Words → Option (List ℕ)) → Command Words
@@ -13,15 +12,6 @@ without_files c file_of = record c {
   refuses = λ words. c.refuses words ⊎ (¬ (file_of words ≡ None));
   asks_bad_path = λ words. (file_of words ≡ None) × c.asks_bad_path words;
 }
-
--- what is said behind the name of a file that is not opened
-abbrev pub refusal_text : Unopened → List ℕ
-refusal_text Other = codes ": cannot be opened\n"
-refusal_text why = unopened_text why
-
--- the line of a file that is not opened
-abbrev pub unopened_line : List ℕ → Unopened → List ℕ
-unopened_line name why = escaped name ++ refusal_text why
 
 -- what is known of files by their names: the bytes of each, whether it may fail, and what may come of opening it
 pub record KnownFiles : Type 1 where
@@ -34,10 +24,10 @@ abbrev pub known_files : {F : Type 0} → (F → List ℕ → Option (List ℕ))
 known_files bytes_of may_fail may_open files =
     record { bytes_of = bytes_of files; may_fail = may_fail files; may_open = may_open files }
 
--- the file of a name was not opened, for a reason that there may be: errors tell it, and output is as it was
-abbrev pub IsUnopened : KnownFiles → List ℕ → ℕ → Seen → Seen → Type 0
-IsUnopened files name n output errors = (n ≡ 3) × (files.may_fail name ≡ true) × Appends output.before output.after []
-    × ((why : Unopened) × files.may_open name (Some why) × IsTold errors (unopened_line name why))
+-- the file of a name was not opened, for a reason that there may be: output is as it was
+abbrev pub IsUnopened : KnownFiles → List ℕ → ℕ → Seen → Type 0
+IsUnopened files name n output = (n ≡ 3) × (files.may_fail name ≡ true) × Appends output.before output.after []
+    × ((why : Unopened) × files.may_open name (Some why))
 
 -- how a run with these words ends, over files and an input
 pub record RunEndsOnFiles {Words : Type 0} (c : Command Words) (file_of : Words → Option (List ℕ)) (words : Words) (files : KnownFiles)
@@ -46,6 +36,6 @@ pub record RunEndsOnFiles {Words : Type 0} (c : Command Words) (file_of : Words 
   pub on_input : file_of words ≡ None → RunEnds c words input n output errors
   -- where they name one, as a run over its bytes, or it was not opened
   pub on_file : (name : List ℕ) → file_of words ≡ Some name
-      → ((failed : Bool) × RunEnds c words (still (files.bytes_of name) failed) n output errors) ⊎ IsUnopened files name n output errors
+      → ((failed : Bool) × RunEnds c words (still (files.bytes_of name) failed) n output errors) ⊎ IsUnopened files name n output
   -- where they name one and are answered, it was opened
   pub opened : (name : List ℕ) → file_of words ≡ Some name → ¬ (n ≡ 2) → ¬ (n ≡ 3) → files.may_open name None

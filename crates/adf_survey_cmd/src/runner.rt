@@ -11,7 +11,9 @@ ghost use Rattle.adf_survey_cmd.specs.Answers.{survey_command};
 use crate::command_line::ABOUT;
 use crate::map_runs::run_mapped;
 use crate::work::Work;
-use adf_file_runs::{About, Files, Invocation, SystemProgram, run_program_on_files};
+use adf_file_runs::{
+    About, ChangeFiles, Changing, Files, Invocation, SystemProgram, run_program_on_files,
+};
 use adf_runs::{Sink, Source};
 use std::alloc::Global;
 
@@ -48,19 +50,24 @@ pub fn run_files<F: Files, R: Source, W: Sink, E: Sink>(
 }
 
 impl SystemProgram for Work {
-    ghost ends = { SurveyEnds };
+    ghost ends = { λ words files after input n output errors.
+        (after ≡ files.bytes_of) × SurveyEnds words files input n output errors };
 
     fn about() -> About {
         ABOUT
     }
 
-    fn start<F: Files, R: Source, W: Sink, E: Sink>(
+    fn start<F: ChangeFiles, R: Source, W: Sink, E: Sink>(
         alloc: Global,
-        asked: &Invocation<'_, F>,
+        asked: &mut Changing<'_, F>,
         input: &mut R,
         output: &mut W,
         errors: &mut E,
     ) -> u8 {
-        run_mapped(alloc, asked, input, output, errors)
+        let alone = Invocation {
+            words: asked.words,
+            files: &asked.files,
+        };
+        run_mapped(alloc, &alone, input, output, errors)
     }
 }

@@ -57,5 +57,4 @@ returns-clause-ends g c =
     let named : Some c.as_bytes.result.now ≡ boot_file words =
     ap Some c.as_bytes.ensures.value ∙ ap (option_map (λ s. s.now)) (sym c.in-Some.is) ∙ c.in-Ok.ensures.file in
     inl (unopened_ends (boot_command (g.F.Files.bytes_of c.args.files.now)) boot_file words _ _ _ _ _ _ c.as_bytes.result.now
-    c.in-Err-open.why (consistent (g.F.Files.bytes_of c.args.files.now)) named c.refuse_file.ensures.status c.requires.writes
-    (search rules) (search rules) (rw (← c.as_bytes.ensures.value) at c.refuse_file.ensures.said))
+    c.in-Err-open.why named c.refuse_file.ensures (search rules) (search rules))

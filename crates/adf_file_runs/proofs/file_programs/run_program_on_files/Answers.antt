@@ -19,5 +19,4 @@ returns-in-Ok-open-clause-ends g c =
 pub returns-in-Ok-Some-clause-ends : goal.returns-in-Ok-Some-clause-ends
 returns-in-Ok-Some-clause-ends g c =
     unopened_ends g.P.Program.command g.P.FileProgram.file_of (texts_of c.args.asked.now.words.now) _ _ _ _ _ _ c.as_bytes.result.now
-    c.in-Err-open.why g.met.P.Program.consistent (search rules) c.refuse_file.ensures.status c.requires.writes
-    (search rules) (search rules) (search rules)
+    c.in-Err-open.why (search rules) c.refuse_file.ensures (search rules) (search rules)

@@ -4,7 +4,7 @@ use Rattle.adf_disk_cmd.proofs.NewDisks.{lacks_words}
 use Rattle.adf_file_runs.specs.FileRuns.{KnownFiles, known_files}
 use Rattle.adf_runs.specs.Streams.{Seen, seen}
 use Rattle.adf_words.specs.CommandLine.{texts_of}
-use Rattle.adf_disk_cmd.proofs.runner.JobMakingProgram.start.Goals as goal
+use Rattle.adf_disk_cmd.proofs.runner.JobSystemProgram.start.Goals as goal
 
 pub returns-in-Ok-None : goal.returns-in-Ok-None
 returns-in-Ok-None g c =

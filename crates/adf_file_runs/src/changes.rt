@@ -1,9 +1,10 @@
-// What replaces files.
+// What makes and replaces files.
 
-ghost use Rattle.std.specs.Prelude.{◌≡◌, OnErr, OnOk, true};
-ghost use Rattle.adf_file_changes.specs.Changes.{IsReplaced, unwritten_text};
+ghost use Rattle.std.specs.Prelude.{◌≡◌, [], IfOk, IfSome, OnErr, OnOk, false, true};
+ghost use Rattle.adf_file_runs.specs.FileChanges.{IsReplaced};
 
-use adf_file_runs::Files;
+use crate::files::Files;
+use adf_runs::Sink;
 use std::alloc::Global;
 
 /// Why a file was not replaced. It is as it was.
@@ -25,9 +26,7 @@ pub enum Unwritten {
 
 impl Unwritten {
     /// The text on errors behind the name, with its line feed.
-    pub fn text(self) -> &'static str
-        ensures { result.now ≡ unwritten_text self }
-    {
+    pub fn text(self) -> &'static str {
         match self {
             Unwritten::NoFolder => ": no such folder\n",
             Unwritten::Forbidden => ": no permission\n",
@@ -39,8 +38,27 @@ impl Unwritten {
     }
 }
 
-/// Files that can be replaced.
+/// Files that can be replaced, and among which new ones can be put.
 pub trait ChangeFiles: Files {
+    /// A new file while it is written from its front: it is none of the files yet.
+    type New: Sink + Drop;
+
+    /// Begins a new file that is to get this name.
+    fn begin(&self, alloc: Global, name: &[u8]) -> Result<Self::New, Unwritten>
+        ensures works { IfOk result (λ new. Self.New.has_failed new ≡ false) }
+        ensures empty { IfOk result (λ new. IfSome (Self.New.held new) (λ bytes. bytes ≡ [])) }
+        ensures fails { OnErr result (Self.Files.may_fail self.now name.now ≡ true) };
+
+    /// Gives a new file its name, all at once. If that cannot be done, each file is as it was.
+    fn put(&mut self, name: &[u8], new: Self::New) -> Result<(), Unwritten>
+        ensures replaced { OnOk result (IfSome (Self.New.held new)
+            (IsReplaced (Self.Files.bytes_of self.old) (Self.Files.bytes_of self.new) name.now)) }
+        ensures kept { OnErr result (Self.Files.bytes_of self.new ≡ Self.Files.bytes_of self.old) }
+        ensures fails { OnErr result (Self.Files.may_fail self.old name.now ≡ true) };
+
+    /// Lets go a new file that gets no name.
+    fn abandon(&self, new: Self::New);
+
     /// Gives the file of a name these bytes, all at once; a new file if there is none. If that cannot be done, each file is as it
     /// was.
     fn replace(&mut self, alloc: Global, name: &[u8], bytes: &[u8]) -> Result<(), Unwritten>

@@ -4,8 +4,7 @@ ghost use Rattle.std.specs.Prelude.{◌≡◌, IfOk, None, false, true};
 ghost use Rattle.adf_file_runs.specs.Files.{SystemOpens};
 
 use crate::changes::{ChangeFiles, Unwritten};
-use crate::new_files::NewFiles;
-use adf_file_runs::{Files, SystemFiles, Unopened};
+use crate::files::{Files, SystemFiles, Unopened};
 use adf_runs::{Failed, Sink};
 use std::alloc::Global;
 use std::fs::{self, File, OpenFile, OpenOptions, Permissions};
@@ -230,7 +229,7 @@ impl<'a, R: rt::Files> Files for SystemChanges<'a, R> {
     }
 }
 
-impl<R: rt::Files> NewFiles for SystemChanges<'_, R> {
+impl<R: rt::Files> ChangeFiles for SystemChanges<'_, R> {
     type New = NewFile<R::File>;
 
     fn begin(&self, alloc: Global, name: &[u8]) -> Result<NewFile<R::File>, Unwritten> {
@@ -248,9 +247,7 @@ impl<R: rt::Files> NewFiles for SystemChanges<'_, R> {
     fn abandon(&self, new: NewFile<R::File>) {
         let _ = fs::remove_file(self.system, &new.beside);
     }
-}
 
-impl<R: rt::Files> ChangeFiles for SystemChanges<'_, R> {
     fn replace(&mut self, alloc: Global, name: &[u8], bytes: &[u8]) -> Result<(), Unwritten> {
         let mut new = self.begin(alloc, name)?;
         match fill(&mut new, bytes) {

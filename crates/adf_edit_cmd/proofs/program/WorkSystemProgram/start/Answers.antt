@@ -5,7 +5,7 @@ use Rattle.adf_edit_cmd.specs.Changing.{EditEnds, WordsEnd}
 use Rattle.adf_file_runs.specs.FileRuns.{KnownFiles}
 use Rattle.adf_runs.specs.Streams.{Seen}
 use Rattle.adf_words.specs.CommandLine.{texts_of}
-use Rattle.adf_edit_cmd.proofs.program.WorkChangingProgram.start.Goals as goal
+use Rattle.adf_edit_cmd.proofs.program.WorkSystemProgram.start.Goals as goal
 
 -- a run with words behind the name of the program ends by these
 ends_by_words : (words rest : List (Bor (List ℕ))) (files : KnownFiles) (after : List ℕ → Option (List ℕ)) (input : Seen) (n : ℕ) (output errors : Seen)

@@ -1,2 +1,0 @@
--- All of it is the promise: what it is to replace a file.
-pub mod Changes
