@@ -16,7 +16,7 @@ pub use crate::announced_input::AnnouncedInput;
 pub use crate::changes::{ChangeFiles, Changing, Unwritten};
 pub use crate::file_programs::{FileProgram, Invocation, WithoutFiles, run_program_on_files};
 pub use crate::files::{Files, SystemFiles, Unopened};
-pub use crate::mains::{SystemProgram, answer, main_of};
+pub use crate::mains::{SystemProgram, answer, run_on};
 pub use crate::named_errors::NamedErrors;
 pub use crate::refusals::{refuse_change, refuse_file};
 pub use crate::system_changes::SystemChanges;

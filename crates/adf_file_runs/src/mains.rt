@@ -1,6 +1,6 @@
 // What starts a program.
 
-ghost use Rattle.std.specs.Prelude.{◌≡◌, None, OnErr, Some, false, if◌then◌else◌};
+ghost use Rattle.std.specs.Prelude.{◌≡◌, None, Some, false, if◌then◌else◌};
 ghost use Rattle.adf_words.specs.CommandLine.{texts_of};
 ghost use Rattle.adf_runs.specs.Streams.{seen};
 ghost use Rattle.adf_file_runs.specs.{About.telling_asked, FileRuns.known_files, declared.about.Telling.Telling};
@@ -10,10 +10,9 @@ use crate::announced_input::AnnouncedInput;
 use crate::changes::{ChangeFiles, Changing};
 use crate::named_errors::NamedErrors;
 use crate::system_changes::SystemChanges;
-use adf_runs::{Device, Outcome, Sink, Source, command_words, refuse_words};
+use adf_runs::{Device, Sink, Source};
 use std::alloc::Global;
 use std::io::IsTerminal;
-use std::process::ExitCode;
 
 /// A program that the system starts, on words, files that it may replace, and devices.
 pub trait SystemProgram {
@@ -71,14 +70,9 @@ pub fn answer<P: SystemProgram, F: ChangeFiles, R: Source, W: Sink, E: Sink>(
     }
 }
 
-// The status of a run on what the system gives; how it ends if the words cannot be had.
-fn status<P: SystemProgram, E: Sink>(rt: &HostRuntime, errors: &mut E) -> Result<u8, Outcome>
-    requires { E.has_failed errors.old ≡ false }
-    ensures { OnErr result (errors.new ≡ errors.old) }
-{
+/// Runs a program on words and what else the system gives; the first word is the program's name. Returns its status.
+pub fn run_on<P: SystemProgram>(rt: &HostRuntime, words: &[&str]) -> u8 {
     let about = P::about();
-    let words = command_words(rt)?;
-    let texts: Vec<&str> = words.iter().map(|word| word.as_str()).collect(rt.alloc())?;
     let waits = if rt.stdin().is_terminal() {
         about.waits
     } else {
@@ -87,18 +81,10 @@ fn status<P: SystemProgram, E: Sink>(rt: &HostRuntime, errors: &mut E) -> Result
     let waiting = NamedErrors::new(about.name, Device::new(rt.stderr()));
     let mut input = AnnouncedInput::new(Device::new(rt.stdin()), waiting, waits);
     let mut output = Device::new(rt.stdout());
+    let mut errors = NamedErrors::new(about.name, Device::new(rt.stderr()));
     let mut asked = Changing {
-        words: &texts,
+        words,
         files: SystemChanges::new(rt),
     };
-    Ok(answer::<P, _, _, _, E>(rt.alloc(), &mut asked, &mut input, &mut output, errors))
-}
-
-/// What `main` of a program does.
-pub fn main_of<P: SystemProgram>(rt: &HostRuntime) -> ExitCode {
-    let mut errors = NamedErrors::new(P::about().name, Device::new(rt.stderr()));
-    ExitCode::from(match status::<P, _>(rt, &mut errors) {
-        Ok(status) => status,
-        Err(fault) => refuse_words(&fault, &mut errors),
-    })
+    answer::<P, _, _, _, _>(rt.alloc(), &mut asked, &mut input, &mut output, &mut errors)
 }

@@ -1,20 +1,15 @@
-//! The verdicts on many images of Amiga floppies and hard disks.
-#![tactic(auto)]
+// `adf-shelf`, whose arguments may be no UTF-8, and which says nothing once nobody reads what it writes.
 
 ghost use Rattle.std.specs.Prelude.{◌≡◌, false};
 
-mod closed;
-mod raw_words;
-
 use crate::closed::{Errors, Output};
-use crate::raw_words::{names_among, raw_words, stand_ins};
+use crate::raw_words::{names_among, stand_ins};
 use adf_file_runs::{NamedErrors, SystemFiles, tell, telling_asked};
-use adf_runs::{Device, Outcome, Sink, command_words, refuse_words};
+use adf_runs::{Outcome, Sink};
 use adf_shelf_cmd::{ABOUT, TextNames, parse, run};
 use std::alloc::Global;
 use std::cell::Cell;
 use std::io::BufReader;
-use std::process::ExitCode;
 
 /// What words ask for beside names: volumes of types 2 and 3 too, and objects.
 #[derive(Clone, Copy)]
@@ -68,18 +63,18 @@ fn run_words<W: Sink, E: Sink>(
 // Checks the images of words of which one at least is no UTF-8: it is a name.
 fn run_raw<W: Sink, E: Sink>(
     rt: &HostRuntime,
+    words: &[Vec<u8>],
     output: &mut W,
     errors: &mut E,
 ) -> Result<u8, Outcome>
     requires writes { W.has_failed output.old ≡ false }
     requires tells { E.has_failed errors.old ≡ false }
 {
-    let words = raw_words(rt)?;
-    let texts = stand_ins(rt.alloc(), &words)?;
+    let texts = stand_ins(rt.alloc(), words)?;
     let Some(options) = options_asked(rt.alloc(), &texts) else {
         return run_words(rt, &texts, output, errors);
     };
-    let names = names_among(rt.alloc(), &words)?;
+    let names = names_among(rt.alloc(), words)?;
     let mut input = TextNames::new(names.as_slice(), 0);
     let files = SystemFiles::new(rt);
     Ok(run(
@@ -92,26 +87,18 @@ fn run_raw<W: Sink, E: Sink>(
     ))
 }
 
-fn status(rt: &HostRuntime) -> Result<u8, Outcome> {
+/// Checks the images of words, and returns the status; if there is no memory for it, how the run ends.
+pub fn run_shelf(rt: &HostRuntime, words: &[&str]) -> Result<u8, Outcome> {
     let closed = Cell::new(false);
     let mut output = Output::new(rt.stdout(), &closed);
     let mut errors = NamedErrors::new(ABOUT.name, Errors::new(rt.stderr(), &closed));
-    match command_words(rt) {
-        Ok(words) => {
-            let texts: Vec<&str> = words.iter().map(|word| word.as_str()).collect(rt.alloc())?;
-            run_words(rt, &texts, &mut output, &mut errors)
-        }
-        Err(Outcome::NoMemory) => Err(Outcome::NoMemory),
-        Err(_) => run_raw(rt, &mut output, &mut errors),
-    }
+    run_words(rt, words, &mut output, &mut errors)
 }
 
-fn main(rt: HostRuntime) -> ExitCode {
-    ExitCode::from(match status(&rt) {
-        Ok(status) => status,
-        Err(fault) => {
-            let mut errors = NamedErrors::new(ABOUT.name, Device::new(rt.stderr()));
-            refuse_words(&fault, &mut errors)
-        }
-    })
+/// The same for words as bytes, of which some are no UTF-8.
+pub fn run_raw_shelf(rt: &HostRuntime, words: &[Vec<u8>]) -> Result<u8, Outcome> {
+    let closed = Cell::new(false);
+    let mut output = Output::new(rt.stdout(), &closed);
+    let mut errors = NamedErrors::new(ABOUT.name, Errors::new(rt.stderr(), &closed));
+    run_raw(rt, words, &mut output, &mut errors)
 }
