@@ -7,7 +7,7 @@ ghost use Rattle.adf_file_runs.specs.FileRuns.{known_files};
 use crate::editing::by_script;
 use crate::manifests::is_manifest;
 use crate::program::MOST_INPUT_BYTES;
-use crate::script::read_script;
+use crate::script::script_of;
 use crate::stop::Stop;
 use crate::words::{Line, Order};
 use adf_file_runs::{ChangeFiles, Files, Unopened, refuse_change, refuse_file};
@@ -44,10 +44,10 @@ impl<'a> From<Stop> for NoChange<'a> {
     }
 }
 
-/// The lines of a script, and the bytes of their host files.
+/// The lines of edits, each with the size of its host file if it takes one, and the bytes of these files.
 #[derive(Drop)]
 struct Taken {
-    script: Vec<u8>,
+    lines: Vec<String>,
     given: Vec<u8>,
 }
 
@@ -70,14 +70,6 @@ pub fn read_file<'a, F: Files>(
     }
 }
 
-// Appends a line with this end, and these bytes.
-fn push_line(taken: &mut Taken, text: &str, end: &str, bytes: &[u8]) -> Result<(), AllocError> {
-    taken.script.extend_from_slice(text.as_bytes())?;
-    taken.script.extend_from_slice(end.as_bytes())?;
-    taken.script.extend_from_slice(b"\n")?;
-    taken.given.extend_from_slice(bytes)
-}
-
 // Appends a line, and the bytes of its host file.
 fn take_line<'a, F: Files>(
     alloc: Global,
@@ -85,15 +77,17 @@ fn take_line<'a, F: Files>(
     line: &Line<'a>,
     taken: &mut Taken,
 ) -> Result<(), NoChange<'a>> {
-    let Some(host) = line.host else {
-        push_line(taken, &line.text, "", b"")?;
-        return Ok(());
-    };
-    let bytes = read_file(alloc, files, host)?;
-    let size = bytes.len();
-    let end = format!(in alloc; "{size}")?;
-    push_line(taken, &line.text, &end, &bytes)?;
-    Ok(())
+    let mut text = String::from_str(alloc, &line.text)?;
+    if let Some(host) = line.host {
+        let bytes = read_file(alloc, files, host)?;
+        let size = bytes.len();
+        text.push_str(&format!(in alloc; "{size}")?)?;
+        taken.given.extend_from_slice(&bytes)?;
+    }
+    match taken.lines.push(text) {
+        Ok(()) => Ok(()),
+        Err(_) => Err(NoChange::NoMemory),
+    }
 }
 
 // The lines of an order, and the bytes of their host files.
@@ -103,7 +97,7 @@ fn take_lines<'a, F: Files>(
     lines: &[Line<'a>],
 ) -> Result<Taken, NoChange<'a>> {
     let mut taken = Taken {
-        script: Vec::new(alloc),
+        lines: Vec::new(alloc),
         given: Vec::new(alloc),
     };
     for line in lines {
@@ -127,13 +121,12 @@ fn changed_image<'a, F: Files>(
 ) -> Result<Vec<u8>, NoChange<'a>>
     ensures { IfOk result (λ new. IsNewImage (F.bytes_of files.now) order.now.image.now order.now.target.now new.items) }
 {
-    let mut taken = take_lines(alloc, files, &order.lines)?;
+    let taken = take_lines(alloc, files, &order.lines)?;
     let image = read_file(alloc, files, order.image)?;
     if replaces_manifest(order, &image) {
         return Err(NoChange::InPlace);
     }
-    taken.script.extend_from_slice(b"end\n")?;
-    let (script, _) = read_script(alloc, &taken.script)?;
+    let script = script_of(alloc, &taken.lines)?;
     Ok(by_script(alloc, script, &taken.given, &image)?)
 }
 

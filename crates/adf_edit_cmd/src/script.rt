@@ -1,6 +1,6 @@
 // Scripts: lines of edits, perhaps one or two that set something of the whole volume, and a line `end`. Each ends in a line feed.
 
-ghost use Rattle.std.specs.Prelude.{◌≡◌, ◌<◌, ◌≤◌, ◌^◌, IfOk, IfErr, length, map, option_map};
+ghost use Rattle.std.specs.Prelude.{◌≡◌, ◌<◌, ◌≤◌, ◌^◌, IfOk, IfErr, OnOk, length, map, option_map};
 ghost use Rattle.adf_edits.specs.Edits.{edit_value};
 ghost use Rattle.adf_edit_cmd.specs.Script.{IsNextRead, IsScript, IsScriptFault, behind_file, ending, files_len, is_end};
 ghost use Rattle.adf_edit_cmd.specs.Script.{boot_asked, bytes_taken, caches_by, ended, ended_next, letters_asked, letters_by, with_boot_edit};
@@ -218,6 +218,35 @@ fn read_next(alloc: Global, edits: &mut Vec<Edit>, line: &[u8]) -> Result<(), St
         Err(PathFault::BadText) => Err(Stop::BadLine(number)),
         Err(PathFault::NoMemory) => Err(Stop::NoMemory),
     }
+}
+
+impl Script {
+    // Adds what a line asks for: an edit, or a setting, behind which no edit stands.
+    fn add_line(&mut self, alloc: Global, line: &[u8]) -> Result<(), Stop>
+        requires few { length self.old.edits ≤ MOST_LINES }
+        ensures few { OnOk result (length self.new.edits ≤ MOST_LINES) }
+    {
+        if let Some(settings) = self.settings.with_line(line) {
+            self.settings = settings;
+            return Ok(());
+        }
+        if self.settings != NO_SETTINGS {
+            return Err(Stop::BadLine(self.edits.len() + 1));
+        }
+        read_next(alloc, &mut self.edits, line)
+    }
+}
+
+/// The script of lines without `end`. `BadLine` names the first that says no edit, is one too many, or sets something before an edit.
+pub fn script_of(alloc: Global, lines: &[String]) -> Result<Script, Stop> {
+    let mut script = Script {
+        edits: Vec::new(alloc),
+        settings: NO_SETTINGS,
+    };
+    for line in lines {
+        script.add_line(alloc, line.as_bytes())?;
+    }
+    Ok(script)
 }
 
 /// Reads a script, and the bytes behind its line `end`. `BadLine` names the first line before its end that says no edit, or is
