@@ -12,8 +12,5 @@ pub mod PathSteps
 pub mod WholeFiles
 -- what is left of files
 pub mod LeftBytes
--- where deleted files go
-pub mod RoomSteps
--- what is kept of them
+-- what is kept of deleted files
 pub mod KeptSteps
-pub mod KeptTrees

@@ -6,9 +6,7 @@ ghost use Rattle.adf_names.specs.declared.kind.Kind.TheVariants.{Ffs};
 ghost use Rattle.adf_volume.specs.Image.{content, kind_of, word_in};
 ghost use Rattle.adf_findings.specs.Members.{has_mark};
 ghost use Rattle.adf_deleted.specs.{Claims.has_pointer, Deletions.state_of, Known.KnownValue, Known.is_deleted};
-ghost use Rattle.adf_deleted.specs.Kept.{AreDeletedIn, deleted_kept, whole_files};
 ghost use Rattle.adf_deleted.specs.Known.{is_reached, known_blocks};
-ghost use Rattle.adf_tree.specs.{Additions.Addition, Additions.IsTreeOfBy, Tree.Tree};
 ghost use Rattle.adf_rescue.specs.Rescue.{Basis};
 ghost use Rattle.adf_volume.specs.Walk.{Walk};
 ghost use Rattle.adf_deleted.specs.Left.{data_standing, deleted_bytes, deleted_gaps, has_file_type};
@@ -45,17 +43,4 @@ pub fn deleted_bytes_lie_apart()
     ensures content { (k : KnownValue) (h : ℕ) → has_file_type k.image h ≡ true → state_of k h ≡ Whole
         → length k.image ≡ 512 * blocks k.image → word_in k.image h SIZE ≤ length k.image
         → deleted_bytes k h ≡ content k.image (kind_of k.image) h (pointers k.image h) }
-{}
-
-/// What a rescue keeps of deleted files comes behind all that stands: the tree with it is that of the additions without it, and
-/// then of a directory in the root and the whole deleted files in it. So each path that stands has what it had, and the entries
-/// of a directory keep their order. Each file has the bytes of a whole deleted file, none of which is of a block that a survey
-/// has. Where no deleted file is whole, nothing is added.
-pub fn deleted_files_come_behind()
-    ensures tree { (k : KnownValue) (n : ℕ) (t : Tree) (xs : List Addition) → IsTreeOfBy t.letters t.entries xs
-        → IsTreeOfBy t.letters (deleted_kept k n t).tree.entries (xs ++ (deleted_kept k n t).added) }
-    ensures rest { (k : KnownValue) (n : ℕ) (t : Tree)
-        → (deleted_kept k n t).tree ≡ record t { entries = (deleted_kept k n t).tree.entries } }
-    ensures files { (k : KnownValue) (n : ℕ) (t : Tree) → AreDeletedIn k (deleted_kept k n t).added }
-    ensures none { (k : KnownValue) (n : ℕ) (t : Tree) → whole_files k ≡ [] → (deleted_kept k n t).tree ≡ t }
 {}
