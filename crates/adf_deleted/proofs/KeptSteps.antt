@@ -101,7 +101,7 @@ pub file_more : (k : KnownValue) (dir : List (List ℕ)) (a b c : NewVolume) (h 
 file_more k dir a b c h true whole (ys, are, adds) puts =
     let x : Addition = record { path = dir ++ puts.name ∷ []; meta = meta_stated (block k.image h); body = File (deleted_bytes k h) } in (
       ys ++ x ∷ [],
-      All-push (λ y. (g : ℕ) × IsWholeIn k dir y g) ys x are (h, record { deleted = whole.0; state = whole.1; name = puts.name; path = refl; meta = refl; body = refl }),
+      All-push (λ y. (g : ℕ) × IsWholeIn k dir y g) ys x are (h, record { deleted = whole.0; whole = whole.1; name = puts.name; path = refl; meta = refl; body = refl }),
       adds_more a b c ys (x ∷ []) adds puts.adds,
     )
 file_more k dir a b c h false whole (ys, are, adds) puts =

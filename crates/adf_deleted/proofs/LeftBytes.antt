@@ -14,10 +14,9 @@ use Rattle.adf_volume.proofs.{Lists.at_below, Lists.at_index_or, PieceBytes.piec
 use Rattle.adf_findings.specs.Members.{has_mark}
 use Rattle.adf_findings.specs.Remains.{blocks_stated, bytes_in, bytes_left, gaps_left, size_stated, with_lost}
 use Rattle.adf_rescue.specs.{Rescue.Basis, declared.standing.Input.Input}
-use Rattle.adf_deleted.specs.{Deletions.state_of, Known.KnownValue, Known.is_reached, Known.known_blocks, Known.known_asked, Pointers.pointers}
+use Rattle.adf_deleted.specs.{Deletions.IsWhole, Known.KnownValue, Known.is_reached, Known.known_blocks, Known.known_asked, Pointers.pointers}
 use Rattle.adf_deleted.specs.{Left.data_standing, Left.deleted_bytes, Left.deleted_gaps, Left.has_file_type, Standing.stands}
-use Rattle.adf_deleted.specs.declared.deletions.State.TheVariants.{Whole}
-use Rattle.adf_deleted.proofs.{Marks.mark_of, WholeFiles.whole_named, WholeFiles.whole_stands}
+use Rattle.adf_deleted.proofs.Marks.{mark_of}
 
 module _ (k : KnownValue) (h i : ℕ) where
   kept : (t : Bool) (b c : ℕ) → stands k h i c ≡ t → cond t (Some c) None ≡ Some b → stands k h i b ≡ true
@@ -86,16 +85,16 @@ unfolding count chunk
 no_more Ofs m n le = omega arith
 no_more Ffs m n le = omega arith
 
-module _ (k : KnownValue) (h : ℕ) (file : has_file_type k.image h ≡ true) (whole : state_of k h ≡ Whole) where
+module _ (k : KnownValue) (h : ℕ) (file : has_file_type k.image h ≡ true) (whole : IsWhole k h) where
   named : length (pointers k.image h) ≡ data_count k.image h
-  named = whole_named k h whole ∙ cond-true (has_file_type k.image h) (data_count k.image h) 0 file
+  named = whole.named ∙ cond-true (has_file_type k.image h) (data_count k.image h) 0 file
 
   few : blocks_stated k.image h ≤ data_count k.image h
   few = no_more (kind_of k.image) (size_stated k.image h) (word_in k.image h SIZE) (omega arith)
 
   whole_given : (i : ℕ) → i < length (pointers k.image h) → data_standing k h i ≡ Some (slice_index (pointers k.image h) i)
   whole_given i inside =
-      let b : ℕ = slice_index (pointers k.image h) i in cond-true (stands k h i b) (Some b) None (whole_stands k h whole i inside)
+      let b : ℕ = slice_index (pointers k.image h) i in cond-true (stands k h i b) (Some b) None (whole.stands i inside)
 
   pub whole_gapless : deleted_gaps k h ≡ []
   whole_gapless =

@@ -4,7 +4,7 @@ pub mod Marks
 pub mod Tables
 -- claims on blocks
 pub mod ClaimSteps
--- what stands, and what speaks for files
+-- the names in headers
 pub mod States
 -- the names above headers
 pub mod PathSteps

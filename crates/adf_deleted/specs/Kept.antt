@@ -11,8 +11,7 @@ use Rattle.adf_drafts.specs.{declared.draft.Room.Room, Draft.DraftValue, Draft.I
 use Rattle.adf_blocks.specs.HeadBlock.{meta_stated}
 use Rattle.adf_build.specs.Plan.{entries_blocks}
 use Rattle.adf_rescue.specs.Salvage.{free_blocks}
-use Rattle.adf_deleted.specs.{Deletions.state_of, Known.KnownValue, Left.deleted_bytes, Left.is_deleted_file}
-use Rattle.adf_deleted.specs.declared.deletions.State.TheVariants.{Whole}
+use Rattle.adf_deleted.specs.{Deletions.IsWhole, Known.KnownValue, Left.deleted_bytes, Left.is_deleted_file}
 use Rattle.adf_deleted.specs.{declared.kept.Kept.Kept, declared.new_volume.NewVolume.NewVolume}
 
 -- the new volume is counted: its kind, and the blocks that are left beside its entries
@@ -50,12 +49,12 @@ PutsEntry dir meta body a b false = Adds [] a b
 
 -- block h is the header of a whole deleted file
 abbrev pub IsWholeFile : KnownValue → ℕ → Type 0
-IsWholeFile k h = (is_deleted_file k h ≡ true) × (state_of k h ≡ Whole)
+IsWholeFile k h = (is_deleted_file k h ≡ true) × IsWhole k h
 
 -- an addition is a whole deleted file, in this directory, with what stands of it
 pub record IsWholeIn (k : KnownValue) (dir : List (List ℕ)) (x : Addition) (h : ℕ) : Type 0 where
   pub deleted : is_deleted_file k h ≡ true
-  pub state : state_of k h ≡ Whole
+  pub whole : IsWhole k h
   pub name : List ℕ
   pub path : x.path ≡ dir ++ name ∷ []
   pub meta : x.meta ≡ meta_stated (block k.image h)
