@@ -8,7 +8,7 @@ use Rattle.std.proofs.lemmas.List.{length-replicate, take_more}
 use Rattle.std.specs.Prelude.{nat_le, nat_lt, slice_index_or}
 use Rattle.adf_blocks.specs.Sizes.{blocks, in_range}
 use Rattle.adf_deleted.specs.{declared.claims.Claim.Claim, Known.KnownValue, Known.is_deleted, Pointers.pointers}
-use Rattle.adf_deleted.specs.Claims.{AreClaims, AreFirstClaims, Claims, IsKept, NoneClaims, claim_at, has_pointer, other_claimant, unclaimed}
+use Rattle.adf_deleted.specs.Claims.{AreClaims, AreFirstClaims, Claims, IsClaimKept, NoneClaims, claim_at, has_pointer, other_claimant, unclaimed}
 
 -- pointers that were passed
 
@@ -115,7 +115,7 @@ module _ (k : KnownValue) where
           let same : h ≡ x = omega arith in
           let claims : (is_deleted k h && has_pointer (pointers k.image h) b) ≡ true =
           subst (λ y. (is_deleted k y && has_pointer (pointers k.image y) b) ≡ true) (sym same) (and_from (is_deleted k x) _ deleted names) in
-          subst (λ y. IsKept (claim_at new b) y) same ((more b (omega (arith, are.length_is))).here claims (are.ordered b inside))
+          subst (λ y. IsClaimKept (claim_at new b) y) same ((more b (omega (arith, are.length_is))).here claims (are.ordered b inside))
     ];
   }
 
@@ -127,7 +127,7 @@ module _ (k : KnownValue) where
       let high = (and_parts (nat_le 2 n) (nat_lt n (blocks k.image)) range).1 in (grind (arith, nat_tests), grind (arith, nat_tests))
 
   -- one who has claimed a block is its other claimant, or there is one
-  none_other : (c : Claim) (h x : ℕ) → other_claimant c h ≡ 0 → IsKept c x → x ≢ h → ⊥
+  none_other : (c : Claim) (h x : ℕ) → other_claimant c h ≡ 0 → IsClaimKept c x → x ≢ h → ⊥
   none_other c h x none kept ne = elim (cases_Bool (c.first == h)) [
     | inl is ↦
         let second : c.second ≡ 0 = sym (cond-true (c.first == h) c.second c.first is) ∙ none in

@@ -16,7 +16,7 @@ use Rattle.adf_build.specs.{Building.IsBuildable, Plan.entries_blocks}
 use Rattle.adf_rescue.specs.Salvage.{entry_cost, free_blocks}
 use Rattle.adf_rescue.proofs.{Steps.buildable, TreeBlocks.added_blocks}
 use Rattle.adf_deleted.specs.{Known.KnownValue, Left.deleted_bytes}
-use Rattle.adf_deleted.specs.Kept.{Adds, ComesBehind, IsCounted, IsPut, IsRoomIn, IsWholeFile, IsWholeIn, KeepsDeleted, KeepsFiles, PutsEntry}
+use Rattle.adf_deleted.specs.Kept.{Adds, ComesBehind, IsCounted, IsPutIn, IsRoomIn, IsWholeDeletedFile, IsWholeIn, KeepsDeleted, KeepsFiles, PutsEntry}
 use Rattle.adf_deleted.specs.declared.new_volume.NewVolume.{NewVolume}
 
 -- a tree behind another one
@@ -96,7 +96,7 @@ room_somewhere d dir None is = tt
 room_somewhere d dir (Some room) is = (dir ++ is.0 ∷ [], is.1)
 
 -- one more file is kept, or left out
-pub file_more : (k : KnownValue) (dir : List (List ℕ)) (a b c : NewVolume) (h : ℕ) (put : Bool) → IsWholeFile k h → KeepsFiles k dir a b
+pub file_more : (k : KnownValue) (dir : List (List ℕ)) (a b c : NewVolume) (h : ℕ) (put : Bool) → IsWholeDeletedFile k h → KeepsFiles k dir a b
     → PutsEntry dir (meta_stated (block k.image h)) (File (deleted_bytes k h)) b c put → KeepsFiles k dir a c
 file_more k dir a b c h true whole (ys, are, adds) puts =
     let x : Addition = record { path = dir ++ puts.name ∷ []; meta = meta_stated (block k.image h); body = File (deleted_bytes k h) } in (
@@ -108,7 +108,7 @@ file_more k dir a b c h false whole (ys, are, adds) puts =
     (ys, are, subst (λ (zs : List Addition). Adds zs a c) (append-nil ys) (adds_more a b c ys [] adds puts))
 
 -- the directory with its files
-pub directory_more : (k : KnownValue) (meta : Meta) (a b c : NewVolume) (p : IsPut [] meta Dir a b) → KeepsFiles k (p.name ∷ []) b c → KeepsDeleted k a c
+pub directory_more : (k : KnownValue) (meta : Meta) (a b c : NewVolume) (p : IsPutIn [] meta Dir a b) → KeepsFiles k (p.name ∷ []) b c → KeepsDeleted k a c
 directory_more k meta a b c p (ys, are, adds) =
     let x : Addition = record { path = p.name ∷ []; meta = meta; body = Dir } in
     (x ∷ ys, ((p.name, refl), refl, are), adds_more a b c (x ∷ []) ys p.adds adds)

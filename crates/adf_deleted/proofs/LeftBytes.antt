@@ -14,7 +14,7 @@ use Rattle.adf_volume.proofs.{Lists.at_below, Lists.at_index_or, PieceBytes.piec
 use Rattle.adf_findings.specs.Members.{has_mark}
 use Rattle.adf_findings.specs.Remains.{blocks_stated, bytes_in, bytes_left, gaps_left, size_stated, with_lost}
 use Rattle.adf_rescue.specs.{Rescue.Basis, declared.standing.Input.Input}
-use Rattle.adf_deleted.specs.{Deletions.IsWhole, Known.KnownValue, Known.is_reached, Known.known_blocks, Known.known_asked, Pointers.pointers}
+use Rattle.adf_deleted.specs.{Deletions.IsWholeDeleted, Known.KnownValue, Known.is_reached, Known.known_blocks, Known.known_asked, Pointers.pointers}
 use Rattle.adf_deleted.specs.{Left.data_standing, Left.deleted_bytes, Left.deleted_gaps, Left.has_file_type, Standing.stands}
 use Rattle.adf_deleted.proofs.Marks.{mark_of}
 
@@ -85,7 +85,7 @@ unfolding count chunk
 no_more Ofs m n le = omega arith
 no_more Ffs m n le = omega arith
 
-module _ (k : KnownValue) (h : ℕ) (file : has_file_type k.image h ≡ true) (whole : IsWhole k h) where
+module _ (k : KnownValue) (h : ℕ) (file : has_file_type k.image h ≡ true) (whole : IsWholeDeleted k h) where
   named : length (pointers k.image h) ≡ data_count k.image h
   named = whole.named ∙ cond-true (has_file_type k.image h) (data_count k.image h) 0 file
 

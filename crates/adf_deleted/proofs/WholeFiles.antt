@@ -7,7 +7,7 @@ use Rattle.adf_blocks.specs.Sizes.{blocks, in_range}
 use Rattle.adf_volume.specs.Walk.{Walk}
 use Rattle.adf_findings.specs.Members.{has_mark}
 use Rattle.adf_rescue.specs.Rescue.{Basis}
-use Rattle.adf_deleted.specs.{Deletions.IsWhole, Known.KnownValue, Known.is_reached, Known.known_blocks, Pointers.pointers, Standing.stands}
+use Rattle.adf_deleted.specs.{Deletions.IsWholeDeleted, Known.KnownValue, Known.is_reached, Known.known_blocks, Pointers.pointers, Standing.stands}
 use Rattle.adf_deleted.proofs.Marks.{mark_of}
 
 -- a block where data stands is in the image
@@ -16,12 +16,12 @@ standing_inside k h i b is =
     let range = (and_parts (in_range k.image b) _ is).0 in
     let high = (and_parts (nat_le 2 b) (nat_lt b (blocks k.image)) range).1 in grind (arith, nat_tests)
 
-pub whole_unreached : (k : KnownValue) (h i : ℕ) → IsWhole k h → i < length (pointers k.image h)
+pub whole_unreached : (k : KnownValue) (h i : ℕ) → IsWholeDeleted k h → i < length (pointers k.image h)
     → has_mark k.reached (slice_index (pointers k.image h) i) ≡ false
 whole_unreached k h i whole inside = let is = whole.stands i inside in grind (arith, common_steps, and_parts)
 
 -- no survey has a block of a whole file
-pub whole_unowned : (image : List ℕ) (w : Walk) (l : Option Basis) (held h i : ℕ) → IsWhole (known_blocks image w l held) h
+pub whole_unowned : (image : List ℕ) (w : Walk) (l : Option Basis) (held h i : ℕ) → IsWholeDeleted (known_blocks image w l held) h
     → i < length (pointers image h) → is_reached w l (slice_index (pointers image h) i) ≡ false
 whole_unowned image w l held h i whole inside =
     let k : KnownValue = known_blocks image w l held in

@@ -14,8 +14,8 @@ abbrev pub unclaimed : Claim
 unclaimed = record { first = 0; second = 0 }
 
 -- the claims on a block that header x names: there is a first one, which is x, or there is a second one too
-abbrev pub IsKept : Claim → ℕ → Type 0
-IsKept c x = (c.first ≢ 0) × ((c.first ≡ x) ⊎ (c.second ≢ 0))
+abbrev pub IsClaimKept : Claim → ℕ → Type 0
+IsClaimKept c x = (c.first ≢ 0) × ((c.first ≡ x) ⊎ (c.second ≢ 0))
 
 -- there is no second claim without a first one
 abbrev pub IsOrdered : Claim → Type 0
@@ -24,8 +24,8 @@ IsOrdered c = c.second ≢ 0 → c.first ≢ 0
 -- header h claims a block, if it names it, beside what has claimed it
 pub record Claims (h : ℕ) (names : Bool) (c d : Claim) : Type 0 where
   pub ordered : IsOrdered c → IsOrdered d
-  pub kept : (x : ℕ) → IsKept c x → IsKept d x
-  pub here : names ≡ true → IsOrdered c → IsKept d h
+  pub kept : (x : ℕ) → IsClaimKept c x → IsClaimKept d x
+  pub here : names ≡ true → IsOrdered c → IsClaimKept d h
 
 -- the claimant that is not header h; 0 if there is none
 abbrev pub other_claimant : Claim → ℕ → ℕ
@@ -39,7 +39,7 @@ claim_at claims b = slice_index_or claims b unclaimed
 pub record AreFirstClaims (k : KnownValue) (n : ℕ) (claims : List Claim) : Type 0 where
   pub length_is : length claims ≡ blocks k.image
   pub ordered : (b : ℕ) → b < blocks k.image → IsOrdered (claim_at claims b)
-  pub kept : (b x : ℕ) → b < blocks k.image → x < n → is_deleted k x ≡ true → has_pointer (pointers k.image x) b ≡ true → IsKept (claim_at claims b) x
+  pub kept : (b x : ℕ) → b < blocks k.image → x < n → is_deleted k x ≡ true → has_pointer (pointers k.image x) b ≡ true → IsClaimKept (claim_at claims b) x
 
 -- these are claims on each block, by each deleted header that names it
 abbrev pub AreClaims : KnownValue → List Claim → Type 0

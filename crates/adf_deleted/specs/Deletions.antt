@@ -8,7 +8,7 @@ use Rattle.adf_deleted.specs.{Claims.has_pointer, Known.KnownValue, Known.is_del
 use Rattle.adf_deleted.specs.Standing.{stands}
 
 -- the file is whole: its table names all the blocks that its size needs, each stands, and on FFS no other deleted header names one of them
-pub record IsWhole (k : KnownValue) (h : ℕ) : Type 0 where
+pub record IsWholeDeleted (k : KnownValue) (h : ℕ) : Type 0 where
   pub named : length (pointers k.image h) ≡ blocks_asked k.image h
   pub stands : (i : ℕ) → i < length (pointers k.image h) → stands k h i (slice_index (pointers k.image h) i) ≡ true
   pub alone : kind_of k.image ≡ Ffs → (x i : ℕ) → is_deleted k x ≡ true → x ≢ h → i < length (pointers k.image h)

@@ -11,7 +11,7 @@ use Rattle.adf_drafts.specs.{declared.draft.Room.Room, Draft.DraftValue, Draft.I
 use Rattle.adf_blocks.specs.HeadBlock.{meta_stated}
 use Rattle.adf_build.specs.Plan.{entries_blocks}
 use Rattle.adf_rescue.specs.Salvage.{free_blocks}
-use Rattle.adf_deleted.specs.{Deletions.IsWhole, Known.KnownValue, Left.deleted_bytes, Left.is_deleted_file}
+use Rattle.adf_deleted.specs.{Deletions.IsWholeDeleted, Known.KnownValue, Left.deleted_bytes, Left.is_deleted_file}
 use Rattle.adf_deleted.specs.{declared.kept.Kept.Kept, declared.new_volume.NewVolume.NewVolume}
 
 -- the new volume is counted: its kind, and the blocks that are left beside its entries
@@ -37,24 +37,24 @@ pub record Adds (ys : List Addition) (a b : NewVolume) : Type 0 where
   pub directories : (dir : List (List ℕ)) (m : ℕ) → IsDirectoryOf a.draft dir m → IsDirectoryOf b.draft dir m
 
 -- an entry is put into a directory of a new volume
-pub record IsPut (dir : List (List ℕ)) (meta : Meta) (body : Body) (a b : NewVolume) : Type 0 where
+pub record IsPutIn (dir : List (List ℕ)) (meta : Meta) (body : Body) (a b : NewVolume) : Type 0 where
   pub name : List ℕ
   pub adds : Adds (record { path = dir ++ name ∷ []; meta = meta; body = body } ∷ []) a b
   pub directory : body ≡ Dir → IsDirectoryOf b.draft (dir ++ name ∷ []) (length b.draft.nodes)
 
 -- so it is, or nothing is put
 abbrev pub PutsEntry : (dir : List (List ℕ)) → Meta → Body → (a b : NewVolume) → (put : Bool) → Type 0
-PutsEntry dir meta body a b true = IsPut dir meta body a b
+PutsEntry dir meta body a b true = IsPutIn dir meta body a b
 PutsEntry dir meta body a b false = Adds [] a b
 
 -- block h is the header of a whole deleted file
-abbrev pub IsWholeFile : KnownValue → ℕ → Type 0
-IsWholeFile k h = (is_deleted_file k h ≡ true) × IsWhole k h
+abbrev pub IsWholeDeletedFile : KnownValue → ℕ → Type 0
+IsWholeDeletedFile k h = (is_deleted_file k h ≡ true) × IsWholeDeleted k h
 
 -- an addition is a whole deleted file, in this directory, with what stands of it
 pub record IsWholeIn (k : KnownValue) (dir : List (List ℕ)) (x : Addition) (h : ℕ) : Type 0 where
   pub deleted : is_deleted_file k h ≡ true
-  pub whole : IsWhole k h
+  pub whole : IsWholeDeleted k h
   pub name : List ℕ
   pub path : x.path ≡ dir ++ name ∷ []
   pub meta : x.meta ≡ meta_stated (block k.image h)

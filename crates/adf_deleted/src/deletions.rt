@@ -4,7 +4,7 @@ ghost use Rattle.std.specs.Prelude.{◌≡◌, ◌<◌, IfOk, map, true};
 ghost use Rattle.adf_base.specs.Words.{block};
 ghost use Rattle.adf_blocks.specs.Sizes.{blocks};
 ghost use Rattle.adf_names.specs.declared.kind.Kind.TheVariants.{Ffs};
-ghost use Rattle.adf_deleted.specs.{Claims.NoneClaims, Deletions.IsWhole};
+ghost use Rattle.adf_deleted.specs.{Claims.NoneClaims, Deletions.IsWholeDeleted};
 ghost use Rattle.adf_deleted.specs.declared.deletions.State.TheVariants.{Whole};
 ghost use Rattle.adf_deleted.specs.{Known.is_deleted, Paths.former_path};
 ghost use Rattle.adf_deleted.specs.Left.{deleted_bytes, deleted_gaps, is_deleted_file};
@@ -151,7 +151,7 @@ impl Deletions<'_> {
     /// What speaks for the file with header `h`. `NoMemory` if an allocation fails.
     pub fn state(&self, alloc: Global, h: u32) -> Result<State, NoMemory>
         requires { h < blocks self.now.image }
-        ensures { IfOk result (λ s. s ≡ Whole → IsWhole self.now h) }
+        ensures { IfOk result (λ s. s ≡ Whole → IsWholeDeleted self.now h) }
     {
         let blocks = pointers(alloc, self.known.image, &self.extensions, h)?;
         let lost = self.known.overwritten(h, &blocks);

@@ -7,7 +7,7 @@ ghost use Rattle.adf_build.specs.Building.{IsBuildable};
 ghost use Rattle.adf_blocks.specs.{HeadBlock.meta_stated, Sizes.blocks};
 ghost use Rattle.adf_drafts.specs.Draft.{IsDirectoryOf};
 ghost use Rattle.adf_tree.specs.declared.entry.Body.TheVariants.{File};
-ghost use Rattle.adf_deleted.specs.Kept.{IsCounted, IsKeptBeside, IsRoomIn, IsWholeFile, KeepsDeleted, KeepsFiles, PutsEntry};
+ghost use Rattle.adf_deleted.specs.Kept.{IsCounted, IsKeptBeside, IsRoomIn, IsWholeDeletedFile, KeepsDeleted, KeepsFiles, PutsEntry};
 ghost use Rattle.adf_deleted.specs.Left.{deleted_bytes};
 ghost use Rattle.adf_deleted.specs.declared.deletions.State.TheVariants.{Whole};
 
@@ -55,7 +55,7 @@ fn is_whole(state: State) -> bool
 impl Deletions<'_> {
     // Whether block `h` is the header of a whole deleted file.
     fn is_whole_file(&self, alloc: Global, h: u32) -> Result<bool, NoMemory>
-        ensures { IfOk result (λ b. b ≡ true → IsWholeFile self.now h) }
+        ensures { IfOk result (λ b. b ≡ true → IsWholeDeletedFile self.now h) }
     {
         if !self.is_file(h) {
             return Ok(false);
@@ -66,7 +66,7 @@ impl Deletions<'_> {
 
     // The headers of the whole deleted files.
     fn whole_files(&self, alloc: Global) -> Result<Vec<u32>, NoMemory>
-        ensures files { IfOk result (λ v. All (IsWholeFile self.now) v.items) }
+        ensures files { IfOk result (λ v. All (IsWholeDeletedFile self.now) v.items) }
         ensures inside { IfOk result (λ v. All (λ h. h < blocks self.now.image) v.items) }
     {
         let mut files = Vec::new(alloc);
@@ -110,7 +110,7 @@ impl Deletions<'_> {
         directory: Node,
         files: &[u32],
     ) -> Result<Vec<u32>, NoMemory>
-        requires whole { All (IsWholeFile self.now) files.now }
+        requires whole { All (IsWholeDeletedFile self.now) files.now }
         requires inside { All (λ h. h < blocks self.now.image) files.now }
         requires counted { IsCounted volume.old }
         requires directory { (dir : List (List ℕ)) × IsDirectoryOf volume.old.draft dir directory }
@@ -135,7 +135,7 @@ impl Deletions<'_> {
         home: Option<Room>,
         files: Vec<u32>,
     ) -> Result<Vec<u32>, NoMemory>
-        requires whole { All (IsWholeFile self.now) files.items }
+        requires whole { All (IsWholeDeletedFile self.now) files.items }
         requires inside { All (λ h. h < blocks self.now.image) files.items }
         requires counted { IsCounted volume.old }
         requires home { IsRoomIn volume.old.draft [] home }

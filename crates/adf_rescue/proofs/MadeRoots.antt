@@ -14,7 +14,7 @@ use Rattle.adf_blocks.proofs.RootLaws.{length_root_block, root_block-secondary}
 use Rattle.adf_blocks.proofs.RootLaws.{root_block-type}
 use Rattle.adf_volume.specs.{Image.root_of, Start.is_image_len}
 use Rattle.adf_findings.specs.Start.{has_root_type}
-use Rattle.adf_rescue.specs.{Changes.ChangesOnly, MadeRoot.IsRooted, MadeRoot.has_root}
+use Rattle.adf_rescue.specs.{Changes.ChangesOnly, MadeRoot.IsGivenRoot, MadeRoot.has_root}
 use Rattle.adf_rescue.proofs.ChangedBlocks.{block_changes, changes_none}
 
 -- an image of an allowed size is whole blocks, at least 4
@@ -96,13 +96,13 @@ module _ (image : List ℕ) (b i v k : ℕ) (bs one two three : List ℕ) (room 
 
 -- a root that is written where there was none
 
-pub rooted_as_is : (x : List ℕ) → has_root x ≡ true → IsRooted x x
+pub rooted_as_is : (x : List ℕ) → has_root x ≡ true → IsGivenRoot x x
 rooted_as_is x whole = record { kept = λ h. refl; changes = changes_none (root_of x) x; root = whole }
 
 pub rooted_anew : (x : List ℕ) (at flag : ℕ) (one two three : List ℕ) (r : RootFields) → has_root x ≡ false → is_image_len (length x) ≡ true
     → at ≡ root_of x → FitsRoot r → one ≡ with_block x at (root_block r)
     → two ≡ with_block one at (with_word (block one at) BITMAP_FLAG flag) → three ≡ with_block two at (sealed CHECKSUM (block two at))
-    → IsRooted x three
+    → IsGivenRoot x three
 rooted_anew x at flag one two three r none len place fits first second third =
     let w = root_within x len in
     let room : at * 512 + 512 ≤ length x = omega (arith, place, w.whole) in

@@ -4,7 +4,7 @@ use Rattle.std.proofs.Common.{◌==◌, ◌≡◌, ◌≤◌, ℕ, ◌+◌, Bool
 use Rattle.std.proofs.lemmas.Bool.{and_left, and_right, cases_Bool, eq-eqb, eqb-true, not_from_true}
 use Rattle.adf_base.specs.Words.{block}
 use Rattle.adf_volume.specs.Image.{root_of}
-use Rattle.adf_rescue.specs.{Changes.ChangesOnly, Claims.claims_header, Pruned.IsPruned, Pruned.IsRead, Pruned.is_in_doubt}
+use Rattle.adf_rescue.specs.{Changes.ChangesOnly, Claims.claims_header, Pruned.IsPruned, Pruned.IsReadFrom, Pruned.is_in_doubt}
 use Rattle.adf_rescue.proofs.OpenedImages.{length_opened}
 
 -- whether a block is in doubt depends on itself and the length alone
@@ -43,6 +43,6 @@ pub root_kept : (x y : List ℕ) → IsPruned x y → block y (root_of x) ≡ bl
 root_kept x y h = h.sound (root_of x) (root_sound x)
 
 -- the image that is read is as long as the input
-pub length_read : (refused : Bool) (input read : List ℕ) → IsRead refused input read → length read ≡ length input
+pub length_read : (refused : Bool) (input read : List ℕ) → IsReadFrom refused input read → length read ≡ length input
 length_read true input read (begun, opens, prunes) = prunes.size ∙ length_opened input begun opens
 length_read false input read same = ap length same

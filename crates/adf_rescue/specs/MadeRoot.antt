@@ -37,7 +37,7 @@ is_like_root b =
     (is_short && is_root) || ((is_short || is_root) && (word b HASH_SIZE == SLOTS))
 
 -- an image is this one with a root in its middle, if it has no whole root there
-pub record IsRooted (x y : List ℕ) : Type 0 where
+pub record IsGivenRoot (x y : List ℕ) : Type 0 where
   pub kept : has_root x ≡ true → y ≡ x
   pub changes : ChangesOnly (root_of x) x y
   pub root : has_root y ≡ true

@@ -8,7 +8,7 @@ use Rattle.adf_blocks.specs.declared.layout.TheConstants.{DATA_HEAD, OWN_KEY, SE
 use Rattle.adf_blocks.specs.Sizes.{blocks}
 use Rattle.adf_volume.specs.{Image.word_in, Start.is_image_len}
 use Rattle.adf_boot_blocks.specs.BootBlocks.{begins_with_dos}
-use Rattle.adf_rescue.specs.MadeRoot.{IsRooted, has_root}
+use Rattle.adf_rescue.specs.MadeRoot.{IsGivenRoot, has_root}
 
 -- block b says that it is a file's header: by its types, its own key and its sum
 abbrev pub says_file : List ℕ → ℕ → Bool
@@ -58,4 +58,4 @@ is_mended image = is_image_len (length image) && not (states_type image && has_r
 -- an image is this one as a rescue opens it: where it must be mended, with a beginning and a root
 pub record IsOpened (x y : List ℕ) : Type 0 where
   pub kept : is_mended x ≡ false → y ≡ x
-  pub mended : is_mended x ≡ true → IsRooted (with_boot_type x) y
+  pub mended : is_mended x ≡ true → IsGivenRoot (with_boot_type x) y

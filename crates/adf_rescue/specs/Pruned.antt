@@ -16,6 +16,6 @@ pub record IsPruned (x y : List ℕ) : Type 0 where
   pub odd : is_image_len (length x) ≡ false → y ≡ x
 
 -- the image that a rescue reads of an input: the input itself; but of one that is refused the opened image, pruned
-abbrev pub IsRead : (refused : Bool) → (input read : List ℕ) → Type 0
-IsRead true input read = (begun : List ℕ) × IsOpened input begun × IsPruned begun read
-IsRead false input read = read ≡ input
+abbrev pub IsReadFrom : (refused : Bool) → (input read : List ℕ) → Type 0
+IsReadFrom true input read = (begun : List ℕ) × IsOpened input begun × IsPruned begun read
+IsReadFrom false input read = read ≡ input

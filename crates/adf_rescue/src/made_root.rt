@@ -3,7 +3,7 @@
 ghost use Rattle.std.specs.Prelude.{◌≡◌, ◌<◌, length, true};
 ghost use Rattle.adf_blocks.specs.declared.layout.TheConstants.{ROOT_PAGES};
 ghost use Rattle.adf_volume.specs.Start.{is_image_len};
-ghost use Rattle.adf_rescue.specs.MadeRoot.{IsRooted, has_root, is_like_root, is_no_page_type, is_page_block, says_page};
+ghost use Rattle.adf_rescue.specs.MadeRoot.{IsGivenRoot, has_root, is_like_root, is_no_page_type, is_page_block, says_page};
 
 use crate::image::{block_in, root_of};
 use adf_base::{BLOCK_LEN, Block, seal, set_word};
@@ -136,7 +136,7 @@ fn map_ext_in(block: &Block<'_>) -> u32 {
 /// Writes the root that is made into the middle of an image that has no whole root there.
 pub fn make_root(image: &mut [u8])
     requires { is_image_len (length image.old) ≡ true }
-    ensures { IsRooted image.old image.new }
+    ensures { IsGivenRoot image.old image.new }
 {
     if has_root(image) {
         return;

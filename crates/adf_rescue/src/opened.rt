@@ -4,7 +4,7 @@ ghost use Rattle.std.specs.Prelude.{◌≡◌, ◌≢◌, ◌<◌, ◌≤◌, �
 ghost use Rattle.adf_base.specs.Words.{block};
 ghost use Rattle.adf_blocks.specs.Sizes.{blocks};
 ghost use Rattle.adf_volume.specs.{Image.root_of, Start.is_image_len};
-ghost use Rattle.adf_rescue.specs.MadeRoot.{IsRooted, has_root};
+ghost use Rattle.adf_rescue.specs.MadeRoot.{IsGivenRoot, has_root};
 ghost use Rattle.adf_rescue.specs.Opened.{IsOpened, has_data, is_mended, lacks_boot, lacks_root, says_data, says_file};
 ghost use Rattle.adf_rescue.specs.Opened.{states_type, type_byte, with_boot_type};
 
@@ -115,7 +115,7 @@ pub fn copied(alloc: Global, image: &[u8]) -> Result<Vec<u8>, NoMemory>
 #[tactic(auto, using(crate::proofs::OpenedImages::mended_long, crate::proofs::OpenedImages::begun_len))]
 fn mend(image: &mut [u8])
     requires { is_mended image.old ≡ true }
-    ensures { IsRooted (with_boot_type image.old) image.new }
+    ensures { IsGivenRoot (with_boot_type image.old) image.new }
 {
     begin(image);
     make_root(image);

@@ -2,7 +2,7 @@ use Rattle.std.proofs.Common.{ℕ, List, [], arith}
 use Rattle.std.specs.{Prelude.slice_index}
 use Rattle.std.proofs.lemmas.List.Elements.{All-nil}
 use Rattle.adf_drafts.specs.Draft.{IsDirectoryOf}
-use Rattle.adf_deleted.specs.Kept.{IsWholeFile, KeepsFiles}
+use Rattle.adf_deleted.specs.Kept.{IsWholeDeletedFile, KeepsFiles}
 use Rattle.adf_deleted.proofs.KeptSteps.{adds_none, file_more}
 use Rattle.adf_deleted.proofs.deletions.Deletions.keep_files.Goals as goal
 
@@ -20,7 +20,7 @@ loop-i-preserved c =
     let k = c.args.self.now in
     let hs = c.args.files.now in
     let h = slice_index hs c.loop-i.i in
-    let whole : IsWholeFile k h = c.requires.whole c.loop-i.i 0 (omega arith) in
+    let whole : IsWholeDeletedFile k h = c.requires.whole c.loop-i.i 0 (omega arith) in
     let one : (dir : List (List ℕ)) → IsDirectoryOf c.args.volume.now.draft dir c.args.directory
     → KeepsFiles k dir c.args.volume.now c.keep_file.new.volume = λ dir is.
     let (ys, are, adds) = c.loop-i.invariant.1 dir is in

@@ -1,7 +1,7 @@
 use Rattle.std.proofs.Common.{◌<◌, arith}
 use Rattle.std.proofs.lemmas.List.Elements.{All-push}
 use Rattle.adf_blocks.specs.Sizes.{blocks}
-use Rattle.adf_deleted.specs.Kept.{IsWholeFile}
+use Rattle.adf_deleted.specs.Kept.{IsWholeDeletedFile}
 use Rattle.adf_deleted.proofs.deletions.Deletions.whole_files.Goals.{then-branch+in_ok-push, else-branch}
 use Rattle.adf_deleted.proofs.deletions.Deletions.whole_files.Goals as goal
 
@@ -14,7 +14,7 @@ loop-h-preserved c =
       | then-branch+in_ok-push w ↦ (
         rw w.files-is
             (rw w.in_ok-push.ensures.items
-            (All-push (IsWholeFile k) c.loop-h.files.items h c.loop-h.invariant.0 (c.in_ok-is_whole_file.ensures w.if-branch.true))),
+            (All-push (IsWholeDeletedFile k) c.loop-h.files.items h c.loop-h.invariant.0 (c.in_ok-is_whole_file.ensures w.if-branch.true))),
         rw w.files-is (rw w.in_ok-push.ensures.items (All-push (λ g. g < blocks k.image) c.loop-h.files.items h c.loop-h.invariant.1 inside)),
       )
       | else-branch w ↦ (rw w.files-is c.loop-h.invariant.0, rw w.files-is c.loop-h.invariant.1)
