@@ -4,7 +4,7 @@ pub mod Marks
 pub mod Tables
 -- claims on blocks
 pub mod ClaimSteps
--- what stands, and what speaks for files
+-- the names in headers
 pub mod States
 -- the names above headers
 pub mod PathSteps
@@ -12,8 +12,5 @@ pub mod PathSteps
 pub mod WholeFiles
 -- what is left of files
 pub mod LeftBytes
--- where deleted files go
-pub mod RoomSteps
--- what is kept of them
+-- what is kept of deleted files
 pub mod KeptSteps
-pub mod KeptTrees

@@ -4,8 +4,6 @@ pub mod TreeBlocks
 pub mod Steps
 -- the losses of one more finding
 pub mod LossSteps
--- the entries kept in doubt, with one more verdict
-pub mod DoubtSteps
 -- data blocks that were given
 pub mod GivenBlocks
 -- the tree of the additions
@@ -28,17 +26,15 @@ pub mod PlainVolumes
 pub mod MadeRoots
 -- images that are opened
 pub mod OpenedImages
--- lost headers
+-- what the bitmap tells of a block
 pub mod LostHeaders
 -- headers that another one outranks
 pub mod OutrankedHeaders
--- the directories of lost headers
-pub mod DirectorySteps
--- hung images
+-- the names of directories that are made
 pub mod HungImages
+-- images of which one block changes
+pub mod ChangedBlocks
 -- pruned images
 pub mod PrunedImages
--- what stays in a pruned image
-pub mod PrunedKeeps
 -- what stands fits in a volume, and is laid there
 pub mod RescuedVolumes

@@ -3,8 +3,7 @@
 ghost use Rattle.std.specs.Prelude.{◌≡◌, ◌<◌, length, true};
 ghost use Rattle.adf_blocks.specs.declared.layout.TheConstants.{ROOT_PAGES};
 ghost use Rattle.adf_volume.specs.Start.{is_image_len};
-ghost use Rattle.adf_rescue.specs.MadeRoot.{flag_in, has_root, is_like_root, is_no_page_type, is_page_block, label_in};
-ghost use Rattle.adf_rescue.specs.MadeRoot.{map_ext_in, page_found, root_pages, rooted, says_page, slots_in, stamps_in};
+ghost use Rattle.adf_rescue.specs.MadeRoot.{IsGivenRoot, has_root, is_like_root, is_no_page_type, is_page_block, says_page};
 
 use crate::image::{block_in, root_of};
 use adf_base::{BLOCK_LEN, Block, seal, set_word};
@@ -56,7 +55,6 @@ pub fn says_page(image: &[u8], b: u32) -> bool
 fn page_found(image: &[u8], i: usize) -> u32
     requires sized { is_image_len (length image.now) ≡ true }
     requires few { i < ROOT_PAGES }
-    ensures { result ≡ page_found image.now i }
 {
     let root = root_of(image);
     let named = block_in(image, root as usize).word(FIRST_PAGE + i);
@@ -73,7 +71,6 @@ fn page_found(image: &[u8], i: usize) -> u32
 // The blocks of the pages that the root names.
 fn root_pages(image: &[u8]) -> [u32; ROOT_PAGES]
     requires { is_image_len (length image.now) ≡ true }
-    ensures { result ≡ root_pages image.now }
 {
     let mut pages = [0u32; ROOT_PAGES];
     for i in 0..ROOT_PAGES {
@@ -83,9 +80,7 @@ fn root_pages(image: &[u8]) -> [u32; ROOT_PAGES]
 }
 
 // The words of a root's table.
-fn slots_in(root: &Block<'_>) -> [u32; SLOTS as usize]
-    ensures { result ≡ slots_in root.now }
-{
+fn slots_in(root: &Block<'_>) -> [u32; SLOTS as usize] {
     let mut slots = [0u32; SLOTS as usize];
     for s in 0..SLOTS as usize {
         slots[s] = root.word(FIRST_SLOT + s);
@@ -103,9 +98,7 @@ pub fn is_like_root(block: &Block<'_>) -> bool
 }
 
 // The label of a block that is like a root; otherwise none.
-fn label_in(block: &Block<'_>) -> Label
-    ensures { result ≡ label_in block.now }
-{
+fn label_in(block: &Block<'_>) -> Label {
     if is_like_root(block) {
         label_stated(block)
     } else {
@@ -114,9 +107,7 @@ fn label_in(block: &Block<'_>) -> Label
 }
 
 // The dates of a block that is like a root; otherwise none.
-fn stamps_in(block: &Block<'_>) -> Stamps
-    ensures { result ≡ stamps_in block.now }
-{
+fn stamps_in(block: &Block<'_>) -> Stamps {
     if is_like_root(block) {
         stamps_stated(block)
     } else {
@@ -125,9 +116,7 @@ fn stamps_in(block: &Block<'_>) -> Stamps
 }
 
 // The bitmap flag of a block that is like a root; otherwise that of a valid bitmap.
-fn flag_in(block: &Block<'_>) -> u32
-    ensures { result ≡ flag_in block.now }
-{
+fn flag_in(block: &Block<'_>) -> u32 {
     if is_like_root(block) {
         block.word(BITMAP_FLAG)
     } else {
@@ -136,9 +125,7 @@ fn flag_in(block: &Block<'_>) -> u32
 }
 
 // The first bitmap extension block of a block that is like a root; otherwise none.
-fn map_ext_in(block: &Block<'_>) -> u32
-    ensures { result ≡ map_ext_in block.now }
-{
+fn map_ext_in(block: &Block<'_>) -> u32 {
     if is_like_root(block) {
         block.word(FIRST_MAP_EXT)
     } else {
@@ -147,10 +134,9 @@ fn map_ext_in(block: &Block<'_>) -> u32
 }
 
 /// Writes the root that is made into the middle of an image that has no whole root there.
-#[tactic(auto, using(crate::proofs::MadeRoots::whole_rooted))]
 pub fn make_root(image: &mut [u8])
     requires { is_image_len (length image.old) ≡ true }
-    ensures { image.new ≡ rooted image.old }
+    ensures { IsGivenRoot image.old image.new }
 {
     if has_root(image) {
         return;
