@@ -2,7 +2,7 @@
 
 ghost use Rattle.std.specs.Prelude.{◌≡◌, false};
 ghost use Rattle.adf_runs.specs.Streams.{is_device};
-ghost use Rattle.adf_subjects.specs.Growth.{Grows};
+ghost use Rattle.adf_subjects.specs.Growth.{OutputGrows};
 
 use adf_caches::{directory_header, wrong_caches};
 use adf_findings::{Survey, has_mark};
@@ -91,7 +91,7 @@ fn write_caches<W: Sink>(
     output: &mut W,
 ) -> Result<(), StreamFault>
     requires works { W.has_failed output.old ≡ false }
-    ensures grows { Grows (W.held output.old) (W.held output.new) }
+    ensures grows { OutputGrows (W.held output.old) (W.held output.new) }
     ensures failed { W.has_failed output.new ≡ is_device result }
 {
     let Ok(wrong) = wrong_caches(alloc, survey) else {
@@ -117,7 +117,7 @@ pub fn write_told<W: Sink>(
     output: &mut W,
 ) -> Result<(), StreamFault>
     requires works { W.has_failed output.old ≡ false }
-    ensures grows { Grows (W.held output.old) (W.held output.new) }
+    ensures grows { OutputGrows (W.held output.old) (W.held output.new) }
     ensures failed { W.has_failed output.new ≡ is_device result }
 {
     write_runs(alloc, survey, text, json, output)?;

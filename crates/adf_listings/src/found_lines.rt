@@ -2,7 +2,7 @@
 
 ghost use Rattle.std.specs.Prelude.{◌≡◌, false};
 ghost use Rattle.adf_runs.specs.Streams.{is_device};
-ghost use Rattle.adf_subjects.specs.Growth.{Grows};
+ghost use Rattle.adf_subjects.specs.Growth.{OutputGrows};
 
 use crate::found_links::push_link;
 use crate::found_objects::{FoundEntry, push_entry_object, push_volume_object};
@@ -117,7 +117,7 @@ fn write_entries<W: Sink>(
     output: &mut W,
 ) -> Result<(), StreamFault>
     requires works { W.has_failed output.old ≡ false }
-    ensures grows { Grows (W.held output.old) (W.held output.new) }
+    ensures grows { OutputGrows (W.held output.old) (W.held output.new) }
     ensures failed { W.has_failed output.new ≡ is_device result }
 {
     for i in 0..survey.len() {
@@ -157,7 +157,7 @@ pub fn write_found<W: Sink>(
     output: &mut W,
 ) -> Result<(), StreamFault>
     requires works { W.has_failed output.old ≡ false }
-    ensures grows { Grows (W.held output.old) (W.held output.new) }
+    ensures grows { OutputGrows (W.held output.old) (W.held output.new) }
     ensures failed { W.has_failed output.new ≡ is_device result }
 {
     let Some(opening) = survey.opening() else {

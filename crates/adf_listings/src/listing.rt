@@ -4,7 +4,7 @@ ghost use Rattle.std.specs.Prelude.{◌≡◌, false};
 ghost use Rattle.adf_findings.specs.Survey.{OnSurvey};
 ghost use Rattle.adf_runs.specs.{Streams.is_device, Outcomes.Blames, Outcomes.EndsBy};
 ghost use Rattle.adf_listings.specs.Told.{TellsFindings};
-ghost use Rattle.adf_subjects.specs.{Growth.Grows, Subject.surveyed_as};
+ghost use Rattle.adf_subjects.specs.{Growth.OutputGrows, Subject.surveyed_as};
 
 use crate::cache_lines::write_told;
 use crate::found_lines::{ListForm, write_found};
@@ -23,7 +23,7 @@ fn write_both<W: Sink>(
     output: &mut W,
 ) -> Result<(), StreamFault>
     requires works { W.has_failed output.old ≡ false }
-    ensures grows { Grows (W.held output.old) (W.held output.new) }
+    ensures grows { OutputGrows (W.held output.old) (W.held output.new) }
     ensures failed { W.has_failed output.new ≡ is_device result }
 {
     write_told(alloc, survey, text, form.json, output)?;

@@ -6,7 +6,6 @@ use Rattle.adf_deleted.specs.{Deletions.state_of, Known.KnownValue, Known.is_del
 use Rattle.adf_deleted.specs.declared.deletions.State.{State, TheVariants.Whole, TheVariants.Contested, TheVariants.Overwritten}
 use Rattle.adf_findings.specs.declared.remains.Gap.{Gap}
 use Rattle.adf_deleted.proofs.LeftBytes.{whole_gapless}
-use Rattle.adf_runs.specs.Commands.{Reply}
 use Rattle.adf_subjects.specs.Rescues.{text_status}
 
 -- a text of status 0 is empty

@@ -9,7 +9,7 @@ ghost use Rattle.adf_runs.specs.{Commands.on_output, Outcomes.Does, Outcomes.Doe
 ghost use Rattle.adf_runs.specs.Streams.{is_device};
 ghost use Rattle.adf_remains.specs.{Copies.IsRefused, Deletions.TellsBy, Deletions.TellsRead, Deletions.TellsSecond, Deletions.TellsRefused};
 ghost use Rattle.adf_remains.specs.Deletions.{TellsTyped};
-ghost use Rattle.adf_subjects.specs.Growth.{Grows};
+ghost use Rattle.adf_subjects.specs.Growth.{OutputGrows};
 ghost use Rattle.adf_remains.specs.Deletions.{TellsDeleted};
 ghost use Rattle.adf_remains.specs.Deletions.{is_surveyed};
 ghost use Rattle.adf_subjects.specs.Subject.{subject_value};
@@ -137,7 +137,7 @@ fn write_headers<W: Sink>(
     output: &mut W,
 ) -> Result<(), StreamFault>
     requires works { W.has_failed output.old ≡ false }
-    ensures grows { Grows (W.held output.old) (W.held output.new) }
+    ensures grows { OutputGrows (W.held output.old) (W.held output.new) }
     ensures failed { W.has_failed output.new ≡ is_device result }
 {
     let mut text = Vec::new(alloc);

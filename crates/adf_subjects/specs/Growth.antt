@@ -3,5 +3,5 @@ use Rattle.std.specs.Prelude.{ℕ, List, Option}
 use Rattle.std.specs.Io.KnownBytes.{Appends}
 
 -- some text is written behind what output held
-abbrev pub Grows : Option (List ℕ) → Option (List ℕ) → Type 0
-Grows o o' = (text : List ℕ) × Appends o o' text
+abbrev pub OutputGrows : Option (List ℕ) → Option (List ℕ) → Type 0
+OutputGrows o o' = (text : List ℕ) × Appends o o' text

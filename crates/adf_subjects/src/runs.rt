@@ -7,7 +7,7 @@ ghost use Rattle.adf_findings.specs.Concerned.{concern_of, taker_of};
 ghost use Rattle.adf_findings.specs.{Parts.finding_value, Survey.OnSurvey};
 ghost use Rattle.adf_runs.specs.Streams.{is_device};
 ghost use Rattle.adf_subjects.specs.Lines.{are_owned_alike, are_one, continues};
-ghost use Rattle.adf_subjects.specs.{Growth.Grows, Lines.is_beside};
+ghost use Rattle.adf_subjects.specs.{Growth.OutputGrows, Lines.is_beside};
 ghost use Rattle.adf_subjects.specs.Lines.{run_of, runs};
 
 use crate::link_targets::{push_target, right_concerned, soft_link, soft_path, target_of};
@@ -292,7 +292,7 @@ pub fn write_runs<W: Sink>(
     output: &mut W,
 ) -> Result<(), StreamFault>
     requires works { W.has_failed output.old ≡ false }
-    ensures grows { Grows (W.held output.old) (W.held output.new) }
+    ensures grows { OutputGrows (W.held output.old) (W.held output.new) }
     ensures failed { W.has_failed output.new ≡ is_device result }
 {
     let Ok(right) = right_links(alloc, survey) else {

@@ -1,4 +1,4 @@
-use Rattle.std.proofs.Common.{◌≡◌, ◌∙◌, ap}
+use Rattle.std.proofs.Common.{◌≡◌, ◌∙◌}
 use Rattle.adf_deleted.specs.Deletions.{state_of}
 use Rattle.adf_deleted.specs.declared.deletions.State.TheVariants.{Whole}
 use Rattle.adf_runs.proofs.Endings.{does_weaker}
