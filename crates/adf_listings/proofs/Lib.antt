@@ -1,4 +1,1 @@
 pub mod FindingStatus
-pub mod FoundTexts
--- the lines of wrong directory caches
-pub mod CacheTexts

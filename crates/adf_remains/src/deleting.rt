@@ -1,20 +1,17 @@
 // The lines of deleted headers.
 
-ghost use Rattle.std.specs.Prelude.{◌≡◌, ◌++◌, ◌<◌, ℕ, List, OnErr, OnOk, Some, codes, false, length, option_map, true};
-ghost use Rattle.std.specs.Io.KnownBytes.{Appends};
-ghost use Rattle.adf_base.specs.declared.dates.Stamp.{Stamp};
+ghost use Rattle.std.specs.Prelude.{None, ◌≡◌, ◌<◌, Some, false, length, option_map, true};
 ghost use Rattle.adf_blocks.specs.Sizes.{blocks};
 ghost use Rattle.adf_volume.specs.Start.{is_image_len};
 ghost use Rattle.adf_findings.specs.Survey.{OnSurvey};
 ghost use Rattle.adf_rescue.specs.{Opened.opened, Pruned.pruned, Rescue.OnSecond};
-ghost use Rattle.adf_subjects.specs.WrittenPaths.{former_written};
-ghost use Rattle.adf_texts.specs.VolumeLines.{AreDates};
-ghost use Rattle.adf_runs.specs.{Commands.on_errors, Commands.on_output, Outcomes.Does, Outcomes.DoesSilently, Streams.seen};
-ghost use Rattle.adf_runs.specs.Streams.{AppendsPart, is_device};
-ghost use Rattle.adf_remains.specs.Deletions.{ListsHeaders, TellsBy, TellsRead, TellsSecond, TellsRefused, TellsTyped};
-ghost use Rattle.adf_remains.specs.Deletions.{TellsDeleted, deleted_line, what_stands_text};
-ghost use Rattle.adf_remains.specs.Deletions.{block_text, contested_text, deleted_lines, header_line};
-ghost use Rattle.adf_remains.specs.Deletions.{is_surveyed, line_if_deleted, of_text, overwritten_text};
+ghost use Rattle.adf_runs.specs.{Commands.on_output, Outcomes.Does, Outcomes.DoesSilently, Streams.seen};
+ghost use Rattle.adf_runs.specs.Streams.{is_device};
+ghost use Rattle.adf_remains.specs.{Copies.IsRefused, Deletions.TellsBy, Deletions.TellsRead, Deletions.TellsSecond, Deletions.TellsRefused};
+ghost use Rattle.adf_remains.specs.Deletions.{TellsTyped};
+ghost use Rattle.adf_subjects.specs.Growth.{OutputGrows};
+ghost use Rattle.adf_remains.specs.Deletions.{TellsDeleted};
+ghost use Rattle.adf_remains.specs.Deletions.{is_surveyed};
 ghost use Rattle.adf_subjects.specs.Subject.{subject_value};
 
 use crate::recovering::copy_deleted;
@@ -35,9 +32,7 @@ fn push_path(
     deletions: &Deletions<'_>,
     h: u32,
     text: &mut Vec<u8>,
-) -> Result<(), AllocError>
-    ensures { OnOk result (text.new.items ≡ text.old.items ++ former_written deletions.now.image h) }
-{
+) -> Result<(), AllocError> {
     let path = former_written(alloc, deletions, h)?;
     text.extend_from_slice(&path)
 }
@@ -48,26 +43,20 @@ pub fn push_contested(
     deletions: &Deletions<'_>,
     rival: u32,
     text: &mut Vec<u8>,
-) -> Result<(), AllocError>
-    ensures { OnOk result (text.new.items ≡ text.old.items ++ contested_text deletions.now.image rival) }
-{
+) -> Result<(), AllocError> {
     text.extend_from_slice(b"contested: ")?;
     push_path(alloc, deletions, rival, text)
 }
 
 // Appends that there are so many blocks.
-fn push_of(text: &mut Vec<u8>, asked: u32) -> Result<(), AllocError>
-    ensures { OnOk result (text.new.items ≡ text.old.items ++ of_text asked) }
-{
+fn push_of(text: &mut Vec<u8>, asked: u32) -> Result<(), AllocError> {
     text.extend_from_slice(b"of ")?;
     push_number(text, asked, b' ')?;
     text.extend_from_slice(b"blocks")
 }
 
 /// Appends how many blocks of a file do not stand.
-pub fn push_overwritten(text: &mut Vec<u8>, lost: u32, asked: u32) -> Result<(), AllocError>
-    ensures { OnOk result (text.new.items ≡ text.old.items ++ overwritten_text lost asked) }
-{
+pub fn push_overwritten(text: &mut Vec<u8>, lost: u32, asked: u32) -> Result<(), AllocError> {
     text.extend_from_slice(b"overwritten: ")?;
     push_number(text, lost, b' ')?;
     push_of(text, asked)
@@ -79,9 +68,7 @@ fn push_state(
     deletions: &Deletions<'_>,
     state: State,
     text: &mut Vec<u8>,
-) -> Result<(), AllocError>
-    ensures { OnOk result (text.new.items ≡ text.old.items ++ what_stands_text deletions.now.image state) }
-{
+) -> Result<(), AllocError> {
     match state {
         State::Whole => text.extend_from_slice(b"whole"),
         State::Contested(rival) => push_contested(alloc, deletions, rival, text),
@@ -90,9 +77,7 @@ fn push_state(
 }
 
 // Appends a block in front of what is said of it.
-fn push_block(text: &mut Vec<u8>, b: u32) -> Result<(), AllocError>
-    ensures { OnOk result (text.new.items ≡ text.old.items ++ block_text b) }
-{
+fn push_block(text: &mut Vec<u8>, b: u32) -> Result<(), AllocError> {
     text.extend_from_slice(b"block ")?;
     push_number(text, b, b':')?;
     text.extend_from_slice(b" ")
@@ -106,8 +91,6 @@ fn push_header(
     text: &mut Vec<u8>,
 ) -> Result<(), AllocError>
     requires { h < blocks deletions.now.image }
-    ensures { (date : Stamp → List ℕ) → AreDates date
-        → OnOk result (text.new.items ≡ text.old.items ++ header_line date deletions.now.image h) }
 {
     let path = former_written(alloc, deletions, h)?;
     let head = deletions.header(h);
@@ -122,8 +105,6 @@ fn push_deleted(
     text: &mut Vec<u8>,
 ) -> Result<(), AllocError>
     requires { h < blocks deletions.now.image }
-    ensures { (date : Stamp → List ℕ) → AreDates date
-        → OnOk result (text.new.items ≡ text.old.items ++ deleted_line date deletions.now h) }
 {
     let Ok(state) = deletions.state(alloc, h) else {
         return Err(AllocError);
@@ -142,8 +123,6 @@ fn push_if_deleted(
     text: &mut Vec<u8>,
 ) -> Result<(), AllocError>
     requires { b < blocks deletions.now.image }
-    ensures { (date : Stamp → List ℕ) → AreDates date
-        → OnOk result (text.new.items ≡ text.old.items ++ line_if_deleted date deletions.now b) }
 {
     if deletions.is_deleted(b) {
         return push_deleted(alloc, deletions, b, text);
@@ -158,11 +137,7 @@ fn write_headers<W: Sink>(
     output: &mut W,
 ) -> Result<(), StreamFault>
     requires works { W.has_failed output.old ≡ false }
-    ensures ok { (date : Stamp → List ℕ) → AreDates date → OnOk result (Appends (W.held output.old) (W.held output.new)
-        (deleted_lines date deletions.now (blocks deletions.now.image))) }
-    ensures err { (date : Stamp → List ℕ) → AreDates date → OnErr result (AppendsPart
-        (W.has_failed output.new) (W.held output.old) (W.held output.new)
-        (deleted_lines date deletions.now (blocks deletions.now.image))) }
+    ensures grows { OutputGrows (W.held output.old) (W.held output.new) }
     ensures failed { W.has_failed output.new ≡ is_device result }
 {
     let mut text = Vec::new(alloc);
@@ -188,7 +163,7 @@ pub fn write_text<W: Sink>(text: &Vec<u8>, output: &mut W) -> Outcome
 // Tells the deleted headers by their lines.
 fn list_headers<W: Sink>(alloc: Global, deletions: &Deletions<'_>, output: &mut W) -> Outcome
     requires { W.has_failed output.old ≡ false }
-    ensures { Does (ListsHeaders deletions.now) result (seen W.held W.has_failed output.old output.new) }
+    ensures { Does (TellsDeleted None deletions.now) result (seen W.held W.has_failed output.old output.new) }
 {
     match write_headers(alloc, deletions, output) {
         Ok(()) => Outcome::Done,
@@ -217,7 +192,7 @@ fn tell_known<W: Sink>(
 
 // Says that an image is no volume.
 fn no_volume(alloc: Global) -> Outcome
-    ensures { DoesSilently (λ reply. reply ≡ on_errors 1 (codes "no volume\n")) result }
+    ensures { DoesSilently IsRefused result }
 {
     match format!(in alloc; "no volume\n") {
         Ok(line) => Outcome::Refused(line),

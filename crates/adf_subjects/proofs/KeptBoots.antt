@@ -15,7 +15,8 @@ use Rattle.adf_build.proofs.LaidFits.{laid_fits}
 use Rattle.adf_rescue.specs.{Opened.with_boot_type, Rescue.Basis, Rescue.rescued_tree_by, declared.standing.Input.Input}
 use Rattle.adf_rescue.proofs.{OpenedImages.length_begun, PrunedKeeps.length_read}
 use Rattle.adf_subjects.specs.{Rescues.RescuesTyped, Losses.LossValue, Subject.IsTyped, Subject.SubjectValue, Subject.sized}
-use Rattle.adf_subjects.specs.Rescues.{GivesVolume, RescueValue, rescue_reply}
+use Rattle.adf_subjects.specs.Rescues.{GivesVolume, IsReplyTo, RescueValue}
+use Rattle.adf_runs.specs.Commands.{Reply}
 use Rattle.adf_subjects.proofs.{SizedImages.length_sized, Subjects.typed_either}
 
 -- a volume has four blocks or more
@@ -28,17 +29,15 @@ pub laid_long : (image : List ℕ) (t : Tree) → IsLaid image t → BOOT_LEN �
 laid_long image t laid = long_enough image (length image) laid.size refl
 
 -- what is written fits the tree of the rescue
-pub written_fits : (ls : List LossValue) (types : Types) (known : Input) (a : Basis) (b : Option Basis) (boot : List ℕ) (r : RescueValue)
-    → BOOT_LEN ≤ length boot → GivesVolume ls types known a b boot r → (l : Layout) × FitsBy (letters_for types a.image) (rescue_reply r).output
-    (rescued_tree_by (letters_for types a.image) known a b) l
-written_fits ls types known a b boot r whole (volume, laid, size, e) =
+pub written_fits : (ls : List LossValue) (types : Types) (known : Input) (a : Basis) (b : Option Basis) (boot : List ℕ) (r : RescueValue) (reply : Reply)
+    → BOOT_LEN ≤ length boot → GivesVolume ls types known a b boot r → IsReplyTo r reply
+    → (l : Layout) × FitsBy (letters_for types a.image) reply.output (rescued_tree_by (letters_for types a.image) known a b) l
+written_fits ls types known a b boot r reply whole (volume, laid, size, e) is =
     let letters : Letters = letters_for types a.image in
     let t : Tree = rescued_tree_by letters known a b in
-    let l : Layout = planned t (blocks volume) in (
-      l,
-      subst (λ (image : List ℕ). FitsBy letters image t l) (sym (ap (λ (r : RescueValue). (rescue_reply r).output) e))
-          (restored_fits volume boot t l (laid_fits volume t laid) whole),
-    )
+    let l : Layout = planned t (blocks volume) in
+    let told = subst (λ r. IsReplyTo r reply) e is in
+    (l, subst (λ (image : List ℕ). FitsBy letters image t l) (sym told.0) (restored_fits volume boot t l (laid_fits volume t laid) whole))
 
 -- the two boot blocks of an image that has them
 two_blocks : (image : List ℕ) → BOOT_LEN ≤ length image → sized 2 image ≡ take BOOT_LEN image
@@ -66,14 +65,14 @@ put_boots s volume tree laid long bytes begins =
     (volume_has_boot volume front tree l (laid_fits volume tree laid) size (front_are_bytes s.image bytes)
     (front_begins s.image ∙ begins)))
 
-pub keeps_boot : (types : Types) (s : SubjectValue) (r : RescueValue) → RescuesTyped types s r → (rescue_reply r).output ≢ [] → AreBytes s.image
-    → begins_with_dos s.image ≡ true → HasBootOf s.image (rescue_reply r).output
-keeps_boot types s r (t, typed, (refused, is, (w, fs, survey, (sound, marks, (b, second, inl (none, (f, first, e))))))) some bytes begins =
-    absurd (some (ap (λ (r : RescueValue). (rescue_reply r).output) e))
-keeps_boot types s r (t, typed, (refused, is, (w, fs, survey, (sound, marks, (b, second, inr (read, inl (nothing, (f, first, e)))))))) some bytes begins =
-    absurd (some (ap (λ (r : RescueValue). (rescue_reply r).output) e))
-keeps_boot types s r (t, typed, (refused, is, (w, fs, survey, (sound, marks, (b, second, inr (read, inr (stands, (volume, laid, size, e))))))))
+pub keeps_boot : (types : Types) (s : SubjectValue) (r : RescueValue) (reply : Reply) → RescuesTyped types s r → IsReplyTo r reply → reply.output ≢ []
+    → AreBytes s.image → begins_with_dos s.image ≡ true → HasBootOf s.image reply.output
+keeps_boot types s r reply (t, typed, (refused, is, (w, fs, survey, (sound, marks, (b, second, inl (none, (f, first, e))))))) so some bytes begins =
+    absurd (some (subst (λ r. IsReplyTo r reply) e so).1)
+keeps_boot types s r reply (t, typed, (refused, is, (w, fs, survey, (sound, marks, (b, second, inr (read, inl (nothing, (f, first, e)))))))) so some bytes
+    begins = absurd (some (subst (λ r. IsReplyTo r reply) e so).1)
+keeps_boot types s r reply (t, typed, (refused, is, (w, fs, survey, (sound, marks, (b, second, inr (read, inr (stands, (volume, laid, size, e)))))))) so
     some bytes begins =
     let long : BOOT_LEN ≤ length s.image =
     omega (arith, long_enough volume (length s.image) laid.size (size ∙ ap (λ n. n / 512) (length_read refused t.image ∙ typed_length s t typed))) in
-    subst (HasBootOf s.image) (sym (ap (λ (r : RescueValue). (rescue_reply r).output) e)) (put_boots s volume _ laid long bytes begins)
+    subst (HasBootOf s.image) (sym (subst (λ r. IsReplyTo r reply) e so).0) (put_boots s volume _ laid long bytes begins)

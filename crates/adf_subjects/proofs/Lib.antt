@@ -1,10 +1,9 @@
 pub mod KeptBoots
 pub mod RunLines
-pub mod PendingLines
 pub mod ReadLengths
 pub mod OneSubject
 pub mod RescueAnswers
 pub mod SizedImages
 pub mod Subjects
 pub mod Formats
-pub mod PathNames
+pub mod Growth

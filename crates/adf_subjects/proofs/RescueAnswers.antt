@@ -1,14 +1,13 @@
 -- What a rescue is prepared to give, and which images are no volumes.
 -- Letters: w the walk of a survey, fs its findings; a a survey, b the second one, if there is one; r what a rescue gives; p a prepared rescue; u why
 -- there is none; lost, front losses of blocks.
-use Rattle.std.proofs.Common.{◌≡◌, ◌≢◌, ◌∙◌, ◌/◌, ◌%◌, ◌==◌, ◌++◌, ℕ, Bool, true, false, List, []}
+use Rattle.std.proofs.Common.{◌≡◌, ◌≢◌, ◌∙◌, ◌/◌, ◌%◌, ◌==◌, ◌∷◌, ℕ, Bool, true, false, List, []}
 use Rattle.std.proofs.Common.{ap, arith, refl, sym, Option, None, Some, IfSome, inl, inr, is_some, option_map, length, subst}
 use Rattle.std.specs.{Prelude.Result, Prelude.Ok, Prelude.Err, Prelude.not, Result.IsErrAnd}
 use Rattle.adf_base.specs.declared.hash.Letters.{Letters}
 use Rattle.adf_tree.specs.Tree.{Tree}
 use Rattle.adf_blocks.specs.Sizes.{blocks, is_allowed}
-use Rattle.adf_boot_blocks.specs.Writing.{restored}
-use Rattle.adf_build.specs.{Building.IsBuildable, Laid.IsLaid}
+use Rattle.adf_build.specs.{Laid.IsLaid}
 use Rattle.adf_volume.specs.{Types.letters_for, declared.fault.Fault.Fault, declared.types.Types.Types, Walk.Walk}
 use Rattle.adf_volume.proofs.NoneFits.{none_fits}
 use Rattle.adf_findings.specs.{Files.grave, SoundMarks.AreMarks, Survey.FindingValue, Survey.IsSurvey, Survey.IsSurvey.read, Survey.IsSurvey.unread}
@@ -19,17 +18,17 @@ use Rattle.adf_findings.proofs.{FirstFindings.finds_none, Starts.course_size, Ty
 use Rattle.adf_rescue.specs.{declared.rescues.Rescued.Rescued, declared.rescues.Terms.Terms, Hung.second_image, Losses.lost_headers, Opened.lacks_root}
 use Rattle.adf_rescue.specs.{Pruned.image_read, Rescue.Basis, Rescue.rescued_tree_by, declared.standing.Input.Input, Rescued.IsRescued}
 use Rattle.adf_rescue.proofs.PrunedKeeps.{length_read}
-use Rattle.adf_runs.specs.{Commands.Reply, Commands.on_errors, Outcomes.EndsBy}
+use Rattle.adf_runs.specs.{Commands.Reply, Outcomes.EndsBy}
 use Rattle.adf_runs.specs.declared.outcome.Outcome.{Outcome, TheVariants.LeftOut as Tells, TheVariants.NoMemory as OutOfMemory}
 use Rattle.adf_runs.proofs.PendingText.{appends_nil}
-use Rattle.adf_subjects.specs.Losses.{LossValue, ToldValue, front_losses, input_losses, loss_values, losses_of, rescue_losses, runs_lost, told_by}
-use Rattle.adf_subjects.specs.{Losses.told_value, declared.preparing.Begun.Begun, declared.preparing.Prepared.Prepared}
+use Rattle.adf_subjects.specs.Losses.{IsNothing, LossValue, NoneOfNothing, TellsNothing, front_losses, input_losses, loss_values, runs_lost}
+use Rattle.adf_subjects.specs.{declared.losses.BlockRun.BlockRun, declared.losses.Loss.Loss, declared.preparing.Begun.Begun, declared.preparing.Prepared.Prepared}
 use Rattle.adf_subjects.specs.Prepared.{IsBegunInput, IsFault, IsPrepared, IsStandingPrepared, IsToldRefusal}
 use Rattle.adf_subjects.specs.Prepared.{LaysFor, Prepares, RefusesFor, WritesPrepared, known_of}
-use Rattle.adf_subjects.specs.Rescues.{HoldsNothing, IsRefusal, IsNoVolume, Replies, RescueValue, RescueValue.written, RescuesBothOf, RescuesByOf}
-use Rattle.adf_subjects.specs.Rescues.{RescuesInOf, RescuesOf}
-use Rattle.adf_deleted.specs.{Kept.IsKeptBeside, Known.KnownValue, Known.known_asked, Known.known_blocks, declared.kept.Kept.Kept}
-use Rattle.adf_subjects.specs.KeptDeleted.{kept_losses, losses_asked, tree_asked}
+use Rattle.adf_subjects.specs.Rescues.{HoldsNothing, IsRefusal, IsNoVolume, Replies, RescueValue, RescuesBothOf, RescuesByOf}
+use Rattle.adf_subjects.specs.Rescues.{RescuesInOf, RescuesOf, StandingLosses}
+use Rattle.adf_deleted.specs.{Known.KnownValue, Known.known_asked, Known.known_blocks}
+use Rattle.adf_subjects.specs.KeptDeleted.{tree_asked}
 use Rattle.adf_subjects.specs.declared.preparing.Standing.{Standing}
 use Rattle.adf_subjects.specs.declared.preparing.Unrescued.{Unrescued, TheVariants.NoMemory, TheVariants.Refused}
 
@@ -92,19 +91,17 @@ pub on_terms : (types : Types) (held : ℕ) (begun : Begun) (refused : Bool) (a 
 on_terms types held begun refused a b fs r same is =
     subst (λ (k : Bool). IsRescued (record { types = types; input = record { held = held; is_refused = k }; made = begun.made_root }) a b fs r) same is
 
--- the same is told
-pub same_told : (terms : Terms) (a : Basis) (b : Option Basis) (fs : List FindingValue) (made : Bool) (r : Rescued) → terms.made ≡ made
-    → IsRescued terms a b fs r → told_value r ≡ told_by (letters_for terms.types a.image) terms.input made a b fs
-same_told terms a b fs made r same is =
-    let heads = is.lost_headers ∙ ap (λ (made : Bool). lost_headers made a.walk fs) same in
-    λ i. record {
-      left_out = is.left_out i;
-      second_left_out = is.second_left_out i;
-      doubts = is.doubts i;
-      second_doubts = is.second_doubts i;
-      lost_headers = heads i;
-      lost_blocks = is.lost_blocks i;
-    }
+-- what tells nothing tells nothing in code
+pub same_nothing : (terms : Terms) (a : Basis) (b : Option Basis) (fs : List FindingValue) (made : Bool) (r : Rescued) → terms.made ≡ made
+    → IsRescued terms a b fs r → TellsNothing (letters_for terms.types a.image) terms.input made a b fs → IsNothing r
+same_nothing terms a b fs made r same is none = record {
+  left_out = is.left_out ∙ none.left_out;
+  second_left_out = is.second_left_out ∙ none.second_left_out;
+  doubts = is.doubts ∙ none.doubts;
+  second_doubts = is.second_doubts ∙ none.second_doubts;
+  headers = is.lost_headers ∙ ap (λ (made : Bool). lost_headers made a.walk fs) same ∙ none.headers;
+  blocks = is.lost_blocks ∙ none.blocks;
+}
 
 -- the same blocks are lost in front
 pub same_front : (lost : List LossValue) (held n : ℕ) (input image : List ℕ) (types : Types) (b : Begun) → IsBegunInput types lost input image b
@@ -113,25 +110,22 @@ same_front lost held n input image types b is size =
     let count : n ≡ blocks input = size ∙ ap (λ (l : List ℕ). length l / 512) is.reads ∙ ap (λ (k : ℕ). k / 512) (length_read (is_some b.fault) input) in
     λ i. front_losses (is.runs i) (is.states i) (is.made i) held (count i)
 
--- so all losses are
-pub same_losses : (letters : Letters) (known : Input) (lost front : List LossValue) (input : List ℕ) (a : Basis) (b : Option Basis) (fs : List FindingValue)
-    (t : ToldValue) → t ≡ told_by letters known (lacks_root input) a b fs → front ≡ input_losses lost known.held input
-    → losses_of a.image a.walk b t front ≡ rescue_losses letters known lost input a b fs
-same_losses letters known lost front input a b fs t told runs = λ i. losses_of a.image a.walk b (told i) (runs i)
+-- runs are none where their losses are
+no_runs : (rs : List BlockRun) → runs_lost rs ≡ [] → rs ≡ []
+no_runs [] e = refl
+no_runs (r ∷ rs) e = cc
 
--- what is kept of deleted files is prepared with what stands
-pub kept_prepared : (k d : KnownValue) (plus : Bool) (x : Standing) (r : Kept) (p : Prepared) → plus ≡ true → d ≡ k
-    → IsKeptBeside d x.volume r → p.draft.tree ≡ r.volume.draft.tree → p.blocks ≡ r.volume.blocks
-    → loss_values p.losses.items ≡ loss_values x.losses.items ++ kept_losses d.image r.directory.items r.left_out.items
-    → IsBuildable p.draft.tree p.blocks → IsStandingPrepared plus k x p
-kept_prepared k d plus x r p asked same kept tree blocks told fits =
-    let is = subst (λ d. IsKeptBeside d x.volume r) same kept in
-    subst (λ b. IsStandingPrepared b k x p) (sym asked) (record {
-      tree = tree ∙ is.tree;
-      blocks_same = blocks ∙ is.blocks_same;
-      losses = told ∙ (λ i. loss_values x.losses.items ++ kept_losses ((same i).image) (is.directory i) (is.left_out i));
-      fits = fits;
-    })
+-- losses are none where their values are
+pub no_losses : (ls : List Loss) → loss_values ls ≡ [] → ls ≡ []
+no_losses [] e = refl
+no_losses (l ∷ ls) e = cc
+
+-- so there is no loss where the rescue tells nothing, and each block of the input is as it was
+pub none_told : (letters : Letters) (known : Input) (lost : List LossValue) (input : List ℕ) (a : Basis) (b : Option Basis) (fs : List FindingValue)
+    (r : Rescued) (front : List BlockRun) (ls : List Loss) → (TellsNothing letters known (lacks_root input) a b fs → IsNothing r)
+    → runs_lost front ≡ input_losses lost known.held input → (IsNothing r → front ≡ [] → ls ≡ [])
+    → NoneOfNothing letters known lost input a b fs (loss_values ls)
+none_told letters known lost input a b fs r front ls told same none tells whole = ap loss_values (none (told tells) (no_runs front (same ∙ whole)))
 
 -- what is known of an input that is refused, or that is accepted, is what is known where a rescue is asked
 
@@ -162,7 +156,7 @@ alone_prepared true k x p is h = absurd cc
 module _ (plus : Bool) (types : Types) (known : Input) (lost : List LossValue) (input : List ℕ) (a : Basis) (b : Option Basis)
     (fs : List FindingValue) (x : Standing) (tree : x.volume.draft.tree ≡ rescued_tree_by (letters_for types a.image) known a b)
     (size : x.volume.blocks ≡ blocks a.image)
-    (told : loss_values x.losses.items ≡ rescue_losses (letters_for types a.image) known lost input a b fs) (read : a.walk ≢ [])
+    (told : NoneOfNothing (letters_for types a.image) known lost input a b fs (loss_values x.losses.items)) (read : a.walk ≢ [])
     (some : ¬ HoldsNothing types known input a b fs) where
   abbrev known_here : KnownValue
   known_here = known_asked a.image a.walk b known
@@ -171,12 +165,16 @@ module _ (plus : Bool) (types : Types) (known : Input) (lost : List LossValue) (
       → Prepares (RescuesByOf plus types known lost input a b fs) r
   standing_prepared (Ok p) is =
       let same = is.tree ∙ (λ i. tree_asked plus known_here (size i) (tree i)) in
-      let losses = is.losses ∙ (λ i. losses_asked plus known_here (size i) (tree i) (told i)) in
+      let losses : StandingLosses plus types known lost input a b fs = record {
+        losses = loss_values p.losses.items;
+        stands = some;
+        nothing = λ alone tells whole. ap loss_values (is.losses alone) ∙ told tells whole;
+      } in
       λ boot. (
         is.fits,
         λ volume laid long. inr (
           read,
-          inr (some, (volume, subst (λ (t : Tree). IsLaid volume t) same laid, long ∙ (is.blocks_same ∙ size), ap (written (restored volume boot)) losses)),
+          inr (losses, (volume, subst (λ (t : Tree). IsLaid volume t) same laid, long ∙ (is.blocks_same ∙ size), refl)),
         ),
       )
   standing_prepared (Err u) is = rw is (λ boot. tt)
@@ -187,11 +185,6 @@ pub prepares_weaker : (few more : List ℕ → RescueValue → Type 0) (x : Resu
 prepares_weaker few more (Ok p) f h = λ boot. let (room, gives) = h boot in (room, λ volume laid long. f boot _ (gives volume laid long))
 prepares_weaker few more (Err (Refused fault ls)) f h = λ boot. f boot _ (h boot)
 prepares_weaker few more (Err NoMemory) f h = λ boot. tt
-
--- where memory is refused, what stands is not prepared
-pub not_prepared : (plus : Bool) (k : KnownValue) (x : Standing) (r : Result Prepared Unrescued) → IsErrAnd r (λ u. u ≡ NoMemory) → IsPrepared plus k x r
-not_prepared plus k x (Ok p) is = absurd is
-not_prepared plus k x (Err u) is = is
 
 -- where memory is refused, there is none
 pub none_prepared : (gives : List ℕ → RescueValue → Type 0) (x : Result Prepared Unrescued) → IsErrAnd x (λ u. u ≡ NoMemory) → Prepares gives x
@@ -206,7 +199,7 @@ written_replies gives p boot reply (room, lays) (volume, laid, size, is) = (_, l
 -- so does the outcome that tells why there is no volume
 pub refusal_ends : (gives : RescueValue → Type 0) (u : Unrescued) (w : Outcome) (o : Option (List ℕ)) → RefusesFor gives u → IsToldRefusal u w
     → EndsBy (Replies gives) w o o
-refusal_ends gives (Refused f ls) (Tells lines) o h is = ([], (_, h, ap (on_errors 1) is), appends_nil o)
+refusal_ends gives (Refused f ls) (Tells lines) o h is = ([], (_, h, (refl, refl)), appends_nil o)
 refusal_ends gives u OutOfMemory o h is = inl (appends_nil o)
 refusal_ends gives (Refused f ls) _ o h is = absurd is
 refusal_ends gives NoMemory _ o h is = absurd is

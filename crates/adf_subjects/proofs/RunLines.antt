@@ -1,12 +1,11 @@
--- Runs of findings, one after another, and their lines.
+-- Runs of findings, one after another.
 -- Letters: w a walk, fs its findings, f one of them; r, s runs; k a place among the findings.
-use Rattle.std.proofs.Common.{◌≡◌, ◌∙◌, ◌++◌, ◌+◌, ◌≤◌, Bool, List, Some, None, [], ◌∷◌, ℕ, zero, suc, true, false, drop, length, refl, sym, ap, ap₂}
-use Rattle.std.proofs.Common.{append_assoc}
-use Rattle.std.proofs.{Common.append-nil, Common.arith, lemmas.List.drop_all}
-use Rattle.std.specs.{Prelude.option_map, Prelude.slice_get, List.flat_map}
+use Rattle.std.proofs.Common.{◌≡◌, ◌∙◌, ◌+◌, ◌≤◌, List, Some, None, [], ◌∷◌, ℕ, zero, suc, true, false, drop, length, refl, sym, ap, ap₂}
+use Rattle.std.proofs.{Common.arith, lemmas.List.drop_all}
+use Rattle.std.specs.{Prelude.option_map, Prelude.slice_get}
 use Rattle.adf_volume.specs.Walk.{Walk}
 use Rattle.adf_findings.specs.Survey.{FindingValue}
-use Rattle.adf_subjects.specs.{Lines.continues, Lines.line_of_run, Lines.lines_of_runs, Lines.run_of, Lines.runs, Lines.runs_from, declared.runs.Run.Run}
+use Rattle.adf_subjects.specs.{Lines.continues, Lines.run_of, Lines.runs, Lines.runs_from, declared.runs.Run.Run}
 
 module _ (w : Walk) where
   -- a finding at a place
@@ -59,16 +58,3 @@ module _ (w : Walk) where
       → r ∷ runs w (drop k fs) ≡ runs_from w r (drop k fs)
   unfolding runs_from
   run_last fs k r at = let le = past fs k at in rw drop_all refl
-
-module _ (json : Bool) (image : List ℕ) (w : Walk) (all : List FindingValue) where
-  -- the line of a run, and those that are to come
-  pub line_first : (r : Run) (rest fs : List FindingValue) (text text' : List ℕ) → r ∷ runs w rest ≡ runs w fs
-      → text' ≡ text ++ line_of_run json image w all r
-      → text' ++ lines_of_runs json image w all rest ≡ text ++ lines_of_runs json image w all fs
-  line_first r rest fs text text' e t =
-      ap (λ l. l ++ lines_of_runs json image w all rest) t ∙ append_assoc text (line_of_run json image w all r) (lines_of_runs json image w all rest)
-      ∙ ap (λ rs. text ++ flat_map (line_of_run json image w all) rs) e
-
-  -- no line is to come
-  pub lines_end : (fs : List FindingValue) (k : ℕ) (text : List ℕ) → length fs ≤ k → text ++ lines_of_runs json image w all (drop k fs) ≡ text
-  lines_end fs k text le = rw drop_all (append-nil text)

@@ -1,8 +1,6 @@
 -- The promise: what is surveyed, the lines of its findings, and what a rescue gives.
 pub mod Lengths
 pub mod Remarks
-pub mod WrittenPaths
-pub mod LinkTargets
 pub mod Lines
 pub mod Subject
 pub mod Formatted
@@ -11,3 +9,5 @@ pub mod KeptDeleted
 pub mod Rescues
 -- Rescues, between their surveys and their volumes.
 pub mod Prepared
+-- what output gets of free texts
+pub mod Growth

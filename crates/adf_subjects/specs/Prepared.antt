@@ -1,19 +1,18 @@
 -- Rescues of which only the new volume is to be laid.
 -- Letters: b what is told of an input; p a prepared rescue; u why there is none; w how a work ends; f a fault; ls losses; boot the boot blocks of the input;
 -- types those that the new volume may have.
-use Rattle.std.specs.Prelude.{◌≡◌, ◌++◌, ℕ, Bool, false, List, Option, None, Some, is_some, Result, Ok, Err}
+use Rattle.std.specs.Prelude.{◌≡◌, ℕ, Bool, false, List, Option, None, Some, is_some, Result, Ok, Err}
 use Rattle.adf_blocks.specs.Sizes.{blocks}
 use Rattle.adf_volume.specs.{Types.letters_for, declared.fault.Fault.Fault, declared.types.Types.Types, Walk.FirstFaultBy}
 use Rattle.adf_boot_blocks.specs.Writing.{restored}
 use Rattle.adf_build.specs.{Building.IsBuildable, Laid.IsLaid}
 use Rattle.adf_rescue.specs.{Opened.lacks_root, Opened.states_type, Pruned.image_read, declared.standing.Input.Input}
-use Rattle.adf_texts.specs.Lines.{fault_line}
 use Rattle.adf_runs.specs.Commands.{Reply}
 use Rattle.adf_runs.specs.declared.outcome.Outcome.{Outcome, TheVariants.LeftOut, TheVariants.NoMemory as OutOfMemory}
-use Rattle.adf_subjects.specs.Losses.{LossValue, loss_values, losses_text, runs_lost}
-use Rattle.adf_subjects.specs.Rescues.{IsRefusal, RescueValue, RescueValue.refused, RescueValue.written, rescue_reply}
+use Rattle.adf_subjects.specs.Losses.{LossValue, loss_values, runs_lost}
+use Rattle.adf_subjects.specs.Rescues.{IsRefusal, RescueValue, RescueValue.refused, RescueValue.written, IsReplyTo}
 use Rattle.adf_deleted.specs.Known.{KnownValue}
-use Rattle.adf_subjects.specs.KeptDeleted.{losses_asked, tree_asked}
+use Rattle.adf_subjects.specs.KeptDeleted.{tree_asked}
 use Rattle.adf_subjects.specs.{declared.preparing.Begun.Begun, declared.preparing.Prepared.Prepared, declared.preparing.Standing.Standing}
 use Rattle.adf_subjects.specs.declared.preparing.Unrescued.{Unrescued, TheVariants.NoMemory, TheVariants.Refused}
 
@@ -58,7 +57,7 @@ Prepares gives (Err u) = (boot : List ℕ) → RefusesFor (gives boot) u
 pub record IsStandingPrepared (plus : Bool) (k : KnownValue) (x : Standing) (p : Prepared) : Type 0 where
   pub tree : p.draft.tree ≡ tree_asked plus k x.volume.blocks x.volume.draft.tree
   pub blocks_same : p.blocks ≡ x.volume.blocks
-  pub losses : loss_values p.losses.items ≡ losses_asked plus k x.volume.blocks x.volume.draft.tree (loss_values x.losses.items)
+  pub losses : plus ≡ false → p.losses.items ≡ x.losses.items
   pub fits : IsBuildable p.draft.tree p.blocks
 
 -- so it is, or memory is refused
@@ -66,14 +65,14 @@ abbrev pub IsPrepared : (plus : Bool) → KnownValue → Standing → Result Pre
 IsPrepared plus k x (Ok p) = IsStandingPrepared plus k x p
 IsPrepared plus k x (Err u) = u ≡ NoMemory
 
--- a volume is written that is laid for the tree, in as many blocks, with the boot blocks put back into it, and the lines are told
+-- a volume is written that is laid for the tree, in as many blocks, with the boot blocks put back into it
 abbrev pub WritesPrepared : Prepared → (boot : List ℕ) → Reply → Type 0
 WritesPrepared p boot reply =
     (volume : List ℕ) × IsLaid volume p.draft.tree × (blocks volume ≡ p.blocks)
-    × (reply ≡ rescue_reply (written (restored volume boot) (loss_values p.losses.items)))
+    × IsReplyTo (written (restored volume boot) (loss_values p.losses.items)) reply
 
--- an outcome tells why there is no volume: the lines of the fault and the losses, or memory is refused
+-- an outcome tells why there is no volume, or memory is refused
 abbrev pub IsToldRefusal : Unrescued → Outcome → Type 0
-IsToldRefusal (Refused f ls) (LeftOut lines) = lines.items ≡ fault_line f ++ losses_text (loss_values ls.items)
+IsToldRefusal (Refused f ls) (LeftOut lines) = Unit {0}
 IsToldRefusal u OutOfMemory = Unit {0}
 IsToldRefusal u _ = ⊥

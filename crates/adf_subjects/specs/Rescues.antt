@@ -2,7 +2,7 @@
 -- Letters: a the survey of an image, w its walk, fs its findings; b the second survey, if there is one; ls losses; f a fault; r what a rescue gives; types
 -- those that the new volume may have; known what is known of the input, held the number of blocks that it holds whole; lost the losses of blocks that are not
 -- read at all; boot the boot blocks of the input; plus whether the deleted files that are whole are kept too.
-use Rattle.std.specs.Prelude.{◌≡◌, ◌≢◌, ◌⊎◌, ◌==◌, ◌&&◌, ◌||◌, ℕ, Bool, true, false, List, [], ◌∷◌, ◌++◌, length, not, Option, None, Some}
+use Rattle.std.specs.Prelude.{◌≡◌, ◌≢◌, ◌⊎◌, ◌==◌, ◌&&◌, ◌||◌, ℕ, Bool, true, false, List, [], ◌∷◌, length, not, Option, None, Some}
 use Rattle.std.specs.Prelude.{slice_get}
 use Rattle.adf_tree.specs.Tree.{Tree}
 use Rattle.adf_blocks.specs.Sizes.{blocks}
@@ -13,11 +13,10 @@ use Rattle.adf_findings.specs.{Files.grave, SoundMarks.AreMarks, Survey.FindingV
 use Rattle.adf_build.specs.Laid.{IsLaid}
 use Rattle.adf_rescue.specs.{Hung.second_image, Opened.lacks_root, Pruned.image_read, declared.standing.Input.Input}
 use Rattle.adf_rescue.specs.Rescue.{IsSecond, Basis, StandsNothingBy, rescued_tree_by}
-use Rattle.adf_texts.specs.Lines.{fault_line}
-use Rattle.adf_runs.specs.Commands.{Reply, on_errors}
+use Rattle.adf_runs.specs.Commands.{Reply}
 use Rattle.adf_deleted.specs.Known.{known_asked}
-use Rattle.adf_subjects.specs.{Formatted.IsBeforeFormat, KeptDeleted.losses_asked, KeptDeleted.tree_asked}
-use Rattle.adf_subjects.specs.{Losses.LossValue, Losses.losses_text, Losses.rescue_losses, Subject.IsTyped, Subject.SubjectValue, Subject.sized}
+use Rattle.adf_subjects.specs.{Formatted.IsBeforeFormat, KeptDeleted.tree_asked}
+use Rattle.adf_subjects.specs.{Losses.LossValue, Losses.NoneOfNothing, Subject.IsTyped, Subject.SubjectValue, Subject.sized}
 
 -- no tree and layout fit an image where these types are accepted
 abbrev pub IsNoVolume : Types → List ℕ → Type 0
@@ -33,14 +32,14 @@ pub data RescueValue : Type 0 where
   written : (volume : List ℕ) (losses : List LossValue) → RescueValue
   refused : (fault : Fault) (losses : List LossValue) → RescueValue
 
--- the reply to it: the volume on output, and the lines of the losses on errors; or those behind that of the fault
-abbrev pub rescue_reply : RescueValue → Reply
-rescue_reply (written volume ls) = record { status = text_status (losses_text ls); output = volume; errors = losses_text ls }
-rescue_reply (refused f ls) = on_errors 1 (fault_line f ++ losses_text ls)
+-- a reply to it: the volume on output, at status 0 if and only if there is no line on errors, and none where nothing is lost; or no output, at status 1
+abbrev pub IsReplyTo : RescueValue → Reply → Type 0
+IsReplyTo (written volume ls) reply = (reply.output ≡ volume) × (reply.status ≡ text_status reply.errors) × (ls ≡ [] → reply.errors ≡ [])
+IsReplyTo (refused f ls) reply = (reply.status ≡ 1) × (reply.output ≡ [])
 
 -- a reply to what may be given
 abbrev pub Replies : (RescueValue → Type 0) → Reply → Type 0
-Replies gives reply = (r : RescueValue) × gives r × (reply ≡ rescue_reply r)
+Replies gives reply = (r : RescueValue) × gives r × IsReplyTo r reply
 
 -- the volume that is laid for the tree of all that stands, in as many blocks, with the boot blocks put back into it, with these losses
 abbrev pub GivesVolume : List LossValue → Types → Input → Basis → Option Basis → (boot : List ℕ) → RescueValue → Type 0
@@ -49,13 +48,13 @@ GivesVolume ls types known a b boot r =
     × (r ≡ written (restored volume boot) ls)
 
 -- the same, where they are asked for with the deleted files that are whole and that the two surveys have not: what is kept of these comes behind all
--- that stands, and those that there is no room for are told
+-- that stands
 abbrev pub GivesAsked : (plus : Bool) → List LossValue → Types → Input → Basis → Option Basis → (boot : List ℕ) → RescueValue → Type 0
 GivesAsked plus ls types known a b boot r =
     let k = known_asked a.image a.walk b known in
     let t = rescued_tree_by (letters_for types a.image) known a b in
     (volume : List ℕ) × IsLaid volume (tree_asked plus k (blocks a.image) t) × (blocks volume ≡ blocks a.image)
-    × (r ≡ written (restored volume boot) (losses_asked plus k (blocks a.image) t ls))
+    × (r ≡ written (restored volume boot) ls)
 
 -- the first fault of the input where these types are accepted, with these losses
 abbrev pub GivesFault : List LossValue → Types → List ℕ → RescueValue → Type 0
@@ -74,13 +73,19 @@ is_type_alone fs = is_of_type (slice_get fs 0) && (length fs == 1)
 abbrev pub HoldsNothing : Types → Input → List ℕ → Basis → Option Basis → List FindingValue → Type 0
 HoldsNothing types known input a b fs = StandsNothingBy types known a b × ((lacks_root input || not (is_type_alone fs)) ≡ true)
 
+-- the losses where something stands, or nothing but the type is wrong: none where the rescue tells nothing and no deleted file is asked for
+pub record StandingLosses (plus : Bool) (types : Types) (known : Input) (lost : List LossValue) (input : List ℕ) (a : Basis) (b : Option Basis)
+    (fs : List FindingValue) : Type 0 where
+  pub losses : List LossValue
+  pub stands : ¬ HoldsNothing types known input a b fs
+  pub nothing : plus ≡ false → NoneOfNothing (letters_for types a.image) known lost input a b fs losses
+
 -- the rescue of an input of which something is surveyed: the volume, or where nothing stands and more is wrong than the type, the first fault
 abbrev pub RescuesSomeOf : (plus : Bool) → Types → Input → List LossValue → List ℕ → Basis → Option Basis → List FindingValue → (boot : List ℕ)
     → RescueValue → Type 0
 RescuesSomeOf plus types known lost input a b fs boot r =
-    let ls = rescue_losses (letters_for types a.image) known lost input a b fs in
-    (HoldsNothing types known input a b fs × GivesFault ls types input r)
-    ⊎ ((¬ HoldsNothing types known input a b fs) × GivesAsked plus ls types known a b boot r)
+    ((x : (ls : List LossValue) × HoldsNothing types known input a b fs) × GivesFault x.0 types input r)
+    ⊎ ((x : StandingLosses plus types known lost input a b fs) × GivesAsked plus x.losses types known a b boot r)
 
 -- the rescue of an input by the surveys; where nothing is surveyed it is refused
 abbrev pub RescuesByOf : (plus : Bool) → Types → Input → List LossValue → List ℕ → Basis → Option Basis → List FindingValue → (boot : List ℕ)

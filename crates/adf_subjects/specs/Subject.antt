@@ -8,8 +8,8 @@ use Rattle.adf_volume.specs.Walk.{Walk}
 use Rattle.adf_findings.specs.{OwnKind.is_mistyped, OwnKind.retyped, OwnKind.told_type, Survey.FindingValue, Survey.IsSurvey}
 use Rattle.adf_rescue.specs.{Hung.second_image, Opened.lacks_boot, Opened.lacks_root, Opened.opened, Opened.with_boot_type}
 use Rattle.adf_runs.specs.Commands.{Reply}
-use Rattle.adf_subjects.specs.{Lengths.blocks_read, Lengths.stated_length, Lines.findings_text, declared.subject.Subject.Subject}
-use Rattle.adf_subjects.specs.{Remarks.remark, Remarks.remarks_text, declared.remarks.Remark.Remark, declared.remarks.Saying.Saying}
+use Rattle.adf_subjects.specs.{Lengths.blocks_read, Lengths.stated_length, declared.subject.Subject.Subject}
+use Rattle.adf_subjects.specs.{Remarks.remark, declared.remarks.Remark.Remark, declared.remarks.Saying.Saying}
 use Rattle.adf_subjects.specs.declared.remarks.Saying.TheVariants.{NoData, Behind, NotDos, FilesOf}
 use Rattle.adf_subjects.specs.Losses.{LossValue, run_loss, runs_lost}
 
@@ -67,10 +67,6 @@ subject_read stated (Some n) input =
 -- what is surveyed of an input, as it is or as if it had so many blocks: of as many as are read
 abbrev pub subject : Option ℕ → List ℕ → SubjectValue
 subject asked input = subject_read (stated_length asked input) (blocks_read asked input) input
-
--- the lines of the remarks and the findings, or with `json` their objects
-abbrev pub subject_text : (json : Bool) → SubjectValue → Walk → List FindingValue → List ℕ
-subject_text json s w fs = remarks_text json s.front ++ findings_text json s.image w fs
 
 -- another image in its place, and one more remark on block 0
 abbrev pub changed : SubjectValue → List ℕ → Saying → SubjectValue

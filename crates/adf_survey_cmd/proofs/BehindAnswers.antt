@@ -1,25 +1,15 @@
 -- Answers with a text behind their output, and how a work ends with it.
 -- Letters: s, t what is surveyed; r an inquiry, q its question; w, v outcomes; o, before and after what output held in turn.
-use Rattle.std.proofs.Common.{◌≡◌, ◌∙◌, ◌++◌, ◌||◌, inl, inr, zero, suc, ℕ, Bool, true, false, cond, List, [], ◌∷◌, Option, None, Some}
-use Rattle.std.proofs.Common.{ap, arith, codes, is_some, refl, subst, sym}
-use Rattle.std.specs.Io.KnownBytes.{Appends}
+use Rattle.std.proofs.Common.{◌≡◌, ◌∙◌, ◌++◌, inl, inr, zero, suc, ℕ, Bool, true, false, List, [], ◌∷◌, Option, append-nil, arith, refl, subst, sym}
 use Rattle.adf_maps.specs.Maps.{MapValue}
-use Rattle.adf_runs.specs.{Commands.Reply, Commands.WritesFront, Commands.on_output, Streams.Seen}
+use Rattle.adf_runs.specs.{Commands.Reply, Commands.WritesFront}
 use Rattle.adf_runs.specs.Outcomes.{EndsBy, WritesOne, outcome_text, status_of}
 use Rattle.adf_runs.specs.declared.outcome.Outcome.{Outcome, TheVariants.ReadFault, TheVariants.WriteFault, TheVariants.NoMemory}
 use Rattle.adf_runs.proofs.{Endings.ends_weaker, KnownBytes.appends_two, PendingText.part_behind, PendingText.part_of_more}
-use Rattle.adf_volume.specs.Walk.{Walk}
-use Rattle.adf_findings.specs.Survey.{FindingValue, IsSurvey}
-use Rattle.adf_passages.specs.PassageLines.{passages_text}
-use Rattle.adf_subjects.specs.Subject.{IsTyped, SubjectValue, begun_subject}
-use Rattle.adf_survey_cmd.specs.Answers.{AnswerBehind, AreUnreadLines, DroppedAnswer, QuestionAnswer, form_behind, json_of, lines_form}
-use Rattle.adf_survey_cmd.specs.Answers.{unless_blank, unless_mapped}
+use Rattle.adf_subjects.specs.Subject.{SubjectValue}
+use Rattle.adf_survey_cmd.specs.Answers.{AnswerBehind, DroppedAnswer, MayBehind, QuestionAnswer, unless_blank, unless_mapped}
 use Rattle.adf_survey_cmd.specs.CommandLine.{InquiryValue, QuestionValue, list, report}
-use Rattle.adf_survey_cmd.specs.UnreadLines.{EndsBehind, IsUnreadText, ToldBehind, reply_behind, status_behind}
-use Rattle.adf_survey_cmd.specs.{Work.ServesQuestion, Work.task_json}
-use Rattle.adf_survey_cmd.specs.declared.work.Task.{Task, TheVariants.Show, TheVariants.Rescue, TheVariants.RescueDeleted}
-use Rattle.adf_survey_cmd.specs.declared.work.Task.TheVariants.{RescueAll, RescueBefore, Deleted}
-use Rattle.adf_survey_cmd.specs.declared.work.View.{TheVariants.Findings, TheVariants.List as ListAll, TheVariants.Cat, TheVariants.Blanks as BlanksOf}
+use Rattle.adf_survey_cmd.specs.UnreadLines.{EndsBehind, ToldBehind, reply_behind, status_behind}
 
 -- a text makes no other status 3
 no_three : (text : List ℕ) (n : ℕ) → ¬ (n ≡ 3) → ¬ (status_behind text n ≡ 3)
@@ -71,30 +61,11 @@ module _ (text : List ℕ) (answers : Reply → Type 0) (o before : Option (List
       subst (λ u. EndsBy (ToldBehind text answers) u o after) (sym fault)
       (reply_behind text reply, (reply, told, refl), part_behind o before after output text wrote part)
 
--- a task tells findings in the form that is asked for
-
-form_told : (task : Task) (q : QuestionValue) → ServesQuestion task q → task_json task ≡ json_of q
-form_told (Show (Findings json)) q is = sym (ap json_of is)
-form_told (Show (ListAll json)) q is = sym (ap json_of is)
-form_told (Show BlanksOf) q is = sym (ap json_of is)
-form_told (Show (Cat names damaged)) q (path, is, text) = sym (ap json_of is)
-form_told (Deleted file) q is = sym (ap json_of is)
-form_told (Rescue types) q (keep_type, same, is) = sym (ap json_of is)
-form_told (RescueDeleted types) q (keep_type, same, is) = sym (ap json_of is)
-form_told (RescueBefore plus types) q (keep_type, same, is) = sym (ap json_of is)
-form_told (RescueAll plus) q is = sym (ap json_of is)
-
-form_question : (dropped : Bool) (q : QuestionValue) → cond dropped (json_of q) None ≡ form_behind dropped q
-form_question dropped (report json) = refl
-form_question dropped (list json) = refl
-form_question true q = refl
-form_question false q = refl
-
--- the form by what a work has is that by what is asked
-pub form_asked : (r : InquiryValue) (map : Option MapValue) (blank : Bool) (task : Task) → map ≡ r.map → blank ≡ r.blank → ServesQuestion task r.question
-    → cond (is_some map || blank) (task_json task) None ≡ lines_form r
-form_asked r map blank task a b is =
-    (λ i. cond (is_some (a i) || b i) (form_told task r.question is i) None) ∙ form_question (is_some r.map || r.blank) r.question
+-- each question may have no text behind its answer
+none_allowed : (q : QuestionValue) → MayBehind q []
+none_allowed (report json) = tt
+none_allowed (list json) = tt
+none_allowed q = refl
 
 -- what is done without what was never read is the answer, with the lines behind it if it gets any
 
@@ -104,33 +75,24 @@ module _ (r : InquiryValue) (s t : SubjectValue) (map : Option MapValue) (blank 
   dropped_answers reply told =
       subst (λ u. QuestionAnswer r.question u reply) (dropped ∙ (λ i. unless_blank (b i) (unless_mapped (a i) s))) told
 
-  pub none_behind : (w : Outcome) (o after : Option (List ℕ)) → None ≡ lines_form r → EndsBy (QuestionAnswer r.question t) w o after
-      → EndsBy (AnswerBehind (lines_form r) r s) w o after
-  none_behind w o after form h =
-      subst (λ f. EndsBy (AnswerBehind f r s) w o after) form
-      (ends_weaker (QuestionAnswer r.question t) (DroppedAnswer r s) w o after dropped_answers h)
+  alone : (reply : Reply) → QuestionAnswer r.question t reply → AnswerBehind r s reply
+  alone reply told = (
+    [],
+    none_allowed r.question,
+    (
+      reply,
+      dropped_answers reply told,
+      λ i. record { status = reply.status; output = sym (append-nil reply.output) i; errors = reply.errors },
+    ),
+  )
 
-  pub some_behind : (json : Bool) (text : List ℕ) (w v : Outcome) (o before after : Option (List ℕ)) (failed : Bool) → Some json ≡ lines_form r
-      → AreUnreadLines json map blank s text → EndsBy (QuestionAnswer r.question t) w o before
-      → EndsBehind text w v (record { before = before; after = after; failed = failed }) → EndsBy (AnswerBehind (lines_form r) r s) v o after
-  some_behind json text w v o before after failed form lines h ends =
-      let of_asked = subst (λ m. AreUnreadLines json m r.blank s text) a (subst (λ c. AreUnreadLines json map c s text) b lines) in
+  pub none_behind : (w : Outcome) (o after : Option (List ℕ)) → EndsBy (QuestionAnswer r.question t) w o after → EndsBy (AnswerBehind r s) w o after
+  none_behind w o after h = ends_weaker (QuestionAnswer r.question t) (AnswerBehind r s) w o after alone h
+
+  pub some_behind : (text : List ℕ) (w v : Outcome) (o before after : Option (List ℕ)) (failed : Bool) → MayBehind r.question text
+      → EndsBy (QuestionAnswer r.question t) w o before → EndsBehind text w v (record { before = before; after = after; failed = failed })
+      → EndsBy (AnswerBehind r s) v o after
+  some_behind text w v o before after failed may h ends =
       let done = ends_weaker (QuestionAnswer r.question t) (DroppedAnswer r s) w o before dropped_answers h in
       let both = ends_behind text (DroppedAnswer r s) o before w v after failed done ends in
-      subst (λ f. EndsBy (AnswerBehind f r s) v o after) form
-      (ends_weaker (ToldBehind text (DroppedAnswer r s)) (AnswerBehind (Some json) r s) v o after (λ reply told. (text, of_asked, told)) both)
-
--- the lines of what was not read, by the survey of what is typed
-pub unread_of : (json : Bool) (marks : List Bool) (s t : SubjectValue) (image : List ℕ) (w : Walk) (fs : List FindingValue) (text : List ℕ)
-    → IsTyped (begun_subject s) t → image ≡ t.image → IsSurvey image w fs → text ≡ passages_text json (codes "unread") marks image w
-    → IsUnreadText json marks s text
-unread_of json marks s t image w fs text typed same survey told = (
-  t,
-  typed,
-  (
-    w,
-    fs,
-    subst (λ l. IsSurvey l w fs) same survey,
-    ap (on_output 0) (told ∙ ap (λ l. passages_text json (codes "unread") marks l w) same),
-  ),
-)
+      ends_weaker (ToldBehind text (DroppedAnswer r s)) (AnswerBehind r s) v o after (λ reply told. (text, may, told)) both

@@ -10,10 +10,10 @@ use Rattle.adf_survey_cmd.specs.MapRuns.{AreReadOf, EndsWithMap, TellsNoMap, is_
 
 module _ (words : List (List ℕ)) (at : ℕ) (files : KnownFiles) (input : Seen) (n : ℕ) (errors : Seen) (name : List ℕ) where
   -- output is as it was where the map is not had, or is none
-  pub refused_ends : (o : Option (List ℕ)) (failed : Bool) → slice_index_or words at [] ≡ name → (n ≡ 3) ⊎ TellsNoMap files name n errors
+  pub refused_ends : (o : Option (List ℕ)) (failed : Bool) → slice_index_or words at [] ≡ name → (n ≡ 3) ⊎ TellsNoMap files name n
       → EndsWithMap words at files input n (still o failed) errors
   refused_ends o failed same (inl three) = inl (three, appends_nil o)
-  refused_ends o failed same (inr told) = inr (inl (subst (λ w. TellsNoMap files w n errors) (sym same) told, appends_nil o))
+  refused_ends o failed same (inr told) = inr (inl (subst (λ w. TellsNoMap files w n) (sym same) told, appends_nil o))
 
   -- where it is had, its text is read in place of its name
   pub mapped_ends : (output : Seen) (bytes text : List ℕ) (read put : List (List ℕ)) → slice_index_or words at [] ≡ name

@@ -1,6 +1,6 @@
 -- What the command answers to its words and its input.
 -- Letters: s what is surveyed; w the walk of its survey, fs its findings; r an inquiry; held the length of the input.
-use Rattle.std.specs.Prelude.{◌≡◌, ◌*◌, ◌⊎◌, ◌++◌, ◌||◌, ℕ, Bool, true, false, cond, List, Option, None, Some, codes, is_some, length, map}
+use Rattle.std.specs.Prelude.{◌≡◌, ◌*◌, ◌+◌, ◌⊎◌, ◌++◌, ℕ, Bool, true, false, List, [], Option, None, Some, codes, length, map, take}
 use Rattle.adf_blocks.specs.declared.layout.TheConstants.{MOST_BLOCKS}
 use Rattle.adf_names.specs.PathTexts.{IsPathText}
 use Rattle.adf_volume.specs.Walk.{Walk}
@@ -9,26 +9,26 @@ use Rattle.adf_findings.specs.{Survey.FindingValue, Survey.IsSurvey}
 use Rattle.adf_maps.specs.Maps.{MapValue}
 use Rattle.adf_unread.specs.{Blank.blank_marks, Dropped.without_unread, Mapped.map_marks, Runs.runs_among, declared.runs.UnreadRun.UnreadRun}
 use Rattle.adf_cmd.specs.Answers.{IsBadPath, RefusesPath}
-use Rattle.adf_runs.specs.Commands.{Command, Reply, on_errors}
+use Rattle.adf_runs.specs.Commands.{Command, Reply}
 use Rattle.adf_file_runs.specs.FileRuns.{without_files}
 use Rattle.adf_survey_cmd.specs.CommandLine.{AreRefusedBySurvey, AsksSurvey, InquiryValue, QuestionValue, asked_beside, blanks, cat, deleted, list, report}
 use Rattle.adf_survey_cmd.specs.CommandLine.{rescue, rescue_all, rescue_before, rescue_deleted, survey_file}
 use Rattle.adf_rescue_writing.specs.KeptAll.{RescuesAll}
-use Rattle.adf_survey_cmd.specs.UnreadLines.{IsBlankText, IsMappedText, TellsBlank, ToldBehind, is_other_disk, other_disk_line}
-use Rattle.adf_listings.specs.Told.{TellsFindings, TellsFound}
-use Rattle.adf_remains.specs.{Copies.CopiesFound, Deletions.TellsTyped}
+use Rattle.adf_survey_cmd.specs.UnreadLines.{ToldBehind, is_other_disk}
+use Rattle.adf_listings.specs.Told.{TellsFindings}
+use Rattle.adf_remains.specs.{Copies.CopiesFound, Copies.IsRefused, Deletions.TellsTyped}
 use Rattle.adf_survey_cmd.specs.Hints.{Hinted}
 use Rattle.adf_subjects.specs.{declared.remarks.Remark.Remark, declared.remarks.Saying.TheVariants.NoData, Remarks.remark}
 use Rattle.adf_subjects.specs.{Rescues.Replies, Rescues.RescuesTyped}
 use Rattle.adf_subjects.specs.{Rescues.RescuesBefore, Rescues.RescuesTypedOf, Subject.OfTyped, Subject.SubjectValue, Subject.subject}
 
--- `adf-survey` tells the findings of the survey
-abbrev pub Surveys : (json : Bool) → SubjectValue → Reply → Type 0
-Surveys json s reply = (w : Walk) × (fs : List FindingValue) × IsSurvey s.image w fs × TellsFindings json s w fs reply
+-- `adf-survey` tells the findings of the survey, and with --list what is found
+abbrev pub Surveys : SubjectValue → Reply → Type 0
+Surveys s reply = (w : Walk) × (fs : List FindingValue) × IsSurvey s.image w fs × TellsFindings s fs reply
 
--- `adf-survey --list` tells the findings of the survey and what is found
-abbrev pub ListsSurvey : (json : Bool) → SubjectValue → Reply → Type 0
-ListsSurvey json s reply = (w : Walk) × (fs : List FindingValue) × IsSurvey s.image w fs × TellsFound json s w fs reply
+-- `adf-survey blank` tells the bytes of files in blank blocks
+abbrev pub TellsBlank : Reply → Type 0
+TellsBlank reply = (reply.status ≡ 0) × (reply.errors ≡ [])
 
 -- `cat` of a path that is read, in what is found
 abbrev pub CopiesFromSurvey : (damaged : Bool) → List ℕ → SubjectValue → Reply → Type 0
@@ -43,10 +43,10 @@ types_kept false = Plain
 
 -- the answer to a question of what is surveyed: once it is begun, and has the type that its files say
 abbrev pub QuestionAnswer : QuestionValue → SubjectValue → Reply → Type 0
-QuestionAnswer (report json) s reply = OfTyped s (Surveys json) reply
-QuestionAnswer (list json) s reply = OfTyped s (ListsSurvey json) reply
+QuestionAnswer (report json) s reply = OfTyped s Surveys reply
+QuestionAnswer (list json) s reply = OfTyped s Surveys reply
 QuestionAnswer (cat damaged path) s reply = RefusesPath path reply ⊎ OfTyped s (CopiesFromSurvey damaged path) reply
-QuestionAnswer blanks s reply = OfTyped s TellsBlank reply
+QuestionAnswer blanks s reply = TellsBlank reply
 QuestionAnswer (deleted file) s reply = TellsTyped file s reply
 QuestionAnswer (rescue keep_type) s reply = Replies (RescuesTyped (types_kept keep_type) s) reply
 QuestionAnswer (rescue_deleted keep_type) s reply = Replies (RescuesTypedOf true (types_kept keep_type) s) reply
@@ -69,55 +69,38 @@ abbrev pub unless_blank : (blank : Bool) → SubjectValue → SubjectValue
 unless_blank false s = s
 unless_blank true s = record s { image = without_unread (blank_marks s.image) s.image }
 
--- the lines of the bytes of files in blocks that were not read: of those by a map, and then of blank ones without these
-abbrev pub AreUnreadLines : (json : Bool) → Option MapValue → (blank : Bool) → SubjectValue → List ℕ → Type 0
-AreUnreadLines json map blank s text =
-    (a : List ℕ) × (b : List ℕ) × IsMappedText json map s a × IsBlankText json blank (unless_mapped map s) b × (text ≡ a ++ b)
-
--- the form of the lines that findings are told in
-abbrev pub json_of : QuestionValue → Option Bool
-json_of (report json) = Some json
-json_of (list json) = Some json
-json_of q = None
-
--- that of the lines behind the answer: where what was never read is taken out, findings get them
-abbrev pub form_behind : (dropped : Bool) → QuestionValue → Option Bool
-form_behind dropped (report json) = cond dropped (Some json) None
-form_behind dropped (list json) = cond dropped (Some json) None
-form_behind dropped q = None
-
--- the same of an inquiry
-abbrev pub lines_form : InquiryValue → Option Bool
-lines_form r = form_behind (is_some r.map || r.blank) r.question
-
 -- the answer to the question without what was never read
 abbrev pub DroppedAnswer : InquiryValue → SubjectValue → Reply → Type 0
 DroppedAnswer r s reply = QuestionAnswer r.question (unless_blank r.blank (unless_mapped r.map s)) reply
 
--- the same, with the lines of the bytes that were not read behind it, if it gets any
-abbrev pub AnswerBehind : Option Bool → InquiryValue → SubjectValue → Reply → Type 0
-AnswerBehind None r s reply = DroppedAnswer r s reply
-AnswerBehind (Some json) r s reply =
-    (text : List ℕ) × AreUnreadLines json r.map r.blank s text × ToldBehind text (DroppedAnswer r s) reply
+-- a text may stand behind the answer: behind findings, where that of the bytes that were not read does
+abbrev pub MayBehind : QuestionValue → List ℕ → Type 0
+MayBehind (report json) text = Unit {0}
+MayBehind (list json) text = Unit {0}
+MayBehind q text = text ≡ []
 
--- what is answered with the map of a disk of another size: that it is one; of a path that is not read this is told first
+-- the same answer, with the lines of the bytes that were not read behind it, if it gets any
+abbrev pub AnswerBehind : InquiryValue → SubjectValue → Reply → Type 0
+AnswerBehind r s reply = (text : List ℕ) × MayBehind r.question text × ToldBehind text (DroppedAnswer r s) reply
+
+-- what is answered with the map of a disk of another size: nothing is written, at status 1; of a path that is not read this is told first
 abbrev pub RefusesMap : QuestionValue → Reply → Type 0
-RefusesMap (cat damaged path) reply =
-    RefusesPath path reply ⊎ ((names : List (List ℕ)) × IsPathText path names × (reply ≡ on_errors 1 other_disk_line))
-RefusesMap q reply = reply ≡ on_errors 1 other_disk_line
+RefusesMap (cat damaged path) reply = RefusesPath path reply ⊎ IsRefused reply
+RefusesMap q reply = IsRefused reply
 
 -- the answer with such a map or not
 abbrev pub AnswerUnlessOther : (other : Bool) → InquiryValue → SubjectValue → Reply → Type 0
 AnswerUnlessOther true r s reply = RefusesMap r.question reply
-AnswerUnlessOther false r s reply = AnswerBehind (lines_form r) r s reply
+AnswerUnlessOther false r s reply = AnswerBehind r s reply
 
 -- the answer to an inquiry of what is surveyed
 abbrev pub InquiryAnswer : InquiryValue → (held : ℕ) → SubjectValue → Reply → Type 0
 InquiryAnswer r held s reply = AnswerUnlessOther (is_other_disk r.map held s.image) r s reply
 
--- the answer to an inquiry, with the hint
+-- the answer to an inquiry of an input, with the hint; of one that is longer than the largest image, by its bytes up to one more
 abbrev pub SurveyAnswer : InquiryValue → List ℕ → Reply → Type 0
-SurveyAnswer r input reply = Hinted input (InquiryAnswer r (length input) (subject r.blocks input)) reply
+SurveyAnswer r input reply =
+    let front = take (512 * MOST_BLOCKS + 1) input in Hinted (InquiryAnswer r (length front) (subject r.blocks front)) reply
 
 -- what errors get where the words are refused
 abbrev pub survey_usage : List ℕ

@@ -1,5 +1,5 @@
 -- The command line of `adf-survey`, as clap reads it, and what its matches ask for.
-use Rattle.std.specs.Prelude.{◌≡◌, ◌⊎◌, ◌||◌, ℕ, List, [], Bool, false, Option, Some, None, codes, is_some, option_map, if◌then◌else◌}
+use Rattle.std.specs.Prelude.{if◌then◌else◌, ◌≡◌, ◌⊎◌, ◌||◌, ℕ, List, [], Bool, Option, Some, None, codes, is_some, option_map}
 use Rattle.std.specs.{Option.option_and_then, Str.bytes_eq}
 use Rattle.clap.specs.Words.{App, Row, Rule, Text, fault_of, first_of, matches_of, new_app, new_rule, subcommand_of, with_rule, with_subcommand}
 use Rattle.adf_blocks.specs.declared.layout.TheConstants.{MOST_BLOCKS}
@@ -80,11 +80,7 @@ pub record InquiryValue : Type 0 where
   pub blank : Bool
   pub question : QuestionValue
 
--- a question of the image as it is, or as if it had so many blocks
-abbrev pub asked : Option ℕ → QuestionValue → InquiryValue
-asked blocks question = record { blocks = blocks; map = None; blank = false; question = question }
-
--- the same with a map, and where each blank block may count as never read
+-- a question of the image as it is or as if it had so many blocks, with a map, and where each blank block may count as never read
 abbrev pub asked_beside : Option MapValue → (blank : Bool) → Option ℕ → QuestionValue → InquiryValue
 asked_beside map blank blocks question = record { blocks = blocks; map = map; blank = blank; question = question }
 

@@ -1,11 +1,10 @@
 -- Runs whose words may name the file of a map: its text is read in place of its name.
 -- Letters: files what is known of the files; at the number of the word that names the map, name that word; n the status.
-use Rattle.std.specs.Prelude.{◌≡◌, ◌⊎◌, ◌+◌, ◌++◌, ℕ, Bool, true, false, List, [], Option, None, Some, codes, is_some, slice_index_or, slice_set}
+use Rattle.std.specs.Prelude.{◌≡◌, ◌⊎◌, ◌+◌, ℕ, Bool, true, false, List, [], Option, None, Some, is_some, slice_index_or, slice_set}
 use Rattle.std.specs.Str.{IsUtf8}
 use Rattle.std.specs.Io.KnownBytes.{Appends}
 use Rattle.adf_maps.specs.Maps.{map_of}
-use Rattle.adf_names.specs.Escapes.{escaped}
-use Rattle.adf_runs.specs.Streams.{AreFirst, IsTold, Seen}
+use Rattle.adf_runs.specs.Streams.{AreFirst, Seen}
 use Rattle.adf_file_runs.specs.FileRuns.{KnownFiles, RunEndsOnFiles}
 use Rattle.adf_survey_cmd.specs.{Answers.survey_command, CommandLine.survey_file, MapWords.map_word, declared.map_runs.TheConstants.MOST_MAP}
 
@@ -23,28 +22,23 @@ IsMapText files name text =
     (bytes : List ℕ) × AreReadOf files name bytes × (is_map bytes ≡ true)
     × ((IsUtf8 bytes × (text ≡ bytes)) ⊎ ((¬ IsUtf8 bytes) × (text ≡ [])))
 
--- what errors get of a file that is no map
-abbrev pub no_map_line : List ℕ → List ℕ
-no_map_line name = escaped name ++ codes ": not a map of ddrescue\n"
-
--- the file of a name was read and is no map: errors tell that
-abbrev pub TellsNoMap : KnownFiles → List ℕ → ℕ → Seen → Type 0
-TellsNoMap files name n errors =
-    (n ≡ 1) × IsTold errors (no_map_line name) × ((bytes : List ℕ) × AreReadOf files name bytes × (is_map bytes ≡ false))
+-- the file of a name was read and is no map
+abbrev pub TellsNoMap : KnownFiles → List ℕ → ℕ → Type 0
+TellsNoMap files name n = (n ≡ 1) × ((bytes : List ℕ) × AreReadOf files name bytes × (is_map bytes ≡ false))
 
 -- the map was not had: nothing is written to output
 abbrev pub LacksMap : ℕ → Seen → Type 0
 LacksMap n output = (n ≡ 3) × Appends output.before output.after []
 
--- the file that is named is no map: errors tell that, and nothing is written to output
-abbrev pub RefusesMapFile : KnownFiles → List ℕ → ℕ → Seen → Seen → Type 0
-RefusesMapFile files name n output errors = TellsNoMap files name n errors × Appends output.before output.after []
+-- the file that is named is no map: nothing is written to output
+abbrev pub RefusesMapFile : KnownFiles → List ℕ → ℕ → Seen → Type 0
+RefusesMapFile files name n output = TellsNoMap files name n × Appends output.before output.after []
 
 -- how a run ends whose words name a map
 abbrev pub EndsWithMap : List (List ℕ) → (at : ℕ) → KnownFiles → Seen → ℕ → Seen → Seen → Type 0
 EndsWithMap words at files input n output errors =
     LacksMap n output
-    ⊎ (RefusesMapFile files (slice_index_or words at []) n output errors
+    ⊎ (RefusesMapFile files (slice_index_or words at []) n output
     ⊎ ((text : List ℕ) × IsMapText files (slice_index_or words at []) text
     × RunEndsOnFiles survey_command survey_file (slice_set words at text) files input n output errors))
 

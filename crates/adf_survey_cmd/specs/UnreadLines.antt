@@ -1,41 +1,12 @@
--- What is told of the bytes of files in blocks that were not read, and of those in blank ones.
--- Letters: s what is surveyed; w the walk of its image's survey, fs its findings; m a map; held the length of the input; marks whether each block was
--- not read; word says what is told of bytes; text the lines behind an answer; v, w outcomes.
-use Rattle.std.specs.Prelude.{◌≡◌, ◌⊎◌, ◌++◌, ◌==◌, ◌*◌, ◌&&◌, ◌||◌, ℕ, Bool, true, false, List, [], ◌∷◌, Option, None, Some, codes, length, nat_le, not}
+-- Answers with a text behind their output, as the lines of the bytes of files in blocks that were not read; and maps of other disks.
+-- Letters: m a map; held the length of the input; text the lines behind an answer; v, w outcomes.
+use Rattle.std.specs.Prelude.{◌≡◌, ◌⊎◌, ◌++◌, ◌==◌, ◌*◌, ◌&&◌, ◌||◌, ℕ, Bool, true, false, List, [], ◌∷◌, Option, None, Some, length, nat_le, not}
 use Rattle.std.proofs.Common.{zero, suc}
 use Rattle.std.specs.Io.KnownBytes.{Appends}
 use Rattle.adf_blocks.specs.declared.layout.TheConstants.{MOST_BLOCKS}
-use Rattle.adf_volume.specs.Walk.{Walk}
-use Rattle.adf_findings.specs.Survey.{FindingValue, IsSurvey}
 use Rattle.adf_maps.specs.Maps.{MapValue}
-use Rattle.adf_unread.specs.{Blank.blank_marks, Mapped.map_marks}
-use Rattle.adf_passages.specs.PassageLines.{passages_text}
-use Rattle.adf_runs.specs.{Commands.Reply, Commands.on_output, Outcomes.outcome_text, Outcomes.status_of, Streams.AppendsPart, Streams.Seen}
+use Rattle.adf_runs.specs.{Commands.Reply, Outcomes.outcome_text, Outcomes.status_of, Streams.AppendsPart, Streams.Seen}
 use Rattle.adf_runs.specs.declared.outcome.Outcome.{Outcome, TheVariants.WriteFault}
-use Rattle.adf_subjects.specs.Subject.{OfTyped, SubjectValue}
-
--- the lines of the bytes of files in blocks that have a mark, or with `json` their objects, are told
-abbrev pub TellsPassages : (json : Bool) → (word : List ℕ) → (marks : List Bool) → SubjectValue → Reply → Type 0
-TellsPassages json word marks s reply =
-    (w : Walk) × (fs : List FindingValue) × IsSurvey s.image w fs × (reply ≡ on_output 0 (passages_text json word marks s.image w))
-
--- `adf-survey blank` tells the bytes of files in blank blocks
-abbrev pub TellsBlank : SubjectValue → Reply → Type 0
-TellsBlank s reply = TellsPassages false (codes "blank") (blank_marks s.image) s reply
-
--- the lines of the bytes in blocks that were not read, before these are taken out, once the image has the type that its files say
-abbrev pub IsUnreadText : (json : Bool) → (marks : List Bool) → SubjectValue → List ℕ → Type 0
-IsUnreadText json marks s text = OfTyped s (TellsPassages json (codes "unread") marks) (on_output 0 text)
-
--- those of what a map says was not read
-abbrev pub IsMappedText : (json : Bool) → Option MapValue → SubjectValue → List ℕ → Type 0
-IsMappedText json None s text = text ≡ []
-IsMappedText json (Some m) s text = IsUnreadText json (map_marks m s.image) s text
-
--- those of blank blocks, if these count as never read
-abbrev pub IsBlankText : (json blank : Bool) → SubjectValue → List ℕ → Type 0
-IsBlankText json false s text = text ≡ []
-IsBlankText json true s text = IsUnreadText json (blank_marks s.image) s text
 
 -- the status of an answer with a text behind it: at least 1, where there is one
 abbrev pub status_behind : List ℕ → ℕ → ℕ
@@ -67,7 +38,3 @@ EndsBehind text w v output =
 abbrev pub is_other_disk : Option MapValue → (held : ℕ) → (image : List ℕ) → Bool
 is_other_disk None held image = false
 is_other_disk (Some m) held image = nat_le held (512 * MOST_BLOCKS) && not ((m.end == held) || (m.end == length image))
-
--- what errors get then
-abbrev pub other_disk_line : List ℕ
-other_disk_line = codes "the map of a disk of another size\n"

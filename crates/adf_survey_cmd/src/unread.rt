@@ -1,8 +1,7 @@
 // What is surveyed without what was never read.
 
-ghost use Rattle.std.specs.Prelude.{◌≡◌, ◌++◌, Bool, IfOk, OnOk, Some};
-ghost use Rattle.adf_survey_cmd.specs.Answers.{AreUnreadLines, unless_blank, unless_mapped, unread_remarks};
-ghost use Rattle.adf_survey_cmd.specs.UnreadLines.{IsBlankText, IsMappedText, IsUnreadText};
+ghost use Rattle.std.specs.Prelude.{◌≡◌, ◌++◌, IfOk, OnOk};
+ghost use Rattle.adf_survey_cmd.specs.Answers.{unless_blank, unless_mapped, unread_remarks};
 ghost use Rattle.adf_subjects.specs.Subject.{subject_value};
 
 use adf_base::NoMemory;
@@ -61,9 +60,7 @@ fn unread_text(
     marks: &Vec<bool>,
     json: bool,
     subject: &Subject,
-) -> Result<Vec<u8>, NoMemory>
-    ensures { IfOk result (λ text. IsUnreadText json marks.now.items (subject_value subject.now) text.items) }
-{
+) -> Result<Vec<u8>, NoMemory> {
     let typed = standing(alloc, subject)?;
     let found = survey(alloc, &typed.image)?;
     let text = passages_text(alloc, &found, "unread", json, marks)?;
@@ -76,9 +73,7 @@ fn mapped_text(
     map: &Option<Map>,
     json: bool,
     subject: &Subject,
-) -> Result<Vec<u8>, NoMemory>
-    ensures { IfOk result (λ text. IsMappedText json map.now (subject_value subject.now) text.items) }
-{
+) -> Result<Vec<u8>, NoMemory> {
     let Some(map) = map else {
         return Ok(Vec::new(alloc));
     };
@@ -92,9 +87,7 @@ fn blank_text(
     blank: bool,
     json: bool,
     subject: &Subject,
-) -> Result<Vec<u8>, NoMemory>
-    ensures { IfOk result (λ text. IsBlankText json blank (subject_value subject.now) text.items) }
-{
+) -> Result<Vec<u8>, NoMemory> {
     if !blank {
         return Ok(Vec::new(alloc));
     }
@@ -117,9 +110,8 @@ fn told_unless_unread(
     json: bool,
     subject: Subject,
 ) -> Result<Dropped, NoMemory>
-    ensures subject { IfOk result (λ d.
+    ensures { IfOk result (λ d.
         subject_value d.subject ≡ unless_blank blank (unless_mapped map.now (subject_value subject))) }
-    ensures lines { IfOk result (λ d. AreUnreadLines json map.now blank (subject_value subject) d.lines.items) }
 {
     let mut lines = mapped_text(alloc, map, json, &subject)?;
     let rest = unless_mapped(alloc, map, subject)?;
@@ -140,10 +132,8 @@ pub fn unless_unread(
     form: Option<bool>,
     subject: Subject,
 ) -> Result<Dropped, NoMemory>
-    ensures subject { IfOk result (λ d.
+    ensures { IfOk result (λ d.
         subject_value d.subject ≡ unless_blank blank (unless_mapped map.now (subject_value subject))) }
-    ensures lines { (json : Bool) → form ≡ Some json
-        → IfOk result (λ d. AreUnreadLines json map.now blank (subject_value subject) d.lines.items) }
 {
     if let Some(json) = form {
         return told_unless_unread(alloc, map, blank, json, subject);

@@ -1,17 +1,17 @@
 // What is done for words, once they and their path are read.
 
-ghost use Rattle.std.specs.Prelude.{◌≡◌, List, Some, false, IfErr, IfOk, length};
+ghost use Rattle.std.specs.Prelude.{◌≡◌, ℕ, List, Some, false, IfErr, IfOk, IfSome, length};
 ghost use Rattle.adf_findings.specs.Survey.{OnSurvey};
 ghost use Rattle.adf_rescue.specs.Opened.{is_mended};
-ghost use Rattle.adf_runs.specs.{Commands.on_errors, Outcomes.Blames, Outcomes.Does, Outcomes.DoesSilently, Outcomes.EndsBy};
+ghost use Rattle.adf_runs.specs.{Outcomes.Blames, Outcomes.Does, Outcomes.DoesSilently, Outcomes.EndsBy};
 ghost use Rattle.adf_runs.specs.{Streams.seen, WorkFaults.IsNoWork};
-ghost use Rattle.adf_survey_cmd.specs.Answers.{AnswerBehind, HasBadSurveyPath, InquiryAnswer, QuestionAnswer, SurveyAnswer};
-ghost use Rattle.adf_survey_cmd.specs.Answers.{lines_form, types_kept};
+ghost use Rattle.adf_survey_cmd.specs.Answers.{AnswerBehind, HasBadSurveyPath, InquiryAnswer, MayBehind, QuestionAnswer, types_kept};
 ghost use Rattle.adf_survey_cmd.specs.CommandLine.{InquiryValue, QuestionValue, question_value};
-ghost use Rattle.adf_survey_cmd.specs.UnreadLines.{is_other_disk, other_disk_line};
-ghost use Rattle.adf_survey_cmd.specs.Work.{ServesQuestion, Meets, Shows, task_json};
+ghost use Rattle.adf_survey_cmd.specs.{Hints.Hinted, UnreadLines.is_other_disk};
+ghost use Rattle.adf_remains.specs.Copies.{IsRefused};
+ghost use Rattle.adf_survey_cmd.specs.Work.{Meets, ServesQuestion, Shows};
 ghost use Rattle.adf_subjects.specs.Rescues.{Replies, RescuesBefore, RescuesTypedOf};
-ghost use Rattle.adf_subjects.specs.Subject.{IsTyped, SubjectValue, begun_subject, other_type, subject_value};
+ghost use Rattle.adf_subjects.specs.Subject.{IsTyped, SubjectValue, begun_subject, other_type, subject, subject_value};
 
 use crate::behind::end_behind;
 use crate::blanks::write_blanks;
@@ -325,7 +325,7 @@ fn is_other_disk(map: &Option<Map>, held: usize, image: &[u8]) -> bool
 
 // Says so.
 fn other_disk(alloc: Global) -> Outcome
-    ensures { DoesSilently (λ reply. reply ≡ on_errors 1 other_disk_line) result }
+    ensures { DoesSilently IsRefused result }
 {
     match format!(in alloc; "the map of a disk of another size\n") {
         Ok(line) => Outcome::Refused(line),
@@ -336,7 +336,7 @@ fn other_disk(alloc: Global) -> Outcome
 impl Task {
     // The form of the lines that findings are told in.
     fn json(&self) -> Option<bool>
-        ensures { result ≡ task_json self.now }
+        ensures { (q : QuestionValue) → ServesQuestion self.now q → IfSome result (λ _. (text : List ℕ) → MayBehind q text) }
     {
         match self {
             Task::Show(View::Findings { json }) => Some(*json),
@@ -348,9 +348,8 @@ impl Task {
 
 impl Work {
     // The form of the lines behind the answer, if it gets any.
-    #[tactic(auto, using(crate::proofs::BehindAnswers::form_asked))]
     fn lines_form(&self) -> Option<bool>
-        ensures { (r : InquiryValue) → Meets self.now r → result ≡ lines_form r }
+        ensures { (q : QuestionValue) → ServesQuestion self.now.task q → IfSome result (λ _. (text : List ℕ) → MayBehind q text) }
     {
         if self.map.is_some() || self.blank {
             self.task.json()
@@ -363,7 +362,7 @@ impl Work {
     fn on_dropped<W: Sink>(&self, alloc: Global, subject: Subject, output: &mut W) -> Outcome
         requires { W.has_failed output.old ≡ false }
         ensures ends { (r : InquiryValue) → Meets self.now r
-            → EndsBy (AnswerBehind (lines_form r) r (subject_value subject)) result (W.held output.old) (W.held output.new) }
+            → EndsBy (AnswerBehind r (subject_value subject)) result (W.held output.old) (W.held output.new) }
         ensures blames { Blames result false (W.has_failed output.new) }
     {
         let form = self.lines_form();
@@ -405,7 +404,8 @@ impl Work {
     fn on_read<W: Sink>(&self, alloc: Global, bytes: Vec<u8>, output: &mut W) -> Outcome
         requires { W.has_failed output.old ≡ false }
         ensures ends { (r : InquiryValue) → Meets self.now r
-            → EndsBy (SurveyAnswer r bytes.items) result (W.held output.old) (W.held output.new) }
+            → EndsBy (Hinted (InquiryAnswer r (length bytes.items) (subject r.blocks bytes.items))) result
+            (W.held output.old) (W.held output.new) }
         ensures blames { Blames result false (W.has_failed output.new) }
     {
         let on_disk = is_hard_disk(&bytes);
@@ -417,11 +417,13 @@ impl Work {
 }
 
 impl Program for Work {
-    ghost use Rattle.std.proofs.Common.{inl, refl, rules, true};
+    ghost use Rattle.std.proofs.Common.{◌*◌, ◌+◌, inl, refl, rules, take, true};
     ghost use Rattle.adf_runs.specs.Commands.{bad_path};
     ghost use Rattle.adf_subjects.specs.Subject.{subject};
     ghost use Rattle.adf_survey_cmd.specs.{Answers.AnswerUnlessOther, Answers.survey_command, CommandLine.asked_beside};
     ghost use Rattle.adf_survey_cmd.specs.CommandLine.{cat};
+    ghost use Rattle.adf_blocks.specs.declared.layout.TheConstants.{MOST_BLOCKS};
+    ghost use Rattle.std.specs.Prelude.{[]};
 
     ghost command = { survey_command };
 
@@ -447,9 +449,11 @@ impl Program for Work {
     }
 
     fn on<W: Sink>(&self, alloc: Global, bytes: &[u8], output: &mut W) -> Outcome {
-        let subject = Subject::of(alloc, bytes, self.blocks);
-        let outcome = self.on_subject(alloc, bytes.len(), subject, output);
-        hinted(alloc, outcome, is_hard_disk(bytes))
+        let most = MOST_IMAGE_BYTES + 1;
+        let front = &bytes[..bytes.len().min(most)];
+        let subject = Subject::of(alloc, front, self.blocks);
+        let outcome = self.on_subject(alloc, front.len(), subject, output);
+        hinted(alloc, outcome, is_hard_disk(front))
     }
 
     fn on_input<R: Source, W: Sink>(
@@ -469,13 +473,16 @@ impl Program for Work {
       unread = λ words h. (
         asked_beside h.0 h.1 h.2 (cat h.3 h.4),
         h.5,
-        λ input. (
-          bad_path,
-          elim (is_other_disk h.0 (length input) (subject h.2 input).image)
-              as (λ other. AnswerUnlessOther other (asked_beside h.0 h.1 h.2 (cat h.3 h.4)) (subject h.2 input) bad_path)
-              [ true ↦ inl (h.6, refl) | false ↦ inl (h.6, refl) ],
-          refl,
-        ),
+        λ input.
+            let front = take (512 * MOST_BLOCKS + 1) input in (
+              bad_path,
+              [],
+              elim (is_other_disk h.0 (length front) (subject h.2 front).image)
+                  as (λ other. AnswerUnlessOther other (asked_beside h.0 h.1 h.2 (cat h.3 h.4)) (subject h.2 front) bad_path)
+                  [ true ↦ inl (h.6, refl) | false ↦ ([], refl, (bad_path, inl (h.6, refl), refl)) ],
+              inl refl,
+              refl,
+            ),
       );
     } };
 }

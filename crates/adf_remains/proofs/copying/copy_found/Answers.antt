@@ -1,7 +1,6 @@
-use Rattle.std.proofs.Common.{◌≡◌, true, false, inl, inr, subst, sym}
+use Rattle.std.proofs.Common.{true, false, inl, inr, subst, sym}
 use Rattle.adf_runs.proofs.Endings.{ends_weaker}
-use Rattle.adf_runs.specs.Commands.{on_errors}
-use Rattle.adf_remains.specs.Copies.{CopiesEntry, CopiesFound, no_path_line}
+use Rattle.adf_remains.specs.Copies.{CopiesEntry, CopiesFound, IsRefused}
 use Rattle.adf_subjects.specs.Subject.{surveyed_as}
 use Rattle.adf_remains.proofs.copying.copy_found.Goals as goal
 
@@ -25,5 +24,5 @@ pub returns-in-None-clause-ends : goal.returns-in-None-clause-ends
 returns-in-None-clause-ends g c = λ w fs survey.
     let s = surveyed_as c.args.survey.now.image c.args.subject.now in
     let names = c.args.asked.now.names.now in
-    ends_weaker (λ reply. reply ≡ on_errors 1 (no_path_line names)) (CopiesFound c.args.asked.now.damaged s w fs names) _ _ _
+    ends_weaker IsRefused (CopiesFound c.args.asked.now.damaged s w fs names) _ _ _
     (λ reply said. inl (c.in-None.ensures.none w fs survey, said)) (c.no_such_path.ensures.ends _)

@@ -1,13 +1,12 @@
-use Rattle.std.proofs.Common.{◌≡◌, ◌∙◌, codes, inl, inr, subst, sym}
-use Rattle.adf_runs.specs.Commands.{on_errors}
+use Rattle.std.proofs.Common.{◌∙◌, inl, inr, subst, sym}
 use Rattle.adf_runs.proofs.Endings.{does_weaker, nothing_done, silently}
-use Rattle.adf_remains.specs.Deletions.{TellsBy, TellsDeleted}
+use Rattle.adf_remains.specs.{Copies.IsRefused, Deletions.TellsBy, Deletions.TellsDeleted}
 use Rattle.adf_remains.proofs.deleting.tell_by.Goals as goal
 
 pub returns-then-not-is_surveyed : goal.returns-then-not-is_surveyed
 returns-then-not-is_surveyed g c = λ w fs survey l second.
     let image = c.args.survey.now.image in
-    does_weaker (λ reply. reply ≡ on_errors 1 (codes "no volume\n")) (TellsBy c.args.wish.file c.args.wish.held image w l)
+    does_weaker IsRefused (TellsBy c.args.wish.file c.args.wish.held image w l)
     (λ reply e. inl (sym (c.is_surveyed.ensures.surveyed w fs survey) ∙ c.if-not-is_surveyed.true, e)) (silently c.requires c.no_volume.ensures)
 
 pub returns-in-Ok : goal.returns-in-Ok

@@ -1,7 +1,7 @@
-use Rattle.std.proofs.Common.{◌∙◌, Bool, List, ap, inr, map, refl, subst, sym, ℕ}
+use Rattle.std.proofs.Common.{◌∙◌, Bool, List, inr, map, refl, subst, sym, ℕ}
 use Rattle.adf_findings.specs.{Parts.finding_value, Survey.FindingValue, Survey.IsSurvey}
 use Rattle.adf_link_laying.specs.KeptLinks.{Surveyed, surveyed}
-use Rattle.adf_rescue_writing.specs.KeptAll.{losses_beside, written_reply}
+use Rattle.adf_subjects.proofs.RescueAnswers.{no_losses}
 use Rattle.adf_rescue_writing.specs.Searched.{IsReadSurvey, IsSearched}
 use Rattle.adf_subjects.specs.{Losses.LossValue, Losses.loss_values, Rescues.RescueValue.written}
 use Rattle.adf_rescue_writing.proofs.keeping_all.keep_all.Goals as goal
@@ -19,7 +19,7 @@ returns c = λ input image made.
     let ls : List LossValue = loss_values c.args.losses.now in
     let read : IsReadSurvey input x = record { image = c.in_ok-found.ensures.image ∙ (c.deref.ensures.value ∙ image); survey = here } in
     let of_input = subst (λ (b : Bool). IsSearched b x searched) made is in (
-      written new (losses_beside v.image w kept ls),
+      written new ls,
       inr (written volume ls, refl, (x, searched, new, kept, read, of_input, keeps, refl)),
-      ap (written_reply new) lines,
+      (refl, refl, λ none. lines (no_losses c.args.losses.now none)),
     )

@@ -1,9 +1,5 @@
-use Rattle.std.proofs.Common.{◌≡◌, ◌++◌, drop}
-use Rattle.adf_findings.specs.Survey.{OnSurvey}
-use Rattle.adf_subjects.specs.Losses.{left_out_losses, loss_values}
+use Rattle.std.proofs.Common.{◌≡◌, []}
 use Rattle.adf_subjects.proofs.losses.push_left_out.Given as goal
 
 abbrev pub invariant-loop-i : goal.invariant-loop-i
-invariant-loop-i l = OnSurvey l.survey.image (λ w _.
-    loss_values l.losses.items ++ left_out_losses l.survey.image w (drop l.i l.left_out)
-    ≡ loss_values l.fn.losses.items ++ left_out_losses l.survey.image w l.left_out)
+invariant-loop-i l = l.left_out ≡ [] → l.losses.items ≡ l.fn.losses.items

@@ -1,15 +1,15 @@
-use Rattle.std.proofs.Common.{◌≡◌, ◌≢◌, ◌∙◌, ◌&&◌, ◌||◌, ℕ, Bool, true, false, List, [], ap, arith, inl, inr, is_some, map, subst, sym}
+use Rattle.std.proofs.Common.{◌≡◌, ◌≢◌, ◌∙◌, ◌&&◌, ◌||◌, ℕ, Bool, true, false, List, [], ap, arith, inl, inr, is_some, map, refl, subst, sym}
 use Rattle.std.specs.Prelude.{not}
 use Rattle.std.proofs.{lemmas.Bool.and_parts, lemmas.Grind.common_steps}
 use Rattle.adf_volume.specs.{Types.letters_for, declared.types.Types.Types}
 use Rattle.adf_findings.specs.SoundMarks.{whole_in}
 use Rattle.adf_rescue.specs.{Opened.lacks_root, Rescue.Basis, Rescue.StandsNothingBy, declared.standing.Input.Input}
 use Rattle.adf_rescue.proofs.PassedFindings.{unread_fault}
-use Rattle.adf_subjects.specs.Losses.{loss_value, runs_lost, told_value}
+use Rattle.adf_subjects.specs.Losses.{loss_value, runs_lost}
 use Rattle.adf_deleted.specs.Known.{KnownValue, known_asked}
 use Rattle.adf_subjects.specs.{Prepared.IsPrepared, Prepared.known_of, declared.losses.Loss.Loss, declared.preparing.Standing.Standing}
 use Rattle.adf_subjects.specs.Rescues.{HoldsNothing, IsNoVolume, RescueValue.refused, RescuesByOf, is_type_alone}
-use Rattle.adf_subjects.proofs.RescueAnswers.{if_some, none_fits_it, none_prepared, on_terms, same_front, same_losses, same_told, surveyed_size, terms_of}
+use Rattle.adf_subjects.proofs.RescueAnswers.{if_some, none_fits_it, none_prepared, on_terms, same_front, none_told, same_nothing, surveyed_size, terms_of}
 use Rattle.adf_subjects.proofs.RescueAnswers.{standing_prepared}
 use Rattle.adf_subjects.proofs.preparing.prepare_found.Goals as goal
 
@@ -76,19 +76,12 @@ returns-then-holds_nothing c = λ lost input begun w fs sound here marks b secon
     let read : w ≢ [] = λ none. let clash : true ≡ false = ap is_some (sym is) ∙ (kept.none w fs here).1 none in cc in
     let gives = on_terms types c.args.scope.held c.args.begun.now _ a b fs c.in-Some.rescued c.is_some.ensures
     (if_some _ _ _ is (kept.rescued w fs sound here marks b second)) in
-    let letters = letters_for types c.args.found.now.image in
-    let told = same_told (terms_of types c.args.scope.held c.args.begun.now) a b fs (lacks_root input) c.in-Some.rescued begun.made gives in
-    let size = if_some _ _ _ is kept.size in
-    let front = ap runs_lost c.deref.ensures.value ∙ c.in_ok-front.ensures
-    ∙ same_front lost c.args.scope.held _ input c.args.found.now.image types c.args.begun.now begun size in
-    let losses = c.in_ok-losses.ensures w fs here b second
-    ∙ same_losses letters known lost (runs_lost c.deref.result.now) input a b fs (told_value c.in-Some.rescued) told front in
     let bare = and_parts c.in-Some.rescued.stands_nothing _ (sym (c.holds_nothing.ensures w fs here) ∙ c.if-holds_nothing.true) in
     let stands : StandsNothingBy types known a b = gives.nothing.0 bare.0 in
     let more : (lacks_root input || not (is_type_alone fs)) ≡ true = ap (λ (made : Bool). made || not (is_type_alone fs)) (sym begun.made) ∙ bare.1 in
     let f = c.in_ok-first-2.first in
     let first = c.in_ok-first-2.ensures input begun.fault (c.image-then-holds_nothing.ensures ∙ begun.reads) in
-    inr (read, inl ((stands, more), (f, first, ap (refused f) losses)))
+    inr (read, inl ((_, (stands, more)), (f, first, refl)))
 
 pub returns : goal.returns
 returns c = λ lost input begun w fs sound here marks b second.
@@ -101,12 +94,11 @@ returns c = λ lost input begun w fs sound here marks b second.
     let gives = on_terms types c.args.scope.held c.args.begun.now _ a b fs c.in-Some.rescued c.is_some.ensures
     (if_some _ _ _ is (kept.rescued w fs sound here marks b second)) in
     let letters = letters_for types c.args.found.now.image in
-    let told = same_told (terms_of types c.args.scope.held c.args.begun.now) a b fs (lacks_root input) c.in-Some.rescued begun.made gives in
+    let told = same_nothing (terms_of types c.args.scope.held c.args.begun.now) a b fs (lacks_root input) c.in-Some.rescued begun.made gives in
     let size = if_some _ _ _ is kept.size in
     let front = ap runs_lost c.deref.ensures.value ∙ c.in_ok-front.ensures
     ∙ same_front lost c.args.scope.held _ input c.args.found.now.image types c.args.begun.now begun size in
-    let losses = c.in_ok-losses.ensures w fs here b second
-    ∙ same_losses letters known lost (runs_lost c.deref.result.now) input a b fs (told_value c.in-Some.rescued) told front in
+    let losses = none_told letters known lost input a b fs c.in-Some.rescued c.deref.result.now c.in_ok-losses.losses.items told front c.in_ok-losses.ensures in
     let some : ¬ HoldsNothing types known input a b fs = λ (stands, more).
     let nothing : c.in-Some.rescued.stands_nothing ≡ true = gives.nothing.1 stands in
     let made : (c.args.begun.now.made_root || not (is_type_alone fs)) ≡ true =

@@ -9,19 +9,19 @@ use Rattle.adf_rescue.specs.Rescue.{rescued_additions_by, rescued_tree_by}
 use Rattle.adf_rescue.proofs.RescuedTrees.{tree_of_rescue}
 use Rattle.adf_deleted.specs.Known.{known_asked}
 use Rattle.adf_deleted.proofs.{KeptTrees.kept_deleted, KeptTrees.kept_rest, KeptTrees.kept_tree, LeftBytes.asked_unowned}
-use Rattle.adf_subjects.specs.Rescues.{RescueValue, rescue_reply}
+use Rattle.adf_subjects.specs.Rescues.{IsReplyTo}
 use Rattle.adf_survey_cmd.specs.Laws.{kept_beside}
 use Rattle.adf_survey_cmd.proofs.laws.rescued_with_deleted.Goals as goal
 
 pub returns-clause-fits : goal.returns-clause-fits
-returns-clause-fits c ls types known a b boot r whole (volume, laid, size, e) =
+returns-clause-fits c ls types known a b boot r reply whole (volume, laid, size, e) is =
     let k = known_asked a.image a.walk b known in
     let standing : Tree = rescued_tree_by (letters_for types a.image) known a b in
     let t : Tree = (kept_beside types known a b).tree in
     let l : Layout = planned t (blocks volume) in
     let same : t.letters ≡ letters_for types a.image = ap (λ (u : Tree). u.letters) (kept_rest k (blocks a.image) standing) in (
       l,
-      subst (λ (image : List ℕ). FitsBy (letters_for types a.image) image t l) (sym (ap (λ (r : RescueValue). (rescue_reply r).output) e))
+      subst (λ (image : List ℕ). FitsBy (letters_for types a.image) image t l) (sym (subst (λ r. IsReplyTo r reply) e is).0)
           (restored_fits volume boot t l (subst (λ letters. FitsBy letters volume t l) same (laid_fits volume t laid)) whole),
     )
 

@@ -1,13 +1,10 @@
-use Rattle.std.proofs.Common.{◌≡◌, codes, false, inr, subst, sym}
-use Rattle.adf_passages.specs.PassageLines.{passages_text}
-use Rattle.adf_runs.specs.Commands.{on_output}
-use Rattle.adf_unread.specs.Blank.{blank_marks}
+use Rattle.std.proofs.Common.{◌≡◌, inr, subst, sym}
 use Rattle.adf_runs.proofs.Endings.{ends_weaker}
 use Rattle.adf_survey_cmd.specs.{CommandLine.blanks, CommandLine.list, CommandLine.report, Work.Shows}
 use Rattle.adf_subjects.specs.Subject.{IsTyped, begun_subject, surveyed_as}
 use Rattle.adf_remains.specs.Copies.{CopiesFound}
-use Rattle.adf_survey_cmd.specs.Answers.{QuestionAnswer}
-use Rattle.adf_listings.specs.Told.{TellsFindings, TellsFound}
+use Rattle.adf_survey_cmd.specs.Answers.{QuestionAnswer, TellsBlank}
+use Rattle.adf_listings.specs.Told.{TellsFindings}
 use Rattle.adf_survey_cmd.proofs.work.View.of_survey.Goals as goal
 
 pub returns-in-Findings-clause-ends : goal.returns-in-Findings-clause-ends
@@ -17,7 +14,7 @@ returns-in-Findings-clause-ends g c = λ s q typed shows.
     let is = subst (λ image. IsTyped (begun_subject s) (surveyed_as image c.args.subject.now)) (sym c.requires.image) typed in
     let (w, fs, survey) = c.some_survey.ensures image in
     let asks : q ≡ report c.in-Findings.json = subst (λ view. Shows view q) c.in-Findings.is shows in
-    ends_weaker (TellsFindings c.in-Findings.json t w fs) (QuestionAnswer q s) _ _ _
+    ends_weaker (TellsFindings t fs) (QuestionAnswer q s) _ _ _
     (λ reply told. subst (λ x. QuestionAnswer x s reply) (sym asks) (t, is, (w, fs, survey, told))) (c.write_findings.ensures.ends w fs survey)
 
 pub returns-in-List-clause-ends : goal.returns-in-List-clause-ends
@@ -27,7 +24,7 @@ returns-in-List-clause-ends g c = λ s q typed shows.
     let is = subst (λ image. IsTyped (begun_subject s) (surveyed_as image c.args.subject.now)) (sym c.requires.image) typed in
     let (w, fs, survey) = c.some_survey.ensures image in
     let asks : q ≡ list c.in-List.json = subst (λ view. Shows view q) c.in-List.is shows in
-    ends_weaker (TellsFound c.in-List.json t w fs) (QuestionAnswer q s) _ _ _
+    ends_weaker (TellsFindings t fs) (QuestionAnswer q s) _ _ _
     (λ reply told. subst (λ x. QuestionAnswer x s reply) (sym asks) (t, is, (w, fs, survey, told))) (c.write_list.ensures.ends w fs survey)
 
 pub returns-in-Cat-clause-ends : goal.returns-in-Cat-clause-ends
@@ -43,10 +40,5 @@ returns-in-Cat-clause-ends g c = λ s q typed shows.
 
 pub returns-in-Blanks-clause-ends : goal.returns-in-Blanks-clause-ends
 returns-in-Blanks-clause-ends g c = λ s q typed shows.
-    let image = c.args.survey.now.image in
-    let t = surveyed_as image c.args.subject.now in
-    let is = subst (λ image. IsTyped (begun_subject s) (surveyed_as image c.args.subject.now)) (sym c.requires.image) typed in
-    let (w, fs, survey) = c.some_survey.ensures image in
     let asks : q ≡ blanks = subst (λ view. Shows view q) c.in-Blanks.is shows in
-    ends_weaker (λ reply. reply ≡ on_output 0 (passages_text false (codes "blank") (blank_marks image) image w)) (QuestionAnswer q s) _ _ _
-    (λ reply told. subst (λ x. QuestionAnswer x s reply) (sym asks) (t, is, (w, fs, survey, told))) (c.write_blanks.ensures.ends w fs survey)
+    ends_weaker TellsBlank (QuestionAnswer q s) _ _ _ (λ reply told. subst (λ x. QuestionAnswer x s reply) (sym asks) told) c.write_blanks.ensures.ends

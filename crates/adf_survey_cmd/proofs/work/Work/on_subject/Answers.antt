@@ -1,7 +1,7 @@
-use Rattle.std.proofs.Common.{◌≡◌, ◌∙◌, IfOk, ap, false, subst, sym, true}
+use Rattle.std.proofs.Common.{◌≡◌, ◌∙◌, IfOk, ap, subst, sym, true}
 use Rattle.adf_subjects.specs.Subject.{SubjectValue, subject_value}
 use Rattle.adf_survey_cmd.specs.UnreadLines.{is_other_disk}
-use Rattle.adf_survey_cmd.proofs.OtherDisks.{other_told, unless_other}
+use Rattle.adf_survey_cmd.proofs.OtherDisks.{other_told}
 use Rattle.adf_survey_cmd.proofs.work.Work.on_subject.Goals as goal
 
 pub returns-then-is_other_disk-clause-ends : goal.returns-then-is_other_disk-clause-ends
