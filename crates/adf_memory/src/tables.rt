@@ -172,10 +172,7 @@ fn put_blocks(table: &mut [u32], first: usize, datas: &[u32])
         → table.new ≡ filled (xs ++ datas.now) room }
 {
     for i in 0..datas.len() {
-        if first + i >= table.len() {
-            return;
-        }
-        table[first + i] = datas[i];
+        put(table, first + i, datas[i]);
     }
 }
 

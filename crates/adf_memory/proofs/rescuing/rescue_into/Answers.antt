@@ -1,14 +1,21 @@
 use Rattle.std.proofs.Common.{length, subst, sym}
 use Rattle.adf_subjects.specs.{Rescues.RescuesTyped, Subject.subject}
 use Rattle.adf_memory.specs.{Rescuing.ExplainsRescue, Rescuing.asked_blocks, declared.rescuing.RescueRefusal.RescueRefusal}
-use Rattle.adf_memory.proofs.PreparedRescues.{put_given, refusal_explained, room_explained}
+use Rattle.std.proofs.lemmas.Result.{IfOk-weaker}
+use Rattle.adf_memory.proofs.PreparedRescues.{refusal_explained, room_explained, volume_given}
 use Rattle.adf_memory.proofs.rescuing.rescue_into.Goals as goal
 
 pub returns-in-Ok-clause-volume : goal.returns-in-Ok-clause-volume
 returns-in-Ok-clause-volume c =
-    put_given (RescuesTyped c.args.input.types (subject (asked_blocks c.args.input.blocks) c.args.input.image.now)) c.in-Ok.ready c.args.room.now
-    c.put_rescue.new.room c.args.losses.now c.put_rescue.new.losses c.args.paths.now c.put_rescue.new.paths c.put_rescue.result c.in-Ok.ensures.1
-    c.put_rescue.ensures.volume
+    let gives = RescuesTyped c.args.input.types (subject (asked_blocks c.args.input.blocks) c.args.input.image.now) in
+    IfOk-weaker c.put_rescue.result _ _ (λ told has. record {
+      volume = has.volume;
+      is_given = volume_given gives c.in-Ok.ready has.volume c.in-Ok.ensures.1 has.is_given;
+      size = has.size;
+      room = has.room;
+      rows = has.rows;
+      paths = has.paths;
+    }) c.put_rescue.ensures.volume
 
 pub returns-in-Ok-clause-fault : goal.returns-in-Ok-clause-fault
 returns-in-Ok-clause-fault c =
