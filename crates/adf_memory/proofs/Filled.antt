@@ -95,6 +95,3 @@ module _ {X : Type 0} (holds : X → Type 0) where
       → BeginsWith holds n room now → BeginsWith holds (n + 1) room next
   begins_more n room now next x here put (rows, all, count, is) =
       (rows ++ x ∷ [], All-push holds rows x all here, omega (arith, count, length-append rows (x ∷ [])), put rows room count is)
-
-  pub begins_same : (n m : ℕ) (room now next : List X) → m ≡ n → next ≡ now → BeginsWith holds n room now → BeginsWith holds m room next
-  begins_same n m room now next e f (rows, all, count, is) = (rows, all, e ∙ count, f ∙ is)

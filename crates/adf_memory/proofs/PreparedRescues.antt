@@ -13,7 +13,7 @@ use Rattle.adf_subjects.specs.{Subject.SubjectValue, Subject.sized, declared.pre
 use Rattle.adf_subjects.specs.Rescues.{RescueValue, RescueValue.written, Rescues}
 use Rattle.adf_subjects.specs.declared.preparing.Unrescued.{Unrescued, TheVariants.NoMemory, TheVariants.Refused}
 use Rattle.adf_subjects.proofs.KeptBoots.{laid_long}
-use Rattle.adf_memory.specs.Rescuing.{ExplainsRescue, GivesVolume, IsRoomRefusal, IsVolumeOf, Readies, unrescued_refusal}
+use Rattle.adf_memory.specs.Rescuing.{ExplainsRescue, GivesVolume, IsRoomRefusal, IsVolumeOf, Readies}
 use Rattle.adf_memory.specs.{declared.rescuing.Ready.Ready, declared.rescuing.RescueTold.RescueTold}
 use Rattle.adf_memory.specs.declared.rescuing.RescueRefusal.{RescueRefusal}
 use Rattle.adf_memory.specs.declared.rescuing.RescueRefusal.TheVariants as refusal
@@ -64,9 +64,3 @@ refuses_typed types s t NoMemory typed h = tt
 pub none_ready : (gives : RescueValue → Type 0) (x : Result Ready Unrescued) → IsErrAnd x (λ u. u ≡ NoMemory) → Readies gives x
 none_ready gives (Ok p) is = absurd is
 none_ready gives (Err u) is = rw is tt
-
--- a refusal is explained
-pub refusal_explained : (gives : RescueValue → Type 0) (room : ℕ) (u : Unrescued) → RefusesFor gives u
-    → ExplainsRescue gives room (unrescued_refusal u)
-refusal_explained gives room (Refused f ls) h = (loss_values ls.items, h)
-refusal_explained gives room NoMemory h = tt

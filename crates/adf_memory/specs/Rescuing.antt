@@ -7,7 +7,7 @@ use Rattle.adf_boot_blocks.specs.{Writing.restored, declared.boot.TheConstants.B
 use Rattle.adf_build.specs.Laid.{IsLaid, IsWellFormed}
 use Rattle.adf_subjects.specs.{Losses.LossValue, Prepared.LaysFor, Prepared.RefusesFor}
 use Rattle.adf_subjects.specs.Rescues.{RescueValue, RescueValue.refused, RescueValue.written}
-use Rattle.adf_subjects.specs.declared.preparing.Unrescued.{Unrescued, TheVariants.NoMemory, TheVariants.Refused}
+use Rattle.adf_subjects.specs.declared.preparing.Unrescued.{Unrescued}
 use Rattle.adf_memory.specs.{Rooms.BeginsWith, Rooms.HasRows, Rooms.filled, declared.losses.TableLoss.TableLoss, declared.rescuing.Ready.Ready}
 use Rattle.adf_memory.specs.{declared.losses.LossTable.LossTable, declared.rescuing.RescueRefusal.RescueRefusal, declared.rescuing.RescueTold.RescueTold}
 use Rattle.adf_memory.specs.declared.rescuing.RescueRefusal.TheVariants as refusal
@@ -62,11 +62,6 @@ abbrev pub ExplainsRescue : (RescueValue → Type 0) → (room : ℕ) → Rescue
 ExplainsRescue gives room (refusal.Fault f) = (losses : List LossValue) × gives (refused f losses)
 ExplainsRescue gives room (refusal.SmallRoom n) = GivesBlocks gives n × (room < n * 512)
 ExplainsRescue gives room refusal.NoMemory = Unit {0}
-
--- the refusal of a rescue that gives no volume
-abbrev pub unrescued_refusal : Unrescued → RescueRefusal
-unrescued_refusal (Refused f ls) = refusal.Fault f
-unrescued_refusal NoMemory = refusal.NoMemory
 
 -- the number of a refusal
 abbrev pub rescue_number : RescueRefusal → ℕ

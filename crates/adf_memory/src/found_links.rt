@@ -92,13 +92,11 @@ fn put_right(survey: &Survey<'_>, right: &Vec<bool>, room: &mut [TableLink]) -> 
 {
     let mut count = 0;
     for i in 0..survey.len() {
-        match right_row(survey, right, Node(i + 1)) {
-            Some(row) => {
-                put(room, count, row);
-                count += 1;
-            }
-            None => (),
-        }
+        let Some(row) = right_row(survey, right, Node(i + 1)) else {
+            continue;
+        };
+        put(room, count, row);
+        count += 1;
     }
     count
 }

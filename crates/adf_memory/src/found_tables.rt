@@ -153,9 +153,9 @@ fn entry_row(
     body: HeadBody,
     meta: &Meta,
 ) -> FoundEntry
-    requires { length name.now ≤ 79 }
     ensures { result.header ≡ header }
 {
+    let name = &name[..name.len().min(79)];
     let comment = meta.comment.bytes();
     FoundEntry {
         parent: parent.0,
@@ -180,19 +180,11 @@ pub fn header_of(survey: &Survey<'_>, n: Node) -> Option<u32>
     survey.block_of(n)
 }
 
-// The name of an entry, as it is in its header.
-fn name_of<'s>(survey: &'s Survey<'_>, n: Node) -> Option<&'s [u8]>
-    ensures { IfSome result (λ name. length name.now ≤ 79) }
-{
-    some_survey();
-    survey.name(n)
-}
-
 // The row of entry n; `None` past the last.
 fn found_entry(survey: &Survey<'_>, n: Node) -> Option<FoundEntry>
     ensures { IfSome result (λ row. row.header < blocks survey.now.image) }
 {
-    let (Some(header), Some(name)) = (header_of(survey, n), name_of(survey, n)) else {
+    let (Some(header), Some(name)) = (header_of(survey, n), survey.name(n)) else {
         return None;
     };
     let (Some(body), Some(meta)) = (survey.body(n), survey.meta(n)) else {

@@ -4,7 +4,7 @@ ghost use Rattle.std.specs.Prelude.{◌≡◌, ◌≤◌, ◌*◌, ◌<◌, List
 ghost use Rattle.adf_boot_blocks.specs.declared.boot.TheConstants.{BOOT_LEN};
 ghost use Rattle.adf_subjects.specs.{Rescues.RescuesTyped, Subject.subject, Subject.subject_value};
 ghost use Rattle.adf_memory.specs.Rescuing.{ExplainsRescue, GivesVolume, HasRescue, IsRoomRefusal, IsVolumeOf, Readies};
-ghost use Rattle.adf_memory.specs.Rescuing.{asked_blocks, rescue_number, rescue_told, unrescued_refusal};
+ghost use Rattle.adf_memory.specs.Rescuing.{asked_blocks, rescue_number, rescue_told};
 ghost use Rattle.adf_memory.specs.{Rooms.filled, SurveyCalls.RescuesVolume};
 ghost use Rattle.adf_memory.specs.declared.rescuing.RescueRefusal.{RescueRefusal as ARescueRefusal};
 
@@ -118,16 +118,6 @@ fn ready_image(alloc: Global, input: RescueInput<'_>) -> Result<Ready, Unrescued
 {
     let subject = Subject::of(alloc, input.image, asked_blocks(input.blocks))?;
     ready_subject(alloc, subject, input.types)
-}
-
-// The refusal of a rescue that gives no volume.
-fn refusal_of(unrescued: Unrescued) -> RescueRefusal
-    ensures { result ≡ unrescued_refusal unrescued }
-{
-    match unrescued {
-        Unrescued::Refused(fault, _) => RescueRefusal::Fault(fault),
-        Unrescued::NoMemory => RescueRefusal::NoMemory,
-    }
 }
 
 // Lays the volume of a tree that fits in so many blocks into a room of as many bytes, with these boot blocks.
@@ -259,7 +249,8 @@ fn rescue_into(
 {
     match ready_image(alloc, input) {
         Ok(ready) => put_rescue(alloc, ready, room, losses, paths),
-        Err(unrescued) => Err(refusal_of(unrescued)),
+        Err(Unrescued::Refused(fault, _)) => Err(RescueRefusal::Fault(fault)),
+        Err(Unrescued::NoMemory) => Err(RescueRefusal::NoMemory),
     }
 }
 

@@ -1,5 +1,4 @@
-use Rattle.std.proofs.Common.{◌<◌, subst}
-use Rattle.std.specs.Prelude.{IfSome, Option}
+use Rattle.std.proofs.Common.{◌<◌}
 use Rattle.adf_blocks.specs.Sizes.{blocks}
 use Rattle.adf_memory.specs.declared.found_tables.FoundEntry.{FoundEntry}
 use Rattle.adf_memory.proofs.Filled.{begins_more, begins_none}
