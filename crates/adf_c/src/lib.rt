@@ -20,12 +20,12 @@ ghost use Rattle.adf_memory.specs.{VolumeCalls.NeedsBlocks, VolumeCalls.TellsBoo
 use adf_base::Letters;
 use adf_file_runs::{VERSION_NUMBER, WithoutFiles};
 use adf_memory::{
-    BootBlocks, Built, Contents, FoundEntry, FoundPart, Moved, NewVolume, RescueTold, SubjectTold,
+    BootBlocks, Built, Contents, FoundEntry, FoundPart, Moved, NewVolume, RescueInput, RescueTold, SubjectTold,
     Surveyed, TableAddition, TableDisk, TableEntry, TableFinding, TableLink, TableLoss,
     TablePartition, Verdict, build_volume, cause_text, check_image, clear_boot, copy_boot,
     disk_cause_text, escape_text, find_entry, find_found, install_boot, need_volume, owners_of,
     partition_fault_text, put_disk, put_found_blocks, put_found_parts, put_index, put_links,
-    put_subject, put_survey, read_found, rescue_volume, rescue_volume_types, run_in_memory,
+    put_subject, put_survey, read_found, rescue_volume, run_in_memory,
     survey_owners, tell_boot,
 };
 use adf_memory_types::{check_image_types, owners_of_types, put_index_types, read_bytes_types};
@@ -189,7 +189,7 @@ pub extern "C" fn adf_survey_index(
 
 #[unsafe(no_mangle)]
 pub extern "C" fn adf_survey_find(alloc: Global, image: &[u8], path: &[u8], node: &mut usize) -> u8
-    ensures { FindsFound image.now path.now node.old node.new result }
+    ensures { FindsFound path.now node.old node.new result }
 {
     find_found(alloc, image, path, node)
 }
@@ -228,7 +228,7 @@ pub extern "C" fn adf_found_blocks(
     header: u32,
     table: &mut [u32],
 ) -> usize
-    ensures { FillsFound image.now parts.now node header table.old table.new result }
+    ensures { FillsFound image.now table.old table.new result }
 {
     put_found_blocks(image, parts, node, header, table)
 }
@@ -242,7 +242,7 @@ pub extern "C" fn adf_found_read(
     room: &mut [u8],
     lost: &mut usize,
 ) -> usize
-    ensures { ReadsFound image.now header table.now offset room.old room.new lost.new result }
+    ensures { ReadsFound image.now table.now offset room.old room.new result }
 {
     read_found(image, header, table, offset, room, lost)
 }
@@ -259,7 +259,13 @@ pub extern "C" fn adf_rescue(
 ) -> u8
     ensures { RescuesVolume Plain image.now blocks room.old room.new losses.old losses.new paths.old paths.new told.new result }
 {
-    rescue_volume(alloc, image, blocks, room, losses, paths, told)
+    let types = Types::Plain;
+    let input = RescueInput {
+        image,
+        blocks,
+        types,
+    };
+    rescue_volume(alloc, input, room, losses, paths, told)
 }
 
 #[unsafe(no_mangle)]
@@ -275,7 +281,13 @@ pub extern "C" fn adf_rescue_types(
     ensures { RescuesVolume WithInternational image.now blocks room.old room.new losses.old losses.new paths.old paths.new
         told.new result }
 {
-    rescue_volume_types(alloc, image, blocks, room, losses, paths, told)
+    let types = Types::WithInternational;
+    let input = RescueInput {
+        image,
+        blocks,
+        types,
+    };
+    rescue_volume(alloc, input, room, losses, paths, told)
 }
 
 #[unsafe(no_mangle)]

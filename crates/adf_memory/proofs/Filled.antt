@@ -46,21 +46,9 @@ filled_full xs ys [] le = no_room (xs ++ ys) ∙ sym (no_room xs)
 filled_full [] ys (r ∷ rs) le = absurd (omega arith)
 filled_full (x ∷ xs) ys (r ∷ rs) le = ap (λ zs. x ∷ zs) (filled_full xs ys rs (omega arith))
 
--- data blocks that are put behind others, one by one
-pub blocks_more : (xs ds room now : List ℕ) (a i : ℕ) → a ≡ length xs → now ≡ filled (xs ++ take i ds) room → i < length ds → a + i < length now
-    → set now (a + i) (get_or ds i 0) ≡ filled (xs ++ take (i + 1) ds) room
-blocks_more xs ds room now a i at e lt fits =
-    grind (arith, common_steps, length_filled, length-append, length-take-le, append_assoc, take_more, filled_more)
-
--- and where there is no more room
-pub blocks_full : (xs ds room now : List ℕ) (a i : ℕ) → a ≡ length xs → now ≡ filled (xs ++ take i ds) room → i ≤ length ds → length now ≤ a + i
-    → now ≡ filled (xs ++ ds) room
-blocks_full xs ds room now a i at e le full =
-    let long : length now ≡ length room = ap length e ∙ length_filled (xs ++ take i ds) room in
-    let all : (xs ++ take i ds) ++ drop i ds ≡ xs ++ ds =
-    append_assoc xs (take i ds) (drop i ds) ∙ ap (λ ys. xs ++ ys) (take-append-drop i ds) in
-    e ∙ sym (filled_full (xs ++ take i ds) (drop i ds) room (omega (arith, length-append xs (take i ds), length-take-le i ds le)))
-    ∙ ap (λ ys. filled ys room) all
+-- what has as many members as the front of a room, and the room behind it
+pub in_front : {X : Type 0} (xs room : List X) (k : ℕ) → length xs ≡ k → k ≤ length room → xs ++ drop k room ≡ filled xs room
+in_front xs room k at le = rw (take_all (length room) xs (omega arith), at) refl
 
 -- where one is put behind those that are there, one more stands there
 pub one_put : {X : Type 0} (xs room now : List X) (i : ℕ) (x : X) → i ≡ length xs → now ≡ filled xs room → i < length now
@@ -107,6 +95,3 @@ module _ {X : Type 0} (holds : X → Type 0) where
       → BeginsWith holds n room now → BeginsWith holds (n + 1) room next
   begins_more n room now next x here put (rows, all, count, is) =
       (rows ++ x ∷ [], All-push holds rows x all here, omega (arith, count, length-append rows (x ∷ [])), put rows room count is)
-
-  pub begins_same : (n m : ℕ) (room now next : List X) → m ≡ n → next ≡ now → BeginsWith holds n room now → BeginsWith holds m room next
-  begins_same n m room now next e f (rows, all, count, is) = (rows, all, e ∙ count, f ∙ is)

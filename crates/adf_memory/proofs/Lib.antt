@@ -11,15 +11,10 @@ pub mod TableLaws
 pub mod TableBytes
 pub mod Readings
 pub mod TableNames
-pub mod FoundRows
-pub mod LinkRows
-pub mod FoundBlocks
-pub mod FoundVolumes
 -- what is read of a hard disk
 pub mod DiskReadings
 -- volumes that are built
 pub mod TableDrafts
-pub mod Refusals
 -- rescues
 pub mod PreparedRescues
 pub mod RescueSizes

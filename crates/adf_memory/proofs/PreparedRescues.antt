@@ -1,7 +1,7 @@
 -- Rescues that are prepared, and what they give.
 -- Letters: s, t what is surveyed; p a prepared rescue; u why there is none; x one that is ready; ls losses.
 use Rattle.std.proofs.Common.{◌≡◌, ◌∙◌, ◌<◌, ◌*◌, ◌/◌, ℕ, List, ap, sym, subst}
-use Rattle.std.specs.{Prelude.IfErr, Prelude.IfOk, Prelude.Result, Prelude.Ok, Prelude.Err, Result.IsErrAnd}
+use Rattle.std.specs.{Prelude.IfErr, Prelude.Result, Prelude.Ok, Prelude.Err, Result.IsErrAnd}
 use Rattle.adf_tree.specs.Tree.{Tree}
 use Rattle.adf_volume.specs.declared.types.Types.{Types}
 use Rattle.adf_build.specs.Laid.{volume}
@@ -13,28 +13,17 @@ use Rattle.adf_subjects.specs.{Subject.SubjectValue, Subject.sized, declared.pre
 use Rattle.adf_subjects.specs.Rescues.{RescueValue, RescueValue.written, Rescues}
 use Rattle.adf_subjects.specs.declared.preparing.Unrescued.{Unrescued, TheVariants.NoMemory, TheVariants.Refused}
 use Rattle.adf_subjects.proofs.KeptBoots.{laid_long}
-use Rattle.adf_memory.specs.Rescuing.{ExplainsRescue, HasRescue, IsPutOut, IsRoomRefusal, Readies, ready_table, told_volume, unrescued_refusal}
-use Rattle.adf_memory.specs.{declared.losses.TableLoss.TableLoss, declared.rescuing.Ready.Ready, declared.rescuing.RescueTold.RescueTold}
+use Rattle.adf_memory.specs.Rescuing.{ExplainsRescue, GivesVolume, IsRoomRefusal, IsVolumeOf, Readies}
+use Rattle.adf_memory.specs.{declared.rescuing.Ready.Ready, declared.rescuing.RescueTold.RescueTold}
 use Rattle.adf_memory.specs.declared.rescuing.RescueRefusal.{RescueRefusal}
 use Rattle.adf_memory.specs.declared.rescuing.RescueRefusal.TheVariants as refusal
 
--- a rescue that is put into the rooms is what it is prepared to give
-pub put_given : (gives : RescueValue → Type 0) (x : Ready) (old new : List ℕ) (old_rows new_rows : List TableLoss) (old_paths new_paths : List ℕ)
-    (result : Result RescueTold RescueRefusal) → LaysFor gives x.prepared x.boot.items
-    → IfOk result (IsPutOut x old new old_rows new_rows old_paths new_paths)
-    → IfOk result (HasRescue gives old new old_rows new_rows old_paths new_paths)
-put_given gives x old new old_rows new_rows old_paths new_paths (Ok told) (room, lays) put =
+-- a volume that is put into the room is one that the rescue gives
+pub volume_given : (gives : RescueValue → Type 0) (x : Ready) (image : List ℕ) → LaysFor gives x.prepared x.boot.items
+    → IsVolumeOf x.prepared.draft.tree x.prepared.blocks x.boot.items image → GivesVolume gives image
+volume_given gives x image (room, lays) (volume, laid, size, is, long) =
     let ls = loss_values x.prepared.losses.items in
-    let (volume, laid, size, is, long) = put.laid in record {
-      volume = put.volume;
-      losses = ls;
-      given = subst (λ (image : List ℕ). gives (written image ls)) (sym is) (lays volume laid size);
-      room = put.room;
-      rows = put.rows;
-      paths = put.paths;
-      tells = put.tells ∙ ap (λ (n : ℕ). told_volume n (ready_table x)) (sym long);
-    }
-put_given gives x old new old_rows new_rows old_paths new_paths (Err refusal) lays put = tt
+    (ls, subst (λ (image : List ℕ). gives (written image ls)) (sym is) (lays volume laid size))
 
 -- a room that is refused as small is too small for a volume that the rescue gives
 pub room_explained : (gives : RescueValue → Type 0) (x : Ready) (room : ℕ) (result : Result RescueTold RescueRefusal)
@@ -75,9 +64,3 @@ refuses_typed types s t NoMemory typed h = tt
 pub none_ready : (gives : RescueValue → Type 0) (x : Result Ready Unrescued) → IsErrAnd x (λ u. u ≡ NoMemory) → Readies gives x
 none_ready gives (Ok p) is = absurd is
 none_ready gives (Err u) is = rw is tt
-
--- a refusal is explained
-pub refusal_explained : (gives : RescueValue → Type 0) (room : ℕ) (u : Unrescued) → RefusesFor gives u
-    → ExplainsRescue gives room (unrescued_refusal u)
-refusal_explained gives room (Refused f ls) h = (loss_values ls.items, h)
-refusal_explained gives room NoMemory h = tt

@@ -116,10 +116,10 @@ behind_more new old put next le e =
     ap (λ n. drop n new) z ∙ sym (drop-drop (next - put) put new) ∙ ap (drop (next - put)) e ∙ drop-drop (next - put) put old
     ∙ ap (λ n. drop n old) (sym z)
 
--- the kind matters only where the image has a block, and a slice up to the end of a table is the rest of it
-pub kind_read : (image table : List ℕ) (kind : Kind) (first at : ℕ) → (512 ≤ length image → kind ≡ kind_of image)
-    → bytes_from image kind (take (length table - first) (drop first table)) at ≡ bytes_from image (kind_of image) (drop first table) at
-kind_read image table kind first at is = grind (arith, common_steps, take_rest, cases_lt, bytes_of_no_block)
+-- the kind matters only where the image has a block
+pub kind_read : (image table : List ℕ) (kind : Kind) (at : ℕ) → (512 ≤ length image → kind ≡ kind_of image)
+    → bytes_from image kind table at ≡ bytes_from image (kind_of image) table at
+kind_read image table kind at is = grind (arith, common_steps, cases_lt, bytes_of_no_block)
 
 -- where there is nothing more, all is put
 pub all_put : (all : List ℕ) (put : ℕ) → put ≤ length all → drop put all ≡ [] → put ≡ length all

@@ -3,7 +3,7 @@ use Rattle.std.proofs.Common.{◌≡◌, Bor, ℕ, ◌<◌, List, [], ◌∷◌,
 use Rattle.std.specs.{List.All, Str.IsUtf8}
 use Rattle.std.proofs.{Math.Seq.get_or-append_seam, lemmas.List.Splits.length-slice_split, lemmas.Grind.common_steps}
 use Rattle.std.proofs.lemmas.List.{append_assoc, append_cancel_right, get_or_append_left, map-append, length-append, Elements.All-push}
-use Rattle.adf_memory.specs.Words.{AreWords, BeginWithWords, is_zero, between_zeros}
+use Rattle.adf_memory.specs.Words.{AreWords, is_zero, between_zeros}
 use Rattle.adf_words.specs.CommandLine.{texts_of}
 
 -- memory holds one list of words at most
@@ -46,21 +46,6 @@ pub pushed_texts : (items : List (Bor (List ℕ))) (text : Bor (List ℕ)) → A
     → All IsUtf8 (texts_of (items ++ text ∷ []))
 pushed_texts items text all is =
     subst (All IsUtf8) (sym (texts_pushed items text)) (All-push IsUtf8 (texts_of items) text.now all is)
-
--- a word that is read makes those at the front one more
-pub front_pushed : (bytes rest word after : List ℕ) (items : List (Bor (List ℕ))) (text : Bor (List ℕ)) → between_zeros bytes ≡ texts_of items
-    ++ between_zeros rest
-    → between_zeros rest ≡ word ∷ between_zeros after → text.now ≡ word → All IsUtf8 (texts_of items) → IsUtf8 text.now → BeginWithWords bytes
-front_pushed bytes rest word after items text split cut same all is =
-    let done : List (List ℕ) = texts_of items in
-    record {
-      words = texts_of (items ++ text ∷ []);
-      others = between_zeros after;
-      ended = pushed_split bytes rest word after items text split cut same;
-      texts = pushed_texts items text all is;
-      some = omega (arith, ap length (texts_pushed items text), length-append done (text.now ∷ []));
-      more = omega (arith, length-slice_split is_zero after);
-    }
 
 -- what holds of some words in memory holds of all
 pub along : (bytes : List ℕ) (texts words : List (List ℕ)) (P : List (List ℕ) → Type 0) → AreWords bytes texts → AreWords bytes words

@@ -1,18 +1,16 @@
 -- Volumes that are built from a table of additions.
 -- Letters: v a new volume; xs the table of its additions; bytes the contents of the files; t a tree; n a number of blocks.
-use Rattle.std.specs.Prelude.{◌≡◌, ◌≤◌, ◌<◌, ◌*◌, ◌-◌, ℕ, true, false, not, nat_lt, if◌then◌else◌, Option, Some, None, List, [], length, take}
+use Rattle.std.specs.Prelude.{◌≡◌, ◌≤◌, ◌<◌, ◌*◌, ◌-◌, ℕ, true, false, List, [], length, take}
 use Rattle.adf_base.specs.declared.hash.Letters.{Letters}
 use Rattle.adf_names.specs.VolumeTypes.{letters_of_type}
 use Rattle.adf_tree.specs.Tree.{Tree}
 use Rattle.adf_blocks.specs.{Sizes.is_allowed, declared.layout.TheConstants.MOST_BLOCKS}
-use Rattle.adf_build.specs.{declared.builder.BuildFault.BuildFault, Building.IsBuildable, Building.need_of, Laid.IsLaid}
-use Rattle.adf_build.specs.declared.builder.BuildFault.TheVariants as build
+use Rattle.adf_build.specs.{Building.IsBuildable, Building.need_of, Laid.IsLaid}
 use Rattle.adf_subjects.specs.Remarks.{kind_of_type}
 use Rattle.adf_memory.specs.{Rooms.filled, declared.building.Built.Built, declared.building.NewVolume.NewVolume, declared.building.Refusal.Refusal}
-use Rattle.adf_memory.specs.{declared.table_additions.NotAdded.NotAdded, declared.table_additions.TableAddition.TableAddition}
+use Rattle.adf_memory.specs.declared.table_additions.TableAddition.{TableAddition}
 use Rattle.adf_memory.specs.TableAdditions.{AreSound, IsFirstAdditionFault, addition_fault_number, stamp_of, tree_with}
 use Rattle.adf_memory.specs.declared.building.Refusal.TheVariants as refusal
-use Rattle.adf_memory.specs.declared.table_additions.NotAdded.TheVariants as not_added
 
 -- the tree of a new volume, without entries
 abbrev pub new_tree : NewVolume → Tree
@@ -46,11 +44,6 @@ IsTableRefusal letters bytes xs (refusal.Addition n fault) = IsFirstAdditionFaul
 IsTableRefusal letters bytes xs refusal.NoMemory = Unit {0}
 IsTableRefusal letters bytes xs _ = ⊥
 
--- not even the largest volume has room for a tree: the blocks that it needs there, and those of the volume
-abbrev pub IsFullAtMost : Tree → Refusal → Type 0
-IsFullAtMost t (refusal.Full need have) = (need ≡ need_of t MOST_BLOCKS) × (have ≡ MOST_BLOCKS - 2) × (have < need)
-IsFullAtMost t _ = ⊥
-
 -- the volume has a kind and a label
 abbrev pub HasKindAndLabel : NewVolume → Type 0
 HasKindAndLabel v = (v.kind ≤ 3) × (v.label_length ≤ 30)
@@ -71,26 +64,11 @@ ExplainsBuild v bytes xs room (refusal.Full need have) =
     IsSoundVolume v bytes xs × (need ≡ need_of (tree_of v bytes xs) v.blocks) × (have ≡ v.blocks - 2) × (have < need)
 ExplainsBuild v bytes xs room fault = Explains v bytes xs fault
 
--- what a refusal means where the fewest blocks are asked for: not even the largest volume has room
+-- what a refusal means where the fewest blocks are asked for: not even the largest volume has room, which needs and has so many blocks
 abbrev pub ExplainsNeed : NewVolume → List ℕ → List TableAddition → Refusal → Type 0
-ExplainsNeed v bytes xs (refusal.Full need have) = IsSoundVolume v bytes xs × IsFullAtMost (tree_of v bytes xs) (refusal.Full need have)
+ExplainsNeed v bytes xs (refusal.Full need have) =
+    IsSoundVolume v bytes xs × (need ≡ need_of (tree_of v bytes xs) MOST_BLOCKS) × (have ≡ MOST_BLOCKS - 2) × (have < need)
 ExplainsNeed v bytes xs fault = Explains v bytes xs fault
-
--- the refusal of addition n
-abbrev pub refusal_of : ℕ → NotAdded → Refusal
-refusal_of n (not_added.Fault fault) = refusal.Addition n fault
-refusal_of n not_added.NoMemory = refusal.NoMemory
-
--- the refusal of a tree that cannot be built
-abbrev pub refusal_by : BuildFault → Refusal
-refusal_by build.BadSize = refusal.BadSize
-refusal_by (build.Full need have) = refusal.Full need have
-refusal_by build.NoMemory = refusal.NoMemory
-
--- the refusal of a number of blocks that is not allowed, or of a room that is too small for so many
-abbrev pub bad_room : ℕ → ℕ → Option Refusal
-bad_room n room =
-    if not (is_allowed n) then Some refusal.BadSize else (if nat_lt room (n * 512) then Some refusal.SmallRoom else None)
 
 -- the number of a refusal
 abbrev pub refusal_number : Refusal → ℕ

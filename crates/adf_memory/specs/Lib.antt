@@ -1,11 +1,7 @@
 -- The promise: the buffers and tables of a caller in memory, and what the calls put there.
 pub mod Areas
-pub mod FoundFiles
 pub mod TableAdditions
 pub mod Building
-pub mod FoundTables
--- the table of links
-pub mod LinkTables
 pub mod DiskTables
 pub mod OwnerNumbers
 pub mod Rooms
@@ -13,9 +9,7 @@ pub mod Tables
 pub mod Verdicts
 pub mod Words
 pub mod Boot
-pub mod Losses
 pub mod Rescuing
-pub mod Subjects
 pub mod CheckCalls
 pub mod SurveyCalls
 pub mod TextCalls

@@ -1,15 +1,15 @@
 -- What is told of a rescue, and put into rooms.
--- Letters: s what is surveyed of an input; ls losses; f a fault; n a number of blocks; boot the boot blocks of the input; x a rescue that is ready.
-use Rattle.std.specs.Prelude.{◌≡◌, ◌≤◌, ◌<◌, ◌*◌, ◌==◌, ℕ, List, Option, None, Some, Result, Ok, Err, cond, length}
+-- Letters: ls losses; f a fault; n a number of blocks; boot the boot blocks of the input; x a rescue that is ready.
+use Rattle.std.specs.Prelude.{◌≡◌, ◌≤◌, ◌<◌, ◌+◌, ◌*◌, ◌==◌, ℕ, All, List, Option, None, Some, Result, Ok, Err, cond, length}
 use Rattle.adf_tree.specs.Tree.{Tree}
 use Rattle.adf_blocks.specs.{Causes.cause_number, Sizes.blocks}
 use Rattle.adf_boot_blocks.specs.{Writing.restored, declared.boot.TheConstants.BOOT_LEN}
 use Rattle.adf_build.specs.Laid.{IsLaid, IsWellFormed}
-use Rattle.adf_subjects.specs.{Losses.LossValue, Losses.loss_values, Prepared.LaysFor, Prepared.RefusesFor}
+use Rattle.adf_subjects.specs.{Losses.LossValue, Prepared.LaysFor, Prepared.RefusesFor}
 use Rattle.adf_subjects.specs.Rescues.{RescueValue, RescueValue.refused, RescueValue.written}
-use Rattle.adf_subjects.specs.declared.preparing.Unrescued.{Unrescued, TheVariants.NoMemory, TheVariants.Refused}
-use Rattle.adf_memory.specs.{Losses.LossTableValue, Losses.table_of_losses, Rooms.filled, declared.losses.TableLoss.TableLoss, declared.rescuing.Ready.Ready}
-use Rattle.adf_memory.specs.{declared.rescuing.RescueRefusal.RescueRefusal, declared.rescuing.RescueTold.RescueTold}
+use Rattle.adf_subjects.specs.declared.preparing.Unrescued.{Unrescued}
+use Rattle.adf_memory.specs.{Rooms.BeginsWith, Rooms.HasRows, Rooms.filled, declared.losses.TableLoss.TableLoss, declared.rescuing.Ready.Ready}
+use Rattle.adf_memory.specs.{declared.losses.LossTable.LossTable, declared.rescuing.RescueRefusal.RescueRefusal, declared.rescuing.RescueTold.RescueTold}
 use Rattle.adf_memory.specs.declared.rescuing.RescueRefusal.TheVariants as refusal
 
 -- a rescue that gives this is ready, with its boot blocks
@@ -21,37 +21,31 @@ Readies gives (Err u) = RefusesFor gives u
 abbrev pub asked_blocks : ℕ → Option ℕ
 asked_blocks n = cond (n == 0) None (Some n)
 
--- what is told of a volume of n blocks
-abbrev pub told_volume : ℕ → LossTableValue → RescueTold
-told_volume n t = record { losses = length t.rows; paths = length t.paths; blocks = n; block = 0 }
-
 -- the volume of a tree in n blocks, with these boot blocks put into it
 abbrev pub IsVolumeOf : Tree → ℕ → (boot : List ℕ) → List ℕ → Type 0
 IsVolumeOf t n boot image = (volume : List ℕ) × IsLaid volume t × (blocks volume ≡ n) × (image ≡ restored volume boot) × (blocks image ≡ n)
 
--- the table of what is not in the volume of what is ready
-abbrev pub ready_table : Ready → LossTableValue
-ready_table x = table_of_losses (loss_values x.prepared.losses.items)
+-- each path is within the text of all paths, which has so many bytes
+abbrev pub IsWithin : ℕ → TableLoss → Type 0
+IsWithin count row = row.path + row.path_length ≤ count
 
--- the rooms begin with the volume of what is ready and the table of what is not in it, and are otherwise as they were; this is told
-pub record IsPutOut (x : Ready) (old new : List ℕ) (old_rows new_rows : List TableLoss) (old_paths new_paths : List ℕ) (told : RescueTold) : Type 0 where
-  pub volume : List ℕ
-  pub laid : IsVolumeOf x.prepared.draft.tree x.prepared.blocks x.boot.items volume
-  pub room : new ≡ filled volume old
-  pub rows : new_rows ≡ filled (ready_table x).rows old_rows
-  pub paths : new_paths ≡ filled (ready_table x).paths old_paths
-  pub tells : told ≡ told_volume x.prepared.blocks (ready_table x)
+-- so are those of a table
+abbrev pub AreWithin : LossTable → Type 0
+AreWithin table = All (IsWithin (length table.paths.items)) table.rows.items
 
--- the rooms begin with a volume that a rescue gives and the table of what is not in it, and are otherwise as they were; this is told
-pub record HasRescue (gives : RescueValue → Type 0) (old new : List ℕ) (old_rows new_rows : List TableLoss) (old_paths new_paths : List ℕ)
+-- a rescue gives a volume
+abbrev pub GivesVolume : (RescueValue → Type 0) → List ℕ → Type 0
+GivesVolume gives volume = (losses : List LossValue) × gives (written volume losses)
+
+-- the rooms begin with a volume that is given, and with as many rows and bytes of paths as are told, and are otherwise as they were
+pub record HasRescue (given : List ℕ → Type 0) (old new : List ℕ) (old_rows new_rows : List TableLoss) (old_paths new_paths : List ℕ)
     (told : RescueTold) : Type 0 where
   pub volume : List ℕ
-  pub losses : List LossValue
-  pub given : gives (written volume losses)
+  pub is_given : given volume
+  pub size : told.blocks ≡ blocks volume
   pub room : new ≡ filled volume old
-  pub rows : new_rows ≡ filled (table_of_losses losses).rows old_rows
-  pub paths : new_paths ≡ filled (table_of_losses losses).paths old_paths
-  pub tells : told ≡ told_volume (blocks volume) (table_of_losses losses)
+  pub rows : BeginsWith (IsWithin told.paths) told.losses old_rows new_rows
+  pub paths : HasRows told.paths old_paths new_paths
 
 -- the volume of a tree in n blocks is not laid: the fields of the tree fit, and the room is smaller than n blocks; or memory is refused
 abbrev pub IsRoomRefusal : Tree → ℕ → (room : ℕ) → RescueRefusal → Type 0
@@ -68,11 +62,6 @@ abbrev pub ExplainsRescue : (RescueValue → Type 0) → (room : ℕ) → Rescue
 ExplainsRescue gives room (refusal.Fault f) = (losses : List LossValue) × gives (refused f losses)
 ExplainsRescue gives room (refusal.SmallRoom n) = GivesBlocks gives n × (room < n * 512)
 ExplainsRescue gives room refusal.NoMemory = Unit {0}
-
--- the refusal of a rescue that gives no volume
-abbrev pub unrescued_refusal : Unrescued → RescueRefusal
-unrescued_refusal (Refused f ls) = refusal.Fault f
-unrescued_refusal NoMemory = refusal.NoMemory
 
 -- the number of a refusal
 abbrev pub rescue_number : RescueRefusal → ℕ

@@ -10,6 +10,10 @@ filled xs room = take (length room) xs ++ drop (length xs) room
 abbrev pub BeginsWith : {X : Type 0} → (X → Type 0) → (n : ℕ) → (old new : List X) → Type 0
 BeginsWith {X} holds n old new = (rows : List X) × All holds rows × (n ≡ length rows) × (new ≡ filled rows old)
 
+-- the same of any rows
+abbrev pub HasRows : {X : Type 0} → (n : ℕ) → (old new : List X) → Type 0
+HasRows n old new = BeginsWith (λ _. Unit {0}) n old new
+
 -- a room of the caller over a run: it held nothing, and so many bytes stand at its front
 abbrev pub room_seen : ℕ → Bool → List ℕ → Seen
 room_seen n had_too_little room = record { before = Some []; after = Some (take n room); failed = had_too_little }

@@ -1,5 +1,5 @@
 -- The words of a command line in memory.
-use Rattle.std.specs.Prelude.{◌≡◌, ◌==◌, ◌<◌, ℕ, List, [], ◌∷◌, ◌++◌, Bool, All, length}
+use Rattle.std.specs.Prelude.{◌≡◌, ◌==◌, ℕ, List, [], ◌∷◌, ◌++◌, Bool, All}
 use Rattle.std.specs.{List.slice_split, Str.IsUtf8}
 use Rattle.adf_runs.specs.{Commands.Command, Commands.IsConsumed, Commands.IsUnanswered, Commands.RunEnds, Streams.at_hand}
 use Rattle.adf_memory.specs.{Rooms.StandIn, Rooms.room_seen, declared.memory.Moved.Moved}
@@ -24,15 +24,6 @@ ForWords bytes holds = (words : List (List ℕ)) → AreWords bytes words → ho
 -- the bytes are no words
 abbrev pub AreNoWords : List ℕ → Type 0
 AreNoWords bytes = (words : List (List ℕ)) → ¬ AreWords bytes words
-
--- words stand at the front of the bytes: at least one, each ended by a zero byte, and each word is a text
-pub record BeginWithWords (bytes : List ℕ) : Type 0 where
-  pub words : List (List ℕ)
-  pub others : List (List ℕ)
-  pub ended : between_zeros bytes ≡ words ++ others
-  pub texts : All IsUtf8 words
-  pub some : 0 < length words
-  pub more : 0 < length others
 
 -- the same command where the bytes in memory are its words: bytes that are none are refused
 abbrev pub in_memory : Command (List (List ℕ)) → Command (List ℕ)

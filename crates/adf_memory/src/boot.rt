@@ -5,7 +5,6 @@ ghost use Rattle.adf_boot_blocks.specs.declared.boot.TheConstants.{BOOT_LEN};
 ghost use Rattle.adf_memory.specs.Boot.{boot_blocks, boot_refusal_number};
 ghost use Rattle.adf_memory.specs.VolumeCalls.{ClearsBoot, CopiesBoot, InstallsBoot, TellsBoot};
 
-use crate::found_tables::mark_number;
 use adf_base::BLOCK_LEN;
 use adf_boot_blocks::{
     BOOT_LEN, BootRefusal, STANDARD_CODE, begins_with_dos, clear, copy, copy_refusal, crc_32,
@@ -50,11 +49,11 @@ fn boot_blocks(image: &[u8]) -> BootBlocks
 {
     BootBlocks {
         crc: crc_32(&image[..BOOT_LEN]),
-        begins_with_dos: mark_number(begins_with_dos(image)),
+        begins_with_dos: u8::from(begins_with_dos(image)),
         volume_type: image[3],
-        has_right_sum: mark_number(has_right_sum(image)),
-        is_bootable: mark_number(is_bootable(image)),
-        has_code: mark_number(!has_no_code(image)),
+        has_right_sum: u8::from(has_right_sum(image)),
+        is_bootable: u8::from(is_bootable(image)),
+        has_code: u8::from(!has_no_code(image)),
     }
 }
 

@@ -4,9 +4,9 @@ ghost use Rattle.std.specs.Prelude.{◌≡◌, ◌≤◌, ◌<◌, ◌*◌, ◌�
 ghost use Rattle.adf_names.specs.VolumeTypes.{letters_of_type};
 ghost use Rattle.adf_tree.specs.Tree.{Tree as ATree};
 ghost use Rattle.adf_memory.specs.Building.{ExplainsBuild, ExplainsNeed, HasVolume, IsBadVolume, IsFewest};
-ghost use Rattle.adf_memory.specs.Building.{IsFullAtMost, IsSoundVolume, IsTableRefusal, bad_room, built_in};
+ghost use Rattle.adf_memory.specs.Building.{IsSoundVolume, IsTableRefusal, built_in};
 ghost use Rattle.adf_subjects.specs.Remarks.{kind_of_type};
-ghost use Rattle.adf_memory.specs.Building.{new_tree, refusal_by, refusal_number, refusal_of, told, tree_of};
+ghost use Rattle.adf_memory.specs.Building.{new_tree, refusal_number, told, tree_of};
 ghost use Rattle.adf_memory.specs.TableAdditions.{AreSound, IsDraftOf, tree_with};
 ghost use Rattle.adf_memory.specs.VolumeCalls.{BuildsVolume, NeedsBlocks};
 
@@ -148,16 +148,6 @@ fn new_draft(alloc: Global, volume: &NewVolume) -> Result<Draft, Refusal>
     Ok(Draft::with_letters(alloc, kind, letters, label, stamps))
 }
 
-// The refusal of the addition with this number.
-fn refusal_of(number: usize, fault: NotAdded) -> Refusal
-    ensures { result ≡ refusal_of number fault }
-{
-    match fault {
-        NotAdded::Fault(fault) => Refusal::Addition(number, fault),
-        NotAdded::NoMemory => Refusal::NoMemory,
-    }
-}
-
 // Adds all additions to a draft without entries.
 fn add_all(
     alloc: Global,
@@ -174,7 +164,8 @@ fn add_all(
     for i in 0..additions.len() {
         match add_next(alloc, draft, additions, i, contents) {
             Ok(()) => (),
-            Err(fault) => return Err(refusal_of(i + 1, fault)),
+            Err(NotAdded::Fault(fault)) => return Err(Refusal::Addition(i + 1, fault)),
+            Err(NotAdded::NoMemory) => return Err(Refusal::NoMemory),
         }
     }
     Ok(())
@@ -201,30 +192,6 @@ fn tree_of(
     }
 }
 
-// The refusal of a tree that cannot be built.
-fn refusal_by(fault: BuildFault) -> Refusal
-    ensures { result ≡ refusal_by fault }
-{
-    match fault {
-        BuildFault::BadSize => Refusal::BadSize,
-        BuildFault::Full { need, have } => Refusal::Full(need, have),
-        BuildFault::NoMemory => Refusal::NoMemory,
-    }
-}
-
-// The refusal of a number of blocks that is not allowed, or of a room that is too small for so many.
-fn bad_room(blocks: u32, room: usize) -> Option<Refusal>
-    ensures { result ≡ bad_room blocks room }
-{
-    if !is_allowed_size(blocks) {
-        return Some(Refusal::BadSize);
-    }
-    if room < blocks as usize * BLOCK_LEN {
-        return Some(Refusal::SmallRoom);
-    }
-    None
-}
-
 // Builds a volume at the front of a room.
 fn build_in_room(
     alloc: Global,
@@ -240,27 +207,20 @@ fn build_in_room(
     ensures unchanged { OnErr result (room.new ≡ room.old) }
 {
     let draft = new_draft(alloc, volume)?;
-    if let Some(refusal) = bad_room(volume.blocks, room.len()) {
-        return Err(refusal);
+    if !is_allowed_size(volume.blocks) {
+        return Err(Refusal::BadSize);
+    }
+    let count = volume.blocks as usize * BLOCK_LEN;
+    if room.len() < count {
+        return Err(Refusal::SmallRoom);
     }
     let tree = tree_of(alloc, draft, additions, contents)?;
-    let count = volume.blocks as usize * BLOCK_LEN;
     match build_into(alloc, &tree, volume.blocks, &mut room[..count]) {
         Ok(()) => Ok(()),
-        Err(fault) => Err(refusal_by(fault)),
+        Err(BuildFault::BadSize) => Err(Refusal::BadSize),
+        Err(BuildFault::Full { need, have }) => Err(Refusal::Full(need, have)),
+        Err(BuildFault::NoMemory) => Err(Refusal::NoMemory),
     }
-}
-
-// The fewest blocks of a volume that has room for a tree.
-fn fewest_of(tree: &Tree) -> Result<u32, Refusal>
-    ensures fewest { IfOk result (IsFewest tree.now) }
-    ensures full { IfErr result (IsFullAtMost tree.now) }
-{
-    if let Some(blocks) = fewest_blocks(tree) {
-        return Ok(blocks);
-    }
-    let need = need_types(Types::WithInternational, tree, MOST_BLOCKS).unwrap();
-    Err(Refusal::Full(need, u64::from(MOST_BLOCKS - 2)))
 }
 
 // The fewest blocks of a volume that has room for the additions.
@@ -276,7 +236,11 @@ fn fewest_for(
 {
     let draft = new_draft(alloc, volume)?;
     let tree = tree_of(alloc, draft, additions, contents)?;
-    fewest_of(&tree)
+    if let Some(blocks) = fewest_blocks(&tree) {
+        return Ok(blocks);
+    }
+    let need = need_types(Types::WithInternational, &tree, MOST_BLOCKS).unwrap();
+    Err(Refusal::Full(need, u64::from(MOST_BLOCKS - 2)))
 }
 
 /// Builds a volume of a table of additions, in which each directory stands before what is in it, and of the contents of all

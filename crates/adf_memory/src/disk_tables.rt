@@ -1,11 +1,11 @@
 // The table of a hard disk's partitions, and how it is filled.
 
 ghost use Rattle.std.specs.Prelude.{◌≡◌};
-ghost use Rattle.adf_memory.specs.DiskTables.{blocks_of, field_fault_of, first_or_zero, partition_fault, partition_row};
+ghost use Rattle.adf_memory.specs.DiskTables.{field_fault_of, partition_row};
 ghost use Rattle.adf_memory.specs.{DiskTables.partition_table, DiskTables.table_disk, Rooms.filled};
 
 use crate::tables::{field, put};
-use adf_partitions::{DiskFault, FieldFault, Partition, Place, PlaceFault};
+use adf_partitions::{DiskFault, FieldFault, Partition};
 
 /// A partition of a hard disk.
 #[repr(C)]
@@ -42,26 +42,6 @@ pub struct TableDisk {
     pub cause: u8,
 }
 
-// The first block of a place; 0 if there is none.
-fn first_or_zero(place: Result<Place, PlaceFault>) -> u64
-    ensures { result ≡ first_or_zero place }
-{
-    match place {
-        Ok(place) => place.first,
-        Err(_) => 0,
-    }
-}
-
-// The blocks of a place; 0 if there is none.
-fn blocks_of(place: Result<Place, PlaceFault>) -> u64
-    ensures { result ≡ blocks_of place }
-{
-    match place {
-        Ok(place) => place.blocks,
-        Err(_) => 0,
-    }
-}
-
 // The number of what is wrong with the other fields of a partition; 0 if nothing is.
 fn field_fault_of(fault: Option<FieldFault>) -> u8
     ensures { result ≡ field_fault_of fault }
@@ -72,29 +52,23 @@ fn field_fault_of(fault: Option<FieldFault>) -> u8
     }
 }
 
-// The number of what is wrong with a partition; 0 if nothing is.
-fn partition_fault(place: Result<Place, PlaceFault>, fault: Option<FieldFault>) -> u8
-    ensures { result ≡ partition_fault place fault }
-{
-    match place {
-        Ok(_) => field_fault_of(fault),
-        Err(fault) => fault.number(),
-    }
-}
-
 // The row of a partition.
 fn partition_row(partition: &Partition) -> TablePartition
     ensures { result ≡ partition_row partition.now }
 {
     let name = partition.name.bytes();
+    let (first, blocks, fault) = match partition.place {
+        Ok(place) => (place.first, place.blocks, field_fault_of(partition.fault)),
+        Err(fault) => (0, 0, fault.number()),
+    };
     TablePartition {
-        first: first_or_zero(partition.place),
-        blocks: blocks_of(partition.place),
+        first,
+        blocks,
         block: partition.block,
         flags: partition.flags,
         priority: partition.priority,
         dos_type: partition.dos_type,
-        fault: partition_fault(partition.place, partition.fault),
+        fault,
         name_length: name.len() as u8,
         name: field(name),
     }

@@ -1,16 +1,12 @@
 // What is read of the files that a survey finds.
 
-ghost use Rattle.std.specs.Prelude.{◌≡◌, ◌≤◌, ◌<◌, ◌+◌, ◌*◌, ◌^◌, length, map, min};
-ghost use Rattle.std.specs.{Option.unwrap_or, List.range_with_len};
+ghost use Rattle.std.specs.Prelude.{◌≡◌, ◌<◌, ◌+◌, ◌*◌, ◌^◌, IfSome, length};
 ghost use Rattle.adf_blocks.specs.Sizes.{blocks as blocks_of};
-ghost use Rattle.adf_volume.specs.Image.{kind_of as kind_in, word_in};
-ghost use Rattle.adf_findings.specs.{Files.named_from, Remains.own_data};
-ghost use Rattle.adf_memory.specs.FoundFiles.{file_block_count, file_size, found_from};
-ghost use Rattle.adf_memory.specs.FoundFiles.{is_data_row, lost_from, missing, named_block, row_data};
-ghost use Rattle.adf_memory.specs.{Rooms.filled, SurveyCalls.FillsFound, SurveyCalls.ReadsFound};
+ghost use Rattle.adf_memory.specs.Rooms.{BeginsWith};
+ghost use Rattle.adf_memory.specs.SurveyCalls.{FillsFound, IsFoundBlock, ReadsFound};
 
 use crate::found_parts::FoundPart;
-use crate::reading::{kind_of, put_bytes};
+use crate::reading::{kind_of, read_sized};
 use crate::tables::put;
 use adf_base::{BLOCK_LEN, Block};
 use adf_blocks::{EXTENSION, FIRST_POINTER, POINTERS, SECONDARY_TYPE, SIZE, ST_FILE, chunk_len};
@@ -22,11 +18,8 @@ use adf_volume::count_of;
 pub const NO_BLOCK: u32 = 0xFFFF_FFFF;
 
 // A word of a block; 0 if the image has no such block.
-#[tactic(auto, using(adf_volume::proofs::WordsPast::past_word))]
 fn word_in(image: &[u8], b: u32, i: usize) -> u32
-    requires word { i < 128 }
-    requires whole { length image.now ≡ 512 * blocks_of image.now }
-    ensures { result ≡ word_in image.now b i }
+    requires { i < 128 }
 {
     match Block::at(image, b) {
         Some(block) => block.word(i),
@@ -36,9 +29,7 @@ fn word_in(image: &[u8], b: u32, i: usize) -> u32
 
 // The number of bytes of the file with its header at a block; 0 if it is none.
 fn file_size(image: &[u8], header: u32) -> u32
-    ensures size { result ≡ file_size image.now header }
-    ensures some { 0 < result → 512 ≤ length image.now }
-    ensures whole { 0 < result → length image.now ≡ 512 * blocks_of image.now }
+    ensures { 0 < result → length image.now ≡ 512 * blocks_of image.now }
 {
     if image.len() % BLOCK_LEN != 0 {
         return 0;
@@ -52,9 +43,7 @@ fn file_size(image: &[u8], header: u32) -> u32
 
 // How many data blocks the size of a file asks for.
 fn file_block_count(image: &[u8], header: u32) -> u32
-    ensures count { result ≡ file_block_count image.now header }
-    ensures some { 0 < result → 512 ≤ length image.now }
-    ensures whole { 0 < result → length image.now ≡ 512 * blocks_of image.now }
+    ensures { 0 < result → length image.now ≡ 512 * blocks_of image.now }
 {
     let size = file_size(image, header);
     if size == 0 {
@@ -66,7 +55,6 @@ fn file_block_count(image: &[u8], header: u32) -> u32
 // Whether a row is that of data block `k` of a file.
 fn is_data_row(node: usize, k: u32, part: Option<FoundPart>) -> bool
     requires { k + 1 < 2 ^ 32 }
-    ensures { result ≡ is_data_row node k part }
 {
     match part {
         Some(part) => part.node == node && part.number == k + 1,
@@ -77,7 +65,7 @@ fn is_data_row(node: usize, k: u32, part: Option<FoundPart>) -> bool
 // A block, if the image has it and its row is that of data block `k` of a file.
 fn row_data(image: &[u8], parts: &[FoundPart], node: usize, k: u32, b: u32) -> Option<u32>
     requires { k + 1 < 2 ^ 32 }
-    ensures { result ≡ row_data image.now parts.now node k b }
+    ensures { IfSome result (λ b. b < blocks_of image.now) }
 {
     let part = parts.get(b as usize).copied();
     if (b as usize) < image.len() / BLOCK_LEN && is_data_row(node, k, part) {
@@ -91,10 +79,9 @@ fn row_data(image: &[u8], parts: &[FoundPart], node: usize, k: u32, b: u32) -> O
 // `NO_BLOCK`.
 fn own_block(image: &[u8], header: u32, k: u32, named: u32, found: Option<u32>) -> u32
     requires small { k + 1 < 2 ^ 32 }
-    requires some { 512 ≤ length image.now }
     requires whole { length image.now ≡ 512 * blocks_of image.now }
-    requires named { named ≡ named_from image.now header k }
-    ensures { result ≡ unwrap_or (own_data (kind_in image.now) image.now header k found) NO_BLOCK }
+    requires inside { IfSome found (λ b. b < blocks_of image.now) }
+    ensures { IsFoundBlock image.now result }
 {
     match kind_of(image) {
         Kind::Ofs if says_data_of(image, header, k + 1, named) => named,
@@ -112,9 +99,8 @@ fn put_named(
     count: u32,
     table: &mut [u32],
 )
-    requires some { 0 < count → 512 ≤ length image.now }
-    requires whole { 0 < count → length image.now ≡ 512 * blocks_of image.now }
-    ensures { table.new ≡ filled (map (named_block image.now parts.now node header) (range_with_len 0 count)) table.old }
+    requires { 0 < count → length image.now ≡ 512 * blocks_of image.now }
+    ensures { BeginsWith (IsFoundBlock image.now) count table.old table.new }
 {
     let mut member = header;
     for k in 0..count {
@@ -137,7 +123,7 @@ pub fn put_found_blocks(
     header: u32,
     table: &mut [u32],
 ) -> usize
-    ensures { FillsFound image.now parts.now node header table.old table.new result }
+    ensures { FillsFound image.now table.old table.new result }
 {
     let count = file_block_count(image, header);
     put_named(image, parts, node, header, count, table);
@@ -146,8 +132,7 @@ pub fn put_found_blocks(
 
 // How many data blocks at the front of a table are not left.
 fn missing(image: &[u8], table: &[u32]) -> usize
-    ensures count { result ≡ missing image.now table.now }
-    ensures few { result < 2 ^ 63 }
+    ensures { result < 2 ^ 63 }
 {
     let blocks = image.len() / BLOCK_LEN;
     for i in 0..table.len() {
@@ -158,11 +143,8 @@ fn missing(image: &[u8], table: &[u32]) -> usize
     table.len()
 }
 
-// How many bytes of a file from a place on are in data blocks that are not left.
-fn lost_from(image: &[u8], header: u32, table: &[u32], at: usize) -> usize
-    ensures { result ≡ lost_from image.now header table.now at }
-{
-    let size = file_size(image, header) as usize;
+// How many bytes of a file of such a size from a place on are in data blocks that are not left.
+fn lost_from(image: &[u8], size: usize, table: &[u32], at: usize) -> usize {
     if size <= at {
         return 0;
     }
@@ -171,20 +153,6 @@ fn lost_from(image: &[u8], header: u32, table: &[u32], at: usize) -> usize
     let behind = table.get(first..).unwrap_or(&[]);
     let end = chunk.saturating_mul(first + missing(image, behind));
     size.min(end).saturating_sub(at)
-}
-
-// Puts the bytes of a file from a place on into the room, as many as there are up to a gap and fit. Returns how many.
-fn read_up_to_gap(image: &[u8], header: u32, table: &[u32], offset: usize, room: &mut [u8]) -> usize
-    ensures count { result
-        ≡ min (length room.old) (length (found_from image.now header table.now offset)) }
-    ensures bytes { room.new ≡ filled (found_from image.now header table.now offset) room.old }
-{
-    let size = file_size(image, header) as usize;
-    if size <= offset {
-        return 0;
-    }
-    let count = room.len().min(size - offset);
-    put_bytes(image, kind_of(image), table, offset, &mut room[..count])
 }
 
 /// Reads a file that a survey found through its table, from `offset` on, as many bytes as there are up to one that is lost, and
@@ -198,11 +166,12 @@ pub fn read_found(
     room: &mut [u8],
     lost: &mut usize,
 ) -> usize
-    ensures { ReadsFound image.now header table.now offset room.old room.new lost.new result }
+    ensures { ReadsFound image.now table.now offset room.old room.new result }
 {
-    let count = read_up_to_gap(image, header, table, offset, room);
+    let size = file_size(image, header) as usize;
+    let count = read_sized(image, table, size, offset, room);
     *lost = match offset.checked_add(count) {
-        Some(at) => lost_from(image, header, table, at),
+        Some(at) => lost_from(image, size, table, at),
         None => 0,
     };
     count

@@ -1,12 +1,10 @@
 // The table of the links that a survey finds.
 
-ghost use Rattle.std.specs.Prelude.{◌≡◌, IfSome};
-ghost use Rattle.adf_findings.specs.Survey.{OnSurvey};
-ghost use Rattle.adf_links.specs.Links.{AreRightMarks, original};
-ghost use Rattle.adf_memory.specs.FoundTables.{entry_number};
-ghost use Rattle.adf_memory.specs.{LinkTables.IsLinkRow, Rooms.BeginsWith, SurveyCalls.FillsLinks};
+ghost use Rattle.std.specs.Prelude.{◌<◌, IfSome};
+ghost use Rattle.adf_blocks.specs.Sizes.{blocks};
+ghost use Rattle.adf_memory.specs.{Rooms.BeginsWith, SurveyCalls.FillsLinks};
 
-use crate::found_tables::owner_number;
+use crate::found_tables::{header_of, owner_number};
 use crate::tables::put;
 use adf_base::BLOCK_LEN;
 use adf_blocks::Cause;
@@ -61,10 +59,9 @@ fn path_size(survey: &Survey<'_>, n: Node, kind: Option<LinkKind>) -> usize {
 
 // The row of a link; `None` past the last entry.
 fn link_row(survey: &Survey<'_>, n: Node) -> Option<TableLink>
-    ensures { OnSurvey survey.now.image (λ w _. IfSome result (λ row.
-        (row.node ≡ n) × (row.target ≡ entry_number (original survey.now.image w n)))) }
+    ensures { IfSome result (λ row. row.header < blocks survey.now.image) }
 {
-    let Some(header) = survey.block_of(n) else {
+    let Some(header) = header_of(survey, n) else {
         return None;
     };
     let kind = link_of(survey, n);
@@ -80,8 +77,7 @@ fn link_row(survey: &Survey<'_>, n: Node) -> Option<TableLink>
 
 // The row of an entry, if it is a right link by the marks of these.
 fn right_row(survey: &Survey<'_>, right: &Vec<bool>, n: Node) -> Option<TableLink>
-    ensures { OnSurvey survey.now.image (λ w fs. AreRightMarks survey.now.image w fs right.now.items
-        → IfSome result (IsLinkRow survey.now.image w fs)) }
+    ensures { IfSome result (λ row. row.header < blocks survey.now.image) }
 {
     if has_mark(right, n.0) {
         link_row(survey, n)
@@ -92,18 +88,15 @@ fn right_row(survey: &Survey<'_>, right: &Vec<bool>, n: Node) -> Option<TableLin
 
 // Fills the table with the links that are marked, as far as there is room. Returns how many there are.
 fn put_right(survey: &Survey<'_>, right: &Vec<bool>, room: &mut [TableLink]) -> usize
-    ensures { OnSurvey survey.now.image (λ w fs. AreRightMarks survey.now.image w fs right.now.items
-        → BeginsWith (IsLinkRow survey.now.image w fs) result room.old room.new) }
+    ensures { BeginsWith (λ row. row.header < blocks survey.now.image) result room.old room.new }
 {
     let mut count = 0;
     for i in 0..survey.len() {
-        match right_row(survey, right, Node(i + 1)) {
-            Some(row) => {
-                put(room, count, row);
-                count += 1;
-            }
-            None => (),
-        }
+        let Some(row) = right_row(survey, right, Node(i + 1)) else {
+            continue;
+        };
+        put(room, count, row);
+        count += 1;
     }
     count
 }

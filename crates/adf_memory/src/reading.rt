@@ -79,6 +79,27 @@ pub fn put_bytes(image: &[u8], kind: Kind, datas: &[u32], from: usize, room: &mu
     put
 }
 
+/// Puts what these data blocks hold from a place on, up to a size, into the room, as many bytes as there are and fit, and answers
+/// how many.
+pub fn read_sized(
+    image: &[u8],
+    datas: &[u32],
+    size: usize,
+    offset: usize,
+    room: &mut [u8],
+) -> usize
+    ensures count { result ≡ min (length room.old)
+        (length (take (size - offset) (bytes_from image.now (kind_of image.now) datas.now offset))) }
+    ensures bytes { room.new
+        ≡ filled (take (size - offset) (bytes_from image.now (kind_of image.now) datas.now offset)) room.old }
+{
+    if size <= offset {
+        return 0;
+    }
+    let count = room.len().min(size - offset);
+    put_bytes(image, kind_of(image), datas, offset, &mut room[..count])
+}
+
 // Puts the bytes of a file from a place on into the room, as many as there are and fit, and answers how many.
 fn read_file(
     image: &[u8],
@@ -91,22 +112,11 @@ fn read_file(
         ≡ min (length room.old) (length (file_bytes_from image.now file.now blocks.now offset)) }
     ensures bytes { room.new ≡ filled (file_bytes_from image.now file.now blocks.now offset) room.old }
 {
-    let size = file.size as usize;
     let first = file.first as usize;
-    if size <= offset {
-        return 0;
-    }
     if blocks.len() < first {
         return 0;
     }
-    let count = room.len().min(size - offset);
-    put_bytes(
-        image,
-        kind_of(image),
-        &blocks[first..],
-        offset,
-        &mut room[..count],
-    )
+    read_sized(image, &blocks[first..], file.size as usize, offset, room)
 }
 
 // Puts the bytes of a node from a place on into the room, as many as there are and fit, and answers how many.

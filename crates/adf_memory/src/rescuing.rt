@@ -2,10 +2,9 @@
 
 ghost use Rattle.std.specs.Prelude.{◌≡◌, ◌≤◌, ◌*◌, ◌<◌, List, ℕ, Err, IfErr, IfOk, Ok, OnErr, OnOk, length};
 ghost use Rattle.adf_boot_blocks.specs.declared.boot.TheConstants.{BOOT_LEN};
-ghost use Rattle.adf_volume.specs.declared.types.Types.TheVariants.{Plain, WithInternational};
 ghost use Rattle.adf_subjects.specs.{Rescues.RescuesTyped, Subject.subject, Subject.subject_value};
-ghost use Rattle.adf_memory.specs.Rescuing.{ExplainsRescue, HasRescue, IsPutOut, IsRoomRefusal, IsVolumeOf, Readies};
-ghost use Rattle.adf_memory.specs.Rescuing.{asked_blocks, rescue_number, rescue_told, unrescued_refusal};
+ghost use Rattle.adf_memory.specs.Rescuing.{ExplainsRescue, GivesVolume, HasRescue, IsRoomRefusal, IsVolumeOf, Readies};
+ghost use Rattle.adf_memory.specs.Rescuing.{asked_blocks, rescue_number, rescue_told};
 ghost use Rattle.adf_memory.specs.{Rooms.filled, SurveyCalls.RescuesVolume};
 ghost use Rattle.adf_memory.specs.declared.rescuing.RescueRefusal.{RescueRefusal as ARescueRefusal};
 
@@ -104,13 +103,13 @@ fn ready_subject(alloc: Global, mut subject: Subject, types: Types) -> Result<Re
     }
 }
 
-// An image that is rescued as it is, or if `blocks` is not 0, as if it had so many blocks; and the types that the new volume may
-// have.
+/// An image that is rescued as it is, or if `blocks` is not 0, as if it had so many blocks; and the types that the new volume may
+/// have.
 #[derive(Clone, Copy)]
-struct RescueInput<'a> {
-    image: &'a [u8],
-    blocks: u32,
-    types: Types,
+pub struct RescueInput<'a> {
+    pub image: &'a [u8],
+    pub blocks: u32,
+    pub types: Types,
 }
 
 // Prepares the rescue of an image.
@@ -119,16 +118,6 @@ fn ready_image(alloc: Global, input: RescueInput<'_>) -> Result<Ready, Unrescued
 {
     let subject = Subject::of(alloc, input.image, asked_blocks(input.blocks))?;
     ready_subject(alloc, subject, input.types)
-}
-
-// The refusal of a rescue that gives no volume.
-fn refusal_of(unrescued: Unrescued) -> RescueRefusal
-    ensures { result ≡ unrescued_refusal unrescued }
-{
-    match unrescued {
-        Unrescued::Refused(fault, _) => RescueRefusal::Fault(fault),
-        Unrescued::NoMemory => RescueRefusal::NoMemory,
-    }
 }
 
 // Lays the volume of a tree that fits in so many blocks into a room of as many bytes, with these boot blocks.
@@ -214,7 +203,9 @@ fn put_rescue(
     paths: &mut [u8],
 ) -> Result<RescueTold, RescueRefusal>
     requires { BOOT_LEN ≤ length ready.boot.items }
-    ensures volume { IfOk result (IsPutOut ready room.old room.new losses.old losses.new paths.old paths.new) }
+    ensures volume { IfOk result (HasRescue
+        (IsVolumeOf ready.prepared.draft.tree ready.prepared.blocks ready.boot.items)
+        room.old room.new losses.old losses.new paths.old paths.new) }
     ensures fault { IfErr result
         (IsRoomRefusal ready.prepared.draft.tree ready.prepared.blocks (length room.old)) }
     ensures unchanged { OnErr result
@@ -248,8 +239,8 @@ fn rescue_into(
     losses: &mut [TableLoss],
     paths: &mut [u8],
 ) -> Result<RescueTold, RescueRefusal>
-    ensures volume { IfOk result (HasRescue
-        (RescuesTyped input.entry.types (subject (asked_blocks input.entry.blocks) input.entry.image.now))
+    ensures volume { IfOk result (HasRescue (GivesVolume
+        (RescuesTyped input.entry.types (subject (asked_blocks input.entry.blocks) input.entry.image.now)))
         room.old room.new losses.old losses.new paths.old paths.new) }
     ensures fault { IfErr result (ExplainsRescue
         (RescuesTyped input.entry.types (subject (asked_blocks input.entry.blocks) input.entry.image.now)) (length room.old)) }
@@ -258,7 +249,8 @@ fn rescue_into(
 {
     match ready_image(alloc, input) {
         Ok(ready) => put_rescue(alloc, ready, room, losses, paths),
-        Err(unrescued) => Err(refusal_of(unrescued)),
+        Err(Unrescued::Refused(fault, _)) => Err(RescueRefusal::Fault(fault)),
+        Err(Unrescued::NoMemory) => Err(RescueRefusal::NoMemory),
     }
 }
 
@@ -280,49 +272,20 @@ fn tell(rescued: Result<RescueTold, RescueRefusal>, told: &mut RescueTold) -> u8
     }
 }
 
-/// Rescues an image as it is, or if `blocks` is not 0, as if it had so many blocks: writes the new volume
-/// of all that stands on it to the front of the room, and fills a table of what is not in that, or in doubt
-/// there, and the text of all paths, as far as there is room. Returns 0; or the number of the first fault of the image, if
-/// nothing stands; or 24 if the volume is larger than its room, or that of `NoMemory` if memory ran out.
+/// Rescues an image: writes the new volume of all that stands on it to the front of the room, and fills a table of what is not in
+/// that, or in doubt there, and the text of all paths, as far as there is room. Names are compared by the letters of the image, as
+/// far as these types have them. Returns 0; or the number of the first fault of the image, if nothing stands; or 24 if the volume
+/// is larger than its room, or that of `NoMemory` if memory ran out.
 pub fn rescue_volume(
     alloc: Global,
-    image: &[u8],
-    blocks: u32,
+    input: RescueInput<'_>,
     room: &mut [u8],
     losses: &mut [TableLoss],
     paths: &mut [u8],
     told: &mut RescueTold,
 ) -> u8
-    ensures { RescuesVolume Plain image.now blocks room.old room.new losses.old losses.new paths.old paths.new told.new result }
+    ensures { RescuesVolume input.entry.types input.entry.image.now input.entry.blocks
+        room.old room.new losses.old losses.new paths.old paths.new told.new result }
 {
-    let types = Types::Plain;
-    let input = RescueInput {
-        image,
-        blocks,
-        types,
-    };
-    tell(rescue_into(alloc, input, room, losses, paths), told)
-}
-
-/// The same, with the letters of the image: of one of type 2 or 4 the new volume is of type 2, of one of type 3 or 5 of type 3, and
-/// its names are compared by international letters.
-pub fn rescue_volume_types(
-    alloc: Global,
-    image: &[u8],
-    blocks: u32,
-    room: &mut [u8],
-    losses: &mut [TableLoss],
-    paths: &mut [u8],
-    told: &mut RescueTold,
-) -> u8
-    ensures { RescuesVolume WithInternational image.now blocks room.old room.new losses.old losses.new paths.old paths.new
-        told.new result }
-{
-    let types = Types::WithInternational;
-    let input = RescueInput {
-        image,
-        blocks,
-        types,
-    };
     tell(rescue_into(alloc, input, room, losses, paths), told)
 }

@@ -1,12 +1,10 @@
 // The image that is surveyed in place of an image, in the memory of the caller.
 
-ghost use Rattle.std.specs.Prelude.{◌≡◌, ◌≤◌, ◌<◌, IfOk, OnErr, OnOk, length};
-ghost use Rattle.adf_rescue.specs.Opened.{lacks_boot};
-ghost use Rattle.adf_subjects.specs.Subject.{begun_subject, meant, subject, subject_value};
-ghost use Rattle.adf_memory.specs.{Rescuing.asked_blocks, SurveyCalls.PutsSubject};
-ghost use Rattle.adf_memory.specs.Subjects.{HasSubject, IsRetyped, untold};
+ghost use Rattle.std.specs.Prelude.{◌≡◌, ◌≤◌, IfOk, OnErr, OnOk, length};
+ghost use Rattle.adf_subjects.specs.Subject.{IsTyped, begun_subject, meant, subject, subject_value};
+ghost use Rattle.adf_memory.specs.Rescuing.{asked_blocks};
+ghost use Rattle.adf_memory.specs.SurveyCalls.{HasSubject, KeepsImage, PutsSubject};
 
-use crate::found_tables::mark_number;
 use crate::rescuing::{asked_blocks, put_bytes};
 use adf_base::{BLOCK_LEN, NoMemory};
 use adf_blocks::Cause;
@@ -33,7 +31,7 @@ pub struct SubjectTold {
 
 // What is told beside the length where nothing is surveyed.
 fn untold(length: usize) -> SubjectTold
-    ensures { result ≡ untold length }
+    ensures { result.length ≡ length }
 {
     SubjectTold {
         length,
@@ -56,8 +54,7 @@ fn meant_len(image: &[u8], blocks: u32) -> usize
 
 // Begins the image with `DOS` and a type, if only its boot block is lost, and says whether it is.
 fn begin(subject: &mut Subject) -> Result<bool, AllocError>
-    ensures subject { OnOk result (subject_value subject.new ≡ begun_subject (subject_value subject.old)) }
-    ensures is { IfOk result (λ is_begun. is_begun ≡ lacks_boot subject.old.image.items) }
+    ensures { OnOk result (subject_value subject.new ≡ begun_subject (subject_value subject.old)) }
 {
     let is_begun = lacks_boot(&subject.image);
     subject.begin()?;
@@ -66,7 +63,7 @@ fn begin(subject: &mut Subject) -> Result<bool, AllocError>
 
 // Makes the type of the image the one that its entries tell, and says whether it was another: then there is one more line.
 fn retype(alloc: Global, subject: &mut Subject) -> Result<bool, NoMemory>
-    ensures { IfOk result (IsRetyped (subject_value subject.old) (subject_value subject.new)) }
+    ensures { OnOk result (IsTyped (subject_value subject.old) (subject_value subject.new)) }
 {
     let lines = subject.front.len();
     subject.be_typed(alloc)?;
@@ -82,6 +79,7 @@ fn put_surveyed(
 ) -> Result<SubjectTold, NoMemory>
     requires { length subject.image.items ≤ length room.old }
     ensures subject { IfOk result (HasSubject (subject_value subject) room.old room.new) }
+    ensures kept { IfOk result (KeepsImage subject.image.items room.new) }
     ensures unchanged { OnErr result (room.new ≡ room.old) }
 {
     let Ok(is_begun) = begin(&mut subject) else {
@@ -92,8 +90,8 @@ fn put_surveyed(
     Ok(SubjectTold {
         length: subject.image.len(),
         held: subject.end,
-        is_begun: mark_number(is_begun),
-        is_retyped: mark_number(is_retyped),
+        is_begun: u8::from(is_begun),
+        is_retyped: u8::from(is_retyped),
     })
 }
 
@@ -107,6 +105,7 @@ fn put_meant(
 ) -> Result<SubjectTold, NoMemory>
     requires { length (meant (asked_blocks blocks) image.now) ≤ length room.old }
     ensures subject { IfOk result (HasSubject (subject (asked_blocks blocks) image.now) room.old room.new) }
+    ensures kept { IfOk result (KeepsImage (meant (asked_blocks blocks) image.now) room.new) }
     ensures unchanged { OnErr result (room.new ≡ room.old) }
 {
     let Ok(subject) = Subject::of(alloc, image, asked_blocks(blocks)) else {

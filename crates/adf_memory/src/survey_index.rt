@@ -23,12 +23,12 @@ pub fn put_survey(
     match survey(alloc, image) {
         Ok(found) => {
             let rows = put_findings(&found, findings);
-            put_found(&found, entries);
-            *surveyed = surveyed_of(&found, rows);
+            let count = put_found(&found, entries);
+            *surveyed = surveyed_of(&found, rows, count);
             0
         }
         Err(_) => {
-            *surveyed = unread(0);
+            *surveyed = unread(0, 0);
             Cause::NoMemory.number()
         }
     }

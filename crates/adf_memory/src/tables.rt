@@ -100,23 +100,14 @@ pub fn field<const N: usize>(text: &[u8]) -> [u8; N]
     bytes
 }
 
-// 1 for a file, 0 for a directory.
-fn file_number(body: RowBody) -> u8
-    ensures { (b : Body) → body ≡ row_of_body b → result ≡ file_number b }
+// 1 for a file, 0 for a directory; and the bytes of a file, 0 of a directory.
+fn numbers_of(body: RowBody) -> (u8, u32)
+    ensures { (b : Body) → body ≡ row_of_body b
+        → (result.0 ≡ file_number b) × (result.1 ≡ length (bytes_of_body b)) }
 {
     match body {
-        RowBody::Dir => 0,
-        RowBody::File { .. } => 1,
-    }
-}
-
-// The bytes of a file; 0 of a directory.
-fn size_of(body: RowBody) -> u32
-    ensures { (b : Body) → body ≡ row_of_body b → result ≡ length (bytes_of_body b) }
-{
-    match body {
-        RowBody::Dir => 0,
-        RowBody::File { size } => size,
+        RowBody::Dir => (0, 0),
+        RowBody::File { size } => (1, size),
     }
 }
 
@@ -127,14 +118,15 @@ fn entry_of(row: &Row, header: u32, first: u32) -> TableEntry
 {
     let name = row.name.bytes();
     let comment = row.meta.comment.bytes();
+    let (is_file, size) = numbers_of(row.body);
     TableEntry {
         parent: row.parent.0 as u32,
         header,
-        size: size_of(row.body),
+        size,
         first,
         protection: row.meta.protect,
         date: date_of(row.meta.stamp),
-        is_file: file_number(row.body),
+        is_file,
         name_length: name.len() as u8,
         name: field(name),
         comment_length: comment.len() as u8,
@@ -172,10 +164,7 @@ fn put_blocks(table: &mut [u32], first: usize, datas: &[u32])
         → table.new ≡ filled (xs ++ datas.now) room }
 {
     for i in 0..datas.len() {
-        if first + i >= table.len() {
-            return;
-        }
-        table[first + i] = datas[i];
+        put(table, first + i, datas[i]);
     }
 }
 

@@ -1,10 +1,8 @@
 // The verdict on an image.
 
-ghost use Rattle.std.specs.Prelude.{◌≡◌};
-ghost use Rattle.adf_memory.specs.{Verdicts.accepted_by, Verdicts.refused, CheckCalls.ChecksImage};
+ghost use Rattle.adf_memory.specs.CheckCalls.{ChecksImage};
 
-use adf_base::Letters;
-use adf_check::{Counts, check_types};
+use adf_check::check_types;
 use adf_names::type_number;
 use adf_volume::Types;
 use std::alloc::Global;
@@ -28,36 +26,6 @@ pub struct Verdict {
     pub block: u32,
 }
 
-// The verdict on an accepted image with these letters.
-fn accepted_by(letters: Letters, counts: &Counts) -> Verdict
-    ensures { result ≡ accepted_by letters counts.now }
-{
-    Verdict {
-        kind: u32::from(type_number(letters, counts.kind)),
-        blocks: counts.blocks,
-        used: counts.used,
-        free: counts.free,
-        dirs: counts.dirs,
-        files: counts.files,
-        block: 0,
-    }
-}
-
-// The verdict on a refused image.
-fn refused(block: u32) -> Verdict
-    ensures { result ≡ refused block }
-{
-    Verdict {
-        kind: 0,
-        blocks: 0,
-        used: 0,
-        free: 0,
-        dirs: 0,
-        files: 0,
-        block,
-    }
-}
-
 /// Checks an image as a volume of these types, by its letters, and fills in the verdict. Returns 0 if the image is accepted,
 /// otherwise the number of a cause: that of the first fault, or `NoMemory` if memory ran out.
 pub fn check_image(alloc: Global, types: Types, image: &[u8], verdict: &mut Verdict) -> u8
@@ -65,11 +33,28 @@ pub fn check_image(alloc: Global, types: Types, image: &[u8], verdict: &mut Verd
 {
     match check_types(alloc, types, image) {
         Ok(volume) => {
-            *verdict = accepted_by(volume.letters(), &volume.counts());
+            let counts = volume.counts();
+            *verdict = Verdict {
+                kind: u32::from(type_number(volume.letters(), counts.kind)),
+                blocks: counts.blocks,
+                used: counts.used,
+                free: counts.free,
+                dirs: counts.dirs,
+                files: counts.files,
+                block: 0,
+            };
             0
         }
         Err(fault) => {
-            *verdict = refused(fault.block);
+            *verdict = Verdict {
+                kind: 0,
+                blocks: 0,
+                used: 0,
+                free: 0,
+                dirs: 0,
+                files: 0,
+                block: fault.block,
+            };
             fault.cause.number()
         }
     }

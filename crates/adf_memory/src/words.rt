@@ -2,7 +2,7 @@
 
 ghost use Rattle.std.specs.Prelude.{◌≡◌, ◌<◌, ◌∷◌, [], IfOk, IfErr, IfSome, IfNone, length, position};
 ghost use Rattle.adf_words.specs.CommandLine.{texts_of};
-ghost use Rattle.adf_memory.specs.Words.{AreNoWords, AreWords, BeginWithWords, is_zero, between_zeros};
+ghost use Rattle.adf_memory.specs.Words.{AreNoWords, AreWords, is_zero, between_zeros};
 
 use adf_words::ArgsError;
 use std::alloc::Global;
@@ -31,10 +31,6 @@ fn cut(bytes: &[u8]) -> Option<(&[u8], &[u8])>
 pub fn words_in<'a>(alloc: Global, bytes: &'a [u8]) -> Result<Vec<&'a str>, ArgsError>
     ensures ok { IfOk result (λ words. AreWords bytes.entry.now (texts_of words.items)) }
     ensures err { IfErr result (λ fault. fault ≡ ArgsError.Usage → AreNoWords bytes.entry.now) }
-
-    // No word is kept before one is read.
-    ensures memory { IfErr result (λ fault.
-        fault ≡ ArgsError.NoMemory → BeginWithWords bytes.entry.now) }
 {
     let mut words = Vec::new(alloc);
     let mut rest = bytes;

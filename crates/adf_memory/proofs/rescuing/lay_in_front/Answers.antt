@@ -2,7 +2,7 @@ use Rattle.std.proofs.Common.{◌≡◌, ◌≤◌, ◌*◌, arith, length, subs
 use Rattle.std.proofs.lemmas.Grind.{common_steps}
 use Rattle.adf_tree.specs.Tree.{Tree}
 use Rattle.adf_memory.specs.Rescuing.{IsVolumeOf}
-use Rattle.adf_memory.proofs.Refusals.{in_front}
+use Rattle.adf_memory.proofs.Filled.{in_front}
 use Rattle.adf_memory.proofs.rescuing.lay_in_front.Goals as goal
 
 pub returns-in-Ok-lay_in-clause-volume : goal.returns-in-Ok-lay_in-clause-volume

@@ -1,11 +1,11 @@
-use Rattle.std.proofs.Common.{arith}
-use Rattle.adf_memory.proofs.Filled.{blocks_full, blocks_more}
+use Rattle.std.proofs.Common.{arith, length-append, ◌++◌, take}
+use Rattle.std.proofs.lemmas.{Grind.common_steps, List.append_assoc, List.length-take-le, List.take_more}
 use Rattle.adf_memory.proofs.tables.put_blocks.Goals as goal
-
-pub returns-then-first-i : goal.returns-then-first-i
-returns-then-first-i c = λ xs room at e.
-    blocks_full xs c.args.datas.now room c.loop-i.table c.args.first c.loop-i.i at (c.loop-i.invariant xs room at e) (omega arith) (omega arith)
 
 pub loop-i-preserved : goal.loop-i-preserved
 loop-i-preserved c = λ xs room at e.
-    blocks_more xs c.args.datas.now room c.loop-i.table c.args.first c.loop-i.i at (c.loop-i.invariant xs room at e) (omega arith) (omega arith)
+    let ds = c.args.datas.now in
+    let i = c.loop-i.i in
+    let put = c.put.ensures (xs ++ take i ds) room (omega (arith, at, length-append xs (take i ds), length-take-le i ds (omega arith)))
+    (c.loop-i.invariant xs room at e) in
+    grind (arith, common_steps, put, append_assoc, take_more)

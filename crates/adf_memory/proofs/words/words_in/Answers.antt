@@ -2,17 +2,11 @@ use Rattle.std.proofs.Common.{◌≡◌, ◌++◌, ◌∷◌, [], ◌∙◌, Lis
 use Rattle.std.specs.{List.All, Str.IsUtf8}
 use Rattle.std.proofs.lemmas.Grind.{common_steps}
 use Rattle.adf_memory.specs.Words.{between_zeros}
-use Rattle.adf_memory.proofs.WordParts.{front_pushed, no_text, pushed_split, pushed_texts}
+use Rattle.adf_memory.proofs.WordParts.{no_text, pushed_split, pushed_texts}
 use Rattle.adf_memory.proofs.words.words_in.Goals as goal
 
 pub returns-in_default-from_utf8-clause-err : goal.returns-in_default-from_utf8-clause-err
 returns-in_default-from_utf8-clause-err c _ = grind (arith, common_steps, no_text)
-
-pub returns-then-is_err-clause-memory : goal.returns-then-is_err-clause-memory
-returns-then-is_err-clause-memory c _ =
-    let is = c.in-Ok.ensures.cases in
-    front_pushed c.args.bytes.now c.loop-rest.rest.now c.in-Some.word.now c.in-Some.after.now c.loop-rest.words.items c.in-Ok.text
-    c.loop-rest.invariant.split c.in-Some.ensures.some is.0 c.loop-rest.invariant.texts (subst IsUtf8 (sym is.0) is.1)
 
 pub loop-rest-preserved : goal.loop-rest-preserved
 loop-rest-preserved c =
