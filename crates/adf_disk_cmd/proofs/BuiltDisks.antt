@@ -1,26 +1,29 @@
 -- Disks that are built. p is the plan of a partition, n the number of its blocks, ps are partitions, c the number of blocks of a cylinder; `given` are
--- the bytes of given volumes.
-use Rattle.std.proofs.Common.{◌≡◌, ◌≢◌, ◌≤◌, ◌<◌, ◌+◌, ◌*◌, ◌∙◌, ℕ, Bool, true, false, List, [], ◌∷◌, ◌++◌, ap, ap₂, arith, append-nil, append_assoc, drop}
-use Rattle.std.proofs.Common.{Option, get_or, ◌^◌, inl, inr, length, length-drop, refl, subst, suc, sym, zero, ◌==◌, ◌/◌, if◌then◌else◌}
-use Rattle.std.proofs.lemmas.List.{drop_all, length-take-le, Folds.list_all_at}
+-- the bytes of given volumes, vs the volumes of ps, v that of p.
+use Rattle.std.proofs.Common.{◌≡◌, ◌≤◌, ◌<◌, ◌+◌, ◌*◌, ◌∙◌, ℕ, Bool, true, false, List, [], ◌∷◌, ◌++◌, ap, arith, append-nil, append_assoc, drop, take}
+use Rattle.std.proofs.Common.{Option, get_or, ◌^◌, inl, inr, length, length-drop, length-take, refl, subst, suc, sym, zero, if◌then◌else◌}
+use Rattle.std.proofs.lemmas.List.{take-append-drop}
+use Rattle.std.proofs.lemmas.List.{drop_all, take_all, take_more, Folds.list_all_at}
 use Rattle.std.specs.List.{flat_map, list_all}
-use Rattle.std.proofs.{lemmas.Bool.and_parts, lemmas.Bool.Decides.nat_tests, lemmas.Grind.common_steps}
-use Rattle.adf_disk_cmd.proofs.NewVolumes.{MayBeNew, length_new, may_be_new, new_sound}
-use Rattle.adf_disk_cmd.specs.Builds.{BuildsDisk, HasPlanned, behind_volume, built_disk, given_bytes, given_cylinders, given_line, given_size, plan_reply}
-use Rattle.adf_disk_cmd.specs.Builds.{volume_of, volumes_of}
+use Rattle.std.proofs.{lemmas.Bool.and_parts, lemmas.Grind.common_steps}
+use Rattle.adf_disk_cmd.specs.Builds.{ArePlannedVolumes, HasPlanned, IsFrontOfDisk, IsPartOfVolume, IsPlannedVolume, behind_volume, given_cylinders, given_size}
+use Rattle.adf_disk_cmd.specs.Builds.ArePlannedVolumes.{more, none}
 use Rattle.adf_partitions.proofs.PlanSizes.{blocks_fit, cylinders_fit, plans_at}
-use Rattle.adf_partitions.proofs.{PlannedDisk.planned_disk, PlannedVolumes.disk_size, PlannedVolumes.volumes_stand}
-use Rattle.adf_plans.proofs.TextLines.{is_plan-tells}
-use Rattle.adf_partitions.specs.{Disks.IsDisk, WrittenTables.disk_bytes, WrittenTables.planned_tables, WrittenTables.table_bytes, declared.plan.PartitionPlan.PartitionPlan}
-use Rattle.adf_plans.specs.PlanTexts.{IsText, behind_line, has_volume, is_plan}
-use Rattle.adf_partitions.specs.Plans.{AreVolumes, IsPlan, PlanValue, cylinder_blocks, cylinders_of, planned_blocks, planned_partitions}
-use Rattle.adf_runs.specs.{Commands.Reply, Commands.on_errors, Commands.on_output, Streams.AppendsPart}
-use Rattle.adf_runs.proofs.{KnownBytes.appends_two, PendingText.appends_nil, PendingText.part_behind, PendingText.part_of_more}
+use Rattle.adf_partitions.proofs.PlannedVolumes.{disk_size, volumes_stand}
+use Rattle.adf_partitions.specs.declared.plan.PartitionPlan.{PartitionPlan}
+use Rattle.adf_plans.specs.PlanTexts.{has_volume, is_plan}
+use Rattle.adf_partitions.specs.Plans.{AreTablesOfPlan, AreVolumes, IsPlan, PlanValue, cylinder_blocks, cylinders_of}
+use Rattle.adf_runs.specs.Streams.{AppendsPart}
+use Rattle.adf_runs.proofs.{KnownBytes.appends_two, PendingText.part_behind}
 use Rattle.std.specs.Io.KnownBytes.{Appends}
 
 -- volumes one behind the other
 abbrev pub joined : List (List ℕ) → List ℕ
 joined vs = flat_map (λ (v : List ℕ). v) vs
+
+joined_push : (vs : List (List ℕ)) (v : List ℕ) → joined (vs ++ v ∷ []) ≡ joined vs ++ v
+joined_push [] v = append-nil v
+joined_push (w ∷ vs) v = ap (λ (l : List ℕ). w ++ l) (joined_push vs v) ∙ sym (append_assoc w (joined vs) v)
 
 -- the given bytes are as many as partitions need
 abbrev pub AreEnough : ℕ → List PartitionPlan → List ℕ → Type 0
@@ -45,71 +48,128 @@ pub others_enough : (c : ℕ) (p : PartitionPlan) (ps : List PartitionPlan) (giv
 unfolding given_cylinders
 others_enough c p ps given h = left p.given p.cylinders (given_cylinders ps) c given h
 
--- one volume more behind those before it
-volume_put : (c : ℕ) (p : PartitionPlan) (ps : List PartitionPlan) (disk given : List ℕ)
-    → (disk ++ volume_of (p.cylinders * c) p given) ++ joined (volumes_of c ps (behind_volume (p.cylinders * c) p given))
-    ≡ disk ++ joined (volumes_of c (p ∷ ps) given)
-unfolding volumes_of
-volume_put c p ps disk given = grind (arith, common_steps, append_assoc, joined)
+-- the volumes have the sizes of their partitions
+volumes_push : (c : ℕ) (ps : List PartitionPlan) (vs : List (List ℕ)) (p : PartitionPlan) (v : List ℕ) → AreVolumes c ps vs
+    → length v ≡ p.cylinders * c * 512 → AreVolumes c (ps ++ p ∷ []) (vs ++ v ∷ [])
+volumes_push c [] [] p v h long = (long, tt)
+volumes_push c (q ∷ ps) (w ∷ vs) p v h long = (h.0, volumes_push c ps vs p v h.1 long)
+volumes_push c [] (w ∷ vs) p v h long = absurd h
+volumes_push c (q ∷ ps) [] p v h long = absurd h
 
--- what stands before the volumes of partitions, and the given bytes, with which the disk is whole
-pub record Continues (c : ℕ) (ps : List PartitionPlan) (disk given whole : List ℕ) : Type 0 where
-  pub enough : AreEnough c ps given
-  pub bytes : disk ++ joined (volumes_of c ps given) ≡ whole
+are_volumes : (c : ℕ) (given : List ℕ) {ps : List PartitionPlan} {left : List ℕ} {vs : List (List ℕ)} → ArePlannedVolumes c given ps left vs
+    → AreVolumes c ps vs
+are_volumes c given none = tt
+are_volumes c given (more {ps = ps} {p = p} {volume = v} {vs = vs} h one) = volumes_push c ps vs p v (are_volumes c given h) one.long
 
-pub stepped : (c n : ℕ) (ps others : List PartitionPlan) (p : PartitionPlan) (disk given whole next rest : List ℕ) → Continues c ps disk given whole
-    → ps ≡ p ∷ others → n ≡ p.cylinders * c → next ≡ disk ++ volume_of n p given → rest ≡ behind_volume n p given → Continues c others next rest whole
-stepped c n ps others p disk given whole next rest h e size put left_is = grind (arith, common_steps, others_enough, ap₂, joined, volume_put)
+take_one : (ps : List PartitionPlan) (i : ℕ) (p : PartitionPlan) → i < length ps → p ≡ get_or ps i p → take (i + 1) ps ≡ take i ps ++ p ∷ []
+take_one ps i p lt e = grind (arith, common_steps, take_more)
 
-pub volumes_end : (c : ℕ) (ps : List PartitionPlan) (i : ℕ) (disk given all : List ℕ) → length ps ≤ i
-    → disk ++ joined (volumes_of c (drop i ps) given) ≡ all → disk ≡ all
-unfolding volumes_of
-volumes_end c ps i disk given all le h = grind (arith, common_steps, append-nil, joined, drop_all)
+-- what was written of a disk before a partition: its tables, and the volumes before
+pub record IsWritten (plan : PlanValue) (given tables : List ℕ) (i : ℕ) (before now : Option (List ℕ)) (left : List ℕ) : Type 0 where
+  pub volumes : List (List ℕ)
+  pub planned : ArePlannedVolumes (cylinder_blocks plan) given (take i plan.partitions) left volumes
+  pub written : Appends before now (tables ++ joined volumes)
+  pub enough : AreEnough (cylinder_blocks plan) (drop i plan.partitions) left
 
--- what was written so far, with which the volumes of partitions make the whole
-pub record IsWritten (c : ℕ) (ps : List PartitionPlan) (before now : Option (List ℕ)) (given whole : List ℕ) : Type 0 where
-  pub done : List ℕ
-  pub written : Appends before now done
-  pub rest : Continues c ps done given whole
+pub tables_written : (plan : PlanValue) (given tables : List ℕ) (before now : Option (List ℕ)) → Appends before now tables
+    → AreEnough (cylinder_blocks plan) plan.partitions given → IsWritten plan given tables 0 before now given
+tables_written plan given tables before now h enough =
+    record { volumes = []; planned = none; written = subst (Appends before now) (sym (append-nil tables)) h; enough = enough }
 
--- nothing is written
-pub none_written : {failed : Bool} (before : Option (List ℕ)) (whole : List ℕ) → failed ≡ false → AppendsPart failed before before whole
-none_written before whole works = ([], whole, refl, λ fails. absurd cc, appends_nil before)
-
--- a front part of the tables is written
-pub tables_part : {failed : Bool} (plan : PlanValue) (before now : Option (List ℕ)) (given tables : List ℕ) → tables ≡ table_bytes plan
-    → AppendsPart failed before now tables → AppendsPart failed before now (built_disk plan given)
-tables_part {failed} plan before now given tables is q =
-    part_of_more before now (table_bytes plan) (joined (volumes_of (cylinder_blocks plan) plan.partitions given))
-    (subst (AppendsPart failed before now) is q)
-
--- one volume more is written, or a front part of it
-pub written_more : (c n : ℕ) (ps others : List PartitionPlan) (p : PartitionPlan) (before now next : Option (List ℕ)) (given whole rest : List ℕ)
-    → IsWritten c ps before now given whole → ps ≡ p ∷ others → n ≡ p.cylinders * c → Appends now next (volume_of n p given)
-    → rest ≡ behind_volume n p given → IsWritten c others before next rest whole
-written_more c n ps others p before now next given whole rest h e size put left_is = record {
-  done = h.done ++ volume_of n p given;
-  written = appends_two before now next h.done (volume_of n p given) (h.done ++ volume_of n p given) refl h.written put;
-  rest = stepped c n ps others p h.done given whole (h.done ++ volume_of n p given) rest h.rest e size refl left_is;
+-- the front of a disk
+front_of : (plan : PlanValue) (given tables : List ℕ) (i : ℕ) (left : List ℕ) (vs : List (List ℕ)) → AreTablesOfPlan plan tables
+    → ArePlannedVolumes (cylinder_blocks plan) given (take i plan.partitions) left vs → IsFrontOfDisk plan given (tables ++ joined vs)
+front_of plan given tables i left vs are planned = record {
+  tables = tables;
+  done = take i plan.partitions;
+  others = drop i plan.partitions;
+  left = left;
+  volumes = vs;
+  are = are;
+  parts = sym (take-append-drop i plan.partitions);
+  planned = planned;
+  bytes = refl;
 }
 
-pub written_part : {failed : Bool} (c n : ℕ) (ps others : List PartitionPlan) (p : PartitionPlan) (before now next : Option (List ℕ)) (given whole : List ℕ)
-    → IsWritten c ps before now given whole → ps ≡ p ∷ others → n ≡ p.cylinders * c → AppendsPart failed now next (volume_of n p given)
-    → AppendsPart failed before next whole
-written_part {failed} c n ps others p before now next given whole h e size q =
-    let one : List ℕ = volume_of n p given in
-    let more : List ℕ = joined (volumes_of c others (behind_volume (p.cylinders * c) p given)) in
-    let is : (h.done ++ one) ++ more ≡ whole =
-    ap (λ (m : ℕ). (h.done ++ volume_of m p given) ++ more) size ∙ (volume_put c p others h.done given
-    ∙ (ap (λ (l : List PartitionPlan). h.done ++ joined (volumes_of c l given)) (sym e) ∙ h.rest.bytes)) in
-    subst (AppendsPart failed before next) is
-    (part_of_more before next (h.done ++ one) more (part_behind before now next h.done one h.written q))
+-- of the tables a front part is written
+pub tables_part : {failed : Bool} (plan : PlanValue) (given tables : List ℕ) (before now : Option (List ℕ)) → AreTablesOfPlan plan tables
+    → AppendsPart failed before now tables → (front : List ℕ) × IsFrontOfDisk plan given front × AppendsPart failed before now front
+tables_part {failed} plan given tables before now are q =
+    (tables ++ [], front_of plan given tables 0 given [] are none, subst (AppendsPart failed before now) (sym (append-nil tables)) q)
+
+module _ (plan : PlanValue) (given tables : List ℕ) (are : AreTablesOfPlan plan tables) (i : ℕ) (p : PartitionPlan) (within : i < length plan.partitions)
+    (at : p ≡ get_or plan.partitions i p) (before now next : Option (List ℕ)) (left : List ℕ)
+    (h : IsWritten plan given tables i before now left) where
+  one_more : take (i + 1) plan.partitions ≡ take i plan.partitions ++ p ∷ []
+  one_more = take_one plan.partitions i p within at
+
+  planned_more : (v : List ℕ) → IsPlannedVolume (p.cylinders * cylinder_blocks plan) p left v
+      → ArePlannedVolumes (cylinder_blocks plan) given (take (i + 1) plan.partitions) (behind_volume (p.cylinders * cylinder_blocks plan) p left)
+      (h.volumes ++ v ∷ [])
+  planned_more v one =
+      subst (λ (ps : List PartitionPlan). ArePlannedVolumes (cylinder_blocks plan) given ps (behind_volume (p.cylinders * cylinder_blocks plan) p left)
+      (h.volumes ++ v ∷ [])) (sym one_more) (more h.planned one)
+
+  bytes_more : (v : List ℕ) → (tables ++ joined h.volumes) ++ v ≡ tables ++ joined (h.volumes ++ v ∷ [])
+  bytes_more v = append_assoc tables (joined h.volumes) v ∙ ap (λ (l : List ℕ). tables ++ l) (sym (joined_push h.volumes v))
+
+  enough_here : AreEnough (cylinder_blocks plan) (p ∷ drop (i + 1) plan.partitions) left
+  enough_here = subst (λ (ps : List PartitionPlan). AreEnough (cylinder_blocks plan) ps left) (plans_at plan.partitions i p within at) h.enough
+
+  pub volume_enough : p.given ≡ true → p.cylinders * cylinder_blocks plan * 512 ≤ length left
+  volume_enough e = first_enough (cylinder_blocks plan) p (drop (i + 1) plan.partitions) left enough_here e
+
+  -- one volume more is written
+  pub written_more : (n : ℕ) (rest : List ℕ) → n ≡ p.cylinders * cylinder_blocks plan
+      → (v : List ℕ) × IsPlannedVolume n p left v × Appends now next v → rest ≡ behind_volume n p left
+      → IsWritten plan given tables (i + 1) before next rest
+  written_more n rest size (v, one, put) is =
+      let one' : IsPlannedVolume (p.cylinders * cylinder_blocks plan) p left v = subst (λ (k : ℕ). IsPlannedVolume k p left v) size one in
+      let rest_is : behind_volume (p.cylinders * cylinder_blocks plan) p left ≡ rest = sym (is ∙ ap (λ (k : ℕ). behind_volume k p left) size) in
+      subst (IsWritten plan given tables (i + 1) before next) rest_is
+      (record {
+        volumes = h.volumes ++ v ∷ [];
+        planned = planned_more v one';
+        written = subst (Appends before next) (bytes_more v) (appends_two before now next (tables ++ joined h.volumes) v _ refl h.written put);
+        enough = others_enough (cylinder_blocks plan) p (drop (i + 1) plan.partitions) left enough_here;
+      })
+
+  -- or nothing of it, or a front part
+  pub written_part : {failed : Bool} (n : ℕ) → n ≡ p.cylinders * cylinder_blocks plan → IsPartOfVolume n p left failed now next
+      → (front : List ℕ) × IsFrontOfDisk plan given front × AppendsPart failed before next front
+  written_part {failed} n size (inl (works, put)) =
+      let front : List ℕ = tables ++ joined h.volumes in (
+        front,
+        front_of plan given tables i left h.volumes are h.planned,
+        (front, [], sym (append-nil front), λ fails. absurd cc, appends_two before now next front [] front (sym (append-nil front)) h.written put),
+      )
+  written_part {failed} n size (inr (v, one, put)) =
+      let one' : IsPlannedVolume (p.cylinders * cylinder_blocks plan) p left v = subst (λ (k : ℕ). IsPlannedVolume k p left v) size one in
+      let front : List ℕ = tables ++ joined (h.volumes ++ v ∷ []) in (
+        front,
+        front_of plan given tables (i + 1) (behind_volume (p.cylinders * cylinder_blocks plan) p left) (h.volumes ++ v ∷ []) are (planned_more v one'),
+        subst (AppendsPart failed before next) (bytes_more v) (part_behind before now next (tables ++ joined h.volumes) v h.written put),
+      )
 
 -- all is written
-pub written_whole : (c : ℕ) (ps : List PartitionPlan) (i : ℕ) (before now : Option (List ℕ)) (given whole : List ℕ) → length ps ≤ i
-    → IsWritten c (drop i ps) before now given whole → Appends before now whole
-written_whole c ps i before now given whole le h =
-    subst (Appends before now) (volumes_end c ps i h.done given whole le h.rest.bytes) h.written
+pub written_whole : (plan : PlanValue) (given tables : List ℕ) (i : ℕ) (before now : Option (List ℕ)) (left : List ℕ) → AreTablesOfPlan plan tables
+    → length plan.partitions ≤ i → IsWritten plan given tables i before now left
+    → (disk : List ℕ) × HasPlanned plan given disk × Appends before now disk
+written_whole plan given tables i before now left are le h =
+    let planned = subst (λ (ps : List PartitionPlan). ArePlannedVolumes (cylinder_blocks plan) given ps left h.volumes) (take_all i plan.partitions le)
+    h.planned in
+    let sizes = are_volumes (cylinder_blocks plan) given planned in (
+      tables ++ joined h.volumes,
+      record {
+        size = disk_size plan tables h.volumes are sizes;
+        tables = are.read (joined h.volumes);
+        left = left;
+        volumes = h.volumes;
+        planned = planned;
+        places = volumes_stand plan tables h.volumes are sizes;
+      },
+      h.written,
+    )
 
 -- each partition has a volume
 pub has_volume_at : (c : ℕ) (ps : List PartitionPlan) (i : ℕ) (d : PartitionPlan) → list_all (has_volume c) ps ≡ true → i < length ps
@@ -153,57 +213,14 @@ pub given_end : (ps : List PartitionPlan) (i : ℕ) → length ps ≤ i → give
 unfolding given_cylinders
 given_end ps i le = ap given_cylinders (drop_all i ps le)
 
-length_one : (n : ℕ) (p : PartitionPlan) (given : List ℕ) → (p.given ≡ true → n * 512 ≤ length given)
-    → (p.given ≡ false → MayBeNew n p.system p.name) → length (volume_of n p given) ≡ n * 512
-length_one n p given enough new = grind (arith, common_steps, length-take-le, length_new)
-
-are_volumes : (c : ℕ) (ps : List PartitionPlan) (given : List ℕ) → AreEnough c ps given → list_all (has_volume c) ps ≡ true
-    → AreVolumes c ps (volumes_of c ps given)
-unfolding volumes_of
-are_volumes c [] given h all = tt
-are_volumes c (p ∷ ps) given h all =
-    let both = and_parts (has_volume c p) (list_all (has_volume c) ps) all in (
-      length_one (p.cylinders * c) p given (first_enough c p ps given h) (may_be_new c p both.0),
-      are_volumes c ps (behind_volume (p.cylinders * c) p given) (others_enough c p ps given h) both.1,
-    )
-
 pub all_have_volumes : (plan : PlanValue) → is_plan plan ≡ true → list_all (has_volume (cylinder_blocks plan)) plan.partitions ≡ true
 all_have_volumes plan h = (and_parts _ _ h).1
 
--- the disk of a plan
-has_planned : (text : List ℕ) (plan : PlanValue) (given : List ℕ) → IsText text plan given → length given ≡ given_bytes plan
-    → HasPlanned plan given (built_disk plan given)
-has_planned text plan given is enough =
-    let c = cylinder_blocks plan in
-    let vs = volumes_of c plan.partitions given in
-    let h : IsPlan plan = is_plan-tells plan (behind_line text) is.end is.lines.1 is.good in
-    let all = all_have_volumes plan is.good in
-    let are = are_volumes c plan.partitions given enough all in
-    let size : planned_blocks plan ≡ length (disk_bytes plan vs) / 512 = omega (arith, disk_size plan vs h are) in
-    record {
-      tables =
-          subst (λ (n : ℕ). IsDisk (disk_bytes plan vs) n (planned_tables plan) (planned_partitions plan)) size (planned_disk plan h (joined vs));
-      volumes = volumes_stand plan vs h are;
-      sound = λ k d lt new.
-          let p = get_or plan.partitions k d in
-          new_sound (p.cylinders * c) p.system p.name (may_be_new c p (has_volume_at c plan.partitions k d all lt) new);
-    }
-
-pub other_bytes : (plan : PlanValue) (given : List ℕ) → length given ≢ given_bytes plan
-    → plan_reply plan given ≡ on_errors 1 (given_line (given_bytes plan) (length given))
-other_bytes plan given other = grind (arith, common_steps, nat_tests)
-
-pub right_bytes : (plan : PlanValue) (given : List ℕ) → length given ≡ given_bytes plan → plan_reply plan given ≡ on_output 0 (built_disk plan given)
-right_bytes plan given right = grind (arith, common_steps, nat_tests)
-
--- what is written at status 0
-pub built_disks : (text : List ℕ) (reply : Reply) → BuildsDisk text reply → reply.status ≡ 0
-    → (plan : PlanValue) × (given : List ℕ) × IsText text plan given × HasPlanned plan given reply.output
-built_disks text reply (inr (f, fault, e)) done = let one = ap (λ (r : Reply). r.status) e in absurd cc
-built_disks text reply (inl (plan, given, is, e)) done = (plan, given, is, go (length given == given_bytes plan) refl)
-  where
-    go : (b : Bool) → (length given == given_bytes plan) ≡ b → HasPlanned plan given reply.output
-    go true same =
-        let enough : length given ≡ given_bytes plan = grind (arith, nat_tests) in
-        subst (λ (r : Reply). HasPlanned plan given r.output) (sym (e ∙ right_bytes plan given enough)) (has_planned text plan given is enough)
-    go false other = grind (arith, common_steps, nat_tests, other_bytes)
+-- the first bytes that are left are the volume of a partition
+pub given_planned : (n : ℕ) (p : PartitionPlan) (bytes : List ℕ) → p.given ≡ true → n * 512 ≤ length bytes
+    → IsPlannedVolume n p bytes (take (n * 512) bytes)
+given_planned n p bytes is enough = record {
+  long = omega (arith, enough, length-take (n * 512) bytes);
+  given = λ same. refl;
+  new = λ other. let clash : true ≡ false = sym is ∙ other in absurd cc;
+}

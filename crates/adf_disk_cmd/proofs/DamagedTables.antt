@@ -1,6 +1,6 @@
 -- What is answered of a disk whose tables have a fault.
 -- Letters: ps are its partitions; u the fault that is found, if there is one; f, g faults; a a reply.
-use Rattle.std.proofs.Common.{◌≡◌, ℕ, List, Option, None, Some, ap, length, ◌/◌}
+use Rattle.std.proofs.Common.{◌≡◌, ℕ, List, Option, None, Some, length, ◌/◌}
 use Rattle.adf_disk_cmd.specs.Answers.{DamagedTablesAreTold, OfPartitions}
 use Rattle.adf_disk_cmd.specs.Surveys.{IsSurveyed}
 use Rattle.adf_partitions.proofs.OneAnswer.{no_fault}
@@ -11,11 +11,11 @@ use Rattle.adf_disk_cmd.specs.CommandLine.{DiskRequestValue, build, check, list,
 -- of a disk whose tables have a fault nothing is told at status 0
 damaged_told : (r : DiskRequestValue) (bytes : List ℕ) (ps : List Partition) (f : DiskFault) (a : Reply) → OfPartitions r bytes ps (Some f) a
     → a.status ≡ 1
-damaged_told (list json) bytes ps f a x = ap (λ (k : Reply). k.status) x
-damaged_told (check json) bytes ps f a (s, l, h, x) = ap (λ (k : Reply). k.status) x
+damaged_told (list json) bytes ps f a x = x
+damaged_told (check json) bytes ps f a (s, h, x) = x
 damaged_told (search json) bytes ps f a x = absurd x
 damaged_told propose bytes ps f a x = absurd x
-damaged_told (volume w) bytes ps f a x = ap (λ (k : Reply). k.status) x
+damaged_told (volume w) bytes ps f a x = x.0
 damaged_told build bytes ps f a x = absurd x
 
 told_so : (r : DiskRequestValue) (bytes : List ℕ) (ps : List Partition) (u : Option DiskFault) (f : DiskFault) (a : Reply)

@@ -1,13 +1,14 @@
 -- How works end, and by which answers. `part` are the first bytes of an input, as many as count.
-use Rattle.std.proofs.Common.{◌≡◌, ◌+◌, ◌*◌, ◌-◌, ◌/◌, ◌∙◌, inl, ℕ, Bool, List, Option, None, Some, IfSome, ap, arith, drop, length, min, subst, take}
+use Rattle.std.proofs.Common.{◌≡◌, ◌≤◌, ◌+◌, ◌*◌, ◌-◌, ◌/◌, ◌∙◌, inl, ℕ, Bool, true, List, [], Option, None, Some, IfSome, ap, arith, drop, length, min, refl, subst, take}
 use Rattle.std.proofs.lemmas.List.{drop_min, length-drop, take-take, take_all, take_min}
 use Rattle.adf_disk_cmd.specs.{Answers.DiskAnswer, Answers.OfBytes, Answers.OfDisk, Answers.OfPartitions, Surveys.IsSurveyed}
-use Rattle.adf_disk_cmd.specs.{Builds.BuildsDisk, Proposals.Proposes, Searches.search_reply, Lines.volume_at, Work.IsWorkOf, declared.work.TheConstants.MOST_DISK_BYTES}
+use Rattle.adf_disk_cmd.specs.{Builds.BuildsDisk, Proposals.Proposes, Replies.WritesOutput, Surveys.volume_at, Work.IsWorkOf, declared.work.TheConstants.MOST_DISK_BYTES}
 use Rattle.adf_disk_cmd.specs.declared.work.Work.{Work, TheVariants.Check}
 use Rattle.adf_partitions.specs.{declared.fault.DiskFault.DiskFault, declared.partition.Partition.Partition, declared.place.Place.Place}
 use Rattle.std.proofs.lemmas.Grind.{common_steps}
 use Rattle.adf_runs.proofs.{Endings.ends_weaker, PendingText.appends_nil}
-use Rattle.adf_runs.specs.{Commands.Reply, Outcomes.EndsBy, Outcomes.after_reading, declared.outcome.Outcome.Outcome}
+use Rattle.adf_runs.specs.{Commands.Reply, Outcomes.Does, Outcomes.EndsBy, Outcomes.after_reading, Streams.AppendsPart, Streams.Seen}
+use Rattle.adf_runs.specs.declared.outcome.Outcome.{Outcome, TheVariants.WriteFault}
 use Rattle.adf_runs.specs.declared.streams.StreamFault.{StreamFault, TheVariants.Device, TheVariants.NoMemory}
 use Rattle.adf_disk_cmd.specs.CommandLine.{DiskRequestValue, build, check, list, propose, search, volume}
 
@@ -51,15 +52,12 @@ pub plan_ends : (bytes part : List ℕ) (w : Outcome) (o o' : Option (List ℕ))
 plan_ends bytes part w o o' e h = ends_weaker (BuildsDisk part) (DiskAnswer build bytes) w o o'
     (λ reply tells. subst (λ (l : List ℕ). BuildsDisk l reply) e tells) h
 
-pub search_ends : (json : Bool) (bytes part : List ℕ) (w : Outcome) (o o' : Option (List ℕ)) → part ≡ take MOST_DISK_BYTES bytes
-    → EndsBy (λ reply. reply ≡ search_reply json part) w o o' → EndsBy (DiskAnswer (search json) bytes) w o o'
-search_ends json bytes part w o o' e h = ends_weaker (λ reply. reply ≡ search_reply json part) (DiskAnswer (search json) bytes) w o o'
-    (λ reply tells. subst (λ (l : List ℕ). reply ≡ search_reply json l) e tells) h
+pub search_ends : (json : Bool) (bytes : List ℕ) (w : Outcome) (o o' : Option (List ℕ)) → EndsBy (λ reply. reply.status ≤ 1) w o o'
+    → EndsBy (DiskAnswer (search json) bytes) w o o'
+search_ends json bytes w o o' h = ends_weaker (λ reply. reply.status ≤ 1) (DiskAnswer (search json) bytes) w o o' (λ reply tells. tells) h
 
-pub proposal_ends : (bytes part : List ℕ) (w : Outcome) (o o' : Option (List ℕ)) → part ≡ take MOST_DISK_BYTES bytes
-    → EndsBy (Proposes part) w o o' → EndsBy (DiskAnswer propose bytes) w o o'
-proposal_ends bytes part w o o' e h = ends_weaker (Proposes part) (DiskAnswer propose bytes) w o o'
-    (λ reply tells. subst (λ (l : List ℕ). Proposes l reply) e tells) h
+pub proposal_ends : (bytes : List ℕ) (w : Outcome) (o o' : Option (List ℕ)) → EndsBy Proposes w o o' → EndsBy (DiskAnswer propose bytes) w o o'
+proposal_ends bytes w o o' h = ends_weaker Proposes (DiskAnswer propose bytes) w o o' (λ reply tells. tells) h
 
 -- the work of `check` is that of no other request
 pub checks : (json : Bool) (work : Work) (r : DiskRequestValue) → work ≡ Check json → IsWorkOf work r → r ≡ check json
@@ -78,3 +76,16 @@ pub unread_ends : (f : StreamFault) (w : Outcome) (answers : List ℕ → Reply 
 unread_ends f w answers None o e = tt
 unread_ends Device w answers (Some all) o e = rw e (appends_nil o)
 unread_ends NoMemory w answers (Some all) o e = rw e (inl (appends_nil o))
+
+-- a front of an answer is written
+pub part_written : (n : ℕ) (bytes : List ℕ) (output : Seen) → output.failed ≡ true → AppendsPart output.failed output.before output.after bytes
+    → Does (WritesOutput n bytes) WriteFault output
+part_written n bytes output failed part = record {
+  ends = (
+    record { status = n; output = bytes; errors = [] },
+    (refl, refl),
+    subst (λ (b : Bool). AppendsPart b output.before output.after bytes) failed part,
+  );
+  read = refl;
+  written = failed;
+}

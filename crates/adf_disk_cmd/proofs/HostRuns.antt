@@ -3,13 +3,11 @@ use Rattle.std.proofs.Common.{rules, ◌≡◌, ◌+◌, ◌∙◌, ℕ, Bool, t
 use Rattle.adf_disk_cmd.proofs.Endings.{long_answers}
 use Rattle.adf_disk_cmd.specs.Answers.{disk_command}
 use Rattle.adf_disk_cmd.specs.CommandLine.{AsksDiskOf, build, disk_file}
-use Rattle.adf_disk_cmd.specs.{CommandLine.AreRefusedByDisk, HostPlans.HostsEnd, HostPlans.IsNoGiven, HostPlans.IsNoGivenTold, HostPlans.NamesNoHosts}
-use Rattle.adf_disk_cmd.specs.declared.{gathering.NoGiven.NoGiven, work.TheConstants.MOST_DISK_BYTES}
-use Rattle.adf_disk_cmd.specs.declared.gathering.NoGiven.TheVariants.{NoMemory as GivenNoMemory, Fault}
+use Rattle.adf_disk_cmd.specs.{CommandLine.AreRefusedByDisk, HostPlans.NamesNoHosts}
+use Rattle.adf_disk_cmd.specs.declared.work.TheConstants.{MOST_DISK_BYTES}
 use Rattle.adf_file_runs.proofs.FileRuns.{on_file_ends}
 use Rattle.adf_file_runs.specs.FileRuns.{KnownFiles, RunEndsOnFiles}
-use Rattle.adf_partitions.specs.Plans.{PlanValue}
-use Rattle.adf_plans.specs.{HostFiles.IsPlainText, HostFiles.NamesHosts, PlanTexts.IsText}
+use Rattle.adf_plans.specs.HostFiles.{NamesHosts}
 use Rattle.adf_runs.proofs.{CommandRuns.no_work_ends, PendingText.appends_nil}
 use Rattle.adf_runs.specs.Commands.{GetsFront, IsConsistent, RunEnds}
 use Rattle.adf_runs.specs.{Outcomes.after_reading, Outcomes.outcome_text, Outcomes.status_of, declared.work_fault.WorkFault.TheVariants.NoMemory as NoRoom}
@@ -109,11 +107,3 @@ pub refused_names_none : (f : ArgsError) (words : List (List ℕ)) (files : Know
     → n ≡ refusal_status (args_refused f) → ¬ (n ≡ 3) → NamesNoHosts words files
 refused_names_none Usage words files n why status some = λ name text asks known. absurd (disk_consistent.taken words build asks.0 why)
 refused_names_none ArgsNoMemory words files n why status some = absurd (some status)
-
--- the given volumes are not had
-pub no_given_ends : (files : KnownFiles) (text plain left : List ℕ) (plan : PlanValue) (why : NoGiven) (n : ℕ) (o : Option (List ℕ)) (failed : Bool)
-    (errors : Seen) → IsPlainText text plain → IsText plain plan left → IsNoGiven files plan text why → IsNoGivenTold why n errors
-    → HostsEnd files text n (still o failed) errors
-no_given_ends files text plain left plan GivenNoMemory n o failed errors is read why told = inr (inr (told.0, told.1, appends_nil o))
-no_given_ends files text plain left plan (Fault f) n o failed errors is read why told =
-    inr (inl (plain, is, plan, left, read, f, why, told, appends_nil o))

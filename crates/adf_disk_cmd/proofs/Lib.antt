@@ -1,9 +1,6 @@
 pub mod Endings
-pub mod CheckedLines
-pub mod SearchLines
-pub mod ProposalEndings
+pub mod CheckedVolumes
 pub mod DamagedTables
-pub mod AnyReading
 pub mod HeldTables
 pub mod NewVolumes
 pub mod BuiltDisks
@@ -13,4 +10,3 @@ pub mod HeldChecks
 pub mod Gathered
 pub mod HostRuns
 pub mod OtherBytes
-pub mod NewDisks

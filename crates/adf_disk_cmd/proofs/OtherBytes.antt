@@ -128,5 +128,5 @@ any_behind plain left given plan is =
     )
 
 pub plans_take_any_bytes : PlansTakeAnyBytes
-plans_take_any_bytes plain left given plan is =
-    let (front, whole, text) = any_behind plain left given plan is in (front, whole, inl (plan, given, text, refl))
+plans_take_any_bytes plain left given plan reply is answers =
+    let (front, whole, text) = any_behind plain left given plan is in (front, whole, inl (plan, given, text, answers))

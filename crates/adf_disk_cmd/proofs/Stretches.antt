@@ -3,15 +3,15 @@
 use Rattle.std.proofs.Common.{◌≡◌, ◌<◌, ◌≤◌, ◌+◌, ◌-◌, ◌*◌, ◌∙◌, ◌++◌, ◌∷◌, [], ℕ, List, Option, None, Some, All, ap, append-nil, append_assoc, arith, drop}
 use Rattle.std.proofs.Common.{get_or, length, min, subst, sym, take, length-append, length-drop, length-take, length-take-le}
 use Rattle.std.proofs.{Math.Seq.drop-append_seam, lemmas.Bool.cases_lt, lemmas.Grind.common_steps}
-use Rattle.std.proofs.lemmas.List.{drop-append-le, drop-drop, get_or-drop, map_push, take-append-drop, take-append-le, take_more}
+use Rattle.std.proofs.lemmas.List.{drop-append-le, drop-drop, get_or-drop, take-append-drop, take-append-le}
 use Rattle.std.proofs.lemmas.List.Elements.{All-append, All-cons, All-from_get_or, All-get_or, All-nil}
 use Rattle.std.specs.{Io.KnownBytes.Consumes, Io.KnownBytes.IsAtEnd, List.Sorted.IsNonDecreasingBy}
-use Rattle.adf_disk_cmd.specs.{Checks.IsVolumeAnswer, Lines.volume_at, declared.work.TheConstants.MOST_DISK_BYTES}
+use Rattle.adf_disk_cmd.specs.{Checks.IsVolumeAnswer, Surveys.volume_at, declared.work.TheConstants.MOST_DISK_BYTES}
 use Rattle.adf_partitions.specs.{Places.end_of, declared.place.Place.Place}
 use Rattle.adf_runs.proofs.KnownBytes.{consumes_more, two_at_most}
 use Rattle.adf_runs.specs.Streams.{PassesOver, TakesAtMost, TakesCount, TakesFirst}
 use Rattle.adf_disk_cmd.proofs.HeldVolume.{whole_place}
-use Rattle.adf_disk_cmd.specs.HeldChecks.{HasVerdict, BeginsFrom, IsStretch, IsWithin, first_of_place, checked_places}
+use Rattle.adf_disk_cmd.specs.HeldChecks.{HasVerdict, BeginsFrom, IsStretch, IsWithin, first_of_place}
 use Rattle.adf_disk_cmd.specs.declared.checking.CheckedVolume.{CheckedVolume}
 
 pub stretch_at_most : (start left : Option (List ℕ)) (k n : ℕ) (bytes : List ℕ) → IsStretch start left k bytes → k + length bytes ≤ n
@@ -122,11 +122,6 @@ answer_added all image bytes left k q few more (v, place, answer, e) h s from wi
     let disk : List ℕ = take MOST_DISK_BYTES all in
     subst (All (HasVerdict disk)) (sym e)
     (All-append (HasVerdict disk) few (v ∷ []) h (All-cons (HasVerdict disk) v [] one (All-nil (HasVerdict disk))))
-
--- and its place behind theirs
-pub place_added : (image : List ℕ) (few more : List CheckedVolume) (places : List Place) (i : ℕ) (d : Place)
-    → AddsCheck image (get_or places i d) few more → checked_places few ≡ take i places → i < length places → checked_places more ≡ take (i + 1) places
-place_added image few more places i d (v, place, answer, e) f lt = grind (arith, common_steps, map_push, take_more)
 
 -- what is read is counted
 pub count_of : (n : ℕ) (a b : Option (List ℕ)) (old bytes : List ℕ)

@@ -1,28 +1,24 @@
 -- What the command answers to its words and its input. `bytes` are those of a disk, ps its partitions, o the first fault of its tables, if there is one.
 use Rattle.std.specs.Prelude.{List, [], ◌∷◌, bytes_eq, codes, find, length, take, Option, None, Some, Result, Ok, Err}
-use Rattle.std.specs.Prelude.{◌≡◌, ◌++◌, ◌/◌, ◌&&◌, ◌||◌, ℕ, Bool, false}
-use Rattle.std.specs.Fmt.{decimal}
+use Rattle.std.specs.Prelude.{◌≡◌, ◌≤◌, ◌++◌, ◌/◌, ◌&&◌, ◌||◌, ℕ, Bool, false, true}
 use Rattle.adf_names.specs.{Escapes.escaped, Texts.uppers}
 use Rattle.adf_names.specs.Written.{names_text}
-use Rattle.adf_partitions.specs.{Disks.FirstDiskFault, FaultTexts.place_fault_text, Partitions.partition_numbered, declared.fault.DiskFault.DiskFault}
+use Rattle.adf_partitions.specs.{Disks.FirstDiskFault, Partitions.partition_numbered, declared.fault.DiskFault.DiskFault}
 use Rattle.adf_partitions.specs.{declared.partition.Partition.Partition, declared.place.Place.Place}
 use Rattle.adf_partitions.specs.declared.place.PlaceFault.{PlaceFault, TheVariants.BeyondImage}
 use Rattle.adf_disk_cmd.specs.CommandLine.{AreRefusedByDisk, AsksDisk, DiskRequestValue, WantedValue, build, check, list, name, number, propose, search, volume}
-use Rattle.adf_disk_cmd.specs.{Builds.BuildsDisk, Checks.AreChecked, Checks.check_status, Lines.volume_at, Objects.list_lines, Searches.search_reply}
-use Rattle.adf_disk_cmd.specs.{Proposals.Proposes, Replies.told_beside}
-use Rattle.adf_disk_cmd.specs.{Surveys.IsSurveyed, Surveys.fault_lines, Surveys.are_faultless, Surveys.stated_at}
-use Rattle.adf_runs.specs.Commands.{Command, Reply, on_output}
+use Rattle.adf_disk_cmd.specs.{Builds.BuildsDisk, Checks.AreChecked, Proposals.Proposes, Replies.WritesOutput, Replies.check_status}
+use Rattle.adf_disk_cmd.specs.{Surveys.IsSurveyed, Surveys.are_faultless, Surveys.stated_at, Surveys.volume_at}
+use Rattle.adf_runs.specs.Commands.{Command, Reply}
 use Rattle.adf_disk_cmd.specs.{declared.list_input.TheConstants.TABLES_LEN, declared.work.TheConstants.MOST_DISK_BYTES}
 
--- `check` writes the fault of the tables, if there is one, and the lines of all partitions, at status 0 where there is none and all of them are sound
-abbrev pub ChecksAll : (json : Bool) → List ℕ → List Partition → Option DiskFault → Reply → Type 0
-ChecksAll json bytes ps o reply =
-    (sound : Bool) × (text : List ℕ) × AreChecked json bytes ps sound text
-    × (reply ≡ on_output (check_status (are_faultless o && sound)) (fault_lines json o ++ text))
+-- `list` has status 0 where the tables have no fault
+abbrev pub ListsAll : Option DiskFault → Reply → Type 0
+ListsAll o reply = reply.status ≡ check_status (are_faultless o)
 
--- `list` writes the fault of the tables, if there is one, and the lines of the partitions
-abbrev pub list_reply : (json : Bool) → List Partition → Option DiskFault → Reply
-list_reply json ps o = on_output (check_status (are_faultless o)) (fault_lines json o ++ list_lines json 1 ps)
+-- `check` has status 0 where they have none, and all volumes are sound
+abbrev pub ChecksAll : List ℕ → List Partition → Option DiskFault → Reply → Type 0
+ChecksAll bytes ps o reply = (sound : Bool) × AreChecked bytes ps sound × (reply.status ≡ check_status (are_faultless o && sound))
 
 -- whether a text is the name of a partition, as `list` writes it or in the escape form, ignoring case
 abbrev pub is_called : List ℕ → Partition → Bool
@@ -33,49 +29,48 @@ abbrev pub wanted_of : List Partition → WantedValue → Option Partition
 wanted_of ps (number n) = partition_numbered ps n
 wanted_of ps (name text) = find (is_called text) ps
 
--- what is wanted, as errors tell it: a number, or the escape form of a name
-abbrev pub wanted_text : WantedValue → List ℕ
-wanted_text (number n) = decimal n
-wanted_text (name text) = escaped text
+-- where the bytes of a volume lie that are written, of which b is the partition block: at its place, or where the block says, if that is past the end of
+-- the image; of another one without a place none are
+abbrev pub written_place : List ℕ → ℕ → Result Place PlaceFault → Option Place
+written_place tables b (Ok q) = Some q
+written_place tables b (Err BeyondImage) = Some (stated_at tables b)
+written_place tables b (Err f) = None
 
--- what errors tell where a disk has no such partition
-abbrev pub no_partition_text : WantedValue → List ℕ
-no_partition_text w = codes "no such partition: " ++ wanted_text w
+-- where those of the partition that is wanted lie, if there is one
+abbrev pub found_place : List ℕ → Option Partition → Option Place
+found_place tables None = None
+found_place tables (Some p) = written_place tables p.block p.place
 
--- the bytes of the volume of a partition, of which b is the block: of one that ends past the end of the image those that are there, and of another
--- one without a place none
-abbrev pub place_bytes : List ℕ → ℕ → Result Place PlaceFault → List ℕ
-place_bytes bytes b (Ok q) = volume_at bytes q
-place_bytes bytes b (Err BeyondImage) = volume_at bytes (stated_at (take TABLES_LEN bytes) b)
-place_bytes bytes b (Err f) = []
+-- the bytes that lie there, as far as the image has them
+abbrev pub place_bytes : List ℕ → Option Place → List ℕ
+place_bytes bytes None = []
+place_bytes bytes (Some q) = volume_at bytes q
 
--- those of the partition that is wanted, where there is one
+-- those of the volume that is wanted
 abbrev pub found_bytes : List ℕ → Option Partition → List ℕ
-found_bytes bytes None = []
-found_bytes bytes (Some p) = place_bytes bytes p.block p.place
+found_bytes bytes found = place_bytes bytes (found_place (take TABLES_LEN bytes) found)
 
--- what is wrong with a place, as a line
-abbrev pub place_lines : Result Place PlaceFault → List ℕ
-place_lines (Ok q) = []
-place_lines (Err f) = place_fault_text f ++ codes "\n"
+-- whether there is a partition with a place
+abbrev pub is_placed : Result Place PlaceFault → Bool
+is_placed (Ok q) = true
+is_placed (Err f) = false
 
--- that there is no such partition, or what is wrong with its place
-abbrev pub sought_lines : WantedValue → Option Partition → List ℕ
-sought_lines w None = no_partition_text w ++ codes "\n"
-sought_lines w (Some p) = place_lines p.place
+abbrev pub has_place : Option Partition → Bool
+has_place None = false
+has_place (Some p) = is_placed p.place
 
--- the bytes of the volume that is wanted, and on errors the fault of the tables, and what is wrong with the volume
-abbrev pub volume_reply : List ℕ → WantedValue → Option Partition → Option DiskFault → Reply
-volume_reply bytes w found o = told_beside (found_bytes bytes found) (fault_lines false o ++ sought_lines w found)
+-- the bytes of the volume that is wanted are written, at status 0 where the tables have no fault and it has a place
+abbrev pub WritesVolume : List ℕ → Option Partition → Option DiskFault → Reply → Type 0
+WritesVolume bytes found o reply = WritesOutput (check_status (are_faultless o && has_place found)) (found_bytes bytes found) reply
 
 -- The answer to a request, of a disk on which these partitions are found, and this first fault of the tables, if they have one:
 -- `build` reads no disk, and a search no tables.
 abbrev pub OfPartitions : DiskRequestValue → List ℕ → List Partition → Option DiskFault → Reply → Type 0
-OfPartitions (list json) bytes ps o reply = reply ≡ list_reply json ps o
-OfPartitions (check json) bytes ps o reply = ChecksAll json bytes ps o reply
+OfPartitions (list json) bytes ps o reply = ListsAll o reply
+OfPartitions (check json) bytes ps o reply = ChecksAll bytes ps o reply
 OfPartitions (search json) bytes ps o reply = ⊥
 OfPartitions propose bytes ps o reply = ⊥
-OfPartitions (volume w) bytes ps o reply = reply ≡ volume_reply bytes w (wanted_of ps w) o
+OfPartitions (volume w) bytes ps o reply = WritesVolume bytes (wanted_of ps w) o reply
 OfPartitions build bytes ps o reply = ⊥
 
 -- what is found on a disk is told of; it has as many blocks as the bytes hold
@@ -86,8 +81,8 @@ OfDisk r bytes reply =
 -- the answer to a request and the bytes of an input: those of a plan, or of a disk, which is searched or of which the tables are read
 abbrev pub OfBytes : DiskRequestValue → List ℕ → Reply → Type 0
 OfBytes build bytes reply = BuildsDisk bytes reply
-OfBytes (search json) bytes reply = reply ≡ search_reply json bytes
-OfBytes propose bytes reply = Proposes bytes reply
+OfBytes (search json) bytes reply = reply.status ≤ 1
+OfBytes propose bytes reply = Proposes reply
 OfBytes r bytes reply = OfDisk r bytes reply
 
 -- the answer to a request and an input: what is past the largest disk does not count

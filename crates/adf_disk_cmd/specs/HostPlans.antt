@@ -1,19 +1,15 @@
--- What `build` answers to a plan whose lines name host files. p is the plan of a partition, `need` the bytes of its volume, ps are partitions, c the number
+-- What `build` does with a plan whose lines name host files. p is the plan of a partition, `need` the bytes of its volume, ps are partitions, c the number
 -- of blocks of a cylinder; `lines` is the text from the line of the first of ps on, `left` are the bytes behind a plan that are left for its given volumes.
-use Rattle.std.specs.Prelude.{◌≡◌, ◌+◌, ◌*◌, ◌==◌, ◌++◌, ◌||◌, ◌⊎◌, ℕ, Bool, true, false, List, [], ◌∷◌, Option, None, Some, codes, drop, length, nat_lt, take}
-use Rattle.std.specs.Prelude.{if◌then◌else◌}
-use Rattle.std.specs.{Fmt.decimal, Io.KnownBytes.Appends}
-use Rattle.adf_disk_cmd.specs.{Builds.BuildsDisk, Builds.RefusesPlan, Builds.plan_reply, CommandLine.AsksDiskOf, CommandLine.DiskRequestValue, CommandLine.build, Lines.type_text}
+use Rattle.std.specs.Prelude.{◌≡◌, ◌≢◌, ◌≤◌, ◌+◌, ◌*◌, ◌==◌, ◌++◌, ◌||◌, ◌⊎◌, ℕ, Bool, true, false, List, [], ◌∷◌, Option, None, Some, drop, length, nat_lt}
+use Rattle.std.specs.Prelude.{take, if◌then◌else◌}
+use Rattle.std.specs.Io.KnownBytes.{Appends}
+use Rattle.adf_disk_cmd.specs.{Builds.AnswersPlan, Builds.BuildsDisk, Builds.RefusesPlan, CommandLine.AsksDiskOf, CommandLine.DiskRequestValue, CommandLine.build}
 use Rattle.adf_disk_cmd.specs.{Answers.disk_command, CommandLine.disk_file, declared.work.TheConstants.MOST_DISK_BYTES}
-use Rattle.adf_disk_cmd.specs.declared.gathering.NoGiven.{NoGiven, TheVariants.NoMemory as NoRoom, TheVariants.Fault}
-use Rattle.adf_disk_cmd.specs.declared.host_volumes.{HostFault.HostFault, NoVolume.NoVolume, VolumeRefusal.VolumeRefusal}
-use Rattle.adf_disk_cmd.specs.declared.host_volumes.NoVolume.TheVariants.{Unopened, ReadFault, NoMemory, Refused}
-use Rattle.adf_disk_cmd.specs.declared.host_volumes.VolumeRefusal.TheVariants.{Short, Long, OtherType}
-use Rattle.adf_file_runs.specs.FileRuns.{KnownFiles, RunEndsOnFiles, refusal_text}
-use Rattle.adf_names.specs.Escapes.{escaped}
+use Rattle.adf_disk_cmd.specs.declared.host_volumes.VolumeRefusal.{VolumeRefusal, TheVariants.Short, TheVariants.Long, TheVariants.OtherType}
+use Rattle.adf_file_runs.specs.FileRuns.{KnownFiles, RunEndsOnFiles}
 use Rattle.adf_partitions.specs.{FileSystems.planned_type, Plans.PlanValue, Plans.cylinder_blocks, declared.plan.PartitionPlan.PartitionPlan}
 use Rattle.adf_plans.specs.{HostFiles.IsPlainText, HostFiles.NamesHosts, HostFiles.host_of, PlanTexts.IsText, PlanTexts.behind_line, PlanTexts.first_line}
-use Rattle.adf_runs.specs.{Commands.Reply, Outcomes.Does, Outcomes.outcome_text, Outcomes.status_of, Streams.AreFirst, Streams.IsTold, Streams.Seen}
+use Rattle.adf_runs.specs.{Commands.Reply, Outcomes.Does, Outcomes.status_of, Streams.AreFirst, Streams.Seen}
 use Rattle.adf_runs.specs.declared.outcome.Outcome.{Outcome}
 use Rattle.adf_volume.specs.Image.{word_in}
 
@@ -64,97 +60,27 @@ AreGathered bytes_of c (p ∷ ps) lines left given =
 abbrev pub BuildsHosts : (List ℕ → Option (List ℕ)) → List ℕ → List ℕ → Reply → Type 0
 BuildsHosts bytes_of text plain reply =
     ((plan : PlanValue) × (left given : List ℕ) × IsText plain plan left
-    × AreGathered bytes_of (cylinder_blocks plan) plan.partitions (behind_line text) left given × (reply ≡ plan_reply plan given))
+    × AreGathered bytes_of (cylinder_blocks plan) plan.partitions (behind_line text) left given × AnswersPlan plan given reply)
     ⊎ RefusesPlan plain reply
 
 -- Any bytes can stand behind a text with a plan, and the answer is that of the plan and these bytes: so a plan whose lines name host files is answered as
 -- the one input of its plain text with the gathered volumes behind it.
 abbrev pub PlansTakeAnyBytes : Type 0
-PlansTakeAnyBytes = (plain left given : List ℕ) (plan : PlanValue) → IsText plain plan left
-    → (front : List ℕ) × (plain ≡ front ++ left) × BuildsDisk (front ++ given) (plan_reply plan given)
-
--- why there is no volume of a host file
-abbrev pub LacksHostVolume : KnownFiles → ℕ → PartitionPlan → List ℕ → NoVolume → Type 0
-LacksHostVolume files need p host (Unopened why) = (files.may_fail host ≡ true) × files.may_open host (Some why)
-LacksHostVolume files need p host ReadFault = Unit {0}
-LacksHostVolume files need p host NoMemory = Unit {0}
-LacksHostVolume files need p host (Refused why) =
-    (bytes : List ℕ) × AreHostBytes files.bytes_of need host bytes × (volume_refusal need p bytes ≡ Some why)
-
--- the fault of a partition, whose line has this number
-pub record IsFaultAtLine (files : KnownFiles) (need number : ℕ) (p : PartitionPlan) (line : List ℕ) (f : HostFault) : Type 0 where
-  pub line_number : f.line ≡ number
-  pub name : f.name.now ≡ p.name
-  pub host : host_of line ≡ Some f.host.now
-  pub why : LacksHostVolume files need p f.host.now f.why
-
--- the fault of one of the partitions, the first of which has this line
-unfoldable pub IsHostFault : KnownFiles → ℕ → ℕ → List PartitionPlan → List ℕ → HostFault → Type 0
-IsHostFault files c number [] lines f = ⊥
-IsHostFault files c number (p ∷ ps) lines f =
-    IsFaultAtLine files (p.cylinders * c * 512) number p (first_line lines) f ⊎ IsHostFault files c (number + 1) ps (behind_line lines) f
-
--- what is said behind the name of a host file whose bytes are refused
-abbrev pub refusal_end : VolumeRefusal → List ℕ
-refusal_end (Short need have) = codes ": need " ++ (decimal need ++ (codes ", have " ++ (decimal have ++ codes "\n")))
-refusal_end (Long need) = codes ": need " ++ (decimal need ++ codes ", have more\n")
-refusal_end (OtherType found planned) = codes ": type " ++ (type_text found ++ (codes ", planned " ++ (type_text planned ++ codes "\n")))
-
--- what is said behind the name of a host file
-abbrev pub no_volume_text : NoVolume → List ℕ
-no_volume_text (Unopened why) = refusal_text why
-no_volume_text ReadFault = codes ": read fault\n"
-no_volume_text NoMemory = codes ": no memory\n"
-no_volume_text (Refused why) = refusal_end why
-
--- the line of a fault
-abbrev pub host_fault_line : HostFault → List ℕ
-host_fault_line f =
-    codes "line " ++ (decimal f.line ++ (codes ": " ++ (escaped f.name.now ++ (codes ": " ++ (escaped f.host.now ++ no_volume_text f.why)))))
-
--- the status of a fault: 1 where the bytes of the file are refused
-abbrev pub no_volume_status : NoVolume → ℕ
-no_volume_status (Refused why) = 1
-no_volume_status why = 3
-
--- what errors are told of a fault, and the status
-abbrev pub IsFaultTold : HostFault → ℕ → Seen → Type 0
-IsFaultTold f n errors = ((n ≡ no_volume_status f.why) × IsTold errors (host_fault_line f)) ⊎ ((n ≡ 3) × IsTold errors (codes "no memory\n"))
-
--- what errors are told where given volumes are not had, and the status
-abbrev pub IsNoGivenTold : NoGiven → ℕ → Seen → Type 0
-IsNoGivenTold NoRoom n errors = (n ≡ 3) × IsTold errors (codes "no memory\n")
-IsNoGivenTold (Fault f) n errors = IsFaultTold f n errors
+PlansTakeAnyBytes = (plain left given : List ℕ) (plan : PlanValue) (reply : Reply) → IsText plain plan left → AnswersPlan plan given reply
+    → (front : List ℕ) × (plain ≡ front ++ left) × BuildsDisk (front ++ given) reply
 
 -- the plan is answered
-abbrev pub AnswersHosts : KnownFiles → List ℕ → ℕ → Seen → Seen → Type 0
-AnswersHosts files text n output errors = (plain : List ℕ) × IsPlainText text plain × (outcome : Outcome)
-    × Does (BuildsHosts files.bytes_of text plain) outcome output × (n ≡ status_of outcome) × IsTold errors (outcome_text outcome)
+abbrev pub AnswersHosts : KnownFiles → List ℕ → ℕ → Seen → Type 0
+AnswersHosts files text n output = (plain : List ℕ) × IsPlainText text plain × (outcome : Outcome)
+    × Does (BuildsHosts files.bytes_of text plain) outcome output × (n ≡ status_of outcome)
 
--- one of its host files is no volume, which errors are told
-abbrev pub LacksVolume : KnownFiles → List ℕ → ℕ → Seen → Seen → Type 0
-LacksVolume files text n output errors = (plain : List ℕ) × IsPlainText text plain × (plan : PlanValue) × (left : List ℕ) × IsText plain plan left
-    × (f : HostFault) × IsHostFault files (cylinder_blocks plan) 2 plan.partitions (behind_line text) f × IsFaultTold f n errors
-    × Appends output.before output.after []
-
--- memory was refused
-abbrev pub LacksRoom : ℕ → Seen → Seen → Type 0
-LacksRoom n output errors = (n ≡ 3) × IsTold errors (codes "no memory\n") × Appends output.before output.after []
+-- nothing is written, at a status other than 0: a host file is not had, or is no volume of its partition, or memory was refused
+abbrev pub WritesNone : ℕ → Seen → Type 0
+WritesNone n output = (n ≢ 0) × (n ≤ 3) × Appends output.before output.after []
 
 -- how a run over the text of a plan ends whose lines name host files
-abbrev pub HostsEnd : KnownFiles → List ℕ → ℕ → Seen → Seen → Type 0
-HostsEnd files text n output errors =
-    AnswersHosts files text n output errors ⊎ (LacksVolume files text n output errors ⊎ LacksRoom n output errors)
-
--- why the volume of one partition is not had
-abbrev pub IsNoneOf : KnownFiles → ℕ → ℕ → PartitionPlan → List ℕ → NoGiven → Type 0
-IsNoneOf files need number p line NoRoom = Unit {0}
-IsNoneOf files need number p line (Fault f) = IsFaultAtLine files need number p line f
-
--- why the given volumes of a plan are not had
-abbrev pub IsNoGiven : KnownFiles → PlanValue → List ℕ → NoGiven → Type 0
-IsNoGiven files plan text NoRoom = Unit {0}
-IsNoGiven files plan text (Fault f) = IsHostFault files (cylinder_blocks plan) 2 plan.partitions (behind_line text) f
+abbrev pub HostsEnd : KnownFiles → List ℕ → ℕ → Seen → Type 0
+HostsEnd files text n output = AnswersHosts files text n output ⊎ WritesNone n output
 
 -- whether a disk is to be built
 abbrev pub is_build : DiskRequestValue → Bool
@@ -174,5 +100,5 @@ NamesNoHosts words files = (name text : List ℕ) → AsksDiskOf words build (So
 -- input, unless a device or memory failed
 abbrev pub DiskEnds : List (List ℕ) → KnownFiles → Seen → ℕ → Seen → Seen → Type 0
 DiskEnds words files input n output errors =
-    ((text : List ℕ) × IsPlanOf words files text × NamesHosts text × HostsEnd files text n output errors)
+    ((text : List ℕ) × IsPlanOf words files text × NamesHosts text × HostsEnd files text n output)
     ⊎ (RunEndsOnFiles disk_command disk_file words files input n output errors × (¬ (n ≡ 3) → NamesNoHosts words files))

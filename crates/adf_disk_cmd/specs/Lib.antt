@@ -1,12 +1,9 @@
--- The promise: the command line, the lines and objects, and what the command answers.
+-- The promise: the command line, and what the command answers.
 pub mod CommandLine
-pub mod Lines
-pub mod Objects
+pub mod Replies
 pub mod Surveys
 pub mod Checks
 pub mod Builds
-pub mod Searches
-pub mod Replies
 pub mod Proposals
 pub mod Answers
 -- The words of the command, as its work keeps them, and what is known of a disk of which one volume is held.

@@ -1,11 +1,11 @@
 -- Runs whose new disk gets a file of its own. `files` are those before the run, `after` tells the bytes of each afterwards.
-use Rattle.std.specs.Prelude.{◌≡◌, ◌≢◌, ◌⊎◌, ◌&&◌, ℕ, Bool, true, List, [], ◌∷◌, Option, None, Some, IfSome, codes, if◌then◌else◌}
+use Rattle.std.specs.Prelude.{◌≡◌, ◌≢◌, ◌⊎◌, ◌&&◌, ℕ, List, [], ◌∷◌, Option, None, Some, IfSome, codes, if◌then◌else◌}
 use Rattle.std.specs.Str.{bytes_eq}
 use Rattle.clap.specs.Words.{Text}
 use Rattle.adf_disk_cmd.specs.HostPlans.{DiskEnds}
-use Rattle.adf_file_runs.specs.{FileChanges.IsReplaced, declared.changes.Unwritten.Unwritten}
+use Rattle.adf_file_runs.specs.FileChanges.{IsReplaced}
 use Rattle.adf_file_runs.specs.FileRuns.{KnownFiles}
-use Rattle.adf_runs.specs.Streams.{IsTold, Seen}
+use Rattle.adf_runs.specs.Streams.{Seen}
 
 -- a disk that is built into a file: the file, and the words without it
 pub record NewDisk : Type 0 where
@@ -28,34 +28,20 @@ abbrev pub PutsDisk : NewDisk → KnownFiles → (List ℕ → Option (List ℕ)
 PutsDisk disk files after input n errors =
     (made : Seen) × IsMade disk files input 0 made errors × (n ≡ 0) × IfSome made.after (IsReplaced files.bytes_of after disk.target)
 
--- errors are told that a file was not written
-abbrev pub IsUnwrittenTold : List ℕ → Seen → Type 0
-IsUnwrittenTold name errors = ((why : Unwritten) × IsTold errors (unwritten_line name why)) ⊎ IsTold errors (codes "no memory\n")
-
--- a file was not begun
-abbrev pub IsUnbegun : KnownFiles → List ℕ → ℕ → Seen → Type 0
-IsUnbegun files name n errors = (n ≡ 3) × (files.may_fail name ≡ true) × IsUnwrittenTold name errors
-
 -- a run with the words alone ends at a status other than 0
 abbrev pub IsUnmade : NewDisk → KnownFiles → Seen → ℕ → Seen → Type 0
 IsUnmade disk files input n errors = (made : Seen) × IsMade disk files input n made errors × (n ≢ 0)
 
--- the file was made, but did not get its name, which is told if errors have not failed until then
-abbrev pub IsUnnamed : NewDisk → KnownFiles → Seen → ℕ → Seen → Type 0
-IsUnnamed disk files input n errors = (made : Seen) × (between : Option (List ℕ)) × (failed : Bool)
-    × IsMade disk files input 0 made (record { before = errors.before; after = between; failed = failed }) × (n ≡ 3) × (files.may_fail disk.target ≡ true)
-    × ((failed ≡ true) ⊎ IsUnwrittenTold disk.target (record { before = between; after = errors.after; failed = errors.failed }))
-
--- how a run ends that builds a disk into a file: the file is put in its place, or each file is as it was
+-- how a run ends that builds a disk into a file: the file is put in its place, or each file is as it was, and the status is that of a run with the words
+-- alone, or 3
 abbrev pub NewDiskEnds : NewDisk → KnownFiles → (List ℕ → Option (List ℕ)) → Seen → ℕ → Seen → Type 0
-NewDiskEnds disk files after input n errors = PutsDisk disk files after input n errors ⊎ ((after ≡ files.bytes_of)
-    × (IsUnbegun files disk.target n errors ⊎ (IsUnmade disk files input n errors ⊎ IsUnnamed disk files input n errors)))
+NewDiskEnds disk files after input n errors =
+    PutsDisk disk files after input n errors ⊎ ((after ≡ files.bytes_of) × ((n ≡ 3) ⊎ IsUnmade disk files input n errors))
 
--- how a run ends by the new disk that its words ask for, which leaves output as it was, unless memory was refused before; else as one of the words
+-- how a run ends by the new disk that its words ask for, which leaves output as it was; else as one of the words
 abbrev pub EndsByDisk : Option NewDisk → List Text → KnownFiles → (List ℕ → Option (List ℕ)) → Seen → ℕ → Seen → Seen → Type 0
 EndsByDisk (Some disk) words files after input n output errors =
-    (output.after ≡ output.before)
-    × (((n ≡ 3) × (after ≡ files.bytes_of) × IsTold errors (codes "no memory\n")) ⊎ NewDiskEnds disk files after input n errors)
+    (output.after ≡ output.before) × NewDiskEnds disk files after input n errors
 EndsByDisk None words files after input n output errors = DiskEnds words files input n output errors × (after ≡ files.bytes_of)
 
 abbrev pub DiskRunEnds : List Text → KnownFiles → (List ℕ → Option (List ℕ)) → Seen → ℕ → Seen → Seen → Type 0

@@ -1,8 +1,11 @@
--- What is told in two places.
-use Rattle.std.specs.Prelude.{ℕ, List, [], ◌∷◌}
-use Rattle.adf_runs.specs.Commands.{Reply, on_output}
+-- What is written to output, and the status beside it.
+use Rattle.std.specs.Prelude.{◌≡◌, ℕ, Bool, List, if◌then◌else◌}
+use Rattle.adf_runs.specs.Commands.{Reply}
 
--- bytes on output, at status 0, or at status 1 where errors get lines
-abbrev pub told_beside : List ℕ → List ℕ → Reply
-told_beside bytes [] = on_output 0 bytes
-told_beside bytes (c ∷ cs) = record { status = 1; output = bytes; errors = c ∷ cs }
+-- the status of what is told: 0 where all is sound
+abbrev pub check_status : Bool → ℕ
+check_status sound = if sound then 0 else 1
+
+-- output gets these bytes, at this status
+abbrev pub WritesOutput : ℕ → List ℕ → Reply → Type 0
+WritesOutput n bytes reply = (reply.status ≡ n) × (reply.output ≡ bytes)

@@ -1,8 +1,8 @@
 // How an answer is written.
 
-ghost use Rattle.std.specs.Prelude.{◌≡◌, ◌++◌, false};
-ghost use Rattle.adf_disk_cmd.specs.{Builds.refusal, Checks.check_status, Replies.told_beside};
-ghost use Rattle.adf_runs.specs.{Commands.on_output, Outcomes.Does, Outcomes.DoesSilently, Streams.seen};
+ghost use Rattle.std.specs.Prelude.{◌≡◌, ◌++◌, [], false};
+ghost use Rattle.adf_disk_cmd.specs.Replies.{WritesOutput, check_status};
+ghost use Rattle.adf_runs.specs.{Outcomes.Does, Outcomes.DoesSilently, Streams.seen};
 
 use adf_runs::{Outcome, Sink, write_all, write_both};
 use std::alloc::Global;
@@ -17,8 +17,7 @@ pub struct Telling {
 /// Writes a text, at status 0 if all is sound, else at status 1.
 pub fn write_text<W: Sink>(output: &mut W, text: &[u8], sound: bool) -> Outcome
     requires { W.has_failed output.old ≡ false }
-    ensures { Does (λ reply. reply ≡ on_output (check_status sound) text.now) result
-        (seen W.held W.has_failed output.old output.new) }
+    ensures { Does (WritesOutput (check_status sound) text.now) result (seen W.held W.has_failed output.old output.new) }
 {
     match write_all(output, text) {
         Ok(()) if sound => Outcome::Done,
@@ -27,14 +26,20 @@ pub fn write_text<W: Sink>(output: &mut W, text: &[u8], sound: bool) -> Outcome
     }
 }
 
-/// Writes two texts, one after the other: at status 0, or at status 1 where errors are to get lines.
-pub fn write_beside<W: Sink>(output: &mut W, first: &[u8], second: &[u8], lines: Vec<u8>) -> Outcome
+/// Writes two texts, one after the other: at status 0 if all is sound, else at status 1, and errors are to get lines.
+pub fn write_beside<W: Sink>(
+    output: &mut W,
+    first: &[u8],
+    second: &[u8],
+    sound: bool,
+    lines: Vec<u8>,
+) -> Outcome
     requires { W.has_failed output.old ≡ false }
-    ensures { Does (λ reply. reply ≡ told_beside (first.now ++ second.now) lines.items) result
+    ensures { Does (WritesOutput (check_status sound) (first.now ++ second.now)) result
         (seen W.held W.has_failed output.old output.new) }
 {
     match write_both(output, first, second) {
-        Ok(()) if lines.is_empty() => Outcome::Done,
+        Ok(()) if sound => Outcome::Done,
         Ok(()) => Outcome::LeftOut(lines),
         Err(_) => Outcome::WriteFault,
     }
@@ -42,7 +47,7 @@ pub fn write_beside<W: Sink>(output: &mut W, first: &[u8], second: &[u8], lines:
 
 /// Refuses with a text and a line feed on errors; output gets nothing.
 pub fn refuse(alloc: Global, text: &str) -> Outcome
-    ensures { DoesSilently (λ reply. reply ≡ refusal text.now) result }
+    ensures { DoesSilently (WritesOutput 1 []) result }
 {
     match format!(in alloc; "{text}\n") {
         Ok(line) => Outcome::Refused(line),

@@ -3,24 +3,20 @@
 ghost use Rattle.std.specs.Prelude.{◌≡◌, ◌≢◌, ◌≤◌, ◌*◌, ℕ, [], false, length, true, List, Option, IfOk, OnErr, OnOk};
 ghost use Rattle.std.specs.{Io.KnownBytes.Appends, List.list_all};
 ghost use Rattle.adf_blocks.specs.Sizes.{is_allowed};
-ghost use Rattle.adf_disk_cmd.specs.Builds.{BuildsDisk, DisksHavePlanned, RefusesPlan, behind_volume, built_disk, given_bytes};
-ghost use Rattle.adf_build.specs.Laid.{volume};
-ghost use Rattle.adf_disk_cmd.specs.Builds.{given_line, new_volume, plan_reply, volume_of};
-ghost use Rattle.adf_partitions.specs.Plans.{IsPlan, cylinder_blocks, plan_value};
-ghost use Rattle.adf_plans.specs.PlanTexts.{IsTextFault, has_cache_room, has_volume, is_plan};
+ghost use Rattle.adf_disk_cmd.specs.Builds.{AnswersPlan, BuildsDisk, HasPlanned, IsFrontOfDisk, IsPlannedVolume, IsPartOfVolume, RefusesPlan, behind_volume, given_bytes};
+ghost use Rattle.adf_disk_cmd.specs.Replies.{WritesOutput};
+ghost use Rattle.adf_partitions.specs.Plans.{AreTablesOfPlan, IsPlan, cylinder_blocks, plan_value};
+ghost use Rattle.adf_plans.specs.PlanTexts.{IsTextFault, has_volume, is_plan};
 ghost use Rattle.adf_plans.specs.declared.plan_text.TextKind.{TextKind};
-ghost use Rattle.adf_runs.specs.{Commands.on_errors, Streams.AppendsPart, Streams.is_device, Streams.seen};
+ghost use Rattle.adf_runs.specs.Streams.{AppendsPart, is_device, seen};
 ghost use Rattle.adf_runs.specs.Outcomes.{Blames, Does, DoesSilently, EndsBy};
 
+use crate::new_volumes::new_volume;
 use adf_base::BLOCK_LEN;
-use adf_build::{BuildFault, build_types};
-use adf_new_caches::build_cached;
-use adf_partitions::{DiskPlan, FileSystem, PartitionPlan, cylinder_blocks, write_tables};
+use adf_partitions::{DiskPlan, PartitionPlan, cylinder_blocks, write_tables};
 use adf_plans::{TextFault, TextKind, read_plan};
 use adf_runs::{Outcome, Sink, StreamFault, write_all};
-use adf_tree::{Label, NO_STAMPS, Tree};
-use adf_volume::Types;
-use std::alloc::{AllocError, Global};
+use std::alloc::Global;
 
 // How many bytes the given volumes have.
 fn given_bytes(plan: &DiskPlan) -> usize
@@ -36,39 +32,8 @@ fn given_bytes(plan: &DiskPlan) -> usize
     cylinders as usize * cylinder_blocks(plan) as usize * BLOCK_LEN
 }
 
-// A new volume of so many blocks, without directory caches, of a tree without entries.
-fn new_without_caches(alloc: Global, tree: &Tree, blocks: u32) -> Result<Vec<u8>, AllocError>
-    requires size { is_allowed blocks ≡ true }
-    requires empty { tree.now.entries ≡ [] }
-    ensures { IfOk result (λ bytes. bytes.items ≡ volume tree.now blocks) }
-{
-    match build_types(alloc, Types::WithInternational, tree, blocks) {
-        Ok(bytes) => Ok(bytes),
-        Err(BuildFault::BadSize) => unreachable!(),
-        Err(BuildFault::Full { .. }) => unreachable!(),
-        Err(BuildFault::NoMemory) => Err(AllocError),
-    }
-}
-
-// A new volume of so many blocks, of the planned file system, with the drive's name as its label.
-fn new_volume(alloc: Global, partition: &PartitionPlan, blocks: u32) -> Result<Vec<u8>, AllocError>
-    requires size { is_allowed blocks ≡ true }
-    requires room { has_cache_room partition.now.system blocks ≡ true }
-    requires label { length partition.now.name ≤ 30 }
-    ensures { IfOk result (λ bytes. bytes.items ≡ new_volume blocks partition.now) }
-{
-    let label = Label::new(partition.name.bytes()).unwrap();
-    let (kind, letters) = (partition.system.kind(), partition.system.letters());
-    let tree = Tree::with_letters(alloc, kind, letters, label, NO_STAMPS);
-    match partition.system {
-        FileSystem::WithoutCaches(_, _) => new_without_caches(alloc, &tree, blocks),
-        FileSystem::WithCaches(_) => build_cached(alloc, &tree, blocks),
-    }
-}
-
 // Writes the volume of a partition of so many blocks: the first of the given bytes, or a new one. Returns the given bytes
 // behind it.
-#[tactic(auto, using(crate::proofs::BuiltDisks::none_written))]
 fn write_volume<'a, W: Sink>(
     alloc: Global,
     partition: &PartitionPlan,
@@ -79,13 +44,12 @@ fn write_volume<'a, W: Sink>(
     requires works { W.has_failed output.old ≡ false }
     requires enough { partition.now.given ≡ true → blocks * 512 ≤ length given.now }
     requires size { partition.now.given ≡ false → is_allowed blocks ≡ true }
-    requires room { partition.now.given ≡ false → has_cache_room partition.now.system blocks ≡ true }
     requires label { partition.now.given ≡ false → length partition.now.name ≤ 30 }
-    ensures volume { OnOk result
-        (Appends (W.held output.old) (W.held output.new) (volume_of blocks partition.now given.now)) }
+    ensures volume { OnOk result ((v : List ℕ) × IsPlannedVolume blocks partition.now given.now v
+        × Appends (W.held output.old) (W.held output.new) v) }
     ensures rest { IfOk result (λ rest. rest.now ≡ behind_volume blocks partition.now given.now) }
-    ensures part { OnErr result (AppendsPart (W.has_failed output.new)
-        (W.held output.old) (W.held output.new) (volume_of blocks partition.now given.now)) }
+    ensures part { OnErr result (IsPartOfVolume blocks partition.now given.now (W.has_failed output.new)
+        (W.held output.old) (W.held output.new)) }
     ensures failed { W.has_failed output.new ≡ is_device result }
 {
     if partition.given {
@@ -98,28 +62,28 @@ fn write_volume<'a, W: Sink>(
     Ok(given)
 }
 
-// Writes the disk of a plan, and holds one of its new volumes at a time.
-#[tactic(auto, using(crate::proofs::BuiltDisks::none_written))]
+// Writes the disk of a plan behind its tables, and holds one of its new volumes at a time.
 fn write_disk<W: Sink>(
     alloc: Global,
     plan: &DiskPlan,
+    tables: &[u8],
     given: &[u8],
     output: &mut W,
 ) -> Result<(), StreamFault>
     requires works { W.has_failed output.old ≡ false }
     requires plan { IsPlan (plan_value plan.now) }
+    requires tables { AreTablesOfPlan (plan_value plan.now) tables.now }
     requires volumes { list_all (has_volume (cylinder_blocks (plan_value plan.now)))
         plan.now.partitions.items ≡ true }
     requires enough { length given.now ≡ given_bytes (plan_value plan.now) }
-    ensures ok { OnOk result
-        (Appends (W.held output.old) (W.held output.new) (built_disk (plan_value plan.now) given.now)) }
-    ensures part { OnErr result (AppendsPart (W.has_failed output.new)
-        (W.held output.old) (W.held output.new) (built_disk (plan_value plan.now) given.now)) }
+    ensures ok { OnOk result ((disk : List ℕ) × HasPlanned (plan_value plan.now) given.now disk
+        × Appends (W.held output.old) (W.held output.new) disk) }
+    ensures part { OnErr result ((front : List ℕ) × IsFrontOfDisk (plan_value plan.now) given.now front
+        × AppendsPart (W.has_failed output.new) (W.held output.old) (W.held output.new) front) }
     ensures failed { W.has_failed output.new ≡ is_device result }
 {
     let cylinder = cylinder_blocks(plan);
-    let tables = write_tables(alloc, plan)?;
-    write_all(output, &tables)?;
+    write_all(output, tables)?;
     let mut left = given;
     for partition in &plan.partitions {
         let blocks = partition.cylinders * cylinder;
@@ -130,7 +94,7 @@ fn write_disk<W: Sink>(
 
 // Tells on errors that there are other bytes than those of the given volumes.
 fn refuse_given(alloc: Global, need: usize, have: usize) -> Outcome
-    ensures { DoesSilently (λ reply. reply ≡ on_errors 1 (given_line need have)) result }
+    ensures { DoesSilently (WritesOutput 1 []) result }
 {
     match format!(in alloc; "given: need {need}, have {have}\n") {
         Ok(line) => Outcome::Refused(line),
@@ -143,15 +107,17 @@ pub fn write_plan<W: Sink>(alloc: Global, plan: &DiskPlan, given: &[u8], output:
     requires works { W.has_failed output.old ≡ false }
     requires plan { IsPlan (plan_value plan.now) }
     requires good { is_plan (plan_value plan.now) ≡ true }
-    ensures { Does (λ reply. reply ≡ plan_reply (plan_value plan.now) given.now) result
-        (seen W.held W.has_failed output.old output.new) }
+    ensures { Does (AnswersPlan (plan_value plan.now) given.now) result (seen W.held W.has_failed output.old output.new) }
 {
     let need = given_bytes(plan);
     let have = given.len();
     if have != need {
         return refuse_given(alloc, need, have);
     }
-    match write_disk(alloc, plan, given, output) {
+    let Ok(tables) = write_tables(alloc, plan) else {
+        return Outcome::NoMemory;
+    };
+    match write_disk(alloc, plan, &tables, given, output) {
         Ok(()) => Outcome::Done,
         Err(fault) => Outcome::after_writing(fault),
     }
@@ -182,9 +148,3 @@ pub fn build_disk<W: Sink>(alloc: Global, text: &[u8], output: &mut W) -> Outcom
         Err(fault) => refuse_text(alloc, fault),
     }
 }
-
-/// A disk that was built has the planned partitions and no others, and each volume at its partition's place: the given ones as
-/// they came, the new ones valid, empty, and of the planned types.
-pub fn built_disks()
-    ensures { DisksHavePlanned }
-{}

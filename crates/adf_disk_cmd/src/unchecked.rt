@@ -1,10 +1,7 @@
 // Why a volume is not checked.
 
-ghost use Rattle.std.specs.Prelude.{◌≡◌, ◌<◌, ◌*◌, ◌++◌, List, ℕ, codes, false, length, string_bytes, IfOk};
-ghost use Rattle.adf_blocks.specs.declared.layout.TheConstants.{MOST_BLOCKS};
-ghost use Rattle.adf_disk_cmd.specs.{Checks.unchecked_text, Checks.why_unchecked, declared.unchecked.Unchecked.Unchecked};
-ghost use Rattle.adf_verdicts.specs.Verdicts.{IsVerdict};
-ghost use Rattle.adf_volume.specs.declared.types.Types.TheVariants.{WithInternational};
+ghost use Rattle.std.specs.Prelude.{◌≡◌, IfNone, IfSome, false, true};
+ghost use Rattle.adf_disk_cmd.specs.Checks.{is_checked};
 
 use crate::listing::block_bytes_text;
 use crate::types::{bytes_text, is_checked};
@@ -31,7 +28,8 @@ pub enum Unchecked {
 
 /// Why the volume of a partition at a place is not checked; `None` if it is.
 pub fn why_unchecked(partition: &Partition, place: Place) -> Option<Unchecked>
-    ensures { result ≡ why_unchecked partition.now place }
+    ensures checked { IfNone result (is_checked partition.now place ≡ true) }
+    ensures unchecked { IfSome result (λ _. is_checked partition.now place ≡ false) }
 {
     if !is_checked(partition.dos_type) {
         return Some(Unchecked::OtherType(partition.dos_type));
@@ -56,10 +54,8 @@ pub fn why_unchecked(partition: &Partition, place: Place) -> Option<Unchecked>
     None
 }
 
-/// The text of the reason. That of `BadSize` is that of the first fault (`large_volumes_are_refused`).
-pub fn unchecked_text(alloc: Global, why: Unchecked) -> Result<String, AllocError>
-    ensures { IfOk result (λ text. string_bytes text ≡ unchecked_text why) }
-{
+/// The text of the reason.
+pub fn unchecked_text(alloc: Global, why: Unchecked) -> Result<String, AllocError> {
     match why {
         Unchecked::OtherType(dos_type) => {
             let kind = bytes_text(alloc, dos_type)?;
@@ -75,9 +71,3 @@ pub fn unchecked_text(alloc: Global, why: Unchecked) -> Result<String, AllocErro
         Unchecked::BadSize => format!(in alloc; "block 0: bad size"),
     }
 }
-
-/// What is written of a volume of more blocks than one that is read is what is answered to it.
-pub fn large_volumes_are_refused()
-    ensures { (volume : List ℕ) → 512 * MOST_BLOCKS < length volume
-        → IsVerdict WithInternational volume false (unchecked_text Unchecked.BadSize ++ codes "\n") }
-{}

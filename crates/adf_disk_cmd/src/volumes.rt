@@ -1,7 +1,8 @@
 // The bytes of volumes, and where they lie.
 
 ghost use Rattle.std.specs.Prelude.{◌≡◌, ◌*◌, length, min, option_copied, take};
-ghost use Rattle.adf_disk_cmd.specs.{Answers.found_bytes, Answers.place_bytes, Lines.volume_at, Surveys.stated_at};
+ghost use Rattle.adf_disk_cmd.specs.Answers.{found_bytes, found_place, has_place, is_placed, place_bytes, written_place};
+ghost use Rattle.adf_disk_cmd.specs.Surveys.{stated_at, volume_at};
 ghost use Rattle.adf_disk_cmd.specs.declared.list_input.TheConstants.{TABLES_LEN};
 
 use crate::list_input::TABLES_LEN;
@@ -45,17 +46,52 @@ fn tables_of(bytes: &[u8]) -> &[u8]
     &bytes[..bytes.len().min(TABLES_LEN)]
 }
 
-// The bytes of the volume of a partition: of one that ends past the end of the image those that are there, and of another one
-// without a place none.
-fn place_bytes<'a>(bytes: &'a [u8], partition: &Partition) -> &'a [u8]
-    ensures { result.now ≡ place_bytes bytes.now partition.now.block partition.now.place }
+// Where the bytes of the volume of a partition lie that are written: at its place, or where its block says, if that is past the
+// end of the image; of another one without a place none are.
+fn written_place(tables: &[u8], b: u32, place: Result<Place, PlaceFault>) -> Option<Place>
+    ensures { result ≡ written_place tables.now b place }
 {
-    match partition.place {
-        Ok(place) => volume_at(bytes, place),
-        Err(PlaceFault::BeyondImage) => {
-            volume_at(bytes, stated_at(tables_of(bytes), partition.block))
-        }
-        Err(_) => &bytes[..0],
+    match place {
+        Ok(place) => Some(place),
+        Err(PlaceFault::BeyondImage) => Some(stated_at(tables, b)),
+        Err(_) => None,
+    }
+}
+
+/// Where the bytes of the volume of the partition that is found lie that are written, if one is found and some are.
+pub fn found_place(tables: &[u8], found: Option<&Partition>) -> Option<Place>
+    ensures { result ≡ found_place tables.now (option_copied found.entry) }
+{
+    match found {
+        Some(partition) => written_place(tables, partition.block, partition.place),
+        None => None,
+    }
+}
+
+// Whether there is a place.
+fn is_placed(place: Result<Place, PlaceFault>) -> bool
+    ensures { result ≡ is_placed place }
+{
+    place.is_ok()
+}
+
+/// Whether a partition is found that has a place.
+pub fn has_place(found: Option<&Partition>) -> bool
+    ensures { result ≡ has_place (option_copied found.entry) }
+{
+    match found {
+        Some(partition) => is_placed(partition.place),
+        None => false,
+    }
+}
+
+// The bytes that lie at a place, as far as the bytes hold them.
+fn place_bytes(bytes: &[u8], place: Option<Place>) -> &[u8]
+    ensures { result.now ≡ place_bytes bytes.now place }
+{
+    match place {
+        Some(place) => volume_at(bytes, place),
+        None => &bytes[..0],
     }
 }
 
@@ -63,8 +99,5 @@ fn place_bytes<'a>(bytes: &'a [u8], partition: &Partition) -> &'a [u8]
 pub fn found_bytes<'a>(bytes: &'a [u8], found: Option<&Partition>) -> &'a [u8]
     ensures { result.now ≡ found_bytes bytes.now (option_copied found.entry) }
 {
-    match found {
-        Some(partition) => place_bytes(bytes, partition),
-        None => &bytes[..0],
-    }
+    place_bytes(bytes, found_place(tables_of(bytes), found))
 }

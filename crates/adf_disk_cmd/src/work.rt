@@ -1,8 +1,8 @@
 // What is done with a disk.
 
-ghost use Rattle.std.specs.Prelude.{◌≡◌, ◌++◌, false, IfOk, List, Option, option_copied, string_bytes};
-ghost use Rattle.adf_disk_cmd.specs.Answers.{OfDisk, OfPartitions, sought_lines, no_partition_text, volume_reply, wanted_of};
-ghost use Rattle.adf_disk_cmd.specs.{Surveys.fault_lines, Work.IsWorkOf, Work.sought_value};
+ghost use Rattle.std.specs.Prelude.{◌≡◌, ◌&&◌, false, IfOk, List, Option, option_copied};
+ghost use Rattle.adf_disk_cmd.specs.{Answers.OfDisk, Answers.OfPartitions, Answers.WritesVolume, Answers.has_place, Answers.wanted_of};
+ghost use Rattle.adf_disk_cmd.specs.{Surveys.are_faultless, Work.IsWorkOf, Work.sought_value};
 ghost use Rattle.adf_partitions.specs.Partitions.{partition_numbered};
 ghost use Rattle.adf_runs.specs.{Outcomes.Blames, Outcomes.Does, Outcomes.EndsBy, Streams.seen};
 ghost use Rattle.adf_disk_cmd.specs.CommandLine.{DiskRequestValue, wanted_value};
@@ -14,7 +14,7 @@ use crate::faults::fault_lines;
 use crate::listing::write_list;
 use crate::names::partition_called;
 use crate::surveying::{SurveyedDisk, survey_disk};
-use crate::volumes::found_bytes;
+use crate::volumes::{found_bytes, has_place};
 use adf_base::BLOCK_LEN;
 use adf_names::push_escaped;
 use adf_partitions::{DiskFault, Partition};
@@ -78,9 +78,7 @@ pub fn partition_sought<'a>(
 }
 
 // What is said where a disk has no such partition.
-fn no_partition_text(alloc: Global, sought: &Sought) -> Result<String, AllocError>
-    ensures { IfOk result (λ text. string_bytes text ≡ no_partition_text (sought_value sought.now)) }
-{
+fn no_partition_text(alloc: Global, sought: &Sought) -> Result<String, AllocError> {
     match sought {
         Sought::Numbered(number) => format!(in alloc; "no such partition: {number}"),
         Sought::Named(name) => {
@@ -97,9 +95,7 @@ fn sought_lines(
     alloc: Global,
     sought: &Sought,
     found: Option<&Partition>,
-) -> Result<String, AllocError>
-    ensures { IfOk result (λ text. string_bytes text ≡ sought_lines (sought_value sought.now) (option_copied found.entry)) }
-{
+) -> Result<String, AllocError> {
     let Some(partition) = found else {
         let text = no_partition_text(alloc, sought)?;
         return format!(in alloc; "{text}\n");
@@ -116,14 +112,18 @@ pub fn volume_lines(
     sought: &Sought,
     found: Option<&Partition>,
     fault: Option<DiskFault>,
-) -> Result<Vec<u8>, AllocError>
-    ensures { IfOk result (λ lines. lines.items
-        ≡ fault_lines false fault ++ sought_lines (sought_value sought.now) (option_copied found.entry)) }
-{
+) -> Result<Vec<u8>, AllocError> {
     let mut lines = fault_lines(Telling { alloc, json: false }, fault)?;
     let text = sought_lines(alloc, sought, found)?;
     lines.extend_from_slice(text.as_bytes())?;
     Ok(lines)
+}
+
+/// Whether the tables have no fault, and a partition is found that has a place.
+pub fn is_whole(fault: Option<DiskFault>, found: Option<&Partition>) -> bool
+    ensures { result ≡ (are_faultless fault && has_place (option_copied found.entry)) }
+{
+    fault.is_none() && has_place(found)
 }
 
 // Writes the bytes of the volume of the partition that is sought.
@@ -135,15 +135,17 @@ fn write_volume<W: Sink>(
     output: &mut W,
 ) -> Outcome
     requires { W.has_failed output.old ≡ false }
-    ensures { Does (λ reply. reply ≡ volume_reply bytes.now (sought_value sought.now)
-        (wanted_of disk.now.partitions.items (sought_value sought.now)) disk.now.fault) result
-        (seen W.held W.has_failed output.old output.new) }
+    ensures { Does (WritesVolume bytes.now (wanted_of disk.now.partitions.items (sought_value sought.now)) disk.now.fault)
+        result (seen W.held W.has_failed output.old output.new) }
 {
     let Ok(found) = partition_sought(alloc, &disk.partitions, sought) else {
         return Outcome::NoMemory;
     };
     match volume_lines(alloc, sought, found, disk.fault) {
-        Ok(lines) => write_beside(output, found_bytes(bytes, found), b"", lines),
+        Ok(lines) => {
+            let sound = is_whole(disk.fault, found);
+            write_beside(output, found_bytes(bytes, found), b"", sound, lines)
+        }
         Err(_) => Outcome::NoMemory,
     }
 }

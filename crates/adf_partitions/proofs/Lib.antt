@@ -9,9 +9,6 @@ pub mod Searches
 pub mod FoundVolumes
 pub mod NamedPartitions
 pub mod PlanSizes
-pub mod WrittenBlocks
-pub mod WrittenTables
-pub mod PlannedDisk
 pub mod PlannedVolumes
 pub mod SeparatePartitions
 pub mod SomeDisks

@@ -1,32 +1,14 @@
--- The sizes of written tables, and the volumes behind them.
--- Letters: as in proofs/PlannedDisk; c the blocks of a cylinder, vs the volumes of ps.
-use Rattle.std.proofs.Common.{◌≡◌, ◌≤◌, ◌+◌, ◌-◌, ◌*◌, ℕ, List, [], ◌∷◌, ◌++◌, length, refl, subst, arith, append-nil, append_assoc, drop, take, length-append}
-use Rattle.std.proofs.{Common.replicate, Common.slice_range, lemmas.Grind.common_steps}
+-- The tables of a plan and the volumes behind them.
+-- Letters: c the blocks of a cylinder, vs the volumes of ps, qs partitions that are read.
+use Rattle.std.proofs.Common.{◌≡◌, ◌≤◌, ◌<◌, ◌+◌, ◌*◌, ◌∙◌, ℕ, List, [], ◌∷◌, ◌++◌, get_or, length, subst, sym, arith, ap, ap₂, append_assoc, drop, length-append}
+use Rattle.std.proofs.{Common.slice_range, Math.Seq.drop-cons, lemmas.Grind.common_steps}
 use Rattle.std.specs.List.{flat_map}
-use Rattle.std.proofs.lemmas.List.{drop_all, drop_at, length-replicate, take_all, take_at}
-use Rattle.adf_partitions.specs.{declared.plan.PartitionPlan.PartitionPlan, Places.blocks_from, Places.end_of, Plans.planned_partitions, Plans.table_cylinders}
-use Rattle.adf_partitions.specs.Plans.{PlanValue, AreVolumes, IsPlan, StandInPlaces, cylinder_blocks, cylinders_of, partitions_from, planned_blocks}
-use Rattle.adf_partitions.specs.WrittenTables.{disk_bytes, part_block, part_blocks, rdsk_block, table_bytes, written_bytes}
-use Rattle.adf_partitions.proofs.{PlanSizes.tables_hold, WrittenTables.length_part, WrittenTables.length_rdsk}
-use Rattle.adf_partitions.proofs.PlannedDisk.{AreLeft, all_left, left_first, left_rest, left_within}
-
-length_parts : (plan : PlanValue) → IsPlan plan → (k low : ℕ) (ps : List PartitionPlan) → AreLeft plan k low ps
-    → length (part_blocks plan (k + 1) low ps) ≡ length ps * 512
-unfolding part_blocks
-length_parts plan h k low [] l = refl
-length_parts plan h k low (p ∷ ps) l =
-    let one = length_part plan h (k + 1) low p (left_first plan k low p ps l) (left_within plan k low p ps l) in
-    let others = length_parts plan h (k + 1) (low + p.cylinders) ps (left_rest plan k low p ps l) in
-    omega (arith, length-append (part_block plan (k + 1) low p) (part_blocks plan (k + 1 + 1) (low + p.cylinders) ps))
-
-pub length_written_bytes : (plan : PlanValue) → IsPlan plan → length (written_bytes plan) ≡ (length plan.partitions + 1) * 512
-length_written_bytes plan h =
-    let parts = length_parts plan h 0 (table_cylinders plan) plan.partitions (all_left plan h) in
-    omega (arith, length_rdsk plan h, length-append (rdsk_block plan) (part_blocks plan (0 + 1) (table_cylinders plan) plan.partitions))
-
-pub length_table_bytes : (plan : PlanValue) → IsPlan plan → length (table_bytes plan) ≡ table_cylinders plan * cylinder_blocks plan * 512
-unfolding table_bytes
-length_table_bytes plan h = grind (arith, common_steps, length_written_bytes, tables_hold, length-append, length-replicate)
+use Rattle.std.proofs.lemmas.List.{drop_all, drop_at, take_at}
+use Rattle.adf_partitions.specs.{declared.partition.Partition.Partition, declared.plan.PartitionPlan.PartitionPlan, Places.blocks_from, Places.end_of}
+use Rattle.adf_partitions.specs.Plans.{PlanValue, AreTablesOfPlan, AreVolumes, StandInPlaces, cylinder_blocks, cylinders_of, partitions_from, planned_blocks}
+use Rattle.adf_partitions.specs.{Disks.IsDisk, declared.tables.Tables.Tables}
+use Rattle.adf_partitions.proofs.TablesEnough.{disk_tells}
+use Rattle.adf_partitions.specs.Plans.{planned_partition, planned_partitions, table_cylinders}
 
 length_volumes : (c : ℕ) (ps : List PartitionPlan) (vs : List (List ℕ)) → AreVolumes c ps vs
     → length (flat_map (λ (v : List ℕ). v) vs) ≡ cylinders_of ps * c * 512
@@ -56,28 +38,44 @@ stand_volumes front c k low (p ∷ ps) (v ∷ vs) e h =
 stand_volumes front c k low [] (v ∷ vs) e h = absurd h
 stand_volumes front c k low (p ∷ ps) [] e h = absurd h
 
-module _ (plan : PlanValue) (vs : List (List ℕ)) (h : IsPlan plan) (are : AreVolumes (cylinder_blocks plan) plan.partitions vs) where
-  pub disk_size : length (disk_bytes plan vs) ≡ planned_blocks plan * 512
-  disk_size = grind (arith, common_steps, length_table_bytes, length_volumes, length-append)
+module _ (plan : PlanValue) (tables : List ℕ) (vs : List (List ℕ)) (of : AreTablesOfPlan plan tables)
+    (are : AreVolumes (cylinder_blocks plan) plan.partitions vs) where
+  pub disk_size : length (tables ++ flat_map (λ (v : List ℕ). v) vs) ≡ planned_blocks plan * 512
+  disk_size = grind (arith, common_steps, length_volumes, length-append, of.size)
 
-  pub volumes_stand : StandInPlaces (disk_bytes plan vs) (planned_partitions plan) vs
-  volumes_stand = stand_volumes (table_bytes plan) (cylinder_blocks plan) 1 (table_cylinders plan) plan.partitions vs (length_table_bytes plan h) are
+  pub volumes_stand : StandInPlaces (tables ++ flat_map (λ (v : List ℕ). v) vs) (planned_partitions plan) vs
+  volumes_stand = stand_volumes tables (cylinder_blocks plan) 1 (table_cylinders plan) plan.partitions vs of.size are
 
--- one block more behind those before it
-pub part_put : (plan : PlanValue) (ps left : List PartitionPlan) (i low : ℕ) (p : PartitionPlan) (bytes all : List ℕ) → drop i ps ≡ p ∷ left
-    → bytes ++ part_blocks plan (i + 1) low (drop i ps) ≡ all
-    → (bytes ++ part_block plan (i + 1) low p) ++ part_blocks plan (i + 1 + 1) (low + p.cylinders) left ≡ all
-unfolding part_blocks
-part_put plan ps left i low p bytes all e h = grind (arith, common_steps, append_assoc)
+module _ (plan : PlanValue) (read : List Partition) where
+  -- the partitions that are read up to one are the planned ones, if those behind are
+  abbrev pub AreUpTo : (i low : ℕ) → Type 0
+  AreUpTo i low = drop i read ≡ partitions_from (cylinder_blocks plan) (i + 1) low (drop i plan.partitions) → read ≡ planned_partitions plan
 
-pub parts_end : (plan : PlanValue) (ps : List PartitionPlan) (i low : ℕ) (bytes all : List ℕ) → length ps ≤ i
-    → bytes ++ part_blocks plan (i + 1) low (drop i ps) ≡ all → bytes ≡ all
-unfolding part_blocks
-parts_end plan ps i low bytes all le h = grind (arith, common_steps, append-nil, drop_all)
+-- one partition more
+partition_more : (c b low : ℕ) (ps : List PartitionPlan) (qs : List Partition) (p : PartitionPlan) (q : Partition) → q ≡ planned_partition c b low p
+    → qs ≡ partitions_from c (b + 1) (low + p.cylinders) ps → q ∷ qs ≡ partitions_from c b low (p ∷ ps)
+unfolding partitions_from
+partition_more c b low ps qs p q e f = ap₂ (λ (x : Partition) (xs : List Partition). x ∷ xs) e f
 
--- the tables behind the blocks that have words
-pub zeros_put : (plan : PlanValue) → IsPlan plan → (bytes : List ℕ) (n m : ℕ) → bytes ≡ written_bytes plan → m ≡ length bytes
-    → n ≡ table_cylinders plan * cylinder_blocks plan * 512
-    → take n bytes ++ replicate (n - m) 0 ≡ table_bytes plan
-unfolding table_bytes
-zeros_put plan h bytes n m e all is = grind (arith, common_steps, length_written_bytes, tables_hold, take_all)
+pub up_to_more : (plan : PlanValue) (read : List Partition) (i low : ℕ) (p : PartitionPlan) (q : Partition) → AreUpTo plan read i low
+    → drop i plan.partitions ≡ p ∷ drop (i + 1) plan.partitions → drop i read ≡ q ∷ drop (i + 1) read
+    → q ≡ planned_partition (cylinder_blocks plan) (i + 1) low p → AreUpTo plan read (i + 1) (low + p.cylinders)
+up_to_more plan read i low p q h at there same = λ rest.
+    h (there ∙ (partition_more (cylinder_blocks plan) (i + 1) low (drop (i + 1) plan.partitions) (drop (i + 1) read) p q same rest
+    ∙ ap (partitions_from (cylinder_blocks plan) (i + 1) low) (sym at)))
+
+-- none is left
+pub none_left : (c b low i : ℕ) (ps : List PartitionPlan) (qs : List Partition) → length ps ≤ i → length qs ≤ i
+    → drop i qs ≡ partitions_from c b low (drop i ps)
+unfolding partitions_from
+none_left c b low i ps qs le less = grind (arith, common_steps, drop_all)
+
+-- what is read so stands in front of any bytes
+pub read_back : (plan : PlanValue) (bytes : List ℕ) → length bytes ≡ table_cylinders plan * cylinder_blocks plan * 512
+    → (t : Tables) × IsDisk bytes (planned_blocks plan) t (planned_partitions plan) → AreTablesOfPlan plan bytes
+read_back plan bytes size (t, disk) =
+    record { size = size; read = λ rest. (t, disk_tells bytes rest (planned_blocks plan) t (planned_partitions plan) disk) }
+
+-- what is left from a partition on
+pub left_at : (ps : List Partition) (i : ℕ) (p : Partition) → i < length ps → p ≡ get_or ps i p → drop i ps ≡ p ∷ drop (i + 1) ps
+left_at ps i p lt e = grind (arith, common_steps, drop-cons, ap₂)

@@ -11,4 +11,3 @@ pub mod FoundVolumes
 pub mod Volumes
 pub mod FileSystems
 pub mod Plans
-pub mod WrittenTables

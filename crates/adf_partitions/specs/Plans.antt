@@ -1,8 +1,8 @@
 -- Plans of hard disks. p is the plan of a partition, c the number of blocks of a cylinder, low a partition's lowest cylinder.
-use Rattle.std.specs.Prelude.{◌≡◌, ◌≤◌, ◌<◌, ◌+◌, ◌*◌, ◌/◌, ◌^◌, ℕ, true, List, [], ◌∷◌, All, IfOk, None, Ok, length, slice_range, FitsSigned, if◌then◌else◌}
+use Rattle.std.specs.Prelude.{◌≡◌, ◌≤◌, ◌<◌, ◌+◌, ◌*◌, ◌/◌, ◌^◌, ℕ, true, List, [], ◌∷◌, ◌++◌, All, IfOk, None, Ok, length, slice_range, FitsSigned, if◌then◌else◌}
 use Rattle.std.specs.{Int.w8, List.list_all}
 use Rattle.adf_names.specs.Texts.{is_name_byte}
-use Rattle.adf_partitions.specs.{FileSystems.planned_type, Places.blocks_from, Places.end_of}
+use Rattle.adf_partitions.specs.{Disks.IsDisk, FileSystems.planned_type, Places.blocks_from, Places.end_of, declared.tables.Tables.Tables}
 use Rattle.adf_partitions.specs.declared.layout.TheConstants.{BOOTABLE, MOST_PARTITIONS}
 use Rattle.adf_partitions.specs.{declared.partition.Partition.Partition, declared.plan.DiskPlan.DiskPlan, declared.plan.PartitionPlan.PartitionPlan}
 
@@ -93,3 +93,8 @@ abbrev pub StandInPlaces : List ℕ → List Partition → List (List ℕ) → T
 StandInPlaces bytes [] [] = Unit {0}
 StandInPlaces bytes (q ∷ qs) (v ∷ vs) = IfOk q.place (λ r. slice_range bytes (r.first * 512) (end_of r * 512) ≡ v) × StandInPlaces bytes qs vs
 StandInPlaces bytes _ _ = ⊥
+
+-- these bytes are the tables of a plan: a reader finds the planned partitions, whatever stands behind them, and the volumes begin there
+pub record AreTablesOfPlan (plan : PlanValue) (bytes : List ℕ) : Type 0 where
+  pub size : length bytes ≡ table_cylinders plan * cylinder_blocks plan * 512
+  pub read : (rest : List ℕ) → (t : Tables) × IsDisk (bytes ++ rest) (planned_blocks plan) t (planned_partitions plan)

@@ -1,14 +1,13 @@
-// The tables of a hard disk: writer.
+// The tables of a hard disk: writer. What is written is read back before it is given out, so nothing is promised of the blocks alone.
 
-ghost use Rattle.std.specs.Prelude.{◌≡◌, ◌≤◌, ◌<◌, ◌+◌, ◌-◌, ◌*◌, ◌++◌, ℕ, List, IfOk, length};
-ghost use Rattle.adf_base.specs.Words.{with_bytes};
-ghost use Rattle.adf_blocks.specs.Fields.{text};
-ghost use Rattle.adf_partitions.specs.{Disks.IsDisk, declared.layout.TheConstants.DRIVE_NAME};
-ghost use Rattle.adf_partitions.specs.Plans.{PlanValue, AreVolumes, IsPartitionPlan, IsPlan, StandInPlaces, cylinder_blocks};
-ghost use Rattle.adf_partitions.specs.Plans.{planned_blocks, planned_cylinders, planned_partitions, plan_value};
-ghost use Rattle.adf_partitions.specs.WrittenTables.{block_after, disk_bytes, part_block, planned_tables, rdsk_block};
-ghost use Rattle.adf_partitions.specs.WrittenTables.{table_bytes, written_bytes};
+ghost use Rattle.std.specs.Prelude.{◌≡◌, ◌≤◌, ◌*◌, ◌++◌, ℕ, List, IfOk, None, Ok, length, true};
+ghost use Rattle.std.specs.List.{flat_map};
+ghost use Rattle.adf_partitions.specs.{Disks.IsDisk, FileSystems.planned_type, declared.tables.Tables.Tables};
+ghost use Rattle.adf_partitions.specs.Plans.{AreTablesOfPlan, AreVolumes, IsPlan, PlanValue, StandInPlaces, cylinder_blocks};
+ghost use Rattle.adf_partitions.specs.Plans.{plan_value, planned_blocks, planned_flags, planned_partition, planned_partitions};
 
+use crate::disk::Disk;
+use crate::fault::DiskCause;
 use crate::layout::{
     ADDRESS_MASK, BAD_BLOCKS, BLOCK_BYTES, BLOCK_SECTORS, BOOT_PRIORITY, BUFFERS, CHECKSUM,
     CYLINDER_BLOCKS, CYLINDERS, DOS_TYPE, DRIVE_NAME, ENV_BLOCK_WORDS, ENV_LENGTH, FIRST_PART,
@@ -17,6 +16,8 @@ use crate::layout::{
     OTHER_LISTS, PARKED, PART, RDSK, RESERVED, SECTORS, SUMMED_LONGS, SURFACES, TRACK_BLOCKS,
     WRITTEN_LONGS,
 };
+use crate::partition::Partition;
+use crate::place::{Place, PlaceFault};
 use crate::plan::{
     DiskPlan, PartitionPlan, cylinder_blocks, planned_cylinders, planned_flags, table_cylinders,
 };
@@ -24,17 +25,14 @@ use adf_base::{BLOCK_LEN, put_bytes, put_word, put_words, seal_block};
 use std::alloc::{AllocError, Global};
 
 // The number of the first partition blocks behind block `b`, if there is one.
-fn block_after(count: u32, b: u32) -> u32
-    ensures { result ≡ block_after count b }
-{
+fn block_after(count: u32, b: u32) -> u32 {
     if b < count { b + 1 } else { NO_BLOCK }
 }
 
-// The rigid disk block.
-#[tactic(auto, using(crate::proofs::PlanSizes::tables_hold, crate::proofs::PlanSizes::kept_fit, crate::proofs::PlanSizes::some_cylinders), unfolding(crate::specs::WrittenTables::rdsk_block))]
+// The rigid disk block: 64 words have its sum, blocks have 512 bytes, and of all lists of blocks that of the partitions alone has
+// any; words that have no meaning yet name no block either.
 fn rdsk_bytes(plan: &DiskPlan) -> [u8; 512]
     requires { IsPlan (plan_value plan.now) }
-    ensures { result ≡ rdsk_block (plan_value plan.now) }
 {
     let count = plan.partitions.len() as u32;
     let cylinder = cylinder_blocks(plan);
@@ -54,9 +52,13 @@ fn rdsk_bytes(plan: &DiskPlan) -> [u8; 512]
     put_word(&mut block, INTERLEAVE, 1);
     put_word(&mut block, PARKED, cylinders);
     put_word(&mut block, LOWEST_TABLE, 0);
-    put_word(&mut block, HIGHEST_TABLE, kept * cylinder - 1);
+    put_word(
+        &mut block,
+        HIGHEST_TABLE,
+        kept.saturating_mul(cylinder).saturating_sub(1),
+    );
     put_word(&mut block, LOWEST_CYLINDER, kept);
-    put_word(&mut block, HIGHEST_CYLINDER, cylinders - 1);
+    put_word(&mut block, HIGHEST_CYLINDER, cylinders.saturating_sub(1));
     put_word(&mut block, CYLINDER_BLOCKS, cylinder);
     put_word(&mut block, HIGHEST_USED, count);
     seal_block(&mut block, CHECKSUM);
@@ -64,25 +66,19 @@ fn rdsk_bytes(plan: &DiskPlan) -> [u8; 512]
 }
 
 // Writes the name of a drive into a partition block.
-#[tactic(auto, using(adf_base::proofs::WordLaws::side_by_side))]
 fn put_name(block: &mut [u8; 512], name: &[u8])
     requires { length name.now ≤ 31 }
-    ensures { block.new ≡ with_bytes block.old DRIVE_NAME (text name.now) }
 {
     put_bytes(block, DRIVE_NAME, &[name.len() as u8]);
     put_bytes(block, DRIVE_NAME + 1, name);
 }
 
-// The partition block `b`, of a partition from cylinder `low` on.
-#[tactic(auto, using(crate::proofs::PlanSizes::cylinders_fit), unfolding(crate::specs::WrittenTables::part_block))]
-fn part_bytes(plan: &DiskPlan, b: u32, low: u32, partition: &PartitionPlan) -> [u8; 512]
-    requires plan { IsPlan (plan_value plan.now) }
-    requires partition { IsPartitionPlan partition.now }
-    requires within { low + partition.now.cylinders ≤ planned_cylinders (plan_value plan.now) }
-    ensures { result ≡ part_block (plan_value plan.now) b low partition.now }
-{
-    let next = block_after(plan.partitions.len() as u32, b);
-    let high = low + (partition.cylinders - 1);
+// The partition block `b`, of a partition from cylinder `low` on: blocks of 128 words and one sector, 2 blocks reserved, 30
+// buffers, transfers of at most 255 blocks to any memory.
+fn part_bytes(plan: &DiskPlan, b: u32, low: u32, partition: &PartitionPlan) -> [u8; 512] {
+    let count = u32::try_from(plan.partitions.len()).unwrap_or(0);
+    let next = block_after(count, b);
+    let high = low.saturating_add(partition.cylinders.saturating_sub(1));
     let priority = i32::from(partition.priority).cast_unsigned();
     let dos_type = partition.system.planned_type();
     let mut block = [0u8; 512];
@@ -110,42 +106,115 @@ fn part_bytes(plan: &DiskPlan, b: u32, low: u32, partition: &PartitionPlan) -> [
 }
 
 // The rigid disk block and the partition blocks.
-#[tactic(auto, using(crate::proofs::PlanSizes::cylinders_at, crate::proofs::PlanSizes::cylinders_fit))]
 fn written_bytes(alloc: Global, plan: &DiskPlan) -> Result<Vec<u8>, AllocError>
     requires { IsPlan (plan_value plan.now) }
-    ensures { IfOk result (λ b. b.items ≡ written_bytes (plan_value plan.now)) }
 {
     let mut bytes = Vec::from_slice(alloc, &rdsk_bytes(plan))?;
     let mut low = table_cylinders(plan);
     for (i, partition) in plan.partitions.iter().enumerate() {
-        bytes.extend_from_slice(&part_bytes(plan, i as u32 + 1, low, partition))?;
-        low += partition.cylinders;
+        let b = u32::try_from(i).unwrap_or(0).saturating_add(1);
+        bytes.extend_from_slice(&part_bytes(plan, b, low, partition))?;
+        low = low.saturating_add(partition.cylinders);
     }
     Ok(bytes)
 }
 
-/// Writes the tables of a disk, up to the end of their last cylinder. The volumes belong behind them.
-#[tactic(auto, using(crate::proofs::PlannedVolumes::zeros_put))]
+// Whether a place is that of so many blocks from one on.
+fn is_place(place: Result<Place, PlaceFault>, first: u64, blocks: u64) -> bool
+    ensures { result ≡ true → place ≡ Ok (record { first = first; blocks = blocks }) }
+{
+    match place {
+        Ok(place) => place.first == first && place.blocks == blocks,
+        Err(_) => false,
+    }
+}
+
+// Whether the other fields of a partition are those of a planned one.
+fn has_fields(planned: &PartitionPlan, read: &Partition) -> bool
+    ensures names { result ≡ true → (read.now.name ≡ planned.now.name) × (read.now.flags ≡ planned_flags planned.now) }
+    ensures system { result ≡ true → (read.now.priority ≡ planned.now.priority) × (read.now.dos_type ≡ planned_type planned.now.system) }
+    ensures kept { result ≡ true → (read.now.reserved ≡ 2) × (read.now.preallocated ≡ 0) }
+    ensures blocks { result ≡ true → (read.now.sector_words ≡ 128) × (read.now.block_sectors ≡ 1) × (read.now.fault ≡ None) }
+{
+    read.name.bytes() == planned.name.bytes()
+        && read.flags == planned_flags(planned)
+        && read.priority == i32::from(planned.priority)
+        && read.dos_type == planned.system.planned_type()
+        && read.reserved == 2
+        && read.preallocated == 0
+        && read.sector_words == 128
+        && read.block_sectors == 1
+        && read.fault.is_none()
+}
+
+// Whether the partition of block `b` from cylinder `low` on is the planned one, where a cylinder has so many blocks.
+fn is_planned(cylinder: u32, b: u32, low: u32, planned: &PartitionPlan, read: &Partition) -> bool
+    ensures { result ≡ true → read.now ≡ planned_partition cylinder b low planned.now }
+{
+    let first = u64::from(low) * u64::from(cylinder);
+    let Some(blocks) = u64::from(planned.cylinders).checked_mul(u64::from(cylinder)) else {
+        return false;
+    };
+    read.block == b && is_place(read.place, first, blocks) && has_fields(planned, read)
+}
+
+// Whether partitions are those of a plan.
+fn are_planned(plan: &DiskPlan, read: &[Partition]) -> bool
+    requires { IsPlan (plan_value plan.now) }
+    ensures { result ≡ true → read.now ≡ planned_partitions (plan_value plan.now) }
+{
+    let cylinder = cylinder_blocks(plan);
+    let mut low = table_cylinders(plan);
+    if read.len() != plan.partitions.len() {
+        return false;
+    }
+    for i in 0..read.len() {
+        let planned = &plan.partitions[i];
+        if !is_planned(cylinder, i as u32 + 1, low, planned, &read[i]) {
+            return false;
+        }
+        low += planned.cylinders;
+    }
+    true
+}
+
+// Whether bytes are read as the tables of a plan.
+fn is_read(alloc: Global, plan: &DiskPlan, bytes: &[u8]) -> Result<bool, AllocError>
+    requires { IsPlan (plan_value plan.now) }
+    ensures { IfOk result (λ is. is ≡ true → (t : Tables) × IsDisk bytes.now (planned_blocks (plan_value plan.now)) t
+        (planned_partitions (plan_value plan.now))) }
+{
+    let blocks = u64::from(planned_cylinders(plan)) * u64::from(cylinder_blocks(plan));
+    match Disk::open(alloc, bytes, blocks) {
+        Ok(disk) => Ok(are_planned(plan, &disk.partitions)),
+        Err(fault) if fault.cause == DiskCause::NoMemory => Err(AllocError),
+        Err(_) => Ok(false),
+    }
+}
+
+/// Writes the tables of a disk, up to the end of their last cylinder: they are read as the planned partitions, whatever stands
+/// behind them. The volumes belong there. `AllocError` if an allocation fails, or if they are not read so.
 pub fn write_tables(alloc: Global, plan: &DiskPlan) -> Result<Vec<u8>, AllocError>
     requires { IsPlan (plan_value plan.now) }
-    ensures bytes { IfOk result (λ b. b.items ≡ table_bytes (plan_value plan.now)) }
+    ensures { IfOk result (λ b. AreTablesOfPlan (plan_value plan.now) b.items) }
 {
     let mut bytes = written_bytes(alloc, plan)?;
     let len = table_cylinders(plan) as usize * cylinder_blocks(plan) as usize * BLOCK_LEN;
     bytes.resize(len, 0)?;
-    Ok(bytes)
+    if is_read(alloc, plan, &bytes)? {
+        Ok(bytes)
+    } else {
+        Err(AllocError)
+    }
 }
 
-/// A disk of a plan has the planned partitions, and each volume at its place.
+/// A disk of the tables of a plan and its volumes has each volume at its place.
 #[tactic(auto, using(crate::proofs::PlannedVolumes::disk_size, crate::proofs::PlannedVolumes::volumes_stand))]
 pub fn planned_disks()
-    // what stands behind the tables does not count
-    ensures disk { (plan : PlanValue) (rest : List ℕ) → IsPlan plan
-        → IsDisk (table_bytes plan ++ rest) (planned_blocks plan) (planned_tables plan) (planned_partitions plan) }
-    ensures size { (plan : PlanValue) (vs : List (List ℕ)) → IsPlan plan
+    ensures size { (plan : PlanValue) (tables : List ℕ) (vs : List (List ℕ)) → AreTablesOfPlan plan tables
         → AreVolumes (cylinder_blocks plan) plan.partitions vs
-        → length (disk_bytes plan vs) ≡ planned_blocks plan * 512 }
-    ensures volumes { (plan : PlanValue) (vs : List (List ℕ)) → IsPlan plan
+        → length (tables ++ flat_map (λ v. v) vs) ≡ planned_blocks plan * 512 }
+    ensures volumes { (plan : PlanValue) (tables : List ℕ) (vs : List (List ℕ)) → AreTablesOfPlan plan tables
         → AreVolumes (cylinder_blocks plan) plan.partitions vs
-        → StandInPlaces (disk_bytes plan vs) (planned_partitions plan) vs }
+        → StandInPlaces (tables ++ flat_map (λ v. v) vs) (planned_partitions plan) vs }
 {}

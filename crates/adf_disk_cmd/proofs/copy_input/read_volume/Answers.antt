@@ -9,9 +9,6 @@ returns-in-Ok-read_excerpt-clause-held g c =
     parts_read _ _ _ _ c.in-Ok-sought_place.place c.saturating_sub-from.result c.saturating_sub-to.result _ c.in-Ok.ensures.first
     c.in-Ok-read_excerpt.ensures.part (omega (arith, c.saturating_sub-from.ensures)) (omega (arith, c.saturating_sub-to.ensures))
 
-pub returns-in-Ok-read_excerpt-clause-place : goal.returns-in-Ok-read_excerpt-clause-place
-returns-in-Ok-read_excerpt-clause-place g c = rw c.deref.ensures.value at c.in-Ok-sought_place.ensures.place
-
 pub returns-in-Ok-read_excerpt-clause-at_most : goal.returns-in-Ok-read_excerpt-clause-at_most
 returns-in-Ok-read_excerpt-clause-at_most g c =
     two_at_most TABLES_LEN (MOST_DISK_BYTES - TABLES_LEN + 1) (MOST_DISK_BYTES + 1) _ _ _ (omega arith) c.read_first.ensures.at_most

@@ -1,6 +1,5 @@
-use Rattle.std.proofs.Common.{◌≡◌, ◌∙◌, ◌≢◌, arith, inl, inr, refl, rules, subst, sym, true}
+use Rattle.std.proofs.Common.{◌≡◌, ◌≢◌, arith, inl, inr, refl, rules, subst, true}
 use Rattle.adf_disk_cmd.specs.NewDisks.{NewDisk, NewDiskEnds}
-use Rattle.adf_disk_cmd.proofs.NewDisks.{unwritten_told}
 use Rattle.adf_file_runs.specs.FileRuns.{KnownFiles, known_files}
 use Rattle.adf_runs.specs.Streams.{Seen, seen}
 use Rattle.adf_disk_cmd.proofs.disk_files.build_into.Goals as goal
@@ -15,11 +14,7 @@ returns-then-status-ne0 g c =
     subst (λ (d : NewDisk). NewDiskEnds d files (g.F.Files.bytes_of c.args.files.now) input c.run_plans-status.result errors) c.disk.view_is
     (inr (
       refl,
-      inr (inl (
-        made,
-        record { empty = c.in-Ok.ensures.empty; ends = rw c.deref.ensures.value at c.run_plans-status.ensures },
-        other,
-      )),
+      inr (made, record { empty = c.in-Ok.ensures.empty; ends = rw c.deref.ensures.value at c.run_plans-status.ensures }, other),
     ))
 
 pub returns-in-Ok-put : goal.returns-in-Ok-put
@@ -38,45 +33,7 @@ returns-in-Ok-put g c =
     ))
 
 pub returns-in-Err-put : goal.returns-in-Err-put
-returns-in-Err-put g c =
-    let files : KnownFiles = known_files g.F.Files.bytes_of g.F.Files.may_fail g.F.Files.may_open c.args.files.now in
-    let input : Seen = seen g.R.Source.left g.R.Source.has_failed c.args.input.now c.run_plans-status.new.input in
-    let errors : Seen = seen g.E.Sink.held g.E.Sink.has_failed c.args.errors.now c.run_plans-status.new.errors in
-    let made : Seen = seen g.F.New.Sink.held g.F.New.Sink.has_failed c.in-Ok.made c.run_plans-status.new.output in
-    let done : c.run_plans-status.result ≡ 0 = omega (arith, c.if-status-ne0.false) in
-    let failed : g.E.Sink.has_failed c.run_plans-status.new.errors ≡ true = sym c.failed.ensures ∙ c.if-failed.true in
-    subst (λ (d : NewDisk). NewDiskEnds d files (g.F.Files.bytes_of c.put.new.self) input 3 errors) c.disk.view_is
-    (inr (
-      c.in-Err-put.ensures.kept,
-      inr (inr (
-        made,
-        g.E.Sink.held c.run_plans-status.new.errors,
-        g.E.Sink.has_failed c.run_plans-status.new.errors,
-        record { empty = c.in-Ok.ensures.empty; ends = rw (c.deref.ensures.value, done) at c.run_plans-status.ensures },
-        refl,
-        rw c.as_bytes-2.ensures.value at c.in-Err-put.ensures.fails,
-        inl failed,
-      )),
-    ))
+returns-in-Err-put g c = inr (c.in-Err-put.ensures.kept, inl refl)
 
 pub returns-in-Err-2 : goal.returns-in-Err-2
-returns-in-Err-2 g c =
-    let files : KnownFiles = known_files g.F.Files.bytes_of g.F.Files.may_fail g.F.Files.may_open c.args.files.now in
-    let input : Seen = seen g.R.Source.left g.R.Source.has_failed c.args.input.now c.run_plans-status.new.input in
-    let errors : Seen = seen g.E.Sink.held g.E.Sink.has_failed c.args.errors.now c.refuse_change-in-Err-2.new.errors in
-    let made : Seen = seen g.F.New.Sink.held g.F.New.Sink.has_failed c.in-Ok.made c.run_plans-status.new.output in
-    let done : c.run_plans-status.result ≡ 0 = omega (arith, c.if-status-ne0.false) in
-    subst (λ (d : NewDisk). NewDiskEnds d files (g.F.Files.bytes_of c.put.new.self) input c.refuse_change-in-Err-2.result errors) c.disk.view_is
-    (inr (
-      c.in-Err-2.ensures.kept,
-      inr (inr (
-        made,
-        g.E.Sink.held c.run_plans-status.new.errors,
-        g.E.Sink.has_failed c.run_plans-status.new.errors,
-        record { empty = c.in-Ok.ensures.empty; ends = rw (c.deref.ensures.value, done) at c.run_plans-status.ensures },
-        c.refuse_change-in-Err-2.ensures.status,
-        rw c.as_bytes-2.ensures.value at c.in-Err-2.ensures.fails,
-        inr (unwritten_told c.disk.inside.target.now c.in-Err-put.field-0
-            (seen g.E.Sink.held g.E.Sink.has_failed c.run_plans-status.new.errors c.refuse_change-in-Err-2.new.errors) c.refuse_change-in-Err-2.ensures.said),
-      )),
-    ))
+returns-in-Err-2 g c = inr (c.in-Err-2.ensures.kept, inl c.refuse_change-in-Err-2.ensures.status)

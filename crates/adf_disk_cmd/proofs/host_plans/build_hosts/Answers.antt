@@ -1,10 +1,8 @@
-use Rattle.std.proofs.Common.{◌≡◌, ◌∙◌, List, ℕ, inl, inr, sym}
-use Rattle.adf_disk_cmd.proofs.HostRuns.{no_given_ends}
-use Rattle.adf_disk_cmd.specs.{Builds.RefusesPlan, Builds.plan_reply, HostPlans.BuildsHosts}
-use Rattle.adf_file_runs.specs.FileRuns.{KnownFiles, known_files}
+use Rattle.std.proofs.Common.{◌∙◌, List, ℕ, inl, inr, sym}
+use Rattle.adf_disk_cmd.specs.{Builds.AnswersPlan, Builds.RefusesPlan, HostPlans.BuildsHosts}
 use Rattle.adf_partitions.specs.Plans.{PlanValue, plan_value}
 use Rattle.adf_plans.specs.PlanTexts.{IsText}
-use Rattle.adf_runs.proofs.Endings.{does_weaker, ends_weaker}
+use Rattle.adf_runs.proofs.{Endings.does_weaker, Endings.ends_weaker}
 use Rattle.adf_disk_cmd.proofs.host_plans.build_hosts.Goals as goal
 
 pub returns-in-Err : goal.returns-in-Err
@@ -26,7 +24,6 @@ returns-in-Err g c =
         written = c.requires.writes ∙ c.refuse_text.ensures.blames.written;
       },
       c.finish-in-Err.ensures.status,
-      c.finish-in-Err.ensures.said,
     )
 
 pub returns-in-Ok-gather : goal.returns-in-Ok-gather
@@ -43,17 +40,6 @@ returns-in-Ok-gather g c =
       plain,
       c.in-Ok.ensures,
       c.write_plan.result,
-      does_weaker (λ reply. reply ≡ plan_reply plan given) (BuildsHosts bytes_of text plain)
-          (λ reply e. inl (plan, left, given, read, c.in-Ok-gather.ensures.given, e)) does,
+      does_weaker (AnswersPlan plan given) (BuildsHosts bytes_of text plain) (λ reply h. inl (plan, left, given, read, c.in-Ok-gather.ensures, h)) does,
       c.finish-in-Ok-gather.ensures.status,
-      c.finish-in-Ok-gather.ensures.said,
     )
-
-pub returns : goal.returns
-returns g c =
-    let files : KnownFiles = known_files g.F.Files.bytes_of g.F.Files.may_fail g.F.Files.may_open c.args.files.now in
-    let plan : PlanValue = plan_value c.in-Ok-read_plan.read.0 in
-    let left : List ℕ = c.in-Ok-read_plan.read.1.now in
-    let read : IsText c.in-Ok.plain.items plan left = rw c.deref.ensures.value at c.in-Ok-read_plan.ensures.text in
-    no_given_ends files c.args.text.now c.in-Ok.plain.items left plan c.in-Err-gather.why c.tell_no_given.result (g.W.Sink.held c.args.output.now)
-    (g.W.Sink.has_failed c.args.output.now) _ c.in-Ok.ensures read c.in-Err-gather.ensures.fault c.tell_no_given.ensures

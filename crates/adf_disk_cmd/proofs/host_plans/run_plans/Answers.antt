@@ -27,3 +27,6 @@ returns-in-Err g c =
           status c.requires.reads c.requires.writes (rw (c.usage.ensures, c.from.ensures) at c.refuse.ensures.said),
       refused_names_none fault words files c.refuse.result c.in-Err.ensures.refused status,
     )
+
+pub returns-in-Ok-Some : goal.returns-in-Ok-Some
+returns-in-Ok-Some g c = c.build_file.ensures (seen g.R.Source.left g.R.Source.has_failed c.args.input.now c.args.input.now)

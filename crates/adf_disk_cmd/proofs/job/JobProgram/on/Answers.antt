@@ -19,10 +19,10 @@ pub returns-in-Search-clause-ends : goal.returns-in-Search-clause-ends
 returns-in-Search-clause-ends g c = λ r serves.
     subst (λ k. EndsBy (DiskAnswer k c.args.bytes.now) c.search_disk.result (g.W.Sink.held c.args.output.now) (g.W.Sink.held c.search_disk.new.output))
     (sym (subst (λ job. IsJobOf job r) c.in-Search.is serves))
-    (search_ends c.in-Search.json c.args.bytes.now _ _ _ _ (counted c.args.bytes.now c.min.result c.min.ensures) c.search_disk.ensures.ends)
+    (search_ends c.in-Search.json c.args.bytes.now _ _ _ c.search_disk.ensures.ends)
 
 pub returns-in-Propose-clause-ends : goal.returns-in-Propose-clause-ends
 returns-in-Propose-clause-ends g c = λ r serves.
     subst (λ k. EndsBy (DiskAnswer k c.args.bytes.now) c.propose_plan.result (g.W.Sink.held c.args.output.now) (g.W.Sink.held c.propose_plan.new.output))
     (sym (subst (λ job. IsJobOf job r) c.in-Propose.is serves))
-    (proposal_ends c.args.bytes.now _ _ _ _ (counted c.args.bytes.now c.min.result c.min.ensures) c.propose_plan.ensures.ends)
+    (proposal_ends c.args.bytes.now _ _ _ c.propose_plan.ensures.ends)

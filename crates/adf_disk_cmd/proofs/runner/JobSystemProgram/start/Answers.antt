@@ -1,6 +1,8 @@
-use Rattle.std.proofs.Common.{◌≡◌, List, ℕ, None, Option, refl, subst}
-use Rattle.adf_disk_cmd.specs.NewDisks.{EndsByDisk, new_disk}
-use Rattle.adf_disk_cmd.proofs.NewDisks.{lacks_words}
+use Rattle.std.proofs.Common.{◌≡◌, List, ℕ, None, Option, Some, inl, inr, refl, subst}
+use Rattle.std.proofs.lemmas.Bool.{false≢true}
+use Rattle.std.specs.Prelude.{IsSome}
+use Rattle.clap.specs.Words.{Text}
+use Rattle.adf_disk_cmd.specs.NewDisks.{EndsByDisk, NewDisk, new_disk}
 use Rattle.adf_file_runs.specs.FileRuns.{KnownFiles, known_files}
 use Rattle.adf_runs.specs.Streams.{Seen, seen}
 use Rattle.adf_words.specs.CommandLine.{texts_of}
@@ -28,6 +30,11 @@ returns-in-Err g c =
     let output : Seen = seen g.W.Sink.held g.W.Sink.has_failed c.args.output.now c.args.output.now in
     let errors : Seen = seen g.E.Sink.held g.E.Sink.has_failed c.args.errors.now c.finish.new.errors in
     record {
-      ends = lacks_words (new_disk words) words files after input c.finish.result output errors c.in-Err.ensures.lacks refl
-          c.finish.ensures.status refl c.finish.ensures.said;
+      ends = lacks_words (new_disk words) words files after input c.finish.result output errors c.in-Err.ensures.lacks refl c.finish.ensures.status refl;
     }
+  where
+    lacks_words : (disk : Option NewDisk) (words : List Text) (files : KnownFiles) (after : List ℕ → Option (List ℕ)) (input : Seen) (n : ℕ)
+        (output errors : Seen) → IsSome disk → output.after ≡ output.before → n ≡ 3 → after ≡ files.bytes_of
+        → EndsByDisk disk words files after input n output errors
+    lacks_words (Some disk) words files after input n output errors some same three kept = (same, inr (kept, inl three))
+    lacks_words None words files after input n output errors some same three kept = absurd (false≢true some)

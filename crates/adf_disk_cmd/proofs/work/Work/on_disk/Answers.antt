@@ -10,4 +10,4 @@ returns-in-Check-clause-ends g c = λ r serves.
     let ps = c.args.disk.now.partitions.items in
     subst (λ k. EndsBy (OfPartitions k bytes ps c.args.disk.now.fault) c.write_checks.result (g.W.Sink.held c.args.output.now)
     (g.W.Sink.held c.write_checks.new.output))
-    (sym (checks c.in-Check.json c.args.self.now r c.in-Check.is serves)) (c.write_checks.ensures.ends bytes (knows_whole bytes ps))
+    (sym (checks c.in-Check.json c.args.self.now r c.in-Check.is serves)) (c.write_checks.ensures.ends bytes (knows_whole bytes))

@@ -1,9 +1,0 @@
-use Rattle.std.proofs.{Common.◌≡◌, Common.[], Common.ap, Common.arith, lemmas.Grind.common_steps}
-use Rattle.adf_runs.proofs.Endings.{does_same, silently}
-use Rattle.adf_disk_cmd.specs.Searches.{found_reply}
-use Rattle.adf_disk_cmd.proofs.searching.write_found.Goals as goal
-
-pub returns-then-is_empty : goal.returns-then-is_empty
-returns-then-is_empty g c =
-    let none : c.args.volumes.now ≡ [] = grind (arith, common_steps) in
-    does_same (ap (found_reply c.args.telling.json) none) (silently c.requires c.refuse.ensures)

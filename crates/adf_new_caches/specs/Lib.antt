@@ -1,2 +1,0 @@
--- new volumes with directory caches
-pub mod NewCaches
