@@ -36,4 +36,4 @@ pub returns-in-Err-put : goal.returns-in-Err-put
 returns-in-Err-put g c = inr (c.in-Err-put.ensures.kept, inl refl)
 
 pub returns-in-Err-2 : goal.returns-in-Err-2
-returns-in-Err-2 g c = inr (c.in-Err-2.ensures.kept, inl c.refuse_change-in-Err-2.ensures.status)
+returns-in-Err-2 g c = inr (c.in-Err-2.ensures.kept, inl c.refuse_change-in-Err-2.ensures)

@@ -1,6 +1,6 @@
 use Rattle.std.proofs.Common.{◌+◌, ◌∙◌, List, ℕ, inl, inr, sym}
 use Rattle.adf_disk_cmd.proofs.Gathered.{file_read}
-use Rattle.adf_disk_cmd.proofs.HostRuns.{disk_consistent, no_hosts_named, read_status, text_ends, unread_ends}
+use Rattle.adf_disk_cmd.proofs.HostRuns.{no_hosts_named, read_status, text_ends, unread_ends}
 use Rattle.adf_disk_cmd.specs.{Answers.disk_command, CommandLine.disk_file, declared.work.TheConstants.MOST_DISK_BYTES}
 use Rattle.adf_file_runs.proofs.FileRuns.{unopened_ends}
 use Rattle.adf_file_runs.specs.FileRuns.{KnownFiles, known_files}
@@ -16,10 +16,9 @@ returns-in-Err g c = λ input.
     let errors = seen g.E.Sink.held g.E.Sink.has_failed c.args.errors.now c.refuse_file.new.errors in
     inr (
       unopened_ends disk_command disk_file words files input c.refuse_file.result errors (g.W.Sink.held c.args.output.now)
-          (g.W.Sink.has_failed c.args.output.now) c.args.name.now c.in-Err.why disk_consistent (sym c.requires.plan.1) c.refuse_file.ensures.status
-          c.requires.writes (rw c.as_bytes.ensures.value at c.in-Err.ensures.opens) (rw c.as_bytes.ensures.value at c.in-Err.ensures.unopened)
-          c.refuse_file.ensures.said,
-      λ some. absurd (some c.refuse_file.ensures.status),
+          (g.W.Sink.has_failed c.args.output.now) c.args.name.now c.in-Err.why (sym c.requires.plan.1) c.refuse_file.ensures
+          (rw c.as_bytes.ensures.value at c.in-Err.ensures.opens) (rw c.as_bytes.ensures.value at c.in-Err.ensures.unopened),
+      λ some. absurd (some c.refuse_file.ensures),
     )
 
 pub returns-in-Err-read_all : goal.returns-in-Err-read_all
