@@ -20,13 +20,13 @@ ghost use Rattle.adf_memory.specs.{VolumeCalls.NeedsBlocks, VolumeCalls.TellsBoo
 use adf_base::Letters;
 use adf_file_runs::{VERSION_NUMBER, WithoutFiles};
 use adf_memory::{
-    BootBlocks, Built, Contents, FoundEntry, FoundPart, Moved, NewVolume, RescueInput, RescueTold, SubjectTold,
-    Surveyed, TableAddition, TableDisk, TableEntry, TableFinding, TableLink, TableLoss,
-    TablePartition, Verdict, build_volume, cause_text, check_image, clear_boot, copy_boot,
-    disk_cause_text, escape_text, find_entry, find_found, install_boot, need_volume, owners_of,
-    partition_fault_text, put_disk, put_found_blocks, put_found_parts, put_index, put_links,
-    put_subject, put_survey, read_found, rescue_volume, run_in_memory,
-    survey_owners, tell_boot,
+    BootBlocks, Built, Contents, FoundEntry, FoundPart, Moved, NewVolume, RescueInput, RescueTold,
+    SubjectTold, Surveyed, TableAddition, TableDisk, TableEntry, TableFinding, TableLink,
+    TableLoss, TablePartition, Verdict, build_volume, cause_text, check_image, clear_boot,
+    copy_boot, disk_cause_text, escape_text, find_entry, find_found, install_boot, need_volume,
+    owners_of, partition_fault_text, put_disk, put_found_blocks, put_found_parts, put_index,
+    put_links, put_subject, put_survey, read_found, rescue_volume, run_in_memory, survey_owners,
+    tell_boot,
 };
 use adf_memory_types::{check_image_types, owners_of_types, put_index_types, read_bytes_types};
 use adf_names::letters_of_type;

@@ -81,13 +81,7 @@ pub fn put_bytes(image: &[u8], kind: Kind, datas: &[u32], from: usize, room: &mu
 
 /// Puts what these data blocks hold from a place on, up to a size, into the room, as many bytes as there are and fit, and answers
 /// how many.
-pub fn read_sized(
-    image: &[u8],
-    datas: &[u32],
-    size: usize,
-    offset: usize,
-    room: &mut [u8],
-) -> usize
+pub fn read_sized(image: &[u8], datas: &[u32], size: usize, offset: usize, room: &mut [u8]) -> usize
     ensures count { result ≡ min (length room.old)
         (length (take (size - offset) (bytes_from image.now (kind_of image.now) datas.now offset))) }
     ensures bytes { room.new

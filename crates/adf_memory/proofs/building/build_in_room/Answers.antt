@@ -22,8 +22,7 @@ returns-in-Ok-clause-volume c =
 pub returns-in-Err-Full-clause-fault : goal.returns-in-Err-Full-clause-fault
 returns-in-Err-Full-clause-fault c =
     let tree = c.in_ok-tree.ensures.tree (new_tree c.args.volume.now) (c.in_ok-draft.ensures.draft c.args.contents.now) in
-    let told = rw (tree, c.in-Err-Full.field-0-is) at c.in-Err-Full.ensures.fault in
-    (
+    let told = rw (tree, c.in-Err-Full.field-0-is) at c.in-Err-Full.ensures.fault in (
       record {
         kind = c.in_ok-draft.ensures.sound.0;
         label = c.in_ok-draft.ensures.sound.1;

@@ -18,8 +18,7 @@ pub returns-clause-fault : goal.returns-clause-fault
 returns-clause-fault c =
     let tree = c.in_ok-tree.ensures.tree (new_tree c.args.volume.now) (c.in_ok-draft.ensures.draft c.args.contents.now) in
     let need : c.unwrap-need.result ≡ need_of c.in_ok-tree.tree MOST_BLOCKS = grind (arith, common_steps) in
-    let few : c.from.result < c.unwrap-need.result = grind (arith, common_steps) in
-    (
+    let few : c.from.result < c.unwrap-need.result = grind (arith, common_steps) in (
       record {
         kind = c.in_ok-draft.ensures.sound.0;
         label = c.in_ok-draft.ensures.sound.1;
