@@ -1,8 +1,8 @@
 -- Rooms that are filled from the front.
-use Rattle.std.specs.Prelude.{◌≡◌, ◌+◌, ◌≤◌, ◌<◌, ℕ, List, [], ◌∷◌, ◌++◌, get_or, length, min, take, drop, set}
-use Rattle.std.proofs.Common.{zero, suc, refl, sym, ap, ◌∙◌, arith, append_assoc, length-append, length-take, take_all}
+use Rattle.std.specs.Prelude.{◌≡◌, ◌+◌, ◌≤◌, ◌<◌, ℕ, List, [], ◌∷◌, ◌++◌, length, min, take, drop, set}
+use Rattle.std.proofs.Common.{zero, suc, refl, sym, ap, ◌∙◌, arith, length-append, length-take, take_all}
 use Rattle.std.proofs.{Math.ListN.drop_of_length-le, Math.Seq.drop-nil, Math.Seq.take-nil, lemmas.Bool.cases_lt, lemmas.Grind.common_steps}
-use Rattle.std.proofs.lemmas.List.{length-take-le, take-append-drop, take-take, take_more}
+use Rattle.std.proofs.lemmas.List.{take-append-drop, take-take}
 use Rattle.std.proofs.lemmas.List.Elements.{All-nil, All-push}
 use Rattle.adf_memory.specs.Rooms.{BeginsWith, filled}
 

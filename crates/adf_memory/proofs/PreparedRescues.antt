@@ -13,14 +13,14 @@ use Rattle.adf_subjects.specs.{Subject.SubjectValue, Subject.sized, declared.pre
 use Rattle.adf_subjects.specs.Rescues.{RescueValue, RescueValue.written, Rescues}
 use Rattle.adf_subjects.specs.declared.preparing.Unrescued.{Unrescued, TheVariants.NoMemory, TheVariants.Refused}
 use Rattle.adf_subjects.proofs.KeptBoots.{laid_long}
-use Rattle.adf_memory.specs.Rescuing.{ExplainsRescue, GivesVolume, IsRoomRefusal, IsVolumeOf, Readies}
+use Rattle.adf_memory.specs.Rescuing.{ExplainsRescue, GivesWritten, IsRoomRefusal, IsVolumeOf, Readies}
 use Rattle.adf_memory.specs.{declared.rescuing.Ready.Ready, declared.rescuing.RescueTold.RescueTold}
 use Rattle.adf_memory.specs.declared.rescuing.RescueRefusal.{RescueRefusal}
 use Rattle.adf_memory.specs.declared.rescuing.RescueRefusal.TheVariants as refusal
 
 -- a volume that is put into the room is one that the rescue gives
 pub volume_given : (gives : RescueValue → Type 0) (x : Ready) (image : List ℕ) → LaysFor gives x.prepared x.boot.items
-    → IsVolumeOf x.prepared.draft.tree x.prepared.blocks x.boot.items image → GivesVolume gives image
+    → IsVolumeOf x.prepared.draft.tree x.prepared.blocks x.boot.items image → GivesWritten gives image
 volume_given gives x image (room, lays) (volume, laid, size, is, long) =
     let ls = loss_values x.prepared.losses.items in
     (ls, subst (λ (image : List ℕ). gives (written image ls)) (sym is) (lays volume laid size))

@@ -1,6 +1,6 @@
 -- What is surveyed of an image, in the memory of a caller.
 -- Letters: s what is surveyed, t the same with the type that its entries tell; n a number of blocks.
-use Rattle.std.proofs.Common.{◌≡◌, ◌≤◌, ◌∙◌, ◌*◌, ℕ, List, None, Option, Some, ap, arith, drop, length, refl, subst, sym, take, true}
+use Rattle.std.proofs.Common.{◌≡◌, ◌≤◌, ◌∙◌, ◌*◌, ℕ, List, None, Option, Some, ap, arith, drop, length, refl, sym, take, true}
 use Rattle.std.proofs.lemmas.Bool.{and_parts, cond_both}
 use Rattle.std.proofs.lemmas.List.{drop-set-lt}
 use Rattle.adf_rescue.specs.Opened.{lacks_boot, states_type, with_boot_type}
@@ -9,7 +9,7 @@ use Rattle.adf_subjects.specs.Lengths.{blocks_read}
 use Rattle.adf_subjects.specs.Subject.{IsTyped, SubjectValue, as_long, begun_subject, changed, meant, sized}
 use Rattle.adf_subjects.specs.declared.remarks.Saying.TheVariants.{NotDos}
 use Rattle.adf_subjects.proofs.{KeptBoots.typed_length, SizedImages.length_sized, Subjects.typed_either}
-use Rattle.adf_memory.specs.{Rooms.filled, SurveyCalls.HasSubject, SurveyCalls.KeepsImage, declared.subjects.SubjectTold.SubjectTold}
+use Rattle.adf_memory.specs.{SurveyCalls.HasSubject, SurveyCalls.KeepsImage, declared.subjects.SubjectTold.SubjectTold}
 use Rattle.adf_memory.proofs.TableNames.{text_there}
 
 lacks_long : (image : List ℕ) → lacks_boot image ≡ true → 4 ≤ length image

@@ -3,7 +3,7 @@ use Rattle.std.specs.Prelude.{◌≡◌, ◌+◌, ◌-◌, ◌*◌, ◌/◌, ◌
 use Rattle.std.proofs.Common.{zero, suc, refl, sym, ap, ◌∙◌, arith, inl, inr, length-append, length-drop, length-take}
 use Rattle.std.proofs.Math.Seq.{drop-append-add, drop-cons, drop-nil, take-add, take-append_seam}
 use Rattle.std.proofs.{lemmas.Bool.cases_lt, lemmas.Bool.cond_above, lemmas.Bool.cond_below, lemmas.Grind.common_steps}
-use Rattle.std.proofs.lemmas.List.{drop-append-le, drop-drop, take-take, take_rest}
+use Rattle.std.proofs.lemmas.List.{drop-append-le, drop-drop, take-take}
 use Rattle.adf_base.specs.Words.{block}
 use Rattle.adf_names.specs.declared.kind.Kind.{Kind, TheVariants.Ofs, TheVariants.Ffs}
 use Rattle.adf_blocks.specs.Sizes.{blocks, chunk}

@@ -26,16 +26,16 @@ abbrev pub IsVolumeOf : Tree → ℕ → (boot : List ℕ) → List ℕ → Type
 IsVolumeOf t n boot image = (volume : List ℕ) × IsLaid volume t × (blocks volume ≡ n) × (image ≡ restored volume boot) × (blocks image ≡ n)
 
 -- each path is within the text of all paths, which has so many bytes
-abbrev pub IsWithin : ℕ → TableLoss → Type 0
-IsWithin count row = row.path + row.path_length ≤ count
+abbrev pub IsPathWithin : ℕ → TableLoss → Type 0
+IsPathWithin count row = row.path + row.path_length ≤ count
 
 -- so are those of a table
-abbrev pub AreWithin : LossTable → Type 0
-AreWithin table = All (IsWithin (length table.paths.items)) table.rows.items
+abbrev pub ArePathsWithin : LossTable → Type 0
+ArePathsWithin table = All (IsPathWithin (length table.paths.items)) table.rows.items
 
 -- a rescue gives a volume
-abbrev pub GivesVolume : (RescueValue → Type 0) → List ℕ → Type 0
-GivesVolume gives volume = (losses : List LossValue) × gives (written volume losses)
+abbrev pub GivesWritten : (RescueValue → Type 0) → List ℕ → Type 0
+GivesWritten gives volume = (losses : List LossValue) × gives (written volume losses)
 
 -- the rooms begin with a volume that is given, and with as many rows and bytes of paths as are told, and are otherwise as they were
 pub record HasRescue (given : List ℕ → Type 0) (old new : List ℕ) (old_rows new_rows : List TableLoss) (old_paths new_paths : List ℕ)
@@ -44,7 +44,7 @@ pub record HasRescue (given : List ℕ → Type 0) (old new : List ℕ) (old_row
   pub is_given : given volume
   pub size : told.blocks ≡ blocks volume
   pub room : new ≡ filled volume old
-  pub rows : BeginsWith (IsWithin told.paths) told.losses old_rows new_rows
+  pub rows : BeginsWith (IsPathWithin told.paths) told.losses old_rows new_rows
   pub paths : HasRows told.paths old_paths new_paths
 
 -- the volume of a tree in n blocks is not laid: the fields of the tree fit, and the room is smaller than n blocks; or memory is refused

@@ -10,7 +10,7 @@ use Rattle.adf_memory.specs.{Areas.bytes_from, Rooms.BeginsWith, Rooms.HasRows, 
 use Rattle.adf_memory.specs.{declared.found_links.TableLink.TableLink, declared.found_parts.FoundPart.FoundPart, declared.found_tables.FoundEntry.FoundEntry}
 use Rattle.adf_memory.specs.{declared.found_tables.Surveyed.Surveyed, declared.found_tables.TableFinding.TableFinding, declared.losses.TableLoss.TableLoss}
 use Rattle.adf_memory.specs.{declared.rescuing.RescueRefusal.RescueRefusal, declared.rescuing.RescueTold.RescueTold, declared.subjects.SubjectTold.SubjectTold}
-use Rattle.adf_memory.specs.Rescuing.{ExplainsRescue, GivesVolume, HasRescue, asked_blocks, rescue_number, rescue_told}
+use Rattle.adf_memory.specs.Rescuing.{ExplainsRescue, GivesWritten, HasRescue, asked_blocks, rescue_number, rescue_told}
 
 -- the room begins with what is surveyed of s in the end, once it is begun and has the type that its entries tell, and is otherwise as it was
 pub record HasSubject (s : SubjectValue) (old new : List ℕ) (told : SubjectTold) : Type 0 where
@@ -95,6 +95,6 @@ IsRescueRefused types image asked room told n =
 pub record RescuesVolume (types : Types) (image : List ℕ) (asked : ℕ) (old new : List ℕ) (old_rows new_rows : List TableLoss) (old_paths new_paths : List ℕ)
     (told : RescueTold) (n : ℕ) : Type 0 where
   pub volume : n ≡ 0
-      → HasRescue (GivesVolume (RescuesTyped types (subject (asked_blocks asked) image))) old new old_rows new_rows old_paths new_paths told
+      → HasRescue (GivesWritten (RescuesTyped types (subject (asked_blocks asked) image))) old new old_rows new_rows old_paths new_paths told
   pub refused : ¬ (n ≡ 0) → IsRescueRefused types image asked (length old) told n
   pub unchanged : ¬ (n ≡ 0) → (new ≡ old) × (new_rows ≡ old_rows) × (new_paths ≡ old_paths)

@@ -7,6 +7,7 @@ ghost use Rattle.adf_partitions.specs.declared.field_fault.FieldFault.{FieldFaul
 ghost use Rattle.adf_memory.specs.{DiskTables.IsDiskCause, Rooms.filled};
 ghost use Rattle.adf_memory.specs.TextCalls.{WritesCause, WritesDiskCause, WritesPartitionFault};
 
+use crate::tables::put_all;
 use adf_blocks::Cause;
 use adf_partitions::{DiskCause, FieldFault, PlaceFault};
 
@@ -16,8 +17,7 @@ fn put_text(room: &mut [u8], text: &str) -> usize
     ensures text { room.new ≡ filled text.now room.old }
 {
     let bytes = text.as_bytes();
-    let count = bytes.len().min(room.len());
-    room[..count].copy_from_slice(&bytes[..count]);
+    put_all(room, bytes);
     bytes.len()
 }
 

@@ -1,7 +1,7 @@
 // The table of what is not in the volume of a rescue.
 
 ghost use Rattle.std.specs.Prelude.{IfOk, OnOk};
-ghost use Rattle.adf_memory.specs.Rescuing.{AreWithin};
+ghost use Rattle.adf_memory.specs.Rescuing.{ArePathsWithin};
 
 use adf_subjects::Loss;
 use std::alloc::{AllocError, Global};
@@ -34,8 +34,8 @@ pub struct LossTable {
 
 // Appends a loss: its row, and its path.
 fn push_loss(table: &mut LossTable, loss: &Loss) -> Result<(), AllocError>
-    requires { AreWithin table.old }
-    ensures { OnOk result (AreWithin table.new) }
+    requires { ArePathsWithin table.old }
+    ensures { OnOk result (ArePathsWithin table.new) }
 {
     table.rows.push(TableLoss {
         path: table.paths.len(),
@@ -49,7 +49,7 @@ fn push_loss(table: &mut LossTable, loss: &Loss) -> Result<(), AllocError>
 
 /// The table of losses. `AllocError` if an allocation fails.
 pub fn table_of(alloc: Global, losses: &[Loss]) -> Result<LossTable, AllocError>
-    ensures { IfOk result AreWithin }
+    ensures { IfOk result ArePathsWithin }
 {
     let mut table = LossTable {
         rows: Vec::new(alloc),

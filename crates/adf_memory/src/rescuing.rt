@@ -3,12 +3,13 @@
 ghost use Rattle.std.specs.Prelude.{◌≡◌, ◌≤◌, ◌*◌, ◌<◌, List, ℕ, Err, IfErr, IfOk, Ok, OnErr, OnOk, length};
 ghost use Rattle.adf_boot_blocks.specs.declared.boot.TheConstants.{BOOT_LEN};
 ghost use Rattle.adf_subjects.specs.{Rescues.RescuesTyped, Subject.subject, Subject.subject_value};
-ghost use Rattle.adf_memory.specs.Rescuing.{ExplainsRescue, GivesVolume, HasRescue, IsRoomRefusal, IsVolumeOf, Readies};
+ghost use Rattle.adf_memory.specs.Rescuing.{ExplainsRescue, GivesWritten, HasRescue, IsRoomRefusal, IsVolumeOf, Readies};
 ghost use Rattle.adf_memory.specs.Rescuing.{asked_blocks, rescue_number, rescue_told};
 ghost use Rattle.adf_memory.specs.{Rooms.filled, SurveyCalls.RescuesVolume};
 ghost use Rattle.adf_memory.specs.declared.rescuing.RescueRefusal.{RescueRefusal as ARescueRefusal};
 
 use crate::losses::{TableLoss, table_of};
+use crate::tables::put_all;
 use adf_base::{BLOCK_LEN, NoMemory};
 use adf_boot_blocks::restore;
 use adf_build::build_into;
@@ -178,22 +179,6 @@ fn lay_in_front(
     }
 }
 
-// Fills a room of rows, as far as there is room.
-fn put_rows(room: &mut [TableLoss], rows: &[TableLoss])
-    ensures { room.new ≡ filled rows.now room.old }
-{
-    let count = rows.len().min(room.len());
-    room[..count].copy_from_slice(&rows[..count]);
-}
-
-/// Fills a room of bytes, as far as there is room.
-pub fn put_bytes(room: &mut [u8], bytes: &[u8])
-    ensures { room.new ≡ filled bytes.now room.old }
-{
-    let count = bytes.len().min(room.len());
-    room[..count].copy_from_slice(&bytes[..count]);
-}
-
 // Lays the volume of a rescue at the front of a room, and then fills the table of what is not in it, or in doubt there.
 fn put_rescue(
     alloc: Global,
@@ -221,8 +206,8 @@ fn put_rescue(
         return Err(RescueRefusal::NoMemory);
     };
     lay_in_front(alloc, draft, blocks, &boot, room)?;
-    put_rows(losses, &table.rows);
-    put_bytes(paths, &table.paths);
+    put_all(losses, &table.rows);
+    put_all(paths, &table.paths);
     Ok(RescueTold {
         losses: table.rows.len(),
         paths: table.paths.len(),
@@ -239,7 +224,7 @@ fn rescue_into(
     losses: &mut [TableLoss],
     paths: &mut [u8],
 ) -> Result<RescueTold, RescueRefusal>
-    ensures volume { IfOk result (HasRescue (GivesVolume
+    ensures volume { IfOk result (HasRescue (GivesWritten
         (RescuesTyped input.entry.types (subject (asked_blocks input.entry.blocks) input.entry.image.now)))
         room.old room.new losses.old losses.new paths.old paths.new) }
     ensures fault { IfErr result (ExplainsRescue

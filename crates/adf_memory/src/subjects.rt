@@ -1,16 +1,17 @@
 // The image that is surveyed in place of an image, in the memory of the caller.
 
-ghost use Rattle.std.specs.Prelude.{◌≡◌, ◌≤◌, IfOk, OnErr, OnOk, length};
-ghost use Rattle.adf_subjects.specs.Subject.{IsTyped, begun_subject, meant, subject, subject_value};
+ghost use Rattle.std.specs.Prelude.{◌≡◌, ◌≤◌, IfOk, OnErr, length};
+ghost use Rattle.adf_subjects.specs.Subject.{meant, subject, subject_value};
 ghost use Rattle.adf_memory.specs.Rescuing.{asked_blocks};
 ghost use Rattle.adf_memory.specs.SurveyCalls.{HasSubject, KeepsImage, PutsSubject};
 
-use crate::rescuing::{asked_blocks, put_bytes};
+use crate::rescuing::asked_blocks;
+use crate::tables::put_all;
 use adf_base::{BLOCK_LEN, NoMemory};
 use adf_blocks::Cause;
 use adf_rescue::lacks_boot;
 use adf_subjects::{Subject, blocks_read};
-use std::alloc::{AllocError, Global};
+use std::alloc::Global;
 
 /// The number of a room that is smaller than the image that is surveyed.
 const SMALL_ROOM: u8 = 24;
@@ -52,24 +53,6 @@ fn meant_len(image: &[u8], blocks: u32) -> usize
     }
 }
 
-// Begins the image with `DOS` and a type, if only its boot block is lost, and says whether it is.
-fn begin(subject: &mut Subject) -> Result<bool, AllocError>
-    ensures { OnOk result (subject_value subject.new ≡ begun_subject (subject_value subject.old)) }
-{
-    let is_begun = lacks_boot(&subject.image);
-    subject.begin()?;
-    Ok(is_begun)
-}
-
-// Makes the type of the image the one that its entries tell, and says whether it was another: then there is one more line.
-fn retype(alloc: Global, subject: &mut Subject) -> Result<bool, NoMemory>
-    ensures { OnOk result (IsTyped (subject_value subject.old) (subject_value subject.new)) }
-{
-    let lines = subject.front.len();
-    subject.be_typed(alloc)?;
-    Ok(lines < subject.front.len())
-}
-
 // Writes what is surveyed of an input to the front of a room that has as many bytes, once it is begun and has the type
 // that its entries tell.
 fn put_surveyed(
@@ -82,16 +65,19 @@ fn put_surveyed(
     ensures kept { IfOk result (KeepsImage subject.image.items room.new) }
     ensures unchanged { OnErr result (room.new ≡ room.old) }
 {
-    let Ok(is_begun) = begin(&mut subject) else {
+    let is_begun = lacks_boot(&subject.image);
+    let Ok(()) = subject.begin() else {
         return Err(NoMemory);
     };
-    let is_retyped = retype(alloc, &mut subject)?;
-    put_bytes(room, &subject.image);
+    // Where the type is another there is one more line.
+    let lines = subject.front.len();
+    subject.be_typed(alloc)?;
+    put_all(room, &subject.image);
     Ok(SubjectTold {
         length: subject.image.len(),
         held: subject.end,
         is_begun: u8::from(is_begun),
-        is_retyped: u8::from(is_retyped),
+        is_retyped: u8::from(lines < subject.front.len()),
     })
 }
 

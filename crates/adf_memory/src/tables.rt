@@ -157,6 +157,14 @@ pub fn put<T: Copy>(table: &mut [T], at: usize, row: T)
     }
 }
 
+/// Fills a room, as far as there is room.
+pub fn put_all<T: Copy>(room: &mut [T], all: &[T])
+    ensures { room.new ≡ filled all.now room.old }
+{
+    let count = all.len().min(room.len());
+    room[..count].copy_from_slice(&all[..count]);
+}
+
 // Puts data blocks behind those that stand in the table of blocks, as far as there is room.
 fn put_blocks(table: &mut [u32], first: usize, datas: &[u32])
     requires { first + length datas.now < 2 ^ 64 }

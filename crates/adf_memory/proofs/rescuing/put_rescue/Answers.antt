@@ -1,6 +1,6 @@
 use Rattle.std.proofs.Common.{All, List, arith, ap, length, subst, sym, ◌∙◌, ◌≡◌, ℕ}
 use Rattle.std.proofs.lemmas.Grind.{common_steps}
-use Rattle.adf_memory.specs.{Rescuing.IsVolumeOf, Rescuing.IsWithin, Rooms.filled, declared.losses.TableLoss.TableLoss}
+use Rattle.adf_memory.specs.{Rescuing.IsVolumeOf, Rescuing.IsPathWithin, Rooms.filled, declared.losses.TableLoss.TableLoss}
 use Rattle.adf_memory.proofs.rescuing.put_rescue.Goals as goal
 
 pub returns-clause-volume : goal.returns-clause-volume
@@ -17,14 +17,14 @@ returns-clause-volume c =
       room = room;
       rows = (
         table.rows.items,
-        subst (λ (n : ℕ). All (IsWithin n) table.rows.items) (sym bytes) c.in-Ok.ensures,
+        subst (λ (n : ℕ). All (IsPathWithin n) table.rows.items) (sym bytes) c.in-Ok.ensures,
         count,
-        c.put_rows.ensures ∙ ap (λ (rows : List TableLoss). filled rows c.args.losses.now) c.deref-3.ensures.value,
+        c.put_all.ensures ∙ ap (λ (rows : List TableLoss). filled rows c.args.losses.now) c.deref-3.ensures.value,
       );
       paths = (
         table.paths.items,
         λ i d lt. tt,
         bytes,
-        c.put_bytes.ensures ∙ ap (λ (text : List ℕ). filled text c.args.paths.now) c.deref-4.ensures.value,
+        c.put_all-2.ensures ∙ ap (λ (text : List ℕ). filled text c.args.paths.now) c.deref-4.ensures.value,
       );
     }
