@@ -1,14 +1,13 @@
 -- Claims on blocks.
--- Letters: k what is known of an image; h, x the blocks of headers; c, d, e the claims on a block; b a block, bs blocks; n a number of headers.
-use Rattle.std.proofs.Common.{◌≡◌, ◌≢◌, ◌<◌, ◌≤◌, ℕ, ◌+◌, ◌==◌, ◌&&◌, ◌||◌, Bool, true, false, List, [], ◌∷◌, ◌++◌, length}
-use Rattle.std.proofs.Common.{take, get_or, set, arith, refl, sym, ap, ◌∙◌, inl, inr, subst, replicate}
-use Rattle.std.proofs.lemmas.Bool.{and_from, and_parts, cases_Bool, cases_lt, cond-false, cond-true, eqb-true, false_from_ne_true, or_cases}
-use Rattle.std.proofs.lemmas.{Bool.eq-eqb, Bool.Decides.nat_tests, Grind.common_steps, List.get_or-replicate, List.get_or-set_other, List.get_or-set_same}
-use Rattle.std.proofs.lemmas.List.{length-replicate, take_more}
-use Rattle.std.specs.Prelude.{nat_le, nat_lt, slice_index_or}
-use Rattle.adf_blocks.specs.Sizes.{blocks, in_range}
+-- Letters: h, g the blocks of headers; c the claims on a block; b a block, bs blocks.
+use Rattle.std.proofs.Common.{◌≡◌, ◌<◌, ℕ, ◌+◌, ◌==◌, ◌&&◌, ◌||◌, Bool, true, false, cond, List, [], ◌∷◌, ◌++◌, length}
+use Rattle.std.proofs.Common.{take, get_or, add-one, arith, refl, sym, ap, ◌∙◌, inl, inr, replicate}
+use Rattle.std.proofs.lemmas.{Grind.common_steps, Bool.cond_both, Bool.eq-eqb, Bool.or_left, Bool.or_right, Bool.cond-true, Bool.cond-false}
+use Rattle.std.proofs.lemmas.{List.take_more, List.take_all, List.get_or_past, List.get_or-replicate, List.length-replicate, Bool.cases_lt, Bool.Decides.nat_tests}
+use Rattle.std.specs.Prelude.{slice_index, nat_lt}
+use Rattle.adf_blocks.specs.Sizes.{blocks}
 use Rattle.adf_deleted.specs.{declared.claims.Claim.Claim, Known.KnownValue, Known.is_deleted, Pointers.pointers}
-use Rattle.adf_deleted.specs.Claims.{AreClaims, AreFirstClaims, Claims, IsClaimKept, NoneClaims, claim_at, has_pointer, other_claimant, unclaimed}
+use Rattle.adf_deleted.specs.Claims.{AreClaims, claim_at, claims_among, claims_on, has_pointer, other_claimant, precedes, rival_among, unclaimed, with_claim}
 
 -- pointers that were passed
 
@@ -17,128 +16,90 @@ unfolding has_pointer
 has_pointer_behind [] y b = grind (arith, common_steps)
 has_pointer_behind (x ∷ xs) y b = grind (arith, common_steps, has_pointer_behind xs y b)
 
-no_pointer : (b : ℕ) → has_pointer [] b ≡ false
+pub no_pointer : (b : ℕ) → has_pointer [] b ≡ false
 unfolding has_pointer
 no_pointer b = refl
 
-one_pointer : (bs : List ℕ) (i b : ℕ) → i < length bs → has_pointer (take (i + 1) bs) b ≡ (has_pointer (take i bs) b || (get_or bs i 0 == b))
+pub one_pointer : (bs : List ℕ) (i b : ℕ) → i < length bs → has_pointer (take (i + 1) bs) b ≡ (has_pointer (take i bs) b || (get_or bs i 0 == b))
 one_pointer bs i b h = ap (λ l. has_pointer l b) (take_more bs i 0 h) ∙ has_pointer_behind (take i bs) (get_or bs i 0) b
 
--- one claim
+-- claims
 
-module _ (h : ℕ) (c : Claim) where
-  pub claims_none : (names : Bool) → names ≡ false → Claims h names c c
-  claims_none names none = record { ordered = λ is. is; kept = λ x is. is; here = λ t is. let clash : true ≡ false = sym t ∙ none in cc }
+module _ (image : List ℕ) (h : ℕ) where
+  -- a header that has claimed a block claims it no more
+  stays : (c : Claim) → ((c.first == h) || (c.second == h)) ≡ true → with_claim image h c ≡ c
+  stays c e = cond-true ((c.first == h) || (c.second == h)) c _ e
 
-  module _ (some : h ≢ 0) where
-    pub claims_there : ((c.first == h) || (c.second == h)) ≡ true → Claims h true c c
-    claims_there e = record {
-      ordered = λ is. is;
-      kept = λ x is. is;
-      here = λ t is. elim (or_cases (c.first == h) (c.second == h) e) [
-        | inl one ↦ let same = eqb-true c.first h one in ((λ z. some (sym same ∙ z)), inl same)
-        | inr two ↦ let same = eqb-true c.second h two in let there : c.second ≢ 0 = (λ z. some (sym same ∙ z)) in (is there, inr there)
-      ];
-    }
+  pub claimed_once : (c : Claim) → with_claim image h (with_claim image h c) ≡ with_claim image h c
+  claimed_once c =
+      let is : Bool = (c.first == h) || (c.second == h) in
+      let front : Claim = record { first = h; second = c.first } in
+      let behind : Claim = record { first = c.first; second = h } in
+      let last : Claim = cond (precedes image h c.second) behind c in
+      cond_both is c (cond (precedes image h c.first) front last) (λ d. with_claim image h d ≡ d) (λ e. stays c e)
+      (λ e. cond_both (precedes image h c.first) front last (λ d. with_claim image h d ≡ d)
+      (λ f. stays front (or_left (h == h) _ (eq-eqb h h refl)))
+      (λ f. cond_both (precedes image h c.second) behind c (λ d. with_claim image h d ≡ d)
+      (λ g. stays behind (or_right (c.first == h) _ (eq-eqb h h refl)))
+      (λ g. cond-false is c _ e ∙ (cond-false (precedes image h c.first) front last f ∙ cond-false (precedes image h c.second) behind c g))))
 
-    pub claims_front : (d : Claim) → d.first ≡ h → d.second ≡ c.first → Claims h true c d
-    claims_front d one two =
-        let first : d.first ≢ 0 = (λ z. some (sym one ∙ z)) in
-        record { ordered = λ is t. first; kept = λ x is. (first, inr (λ z. is.0 (sym two ∙ z))); here = λ t is. (first, inl one) }
+  pub claim_step : (c o new : Claim) (p q : Bool) → c ≡ cond p (with_claim image h o) o → new ≡ cond q (with_claim image h c) c
+      → new ≡ cond (p || q) (with_claim image h o) o
+  claim_step c o new true true e f = f ∙ ap (with_claim image h) e ∙ claimed_once o
+  claim_step c o new true false e f = f ∙ e
+  claim_step c o new false true e f = f ∙ ap (with_claim image h) e
+  claim_step c o new false false e f = f ∙ e
 
-    pub claims_behind : (d : Claim) → c.first ≢ 0 → d.first ≡ c.first → d.second ≡ h → Claims h true c d
-    claims_behind d there one two =
-        let first : d.first ≢ 0 = (λ z. there (sym one ∙ z)) in
-        let second : d.second ≢ 0 = (λ z. some (sym two ∙ z)) in
-        record { ordered = λ is t. first; kept = λ x is. (first, inr second); here = λ t is. (first, inr second) }
+  -- before the first pointer
+  pub claim_first : (bs : List ℕ) (b : ℕ) (c : Claim) → c ≡ cond (has_pointer (take 0 bs) b) (with_claim image h c) c
+  unfolding has_pointer
+  claim_first bs b c = refl
 
-    pub claims_full : c.first ≢ 0 → c.second ≢ 0 → Claims h true c c
-    claims_full first second = record { ordered = λ is. is; kept = λ x is. is; here = λ t is. (first, inr second) }
+  -- behind one more
+  pub claim_more : (bs : List ℕ) (i b y : ℕ) (o c new : Claim) → i < length bs → y ≡ get_or bs i 0
+      → c ≡ cond (has_pointer (take i bs) b) (with_claim image h o) o → new ≡ cond (y == b) (with_claim image h c) c
+      → new ≡ cond (has_pointer (take (i + 1) bs) b) (with_claim image h o) o
+  claim_more bs i b y o c new inside is before put =
+      claim_step c o new _ _ before put
+      ∙ ap (λ t. cond t (with_claim image h o) o) (ap (λ z. has_pointer (take i bs) b || (z == b)) is ∙ sym (one_pointer bs i b inside))
 
--- a claim at an index
-pub claims_set : (h b : ℕ) (claims : List Claim) (d : Claim) (c : ℕ) → c < length claims → Claims h true (claim_at claims b) d
-    → Claims h (b == c) (claim_at claims c) (claim_at (set claims b d) c)
-claims_set h b claims d c inside is = elim (cases_Bool (b == c)) [
-  | inl e ↦
-      let same = eqb-true b c e in
-      let long : b < length claims = omega (arith, same) in
-      let at : claim_at (set claims b d) b ≡ d = get_or-set_same claims b d unclaimed long in
-      let one = subst (λ x. Claims h true (claim_at claims b) x) (sym at) is in
-      subst (λ t. Claims h t (claim_at claims c) (claim_at (set claims b d) c)) (sym e)
-      (subst (λ x. Claims h true (claim_at claims x) (claim_at (set claims b d) x)) same one)
-  | inr e ↦
-      let other : c ≢ b = (λ z. let yes = eq-eqb b c (sym z) in let clash : true ≡ false = sym yes ∙ e in cc) in
-      subst (λ x. Claims h (b == c) (claim_at claims c) x) (sym (get_or-set_other claims b c d unclaimed other)) (claims_none h (claim_at claims c) (b == c) e)
-]
-
--- claims one after the other
-claims_more : (h : ℕ) (m n : Bool) (c d e : Claim) → Claims h m c d → Claims h n d e → Claims h (m || n) c e
-claims_more h m n c d e f g = record {
-  ordered = λ is. g.ordered (f.ordered is);
-  kept = λ x is. g.kept x (f.kept x is);
-  here = λ t is. elim (or_cases m n t) [ inl one ↦ g.kept h (f.here one is) | inr two ↦ g.here two (f.ordered is) ];
-}
-
-pub claims_first : (h : ℕ) (bs : List ℕ) (b : ℕ) (c : Claim) → Claims h (has_pointer (take 0 bs) b) c c
-claims_first h bs b c = claims_none h c (has_pointer (take 0 bs) b) (no_pointer b)
-
-pub claims_next : (h : ℕ) (bs : List ℕ) (i b y : ℕ) (c d e : Claim) → i < length bs → y ≡ get_or bs i 0 → Claims h (has_pointer (take i bs) b) c d
-    → Claims h (y == b) d e → Claims h (has_pointer (take (i + 1) bs) b) c e
-claims_next h bs i b y c d e inside is f g =
-    let named : has_pointer (take (i + 1) bs) b ≡ (has_pointer (take i bs) b || (y == b)) =
-    one_pointer bs i b inside ∙ ap (λ z. has_pointer (take i bs) b || (z == b)) (sym is) in
-    subst (λ t. Claims h t c e) (sym named) (claims_more h (has_pointer (take i bs) b) (y == b) c d e f g)
-
--- the claims of all headers
+  -- behind the last
+  pub claim_last : (bs : List ℕ) (i b : ℕ) (o c : Claim) → i ≡ length bs
+      → c ≡ cond (has_pointer (take i bs) b) (with_claim image h o) o → c ≡ cond (has_pointer bs b) (with_claim image h o) o
+  claim_last bs i b o c all are = are ∙ ap (λ l. cond (has_pointer l b) (with_claim image h o) o) (take_all i bs (omega arith))
 
 module _ (k : KnownValue) where
-  -- no claims so far
-  pub none_claimed : (claims : List Claim) (n : ℕ) → claims ≡ replicate n unclaimed → n ≡ blocks k.image → AreFirstClaims k 0 claims
-  none_claimed claims n e is = record {
-    length_is = (ap length e ∙ length-replicate n unclaimed) ∙ is;
-    ordered = λ b inside.
-        let none : claim_at claims b ≡ unclaimed = ap (λ l. claim_at l b) e ∙ get_or-replicate n b unclaimed unclaimed (omega arith) in
-        λ second. absurd (second (ap (λ (c : Claim). c.second) none));
-    kept = λ b x inside lt. absurd (omega arith);
-  }
-
-  -- those of one more header
-  pub header_claims : (h : ℕ) (old new : List Claim) → AreFirstClaims k h old → length new ≡ length old
-      → ((b : ℕ) → b < length old → Claims h (is_deleted k h && has_pointer (pointers k.image h) b) (claim_at old b) (claim_at new b))
-      → AreFirstClaims k (h + 1) new
-  header_claims h old new are len more = record {
-    length_is = len ∙ are.length_is;
-    ordered = λ b inside. (more b (omega (arith, are.length_is))).ordered (are.ordered b inside);
-    kept = λ b x inside lt deleted names. elim (cases_lt x h) [
-      | inl earlier ↦ (more b (omega (arith, are.length_is))).kept x (are.kept b x inside earlier deleted names)
-      | inr last ↦
-          let same : h ≡ x = omega arith in
-          let claims : (is_deleted k h && has_pointer (pointers k.image h) b) ≡ true =
-          subst (λ y. (is_deleted k y && has_pointer (pointers k.image y) b) ≡ true) (sym same) (and_from (is_deleted k x) _ deleted names) in
-          subst (λ y. IsClaimKept (claim_at new b) y) same ((more b (omega (arith, are.length_is))).here claims (are.ordered b inside))
-    ];
-  }
-
-  -- a deleted header is in range
-  pub deleted_inside : (n : ℕ) → is_deleted k n ≡ true → (2 ≤ n) × (n < blocks k.image)
-  deleted_inside n is =
-      let range = (and_parts (in_range k.image n) _ is).0 in
-      let low = (and_parts (nat_le 2 n) (nat_lt n (blocks k.image)) range).0 in
-      let high = (and_parts (nat_le 2 n) (nat_lt n (blocks k.image)) range).1 in (grind (arith, nat_tests), grind (arith, nat_tests))
-
-  -- one who has claimed a block is its other claimant, or there is one
-  none_other : (c : Claim) (h x : ℕ) → other_claimant c h ≡ 0 → IsClaimKept c x → x ≢ h → ⊥
-  none_other c h x none kept ne = elim (cases_Bool (c.first == h)) [
-    | inl is ↦
-        let second : c.second ≡ 0 = sym (cond-true (c.first == h) c.second c.first is) ∙ none in
-        elim kept.1 [ inl one ↦ ne (sym one ∙ eqb-true c.first h is) | inr two ↦ two second ]
-    | inr other ↦ kept.0 (sym (cond-false (c.first == h) c.second c.first other) ∙ none)
+  -- the claims that are kept are those on each block
+  pub claims_kept : (claims : List Claim) (b : ℕ) → AreClaims k claims → claim_at claims b ≡ claims_on k b
+  claims_kept claims b are = elim (cases_lt b (blocks k.image)) [
+    | inl inside ↦ are.claims_are b inside ∙ sym (cond-true (nat_lt b (blocks k.image)) _ _ (grind (arith, nat_tests)))
+    | inr past ↦ get_or_past claims b unclaimed (omega (arith, are.length_is)) ∙ sym (cond-false (nat_lt b (blocks k.image)) _ _ (grind (arith, nat_tests)))
   ]
 
-  -- so no other header names blocks that have no other claimant
-  pub none_names : (claims : List Claim) (h : ℕ) (bs : List ℕ) → AreClaims k claims
-      → ((i : ℕ) → i < length bs → other_claimant (claim_at claims (slice_index_or bs i 0)) h ≡ 0) → NoneClaims k h bs
-  none_names claims h bs are none = λ x i deleted ne inside within.
-      let b : ℕ = slice_index_or bs i 0 in
-      false_from_ne_true _ (λ names.
-      none_other (claim_at claims b) h x (none i inside) (are.kept b x within (deleted_inside x deleted).1 deleted names) ne)
+  pub no_claims : (b : ℕ) → claims_among k b 0 ≡ unclaimed
+  unfolding claims_among
+  no_claims b = refl
+
+  pub more_claims : (b n : ℕ) → claims_among k b (n + 1)
+      ≡ cond (is_deleted k n && has_pointer (pointers k.image n) b) (with_claim k.image n (claims_among k b n)) (claims_among k b n)
+  unfolding claims_among
+  more_claims b n = rw add-one refl
+
+  -- no claims so far
+  pub none_claimed : (claims : List Claim) (n : ℕ) → claims ≡ replicate n unclaimed → n ≡ blocks k.image
+      → (length claims ≡ blocks k.image) × ((b : ℕ) → b < blocks k.image → claim_at claims b ≡ claims_among k b 0)
+  none_claimed claims n e is = (
+    (ap length e ∙ length-replicate n unclaimed) ∙ is,
+    (λ b inside. ap (λ l. claim_at l b) e ∙ (get_or-replicate n b unclaimed unclaimed (omega arith) ∙ sym (no_claims b))),
+  )
+
+  pub no_rival : (h : ℕ) (bs : List ℕ) → rival_among k h bs 0 ≡ 0
+  unfolding rival_among
+  no_rival h bs = refl
+
+  pub more_rivals : (h : ℕ) (bs : List ℕ) (n : ℕ) → rival_among k h bs (n + 1)
+      ≡ cond (rival_among k h bs n == 0) (other_claimant (claims_on k (slice_index bs n)) h) (rival_among k h bs n)
+  unfolding rival_among
+  more_rivals h bs n = rw add-one refl
+
+pub ruleset rival_steps = (no_rival, more_rivals, claims_kept)

@@ -13,10 +13,12 @@ use Rattle.adf_volume.specs.{Image.content, Image.kind_of, Image.piece, Image.pi
 use Rattle.adf_volume.proofs.{Lists.at_below, Lists.at_index_or, PieceBytes.pieces_joined}
 use Rattle.adf_findings.specs.Members.{has_mark}
 use Rattle.adf_findings.specs.Remains.{blocks_stated, bytes_in, bytes_left, gaps_left, size_stated, with_lost}
-use Rattle.adf_rescue.specs.{Rescue.Basis, declared.standing.Input.Input}
-use Rattle.adf_deleted.specs.{Deletions.IsWholeDeleted, Known.KnownValue, Known.is_reached, Known.known_blocks, Known.known_asked, Pointers.pointers}
+use Rattle.adf_rescue.specs.{Pruned.image_read, Rescue.Basis, declared.standing.Input.Input}
+use Rattle.adf_rescue.proofs.PrunedKeeps.{length_read}
+use Rattle.adf_deleted.specs.{Deletions.state_of, Known.KnownValue, Known.is_reached, Known.known_blocks, Known.known_asked, Pointers.pointers}
 use Rattle.adf_deleted.specs.{Left.data_standing, Left.deleted_bytes, Left.deleted_gaps, Left.has_file_type, Standing.stands}
-use Rattle.adf_deleted.proofs.Marks.{mark_of}
+use Rattle.adf_deleted.specs.declared.deletions.State.TheVariants.{Whole}
+use Rattle.adf_deleted.proofs.{Marks.mark_of, WholeFiles.whole_named, WholeFiles.whole_stands}
 
 module _ (k : KnownValue) (h i : ℕ) where
   kept : (t : Bool) (b c : ℕ) → stands k h i c ≡ t → cond t (Some c) None ≡ Some b → stands k h i b ≡ true
@@ -41,16 +43,16 @@ given_unowned image w l held h i b is =
     let k = known_blocks image w l held in
     sym (mark_of image (is_reached w l) b (given_inside k h i b is)) ∙ given_unreached k h i b is
 
-length_asked : (read image : List ℕ) (refused : Bool) → length read ≡ length image → length (cond refused image read) ≡ length image
-length_asked read image true long = refl
-length_asked read image false long = long
+length_asked : (image : List ℕ) (refused : Bool) → length (cond refused image (image_read true image)) ≡ length image
+length_asked image true = refl
+length_asked image false = length_read true image
 
 -- nor does a survey have the blocks of those that a rescue is asked for
-pub asked_unowned : (read image : List ℕ) (w : Walk) (l : Option Basis) (known : Input) (h i b : ℕ) → length read ≡ length image
-    → data_standing (known_asked read image w l known) h i ≡ Some b → is_reached w l b ≡ false
-asked_unowned read image w l known h i b long is =
-    let k = known_asked read image w l known in
-    let inside : b < blocks image = subst (λ n. b < n) (ap (λ n. n / 512) (length_asked read image known.is_refused long)) (given_inside k h i b is) in
+pub asked_unowned : (image : List ℕ) (w : Walk) (l : Option Basis) (known : Input) (h i b : ℕ) → data_standing (known_asked image w l known) h i ≡ Some b
+    → is_reached w l b ≡ false
+asked_unowned image w l known h i b is =
+    let k = known_asked image w l known in
+    let inside : b < blocks image = subst (λ n. b < n) (ap (λ n. n / 512) (length_asked image known.is_refused)) (given_inside k h i b is) in
     sym (mark_of image (is_reached w l) b inside) ∙ given_unreached k h i b is
 
 -- where a block is found for each data block, there are no gaps
@@ -85,16 +87,16 @@ unfolding count chunk
 no_more Ofs m n le = omega arith
 no_more Ffs m n le = omega arith
 
-module _ (k : KnownValue) (h : ℕ) (file : has_file_type k.image h ≡ true) (whole : IsWholeDeleted k h) where
+module _ (k : KnownValue) (h : ℕ) (file : has_file_type k.image h ≡ true) (whole : state_of k h ≡ Whole) where
   named : length (pointers k.image h) ≡ data_count k.image h
-  named = whole.named ∙ cond-true (has_file_type k.image h) (data_count k.image h) 0 file
+  named = whole_named k h whole ∙ cond-true (has_file_type k.image h) (data_count k.image h) 0 file
 
   few : blocks_stated k.image h ≤ data_count k.image h
   few = no_more (kind_of k.image) (size_stated k.image h) (word_in k.image h SIZE) (omega arith)
 
   whole_given : (i : ℕ) → i < length (pointers k.image h) → data_standing k h i ≡ Some (slice_index (pointers k.image h) i)
   whole_given i inside =
-      let b : ℕ = slice_index (pointers k.image h) i in cond-true (stands k h i b) (Some b) None (whole.stands i inside)
+      let b : ℕ = slice_index (pointers k.image h) i in cond-true (stands k h i b) (Some b) None (whole_stands k h whole i inside)
 
   pub whole_gapless : deleted_gaps k h ≡ []
   whole_gapless =

@@ -4,7 +4,7 @@ pub mod Marks
 pub mod Tables
 -- claims on blocks
 pub mod ClaimSteps
--- the names in headers
+-- what stands, and what speaks for files
 pub mod States
 -- the names above headers
 pub mod PathSteps
@@ -12,5 +12,8 @@ pub mod PathSteps
 pub mod WholeFiles
 -- what is left of files
 pub mod LeftBytes
--- what is kept of deleted files
+-- where deleted files go
+pub mod RoomSteps
+-- what is kept of them
 pub mod KeptSteps
+pub mod KeptTrees

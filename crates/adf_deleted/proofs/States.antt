@@ -1,6 +1,6 @@
--- The names in headers.
--- Letters: b the block of a header; n a number of bytes.
-use Rattle.std.proofs.Common.{◌≡◌, ◌≤◌, ℕ, zero, suc, ◌+◌, true, List, [], length, take, ◌*◌, ◌-◌, ◌∙◌, ap, sym, arith, refl}
+-- What stands of a file.
+-- Letters: k what is known of an image; h the block of the file's header; bs its blocks; n a number of them.
+use Rattle.std.proofs.Common.{◌≡◌, ◌≤◌, ℕ, zero, suc, ◌+◌, true, cond, List, [], length, take, ◌*◌, ◌-◌, ◌∙◌, ap, sym, add-one, arith, refl}
 use Rattle.std.proofs.lemmas.{List.drop_all}
 use Rattle.std.specs.Prelude.{slice_index, slice_range, min}
 use Rattle.adf_base.specs.Words.{block}
@@ -8,6 +8,18 @@ use Rattle.adf_blocks.specs.{Forms.text_at, declared.layout.TheConstants.NAME}
 use Rattle.adf_volume.specs.{Image.name_of, Start.is_image_len}
 use Rattle.adf_findings.proofs.Names.{cut_name}
 use Rattle.adf_rescue.proofs.MadeRoots.{sized}
+use Rattle.adf_deleted.specs.{Known.KnownValue, Standing.fallen, Standing.stands}
+
+module _ (k : KnownValue) (h : ℕ) (bs : List ℕ) where
+  pub none_fallen : fallen k h bs 0 ≡ 0
+  unfolding fallen
+  none_fallen = refl
+
+  pub more_fallen : (n : ℕ) → fallen k h bs (n + 1) ≡ fallen k h bs n + cond (stands k h n (slice_index bs n)) 0 1
+  unfolding fallen
+  more_fallen n = rw add-one refl
+
+pub ruleset fallen_steps = (none_fallen, more_fallen)
 
 -- the name in a header, cut to 79 bytes
 pub name_cut : (image : List ℕ) (b : ℕ) → is_image_len (length image) ≡ true → b * 512 + 512 ≤ length image

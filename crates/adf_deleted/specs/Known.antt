@@ -1,11 +1,11 @@
 -- What is known of the blocks of an image, and which are deleted headers.
 -- Letters: w the walk of a survey; l the second survey, if there is one; k what is known of an image; b a block.
-use Rattle.std.specs.Prelude.{◌&&◌, ◌||◌, ℕ, Bool, cond, false, not, List, map, Option, Some, None, is_some}
+use Rattle.std.specs.Prelude.{◌&&◌, ◌||◌, ℕ, Bool, cond, false, true, not, List, map, Option, Some, None, is_some}
 use Rattle.std.specs.List.{range_with_len}
 use Rattle.adf_blocks.specs.Sizes.{blocks, in_range}
 use Rattle.adf_volume.specs.Walk.{Walk}
 use Rattle.adf_findings.specs.Members.{has_mark, owns}
-use Rattle.adf_rescue.specs.{Lost.is_stated_used, Lost.says_header, Rescue.Basis, Rescue.entry_headed, declared.standing.Input.Input}
+use Rattle.adf_rescue.specs.{Lost.is_stated_used, Lost.says_header, Pruned.image_read, Rescue.Basis, Rescue.entry_headed, declared.standing.Input.Input}
 
 -- an image; for each block whether it is found, whether a survey has it, and whether the bitmap tells that it is in use; and how many blocks the
 -- input holds
@@ -48,10 +48,11 @@ known_blocks image w l held = record {
   held = held;
 }
 
--- the same of the image that a rescue reads, which is pruned if the input is refused. If it is accepted, its deleted headers are those in the image that
--- is read of one that is refused: some programs that delete a file change its header without a new sum
-abbrev pub known_asked : (read image : List ℕ) → Walk → Option Basis → Input → KnownValue
-known_asked read image w l known = record (known_blocks image w l known.held) { image = cond known.is_refused image read }
+-- the same of the image that a rescue reads, which is pruned if the input is refused. If it is accepted, its deleted headers are read as in one that is
+-- refused: some programs that delete a file change its header without a new sum
+abbrev pub known_asked : List ℕ → Walk → Option Basis → Input → KnownValue
+known_asked image w l known =
+    record (known_blocks image w l known.held) { image = cond known.is_refused image (image_read true image) }
 
 -- block b is a deleted header: it says that it is a header, and is not found
 abbrev pub is_deleted : KnownValue → ℕ → Bool

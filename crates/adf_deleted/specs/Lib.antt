@@ -6,4 +6,5 @@ pub mod Claims
 pub mod Deletions
 pub mod Left
 pub mod Paths
+pub mod Rooms
 pub mod Kept

@@ -1,13 +1,14 @@
 -- Which data blocks of a deleted file stand.
 -- Letters: k what is known of an image; h the block of the file's header; i the number of a data block, from 0; b its block, bs those of the file; n a
--- number of them.
-use Rattle.std.specs.Prelude.{◌≡◌, ◌<◌, ◌+◌, ◌&&◌, ◌||◌, ℕ, Bool, true, not, nat_lt, List, slice_index}
+-- number of blocks.
+use Rattle.std.specs.Prelude.{◌+◌, ◌-◌, ◌&&◌, ◌||◌, ℕ, Bool, not, nat_lt, cond, List, length, slice_index}
+use Rattle.std.proofs.Common.{zero, suc}
 use Rattle.adf_names.specs.declared.kind.Kind.{Kind, TheVariants.Ofs, TheVariants.Ffs}
 use Rattle.adf_blocks.specs.Sizes.{in_range}
 use Rattle.adf_volume.specs.Image.{kind_of}
 use Rattle.adf_findings.specs.{Members.has_mark, Sound.says_data_of}
 use Rattle.adf_rescue.specs.Claims.{claims_cache, claims_extension, claims_header}
-use Rattle.adf_deleted.specs.Known.{KnownValue}
+use Rattle.adf_deleted.specs.{Known.KnownValue, Pointers.blocks_asked, Pointers.pointers}
 
 -- block b claims to be a header, an extension block or a directory cache, and so is no FFS data
 abbrev pub claims_no_data : List ℕ → ℕ → Bool
@@ -26,6 +27,11 @@ is_own Ffs k h i b = may_be_data k h i b
 abbrev pub stands : KnownValue → ℕ → ℕ → ℕ → Bool
 stands k h i b = in_range k.image b && (nat_lt b k.held && (not (has_mark k.reached b) && is_own (kind_of k.image) k h i b))
 
--- each of these blocks stands
-abbrev pub AllStand : KnownValue → (h : ℕ) → (bs : List ℕ) → (n : ℕ) → Type 0
-AllStand k h bs n = (i : ℕ) → i < n → stands k h i (slice_index bs i) ≡ true
+-- how many of the first n of these blocks do not stand
+unfoldable pub fallen : KnownValue → ℕ → List ℕ → ℕ → ℕ
+fallen k h bs zero = 0
+fallen k h bs (suc n) = fallen k h bs n + cond (stands k h n (slice_index bs n)) 0 1
+
+-- how many data blocks of the file do not stand: those that its table does not name are among them
+abbrev pub overwritten : KnownValue → ℕ → ℕ
+overwritten k h = let bs = pointers k.image h in (blocks_asked k.image h - length bs) + fallen k h bs (length bs)

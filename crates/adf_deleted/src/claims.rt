@@ -1,9 +1,10 @@
 // Which deleted headers name each block.
 
-ghost use Rattle.std.specs.Prelude.{◌≡◌, ◌≢◌, ◌<◌, ◌==◌, ◌&&◌, ℕ, IfOk, OnOk, false, length, true};
+ghost use Rattle.std.specs.Prelude.{◌≡◌, ◌<◌, ◌==◌, ◌&&◌, Bool, ℕ, IfOk, OnOk, cond, length, slice_index_or, true};
 ghost use Rattle.adf_blocks.specs.Sizes.{blocks};
 ghost use Rattle.adf_volume.specs.Start.{is_image_len};
-ghost use Rattle.adf_deleted.specs.Claims.{AreClaims, Claims, NoneClaims, claim_at, has_pointer, other_claimant};
+ghost use Rattle.adf_deleted.specs.Claims.{AreClaims, claim_at, claims_on, has_pointer, ranks_after, is_later, other_claimant};
+ghost use Rattle.adf_deleted.specs.Claims.{precedes, rival_among, unclaimed, with_claim};
 ghost use Rattle.adf_deleted.specs.{Deletions.AreExtensions, Known.is_deleted, Pointers.pointers};
 
 use crate::extensions::word_of;
@@ -30,13 +31,16 @@ const UNCLAIMED: Claim = Claim {
 };
 
 // Whether a number comes behind another, or they are the same and the rest decides.
-fn ranks_after(x: u32, y: u32, rest: bool) -> bool {
+fn ranks_after(x: u32, y: u32, rest: bool) -> bool
+    ensures { result ≡ ranks_after x y rest }
+{
     y < x || x == y && rest
 }
 
 // Whether header `h` has a later date than header `g`.
 fn is_later(image: &[u8], h: u32, g: u32) -> bool
     requires { is_image_len (length image.now) ≡ true }
+    ensures { result ≡ is_later image.now h g }
 {
     let ticks = word_of(image, g, DATE + 2) < word_of(image, h, DATE + 2);
     let minutes = ranks_after(
@@ -50,17 +54,15 @@ fn is_later(image: &[u8], h: u32, g: u32) -> bool
 // Whether header `h` comes before header `g`, which is 0 where there is none.
 fn precedes(image: &[u8], h: u32, g: u32) -> bool
     requires { is_image_len (length image.now) ≡ true }
-    ensures { result ≡ false → g ≢ 0 }
+    ensures { result ≡ precedes image.now h g }
 {
     g == 0 || is_later(image, h, g)
 }
 
 // The claims on a block, and one by header `h`, unless it is there already.
-#[tactic(auto, using(crate::proofs::ClaimSteps::claims_there, crate::proofs::ClaimSteps::claims_front, crate::proofs::ClaimSteps::claims_behind, crate::proofs::ClaimSteps::claims_full))]
 fn with_claim(image: &[u8], h: u32, claim: Claim) -> Claim
-    requires sized { is_image_len (length image.now) ≡ true }
-    requires some { h ≢ 0 }
-    ensures { Claims h true claim result }
+    requires { is_image_len (length image.now) ≡ true }
+    ensures { result ≡ with_claim image.now h claim }
 {
     if claim.first == h || claim.second == h {
         claim
@@ -87,12 +89,10 @@ fn claim_at(claims: &Vec<Claim>, b: usize) -> Claim
 }
 
 // Adds a claim by header `h` on a block; nothing past the last.
-#[tactic(auto, using(crate::proofs::ClaimSteps::claims_set, crate::proofs::ClaimSteps::claims_none))]
 fn claim_one(image: &[u8], claims: &mut Vec<Claim>, h: u32, b: u32)
-    requires sized { is_image_len (length image.now) ≡ true }
-    requires some { h ≢ 0 }
-    ensures claims { (c : ℕ) → c < length claims.old.items
-        → Claims h (b == c) (claim_at claims.old.items c) (claim_at claims.new.items c) }
+    requires { is_image_len (length image.now) ≡ true }
+    ensures claims { (c : ℕ) → c < length claims.old.items → claim_at claims.new.items c
+        ≡ cond (b == c) (with_claim image.now h (claim_at claims.old.items c)) (claim_at claims.old.items c) }
     ensures length { length claims.new.items ≡ length claims.old.items }
 {
     let b = b as usize;
@@ -103,10 +103,9 @@ fn claim_one(image: &[u8], claims: &mut Vec<Claim>, h: u32, b: u32)
 
 // Adds a claim by header `h` on each of these blocks.
 fn claim_all(image: &[u8], claims: &mut Vec<Claim>, h: u32, blocks: &[u32])
-    requires sized { is_image_len (length image.now) ≡ true }
-    requires some { h ≢ 0 }
-    ensures claims { (c : ℕ) → c < length claims.old.items
-        → Claims h (has_pointer blocks.now c) (claim_at claims.old.items c) (claim_at claims.new.items c) }
+    requires { is_image_len (length image.now) ≡ true }
+    ensures claims { (c : ℕ) → c < length claims.old.items → claim_at claims.new.items c
+        ≡ cond (has_pointer blocks.now c) (with_claim image.now h (claim_at claims.old.items c)) (claim_at claims.old.items c) }
     ensures length { length claims.new.items ≡ length claims.old.items }
 {
     for i in 0..blocks.len() {
@@ -125,9 +124,9 @@ impl Known<'_> {
     ) -> Result<(), NoMemory>
         requires counts { AreExtensions self.now.image extensions.now.items }
         requires inside { h < blocks self.now.image }
-        ensures claims { (c : ℕ) → c < length claims.old.items → OnOk result
-            (Claims h (is_deleted self.now h && has_pointer (pointers self.now.image h) c)
-            (claim_at claims.old.items c) (claim_at claims.new.items c)) }
+        ensures claims { (c : ℕ) → c < length claims.old.items → OnOk result (claim_at claims.new.items c
+            ≡ cond (is_deleted self.now h && has_pointer (pointers self.now.image h) c)
+            (with_claim self.now.image h (claim_at claims.old.items c)) (claim_at claims.old.items c)) }
         ensures length { OnOk result (length claims.new.items ≡ length claims.old.items) }
     {
         if self.is_deleted(h) {
@@ -155,9 +154,10 @@ impl Known<'_> {
     }
 
     /// The latest other deleted header that names the first of these blocks that another one names; 0 if there is none.
+    #[tactic(auto, using(crate::proofs::ClaimSteps::rival_steps))]
     pub(crate) fn rival(&self, claims: &Vec<Claim>, h: u32, blocks: &[u32]) -> u32
         requires { AreClaims self.now claims.now.items }
-        ensures { result ≡ 0 → NoneClaims self.now h blocks.now }
+        ensures { result ≡ rival_among self.now h blocks.now (length blocks.now) }
     {
         let mut rival = 0u32;
         for i in 0..blocks.len() {

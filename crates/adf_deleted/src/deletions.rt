@@ -1,11 +1,9 @@
 // What speaks for deleted files.
 
-ghost use Rattle.std.specs.Prelude.{◌≡◌, ◌<◌, IfOk, map, true};
+ghost use Rattle.std.specs.Prelude.{◌≡◌, ◌<◌, ℕ, IfOk, length, map, true};
 ghost use Rattle.adf_base.specs.Words.{block};
 ghost use Rattle.adf_blocks.specs.Sizes.{blocks};
-ghost use Rattle.adf_names.specs.declared.kind.Kind.TheVariants.{Ffs};
-ghost use Rattle.adf_deleted.specs.{Claims.NoneClaims, Deletions.IsWholeDeleted};
-ghost use Rattle.adf_deleted.specs.declared.deletions.State.TheVariants.{Whole};
+ghost use Rattle.adf_deleted.specs.{Deletions.rival_by, Deletions.state_of, Deletions.unless_contested_by};
 ghost use Rattle.adf_deleted.specs.{Known.is_deleted, Paths.former_path};
 ghost use Rattle.adf_deleted.specs.Left.{deleted_bytes, deleted_gaps, is_deleted_file};
 ghost use Rattle.adf_deleted.specs.Pointers.{pointers};
@@ -56,7 +54,7 @@ impl<'i> Model for Deletions<'i> {
 
 // Whole, or contested by a rival.
 fn unless_contested_by(rival: u32) -> State
-    ensures { result ≡ Whole → rival ≡ 0 }
+    ensures { result ≡ unless_contested_by rival }
 {
     if rival == 0 {
         State::Whole
@@ -140,7 +138,7 @@ impl Deletions<'_> {
     // The other deleted header that names one of the blocks of a file; 0 if there is none.
     fn rival(&self, h: u32, blocks: &[u32]) -> u32
         requires { blocks.now ≡ pointers self.now.image h }
-        ensures { result ≡ 0 → kind_of self.now.image ≡ Ffs → NoneClaims self.now h blocks.now }
+        ensures { result ≡ rival_by (kind_of self.now.image) self.now h }
     {
         match kind_in(self.known.image) {
             Kind::Ofs => 0,
@@ -151,7 +149,7 @@ impl Deletions<'_> {
     /// What speaks for the file with header `h`. `NoMemory` if an allocation fails.
     pub fn state(&self, alloc: Global, h: u32) -> Result<State, NoMemory>
         requires { h < blocks self.now.image }
-        ensures { IfOk result (λ s. s ≡ Whole → IsWholeDeleted self.now h) }
+        ensures { IfOk result (λ s. s ≡ state_of self.now h) }
     {
         let blocks = pointers(alloc, self.known.image, &self.extensions, h)?;
         let lost = self.known.overwritten(h, &blocks);

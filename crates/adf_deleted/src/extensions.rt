@@ -1,6 +1,6 @@
 // How many blocks say that they are extension blocks of each file.
 
-ghost use Rattle.std.specs.Prelude.{◌≡◌, ◌<◌, ℕ, ◌+◌, ◌==◌, ◌^◌, IfOk, cond, length, slice_index, true};
+ghost use Rattle.std.specs.Prelude.{◌≡◌, ◌<◌, ℕ, ◌+◌, ◌==◌, ◌&&◌, ◌^◌, ◌*◌, IfOk, cond, length, slice_index, true};
 ghost use Rattle.adf_blocks.specs.Sizes.{blocks};
 ghost use Rattle.adf_volume.specs.{Image.word_in, Start.is_image_len};
 ghost use Rattle.adf_deleted.specs.{Deletions.AreExtensions, Pointers.is_extension_of, Pointers.says_extension};

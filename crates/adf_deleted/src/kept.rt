@@ -1,15 +1,14 @@
 // The whole deleted files that are kept beside what stands.
 
-ghost use Rattle.std.specs.Prelude.{◌≡◌, ◌<◌, ℕ, List, [], IfOk, true};
-ghost use Rattle.std.specs.List.{All};
-ghost use Rattle.adf_base.specs.Words.{block};
+ghost use Rattle.std.specs.Prelude.{◌≡◌, ◌<◌, ℕ, List, [], IfOk, IfSome, Option, true};
+ghost use Rattle.std.specs.List.{All, fold};
 ghost use Rattle.adf_build.specs.Building.{IsBuildable};
-ghost use Rattle.adf_blocks.specs.{HeadBlock.meta_stated, Sizes.blocks};
-ghost use Rattle.adf_drafts.specs.Draft.{IsDirectoryOf};
-ghost use Rattle.adf_tree.specs.declared.entry.Body.TheVariants.{File};
-ghost use Rattle.adf_deleted.specs.Kept.{IsCounted, IsKeptBeside, IsRoomIn, IsWholeDeletedFile, KeepsDeleted, KeepsFiles, PutsEntry};
-ghost use Rattle.adf_deleted.specs.Left.{deleted_bytes};
-ghost use Rattle.adf_deleted.specs.declared.deletions.State.TheVariants.{Whole};
+ghost use Rattle.adf_blocks.specs.Sizes.{blocks};
+ghost use Rattle.adf_drafts.specs.Draft.{IsDirectoryOf, IsRoomFor};
+ghost use Rattle.adf_rescue.specs.Salvage.{IsRoomOf};
+ghost use Rattle.adf_tree.specs.Additions.{Addition};
+ghost use Rattle.adf_deleted.specs.Kept.{IsCounted, IsKeptBeside, Keeps, PutsEntry, deleted_kept, file_verdict, home_name};
+ghost use Rattle.adf_deleted.specs.Kept.{home_path, is_whole, is_whole_file, kept_more, kept_of, plain_meta, whole_files};
 
 use crate::deletions::{Deletions, State};
 use crate::new_volume::NewVolume;
@@ -30,12 +29,16 @@ pub struct Kept {
 }
 
 // The metadata of the directory: no comment, no protection bits and no date.
-fn plain_meta() -> Meta {
+fn plain_meta() -> Meta
+    ensures { result ≡ plain_meta }
+{
     Meta::new(Comment::new(b"").unwrap(), 0, NO_STAMP)
 }
 
 // The name of the directory: that of its room, if there is one.
-fn home_name(alloc: Global, room: &Option<Room>) -> Result<Vec<u8>, NoMemory> {
+fn home_name(alloc: Global, room: &Option<Room>) -> Result<Vec<u8>, NoMemory>
+    ensures { IfOk result (λ v. v.items ≡ home_name room.now) }
+{
     match room {
         Some(room) => Ok(Vec::from_slice(alloc, room.name.bytes())?),
         None => Ok(Vec::from_slice(alloc, b"deleted")?),
@@ -44,7 +47,7 @@ fn home_name(alloc: Global, room: &Option<Room>) -> Result<Vec<u8>, NoMemory> {
 
 // Whether a state is that of a whole file.
 fn is_whole(state: State) -> bool
-    ensures { result ≡ true → state ≡ Whole }
+    ensures { result ≡ is_whole state }
 {
     match state {
         State::Whole => true,
@@ -55,7 +58,7 @@ fn is_whole(state: State) -> bool
 impl Deletions<'_> {
     // Whether block `h` is the header of a whole deleted file.
     fn is_whole_file(&self, alloc: Global, h: u32) -> Result<bool, NoMemory>
-        ensures { IfOk result (λ b. b ≡ true → IsWholeDeletedFile self.now h) }
+        ensures { IfOk result (λ b. b ≡ is_whole_file self.now h) }
     {
         if !self.is_file(h) {
             return Ok(false);
@@ -66,7 +69,7 @@ impl Deletions<'_> {
 
     // The headers of the whole deleted files.
     fn whole_files(&self, alloc: Global) -> Result<Vec<u32>, NoMemory>
-        ensures files { IfOk result (λ v. All (IsWholeDeletedFile self.now) v.items) }
+        ensures files { IfOk result (λ v. v.items ≡ whole_files self.now) }
         ensures inside { IfOk result (λ v. All (λ h. h < blocks self.now.image) v.items) }
     {
         let mut files = Vec::new(alloc);
@@ -89,8 +92,8 @@ impl Deletions<'_> {
         requires inside { h < blocks self.now.image }
         requires counted { IsCounted volume.old }
         requires directory { (dir : List (List ℕ)) × IsDirectoryOf volume.old.draft dir directory }
-        ensures { (dir : List (List ℕ)) → IsDirectoryOf volume.old.draft dir directory → IfOk result (PutsEntry dir
-            (meta_stated (block self.now.image h)) (File (deleted_bytes self.now h)) volume.old volume.new) }
+        ensures { (dir : List (List ℕ)) → IsDirectoryOf volume.old.draft dir directory → IfOk result (PutsEntry
+            (file_verdict self.now volume.old.blocks dir volume.old.draft.tree h) volume.old volume.new) }
     {
         let header = self.header(h);
         let room = volume.file_room(alloc, directory, self.name(h), h)?;
@@ -110,12 +113,12 @@ impl Deletions<'_> {
         directory: Node,
         files: &[u32],
     ) -> Result<Vec<u32>, NoMemory>
-        requires whole { All (IsWholeDeletedFile self.now) files.now }
         requires inside { All (λ h. h < blocks self.now.image) files.now }
         requires counted { IsCounted volume.old }
         requires directory { (dir : List (List ℕ)) × IsDirectoryOf volume.old.draft dir directory }
-        ensures { (dir : List (List ℕ)) → IsDirectoryOf volume.old.draft dir directory
-            → IfOk result (λ left. KeepsFiles self.now dir volume.old volume.new) }
+        ensures { (dir : List (List ℕ)) (added : List Addition) → IsDirectoryOf volume.old.draft dir directory
+            → IfOk result (λ left. Keeps (fold (kept_more self.now volume.old.blocks dir)
+            (record { tree = volume.old.draft.tree; added = added; left_out = [] }) files.now) volume.old volume.new left.items) }
     {
         let mut left = Vec::new(alloc);
         for i in 0..files.len() {
@@ -135,11 +138,11 @@ impl Deletions<'_> {
         home: Option<Room>,
         files: Vec<u32>,
     ) -> Result<Vec<u32>, NoMemory>
-        requires whole { All (IsWholeDeletedFile self.now) files.items }
         requires inside { All (λ h. h < blocks self.now.image) files.items }
         requires counted { IsCounted volume.old }
-        requires home { IsRoomIn volume.old.draft [] home }
-        ensures { IfOk result (λ left. KeepsDeleted self.now volume.old volume.new) }
+        requires home { IsRoomOf volume.old.draft (home_path volume.old.draft.tree volume.old.blocks) home }
+        ensures { IfOk result (λ left. Keeps (kept_of self.now volume.old.blocks volume.old.draft.tree files.items)
+            volume.old volume.new left.items) }
     {
         if files.is_empty() {
             return Ok(files);
@@ -154,8 +157,7 @@ impl Deletions<'_> {
     /// Keeps the whole deleted files in a new volume, behind all that stands there: in a directory of the root that is called
     /// `deleted`, or `deleted-1` and so on where an entry has that name, each under its own name, or else under `deleted-` and
     /// the block of its header, numbered. Files for which there is no room are left out. Where no file is whole, no directory
-    /// is made. Each path that stands keeps what it has, and the entries of a directory their order. `NoMemory` if an allocation
-    /// fails.
+    /// is made. `NoMemory` if an allocation fails.
     pub fn keep(&self, alloc: Global, volume: NewVolume) -> Result<Kept, NoMemory>
         requires { IsCounted volume }
         ensures kept { IfOk result (IsKeptBeside self.now volume) }

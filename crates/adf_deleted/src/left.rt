@@ -1,6 +1,6 @@
 // What is left of deleted files.
 
-ghost use Rattle.std.specs.Prelude.{◌≡◌, ◌<◌, ◌+◌, ◌^◌, IfOk, IfSome, true};
+ghost use Rattle.std.specs.Prelude.{◌≡◌, ◌<◌, ◌+◌, ◌^◌, ℕ, IfOk, IfSome, true};
 ghost use Rattle.adf_blocks.specs.Sizes.{blocks};
 ghost use Rattle.adf_deleted.specs.Left.{deleted_bytes, deleted_gaps, if_stands, is_deleted_file};
 ghost use Rattle.adf_deleted.specs.Pointers.{pointers};

@@ -16,5 +16,5 @@ mod standing;
 pub use crate::deletions::{Deletions, State};
 pub use crate::kept::Kept;
 pub use crate::known::{Known, know};
-pub use crate::laws::{deleted_bytes_lie_apart, whole_files_lie_apart};
+pub use crate::laws::{deleted_bytes_lie_apart, deleted_files_come_behind, whole_files_lie_apart};
 pub use crate::new_volume::NewVolume;

@@ -1,9 +1,12 @@
 // A new volume to which entries are added.
 
-ghost use Rattle.std.specs.Prelude.{◌≡◌, ◌^◌, ◌-◌, ◌++◌, ◌∷◌, [], ℕ, List, IfOk, IfSome, min};
+ghost use Rattle.std.specs.Prelude.{◌≡◌, ◌^◌, ◌-◌, ℕ, List, IfOk, IfSome, Option, min};
+ghost use Rattle.std.specs.String.{string_bytes};
 ghost use Rattle.adf_drafts.specs.Draft.{IsDirectoryOf, IsRoomFor};
-ghost use Rattle.adf_rescue.specs.Salvage.{entry_cost};
-ghost use Rattle.adf_deleted.specs.Kept.{IsCounted, IsRoomIn, PutsEntry};
+ghost use Rattle.adf_rescue.specs.{Rescue.at_path, Rescue.fitting, Rescue.path_with_room, Salvage.IsRoomOf, Salvage.entry_cost};
+ghost use Rattle.adf_deleted.specs.Kept.{IsCounted, PutsEntry};
+ghost use Rattle.adf_deleted.specs.Rooms.{block_name, file_path, free_path, numbered_name};
+ghost use Rattle.adf_tree.specs.{Additions.Addition, Tree.Tree};
 
 use adf_base::NoMemory;
 use adf_build::{data_blocks, ext_count};
@@ -23,7 +26,9 @@ pub struct NewVolume {
 }
 
 // The name itself, or with a number behind it.
-fn numbered_name(alloc: Global, name: &str, i: u32) -> Result<String, NoMemory> {
+fn numbered_name(alloc: Global, name: &str, i: u32) -> Result<String, NoMemory>
+    ensures { IfOk result (λ s. string_bytes s ≡ numbered_name name.now i) }
+{
     if i == 0 {
         return Ok(format!(in alloc; "{name}")?);
     }
@@ -43,7 +48,7 @@ impl NewVolume {
     // The room of this name in a directory; `None` if it is no name, or an entry of the directory has it.
     fn room_named(&self, directory: Node, name: &[u8]) -> Option<Room>
         ensures { (dir : List (List ℕ)) → IsDirectoryOf self.now.draft dir directory
-            → IsRoomIn self.now.draft dir result }
+            → IsRoomOf self.now.draft (path_with_room self.now.draft.tree dir name.now) result }
     {
         let name = Name::new(name)?;
         self.draft.room_in(directory, &name)
@@ -58,7 +63,7 @@ impl NewVolume {
         name: &str,
     ) -> Result<Option<Room>, NoMemory>
         ensures { (dir : List (List ℕ)) → IsDirectoryOf self.now.draft dir directory
-            → IfOk result (IsRoomIn self.now.draft dir) }
+            → IfOk result (IsRoomOf self.now.draft (free_path self.now.draft.tree dir name.now self.now.blocks)) }
     {
         for i in 0..self.blocks {
             let numbered = numbered_name(alloc, name, i)?;
@@ -79,7 +84,7 @@ impl NewVolume {
         h: u32,
     ) -> Result<Option<Room>, NoMemory>
         ensures { (dir : List (List ℕ)) → IsDirectoryOf self.now.draft dir directory
-            → IfOk result (IsRoomIn self.now.draft dir) }
+            → IfOk result (IsRoomOf self.now.draft (file_path self.now.draft.tree dir name.now h self.now.blocks)) }
     {
         if let Some(room) = self.room_named(directory, name) {
             return Ok(Some(room));
@@ -92,8 +97,8 @@ impl NewVolume {
     fn put_in(&mut self, room: &Room, meta: Meta, body: Body) -> Result<bool, NoMemory>
         requires counted { IsCounted self.old }
         requires room { (path : List (List ℕ)) × IsRoomFor self.old.draft path room.now }
-        ensures { (dir : List (List ℕ)) (name : List ℕ) → IsRoomFor self.old.draft (dir ++ name ∷ []) room.now
-            → IfOk result (PutsEntry dir meta body self.old self.new) }
+        ensures { (path : List (List ℕ)) → IsRoomFor self.old.draft path room.now → IfOk result (PutsEntry
+            (fitting self.old.draft.tree self.old.blocks (record { path = path; meta = meta; body = body })) self.old self.new) }
     {
         let cost = cost_of(self.kind, &body);
         if cost > u64::from(self.left) {
@@ -114,8 +119,8 @@ impl NewVolume {
     ) -> Result<bool, NoMemory>
         requires counted { IsCounted self.old }
         requires room { IfSome room (λ r. (path : List (List ℕ)) × IsRoomFor self.old.draft path r) }
-        ensures { (dir : List (List ℕ)) → IsRoomIn self.old.draft dir room
-            → IfOk result (PutsEntry dir meta body self.old self.new) }
+        ensures { (path : Option (List (List ℕ))) → IsRoomOf self.old.draft path room → IfOk result (PutsEntry
+            (at_path self.old.draft.tree self.old.blocks meta body path) self.old self.new) }
     {
         match room {
             Some(room) => self.put_in(&room, meta, body),

@@ -1,6 +1,7 @@
 // Where a header was.
 
 ghost use Rattle.std.specs.Prelude.{◌≡◌, ◌<◌, IfOk, length, map, true};
+ghost use Rattle.adf_base.specs.Words.{block};
 ghost use Rattle.adf_blocks.specs.Sizes.{blocks};
 ghost use Rattle.adf_volume.specs.{Image.name_of, Start.is_image_len};
 ghost use Rattle.adf_deleted.specs.Paths.{is_below_root, former_path};

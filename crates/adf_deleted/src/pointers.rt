@@ -1,6 +1,6 @@
 // The data blocks that the table of a file names.
 
-ghost use Rattle.std.specs.Prelude.{◌≡◌, ◌<◌, ◌≤◌, IfOk, length, true};
+ghost use Rattle.std.specs.Prelude.{◌≡◌, ◌<◌, ◌≤◌, ◌^◌, IfOk, length, true};
 ghost use Rattle.adf_blocks.specs.Sizes.{blocks};
 ghost use Rattle.adf_volume.specs.Start.{is_image_len};
 ghost use Rattle.adf_deleted.specs.{Deletions.AreExtensions};

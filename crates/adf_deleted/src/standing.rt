@@ -2,7 +2,7 @@
 
 ghost use Rattle.std.specs.Prelude.{◌≡◌, ◌<◌, ◌≤◌, ◌+◌, ◌^◌, length};
 ghost use Rattle.adf_deleted.specs.Pointers.{blocks_asked, pointers};
-ghost use Rattle.adf_deleted.specs.Standing.{AllStand, claims_no_data, is_own, may_be_data, stands};
+ghost use Rattle.adf_deleted.specs.Standing.{claims_no_data, fallen, is_own, may_be_data, overwritten, stands};
 ghost use Rattle.adf_findings.specs.Sound.{says_data_of};
 ghost use Rattle.adf_volume.specs.Image.{kind_of};
 
@@ -62,10 +62,11 @@ impl Known<'_> {
             && self.is_own(h, i, b)
     }
 
+    #[tactic(auto, using(crate::proofs::States::fallen_steps))]
     // How many of these blocks do not stand as the data blocks of the file with header `h`.
     fn fallen(&self, h: u32, blocks: &[u32]) -> u32
         requires { length blocks.now < 2 ^ 32 }
-        ensures none { result ≡ 0 → AllStand self.now h blocks.now (length blocks.now) }
+        ensures exact { result ≡ fallen self.now h blocks.now (length blocks.now) }
         ensures few { result ≤ length blocks.now }
     {
         let mut lost = 0u32;
@@ -81,8 +82,7 @@ impl Known<'_> {
     pub(crate) fn overwritten(&self, h: u32, blocks: &[u32]) -> u32
         requires named { blocks.now ≡ pointers self.now.image h }
         requires few { length blocks.now ≤ blocks_asked self.now.image h }
-        ensures stand { result ≡ 0 → AllStand self.now h blocks.now (length blocks.now) }
-        ensures named { result ≡ 0 → length blocks.now ≡ blocks_asked self.now.image h }
+        ensures { result ≡ overwritten self.now h }
     {
         let asked = blocks_asked(self.image, h);
         asked - blocks.len() as u32 + self.fallen(h, blocks)

@@ -4,6 +4,8 @@ pub mod TreeBlocks
 pub mod Steps
 -- the losses of one more finding
 pub mod LossSteps
+-- the entries kept in doubt, with one more verdict
+pub mod DoubtSteps
 -- data blocks that were given
 pub mod GivenBlocks
 -- the tree of the additions
@@ -26,15 +28,17 @@ pub mod PlainVolumes
 pub mod MadeRoots
 -- images that are opened
 pub mod OpenedImages
--- what the bitmap tells of a block
+-- lost headers
 pub mod LostHeaders
 -- headers that another one outranks
 pub mod OutrankedHeaders
--- the names of directories that are made
+-- the directories of lost headers
+pub mod DirectorySteps
+-- hung images
 pub mod HungImages
--- images of which one block changes
-pub mod ChangedBlocks
 -- pruned images
 pub mod PrunedImages
+-- what stays in a pruned image
+pub mod PrunedKeeps
 -- what stands fits in a volume, and is laid there
 pub mod RescuedVolumes

@@ -1,16 +1,18 @@
 -- Images that are opened: their blocks, and what stays of their bytes.
--- Letters: b the number of a block; n, m, k numbers of bytes or blocks; x, y images.
-use Rattle.std.proofs.Common.{◌≢◌, ◌≡◌, ◌<◌, ◌≤◌, ℕ, zero, suc, ◌+◌, ◌-◌, ◌*◌, ◌/◌, Bool, true, false, List, [], ◌∷◌, ◌++◌, length}
-use Rattle.std.proofs.Common.{take, drop, ◌∙◌, add-one, ap, arith, codes, inl, inr, length-drop, refl, subst, sym, ◌&&◌, nat_le, not, slice_range}
-use Rattle.std.proofs.lemmas.Bool.{and_left, and_parts, cases_Bool, cases_lt, cond-false, cond-true, cond_both}
-use Rattle.std.proofs.{lemmas.Bool.or_from, lemmas.Bool.or_left, lemmas.Bool.or_right, lemmas.Grind.common_steps}
+-- Letters: b the number of a block; r the root's; n, m, k numbers of bytes or blocks; l a list of bytes.
+use Rattle.std.proofs.Common.{◌≡◌, ◌<◌, ◌≤◌, ℕ, zero, suc, ◌+◌, ◌-◌, ◌*◌, ◌/◌, Bool, true, false, List, [], ◌∷◌, ◌++◌, length}
+use Rattle.std.proofs.Common.{take, drop, ◌∙◌, add-one, ap, arith, codes, inl, inr, length-drop, refl, subst, sym, ◌==◌, ◌&&◌, nat_le, not, slice_range}
+use Rattle.std.proofs.lemmas.Bool.{and_from, and_left, and_parts, and_right, cases_Bool, cases_lt, cond-false, cond-true, cond_both, not_from_false}
+use Rattle.std.proofs.{lemmas.Bool.not_from_true, lemmas.Bool.or_from, lemmas.Bool.or_left, lemmas.Bool.or_right, lemmas.Grind.common_steps}
 use Rattle.std.proofs.lemmas.List.{drop-drop, get_or-take, length-take, take_all}
-use Rattle.adf_base.specs.{Words.block, Words.with_bytes}
+use Rattle.adf_base.specs.{Words.block, Words.long_sum, Words.with_bytes}
 use Rattle.adf_blocks.specs.{Sizes.blocks, Sizes.middle}
 use Rattle.adf_volume.specs.{Image.root_of, Start.is_image_len}
-use Rattle.adf_rescue.specs.MadeRoot.{has_root}
-use Rattle.adf_rescue.specs.Opened.{IsOpened, with_boot_type, has_data, is_mended, says_data, states_type, type_byte}
-use Rattle.adf_rescue.proofs.MadeRoots.{root_within, sized}
+use Rattle.adf_findings.specs.{Start.has_root_type}
+use Rattle.adf_rescue.specs.MadeRoot.{has_root, made_block, middle_block, rooted}
+use Rattle.adf_rescue.specs.Opened.{with_boot_type, has_data, is_mended, opened, says_data, states_type, type_byte}
+use Rattle.adf_rescue.proofs.MadeRoots.{before_rooted, behind_rooted, front_rooted, length_rooted, made_is_whole, made_rooted}
+use Rattle.adf_rescue.proofs.MadeRoots.{root_within, sized, whole_rooted}
 
 -- block 0 of the part of an image that is block b
 pub part_is_block : (image : List ℕ) (b : ℕ) → block (slice_range image (b * 512) (b * 512 + 512)) 0 ≡ block image b
@@ -84,7 +86,46 @@ module _ (image : List ℕ) (len : is_image_len (length image) ≡ true) where
   same_root : root_of (with_boot_type image) ≡ root_of image
   same_root = ap (λ n. middle (n / 512)) same_length
 
--- an image that must be mended
+  same_middle : middle_block (with_boot_type image) ≡ middle_block image
+  same_middle = ap (block (with_boot_type image)) same_root ∙ block_begun image (root_of image) (let w = root_within image len in omega (arith, w.low))
+
+  same_has : has_root (with_boot_type image) ≡ has_root image
+  same_has = ap (λ b. has_root_type b && (long_sum b == 0)) same_middle
+
+  room : root_of (with_boot_type image) * 512 + 512 ≤ length (with_boot_type image)
+  room = let w = root_within image len in omega (arith, same_root, same_length, w.whole)
+
+  length_made : length (rooted (with_boot_type image)) ≡ length image
+  length_made = length_rooted (with_boot_type image) room ∙ same_length
+
+  front_made : slice_range (rooted (with_boot_type image)) 4 (root_of image * 512) ≡ slice_range image 4 (root_of image * 512)
+  front_made = grind (arith, common_steps, same_root, front_rooted, room, rest_begun)
+
+  behind_made : drop (root_of image * 512 + 512) (rooted (with_boot_type image)) ≡ drop (root_of image * 512 + 512) image
+  behind_made =
+      subst (λ r. drop (r * 512 + 512) (rooted (with_boot_type image)) ≡ drop (r * 512 + 512) (with_boot_type image)) same_root
+      (behind_rooted (with_boot_type image) room)
+      ∙ past (with_boot_type image) image 4 (root_of image * 512 + 512) (rest_begun image) (omega arith)
+
+  kept_middle : has_root image ≡ true → block (rooted (with_boot_type image)) (root_of image) ≡ middle_block image
+  kept_middle h = grind (arith, common_steps, whole_rooted, same_has, block_begun, root_within)
+
+  made_middle : has_root image ≡ false → block (rooted (with_boot_type image)) (root_of image) ≡ made_block (with_boot_type image)
+  made_middle h = grind (arith, common_steps, same_root, made_rooted, room, same_has)
+
+  middle_is_whole : (let b = block (rooted (with_boot_type image)) (root_of image) in has_root_type b && (long_sum b == 0)) ≡ true
+  middle_is_whole = elim (cases_Bool (has_root image)) [
+    | inl whole ↦ ap (λ b. has_root_type b && (long_sum b == 0)) (kept_middle whole) ∙ whole
+    | inr none ↦ ap (λ b. has_root_type b && (long_sum b == 0)) (made_middle none) ∙ made_is_whole (with_boot_type image)
+  ]
+
+-- an image that is opened as it is, or with a beginning and a root
+
+pub opened_kept : (image : List ℕ) → is_mended image ≡ false → opened image ≡ image
+opened_kept image h = cond-false (is_mended image) _ image h
+
+pub opened_mended : (image : List ℕ) → is_mended image ≡ true → opened image ≡ rooted (with_boot_type image)
+opened_mended image h = cond-true (is_mended image) _ image h
 
 pub mended_len : (image : List ℕ) → is_mended image ≡ true → is_image_len (length image) ≡ true
 mended_len image h = (and_parts (is_image_len (length image)) _ h).0
@@ -95,57 +136,56 @@ mended_long image h = long image (mended_len image h)
 pub begun_len : (image : List ℕ) → is_mended image ≡ true → is_image_len (length (with_boot_type image)) ≡ true
 begun_len image h = ap is_image_len (same_length image (mended_len image h)) ∙ mended_len image h
 
--- an image is opened as it is, or with a beginning and a root
+pub same_opened : (image : List ℕ) → states_type image ≡ true → has_root image ≡ true → opened image ≡ image
+same_opened image dos root = grind (arith, common_steps, opened_kept, and_right, not_from_true, and_from)
+
+pub odd_opened : (image : List ℕ) → is_image_len (length image) ≡ false → opened image ≡ image
+odd_opened image odd = opened_kept image (and_left (is_image_len (length image)) _ odd)
+
+-- what holds of both holds of the opened image
+either : (image : List ℕ) (P : List ℕ → Type 0) → (is_image_len (length image) ≡ true → P (rooted (with_boot_type image))) → P image → P (opened image)
+either image P made same = cond_both (is_mended image) _ image P (λ h. made (mended_len image h)) (λ h. same)
+
+pub length_opened : (image : List ℕ) → length (opened image) ≡ length image
+length_opened image = either image (λ l. length l ≡ length image) (length_made image) refl
+
+pub front_opened : (image : List ℕ) → slice_range (opened image) 4 (root_of image * 512) ≡ slice_range image 4 (root_of image * 512)
+front_opened image = either image (λ l. slice_range l 4 (root_of image * 512) ≡ slice_range image 4 (root_of image * 512)) (front_made image) refl
+
+pub behind_opened : (image : List ℕ) → drop (root_of image * 512 + 512) (opened image) ≡ drop (root_of image * 512 + 512) image
+behind_opened image = either image (λ l. drop (root_of image * 512 + 512) l ≡ drop (root_of image * 512 + 512) image) (behind_made image) refl
+
+-- the opened image has a root
+
+middle_opened : (image : List ℕ) → middle_block (opened image) ≡ block (opened image) (root_of image)
+middle_opened image = ap (λ n. block (opened image) (middle (n / 512))) (length_opened image)
+
+no_root_mended : (image : List ℕ) → is_image_len (length image) ≡ true → has_root image ≡ false → is_mended image ≡ true
+no_root_mended image len none = grind (arith, common_steps, and_from, not_from_false, and_right)
+
+pub root_opened : (image : List ℕ) → is_image_len (length image) ≡ true → has_root (opened image) ≡ true
+root_opened image len = grind (arith, cases_Bool, middle_opened, opened_mended, middle_is_whole, opened_kept, no_root_mended)
+
+-- it begins as a volume
 
 first_bytes : (image : List ℕ) (n : ℕ) → 4 ≤ n → states_type (take n image) ≡ states_type image
 first_bytes image n h = grind (arith, common_steps, get_or-take)
 
-first_block : (image : List ℕ) → states_type (block image 0) ≡ states_type image
-unfolding block
-first_block image = first_bytes image 512 (omega arith)
+type_rooted : (image : List ℕ) → is_image_len (length image) ≡ true → states_type (rooted (with_boot_type image)) ≡ true
+type_rooted image len =
+    let w = root_within image len in
+    let n : ℕ = root_of (with_boot_type image) * 512 in
+    let far : 4 ≤ n = omega (arith, same_root image len, w.low) in
+    sym (first_bytes (rooted (with_boot_type image)) n far) ∙ (ap states_type (before_rooted (with_boot_type image) (room image len))
+    ∙ (first_bytes (with_boot_type image) n far ∙ type_begun image))
 
--- of an image that stays
-stays_typed : (a b c : Bool) → (a && not (b && c)) ≡ false → a ≡ true → (b ≡ true) × (c ≡ true)
-stays_typed true true true h e = (refl, refl)
-stays_typed true true false h e = absurd cc
-stays_typed true false c h e = absurd cc
-stays_typed false b c h e = absurd cc
+kept_type : (a b c : Bool) → (a && not (b && c)) ≡ false → a ≡ true → b ≡ true
+kept_type true true c h e = refl
+kept_type true false c h e = absurd cc
+kept_type false b c h e = absurd cc
 
-module _ (x y : List ℕ) (h : IsOpened x y) where
-  pub same_opened : states_type x ≡ true → has_root x ≡ true → y ≡ x
-  same_opened dos root = h.kept (grind (arith, common_steps))
-
-  pub odd_opened : is_image_len (length x) ≡ false → y ≡ x
-  odd_opened odd = h.kept (and_left (is_image_len (length x)) _ odd)
-
-  pub length_opened : length y ≡ length x
-  length_opened = elim (cases_Bool (is_mended x)) [
-    | inl mended ↦ (h.mended mended).changes.size ∙ same_length x (mended_len x mended)
-    | inr kept ↦ ap length (h.kept kept)
-  ]
-
-  pub blocks_opened : (b : ℕ) → 1 ≤ b → b ≢ root_of x → block y b ≡ block x b
-  blocks_opened b low other = elim (cases_Bool (is_mended x)) [
-    | inl mended ↦
-        let same = same_root x (mended_len x mended) in
-        (h.mended mended).changes.others b (λ at. other (at ∙ same)) ∙ block_begun x b low
-    | inr kept ↦ ap (λ l. block l b) (h.kept kept)
-  ]
-
-  module _ (len : is_image_len (length x) ≡ true) where
-    stays : is_mended x ≡ false → (states_type x ≡ true) × (has_root x ≡ true)
-    stays kept = stays_typed (is_image_len (length x)) (states_type x) (has_root x) kept len
-
-    pub type_opened : states_type y ≡ true
-    type_opened = elim (cases_Bool (is_mended x)) [
-      | inl mended ↦
-          let low : 0 ≢ root_of (with_boot_type x) = (let w = root_within (with_boot_type x) (begun_len x mended) in λ at. absurd (omega (arith, at, w.low))) in
-          sym (first_block y) ∙ (ap states_type ((h.mended mended).changes.others 0 low) ∙ (first_block (with_boot_type x) ∙ type_begun x))
-      | inr kept ↦ ap states_type (h.kept kept) ∙ (stays kept).0
-    ]
-
-    pub root_opened : has_root y ≡ true
-    root_opened = elim (cases_Bool (is_mended x)) [
-      | inl mended ↦ (h.mended mended).root
-      | inr kept ↦ ap has_root (h.kept kept) ∙ (stays kept).1
-    ]
+pub type_opened : (image : List ℕ) → is_image_len (length image) ≡ true → states_type (opened image) ≡ true
+type_opened image len = elim (cases_Bool (is_mended image)) [
+  | inl mended ↦ ap states_type (opened_mended image mended) ∙ type_rooted image len
+  | inr kept ↦ ap states_type (opened_kept image kept) ∙ kept_type (is_image_len (length image)) (states_type image) (has_root image) kept len
+]

@@ -1,12 +1,12 @@
 -- Volumes that a tree fits: no entry is in doubt, and nothing is lost.
 -- Letters: t the tree, l its layout; w the walk of the survey, fs its findings, f one of them, c a cause; n, m nodes; b, d blocks, page that of a
--- page; k a number of blocks; xs entries in doubt.
-use Rattle.std.specs.Prelude.{◌&&◌, unwrap_or}
-use Rattle.std.specs.{List.filter_map, Option.option_and_then}
-use Rattle.std.proofs.Common.{◌≡◌, ◌≤◌, ◌<◌, ◌+◌, ◌-◌, ◌/◌, ◌%◌, ◌∙◌, ℕ, zero, suc, List, [], ◌∷◌, Bool, true, false, cond, Option, Some, None}
+-- page; k a number of blocks; doubt the doubt about each node, o one of them; vs verdicts.
+use Rattle.std.specs.Prelude.{◌==◌, ◌&&◌, not, unwrap_or}
+use Rattle.std.specs.{List.cons_option, List.filter_map, Option.option_and_then}
+use Rattle.std.proofs.Common.{◌≡◌, ◌≤◌, ◌<◌, ◌+◌, ◌-◌, ◌/◌, ◌%◌, ◌∙◌, ℕ, zero, suc, List, [], ◌∷◌, length, Bool, true, false, cond, Option, Some, None}
 use Rattle.std.proofs.{Common.ap, Common.arith, Common.inl, Common.inr, Common.refl, Common.subst, lemmas.Bool.Decides.nat_tests, lemmas.Grind.common_steps}
-use Rattle.std.proofs.lemmas.Bool.{and_parts, cases_lt, eqb-true, false_from_ne_true}
-use Rattle.adf_base.specs.{declared.hash.Letters.Letters}
+use Rattle.std.proofs.lemmas.Bool.{and_parts, cases_lt, false_from_ne_true}
+use Rattle.adf_base.specs.{declared.hash.Letters.Letters, Words.block, Words.long_sum}
 use Rattle.adf_blocks.specs.{declared.cause.Cause.Cause, declared.layout.TheConstants.PAGE_BITS, Forms.first_cause, Sizes.blocks, Sizes.in_range}
 use Rattle.adf_tree.specs.Tree.{Tree}
 use Rattle.adf_volume.specs.{Demands.AllHold, Demands.head_demands_by, Fits.FitsBy, Image.kind_of, Layout.Layout, Start.start_form, Types.letters_for}
@@ -15,10 +15,25 @@ use Rattle.adf_volume.specs.Walk.{HeadAt, IsAbsent, IsFreeIn, Walk, bitmap_deman
 use Rattle.adf_volume.proofs.{MemberFacts.kept, Roles.head_role}
 use Rattle.adf_findings.specs.{Members.at_role, Survey.FindingValue, Survey.IsSurvey, Survey.finding, Types.is_international, Types.passed, Types.passed_of}
 use Rattle.adf_findings.proofs.{BitSteps.has_page, FirstFindings.finds_none, FirstFindings.shows_none, Lookups.header_at, TypesRead.types_read}
-use Rattle.adf_rescue.specs.{Broken.broken_by, Losses.lost_block, Losses.lost_blocks, Losses.lost_headers, MadeRoot.says_page}
-use Rattle.adf_rescue.specs.{Doubts.AreDoubts, Doubts.IsDoubtless, declared.doubts.Doubtful.Doubtful}
+use Rattle.adf_rescue.specs.{Broken.broken_by, Losses.lost_block, Losses.lost_blocks, Losses.lost_headers, MadeRoot.says_page, declared.standing.Input.Input}
+use Rattle.adf_rescue.specs.Doubts.{doubts_from, first_doubt, first_doubts_by, kept_in_doubt}
 use Rattle.adf_rescue.specs.Lost.{bit_in, bit_stated, has_valid_flag, is_set_in, is_stated_free}
-use Rattle.adf_rescue.proofs.LostHeaders.{is_zero}
+use Rattle.adf_rescue.specs.Rescue.{Basis, Verdict, before_first_by, first_verdicts_by, is_added}
+use Rattle.adf_rescue.specs.declared.doubts.Doubt.{Doubt, TheVariants.InDoubt, TheVariants.PerhapsDeleted}
+use Rattle.adf_rescue.proofs.{LostHeaders.is_zero, Steps.verdicts_count}
+
+-- no entry is kept in doubt where there is no doubt about any
+
+not_kept : (n : ℕ) (o : Option Doubt) (is_kept : Bool) → o ≡ None → kept_in_doubt n o is_kept ≡ None
+not_kept n o false none = refl
+not_kept n o true none = grind (arith, common_steps)
+
+no_doubts : (doubt : ℕ → Option Doubt) (n : ℕ) (vs : List Verdict) → ((m : ℕ) → n ≤ m → m < n + length vs → doubt m ≡ None)
+    → doubts_from doubt n vs ≡ []
+no_doubts doubt n [] none = refl
+no_doubts doubt n (v ∷ vs) none =
+    ap (λ o. cons_option o (doubts_from doubt (suc n) vs)) (not_kept n (doubt n) (is_added v) (none n (omega arith) (omega arith)))
+    ∙ no_doubts doubt (suc n) vs (λ m lo hi. none m (omega arith) (omega arith))
 
 -- what the bitmap tells
 
@@ -57,6 +72,10 @@ module _ (image : List ℕ) (w : Walk) where
       let hi : b < blocks image = grind (arith, nat_tests) in
       has (bit_holds 2 (blocks image - 2) b all lo (omega arith) free.1))
 
+-- no doubt about a header with a right sum, which the bitmap has in use
+doubtless : (sum free : Bool) → sum ≡ true → free ≡ false → cond (not sum) (Some InDoubt) (cond free (Some PerhapsDeleted) None) ≡ None
+doubtless sum free right in_use = grind (arith, common_steps)
+
 -- the finding of a type is no loss
 
 no_header : (w : Walk) (b : Bool) (c : Cause) → filter_map (broken_by w) (cond b (finding None 0 c ∷ []) []) ≡ []
@@ -90,17 +109,22 @@ module _ (types : Types) (image : List ℕ) (t : Tree) (l : Layout) (w : Walk) (
   clean : fs ≡ passed types image
   clean = finds_none image ls (passed types image) (types_read image types) t l w fs fit survey
 
-  no_doubt : (n : ℕ) → 1 ≤ n → n ≤ heads w → IsDoubtless image w n
+  no_doubt : (n : ℕ) → 1 ≤ n → n ≤ heads w → first_doubt image w n ≡ None
   no_doubt n lo hi =
       let shows = shows_none image ls (passed types image) (types_read image types) w (subst (IsSurvey image w) clean survey) in
       let b : ℕ = node_block w n in
       let h : HeadAt w n b = header_at image w fs survey n lo hi in
       let up = (kept image shows.1 (head_role h) b h.has).2 in
       let form : AllHold (head_demands_by ls image (kind_of image) b up.0 h.slot) = up.2 in
-      (eqb-true _ 0 form.0, used image w shows.3 b (λ absent. absent (head_role h) h.has))
+      let in_use = used image w shows.3 b (λ absent. absent (head_role h) h.has) in
+      doubtless (long_sum (block image b) == 0) (is_stated_free image w b) form.0 in_use
 
-  pub doubts_none : (xs : List Doubtful) → AreDoubts image w xs → xs ≡ []
-  doubts_none xs are = are no_doubt
+  pub doubts_none : (letters : Letters) (input : Input) (sound : ℕ → Bool)
+      → first_doubts_by letters input (record { image = image; walk = w; sound = sound }) ≡ []
+  doubts_none letters input sound =
+      let a : Basis = record { image = image; walk = w; sound = sound } in
+      let count = verdicts_count (before_first_by letters input image) a (heads w) in
+      no_doubts (first_doubt image w) 1 (first_verdicts_by letters input a) (λ m lo hi. no_doubt m lo (omega (arith, count)))
 
   pub headers_none : lost_headers false w fs ≡ []
   headers_none = ap (lost_headers false w) clean ∙ passed_headers types image w

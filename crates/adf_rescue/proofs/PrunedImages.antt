@@ -1,48 +1,96 @@
--- Pruned images: only headers in doubt change.
--- Letters: b a block; k a number of blocks; x, y, z images.
-use Rattle.std.proofs.Common.{◌==◌, ◌≡◌, ◌≤◌, ℕ, ◌+◌, Bool, true, false, List, length, ◌∙◌, ap, arith, inl, inr, refl, subst}
-use Rattle.std.proofs.lemmas.Bool.{and_left, and_right, cases_Bool, eq-eqb, eqb-true, not_from_true}
-use Rattle.adf_base.specs.Words.{block}
-use Rattle.adf_volume.specs.Image.{root_of}
-use Rattle.adf_rescue.specs.{Changes.ChangesOnly, Claims.claims_header, Pruned.IsPruned, Pruned.IsReadFrom, Pruned.is_in_doubt}
-use Rattle.adf_rescue.proofs.OpenedImages.{length_opened}
+-- Pruned images: the steps, and what stays.
+-- Letters: b, c blocks; i, j words; k, n numbers of slots or blocks; x, y images.
+use Rattle.std.proofs.Common.{◌≡◌, ◌==◌, ◌&&◌, ◌||◌, ◌<◌, ◌≤◌, ◌-◌, ℕ, zero, suc, ◌+◌, true, false, List, length, add-one, ◌∙◌, ap, arith}
+use Rattle.std.proofs.Common.{inl, inr, refl, subst}
+use Rattle.std.proofs.lemmas.Bool.{and_parts, cases_lt, cond-false, cond-true, eqb-true, or_cases, or_from, or_left, or_right}
+use Rattle.std.proofs.{lemmas.Bool.Decides.nat_tests, lemmas.Grind.common_steps}
+use Rattle.adf_blocks.specs.{declared.layout.TheConstants.FIRST_SLOT, declared.layout.TheConstants.NEXT_IN_CHAIN, declared.layout.TheConstants.SLOTS}
+use Rattle.adf_blocks.specs.{Sizes.blocks}
+use Rattle.adf_volume.specs.{Image.word_in, Start.is_image_len}
+use Rattle.adf_rescue.specs.{Chains.chain_has, Claims.claims_header, Pruned.is_child_of, Pruned.is_home}
+use Rattle.adf_rescue.specs.Pruned.{leads_to_child, pruned, pruned_at, pruned_first, slot_pruned, slots_pruned}
+use Rattle.adf_rescue.proofs.MadeRoots.{root_within}
 
--- whether a block is in doubt depends on itself and the length alone
-same_doubt : (x y : List ℕ) (b : ℕ) → length y ≡ length x → block y b ≡ block x b → is_in_doubt y b ≡ is_in_doubt x b
-same_doubt x y b len same = cc
+-- the steps
 
--- the first k blocks are pruned: those not in doubt stay, and so do all others
-pub record PrunesFirst (k : ℕ) (x y : List ℕ) : Type 0 where
-  pub size : length y ≡ length x
-  pub sound : (b : ℕ) → is_in_doubt x b ≡ false → block y b ≡ block x b
-  pub ahead : (b : ℕ) → k ≤ b → block y b ≡ block x b
+module _ (image : List ℕ) (b : ℕ) where
+  pub no_child_first : leads_to_child image b 0 ≡ false
+  unfolding leads_to_child
+  no_child_first = refl
 
-pub none_prunes : (x : List ℕ) → PrunesFirst 0 x x
-none_prunes x = record { size = refl; sound = λ b sound. refl; ahead = λ b le. refl }
+  pub no_child_more : (k : ℕ) → leads_to_child image b k ≡ false → is_child_of image b (word_in image b (FIRST_SLOT + k)) ≡ false
+      → leads_to_child image b (k + 1) ≡ false
+  unfolding leads_to_child
+  no_child_more k before here = rw add-one (or_from (leads_to_child image b k) (is_child_of image b (word_in image b (FIRST_SLOT + k))) before here)
 
-pub more_prunes : (k : ℕ) (x y z : List ℕ) → PrunesFirst k x y → ChangesOnly k y z → (is_in_doubt y k ≡ false → z ≡ y) → PrunesFirst (k + 1) x z
-more_prunes k x y z h t same = record {
-  size = t.size ∙ h.size;
-  sound = λ b sound. elim (cases_Bool (b == k)) [
-    | inl here ↦
-        let at = eqb-true b k here in
-        let none = same_doubt x y k h.size (h.ahead k (omega arith)) ∙ subst (λ c. is_in_doubt x c ≡ false) at sound in
-        ap (λ l. block l b) (same none) ∙ h.sound b sound
-    | inr other ↦ t.others b (λ at. let yes = eq-eqb b k at in cc) ∙ h.sound b sound
-  ];
-  ahead = λ b le. t.others b (omega arith) ∙ h.ahead b (omega arith);
-}
+  pub one_child : (k n : ℕ) → k < n → is_child_of image b (word_in image b (FIRST_SLOT + k)) ≡ true → leads_to_child image b n ≡ true
+  unfolding leads_to_child
+  one_child k zero inside here = absurd (omega arith)
+  one_child k (suc n) inside here = elim (cases_lt k n) [
+    | inl before ↦ or_left (leads_to_child image b n) _ (one_child k n before here)
+    | inr from ↦
+        let last : k ≡ n = omega arith in
+        or_right (leads_to_child image b n) _ (subst (λ s. is_child_of image b (word_in image b (FIRST_SLOT + s)) ≡ true) last here)
+  ]
 
-pub boot_kept : (x y : List ℕ) → IsPruned x y → block y 0 ≡ block x 0
-boot_kept x y h = h.sound 0 refl
+  pub slots_first : slots_pruned image b 0 ≡ image
+  unfolding slots_pruned
+  slots_first = refl
 
-root_sound : (x : List ℕ) → is_in_doubt x (root_of x) ≡ false
-root_sound x = let same = eq-eqb (root_of x) (root_of x) refl in and_left _ _ (and_right (claims_header x (root_of x)) _ (not_from_true _ same))
+  pub slots_more : (k : ℕ) (old new : List ℕ) → old ≡ slots_pruned image b k → new ≡ slot_pruned old b k → new ≡ slots_pruned image b (k + 1)
+  unfolding slots_pruned
+  slots_more k old new before step = step ∙ (ap (λ l. slot_pruned l b k) before ∙ rw add-one refl)
 
-pub root_kept : (x y : List ℕ) → IsPruned x y → block y (root_of x) ≡ block x (root_of x)
-root_kept x y h = h.sound (root_of x) (root_sound x)
+-- what a loop over the slots that lead to a child needs
+pub ruleset child_steps = (no_child_first, no_child_more, one_child)
 
--- the image that is read is as long as the input
-pub length_read : (refused : Bool) (input read : List ℕ) → IsReadFrom refused input read → length read ≡ length input
-length_read true input read (begun, opens, prunes) = prunes.size ∙ length_opened input begun opens
-length_read false input read same = ap length same
+-- what a loop that prunes the slots needs
+pub ruleset slots_steps = (slots_first, slots_more)
+
+-- the members of a chain: k of them were read, c is the next
+
+module _ (image : List ℕ) (c b k : ℕ) where
+  pub chain_ends : SLOTS ≤ k → chain_has image (SLOTS - k) c b ≡ false
+  unfolding chain_has
+  chain_ends past = let none : SLOTS - k ≡ 0 = omega (arith, past) in rw none refl
+
+  chain_step : k < SLOTS
+      → chain_has image (SLOTS - k) c b ≡ ((c == b) || claims_header image c && chain_has image (SLOTS - (k + 1)) (word_in image c NEXT_IN_CHAIN) b)
+  unfolding chain_has
+  chain_step lt = let more : SLOTS - k ≡ suc (SLOTS - (k + 1)) = omega (arith, lt) in rw more refl
+
+  pub chain_here : k < SLOTS → (c == b) ≡ true → chain_has image (SLOTS - k) c b ≡ true
+  chain_here lt here = chain_step lt ∙ or_left (c == b) _ here
+
+  pub chain_broken : k < SLOTS → (c == b) ≡ false → claims_header image c ≡ false → chain_has image (SLOTS - k) c b ≡ false
+  chain_broken lt other none = let step = chain_step lt in cc
+
+  pub chain_next : k < SLOTS → (c == b) ≡ false → claims_header image c ≡ true
+      → chain_has image (SLOTS - (k + 1)) (word_in image c NEXT_IN_CHAIN) b ≡ chain_has image (SLOTS - k) c b
+  chain_next lt other claims = let step = chain_step lt in cc
+
+-- what a loop over the members of a chain needs
+pub ruleset chain_steps = (chain_ends, chain_here, chain_broken, chain_next)
+
+-- a directory that a header may be in is in the image
+pub home_within : (image : List ℕ) (p : ℕ) → is_image_len (length image) ≡ true → is_home image p ≡ true → p < blocks image
+home_within image p len home = grind (arith, common_steps, nat_tests, or_cases, and_parts, eqb-true, root_within)
+
+pub none_pruned : (image : List ℕ) → pruned_first image 0 ≡ image
+unfolding pruned_first
+none_pruned image = refl
+
+pub pruned_more : (image : List ℕ) (k : ℕ) (old new : List ℕ) → old ≡ pruned_first image k → new ≡ pruned_at old k → new ≡ pruned_first image (k + 1)
+unfolding pruned_first
+pruned_more image k old new before step = step ∙ (ap (λ l. pruned_at l k) before ∙ rw add-one refl)
+
+pub all_pruned : (image : List ℕ) → is_image_len (length image) ≡ true → pruned image ≡ pruned_first image (blocks image)
+unfolding pruned
+all_pruned image len = cond-true (is_image_len (length image)) _ image len
+
+pub odd_kept : (image : List ℕ) → is_image_len (length image) ≡ false → pruned image ≡ image
+unfolding pruned
+odd_kept image odd = cond-false (is_image_len (length image)) _ image odd
+
+-- what a loop that prunes the blocks needs
+pub ruleset pruned_steps = (none_pruned, pruned_more, all_pruned, odd_kept)

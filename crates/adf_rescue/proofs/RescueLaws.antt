@@ -1,14 +1,14 @@
 -- Laws of verdicts: sound files stand.
-use Rattle.std.proofs.Common.{◌≡◌, ◌∙◌, Option, None, Some, refl, sym, ℕ, false, true, List, [], Ok, ap, arith}
-use Rattle.std.proofs.{lemmas.Bool.and_from, lemmas.Bool.eq-eqb, lemmas.Grind.common_steps}
+use Rattle.std.proofs.Common.{◌≡◌, ℕ, Bool, false, true, List, [], Ok, ap, arith}
+use Rattle.std.proofs.{Math.Bool.and-false, lemmas.Bool.and_from, lemmas.Bool.eq-eqb, lemmas.Grind.common_steps}
 use Rattle.adf_base.specs.{Words.block, declared.hash.Letters.Letters}
 use Rattle.adf_tree.specs.{declared.entry.Body.TheVariants.File, Tree.Tree}
 use Rattle.adf_blocks.specs.{HeadBlock.meta_stated, Sizes.blocks}
-use Rattle.adf_volume.specs.{Made.datas_in, Walk.node_block}
+use Rattle.adf_volume.specs.{Made.datas_in, Walk.node_block, Walk.Walk}
 use Rattle.adf_findings.specs.Files.{IsSoundFile, file_content, file_in, grave}
 use Rattle.adf_findings.specs.{Members.parent_node, SoundMarks.AreMarks, Survey.FindingValue, Survey.IsSurvey}
 use Rattle.adf_findings.proofs.{SoundFiles.file_told}
-use Rattle.adf_rescue.specs.{Hung.IsHungFrom, Hung.has_findings, Salvage.are_data, declared.standing.Input.Input}
+use Rattle.adf_rescue.specs.{Lost.has_lost, Outranked.none_untold, Salvage.are_data, declared.standing.Input.Input}
 use Rattle.adf_rescue.proofs.GivenBlocks.{first_given_all}
 use Rattle.adf_rescue.specs.Rescue.{Basis, Verdict, as_given, at_path, before_first_by, by_body, body_of}
 use Rattle.adf_rescue.specs.Rescue.{name_for, path_by, new_path, verdict_tree, verdict}
@@ -27,13 +27,12 @@ pub sound_verdict : (letters : Letters) (input : Input) (a : Basis) (fs : List F
     → AreMarks a.image a.walk (grave fs) a.sound → IsSoundFile a.image a.walk (grave fs) n → are_data input a.image (datas_in a.walk n) ≡ true
     → (let t = verdict_tree (before_first_by letters input a.image) vs in verdict (before_first_by letters input a.image) a vs n
     ≡ at_path t (blocks a.image) (meta_stated (block a.image (node_block a.walk n))) (File (file_content (file_in a.image a.walk n)))
-    (path_by t (new_path vs (parent_node a.walk n)) (name_for (a.outranked n) a.image (node_block a.walk n)) (node_block a.walk n)))
+    (path_by t (new_path vs (parent_node a.walk n)) (name_for letters none_untold a.image a.walk (node_block a.walk n)) (node_block a.walk n)))
 sound_verdict letters input a fs n vs survey marks is all =
     let t : Tree = verdict_tree (before_first_by letters input a.image) vs in
-    ap (by_body a.image (blocks a.image) t (new_path vs (parent_node a.walk n)) (name_for (a.outranked n) a.image (node_block a.walk n))
+    ap (by_body a.image (blocks a.image) t (new_path vs (parent_node a.walk n)) (name_for letters none_untold a.image a.walk (node_block a.walk n))
     (node_block a.walk n)) (sound_stands letters input a fs n survey marks is all)
 
--- nothing is hung in again without a finding
-pub nothing_hung : (image : List ℕ) (fs : List FindingValue) (second : Option (List ℕ)) → fs ≡ [] → IsHungFrom image fs second → second ≡ None
-nothing_hung image fs None none is = refl
-nothing_hung image fs (Some hung) none is = let clash : false ≡ true = sym (ap has_findings none) ∙ is.1 in absurd cc
+-- nothing is lost without a finding
+pub nothing_lost : (image : List ℕ) (w : Walk) (fs : List FindingValue) → fs ≡ [] → (made : Bool) → has_lost made image w fs ≡ false
+nothing_lost image w fs none = grind (arith, common_steps, and-false)

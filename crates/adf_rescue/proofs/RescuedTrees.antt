@@ -67,7 +67,7 @@ room_of_verdict : (g : Ground) (l : Basis) (vs : List Verdict) (n : ℕ) (x : Ad
 room_of_verdict g l vs n x is =
     room_unless g (entry_headed g.walk (node_block l.walk n)) (verdict_anew g l vs n) (verdict_tree g vs) x
     (room_of_body l.image (blocks g.given) (verdict_tree g vs) (new_path vs (parent_node l.walk n))
-    (name_for (l.outranked n) l.image (node_block l.walk n)) (node_block l.walk n) (body_of (as_given g l) n)) is
+    (name_for g.letters g.untold l.image l.walk (node_block l.walk n)) (node_block l.walk n) (body_of (as_given g l) n)) is
 
 -- one more verdict
 

@@ -68,7 +68,7 @@ added_by image n t dir name h (Ok body) x is = added_at t n (meta_stated (block 
 module _ (g : Ground) (l : Basis) where
   abbrev path_of : List Verdict → ℕ → Option (List (List ℕ))
   path_of vs n =
-      path_by (verdict_tree g vs) (new_path vs (parent_node l.walk n)) (name_for (l.outranked n) l.image (node_block l.walk n)) (node_block l.walk n)
+      path_by (verdict_tree g vs) (new_path vs (parent_node l.walk n)) (name_for g.letters g.untold l.image l.walk (node_block l.walk n)) (node_block l.walk n)
 
   added_so : (vs : List Verdict) (n : ℕ) (x : Addition) → verdict g l vs n ≡ adds x
       → IsAdded (verdict_tree g vs) (blocks g.given) (path_of vs n) (meta_stated (block l.image (node_block l.walk n))) (body_of (as_given g l) n) x
@@ -100,7 +100,7 @@ module _ (g : Ground) (l : Basis) (are : AreBytes l.image) where
       let h : ℕ = node_block l.walk n in
       let added = added_so g l vs n x is in
       record {
-        name = named_by (verdict_tree g vs) (new_path vs (parent_node l.walk n)) (name_for (l.outranked n) l.image h) h x.path added.path;
+        name = named_by (verdict_tree g vs) (new_path vs (parent_node l.walk n)) (name_for g.letters g.untold l.image l.walk h) h x.path added.path;
         meta = subst IsBoundedMeta (sym added.meta) (meta_bounded (block l.image h) (block_bytes l.image h are));
         body = body_bounded (as_given g l) n x.body are added.body;
       }

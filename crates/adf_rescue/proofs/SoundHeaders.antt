@@ -1,7 +1,7 @@
 -- The entries of a survey with no finding but that of an accepted type: what their headers tell is what the tree of the walk has.
 -- Letters: w the walk of the survey, fs its findings; sound the marks; n a node, i its index; b the block of its header; bs a block's bytes.
-use Rattle.std.proofs.Common.{◌≡◌, ◌⊎◌, ◌∙◌, ℕ, suc, List, inl, inr, ◌<◌, ◌≤◌, ap, subst, sym, arith, Bool, true, false, cond, Result, Ok, Err}
-use Rattle.std.proofs.{lemmas.Bool.and_from, lemmas.Bool.false_from_ne_true, lemmas.Bool.and_right, lemmas.Bool.eq-eqb, lemmas.Bool.ne_eqb}
+use Rattle.std.proofs.Common.{◌≡◌, ◌⊎◌, ◌∙◌, ℕ, suc, List, inl, inr, ◌<◌, ◌≤◌, ap, subst, arith, Bool, true, false, cond, Result, Ok, Err}
+use Rattle.std.proofs.{lemmas.Bool.and_from, lemmas.Bool.and_right, lemmas.Bool.eq-eqb, lemmas.Bool.ne_eqb}
 use Rattle.std.proofs.{lemmas.List.take_all, lemmas.Grind.common_steps}
 use Rattle.adf_base.specs.{Words.block, declared.hash.Letters.Letters}
 use Rattle.adf_tree.specs.{declared.entry.Body.Body, declared.entry.Body.TheVariants.Dir, declared.entry.Entry.Entry}
@@ -18,9 +18,9 @@ use Rattle.adf_findings.specs.Survey.{FindingValue, IsSurvey}
 use Rattle.adf_findings.proofs.{FirstFindings.shows_none, Keeping.parent_is, Lookups.header_at, SoundFiles.file_told, TypesRead.types_read}
 use Rattle.adf_rescue.specs.declared.left_out.Why.{Why, TheVariants.Damaged, TheVariants.Link}
 use Rattle.adf_rescue.specs.Rescue.{Basis, as_accepted, are_given, as_given, before_first_by, body_of, body_of_type, lost_name, name_for}
-use Rattle.adf_rescue.specs.Outranked.{MayBeOutranked}
+use Rattle.adf_rescue.specs.{Outranked.is_outranked, Outranked.none_untold}
 use Rattle.adf_rescue.specs.declared.standing.Input.{Input}
-use Rattle.adf_rescue.proofs.{PassedFindings.typed_sound, PlainVolumes.used, GivenBlocks.all_data, GivenBlocks.first_given_all}
+use Rattle.adf_rescue.proofs.{PassedFindings.typed_sound, PlainVolumes.used, GivenBlocks.all_data, GivenBlocks.first_given_all, OutrankedHeaders.not_outranked}
 
 -- texts within their fields are told whole
 
@@ -63,17 +63,17 @@ file_given letters held image w fs n le survey is type =
 -- what a survey tells of node n is this entry
 pub record IsToldAs (letters : Letters) (input : Input) (a : Basis) (n : ℕ) (e : Entry) : Type 0 where
   pub parent : parent_node a.walk n ≡ e.parent
-  pub name : name_for (a.outranked n) a.image (node_block a.walk n) ≡ e.name
+  pub name : name_for letters none_untold a.image a.walk (node_block a.walk n) ≡ e.name
   pub valid : is_name e.name ≡ true
   pub meta : meta_stated (block a.image (node_block a.walk n)) ≡ e.meta
   pub body : body_of (as_given (before_first_by letters input a.image) a) n ≡ Ok e.body
 
-pub told : (types : Types) (held : ℕ) (image : List ℕ) (w : Walk) (fs : List FindingValue) (sound outranked : ℕ → Bool) → blocks image ≤ held
+pub told : (types : Types) (held : ℕ) (image : List ℕ) (w : Walk) (fs : List FindingValue) (sound : ℕ → Bool) → blocks image ≤ held
     → IsSurvey image w fs → fs ≡ passed types image → IsOfItsKind image w
-    → AreMarks image w fs sound → MayBeOutranked image w outranked → IsWalkBy (letters_for types image) image w → (i : ℕ) → i < heads w
+    → AreMarks image w fs sound → IsWalkBy (letters_for types image) image w → (i : ℕ) → i < heads w
     → (e : Entry) × At (entries_in image w w) i e
-    × IsToldAs (letters_for types image) (as_accepted held) (record { image = image; walk = w; sound = sound; outranked = outranked }) (suc i) e
-told types held image w fs sound outranked le survey clean own marks ranks v i lt =
+    × IsToldAs (letters_for types image) (as_accepted held) (record { image = image; walk = w; sound = sound }) (suc i) e
+told types held image w fs sound le survey clean own marks v i lt =
     let letters : Letters = letters_for types image in
     let b : ℕ = node_block w (suc i) in
     let h : HeadAt w (suc i) b = header_at image w fs survey (suc i) (omega arith) (omega arith) in
@@ -83,9 +83,8 @@ told types held image w fs sound outranked le survey clean own marks ranks v i l
     let is : sound (suc i) ≡ true = (marks (suc i)).1 whole in
     let shows = shows_none image letters (passed types image) (types_read image types) w (subst (IsSurvey image w) clean survey) in
     let in_use = used image w shows.3 b (λ absent. absent (head_role h) h.has) in
-    let ranked : outranked (suc i) ≡ false = false_from_ne_true _ (λ yes.
-    let clash : true ≡ false = sym (ranks (suc i) (omega arith) (omega arith) yes) ∙ in_use in cc) in
-    let a : Basis = record { image = image; walk = w; sound = sound; outranked = outranked } in (
+    let ranked : is_outranked letters none_untold image w b ≡ false = not_outranked letters image w b in_use in
+    let a : Basis = record { image = image; walk = w; sound = sound } in (
       entry_in image w (suc i) h.parent b,
       entry_has image w v h,
       record {

@@ -12,14 +12,14 @@ use Rattle.adf_names.specs.declared.meta.Meta.{Meta}
 use Rattle.adf_base.specs.{Words.block, declared.hash.Letters.Letters}
 use Rattle.adf_blocks.specs.{HeadBlock.meta_stated, Sizes.blocks, Sizes.is_allowed}
 use Rattle.adf_build.specs.{Building.IsBuildable, Plan.blocks_needed, Plan.entries_blocks, Plan.reserved}
-use Rattle.adf_volume.specs.{Image.name_of, Walk.heads, Walk.node_block}
+use Rattle.adf_volume.specs.{Image.name_of, Walk.heads, Walk.node_block, Walk.Walk}
 use Rattle.adf_volume.proofs.Lists.{get_before}
 use Rattle.adf_findings.specs.Members.{parent_node}
 use Rattle.adf_rescue.specs.declared.left_out.Why.{Why, TheVariants.NoRoom}
 use Rattle.adf_rescue.specs.{declared.salvage.Salvage.Salvage, Rescue.Verdict.adds, Rescue.Verdict.leaves, declared.standing.Input.Input}
 use Rattle.adf_rescue.specs.Rescue.{Ground, IsSecond, Basis, OnBasis, Verdict, added_marks, verdict_addition, verdict_additions, as_given, at_path}
 use Rattle.adf_rescue.specs.Rescue.{before_second_by, body_of, by_body, directory_path, entry_headed, fitting, is_added, left_out_by, left_out_from}
-use Rattle.adf_rescue.specs.Rescue.{lost_name, path_with_room, ranked_second}
+use Rattle.adf_rescue.specs.{Outranked.is_outranked, Rescue.lost_name, Rescue.path_with_room}
 use Rattle.adf_rescue.specs.Rescue.{name_for, path_by, path_for, new_path, second_verdicts_by, verdict_tree, unless_known, verdict, verdict_anew, verdicts}
 use Rattle.adf_rescue.specs.Salvage.{ComesNext, IsPlace, IsRoomOf, IsSalvage, entry_cost, free_blocks}
 use Rattle.adf_rescue.proofs.TreeBlocks.{added_blocks}
@@ -89,21 +89,22 @@ lost_path t dir b = either (path_with_room t dir (lost_name b)) (path_with_room 
     either None other e = e
 
 -- the place of the path that an entry asks for, if it is outranked and if it is not
-module _ (d : DraftValue) (tree : Tree) (o : Option (List (List ℕ))) (m b h : ℕ) (grown : d.tree ≡ tree) (place : IsPlace d o (Some m)) (same : b ≡ h)
-    (image : List ℕ) (is : Bool) where
-  pub outranked_room : {E : Type 0} (r : Result (Option Room) E) → true ≡ is
+module _ (d : DraftValue) (t : Tree) (o : Option (List (List ℕ))) (m b h : ℕ) (tree : d.tree ≡ t) (place : IsPlace d o (Some m)) (same : b ≡ h) where
+  pub outranked_room : {E : Type 0} (ls : Letters) (u : ℕ → Bool) (image : List ℕ) (w : Walk) (r : Result (Option Room) E)
+      → true ≡ is_outranked ls u image w h
       → ((dir : List (List ℕ)) → IsDirectoryOf d dir m → IfOk r (IsRoomOf d (path_with_room d.tree dir (lost_name b))))
-      → IfOk r (IsRoomOf d (path_by tree o (name_for is image h) h))
-  outranked_room r t found =
-      let own : lost_name b ≡ name_for is image h = ap lost_name same ∙ ap (λ u. cond u (lost_name h) (name_of image h)) t in
-      room_in_place d tree o m (lost_name b) (name_for is image h) b h r grown place own same (λ dir at. rw (lost_path d.tree dir b) (found dir at))
+      → IfOk r (IsRoomOf d (path_by t o (name_for ls u image w h) h))
+  outranked_room ls u image w r is found =
+      let own : lost_name b ≡ name_for ls u image w h = ap lost_name same ∙ ap (λ u. cond u (lost_name h) (name_of image h)) is in
+      room_in_place d t o m (lost_name b) (name_for ls u image w h) b h r tree place own same (λ dir at. rw (lost_path d.tree dir b) (found dir at))
 
-  pub own_room : {E : Type 0} (name : List ℕ) (r : Result (Option Room) E) → false ≡ is → name ≡ name_of image h
+  pub own_room : {E : Type 0} (ls : Letters) (u : ℕ → Bool) (image : List ℕ) (w : Walk) (name : List ℕ) (r : Result (Option Room) E)
+      → false ≡ is_outranked ls u image w h → name ≡ name_of image h
       → ((dir : List (List ℕ)) → IsDirectoryOf d dir m → IfOk r (IsRoomOf d (path_for d.tree dir name b)))
-      → IfOk r (IsRoomOf d (path_by tree o (name_for is image h) h))
-  own_room name r f named found =
-      let own : name ≡ name_for is image h = named ∙ ap (λ u. cond u (lost_name h) (name_of image h)) f in
-      room_in_place d tree o m name (name_for is image h) b h r grown place own same found
+      → IfOk r (IsRoomOf d (path_by t o (name_for ls u image w h) h))
+  own_room ls u image w name r is named found =
+      let own : name ≡ name_for ls u image w h = named ∙ ap (λ u. cond u (lost_name h) (name_of image h)) is in
+      room_in_place d t o m name (name_for ls u image w h) b h r tree place own same found
 
 -- the verdict on an entry that is not known and stands, by its path
 module _ (g : Ground) (l : Basis) (vs : List Verdict) (n : ℕ) (new : entry_headed g.walk (node_block l.walk n) ≡ None) where
@@ -116,11 +117,11 @@ module _ (g : Ground) (l : Basis) (vs : List Verdict) (n : ℕ) (new : entry_hea
   module _ (body : Body) (stands : body_of (as_given g l) n ≡ Ok body) where
     abbrev path_of_entry : Option (List (List ℕ))
     path_of_entry =
-        path_by (verdict_tree g vs) (new_path vs (parent_node l.walk n)) (name_for (l.outranked n) l.image (node_block l.walk n)) (node_block l.walk n)
+        path_by (verdict_tree g vs) (new_path vs (parent_node l.walk n)) (name_for g.letters g.untold l.image l.walk (node_block l.walk n)) (node_block l.walk n)
 
     on_path : verdict g l vs n ≡ at_path (verdict_tree g vs) (blocks g.given) (meta_stated (block l.image (node_block l.walk n))) body path_of_entry
     on_path = anew ∙ ap (by_body l.image (blocks g.given) (verdict_tree g vs) (new_path vs (parent_node l.walk n))
-        (name_for (l.outranked n) l.image (node_block l.walk n)) (node_block l.walk n)) stands
+        (name_for g.letters g.untold l.image l.walk (node_block l.walk n)) (node_block l.walk n)) stands
 
     pub verdict_at : (path : List (List ℕ)) (meta : Meta) → path_of_entry ≡ Some path → meta ≡ meta_stated (block l.image (node_block l.walk n))
         → verdict g l vs n ≡ fitting (verdict_tree g vs) (blocks g.given) (record { path = path; meta = meta; body = body })
@@ -282,11 +283,4 @@ pub second_some : (image : List ℕ) (P : Option Basis → Type 0) → OnBasis i
     → IsSecond (Some image) b → P b
 second_some image P h None is = absurd is
 second_some image P h (Some b) is =
-    subst (λ i. OnBasis i (λ l _. P (Some l))) (sym is.of) h b.walk is.findings b.sound b.outranked is.survey is.marks
-
--- the second survey with other entries outranked
-pub second_ranked : (k : ℕ → Bool) (image : Option (List ℕ)) (b : Option Basis) → IsSecond image b → IsSecond image (ranked_second k b)
-second_ranked k None None is = is
-second_ranked k None (Some b) is = absurd is
-second_ranked k (Some image) None is = absurd is
-second_ranked k (Some image) (Some b) is = record { of = is.of; findings = is.findings; survey = is.survey; marks = is.marks }
+    subst (λ i. OnBasis i (λ l _. P (Some l))) (sym is.of) h b.walk is.findings b.sound is.survey is.marks

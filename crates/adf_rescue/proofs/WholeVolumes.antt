@@ -23,7 +23,7 @@ use Rattle.adf_build.specs.Plan.{blocks_needed, entries_blocks, reserved}
 use Rattle.adf_rescue.specs.Rescue.{as_accepted, Ground, Basis, Verdict, verdict_additions, before_first_by, before_second_by, directory_path}
 use Rattle.adf_rescue.specs.Rescue.{first_verdicts_by, fitting}
 use Rattle.adf_rescue.specs.Rescue.{left_out_from, name_for, path_by, path_for, new_path, rescue_leaves_by, rescued_tree_by, verdict_tree, verdict, verdicts}
-use Rattle.adf_rescue.specs.{Outranked.MayBeOutranked, Rescue.Verdict.adds, declared.standing.Input.Input}
+use Rattle.adf_rescue.specs.{Outranked.none_untold, Rescue.Verdict.adds, declared.standing.Input.Input}
 use Rattle.adf_rescue.proofs.{FitBlocks.fit_room, FitBlocks.front_blocks, PassedFindings.passed_grave, SoundHeaders.IsToldAs, SoundHeaders.label_whole}
 use Rattle.adf_rescue.proofs.{SoundHeaders.told, Steps.additions_more, Steps.left_out_more, Steps.verdict_at, RescuedTrees.or_else}
 use Rattle.adf_drafts.proofs.NextEntries.{directory_stays, has_room, new_is, new_leads}
@@ -119,7 +119,7 @@ tree_so_far ls input a vs = verdict_tree (before_first_by ls input a.image) vs
 module _ (ls : Letters) (input : Input) (a : Basis) (vs : List Verdict) (n : ℕ) (e : Entry) (is : IsToldAs ls input a n e) (dir : List (List ℕ))
     (at : new_path vs e.parent ≡ Some dir) where
   entry_path : room_for_by ls (tree_so_far ls input a vs).entries (dir ++ e.name ∷ []) ≡ Ok e.parent
-      → path_by (tree_so_far ls input a vs) (new_path vs (parent_node a.walk n)) (name_for (a.outranked n) a.image (node_block a.walk n)) (node_block a.walk n)
+      → path_by (tree_so_far ls input a vs) (new_path vs (parent_node a.walk n)) (name_for ls none_untold a.image a.walk (node_block a.walk n)) (node_block a.walk n)
       ≡ Some (dir ++ e.name ∷ [])
   entry_path room = grind (arith, common_steps, tree_so_far, own_path)
 
@@ -130,9 +130,9 @@ module _ (ls : Letters) (input : Input) (a : Basis) (vs : List Verdict) (n : ℕ
 
 -- so all entries of a tree that fits are added
 
-module _ (types : Types) (held : ℕ) (image : List ℕ) (w : Walk) (fs : List FindingValue) (sound outranked : ℕ → Bool) (le : blocks image ≤ held)
+module _ (types : Types) (held : ℕ) (image : List ℕ) (w : Walk) (fs : List FindingValue) (sound : ℕ → Bool) (le : blocks image ≤ held)
     (survey : IsSurvey image w fs) (clean : fs ≡ passed types image) (own : IsOfItsKind image w)
-    (marks : AreMarks image w fs sound) (ranks : MayBeOutranked image w outranked) (v : IsWalkBy (letters_for types image) image w)
+    (marks : AreMarks image w fs sound) (v : IsWalkBy (letters_for types image) image w)
     (fit : FitsBy (letters_for types image) image (tree_in_by (letters_for types image) image w) (layout_in w)) where
   abbrev ls : Letters
   ls = letters_for types image
@@ -141,7 +141,7 @@ module _ (types : Types) (held : ℕ) (image : List ℕ) (w : Walk) (fs : List F
   all = entries_in image w w
 
   abbrev basis : Basis
-  basis = record { image = image; walk = w; sound = sound; outranked = outranked }
+  basis = record { image = image; walk = w; sound = sound }
 
   -- the first entries have the blocks that they need
   front_room : (k : ℕ) → 1 + reserved (blocks image) + entries_blocks (kind_of image) (take k all) ≤ blocks image - 2
@@ -150,7 +150,7 @@ module _ (types : Types) (held : ℕ) (image : List ℕ) (w : Walk) (fs : List F
   next_front : (k : ℕ) (vs : List Verdict) → k < heads w → IsFront ls all k vs
       → IsFront ls all (suc k) (vs ++ verdict (before_first_by ls (as_accepted held) image) basis vs (suc k) ∷ [])
   next_front k vs lt f =
-      let x = told types held image w fs sound outranked le survey clean own marks ranks v k lt in
+      let x = told types held image w fs sound le survey clean own marks v k lt in
       let e : Entry = x.0 in
       let within : k < length all = omega (arith, entries_length image w w) in
       let here : get_or all k e ≡ e = at_index_or all k e e x.1 in
@@ -181,14 +181,14 @@ same_tree : (image : List ℕ) (w : Walk) (g : Ground) (vs : List Verdict) → g
 unfolding stamps_of
 same_tree image w g vs given root same = grind (arith, common_steps, label_whole)
 
-module _ (types : Types) (held : ℕ) (image : List ℕ) (t : Tree) (l : Layout) (w : Walk) (fs : List FindingValue) (sound outranked : ℕ → Bool)
+module _ (types : Types) (held : ℕ) (image : List ℕ) (t : Tree) (l : Layout) (w : Walk) (fs : List FindingValue) (sound : ℕ → Bool)
     (le : blocks image ≤ held) (fit : FitsBy (letters_for types image) image t l) (survey : IsSurvey image w fs) (own : IsOfItsKind image w)
-    (marks : AreMarks image w (grave fs) sound) (ranks : MayBeOutranked image w outranked) where
+    (marks : AreMarks image w (grave fs) sound) where
   abbrev of_types : Letters
   of_types = letters_for types image
 
   abbrev whole_basis : Basis
-  whole_basis = record { image = image; walk = w; sound = sound; outranked = outranked }
+  whole_basis = record { image = image; walk = w; sound = sound }
 
   clean : fs ≡ passed types image
   clean = finds_none image of_types (passed types image) (types_read image types) t l w fs fit survey
@@ -207,7 +207,7 @@ module _ (types : Types) (held : ℕ) (image : List ℕ) (t : Tree) (l : Layout)
   walk = (shows_none image of_types (passed types image) (types_read image types) w unreported).1
 
   whole : IsFront of_types (entries_in image w w) (heads w) (first_verdicts_by of_types (as_accepted held) whole_basis)
-  whole = front types held image w fs sound outranked le survey clean own all_marks ranks walk made (heads w) (omega arith)
+  whole = front types held image w fs sound le survey clean own all_marks walk made (heads w) (omega arith)
 
   pub tree_kept : rescued_tree_by of_types (as_accepted held) whole_basis None ≡ t
   tree_kept =

@@ -1,6 +1,6 @@
 -- The promise: what is opened, hung in again and kept of a damaged image.
 pub mod Broken
-pub mod Changes
+pub mod Chains
 pub mod Claims
 pub mod Directories
 pub mod Hung

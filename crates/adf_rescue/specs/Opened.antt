@@ -1,6 +1,6 @@
 -- An image whose boot block or root was overwritten, as if these were those of a volume.
--- Letters: b the number of a block; k a number of blocks; x, y images.
-use Rattle.std.specs.Prelude.{◌≡◌, true, ℕ, ◌==◌, ◌&&◌, ◌||◌, not, nat_le, nat_lt, Bool, false, cond, List, ◌∷◌, ◌++◌}
+-- Letters: b the number of a block; k a number of blocks.
+use Rattle.std.specs.Prelude.{ℕ, ◌==◌, ◌&&◌, ◌||◌, not, nat_le, nat_lt, Bool, false, cond, List, ◌∷◌, ◌++◌}
 use Rattle.std.specs.Prelude.{codes, drop, length, slice_index}
 use Rattle.std.proofs.Common.{zero, suc}
 use Rattle.adf_base.specs.Words.{block, long_sum}
@@ -8,7 +8,7 @@ use Rattle.adf_blocks.specs.declared.layout.TheConstants.{DATA_HEAD, OWN_KEY, SE
 use Rattle.adf_blocks.specs.Sizes.{blocks}
 use Rattle.adf_volume.specs.{Image.word_in, Start.is_image_len}
 use Rattle.adf_boot_blocks.specs.BootBlocks.{begins_with_dos}
-use Rattle.adf_rescue.specs.MadeRoot.{IsGivenRoot, has_root}
+use Rattle.adf_rescue.specs.MadeRoot.{has_root, rooted}
 
 -- block b says that it is a file's header: by its types, its own key and its sum
 abbrev pub says_file : List ℕ → ℕ → Bool
@@ -55,7 +55,6 @@ lacks_root image = is_image_len (length image) && not (has_root image)
 abbrev pub is_mended : List ℕ → Bool
 is_mended image = is_image_len (length image) && not (states_type image && has_root image)
 
--- an image is this one as a rescue opens it: where it must be mended, with a beginning and a root
-pub record IsOpened (x y : List ℕ) : Type 0 where
-  pub kept : is_mended x ≡ false → y ≡ x
-  pub mended : is_mended x ≡ true → IsGivenRoot (with_boot_type x) y
+-- the image as a rescue reads it: where it must be mended, with a beginning and a root
+abbrev pub opened : List ℕ → List ℕ
+opened image = cond (is_mended image) (rooted (with_boot_type image)) image

@@ -18,31 +18,20 @@ use Rattle.adf_volume.specs.{Image.name_of, Image.word_in, Made.datas_in, Types.
 use Rattle.adf_findings.specs.{Files.file_content, Files.file_in, Files.grave, SoundMarks.AreMarks, Opening.opening_in, Survey.FindingValue, Survey.IsSurvey}
 use Rattle.adf_findings.specs.Members.{owning_entry, parent_node, has_mark}
 use Rattle.adf_build.specs.Plan.{blocks_needed}
-use Rattle.adf_rescue.specs.{Claims.claims_other, Lost.is_stated_free, declared.left_out.LeftOut.LeftOut, declared.standing.Input.Input}
+use Rattle.adf_rescue.specs.{Claims.claims_other, Lost.is_stated_free, Outranked.is_outranked, Outranked.is_untold, Outranked.none_untold, declared.left_out.LeftOut.LeftOut, declared.standing.Input.Input}
 use Rattle.adf_rescue.specs.declared.left_out.Why.{Why, TheVariants.Damaged, TheVariants.Link, TheVariants.NoRoom}
 
--- a survey as a rescue takes it: its image and walk, whether an entry is whole, and whether another header outranks that of an entry, which then is
--- called by its block
+-- a survey as a rescue takes it: its image and walk, and whether an entry is whole
 pub record Basis : Type 0 where
   pub image : List ℕ
   pub walk : Walk
   pub sound : ℕ → Bool
-  pub outranked : ℕ → Bool
-
--- the survey with other entries outranked
-abbrev pub ranked : (ℕ → Bool) → Basis → Basis
-ranked m l = record l { outranked = m }
-
--- the second survey with other entries outranked, if there is one
-abbrev pub ranked_second : (ℕ → Bool) → Option Basis → Option Basis
-ranked_second m None = None
-ranked_second m (Some b) = Some (ranked m b)
 
 -- what holds of the survey of an image and of its findings; whole is what is sound but for harmless findings of headers
 abbrev pub OnBasis : List ℕ → (Basis → List FindingValue → Type 0) → Type 0
 OnBasis image holds =
-    (w : Walk) (fs : List FindingValue) (sound outranked : ℕ → Bool) → IsSurvey image w fs → AreMarks image w (grave fs) sound
-    → holds (record { image = image; walk = w; sound = sound; outranked = outranked }) fs
+    (w : Walk) (fs : List FindingValue) (sound : ℕ → Bool) → IsSurvey image w fs → AreMarks image w (grave fs) sound
+    → holds (record { image = image; walk = w; sound = sound }) fs
 
 -- it is the survey of this image
 pub record IsBasis (image : List ℕ) (l : Basis) : Type 0 where
@@ -68,13 +57,14 @@ pub data Verdict : Type 0 where
   knows : (place : Option (List (List ℕ))) → Verdict
 
 -- what is taken before a survey: the image that is rescued and what is known of the input, the letters of the new tree, the walk of the survey
--- before, and the verdicts on its entries
+-- before, the verdicts on its entries, and which headers are untold
 pub record Ground : Type 0 where
   pub given : List ℕ
   pub letters : Letters
   pub input : Input
   pub walk : Walk
   pub verdicts : List Verdict
+  pub untold : ℕ → Bool
 
 -- the body of an entry that is no whole file, by its secondary type: only a directory stands
 abbrev pub body_of_type : ℕ → Result Body Why
@@ -152,8 +142,8 @@ by_body image n t dir name h (Ok body) = at_path t n (meta_stated (block image h
 by_body image n t dir name h (Err why) = leaves why
 
 -- the name that an entry asks for: its own, unless another header outranks it
-abbrev pub name_for : (is_outranked : Bool) → List ℕ → ℕ → List ℕ
-name_for is_outranked image h = cond is_outranked (lost_name h) (name_of image h)
+abbrev pub name_for : Letters → (ℕ → Bool) → List ℕ → Walk → ℕ → List ℕ
+name_for letters u image w h = cond (is_outranked letters u image w h) (lost_name h) (name_of image h)
 
 -- both images have this block, with the same bytes
 abbrev pub is_same_block : List ℕ → List ℕ → ℕ → Bool
@@ -199,7 +189,7 @@ as_given g l = record l { sound = λ n. l.sound n && are_given g l.image (datas_
 abbrev pub verdict_anew : Ground → Basis → List Verdict → ℕ → Verdict
 verdict_anew g l vs n =
     let h = node_block l.walk n in
-    by_body l.image (blocks g.given) (verdict_tree g vs) (new_path vs (parent_node l.walk n)) (name_for (l.outranked n) l.image h) h (body_of (as_given g l) n)
+    by_body l.image (blocks g.given) (verdict_tree g vs) (new_path vs (parent_node l.walk n)) (name_for g.letters g.untold l.image l.walk h) h (body_of (as_given g l) n)
 
 -- block b is the header of entry n
 abbrev pub is_header_at : Walk → ℕ → ℕ → Bool
@@ -229,7 +219,7 @@ verdicts g l (suc k) = let vs = verdicts g l k in vs ++ verdict g l vs (suc k) �
 
 -- nothing is taken before the survey of the image
 abbrev pub before_first_by : Letters → Input → List ℕ → Ground
-before_first_by letters input image = record { given = image; letters = letters; input = input; walk = []; verdicts = [] }
+before_first_by letters input image = record { given = image; letters = letters; input = input; walk = []; verdicts = []; untold = none_untold }
 
 -- the verdicts on its entries
 abbrev pub first_verdicts_by : Letters → Input → Basis → List Verdict
@@ -238,7 +228,14 @@ first_verdicts_by letters input a = verdicts (before_first_by letters input a.im
 -- they are taken before the second survey
 abbrev pub before_second_by : Letters → Input → Basis → Ground
 before_second_by letters input a =
-    record { given = a.image; letters = letters; input = input; walk = a.walk; verdicts = first_verdicts_by letters input a }
+    record {
+      given = a.image;
+      letters = letters;
+      input = input;
+      walk = a.walk;
+      verdicts = first_verdicts_by letters input a;
+      untold = is_untold a.image a.walk;
+    }
 
 -- the verdicts on the entries of the second survey
 abbrev pub second_verdicts_by : Letters → Input → Basis → Option Basis → List Verdict

@@ -9,7 +9,7 @@ use Rattle.adf_blocks.specs.Sizes.{blocks}
 use Rattle.adf_volume.specs.{Image.kind_of, Walk.heads, Walk.Walk}
 use Rattle.adf_findings.specs.Survey.{FindingValue, IsSurvey}
 use Rattle.adf_build.specs.Plan.{data_blocks, entries_blocks, exts_needed, reserved}
-use Rattle.adf_rescue.specs.{declared.salvage.Salvage.Salvage, declared.standing.Input.Input}
+use Rattle.adf_rescue.specs.{Outranked.AreOutranked, declared.salvage.Salvage.Salvage, declared.standing.Input.Input}
 use Rattle.adf_rescue.specs.Rescue.{Ground, Verdict, added_marks, is_data, verdict_additions, left_out_from, new_path, verdict_tree}
 
 -- a room is that of a path; there is none without a path
@@ -66,3 +66,4 @@ pub record GoesOn (image : List ℕ) (n : ℕ) (r : Salvage) : Type 0 where
   pub survey : IsSurvey image walk findings
   pub state : IsSalvage ground verdicts r
   pub next : ComesNext walk verdicts n
+  pub ranks : AreOutranked ground.letters ground.untold image walk r.outranked.items

@@ -1,8 +1,10 @@
 // Chains: whether a directory leads to a header.
 
-ghost use Rattle.std.specs.Prelude.{◌≡◌, ◌<◌, length, true};
-ghost use Rattle.adf_blocks.specs.{Sizes.blocks};
-ghost use Rattle.adf_volume.specs.{Start.is_image_len};
+ghost use Rattle.std.specs.Prelude.{◌≡◌, ◌<◌, ◌↔◌, length, true, IfSome, IsSome, IsTrue};
+ghost use Rattle.adf_names.specs.Texts.{is_name};
+ghost use Rattle.adf_blocks.specs.{Sizes.blocks, declared.layout.TheConstants.SLOTS};
+ghost use Rattle.adf_volume.specs.{Image.name_of, Image.word_in, Start.is_image_len};
+ghost use Rattle.adf_rescue.specs.Chains.{chain_has, leads_to, slotted};
 
 use crate::claims::claims_header;
 use crate::lost::word_in;
@@ -16,6 +18,8 @@ fn slotted(image: &[u8], p: u32, b: u32) -> Option<u32>
     requires sized { is_image_len (length image.now) ≡ true }
     requires inside { b < blocks image.now }
     requires home { p < blocks image.now }
+    ensures some { IsSome result ↔ IsTrue (is_name (name_of image.now b)) }
+    ensures first { IfSome result (λ c. c ≡ slotted image.now p b) }
 {
     match slot_named(image, b) {
         Some(slot) => Some(word_in(image, p, FIRST_SLOT + usize::from(slot))),
@@ -24,8 +28,10 @@ fn slotted(image: &[u8], p: u32, b: u32) -> Option<u32>
 }
 
 // Whether block `b` is one of the first 72 members of the chain that begins with block `first`.
+#[tactic(auto, using(crate::proofs::PrunedImages::chain_steps))]
 fn chain_has(image: &[u8], first: u32, b: u32) -> bool
     requires { is_image_len (length image.now) ≡ true }
+    ensures { result ≡ chain_has image.now SLOTS first b }
 {
     let mut member = first;
     for _ in 0..SLOTS as usize {
@@ -45,6 +51,7 @@ pub fn leads_to(image: &[u8], p: u32, b: u32) -> bool
     requires sized { is_image_len (length image.now) ≡ true }
     requires inside { b < blocks image.now }
     requires home { p < blocks image.now }
+    ensures { result ≡ leads_to image.now p b }
 {
     match slotted(image, p, b) {
         Some(first) => chain_has(image, first, b),

@@ -1,9 +1,12 @@
 // The entries that a rescue keeps in doubt.
 
-ghost use Rattle.std.specs.Prelude.{◌≡◌, ◌≤◌, IfOk, None, option_map};
+ghost use Rattle.std.specs.Prelude.{◌≡◌, ◌≤◌, List, IfOk, length, option_map};
+ghost use Rattle.adf_base.specs.declared.hash.Letters.{Letters};
 ghost use Rattle.adf_volume.specs.Walk.{heads};
 ghost use Rattle.adf_findings.specs.Survey.{OnSurvey};
-ghost use Rattle.adf_rescue.specs.{Doubts.AreDoubts, Doubts.AreSecondDoubts, Doubts.IsDoubtless, Rescue.OnSecond};
+ghost use Rattle.adf_rescue.specs.Doubts.{kept_in_doubt, doubts_from, first_doubt, headed_doubt, second_doubt, second_doubts_by};
+ghost use Rattle.adf_rescue.specs.Rescue.{OnBasis, OnSecond, Verdict, added_marks, second_verdicts_by};
+ghost use Rattle.adf_rescue.specs.declared.standing.Input.{Input};
 
 use crate::losses::push_some;
 use crate::lost::{in_range, is_stated_free, is_stated_used, says_header};
@@ -35,7 +38,7 @@ pub struct Doubtful {
 
 // The doubt about an entry of the survey, by its header.
 fn first_doubt(survey: &Survey<'_>, n: Node) -> Option<Doubt>
-    ensures { OnSurvey survey.now.image (λ w _. 1 ≤ n → n ≤ heads w → IsDoubtless survey.now.image w n → result ≡ None) }
+    ensures { OnSurvey survey.now.image (λ w _. 1 ≤ n → n ≤ heads w → result ≡ first_doubt survey.now.image w n) }
 {
     let (Some(block), Some(head)) = (survey.block_of(n), survey.header(n)) else {
         return None;
@@ -50,7 +53,9 @@ fn first_doubt(survey: &Survey<'_>, n: Node) -> Option<Doubt>
 }
 
 // The doubt about an entry that only a second survey has, by the block of its header.
-fn headed_doubt(survey: &Survey<'_>, h: u32) -> Doubt {
+fn headed_doubt(survey: &Survey<'_>, h: u32) -> Doubt
+    ensures { OnSurvey survey.now.image (λ w _. result ≡ headed_doubt survey.now.image w h) }
+{
     let image = survey.image();
     if !(in_range(image, h) && says_header(image, h)) {
         Doubt::Made
@@ -62,7 +67,10 @@ fn headed_doubt(survey: &Survey<'_>, h: u32) -> Doubt {
 }
 
 // The doubt about an entry of the second survey.
-fn second_doubt(survey: &Survey<'_>, second: &Survey<'_>, n: Node) -> Option<Doubt> {
+fn second_doubt(survey: &Survey<'_>, second: &Survey<'_>, n: Node) -> Option<Doubt>
+    ensures { OnSurvey survey.now.image (λ w _. OnSurvey second.now.image (λ u _. 1 ≤ n → n ≤ heads u
+        → result ≡ second_doubt survey.now.image w u n)) }
+{
     match second.block_of(n) {
         Some(block) => Some(headed_doubt(survey, block)),
         None => None,
@@ -71,7 +79,7 @@ fn second_doubt(survey: &Survey<'_>, second: &Survey<'_>, n: Node) -> Option<Dou
 
 // An entry with the doubt about it, if it is kept and there is one.
 fn kept_in_doubt(entry: Node, doubt: Option<Doubt>, is_kept: bool) -> Option<Doubtful>
-    ensures { doubt ≡ None → result ≡ None }
+    ensures { result ≡ kept_in_doubt entry doubt is_kept }
 {
     match doubt {
         Some(why) if is_kept => Some(Doubtful { entry, why }),
@@ -86,7 +94,8 @@ pub fn first_doubts(
     survey: &Survey<'_>,
     kept: &Vec<bool>,
 ) -> Result<Vec<Doubtful>, NoMemory>
-    ensures { OnSurvey survey.now.image (λ w _. IfOk result (λ r. AreDoubts survey.now.image w r.items)) }
+    ensures { OnSurvey survey.now.image (λ w _. (vs : List Verdict) → length vs ≡ heads w → kept.now.items ≡ added_marks vs
+        → IfOk result (λ r. r.items ≡ doubts_from (first_doubt survey.now.image w) 1 vs)) }
 {
     let mut doubts = Vec::new(alloc);
     for before in 0..survey.len() {
@@ -106,7 +115,10 @@ fn doubts_of_second(
     survey: &Survey<'_>,
     second: &Survey<'_>,
     kept: &Vec<bool>,
-) -> Result<Vec<Doubtful>, NoMemory> {
+) -> Result<Vec<Doubtful>, NoMemory>
+    ensures { OnSurvey survey.now.image (λ w _. OnSurvey second.now.image (λ u _. (vs : List Verdict) → length vs ≡ heads u
+        → kept.now.items ≡ added_marks vs → IfOk result (λ r. r.items ≡ doubts_from (second_doubt survey.now.image w u) 1 vs))) }
+{
     let mut doubts = Vec::new(alloc);
     for before in 0..second.len() {
         let n = Node(before + 1);
@@ -127,7 +139,9 @@ pub fn second_doubts(
     second: Option<&Survey<'_>>,
     kept: &Vec<bool>,
 ) -> Result<Vec<Doubtful>, NoMemory>
-    ensures { OnSecond (option_map (λ s. s.now.image) second.entry) (λ b. IfOk result (λ r. AreSecondDoubts b r.items)) }
+    ensures { OnBasis survey.now.image (λ a _. OnSecond (option_map (λ s. s.now.image) second.entry) (λ b.
+        (letters : Letters) (input : Input) → kept.now.items ≡ added_marks (second_verdicts_by letters input a b)
+        → IfOk result (λ r. r.items ≡ second_doubts_by letters input a b))) }
 {
     match second {
         Some(second) => doubts_of_second(alloc, survey, second, kept),

@@ -1,10 +1,15 @@
 // The hung image: each lost header hangs in its directory, if that is found, lost itself or made.
 
-ghost use Rattle.std.specs.Prelude.{◌≡◌, ◌<◌, length, option_map, true, IfOk, IfSome, OnErr};
-ghost use Rattle.adf_blocks.specs.Sizes.{blocks};
-ghost use Rattle.adf_volume.specs.Start.{is_image_len};
-ghost use Rattle.adf_findings.specs.Survey.{OnSurvey};
-ghost use Rattle.adf_rescue.specs.{Hung.IsHungFrom, Hung.has_findings};
+ghost use Rattle.std.specs.Prelude.{◌≡◌, ◌<◌, ◌≤◌, ◌||◌, ◌&&◌, ◌==◌, ℕ, Bool, true};
+ghost use Rattle.std.specs.Prelude.{length, option_map, IfOk, IfSome, OnErr, OnOk};
+ghost use Rattle.adf_base.specs.Words.{with_block};
+ghost use Rattle.adf_blocks.specs.{HeadBlock.head_block, Sizes.blocks};
+ghost use Rattle.adf_volume.specs.{Start.is_image_len, Walk.heads};
+ghost use Rattle.adf_findings.specs.{Members.has_mark, Survey.OnSurvey};
+ghost use Rattle.adf_rescue.specs.Lost.{AreLost, IsEvidence, has_findings, is_vacant, lost_among};
+ghost use Rattle.adf_rescue.specs.{Directories.AreDirectories, Hung.second_image, Hung.slot_word, Rescue.lost_name};
+ghost use Rattle.adf_rescue.specs.Hung.{AreEnds, AreLoose, directory_end, emptied, home, hung, hung_at, hung_in, hung_loose};
+ghost use Rattle.adf_rescue.specs.Hung.{is_container, is_made, made_header, open_end, ready_in, readied};
 
 use crate::chains::leads_to;
 use crate::directories::{directories, directory_of, put};
@@ -29,6 +34,7 @@ fn slot_word(survey: &Survey<'_>, p: u32, b: u32) -> usize
     requires sized { is_image_len (length survey.now.image) ≡ true }
     requires inside { b < blocks survey.now.image }
     requires home { p < blocks survey.now.image }
+    ensures exact { result ≡ slot_word survey.now.image p b }
     ensures small { result < 78 }
 {
     let half = if leads_to(survey.image(), p, b) {
@@ -40,11 +46,12 @@ fn slot_word(survey: &Survey<'_>, p: u32, b: u32) -> usize
 }
 
 // Hangs block `b` of directory `p` where word `i` of block `e` leads to.
+#[tactic(auto, unfolding(crate::specs::Hung::hung_at))]
 fn hang(image: &mut [u8], b: u32, p: u32, e: u32, i: usize)
     requires block { b < blocks image.old }
     requires holder { e < blocks image.old }
     requires word { i < 128 }
-    ensures { length image.new ≡ length image.old }
+    ensures { image.new ≡ hung_at image.old b p e i }
 {
     let next = word_in(image, e, i);
     set_word(image, b, NEXT_IN_CHAIN, next);
@@ -57,14 +64,16 @@ fn hang(image: &mut [u8], b: u32, p: u32, e: u32, i: usize)
 // Empties the table of block `b`.
 fn empty(image: &mut [u8], b: u32)
     requires { b < blocks image.old }
-    ensures { length image.new ≡ length image.old }
+    ensures { image.new ≡ emptied image.old b }
 {
     set_bytes(image, b, 4 * FIRST_SLOT, &[0u8; 4 * SLOTS as usize]);
 }
 
 // The name of a directory that is made in block `p`.
 #[tactic(auto, using(crate::proofs::HungImages::name_is_valid))]
-fn made_name(alloc: Global, p: u32) -> Result<Name, NoMemory> {
+fn made_name(alloc: Global, p: u32) -> Result<Name, NoMemory>
+    ensures { IfOk result (λ n. n ≡ lost_name p) }
+{
     let text = lost_name(alloc, p)?;
     Ok(Name::known(text.as_bytes()))
 }
@@ -72,7 +81,7 @@ fn made_name(alloc: Global, p: u32) -> Result<Name, NoMemory> {
 // Writes the header of a directory that is made in block `p`.
 fn make(alloc: Global, image: &mut [u8], root: u32, p: u32) -> Result<(), NoMemory>
     requires { p < blocks image.old }
-    ensures { length image.new ≡ length image.old }
+    ensures { OnOk result (image.new ≡ with_block image.old p (head_block (made_header root p))) }
 {
     let name = made_name(alloc, p)?;
     let meta = Meta::new(Comment::new(b"").unwrap(), 0, NO_STAMP);
@@ -101,8 +110,11 @@ struct Loose {
 }
 
 // Whether one of the blocks is a lost header.
+#[tactic(auto, using(crate::proofs::HungImages::lost_steps))]
 fn has_lost(survey: &Survey<'_>, lost: &Vec<bool>) -> bool
     requires { is_image_len (length survey.now.image) ≡ true }
+    ensures { OnSurvey survey.now.image (λ w _. (s : ℕ → Bool) → AreLost survey.now.image w s lost.now.items
+        → result ≡ lost_among survey.now.image w s (blocks survey.now.image)) }
 {
     for b in 0..block_count(survey.image()) {
         if has_mark(lost, b as usize) {
@@ -122,6 +134,10 @@ fn has_findings(survey: &Survey<'_>) -> bool
 // Marks block `p`, if a directory may be made there.
 fn mark_vacant(survey: &Survey<'_>, evidence: &Evidence, made: &mut Vec<bool>, p: u32)
     requires sized { is_image_len (length survey.now.image) ≡ true }
+    ensures marks { OnSurvey survey.now.image (λ w _. (s : ℕ → Bool) → IsEvidence survey.now.image w s evidence.now
+        → (q : ℕ) → q < length made.old.items → has_mark made.new.items q
+        ≡ (has_mark made.old.items q || is_vacant survey.now.image w s q && (p == q))) }
+    ensures length { length made.new.items ≡ length made.old.items }
 {
     if is_vacant(survey, evidence, p) {
         mark(made, p as usize, true);
@@ -137,6 +153,9 @@ fn made_marks(
     directories: &Vec<u32>,
 ) -> Result<Vec<bool>, NoMemory>
     requires { is_image_len (length survey.now.image) ≡ true }
+    ensures { OnSurvey survey.now.image (λ w _. (s : ℕ → Bool) (d : ℕ → ℕ) → IsEvidence survey.now.image w s evidence.now
+        → AreLost survey.now.image w s lost.now.items → AreDirectories survey.now.image d directories.now.items
+        → IfOk result (λ v. (p : ℕ) → has_mark v.items p ≡ is_made survey.now.image w s d p)) }
 {
     let blocks = block_count(survey.image());
     let mut marks = vec![in alloc; false; blocks as usize]?;
@@ -149,7 +168,9 @@ fn made_marks(
 }
 
 // The block of an entry, if its chain leads to no part of the survey behind it.
-fn open_end(survey: &Survey<'_>, n: Node) -> Option<u32> {
+fn open_end(survey: &Survey<'_>, n: Node) -> Option<u32>
+    ensures { OnSurvey survey.now.image (λ w _. 1 ≤ n → n ≤ heads w → result ≡ open_end survey.now.image w n) }
+{
     let (Some(block), Some(head)) = (survey.block_of(n), survey.header(n)) else {
         return None;
     };
@@ -161,7 +182,11 @@ fn open_end(survey: &Survey<'_>, n: Node) -> Option<u32> {
 }
 
 // Of each node of the survey the block behind which things are hung.
-fn ends(alloc: Global, survey: &Survey<'_>) -> Result<Vec<u32>, NoMemory> {
+#[tactic(auto)]
+fn ends(alloc: Global, survey: &Survey<'_>) -> Result<Vec<u32>, NoMemory>
+    ensures { OnSurvey survey.now.image (λ w _.
+        IfOk result (λ v. AreEnds survey.now.image w (heads w) v.items)) }
+{
     let entries = survey.len();
     let mut ends = vec![in alloc; 0u32; entries.saturating_add(1)]?;
     for before in 0..entries {
@@ -176,6 +201,8 @@ fn ends(alloc: Global, survey: &Survey<'_>) -> Result<Vec<u32>, NoMemory> {
 // Whether block `p` is a directory that things can be hung in: of the survey, lost, or made.
 fn is_container(survey: &Survey<'_>, loose: &Loose, p: u32) -> bool
     requires { is_image_len (length survey.now.image) ≡ true }
+    ensures is { OnSurvey survey.now.image (λ w _. (s : ℕ → Bool) (d : ℕ → ℕ) → AreLoose survey.now.image w s d loose.now
+        → result ≡ is_container survey.now.image w s d p) }
     ensures inside { result ≡ true → p < blocks survey.now.image }
 {
     in_range(survey.image(), p)
@@ -185,9 +212,12 @@ fn is_container(survey: &Survey<'_>, loose: &Loose, p: u32) -> bool
 }
 
 // The home of block `b`, in which it is hung.
+#[tactic(auto, unfolding(crate::specs::Hung::home))]
 fn home(survey: &Survey<'_>, loose: &Loose, b: u32) -> Option<u32>
     requires sized { is_image_len (length survey.now.image) ≡ true }
     requires inside { b < blocks survey.now.image }
+    ensures home { OnSurvey survey.now.image (λ w _. (s : ℕ → Bool) (d : ℕ → ℕ) → AreLoose survey.now.image w s d loose.now
+        → result ≡ home survey.now.image w s d b) }
     ensures inside { IfSome result (λ p. p < blocks survey.now.image) }
 {
     let image = survey.image();
@@ -203,6 +233,7 @@ fn home(survey: &Survey<'_>, loose: &Loose, b: u32) -> Option<u32>
 }
 
 // Makes block `b` ready: a made directory gets its header, and a lost one an empty table.
+#[tactic(auto, unfolding(crate::specs::Hung::ready_in))]
 fn ready(
     alloc: Global,
     survey: &Survey<'_>,
@@ -213,7 +244,8 @@ fn ready(
     requires sized { is_image_len (length survey.now.image) ≡ true }
     requires same { length image.old ≡ length survey.now.image }
     requires inside { b < blocks survey.now.image }
-    ensures { length image.new ≡ length image.old }
+    ensures { OnSurvey survey.now.image (λ w _. (s : ℕ → Bool) (d : ℕ → ℕ) → AreLoose survey.now.image w s d loose.now
+        → OnOk result (image.new ≡ ready_in survey.now.image w s d image.old b)) }
 {
     let given = survey.image();
     if has_mark(&loose.made, b as usize) {
@@ -226,6 +258,7 @@ fn ready(
 }
 
 // Makes all blocks ready.
+#[tactic(auto, using(crate::proofs::HungImages::readied_first, crate::proofs::HungImages::readied_more))]
 fn ready_all(
     alloc: Global,
     survey: &Survey<'_>,
@@ -233,8 +266,9 @@ fn ready_all(
     image: &mut [u8],
 ) -> Result<(), NoMemory>
     requires sized { is_image_len (length survey.now.image) ≡ true }
-    requires same { length image.old ≡ length survey.now.image }
-    ensures { length image.new ≡ length image.old }
+    requires same { image.old ≡ survey.now.image }
+    ensures { OnSurvey survey.now.image (λ w _. (s : ℕ → Bool) (d : ℕ → ℕ) → AreLoose survey.now.image w s d loose.now
+        → OnOk result (image.new ≡ readied survey.now.image w s d (blocks survey.now.image))) }
 {
     for b in 0..block_count(survey.image()) {
         ready(alloc, survey, loose, image, b)?;
@@ -243,20 +277,25 @@ fn ready_all(
 }
 
 // The block behind which things are hung in the directory in block `p`; 0 if there is none.
+#[tactic(auto, using(crate::proofs::HungImages::end_found))]
 fn directory_end(survey: &Survey<'_>, loose: &Loose, p: u32) -> u32
     requires { is_image_len (length survey.now.image) ≡ true }
+    ensures { OnSurvey survey.now.image (λ w _. (s : ℕ → Bool) (d : ℕ → ℕ) → AreLoose survey.now.image w s d loose.now
+        → result ≡ directory_end survey.now.image w p) }
 {
     let n = directory_at(survey, p).unwrap_or(Node(0));
     loose.ends.get(n.0).copied().unwrap_or(0)
 }
 
 // Hangs block `b` in directory `p`, where nothing of the survey is.
+#[tactic(auto, unfolding(crate::specs::Hung::hung_in))]
 fn hang_in(survey: &Survey<'_>, loose: &Loose, image: &mut [u8], b: u32, p: u32)
     requires sized { is_image_len (length survey.now.image) ≡ true }
     requires same { length image.old ≡ length survey.now.image }
     requires inside { b < blocks survey.now.image }
     requires home { p < blocks survey.now.image }
-    ensures { length image.new ≡ length image.old }
+    ensures { OnSurvey survey.now.image (λ w _. (s : ℕ → Bool) (d : ℕ → ℕ) → AreLoose survey.now.image w s d loose.now
+        → image.new ≡ hung_in survey.now.image w image.old b p) }
 {
     let slot = slot_word(survey, p, b);
     if !survey.has_part(word_in(image, p, slot)) {
@@ -270,11 +309,13 @@ fn hang_in(survey: &Survey<'_>, loose: &Loose, image: &mut [u8], b: u32, p: u32)
 }
 
 // Hangs block `b` in its home, if it has one.
+#[tactic(auto, unfolding(crate::specs::Hung::hung_loose))]
 fn hang_loose(survey: &Survey<'_>, loose: &Loose, image: &mut [u8], b: u32)
     requires sized { is_image_len (length survey.now.image) ≡ true }
     requires same { length image.old ≡ length survey.now.image }
     requires inside { b < blocks survey.now.image }
-    ensures { length image.new ≡ length image.old }
+    ensures { OnSurvey survey.now.image (λ w _. (s : ℕ → Bool) (d : ℕ → ℕ) → AreLoose survey.now.image w s d loose.now
+        → image.new ≡ hung_loose survey.now.image w s d image.old b) }
 {
     if let Some(p) = home(survey, loose, b) {
         hang_in(survey, loose, image, b, p);
@@ -282,10 +323,13 @@ fn hang_loose(survey: &Survey<'_>, loose: &Loose, image: &mut [u8], b: u32)
 }
 
 // Hangs all blocks that have a home.
+#[tactic(auto, using(crate::proofs::HungImages::hung_begun, crate::proofs::HungImages::hung_more))]
 fn hang_all(survey: &Survey<'_>, loose: &Loose, image: &mut [u8])
     requires sized { is_image_len (length survey.now.image) ≡ true }
     requires same { length image.old ≡ length survey.now.image }
-    ensures { length image.new ≡ length image.old }
+    ensures { OnSurvey survey.now.image (λ w _. (s : ℕ → Bool) (d : ℕ → ℕ) → AreLoose survey.now.image w s d loose.now
+        → image.old ≡ readied survey.now.image w s d (blocks survey.now.image)
+        → image.new ≡ hung survey.now.image w s d) }
 {
     for b in 0..block_count(survey.image()) {
         hang_loose(survey, loose, image, b);
@@ -300,8 +344,9 @@ fn change(
     image: &mut [u8],
 ) -> Result<(), NoMemory>
     requires sized { is_image_len (length survey.now.image) ≡ true }
-    requires same { length image.old ≡ length survey.now.image }
-    ensures { length image.new ≡ length image.old }
+    requires same { image.old ≡ survey.now.image }
+    ensures { OnSurvey survey.now.image (λ w _. (s : ℕ → Bool) (d : ℕ → ℕ) → AreLoose survey.now.image w s d loose.now
+        → OnOk result (image.new ≡ hung survey.now.image w s d)) }
 {
     ready_all(alloc, survey, loose, image)?;
     hang_all(survey, loose, image);
@@ -311,7 +356,8 @@ fn change(
 // The hung image.
 fn changed(alloc: Global, survey: &Survey<'_>, loose: &Loose) -> Result<Vec<u8>, NoMemory>
     requires { is_image_len (length survey.now.image) ≡ true }
-    ensures { IfOk result (λ v. length v.items ≡ length survey.now.image) }
+    ensures { OnSurvey survey.now.image (λ w _. (s : ℕ → Bool) (d : ℕ → ℕ) → AreLoose survey.now.image w s d loose.now
+        → IfOk result (λ v. v.items ≡ hung survey.now.image w s d)) }
 {
     let mut image = copied(alloc, survey.image())?;
     change(alloc, survey, loose, &mut image)?;
@@ -337,8 +383,8 @@ fn changed(alloc: Global, survey: &Survey<'_>, loose: &Loose) -> Result<Vec<u8>,
 /// word that leads to a part of the survey is changed. `NoMemory` if an allocation fails, which can happen only if there is a
 /// finding.
 pub fn hung(alloc: Global, survey: &Survey<'_>, made: bool) -> Result<Option<Vec<u8>>, NoMemory>
-    ensures image { OnSurvey survey.now.image (λ _ fs.
-        IfOk result (λ r. IsHungFrom survey.now.image fs (option_map (λ v. v.items) r))) }
+    ensures image { OnSurvey survey.now.image (λ w fs.
+        IfOk result (λ r. option_map (λ v. v.items) r ≡ second_image made survey.now.image w fs)) }
 
     // Memory is wanted only if there is a finding.
     ensures begun { OnSurvey survey.now.image (λ _ fs. OnErr result (has_findings fs ≡ true)) }

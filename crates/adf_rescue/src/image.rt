@@ -1,9 +1,10 @@
 // The blocks of an image.
 
-ghost use Rattle.std.specs.Prelude.{◌≡◌, ◌<◌, ◌+◌, ◌*◌, ◌≤◌, ◌^◌, length, true};
+ghost use Rattle.std.specs.Prelude.{◌≡◌, ◌<◌, ◌+◌, ◌*◌, ◌≤◌, ◌^◌, ◌↔◌, length, true, IfSome, IsSome, IsTrue};
 ghost use Rattle.adf_base.specs.Words.{block};
 ghost use Rattle.adf_blocks.specs.Sizes.{blocks};
-ghost use Rattle.adf_volume.specs.{Image.root_of, Start.is_image_len};
+ghost use Rattle.adf_names.specs.Texts.{is_name};
+ghost use Rattle.adf_volume.specs.{Image.name_of, Image.root_of, Start.is_image_len};
 
 use adf_base::{BLOCK_LEN, Block};
 use adf_blocks::NAME;
@@ -45,8 +46,11 @@ pub fn block_count(image: &[u8]) -> u32
 const MOST_NAME: usize = 30;
 
 /// The name of the header in block `b`; `None` if it is not valid.
+#[tactic(auto, using(crate::proofs::OutrankedHeaders::names))]
 pub fn name_of(image: &[u8], b: usize) -> Option<Name>
     requires { b < blocks image.now }
+    ensures valid { IsSome result ↔ IsTrue (is_name (name_of image.now b)) }
+    ensures name { IfSome result (λ x. x ≡ name_of image.now b) }
 {
     let head = block_in(image, b);
     let size = head.byte(NAME) as usize;

@@ -12,8 +12,8 @@ ghost use Rattle.adf_findings.specs.Files.{HasItsBlocks, IsSoundFile, file_conte
 ghost use Rattle.adf_findings.specs.{Members.owning_entry, Members.parent_node, Sound.FileHolds, Sound.IsOfItsKind};
 ghost use Rattle.adf_findings.specs.{Sound.IsSound, SoundMarks.AreMarks, Survey.FindingValue, Survey.IsSurvey};
 ghost use Rattle.adf_build.specs.Laid.{IsLaid};
-ghost use Rattle.adf_rescue.specs.{Doubts.AreDoubts, Hung.IsHungFrom, Losses.lost_blocks, Losses.lost_headers, declared.doubts.Doubtful.Doubtful};
-ghost use Rattle.adf_rescue.specs.{Outranked.MayBeOutranked, Rescue.Verdict.adds, Salvage.are_data, declared.standing.Input.Input};
+ghost use Rattle.adf_rescue.specs.{Doubts.first_doubts_by, Losses.lost_blocks, Losses.lost_headers, Lost.has_lost};
+ghost use Rattle.adf_rescue.specs.{Outranked.none_untold, Rescue.Verdict.adds, Salvage.are_data, declared.standing.Input.Input};
 ghost use Rattle.adf_rescue.specs.Rescue.{Basis, Verdict, as_accepted, at_path, before_first_by, first_verdicts_by};
 ghost use Rattle.adf_rescue.specs.Rescue.{name_for, path_by, verdict_additions, new_path, rescue_leaves_by, rescued_additions_by, rescued_tree_by};
 ghost use Rattle.adf_rescue.specs.Rescue.{second_verdicts_by, verdict_tree, verdict};
@@ -46,7 +46,7 @@ pub fn sound_files_stand()
         (meta_stated (block a.image (node_block a.walk n)))
         (File (file_content (file_in a.image a.walk n)))
         (path_by (verdict_tree (before_first_by letters input a.image) vs) (new_path vs (parent_node a.walk n))
-        (name_for (a.outranked n) a.image (node_block a.walk n)) (node_block a.walk n)) }
+        (name_for letters none_untold a.image a.walk (node_block a.walk n)) (node_block a.walk n)) }
     ensures front { (letters : Letters) (input : Input) (a : Basis) (b : Option Basis) → rescued_additions_by letters input a b
         ≡ verdict_additions (first_verdicts_by letters input a) ++ verdict_additions (second_verdicts_by letters input a b) }
 {}
@@ -56,17 +56,15 @@ pub fn sound_files_stand()
 /// of type 0 or 1 nothing is lost, so that there is no second survey.
 pub fn whole_is_kept()
     ensures tree { (types : Types) (held : ℕ) (image : List ℕ) (t : Tree) (l : Layout) (w : Walk) (fs : List FindingValue)
-        (sound outranked : ℕ → Bool) → blocks image ≤ held → FitsBy (letters_for types image) image t l → IsSurvey image w fs
-        → IsOfItsKind image w → AreMarks image w (grave fs) sound → MayBeOutranked image w outranked
-        → rescued_tree_by (letters_for types image) (as_accepted held)
-        (record { image = image; walk = w; sound = sound; outranked = outranked }) None ≡ t }
+        (sound : ℕ → Bool) → blocks image ≤ held → FitsBy (letters_for types image) image t l → IsSurvey image w fs
+        → IsOfItsKind image w → AreMarks image w (grave fs) sound
+        → rescued_tree_by (letters_for types image) (as_accepted held) (record { image = image; walk = w; sound = sound }) None ≡ t }
     ensures all { (types : Types) (held : ℕ) (image : List ℕ) (t : Tree) (l : Layout) (w : Walk) (fs : List FindingValue)
-        (sound outranked : ℕ → Bool) → blocks image ≤ held → FitsBy (letters_for types image) image t l → IsSurvey image w fs
-        → IsOfItsKind image w → AreMarks image w (grave fs) sound → MayBeOutranked image w outranked
-        → rescue_leaves_by (letters_for types image) (as_accepted held)
-        (record { image = image; walk = w; sound = sound; outranked = outranked }) ≡ [] }
-    ensures lost { (image : List ℕ) (t : Tree) (l : Layout) (w : Walk) (fs : List FindingValue) (second : Option (List ℕ))
-        → FitsBy Ascii image t l → IsSurvey image w fs → IsHungFrom image fs second → second ≡ None }
+        (sound : ℕ → Bool) → blocks image ≤ held → FitsBy (letters_for types image) image t l → IsSurvey image w fs
+        → IsOfItsKind image w → AreMarks image w (grave fs) sound
+        → rescue_leaves_by (letters_for types image) (as_accepted held) (record { image = image; walk = w; sound = sound }) ≡ [] }
+    ensures lost { (image : List ℕ) (t : Tree) (l : Layout) (w : Walk) (fs : List FindingValue)
+        → FitsBy Ascii image t l → IsSurvey image w fs → (made : Bool) → has_lost made image w fs ≡ false }
 {}
 
 /// A whole file is there: each data block, by its size, is in the walk, at the block in the file's table, and in the image; and
@@ -101,8 +99,9 @@ pub fn kept_files_lie_apart()
 /// Where a tree and a layout fit an image, by the letters of the types that are accepted, the rescue by its survey tells nothing:
 /// no entry is in doubt, and unless the root was made, no header and no block is lost.
 pub fn whole_tells_nothing()
-    ensures doubts { (types : Types) (image : List ℕ) (t : Tree) (l : Layout) (w : Walk) (fs : List FindingValue)
-        (xs : List Doubtful) → FitsBy (letters_for types image) image t l → IsSurvey image w fs → AreDoubts image w xs → xs ≡ [] }
+    ensures doubts { (types : Types) (letters : Letters) (input : Input) (image : List ℕ) (t : Tree) (l : Layout) (w : Walk)
+        (fs : List FindingValue) (sound : ℕ → Bool) → FitsBy (letters_for types image) image t l → IsSurvey image w fs
+        → first_doubts_by letters input (record { image = image; walk = w; sound = sound }) ≡ [] }
     ensures headers { (types : Types) (image : List ℕ) (t : Tree) (l : Layout) (w : Walk) (fs : List FindingValue)
         → FitsBy (letters_for types image) image t l → IsSurvey image w fs → lost_headers false w fs ≡ [] }
     ensures blocks { (types : Types) (image : List ℕ) (t : Tree) (l : Layout) (w : Walk) (fs : List FindingValue)

@@ -1,13 +1,19 @@
 // Lost headers: what no directory of a survey leads to any more.
 
-ghost use Rattle.std.specs.Prelude.{◌≡◌, ◌<◌, ◌≤◌, ◌||◌, true, length};
-ghost use Rattle.adf_blocks.specs.declared.layout.TheConstants.{POINTERS};
+ghost use Rattle.std.specs.Prelude.{◌≡◌, ◌<◌, ◌≤◌, ◌+◌, ◌==◌, ◌&&◌, ◌||◌, ℕ, Bool, cond, true, length, slice_get, IfOk};
+ghost use Rattle.std.specs.Option.{option_and_then};
+ghost use Rattle.adf_base.specs.Words.{block, long_sum};
+ghost use Rattle.adf_blocks.specs.declared.layout.TheConstants.{POINTERS, SECONDARY_TYPE, ST_DIR};
 ghost use Rattle.adf_blocks.specs.{HeadBlock.is_entry, HeadBlock.is_link, Sizes.blocks, Sizes.in_range};
-ghost use Rattle.adf_volume.specs.{Image.word_in, Start.is_image_len};
-ghost use Rattle.adf_findings.specs.{Survey.OnSurvey};
-ghost use Rattle.adf_rescue.specs.Lost.{bit_stated};
-ghost use Rattle.adf_rescue.specs.Lost.{is_stated_free, is_stated_used};
-ghost use Rattle.adf_rescue.specs.Lost.{says_directory, says_header};
+ghost use Rattle.adf_volume.specs.{Image.root_of, Image.word_in, Start.is_image_len, Walk.heads, Walk.node_block};
+ghost use Rattle.adf_findings.specs.{Members.has_mark, Survey.OnSurvey};
+ghost use Rattle.adf_rescue.specs.Broken.{broken_by};
+ghost use Rattle.adf_rescue.specs.Lost.{AreBroken, AreLost, AreOpen, IsEvidence, bit_stated, directory_at, directory_by};
+ghost use Rattle.adf_rescue.specs.Lost.{has_found_data, has_free_data, has_free_first, has_free_header};
+ghost use Rattle.adf_rescue.specs.Lost.{has_valid_flag, header_block};
+ghost use Rattle.adf_rescue.specs.Lost.{is_directory_header, is_freed, is_gone, is_lost, is_missed, is_no_part, is_open};
+ghost use Rattle.adf_rescue.specs.Lost.{is_stated_free, is_stated_used, is_trusted, is_in_use, is_vacant, is_break_in};
+ghost use Rattle.adf_rescue.specs.Lost.{may_have_been, may_lose, says_directory, says_header, table_count};
 
 use crate::broken::broken_by;
 use crate::image::{block_count, block_in, root_of};
@@ -98,12 +104,16 @@ pub fn is_stated_used(survey: &Survey<'_>, b: u32) -> bool
 // Whether the root says that the bitmap is valid.
 fn has_valid_flag(image: &[u8]) -> bool
     requires { is_image_len (length image.now) ≡ true }
+    ensures { result ≡ has_valid_flag image.now }
 {
     word_in(image, root_of(image), BITMAP_FLAG) == VALID
 }
 
 // Whether the bitmap tells that the header of an entry is free.
-fn has_free_header(survey: &Survey<'_>, n: Node) -> bool {
+fn has_free_header(survey: &Survey<'_>, n: Node) -> bool
+    ensures { OnSurvey survey.now.image (λ w _. 1 ≤ n → n ≤ heads w
+        → result ≡ is_stated_free survey.now.image w (node_block w n)) }
+{
     match survey.block_of(n) {
         Some(block) => is_stated_free(survey, block),
         None => false,
@@ -111,7 +121,10 @@ fn has_free_header(survey: &Survey<'_>, n: Node) -> bool {
 }
 
 /// Whether the bitmap tells of a header of the survey that it is free.
-pub fn has_free_headers(survey: &Survey<'_>) -> bool {
+#[tactic(auto, using(crate::proofs::LostHeaders::trusted_steps))]
+pub fn has_free_headers(survey: &Survey<'_>) -> bool
+    ensures { OnSurvey survey.now.image (λ w _. result ≡ has_free_header survey.now.image w (heads w)) }
+{
     for before in 0..survey.len() {
         if has_free_header(survey, Node(before + 1)) {
             return true;
@@ -123,6 +136,7 @@ pub fn has_free_headers(survey: &Survey<'_>) -> bool {
 // Whether the bitmap is trusted.
 fn is_trusted(survey: &Survey<'_>) -> bool
     requires { is_image_len (length survey.now.image) ≡ true }
+    ensures { OnSurvey survey.now.image (λ w _. result ≡ is_trusted survey.now.image w) }
 {
     has_valid_flag(survey.image()) && !has_free_headers(survey)
 }
@@ -130,6 +144,7 @@ fn is_trusted(survey: &Survey<'_>) -> bool
 // How many data blocks the table of a header names.
 fn table_count(image: &[u8], b: u32) -> usize
     requires { b < blocks image.now }
+    ensures exact { result ≡ table_count image.now b }
     ensures few { result ≤ POINTERS }
 {
     if word_in(image, b, SECONDARY_TYPE) != ST_FILE {
@@ -139,8 +154,10 @@ fn table_count(image: &[u8], b: u32) -> usize
 }
 
 // Whether one of the data blocks that the table of a header names is free.
+#[tactic(auto, using(crate::proofs::LostHeaders::none_free_first, crate::proofs::LostHeaders::none_free_more))]
 fn has_free_data(survey: &Survey<'_>, b: u32) -> bool
     requires { b < blocks survey.now.image }
+    ensures { OnSurvey survey.now.image (λ w _. result ≡ has_free_data survey.now.image w b) }
 {
     let image = survey.image();
     for k in 0..table_count(image, b) {
@@ -154,14 +171,17 @@ fn has_free_data(survey: &Survey<'_>, b: u32) -> bool
 // Whether the first data block that the table of a header names is free.
 fn has_free_first(survey: &Survey<'_>, b: u32) -> bool
     requires { b < blocks survey.now.image }
+    ensures { OnSurvey survey.now.image (λ w _. result ≡ has_free_first survey.now.image w b) }
 {
     let image = survey.image();
     0 < table_count(image, b) && is_stated_free(survey, word_in(image, b, FIRST_POINTER))
 }
 
 // Whether one of the data blocks that the table of a header names is a part of the survey.
+#[tactic(auto, using(crate::proofs::LostHeaders::none_found_first, crate::proofs::LostHeaders::none_found_more))]
 fn has_found_data(survey: &Survey<'_>, b: u32) -> bool
     requires { b < blocks survey.now.image }
+    ensures { OnSurvey survey.now.image (λ w _. result ≡ has_found_data survey.now.image w b) }
 {
     let image = survey.image();
     for k in 0..table_count(image, b) {
@@ -173,7 +193,9 @@ fn has_found_data(survey: &Survey<'_>, b: u32) -> bool
 }
 
 // Whether an entry is a directory with its header in block `p`.
-fn is_directory_header(survey: &Survey<'_>, n: Node, p: u32) -> bool {
+fn is_directory_header(survey: &Survey<'_>, n: Node, p: u32) -> bool
+    ensures { OnSurvey survey.now.image (λ w _. result ≡ is_directory_header survey.now.image w n p) }
+{
     let (Some(block), Some(head)) = (survey.block_of(n), survey.header(n)) else {
         return false;
     };
@@ -181,7 +203,9 @@ fn is_directory_header(survey: &Survey<'_>, n: Node, p: u32) -> bool {
 }
 
 // An entry, if it is such a directory.
-fn directory_by(survey: &Survey<'_>, p: u32, n: Node) -> Option<Node> {
+fn directory_by(survey: &Survey<'_>, p: u32, n: Node) -> Option<Node>
+    ensures { OnSurvey survey.now.image (λ w _. result ≡ directory_by survey.now.image w p n) }
+{
     if is_directory_header(survey, n, p) {
         Some(n)
     } else {
@@ -190,8 +214,10 @@ fn directory_by(survey: &Survey<'_>, p: u32, n: Node) -> Option<Node> {
 }
 
 /// The directory of the survey whose header is block `p`; 0 for the root.
+#[tactic(auto, using(crate::proofs::LostHeaders::root_at, crate::proofs::LostHeaders::none_at, crate::proofs::LostHeaders::entry_in_it))]
 pub fn directory_at(survey: &Survey<'_>, p: u32) -> Option<Node>
     requires { is_image_len (length survey.now.image) ≡ true }
+    ensures { OnSurvey survey.now.image (λ w _. result ≡ directory_at survey.now.image w p) }
 {
     if p == root_of(survey.image()) {
         return Some(Node(0));
@@ -203,21 +229,32 @@ pub fn directory_at(survey: &Survey<'_>, p: u32) -> Option<Node>
 }
 
 /// Gives something this mark; nothing past the last.
-pub fn mark(marks: &mut Vec<bool>, n: usize, is: bool) {
+pub fn mark(marks: &mut Vec<bool>, n: usize, is: bool)
+    ensures marks { (m : ℕ) → m < length marks.old.items
+        → has_mark marks.new.items m ≡ cond (n == m) is (has_mark marks.old.items m) }
+    ensures length { length marks.new.items ≡ length marks.old.items }
+{
     if n < marks.len() {
         marks[n] = is;
     }
 }
 
 // Marks the directory with a broken chain, by finding `k`.
-fn mark_broken(survey: &Survey<'_>, marks: &mut Vec<bool>, k: usize) {
+fn mark_broken(survey: &Survey<'_>, marks: &mut Vec<bool>, k: usize)
+    ensures marks { OnSurvey survey.now.image (λ w fs. (m : ℕ) → m < length marks.old.items → has_mark marks.new.items m
+        ≡ (has_mark marks.old.items m || is_break_in m (option_and_then (broken_by w) (slice_get fs k)))) }
+    ensures length { length marks.new.items ≡ length marks.old.items }
+{
     if let Some(n) = broken_by(survey, k) {
         mark(marks, n.0, true);
     }
 }
 
 // The marks of the directories with a broken chain.
-fn broken(alloc: Global, survey: &Survey<'_>) -> Result<Vec<bool>, NoMemory> {
+fn broken(alloc: Global, survey: &Survey<'_>) -> Result<Vec<bool>, NoMemory>
+    ensures { OnSurvey survey.now.image (λ w fs.
+        IfOk result (λ v. AreBroken w fs (length fs) v.items)) }
+{
     let entries = survey.len();
     let mut marks = vec![in alloc; false; entries.saturating_add(1)]?;
     for k in 0..survey.findings().len() {
@@ -229,6 +266,8 @@ fn broken(alloc: Global, survey: &Survey<'_>) -> Result<Vec<bool>, NoMemory> {
 // Whether the sum of the header of a node is right; of 0 that of the root.
 fn is_sealed(survey: &Survey<'_>, n: Node) -> bool
     requires { is_image_len (length survey.now.image) ≡ true }
+    ensures { OnSurvey survey.now.image (λ w _. n ≤ heads w
+        → result ≡ (long_sum (block survey.now.image (header_block survey.now.image w n)) == 0)) }
 {
     let image = survey.image();
     match survey.header(n) {
@@ -240,13 +279,18 @@ fn is_sealed(survey: &Survey<'_>, n: Node) -> bool
 // Whether directory `n` of the survey is open.
 fn is_open(survey: &Survey<'_>, made: bool, broken: &Vec<bool>, n: Node) -> bool
     requires { is_image_len (length survey.now.image) ≡ true }
+    ensures { OnSurvey survey.now.image (λ w fs. AreBroken w fs (length fs) broken.now.items → n ≤ heads w
+        → result ≡ is_open made survey.now.image w fs n) }
 {
     has_mark(broken, n.0) || !is_sealed(survey, n) || n.0 == 0 && made
 }
 
 // The marks of the directories that are open.
+#[tactic(auto, using(crate::proofs::LostHeaders::open_more))]
 fn open_marks(alloc: Global, survey: &Survey<'_>, made: bool) -> Result<Vec<bool>, NoMemory>
     requires { is_image_len (length survey.now.image) ≡ true }
+    ensures { OnSurvey survey.now.image (λ w fs.
+        IfOk result (λ v. AreOpen w (is_open made survey.now.image w fs) v.items)) }
 {
     let broken = broken(alloc, survey)?;
     let mut marks = Vec::with_capacity(alloc, broken.len())?;
@@ -257,7 +301,10 @@ fn open_marks(alloc: Global, survey: &Survey<'_>, made: bool) -> Result<Vec<bool
 }
 
 // Whether an entry is a directory that is open.
-fn is_open_directory(survey: &Survey<'_>, opens: &Vec<bool>, n: Node) -> bool {
+fn is_open_directory(survey: &Survey<'_>, opens: &Vec<bool>, n: Node) -> bool
+    ensures { OnSurvey survey.now.image (λ w _. 1 ≤ n → n ≤ heads w → result
+        ≡ ((word_in survey.now.image (node_block w n) SECONDARY_TYPE == ST_DIR) && has_mark opens.now.items n)) }
+{
     match survey.header(n) {
         Some(head) => head.word(SECONDARY_TYPE) == ST_DIR && has_mark(opens, n.0),
         None => false,
@@ -265,7 +312,11 @@ fn is_open_directory(survey: &Survey<'_>, opens: &Vec<bool>, n: Node) -> bool {
 }
 
 // Whether a directory of the survey is open.
-fn may_lose(survey: &Survey<'_>, opens: &Vec<bool>) -> bool {
+#[tactic(auto, using(crate::proofs::LostHeaders::open_steps))]
+fn may_lose(survey: &Survey<'_>, opens: &Vec<bool>) -> bool
+    ensures { OnSurvey survey.now.image (λ w _. (s : ℕ → Bool) → AreOpen w s opens.now.items
+        → result ≡ may_lose survey.now.image w s) }
+{
     if has_mark(opens, 0) {
         return true;
     }
@@ -289,6 +340,8 @@ pub struct Evidence {
 /// What a survey and its bitmap tell of what is lost; `made` is whether the root was made.
 pub fn gather(alloc: Global, survey: &Survey<'_>, made: bool) -> Result<Evidence, NoMemory>
     requires { is_image_len (length survey.now.image) ≡ true }
+    ensures { OnSurvey survey.now.image (λ w fs.
+        IfOk result (λ x. IsEvidence survey.now.image w (is_open made survey.now.image w fs) x)) }
 {
     let opens = open_marks(alloc, survey, made)?;
     let may_lose = may_lose(survey, &opens);
@@ -303,6 +356,7 @@ pub fn gather(alloc: Global, survey: &Survey<'_>, made: bool) -> Result<Evidence
 // Whether block `b` is in range, and neither the root nor a part of the survey.
 fn is_no_part(survey: &Survey<'_>, b: u32) -> bool
     requires { is_image_len (length survey.now.image) ≡ true }
+    ensures is { OnSurvey survey.now.image (λ w _. result ≡ is_no_part survey.now.image w b) }
     ensures inside { result ≡ true → b < blocks survey.now.image }
 {
     let image = survey.image();
@@ -310,7 +364,10 @@ fn is_no_part(survey: &Survey<'_>, b: u32) -> bool
 }
 
 // Whether a directory may have been in block `p`.
-fn may_have_been(survey: &Survey<'_>, evidence: &Evidence, p: u32) -> bool {
+fn may_have_been(survey: &Survey<'_>, evidence: &Evidence, p: u32) -> bool
+    ensures { OnSurvey survey.now.image (λ w _. (s : ℕ → Bool) → IsEvidence survey.now.image w s evidence.now
+        → result ≡ may_have_been survey.now.image w s p) }
+{
     if !evidence.is_trusted {
         return evidence.may_lose;
     }
@@ -321,8 +378,11 @@ fn may_have_been(survey: &Survey<'_>, evidence: &Evidence, p: u32) -> bool {
 }
 
 /// Whether a directory may be made in block `p`.
+#[tactic(auto, unfolding(crate::specs::Lost::is_vacant))]
 pub fn is_vacant(survey: &Survey<'_>, evidence: &Evidence, p: u32) -> bool
     requires { is_image_len (length survey.now.image) ≡ true }
+    ensures { OnSurvey survey.now.image (λ w _. (s : ℕ → Bool) → IsEvidence survey.now.image w s evidence.now
+        → result ≡ is_vacant survey.now.image w s p) }
 {
     is_no_part(survey, p) && !says_header(survey.image(), p) && may_have_been(survey, evidence, p)
 }
@@ -330,6 +390,7 @@ pub fn is_vacant(survey: &Survey<'_>, evidence: &Evidence, p: u32) -> bool
 // Whether header `b` is in use.
 fn is_in_use(survey: &Survey<'_>, b: u32) -> bool
     requires { b < blocks survey.now.image }
+    ensures { OnSurvey survey.now.image (λ w _. result ≡ is_in_use survey.now.image w b) }
 {
     is_stated_used(survey, b) && !has_free_data(survey, b)
 }
@@ -337,6 +398,8 @@ fn is_in_use(survey: &Survey<'_>, b: u32) -> bool
 // Whether header `b` was deleted.
 fn is_freed(survey: &Survey<'_>, evidence: &Evidence, b: u32) -> bool
     requires { b < blocks survey.now.image }
+    ensures { OnSurvey survey.now.image (λ w _. (s : ℕ → Bool) → IsEvidence survey.now.image w s evidence.now
+        → result ≡ is_freed survey.now.image w b) }
 {
     evidence.is_trusted && (is_stated_free(survey, b) || has_free_first(survey, b))
 }
@@ -344,14 +407,19 @@ fn is_freed(survey: &Survey<'_>, evidence: &Evidence, b: u32) -> bool
 // Whether header `b` is gone.
 fn is_gone(survey: &Survey<'_>, evidence: &Evidence, b: u32) -> bool
     requires { b < blocks survey.now.image }
+    ensures { OnSurvey survey.now.image (λ w _. (s : ℕ → Bool) → IsEvidence survey.now.image w s evidence.now
+        → result ≡ is_gone survey.now.image w b) }
 {
     survey.has_part(b) || has_found_data(survey, b) || is_freed(survey, evidence, b)
 }
 
 // Whether the directory that header `b` names misses it.
+#[tactic(auto, using(crate::proofs::LostHeaders::missed_by_directory, std::proofs::lemmas::Grind::common_steps))]
 fn is_missed(survey: &Survey<'_>, evidence: &Evidence, b: u32) -> bool
     requires sized { is_image_len (length survey.now.image) ≡ true }
     requires inside { b < blocks survey.now.image }
+    ensures { OnSurvey survey.now.image (λ w _. (s : ℕ → Bool) → IsEvidence survey.now.image w s evidence.now
+        → result ≡ is_missed survey.now.image w s b) }
 {
     let image = survey.image();
     let p = word_in(image, b, PARENT);
@@ -364,8 +432,11 @@ fn is_missed(survey: &Survey<'_>, evidence: &Evidence, b: u32) -> bool
 }
 
 // Whether block `b` is a lost header.
+#[tactic(auto, unfolding(crate::specs::Lost::is_lost))]
 fn is_lost(survey: &Survey<'_>, evidence: &Evidence, b: u32) -> bool
     requires { is_image_len (length survey.now.image) ≡ true }
+    ensures { OnSurvey survey.now.image (λ w _. (s : ℕ → Bool) → IsEvidence survey.now.image w s evidence.now
+        → result ≡ is_lost survey.now.image w s b) }
 {
     let image = survey.image();
     in_range(image, b)
@@ -376,8 +447,11 @@ fn is_lost(survey: &Survey<'_>, evidence: &Evidence, b: u32) -> bool
 }
 
 /// Whether each block is a lost header.
+#[tactic(auto, using(crate::proofs::LostHeaders::lost_more, crate::proofs::LostHeaders::lost_marked))]
 pub fn lost(alloc: Global, survey: &Survey<'_>, evidence: &Evidence) -> Result<Vec<bool>, NoMemory>
     requires { is_image_len (length survey.now.image) ≡ true }
+    ensures { OnSurvey survey.now.image (λ w _. (s : ℕ → Bool) → IsEvidence survey.now.image w s evidence.now
+        → IfOk result (λ v. AreLost survey.now.image w s v.items)) }
 {
     let blocks = block_count(survey.image());
     let mut marks = Vec::with_capacity(alloc, blocks as usize)?;

@@ -3,7 +3,8 @@
 ghost use Rattle.std.specs.Prelude.{◌≡◌, ◌<◌, length, true};
 ghost use Rattle.adf_blocks.specs.declared.layout.TheConstants.{ROOT_PAGES};
 ghost use Rattle.adf_volume.specs.Start.{is_image_len};
-ghost use Rattle.adf_rescue.specs.MadeRoot.{IsGivenRoot, has_root, is_like_root, is_no_page_type, is_page_block, says_page};
+ghost use Rattle.adf_rescue.specs.MadeRoot.{flag_in, has_root, is_like_root, is_no_page_type, is_page_block, label_in};
+ghost use Rattle.adf_rescue.specs.MadeRoot.{map_ext_in, page_found, root_pages, rooted, says_page, slots_in, stamps_in};
 
 use crate::image::{block_in, root_of};
 use adf_base::{BLOCK_LEN, Block, seal, set_word};
@@ -55,6 +56,7 @@ pub fn says_page(image: &[u8], b: u32) -> bool
 fn page_found(image: &[u8], i: usize) -> u32
     requires sized { is_image_len (length image.now) ≡ true }
     requires few { i < ROOT_PAGES }
+    ensures { result ≡ page_found image.now i }
 {
     let root = root_of(image);
     let named = block_in(image, root as usize).word(FIRST_PAGE + i);
@@ -71,6 +73,7 @@ fn page_found(image: &[u8], i: usize) -> u32
 // The blocks of the pages that the root names.
 fn root_pages(image: &[u8]) -> [u32; ROOT_PAGES]
     requires { is_image_len (length image.now) ≡ true }
+    ensures { result ≡ root_pages image.now }
 {
     let mut pages = [0u32; ROOT_PAGES];
     for i in 0..ROOT_PAGES {
@@ -80,7 +83,9 @@ fn root_pages(image: &[u8]) -> [u32; ROOT_PAGES]
 }
 
 // The words of a root's table.
-fn slots_in(root: &Block<'_>) -> [u32; SLOTS as usize] {
+fn slots_in(root: &Block<'_>) -> [u32; SLOTS as usize]
+    ensures { result ≡ slots_in root.now }
+{
     let mut slots = [0u32; SLOTS as usize];
     for s in 0..SLOTS as usize {
         slots[s] = root.word(FIRST_SLOT + s);
@@ -98,7 +103,9 @@ pub fn is_like_root(block: &Block<'_>) -> bool
 }
 
 // The label of a block that is like a root; otherwise none.
-fn label_in(block: &Block<'_>) -> Label {
+fn label_in(block: &Block<'_>) -> Label
+    ensures { result ≡ label_in block.now }
+{
     if is_like_root(block) {
         label_stated(block)
     } else {
@@ -107,7 +114,9 @@ fn label_in(block: &Block<'_>) -> Label {
 }
 
 // The dates of a block that is like a root; otherwise none.
-fn stamps_in(block: &Block<'_>) -> Stamps {
+fn stamps_in(block: &Block<'_>) -> Stamps
+    ensures { result ≡ stamps_in block.now }
+{
     if is_like_root(block) {
         stamps_stated(block)
     } else {
@@ -116,7 +125,9 @@ fn stamps_in(block: &Block<'_>) -> Stamps {
 }
 
 // The bitmap flag of a block that is like a root; otherwise that of a valid bitmap.
-fn flag_in(block: &Block<'_>) -> u32 {
+fn flag_in(block: &Block<'_>) -> u32
+    ensures { result ≡ flag_in block.now }
+{
     if is_like_root(block) {
         block.word(BITMAP_FLAG)
     } else {
@@ -125,7 +136,9 @@ fn flag_in(block: &Block<'_>) -> u32 {
 }
 
 // The first bitmap extension block of a block that is like a root; otherwise none.
-fn map_ext_in(block: &Block<'_>) -> u32 {
+fn map_ext_in(block: &Block<'_>) -> u32
+    ensures { result ≡ map_ext_in block.now }
+{
     if is_like_root(block) {
         block.word(FIRST_MAP_EXT)
     } else {
@@ -134,9 +147,10 @@ fn map_ext_in(block: &Block<'_>) -> u32 {
 }
 
 /// Writes the root that is made into the middle of an image that has no whole root there.
+#[tactic(auto, using(crate::proofs::MadeRoots::whole_rooted))]
 pub fn make_root(image: &mut [u8])
     requires { is_image_len (length image.old) ≡ true }
-    ensures { IsGivenRoot image.old image.new }
+    ensures { image.new ≡ rooted image.old }
 {
     if has_root(image) {
         return;

@@ -1,11 +1,10 @@
 // Images whose boot block or root was overwritten.
 
-ghost use Rattle.std.specs.Prelude.{◌≡◌, ◌≢◌, ◌<◌, ◌≤◌, ℕ, List, IfOk, false, length, true};
-ghost use Rattle.adf_base.specs.Words.{block};
+ghost use Rattle.std.specs.Prelude.{◌≡◌, ◌<◌, ◌≤◌, ◌+◌, ◌*◌, ℕ, List, IfOk, drop, false, length, slice_range, true};
 ghost use Rattle.adf_blocks.specs.Sizes.{blocks};
 ghost use Rattle.adf_volume.specs.{Image.root_of, Start.is_image_len};
-ghost use Rattle.adf_rescue.specs.MadeRoot.{IsGivenRoot, has_root};
-ghost use Rattle.adf_rescue.specs.Opened.{IsOpened, has_data, is_mended, lacks_boot, lacks_root, says_data, says_file};
+ghost use Rattle.adf_rescue.specs.MadeRoot.{has_root};
+ghost use Rattle.adf_rescue.specs.Opened.{has_data, is_mended, lacks_boot, lacks_root, opened, says_data, says_file};
 ghost use Rattle.adf_rescue.specs.Opened.{states_type, type_byte, with_boot_type};
 
 use crate::image::block_in;
@@ -115,7 +114,7 @@ pub fn copied(alloc: Global, image: &[u8]) -> Result<Vec<u8>, NoMemory>
 #[tactic(auto, using(crate::proofs::OpenedImages::mended_long, crate::proofs::OpenedImages::begun_len))]
 fn mend(image: &mut [u8])
     requires { is_mended image.old ≡ true }
-    ensures { IsGivenRoot (with_boot_type image.old) image.new }
+    ensures { image.new ≡ opened image.old }
 {
     begin(image);
     make_root(image);
@@ -129,8 +128,9 @@ fn mend(image: &mut [u8])
 /// there; otherwise there is no label, no date and no extension block, and the flag is that of a valid bitmap. An image that
 /// begins with `DOS` and a byte of at most 5 and has a whole root stays as it is, and so does one of a length that no volume
 /// has.
+#[tactic(auto, using(crate::proofs::OpenedImages::opened_kept))]
 pub fn open(image: &mut [u8])
-    ensures { IsOpened image.old image.new }
+    ensures { image.new ≡ opened image.old }
 {
     if is_mended(image) {
         mend(image);
@@ -141,11 +141,13 @@ pub fn open(image: &mut [u8])
 /// length. An opened image has as many bytes; only the first four and the middle block are changed. If the length is that of a
 /// volume, it begins with `DOS` and a byte of at most 5 and has a whole root.
 pub fn opened_keeps()
-    ensures same { (old new : List ℕ) → IsOpened old new → states_type old ≡ true → has_root old ≡ true → new ≡ old }
-    ensures odd { (old new : List ℕ) → IsOpened old new → is_image_len (length old) ≡ false → new ≡ old }
-    ensures length { (old new : List ℕ) → IsOpened old new → length new ≡ length old }
-    ensures blocks { (old new : List ℕ) → IsOpened old new → (b : ℕ) → 1 ≤ b → b ≢ root_of old
-        → block new b ≡ block old b }
-    ensures begins { (old new : List ℕ) → IsOpened old new → is_image_len (length old) ≡ true → states_type new ≡ true }
-    ensures root { (old new : List ℕ) → IsOpened old new → is_image_len (length old) ≡ true → has_root new ≡ true }
+    ensures same { (image : List ℕ) → states_type image ≡ true → has_root image ≡ true → opened image ≡ image }
+    ensures odd { (image : List ℕ) → is_image_len (length image) ≡ false → opened image ≡ image }
+    ensures length { (image : List ℕ) → length (opened image) ≡ length image }
+    ensures before { (image : List ℕ)
+        → slice_range (opened image) 4 (root_of image * 512) ≡ slice_range image 4 (root_of image * 512) }
+    ensures behind { (image : List ℕ)
+        → drop (root_of image * 512 + 512) (opened image) ≡ drop (root_of image * 512 + 512) image }
+    ensures begins { (image : List ℕ) → is_image_len (length image) ≡ true → states_type (opened image) ≡ true }
+    ensures root { (image : List ℕ) → is_image_len (length image) ≡ true → has_root (opened image) ≡ true }
 {}

@@ -1,6 +1,6 @@
 // The rescue of an image.
 
-ghost use Rattle.std.specs.Prelude.{◌≡◌, ◌≢◌, ◌↔◌, ◌+◌, ℕ, Bool, [], IsNone, IsTrue, IfOk, IfSome, OnErr, OnOk, Option};
+ghost use Rattle.std.specs.Prelude.{◌≡◌, ◌≢◌, ◌↔◌, ◌+◌, [], IsNone, IsTrue, IfOk, IfSome, OnErr, OnOk, Option};
 ghost use Rattle.std.specs.Prelude.{Some, option_map};
 ghost use Rattle.adf_base.specs.declared.hash.Letters.{Letters};
 ghost use Rattle.adf_blocks.specs.Sizes.{blocks as blocks_in};
@@ -8,8 +8,8 @@ ghost use Rattle.adf_volume.specs.Types.{letters_for};
 ghost use Rattle.adf_findings.specs.Survey.{OnSurvey};
 ghost use Rattle.adf_build.specs.{Laid.IsLaid, Building.IsBuildable, Plan.entries_blocks};
 ghost use Rattle.adf_rescue.specs.Rescue.{Basis, OnBasis, OnSecond, StandsNothingBy, before_first_by, before_second_by};
-ghost use Rattle.adf_rescue.specs.Rescue.{first_verdicts_by, ranked, ranked_second, second_verdicts_by};
-ghost use Rattle.adf_rescue.specs.{Outranked.MayBeOutranked, Rescued.IsRescued, declared.standing.Input.Input};
+ghost use Rattle.adf_rescue.specs.Rescue.{first_verdicts_by, second_verdicts_by};
+ghost use Rattle.adf_rescue.specs.{Rescued.IsRescued, declared.standing.Input.Input};
 ghost use Rattle.adf_rescue.specs.Salvage.{free_blocks as blocks_free, IsSalvage};
 
 use crate::doubts::{Doubtful, first_doubts, second_doubts};
@@ -57,9 +57,9 @@ pub struct Terms {
 // What is kept of all entries of the survey of the image.
 fn salvaged(alloc: Global, survey: &Survey<'_>, begun: Salvage) -> Result<Salvage, NoMemory>
     requires { IsSalvage (before_first_by begun.draft.tree.letters begun.input survey.now.image) [] begun }
-    ensures { OnBasis survey.now.image (λ a _. IfOk result (λ s. (m : ℕ → Bool) × MayBeOutranked a.image a.walk m × IsSalvage
+    ensures { OnBasis survey.now.image (λ a _. IfOk result (IsSalvage
         (before_first_by begun.draft.tree.letters begun.input a.image)
-        (first_verdicts_by begun.draft.tree.letters begun.input (ranked m a)) s)) }
+        (first_verdicts_by begun.draft.tree.letters begun.input a))) }
 {
     survey.whole_marks();
     some_survey();
@@ -78,12 +78,11 @@ fn take_second(
     second: &Survey<'_>,
     salvage: &mut Salvage,
 ) -> Result<(), NoMemory>
-    requires { OnBasis survey.now.image (λ a _. (m : ℕ → Bool)
-        × IsSalvage (before_second_by salvage.old.draft.tree.letters salvage.old.input (ranked m a)) [] salvage.old) }
+    requires { OnBasis survey.now.image (λ a _.
+        IsSalvage (before_second_by salvage.old.draft.tree.letters salvage.old.input a) [] salvage.old) }
     ensures { OnBasis survey.now.image (λ a _. OnBasis second.now.image (λ b _.
-        IsSalvage (before_second_by salvage.old.draft.tree.letters salvage.old.input a) [] salvage.old
-        → OnOk result ((k : ℕ → Bool) × IsSalvage (before_second_by salvage.old.draft.tree.letters salvage.old.input a)
-        (second_verdicts_by salvage.old.draft.tree.letters salvage.old.input a (Some (ranked k b))) salvage.new))) }
+        OnOk result (IsSalvage (before_second_by salvage.old.draft.tree.letters salvage.old.input a)
+        (second_verdicts_by salvage.old.draft.tree.letters salvage.old.input a (Some b)) salvage.new))) }
 {
     survey.whole_marks();
     second.whole_marks();
@@ -106,8 +105,7 @@ fn salvaged_both(
     requires { IsSalvage (before_first_by begun.draft.tree.letters begun.input survey.now.image) [] begun }
     ensures state { (letters : Letters) (input : Input) → begun.draft.tree.letters ≡ letters → begun.input ≡ input
         → OnBasis survey.now.image (λ a _. OnSecond (option_map (λ s. s.now.image) second.entry)
-        (λ b. IfOk result (λ s. (m k : ℕ → Bool) × MayBeOutranked a.image a.walk m × IsSalvage (before_second_by letters input (ranked m a))
-        (second_verdicts_by letters input (ranked m a) (ranked_second k b)) s))) }
+        (λ b. IfOk result (IsSalvage (before_second_by letters input a) (second_verdicts_by letters input a b)))) }
     ensures blocks { IfOk result (λ r. r.left + entries_blocks r.draft.tree.kind r.draft.tree.entries
         ≡ blocks_free (blocks_in survey.now.image)) }
     ensures kind { IfOk result (λ r. r.kind ≡ r.draft.tree.kind) }
@@ -154,8 +152,7 @@ pub fn rescue(
 ) -> Result<Option<Rescued>, NoMemory>
     ensures none { OnSurvey survey.now.image (λ w _. IfOk result (λ r. IsNone r ↔ (w ≡ []))) }
     ensures rescued { OnBasis survey.now.image (λ a fs. OnSecond (option_map (λ s. s.now.image) second.entry)
-        (λ b. IfOk result (λ r. IfSome r (λ v. (m k : ℕ → Bool) × MayBeOutranked a.image a.walk m
-        × IsRescued terms (ranked m a) (ranked_second k b) fs v)))) }
+        (λ b. IfOk result (λ r. IfSome r (IsRescued terms a b fs)))) }
     ensures size { IfOk result (λ r. IfSome r (λ v. v.blocks ≡ blocks_in survey.now.image)) }
     ensures fits { IfOk result (λ r. IfSome r (λ v. IsBuildable v.draft.tree v.blocks)) }
     ensures kind { IfOk result (λ r. IfSome r (λ v. v.kind ≡ v.draft.tree.kind)) }

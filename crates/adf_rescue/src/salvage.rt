@@ -1,16 +1,16 @@
 // The state of a rescue: what is kept so far.
 
-ghost use Rattle.std.specs.Prelude.{◌≡◌, ◌≤◌, ◌+◌, ◌-◌, ◌++◌, ◌∷◌, ◌^◌, ℕ, false, List, [], cond, Some, None};
+ghost use Rattle.std.specs.Prelude.{◌≡◌, ◌≤◌, ◌+◌, ◌-◌, ◌++◌, ◌∷◌, ◌^◌, ℕ, Bool, false, true, List, [], cond, Some, None, Result};
 ghost use Rattle.std.specs.Prelude.{IfOk, OnOk, min, length, slice_index_or};
 ghost use Rattle.adf_base.specs.declared.hash.Letters.{Letters};
 ghost use Rattle.adf_drafts.specs.Draft.{IsRoomFor};
 ghost use Rattle.adf_blocks.specs.Sizes.{blocks};
 ghost use Rattle.adf_tree.specs.Tree.{is_dir_body};
 ghost use Rattle.adf_volume.specs.{Walk.heads, Walk.node_block, Walk.Walk};
-ghost use Rattle.adf_findings.specs.{Members.has_mark, Members.parent_node, Opening.opening_in};
+ghost use Rattle.adf_findings.specs.{Members.parent_node, Opening.opening_in};
 ghost use Rattle.adf_findings.specs.Survey.{FindingValue, IsSurvey, OnSurvey};
-ghost use Rattle.adf_rescue.specs.Rescue.{Basis, Ground, OnBasis, Verdict, added_marks, as_given, before_first_by, body_of};
-ghost use Rattle.adf_rescue.specs.Outranked.{AreOutranked};
+ghost use Rattle.adf_rescue.specs.Rescue.{Ground, OnBasis, Verdict, added_marks, as_given, before_first_by, body_of};
+ghost use Rattle.adf_rescue.specs.Outranked.{AreOutranked, none_untold};
 ghost use Rattle.adf_rescue.specs.Rescue.{entry_headed, fitting, name_for, path_by, new_path, verdict_tree, verdict};
 ghost use Rattle.adf_rescue.specs.{Rescue.Verdict.leaves, Rescue.Verdict.knows, declared.standing.Input.Input};
 ghost use Rattle.adf_rescue.specs.Salvage.{GoesOn, ComesNext, IsRoomOf, IsSalvage, entry_cost, free_blocks};
@@ -131,9 +131,9 @@ impl Salvage {
 
     /// The state before a second survey, with what is kept of the first one.
     pub fn go_on(self, alloc: Global) -> Result<Salvage, NoMemory>
-        ensures { (letters : Letters) (input : Input) (image : List ℕ) (w : Walk) (vs : List Verdict)
+        ensures { (letters : Letters) (input : Input) (image : List ℕ) (w : Walk) (vs : List Verdict) (u : ℕ → Bool)
             → IsSalvage (before_first_by letters input image) vs self → IfOk result (IsSalvage
-            (record { given = image; letters = letters; input = input; walk = w; verdicts = vs }) []) }
+            (record { given = image; letters = letters; input = input; walk = w; verdicts = vs; untold = u }) []) }
     {
         let Salvage {
             kind,
@@ -238,10 +238,11 @@ impl Salvage {
         n: Node,
     ) -> Result<Option<Room>, NoMemory>
         ensures { (g : Ground) (w : Walk) (fs : List FindingValue) (vs : List Verdict)
-            → IsSurvey survey.now.image w fs → IsSalvage g vs self.now → 1 ≤ n → n ≤ heads w
+            → IsSurvey survey.now.image w fs → IsSalvage g vs self.now
+            → AreOutranked g.letters g.untold survey.now.image w self.now.outranked.items → 1 ≤ n → n ≤ heads w
             → IfOk result (IsRoomOf self.now.draft
             (path_by (verdict_tree g vs) (new_path vs (parent_node w n))
-            (name_for (has_mark self.now.outranked.items n) survey.now.image (node_block w n)) (node_block w n))) }
+            (name_for g.letters g.untold survey.now.image w (node_block w n)) (node_block w n))) }
     {
         let (Some(name), Some(block)) = (survey.name(n), survey.block_of(n)) else {
             return Ok(None);
@@ -264,11 +265,14 @@ impl Salvage {
         standing: Result<Body, Why>,
     ) -> Result<(), NoMemory>
         requires { GoesOn survey.now.image n self.old }
-        ensures state { (g : Ground) (l : Basis) (fs : List FindingValue) (vs : List Verdict) → l.image ≡ survey.now.image
-            → IsSurvey l.image l.walk fs → IsSalvage g vs self.old → ComesNext l.walk vs n
-            → AreOutranked l.outranked self.old.outranked.items → entry_headed g.walk (node_block l.walk n) ≡ None
-            → standing ≡ body_of (as_given g l) n
-            → OnOk result (IsSalvage g (vs ++ verdict g l vs n ∷ []) self.new) }
+        ensures state { (g : Ground) (w : Walk) (fs : List FindingValue) (sound : ℕ → Bool)
+            (vs : List Verdict)
+            → IsSurvey survey.now.image w fs → IsSalvage g vs self.old → ComesNext w vs n
+            → AreOutranked g.letters g.untold survey.now.image w self.old.outranked.items
+            → entry_headed g.walk (node_block w n) ≡ None
+            → standing ≡ body_of (as_given g (record { image = survey.now.image; walk = w; sound = sound })) n
+            → OnOk result (IsSalvage g
+            (vs ++ verdict g (record { image = survey.now.image; walk = w; sound = sound }) vs n ∷ []) self.new) }
         ensures same { self.new.outranked ≡ self.old.outranked }
     {
         let body = match standing {
@@ -290,7 +294,7 @@ impl Salvage {
         requires { GoesOn survey.now.image n self.old }
         ensures state { OnBasis survey.now.image (λ a _. (letters : Letters) (input : Input) (vs : List Verdict)
             → IsSalvage (before_first_by letters input a.image) vs self.old → ComesNext a.walk vs n
-            → AreOutranked a.outranked self.old.outranked.items
+            → AreOutranked letters none_untold a.image a.walk self.old.outranked.items
             → OnOk result (IsSalvage (before_first_by letters input a.image)
             (vs ++ verdict (before_first_by letters input a.image) a vs n ∷ []) self.new)) }
         ensures same { self.new.outranked ≡ self.old.outranked }
@@ -338,7 +342,7 @@ impl Salvage {
         ensures state { OnBasis survey.now.image (λ b _. (g : Ground) (fs : List FindingValue) (vs : List Verdict)
             → g.given ≡ before.now.image → IsSurvey g.given g.walk fs
             → IsSalvage g vs self.old → ComesNext b.walk vs n
-            → AreOutranked b.outranked self.old.outranked.items
+            → AreOutranked g.letters g.untold b.image b.walk self.old.outranked.items
             → OnOk result (IsSalvage g (vs ++ verdict g b vs n ∷ []) self.new)) }
         ensures same { self.new.outranked ≡ self.old.outranked }
     {

@@ -1,7 +1,7 @@
 // The entries that stand.
 
-ghost use Rattle.std.specs.Prelude.{◌≡◌, ◌≤◌, List, IfOk};
-ghost use Rattle.adf_base.specs.{declared.hash.Letters.Letters};
+ghost use Rattle.std.specs.Prelude.{◌≡◌, ◌==◌, ◌&&◌, ◌≤◌, ◌<◌, List, IfOk};
+ghost use Rattle.adf_base.specs.{Words.block, declared.hash.Letters.Letters};
 ghost use Rattle.adf_tree.specs.declared.entry.Body.TheVariants.{File};
 ghost use Rattle.adf_volume.specs.{Image.word_in, Walk.heads, Walk.node_block};
 ghost use Rattle.adf_findings.specs.{Files.file_content, Survey.FindingValue, Survey.IsSurvey, Survey.OnSurvey};

@@ -2,7 +2,7 @@ use Rattle.adf_rescue.proofs.PlainVolumes.{blocks_none, doubts_none, headers_non
 use Rattle.adf_rescue.proofs.laws.whole_tells_nothing.Goals as goal
 
 pub returns-clause-doubts : goal.returns-clause-doubts
-returns-clause-doubts c = λ types image t l w fs xs fit survey. doubts_none types image t l w fs fit survey xs
+returns-clause-doubts c = λ types letters held image t l w fs sound fit survey. doubts_none types image t l w fs fit survey letters held sound
 
 pub returns-clause-headers : goal.returns-clause-headers
 returns-clause-headers c = headers_none

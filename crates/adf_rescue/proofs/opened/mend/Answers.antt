@@ -1,6 +1,7 @@
-use Rattle.std.proofs.Common.{subst}
-use Rattle.adf_rescue.specs.MadeRoot.{IsGivenRoot}
+use Rattle.std.proofs.Common.{◌∙◌, ap, sym}
+use Rattle.adf_rescue.specs.MadeRoot.{rooted}
+use Rattle.adf_rescue.proofs.OpenedImages.{opened_mended}
 use Rattle.adf_rescue.proofs.opened.mend.Goals as goal
 
 pub returns : goal.returns
-returns c = subst (λ x. IsGivenRoot x c.make_root.new.image) c.begin.ensures c.make_root.ensures
+returns c = c.make_root.ensures ∙ (ap rooted c.begin.ensures ∙ sym (opened_mended c.args.image.now c.requires))

@@ -1,12 +1,9 @@
 use Rattle.std.proofs.Common.{subst}
-use Rattle.adf_deleted.specs.Kept.{IsRoomIn}
-use Rattle.adf_deleted.proofs.KeptSteps.{adds_none}
+use Rattle.adf_rescue.specs.Salvage.{IsRoomOf}
+use Rattle.adf_deleted.proofs.RoomSteps.{path_of_room}
 use Rattle.adf_deleted.proofs.new_volume.NewVolume.put.Goals as goal
 
 pub returns-in-Some : goal.returns-in-Some
-returns-in-Some c = λ dir is.
-    let (name, room) = subst (IsRoomIn c.args.self.now.draft dir) c.in-Some.is is in
-    c.put_in.ensures dir name room
-
-pub returns-in-None : goal.returns-in-None
-returns-in-None c = λ dir is. adds_none c.args.self.now c.requires.counted
+returns-in-Some c = λ path is.
+    let (own, e, room) = path_of_room c.args.self.now.draft path c.in-Some.room (subst (IsRoomOf c.args.self.now.draft path) c.in-Some.is is) in
+    rw e (c.put_in.ensures own room)
