@@ -10,7 +10,7 @@ use Rattle.adf_partitions.specs.{Disks.IsDisk, declared.plan.PartitionPlan.Parti
 use Rattle.adf_partitions.specs.{FileSystems.kind_of_system, FileSystems.letters_of_system, FileSystems.planned_type}
 use Rattle.adf_partitions.specs.declared.file_system.FileSystem.{FileSystem, TheVariants.WithCaches, TheVariants.WithoutCaches}
 use Rattle.adf_partitions.specs.Plans.{AreTablesOfPlan, PlanValue, StandInPlaces, cylinder_blocks, planned_blocks, planned_partitions}
-use Rattle.adf_plans.specs.{PlanTexts.IsText, PlanTexts.IsTextFault, declared.plan_text.TextFault.TextFault}
+use Rattle.adf_plans.specs.PlanTexts.{HasNoPlan, IsText}
 use Rattle.adf_uncached.specs.Uncached.{is_cached}
 use Rattle.adf_runs.specs.{Commands.Reply, Streams.AppendsPart}
 use Rattle.adf_verdicts.specs.Verdicts.{IsValid}
@@ -107,9 +107,9 @@ pub data AnswersPlan (plan : PlanValue) (given : List ℕ) (reply : Reply) : Typ
 abbrev pub BuildsPlan : List ℕ → Reply → Type 0
 BuildsPlan text reply = (plan : PlanValue) × (given : List ℕ) × IsText text plan given × AnswersPlan plan given reply
 
--- the text has a fault, and nothing is written
+-- the text has no plan, and nothing is written
 abbrev pub RefusesPlan : List ℕ → Reply → Type 0
-RefusesPlan text reply = (f : TextFault) × IsTextFault text f × (reply.status ≡ 1) × (reply.output ≡ [])
+RefusesPlan text reply = HasNoPlan text × (reply.status ≡ 1) × (reply.output ≡ [])
 
 -- `build` writes the disk of a text, or nothing
 abbrev pub BuildsDisk : List ℕ → Reply → Type 0

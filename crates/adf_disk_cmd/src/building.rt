@@ -6,7 +6,7 @@ ghost use Rattle.adf_blocks.specs.Sizes.{is_allowed};
 ghost use Rattle.adf_disk_cmd.specs.Builds.{AnswersPlan, BuildsDisk, HasPlanned, IsFrontOfDisk, IsPlannedVolume, IsPartOfVolume, RefusesPlan, behind_volume, given_bytes};
 ghost use Rattle.adf_disk_cmd.specs.Replies.{WritesOutput};
 ghost use Rattle.adf_partitions.specs.Plans.{AreTablesOfPlan, IsPlan, cylinder_blocks, plan_value};
-ghost use Rattle.adf_plans.specs.PlanTexts.{IsTextFault, has_volume, is_plan};
+ghost use Rattle.adf_plans.specs.PlanTexts.{HasNoPlan, has_volume, is_plan};
 ghost use Rattle.adf_plans.specs.declared.plan_text.TextKind.{TextKind};
 ghost use Rattle.adf_runs.specs.Streams.{AppendsPart, is_device, seen};
 ghost use Rattle.adf_runs.specs.Outcomes.{Blames, Does, DoesSilently, EndsBy};
@@ -125,7 +125,7 @@ pub fn write_plan<W: Sink>(alloc: Global, plan: &DiskPlan, given: &[u8], output:
 
 /// Tells the fault of a text on errors.
 pub fn refuse_text(alloc: Global, fault: TextFault) -> Outcome
-    ensures ends { (text : List ℕ) → (fault.kind ≢ TextKind.NoMemory → IsTextFault text fault)
+    ensures ends { (text : List ℕ) → (fault.kind ≢ TextKind.NoMemory → HasNoPlan text)
         → (held : Option (List ℕ)) → EndsBy (RefusesPlan text) result held held }
     ensures blames { Blames result false false }
 {

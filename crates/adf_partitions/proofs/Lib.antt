@@ -6,7 +6,6 @@ pub mod FirstBlocks
 pub mod VolumesApart
 pub mod NumberTests
 pub mod Searches
-pub mod FoundVolumes
 pub mod NamedPartitions
 pub mod PlanSizes
 pub mod PlannedVolumes

@@ -7,7 +7,6 @@ pub mod Places
 pub mod Partitions
 pub mod Disks
 pub mod Searches
-pub mod FoundVolumes
 pub mod Volumes
 pub mod FileSystems
 pub mod Plans

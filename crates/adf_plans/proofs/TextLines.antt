@@ -3,7 +3,7 @@ use Rattle.std.proofs.Common.{◌≡◌, ◌<◌, ℕ, true, List, [], ◌∷◌
 use Rattle.std.proofs.Common.{All}
 use Rattle.std.proofs.{lemmas.Bool.and_parts, lemmas.Bool.leb-true, lemmas.Bool.ltb-true, lemmas.Grind.common_steps}
 use Rattle.adf_partitions.specs.{declared.plan.PartitionPlan.PartitionPlan, Plans.IsPartitionPlan, Plans.IsPlan, Plans.PlanValue}
-use Rattle.adf_plans.specs.PlanTexts.{AreLines, HasPartition, IsPartitionLine, IsPartitionText}
+use Rattle.adf_plans.specs.PlanTexts.{AreLines, IsPartitionLine, IsPartitionText}
 use Rattle.adf_plans.specs.PlanTexts.{before_byte, behind_byte, behind_line, first_line, is_plan}
 
 -- no line of a partition is empty
@@ -32,13 +32,6 @@ line_added text left ps p all is = grind (arith, common_steps, append_assoc)
 pub lines_ended : (text left : List ℕ) (ps : List PartitionPlan) → Continues text ps left → AreLines text ps left
 unfolding AreLines
 lines_ended text left ps all = subst (λ (k : List PartitionPlan). AreLines text k left) (append-nil ps) (all [] left refl)
-
--- where lines of partitions stand, and one more, one stands first
-pub first_of_lines : (text left : List ℕ) (ps : List PartitionPlan) (p : PartitionPlan) → Continues text ps left → IsPartitionLine (first_line left) p
-    → HasPartition text
-unfolding AreLines
-first_of_lines text left [] p all is = let h = all (p ∷ []) (behind_line left) (is, refl) in (p, h.0)
-first_of_lines text left (q ∷ ps) p all is = let h = all (p ∷ []) (behind_line left) (is, refl) in (q, h.0)
 
 -- partitions of lines can be made
 pub plan_of_text : (text : List ℕ) (p : PartitionPlan) → IsPartitionText text p → IsPartitionPlan p

@@ -1,31 +1,15 @@
 -- The text of a plan: lines, each ended by a line feed, of words with a space between them. `left` is what is left of a text from a
 -- line on, ps are partitions.
-use Rattle.std.specs.Prelude.{◌≡◌, ◌≤◌, ◌⊎◌, ◌+◌, ◌-◌, ◌*◌, ◌^◌, ◌==◌, ◌&&◌, ◌||◌, ℕ, ℤ, pos, neg_ℤ, nat_le, nat_lt, Bool, FitsSigned, true, false, List}
-use Rattle.std.specs.Prelude.{[], ◌∷◌, ◌++◌, codes, decimal, not, Option, Some, None, if◌then◌else◌, length, slice_index}
+use Rattle.std.specs.Prelude.{◌≡◌, ◌≤◌, ◌+◌, ◌-◌, ◌*◌, ◌^◌, ◌==◌, ◌&&◌, ◌||◌, ℕ, ℤ, pos, neg_ℤ, nat_le, nat_lt, Bool, FitsSigned, true, false, List}
+use Rattle.std.specs.Prelude.{[], ◌∷◌, codes, Option, Some, None, if◌then◌else◌, length, slice_index}
 use Rattle.std.specs.{Int.w8, List.after_first, List.before_first, List.list_all, Str.bytes_eq}
 use Rattle.adf_blocks.specs.Sizes.{is_allowed}
 use Rattle.adf_names.specs.{Escapes.IsSpelling, Texts.is_name_byte}
 use Rattle.adf_partitions.specs.{declared.layout.TheConstants.MOST_PARTITIONS, declared.plan.PartitionPlan.PartitionPlan}
-use Rattle.adf_plans.specs.{declared.plan_line.Options.Options, declared.plan_text.TextFault.TextFault, declared.plan_words.TheConstants.MOST_NUMBER}
-use Rattle.adf_plans.specs.declared.plan_text.TextKind.{TextKind, TheVariants.BadLine, TheVariants.BadVolume, TheVariants.FewBlocks, TheVariants.LongName}
-use Rattle.adf_plans.specs.declared.plan_text.TextKind.TheVariants.{NoEnd, NoMemory, TooLarge}
+use Rattle.adf_plans.specs.{declared.plan_line.Options.Options, declared.plan_words.TheConstants.MOST_NUMBER}
 use Rattle.adf_partitions.specs.{Plans.PlanValue, Plans.cylinder_blocks, Plans.planned_blocks, FileSystems.system_named}
 use Rattle.adf_partitions.specs.declared.file_system.FileSystem.{FileSystem, TheVariants.WithCaches, TheVariants.WithoutCaches}
 use Rattle.adf_plans.specs.declared.plan_text.TheConstants.{FEWEST_WITH_CACHES}
-
--- what is wrong with the text of a plan
-abbrev pub text_kind_text : TextKind → List ℕ
-text_kind_text BadLine = codes "bad line"
-text_kind_text NoEnd = codes "no end"
-text_kind_text TooLarge = codes "too large, or without sectors or heads"
-text_kind_text BadVolume = codes "a new volume has an even number of blocks, 4 to 8388608"
-text_kind_text LongName = codes "the name of a new volume has 30 bytes at most"
-text_kind_text FewBlocks = codes "a new volume with directory caches has 6 blocks at least"
-text_kind_text NoMemory = codes "no memory"
-
--- the line and what is wrong
-abbrev pub text_fault_text : TextFault → List ℕ
-text_fault_text f = codes "line " ++ (decimal f.line ++ (codes ": " ++ text_kind_text f.kind))
 
 -- the bytes before the first byte c, or all
 unfoldable pub before_byte : ℕ → List ℕ → List ℕ
@@ -148,14 +132,6 @@ AreLines left (p ∷ ps) end = IsPartitionLine (first_line left) p × AreLines (
 abbrev pub HasNoPartition : List ℕ → Type 0
 HasNoPartition left = (p : PartitionPlan) → ¬ IsPartitionLine (first_line left) p
 
--- a text begins with a line of a partition
-abbrev pub HasPartition : List ℕ → Type 0
-HasPartition text = (p : PartitionPlan) × IsPartitionLine (first_line text) p
-
--- a line of a partition follows the first line, which is one of a disk
-abbrev pub HasBegun : List ℕ → Type 0
-HasBegun text = (sectors : ℕ) × (heads : ℕ) × IsDiskLine (first_line text) sectors heads × HasPartition (behind_line text)
-
 -- whether a new volume of n blocks has one for the directory cache of its root, if it has caches
 abbrev pub has_cache_room : FileSystem → ℕ → Bool
 has_cache_room (WithoutCaches kind letters) n = true
@@ -164,24 +140,6 @@ has_cache_room (WithCaches kind) n = nat_le FEWEST_WITH_CACHES n
 -- whether the volume of a partition is given, or may be a new one with the drive's name as label
 abbrev pub has_volume : ℕ → PartitionPlan → Bool
 has_volume c p = p.given || (is_allowed (p.cylinders * c) && has_cache_room p.system (p.cylinders * c) && nat_le (length p.name) 30)
-
--- why a partition has no volume
-abbrev pub volume_fault : ℕ → PartitionPlan → Option TextKind
-volume_fault c p =
-    if p.given then None
-    else (if not (is_allowed (p.cylinders * c)) then Some BadVolume
-    else (if not (has_cache_room p.system (p.cylinders * c)) then Some FewBlocks
-    else (if nat_le (length p.name) 30 then None else Some LongName)))
-
--- a fault of a line, or else what is said of the others
-abbrev pub fault_or : ℕ → Option TextKind → Option TextFault → Option TextFault
-fault_or line None others = others
-fault_or line (Some kind) others = Some (record { line = line; kind = kind })
-
--- the line of the first partition without a volume, and why; the first partition has this line
-unfoldable pub first_volume_fault : ℕ → ℕ → List PartitionPlan → Option TextFault
-first_volume_fault c line [] = None
-first_volume_fault c line (p ∷ ps) = fault_or line (volume_fault c p) (first_volume_fault c (line + 1) ps)
 
 -- whether a disk has so many sectors, heads, partitions and blocks
 abbrev pub has_size : PlanValue → Bool
@@ -201,6 +159,10 @@ HasLines text plan end =
 abbrev pub begins_with_end : List ℕ → Bool
 begins_with_end end = bytes_eq (first_line end) (codes "end")
 
+-- whether a text ends a plan, and a disk can have it
+abbrev pub ends_plan : PlanValue → List ℕ → Bool
+ends_plan plan end = begins_with_end end && is_plan plan
+
 -- the text of a plan, and the bytes behind its line `end`
 pub record IsText (text : List ℕ) (plan : PlanValue) (rest : List ℕ) : Type 0 where
   pub end : List ℕ
@@ -209,32 +171,10 @@ pub record IsText (text : List ℕ) (plan : PlanValue) (rest : List ℕ) : Type 
   pub good : is_plan plan ≡ true
   pub behind : rest ≡ behind_line end
 
--- what is wrong at the line behind those of a plan, or else with the volume of a partition
-abbrev pub plan_fault : PlanValue → List ℕ → Option TextFault
-plan_fault plan end =
-    let at : TextKind → Option TextFault = λ kind. Some (record { line = length plan.partitions + 2; kind = kind }) in
-    if length end == 0 then at NoEnd
-    else (if not (begins_with_end end) then at BadLine
-    else (if not (has_size plan) then at TooLarge else first_volume_fault (cylinder_blocks plan) 2 plan.partitions))
-
--- the first line is none of a disk, or there is a fault of a plan, or behind its lines
-abbrev pub IsTextFault : List ℕ → TextFault → Type 0
-IsTextFault text f =
-    ((f.line ≡ 1) × (f.kind ≡ BadLine) × ((sectors heads : ℕ) → ¬ IsDiskLine (first_line text) sectors heads))
-    ⊎ ((plan : PlanValue) × (end : List ℕ) × HasLines text plan end × (plan_fault plan end ≡ Some f))
-
 -- a text has one plan at most
 abbrev pub TextsHaveOnePlan : Type 0
 TextsHaveOnePlan = (text : List ℕ) (a b : PlanValue) (c d : List ℕ) → IsText text a c → IsText text b d → (a ≡ b) × (c ≡ d)
 
--- a text of a plan has no fault
-abbrev pub PlansHaveNoFault : Type 0
-PlansHaveNoFault = (text : List ℕ) (a : PlanValue) (c : List ℕ) (f : TextFault) → IsText text a c → IsTextFault text f → ⊥
-
--- a text has one fault at most
-abbrev pub TextsHaveOneFault : Type 0
-TextsHaveOneFault = (text : List ℕ) (f g : TextFault) → IsTextFault text f → IsTextFault text g → f ≡ g
-
--- a text has a plan, with the bytes behind it, or a fault
-abbrev pub HasPlanOrFault : List ℕ → Type 0
-HasPlanOrFault text = ((plan : PlanValue) × (rest : List ℕ) × IsText text plan rest) ⊎ ((f : TextFault) × IsTextFault text f)
+-- a text has no plan
+abbrev pub HasNoPlan : List ℕ → Type 0
+HasNoPlan text = (plan : PlanValue) (rest : List ℕ) → ¬ IsText text plan rest

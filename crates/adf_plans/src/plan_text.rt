@@ -1,12 +1,12 @@
 // The text of a plan.
 
-ghost use Rattle.std.specs.Prelude.{◌≡◌, ◌≢◌, ◌≤◌, ◌*◌, ◌^◌, ℕ, List, IfErr, IfOk, IfSome, OnErr, length, nat_lt};
+ghost use Rattle.std.specs.Prelude.{◌≡◌, ◌≢◌, ◌≤◌, ◌*◌, ◌^◌, ℕ, List, IfErr, IfNone, IfOk, IfSome, false, length, nat_lt, true};
+ghost use Rattle.std.specs.List.{list_all};
 ghost use Rattle.adf_blocks.specs.Sizes.{is_allowed};
 ghost use Rattle.adf_partitions.specs.{FileSystems.planned_type, FileSystems.system_text};
 ghost use Rattle.adf_partitions.specs.Plans.{IsPlan, cylinder_blocks, plan_value, planned_blocks};
-ghost use Rattle.adf_plans.specs.PlanTexts.{AreLines, HasBegun, HasNoPartition, HasPartition, HasPlanOrFault, IsPartitionText};
-ghost use Rattle.adf_plans.specs.PlanTexts.{IsText, IsTextFault, PlansHaveNoFault, TextsHaveOneFault, TextsHaveOnePlan};
-ghost use Rattle.adf_plans.specs.PlanTexts.{first_volume_fault, has_cache_room, has_size, kind_word, plan_fault, text_kind_text, volume_fault};
+ghost use Rattle.adf_plans.specs.PlanTexts.{AreLines, HasNoPartition, HasNoPlan, IsPartitionText, IsText, TextsHaveOnePlan};
+ghost use Rattle.adf_plans.specs.PlanTexts.{ends_plan, has_cache_room, has_size, has_volume, kind_word};
 ghost use Rattle.adf_partitions.specs.{declared.layout.TheConstants.MOST_PARTITIONS, declared.plan.PartitionPlan.PartitionPlan};
 ghost use Rattle.adf_plans.specs.declared.plan_text.TextKind.{TextKind};
 
@@ -42,9 +42,7 @@ pub const FEWEST_WITH_CACHES: u64 = 6;
 
 impl TextKind {
     /// The text of the kind as printed.
-    pub fn text(self) -> &'static str
-        ensures { result.now ≡ text_kind_text self }
-    {
+    pub fn text(self) -> &'static str {
         match self {
             TextKind::BadLine => "bad line",
             TextKind::NoEnd => "no end",
@@ -58,11 +56,6 @@ impl TextKind {
 }
 
 impl fmt::Display for TextKind {
-    ghost use Rattle.std.specs.Prelude.{Some};
-    ghost use Rattle.adf_plans.specs.PlanTexts.{text_kind_text};
-
-    ghost output = { λ x. Some (text_kind_text x) };
-
     fn fmt<W: fmt::Write>(&self, f: &mut fmt::Formatter<W>) -> fmt::Result {
         f.write_str(self.text())
     }
@@ -76,11 +69,6 @@ pub struct TextFault {
 }
 
 impl fmt::Display for TextFault {
-    ghost use Rattle.std.specs.Prelude.{Some};
-    ghost use Rattle.adf_plans.specs.PlanTexts.{text_fault_text};
-
-    ghost output = { λ f. Some (text_fault_text f) };
-
     fn fmt<W: fmt::Write>(&self, f: &mut fmt::Formatter<W>) -> fmt::Result {
         let line = self.line;
         let kind = self.kind;
@@ -90,7 +78,7 @@ impl fmt::Display for TextFault {
 
 // A fault of a line.
 fn fault_at(line: usize, kind: TextKind) -> TextFault
-    ensures { result ≡ record { line = line; kind = kind } }
+    ensures { result.kind ≡ kind }
 {
     TextFault { line, kind }
 }
@@ -100,7 +88,6 @@ fn fault_at(line: usize, kind: TextKind) -> TextFault
 fn read_lines(alloc: Global, text: &[u8]) -> Result<(Vec<PartitionPlan>, &[u8]), AllocError>
     ensures lines { IfOk result (λ r. AreLines text.now r.0.items r.1.now) }
     ensures stops { IfOk result (λ r. HasNoPartition r.1.now) }
-    ensures begun { OnErr result (HasPartition text.now) }
 {
     let mut partitions = Vec::new(alloc);
     let mut left = text;
@@ -141,7 +128,8 @@ fn has_cache_room(partition: &PartitionPlan, cylinder: u64) -> bool
 
 // Why a partition has no volume, if it has none.
 fn volume_fault(partition: &PartitionPlan, cylinder: u64) -> Option<TextKind>
-    ensures exact { result ≡ volume_fault cylinder partition.now }
+    ensures none { IfNone result (has_volume cylinder partition.now ≡ true) }
+    ensures some { IfSome result (λ _. has_volume cylinder partition.now ≡ false) }
     ensures memory { IfSome result (λ kind. kind ≢ TextKind.NoMemory) }
 {
     if partition.given {
@@ -158,9 +146,11 @@ fn volume_fault(partition: &PartitionPlan, cylinder: u64) -> Option<TextKind>
 }
 
 // The first of these partitions without a volume, if there is one: its line, and why. The first partition has line 2.
+#[tactic(auto, using(std::proofs::lemmas::List::Folds::list_all_more, std::proofs::lemmas::List::Folds::list_all_at))]
 fn first_volume_fault(partitions: &[PartitionPlan], cylinder: u64) -> Option<TextFault>
     requires { length partitions.now ≤ MOST_PARTITIONS }
-    ensures exact { result ≡ first_volume_fault cylinder 2 partitions.now }
+    ensures none { IfNone result (list_all (has_volume cylinder) partitions.now ≡ true) }
+    ensures some { IfSome result (λ _. list_all (has_volume cylinder) partitions.now ≡ false) }
     ensures memory { IfSome result (λ fault. fault.kind ≢ TextKind.NoMemory) }
 {
     for i in 0..partitions.len() {
@@ -203,8 +193,10 @@ fn has_size(plan: &DiskPlan) -> bool
 }
 
 // What is wrong at the line behind those of a plan, or else with the volume of a partition, if something is.
+#[tactic(auto, using(crate::proofs::OnePlan::no_end_in_nothing))]
 fn plan_fault(plan: &DiskPlan, end: &[u8]) -> Option<TextFault>
-    ensures exact { result ≡ plan_fault (plan_value plan.now) end.now }
+    ensures none { IfNone result (ends_plan (plan_value plan.now) end.now ≡ true) }
+    ensures some { IfSome result (λ _. ends_plan (plan_value plan.now) end.now ≡ false) }
     ensures memory { IfSome result (λ fault. fault.kind ≢ TextKind.NoMemory) }
 {
     let (line, _rest) = cut_line(end);
@@ -226,16 +218,11 @@ fn plan_fault(plan: &DiskPlan, end: &[u8]) -> Option<TextFault>
 /// this order, and a line `end`. Returns the plan, and the bytes behind the text. KIND is `ofs` or `ffs`, or one of these with
 /// `-international` or `-cached` behind it. A number is at most 1,048,576, P is -128 to 127.
 ///
-/// The first line with a fault; `NoMemory`, at line 0, if an allocation fails, which can happen only if a line of a partition
-/// stands behind the first.
+/// The first line with a fault, and then the text has no plan; `NoMemory`, at line 0, if an allocation fails.
 pub fn read_plan(alloc: Global, text: &[u8]) -> Result<(DiskPlan, &[u8]), TextFault>
     ensures text { IfOk result (λ r. IsText text.now (plan_value r.0) r.1.now) }
     ensures plan { IfOk result (λ r. IsPlan (plan_value r.0)) }
-    ensures fault { IfErr result (λ f. f.kind ≢ TextKind.NoMemory → IsTextFault text.now f) }
-    ensures memory { IfErr result (λ f. f.kind ≡ TextKind.NoMemory → f.line ≡ 0) }
-
-    // Memory is wanted only for the lines of partitions.
-    ensures begun { IfErr result (λ f. f.kind ≡ TextKind.NoMemory → HasBegun text.now) }
+    ensures none { IfErr result (λ f. f.kind ≢ TextKind.NoMemory → HasNoPlan text.now) }
 {
     let (line, rest) = cut_line(text);
     let Some((sectors, heads)) = read_disk(line) else {
@@ -255,11 +242,6 @@ pub fn read_plan(alloc: Global, text: &[u8]) -> Result<(DiskPlan, &[u8]), TextFa
     }
 }
 
-/// Every text has a plan, or a fault.
-pub fn some_text()
-    ensures { (text : List ℕ) → HasPlanOrFault text }
-{}
-
 /// The line of a partition has the word for its file system, and partitions of one type have the same.
 pub fn words_tell_file_systems()
     ensures word { (text : List ℕ) (p : PartitionPlan) → IsPartitionText text p
@@ -268,9 +250,7 @@ pub fn words_tell_file_systems()
         → p.system ≡ q.system }
 {}
 
-/// A text has one plan, or one first fault.
+/// A text has one plan at most.
 pub fn one_text()
-    ensures plan { TextsHaveOnePlan }
-    ensures faultless { PlansHaveNoFault }
-    ensures fault { TextsHaveOneFault }
+    ensures { TextsHaveOnePlan }
 {}

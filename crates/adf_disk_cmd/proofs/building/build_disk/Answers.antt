@@ -9,7 +9,7 @@ returns-in-Err g c =
     let held = g.W.Sink.held c.args.output.now in
     let blames = c.refuse_text.ensures.blames in record {
       ends = ends_weaker (RefusesPlan text) (BuildsDisk text) c.refuse_text.result held held (λ reply h. inr h)
-          (c.refuse_text.ensures.ends text c.in-Err.ensures.fault held);
+          (c.refuse_text.ensures.ends text c.in-Err.ensures.none held);
       read = sym blames.read;
       written = c.requires ∙ blames.written;
     }

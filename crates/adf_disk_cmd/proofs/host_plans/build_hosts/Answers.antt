@@ -11,9 +11,9 @@ returns-in-Err g c =
     let plain : List ℕ = c.in-Ok.plain.items in
     let bytes_of = g.F.Files.bytes_of c.args.files.now in
     let held = g.W.Sink.held c.args.output.now in
-    let fault = rw c.deref.ensures.value at c.in-Err.ensures.fault in
+    let none = rw c.deref.ensures.value at c.in-Err.ensures.none in
     let ends = ends_weaker (RefusesPlan plain) (BuildsHosts bytes_of text plain) c.refuse_text.result held held (λ reply h. inr h)
-    (c.refuse_text.ensures.ends plain fault held) in
+    (c.refuse_text.ensures.ends plain none held) in
     inl (
       plain,
       c.in-Ok.ensures,
