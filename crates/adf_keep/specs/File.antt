@@ -1,0 +1,59 @@
+-- The files of an image, by their headers alone.
+-- Letters: h the block of a file's header; m a position in its table; k the number of a data block, from 0; b a block.
+use Rattle.std.specs.Prelude.{◌≡◌, ◌*◌, ◌/◌, ◌<◌, ◌≤◌, ℕ, List, [], ◌∷◌, ◌++◌, min, slice_index, take}
+use Rattle.std.proofs.Common.{zero, suc}
+use Rattle.adf_names.specs.{declared.kind.Kind.Kind}
+use Rattle.adf_tree.specs.declared.entry.Body.{Body, TheVariants.File}
+use Rattle.adf_blocks.specs.{Sizes.blocks, Sizes.count}
+use Rattle.adf_blocks.specs.declared.layout.TheConstants.{EXTENSION, POINTERS, SECONDARY_TYPE, SIZE, ST_FILE}
+use Rattle.adf_volume.specs.{Demands.AllHold, Demands.data_demands, Demands.ext_demands, Image.content, Image.held, Image.table_word, Image.word_in, Lists.At}
+
+-- the first blocks of an image: `held`, or all whole ones if it has fewer
+abbrev pub held_part : List ℕ → ℕ → List ℕ
+held_part image held = take (512 * min (blocks image) held) image
+
+-- block m of a table: a header, then its extension blocks, each with a pointer to the next
+abbrev pub table_at : List ℕ → ℕ → ℕ → ℕ
+table_at image h zero = h
+table_at image h (suc m) = word_in image (table_at image h m) EXTENSION
+
+-- the pointer to data block k + 1 in the table of a file
+abbrev pub named_at : List ℕ → ℕ → ℕ → ℕ
+named_at image h k = word_in image (table_at image h (k / POINTERS)) (table_word k)
+
+-- the pointers to the first data blocks in the table of a file
+abbrev pub first_named : List ℕ → ℕ → ℕ → List ℕ
+first_named image h zero = []
+first_named image h (suc k) = first_named image h k ++ named_at image h k ∷ []
+
+-- the data blocks that the table of the file with header h names, as many as its size asks for
+abbrev pub datas_from : Kind → List ℕ → ℕ → List ℕ
+datas_from kind image h = first_named image h (count kind (word_in image h SIZE))
+
+-- the data blocks of an OFS file of this size have their form: each tells the header, its number, its bytes and the next one; those of an FFS
+-- file have none
+abbrev pub HaveForms : Kind → List ℕ → ℕ → ℕ → List ℕ → Type 0
+HaveForms kind image h size datas = (k b : ℕ) → At datas k b
+    → AllHold (data_demands image kind b h (suc k) (held kind size (suc k)) (slice_index datas (suc k)))
+
+-- a block is held, and is no boot block
+abbrev pub IsHeld : List ℕ → ℕ → Type 0
+IsHeld image b = (2 ≤ b) × (b < blocks image)
+
+-- a block is held, and has the form of an extension block of the file with header h
+abbrev pub IsExtOf : List ℕ → ℕ → ℕ → Type 0
+IsExtOf image h b = (b < blocks image) × AllHold (ext_demands image b h)
+
+-- the table of a file has the extension blocks that n data blocks need
+abbrev pub HasExts : List ℕ → ℕ → ℕ → Type 0
+HasExts image h n = (m : ℕ) → POINTERS * suc m < n → IsExtOf image h (table_at image h (suc m))
+
+-- a file: its data blocks are those that its header's table names, each is held and has its form, and its bytes are their data areas, joined
+-- and cut at the size that the header states
+pub record IsFileOf (kind : Kind) (image : List ℕ) (h : ℕ) (body : Body) (datas : List ℕ) : Type 0 where
+  pub type : word_in image h SECONDARY_TYPE ≡ ST_FILE
+  pub table : HasExts image h (count kind (word_in image h SIZE))
+  pub named : datas ≡ datas_from kind image h
+  pub inside : (k b : ℕ) → At datas k b → IsHeld image b
+  pub forms : HaveForms kind image h (word_in image h SIZE) datas
+  pub bytes : body ≡ File (content image kind h datas)

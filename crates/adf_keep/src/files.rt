@@ -1,0 +1,149 @@
+// The files of an image, by their headers alone.
+
+ghost use Rattle.std.specs.Prelude.{◌≡◌, ◌<◌, ◌≤◌, ◌+◌, ◌^◌, ◌↔◌, ◌++◌, ℕ, List, [], IfErr, IfNone, IfOk, IfSome, MatchResult, IsTrue, length, slice_index};
+ghost use Rattle.std.proofs.Common.{suc};
+ghost use Rattle.adf_tree.specs.declared.entry.Body.TheVariants.{File};
+ghost use Rattle.adf_blocks.specs.{Sizes.blocks, Sizes.chunk, Sizes.count, declared.layout.TheConstants.SIZE, declared.layout.TheConstants.SECONDARY_TYPE};
+ghost use Rattle.adf_blocks.specs.declared.layout.TheConstants.{ST_FILE};
+ghost use Rattle.adf_volume.specs.{Demands.AllHold, Demands.data_demands, Image.content, Image.held as bytes_held, Image.word_in, Lists.At};
+ghost use Rattle.adf_keep.specs.{Claims.AreClaimed, File.HasExts, File.HaveForms, File.IsFileOf, File.IsHeld, File.datas_from, Reasons.IsFileFault};
+
+use crate::claims::release;
+use crate::held::Held;
+use crate::proposal::Why;
+use crate::tables::claim_named;
+use adf_base::NoMemory;
+use adf_blocks::{SIZE, read_data};
+use adf_names::{Kind, Meta};
+use adf_tree::{Body, Bytes};
+use adf_volume::{Pieces, count_of, held_in, joined};
+use std::alloc::Global;
+
+/// An entry that was read: its comment, protection bits and date, its body, and its data blocks.
+#[derive(Drop)]
+pub struct Found {
+    pub meta: Meta,
+    pub body: Body,
+    pub datas: Vec<u32>,
+}
+
+// Whether a block has the form of data block `number`, counted from 1, of the file with its header at block `head`.
+#[tactic(auto, unfolding(adf_blocks::specs::Sizes::chunk), using(adf_volume::proofs::FormDemands::all_demanded))]
+fn has_form(
+    image: &Held<'_>,
+    kind: Kind,
+    head: u32,
+    number: u32,
+    held: u32,
+    next: u32,
+    b: u32,
+) -> bool
+    requires inside { b < blocks image.now }
+    requires few { held ≤ chunk kind }
+    ensures { IsTrue result ↔ AllHold (data_demands image.now kind b head number held next) }
+{
+    match kind {
+        Kind::Ofs => match image.block(b) {
+            Some(block) => read_data(block, head, number, held, next).is_ok(),
+            None => false,
+        },
+        Kind::Ffs => true,
+    }
+}
+
+// The block at an index; 0 past the last.
+fn block_at(blocks: &[u32], i: usize) -> u32
+    ensures { result ≡ slice_index blocks.now i }
+{
+    if i < blocks.len() { blocks[i] } else { 0 }
+}
+
+// Whether the data blocks of a file have their form.
+fn have_forms(image: &Held<'_>, kind: Kind, head: u32, size: u32, datas: &[u32]) -> bool
+    requires inside { (k b : ℕ) → At datas.now k b → IsHeld image.now b }
+    requires few { length datas.now < 2 ^ 32 }
+    ensures { IsTrue result ↔ HaveForms kind image.now head size datas.now }
+{
+    for k in 0..datas.len() {
+        let number = k as u32 + 1;
+        let next = block_at(datas, k + 1);
+        let held = held_in(kind, size, number);
+        if !has_form(image, kind, head, number, held, next, datas[k]) {
+            return false;
+        }
+    }
+    true
+}
+
+// The bytes of a file of this size in these data blocks.
+fn body_in(
+    alloc: Global,
+    image: &Held<'_>,
+    kind: Kind,
+    size: u32,
+    datas: &[u32],
+) -> Result<Body, NoMemory>
+    requires inside { (k b : ℕ) → At datas.now k b → IsHeld image.now b }
+    requires few { 1 + length datas.now < 2 ^ 32 }
+    ensures { (h : ℕ) → size ≡ word_in image.now h SIZE
+        → IfOk result (λ body. body ≡ File (content image.now kind h datas.now)) }
+{
+    let bytes = joined(alloc, Pieces::new(image.bytes(), kind, size, datas))?;
+    Ok(Body::File(Bytes::new(bytes)))
+}
+
+// Claims the data blocks of the file with its header at block `head`, and looks at them; else says why it is not kept.
+fn claim_file(
+    image: &Held<'_>,
+    kind: Kind,
+    head: u32,
+    marks: &mut Vec<bool>,
+    datas: &mut Vec<u32>,
+) -> Result<Option<Why>, NoMemory>
+    requires none { datas.old.items ≡ [] }
+    requires claims { (bs : List ℕ) × AreClaimed (blocks image.now) marks.old.items bs }
+    ensures claims { (n : ℕ) (bs : List ℕ) → AreClaimed n marks.old.items bs
+        → IfOk result (λ _. AreClaimed n marks.new.items (bs ++ datas.new.items)) }
+    ensures table { IfOk result (λ r. IfNone r (HasExts image.now head (count kind (word_in image.now head SIZE)))) }
+    ensures fault { (bs : List ℕ) → AreClaimed (blocks image.now) marks.old.items bs
+        → IfOk result (λ r. IfSome r (IsFileFault kind image.now bs head)) }
+    ensures named { IfOk result (λ r. IfNone r (datas.new.items ≡ datas_from kind image.now head)) }
+    ensures forms { IfOk result (λ r. IfNone r
+        (HaveForms kind image.now head (word_in image.now head SIZE) datas.new.items)) }
+{
+    let size = image.word(head, SIZE);
+    let refused = claim_named(image, head, count_of(kind, size) as usize, marks, datas)?;
+    if refused.is_some() {
+        return Ok(refused);
+    }
+    if have_forms(image, kind, head, size, datas) {
+        Ok(None)
+    } else {
+        Ok(Some(Why::BadData))
+    }
+}
+
+/// Reads a file, and claims its data blocks; else says why it is not kept, and nothing is claimed. `NoMemory` if an allocation
+/// fails; then the marks are of no use.
+pub fn read_file(
+    alloc: Global,
+    image: &Held<'_>,
+    kind: Kind,
+    head: u32,
+    meta: Meta,
+    marks: &mut Vec<bool>,
+) -> Result<Result<Found, Why>, NoMemory>
+    requires file { word_in image.now head SECONDARY_TYPE ≡ ST_FILE }
+    requires claims { (bs : List ℕ) × AreClaimed (blocks image.now) marks.old.items bs }
+    ensures { (bs : List ℕ) → AreClaimed (blocks image.now) marks.old.items bs → IfOk result (λ r. MatchResult r
+        (λ f. (f.meta ≡ meta) × IsFileOf kind image.now head f.body f.datas.items × AreClaimed (blocks image.now) marks.new.items (bs ++ f.datas.items))
+        (λ why. IsFileFault kind image.now bs head why × AreClaimed (blocks image.now) marks.new.items bs)) }
+{
+    let mut datas = Vec::new(alloc);
+    if let Some(why) = claim_file(image, kind, head, marks, &mut datas)? {
+        release(marks, datas);
+        return Ok(Err(why));
+    }
+    let body = body_in(alloc, image, kind, image.word(head, SIZE), &datas)?;
+    Ok(Ok(Found { meta, body, datas }))
+}
