@@ -4,7 +4,7 @@ use Rattle.adf_boot_blocks.specs.BootBlocks.{begins_with_dos, has_no_code, has_r
 use Rattle.adf_boot_blocks.specs.{Crc.crc_32, declared.boot.TheConstants.BOOT_LEN, declared.refusal.BootRefusal.BootRefusal}
 use Rattle.adf_boot_blocks.specs.declared.refusal.BootRefusal.TheVariants.{BadSize, NotDos, BadSourceSize, SourceNotDos}
 use Rattle.adf_memory.specs.declared.boot.BootBlocks.{BootBlocks}
-use Rattle.core.specs.Int.{from_bool}
+use Rattle.std.specs.Int.{from_bool}
 
 -- what is told of the boot blocks at the front of these bytes
 abbrev pub boot_blocks : List ℕ → BootBlocks
