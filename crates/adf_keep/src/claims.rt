@@ -1,4 +1,4 @@
-// The data blocks of the files that are kept.
+// The blocks of the entries that are kept.
 
 ghost use Rattle.std.specs.Prelude.{◌≡◌, ◌<◌, ◌≤◌, ◌∷◌, ◌++◌, ℕ, List, [], IfErr, IfOk, OnErr, OnOk};
 ghost use Rattle.adf_keep.specs.{Claims.AreClaimed, Reasons.IsBlockFault};
