@@ -14,7 +14,7 @@ use Rattle.adf_blocks.specs.Sizes.{blocks, is_allowed}
 use Rattle.adf_tree.specs.{Tree.room_for_by, declared.tree.RoomFault.TheVariants.Exists}
 use Rattle.adf_drafts.specs.{declared.draft.Room.Room, Draft.DraftValue, Draft.IsDirectoryOf, Draft.IsRoomFor}
 use Rattle.adf_build.specs.{Building.IsBuildable, Plan.entries_blocks, Plan.reserved}
-use Rattle.adf_keep.specs.{Claims.AreClaimed, declared.keeper.Keeper.Keeper, declared.proposal.Why.Why}
+use Rattle.adf_keep.specs.{Marks.AreClaimed, declared.keeper.Keeper.Keeper, declared.proposal.Why.Why}
 use Rattle.adf_keep.proofs.TreeBlocks.{added_blocks}
 use Rattle.adf_keep.specs.declared.proposal.Why.TheVariants.{BadData, BadTable, NameTaken, NoData, NoDirectory, NoEntry, NoHeader, NoRoom, Taken}
 use Rattle.adf_keep.specs.{Reasons.IsEntryFault, declared.proposal.Proposed.Proposed, Verdicts.IsVerdictFor.is_kept, Verdicts.IsVerdictFor.is_left_out}

@@ -11,7 +11,7 @@ use Rattle.adf_blocks.specs.declared.layout.TheConstants.{SECONDARY_TYPE, SIZE, 
 use Rattle.adf_volume.specs.{Image.word_in, Lists.At}
 use Rattle.std.proofs.lemmas.Bool.{cases_lt}
 use Rattle.adf_tree.specs.{Tree.room_for_by, declared.tree.RoomFault.RoomFault, declared.tree.RoomFault.TheVariants.Exists}
-use Rattle.adf_keep.specs.{Claims.IsOnce, Claims.has_block, Entry.IsDirOf, Entry.IsEntryOf, Entry.IsHeadedBy, File.IsFileOf, File.datas_from, File.firsts, File.named_at, File.table_at, File.tables_from, File.tables_needed, Reasons.IsEntryFault, Reasons.IsHeadFault}
+use Rattle.adf_keep.specs.{Marks.IsOnce, Marks.has_block, Entry.IsDirOf, Entry.IsEntryOf, Entry.IsHeadedBy, File.IsFileOf, File.datas_from, File.firsts, File.named_at, File.table_at, File.tables_from, File.tables_needed, Reasons.IsEntryFault, Reasons.IsHeadFault}
 use Rattle.adf_keep.specs.declared.proposal.Why.TheVariants.{BadData, BadTable, NameTaken, NoData, NoDirectory, NoEntry, NoHeader, NoRoom, Taken}
 use Rattle.adf_keep.proofs.{ClaimMarks.none_before, ClaimMarks.once_less, TableNames.firsts_length}
 use Rattle.adf_keep.specs.Kept.{Agree, HasRoomFor}

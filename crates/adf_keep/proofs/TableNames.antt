@@ -6,7 +6,7 @@ use Rattle.adf_volume.specs.Image.{word_in}
 use Rattle.adf_build.specs.Plan.{exts_needed}
 use Rattle.std.proofs.lemmas.Bool.{cases_lt}
 use Rattle.adf_blocks.specs.Sizes.{blocks}
-use Rattle.adf_keep.specs.{Claims.AreClaimed, File.HasExts, File.IsExtOf, File.IsHeld, File.firsts, File.named_at, File.table_at}
+use Rattle.adf_keep.specs.{Marks.AreClaimed, File.HasExts, File.IsExtOf, File.IsHeld, File.firsts, File.named_at, File.table_at}
 use Rattle.adf_keep.specs.Reasons.{IsBlockFault, IsDataFault, IsTableFault}
 use Rattle.adf_keep.specs.declared.proposal.Why.{Why, TheVariants.NoData, TheVariants.Taken}
 

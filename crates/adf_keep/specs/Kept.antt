@@ -5,7 +5,7 @@ use Rattle.adf_keep.specs.Verdicts.EntryVerdict.{keeps, leaves}
 use Rattle.adf_build.specs.Plan.{blocks_needed, entries_blocks}
 use Rattle.adf_tree.specs.declared.entry.Entry.{Entry}
 use Rattle.adf_volume.specs.Lists.{In}
-use Rattle.adf_keep.specs.{Claims.IsOnce, Entry.IsEntryOf, File.held_part, State.blocks_for_entries}
+use Rattle.adf_keep.specs.{Marks.IsOnce, Entry.IsEntryOf, File.held_part, State.blocks_for_entries}
 use Rattle.adf_keep.specs.declared.keeping.{Kept.Kept, Terms.Terms}
 use Rattle.adf_keep.specs.declared.proposal.Proposed.{Proposed}
 use Rattle.adf_keep.specs.Verdicts.{AreVerdicts, Setting, EntryVerdict, kept_blocks, kept_tree, all_left_out}

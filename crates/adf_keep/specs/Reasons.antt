@@ -6,7 +6,7 @@ use Rattle.adf_names.specs.declared.kind.Kind.{Kind}
 use Rattle.adf_blocks.specs.Sizes.{count}
 use Rattle.adf_blocks.specs.declared.layout.TheConstants.{SECONDARY_TYPE, SIZE, ST_DIR, ST_FILE}
 use Rattle.adf_volume.specs.Image.{word_in}
-use Rattle.adf_keep.specs.{Claims.has_block, File.HasExts, File.HaveForms, File.IsHeld, File.datas_from, File.firsts, File.named_at, File.table_at, File.tables_from, File.tables_needed}
+use Rattle.adf_keep.specs.{Marks.has_block, File.HasExts, File.HaveForms, File.IsHeld, File.datas_from, File.firsts, File.named_at, File.table_at, File.tables_from, File.tables_needed}
 use Rattle.adf_keep.specs.declared.proposal.Why.{Why, TheVariants.BadData, TheVariants.BadTable, TheVariants.NoData, TheVariants.NoEntry, TheVariants.NoHeader, TheVariants.Taken}
 
 -- why block b, of n blocks of which those of bs are claimed, cannot be claimed

@@ -6,7 +6,7 @@ use Rattle.adf_tree.specs.declared.entry.Body.{Body}
 use Rattle.adf_blocks.specs.Sizes.{blocks}
 use Rattle.adf_drafts.specs.Draft.{DraftValue, IsDirectoryOf}
 use Rattle.adf_build.specs.Plan.{data_blocks, entries_blocks, exts_needed, reserved}
-use Rattle.adf_keep.specs.{Claims.AreClaimed, declared.keeper.Keeper.Keeper}
+use Rattle.adf_keep.specs.{Marks.AreClaimed, declared.keeper.Keeper.Keeper}
 use Rattle.adf_keep.specs.Verdicts.{Setting, IsVerdictFor, EntryVerdict, kept_blocks, kept_tree, all_left_out, dir_path}
 use Rattle.adf_keep.specs.declared.proposal.Proposed.{Proposed}
 

@@ -3,7 +3,7 @@
 ghost use Rattle.std.specs.Prelude.{◌≡◌, ◌<◌, ◌≤◌, ◌∷◌, ◌++◌, ℕ, List, [], IfOk, MatchResult, Some, None};
 ghost use Rattle.adf_base.specs.Words.{block, word};
 ghost use Rattle.adf_blocks.specs.{Sizes.blocks, HeadBlock.meta_stated, declared.layout.TheConstants.SECONDARY_TYPE, declared.layout.TheConstants.ST_FILE};
-ghost use Rattle.adf_keep.specs.{Claims.AreClaimed, Entry.IsEntryOf, Entry.IsHeadedBy, Entry.IsMadeDir, File.IsHeld, Reasons.IsEntryFault, Reasons.IsHeadFault, Reasons.IsTableFault};
+ghost use Rattle.adf_keep.specs.{Marks.AreClaimed, Entry.IsEntryOf, Entry.IsHeadedBy, Entry.IsMadeDir, File.IsHeld, Reasons.IsEntryFault, Reasons.IsHeadFault, Reasons.IsTableFault};
 ghost use Rattle.adf_tree.specs.declared.entry.Body.TheVariants.{Dir};
 
 use crate::claims::release;

@@ -6,7 +6,7 @@ ghost use Rattle.adf_tree.specs.declared.entry.Body.TheVariants.{File};
 ghost use Rattle.adf_blocks.specs.{Sizes.blocks, Sizes.chunk, Sizes.count, declared.layout.TheConstants.SIZE, declared.layout.TheConstants.SECONDARY_TYPE};
 ghost use Rattle.adf_blocks.specs.declared.layout.TheConstants.{ST_FILE};
 ghost use Rattle.adf_volume.specs.{Demands.AllHold, Demands.data_demands, Image.content, Image.held as bytes_held, Image.word_in, Lists.At};
-ghost use Rattle.adf_keep.specs.{Claims.AreClaimed, File.HasExts, File.HaveForms, File.IsFileOf, File.IsHeld, File.datas_from, File.tables_from, File.tables_needed, Reasons.IsFileFault};
+ghost use Rattle.adf_keep.specs.{Marks.AreClaimed, File.HasExts, File.HaveForms, File.IsFileOf, File.IsHeld, File.datas_from, File.tables_from, File.tables_needed, Reasons.IsFileFault};
 
 use crate::claims::release;
 use crate::held::Held;

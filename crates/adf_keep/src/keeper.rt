@@ -5,7 +5,7 @@ ghost use Rattle.adf_drafts.specs.Draft.{IsRoomFor};
 ghost use Rattle.adf_blocks.specs.Sizes.{blocks, is_allowed};
 ghost use Rattle.adf_build.specs.Plan.{reserved};
 ghost use Rattle.adf_tree.specs.{Additions.Addition, Tree.is_dir_body};
-ghost use Rattle.adf_keep.specs.{Claims.AreClaimed, State.TakesOne, State.IsKeeper, State.IsState, State.body_cost};
+ghost use Rattle.adf_keep.specs.{Marks.AreClaimed, State.TakesOne, State.IsKeeper, State.IsState, State.body_cost};
 ghost use Rattle.adf_keep.specs.Verdicts.{Setting, LacksRoom, EntryVerdict, kept_blocks};
 ghost use Rattle.adf_keep.specs.Verdicts.EntryVerdict.{keeps, leaves};
 ghost use Rattle.adf_keep.specs.declared.proposal.Why.TheVariants.{NoRoom};

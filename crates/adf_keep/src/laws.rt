@@ -4,7 +4,7 @@ ghost use Rattle.std.specs.Prelude.{◌≡◌, List};
 ghost use Rattle.std.specs.List.{flat_map};
 ghost use Rattle.adf_tree.specs.{Additions.IsTreeOfBy, declared.entry.Entry.Entry};
 ghost use Rattle.adf_volume.specs.Lists.{In};
-ghost use Rattle.adf_keep.specs.{Claims.IsOnce, Kept.Agree, Kept.HasRoomFor, Kept.IsOfProposal, declared.proposal.Proposed.Proposed};
+ghost use Rattle.adf_keep.specs.{Marks.IsOnce, Kept.Agree, Kept.HasRoomFor, Kept.IsOfProposal, declared.proposal.Proposed.Proposed};
 ghost use Rattle.adf_keep.specs.Verdicts.{AreVerdicts, Setting, EntryVerdict, kept_blocks, kept_tree, kept_addition};
 
 /// The tree of what is kept has each entry that is kept, at its path, and no other.

@@ -3,7 +3,7 @@
 ghost use Rattle.std.specs.Prelude.{◌≡◌, ◌-◌, ◌*◌, ◌/◌, ◌<◌, ◌↔◌, ◌⊎◌, ◌++◌, ℕ, List, [], IfOk, IfSome, IfNone, IsTrue};
 ghost use Rattle.adf_blocks.specs.declared.layout.TheConstants.{POINTERS};
 ghost use Rattle.adf_blocks.specs.Sizes.{blocks};
-ghost use Rattle.adf_keep.specs.{Claims.AreClaimed, File.HasExts, File.IsExtOf, File.IsHeld, File.firsts, File.named_at, File.table_at};
+ghost use Rattle.adf_keep.specs.{Marks.AreClaimed, File.HasExts, File.IsExtOf, File.IsHeld, File.firsts, File.named_at, File.table_at};
 ghost use Rattle.adf_keep.specs.Reasons.{IsDataFault, IsTableFault};
 
 use crate::claims::claim;

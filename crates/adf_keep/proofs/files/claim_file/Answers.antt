@@ -3,7 +3,7 @@ use Rattle.std.proofs.lemmas.List.{append-nil}
 use Rattle.adf_volume.specs.Lists.{At}
 use Rattle.adf_build.specs.Plan.{exts_needed}
 use Rattle.adf_blocks.specs.Sizes.{count}
-use Rattle.adf_keep.specs.{Claims.AreClaimed, File.firsts, File.named_at, File.table_at}
+use Rattle.adf_keep.specs.{Marks.AreClaimed, File.firsts, File.named_at, File.table_at}
 use Rattle.adf_keep.proofs.ClaimMarks.{claims_inside}
 use Rattle.adf_keep.proofs.{FaultSteps.data_fault, FaultSteps.table_fault, FileForms.at_none, TableNames.exts_few, TableNames.firsts_length}
 use Rattle.adf_keep.proofs.files.claim_file.Goals as goal

@@ -1,5 +1,5 @@
 use Rattle.std.proofs.Common.{◌++◌, arith, subst, sym}
-use Rattle.adf_keep.specs.{Claims.AreClaimed, File.named_at}
+use Rattle.adf_keep.specs.{Marks.AreClaimed, File.named_at}
 use Rattle.adf_keep.proofs.TableNames.{claims_more, data_refused, firsts_more, named_is, table_next}
 use Rattle.adf_keep.proofs.tables.claim_named.Goals as goal
 

@@ -1,6 +1,6 @@
 use Rattle.std.proofs.Common.{◌≡◌, ◌-◌, ◌/◌, ◌++◌, ℕ, List}
 use Rattle.adf_blocks.specs.declared.layout.TheConstants.{POINTERS}
-use Rattle.adf_keep.specs.{Claims.AreClaimed, File.firsts, File.named_at, File.table_at}
+use Rattle.adf_keep.specs.{Marks.AreClaimed, File.firsts, File.named_at, File.table_at}
 use Rattle.adf_keep.proofs.tables.claim_named.Given as goal
 
 abbrev pub invariant-loop-k : goal.invariant-loop-k

@@ -1,5 +1,5 @@
 use Rattle.std.proofs.Common.{◌≡◌, ◌++◌, false, true, arith, refl, subst, sym}
-use Rattle.adf_keep.specs.{Claims.AreClaimed, File.table_at}
+use Rattle.adf_keep.specs.{Marks.AreClaimed, File.table_at}
 use Rattle.adf_keep.proofs.TableNames.{claims_more, exts_more, exts_not, firsts_more, table_after, table_held, table_refused}
 use Rattle.adf_keep.proofs.tables.claim_tables.Goals as goal
 

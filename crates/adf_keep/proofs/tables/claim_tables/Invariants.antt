@@ -1,5 +1,5 @@
 use Rattle.std.proofs.Common.{◌≡◌, ◌++◌, ℕ, List}
-use Rattle.adf_keep.specs.{Claims.AreClaimed, File.HasExts, File.firsts, File.table_at}
+use Rattle.adf_keep.specs.{Marks.AreClaimed, File.HasExts, File.firsts, File.table_at}
 use Rattle.adf_keep.proofs.tables.claim_tables.Given as goal
 
 abbrev pub invariant-loop-m : goal.invariant-loop-m

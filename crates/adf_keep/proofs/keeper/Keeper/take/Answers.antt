@@ -2,7 +2,7 @@ use Rattle.std.proofs.Common.{◌≡◌, ◌∷◌, ◌++◌, ◌∙◌, [], Lis
 use Rattle.std.proofs.lemmas.Result.{on_ok_weaker}
 use Rattle.adf_tree.specs.Additions.{Addition}
 use Rattle.adf_blocks.specs.Sizes.{blocks}
-use Rattle.adf_keep.specs.{Claims.AreClaimed, Entry.IsEntryOf, Reasons.IsEntryFault, State.IsPlaceOf}
+use Rattle.adf_keep.specs.{Marks.AreClaimed, Entry.IsEntryOf, Reasons.IsEntryFault, State.IsPlaceOf}
 use Rattle.adf_keep.specs.declared.proposal.Why.TheVariants.{NameTaken, NoDirectory}
 use Rattle.adf_keep.specs.Verdicts.{kept_blocks, dir_path, IsVerdictFor.is_left_out, EntryVerdict.leaves}
 use Rattle.adf_keep.proofs.FileForms.{at_err, at_none, at_ok}
