@@ -14,18 +14,18 @@ use Rattle.adf_blocks.specs.Sizes.{blocks, is_allowed}
 use Rattle.adf_tree.specs.{Tree.room_for_by, declared.tree.RoomFault.TheVariants.Exists}
 use Rattle.adf_drafts.specs.{declared.draft.Room.Room, Draft.DraftValue, Draft.IsDirectoryOf, Draft.IsRoomFor}
 use Rattle.adf_build.specs.{Building.IsBuildable, Plan.entries_blocks, Plan.reserved}
-use Rattle.adf_keep.specs.{Claims.AreClaimed, declared.keeper.Keeper.Keeper, declared.proposal.Why.Why}
+use Rattle.adf_keep.specs.{Marks.AreClaimed, declared.keeper.Keeper.Keeper, declared.proposal.Why.Why}
 use Rattle.adf_keep.proofs.TreeBlocks.{added_blocks}
 use Rattle.adf_keep.specs.declared.proposal.Why.TheVariants.{BadData, BadTable, NameTaken, NoData, NoDirectory, NoEntry, NoHeader, NoRoom, Taken}
 use Rattle.adf_keep.specs.{Reasons.IsEntryFault, declared.proposal.Proposed.Proposed, Verdicts.IsVerdictFor.is_kept, Verdicts.IsVerdictFor.is_left_out}
 use Rattle.adf_keep.specs.State.{TakesOne, IsKeeper, IsPlaceOf, IsState, body_cost, blocks_for_entries}
-use Rattle.adf_keep.specs.Verdicts.{AreVerdicts, AreVerdicts.more, Setting, StandsAs, LacksRoom, IsReason, IsVerdictFor, EntryVerdict, kept_directory, kept_datas, kept_tree, left_out_at, all_left_out, dir_path, kept_addition, verdict_datas}
+use Rattle.adf_keep.specs.Verdicts.{AreVerdicts, AreVerdicts.more, Setting, StandsAs, LacksRoom, IsReason, IsVerdictFor, EntryVerdict, kept_directory, kept_blocks, kept_tree, left_out_at, all_left_out, dir_path, kept_addition, verdict_blocks}
 use Rattle.adf_keep.specs.Verdicts.EntryVerdict.{keeps, leaves}
 
 -- lists of verdicts, with one more
 
-pub datas_more : (vs : List EntryVerdict) (v : EntryVerdict) → kept_datas (vs ++ v ∷ []) ≡ kept_datas vs ++ verdict_datas v
-datas_more vs v = simp (flat_map-append, append-nil)
+pub blocks_more : (vs : List EntryVerdict) (v : EntryVerdict) → kept_blocks (vs ++ v ∷ []) ≡ kept_blocks vs ++ verdict_blocks v
+blocks_more vs v = simp (flat_map-append, append-nil)
 
 pub additions_more : (vs : List EntryVerdict) (v : EntryVerdict) → flat_map kept_addition (vs ++ v ∷ []) ≡ flat_map kept_addition vs ++ kept_addition v
 additions_more vs v = simp (flat_map-append, append-nil)
@@ -79,7 +79,7 @@ leaves_next g vs k s why index is number image kind draft left marks places out 
         left = (rw (draft, left) same.left);
         left_out = out ∙ ((λ i. same.left_out i ++ record { index = at i; why = why } ∷ []) ∙ sym (left_out_more 0 vs (leaves why)));
       };
-      claims = subst (λ bs. AreClaimed (blocks g.image) s.marks.items bs) (sym (append-nil (kept_datas vs)) ∙ sym (datas_more vs (leaves why)))
+      claims = subst (λ bs. AreClaimed (blocks g.image) s.marks.items bs) (sym (append-nil (kept_blocks vs)) ∙ sym (blocks_more vs (leaves why)))
           (rw marks is.claims);
     }
 
@@ -89,33 +89,33 @@ left_less : (left used free cost real : ℕ) → left + used ≡ free → left <
 left_less left used free cost real all small at le = omega arith
 
 -- the place of an addition
-pub new_place : (d : DraftValue) (path : List (List ℕ)) (meta : Meta) (body : Body) (datas : List ℕ) (m : ℕ) (place : Option ℕ)
+pub new_place : (d : DraftValue) (path : List (List ℕ)) (meta : Meta) (body : Body) (claimed : List ℕ) (m : ℕ) (place : Option ℕ)
     → place ≡ cond (is_dir_body body) (Some m) None → (body ≡ Dir → IsDirectoryOf d path m)
-    → IsPlaceOf d (kept_directory (keeps (record { path = path; meta = meta; body = body }) datas)) place
-new_place d path meta Dir datas m place is dir = rw is (dir refl)
-new_place d path meta (File bytes) datas m place is dir = rw is tt
+    → IsPlaceOf d (kept_directory (keeps (record { path = path; meta = meta; body = body }) claimed)) place
+new_place d path meta Dir claimed m place is dir = rw is (dir refl)
+new_place d path meta (File bytes) claimed m place is dir = rw is tt
 
 -- the next entry is kept
-module _ (g : Setting) (vs : List EntryVerdict) (k s : Keeper) (x : Addition) (datas : List ℕ) (is : IsKeeper g vs k) where
+module _ (g : Setting) (vs : List EntryVerdict) (k s : Keeper) (x : Addition) (claimed : List ℕ) (is : IsKeeper g vs k) where
   abbrev grown : Tree
   grown = with_entry_by g.tree.letters (kept_tree g vs) x.path x.meta x.body
 
-  tree_more : kept_tree g (vs ++ keeps x datas ∷ []) ≡ grown
+  tree_more : kept_tree g (vs ++ keeps x claimed ∷ []) ≡ grown
   tree_more = grind (arith, additions_more, append_assoc, fold_push)
 
   used_more : entries_blocks g.tree.kind grown.entries ≡ entries_blocks g.tree.kind (kept_tree g vs).entries + body_cost g.tree.kind x.body
   used_more = added_blocks g.tree.letters g.tree.kind (kept_tree g vs).entries
       (new_entry_by g.tree.letters (kept_tree g vs).entries x.path x.meta x.body)
 
-  pub keeps_next : (place : Option ℕ) (cost : ℕ) → AreClaimed (blocks g.image) s.marks.items (kept_datas vs ++ datas)
+  pub keeps_next : (place : Option ℕ) (cost : ℕ) → AreClaimed (blocks g.image) s.marks.items (kept_blocks vs ++ claimed)
       → cost ≡ min (body_cost k.kind x.body) (2 ^ 64 - 1) → k.left < 2 ^ 32 → cost ≤ k.left
       → s.draft.tree ≡ with_entry_by k.draft.tree.letters k.draft.tree x.path x.meta x.body
       → ((dir : List (List ℕ)) (m : ℕ) → IsDirectoryOf k.draft dir m → IsDirectoryOf s.draft dir m)
-      → IsPlaceOf s.draft (kept_directory (keeps x datas)) place
+      → IsPlaceOf s.draft (kept_directory (keeps x claimed)) place
       → s.image ≡ k.image → s.kind ≡ k.kind → s.left ≡ k.left - cost → s.places.items ≡ k.places.items ++ place ∷ []
-      → s.left_out.items ≡ k.left_out.items → IsState g (vs ++ keeps x datas ∷ []) s
+      → s.left_out.items ≡ k.left_out.items → IsState g (vs ++ keeps x claimed ∷ []) s
   keeps_next place cost claims at small le tree dirs new image kind left places out =
-      let v : EntryVerdict = keeps x datas in
+      let v : EntryVerdict = keeps x claimed in
       let built : s.draft.tree ≡ grown = tree ∙ ap (λ (t : Tree). with_entry_by t.letters t x.path x.meta x.body) is.tree in
       let real : cost ≡ min (body_cost g.tree.kind x.body) (2 ^ 64 - 1) = at ∙ ap (λ kind. min (body_cost kind x.body) (2 ^ 64 - 1)) is.kind in
       let before : k.left + entries_blocks g.tree.kind (kept_tree g vs).entries ≡ blocks_for_entries g.blocks =
@@ -133,7 +133,7 @@ module _ (g : Setting) (vs : List EntryVerdict) (k s : Keeper) (x : Addition) (d
           left = rw (built, left, used_more) after;
           left_out = out ∙ (is.left_out ∙ (sym (append-nil (all_left_out 0 vs)) ∙ sym (left_out_more 0 vs v)));
         };
-        claims = rw (datas_more vs v) claims;
+        claims = rw (blocks_more vs v) claims;
       }
 
 -- the blocks do not suffice
@@ -171,10 +171,10 @@ place_some d (Some dir) m h = (dir, refl, h)
 place_some d None m h = absurd h
 
 -- the next entry is kept, or left out since it has no room
-pub settled : (g : Setting) (vs : List EntryVerdict) (p : Proposed) (k : Keeper) (x : Addition) (datas : List ℕ) → StandsAs g vs p x datas
-    → (b : Bool) → (b ≡ false → LacksRoom g vs x) → IsState g (vs ++ cond b (keeps x datas) (leaves NoRoom) ∷ []) k → TakesOne g vs p k
-settled g vs p k x datas found true full state = (keeps x datas, is_kept x datas found, state)
-settled g vs p k x datas found false full state = (leaves NoRoom, is_left_out NoRoom (x, datas, found, full refl), state)
+pub settled : (g : Setting) (vs : List EntryVerdict) (p : Proposed) (k : Keeper) (x : Addition) (claimed : List ℕ) → StandsAs g vs p x claimed
+    → (b : Bool) → (b ≡ false → LacksRoom g vs x) → IsState g (vs ++ cond b (keeps x claimed) (leaves NoRoom) ∷ []) k → TakesOne g vs p k
+settled g vs p k x claimed found true full state = (keeps x claimed, is_kept x claimed found, state)
+settled g vs p k x claimed found false full state = (leaves NoRoom, is_left_out NoRoom (x, claimed, found, full refl), state)
 
 -- a directory without a place is not kept
 pub place_none : (d : DraftValue) (o : Option (List (List ℕ))) → IsPlaceOf d o None → o ≡ None
@@ -182,7 +182,7 @@ place_none d (Some dir) h = absurd h
 place_none d None h = refl
 
 -- the reasons of a header are those of an entry
-pub fault_reason : (g : Setting) (vs : List EntryVerdict) (p : Proposed) (why : Why) → IsEntryFault g.tree.kind g.image (kept_datas vs) p.head why
+pub fault_reason : (g : Setting) (vs : List EntryVerdict) (p : Proposed) (why : Why) → IsEntryFault g.tree.kind g.image (kept_blocks vs) p.head why
     → IsReason g vs p why
 fault_reason g vs p NoHeader fault = fault
 fault_reason g vs p NoEntry fault = fault
@@ -192,18 +192,21 @@ fault_reason g vs p Taken fault = fault
 fault_reason g vs p BadData fault = fault
 fault_reason g vs p NoDirectory fault = absurd (none p.head fault)
   where
-    none : (o : Option ℕ) → IsEntryFault g.tree.kind g.image (kept_datas vs) o NoDirectory → ⊥
-    none (Some h) fault = fault.1
+    none : (o : Option ℕ) → IsEntryFault g.tree.kind g.image (kept_blocks vs) o NoDirectory → ⊥
+    none (Some h) (inl fault) = fault.1
+    none (Some h) (inr fault) = elim fault.1 [ inl not ↦ not | inr not ↦ not ]
     none None fault = fault
 fault_reason g vs p NameTaken fault = absurd (none p.head fault)
   where
-    none : (o : Option ℕ) → IsEntryFault g.tree.kind g.image (kept_datas vs) o NameTaken → ⊥
-    none (Some h) fault = fault.1
+    none : (o : Option ℕ) → IsEntryFault g.tree.kind g.image (kept_blocks vs) o NameTaken → ⊥
+    none (Some h) (inl fault) = fault.1
+    none (Some h) (inr fault) = elim fault.1 [ inl not ↦ not | inr not ↦ not ]
     none None fault = fault
 fault_reason g vs p NoRoom fault = absurd (none p.head fault)
   where
-    none : (o : Option ℕ) → IsEntryFault g.tree.kind g.image (kept_datas vs) o NoRoom → ⊥
-    none (Some h) fault = fault.1
+    none : (o : Option ℕ) → IsEntryFault g.tree.kind g.image (kept_blocks vs) o NoRoom → ⊥
+    none (Some h) (inl fault) = fault.1
+    none (Some h) (inr fault) = elim fault.1 [ inl not ↦ not | inr not ↦ not ]
     none None fault = fault
 
 -- what fits is buildable

@@ -15,9 +15,9 @@ use Rattle.adf_keep.specs.Verdicts.EntryVerdict.{keeps, leaves}
 use Rattle.adf_keep.proofs.KeeperSteps.{additions_more}
 
 -- the tree after one more verdict
-pub entries_kept : (g : Setting) (vs : List EntryVerdict) (x : Addition) (datas : List ℕ) → (kept_tree g (vs ++ keeps x datas ∷ [])).entries
+pub entries_kept : (g : Setting) (vs : List EntryVerdict) (x : Addition) (claimed : List ℕ) → (kept_tree g (vs ++ keeps x claimed ∷ [])).entries
     ≡ added_by g.tree.letters (kept_tree g vs).entries (new_entry_by g.tree.letters (kept_tree g vs).entries x.path x.meta x.body)
-entries_kept g vs x datas = grind (arith, additions_more, fold_push)
+entries_kept g vs x claimed = grind (arith, additions_more, fold_push)
 
 pub entries_same : (g : Setting) (vs : List EntryVerdict) (v : EntryVerdict) → kept_addition v ≡ []
     → (kept_tree g (vs ++ v ∷ [])).entries ≡ (kept_tree g vs).entries
@@ -28,8 +28,8 @@ entries_same g vs v nothing = ap (entries_of_additions_by g.tree.letters) (addit
 pub kept_is_tree : (g : Setting) (ps : List Proposed) (vs : List EntryVerdict) → AreVerdicts g ps vs
     → IsTreeOfBy g.tree.letters (kept_tree g vs).entries (flat_map kept_addition vs)
 kept_is_tree g _ _ none = nothing_added_by g.tree.letters
-kept_is_tree g _ _ (more ps vs p v before (is_kept x datas found)) =
-    rw (entries_kept g vs x datas, additions_more vs (keeps x datas))
+kept_is_tree g _ _ (more ps vs p v before (is_kept x claimed found)) =
+    rw (entries_kept g vs x claimed, additions_more vs (keeps x claimed))
     (grown (kept_tree g vs).entries (flat_map kept_addition vs) x (kept_is_tree g ps vs before) found.room)
 kept_is_tree g _ _ (more ps vs p v before (is_left_out why reason)) =
     rw (entries_same g vs (leaves why) refl, additions_more vs (leaves why), append-nil (flat_map kept_addition vs)) (kept_is_tree g ps vs before)
@@ -56,7 +56,7 @@ in_unmap f (z ∷ zs) y (inr h) = let r = in_unmap f zs y h in (r.0, inr r.1, r.
 -- each entry is that of a proposed one, with one more
 module _ (g : Setting) (ps : List Proposed) where
   moved_of : (n : ℕ) (e : Entry) → IsOfProposal g ps e → IsOfProposal g ps (moved_entry n e)
-  moved_of n e is = record { from = is.from; proposed = is.proposed; name = is.name; datas = is.datas; entry = is.entry }
+  moved_of n e is = record { from = is.from; proposed = is.proposed; name = is.name; claimed = is.claimed; entry = is.entry }
 
   added_of : (letters : Letters) (es : List Entry) (new e : Entry) → ((x : Entry) → In es x → IsOfProposal g ps x) → IsOfProposal g ps new
       → In (added_by letters es new) e → IsOfProposal g ps e
@@ -75,7 +75,7 @@ widened g ps p e is = record {
   from = is.from;
   proposed = in_left ps (p ∷ []) is.from is.proposed;
   name = is.name;
-  datas = is.datas;
+  claimed = is.claimed;
   entry = is.entry;
 }
 
@@ -85,7 +85,7 @@ last_name dir name = grind (arith, common_steps)
 pub kept_is_proposed : (g : Setting) (ps : List Proposed) (vs : List EntryVerdict) → AreVerdicts g ps vs → (e : Entry) → In (kept_tree g vs).entries e
     → IsOfProposal g ps e
 kept_is_proposed g _ _ none e at = absurd at
-kept_is_proposed g _ _ (more ps vs p v before (is_kept x datas found)) e at =
+kept_is_proposed g _ _ (more ps vs p v before (is_kept x claimed found)) e at =
     let es : List Entry = (kept_tree g vs).entries in
     let new : Entry = new_entry_by g.tree.letters es x.path x.meta x.body in
     added_of g (ps ++ p ∷ []) g.tree.letters es new e (λ y there. widened g ps p y (kept_is_proposed g ps vs before y there))
@@ -93,8 +93,8 @@ kept_is_proposed g _ _ (more ps vs p v before (is_kept x datas found)) e at =
       from = p;
       proposed = in_right ps (p ∷ []) p (inl refl);
       name = ap last_of found.path ∙ last_name found.dir p.name;
-      datas = datas;
+      claimed = claimed;
       entry = found.entry;
-    }) (subst (λ (es : List Entry). In es e) (entries_kept g vs x datas) at)
+    }) (subst (λ (es : List Entry). In es e) (entries_kept g vs x claimed) at)
 kept_is_proposed g _ _ (more ps vs p v before (is_left_out why reason)) e at =
     widened g ps p e (kept_is_proposed g ps vs before e (subst (λ (es : List Entry). In es e) (entries_same g vs (leaves why) refl) at))

@@ -1,5 +1,5 @@
 -- A proposal has one outcome: what is kept of it does not depend on who keeps.
--- Letters: g what is given; p an entry; vs, ws verdicts on the same entries, v, w one more; x, y additions, d, e their data blocks.
+-- Letters: g what is given; p an entry; vs, ws verdicts on the same entries, v, w one more; x, y additions, d, e their blocks.
 use Rattle.std.proofs.Common.{◌≡◌, ◌∙◌, ◌+◌, ◌-◌, ◌<◌, ◌≤◌, ℕ, List, [], ◌∷◌, ◌++◌, Option, Some, None, Err, IsOk, true, ◌⊎◌, inl, inr, length, length-append, get_or, arith, refl, ap, subst, sym, zero, suc}
 use Rattle.std.proofs.lemmas.List.{append_assoc, get_or_append_left, length_push}
 use Rattle.std.specs.List.{flat_map, slice_get}
@@ -7,33 +7,32 @@ use Rattle.std.specs.Option.{option_and_then}
 use Rattle.adf_names.specs.declared.{kind.Kind.Kind, meta.Meta.Meta}
 use Rattle.adf_tree.specs.{Additions.Addition, declared.entry.Body.Body}
 use Rattle.adf_blocks.specs.Sizes.{count}
-use Rattle.adf_blocks.specs.declared.layout.TheConstants.{SECONDARY_TYPE, SIZE, ST_FILE}
+use Rattle.adf_blocks.specs.declared.layout.TheConstants.{SECONDARY_TYPE, SIZE, ST_DIR, ST_FILE}
 use Rattle.adf_volume.specs.{Image.word_in, Lists.At}
 use Rattle.std.proofs.lemmas.Bool.{cases_lt}
-use Rattle.adf_tree.specs.{declared.entry.Body.TheVariants.File, Tree.room_for_by, declared.tree.RoomFault.RoomFault, declared.tree.RoomFault.TheVariants.Exists}
-use Rattle.adf_volume.specs.Image.{content}
-use Rattle.adf_keep.specs.{Claims.IsOnce, Claims.has_block, Entry.IsDirOf, Entry.IsEntryOf, Entry.IsHeadedBy, File.HaveForms, File.IsFileOf, File.named_at, File.first_named, Reasons.IsEntryFault, Reasons.IsHeadFault}
+use Rattle.adf_tree.specs.{Tree.room_for_by, declared.tree.RoomFault.RoomFault, declared.tree.RoomFault.TheVariants.Exists}
+use Rattle.adf_keep.specs.{Marks.IsOnce, Marks.has_block, Entry.IsDirOf, Entry.IsEntryOf, Entry.IsHeadedBy, File.IsFileOf, File.datas_from, File.firsts, File.named_at, File.table_at, File.tables_from, File.tables_needed, Reasons.IsEntryFault, Reasons.IsHeadFault}
 use Rattle.adf_keep.specs.declared.proposal.Why.TheVariants.{BadData, BadTable, NameTaken, NoData, NoDirectory, NoEntry, NoHeader, NoRoom, Taken}
-use Rattle.adf_keep.proofs.{ClaimMarks.none_before, ClaimMarks.once_less, TableNames.names_length}
+use Rattle.adf_keep.proofs.{ClaimMarks.none_before, ClaimMarks.once_less, TableNames.firsts_length}
 use Rattle.adf_keep.specs.Kept.{Agree, HasRoomFor}
 use Rattle.adf_tree.specs.{Additions.entries_of_additions_by, declared.entry.Entry.Entry, Tree.Tree, Tree.new_entry_by, Tree.with_entry_by}
 use Rattle.adf_build.specs.Plan.{blocks_needed, entries_blocks, reserved}
-use Rattle.adf_keep.proofs.{KeeperSteps.datas_more, KeptTrees.entries_kept, KeptTrees.entries_same, TreeBlocks.added_blocks}
+use Rattle.adf_keep.proofs.{KeeperSteps.blocks_more, KeptTrees.entries_kept, KeptTrees.entries_same, TreeBlocks.added_blocks}
 use Rattle.adf_keep.specs.declared.proposal.{Proposed.Proposed, Why.Why}
-use Rattle.adf_keep.specs.Verdicts.{AreVerdicts, AreVerdicts.more, AreVerdicts.none, Setting, StandsAs, LacksRoom, IsReason, IsVerdictFor, IsVerdictFor.is_kept, IsVerdictFor.is_left_out, EntryVerdict, kept_directory, kept_datas, kept_tree, dir_path, kept_addition, verdict_datas}
+use Rattle.adf_keep.specs.Verdicts.{AreVerdicts, AreVerdicts.more, AreVerdicts.none, Setting, StandsAs, LacksRoom, IsReason, IsVerdictFor, IsVerdictFor.is_kept, IsVerdictFor.is_left_out, EntryVerdict, kept_directory, kept_blocks, kept_tree, dir_path, kept_addition, verdict_blocks}
 use Rattle.adf_keep.specs.Verdicts.EntryVerdict.{keeps, leaves}
 
 -- verdicts that agree
 
-pub agree_datas : (vs ws : List EntryVerdict) → Agree vs ws → kept_datas vs ≡ kept_datas ws
-agree_datas [] [] same = refl
-agree_datas [] (w ∷ ws) same = absurd same
-agree_datas (keeps x d ∷ vs) [] same = absurd same
-agree_datas (leaves why ∷ vs) [] same = absurd same
-agree_datas (keeps x d ∷ vs) (keeps y e ∷ ws) same = λ i. same.1 i ++ agree_datas vs ws same.2 i
-agree_datas (keeps x d ∷ vs) (leaves why ∷ ws) same = absurd same
-agree_datas (leaves why ∷ vs) (keeps y e ∷ ws) same = absurd same
-agree_datas (leaves why ∷ vs) (leaves other ∷ ws) same = agree_datas vs ws same
+pub agree_blocks : (vs ws : List EntryVerdict) → Agree vs ws → kept_blocks vs ≡ kept_blocks ws
+agree_blocks [] [] same = refl
+agree_blocks [] (w ∷ ws) same = absurd same
+agree_blocks (keeps x d ∷ vs) [] same = absurd same
+agree_blocks (leaves why ∷ vs) [] same = absurd same
+agree_blocks (keeps x d ∷ vs) (keeps y e ∷ ws) same = λ i. same.1 i ++ agree_blocks vs ws same.2 i
+agree_blocks (keeps x d ∷ vs) (leaves why ∷ ws) same = absurd same
+agree_blocks (leaves why ∷ vs) (keeps y e ∷ ws) same = absurd same
+agree_blocks (leaves why ∷ vs) (leaves other ∷ ws) same = agree_blocks vs ws same
 
 pub agree_additions : (vs ws : List EntryVerdict) → Agree vs ws → flat_map kept_addition vs ≡ flat_map kept_addition ws
 agree_additions [] [] same = refl
@@ -79,12 +78,10 @@ same_headed : (kind : Kind) (image : List ℕ) (h : ℕ) (m n : Meta) (b c : Bod
 same_headed kind image h m n b c d e one other = (one.meta_is ∙ sym other.meta_is, (bodies one.content other.content).0, (bodies one.content other.content).1)
   where
     bodies : (IsDirOf image h b d ⊎ IsFileOf kind image h b d) → (IsDirOf image h c e ⊎ IsFileOf kind image h c e) → (b ≡ c) × (d ≡ e)
-    bodies (inl s) (inl t) = (s.body_is ∙ sym t.body_is, s.none ∙ sym t.none)
+    bodies (inl s) (inl t) = (s.body_is ∙ sym t.body_is, s.all ∙ sym t.all)
     bodies (inl s) (inr t) = absurd (omega (arith, s.type, t.type))
     bodies (inr s) (inl t) = absurd (omega (arith, s.type, t.type))
-    bodies (inr s) (inr t) =
-        let same : d ≡ e = s.named ∙ sym t.named in
-        (s.bytes ∙ (ap (λ xs. File (content image kind h xs)) same ∙ sym t.bytes), same)
+    bodies (inr s) (inr t) = (s.bytes ∙ sym t.bytes, s.all ∙ sym t.all)
 
 same_entry : (kind : Kind) (image : List ℕ) (head : Option ℕ) (m n : Meta) (b c : Body) (d e : List ℕ) → IsEntryOf kind image head m b d
     → IsEntryOf kind image head n c e → (m ≡ n) × (b ≡ c) × (d ≡ e)
@@ -112,30 +109,35 @@ at_last [] b n long = subst (λ k. At (b ∷ []) k b) long refl
 at_last (x ∷ xs) b zero long = absurd (omega arith)
 at_last (x ∷ xs) b (suc n) long = at_last xs b n (omega arith)
 
-names_at : (image : List ℕ) (h n k : ℕ) → k < n → At (first_named image h n) k (named_at image h k)
-names_at image h zero k lt = absurd (omega arith)
-names_at image h (suc n) k lt = elim (cases_lt k n) [
-  | inl below ↦ at_left (first_named image h n) (named_at image h n ∷ []) k (named_at image h k) (names_at image h n k below)
+firsts_at : (f : ℕ → ℕ) (n k : ℕ) → k < n → At (firsts f n) k (f k)
+firsts_at f zero k lt = absurd (omega arith)
+firsts_at f (suc n) k lt = elim (cases_lt k n) [
+  | inl below ↦ at_left (firsts f n) (f n ∷ []) k (f k) (firsts_at f n k below)
   | inr above ↦
       let last : n ≡ k = omega arith in
-      subst (λ m. At (first_named image h n ++ named_at image h n ∷ []) m (named_at image h m)) last
-      (at_last (first_named image h n) (named_at image h n) n (names_length image h n))
+      subst (λ m. At (firsts f n ++ f n ∷ []) m (f m)) last (at_last (firsts f n) (f n) n (firsts_length f n))
 ]
 
-not_taken : (image : List ℕ) (h n k : ℕ) (bs : List ℕ) → k < n → IsOnce (bs ++ first_named image h n)
-    → has_block (bs ++ first_named image h k) (named_at image h k) ≡ true → ⊥
-not_taken image h zero k bs lt once taken = omega arith
-not_taken image h (suc n) k bs lt once taken =
-    let apart : IsOnce ((bs ++ first_named image h n) ++ named_at image h n ∷ []) =
-    subst IsOnce (sym (append_assoc bs (first_named image h n) (named_at image h n ∷ []))) once in
+not_taken : (f : ℕ → ℕ) (n k : ℕ) (bs : List ℕ) → k < n → IsOnce (bs ++ firsts f n) → has_block (bs ++ firsts f k) (f k) ≡ true → ⊥
+not_taken f zero k bs lt once taken = omega arith
+not_taken f (suc n) k bs lt once taken =
+    let apart : IsOnce ((bs ++ firsts f n) ++ f n ∷ []) = subst IsOnce (sym (append_assoc bs (firsts f n) (f n ∷ []))) once in
     elim (cases_lt k n) [
-      | inl below ↦ not_taken image h n k bs below (once_less (bs ++ first_named image h n) (named_at image h n) apart) taken
+      | inl below ↦ not_taken f n k bs below (once_less (bs ++ firsts f n) (f n) apart) taken
       | inr above ↦
           let last : k ≡ n = omega arith in
-          let none = none_before (bs ++ first_named image h n) (named_at image h n) apart in
-          let some = subst (λ m. has_block (bs ++ first_named image h m) (named_at image h m) ≡ true) last taken in
+          let none = none_before (bs ++ firsts f n) (f n) apart in
+          let some = subst (λ m. has_block (bs ++ firsts f m) (f m) ≡ true) last taken in
           cc
     ]
+
+once_front : (bs xs : List ℕ) → IsOnce (bs ++ xs) → IsOnce bs
+once_front bs xs once = λ i j d lt below.
+    let long = length-append bs xs in
+    let all = once i j d lt (omega arith) in
+    let first : get_or (bs ++ xs) i d ≡ get_or bs i d = get_or_append_left bs xs d i (omega arith) in
+    let second : get_or (bs ++ xs) j d ≡ get_or bs j d = get_or_append_left bs xs d j below in
+    λ same. all (cc)
 
 file_of : (kind : Kind) (image : List ℕ) (h : ℕ) (m : Meta) (b : Body) (d : List ℕ) → IsHeadedBy kind image h m b d
     → word_in image h SECONDARY_TYPE ≡ ST_FILE → IsFileOf kind image h b d
@@ -145,6 +147,14 @@ file_of kind image h m b d is type = pick is.content
     pick (inl s) = absurd (omega (arith, s.type, type))
     pick (inr s) = s
 
+dir_of : (kind : Kind) (image : List ℕ) (h : ℕ) (m : Meta) (b : Body) (d : List ℕ) → IsHeadedBy kind image h m b d
+    → word_in image h SECONDARY_TYPE ≡ ST_DIR → IsDirOf image h b d
+dir_of kind image h m b d is type = pick is.content
+  where
+    pick : (IsDirOf image h b d ⊎ IsFileOf kind image h b d) → IsDirOf image h b d
+    pick (inl s) = s
+    pick (inr s) = absurd (omega (arith, s.type, type))
+
 no_fault : (kind : Kind) (image bs : List ℕ) (h : ℕ) (m : Meta) (b : Body) (d : List ℕ) (why : Why) → IsHeadedBy kind image h m b d
     → IsOnce (bs ++ d) → IsHeadFault kind image bs h why → ⊥
 no_fault kind image bs h m b d NoHeader is once fault = fault is.held
@@ -153,20 +163,35 @@ no_fault kind image bs h m b d NoEntry is once fault = pick is.content
     pick : (IsDirOf image h b d ⊎ IsFileOf kind image h b d) → ⊥
     pick (inl s) = fault.0 s.type
     pick (inr s) = fault.1 s.type
-no_fault kind image bs h m b d BadTable is once fault = fault.1 (file_of kind image h m b d is fault.0).table
-no_fault kind image bs h m b d NoData is once fault =
-    let file = file_of kind image h m b d is fault.0 in
+no_fault kind image bs h m b d BadTable is once (inl fault) = fault.1 (λ j lt. absurd (omega arith))
+no_fault kind image bs h m b d BadTable is once (inr fault) = elim fault.1 [
+  | inl table ↦ table (file_of kind image h m b d is fault.0).table
+  | inr not ↦ not
+]
+no_fault kind image bs h m b d NoData is once (inl fault) = fault.1
+no_fault kind image bs h m b d NoData is once (inr fault) = elim fault.1 [
+  | inl not ↦ not
+  | inr r ↦
+      r.2 ((file_of kind image h m b d is fault.0).inside r.0 (named_at image h r.0)
+      (firsts_at (named_at image h) (count kind (word_in image h SIZE)) r.0 r.1))
+]
+no_fault kind image bs h m b d Taken is once (inl fault) =
+    let dir = dir_of kind image h m b d is fault.0 in
     let r = fault.1 in
-    r.2 (file.inside r.0 (named_at image h r.0) (subst (λ xs. At xs r.0 (named_at image h r.0)) (sym file.named)
-    (names_at image h (count kind (word_in image h SIZE)) r.0 r.1)))
-no_fault kind image bs h m b d Taken is once fault =
+    not_taken (table_at image h) 1 r.0 bs r.1 (subst (λ xs. IsOnce (bs ++ xs)) dir.all once) r.2
+no_fault kind image bs h m b d Taken is once (inr fault) =
     let file = file_of kind image h m b d is fault.0 in
-    let r = fault.1 in
-    not_taken image h (count kind (word_in image h SIZE)) r.0 bs r.1 (subst (λ xs. IsOnce (bs ++ xs)) file.named once) r.2
-no_fault kind image bs h m b d BadData is once fault =
-    let file = file_of kind image h m b d is fault.0 in
-    fault.1 (subst (λ xs. HaveForms kind image h (word_in image h SIZE) xs) file.named file.forms)
-no_fault kind image bs h m b d _ is once fault = fault.1
+    let n : ℕ = count kind (word_in image h SIZE) in
+    let all : IsOnce ((bs ++ tables_from kind image h) ++ datas_from kind image h) =
+    subst IsOnce (sym (append_assoc bs (tables_from kind image h) (datas_from kind image h))) (subst (λ xs. IsOnce (bs ++ xs)) file.all once) in
+    elim fault.1 [
+      | inl r ↦ not_taken (table_at image h) (tables_needed n) r.0 bs r.1 (once_front (bs ++ tables_from kind image h) (datas_from kind image h) all) r.2
+      | inr r ↦ not_taken (named_at image h) n r.0 (bs ++ tables_from kind image h) r.1 all r.2
+    ]
+no_fault kind image bs h m b d BadData is once (inl fault) = fault.1
+no_fault kind image bs h m b d BadData is once (inr fault) = fault.1 (file_of kind image h m b d is fault.0).forms
+no_fault kind image bs h m b d _ is once (inl fault) = fault.1
+no_fault kind image bs h m b d _ is once (inr fault) = elim fault.1 [ inl not ↦ not | inr not ↦ not ]
 
 no_entry_fault : (kind : Kind) (image bs : List ℕ) (head : Option ℕ) (m : Meta) (b : Body) (d : List ℕ) (why : Why)
     → IsEntryOf kind image head m b d → IsOnce (bs ++ d) → IsEntryFault kind image bs head why → ⊥
@@ -174,7 +199,7 @@ no_entry_fault kind image bs None m b d why is once fault = fault
 no_entry_fault kind image bs (Some h) m b d why is once fault = no_fault kind image bs h m b d why is once fault
 
 no_reason : (g : Setting) (vs : List EntryVerdict) (p : Proposed) (x : Addition) (d : List ℕ) (why : Why) → StandsAs g vs p x d
-    → IsOnce (kept_datas vs ++ d) → (LacksRoom g vs x → ⊥) → IsReason g vs p why → ⊥
+    → IsOnce (kept_blocks vs ++ d) → (LacksRoom g vs x → ⊥) → IsReason g vs p why → ⊥
 no_reason g vs p x d NoDirectory found once room reason = let at = found.directory in cc
 no_reason g vs p x d NameTaken found once room reason =
     let dirs : found.dir ≡ reason.0 = let both : Some found.dir ≡ Some reason.0 = sym found.directory ∙ reason.1 in cc in
@@ -185,12 +210,12 @@ no_reason g vs p x d NameTaken found once room reason =
 no_reason g vs p x d NoRoom found once room reason =
     let same = unique_found g vs p reason.0 x reason.1 d reason.2 found in
     room (subst (λ y. LacksRoom g vs y) same.0 reason.3)
-no_reason g vs p x d NoHeader found once room reason = no_entry_fault g.tree.kind g.image (kept_datas vs) p.head x.meta x.body d NoHeader found.entry once reason
-no_reason g vs p x d NoEntry found once room reason = no_entry_fault g.tree.kind g.image (kept_datas vs) p.head x.meta x.body d NoEntry found.entry once reason
-no_reason g vs p x d BadTable found once room reason = no_entry_fault g.tree.kind g.image (kept_datas vs) p.head x.meta x.body d BadTable found.entry once reason
-no_reason g vs p x d NoData found once room reason = no_entry_fault g.tree.kind g.image (kept_datas vs) p.head x.meta x.body d NoData found.entry once reason
-no_reason g vs p x d Taken found once room reason = no_entry_fault g.tree.kind g.image (kept_datas vs) p.head x.meta x.body d Taken found.entry once reason
-no_reason g vs p x d BadData found once room reason = no_entry_fault g.tree.kind g.image (kept_datas vs) p.head x.meta x.body d BadData found.entry once reason
+no_reason g vs p x d NoHeader found once room reason = no_entry_fault g.tree.kind g.image (kept_blocks vs) p.head x.meta x.body d NoHeader found.entry once reason
+no_reason g vs p x d NoEntry found once room reason = no_entry_fault g.tree.kind g.image (kept_blocks vs) p.head x.meta x.body d NoEntry found.entry once reason
+no_reason g vs p x d BadTable found once room reason = no_entry_fault g.tree.kind g.image (kept_blocks vs) p.head x.meta x.body d BadTable found.entry once reason
+no_reason g vs p x d NoData found once room reason = no_entry_fault g.tree.kind g.image (kept_blocks vs) p.head x.meta x.body d NoData found.entry once reason
+no_reason g vs p x d Taken found once room reason = no_entry_fault g.tree.kind g.image (kept_blocks vs) p.head x.meta x.body d Taken found.entry once reason
+no_reason g vs p x d BadData found once room reason = no_entry_fault g.tree.kind g.image (kept_blocks vs) p.head x.meta x.body d BadData found.entry once reason
 
 -- one more entry of both
 
@@ -207,8 +232,8 @@ module _ (g : Setting) (p : Proposed) (vs ws : List EntryVerdict) (same : Agree 
     entry = found.entry;
   }
 
-  once_same : (d : List ℕ) → IsOnce (kept_datas vs ++ d) → IsOnce (kept_datas ws ++ d)
-  once_same d once = subst (λ bs. IsOnce (bs ++ d)) (agree_datas vs ws same) once
+  once_same : (d : List ℕ) → IsOnce (kept_blocks vs ++ d) → IsOnce (kept_blocks ws ++ d)
+  once_same d once = subst (λ bs. IsOnce (bs ++ d)) (agree_blocks vs ws same) once
 
   full_same : (x : Addition) → LacksRoom g ws x → LacksRoom g vs x
   full_same x full =
@@ -232,13 +257,13 @@ not_full g vs x d room full =
 
 -- no entry is kept by one and left out by the other
 clash : (g : Setting) (p : Proposed) (vs ws : List EntryVerdict) → Agree vs ws → (x : Addition) (d : List ℕ) (why : Why) → StandsAs g vs p x d
-    → IsReason g ws p why → IsOnce (kept_datas (vs ++ keeps x d ∷ [])) → HasRoomFor g (vs ++ keeps x d ∷ []) → ⊥
+    → IsReason g ws p why → IsOnce (kept_blocks (vs ++ keeps x d ∷ [])) → HasRoomFor g (vs ++ keeps x d ∷ []) → ⊥
 clash g p vs ws same x d why found reason once room =
-    no_reason g ws p x d why (found_same g p vs ws same x d found) (once_same g p vs ws same d (subst IsOnce (datas_more vs (keeps x d)) once))
+    no_reason g ws p x d why (found_same g p vs ws same x d found) (once_same g p vs ws same d (subst IsOnce (blocks_more vs (keeps x d)) once))
     (λ full. not_full g vs x d room (full_same g p vs ws same x full)) reason
 
 last_same : (g : Setting) (p : Proposed) (vs ws : List EntryVerdict) → Agree vs ws → (v w : EntryVerdict) → IsVerdictFor g vs p v → IsVerdictFor g ws p w
-    → IsOnce (kept_datas (vs ++ v ∷ [])) → IsOnce (kept_datas (ws ++ w ∷ [])) → HasRoomFor g (vs ++ v ∷ []) → HasRoomFor g (ws ++ w ∷ [])
+    → IsOnce (kept_blocks (vs ++ v ∷ [])) → IsOnce (kept_blocks (ws ++ w ∷ [])) → HasRoomFor g (vs ++ v ∷ []) → HasRoomFor g (ws ++ w ∷ [])
     → Agree (v ∷ []) (w ∷ [])
 last_same g p vs ws same _ _ (is_kept x d found) (is_kept y e other) once apart room space =
     let u = unique_found g ws p x y d e (found_same g p vs ws same x d found) other in (u.0, u.1, tt)
@@ -250,16 +275,8 @@ last_same g p vs ws same _ _ (is_left_out why reason) (is_kept y e found) once a
 
 -- what holds of all verdicts holds of those before the last
 
-once_front : (bs xs : List ℕ) → IsOnce (bs ++ xs) → IsOnce bs
-once_front bs xs once = λ i j d lt below.
-    let long = length-append bs xs in
-    let all = once i j d lt (omega arith) in
-    let first : get_or (bs ++ xs) i d ≡ get_or bs i d = get_or_append_left bs xs d i (omega arith) in
-    let second : get_or (bs ++ xs) j d ≡ get_or bs j d = get_or_append_left bs xs d j below in
-    λ same. all (cc)
-
-once_before : (vs : List EntryVerdict) (v : EntryVerdict) → IsOnce (kept_datas (vs ++ v ∷ [])) → IsOnce (kept_datas vs)
-once_before vs v once = once_front (kept_datas vs) (verdict_datas v) (subst IsOnce (datas_more vs v) once)
+once_before : (vs : List EntryVerdict) (v : EntryVerdict) → IsOnce (kept_blocks (vs ++ v ∷ [])) → IsOnce (kept_blocks vs)
+once_before vs v once = once_front (kept_blocks vs) (verdict_blocks v) (subst IsOnce (blocks_more vs v) once)
 
 room_before : (g : Setting) (vs : List EntryVerdict) (v : EntryVerdict) → HasRoomFor g (vs ++ v ∷ []) → HasRoomFor g vs
 room_before g vs (keeps x d) room =
@@ -287,7 +304,7 @@ push_inj (z ∷ xs) (w ∷ ys) x y e =
 
 -- a proposal has one outcome
 one_by : (g : Setting) (ps : List Proposed) (vs : List EntryVerdict) → AreVerdicts g ps vs → (qs : List Proposed) (ws : List EntryVerdict)
-    → AreVerdicts g qs ws → ps ≡ qs → IsOnce (kept_datas vs) → IsOnce (kept_datas ws) → HasRoomFor g vs → HasRoomFor g ws → Agree vs ws
+    → AreVerdicts g qs ws → ps ≡ qs → IsOnce (kept_blocks vs) → IsOnce (kept_blocks ws) → HasRoomFor g vs → HasRoomFor g ws → Agree vs ws
 one_by g _ _ none _ _ none e once apart room space = tt
 one_by g _ _ none _ _ (more qs ws q w above there) e once apart room space = absurd (none_pushed qs q e)
 one_by g _ _ (more ps vs p v before here) _ _ none e once apart room space = absurd (none_pushed ps p (sym e))
@@ -298,5 +315,5 @@ one_by g _ _ (more ps vs p v before here) _ _ (more qs ws q w above there) e onc
     agree_more vs ws v w rest (last_same g p vs ws rest v w here (subst (λ r. IsVerdictFor g ws r w) (sym parts.1) there) once apart room space)
 
 pub one_outcome : (g : Setting) (ps : List Proposed) (vs ws : List EntryVerdict) → AreVerdicts g ps vs → AreVerdicts g ps ws
-    → IsOnce (kept_datas vs) → IsOnce (kept_datas ws) → HasRoomFor g vs → HasRoomFor g ws → Agree vs ws
+    → IsOnce (kept_blocks vs) → IsOnce (kept_blocks ws) → HasRoomFor g vs → HasRoomFor g ws → Agree vs ws
 one_outcome g ps vs ws one other once apart room space = one_by g ps vs one ps ws other refl once apart room space

@@ -1,10 +1,11 @@
 -- The files of an image, by their headers alone.
 -- Letters: h the block of a file's header; m a position in its table; k the number of a data block, from 0; b a block.
-use Rattle.std.specs.Prelude.{◌≡◌, ◌*◌, ◌/◌, ◌<◌, ◌≤◌, ℕ, List, [], ◌∷◌, ◌++◌, min, slice_index, take}
+use Rattle.std.specs.Prelude.{◌≡◌, ◌+◌, ◌*◌, ◌/◌, ◌<◌, ◌≤◌, ℕ, List, [], ◌∷◌, ◌++◌, min, slice_index, take}
 use Rattle.std.proofs.Common.{zero, suc}
 use Rattle.adf_names.specs.{declared.kind.Kind.Kind}
 use Rattle.adf_tree.specs.declared.entry.Body.{Body, TheVariants.File}
 use Rattle.adf_blocks.specs.{Sizes.blocks, Sizes.count}
+use Rattle.adf_build.specs.Plan.{exts_needed}
 use Rattle.adf_blocks.specs.declared.layout.TheConstants.{EXTENSION, POINTERS, SECONDARY_TYPE, SIZE, ST_FILE}
 use Rattle.adf_volume.specs.{Demands.AllHold, Demands.data_demands, Demands.ext_demands, Image.content, Image.held, Image.table_word, Image.word_in, Lists.At}
 
@@ -21,14 +22,22 @@ table_at image h (suc m) = word_in image (table_at image h m) EXTENSION
 abbrev pub named_at : List ℕ → ℕ → ℕ → ℕ
 named_at image h k = word_in image (table_at image h (k / POINTERS)) (table_word k)
 
--- the pointers to the first data blocks in the table of a file
-abbrev pub first_named : List ℕ → ℕ → ℕ → List ℕ
-first_named image h zero = []
-first_named image h (suc k) = first_named image h k ++ named_at image h k ∷ []
+-- the first n values of a function
+abbrev pub firsts : (ℕ → ℕ) → ℕ → List ℕ
+firsts f zero = []
+firsts f (suc n) = firsts f n ++ f n ∷ []
 
 -- the data blocks that the table of the file with header h names, as many as its size asks for
 abbrev pub datas_from : Kind → List ℕ → ℕ → List ℕ
-datas_from kind image h = first_named image h (count kind (word_in image h SIZE))
+datas_from kind image h = firsts (named_at image h) (count kind (word_in image h SIZE))
+
+-- the number of blocks of the table of n data blocks
+abbrev pub tables_needed : ℕ → ℕ
+tables_needed n = 1 + exts_needed n
+
+-- the blocks of the table of the file with header h, as many as its size asks for: the header, then its extension blocks
+abbrev pub tables_from : Kind → List ℕ → ℕ → List ℕ
+tables_from kind image h = firsts (table_at image h) (tables_needed (count kind (word_in image h SIZE)))
 
 -- the data blocks of an OFS file of this size have their form: each tells the header, its number, its bytes and the next one; those of an FFS
 -- file have none
@@ -42,18 +51,18 @@ IsHeld image b = (2 ≤ b) × (b < blocks image)
 
 -- a block is held, and has the form of an extension block of the file with header h
 abbrev pub IsExtOf : List ℕ → ℕ → ℕ → Type 0
-IsExtOf image h b = (b < blocks image) × AllHold (ext_demands image b h)
+IsExtOf image h b = IsHeld image b × AllHold (ext_demands image b h)
 
--- the table of a file has the extension blocks that n data blocks need
+-- of the first n blocks of a table all but the header are extension blocks
 abbrev pub HasExts : List ℕ → ℕ → ℕ → Type 0
-HasExts image h n = (m : ℕ) → POINTERS * suc m < n → IsExtOf image h (table_at image h (suc m))
+HasExts image h n = (m : ℕ) → suc m < n → IsExtOf image h (table_at image h (suc m))
 
 -- a file: its data blocks are those that its header's table names, each is held and has its form, and its bytes are their data areas, joined
--- and cut at the size that the header states
-pub record IsFileOf (kind : Kind) (image : List ℕ) (h : ℕ) (body : Body) (datas : List ℕ) : Type 0 where
+-- and cut at the size that the header states; it claims its table and its data blocks
+pub record IsFileOf (kind : Kind) (image : List ℕ) (h : ℕ) (body : Body) (claimed : List ℕ) : Type 0 where
   pub type : word_in image h SECONDARY_TYPE ≡ ST_FILE
-  pub table : HasExts image h (count kind (word_in image h SIZE))
-  pub named : datas ≡ datas_from kind image h
-  pub inside : (k b : ℕ) → At datas k b → IsHeld image b
-  pub forms : HaveForms kind image h (word_in image h SIZE) datas
-  pub bytes : body ≡ File (content image kind h datas)
+  pub table : HasExts image h (tables_needed (count kind (word_in image h SIZE)))
+  pub all : claimed ≡ tables_from kind image h ++ datas_from kind image h
+  pub inside : (k b : ℕ) → At (datas_from kind image h) k b → IsHeld image b
+  pub forms : HaveForms kind image h (word_in image h SIZE) (datas_from kind image h)
+  pub bytes : body ≡ File (content image kind h (datas_from kind image h))

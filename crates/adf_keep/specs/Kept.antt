@@ -5,10 +5,10 @@ use Rattle.adf_keep.specs.Verdicts.EntryVerdict.{keeps, leaves}
 use Rattle.adf_build.specs.Plan.{blocks_needed, entries_blocks}
 use Rattle.adf_tree.specs.declared.entry.Entry.{Entry}
 use Rattle.adf_volume.specs.Lists.{In}
-use Rattle.adf_keep.specs.{Claims.IsOnce, Entry.IsEntryOf, File.held_part, State.blocks_for_entries}
+use Rattle.adf_keep.specs.{Marks.IsOnce, Entry.IsEntryOf, File.held_part, State.blocks_for_entries}
 use Rattle.adf_keep.specs.declared.keeping.{Kept.Kept, Terms.Terms}
 use Rattle.adf_keep.specs.declared.proposal.Proposed.{Proposed}
-use Rattle.adf_keep.specs.Verdicts.{AreVerdicts, Setting, EntryVerdict, kept_datas, kept_tree, all_left_out}
+use Rattle.adf_keep.specs.Verdicts.{AreVerdicts, Setting, EntryVerdict, kept_blocks, kept_tree, all_left_out}
 
 -- what is given by an image, of which the input holds so many blocks, and a new volume
 abbrev pub setting_of : List ℕ → ℕ → Terms → Setting
@@ -18,12 +18,12 @@ setting_of image held terms = record {
   blocks = terms.blocks;
 }
 
--- each entry has its verdict; the tree has what is kept by them and nothing else; no block is a data block of two files, nor twice of one; and
+-- each entry has its verdict; the tree has what is kept by them and nothing else; no block is one of two entries, nor twice of one; and
 -- what is left out is listed with its reasons
 pub record IsOutcomeOf (g : Setting) (ps : List Proposed) (vs : List EntryVerdict) (k : Kept) : Type 0 where
   pub verdicts : AreVerdicts g ps vs
   pub tree : k.draft.tree ≡ kept_tree g vs
-  pub once : IsOnce (kept_datas vs)
+  pub once : IsOnce (kept_blocks vs)
   pub left_out : k.left_out.items ≡ all_left_out 0 vs
   pub left : k.left + entries_blocks k.draft.tree.kind k.draft.tree.entries ≡ blocks_for_entries g.blocks
 
@@ -32,10 +32,10 @@ pub record IsOfProposal (g : Setting) (ps : List Proposed) (e : Entry) : Type 0 
   pub from : Proposed
   pub proposed : In ps from
   pub name : e.name ≡ from.name
-  pub datas : List ℕ
-  pub entry : IsEntryOf g.tree.kind g.image from.head e.meta e.body datas
+  pub claimed : List ℕ
+  pub entry : IsEntryOf g.tree.kind g.image from.head e.meta e.body claimed
 
--- verdicts that agree: they keep the same entries, with the same data blocks, and leave out the others
+-- verdicts that agree: they keep the same entries, with the same blocks, and leave out the others
 abbrev pub Agree : List EntryVerdict → List EntryVerdict → Type 0
 Agree [] [] = Unit {0}
 Agree (keeps x d ∷ vs) (keeps y e ∷ ws) = (x ≡ y) × (d ≡ e) × Agree vs ws

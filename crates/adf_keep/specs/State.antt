@@ -6,8 +6,8 @@ use Rattle.adf_tree.specs.declared.entry.Body.{Body}
 use Rattle.adf_blocks.specs.Sizes.{blocks}
 use Rattle.adf_drafts.specs.Draft.{DraftValue, IsDirectoryOf}
 use Rattle.adf_build.specs.Plan.{data_blocks, entries_blocks, exts_needed, reserved}
-use Rattle.adf_keep.specs.{Claims.AreClaimed, declared.keeper.Keeper.Keeper}
-use Rattle.adf_keep.specs.Verdicts.{Setting, IsVerdictFor, EntryVerdict, kept_datas, kept_tree, all_left_out, dir_path}
+use Rattle.adf_keep.specs.{Marks.AreClaimed, declared.keeper.Keeper.Keeper}
+use Rattle.adf_keep.specs.Verdicts.{Setting, IsVerdictFor, EntryVerdict, kept_blocks, kept_tree, all_left_out, dir_path}
 use Rattle.adf_keep.specs.declared.proposal.Proposed.{Proposed}
 
 -- a directory is that of a path; there is none without a path
@@ -37,7 +37,7 @@ pub record IsKeeper (g : Setting) (vs : List EntryVerdict) (k : Keeper) : Type 0
 -- the state after these verdicts
 pub record IsState (g : Setting) (vs : List EntryVerdict) (k : Keeper) : Type 0 where
   pub keeper : IsKeeper g vs k
-  pub claims : AreClaimed (blocks g.image) k.marks.items (kept_datas vs)
+  pub claims : AreClaimed (blocks g.image) k.marks.items (kept_blocks vs)
 
 -- the state after one more verdict, on this entry
 abbrev pub TakesOne : Setting → List EntryVerdict → Proposed → Keeper → Type 0

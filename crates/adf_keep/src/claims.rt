@@ -1,7 +1,7 @@
-// The data blocks of the files that are kept.
+// The blocks of the entries that are kept.
 
 ghost use Rattle.std.specs.Prelude.{◌≡◌, ◌<◌, ◌≤◌, ◌∷◌, ◌++◌, ℕ, List, [], IfErr, IfOk, OnErr, OnOk};
-ghost use Rattle.adf_keep.specs.{Claims.AreClaimed, Reasons.IsBlockFault};
+ghost use Rattle.adf_keep.specs.{Marks.AreClaimed, Reasons.IsBlockFault};
 
 use crate::proposal::Why;
 use adf_base::NoMemory;

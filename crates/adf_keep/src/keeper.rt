@@ -5,8 +5,8 @@ ghost use Rattle.adf_drafts.specs.Draft.{IsRoomFor};
 ghost use Rattle.adf_blocks.specs.Sizes.{blocks, is_allowed};
 ghost use Rattle.adf_build.specs.Plan.{reserved};
 ghost use Rattle.adf_tree.specs.{Additions.Addition, Tree.is_dir_body};
-ghost use Rattle.adf_keep.specs.{Claims.AreClaimed, State.TakesOne, State.IsKeeper, State.IsState, State.body_cost};
-ghost use Rattle.adf_keep.specs.Verdicts.{Setting, LacksRoom, EntryVerdict, kept_datas};
+ghost use Rattle.adf_keep.specs.{Marks.AreClaimed, State.TakesOne, State.IsKeeper, State.IsState, State.body_cost};
+ghost use Rattle.adf_keep.specs.Verdicts.{Setting, LacksRoom, EntryVerdict, kept_blocks};
 ghost use Rattle.adf_keep.specs.Verdicts.EntryVerdict.{keeps, leaves};
 ghost use Rattle.adf_keep.specs.declared.proposal.Why.TheVariants.{NoRoom};
 
@@ -24,7 +24,7 @@ use std::alloc::Global;
 
 /// What is kept so far: the blocks that the input holds; the draft of the new tree; for the root and each entry of the proposal
 /// so far its directory in the draft, if it is one that is kept; the number of blocks that are left in the new volume; which
-/// blocks are data of files that are kept; and the entries that are left out.
+/// blocks are of entries that are kept; and the entries that are left out.
 #[derive(Drop)]
 pub struct Keeper<'i> {
     pub image: Held<'i>,
@@ -109,21 +109,21 @@ impl<'i> Keeper<'i> {
         Ok(self.left_out.push(LeftOut { index, why })?)
     }
 
-    // Puts the next entry, whose data blocks are claimed, in a room, if the blocks suffice; else leaves it out.
+    // Puts the next entry, whose blocks are claimed, in a room, if the blocks suffice; else leaves it out.
     fn put(&mut self, room: &Room, found: Found) -> Result<(), NoMemory>
         requires room { (path : List (List ℕ)) × IsRoomFor self.old.draft path room.now }
         requires begun { 1 ≤ length self.old.places.items }
         ensures { (g : Setting) (vs : List EntryVerdict) (path : List (List ℕ)) → IsKeeper g vs self.old
-            → AreClaimed (blocks g.image) self.old.marks.items (kept_datas vs ++ found.datas.items)
+            → AreClaimed (blocks g.image) self.old.marks.items (kept_blocks vs ++ found.claimed.items)
             → IsRoomFor self.old.draft path room.now
             → OnOk result ((b : Bool)
             × (b ≡ false → LacksRoom g vs (record { path = path; meta = found.meta; body = found.body })) × IsState g
-            (vs ++ cond b (keeps (record { path = path; meta = found.meta; body = found.body }) found.datas.items) (leaves NoRoom) ∷ [])
+            (vs ++ cond b (keeps (record { path = path; meta = found.meta; body = found.body }) found.claimed.items) (leaves NoRoom) ∷ [])
             self.new) }
     {
         let cost = cost_of(self.kind, &found.body);
         if cost > u64::from(self.left) {
-            release(&mut self.marks, found.datas);
+            release(&mut self.marks, found.claimed);
             return self.leave(Why::NoRoom);
         }
         let adds_directory = is_directory(&found.body);

@@ -4,8 +4,8 @@ ghost use Rattle.std.specs.Prelude.{◌≡◌, List};
 ghost use Rattle.std.specs.List.{flat_map};
 ghost use Rattle.adf_tree.specs.{Additions.IsTreeOfBy, declared.entry.Entry.Entry};
 ghost use Rattle.adf_volume.specs.Lists.{In};
-ghost use Rattle.adf_keep.specs.{Claims.IsOnce, Kept.Agree, Kept.HasRoomFor, Kept.IsOfProposal, declared.proposal.Proposed.Proposed};
-ghost use Rattle.adf_keep.specs.Verdicts.{AreVerdicts, Setting, EntryVerdict, kept_datas, kept_tree, kept_addition};
+ghost use Rattle.adf_keep.specs.{Marks.IsOnce, Kept.Agree, Kept.HasRoomFor, Kept.IsOfProposal, declared.proposal.Proposed.Proposed};
+ghost use Rattle.adf_keep.specs.Verdicts.{AreVerdicts, Setting, EntryVerdict, kept_blocks, kept_tree, kept_addition};
 
 /// The tree of what is kept has each entry that is kept, at its path, and no other.
 #[tactic(auto, using(crate::proofs::KeptTrees::kept_is_tree))]
@@ -26,7 +26,7 @@ pub fn kept_entries_are_proposed()
 #[tactic(auto, using(crate::proofs::OneOutcome::one_outcome, crate::proofs::OneOutcome::agree_additions))]
 pub fn one_outcome()
     ensures verdicts { (g : Setting) (ps : List Proposed) (vs ws : List EntryVerdict) → AreVerdicts g ps vs → AreVerdicts g ps ws
-        → IsOnce (kept_datas vs) → IsOnce (kept_datas ws) → HasRoomFor g vs → HasRoomFor g ws → Agree vs ws }
+        → IsOnce (kept_blocks vs) → IsOnce (kept_blocks ws) → HasRoomFor g vs → HasRoomFor g ws → Agree vs ws }
     ensures tree { (vs ws : List EntryVerdict) → Agree vs ws
         → flat_map kept_addition vs ≡ flat_map kept_addition ws }
 {}

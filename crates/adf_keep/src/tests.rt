@@ -3,7 +3,9 @@
 
 use crate::{Kept, Proposed, Terms, Why, keep};
 use adf_base::{Letters, NO_STAMP, seal, set_word};
-use adf_blocks::{EXTENSION, FIRST_POINTER, SECONDARY_TYPE, SIZE, ST_FILE, is_allowed_size};
+use adf_blocks::{
+    EXTENSION, FIRST_POINTER, SECONDARY_TYPE, SIZE, ST_DIR, ST_FILE, is_allowed_size,
+};
 use adf_build::build_types;
 use adf_drafts::Draft;
 use adf_names::{Comment, Kind, Label, Meta, NO_STAMPS, Name};
@@ -175,15 +177,15 @@ fn damaged(rt: HostRuntime) {
     );
 }
 
-// Tables that name more blocks than there are, one past the last, one twice, or the file's own header.
+// A size of 4 GB without extension blocks; and tables that name a block past the last, one twice, or the file's own header.
 #[test]
 fn wrong_tables(rt: HostRuntime) {
     let cases = [
-        (SIZE, u32::MAX, Why::NoData),
+        (SIZE, u32::MAX, Why::BadTable),
         (FIRST_POINTER, 16, Why::NoData),
         (FIRST_POINTER, u32::MAX, Why::NoData),
         (FIRST_POINTER, 4, Why::Taken),
-        (FIRST_POINTER, 2, Why::BadData),
+        (FIRST_POINTER, 2, Why::Taken),
     ];
     for (word, value, why) in cases {
         let mut image = volume(&rt, rt.alloc(), Kind::Ofs, 489, 16);
@@ -221,6 +223,24 @@ fn foreign_blocks(rt: HostRuntime) {
         let claims: [Claim<'_>; 2] = [(Some(6), 0, b"b"), (Some(2), 0, b"a")];
         let some = kept(&rt, rt.alloc(), &image, &claims, terms(&rt, kind, 16));
         leaves(&rt, &some, &[(out, why)]);
+        assert!(rt; some.draft.len() == 1);
+    }
+}
+
+// A directory with its header in block 6 that is proposed twice, and a file whose table names that block.
+#[test]
+fn shared_header(rt: HostRuntime) {
+    for kind in [Kind::Ofs, Kind::Ffs] {
+        let mut image = volume(&rt, rt.alloc(), kind, 489, 16);
+        put(&rt, &mut image, 6, SECONDARY_TYPE, ST_DIR);
+        put(&rt, &mut image, 2, FIRST_POINTER, 6);
+        let claims: [Claim<'_>; 3] = [
+            (Some(6), 0, b"dir"),
+            (Some(6), 0, b"again"),
+            (Some(2), 0, b"a"),
+        ];
+        let some = kept(&rt, rt.alloc(), &image, &claims, terms(&rt, kind, 16));
+        leaves(&rt, &some, &[(1, Why::Taken), (2, Why::Taken)]);
         assert!(rt; some.draft.len() == 1);
     }
 }

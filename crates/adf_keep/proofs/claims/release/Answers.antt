@@ -1,6 +1,6 @@
 use Rattle.std.proofs.Common.{◌≡◌, ◌++◌, [], ap, arith, subst, ◌∙◌}
 use Rattle.std.proofs.lemmas.List.{append-nil}
-use Rattle.adf_keep.specs.Claims.{AreClaimed}
+use Rattle.adf_keep.specs.Marks.{AreClaimed}
 use Rattle.adf_keep.proofs.ClaimMarks.{claimed_less, claimed_within, popped}
 use Rattle.adf_keep.proofs.claims.release.Goals as goal
 

@@ -1,5 +1,5 @@
 use Rattle.std.proofs.Common.{ℕ, List, ◌++◌, vec_len}
-use Rattle.adf_keep.specs.Claims.{AreClaimed}
+use Rattle.adf_keep.specs.Marks.{AreClaimed}
 use Rattle.adf_keep.proofs.claims.release.Given as goal
 
 abbrev pub invariant-loop-b : goal.invariant-loop-b
