@@ -31,6 +31,11 @@ fn asked_by(words: &[&str]) -> Option<Asked> {
     None
 }
 
+// The words behind so many; none if there are fewer.
+fn words_behind<T>(words: &[T], count: usize) -> &[T] {
+    &words[count.min(words.len())..]
+}
+
 // Says that no command is named, and returns the status.
 fn refuse_name(rt: &HostRuntime) -> u8 {
     say(
@@ -51,7 +56,7 @@ fn run_texts(rt: &HostRuntime, words: &[&str]) -> u8 {
     let Some(asked) = asked_by(words) else {
         return refuse_name(rt);
     };
-    match asked.command.run(rt, &words[asked.before..]) {
+    match asked.command.run(rt, words_behind(words, asked.before)) {
         Ok(status) => status,
         Err(fault) => refuse(rt, asked.command, &fault),
     }
@@ -63,7 +68,7 @@ fn run_bytes(rt: &HostRuntime, words: &[Vec<u8>]) -> Result<u8, Outcome> {
     let Some(asked) = asked_by(&texts) else {
         return Ok(refuse_name(rt));
     };
-    match asked.command.run_raw(rt, &words[asked.before..]) {
+    match asked.command.run_raw(rt, words_behind(words, asked.before)) {
         Ok(status) => Ok(status),
         Err(fault) => Ok(refuse(rt, asked.command, &fault)),
     }
