@@ -523,4 +523,3 @@ class Disks(Calls):
         ):  # fmt: skip
             row, came = self.index(self.tables(**changes), blocks)
             self.assertEqual((came, fields(row, "first blocks block fault")), (told, place))
-
