@@ -8,7 +8,7 @@ from typing import Dict, Iterator, List, NamedTuple, Optional, Set, Tuple
 
 from truth_damage import Damaged
 from truth_histories import History
-from truth_volumes import POINTERS, Date, Ghost, Path, Thing, slot
+from truth_volumes import DATA, DIR, PAGE_BITS, POINTERS, Date, Ghost, Path, Thing, slot
 
 KINDS_OF_WHOLE = {"untouched": "not back", "root": "root gone", "dir": "dir gone"}
 FAILURES = ("not back", "root gone", "dir gone", "unsaid", "wrong", "risen", "silent", "survey", "cat", "left")
@@ -63,7 +63,7 @@ class Lines:
     """What the lines of an answer name: entries by their paths and headers, directories in which headers are lost, and new names."""
 
     def __init__(self, history: History, answer: Answer) -> None:
-        self.by_header = {thing.header: path for path, thing in history.live.items()}
+        self.by_header: Dict[int, Path] = {history.root: (), **{thing.header: path for path, thing in history.live.items()}}
         self.renamed: Dict[Path, Path] = {}
         for line in sorted((line for line in answer.lines if line.now), key=lambda line: len(line.now or ())):
             self.rename(line)
@@ -86,7 +86,7 @@ class Lines:
         for k, name in enumerate(path, 1):
             number = name[5:]
             known = self.by_header.get(int(number)) if name.startswith(b"lost-") and number.isdigit() else None
-            real = self.renamed.get(path[:k]) or known or (*real, name)
+            real = self.renamed.get(path[:k]) or ((*real, name) if known is None else known)
         return real
 
     def says_where(self, path: Path, now: Path) -> bool:
@@ -233,10 +233,12 @@ class Judge:
         return True
 
     def is_unseen(self, thing: Thing, k: int) -> bool:
-        """Let off: FFS data that was changed in place; and an FFS table that names another block, with its sum made right, unless that
-        block is another file's, or a header by its own words."""
+        """Let off: FFS data that was changed in place; an FFS table that names another block, with its sum made right, unless that block is
+        another file's, or a header by its own words; and OFS data of another time, which has a right sum, and says that it is this block."""
         if self.history.volume.chunk == 488:
-            return False
+            d = thing.datas[k]
+            says = [word(self.damaged.image, d, i) for i in range(3)]
+            return d in self.damaged.touched and sealed(self.damaged.image, d) and says == [DATA, thing.header, k + 1]
         if thing.datas[k] in self.damaged.touched:
             return True
         image, owned = self.damaged.image, self.history.owner
@@ -248,15 +250,33 @@ class Judge:
 
     def stands(self, thing: Thing, k: int, at: int, piece: bytes) -> bool:
         """The bytes stand from a byte on in the block that the table names now for data block k, or named."""
-        named = {self.named_now(thing, k), thing.datas[k] if k < len(thing.datas) else None}
+        named = {self.named_now(thing.header, k), thing.datas[k] if k < len(thing.datas) else None}
+        at += 512 - self.history.volume.chunk
         return any(d and piece == self.damaged.image[512 * d + at : 512 * d + at + len(piece)] for d in named)
 
-    def named_now(self, thing: Thing, k: int) -> int:
-        """The block that the table names now for data block k."""
-        at, image = thing.header, self.damaged.image
+    def named_now(self, at: int, k: int) -> int:
+        """The block that the table of a header names now for data block k."""
+        image = self.damaged.image
         for _ in range(k // POINTERS):
             at = word(image, at, 126)
         return word(image, at, 77 - k % POINTERS)
+
+    def says(self, h: int, back: Back) -> bool:
+        """Let off: a fault touched the header, but its sum is right, as of one of another time, and it has these words and bytes."""
+        image, chunk, content = self.damaged.image, self.history.volume.chunk, back.content or b""
+        if h not in self.damaged.touched or not sealed(image, h) or (word(image, h, 0), word(image, h, 1)) != (2, h):
+            return False
+        date = tuple(word(image, h, i) for i in (105, 106, 107))
+        comment = image[512 * h + 329 : 512 * h + 329 + min(image[512 * h + 328], 79)]
+        if back[1:] != (comment, word(image, h, 80), date) or (back.content is None) != (word(image, h, 127) == DIR):
+            return False
+        if back.content is not None and len(content) != word(image, h, 81):
+            return False
+        return all(self.has_piece(self.named_now(h, at // chunk), content[at : at + chunk]) for at in range(0, len(content), chunk))
+
+    def has_piece(self, d: int, piece: bytes) -> bool:
+        start = 512 * d + 512 - self.history.volume.chunk
+        return self.damaged.image[start : start + len(piece)] == piece
 
     @property
     def has_bitmap(self) -> bool:
@@ -283,7 +303,9 @@ class Judge:
 
     def judge_other(self, path: Path, thing: Thing, back: Back) -> None:
         """What stands in its place is not as it was: other bytes, or words that a line must tell, if a fault touched them."""
-        if not self.same_bytes(thing, back.content):
+        if self.says(thing.header, back) and name_at(self.damaged.image, thing.header) == thing.name:
+            self.counts["unseen"] += 1
+        elif not self.same_bytes(thing, back.content):
             if not self.stands_in(path, back):
                 self.fail("wrong", f"{path} has other bytes")
         elif thing.header not in self.damaged.touched or not (path in self.lines.named or thing.header in self.lines.headers):
@@ -326,21 +348,23 @@ class Judge:
     def chains_that_lie(self, by_sum: bool) -> Set[Tuple[int, int]]:
         """Let off: chains, by directory and slot, of which a word was made to lead past members or to a deleted one, with its sum made
         right, so that it is a chain; where no bitmap tells. For `cat` also where the sum is wrong, since a line says so of the directory."""
-        image, letters = self.damaged.image, self.history.volume.international
+        image, was = self.damaged.image, self.history.image
         lies = set()
         for h in self.damaged.touched:
             if 512 * h < len(image) and (sealed(image, h) or not by_sum) and word(image, h, 0) == 2:
-                for b in [word(image, h, i) for i in (*range(6, 78), 124) if word(image, h, i) != word(self.history.image, h, i)]:
-                    if sealed(image, b) and (word(image, b, 0), word(image, b, 1)) == (2, b):
-                        lies.add((word(image, b, 125), slot(name_at(image, b), letters)))
+                for i in (i for i in (*range(6, 78), 124) if word(image, h, i) != word(was, h, i)):
+                    lies |= {self.home_in(each, word(each, h, i)) for each in (image, was) if is_header(each, word(each, h, i))}
         return lies
+
+    def home_in(self, image: bytes, b: int) -> Tuple[int, int]:
+        """The directory and the slot that a header says itself."""
+        return word(image, b, 125), slot(name_at(image, b), self.history.volume.international)
 
     def is_relinked(self, header: int) -> bool:
         return self.home_of(header) in self.relinked
 
     def home_of(self, header: int) -> Tuple[int, int]:
-        image = self.history.image
-        return word(image, header, 125), slot(name_at(image, header), self.history.volume.international)
+        return self.home_in(self.history.image, header)
 
     def is_past(self, thing: Thing) -> bool:
         """It, or a directory above it, is in a chain that lies."""
@@ -375,7 +399,10 @@ class Judge:
         v = self.history.volume
         ghosts = [ghost for ghost in (*v.ghosts, *v.limbo) if self.is_ghost(ghost, path, back)]
         is_told = path in self.lines.here
-        if not ghosts and back.content is not None and not path[-1].startswith(b"lost-"):
+        said = [h for h in self.damaged.touched if name_at(self.damaged.image, h) == path[-1] and self.says(h, back)]
+        if any(self.home_in(self.damaged.image, h) == self.home_of(h) for h in said):
+            self.counts["unseen"] += 1
+        elif not (said and is_told) and not ghosts and back.content is not None and not path[-1].startswith(b"lost-"):
             self.fail("wrong", f"{path} was never there")
         elif is_told:
             self.counts["told"] += 1
@@ -411,7 +438,7 @@ class Judge:
         """What `cat` gives of a file, and `cat --damaged`."""
         back = each.back._replace(content=each.left)
         same = self.same_bytes(thing, each.left) and self.has_own_words(thing, back)
-        let_off = self.stands_in(each.path, back)
+        let_off = self.stands_in(each.path, back) or self.says(thing.header, back)
         if each.is_sound and not same and not let_off:
             self.fail("cat", f"{each.path} is sound, and another")
         elif not self.is_left(thing, each) and not let_off and not self.is_left_of_ghost(each):
@@ -421,10 +448,17 @@ class Judge:
         """It is called sound, and was deleted. Let off: a bitmap that says that it is valid has it in use."""
         back = each.back._replace(content=each.left)
         ghosts = [ghost for ghost in self.history.volume.ghosts if self.is_ghost(ghost, each.path, back)]
-        believed = self.history.state in ("stale", "foreign") and any(self.history.says_used(ghost.header) for ghost in ghosts)
+        believed = any(self.is_called_used(ghost.header) for ghost in ghosts)
         believed = believed or any(self.home_of(ghost.header) in self.misled for ghost in ghosts)
         is_live = any(self.is_like(path, each.path, back) for path in self.amiss)
         return each.is_sound and bool(ghosts) and not believed and not is_live
+
+    def is_called_used(self, b: int) -> bool:
+        """A bitmap page with a right sum, of a volume that was left in such a state or of another time, has the block in use."""
+        v, image = self.history.volume, self.damaged.image
+        page, bit = v.pages[(b - 2) // PAGE_BITS], (b - 2) % PAGE_BITS
+        is_other = self.history.state in ("stale", "foreign") or page in self.damaged.touched
+        return is_other and sealed(image, page) and not word(image, page, 1 + bit // 32) >> bit % 32 & 1
 
     def is_like(self, path: Path, now: Path, back: Back) -> bool:
         """It is this entry, which is not in its place."""
@@ -451,7 +485,7 @@ class Judge:
                 a, z = max(first, chunk * k), min(past, chunk * (k + 1))
                 if each.left[a:z] == content[a:z] and z <= len(content):
                     continue
-                unseen = chunk == 512 and (is_doubted or k < len(thing.datas) and self.is_unseen(thing, k))
+                unseen = is_doubted and chunk == 512 or k < len(thing.datas) and self.is_unseen(thing, k)
                 if not unseen or not self.stands(thing, k, a - chunk * k, each.left[a:z]):
                     return False
         return True
@@ -459,6 +493,10 @@ class Judge:
 
 def word(image: bytes, b: int, i: int) -> int:
     return int.from_bytes(image[512 * b + 4 * i : 512 * b + 4 * i + 4], "big")
+
+
+def is_header(image: bytes, b: int) -> bool:
+    return sealed(image, b) and (word(image, b, 0), word(image, b, 1)) == (2, b)
 
 
 def name_at(image: bytes, b: int) -> bytes:

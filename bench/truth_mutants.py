@@ -7,8 +7,8 @@ import random
 from collections import Counter
 from typing import Callable, Dict, Iterator, List, Optional, Set, Tuple
 
-from truth_damage import Damaged, damage
-from truth_histories import History, history
+from truth_damage import ALL_FAULTS, Damaged, damage
+from truth_histories import History, lived
 from truth_judge import Answer, Back, Judge, Line, Listed
 from truth_volumes import POINTERS, Ghost, Path, Thing
 
@@ -111,6 +111,9 @@ class Truth:
             return False
         return thing.datas[k] not in self.damaged.touched or self.history.volume.chunk == 512 and self.is_held(thing.datas[k])
 
+    def is_taken(self, path: Path) -> bool:
+        return path in self.history.live or path in self.answer.things
+
     def is_cut_off(self, path: Path) -> bool:
         """The way to an entry is broken."""
         return any(self.judge.is_broken(self.history.live[path[:k]]) for k in range(1, len(path) + 1))
@@ -185,10 +188,12 @@ def garbles_all(truth: Truth) -> Optional[Answer]:
 
 def doubts_directory(truth: Truth) -> Optional[Answer]:
     """What is in a directory whose header is touched is left out, and a line says `in doubt` of the directory."""
-    some = [path for path, thing in truth.history.live.items() if thing.is_dir and truth.is_touched(thing) and path in truth.given]
+    live = truth.history.live
+    whole = {path[:k] for path, thing in live.items() if truth.judge.whole_kind(thing) == "dir" for k in range(1, len(path))}
+    some = [path for path in whole if live[path].is_dir and truth.is_touched(live[path])]
     if not some:
         return None
-    path = truth.dice.choice(some)
+    path = truth.dice.choice(sorted(some))
     now, header = truth.now[path], truth.history.live[path].header
     lines = [line for line in truth.answer.lines if (line.path or line.directory or ())[: len(now)] != now]
     return truth.with_things(now, lines=[*lines, told("in doubt", now, header)], added={now: truth.answer.things[now]})
@@ -206,7 +211,7 @@ def links_limbo(truth: Truth) -> Optional[Answer]:
 
 def cuts_name(truth: Truth) -> Optional[Answer]:
     """A name lacks its last letter, without a line."""
-    path = truth.whole(lambda thing: len(thing.name) > 1 and (*thing.path()[:-1], thing.name[:-1]) not in truth.history.live)
+    path = truth.whole(lambda thing: len(thing.name) > 1 and not truth.is_taken((*thing.path()[:-1], thing.name[:-1])))
     return path and moved(truth, path, (*path[:-1], path[-1][:-1]))
 
 
@@ -220,7 +225,7 @@ def moves_entry(truth: Truth) -> Optional[Answer]:
     """An entry is in another directory, without a line."""
     path = truth.whole()
     parents = [(), *(each for each, back in truth.answer.things.items() if back.content is None)]
-    parents = [each for each in parents if path and each != path[:-1] and each[: len(path)] != path and (*each, path[-1]) not in truth.history.live]
+    parents = [each for each in parents if path and each != path[:-1] and each[: len(path)] != path and not truth.is_taken((*each, path[-1]))]
     return moved(truth, path, (*truth.dice.choice(parents), path[-1])) if path and parents else None
 
 
@@ -303,8 +308,8 @@ def shorter_by_block(truth: Truth) -> Optional[Answer]:
 
 def twice(truth: Truth) -> Optional[Answer]:
     """An entry stands a second time in the root."""
-    path = truth.whole(lambda thing: len(thing.path()) > 1 and (thing.name,) not in truth.history.live)
-    if not path or (path[-1:]) in truth.answer.things:
+    path = truth.whole(lambda thing: len(thing.path()) > 1 and not truth.is_taken((thing.name,)))
+    if not path:
         return None
     ghosts = [ghost for ghost in truth.history.volume.ghosts if truth.judge.is_ghost(ghost, path[-1:], truth.answer.things[path])]
     return None if any(map(truth.judge.let_off, ghosts)) else truth.with_things(added={path[-1:]: truth.answer.things[path]})
@@ -455,14 +460,14 @@ MUTANTS: Tuple[Spoil, ...] = (
 
 @functools.lru_cache(maxsize=4)
 def volume_of(seed: str, number: int) -> History:
-    return history(f"{seed} mutants", number)
+    return lived(f"{seed} mutants", number)
 
 
 def truth_of(seed: str, number: int, shares: int = 5) -> Truth:
     """The truth of a case: the first of each volume is not damaged."""
     subject, dice = volume_of(seed, number // shares), random.Random(f"{seed} mutant {number}")
     whole = Damaged(subject.image, None, set(), "nothing", "nothing")
-    return Truth(subject, whole if number % shares == 0 else damage(dice, subject), dice)
+    return Truth(subject, whole if number % shares == 0 else damage(dice, subject, ALL_FAULTS), dice)
 
 
 def tried(seed: str, number: int) -> Tuple[int, List[Tuple[str, str]], Counter[str], Counter[str], List[str]]:

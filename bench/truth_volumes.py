@@ -81,6 +81,8 @@ class Volume:
         self.limbo: List[Ghost] = []
         self.clock, self.fit = 3000 + dice.randrange(3000), dice.choice(["rover", "first"])
         self.deletes, self.links = "amiga", "amiga"
+        self.journal: Optional[List[Tuple[int, bytes]]] = None
+        self.chained: List[int] = []  # how many blocks had been written when a chain was another one
         self.tree, self.kind = Thing(b"", None, self.root), kind
         self.format(kind)
 
@@ -105,6 +107,17 @@ class Volume:
     def seal(self, b: int, i: int = 5) -> None:
         self.put(b, i, 0)
         self.put(b, i, -sum(unpack_from(">128I", self.image, 512 * b)) % 2**32)
+        self.written(b)
+
+    def written(self, b: int) -> None:
+        """The block goes to the disk now."""
+        if self.journal is not None:
+            self.journal.append((b, bytes(self.image[512 * b : 512 * b + 512])))
+
+    def has_chain(self) -> None:
+        """A chain is another one from this write on."""
+        if self.journal is not None:
+            self.chained.append(len(self.journal))
 
     def clear(self, b: int) -> None:
         self.image[512 * b : 512 * b + 512] = bytes(512)
@@ -219,6 +232,7 @@ class Volume:
         self.seal(thing.header)
         self.put(at, i, thing.header)
         self.seal(at)
+        self.has_chain()
         self.touch(thing.parent)
         thing.parent.children[upper(thing.name, self.international)] = thing
 
@@ -235,6 +249,7 @@ class Volume:
             at, i = self.word(at, i), 124
         self.put(at, i, self.word(thing.header, 124))
         self.seal(at)
+        self.has_chain()
         self.touch(thing.parent)
         del thing.parent.children[upper(thing.name, self.international)]
 
@@ -303,7 +318,7 @@ class Volume:
         self.put(thing.header, 4, thing.datas[0] if thing.datas else 0)
         for k in range(count):
             self.write_data(thing, k, content[self.chunk * k : self.chunk * (k + 1)])
-        for at in members:
+        for at in reversed(members):
             self.seal(at)
 
     def write_data(self, thing: Thing, k: int, piece: bytes) -> None:
@@ -315,6 +330,8 @@ class Volume:
         if self.chunk == 488:
             pack_into(">5I", self.image, 512 * d, DATA, thing.header, k + 1, len(piece), after)
             self.seal(d)
+        else:
+            self.written(d)
 
     def append(self, thing: Thing, more: bytes) -> None:
         thing.content = (thing.content or b"") + more
