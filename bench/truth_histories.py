@@ -10,7 +10,7 @@ from truth_volumes import PAGE_BITS, VALID, Ghost, Thing, Volume, upper
 
 STATES = ("valid", "valid", "valid", "valid", "flag 0", "interrupted", "interrupted", "stale", "foreign")
 SMALL = (60, 80, 100, 120, 160, 200, 240, 300, 400)
-LIVES = ("crash", "crash", "crash", "long", "long", "disks", "older root", "older root", "cylinders")
+LIVES = ("crash", "crash", "crash", "long", "long", "disks", "older root", "older root", "cylinders", "caches")
 OTHER_CYLINDERS = (22 * 81, 22 * 82, 22 * 83, 22 * 84)
 
 
@@ -191,6 +191,15 @@ class Disks(History):
         return thing
 
 
+class Cached(History):
+    """The directory caches of types 4 and 5 have their records."""
+
+    def end(self) -> None:
+        self.volume.fill_caches()
+        self.volume.sync()
+        super().end()
+
+
 class OlderRoot(History):
     """Another volume was there before, of another length, so that its root stands in another place."""
 
@@ -317,6 +326,8 @@ def lived(seed: str, number: int) -> History:
         return Crash(dice, dice.choice(SMALL), "crash")
     if life == "cylinders":
         made: History = History(dice, dice.choice(OTHER_CYLINDERS), state)
+    elif life == "caches":
+        made = Cached(dice, dice.choice([*SMALL, 1760]), dice.choice(["valid", "flag 0"]), dice.choice([4, 5]))
     elif life == "long":
         made = LongLife(dice, dice.choice(SMALL[3:]), state)
     elif life == "disks":

@@ -11,7 +11,7 @@ from truth_histories import History
 from truth_volumes import DATA, DIR, PAGE_BITS, POINTERS, Date, Ghost, Path, Thing, slot
 
 KINDS_OF_WHOLE = {"untouched": "not back", "root": "root gone", "dir": "dir gone"}
-FAILURES = ("not back", "root gone", "dir gone", "unsaid", "wrong", "risen", "silent", "survey", "cat", "left")
+FAILURES = ("not back", "root gone", "dir gone", "unsaid", "wrong", "risen", "silent", "survey", "cat", "left", "needless")
 COLUMNS = ("cases", "live", "kept", "moved", "untouched", "root", "dir", "back", "told", "unseen", "alarm", *FAILURES)
 
 
@@ -48,7 +48,8 @@ class Listed(NamedTuple):
 
 
 class Answer(NamedTuple):
-    """What a reader says: the tree of the new volume and its lines (status 1 if there is one), and its survey."""
+    """What a reader says: the tree of the new volume and its lines (status 1 if there is one), and its survey; whether it was asked to put
+    deleted files into a directory of their own."""
 
     things: Dict[Path, Back]
     lines: List[Line]
@@ -57,6 +58,7 @@ class Answer(NamedTuple):
     has_findings: bool
     listed: List[Listed]
     refused: bool = False
+    has_deleted: bool = False
 
 
 class Lines:
@@ -65,8 +67,11 @@ class Lines:
     def __init__(self, history: History, answer: Answer) -> None:
         self.by_header: Dict[int, Path] = {history.root: (), **{thing.header: path for path, thing in history.live.items()}}
         self.renamed: Dict[Path, Path] = {}
+        self.headed: Dict[Path, Path] = {}
         for line in sorted((line for line in answer.lines if line.now), key=lambda line: len(line.now or ())):
             self.rename(line)
+        by_block = [(line.path, self.by_header.get(line.blocks.start)) for line in answer.lines if line.path and line.blocks]
+        self.headed = {path: known for path, known in by_block if known}
         self.here = {line.path for line in answer.lines if line.path is not None and line.now is None}
         self.named = self.here | set(map(self.canonical, self.here))
         within = {line.directory for line in answer.lines if line.directory is not None}
@@ -81,12 +86,12 @@ class Lines:
 
     def canonical(self, path: Path) -> Path:
         """A path of the answer as it was: without new names, and with the directory that had its header there in place of each `lost-` and
-        block."""
+        block, and of each path that a line tells with its header."""
         real: Path = ()
         for k, name in enumerate(path, 1):
             number = name[5:]
             known = self.by_header.get(int(number)) if name.startswith(b"lost-") and number.isdigit() else None
-            real = self.renamed.get(path[:k]) or ((*real, name) if known is None else known)
+            real = self.renamed.get(path[:k]) or self.headed.get(path[:k]) or ((*real, name) if known is None else known)
         return real
 
     def says_where(self, path: Path, now: Path) -> bool:
@@ -121,6 +126,8 @@ class Judge:
                 self.judge_extra(path, back)
         whole = not self.amiss and (set(answer.things), answer.label, answer.dates) == (set(history.live), history.label, history.dates)
         self.counts["alarm"] += whole and not self.is_zero
+        if not damaged.touched and not self.is_zero and history.state == "valid" and len(damaged.image) == len(history.image):
+            self.fail("needless", "no fault touched it")
         self.judge_survey()
 
     def fail(self, column: str, text: str) -> None:
@@ -383,26 +390,30 @@ class Judge:
 
     def is_ghost(self, ghost: Ghost, path: Path, back: Back) -> bool:
         """It may be this deleted thing: by its name, and by bytes that it had, or that stand in its blocks now."""
-        if (ghost.content is None) != (back.content is None) or path[-1] not in (ghost.path[-1], b"lost-%d" % ghost.header):
+        if (ghost.content is None) != (back.content is None) or path[-1] not in ghost_names(ghost):
             return False
         if ghost.content == back.content or ghost.content is None or back.content is None:
             return True
         return len(ghost.content) == len(back.content) and self.history.volume.chunk == 512 and self.is_of_blocks(ghost, back.content)
 
     def is_of_blocks(self, ghost: Ghost, content: bytes) -> bool:
-        """The bytes are those that stand in the blocks of a deleted FFS file, or that it had there."""
+        """The bytes are those that a deleted FFS file had, or that stand in its blocks, unless these are a live file's now."""
+        had, image, owned = ghost.content or b"", self.damaged.image, self.history.owner
         pieces = ((512 * k, content[512 * k : 512 * k + 512], d) for k, d in enumerate(ghost.datas) if 512 * k < len(content))
-        had = ghost.content or b""
-        return all(piece in (had[at : at + 512], self.damaged.image[512 * d : 512 * d + len(piece)]) for at, piece, d in pieces)
+        return all(piece == had[at : at + 512] or d not in owned and piece == image[512 * d : 512 * d + len(piece)] for at, piece, d in pieces)
+
+    def is_kept_deleted(self, path: Path) -> bool:
+        """It is the directory that was asked for, or a file in it."""
+        return self.answer.has_deleted and len(path) <= 2 and path[0].startswith(b"deleted") and path[:1] not in self.history.live
 
     def judge_extra(self, path: Path, back: Back) -> None:
         v = self.history.volume
         ghosts = [ghost for ghost in (*v.ghosts, *v.limbo) if self.is_ghost(ghost, path, back)]
-        is_told = path in self.lines.here
+        is_told = path in self.lines.here or self.is_kept_deleted(path)
         said = [h for h in self.damaged.touched if name_at(self.damaged.image, h) == path[-1] and self.says(h, back)]
         if any(self.home_in(self.damaged.image, h) == self.home_of(h) for h in said):
             self.counts["unseen"] += 1
-        elif not (said and is_told) and not ghosts and back.content is not None and not path[-1].startswith(b"lost-"):
+        elif not (said and is_told) and not ghosts and back.content is not None:
             self.fail("wrong", f"{path} was never there")
         elif is_told:
             self.counts["told"] += 1
@@ -457,7 +468,7 @@ class Judge:
         """A bitmap page with a right sum, of a volume that was left in such a state or of another time, has the block in use."""
         v, image = self.history.volume, self.damaged.image
         page, bit = v.pages[(b - 2) // PAGE_BITS], (b - 2) % PAGE_BITS
-        is_other = self.history.state in ("stale", "foreign") or page in self.damaged.touched
+        is_other = self.history.state in ("stale", "foreign") or bool({page, v.root} & self.damaged.touched)
         return is_other and sealed(image, page) and not word(image, page, 1 + bit // 32) >> bit % 32 & 1
 
     def is_like(self, path: Path, now: Path, back: Back) -> bool:
@@ -493,6 +504,10 @@ class Judge:
 
 def word(image: bytes, b: int, i: int) -> int:
     return int.from_bytes(image[512 * b + 4 * i : 512 * b + 4 * i + 4], "big")
+
+
+def ghost_names(ghost: Ghost) -> Tuple[bytes, ...]:
+    return ghost.path[-1], b"lost-%d" % ghost.header, b"deleted-%d" % ghost.header
 
 
 def is_header(image: bytes, b: int) -> bool:

@@ -411,6 +411,35 @@ def spoils_deleted(truth: Truth) -> Optional[Answer]:
     return truth.with_line(told("deleted", ghost.path, ghost.header), added={ghost.path: back})
 
 
+def invents_file(truth: Truth) -> Optional[Answer]:
+    """A file that was never there stands as `lost-N`, with a line of its own."""
+    header = truth.history.volume.blocks - 1
+    if header in truth.history.owner or any(ghost.header == header for ghost in truth.history.volume.ghosts):
+        return None
+    path = (b"lost-%d" % header,)
+    return truth.with_line(told("found again", path, header), added={path: Back(b"never there", b"", 0, (0, 0, 0))})
+
+
+def spoils_kept(truth: Truth) -> Optional[Answer]:
+    """A deleted file is in a directory of deleted ones, as it was asked for, and one byte is wrong."""
+    ghost = truth.ghost(lambda ghost: ghost.content)
+    if ghost is None or truth.is_taken((b"deleted",)):
+        return None
+    content = other(ghost.content or b"", truth.dice.randrange(len(ghost.content or b"")))
+    kept = {(b"deleted",): Back(None, b"", 0, (0, 0, 0)), (b"deleted", ghost.path[-1]): as_it_was(ghost)._replace(content=content)}
+    return truth.with_things(added=kept, has_deleted=True)
+
+
+def keeps_live(truth: Truth) -> Optional[Answer]:
+    """A live file stands a second time in the directory of deleted ones."""
+    path = truth.whole(lambda thing: thing.content)
+    dead = [ghost for ghost in truth.history.volume.ghosts if path and truth.judge.is_ghost(ghost, path[-1:], truth.answer.things[path])]
+    if not path or dead or truth.is_taken((b"deleted",)):
+        return None
+    kept = {(b"deleted",): Back(None, b"", 0, (0, 0, 0)), (b"deleted", path[-1]): truth.answer.things[path]}
+    return truth.with_things(added=kept, has_deleted=True)
+
+
 def listed_anew(truth: Truth, wanted: Callable[[Listed], object], changed: Callable[[Listed], Listed]) -> Optional[Answer]:
     """The survey has another entry in place of one."""
     some = [k for k, each in enumerate(truth.answer.listed) if each.path in truth.history.live and wanted(each)]
@@ -450,11 +479,17 @@ def finds_nothing(truth: Truth) -> Optional[Answer]:
     return truth.answer._replace(has_findings=False, listed=truth.answer.listed[1:]) if truth.answer.listed and not truth.judge.relinked else None
 
 
+def alarms(truth: Truth) -> Optional[Answer]:
+    """A volume that no fault touched has a line."""
+    is_whole = not truth.damaged.touched and truth.history.state == "valid" and truth.damaged.image == truth.history.image
+    return truth.with_line(Line("lost: in /", None, ())) if is_whole else None
+
+
 MUTANTS: Tuple[Spoil, ...] = (
     refuses_all, gives_nothing, raises_all, garbles_all, doubts_directory, links_limbo, cuts_name, moves_entry, renames_elsewhere,
     renames_directory, swaps_bytes, one_byte, one_byte_doubted, longer_by_block, shorter_by_block, twice, swaps_dates, swaps_comments,
     other_protection, other_label, hides_losses, tells_another, tells_directory, tells_chain, tells_blocks, loses_damaged, found_elsewhere, zeros,
-    raises_one, raises_directory, spoils_deleted, spoils_cat, spoils_left, hides_gaps, calls_sound, finds_nothing,
+    raises_one, raises_directory, spoils_deleted, invents_file, spoils_kept, keeps_live, spoils_cat, spoils_left, hides_gaps, calls_sound, finds_nothing, alarms,
 )  # fmt: skip
 
 

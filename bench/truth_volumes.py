@@ -8,7 +8,7 @@ from __future__ import annotations
 import mmap
 import random
 import sys
-from struct import pack_into, unpack_from
+from struct import pack, pack_into, unpack_from
 from typing import Dict, Iterator, List, Optional, Set, Tuple, Union
 
 DIR, FILE, SLOTS, POINTERS, PAGE_BITS, ROOT_PAGES, MAP_PAGES = 2, 2**32 - 3, 72, 72, 4064, 25, 127
@@ -183,6 +183,31 @@ class Volume:
                 self.put(b, i, value)
             self.seal(b)
             self.put(thing.header, 126, b)
+
+    def record(self, thing: Thing) -> bytes:
+        """What a directory cache has of an entry, of an even length."""
+        kind = DIR if thing.is_dir else FILE
+        dates = [word % 65536 for word in thing.date]
+        front = pack(">3I5HB", thing.header, len(thing.content or b""), thing.protection, 0, 0, *dates, kind % 256)
+        record = front + bytes([len(thing.name)]) + thing.name + bytes([len(thing.comment)]) + thing.comment
+        return record + bytes(len(record) % 2)
+
+    def fill_caches(self) -> None:
+        """The caches of each directory have a record of each of its entries."""
+        for thing in (self.tree, *(thing for thing in self.tree.below() if thing.is_dir)):
+            parts: List[List[bytes]] = [[]]
+            for record in map(self.record, thing.children.values()):
+                if sum(map(len, parts[-1])) + len(record) > 488:
+                    parts.append([])
+                parts[-1].append(record)
+            if len(parts) - len(thing.caches) > self.free():
+                continue
+            thing.caches += self.take(len(parts) - len(thing.caches))
+            for k, (part, b) in enumerate(zip(parts, thing.caches)):
+                past = thing.caches[k + 1] if k + 1 < len(parts) else 0
+                block = pack(">6I", CACHE, b, thing.header, len(part), past, 0) + b"".join(part)
+                self.image[512 * b : 512 * b + 512] = block.ljust(512, b"\0")
+                self.seal(b)
 
     def dates(self) -> Tuple[Date, ...]:
         """The dates of the root, of the last change and of the creation."""
