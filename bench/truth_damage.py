@@ -7,7 +7,7 @@ from struct import pack_into, unpack_from
 from typing import Callable, Dict, Iterable, List, NamedTuple, Optional, Set, Tuple
 
 from truth_histories import OTHER_CYLINDERS, History
-from truth_volumes import SLOTS
+from truth_volumes import SLOTS, Ghost
 
 Fault = Callable[[random.Random, History, bytearray], Set[int]]
 WEIGHTY = (0, 1, 4, 5, 77, 78, 79, 81, 108, 124, 125, 126, 127)
@@ -22,6 +22,7 @@ class Damaged(NamedTuple):
     kind: str
     told: str
     unread: Set[int] = set()
+    since: Tuple[Ghost, ...] = ()  # what was made and deleted again behind the truth
 
 
 def in_role(role: str, history: History) -> List[int]:
@@ -32,7 +33,8 @@ def in_role(role: str, history: History) -> List[int]:
         "root": [v.root],
         "page": v.pages,
         "map": v.maps,
-        "dir": [thing.header for thing in things if thing.is_dir],
+        "dir": [thing.header for thing in things if thing.is_dir and not thing.is_link],
+        "link": [thing.header for thing in things if thing.is_link],
         "file": [thing.header for thing in things if not thing.is_dir],
         "ext": [b for thing in things for b in thing.exts],
         "data": [b for thing in things for b in thing.datas],
@@ -226,7 +228,7 @@ FAULTS: Dict[str, Fault] = {
 }
 MORE_FAULTS: Dict[str, Fault] = {
     **{f"stale: {role}": stale(role) for role in ("root", "page", "dir", "file", "ext", "data")},
-    **{f"{how}: cache": a_flaw(how, "cache") for how in ("bit", "zeroed")},
+    **{f"{how}: {role}": a_flaw(how, role) for role in ("cache", "link") for how in ("bit", "zeroed")},
     "shifted": shifted,
     "bytes swapped": bytes_swapped,
     "filler": filler,
@@ -290,6 +292,15 @@ def damage(dice: random.Random, history: History, faults: Optional[Dict[str, Fau
         whole = Damaged(history.image, None, set(), "81 to 84 tracks", "whole") if dice.random() < 0.5 else result._replace(kind="81 to 84 tracks + another")
         return longer(dice, whole, blocks)
     return result
+
+
+def formatted(dice: random.Random, history: History) -> Damaged:
+    """A quick format, which is a damage of what was there before."""
+    later = history.formatted_anew(dice)
+    image, v = bytes(later.volume.image), history.volume
+    touched = {b for b in range(v.blocks) if image[512 * b : 512 * b + 512] != history.image[512 * b : 512 * b + 512]}
+    kind = f"formatted{', written to' if later.volume.tree.children or later.volume.ghosts else ''}"
+    return Damaged(image, None, touched, kind, kind, set(), tuple(later.volume.ghosts))
 
 
 # Sectors that were not read

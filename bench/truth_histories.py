@@ -2,6 +2,7 @@
 
 from __future__ import annotations
 
+import copy
 import random
 from struct import unpack_from
 from typing import Callable, List, Optional
@@ -10,7 +11,7 @@ from truth_volumes import PAGE_BITS, VALID, Ghost, Thing, Volume, upper
 
 STATES = ("valid", "valid", "valid", "valid", "flag 0", "interrupted", "interrupted", "stale", "foreign")
 SMALL = (60, 80, 100, 120, 160, 200, 240, 300, 400)
-LIVES = ("crash", "crash", "crash", "long", "long", "disks", "older root", "older root", "cylinders", "caches")
+LIVES = ("crash", "crash", "crash", "long", "long", "disks", "older root", "older root", "cylinders", "caches", "links")
 OTHER_CYLINDERS = (22 * 81, 22 * 82, 22 * 83, 22 * 84)
 
 
@@ -38,6 +39,18 @@ class History:
 
     def steps(self) -> int:
         return self.dice.choice([15, 40, 80, 120]) if self.volume.blocks <= 4000 else 12
+
+    def formatted_anew(self, dice: random.Random) -> "History":
+        """What comes of it by a quick format, of its kind or another, and in half of the cases by work on the new volume."""
+        later = copy.deepcopy(self)
+        v = later.volume
+        v.dice = later.dice = dice
+        v.format(dice.choice([v.kind % 2, 1 - v.kind % 2, v.kind]) if v.kind < 2 else dice.choice([v.kind, v.kind ^ 1]))
+        v.ghosts = []
+        later.work(dice.choice([0, 0, 0, 3, 10, 30]))
+        v.sync()
+        v.flag(VALID)
+        return later
 
     def truth(self) -> None:
         """What is there at the end: things by path, and by block; what was deleted, by its bytes."""
@@ -200,6 +213,36 @@ class Cached(History):
         super().end()
 
 
+class Linked(History):
+    """Links to what stands there, some of them deleted again, which changes the chain of its target's links."""
+
+    def end(self) -> None:
+        v, made = self.volume, []
+        for _ in range(self.dice.choice([1, 3, 8, 20])):
+            things = [thing for thing in v.tree.below() if not thing.is_link]
+            if things and v.free() > 3:
+                parent, target = self.dice.choice([thing for thing in self.dirs() if not thing.is_link]), self.dice.choice([None, *things])
+                text = self.dice.choice([b"Work:" + v.some_name(8), b"/".join(self.dice.choice(things).path())])
+                made.append((v.make_link(parent, self.name_in(parent), target, text[:280]), target))
+        for link, target in made:
+            if self.dice.random() < 0.15:
+                self.unlink(link, target)
+        if v.cached:
+            v.fill_caches()
+        v.sync()
+        super().end()
+
+    def unlink(self, link: Thing, target: Optional[Thing]) -> None:
+        v = self.volume
+        if target:
+            at = target.header
+            while v.word(at, 118) != link.header:
+                at = v.word(at, 118)
+            v.put(at, 118, v.word(link.header, 118))
+            v.seal(at)
+        v.remove(link)
+
+
 class OlderRoot(History):
     """Another volume was there before, of another length, so that its root stands in another place."""
 
@@ -326,6 +369,8 @@ def lived(seed: str, number: int) -> History:
         return Crash(dice, dice.choice(SMALL), "crash")
     if life == "cylinders":
         made: History = History(dice, dice.choice(OTHER_CYLINDERS), state)
+    elif life == "links":
+        made = Linked(dice, dice.choice([*SMALL, 1760]), dice.choice(["valid", "valid", "flag 0"]))
     elif life == "caches":
         made = Cached(dice, dice.choice([*SMALL, 1760]), dice.choice(["valid", "flag 0"]), dice.choice([4, 5]))
     elif life == "long":

@@ -12,7 +12,7 @@ from truth_volumes import DATA, DIR, PAGE_BITS, POINTERS, Date, Ghost, Path, Thi
 
 KINDS_OF_WHOLE = {"untouched": "not back", "root": "root gone", "dir": "dir gone"}
 FAILURES = ("not back", "root gone", "dir gone", "unsaid", "wrong", "risen", "silent", "survey", "cat", "left", "needless")
-COLUMNS = ("cases", "live", "kept", "moved", "untouched", "root", "dir", "back", "told", "unseen", "alarm", *FAILURES)
+COLUMNS = ("cases", "live", "links", "kept", "moved", "untouched", "root", "dir", "back", "told", "unseen", "alarm", *FAILURES)
 
 
 class Back(NamedTuple):
@@ -114,6 +114,7 @@ class Judge:
         self.counts: Counter[str] = Counter(cases=1)
         self.failures: List[Tuple[str, str]] = []
         self.lines = Lines(history, answer)
+        self.ghosts = (*history.volume.ghosts, *damaged.since)
         self.relinked = set() if self.has_bitmap else self.chains_that_lie(True)
         self.misled = set() if self.has_bitmap else self.chains_that_lie(False)
         self.amiss = {path for path, thing in history.live.items() if not self.is_as_it_was(path, thing)}
@@ -126,7 +127,8 @@ class Judge:
                 self.judge_extra(path, back)
         whole = not self.amiss and (set(answer.things), answer.label, answer.dates) == (set(history.live), history.label, history.dates)
         self.counts["alarm"] += whole and not self.is_zero
-        if not damaged.touched and not self.is_zero and history.state == "valid" and len(damaged.image) == len(history.image):
+        is_plain = history.state == "valid" and not any(thing.is_link for thing in history.live.values())
+        if not damaged.touched and not self.is_zero and is_plain and len(damaged.image) == len(history.image):
             self.fail("needless", "no fault touched it")
         self.judge_survey()
 
@@ -192,7 +194,7 @@ class Judge:
 
     def whole_kind(self, thing: Thing) -> Optional[str]:
         """Of what has its own blocks whole, what a fault touched above it: nothing, the root alone, or a directory."""
-        if {thing.header, *thing.exts, *thing.datas} & self.damaged.touched:
+        if thing.is_link or {thing.header, *thing.exts, *thing.datas} & self.damaged.touched:
             return None
         if self.is_claimed(thing) or self.is_kind_unknown() or self.is_past(thing):
             return None
@@ -221,7 +223,7 @@ class Judge:
 
     def is_as_it_was(self, path: Path, thing: Thing) -> bool:
         back = self.answer.things.get(path)
-        return back is not None and self.has_own_words(thing, back) and self.same_bytes(thing, back.content)
+        return back is not None and not thing.is_link and self.has_own_words(thing, back) and self.same_bytes(thing, back.content)
 
     def has_own_words(self, thing: Thing, back: Back) -> bool:
         return back[1:] == (thing.comment, thing.protection, thing.date)
@@ -293,6 +295,7 @@ class Judge:
 
     def judge_thing(self, path: Path, thing: Thing) -> None:
         kind, back, now = self.whole_kind(thing), self.answer.things.get(path), self.place.get(path)
+        self.counts["links"] += thing.is_link
         self.counts.update(["live", kind] if kind else ["live"])
         if path not in self.amiss:
             self.counts.update(kept=1, back=kind is not None, unseen=back is not None and back.content != thing.content)
@@ -312,7 +315,7 @@ class Judge:
         """What stands in its place is not as it was: other bytes, or words that a line must tell, if a fault touched them."""
         if self.says(thing.header, back) and name_at(self.damaged.image, thing.header) == thing.name:
             self.counts["unseen"] += 1
-        elif not self.same_bytes(thing, back.content):
+        elif thing.is_link or not self.same_bytes(thing, back.content):
             if not self.stands_in(path, back):
                 self.fail("wrong", f"{path} has other bytes")
         elif thing.header not in self.damaged.touched or not (path in self.lines.named or thing.header in self.lines.headers):
@@ -347,7 +350,7 @@ class Judge:
     def is_it(self, path: Path, now: Path) -> bool:
         """What stands there is this entry as it was; of one whose header a fault touched, by its bytes alone."""
         thing, back = self.history.live[path], self.answer.things[now]
-        has_words = thing.header in self.damaged.touched or self.has_own_words(thing, back)
+        has_words = not thing.is_link and (thing.header in self.damaged.touched or self.has_own_words(thing, back))
         return has_words and thing.is_dir == (back.content is None) and self.same_bytes(thing, back.content)
 
     # Chains that lie
@@ -380,8 +383,7 @@ class Judge:
     def stands_in(self, path: Path, back: Back) -> bool:
         """Let off: where no bitmap tells, what was deleted under the same path, or not linked yet, stands for what is lost, by a line that
         names it, or by a chain that lies."""
-        v = self.history.volume
-        dead = [ghost for ghost in (*v.ghosts, *v.limbo) if self.is_ghost(ghost, path, back)]
+        dead = [ghost for ghost in (*self.ghosts, *self.history.volume.limbo) if self.is_ghost(ghost, path, back)]
         if not dead or self.has_bitmap and not any(map(self.let_off, dead)):
             return False
         return path in self.lines.named or self.is_past(self.history.live[path])
@@ -407,20 +409,19 @@ class Judge:
         return self.answer.has_deleted and len(path) <= 2 and path[0].startswith(b"deleted") and path[:1] not in self.history.live
 
     def judge_extra(self, path: Path, back: Back) -> None:
-        v = self.history.volume
-        ghosts = [ghost for ghost in (*v.ghosts, *v.limbo) if self.is_ghost(ghost, path, back)]
+        ghosts = [ghost for ghost in (*self.ghosts, *self.history.volume.limbo) if self.is_ghost(ghost, path, back)]
         is_told = path in self.lines.here or self.is_kept_deleted(path)
         said = [h for h in self.damaged.touched if name_at(self.damaged.image, h) == path[-1] and self.says(h, back)]
         if any(self.home_in(self.damaged.image, h) == self.home_of(h) for h in said):
             self.counts["unseen"] += 1
-        elif not (said and is_told) and not ghosts and back.content is not None:
+        elif not said and not ghosts and back.content is not None:
             self.fail("wrong", f"{path} was never there")
         elif is_told:
             self.counts["told"] += 1
         elif any(map(self.let_off, ghosts)):
             self.counts["unseen"] += 1
         else:
-            self.fail("risen", f"{path} was {'deleted' if ghosts else 'made'}")
+            self.fail("risen", f"{path} was {'deleted' if ghosts or said else 'made'}")
 
     def let_off(self, ghost: Ghost) -> bool:
         """Let off: a file that a foreign program removed, whose header it left in use, without data that is free; and what a chain that
@@ -458,7 +459,7 @@ class Judge:
     def is_deleted(self, each: Listed) -> bool:
         """It is called sound, and was deleted. Let off: a bitmap that says that it is valid has it in use."""
         back = each.back._replace(content=each.left)
-        ghosts = [ghost for ghost in self.history.volume.ghosts if self.is_ghost(ghost, each.path, back)]
+        ghosts = [ghost for ghost in self.ghosts if self.is_ghost(ghost, each.path, back)]
         believed = any(self.is_called_used(ghost.header) for ghost in ghosts)
         believed = believed or any(self.home_of(ghost.header) in self.misled for ghost in ghosts)
         is_live = any(self.is_like(path, each.path, back) for path in self.amiss)
@@ -479,8 +480,8 @@ class Judge:
 
     def is_left_of_ghost(self, each: Listed) -> bool:
         """Let off, as in `stands_in`: what is left of a file that was deleted under the same path, by a line that names it."""
-        v, back = self.history.volume, each.back._replace(content=each.left)
-        dead = [ghost for ghost in (*v.ghosts, *v.limbo) if ghost.path[-1] == each.path[-1] and ghost.content]
+        back = each.back._replace(content=each.left)
+        dead = [ghost for ghost in (*self.ghosts, *self.history.volume.limbo) if ghost.path[-1] == each.path[-1] and ghost.content]
         agreed = any(self.is_ghost(ghost, each.path, back) for ghost in dead) or any(
             ghost.content and all(each.left[a:z] == ghost.content[a:z] for a, z in found_runs(each)) for ghost in dead
         )

@@ -7,7 +7,7 @@ import random
 from collections import Counter
 from typing import Callable, Dict, Iterator, List, Optional, Set, Tuple
 
-from truth_damage import ALL_FAULTS, Damaged, damage
+from truth_damage import ALL_FAULTS, Damaged, damage, formatted
 from truth_histories import History, lived
 from truth_judge import Answer, Back, Judge, Line, Listed
 from truth_volumes import POINTERS, Ghost, Path, Thing
@@ -34,7 +34,7 @@ class Truth:
             if self.is_given(thing) or any(below[: len(path)] == path for below in self.given):
                 self.given.add(path)
         for path, thing in history.live.items():
-            is_made = thing.is_dir and self.is_touched(thing) and path in self.given
+            is_made = self.is_made(path, thing)
             self.now[path] = (b"lost-%d" % thing.header,) if is_made else (*self.now[path[:-1]], path[-1])
         self.answer = self.told()
         self.judge = Judge(history, damaged, self.answer)
@@ -42,12 +42,16 @@ class Truth:
     def is_touched(self, thing: Thing) -> bool:
         return thing.header in self.damaged.touched
 
+    def is_made(self, path: Path, thing: Thing) -> bool:
+        """A directory in the place of one whose header a fault touched."""
+        return thing.is_dir and self.is_touched(thing) and path in self.given
+
     def is_held(self, b: int) -> bool:
         return 512 * b + 512 <= len(self.damaged.image)
 
     def is_given(self, thing: Thing) -> bool:
         """Its header and its extension blocks are whole, and its data, or its data is such that no reader can tell."""
-        if {thing.header, *thing.exts} & self.damaged.touched:
+        if thing.is_link or {thing.header, *thing.exts} & self.damaged.touched:
             return False
         is_ffs = self.history.volume.chunk == 512
         return all(is_ffs and self.is_held(d) for d in thing.datas if d in self.damaged.touched)
@@ -86,9 +90,9 @@ class Truth:
     def entry_lines(self) -> Iterator[Line]:
         for path, thing in self.history.live.items():
             if path not in self.given:
-                yield told("damaged", self.now[path], thing.header)
+                yield told("link" if thing.is_link else "damaged", self.now[path], thing.header)
             elif self.now[path] != path:
-                yield told("made" if thing.is_dir and self.is_touched(thing) else "found again", self.now[path], thing.header)
+                yield told("made" if self.is_made(path, thing) else "found again", self.now[path], thing.header)
 
     def listed(self, path: Path, thing: Thing) -> Listed:
         """What a survey has of an entry whose header is whole."""
@@ -362,7 +366,8 @@ def tells_blocks(truth: Truth) -> Optional[Answer]:
 
 def loses_damaged(truth: Truth) -> Optional[Answer]:
     """The line of a file that is damaged is gone, others are left."""
-    some = [path for path, thing in truth.history.live.items() if path not in truth.given and not truth.is_touched(thing) and not truth.is_cut_off(path)]
+    live = truth.history.live.items()
+    some = [path for path, thing in live if path not in truth.given and not truth.is_touched(thing) and not truth.is_cut_off(path)]
     if not some:
         return None
     path = truth.now[truth.dice.choice(some)]
@@ -418,6 +423,15 @@ def invents_file(truth: Truth) -> Optional[Answer]:
         return None
     path = (b"lost-%d" % header,)
     return truth.with_line(told("found again", path, header), added={path: Back(b"never there", b"", 0, (0, 0, 0))})
+
+
+def hides_link(truth: Truth) -> Optional[Answer]:
+    """A link is left out without its line."""
+    some = [path for path, thing in truth.history.live.items() if thing.is_link and not truth.is_cut_off(path)]
+    if not some:
+        return None
+    gone = truth.now[truth.dice.choice(some)]
+    return truth.answer._replace(lines=[*(line for line in truth.answer.lines if line.path != gone), Line("lost: in /", None, ())])
 
 
 def spoils_kept(truth: Truth) -> Optional[Answer]:
@@ -482,6 +496,7 @@ def finds_nothing(truth: Truth) -> Optional[Answer]:
 def alarms(truth: Truth) -> Optional[Answer]:
     """A volume that no fault touched has a line."""
     is_whole = not truth.damaged.touched and truth.history.state == "valid" and truth.damaged.image == truth.history.image
+    is_whole = is_whole and not any(thing.is_link for thing in truth.history.live.values())
     return truth.with_line(Line("lost: in /", None, ())) if is_whole else None
 
 
@@ -489,7 +504,7 @@ MUTANTS: Tuple[Spoil, ...] = (
     refuses_all, gives_nothing, raises_all, garbles_all, doubts_directory, links_limbo, cuts_name, moves_entry, renames_elsewhere,
     renames_directory, swaps_bytes, one_byte, one_byte_doubted, longer_by_block, shorter_by_block, twice, swaps_dates, swaps_comments,
     other_protection, other_label, hides_losses, tells_another, tells_directory, tells_chain, tells_blocks, loses_damaged, found_elsewhere, zeros,
-    raises_one, raises_directory, spoils_deleted, invents_file, spoils_kept, keeps_live, spoils_cat, spoils_left, hides_gaps, calls_sound, finds_nothing, alarms,
+    raises_one, raises_directory, spoils_deleted, invents_file, hides_link, spoils_kept, keeps_live, spoils_cat, spoils_left, hides_gaps, calls_sound, finds_nothing, alarms,
 )  # fmt: skip
 
 
@@ -499,10 +514,11 @@ def volume_of(seed: str, number: int) -> History:
 
 
 def truth_of(seed: str, number: int, shares: int = 5) -> Truth:
-    """The truth of a case: the first of each volume is not damaged."""
+    """The truth of a case: the first of each volume is not damaged, the second is formatted anew."""
     subject, dice = volume_of(seed, number // shares), random.Random(f"{seed} mutant {number}")
-    whole = Damaged(subject.image, None, set(), "nothing", "nothing")
-    return Truth(subject, whole if number % shares == 0 else damage(dice, subject, ALL_FAULTS), dice)
+    if number % shares == 0:
+        return Truth(subject, Damaged(subject.image, None, set(), "nothing", "nothing"), dice)
+    return Truth(subject, formatted(dice, subject) if number % shares == 1 else damage(dice, subject, ALL_FAULTS), dice)
 
 
 def tried(seed: str, number: int) -> Tuple[int, List[Tuple[str, str]], Counter[str], Counter[str], List[str]]:

@@ -34,7 +34,9 @@ def slot(name: bytes, international: bool) -> int:
 
 
 class Thing:
-    """A directory (its content is None) or a file, live or deleted, with its blocks."""
+    """A directory or a link (its content is None) or a file, live or deleted, with its blocks."""
+
+    is_link = False
 
     def __init__(self, name: bytes, parent: Optional[Thing], header: int, content: Optional[bytes] = None) -> None:
         self.name, self.parent, self.header, self.content = name, parent, header, content
@@ -59,6 +61,12 @@ class Thing:
         for child in self.children.values():
             yield child
             yield from child.below()
+
+
+class Link(Thing):
+    """A link to a thing, or a soft one, to a path."""
+
+    is_link = True
 
 
 class Ghost:
@@ -186,7 +194,7 @@ class Volume:
 
     def record(self, thing: Thing) -> bytes:
         """What a directory cache has of an entry, of an even length."""
-        kind = DIR if thing.is_dir else FILE
+        kind = self.word(thing.header, 127)
         dates = [word % 65536 for word in thing.date]
         front = pack(">3I5HB", thing.header, len(thing.content or b""), thing.protection, 0, 0, *dates, kind % 256)
         record = front + bytes([len(thing.name)]) + thing.name + bytes([len(thing.comment)]) + thing.comment
@@ -302,6 +310,22 @@ class Volume:
         thing = Thing(name, parent, self.take(1)[0])
         self.head(thing)
         self.add_cache(thing)
+        self.link(thing)
+        return thing
+
+    def make_link(self, parent: Thing, name: bytes, target: Optional[Thing], text: bytes) -> Thing:
+        """The newest hard link is the first one of its target, which is the original of all; a soft one has a path."""
+        thing = Link(name, parent, self.take(1)[0])
+        self.head(thing)
+        b = thing.header
+        self.put(b, 127, 3 if target is None else 4 if target.is_dir else 2**32 - 4)
+        if target is None:
+            self.image[512 * b + 24 : 512 * b + 24 + len(text)] = text
+        else:
+            self.put(b, 117, target.header)
+            self.put(b, 118, self.word(target.header, 118))
+            self.put(target.header, 118, b)
+            self.seal(target.header)
         self.link(thing)
         return thing
 
