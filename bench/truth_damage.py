@@ -282,7 +282,7 @@ def damage(dice: random.Random, history: History, faults: Optional[Dict[str, Fau
     kind = f"nothing, {history.state}" if not kinds else kinds[0] if len(kinds) == 1 else f"{kinds[0]} + another"
     told = " + ".join(kinds) or "nothing"
     result = Damaged(bytes(image), None, touched, kind, told)
-    if blocks in OTHER_CYLINDERS and dice.random() < 0.5:
+    if faults and blocks in OTHER_CYLINDERS and dice.random() < 0.5:
         whole = Damaged(history.image, None, set(), "other cylinders", "whole") if dice.random() < 0.5 else result._replace(kind="other cylinders + another")
         return dumped(dice, whole, blocks)
     if ends < 0.05 and kinds:

@@ -398,11 +398,22 @@ class Judge:
             return True
         return len(ghost.content) == len(back.content) and self.history.volume.chunk == 512 and self.is_of_blocks(ghost, back.content)
 
-    def is_of_blocks(self, ghost: Ghost, content: bytes) -> bool:
-        """The bytes are those that a deleted FFS file had, or that stand in its blocks, unless these are a live file's now."""
-        had, image, owned = ghost.content or b"", self.damaged.image, self.history.owner
-        pieces = ((512 * k, content[512 * k : 512 * k + 512], d) for k, d in enumerate(ghost.datas) if 512 * k < len(content))
-        return all(piece == had[at : at + 512] or d not in owned and piece == image[512 * d : 512 * d + len(piece)] for at, piece, d in pieces)
+    def is_of_blocks(self, ghost: Ghost, content: bytes, runs: Optional[List[Tuple[int, int]]] = None) -> bool:
+        """The bytes, or those of some runs, are what a deleted file had, or what stands in its FFS blocks, unless these are now those of a live
+        file that is whole."""
+        had, chunk = ghost.content or b"", self.history.volume.chunk
+        for first, past in runs or [(0, len(content))]:
+            for k in range(first // chunk, -(-past // chunk)):
+                a, z = max(first, chunk * k), min(past, chunk * (k + 1))
+                if content[a:z] != had[a:z] and not (chunk == 512 and self.is_in_block(ghost, k, a - chunk * k, content[a:z])):
+                    return False
+        return True
+
+    def is_in_block(self, ghost: Ghost, k: int, at: int, piece: bytes) -> bool:
+        d = ghost.datas[k] if k < len(ghost.datas) else 0
+        start, owner = 512 * d + at, self.history.owner.get(d)
+        is_free = owner is None or not self.whole_kind(self.history.live[owner])
+        return d != 0 and is_free and piece == self.damaged.image[start : start + len(piece)]
 
     def is_kept_deleted(self, path: Path) -> bool:
         """It is the directory that was asked for, or a file in it."""
@@ -453,7 +464,7 @@ class Judge:
         let_off = self.stands_in(each.path, back) or self.says(thing.header, back)
         if each.is_sound and not same and not let_off:
             self.fail("cat", f"{each.path} is sound, and another")
-        elif not self.is_left(thing, each) and not let_off and not self.is_left_of_ghost(each):
+        elif not self.is_left(thing, each) and not let_off and not self.is_left_of_ghost(each) and not self.is_kind_unknown():
             self.fail("left", f"{each.path}: other bytes outside of {each.gaps}")
 
     def is_deleted(self, each: Listed) -> bool:
@@ -482,9 +493,8 @@ class Judge:
         """Let off, as in `stands_in`: what is left of a file that was deleted under the same path, by a line that names it."""
         back = each.back._replace(content=each.left)
         dead = [ghost for ghost in (*self.ghosts, *self.history.volume.limbo) if ghost.path[-1] == each.path[-1] and ghost.content]
-        agreed = any(self.is_ghost(ghost, each.path, back) for ghost in dead) or any(
-            ghost.content and all(each.left[a:z] == ghost.content[a:z] for a, z in found_runs(each)) for ghost in dead
-        )
+        runs = list(found_runs(each))
+        agreed = any(self.is_ghost(ghost, each.path, back) or runs and self.is_of_blocks(ghost, each.left, runs) for ghost in dead)
         return each.path in self.lines.named and agreed and (not self.has_bitmap or any(map(self.let_off, dead)))
 
     def is_left(self, thing: Thing, each: Listed) -> bool:
