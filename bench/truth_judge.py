@@ -12,7 +12,7 @@ from truth_volumes import DATA, DIR, PAGE_BITS, POINTERS, Date, Ghost, Path, Thi
 
 KINDS_OF_WHOLE = {"untouched": "not back", "root": "root gone", "dir": "dir gone"}
 FAILURES = ("not back", "root gone", "dir gone", "unsaid", "wrong", "risen", "silent", "survey", "cat", "left", "needless")
-COLUMNS = ("cases", "live", "links", "kept", "moved", "untouched", "root", "dir", "back", "told", "unseen", "alarm", *FAILURES)
+COLUMNS = ("cases", "live", "links", "kept", "moved", "untouched", "root", "dir", "back", "told", "unseen", "doubted", "alarm", *FAILURES)
 
 
 class Back(NamedTuple):
@@ -289,9 +289,10 @@ class Judge:
 
     @property
     def has_bitmap(self) -> bool:
-        """The bitmap is valid, right and whole."""
-        v = self.history.volume
-        return self.history.state in ("valid", "foreign") and not self.damaged.touched & {v.root, *v.pages, *v.maps}
+        """The bitmap is valid, right and whole, and so is the root in what it says of it."""
+        v, image = self.history.volume, self.damaged.image
+        is_told = v.root not in self.damaged.touched or sealed(image, v.root) and not any(self.differs(v.root, i) for i in (0, 127, *range(78, 105)))
+        return self.history.state in ("valid", "foreign") and is_told and not self.damaged.touched & {*v.pages, *v.maps}
 
     def judge_thing(self, path: Path, thing: Thing) -> None:
         kind, back, now = self.whole_kind(thing), self.answer.things.get(path), self.place.get(path)
@@ -299,6 +300,7 @@ class Judge:
         self.counts.update(["live", kind] if kind else ["live"])
         if path not in self.amiss:
             self.counts.update(kept=1, back=kind is not None, unseen=back is not None and back.content != thing.content)
+            self.counts["doubted"] += kind == "untouched" and path in self.lines.here
             return
         if now is not None:
             self.counts.update(moved=1, back=kind is not None)
@@ -363,7 +365,8 @@ class Judge:
         for h in self.damaged.touched:
             if 512 * h < len(image) and (sealed(image, h) or not by_sum) and word(image, h, 0) == 2:
                 for i in (i for i in (*range(6, 78), 124) if word(image, h, i) != word(was, h, i)):
-                    lies |= {self.home_in(each, word(each, h, i)) for each in (image, was) if is_header(each, word(each, h, i))}
+                    there = (image, was) if by_sum else (image,)
+                    lies |= {self.home_in(each, word(each, h, i)) for each in there if is_header(each, word(each, h, i))}
         return lies
 
     def home_in(self, image: bytes, b: int) -> Tuple[int, int]:
@@ -427,12 +430,22 @@ class Judge:
             self.counts["unseen"] += 1
         elif not said and not ghosts and back.content is not None:
             self.fail("wrong", f"{path} was never there")
+        elif self.is_made_over(path, back):
+            self.fail("risen", f"{path} was made in the place of what is back")
         elif is_told:
             self.counts["told"] += 1
         elif any(map(self.let_off, ghosts)):
             self.counts["unseen"] += 1
         else:
             self.fail("risen", f"{path} was {'deleted' if ghosts or said else 'made'}")
+
+    def is_made_over(self, path: Path, back: Back) -> bool:
+        """A directory was made in the place of a block of what is whole, and back as well."""
+        number = path[-1][5:] if path[-1].startswith(b"lost-") and path[-1][5:].isdigit() else b"0"
+        owner = self.history.owner.get(int(number)) if back.content is None else None
+        if owner is None or owner in self.amiss and owner not in self.place:
+            return False
+        return bool(self.whole_kind(self.history.live[owner]))
 
     def let_off(self, ghost: Ghost) -> bool:
         """Let off: a file that a foreign program removed, whose header it left in use, without data that is free; and what a chain that

@@ -425,6 +425,16 @@ def invents_file(truth: Truth) -> Optional[Answer]:
     return truth.with_line(told("found again", path, header), added={path: Back(b"never there", b"", 0, (0, 0, 0))})
 
 
+def makes_directory(truth: Truth) -> Optional[Answer]:
+    """A directory is made, with a line of its own, in the place of the header of a file that is whole."""
+    path = truth.whole(lambda thing: not thing.is_dir)
+    if not path:
+        return None
+    header = truth.history.live[path].header
+    made = (b"lost-%d" % header,)
+    return truth.with_line(told("made", made, header), added={made: Back(None, b"", 0, (0, 0, 0))})
+
+
 def hides_link(truth: Truth) -> Optional[Answer]:
     """A link is left out without its line."""
     some = [path for path, thing in truth.history.live.items() if thing.is_link and not truth.is_cut_off(path)]
@@ -504,7 +514,7 @@ MUTANTS: Tuple[Spoil, ...] = (
     refuses_all, gives_nothing, raises_all, garbles_all, doubts_directory, links_limbo, cuts_name, moves_entry, renames_elsewhere,
     renames_directory, swaps_bytes, one_byte, one_byte_doubted, longer_by_block, shorter_by_block, twice, swaps_dates, swaps_comments,
     other_protection, other_label, hides_losses, tells_another, tells_directory, tells_chain, tells_blocks, loses_damaged, found_elsewhere, zeros,
-    raises_one, raises_directory, spoils_deleted, invents_file, hides_link, spoils_kept, keeps_live, spoils_cat, spoils_left, hides_gaps, calls_sound, finds_nothing, alarms,
+    raises_one, raises_directory, spoils_deleted, invents_file, makes_directory, hides_link, spoils_kept, keeps_live, spoils_cat, spoils_left, hides_gaps, calls_sound, finds_nothing, alarms,
 )  # fmt: skip
 
 
