@@ -22,7 +22,8 @@ class Damaged(NamedTuple):
     kind: str
     told: str
     unread: Set[int] = set()
-    since: Tuple[Ghost, ...] = ()  # what was made and deleted again behind the truth
+    is_formatted: bool = False  # the damage is a quick format
+    since: Tuple[Ghost, ...] = ()  # what was made and deleted again behind it
 
 
 def in_role(role: str, history: History) -> List[int]:
@@ -300,7 +301,7 @@ def formatted(dice: random.Random, history: History) -> Damaged:
     image, v = bytes(later.volume.image), history.volume
     touched = {b for b in range(v.blocks) if image[512 * b : 512 * b + 512] != history.image[512 * b : 512 * b + 512]}
     kind = f"formatted{', written to' if later.volume.tree.children or later.volume.ghosts else ''}"
-    return Damaged(image, None, touched, kind, kind, set(), tuple(later.volume.ghosts))
+    return Damaged(image, None, touched, kind, kind, set(), True, tuple(later.volume.ghosts))
 
 
 # Sectors that were not read

@@ -94,6 +94,11 @@ class Lines:
             real = self.renamed.get(path[:k]) or self.headed.get(path[:k]) or ((*real, name) if known is None else known)
         return real
 
+    def has_header(self, path: Path) -> bool:
+        """An entry is called `lost-` and its block, which is the header of a line."""
+        number = path[-1][5:]
+        return path[-1].startswith(b"lost-") and number.isdigit() and int(number) in self.headers
+
     def says_where(self, path: Path, now: Path) -> bool:
         """A line names the new place of an entry; or that of a directory above which has another name, and below it the names are as they
         were."""
@@ -115,8 +120,8 @@ class Judge:
         self.failures: List[Tuple[str, str]] = []
         self.lines = Lines(history, answer)
         self.ghosts = (*history.volume.ghosts, *damaged.since)
-        self.relinked = set() if self.has_bitmap else self.chains_that_lie(True)
-        self.misled = set() if self.has_bitmap else self.chains_that_lie(False)
+        tells = self.has_bitmap or damaged.is_formatted
+        self.relinked, self.misled = (set() if tells else self.chains_that_lie(by_sum) for by_sum in (True, False))
         self.amiss = {path for path, thing in history.live.items() if not self.is_as_it_was(path, thing)}
         self.place = self.places()
         self.judge_root()
@@ -424,7 +429,7 @@ class Judge:
 
     def judge_extra(self, path: Path, back: Back) -> None:
         ghosts = [ghost for ghost in (*self.ghosts, *self.history.volume.limbo) if self.is_ghost(ghost, path, back)]
-        is_told = path in self.lines.here or self.is_kept_deleted(path)
+        is_told = path in self.lines.here or self.is_kept_deleted(path) or self.lines.has_header(path)
         said = [h for h in self.damaged.touched if name_at(self.damaged.image, h) == path[-1] and self.says(h, back)]
         if any(self.home_in(self.damaged.image, h) == self.home_of(h) for h in said):
             self.counts["unseen"] += 1

@@ -82,8 +82,8 @@ class Truth:
         touched, v = self.damaged.touched, self.history.volume
         for why, blocks in (("type", [0]), ("root", [v.root]), ("bitmap", [*v.pages, *v.maps])):
             yield from (Line(f"{why}: block {b}", None, None, range(b, b + 1)) for b in blocks if b in touched)
-        parents = [thing.parent for thing in self.history.live.values() if self.is_touched(thing)]
-        hit = {parent.path() for parent in parents if parent} | {path for path, thing in self.history.live.items() if thing.is_dir and self.is_touched(thing)}
+        hit_things = [(path, thing) for path, thing in self.history.live.items() if self.is_touched(thing)]
+        hit = {path[:-1] for path, _ in hit_things} | {path for path, thing in hit_things if thing.is_dir}
         for path in sorted(hit | ({()} if v.root in touched else set())):
             yield Line(f"lost: in {self.now[path]!r}", None, self.now[path])
 
@@ -183,11 +183,14 @@ def raises_all(truth: Truth) -> Optional[Answer]:
 
 def garbles_all(truth: Truth) -> Optional[Answer]:
     """All bytes are wrong, where the type is whole, the root is touched and files are few."""
-    files = [thing for thing in truth.history.live.values() if thing.content]
-    if truth.history.root not in truth.damaged.touched or 0 in truth.damaged.touched or len(files) >= 8 or not truth.whole(lambda thing: thing.content):
+    files, touched = [thing for thing in truth.history.live.values() if thing.content], truth.damaged.touched
+    if truth.history.root not in touched or 0 in touched or len(files) >= 8 or not truth.whole(lambda thing: thing.content):
         return None
-    things = {path: back._replace(content=bytes(c ^ 0x55 for c in back.content or b"") if back.content else back.content) for path, back in truth.answer.things.items()}
-    return truth.answer._replace(things=things)
+    return truth.answer._replace(things={path: garbled(back) for path, back in truth.answer.things.items()})
+
+
+def garbled(back: Back) -> Back:
+    return back._replace(content=bytes(c ^ 0x55 for c in back.content)) if back.content else back
 
 
 def doubts_directory(truth: Truth) -> Optional[Answer]:
@@ -518,6 +521,9 @@ MUTANTS: Tuple[Spoil, ...] = (
 )  # fmt: skip
 
 
+Tried = Tuple[int, List[Tuple[str, str]], Dict[str, int], Dict[str, int], List[str]]
+
+
 @functools.lru_cache(maxsize=4)
 def volume_of(seed: str, number: int) -> History:
     return lived(f"{seed} mutants", number)
@@ -531,7 +537,7 @@ def truth_of(seed: str, number: int, shares: int = 5) -> Truth:
     return Truth(subject, formatted(dice, subject) if number % shares == 1 else damage(dice, subject, ALL_FAULTS), dice)
 
 
-def tried(seed: str, number: int) -> Tuple[int, List[Tuple[str, str]], Counter[str], Counter[str], List[str]]:
+def tried(seed: str, number: int) -> Tried:
     """What came of a case: the truth's own failures; how many answers were spoilt in each way, and how many caught; what was not."""
     truth, spoilt, caught, missed = truth_of(seed, number), Counter(), Counter(), []  # type: ignore
     for mutant in MUTANTS:
@@ -546,7 +552,7 @@ def tried(seed: str, number: int) -> Tuple[int, List[Tuple[str, str]], Counter[s
     return number, truth.judge.failures, spoilt, caught, missed
 
 
-def report(cases: List[Tuple[int, List[Tuple[str, str]], Counter[str], Counter[str], List[str]]], examples: int) -> int:
+def report(cases: List[Tried], examples: int) -> int:
     """Prints the table, and answers the status."""
     spoilt, caught = (sum((case[i] for case in cases), Counter()) for i in (2, 3))  # type: ignore
     false = [f"case {case[0]}: {case[1][0][0]}: {case[1][0][1][:300]}" for case in cases if case[1]]

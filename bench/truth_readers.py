@@ -110,11 +110,14 @@ def commands(image: bytes, blocks: Optional[int], option: Optional[str] = None) 
     return Answer(things, lines, label, dates, has_findings, listed, has_deleted=option == "deleted")
 
 
-def definition(image: bytes, blocks: Optional[int], unread: Callable[[bytes], Set[int]] = lambda image: set()) -> Answer:
-    """By the definition of a rescue, in Python; without a survey."""
+def definition(
+    image: bytes, blocks: Optional[int], unread: Callable[[bytes], Set[int]] = lambda image: set(), option: Optional[str] = None
+) -> Answer:
+    """By the definition of a rescue, in Python; without a survey. Of the options it has `before-format`."""
+    from formatted import BeforeFormat
     from rescue import Rescue, words
 
-    got = Rescue(image, blocks, unread)
+    got = (BeforeFormat if option == "before-format" else Rescue)(image, blocks, unread)
     if got.refused:
         return Answer({}, [], b"", (), True, [], True)
     things = {node.path: Back(node.content, node.meta[0], node.meta[1], tuple(node.meta[2])) for node in got.added}
