@@ -170,10 +170,12 @@ class Judge:
 
     def differs(self, b: int, i: int) -> bool:
         """The word is no longer what was written."""
-        return b in self.damaged.touched and self.damaged.image[512 * b + 4 * i :][:4] != self.history.image[512 * b + 4 * i :][:4]
+        at = 512 * b + 4 * i
+        return b in self.damaged.touched and self.damaged.image[at : at + 4] != self.history.image[at : at + 4]
 
     def has_other_name(self, b: int) -> bool:
-        return b in self.damaged.touched and self.damaged.image[512 * b + 432 :][:31] != self.history.image[512 * b + 432 :][:31]
+        at = 512 * b + 432
+        return b in self.damaged.touched and self.damaged.image[at : at + 31] != self.history.image[at : at + 31]
 
     # What was there
 

@@ -96,7 +96,7 @@ class Volume:
 
     def filled(self, how: str) -> bytes:
         if how == "noise":
-            return self.dice.randbytes(512 * self.blocks)
+            return b"".join(self.dice.randbytes(512 * min(2048, self.blocks - b)) for b in range(0, self.blocks, 2048))
         if how == "zeros":
             return bytes(512 * self.blocks)
         return b"".join((0x444F5300 + i % 128).to_bytes(4, "big") for i in range(128)) * self.blocks
