@@ -8,7 +8,7 @@ from typing import Dict, Iterator, List, NamedTuple, Optional, Set, Tuple
 
 from truth_damage import Damaged
 from truth_histories import History
-from truth_volumes import DATA, DIR, PAGE_BITS, POINTERS, Date, Ghost, Path, Thing, slot
+from truth_volumes import DATA, DIR, FILE, PAGE_BITS, POINTERS, Date, Ghost, Path, Thing, slot
 
 KINDS_OF_WHOLE = {"untouched": "not back", "root": "root gone", "dir": "dir gone"}
 FAILURES = ("not back", "root gone", "dir gone", "unsaid", "wrong", "risen", "silent", "survey", "cat", "left", "needless")
@@ -214,12 +214,13 @@ class Judge:
         return thing.parent is not None and (thing.header in self.damaged.touched or self.is_below(thing.parent))
 
     def is_claimed(self, thing: Thing) -> bool:
-        """Let off: an FFS block that two tables with right sums name, of which one was made to lie."""
+        """Let off: an FFS block that the table of another file names as well, under a right sum, where a fault made it lie, and its date is not
+        the earlier one."""
         image, own = self.damaged.image, set(thing.datas)
         if self.history.volume.chunk == 488 or not own:
             return False
-        liars = [h for h in self.damaged.touched if sealed(image, h) and word(image, h, 0) == 2]
-        return any(word(image, h, i) in own for h in liars for i in (*range(6, 78), 124))
+        liars = [h for h in self.damaged.touched if is_header(image, h) and word(image, h, 127) == FILE and date_at(image, h) >= thing.date]
+        return any(word(image, h, i) in own for h in liars for i in range(6, 78))
 
     def is_kind_unknown(self) -> bool:
         """Let off: no type is stated any more, or another one, and one data block of a file says what the kind was, or none."""
@@ -282,9 +283,8 @@ class Judge:
         image, chunk, content = self.damaged.image, self.history.volume.chunk, back.content or b""
         if h not in self.damaged.touched or not sealed(image, h) or (word(image, h, 0), word(image, h, 1)) != (2, h):
             return False
-        date = tuple(word(image, h, i) for i in (105, 106, 107))
         comment = image[512 * h + 329 : 512 * h + 329 + min(image[512 * h + 328], 79)]
-        if back[1:] != (comment, word(image, h, 80), date) or (back.content is None) != (word(image, h, 127) == DIR):
+        if back[1:] != (comment, word(image, h, 80), date_at(image, h)) or (back.content is None) != (word(image, h, 127) == DIR):
             return False
         if back.content is not None and len(content) != word(image, h, 81):
             return False
@@ -539,6 +539,10 @@ def word(image: bytes, b: int, i: int) -> int:
 
 def ghost_names(ghost: Ghost) -> Tuple[bytes, ...]:
     return ghost.path[-1], b"lost-%d" % ghost.header, b"deleted-%d" % ghost.header
+
+
+def date_at(image: bytes, b: int) -> Date:
+    return word(image, b, 105), word(image, b, 106), word(image, b, 107)
 
 
 def is_header(image: bytes, b: int) -> bool:

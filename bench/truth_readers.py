@@ -90,7 +90,7 @@ def line_told(text: str) -> Line:
         old, _, new = rest.partition(": ")
         return Line(text, path_of(unspelled(old)), None, range(0), path_of(unspelled(new)))
     blocks = re.fullmatch(r"blocks? (\d+)(?: to (\d+))?", rest)
-    if why == "lost" and blocks:
+    if why in ("lost", "root", "bitmap") and blocks:
         return Line(text, None, None, range(int(blocks[1]), int(blocks[2] or blocks[1]) + 1))
     if why == "lost" and rest.startswith("in "):
         return Line(text, None, path_of(plain[3:-1]))
