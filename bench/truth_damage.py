@@ -4,10 +4,10 @@ from __future__ import annotations
 
 import random
 from struct import pack_into, unpack_from
-from typing import Callable, Dict, List, NamedTuple, Optional, Set, Tuple
+from typing import Callable, Dict, Iterable, List, NamedTuple, Optional, Set, Tuple
 
-from truth_histories import History
-from truth_volumes import SLOTS
+from truth_histories import OTHER_CYLINDERS, History
+from truth_volumes import SLOTS, Ghost
 
 Fault = Callable[[random.Random, History, bytearray], Set[int]]
 WEIGHTY = (0, 1, 4, 5, 77, 78, 79, 81, 108, 124, 125, 126, 127)
@@ -22,6 +22,8 @@ class Damaged(NamedTuple):
     kind: str
     told: str
     unread: Set[int] = set()
+    is_formatted: bool = False  # the damage is a quick format
+    since: Tuple[Ghost, ...] = ()  # what was made and deleted again behind it
 
 
 def in_role(role: str, history: History) -> List[int]:
@@ -32,10 +34,12 @@ def in_role(role: str, history: History) -> List[int]:
         "root": [v.root],
         "page": v.pages,
         "map": v.maps,
-        "dir": [thing.header for thing in things if thing.is_dir],
+        "dir": [thing.header for thing in things if thing.is_dir and not thing.is_link],
+        "link": [thing.header for thing in things if thing.is_link],
         "file": [thing.header for thing in things if not thing.is_dir],
         "ext": [b for thing in things for b in thing.exts],
         "data": [b for thing in things for b in thing.datas],
+        "cache": [b for thing in (v.tree, *things) for b in thing.caches],
     }
     return roles[role]
 
@@ -155,6 +159,59 @@ def typed_otherwise(dice: random.Random, history: History, image: bytearray) -> 
     return {0}
 
 
+def changed(history: History, image: bytearray, blocks: Iterable[int]) -> Set[int]:
+    """Those of some blocks that are no longer what was written."""
+    return {b for b in blocks if image[512 * b : 512 * b + 512] != history.image[512 * b : 512 * b + 512]}
+
+
+def stale(role: str) -> Fault:
+    """A block of a role was not written the last time: it is what it was at an earlier moment."""
+
+    def fault(dice: random.Random, history: History, image: bytearray) -> Set[int]:
+        blocks = in_role(role, history)
+        if not blocks or not history.older:
+            return set()
+        b, old = dice.choice(blocks), dice.choice(history.older)
+        image[512 * b : 512 * b + 512] = old[512 * b : 512 * b + 512]
+        return changed(history, image, [b])
+
+    return fault
+
+
+def some_run(dice: random.Random, history: History) -> range:
+    """Sectors one after the other, anywhere or from a block of a role on."""
+    some = in_role(dice.choice(["root", "page", "dir", "file", "ext", "data"]), history)
+    first = dice.choice(some) if some and dice.random() < 0.8 else dice.randrange(history.volume.blocks)
+    return range(first, min(history.volume.blocks, first + dice.choice([1, 2, 3, 5, 11, 22])))
+
+
+def shifted(dice: random.Random, history: History, image: bytearray) -> Set[int]:
+    """Each sector of a run holds what the one before it held, or the one behind it."""
+    run, by = some_run(dice, history), dice.choice([-1, 1])
+    for b in run:
+        from_there = min(max(b + by, 0), history.volume.blocks - 1)
+        image[512 * b : 512 * b + 512] = history.image[512 * from_there : 512 * from_there + 512]
+    return changed(history, image, run)
+
+
+def bytes_swapped(dice: random.Random, history: History, image: bytearray) -> Set[int]:
+    """The two bytes of each word of 16 bits are the other way round, in a run or in all of the image."""
+    run = some_run(dice, history) if dice.random() < 0.97 else range(history.volume.blocks)
+    for b in run:
+        block = image[512 * b : 512 * b + 512]
+        image[512 * b : 512 * b + 512 : 2], image[512 * b + 1 : 512 * b + 512 : 2] = block[1::2], block[::2]
+    return changed(history, image, run)
+
+
+def filler(dice: random.Random, history: History, image: bytearray) -> Set[int]:
+    """A dumping program left its filler where it could not read."""
+    run, content = some_run(dice, history), dice.choice(FILLERS)
+    for b in run:
+        image[512 * b : 512 * b + 512] = content
+    return changed(history, image, run)
+
+
+FILLERS = (bytes(512), b"\xf6" * 512, b"\xde\xad\xbe\xef" * 128, b"-=[BAD SECTOR]=-" * 32)
 FLAWS: Dict[str, Fault] = {
     f"{how}: {role}": a_flaw(how, role)
     for role in ("boot", "root", "page", "map", "dir", "file", "ext", "data")
@@ -170,6 +227,14 @@ FAULTS: Dict[str, Fault] = {
     "head": head_lost,
     "type": typed_otherwise,
 }
+MORE_FAULTS: Dict[str, Fault] = {
+    **{f"stale: {role}": stale(role) for role in ("root", "page", "dir", "file", "ext", "data")},
+    **{f"{how}: {role}": a_flaw(how, role) for role in ("cache", "link") for how in ("bit", "zeroed")},
+    "shifted": shifted,
+    "bytes swapped": bytes_swapped,
+    "filler": filler,
+}
+ALL_FAULTS = {**FAULTS, **MORE_FAULTS}
 
 
 def cut(dice: random.Random, damaged: Damaged, blocks: int) -> Damaged:
@@ -188,20 +253,28 @@ def longer(dice: random.Random, damaged: Damaged, blocks: int) -> Damaged:
     return Damaged(damaged.image + behind, None, damaged.touched, damaged.kind, f"{damaged.told}; {more} blocks behind it")
 
 
+def dumped(dice: random.Random, damaged: Damaged, blocks: int) -> Damaged:
+    """A floppy of 81 to 84 cylinders, read with another number of them, 80 to 84."""
+    held = dice.choice([many for many in (1760, *OTHER_CYLINDERS) if many != blocks])
+    behind = bytes(max(0, 512 * (held - blocks)))
+    image = damaged.image[: 512 * held] + behind
+    return Damaged(image, None, {*damaged.touched, *range(held, blocks)}, damaged.kind, f"{damaged.told}; {held} blocks were read")
+
+
 def one_fault(dice: random.Random, history: History, image: bytearray, names: List[str]) -> Tuple[str, Set[int]]:
     """A fault of the history that changes something."""
     for _ in range(20):
         name = dice.choice(names)
-        touched = FAULTS[name](dice, history, image)
+        touched = ALL_FAULTS[name](dice, history, image)
         if touched:
             return name, touched
     return "nothing", set()
 
 
-def damage(dice: random.Random, history: History) -> Damaged:
+def damage(dice: random.Random, history: History, faults: Optional[Dict[str, Fault]] = None) -> Damaged:
     """One fault, or two, or none; of the whole image, in some cases with its end cut or with tracks behind it."""
     image, share, blocks = bytearray(history.image), dice.random(), history.volume.blocks
-    names, kinds, touched = list(FAULTS), [], set()
+    names, kinds, touched = list(faults or FAULTS), [], set()
     ends = 0.0 if share < 0.03 else dice.random()
     for _ in range(0 if share < 0.03 else 1 if share < 0.6 or ends < 0.1 else 2):
         name, some = one_fault(dice, history, image, names)
@@ -210,6 +283,9 @@ def damage(dice: random.Random, history: History) -> Damaged:
     kind = f"nothing, {history.state}" if not kinds else kinds[0] if len(kinds) == 1 else f"{kinds[0]} + another"
     told = " + ".join(kinds) or "nothing"
     result = Damaged(bytes(image), None, touched, kind, told)
+    if faults and blocks in OTHER_CYLINDERS and dice.random() < 0.5:
+        whole = Damaged(history.image, None, set(), "other cylinders", "whole") if dice.random() < 0.5 else result._replace(kind="other cylinders + another")
+        return dumped(dice, whole, blocks)
     if ends < 0.05 and kinds:
         whole = Damaged(history.image, None, set(), "cut end", "whole") if dice.random() < 0.6 else result._replace(kind="cut end + another")
         return cut(dice, whole, blocks)
@@ -219,9 +295,16 @@ def damage(dice: random.Random, history: History) -> Damaged:
     return result
 
 
-# Sectors that were not read
+def formatted(dice: random.Random, history: History) -> Damaged:
+    """A quick format, which is a damage of what was there before."""
+    later = history.formatted_anew(dice)
+    image, v = bytes(later.volume.image), history.volume
+    touched = {b for b in range(v.blocks) if image[512 * b : 512 * b + 512] != history.image[512 * b : 512 * b + 512]}
+    kind = f"formatted{', written to' if later.volume.tree.children or later.volume.ghosts else ''}"
+    return Damaged(image, None, touched, kind, kind, set(), True, tuple(later.volume.ghosts))
 
-FILLERS = (bytes(512), b"\xf6" * 512, b"\xde\xad\xbe\xef" * 128, b"-=[BAD SECTOR]=-" * 32)
+
+# Sectors that were not read
 
 
 def unread_at(dice: random.Random, history: History, image: bytearray) -> Set[int]:

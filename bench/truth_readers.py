@@ -4,6 +4,7 @@ from __future__ import annotations
 
 import os
 import re
+import struct
 import subprocess
 import warnings
 from typing import Callable, Dict, List, Optional, Set, Tuple
@@ -35,6 +36,13 @@ def tree_of(image: bytes) -> Tuple[Dict[Path, Back], bytes, Tuple[Tuple[int, int
     return things, volume.raw_label, tuple(map(date_of, (volume.date, volume.altered, volume.created)))
 
 
+def found_tree(image: bytes) -> Tuple[Dict[Path, Back], bytes, Tuple[Tuple[int, int, int], ...]]:
+    """The same of a volume whose type the module does not read, by its survey: a rescue with `--keep-all` has directory caches."""
+    root = len(image) // 512 // 2 * 512
+    dates = tuple(struct.unpack_from(">3I", image, root + at) for at in (420, 472, 484))
+    return {each.path: each.back for each in survey_of(image, None)[1]}, image[root + 433 : root + 433 + image[root + 432]], dates  # type: ignore
+
+
 def line_of(left: LeftOut) -> Line:
     if left.directory is not None:
         return Line(str(left), None, path_of(left.raw_path))
@@ -59,47 +67,57 @@ def survey_of(image: bytes, blocks: Optional[int]) -> Tuple[bool, List[Listed]]:
     return any(finding.cause not in BEHIND_TYPE for finding in survey.findings), listed
 
 
-def programs(image: bytes, blocks: Optional[int]) -> Answer:
-    """By the library, which does what the programs do."""
+def programs(image: bytes, blocks: Optional[int], option: Optional[str] = None) -> Answer:
+    """By the library, which does what the programs do; of the options of a rescue it has `keep-type`."""
     has_findings, listed = survey_of(image, blocks)
     try:
-        new, left_out = rescue(image, blocks)
+        new, left_out = rescue(image, blocks, option == "keep-type")
     except adf.Refused:
         return Answer({}, [], b"", (), True, listed, True)
     things, label, dates = tree_of(new)
     return Answer(things, [line_of(each) for each in left_out], label, dates, has_findings, listed)
 
 
+def unspelled(text: str) -> bytes:
+    return re.sub(r"\\x([0-9a-f]{2})", lambda found: chr(int(found[1], 16)), text).encode("latin-1")
+
+
 def line_told(text: str) -> Line:
     """A line of `adf-survey rescue`, by its text alone."""
     why, _, rest = text.partition(": ")
-    plain = re.sub(r"\\x([0-9a-f]{2})", lambda found: chr(int(found[1], 16)), rest).encode("latin-1")
+    plain = unspelled(rest)
+    if why == "renamed":
+        old, _, new = rest.partition(": ")
+        return Line(text, path_of(unspelled(old)), None, range(0), path_of(unspelled(new)))
     blocks = re.fullmatch(r"blocks? (\d+)(?: to (\d+))?", rest)
-    if why == "lost" and blocks:
+    if why in ("lost", "root", "bitmap") and blocks:
         return Line(text, None, None, range(int(blocks[1]), int(blocks[2] or blocks[1]) + 1))
     if why == "lost" and rest.startswith("in "):
         return Line(text, None, path_of(plain[3:-1]))
     return Line(text, path_of(plain))
 
 
-def commands(image: bytes, blocks: Optional[int]) -> Answer:
+def commands(image: bytes, blocks: Optional[int], option: Optional[str] = None) -> Answer:
     """By the program that ADF_SURVEY names; its survey by the library."""
     has_findings, listed = survey_of(image, blocks)
-    words = [os.environ["ADF_SURVEY"], *([] if blocks is None else ["--blocks", str(blocks)]), "rescue"]
+    words = [os.environ["ADF_SURVEY"], *([] if blocks is None else ["--blocks", str(blocks)]), "rescue", *([f"--{option}"] if option else [])]
     done = subprocess.run(words, input=image, capture_output=True)
     lines = [line_told(line[len("adf-survey: ") :]) for line in done.stderr.decode().splitlines()]
     if not done.stdout:
         return Answer({}, [], b"", (), True, listed, True)
-    things, label, dates = tree_of(done.stdout)
+    things, label, dates = (found_tree if option == "keep-all" else tree_of)(done.stdout)
     assert done.returncode == bool(lines)
-    return Answer(things, lines, label, dates, has_findings, listed)
+    return Answer(things, lines, label, dates, has_findings, listed, has_deleted=option == "deleted")
 
 
-def definition(image: bytes, blocks: Optional[int], unread: Callable[[bytes], Set[int]] = lambda image: set()) -> Answer:
-    """By the definition of a rescue, in Python; without a survey."""
+def definition(
+    image: bytes, blocks: Optional[int], unread: Callable[[bytes], Set[int]] = lambda image: set(), option: Optional[str] = None
+) -> Answer:
+    """By the definition of a rescue, in Python; without a survey. Of the options it has `before-format`."""
+    from formatted import BeforeFormat
     from rescue import Rescue, words
 
-    got = Rescue(image, blocks, unread)
+    got = (BeforeFormat if option == "before-format" else Rescue)(image, blocks, unread)
     if got.refused:
         return Answer({}, [], b"", (), True, [], True)
     things = {node.path: Back(node.content, node.meta[0], node.meta[1], tuple(node.meta[2])) for node in got.added}

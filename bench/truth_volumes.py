@@ -8,7 +8,7 @@ from __future__ import annotations
 import mmap
 import random
 import sys
-from struct import pack_into, unpack_from
+from struct import pack, pack_into, unpack_from
 from typing import Dict, Iterator, List, Optional, Set, Tuple, Union
 
 DIR, FILE, SLOTS, POINTERS, PAGE_BITS, ROOT_PAGES, MAP_PAGES = 2, 2**32 - 3, 72, 72, 4064, 25, 127
@@ -34,7 +34,9 @@ def slot(name: bytes, international: bool) -> int:
 
 
 class Thing:
-    """A directory (its content is None) or a file, live or deleted, with its blocks."""
+    """A directory or a link (its content is None) or a file, live or deleted, with its blocks."""
+
+    is_link = False
 
     def __init__(self, name: bytes, parent: Optional[Thing], header: int, content: Optional[bytes] = None) -> None:
         self.name, self.parent, self.header, self.content = name, parent, header, content
@@ -61,6 +63,12 @@ class Thing:
             yield from child.below()
 
 
+class Link(Thing):
+    """A link to a thing, or a soft one, to a path."""
+
+    is_link = True
+
+
 class Ghost:
     """What was deleted: its path then, its bytes, and its blocks as they were in the image."""
 
@@ -81,12 +89,14 @@ class Volume:
         self.limbo: List[Ghost] = []
         self.clock, self.fit = 3000 + dice.randrange(3000), dice.choice(["rover", "first"])
         self.deletes, self.links = "amiga", "amiga"
+        self.journal: Optional[List[Tuple[int, bytes]]] = None
+        self.chained: List[int] = []  # how many blocks had been written when a chain was another one
         self.tree, self.kind = Thing(b"", None, self.root), kind
         self.format(kind)
 
     def filled(self, how: str) -> bytes:
         if how == "noise":
-            return self.dice.randbytes(512 * self.blocks)
+            return b"".join(self.dice.randbytes(512 * min(2048, self.blocks - b)) for b in range(0, self.blocks, 2048))
         if how == "zeros":
             return bytes(512 * self.blocks)
         return b"".join((0x444F5300 + i % 128).to_bytes(4, "big") for i in range(128)) * self.blocks
@@ -105,6 +115,17 @@ class Volume:
     def seal(self, b: int, i: int = 5) -> None:
         self.put(b, i, 0)
         self.put(b, i, -sum(unpack_from(">128I", self.image, 512 * b)) % 2**32)
+        self.written(b)
+
+    def written(self, b: int) -> None:
+        """The block goes to the disk now."""
+        if self.journal is not None:
+            self.journal.append((b, bytes(self.image[512 * b : 512 * b + 512])))
+
+    def has_chain(self) -> None:
+        """A chain is another one from this write on."""
+        if self.journal is not None:
+            self.chained.append(len(self.journal))
 
     def clear(self, b: int) -> None:
         self.image[512 * b : 512 * b + 512] = bytes(512)
@@ -171,6 +192,31 @@ class Volume:
             self.seal(b)
             self.put(thing.header, 126, b)
 
+    def record(self, thing: Thing) -> bytes:
+        """What a directory cache has of an entry, of an even length."""
+        kind = self.word(thing.header, 127)
+        dates = [word % 65536 for word in thing.date]
+        front = pack(">3I5HB", thing.header, len(thing.content or b""), thing.protection, 0, 0, *dates, kind % 256)
+        record = front + bytes([len(thing.name)]) + thing.name + bytes([len(thing.comment)]) + thing.comment
+        return record + bytes(len(record) % 2)
+
+    def fill_caches(self) -> None:
+        """The caches of each directory have a record of each of its entries."""
+        for thing in (self.tree, *(thing for thing in self.tree.below() if thing.is_dir)):
+            parts: List[List[bytes]] = [[]]
+            for record in map(self.record, thing.children.values()):
+                if sum(map(len, parts[-1])) + len(record) > 488:
+                    parts.append([])
+                parts[-1].append(record)
+            if len(parts) - len(thing.caches) > self.free():
+                continue
+            thing.caches += self.take(len(parts) - len(thing.caches))
+            for k, (part, b) in enumerate(zip(parts, thing.caches)):
+                past = thing.caches[k + 1] if k + 1 < len(parts) else 0
+                block = pack(">6I", CACHE, b, thing.header, len(part), past, 0) + b"".join(part)
+                self.image[512 * b : 512 * b + 512] = block.ljust(512, b"\0")
+                self.seal(b)
+
     def dates(self) -> Tuple[Date, ...]:
         """The dates of the root, of the last change and of the creation."""
         return tuple(tuple(self.word(self.root, i + k) for k in range(3)) for i in (105, 118, 121))  # type: ignore
@@ -219,6 +265,7 @@ class Volume:
         self.seal(thing.header)
         self.put(at, i, thing.header)
         self.seal(at)
+        self.has_chain()
         self.touch(thing.parent)
         thing.parent.children[upper(thing.name, self.international)] = thing
 
@@ -235,6 +282,7 @@ class Volume:
             at, i = self.word(at, i), 124
         self.put(at, i, self.word(thing.header, 124))
         self.seal(at)
+        self.has_chain()
         self.touch(thing.parent)
         del thing.parent.children[upper(thing.name, self.international)]
 
@@ -262,6 +310,22 @@ class Volume:
         thing = Thing(name, parent, self.take(1)[0])
         self.head(thing)
         self.add_cache(thing)
+        self.link(thing)
+        return thing
+
+    def make_link(self, parent: Thing, name: bytes, target: Optional[Thing], text: bytes) -> Thing:
+        """The newest hard link is the first one of its target, which is the original of all; a soft one has a path."""
+        thing = Link(name, parent, self.take(1)[0])
+        self.head(thing)
+        b = thing.header
+        self.put(b, 127, 3 if target is None else 4 if target.is_dir else 2**32 - 4)
+        if target is None:
+            self.image[512 * b + 24 : 512 * b + 24 + len(text)] = text
+        else:
+            self.put(b, 117, target.header)
+            self.put(b, 118, self.word(target.header, 118))
+            self.put(target.header, 118, b)
+            self.seal(target.header)
         self.link(thing)
         return thing
 
@@ -303,7 +367,7 @@ class Volume:
         self.put(thing.header, 4, thing.datas[0] if thing.datas else 0)
         for k in range(count):
             self.write_data(thing, k, content[self.chunk * k : self.chunk * (k + 1)])
-        for at in members:
+        for at in reversed(members):
             self.seal(at)
 
     def write_data(self, thing: Thing, k: int, piece: bytes) -> None:
@@ -315,6 +379,8 @@ class Volume:
         if self.chunk == 488:
             pack_into(">5I", self.image, 512 * d, DATA, thing.header, k + 1, len(piece), after)
             self.seal(d)
+        else:
+            self.written(d)
 
     def append(self, thing: Thing, more: bytes) -> None:
         thing.content = (thing.content or b"") + more
