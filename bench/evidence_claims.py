@@ -1,0 +1,172 @@
+"""What is claimed of a damaged volume: the things that exist, in which order, by which name, and what is amiss. The last part of
+bench/evidence.py."""
+
+from __future__ import annotations
+
+from typing import Dict, List, NamedTuple, Set, Tuple
+
+from evidence_files import Files
+from evidence_image import LINK_FILE, LINKS, NAME, SOFT, Bitmap, Image
+from evidence_reading import FFS, OFS, Kinds
+from evidence_walk import LOST, MADE, PERHAPS, REACHED, Orphans, Walk
+from truth_volumes import DIR, FILE, upper
+
+MOST_NAME, MOST_COMMENT = 30, 79
+
+
+class Claim(NamedTuple):
+    """A thing that exists: the block of its header (of a made directory, where that was), its directory (0 for the root, else one more than
+    the index of an earlier claim), its name, what it is, why it is claimed, and whether it is whole, so that it is given back; of a hard
+    link also the claim that it leads to (one more than its index; 0 if it is wrong)."""
+
+    head: int
+    directory: int
+    name: bytes
+    kind: int
+    why: int
+    is_given: bool
+    is_certain: bool
+    target: int
+
+
+class Amiss(NamedTuple):
+    """What is not as it was, or may not be: its cause, the claim (one more than its index) or the directory that it is about, and blocks."""
+
+    cause: str
+    claim: int
+    first: int
+    past: int
+
+
+class Claims:
+    """The claims on a volume that is read as one kind, with these letters, and everything that is amiss."""
+
+    def __init__(self, walk: Walk, kinds: Kinds, is_ffs: bool) -> None:
+        self.walk, self.kinds, self.image, self.bitmap = walk, kinds, walk.image, Bitmap(walk.image)
+        self.files = Files(walk.image, self.bitmap, is_ffs)
+        reached = len(walk.order)
+        self.orphans = Orphans(walk, self.bitmap, self.files)
+        self.is_freed = bytearray(self.image.blocks)  # reached, and the bitmap has a block of it free
+        for h in walk.order[1:reached]:
+            self.is_freed[h] = any(map(self.bitmap.is_free, self.orphans.own(h)))
+        self.files.settle(walk, self.is_freed)
+        self.is_given = bytearray(self.image.blocks)
+        for h in walk.order[1:]:
+            self.is_given[h] = self.may_be_given(h)
+        self.place_of = [0] * self.image.blocks  # of the root and of each header that is claimed
+        for i, h in enumerate(walk.order):
+            self.place_of[h] = i
+        self.names = Names(self)
+        self.all = [self.claim(h) for h in walk.order[1:]]
+        self.amiss: List[Amiss] = []
+        self.find_amiss()
+
+    def may_be_given(self, h: int) -> bool:
+        """A directory, or a whole file that, where nothing leads to it from the root, does not tell the other kind."""
+        if not self.walk.is_file(h):
+            return self.walk.is_dir(h)
+        other = OFS if self.files.is_ffs else FFS
+        return self.files.is_whole(self.walk, h) and not (self.walk.why[h] != REACHED and self.kinds.says(h) == other)
+
+    def claim(self, h: int) -> Claim:
+        kind = DIR if self.walk.is_dir(h) else self.walk.kind(h)
+        directory, why = self.place_of[self.walk.parent[h]], self.walk.why[h]
+        return Claim(h, directory, self.names.name[h], kind, why, self.is_given[h] != 0, self.is_certain(h), self.target(h, kind))
+
+    def target(self, h: int, kind: int) -> int:
+        """What a hard link leads to: the file or the directory whose header it names."""
+        r = self.image.word(h, 117)
+        if kind not in LINKS or kind == SOFT or not self.image.has(r) or not self.walk.why[r]:
+            return 0
+        is_right = self.walk.is_file(r) if kind == LINK_FILE else self.walk.is_dir(r)
+        return self.place_of[r] if is_right else 0
+
+    def is_certain(self, h: int) -> bool:
+        """Its sum is right, and it was not deleted by anything that is whole."""
+        why = self.walk.why[h]
+        is_live = why in (REACHED, MADE) or why == LOST and self.orphans.trusted and self.bitmap.is_used(h)
+        return self.walk.is_sound(h) and is_live and not self.is_freed[h]
+
+    # What is amiss
+
+    def find_amiss(self) -> None:
+        r = self.image.root
+        if not self.bitmap.has_root:
+            self.tell("root", 0, r, r + 1)
+        for page in self.bitmap.lost_pages():
+            self.tell("bitmap", 0, page, page + 1)
+        for p in sorted(p for p in self.walk.order if self.walk.broken[p] or self.walk.doubted[p]):
+            self.tell("lost in", self.place_of[p], p, p + 1)
+        for h in self.walk.order[1:]:
+            self.tell_of(h)
+        self.tell_lost_blocks()
+
+    def tell(self, cause: str, claim: int, first: int, past: int) -> None:
+        self.amiss.append(Amiss(cause, claim, first, past))
+
+    def tell_of(self, h: int) -> None:
+        """What is amiss with a header that is claimed."""
+        cause = self.cause(h)
+        if cause:
+            self.tell(cause, self.place_of[h], h, h + 1)
+
+    def cause(self, h: int) -> str:
+        if not self.is_given[h]:
+            return "link" if self.walk.kind(h) in LINKS else "damaged"
+        if not self.walk.is_sound(h) or self.is_odd(h):
+            return "in doubt"
+        told = {MADE: "made", PERHAPS: "perhaps deleted", LOST: "found again"}
+        return told.get(self.walk.why[h], "owned free" if self.is_freed[h] else "")
+
+    def is_odd(self, h: int) -> bool:
+        """It is reached, but not in its slot, not by its own name, or its data blocks do not lead to each other or are its by a date alone."""
+        is_torn = self.files.is_file[h] and (not self.files.is_joined(h) or self.files.is_ffs and self.files.disputed[h])
+        return self.walk.why[h] == REACHED and bool(self.walk.misplaced[h] or self.names.is_other[h] or is_torn)
+
+    def tell_lost_blocks(self) -> None:
+        """Runs of blocks in use that nothing has."""
+        first = 0
+        for b in range(2, self.image.blocks + 1):
+            is_lost = b < self.image.blocks and self.is_lost(b)
+            if is_lost and not first:
+                first = b
+            if not is_lost and first:
+                self.tell("lost", 0, first, b)
+                first = 0
+
+    def is_lost(self, b: int) -> bool:
+        is_had = self.files.is_part[b] or self.files.claims[b] or self.image.is_cache(b)
+        return self.orphans.trusted and self.bitmap.has_root and not is_had and self.bitmap.is_used(b)
+
+
+class Names:
+    """The name of each claim: its own, or another one where that cannot be or another claim has it."""
+
+    def __init__(self, claims: Claims) -> None:
+        self.walk, self.image, self.claims = claims.walk, claims.image, claims
+        self.name: Dict[int, bytes] = {}
+        self.is_other = bytearray(self.image.blocks)
+        self.used: Set[Tuple[int, bytes]] = set()
+        for h in sorted(self.walk.order[1:], key=self.precedence):
+            self.place(h)
+
+    def precedence(self, h: int) -> Tuple[int, ...]:
+        """What is given back comes first, by its rank; then what is in its own slot and has no block free; then the latest."""
+        rank = self.claims.files.rank(self.walk, h)
+        return 1 - self.claims.is_given[h], rank, self.walk.misplaced[h], self.claims.is_freed[h], -self.image.moment(h)
+
+    def place(self, h: int) -> None:
+        """The first of its names that no other has; what is not given back takes none from others."""
+        names = [name for name in (self.said(h), b"lost-%d" % h) if 1 <= len(name) <= MOST_NAME and b"/" not in name and b":" not in name]
+        free = [name for name in names if self.key(h, name) not in self.used]
+        self.name[h] = free[0] if free else b"lost-%d" % h
+        self.is_other[h] = self.name[h] != self.said(h)
+        if self.claims.is_given[h]:
+            self.used.add(self.key(h, self.name[h]))
+
+    def said(self, h: int) -> bytes:
+        """The name that its header says."""
+        return self.image.text(h, NAME, 79) if self.walk.why[h] != MADE else b"lost-%d" % h
+
+    def key(self, h: int, name: bytes) -> Tuple[int, bytes]:
+        return self.walk.parent[h], upper(name, False)
