@@ -5,8 +5,7 @@ from __future__ import annotations
 from typing import Iterator, List, Tuple
 
 from evidence_claims import Amiss, Claim, Claims
-from evidence_image import COMMENT
-from evidence_walk import MADE
+from evidence_image import COMMENT, MADE
 from truth_judge import Answer, Back, Line, Listed
 from truth_volumes import Path
 

@@ -6,10 +6,10 @@ from __future__ import annotations
 from typing import Dict, List, NamedTuple, Set, Tuple
 
 from evidence_files import Files
-from evidence_image import LINK_FILE, LINKS, NAME, SOFT, Bitmap, Image
+from evidence_image import LINK_FILE, LINKS, LOST, MADE, NAME, PERHAPS, REACHED, SOFT, Bitmap
 from evidence_reading import FFS, OFS, Kinds
-from evidence_walk import LOST, MADE, PERHAPS, REACHED, Orphans, Walk
-from truth_volumes import DIR, FILE, upper
+from evidence_walk import Orphans, Walk
+from truth_volumes import DIR, upper
 
 MOST_NAME, MOST_COMMENT = 30, 79
 

@@ -4,15 +4,14 @@ from __future__ import annotations
 
 from typing import TYPE_CHECKING, Iterator, List
 
-from evidence_image import Bitmap, Image
+from evidence_image import MADE, Bitmap, Image
 from truth_volumes import POINTERS
 
 if TYPE_CHECKING:
     from evidence_walk import Walk
 
-MADE = 2  # as in evidence_walk
 DOUBTED = 3
-RANKS = (DOUBTED, 0, 0, 1, 2)  # by why a header is given back: reached, made, lost, perhaps deleted
+RANKS = (DOUBTED, 0, 0, 1, 2)  # by why a header is claimed
 
 
 class Files:
