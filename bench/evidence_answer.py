@@ -52,7 +52,7 @@ class Telling:
         gaps: List[range] = []
         for k in range(1, -(-size // chunk) + 1):
             many = min(chunk, size - chunk * (k - 1))
-            held = self.held(h, k, many)
+            held = min(many, self.claims.held(h, k))
             start = 512 * self.files.names(h, k) + 512 - chunk
             out += self.image.bytes[start : start + held]
             if held < many:
@@ -60,12 +60,6 @@ class Telling:
                 out += bytes(many - held)
                 gaps.append(range(first, len(out)))
         return bytes(out), gaps
-
-    def held(self, h: int, k: int, many: int) -> int:
-        """How many of so many bytes are in data block k: an OFS one says itself how many it has."""
-        if k > self.files.told[h] or not self.files.is_good(h, k):
-            return 0
-        return many if self.files.is_ffs else min(many, self.image.word(self.files.names(h, k), 3))
 
     def line(self, amiss: Amiss) -> Line:
         blocks = range(amiss.first, amiss.past)

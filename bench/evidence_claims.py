@@ -43,7 +43,7 @@ class Claims:
 
     def __init__(self, walk: Walk, kinds: Kinds, is_ffs: bool) -> None:
         self.walk, self.kinds, self.image, self.bitmap = walk, kinds, walk.image, Bitmap(walk.image)
-        self.files = Files(walk.image, self.bitmap, is_ffs)
+        self.files = Files(walk.image, self.bitmap, walk.is_head, is_ffs)
         reached = len(walk.order)
         self.orphans = Orphans(walk, self.bitmap, self.files)
         self.is_freed = bytearray(self.image.blocks)  # reached, and the bitmap has a block of it free
@@ -86,6 +86,14 @@ class Claims:
         why = self.walk.why[h]
         is_live = why in (REACHED, MADE) or why == LOST and self.orphans.trusted and self.bitmap.is_used(h)
         return self.walk.is_sound(h) and is_live and not self.is_freed[h]
+
+    def held(self, h: int, k: int) -> int:
+        """How many bytes of a file are in its data block k: what an OFS one says itself counts only where the sum of the header is wrong."""
+        if k > self.files.told[h] or not self.files.is_good(h, k):
+            return 0
+        if self.files.is_ffs or self.walk.is_sound(h):
+            return self.files.size_of(h, k)
+        return self.image.word(self.files.names(h, k), 3)
 
     # What is amiss
 

@@ -17,8 +17,8 @@ RANKS = (DOUBTED, 0, 0, 1, 2)  # by why a header is claimed
 class Files:
     """The extension blocks of each file, and the owners of data blocks: arrays with one value a block."""
 
-    def __init__(self, image: Image, bitmap: Bitmap, is_ffs: bool) -> None:
-        self.image, self.bitmap = image, bitmap
+    def __init__(self, image: Image, bitmap: Bitmap, is_head: bytearray, is_ffs: bool) -> None:
+        self.image, self.bitmap, self.is_head = image, bitmap, is_head
         self.is_ffs, self.chunk = is_ffs, 512 if is_ffs else 488
         self.exts: List[int] = []  # of all files, one behind the other
         self.first_ext, self.many_exts = [0] * image.blocks, [0] * image.blocks
@@ -98,12 +98,13 @@ class Files:
         return RANKS[walk.why[h]] if walk.is_sound(h) else DOUBTED
 
     def firm(self, walk: Walk) -> bytearray:
-        """The blocks of what is reached: those that parts are in, and the data that files with right sums claim."""
+        """The blocks of what is reached: those that parts are in, and the data that files with right sums claim and that agrees."""
         firm = bytearray(self.is_part)
         for h in walk.order[1:]:
             if walk.is_file(h) and self.rank(walk, h) == 0:
-                for d in self.apart(h):
-                    firm[d] = 1
+                for k in range(1, self.told[h] + 1):
+                    if self.is_agreed(h, k):
+                        firm[self.names(h, k)] = 1
         return firm
 
     def latest(self, walk: Walk) -> List[int]:
@@ -155,22 +156,29 @@ class Files:
 
     # What is whole
 
-    def is_good(self, h: int, k: int) -> bool:
-        """The block that the table names for data block k is the file's own."""
+    def is_agreed(self, h: int, k: int) -> bool:
+        """The block that the table names for data block k is held and may be that: on OFS it says so, on FFS it is no sound header."""
         d = self.names(h, k)
         if not self.image.has(d) or not self.image.is_held[d]:
             return False
-        if not self.is_ffs:
-            return self.image.is_data(d, h, k) and self.image.word(d, 3) == self.size_of(h, k)
-        return self.owner[d] == h and not self.is_part[d]
+        return not self.is_head[d] if self.is_ffs else self.image.is_data(d, h, k)
+
+    def is_good(self, h: int, k: int) -> bool:
+        """The block that the table names for data block k is the file's own."""
+        d = self.names(h, k)
+        return self.is_agreed(h, k) and (not self.is_ffs or self.owner[d] == h and not self.is_part[d])
 
     def size_of(self, h: int, k: int) -> int:
         """How many bytes of the file are in its data block k."""
         return min(self.chunk, self.image.word(h, 81) - self.chunk * (k - 1))
 
     def is_joined(self, h: int) -> bool:
-        """OFS: each data block leads to the next one of the table."""
-        return self.is_ffs or all(self.image.word(self.names(h, k), 4) == self.names(h, k + 1) for k in range(1, self.told[h] + 1))
+        """OFS: each data block leads to the next one of the table, and says how many bytes of the file it has."""
+        return self.is_ffs or all(self.is_next_right(h, k) for k in range(1, self.told[h] + 1))
+
+    def is_next_right(self, h: int, k: int) -> bool:
+        size, following = self.image.words(self.names(h, k))[3:5]
+        return (size, following) == (self.size_of(h, k), self.names(h, k + 1))
 
     def is_whole(self, walk: Walk, h: int) -> bool:
         """Each block of the file is its own, and its header's sum is right."""
