@@ -42,6 +42,9 @@ class Telling:
 
     def back(self, claim: Claim, content: object) -> Back:
         h = claim.head
+        caches = self.claims.orphans.caches
+        if claim.why == MADE and caches.record[h]:
+            return Back(None, caches.comment(h), caches.protection(h), caches.date(h))
         if claim.why == MADE:
             return Back(None, b"", 0, (0, 0, 0))
         return Back(content, self.image.text(h, COMMENT, 79), self.image.word(h, 80), self.image.date(h))  # type: ignore
@@ -66,6 +69,9 @@ class Telling:
         path = self.paths[amiss.claim]
         if amiss.cause == "lost in":
             return Line(f"lost: in {spelled(path)}/", None, path)
+        if amiss.cause == "renamed":
+            old = self.claims.names.said(self.claims.all[amiss.claim - 1].head)
+            return Line(f"renamed: {spelled((*path[:-1], old))}: {spelled(path)}", path, None, blocks)
         if amiss.claim:
             return Line(f"{amiss.cause}: {spelled(path)}", path, None, blocks)
         if amiss.past - amiss.first == 1:

@@ -6,7 +6,7 @@ from __future__ import annotations
 from typing import Dict, List, NamedTuple, Set, Tuple
 
 from evidence_files import Files
-from evidence_image import LINK_FILE, LINKS, LOST, MADE, NAME, PERHAPS, REACHED, SOFT, Bitmap
+from evidence_image import COMMENT, LINK_FILE, LINKS, LOST, MADE, NAME, PERHAPS, REACHED, SOFT, Bitmap
 from evidence_reading import FFS, OFS, Kinds
 from evidence_walk import Orphans, Walk
 from truth_volumes import DIR, upper
@@ -81,6 +81,11 @@ class Claims:
         is_right = self.walk.is_file(r) if kind == LINK_FILE else self.walk.is_dir(r)
         return self.place_of[r] if is_right else 0
 
+    def is_wrong_link(self, h: int) -> bool:
+        """A hard link that leads to nothing of its kind, or a link with a wrong sum."""
+        kind = self.walk.kind(h)
+        return not self.walk.is_sound(h) or kind != SOFT and self.target(h, kind) == 0
+
     def is_certain(self, h: int) -> bool:
         """Its sum is right, and it was not deleted by anything that is whole."""
         why = self.walk.why[h]
@@ -101,6 +106,8 @@ class Claims:
         r = self.image.root
         if not self.bitmap.has_root:
             self.tell("root", 0, r, r + 1)
+        if self.bitmap.is_like_root and self.image.bytes[512 * r + NAME] > MOST_NAME:
+            self.tell("label cut", 0, r, r + 1)
         for page in self.bitmap.lost_pages():
             self.tell("bitmap", 0, page, page + 1)
         for p in sorted(p for p in self.walk.order if self.walk.broken[p] or self.walk.doubted[p]):
@@ -117,19 +124,23 @@ class Claims:
         cause = self.cause(h)
         if cause:
             self.tell(cause, self.place_of[h], h, h + 1)
+        if self.is_given[h] and self.names.is_other[h]:
+            self.tell("renamed", self.place_of[h], h, h + 1)
+        if self.is_given[h] and self.walk.why[h] != MADE and self.image.bytes[512 * h + COMMENT] > MOST_COMMENT:
+            self.tell("comment cut", self.place_of[h], h, h + 1)
 
     def cause(self, h: int) -> str:
         if not self.is_given[h]:
-            return "link" if self.walk.kind(h) in LINKS else "damaged"
+            return "link" if self.walk.kind(h) in LINKS and not self.is_wrong_link(h) else "damaged"
         if not self.walk.is_sound(h) or self.is_odd(h):
             return "in doubt"
         told = {MADE: "made", PERHAPS: "perhaps deleted", LOST: "found again"}
         return told.get(self.walk.why[h], "owned free" if self.is_freed[h] else "")
 
     def is_odd(self, h: int) -> bool:
-        """It is reached, but not in its slot, not by its own name, or its data blocks do not lead to each other or are its by a date alone."""
+        """It is reached, but not in its slot, or its data blocks do not lead to each other or are its by a date alone."""
         is_torn = self.files.is_file[h] and (not self.files.is_joined(h) or self.files.is_ffs and self.files.disputed[h])
-        return self.walk.why[h] == REACHED and bool(self.walk.misplaced[h] or self.names.is_other[h] or is_torn)
+        return self.walk.why[h] == REACHED and bool(self.walk.misplaced[h] or is_torn)
 
     def tell_lost_blocks(self) -> None:
         """Runs of blocks in use that nothing has."""
@@ -165,16 +176,25 @@ class Names:
 
     def place(self, h: int) -> None:
         """The first of its names that no other has; what is not given back takes none from others."""
-        names = [name for name in (self.said(h), b"lost-%d" % h) if 1 <= len(name) <= MOST_NAME and b"/" not in name and b":" not in name]
-        free = [name for name in names if self.key(h, name) not in self.used]
-        self.name[h] = free[0] if free else b"lost-%d" % h
-        self.is_other[h] = self.name[h] != self.said(h)
+        name, number = self.said(h), 0
+        while not is_name(name) or self.key(h, name) in self.used:
+            name = b"lost-%d" % h if number == 0 else b"lost-%d-%d" % (h, number)
+            number += 1
+        self.name[h] = name
+        self.is_other[h] = name != self.said(h)
         if self.claims.is_given[h]:
-            self.used.add(self.key(h, self.name[h]))
+            self.used.add(self.key(h, name))
 
     def said(self, h: int) -> bytes:
-        """The name that its header says."""
-        return self.image.text(h, NAME, 79) if self.walk.why[h] != MADE else b"lost-%d" % h
+        """The name that its header says, or of a made directory the record of a cache."""
+        if self.walk.why[h] != MADE:
+            return self.image.text(h, NAME, 79)
+        return self.claims.orphans.caches.name(h) if self.claims.orphans.caches.record[h] else b"lost-%d" % h
 
     def key(self, h: int, name: bytes) -> Tuple[int, bytes]:
-        return self.walk.parent[h], upper(name, False)
+        return self.walk.parent[h], upper(name, self.walk.international)
+
+
+def is_name(name: bytes) -> bool:
+    """The format of a new volume has such names."""
+    return 1 <= len(name) <= MOST_NAME and b"/" not in name and b":" not in name
