@@ -23,8 +23,8 @@ class Telling:
         for claim in claims.all:
             self.paths.append((*self.paths[claim.directory], claim.name))
 
-    def answer(self, front: List[Amiss]) -> Answer:
-        lines = [*map(self.line, front), *map(self.line, self.claims.amiss)]
+    def answer(self) -> Answer:
+        lines = [self.line(amiss) for amiss in self.claims.amiss]
         listed = list(self.listed())
         things = {each.path: each.back for each, claim in zip(listed, self.claims.all) if claim.is_given}
         r, has_words = self.image.root, self.claims.bitmap.is_like_root
@@ -74,6 +74,8 @@ class Telling:
             return Line(f"renamed: {spelled((*path[:-1], old))}: {spelled(path)}", path, None, blocks)
         if amiss.claim:
             return Line(f"{amiss.cause}: {spelled(path)}", path, None, blocks)
+        if amiss.cause == "length":
+            return Line(f"blocks {self.image.blocks}", None, None, blocks)
         if amiss.past - amiss.first == 1:
             return Line(f"{amiss.cause}: block {amiss.first}", None, None, blocks)
         return Line(f"{amiss.cause}: blocks {amiss.first} to {amiss.past - 1}", None, None, blocks)

@@ -153,9 +153,15 @@ class Claims:
                 self.tell("lost", 0, first, b)
                 first = 0
 
+    def is_had(self, b: int) -> bool:
+        return bool(self.files.is_part[b] or self.files.claims[b] or self.image.is_cache(b))
+
     def is_lost(self, b: int) -> bool:
-        is_had = self.files.is_part[b] or self.files.claims[b] or self.image.is_cache(b)
-        return self.orphans.trusted and self.bitmap.has_root and not is_had and self.bitmap.is_used(b)
+        return self.orphans.trusted and self.bitmap.has_root and not self.is_had(b) and self.bitmap.is_used(b)
+
+    def is_spare(self, b: int) -> bool:
+        """Nothing has the block, and a trusted bitmap has it free."""
+        return self.orphans.trusted and not self.is_had(b) and self.bitmap.is_free(b)
 
 
 class Names:

@@ -2,7 +2,7 @@
 
 from __future__ import annotations
 
-from typing import List, NamedTuple
+from typing import NamedTuple
 
 from evidence_claims import Claims
 from evidence_image import LINKS, NAME, SOFT

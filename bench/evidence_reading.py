@@ -4,12 +4,13 @@ from __future__ import annotations
 
 from typing import List, NamedTuple, Optional, Tuple
 
-from evidence_image import NAME, Image
+from evidence_image import LONG_NAME, NAME, Image
 from evidence_walk import Walk
 from truth_volumes import DIR, FILE, POINTERS, VALID, slot
 
 USUAL = tuple(many * tracks for many in (22, 44) for tracks in range(80, 85))
 FLOPPIES = (1760, 3520)
+LONG_TYPES, MOST_LONG = (6, 7), 107
 NEWEST = 5  # so many files are asked for the kind where none is reached
 
 
@@ -114,6 +115,15 @@ class Letters:
     def __init__(self, image: Image) -> None:
         self.image = image
         self.plain = self.international = 0
+        self.is_below_root = True
+        self.short = self.long = 0  # names where types 0 to 5 have them, and where types 6 and 7 have long ones
+
+    def count_all(self) -> None:
+        """From the root on; if no header is reached, in all sound directories."""
+        self.count([self.image.root])
+        if not self.plain and not self.international:
+            self.is_below_root = False
+            self.count([b for b in range(2, self.image.blocks) if self.image.is_head(b) and self.image.word(b, 127) == DIR])
 
     def count(self, directories: List[int]) -> None:
         """In these directories and in those below."""
@@ -136,16 +146,21 @@ class Letters:
         plain, international = slot(name, False), slot(name, True)
         self.plain += plain != international and plain == s
         self.international += plain != international and international == s
+        is_short, is_long = s in (plain, international), slot(self.image.text(b, LONG_NAME, MOST_LONG), True) == s
+        self.short += is_short and not is_long
+        self.long += is_long and not is_short
 
 
-def is_international(image: Image, stated: bool) -> bool:
+def is_long(letters: Letters, stated: int) -> bool:
+    """Names are long: the type says so, and no more headers say the contrary; or more headers say so."""
+    return letters.long > letters.short or stated in LONG_TYPES and letters.long == letters.short
+
+
+def is_international(letters: Letters, stated: bool) -> bool:
     """The stated letters, unless more names below the root stand where they belong by the others; if none below the root tells, all names
     in sound directories must tell the others."""
-    letters = Letters(image)
-    letters.count([image.root])
-    if letters.plain or letters.international:
+    if letters.is_below_root:
         return letters.international > letters.plain or stated and letters.international == letters.plain
-    letters.count([b for b in range(2, image.blocks) if image.is_head(b) and image.word(b, 127) == DIR])
     if stated:
         return not (letters.plain and not letters.international)
     return letters.international > 0 and letters.plain == 0
