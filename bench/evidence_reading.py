@@ -146,7 +146,8 @@ class Letters:
         plain, international = slot(name, False), slot(name, True)
         self.plain += plain != international and plain == s
         self.international += plain != international and international == s
-        is_short, is_long = s in (plain, international), slot(self.image.text(b, LONG_NAME, MOST_LONG), True) == s
+        long = self.image.text(b, LONG_NAME, MOST_LONG)
+        is_short, is_long = s in (plain, international), long != b"" and slot(long, True) == s
         self.short += is_short and not is_long
         self.long += is_long and not is_short
 
