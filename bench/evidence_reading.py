@@ -198,6 +198,10 @@ class Kinds:
                 self.is_counted[at] = 1
         return count
 
+    def is_ofs(self, h: int) -> bool:
+        """A block that a header names says that it is an OFS one of that file."""
+        return any(self.says_ofs(h, k) for k in range(1, POINTERS + 1))
+
     def says_ofs(self, h: int, k: int) -> bool:
         return self.image.is_data(self.image.word(h, 77 - (k - 1)), h, k)
 
@@ -222,8 +226,8 @@ class Kinds:
 
 
 def is_ffs(walk: Walk, kinds: Kinds, stated: Optional[int]) -> bool:
-    """The kind that is stated, unless more of the files that are reached tell the other. OFS gives way too if no block of reached files says
-    OFS, and two or more are not filled."""
+    """The kind that is stated, unless more of the files that are reached tell the other. OFS gives way too if two or more blocks of reached
+    files are not filled, and none says OFS, nor one of a file that is later than a reached one."""
     full = [h for h in walk.heads if walk.kind(h) == FILE and walk.image.word(h, 81)]
     reached = [h for h in full if walk.why[h]]
     said = [kinds.says(h) for h in reached]
@@ -232,7 +236,8 @@ def is_ffs(walk: Walk, kinds: Kinds, stated: Optional[int]) -> bool:
         return ffs > ofs or ffs == ofs and stated != OFS
     spoken = sum(len(kinds.speaking(h)) for h in reached)
     if reached and (stated is not None or spoken >= 2):
-        return stated == FFS or spoken >= 2 and not any(kinds.says_ofs(h, k) for h in reached for k in range(1, POINTERS + 1))
+        earliest = min(map(walk.image.moment, reached))
+        return stated == FFS or spoken >= 2 and not any(kinds.is_ofs(h) for h in full if walk.image.moment(h) >= earliest)
     return newest_tell(walk, kinds, full, stated)
 
 
@@ -244,17 +249,18 @@ def may_be_lost(walk: Walk, h: int) -> bool:
 
 
 def newest_tell(walk: Walk, kinds: Kinds, full: List[int], stated: Optional[int]) -> bool:
-    """Where no file is reached, the five newest files, and all that are as new, must all tell the kind that is not stated."""
+    """Where no file is reached: the kind of the newest file that tells one, or, where a kind is stated, the other one if the five newest
+    files, and all that are as new, tell it."""
     said: List[Tuple[int, int]] = []
     for h in full:
         if may_be_lost(walk, h) and (stated == OFS or kinds.speaks(h, 1)):
             kind = kinds.says(h)
-            if kind != NEITHER or stated != OFS:
+            if kind != NEITHER or stated == FFS:
                 said.append((walk.image.moment(h), kind))
     said.sort(reverse=True)
-    told = [kind for moment, kind in said if moment >= said[min(NEWEST, len(said)) - 1][0]]
     if stated is None:
-        return 2 * told.count(OFS) <= len(told)
+        return not said or said[0][1] == FFS
     other = OFS + FFS - stated
+    told = [kind for moment, kind in said if moment >= said[min(NEWEST, len(said)) - 1][0]]
     is_other = len(told) > 0 and all(kind == other for kind in told)
     return (other if is_other else stated) == FFS
