@@ -23,10 +23,12 @@ class Caches:
     def read(self, b: int) -> None:
         """Reads the records of a sound block of a cache."""
         at = 512 * b + FIRST_RECORD
-        for _ in range(min(self.image.word(b, 3), MOST_RECORDS)):
+        records = min(self.image.word(b, 3), MOST_RECORDS)
+        while records:
             past = self.past(at, 512 * b + 512)
             if past == 0:
                 return
+            records -= 1
             h = int.from_bytes(self.image.bytes[at : at + 4], "big")
             if self.image.has(h) and self.image.bytes[at + 22] == DIR:
                 self.record[h] = at

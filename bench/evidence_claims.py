@@ -41,8 +41,8 @@ class Amiss(NamedTuple):
 class Claims:
     """The claims on a volume that is read as one kind, with these letters, and everything that is amiss."""
 
-    def __init__(self, walk: Walk, kinds: Kinds, is_ffs: bool) -> None:
-        self.walk, self.kinds, self.image, self.bitmap = walk, kinds, walk.image, Bitmap(walk.image)
+    def __init__(self, walk: Walk, kinds: Kinds, bitmap: Bitmap, is_ffs: bool) -> None:
+        self.walk, self.kinds, self.image, self.bitmap = walk, kinds, walk.image, bitmap
         self.files = Files(walk.image, self.bitmap, walk.is_head, is_ffs)
         reached = len(walk.order)
         self.orphans = Orphans(walk, self.bitmap, self.files)

@@ -4,7 +4,7 @@ from __future__ import annotations
 
 from typing import List, NamedTuple, Optional, Tuple
 
-from evidence_image import LONG_NAME, NAME, Image
+from evidence_image import LONG_NAME, NAME, Bitmap, Image
 from evidence_walk import Walk
 from truth_volumes import DIR, FILE, POINTERS, VALID, slot
 
@@ -225,9 +225,9 @@ class Kinds:
         return OFS if 2 * sum(self.says_ofs(h, k) for k in speaking) > len(speaking) else NEITHER
 
 
-def is_ffs(walk: Walk, kinds: Kinds, stated: Optional[int]) -> bool:
+def is_ffs(walk: Walk, kinds: Kinds, bitmap: Bitmap, stated: Optional[int]) -> bool:
     """The kind that is stated, unless more of the files that are reached tell the other. OFS gives way too if two or more blocks of reached
-    files are not filled, and none says OFS, nor one of a file that is later than a reached one."""
+    files are not filled, and no block of the files of now says OFS."""
     full = [h for h in walk.heads if walk.kind(h) == FILE and walk.image.word(h, 81)]
     reached = [h for h in full if walk.why[h]]
     said = [kinds.says(h) for h in reached]
@@ -235,9 +235,9 @@ def is_ffs(walk: Walk, kinds: Kinds, stated: Optional[int]) -> bool:
     if ofs or ffs:
         return ffs > ofs or ffs == ofs and stated != OFS
     spoken = sum(len(kinds.speaking(h)) for h in reached)
+    earliest = min(map(walk.image.moment, reached), default=0)
     if reached and (stated is not None or spoken >= 2):
-        earliest = min(map(walk.image.moment, reached))
-        return stated == FFS or spoken >= 2 and not any(kinds.is_ofs(h) for h in full if walk.image.moment(h) >= earliest)
+        return stated == FFS or spoken >= 2 and not any(kinds.is_ofs(h) for h in full if is_of_now(walk, bitmap, h, earliest))
     return newest_tell(walk, kinds, full, stated)
 
 
@@ -246,6 +246,11 @@ def may_be_lost(walk: Walk, h: int) -> bool:
     p = walk.home[h]
     is_reached = p < walk.image.blocks and (p == walk.image.root or walk.why[p] != 0)
     return walk.why[h] != 0 or walk.is_open(h) or not is_reached
+
+
+def is_of_now(walk: Walk, bitmap: Bitmap, h: int, earliest: int) -> bool:
+    """A file is no older than the earliest one that is reached, or the way to it may be lost and the bitmap has it in use."""
+    return walk.image.moment(h) >= earliest or may_be_lost(walk, h) and bitmap.is_used(h)
 
 
 def newest_tell(walk: Walk, kinds: Kinds, full: List[int], stated: Optional[int]) -> bool:
