@@ -49,10 +49,9 @@ def date_of_root(image: Image, r: int) -> int:
 class Middles:
     """The blocks that the root may be in: the middle of the stated length, and those of the usual ones."""
 
-    def __init__(self, image: Image, stated: int) -> None:
-        self.image, self.stated = image, stated
-        lengths = [n for n in USUAL if n != stated and n // 2 < image.held and (n <= image.held or n in FLOPPIES)]
-        self.all = [stated // 2, *(n // 2 for n in lengths)]
+    def __init__(self, image: Image, stated: int, usual: List[int]) -> None:
+        self.image = image
+        self.all = [stated // 2, *(n // 2 for n in usual if n != stated and n // 2 < image.held)]
         self.naming = [0] * len(self.all)  # how many headers name the middle as their directory
         self.earliest, self.latest = [0] * len(self.all), [0] * len(self.all)  # the dates of these
         for b in range(2, image.held):
@@ -101,7 +100,11 @@ def length_of(given: bytes, blocks: Optional[int]) -> Length:
     if blocks is not None:
         return Length(blocks, [])
     stated = len(given) // 512 // 2 * 2
-    middles = Middles(Image(given, max(stated, 2 * max(USUAL))), stated)
+    image = Image(given, max(stated, 2 * max(USUAL)))
+    middles = Middles(image, stated, [n for n in USUAL if n <= image.held or n in FLOPPIES])
+    if not middles.roots:  # the end of another length may be missing
+        longer = Middles(image, stated, list(USUAL))
+        middles = longer if longer.roots else middles
     best = middles.best()
     return Length(2 * middles.all[best], middles.rivals(best))
 
