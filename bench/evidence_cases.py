@@ -337,6 +337,23 @@ def case_lost_directory_without_cache() -> None:
     same(paths(disk.done()), ["lost-2", "lost-2/f"])
 
 
+def case_directory_under_an_older_file() -> None:
+    """The header of a directory was not written: an older file's is there, but later headers name it as their directory."""
+    disk = Disk(20)
+    disk.directory(4, b"e")
+    disk.file(2, b"old", b"some", [15], 4)
+    disk.delete(2, 15)
+    disk.seal(4)
+    old = bytes(disk.image[512 * 2 : 512 * 3])
+    disk.clear(2)
+    disk.directory(2, b"d")
+    disk.file(3, b"f", b"more", [14], 2)
+    disk.words(3, {105: 3})
+    disk.seal(3)
+    disk.image[512 * 2 : 512 * 3] = old
+    same(paths(disk.done()), ["e", "lost-2", "lost-2/f"])
+
+
 def case_directory_that_says_another() -> None:
     """A directory that is not empty, and says that it is in one that is not there, is where a broken chain leads to it."""
     disk = Disk(20)

@@ -139,7 +139,7 @@ class Claims:
 
     def is_odd(self, h: int) -> bool:
         """It is reached, but not in its slot, or its data blocks do not lead to each other or are its by a date alone."""
-        is_torn = self.files.is_file[h] and (not self.files.is_joined(h) or self.files.is_ffs and self.files.disputed[h])
+        is_torn = self.walk.is_file(h) and (not self.files.is_joined(h) or self.files.is_ffs and self.files.disputed[h])
         return self.walk.why[h] == REACHED and bool(self.walk.misplaced[h] or is_torn)
 
     def tell_lost_blocks(self) -> None:
@@ -154,7 +154,7 @@ class Claims:
                 first = 0
 
     def is_had(self, b: int) -> bool:
-        return bool(self.files.is_part[b] or self.files.claims[b] or self.image.is_cache(b))
+        return bool(self.files.is_part[b] or self.files.claims[b] or self.walk.why[b] or self.image.is_cache(b))
 
     def is_lost(self, b: int) -> bool:
         return self.orphans.trusted and self.bitmap.has_root and not self.is_had(b) and self.bitmap.is_used(b)

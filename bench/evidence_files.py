@@ -121,7 +121,7 @@ class Files:
     def settle(self, walk: Walk, freed: bytearray) -> None:
         """Each data block is that of its first claimant: by rank; then of what no free block and no chain that leads astray tells against;
         then by the later date, then by how few of its blocks others claim. Who loses one block claims only what no other has."""
-        files = [h for h in walk.order[1:] if self.is_file[h]]
+        files = [h for h in walk.order[1:] if walk.is_file(h)]
         sure = [0] * self.image.blocks
         for h in files:
             sure[h] = 4 * self.rank(walk, h) + 2 * freed[h] + self.is_astray(walk, h)
