@@ -348,10 +348,12 @@ def case_directory_under_an_older_file() -> None:
     disk.clear(2)
     disk.directory(2, b"d")
     disk.file(3, b"f", b"more", [14], 2)
-    disk.words(3, {105: 3})
-    disk.seal(3)
+    disk.directory(5, b"g", 2)
+    for b in (3, 5):
+        disk.words(b, {105: 3})
+        disk.seal(b)
     disk.image[512 * 2 : 512 * 3] = old
-    same(paths(disk.done()), ["e", "lost-2", "lost-2/f"])
+    same(paths(disk.done()), ["e", "lost-2", "lost-2/f", "lost-2/g"])
 
 
 def case_directory_that_says_another() -> None:
