@@ -3,7 +3,7 @@ bench/evidence.py."""
 
 from __future__ import annotations
 
-from typing import Dict, List, NamedTuple, Set, Tuple
+from typing import Callable, Dict, List, NamedTuple, Set, Tuple
 
 from evidence_files import Files
 from evidence_image import COMMENT, LINK_FILE, LINKS, LOST, MADE, NAME, PERHAPS, REACHED, SOFT, Bitmap
@@ -36,6 +36,19 @@ class Amiss(NamedTuple):
     claim: int
     first: int
     past: int
+
+
+def runs(first: int, past: int, is_in: Callable[[int], bool]) -> List[Tuple[int, int]]:
+    """The runs of numbers that are in, each by its first one and the one behind it."""
+    some: List[Tuple[int, int]] = []
+    begin = past
+    for b in range(first, past):
+        if is_in(b):
+            begin = min(begin, b)
+        elif begin < past:
+            some.append((begin, b))
+            begin = past
+    return [*some, (begin, past)] if begin < past else some
 
 
 class Claims:
@@ -144,20 +157,12 @@ class Claims:
 
     def tell_lost_blocks(self) -> None:
         """Runs of blocks in use that nothing has."""
-        first = 0
-        for b in range(2, self.image.blocks + 1):
-            is_lost = b < self.image.blocks and self.is_lost(b)
-            if is_lost and not first:
-                first = b
-            if not is_lost and first:
-                self.tell("lost", 0, first, b)
-                first = 0
+        if self.orphans.trusted and self.bitmap.has_root:
+            for first, past in runs(2, self.image.blocks, lambda b: not self.is_had(b) and self.bitmap.is_used(b)):
+                self.tell("lost", 0, first, past)
 
     def is_had(self, b: int) -> bool:
         return bool(self.files.is_part[b] or self.files.claims[b] or self.walk.why[b] or self.image.is_cache(b))
-
-    def is_lost(self, b: int) -> bool:
-        return self.orphans.trusted and self.bitmap.has_root and not self.is_had(b) and self.bitmap.is_used(b)
 
     def is_spare(self, b: int) -> bool:
         """Nothing has the block, and a trusted bitmap has it free."""
