@@ -220,9 +220,10 @@ def case_names() -> None:
 
 def case_name_of_its_block_is_used() -> None:
     disk = Disk(20)
-    disk.directory(2, b"lost-3")
     disk.directory(3, b"a:b")
+    disk.directory(2, b"lost-3")
     same(paths(disk.done()), ["lost-3", "lost-3-1"])
+    same(lines(disk.done()), ["renamed: a\\x3ab: lost-3-1"])
 
 
 def case_cut_texts() -> None:

@@ -3,7 +3,8 @@ bench/evidence.py."""
 
 from __future__ import annotations
 
-from typing import Callable, Dict, List, NamedTuple, Set, Tuple
+from bisect import bisect_left
+from typing import Callable, List, NamedTuple, Tuple
 
 from evidence_files import Files
 from evidence_image import COMMENT, LINK_FILE, LINKS, LOST, MADE, NAME, PERHAPS, REACHED, SOFT, Bitmap
@@ -12,6 +13,7 @@ from evidence_walk import Orphans, Walk
 from truth_volumes import DIR, upper
 
 MOST_NAME, MOST_COMMENT = 30, 79
+Key = Tuple[int, bytes]  # a directory and a name in upper case
 
 
 class Claim(NamedTuple):
@@ -70,7 +72,7 @@ class Claims:
         for i, h in enumerate(walk.order):
             self.place_of[h] = i
         self.names = Names(self)
-        self.all = [self.claim(h) for h in walk.order[1:]]
+        self.all = [self.claim(h, name) for h, name in zip(walk.order[1:], self.names.all)]
         self.amiss: List[Amiss] = []
         self.find_amiss()
 
@@ -81,10 +83,10 @@ class Claims:
         other = OFS if self.files.is_ffs else FFS
         return self.files.is_whole(self.walk, h) and not (self.walk.why[h] != REACHED and self.kinds.says(h) == other)
 
-    def claim(self, h: int) -> Claim:
+    def claim(self, h: int, name: bytes) -> Claim:
         kind = DIR if self.walk.is_dir(h) else self.walk.kind(h)
         directory, why = self.place_of[self.walk.parent[h]], self.walk.why[h]
-        return Claim(h, directory, self.names.name[h], kind, why, self.is_given[h] != 0, self.is_certain(h), self.target(h, kind))
+        return Claim(h, directory, name, kind, why, self.is_given[h] != 0, self.is_certain(h), self.target(h, kind))
 
     def target(self, h: int, kind: int) -> int:
         """What a hard link leads to: the file or the directory whose header it names."""
@@ -174,27 +176,44 @@ class Names:
 
     def __init__(self, claims: Claims) -> None:
         self.walk, self.image, self.claims = claims.walk, claims.image, claims
-        self.name: Dict[int, bytes] = {}
+        self.turn = [0] * self.image.blocks
         self.is_other = bytearray(self.image.blocks)
-        self.used: Set[Tuple[int, bytes]] = set()
-        for h in sorted(self.walk.order[1:], key=self.precedence):
-            self.place(h)
+        for turn, h in enumerate(sorted(self.walk.order[1:], key=self.precedence)):
+            self.turn[h] = turn
+        self.keep()
+        self.all = [self.place(h) for h in self.walk.order[1:]]
 
     def precedence(self, h: int) -> Tuple[int, ...]:
-        """What is given back comes first, by its rank; then what is in its own slot and has no block free; then the latest."""
+        """By rank; then what is in its own slot and has no block free; then the latest."""
         rank = self.claims.files.rank(self.walk, h)
-        return 1 - self.claims.is_given[h], rank, self.walk.misplaced[h], self.claims.is_freed[h], -self.image.moment(h)
+        return rank, self.walk.misplaced[h], self.claims.is_freed[h], -self.image.moment(h)
 
-    def place(self, h: int) -> None:
-        """The first of its names that no other has; what is not given back takes none from others."""
+    def keep(self) -> None:
+        """Of those that are given back, and have one name in one directory, the first keeps it."""
+        self.keeper: List[int] = []
+        self.kept: List[Key] = []  # in order
+        named = [h for h in self.walk.order[1:] if self.claims.is_given[h] and is_name(self.said(h))]
+        for h in sorted(named, key=lambda h: (self.key(h, self.said(h)), self.turn[h])):
+            if not self.kept or self.kept[-1] != self.key(h, self.said(h)):
+                self.kept.append(self.key(h, self.said(h)))
+                self.keeper.append(h)
+
+    def has(self, h: int, name: bytes) -> int:
+        """The header that keeps this name in the directory of h; 0 if none does."""
+        i = bisect_left(self.kept, self.key(h, name))
+        return self.keeper[i] if i < len(self.kept) and self.kept[i] == self.key(h, name) else 0
+
+    def place(self, h: int) -> bytes:
+        """Its own name, or the first of `lost-` and its block, with numbers behind it, that no other keeps."""
         name, number = self.said(h), 0
-        while not is_name(name) or self.key(h, name) in self.used:
-            name = b"lost-%d" % h if number == 0 else b"lost-%d-%d" % (h, number)
+        if is_name(name) and self.has(h, name) in (0, h):
+            return name
+        self.is_other[h] = 1
+        name = b"lost-%d" % h
+        while self.has(h, name):
             number += 1
-        self.name[h] = name
-        self.is_other[h] = name != self.said(h)
-        if self.claims.is_given[h]:
-            self.used.add(self.key(h, name))
+            name = b"lost-%d-%d" % (h, number)
+        return name
 
     def said(self, h: int) -> bytes:
         """The name that its header says, or of a made directory the record of a cache."""
@@ -202,7 +221,7 @@ class Names:
             return self.image.text(h, NAME, 79)
         return self.claims.orphans.caches.name(h) if self.claims.orphans.caches.record[h] else b"lost-%d" % h
 
-    def key(self, h: int, name: bytes) -> Tuple[int, bytes]:
+    def key(self, h: int, name: bytes) -> Key:
         return self.walk.parent[h], upper(name, self.walk.international)
 
 
