@@ -254,6 +254,16 @@ def case_link_by_its_target() -> None:
     same(sorted(lines(bytes(image))), ["damaged: wrong", "link: l0", "link: l2", "lost: block 4", "lost: in /"])
 
 
+def case_links_and_names() -> None:
+    """A link takes no name from what is given back, and none from another link."""
+    disk = Disk(20)
+    disk.link(4, b"f", LINK_FILE, 2)
+    disk.file(2, b"f", b"some", [14])
+    disk.link(5, b"l", LINK_FILE, 2)
+    disk.link(6, b"L", LINK_FILE, 2)
+    same({claim.head: claim.name for claim in claimed(disk.done()).all}, {2: b"f", 4: b"lost-4", 5: b"lost-5", 6: b"L"})
+
+
 # Deleted headers
 
 

@@ -101,6 +101,10 @@ class Claims:
         kind = self.walk.kind(h)
         return not self.walk.is_sound(h) or kind != SOFT and self.target(h, kind) == 0
 
+    def takes_name(self, h: int) -> bool:
+        is_link = not self.walk.is_dir(h) and self.walk.kind(h) in LINKS
+        return self.is_given[h] != 0 or is_link and not self.is_wrong_link(h)
+
     def is_certain(self, h: int) -> bool:
         """Its sum is right, and it was not deleted by anything that is whole."""
         why = self.walk.why[h]
@@ -139,7 +143,7 @@ class Claims:
         cause = self.cause(h)
         if cause:
             self.tell(cause, self.place_of[h], h, h + 1)
-        if self.is_given[h] and self.names.is_other[h]:
+        if self.names.is_other[h]:
             self.tell("renamed", self.place_of[h], h, h + 1)
         if self.is_given[h] and self.walk.why[h] != MADE and self.image.bytes[512 * h + COMMENT] > MOST_COMMENT:
             self.tell("comment cut", self.place_of[h], h, h + 1)
@@ -189,11 +193,11 @@ class Names:
         return rank, self.walk.misplaced[h], self.claims.is_freed[h], -self.image.moment(h)
 
     def keep(self) -> None:
-        """Of those that are given back, and have one name in one directory, the first keeps it."""
+        """Of those that are given back or are right links, and have one name in one directory, the first keeps it."""
         self.keeper: List[int] = []
         self.kept: List[Key] = []  # in order
-        named = [h for h in self.walk.order[1:] if self.claims.is_given[h] and is_name(self.said(h))]
-        for h in sorted(named, key=lambda h: (self.key(h, self.said(h)), self.turn[h])):
+        named = [h for h in self.walk.order[1:] if self.claims.takes_name(h) and is_name(self.said(h))]
+        for h in sorted(named, key=lambda h: (self.key(h, self.said(h)), 1 - self.claims.is_given[h], self.turn[h])):
             if not self.kept or self.kept[-1] != self.key(h, self.said(h)):
                 self.kept.append(self.key(h, self.said(h)))
                 self.keeper.append(h)
