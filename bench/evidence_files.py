@@ -157,11 +157,14 @@ class Files:
     # What is whole
 
     def is_agreed(self, h: int, k: int) -> bool:
-        """The block that the table names for data block k is held and may be that: on OFS it says so, on FFS it is no sound header."""
+        """The block that the table names for data block k is held and may be that: on OFS it says so, on FFS it is no sound header and no
+        sound block of a cache."""
         d = self.names(h, k)
         if not self.image.has(d) or not self.image.is_held[d]:
             return False
-        return not self.is_head[d] if self.is_ffs else self.image.is_data(d, h, k)
+        if not self.is_ffs:
+            return self.image.is_data(d, h, k)
+        return not self.is_head[d] and not (self.image.is_cache(d) and self.image.sealed(d))
 
     def is_good(self, h: int, k: int) -> bool:
         """The block that the table names for data block k is the file's own."""

@@ -2,7 +2,7 @@
 
 from __future__ import annotations
 
-from typing import List, NamedTuple, Optional, Tuple
+from typing import List, NamedTuple, Optional
 
 from evidence_image import LONG_NAME, NAME, Bitmap, Image
 from evidence_walk import Walk
@@ -233,7 +233,8 @@ def is_ffs(walk: Walk, kinds: Kinds, bitmap: Bitmap, stated: Optional[int]) -> b
     files are not filled, and no block of the files of now says OFS."""
     full = [h for h in walk.heads if walk.kind(h) == FILE and walk.image.word(h, 81)]
     reached = [h for h in full if walk.why[h]]
-    said = [kinds.says(h) for h in reached]
+    doubted = [h for h in walk.order[1:] if not walk.is_head[h] and walk.is_file(h)]
+    said = [kinds.says(h) for h in reached] + [OFS for h in doubted if kinds.is_ofs(h)]
     ofs, ffs = said.count(OFS), said.count(FFS)
     if ofs or ffs:
         return ffs > ofs or ffs == ofs and stated != OFS
@@ -257,18 +258,25 @@ def is_of_now(walk: Walk, bitmap: Bitmap, h: int, earliest: int) -> bool:
 
 
 def newest_tell(walk: Walk, kinds: Kinds, full: List[int], stated: Optional[int]) -> bool:
-    """Where no file is reached: the kind of the newest file that tells one, or, where a kind is stated, the other one if the five newest
-    files, and all that are as new, tell it."""
-    said: List[Tuple[int, int]] = []
-    for h in full:
-        if may_be_lost(walk, h) and (stated == OFS or kinds.speaks(h, 1)):
-            kind = kinds.says(h)
-            if kind != NEITHER or stated == FFS:
-                said.append((walk.image.moment(h), kind))
-    said.sort(reverse=True)
+    """Where no file is reached: of newest to oldest the first that tells its kind, or FFS once two blocks speak that do not say OFS. Where a
+    kind is stated, the five newest files, and all that are as new, must all tell the other one."""
+    asked = [h for h in full if may_be_lost(walk, h) and (stated == OFS or kinds.speaks(h, 1))]
+    asked.sort(key=walk.image.moment, reverse=True)
     if stated is None:
-        return not said or said[0][1] == FFS
+        return first_tells(kinds, asked)
+    if stated == OFS:
+        asked = [h for h in asked if kinds.says(h) != NEITHER]
+    since = walk.image.moment(asked[min(NEWEST, len(asked)) - 1]) if asked else 0
+    told = [h for h in asked if walk.image.moment(h) >= since]
     other = OFS + FFS - stated
-    told = [kind for moment, kind in said if moment >= said[min(NEWEST, len(said)) - 1][0]]
-    is_other = len(told) > 0 and all(kind == other for kind in told)
+    is_other = len(told) > 0 and all(kinds.says(h) == other for h in told)
     return (other if is_other else stated) == FFS
+
+
+def first_tells(kinds: Kinds, asked: List[int]) -> bool:
+    spoken = 0
+    for h in asked:
+        kind, spoken = kinds.says(h), spoken + len(kinds.speaking(h))
+        if kind != NEITHER or spoken >= 2:
+            return kind != OFS
+    return True
