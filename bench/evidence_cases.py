@@ -182,6 +182,24 @@ def case_odd_length() -> None:
     same(judge(disk.done(), 1761), Refusal("bad size"))
 
 
+def case_floppy_over_an_older_root() -> None:
+    """A floppy's own length with a root in its middle holds, whatever the clock said when an older root was written."""
+    disk = Disk(3520)
+    disk.directory(100, b"d")
+    disk.words(880, {0: SHORT, 3: SLOTS, 78: VALID, 79: 881, 105: 9, 127: 1})
+    disk.seal(880)
+    same(paths(disk.done()), ["d"])
+    same(lines(disk.done()), [])
+
+
+def case_full_page() -> None:
+    """A bitmap page of zeros has all blocks in use: nothing is amiss where each is had."""
+    disk = Disk(4)
+    image = bytearray(disk.done())
+    image[512 * 3 : 512 * 4] = bytes(512)
+    same(lines(bytes(image)), [])
+
+
 def case_unread_free_blocks() -> None:
     """A free block that was not read is not missed; one in use is."""
     disk = Disk(20)

@@ -10,7 +10,7 @@ from evidence_files import Files
 from evidence_image import COMMENT, LINK_FILE, LINKS, LOST, MADE, NAME, PERHAPS, REACHED, SOFT, Bitmap
 from evidence_reading import FFS, OFS, Kinds
 from evidence_walk import Orphans, Walk
-from truth_volumes import DIR, upper
+from truth_volumes import DIR, PAGE_BITS, upper
 
 MOST_NAME, MOST_COMMENT = 30, 79
 Key = Tuple[int, bytes]  # a directory and a name in upper case
@@ -127,8 +127,10 @@ class Claims:
             self.tell("root", 0, r, r + 1)
         if self.bitmap.is_like_root and self.image.bytes[512 * r + NAME] > MOST_NAME:
             self.tell("label cut", 0, r, r + 1)
-        for page in self.bitmap.lost_pages():
-            self.tell("bitmap", 0, page, page + 1)
+        for i in self.bitmap.lost_pages():
+            page = self.bitmap.places[i]
+            if not self.is_full_page(i, page):
+                self.tell("bitmap", 0, page, page + 1)
         for p in sorted(p for p in self.walk.order if self.walk.broken[p] or self.walk.doubted[p]):
             self.tell("lost in", self.place_of[p], p, p + 1)
         for h in self.walk.order[1:]:
@@ -166,6 +168,13 @@ class Claims:
         if self.orphans.trusted and self.bitmap.has_root:
             for first, past in runs(2, self.image.blocks, lambda b: not self.is_had(b) and self.bitmap.is_used(b)):
                 self.tell("lost", 0, first, past)
+
+    def is_full_page(self, i: int, page: int) -> bool:
+        """A page of zeros, which has all of its blocks in use, is right if something has each of them."""
+        if not self.image.has(page) or any(self.image.words(page)):
+            return False
+        first, past = 2 + PAGE_BITS * i, min(2 + PAGE_BITS * (i + 1), self.image.blocks)
+        return all(b == page or self.is_had(b) for b in range(first, past))
 
     def is_had(self, b: int) -> bool:
         return bool(self.files.is_part[b] or self.files.claims[b] or self.walk.why[b] or self.image.is_cache(b))

@@ -105,7 +105,9 @@ def length_of(given: bytes, blocks: Optional[int]) -> Length:
     if not middles.roots:  # the end of another length may be missing
         longer = Middles(image, stated, list(USUAL))
         middles = longer if longer.roots else middles
-    best = middles.best()
+    if stated in FLOPPIES and image.is_root(stated // 2) and 0 in middles.roots:  # no dump has just as many blocks by chance
+        return Length(stated, [])
+    best = 0 if stated in FLOPPIES and 0 in middles.roots else middles.best()
     return Length(2 * middles.all[best], middles.rivals(best))
 
 
