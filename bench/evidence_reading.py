@@ -9,7 +9,7 @@ from evidence_walk import Walk
 from truth_volumes import DIR, FILE, POINTERS, VALID, slot
 
 USUAL = tuple(many * tracks for many in (22, 44) for tracks in range(80, 85))
-FLOPPIES = (1760, 3520)
+FLOPPIES, MOST_CYLINDERS = (1760, 3520), 84
 LONG_TYPES, MOST_LONG = (6, 7), 107
 NEWEST = 5  # so many files are asked for the kind where none is reached
 
@@ -95,16 +95,24 @@ class Middles:
         return sorted({self.all[i] for i in others if date_of_root(self.image, self.all[i]) >= self.date(best)})
 
 
+def plausible(image: Image, stated: int) -> Middles:
+    """The middles of floppies whose density the input's length fits, first of those whose end is not missing; of all floppies if no header
+    names one of these."""
+    density = [n for n in USUAL if image.held <= (MOST_CYLINDERS * 22 if n <= MOST_CYLINDERS * 22 else MOST_CYLINDERS * 44)]
+    middles = Middles(image, stated, [n for n in density if n <= image.held or n in FLOPPIES])
+    if not middles.roots:
+        longer = Middles(image, stated, density)
+        middles = longer if longer.roots else middles
+    return middles if middles.roots or any(middles.naming) else Middles(image, stated, list(USUAL))
+
+
 def length_of(given: bytes, blocks: Optional[int]) -> Length:
     """The length that the user states; else the one that the roots and the headers tell."""
     if blocks is not None:
         return Length(blocks, [])
     stated = len(given) // 512 // 2 * 2
     image = Image(given, max(stated, 2 * max(USUAL)))
-    middles = Middles(image, stated, [n for n in USUAL if n <= image.held or n in FLOPPIES])
-    if not middles.roots:  # the end of another length may be missing
-        longer = Middles(image, stated, list(USUAL))
-        middles = longer if longer.roots else middles
+    middles = plausible(image, stated)
     if stated in FLOPPIES and image.is_root(stated // 2) and 0 in middles.roots:  # no dump has just as many blocks by chance
         return Length(stated, [])
     best = 0 if stated in FLOPPIES and 0 in middles.roots else middles.best()
