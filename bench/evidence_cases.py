@@ -432,7 +432,7 @@ def main() -> int:
         except AssertionError as error:
             print(f"{name}: {error}")
             failed += 1
-    print(f"{len(sys.argv[1:] or cases)} cases, {failed} failed")
+    print(f"{len(sys.argv[1:] or cases)} tried, {failed} failed")
     return int(failed > 0)
 
 
