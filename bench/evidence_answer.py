@@ -11,7 +11,7 @@ from truth_volumes import Path
 
 
 def spelled(path: Path) -> str:
-    return "/".join("".join(chr(c) if 32 <= c <= 126 and c not in b"\\/:" else f"\\x{c:02x}" for c in name) for name in path)
+    return "/".join("".join(chr(c) if 32 <= c <= 126 and c not in b"\\/:" else f"\\x{c:02x}" for c in name) or "\\x" for name in path)
 
 
 class Telling:
@@ -65,6 +65,7 @@ class Telling:
         return bytes(out), gaps
 
     def line(self, amiss: Amiss) -> Line:
+        """The line of `adf-survey rescue`."""
         blocks = range(amiss.first, amiss.past)
         path = self.paths[amiss.claim]
         if amiss.cause == "lost in":
@@ -73,9 +74,11 @@ class Telling:
             old = self.claims.names.said(self.claims.all[amiss.claim - 1].head)
             return Line(f"renamed: {spelled((*path[:-1], old))}: {spelled(path)}", path, None, blocks)
         if amiss.claim:
-            return Line(f"{amiss.cause}: {spelled(path)}", path, None, blocks)
-        if amiss.cause == "length":
-            return Line(f"blocks {self.image.blocks}", None, None, blocks)
-        if amiss.past - amiss.first == 1:
-            return Line(f"{amiss.cause}: block {amiss.first}", None, None, blocks)
-        return Line(f"{amiss.cause}: blocks {amiss.first} to {amiss.past - 1}", None, None, blocks)
+            word = "perhaps deleted" if amiss.cause == "owned free" else amiss.cause
+            return Line(f"{word}: {spelled(path)}", path, None, blocks)
+        word = amiss.cause if amiss.cause in ("bitmap", "label cut") else "lost"
+        return Line(f"{word}: {run_text(amiss)}", None, None, blocks)
+
+
+def run_text(amiss: Amiss) -> str:
+    return f"block {amiss.first}" if amiss.past - amiss.first == 1 else f"blocks {amiss.first} to {amiss.past - 1}"

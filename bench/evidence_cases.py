@@ -158,7 +158,7 @@ def case_size_tells_kind() -> None:
     disk = Disk(20, 1)
     disk.file(2, b"f", b"a" * 1000, [14, 15])
     image = b"DOS\0" + disk.done()[4:]
-    same(lines(image), ["type: block 0"])
+    same(lines(image), ["lost: block 0"])
     same(read(image).things[(b"f",)].content, b"a" * 1000)
 
 
@@ -170,15 +170,15 @@ def case_stated_length_wins() -> None:
     image = bytearray(disk.done().ljust(512 * 3520, b"\0"))
     same(claimed(bytes(image)).image.blocks, 1760)
     same(claimed(bytes(image), 3520).image.blocks, 3520)
-    same(lines(bytes(image), 3520)[0], "root: block 1760")
+    same(lines(bytes(image), 3520)[0], "lost: block 1760")
 
 
 def case_odd_length() -> None:
     """1,761 blocks hold a floppy and one block more."""
     disk = Disk(1760)
     disk.directory(100, b"d")
-    same(lines(disk.done() + bytes(512)), ["blocks 1760"])
-    same(lines(disk.done() + bytes(1024)), ["blocks 1760"])
+    same(lines(disk.done() + bytes(512)), ["lost: block 1760"])
+    same(lines(disk.done() + bytes(1024)), ["lost: blocks 1760 to 1761"])
     same(judge(disk.done(), 1761), Refusal("bad size"))
 
 
@@ -205,7 +205,7 @@ def case_unread_free_blocks() -> None:
     disk = Disk(20)
     disk.file(2, b"f", b"some", [14])
     same(lines(disk.done(), None, [16]), [])
-    same(lines(disk.done(), None, [14]), ["no data: block 14", "damaged: f"])
+    same(lines(disk.done(), None, [14]), ["lost: block 14", "damaged: f"])
 
 
 def case_long_names() -> None:
@@ -217,7 +217,7 @@ def case_long_names() -> None:
     same(judge(b"DOS\3" + disk.done()[4:]), Refusal("long names"))
     plain = Disk(20)
     plain.directory(2, b"d")
-    same(lines(b"DOS\6" + plain.done()[4:]), ["type: block 0"])
+    same(lines(b"DOS\6" + plain.done()[4:]), ["lost: block 0"])
 
 
 # Names, comments, labels

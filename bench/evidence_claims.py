@@ -131,7 +131,7 @@ class Claims:
             page = self.bitmap.places[i]
             if not self.is_full_page(i, page):
                 self.tell("bitmap", 0, page, page + 1)
-        for p in sorted(p for p in self.walk.order if self.walk.broken[p] or self.walk.doubted[p]):
+        for p in sorted(p for p in self.walk.order if self.walk.is_dir(p) and (self.walk.broken[p] or self.walk.doubted[p])):
             self.tell("lost in", self.place_of[p], p, p + 1)
         for h in self.walk.order[1:]:
             self.tell_of(h)
