@@ -5,10 +5,12 @@ use Rattle.std.proofs.lemmas.List.{append-nil}
 use Rattle.std.specs.List.{flat_map}
 use Rattle.adf_base.specs.declared.hash.Letters.{Letters}
 use Rattle.adf_tree.specs.{Additions.Addition, Additions.IsTreeOfBy, Additions.entries_of_additions_by, declared.entry.Entry.Entry}
-use Rattle.adf_tree.specs.Tree.{added_by, last_of, moved_entry, new_entry_by, place_by, rank_by}
+use Rattle.adf_tree.specs.Tree.{Tree, added_by, last_of, moved_entry, new_entry_by, place_by, rank_by}
 use Rattle.adf_tree.proofs.TreeOfAdditions.{grown, nothing_added_by}
 use Rattle.adf_volume.specs.Lists.{In}
 use Rattle.adf_volume.proofs.Lists.{in_cases, in_left, in_right}
+use Rattle.adf_judge.specs.{declared.judgement.Claim.Claim, declared.judgement.DeletedHeader.DeletedHeader, declared.judgement.Reading.Reading}
+use Rattle.adf_keep.specs.{Rescued.IsRescued, declared.prepared.Prepared.Prepared, declared.prepared.RescueTerms.RescueTerms}
 use Rattle.adf_keep.specs.{Kept.IsOfProposal, declared.proposal.Proposed.Proposed}
 use Rattle.adf_keep.specs.Verdicts.{AreVerdicts, AreVerdicts.more, AreVerdicts.none, Setting, IsVerdictFor.is_kept, IsVerdictFor.is_left_out, EntryVerdict, kept_tree, kept_addition}
 use Rattle.adf_keep.specs.Verdicts.EntryVerdict.{keeps, leaves}
@@ -98,3 +100,9 @@ kept_is_proposed g _ _ (more ps vs p v before (is_kept x claimed found)) e at =
     }) (subst (λ (es : List Entry). In es e) (entries_kept g vs x claimed) at)
 kept_is_proposed g _ _ (more ps vs p v before (is_left_out why reason)) e at =
     widened g ps p e (kept_is_proposed g ps vs before e (subst (λ (es : List Entry). In es e) (entries_same g vs (leaves why) refl) at))
+
+-- so is each entry of a rescue
+pub rescued_is_proposed : (input : List ℕ) (reading : Reading) (cs : List Claim) (ds : List DeletedHeader) (terms : RescueTerms) (p : Prepared)
+    → (r : IsRescued input reading cs ds terms p) → (e : Entry) → In p.tree.entries e → IsOfProposal r.setting r.ps e
+rescued_is_proposed input reading cs ds terms p r e listed =
+    kept_is_proposed r.setting r.ps r.vs r.verdicts e (subst (λ (t : Tree). In t.entries e) r.tree listed)

@@ -1,13 +1,14 @@
 -- The files of an image, by their headers alone.
 -- Letters: h the block of a file's header; m a position in its table; k the number of a data block, from 0; b a block.
-use Rattle.std.specs.Prelude.{◌≡◌, ◌+◌, ◌*◌, ◌/◌, ◌<◌, ◌≤◌, ℕ, List, [], ◌∷◌, ◌++◌, min, slice_index, take}
+use Rattle.std.specs.Prelude.{◌≡◌, ◌==◌, ◌&&◌, ◌+◌, ◌*◌, ◌/◌, ◌<◌, ◌≤◌, ℕ, Bool, true, List, [], ◌∷◌, ◌++◌, min, take}
+use Rattle.adf_base.specs.Words.{block, long_sum, word}
 use Rattle.std.proofs.Common.{zero, suc}
-use Rattle.adf_names.specs.{declared.kind.Kind.Kind}
+use Rattle.adf_names.specs.declared.kind.Kind.{Kind, TheVariants.Ffs, TheVariants.Ofs}
 use Rattle.adf_tree.specs.declared.entry.Body.{Body, TheVariants.File}
 use Rattle.adf_blocks.specs.{Sizes.blocks, Sizes.count}
 use Rattle.adf_build.specs.Plan.{exts_needed}
-use Rattle.adf_blocks.specs.declared.layout.TheConstants.{EXTENSION, POINTERS, SECONDARY_TYPE, SIZE, ST_FILE}
-use Rattle.adf_volume.specs.{Demands.AllHold, Demands.data_demands, Demands.ext_demands, Image.content, Image.held, Image.table_word, Image.word_in, Lists.At}
+use Rattle.adf_blocks.specs.declared.layout.TheConstants.{DATA_HEAD, DATA_NUMBER, EXTENSION, POINTERS, SECONDARY_TYPE, SIZE, ST_FILE, TYPE, T_DATA}
+use Rattle.adf_volume.specs.{Demands.AllHold, Demands.ext_demands, Image.content, Image.table_word, Image.word_in, Lists.At}
 
 -- the first blocks of an image: `held`, or all whole ones if it has fewer
 abbrev pub held_part : List ℕ → ℕ → List ℕ
@@ -39,11 +40,24 @@ tables_needed n = 1 + exts_needed n
 abbrev pub tables_from : Kind → List ℕ → ℕ → List ℕ
 tables_from kind image h = firsts (table_at image h) (tables_needed (count kind (word_in image h SIZE)))
 
--- the data blocks of an OFS file of this size have their form: each tells the header, its number, its bytes and the next one; those of an FFS
--- file have none
-abbrev pub HaveForms : Kind → List ℕ → ℕ → ℕ → List ℕ → Type 0
-HaveForms kind image h size datas = (k b : ℕ) → At datas k b
-    → AllHold (data_demands image kind b h (suc k) (held kind size (suc k)) (slice_index datas (suc k)))
+-- the bytes of a block say that it is OFS data block k, counted from 1, of the file with its header at block h: by its type, words 1 and 2, and
+-- its checksum
+abbrev pub says_data : List ℕ → ℕ → ℕ → Bool
+says_data bytes h k = (word bytes TYPE == T_DATA) && (word bytes DATA_HEAD == h) && (word bytes DATA_NUMBER == k) && (long_sum bytes == 0)
+
+-- block b says that of itself
+abbrev pub says_ofs_data : List ℕ → ℕ → ℕ → ℕ → Bool
+says_ofs_data image h k b = says_data (block image b) h k
+
+-- a block has the form of data block k of the file with header h: on OFS it says so of itself; on FFS a data block has no form
+abbrev pub is_ofs_data_of : Kind → List ℕ → ℕ → ℕ → ℕ → Bool
+is_ofs_data_of Ofs image h k b = says_ofs_data image h k b
+is_ofs_data_of Ffs image h k b = true
+
+-- the data blocks of a file have their form. How many bytes an OFS one states, and which next one, is left to the judge: the size and the table of
+-- the file say both
+abbrev pub HaveForms : Kind → List ℕ → ℕ → List ℕ → Type 0
+HaveForms kind image h datas = (k b : ℕ) → At datas k b → is_ofs_data_of kind image h (suc k) b ≡ true
 
 -- a block is held, and is no boot block
 abbrev pub IsHeld : List ℕ → ℕ → Type 0
@@ -64,5 +78,5 @@ pub record IsFileOf (kind : Kind) (image : List ℕ) (h : ℕ) (body : Body) (cl
   pub table : HasExts image h (tables_needed (count kind (word_in image h SIZE)))
   pub all : claimed ≡ tables_from kind image h ++ datas_from kind image h
   pub inside : (k b : ℕ) → At (datas_from kind image h) k b → IsHeld image b
-  pub forms : HaveForms kind image h (word_in image h SIZE) (datas_from kind image h)
+  pub forms : HaveForms kind image h (datas_from kind image h)
   pub bytes : body ≡ File (content image kind h (datas_from kind image h))

@@ -29,7 +29,7 @@ IsDataFault image bs h n _ = ⊥
 
 -- why a file is not read: its table cannot be claimed, or then its data blocks, or these have not their form
 abbrev pub IsFileFault : Kind → List ℕ → List ℕ → ℕ → Why → Type 0
-IsFileFault kind image bs h BadData = HaveForms kind image h (word_in image h SIZE) (datas_from kind image h) → ⊥
+IsFileFault kind image bs h BadData = HaveForms kind image h (datas_from kind image h) → ⊥
 IsFileFault kind image bs h why =
     IsTableFault image bs h (tables_needed (count kind (word_in image h SIZE))) why
     ⊎ IsDataFault image (bs ++ tables_from kind image h) h (count kind (word_in image h SIZE)) why

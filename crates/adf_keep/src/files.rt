@@ -1,23 +1,23 @@
 // The files of an image, by their headers alone.
 
-ghost use Rattle.std.specs.Prelude.{◌≡◌, ◌<◌, ◌≤◌, ◌+◌, ◌^◌, ◌↔◌, ◌++◌, ℕ, List, [], IfErr, IfNone, IfOk, IfSome, MatchResult, IsTrue, length, slice_index};
+ghost use Rattle.std.specs.Prelude.{◌≡◌, ◌<◌, ◌≤◌, ◌+◌, ◌^◌, ◌↔◌, ◌++◌, ℕ, List, [], IfErr, IfNone, IfOk, IfSome, MatchResult, IsTrue, length};
 ghost use Rattle.std.proofs.Common.{suc};
 ghost use Rattle.adf_tree.specs.declared.entry.Body.TheVariants.{File};
-ghost use Rattle.adf_blocks.specs.{Sizes.blocks, Sizes.chunk, Sizes.count, declared.layout.TheConstants.SIZE, declared.layout.TheConstants.SECONDARY_TYPE};
+ghost use Rattle.adf_blocks.specs.{Sizes.blocks, Sizes.count, declared.layout.TheConstants.SIZE, declared.layout.TheConstants.SECONDARY_TYPE};
 ghost use Rattle.adf_blocks.specs.declared.layout.TheConstants.{ST_FILE};
-ghost use Rattle.adf_volume.specs.{Demands.AllHold, Demands.data_demands, Image.content, Image.held as bytes_held, Image.word_in, Lists.At};
-ghost use Rattle.adf_keep.specs.{Marks.AreClaimed, File.HasExts, File.HaveForms, File.IsFileOf, File.IsHeld, File.datas_from, File.tables_from, File.tables_needed, Reasons.IsFileFault};
+ghost use Rattle.adf_volume.specs.{Image.content, Image.word_in, Lists.At};
+ghost use Rattle.adf_keep.specs.{Marks.AreClaimed, File.HasExts, File.HaveForms, File.is_ofs_data_of, File.IsFileOf, File.IsHeld, File.datas_from, File.tables_from, File.tables_needed, Reasons.IsFileFault};
 
 use crate::claims::release;
 use crate::held::Held;
 use crate::proposal::Why;
 use crate::tables::{claim_named, claim_tables};
 use adf_base::NoMemory;
-use adf_blocks::{SIZE, read_data};
+use adf_blocks::SIZE;
 use adf_build::ext_count;
 use adf_names::{Kind, Meta};
 use adf_tree::{Body, Bytes};
-use adf_volume::{Pieces, count_of, held_in, joined};
+use adf_volume::{Pieces, count_of, joined};
 use std::alloc::Global;
 
 /// An entry that was read: its comment, protection bits and date, its body, and the blocks that it claims.
@@ -29,47 +29,22 @@ pub struct Found {
 }
 
 // Whether a block has the form of data block `number`, counted from 1, of the file with its header at block `head`.
-#[tactic(auto, unfolding(adf_blocks::specs::Sizes::chunk), using(adf_volume::proofs::FormDemands::all_demanded))]
-fn has_form(
-    image: &Held<'_>,
-    kind: Kind,
-    head: u32,
-    number: u32,
-    held: u32,
-    next: u32,
-    b: u32,
-) -> bool
-    requires inside { b < blocks image.now }
-    requires few { held ≤ chunk kind }
-    ensures { IsTrue result ↔ AllHold (data_demands image.now kind b head number held next) }
+fn has_form(image: &Held<'_>, kind: Kind, head: u32, number: u32, b: u32) -> bool
+    ensures { result ≡ is_ofs_data_of kind image.now head number b }
 {
     match kind {
-        Kind::Ofs => match image.block(b) {
-            Some(block) => read_data(block, head, number, held, next).is_ok(),
-            None => false,
-        },
+        Kind::Ofs => image.says_ofs_data(head, number, b),
         Kind::Ffs => true,
     }
 }
 
-// The block at an index; 0 past the last.
-fn block_at(blocks: &[u32], i: usize) -> u32
-    ensures { result ≡ slice_index blocks.now i }
-{
-    if i < blocks.len() { blocks[i] } else { 0 }
-}
-
 // Whether the data blocks of a file have their form.
-fn have_forms(image: &Held<'_>, kind: Kind, head: u32, size: u32, datas: &[u32]) -> bool
-    requires inside { (k b : ℕ) → At datas.now k b → IsHeld image.now b }
-    requires few { length datas.now < 2 ^ 32 }
-    ensures { IsTrue result ↔ HaveForms kind image.now head size datas.now }
+fn have_forms(image: &Held<'_>, kind: Kind, head: u32, datas: &[u32]) -> bool
+    requires { length datas.now < 2 ^ 32 }
+    ensures { IsTrue result ↔ HaveForms kind image.now head datas.now }
 {
     for k in 0..datas.len() {
-        let number = k as u32 + 1;
-        let next = block_at(datas, k + 1);
-        let held = held_in(kind, size, number);
-        if !has_form(image, kind, head, number, held, next, datas[k]) {
+        if !has_form(image, kind, head, k as u32 + 1, datas[k]) {
             return false;
         }
     }
@@ -114,7 +89,7 @@ fn claim_file(
     ensures tables { IfOk result (λ r. IfNone r (tables.new.items ≡ tables_from kind image.now head)) }
     ensures named { IfOk result (λ r. IfNone r (datas.new.items ≡ datas_from kind image.now head)) }
     ensures forms { IfOk result (λ r. IfNone r
-        (HaveForms kind image.now head (word_in image.now head SIZE) datas.new.items)) }
+        (HaveForms kind image.now head datas.new.items)) }
 {
     let size = image.word(head, SIZE);
     let needed = count_of(kind, size) as usize;
@@ -126,7 +101,7 @@ fn claim_file(
     if refused.is_some() {
         return Ok(refused);
     }
-    if have_forms(image, kind, head, size, datas) {
+    if have_forms(image, kind, head, datas) {
         Ok(None)
     } else {
         Ok(Some(Why::BadData))

@@ -1,10 +1,12 @@
 // Laws of what is kept.
 
-ghost use Rattle.std.specs.Prelude.{◌≡◌, List};
+ghost use Rattle.std.specs.Prelude.{◌≡◌, ℕ, List};
 ghost use Rattle.std.specs.List.{flat_map};
 ghost use Rattle.adf_tree.specs.{Additions.IsTreeOfBy, declared.entry.Entry.Entry};
 ghost use Rattle.adf_volume.specs.Lists.{In};
 ghost use Rattle.adf_keep.specs.{Marks.IsOnce, Kept.Agree, Kept.HasRoomFor, Kept.IsOfProposal, declared.proposal.Proposed.Proposed};
+ghost use Rattle.adf_judge.specs.declared.judgement.{Claim.Claim, DeletedHeader.DeletedHeader, Reading.Reading};
+ghost use Rattle.adf_keep.specs.{Rescued.IsRescued, declared.prepared.Prepared.Prepared, declared.prepared.RescueTerms.RescueTerms};
 ghost use Rattle.adf_keep.specs.Verdicts.{AreVerdicts, Setting, EntryVerdict, kept_blocks, kept_tree, kept_addition};
 
 /// The tree of what is kept has each entry that is kept, at its path, and no other.
@@ -19,6 +21,13 @@ pub fn kept_tree_has_what_is_kept()
 pub fn kept_entries_are_proposed()
     ensures { (g : Setting) (ps : List Proposed) (vs : List EntryVerdict) → AreVerdicts g ps vs
         → (e : Entry) → In (kept_tree g vs).entries e → IsOfProposal g ps e }
+{}
+
+/// Each entry of the tree of a rescue is that of a proposed one: it has the name that is proposed, and a file has the bytes that
+/// one header of the input and its extension blocks name.
+pub fn rescued_entries_are_proposed()
+    ensures { (input : List ℕ) (reading : Reading) (cs : List Claim) (ds : List DeletedHeader) (terms : RescueTerms) (p : Prepared)
+        (r : IsRescued input reading cs ds terms p) (e : Entry) → In p.tree.entries e → IsOfProposal r.setting r.ps e }
 {}
 
 /// A proposal has one outcome: what is kept of it, and so the tree, does not depend on who keeps; only where several reasons

@@ -177,6 +177,25 @@ fn damaged(rt: HostRuntime) {
     );
 }
 
+// An OFS data block that states another length and another next block: these are left to the judge.
+#[test]
+fn loose_words(rt: HostRuntime) {
+    let mut image = volume(&rt, rt.alloc(), Kind::Ofs, 489, 16);
+    put(&rt, &mut image, 3, 3, 7);
+    put(&rt, &mut image, 3, 4, 0);
+    let claims: [Claim<'_>; 1] = [(Some(2), 0, b"a")];
+    let all = kept(&rt, rt.alloc(), &image, &claims, terms(&rt, Kind::Ofs, 16));
+    leaves(&rt, &all, &[]);
+    put(&rt, &mut image, 3, 2, 2);
+    is_left_out(
+        &rt,
+        rt.alloc(),
+        &image,
+        terms(&rt, Kind::Ofs, 16),
+        Why::BadData,
+    );
+}
+
 // A size of 4 GB without extension blocks; and tables that name a block past the last, one twice, or the file's own header.
 #[test]
 fn wrong_tables(rt: HostRuntime) {

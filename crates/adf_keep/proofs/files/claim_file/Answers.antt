@@ -1,10 +1,8 @@
 use Rattle.std.proofs.Common.{◌≡◌, ◌∙◌, ◌<◌, ◌+◌, ◌^◌, ◌++◌, ap, arith, length, subst, sym}
 use Rattle.std.proofs.lemmas.List.{append-nil}
-use Rattle.adf_volume.specs.Lists.{At}
 use Rattle.adf_build.specs.Plan.{exts_needed}
 use Rattle.adf_blocks.specs.Sizes.{count}
 use Rattle.adf_keep.specs.{Marks.AreClaimed, File.firsts, File.named_at, File.table_at}
-use Rattle.adf_keep.proofs.ClaimMarks.{claims_inside}
 use Rattle.adf_keep.proofs.{FaultSteps.data_fault, FaultSteps.table_fault, FileForms.at_none, TableNames.exts_few, TableNames.firsts_length}
 use Rattle.adf_keep.proofs.files.claim_file.Goals as goal
 
@@ -39,22 +37,14 @@ returns-then-is_some-2-clause-fault c = λ bs are.
     (all ∙ ap (firsts (table_at c.args.image.now c.args.head)) needed)
     (c.in_ok-refused.ensures.fault (bs ++ c.claim_tables.new.tables.items) (c.in_ok-refused_table.ensures.claims _ bs are))
 
-pub have_forms-requires-clause-few : goal.have_forms-requires-clause-few
-have_forms-requires-clause-few c =
+pub have_forms-requires : goal.have_forms-requires
+have_forms-requires c =
     let named : c.claim_named.new.datas.items ≡ firsts (named_at c.args.image.now c.args.head) c.count_of-needed.result =
     at_none c.in_ok-refused.refused _ (sym c.is_some-2.ensures ∙ c.if-is_some-2.false) c.in_ok-refused.ensures.named in
     let long : length c.deref.result.now ≡ c.count_of-needed.result =
     ap length (c.deref.ensures.value ∙ named) ∙ firsts_length (named_at c.args.image.now c.args.head) c.count_of-needed.result in
     let small : c.count_of-needed.result < 2 ^ 32 = omega arith in
     omega arith
-
-pub have_forms-requires-clause-inside : goal.have_forms-requires-clause-inside
-have_forms-requires-clause-inside c = λ k b at.
-    let claims = c.requires.claims in
-    let there = subst (λ xs. At xs k b) c.deref.ensures.value at in
-    let bs = claims.0 ++ c.claim_tables.new.tables.items in
-    claims_inside _ _ bs c.claim_named.new.datas.items
-    (c.in_ok-refused.ensures.claims _ bs (c.in_ok-refused_table.ensures.claims _ claims.0 claims.1)) k b there
 
 pub returns-then-have_forms-clause-claims : goal.returns-then-have_forms-clause-claims
 returns-then-have_forms-clause-claims c = λ n bs are.
