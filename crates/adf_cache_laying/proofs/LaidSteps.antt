@@ -6,7 +6,7 @@ use Rattle.std.proofs.lemmas.Bool.{and_parts, cond-false, Decides.eqb_tells, Dec
 use Rattle.adf_blocks.specs.declared.layout.TheConstants.{SECONDARY_TYPE, ST_DIR}
 use Rattle.adf_volume.specs.{Image.root_of, Image.word_in, Walk.Walk, Walk.heads, Walk.node_block}
 use Rattle.adf_findings.specs.Members.{owns}
-use Rattle.adf_links.specs.Links.{has_entry}
+use Rattle.adf_caches.specs.Entries.{has_entry}
 use Rattle.adf_caches.specs.Caches.{is_found_directory}
 
 -- an entry has a number from 1 on

@@ -13,7 +13,7 @@ use Rattle.adf_volume.specs.{Fits.FitsOf, Image.word_in, Layout.Layout, Walk.Wal
 use Rattle.adf_volume.specs.declared.types.Types.TheVariants.{WithInternational}
 use Rattle.adf_findings.specs.Members.{number_at, owning_entry, owns, parent_node}
 use Rattle.adf_findings.specs.Survey.{FindingValue, OnSurvey}
-use Rattle.adf_links.specs.Links.{has_entry}
+use Rattle.adf_caches.specs.Entries.{has_entry}
 use Rattle.adf_caches.specs.Caches.{directory_header, first_cache, is_found_directory}
 use Rattle.adf_uncached.specs.{Cached.FitsCached, Uncached.cache_fault}
 

@@ -3,7 +3,7 @@
 ghost use Rattle.std.specs.Prelude.{◌≡◌, ◌<◌, ℕ, Some, length, slice_get, true};
 ghost use Rattle.adf_blocks.specs.Sizes.{blocks};
 ghost use Rattle.adf_findings.specs.Survey.{FindingValue, OnSurvey};
-ghost use Rattle.adf_links.specs.Links.{has_entry};
+ghost use Rattle.adf_caches.specs.Entries.{has_entry};
 ghost use Rattle.adf_volume.specs.Walk.{heads};
 ghost use Rattle.adf_cache_laying.specs.LaidCaches.{AreFoundAlike, IsAtSamePlace, IsOfTypeOrLink, IsSamePart};
 

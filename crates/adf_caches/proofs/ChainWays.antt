@@ -10,8 +10,8 @@ use Rattle.adf_base.specs.Words.{block}
 use Rattle.adf_blocks.specs.Sizes.{blocks, in_range}
 use Rattle.adf_volume.specs.Walk.{Walk}
 use Rattle.adf_findings.specs.Members.{has_mark, owns}
-use Rattle.adf_links.specs.Links.{is_entry_at}
-use Rattle.adf_links.proofs.ChainSteps.{fewer_unmarked, mark_from, unmarked}
+use Rattle.adf_caches.specs.Entries.{is_entry_at}
+use Rattle.adf_caches.proofs.OneMark.{fewer_unmarked, mark_from, unmarked}
 use Rattle.adf_caches.specs.declared.chains.CacheMarks.{CacheMarks}
 use Rattle.adf_caches.specs.Caches.{directory_named, entries_named, entries_recorded, is_cache_block, next_cache, says_cache}
 use Rattle.adf_caches.specs.Judging.{AreFresh, IsRightChain, IsWrongChain, Leads, MarksNamed, Passes, StopsChain}

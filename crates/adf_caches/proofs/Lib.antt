@@ -1,3 +1,5 @@
+-- one mark more
+pub mod OneMark
 -- ways from one number to another
 pub mod PathSteps
 -- marks of entries that are named one after another

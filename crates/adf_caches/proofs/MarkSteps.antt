@@ -7,7 +7,7 @@ use Rattle.std.proofs.lemmas.Bool.{and_parts, cases_Bool, cond-true, eq-eqb, eqb
 use Rattle.std.proofs.lemmas.List.{get_or-set_same, get_or-set_other, length-set, Sums.sum_by-cons}
 use Rattle.std.proofs.lemmas.Option.{cond_some}
 use Rattle.adf_findings.specs.Members.{has_mark}
-use Rattle.adf_links.specs.Links.{is_entry_at}
+use Rattle.adf_caches.specs.Entries.{is_entry_at}
 use Rattle.adf_caches.specs.Marking.{mark_each, mark_one}
 
 -- the marks in new are those in old and of all that are named, each of them once

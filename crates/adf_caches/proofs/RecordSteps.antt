@@ -7,7 +7,7 @@ use Rattle.std.proofs.lemmas.Bool.{and_parts, eqb-true, Decides.eqb_tells}
 use Rattle.std.proofs.lemmas.{List.get_or-set_other, List.length-set, Option.cond_some}
 use Rattle.adf_volume.specs.Walk.{Walk, node_block}
 use Rattle.adf_findings.specs.Members.{has_mark, parent_node}
-use Rattle.adf_links.specs.Links.{has_entry, headed_at}
+use Rattle.adf_caches.specs.Entries.{has_entry, headed_at}
 use Rattle.adf_caches.specs.Caches.{entry_recorded, if_recorded, is_record_of}
 use Rattle.adf_caches.specs.Marking.{KeepsOthers, mark_each, mark_one}
 use Rattle.adf_caches.specs.Records.{RecordValue, record_at, record_fits, record_next, records_fit, records_from}

@@ -15,8 +15,8 @@ use Rattle.adf_blocks.specs.Sizes.{blocks, is_allowed}
 use Rattle.adf_blocks.specs.declared.layout.TheConstants.{SECONDARY_TYPE, ST_DIR}
 use Rattle.adf_volume.specs.{Image.word_in, Walk.Walk, Walk.heads, Walk.node_block}
 use Rattle.adf_findings.specs.Members.{has_mark, parent_node}
-use Rattle.adf_links.specs.Links.{has_entry, is_entry_at}
-use Rattle.adf_links.proofs.ChainSteps.{mark_from, mark_kept, mark_set}
+use Rattle.adf_caches.specs.Entries.{has_entry, is_entry_at}
+use Rattle.adf_caches.proofs.OneMark.{mark_from, mark_kept, mark_set}
 use Rattle.adf_caches.specs.declared.chains.CacheMarks.{CacheMarks}
 use Rattle.adf_caches.specs.Caches.{agree, cache_chain, do_agree, entries_named, entries_recorded, entry_recorded, first_cache, has_caches}
 use Rattle.adf_caches.specs.Caches.{is_cache_block, is_entry_of, is_found_directory, is_wrong_cache, next_cache, records_in}

@@ -9,7 +9,7 @@ use Rattle.adf_blocks.specs.declared.layout.TheConstants.{EXTENSION, OWN_KEY, SE
 use Rattle.adf_volume.specs.Image.{name_of, root_of, word_in}
 use Rattle.adf_volume.specs.Walk.{Walk, heads, node_block}
 use Rattle.adf_findings.specs.Members.{owns, parent_node}
-use Rattle.adf_links.specs.Links.{has_entry, headed_at, is_entry_at}
+use Rattle.adf_caches.specs.Entries.{has_entry, headed_at, is_entry_at}
 use Rattle.adf_caches.specs.declared.{records.TheConstants.RECORD_START, blocks.TheConstants.DIRECTORY, blocks.TheConstants.NEXT_CACHE}
 use Rattle.adf_caches.specs.declared.blocks.TheConstants.{RECORD_COUNT}
 use Rattle.adf_caches.specs.Paths.{way_by}

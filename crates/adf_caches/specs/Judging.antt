@@ -6,7 +6,7 @@ use Rattle.std.specs.List.{list_all}
 use Rattle.adf_blocks.specs.Sizes.{blocks}
 use Rattle.adf_volume.specs.Walk.{Walk, heads}
 use Rattle.adf_findings.specs.Members.{has_mark, parent_node}
-use Rattle.adf_links.specs.Links.{is_entry_at}
+use Rattle.adf_caches.specs.Entries.{is_entry_at}
 use Rattle.adf_caches.specs.declared.chains.CacheMarks.{CacheMarks}
 use Rattle.adf_caches.specs.Caches.{agree, cache_chain, is_entry_of, is_found_directory}
 use Rattle.adf_caches.specs.Caches.{directory_named, entries_named, entries_recorded, is_cache_block, next_cache}

@@ -1,3 +1,5 @@
+-- entries and the blocks of their headers
+pub mod Entries
 -- records of directory caches
 pub mod Records
 -- numbers that lead from one to the next

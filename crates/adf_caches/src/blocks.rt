@@ -3,16 +3,16 @@
 ghost use Rattle.std.specs.Prelude.{◌≡◌, IfSome, is_some, true};
 ghost use Rattle.adf_base.specs.Words.{block, word};
 ghost use Rattle.adf_findings.specs.Survey.{OnSurvey};
-ghost use Rattle.adf_links.specs.Links.{headed_at, is_entry_at};
+ghost use Rattle.adf_caches.specs.Entries.{headed_at, is_entry_at};
 ghost use Rattle.adf_volume.specs.Image.{root_of};
 ghost use Rattle.adf_caches.specs.Caches.{directory_headed, is_cache_block, says_cache};
 ghost use Rattle.adf_caches.specs.Records.{records_fit};
 
+use crate::headers::headed_at;
 use crate::records::{RECORD_START, record_in};
 use adf_base::Block;
 use adf_blocks::{OWN_KEY, T_DIR_CACHE, TYPE};
 use adf_findings::Survey;
-use adf_links::headed_at;
 use adf_tree::Node;
 
 /// The word of a cache block that names the header of its directory.

@@ -4,6 +4,7 @@
 mod all_blocks;
 mod blocks;
 mod chains;
+mod headers;
 mod listing;
 mod records;
 mod wrong;

@@ -9,11 +9,11 @@ ghost use Rattle.adf_caches.specs.Marking.{KeepsOthers, mark_each, mark_one};
 ghost use Rattle.adf_caches.specs.Records.{record_value, records_fit};
 
 use crate::blocks::RECORD_COUNT;
+use crate::headers::headed_at;
 use crate::records::{CacheRecord, RECORD_START, record_in};
 use adf_base::Block;
 use adf_blocks::{SECONDARY_TYPE, SIZE, ST_FILE};
 use adf_findings::Survey;
-use adf_links::headed_at;
 use adf_tree::Node;
 
 // Whether a record says what a header says, that has this name.

@@ -1,5 +1,5 @@
 use Rattle.adf_findings.specs.Survey.{OnSurvey}
-use Rattle.adf_links.proofs.ChainSteps.{unmarked}
+use Rattle.adf_caches.proofs.OneMark.{unmarked}
 use Rattle.adf_caches.specs.Judging.{AreFresh, MarksNamed}
 use Rattle.adf_caches.specs.Marking.{KeepsOthers}
 use Rattle.adf_caches.proofs.ChainWays.{IsOnChain}
