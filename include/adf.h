@@ -359,27 +359,26 @@ uint8_t adf_need(const struct adf_new_volume *volume, const struct adf_addition 
 
 /* Surveys
  *
- * A survey continues past the first fault: it finds everything that is wrong, and every directory and file that can still be
- * reached. adf-survey(1) says what each finding means, and what makes an entry sound.
+ * A survey continues past the first fault: it finds everything that is wrong. Which directories, files and links exist is judged, by all
+ * that is left on the image, also of those that nothing leads to any more. adf-survey(1) says what each finding means, and what makes an
+ * entry sound. What is judged is measured and not proved; it is the same for the same image.
  */
 
 /* What is told of the image that adf-survey surveys. Fields that do not apply are 0. */
 struct adf_subject {
     size_t length;      /* its bytes */
     uint32_t held;      /* how many of its first 8,388,608 blocks the given image holds whole: zeros behind them are no data */
-    uint8_t is_begun;   /* 1 if only the boot block is lost, and `DOS` and a type stand in its place, otherwise 0 */
-    uint8_t is_retyped; /* 1 if the type, in byte 3, is the one that the files say in place of another, otherwise 0 */
+    uint8_t is_begun;   /* 1 if the given image does not begin with `DOS` and a type up to 5, and they are put there, otherwise 0 */
+    uint8_t is_retyped; /* 1 if the type, in byte 3, is the one that is judged in place of another, otherwise 0 */
 };
 
 /* The number of a subject that is larger than its room: no adf_cause has it. */
 #define ADF_SUBJECT_SMALL_ROOM 24
 
-/* Writes the image that adf-survey surveys, of a given image of this length, for the calls below: as it is, or if blocks is not 0,
- * as if it had so many blocks, with zeros for what is not there. Where no root is in the middle of these blocks, and one is in that of
- * 1,760 or 3,520 blocks, those of a floppy, it has so many: then the given image is cut, or has tracks behind the volume. If blocks is
- * not 0, it has no more than these. Where nothing but the boot block is lost, it begins with `DOS` and a type; and where the files say
- * another type, it has that one, 0 to 3. All but its first four bytes are those of the image that is meant, and so are these where
- * neither is so.
+/* Writes the image that adf-survey surveys, of a given image of this length, for the calls below. It has as many blocks as the volume is
+ * judged to have, or if blocks is not 0, that many: the first ones of the given image, with zeros for what is not there. It begins with
+ * `DOS` and a type, 0 to 3, of the kind and the letters that are judged, where it stated another, or none. All but its first four bytes
+ * are those of the given image. One that cannot be judged, since no volume has so many blocks or its type has long names, stays as it is.
  *
  *     struct adf_subject subject;
  *     uint8_t answer = adf_survey_subject(image, length, 0, room, room_length, &subject);
@@ -390,14 +389,14 @@ struct adf_subject {
  *
  * Returns:
  *
- * 0: the room begins with the image that is surveyed, of subject->length bytes, and the rest of it is unchanged. The tables of its
- *    survey are what adf-survey tells of the given image, whose lines for the fields of `subject` come first; it marks a file as
- *    damaged too if one of its data blocks is not below subject->held.
+ * 0: the room begins with the image that is surveyed, of subject->length bytes, and the rest of it is unchanged. Its tables are what
+ *    adf-survey tells of the given image, whose lines for the fields of `subject` come first; it marks a file as damaged too if one of
+ *    its data blocks is not below subject->held.
  * ADF_SUBJECT_SMALL_ROOM: the room has fewer than subject->length bytes, which may be more than those of the given image. A room of as
  *    many bytes is not refused so.
  * ADF_NO_MEMORY: an allocation failed. All fields are 0.
  *
- * Whatever is returned but 0, the room is unchanged. Besides the room, the call allocates a copy of the image, and a survey of it.
+ * Whatever is returned but 0, the room is unchanged. Besides the room, the call allocates a copy of the image, and tables of its blocks.
  */
 uint8_t adf_survey_subject(const uint8_t *image, size_t length, uint32_t blocks, uint8_t *room, size_t room_length,
                            struct adf_subject *subject);
@@ -413,27 +412,29 @@ struct adf_finding {
     uint8_t is_within; /* 1 if `node` is the directory in which a header was skipped, otherwise 0 */
 };
 
-/* An entry that is found. Entry n is at index n - 1 of the table. */
+/* An entry that exists. Entry n is at index n - 1 of the table. */
 struct adf_found {
-    size_t parent;       /* the number of its directory, 0 for the root */
-    uint32_t header;     /* the block of its header */
+    size_t parent;       /* the number of its directory, which is less than its own, 0 for the root */
+    uint32_t header;     /* the block of its header; of a directory whose header is lost the one that its entries name */
     uint32_t size;       /* bytes of a file, as its header says; 0 for a directory */
     uint32_t protection; /* as in struct adf_entry */
     struct adf_date date;
-    uint8_t is_file;        /* 1 for a file or a link, 0 for a directory */
-    uint8_t is_sound;       /* 1 if the entry is sound, otherwise 0; 0 too for an FFS file with data that says it is OFS */
-    uint8_t name_length;    /* 0 to 79: the name may be one that no volume can have */
-    uint8_t name[79];       /* any bytes, padded with zeros: also `/` and `:`, or `..`, so it is no name for a file of the host */
+    uint8_t is_file;     /* 1 for a file or a link, 0 for a directory */
+    uint8_t is_sound;    /* 1 if the entry is sound, otherwise 0, and 0 for a link */
+    uint8_t name_length; /* 0 to 79; of what is judged 1 to 30 */
+    uint8_t
+        name[79]; /* any bytes, padded with zeros: it may be `..`, so it is no name for a file of the host. Where the header states
+                               a name that no volume can have, or that another entry of the directory has, it is `lost-` and its block */
     uint8_t comment_length; /* 0 to 79 */
     uint8_t comment[79];    /* padded with zeros */
 };
 
-/* What a survey has beside its tables. Without a root nothing is found: all fields but `findings` are 0 then. */
+/* What a survey has beside its tables. If the image cannot be judged, all fields but `findings` are 0. */
 struct adf_surveyed {
     uint32_t kind;        /* ADF_OFS for types 0, 2 and 4, ADF_FFS for 1, 3 and 5: the letters of names are not told */
     uint32_t blocks;      /* all blocks, the two boot blocks included */
     size_t findings;      /* rows of the table of findings */
-    size_t entries;       /* directories, files and links that are found, without the root */
+    size_t entries;       /* directories, files and links that exist, without the root: no more than blocks */
     struct adf_date root; /* the three dates of the root block: its own, that of the last change, that of the creation */
     struct adf_date altered;
     struct adf_date created;
@@ -441,21 +442,22 @@ struct adf_surveyed {
     uint8_t label[30];    /* in no particular encoding, padded with zeros */
 };
 
-/* Surveys an image of this length, and fills two tables, each as far as there is room: its findings, and the entries that are
- * found. Returns an adf_cause: 0 or ADF_NO_MEMORY.
+/* Surveys and judges an image of this length, and fills two tables, each as far as there is room: its findings, and the entries that
+ * exist. The image is judged as a volume of as many blocks as it has. No number in the tables is that of an entry past the last one, and
+ * each header is below length / 512. Returns an adf_cause: 0 or ADF_NO_MEMORY.
  *
- * 0: the tables and `surveyed` are those of the image's survey. surveyed->findings and surveyed->entries are the whole numbers,
+ * 0: the tables and `surveyed` are those of the image. surveyed->findings and surveyed->entries are the whole numbers,
  *    whatever the rooms: if a room is smaller, the table is only its front part, and a second call with rooms of these sizes
  *    gives all. The rest of a room is unchanged.
  * ADF_NO_MEMORY: an allocation failed. All fields are 0, and the tables are unchanged.
  *
- * An image whose boot block has the cause ADF_NOT_DOS has that one finding and no entries, even if nothing but the boot block is
+ * An image whose boot block has the cause ADF_NOT_DOS has that one finding, and its entries, even if nothing but the boot block is
  * overwritten. adf-survey surveys such an image as if it had one: adf_survey_subject has the image that it surveys.
  */
 uint8_t adf_survey_index(const uint8_t *image, size_t length, struct adf_finding *findings, size_t findings_room,
                          struct adf_found *entries, size_t entries_room, struct adf_surveyed *surveyed);
 
-/* A right link that is found: it leads to something. Fields that do not apply are 0. */
+/* A right link that exists: it leads to something. Fields that do not apply are 0. */
 struct adf_link {
     size_t node;        /* the number of its entry */
     size_t target;      /* the file or directory that a hard link leads to, which is no link: the number of its entry */
@@ -467,7 +469,7 @@ struct adf_link {
 
 enum adf_link_kind { ADF_LINK_FILE = 1, ADF_LINK_DIRECTORY = 2, ADF_LINK_SOFT = 3 };
 
-/* Surveys an image of this length, and fills a table of its right links, in the order of their entries, as far as there is room. The
+/* Judges an image of this length, and fills a table of its right links, in the order of their entries, as far as there is room. The
  * entries are those of adf_survey_index, which has links too: there a link counts as a file, and is not sound. Which links are right,
  * adf-survey(1) says. The path of a soft link has any bytes but 0, as it is on the disk: `/` and `:` mean what they mean on an Amiga, and
  * nothing need have it. Returns an adf_cause: 0 or ADF_NO_MEMORY.
@@ -480,8 +482,8 @@ uint8_t adf_survey_links(const uint8_t *image, size_t length, struct adf_link *l
 
 /* Files of a damaged image
  *
- * A program that reads what is left of files surveys the image once more by adf_survey_parts, which fills a table of its blocks.
- * From then on it makes the table of a file by adf_found_blocks, and reads by that from any place on, without a further survey:
+ * A program that reads what is left of files has the image judged once more by adf_survey_parts, which fills a table of its blocks.
+ * From then on it makes the table of a file by adf_found_blocks, and reads by that from any place on, without a further one:
  *
  *     uint32_t header = entries[node - 1].header;
  *     size_t count = adf_found_blocks(image, length, parts, length / 512, node, header, blocks, blocks_room);
@@ -495,37 +497,35 @@ uint8_t adf_survey_links(const uint8_t *image, size_t length, struct adf_link *l
  * `adf-survey cat --damaged` does not write them.
  */
 
-/* What a survey has at a block. Block b is at index b of the table. */
+/* What an entry has at a block. Block b is at index b of the table. */
 struct adf_part {
-    size_t node; /* the entry that has the block; 0 for the root, the bitmap, and a block that nothing found has */
-    uint32_t
-        number; /* the number of the data block of a file that it is, from 1, if nothing else asks for the block; otherwise 0 */
+    size_t node;     /* the entry that has the block; 0 for the root, the bitmap, and a block that no entry has */
+    uint32_t number; /* the number of the data block of a file that it is, from 1, if it is that file's own; otherwise 0 */
 };
 
 /* The number that stands for no block in the table of a file. */
 #define ADF_NO_BLOCK UINT32_C(0xFFFFFFFF)
 
-/* Surveys an image of this length, and fills a table with a row for each of its length / 512 blocks, as far as there is room. The
- * entries are those of adf_survey_index. If nothing is found, as without a root, there are no rows. The rest of the room is
+/* Judges an image of this length, and fills a table with a row for each of its length / 512 blocks, as far as there is room. The
+ * entries are those of adf_survey_index. If the image cannot be judged, there are no rows. The rest of the room is
  * unchanged. Returns an adf_cause: 0, or ADF_NO_MEMORY, and then the room is unchanged.
  */
 uint8_t adf_survey_parts(const uint8_t *image, size_t length, struct adf_part *parts, size_t room);
 
-/* Writes the role of each block of an image of this length, as its survey finds it: byte b of the room is the adf_role of block b,
- * as far as there is room. A block has the role of the part of the volume that the survey found there; without one it is
- * ADF_ROLE_BOOT for the blocks 0 and 1, and ADF_ROLE_FREE for others, which may be in use or lost. On an image that adf_check
- * accepts these are the roles of adf_owners. If nothing is found, as without a root, the room is unchanged; its bytes after the
- * last block always are.
+/* Writes the role of each block of an image of this length, as it is judged: byte b of the room is the adf_role of block b, as far as
+ * there is room. A block has the role of the part of the volume, or of an entry, that has it; without one it is ADF_ROLE_BOOT for
+ * the blocks 0 and 1, and ADF_ROLE_FREE for others, which may be in use or lost. On an image that adf_check accepts these are the
+ * roles of adf_owners. If the image cannot be judged, the room is unchanged; its bytes after the last block always are.
  * Returns an adf_cause: 0, or ADF_NO_MEMORY, and then the room is unchanged.
  */
 uint8_t adf_survey_owners(const uint8_t *image, size_t length, uint8_t *roles, size_t room);
 
-/* Surveys an image of this length, and looks up a path among the entries that are found. The path is written as for adf_find, and names
- * are compared by the type of the image, as adf-survey does: of several entries of a directory with one name the first is taken.
+/* Judges an image of this length, and looks up a path among the entries that exist. The path is written as for adf_find, and names
+ * are compared by the letters of the volume, as adf-survey does: of several entries of a directory with one name the first is taken.
  * Returns:
  *
  * 0: node is the number of the entry, 0 for the empty path.
- * 1: nothing has this path. Without a root nothing has one but the empty one.
+ * 1: nothing has this path. If the image cannot be judged, nothing has one but the empty one.
  * 2: the text is not a path.
  * ADF_NO_MEMORY: an allocation failed.
  *
@@ -533,19 +533,19 @@ uint8_t adf_survey_owners(const uint8_t *image, size_t length, uint8_t *roles, s
  */
 uint8_t adf_survey_find(const uint8_t *image, size_t length, const uint8_t *path, size_t path_length, size_t *node);
 
-/* Fills the table of a file that is found, by its number and the block of its header: its data blocks in order, as far as there is
- * room, with ADF_NO_BLOCK for each that is not left. On OFS a block is the file's own that says so itself, with a right sum; on FFS
- * one that nothing else asks for. Returns how many its size asks for, whatever the room: at most length / 488 + 1, and 0 for a
+/* Fills the table of a file that exists, by its number and the block of its header: its data blocks in order, as far as there is
+ * room, with ADF_NO_BLOCK for each that is not left: one is in it that its header or an extension block names, if the row of that block
+ * says that it is this data block of the file. Returns how many its size asks for, whatever the room: at most length / 488 + 1, and 0 for a
  * directory, an empty file, and a block that is no file's header. The rest of the room is unchanged.
  *
- * With other rows than those of the image's survey it is the same table by these rows: a block of an FFS file is in it only if the
- * image has it, and its row has the node and the number. It allocates nothing. A budget, by reading the code and not proved: the work is
+ * With other rows than those of the image it is the same table by these rows: a block is in it only if the image has it, and its row
+ * has the node and the number. It allocates nothing. A budget, by reading the code and not proved: the work is
  * proportional to the number that is returned.
  */
 size_t adf_found_blocks(const uint8_t *image, size_t length, const struct adf_part *parts, size_t parts_count, size_t node,
                         uint32_t header, uint32_t *blocks, size_t blocks_room);
 
-/* Copies the bytes of a file that is found into the room, by the block of its header and by its table: those from byte `offset`
+/* Copies the bytes of a file that exists into the room, by the block of its header and by its table: those from byte `offset`
  * on, up to the first data block that is not found, as many as there are and fit. Returns how many, and sets `lost` to the number
  * of bytes right behind them that are lost: 0 if the next byte is found, or the file ends there. So with a room of at least one
  * byte both are 0 only from the end of the file on. The rest of the room is unchanged.
@@ -563,25 +563,30 @@ size_t adf_found_read(const uint8_t *image, size_t length, uint32_t header, cons
 
 /* Rescues
  *
- * A rescue of an image is a new, sound volume of all that stands on it: whole files, and directories, also such as no directory leads
- * to any more. adf-survey(1) says what stands.
+ * A rescue of an image is a new, sound volume of all that exists on it: whole files, and directories, also such as no directory leads
+ * to any more. adf-survey(1) says what exists.
  */
 
-/* Why something is not in the volume of a rescue: 1 to 5; or why an entry is in doubt that is in it: 6 to 9. A later version may have
- * more of them. */
+/* Why something is not in the volume of a rescue: 1 to 5; why an entry is in doubt that is in it: 6 to 9; or what is another one in it,
+ * or could not be read: 10 to 13. A later version may have more of them. */
 enum adf_loss_why {
-    ADF_LOSS_DAMAGED = 1,         /* An entry is a file that is not whole. */
+    ADF_LOSS_DAMAGED = 1,         /* An entry is a file that is not whole, or a link that leads to nothing. */
     ADF_LOSS_LINK = 2,            /* An entry is a link. */
-    ADF_LOSS_NO_ROOM = 3,         /* Its directory is left out, its name is taken, or the blocks do not suffice. */
-    ADF_LOSS_HEADERS = 4,         /* A chain of a directory is broken; what it led to may be found again. */
+    ADF_LOSS_NO_ROOM = 3,         /* The blocks do not suffice. */
+    ADF_LOSS_HEADERS = 4,         /* A hash chain of a directory is broken; what it led to may be found again. */
     ADF_LOSS_BLOCKS = 5,          /* Blocks in use are lost, not in the image, behind the volume, or made anew. */
-    ADF_LOSS_IN_DOUBT = 6,        /* The checksum of its header is wrong: its name may be too, and a directory may lack things. */
-    ADF_LOSS_PERHAPS_DELETED = 7, /* The bitmap has its header free, or nothing tells whether it was deleted. */
+    ADF_LOSS_IN_DOUBT = 6,        /* What it says of itself, its place or its data may be wrong. */
+    ADF_LOSS_PERHAPS_DELETED = 7, /* The bitmap has a block of it free, or nothing tells whether it was deleted. */
     ADF_LOSS_FOUND_AGAIN = 8,     /* No directory leads to it: it was found by what its header says. */
-    ADF_LOSS_MADE = 9             /* The rescue made the directory, for what names a lost one. */
+    ADF_LOSS_MADE = 9,            /* The rescue made the directory, for what names a lost one. */
+    ADF_LOSS_RENAMED = 10, /* The entry has another name: its own is none, or another one has it. Its path is the stated one, `: `,
+                                     and the one in the volume; no name that is spelled has `: `. It may be left out by another row. */
+    ADF_LOSS_COMMENT_CUT = 11, /* The comment of the entry is too long, and is cut. */
+    ADF_LOSS_LABEL_CUT = 12,   /* The label in the root, the block of the row, is too long, and is cut. */
+    ADF_LOSS_BITMAP = 13       /* The page of the bitmap in the block of the row cannot be read. */
 };
 
-/* Something of an image that is not in the volume of its rescue, or an entry that is in it in doubt. */
+/* Something of an image that is not in the volume of its rescue, or is in it in doubt, or is another one there. */
 struct adf_loss {
     size_t path;        /* where its path begins in the text of all paths */
     size_t path_length; /* 0 for the root, and for blocks */
@@ -602,23 +607,24 @@ struct adf_rescue_told {
 #define ADF_RESCUE_SMALL_ROOM 24
 
 /* Rescues an image of this length, as `adf-survey rescue` does: as it is, or if blocks is not 0, as if it had so many blocks, with
- * zeros for what is not there; a number that no volume has is ADF_BAD_SIZE, and memory for so many blocks is taken all the same. The
- * losses come in the order of the lines of that command, and their paths are spelled as there, one of more than 1,024 bytes from a block
- * on, as `\block 412/c/list`: also of what is in the volume they are those of the image, so a name may be another one in the volume.
+ * zeros for what is not there; a number that no volume has is ADF_BAD_SIZE. The losses come in the order of the lines of that command,
+ * and their paths are spelled as there, one of more than 1,024 bytes from a block on, as `\block 412/c/list`: also of what is in the
+ * volume they are those of the image, so a name may be another one in the volume.
  * Returns:
  *
  * 0: the room begins with the volume, of told->blocks * 512 bytes, which adf_check accepts, up to its size, and the tables have
  *    what is not in it, and what is in it in doubt.
  *    told->losses and told->paths are the whole numbers: a table that is smaller has the front part. The rest of each room is
  *    unchanged.
- * An adf_cause: nothing stands, and more is wrong than the type. It is the first fault of the image, at told->block; where
- *    adf_survey_subject would change the type, of the image with that type.
+ * An adf_cause: nothing exists, and more is wrong than the type. It is the first fault of the image, at told->block. A volume with long
+ *    names, of type 6 or 7, is ADF_NOT_DOS.
  * ADF_RESCUE_SMALL_ROOM: the volume has told->blocks blocks, and the room has fewer bytes. A volume has as many blocks as what
  *    adf_survey_subject writes, which may be more than the image has. A room of as many blocks is not refused so.
  * ADF_NO_MEMORY: an allocation failed. All fields are 0.
  *
- * Whatever is returned but 0, the three rooms are unchanged. Besides the rooms, the call allocates copies of the image and surveys of
- * them.
+ * Whatever is returned but 0, the three rooms are unchanged. Besides the rooms, the call allocates the tree of the volume with its files,
+ * and tables of the image's blocks. Proved is, whatever is judged: the volume is sound, each file in it has the bytes that one header of
+ * the image and its extension blocks name, and no block of the image is of two entries.
  */
 uint8_t adf_rescue(const uint8_t *image, size_t length, uint32_t blocks, uint8_t *room, size_t room_length, struct adf_loss *losses,
                    size_t losses_room, uint8_t *paths, size_t paths_room, struct adf_rescue_told *told);

@@ -169,7 +169,7 @@ pub extern "C" fn adf_survey_subject(
     room: &mut [u8],
     told: &mut SubjectTold,
 ) -> u8
-    ensures { PutsSubject image.now blocks room.old room.new told.new result }
+    ensures { PutsSubject image.now room.old room.new told.new result }
 {
     put_subject(alloc, image, blocks, room, told)
 }
@@ -257,7 +257,7 @@ pub extern "C" fn adf_rescue(
     paths: &mut [u8],
     told: &mut RescueTold,
 ) -> u8
-    ensures { RescuesVolume Plain image.now blocks room.old room.new losses.old losses.new paths.old paths.new told.new result }
+    ensures { RescuesVolume Plain image.now room.old room.new losses.old losses.new paths.old paths.new told.new result }
 {
     let types = Types::Plain;
     let input = RescueInput {
@@ -278,7 +278,7 @@ pub extern "C" fn adf_rescue_types(
     paths: &mut [u8],
     told: &mut RescueTold,
 ) -> u8
-    ensures { RescuesVolume WithInternational image.now blocks room.old room.new losses.old losses.new paths.old paths.new
+    ensures { RescuesVolume WithInternational image.now room.old room.new losses.old losses.new paths.old paths.new
         told.new result }
 {
     let types = Types::WithInternational;

@@ -17,6 +17,3 @@ pub mod DiskReadings
 pub mod TableDrafts
 -- rescues
 pub mod PreparedRescues
-pub mod RescueSizes
--- what is surveyed of an image
-pub mod SurveyedImages

@@ -1,16 +1,19 @@
 -- Volumes that are built from a table of additions.
 -- Letters: v a new volume; xs the table of its additions; bytes the contents of the files; t a tree; n a number of blocks.
-use Rattle.std.specs.Prelude.{◌≡◌, ◌≤◌, ◌<◌, ◌*◌, ◌-◌, ℕ, true, false, List, [], length, take}
+use Rattle.std.specs.Prelude.{◌≡◌, ◌≤◌, ◌<◌, ◌*◌, ◌-◌, ◌%◌, ◌==◌, ℕ, true, false, List, [], cond, length, take}
 use Rattle.adf_base.specs.declared.hash.Letters.{Letters}
-use Rattle.adf_names.specs.VolumeTypes.{letters_of_type}
+use Rattle.adf_names.specs.{VolumeTypes.letters_of_type, declared.kind.Kind.Kind, declared.kind.Kind.TheVariants.Ffs, declared.kind.Kind.TheVariants.Ofs}
 use Rattle.adf_tree.specs.Tree.{Tree}
 use Rattle.adf_blocks.specs.{Sizes.is_allowed, declared.layout.TheConstants.MOST_BLOCKS}
 use Rattle.adf_build.specs.{Building.IsBuildable, Building.need_of, Laid.IsLaid}
-use Rattle.adf_subjects.specs.Remarks.{kind_of_type}
 use Rattle.adf_memory.specs.{Rooms.filled, declared.building.Built.Built, declared.building.NewVolume.NewVolume, declared.building.Refusal.Refusal}
 use Rattle.adf_memory.specs.declared.table_additions.TableAddition.{TableAddition}
 use Rattle.adf_memory.specs.TableAdditions.{AreSound, IsFirstAdditionFault, addition_fault_number, stamp_of, tree_with}
 use Rattle.adf_memory.specs.declared.building.Refusal.TheVariants as refusal
+
+-- the kind of a volume of this type: FFS if it is odd
+abbrev pub kind_of_type : ℕ → Kind
+kind_of_type n = cond (n % 2 == 0) Ofs Ffs
 
 -- the tree of a new volume, without entries
 abbrev pub new_tree : NewVolume → Tree

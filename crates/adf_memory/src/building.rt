@@ -5,8 +5,7 @@ ghost use Rattle.adf_names.specs.VolumeTypes.{letters_of_type};
 ghost use Rattle.adf_tree.specs.Tree.{Tree as ATree};
 ghost use Rattle.adf_memory.specs.Building.{ExplainsBuild, ExplainsNeed, HasVolume, IsBadVolume, IsFewest};
 ghost use Rattle.adf_memory.specs.Building.{IsSoundVolume, IsTableRefusal, built_in};
-ghost use Rattle.adf_subjects.specs.Remarks.{kind_of_type};
-ghost use Rattle.adf_memory.specs.Building.{new_tree, refusal_number, told, tree_of};
+ghost use Rattle.adf_memory.specs.Building.{kind_of_type, new_tree, refusal_number, told, tree_of};
 ghost use Rattle.adf_memory.specs.TableAdditions.{AreSound, IsDraftOf, tree_with};
 ghost use Rattle.adf_memory.specs.VolumeCalls.{BuildsVolume, NeedsBlocks};
 

@@ -1,19 +1,21 @@
-// The table of the links that a survey finds.
+// The table of the right links of a judged image.
 
-ghost use Rattle.std.specs.Prelude.{◌<◌, IfSome};
+ghost use Rattle.std.specs.Prelude.{◌≡◌, ◌<◌, IfOk, IfSome, OnErr};
 ghost use Rattle.adf_blocks.specs.Sizes.{blocks};
-ghost use Rattle.adf_memory.specs.{Rooms.BeginsWith, SurveyCalls.FillsLinks};
+ghost use Rattle.adf_memory.specs.{Rooms.BeginsWith, SurveyCalls.FillsLinks, SurveyCalls.IsLinkOf};
 
-use crate::found_tables::{header_of, owner_number};
+use crate::judged::{Judged, judge_image};
 use crate::tables::put;
-use adf_base::BLOCK_LEN;
+use adf_base::{BLOCK_LEN, NoMemory};
 use adf_blocks::Cause;
-use adf_findings::{Survey, has_mark, survey};
-use adf_links::{LinkKind, PATH_START, link_of, link_path, original_of, right_links};
-use adf_tree::Node;
+use adf_judge::{Claim, Object};
+use adf_report::Report;
 use std::alloc::Global;
 
-/// A right link that is found: it leads to something. Fields that do not apply are 0.
+/// The byte of a soft link where its path begins.
+const PATH_START: usize = 24;
+
+/// A right link that exists: it leads to something. Fields that do not apply are 0.
 #[repr(C)]
 #[derive(Clone, Copy)]
 pub struct TableLink {
@@ -31,68 +33,70 @@ pub struct TableLink {
     pub kind: u8,
 }
 
-// The number of a kind of link.
-fn link_number(kind: Option<LinkKind>) -> u8 {
-    match kind {
-        None => 0,
-        Some(LinkKind::File) => 1,
-        Some(LinkKind::Directory) => 2,
-        Some(LinkKind::Soft) => 3,
+// The number of a kind of link; 0 of what is none.
+fn link_number(object: Object) -> u8 {
+    match object {
+        Object::FileLink => 1,
+        Object::DirectoryLink => 2,
+        Object::SoftLink => 3,
+        Object::Directory | Object::File => 0,
     }
 }
 
-// Where the path of a soft link begins, by the block of its header.
-fn path_place(header: u32, kind: Option<LinkKind>) -> usize {
-    match kind {
-        Some(LinkKind::Soft) => BLOCK_LEN * header as usize + PATH_START,
-        _ => 0,
+// Where the path of a soft link begins, by the block of its header; 0 of another link.
+fn path_place(header: u32, object: Object) -> usize {
+    if object == Object::SoftLink {
+        BLOCK_LEN * header as usize + PATH_START
+    } else {
+        0
     }
 }
 
-// The length of the path of a soft link.
-fn path_size(survey: &Survey<'_>, n: Node, kind: Option<LinkKind>) -> usize {
-    match kind {
-        Some(LinkKind::Soft) => link_path(survey, n).len(),
-        _ => 0,
+// The length of the path of a soft link, by its number; 0 of another link.
+fn path_size(report: &Report<'_, '_>, number: usize, object: Object) -> usize {
+    if object == Object::SoftLink {
+        report.soft_path(number).len()
+    } else {
+        0
     }
 }
 
-// The row of a link; `None` past the last entry.
-fn link_row(survey: &Survey<'_>, n: Node) -> Option<TableLink>
-    ensures { IfSome result (λ row. row.header < blocks survey.now.image) }
+// The row of the entry at a place in the table.
+fn link_row(judged: &Judged<'_>, report: &Report<'_, '_>, i: usize, claim: &Claim) -> TableLink
+    requires { i < judged.now.blocks }
+    ensures { IsLinkOf judged.now.blocks result }
 {
-    let Some(header) = header_of(survey, n) else {
-        return None;
-    };
-    let kind = link_of(survey, n);
-    Some(TableLink {
-        node: n.0,
-        target: owner_number(original_of(survey, n)),
-        path: path_place(header, kind),
-        path_length: path_size(survey, n, kind),
+    let header = judged.told_block(claim.header);
+    TableLink {
+        node: i + 1,
+        target: judged.told_entry(claim.target),
+        path: path_place(header, claim.object),
+        path_length: path_size(report, i + 1, claim.object),
         header,
-        kind: link_number(kind),
-    })
+        kind: link_number(claim.object),
+    }
 }
 
-// The row of an entry, if it is a right link by the marks of these.
-fn right_row(survey: &Survey<'_>, right: &Vec<bool>, n: Node) -> Option<TableLink>
-    ensures { IfSome result (λ row. row.header < blocks survey.now.image) }
+// The row of the entry at a place in the table, if it is a right link.
+fn right_row(judged: &Judged<'_>, report: &Report<'_, '_>, i: usize) -> Option<TableLink>
+    requires { i < judged.now.blocks }
+    ensures { IfSome result (IsLinkOf judged.now.blocks) }
 {
-    if has_mark(right, n.0) {
-        link_row(survey, n)
+    let claim = judged.entry(i)?;
+    if report.is_right_link(i + 1) {
+        Some(link_row(judged, report, i, claim))
     } else {
         None
     }
 }
 
-// Fills the table with the links that are marked, as far as there is room. Returns how many there are.
-fn put_right(survey: &Survey<'_>, right: &Vec<bool>, room: &mut [TableLink]) -> usize
-    ensures { BeginsWith (λ row. row.header < blocks survey.now.image) result room.old room.new }
+// Fills the table with the right links, as far as there is room. Returns how many there are.
+fn put_right(judged: &Judged<'_>, report: &Report<'_, '_>, room: &mut [TableLink]) -> usize
+    ensures { BeginsWith (IsLinkOf judged.now.blocks) result room.old room.new }
 {
     let mut count = 0;
-    for i in 0..survey.len() {
-        let Some(row) = right_row(survey, right, Node(i + 1)) else {
+    for i in 0..judged.len() {
+        let Some(row) = right_row(judged, report, i) else {
             continue;
         };
         put(room, count, row);
@@ -101,19 +105,30 @@ fn put_right(survey: &Survey<'_>, right: &Vec<bool>, room: &mut [TableLink]) -> 
     count
 }
 
-/// Surveys an image and fills a table with its right links, in the order of their entries, as far as it has room. Writes how
+// Judges an image and fills the table with its right links; with none if nothing is judged. Returns how many there are.
+fn put_judged(alloc: Global, image: &[u8], links: &mut [TableLink]) -> Result<usize, NoMemory>
+    ensures links { IfOk result (λ count. BeginsWith (IsLinkOf (blocks image.now)) count links.old links.new) }
+    ensures unchanged { OnErr result (links.new ≡ links.old) }
+{
+    match judge_image(alloc, image)? {
+        Some(judged) => {
+            let report = Report::of(alloc, &judged.judgement)?;
+            Ok(put_right(&judged, &report, links))
+        }
+        None => Ok(0),
+    }
+}
+
+/// Judges an image and fills a table with its right links, in the order of their entries, as far as it has room. Writes how
 /// many there are to `count`. Returns 0, or the number of `NoMemory` if memory ran out.
 pub fn put_links(alloc: Global, image: &[u8], links: &mut [TableLink], count: &mut usize) -> u8
     ensures { FillsLinks image.now links.old links.new count.old count.new result }
 {
-    match survey(alloc, image) {
-        Ok(found) => match right_links(alloc, &found) {
-            Ok(right) => {
-                *count = put_right(&found, &right, links);
-                0
-            }
-            Err(_) => Cause::NoMemory.number(),
-        },
+    match put_judged(alloc, image, links) {
+        Ok(right) => {
+            *count = right;
+            0
+        }
         Err(_) => Cause::NoMemory.number(),
     }
 }

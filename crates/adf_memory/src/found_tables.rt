@@ -1,16 +1,16 @@
-// The tables of a survey, and how they are filled.
+// The tables of the findings and of the entries of an image, and how they are filled.
 
-ghost use Rattle.std.specs.Prelude.{◌≡◌, ◌≤◌, ◌<◌, IfSome, length};
-ghost use Rattle.adf_blocks.specs.Sizes.{blocks};
-ghost use Rattle.adf_memory.specs.Rooms.{BeginsWith, HasRows};
+ghost use Rattle.std.specs.Prelude.{◌≡◌, ◌≤◌, ◌<◌, length};
+ghost use Rattle.adf_memory.specs.{Rooms.BeginsWith, SurveyCalls.IsEntryIn, SurveyCalls.IsFindingIn};
 
+use crate::judged::Judged;
 use crate::tables::{Date, date_of, field, put};
 use adf_base::Letters;
-use adf_blocks::HeadBody;
-use adf_findings::{Concern, Survey, some_survey};
+use adf_findings::{Concern, Survey};
+use adf_judge::{Claim, Object, Reading};
 use adf_names::type_number;
-use adf_subjects::{Run, run_from};
-use adf_tree::{Meta, Node};
+use adf_report::{Report, Run};
+use adf_tree::Node;
 
 /// Findings of neighbouring blocks that have one cause and concern the same.
 #[repr(C)]
@@ -30,7 +30,7 @@ pub struct TableFinding {
     pub is_within: u8,
 }
 
-/// A directory, file or link that is found. Entry n is at index n - 1 of the table.
+/// A directory, file or link that exists. Entry n is at index n - 1 of the table.
 #[repr(C)]
 #[derive(Clone, Copy)]
 pub struct FoundEntry {
@@ -48,7 +48,7 @@ pub struct FoundEntry {
     /// 1 if the entry is sound, otherwise 0.
     pub is_sound: u8,
     pub name_length: u8,
-    /// The name as it is in the header, not necessarily valid, padded with zeros.
+    /// The name, or of a renamed entry the new one, padded with zeros.
     pub name: [u8; 79],
     pub comment_length: u8,
     /// The comment, padded with zeros.
@@ -61,11 +61,11 @@ pub struct FoundEntry {
 pub struct Surveyed {
     /// 0 for OFS, 1 for FFS.
     pub kind: u32,
-    /// All blocks, including the two boot blocks; 0 if the root is not taken.
+    /// All blocks, including the two boot blocks; 0 if nothing is judged.
     pub blocks: u32,
     /// Rows of the table of findings.
     pub findings: usize,
-    /// Directories, files and links that are found, excluding the root.
+    /// Directories, files and links that exist, excluding the root.
     pub entries: usize,
     /// The root's own date in the root block.
     pub root: Date,
@@ -78,14 +78,6 @@ pub struct Surveyed {
     pub label: [u8; 30],
 }
 
-// The number of the entry or directory that is concerned; 0 for none.
-fn concern_node(concern: Option<Concern>) -> usize {
-    match concern {
-        Some(Concern::Entry(n) | Concern::Within(n)) => n as usize,
-        None => 0,
-    }
-}
-
 // 1 if a header was skipped in the directory that is concerned.
 fn is_within(concern: Option<Concern>) -> u8 {
     match concern {
@@ -94,76 +86,88 @@ fn is_within(concern: Option<Concern>) -> u8 {
     }
 }
 
-/// The number of an entry; 0 for none.
-pub fn owner_number(owner: Option<Node>) -> usize {
-    match owner {
-        Some(n) => n.0,
-        None => 0,
+// The number of the entry that a node of a survey is, by the report of what is judged, if anything is; 0 for the root, for one that
+// does not exist, and for one past the most.
+fn number_of(
+    survey: &Survey<'_>,
+    report: Option<&Report<'_, '_>>,
+    most: usize,
+    n: Option<Node>,
+) -> usize
+    ensures { result ≤ most }
+{
+    let (Some(report), Some(n)) = (report, n) else {
+        return 0;
+    };
+    let number = report.claim_at(survey.block_of(n).unwrap_or(0));
+    if number <= most { number } else { 0 }
+}
+
+// The node that is concerned.
+fn concerned(concern: Option<Concern>) -> Option<Node> {
+    match concern {
+        Some(Concern::Entry(n) | Concern::Within(n)) => Some(Node(n as usize)),
+        None => None,
     }
 }
 
 // The row of a run of findings.
-fn finding_row(run: &Run) -> TableFinding {
+fn finding_row(
+    survey: &Survey<'_>,
+    report: Option<&Report<'_, '_>>,
+    most: usize,
+    run: &Run,
+) -> TableFinding
+    ensures { IsFindingIn most result }
+{
     TableFinding {
         first: run.first,
         last: run.last,
-        node: concern_node(run.concern),
-        owner: owner_number(run.owner),
+        node: number_of(survey, report, most, concerned(run.concern())),
+        owner: number_of(survey, report, most, run.owner()),
         cause: run.cause.number(),
-        is_within: is_within(run.concern),
+        is_within: is_within(run.concern()),
     }
 }
 
-/// Fills the table of findings as far as there is room. Returns the number of its rows.
-pub fn put_findings(survey: &Survey<'_>, room: &mut [TableFinding]) -> usize
-    ensures { HasRows result room.old room.new }
+/// Fills the table of findings as far as there is room, with a row for each run: it names entries by the report of what is judged,
+/// if anything is, and none past the most.
+pub fn put_findings(
+    survey: &Survey<'_>,
+    report: Option<&Report<'_, '_>>,
+    most: usize,
+    runs: &[Run],
+    room: &mut [TableFinding],
+)
+    ensures { BeginsWith (IsFindingIn most) (length runs.now) room.old room.new }
 {
-    let mut count = 0;
-    let mut k = 0;
-    while let Some((run, next)) = run_from(survey, k) {
-        put(room, count, finding_row(&run));
-        count += 1;
-        k = next;
-    }
-    count
-}
-
-// 1 for a file or a link, 0 for a directory.
-fn body_number(body: HeadBody) -> u8 {
-    match body {
-        HeadBody::Dir => 0,
-        HeadBody::File { .. } => 1,
+    for i in 0..runs.len() {
+        put(room, i, finding_row(survey, report, most, &runs[i]));
     }
 }
 
-// The size of a file; 0 of a directory.
-fn body_size(body: HeadBody) -> u32 {
-    match body {
-        HeadBody::Dir => 0,
-        HeadBody::File { size, .. } => size,
+// Whether a directory or a file is sound; links are not.
+fn is_sound(report: &Report<'_, '_>, claim: &Claim, number: usize) -> bool {
+    match claim.object {
+        Object::Directory | Object::File => report.is_sound(number),
+        Object::SoftLink | Object::DirectoryLink | Object::FileLink => false,
     }
 }
 
-// The row of an entry, by its directory, the block of its header, its mark, name, body and metadata.
-fn entry_row(
-    parent: Node,
-    header: u32,
-    is_sound: bool,
-    name: &[u8],
-    body: HeadBody,
-    meta: &Meta,
-) -> FoundEntry
-    ensures { result.header ≡ header }
+// The row of the entry at a place in the table.
+fn entry_row(judged: &Judged<'_>, i: usize, claim: &Claim, is_sound: bool) -> FoundEntry
+    requires { i < judged.now.blocks }
+    ensures { IsEntryIn judged.now.blocks result }
 {
-    let name = &name[..name.len().min(79)];
-    let comment = meta.comment.bytes();
+    let name = &claim.name[..claim.name.len().min(79)];
+    let comment = claim.meta.comment.bytes();
     FoundEntry {
-        parent: parent.0,
-        header,
-        size: body_size(body),
-        protection: meta.protect,
-        date: date_of(meta.stamp),
-        is_file: body_number(body),
+        parent: claim.directory.min(i),
+        header: judged.told_block(claim.header),
+        size: claim.size,
+        protection: claim.meta.protect,
+        date: date_of(claim.meta.stamp),
+        is_file: u8::from(claim.object != Object::Directory),
         is_sound: u8::from(is_sound),
         name_length: name.len() as u8,
         name: field(name),
@@ -172,46 +176,29 @@ fn entry_row(
     }
 }
 
-/// The block of the header of an entry; `None` for the root and past the last entry.
-pub fn header_of(survey: &Survey<'_>, n: Node) -> Option<u32>
-    ensures { IfSome result (λ b. b < blocks survey.now.image) }
-{
-    some_survey();
-    survey.block_of(n)
-}
-
-// The row of entry n; `None` past the last.
-fn found_entry(survey: &Survey<'_>, n: Node) -> Option<FoundEntry>
-    ensures { IfSome result (λ row. row.header < blocks survey.now.image) }
-{
-    let (Some(header), Some(name)) = (header_of(survey, n), survey.name(n)) else {
-        return None;
-    };
-    let (Some(body), Some(meta)) = (survey.body(n), survey.meta(n)) else {
-        return None;
-    };
-    let is_sound = survey.is_sound(n);
-    Some(entry_row(survey.directory_of(n), header, is_sound, name, body, &meta))
-}
-
 /// Fills the table of entries as far as there is room. Returns how many there are.
-pub fn put_found(survey: &Survey<'_>, room: &mut [FoundEntry]) -> usize
-    ensures { BeginsWith (λ row. row.header < blocks survey.now.image) result room.old room.new }
+pub fn put_found(judged: &Judged<'_>, report: &Report<'_, '_>, room: &mut [FoundEntry]) -> usize
+    ensures rows { BeginsWith (IsEntryIn judged.now.blocks) result room.old room.new }
+    ensures few { result ≤ judged.now.blocks }
 {
-    let count = survey.len();
+    let count = judged.len();
     for i in 0..count {
-        let Some(entry) = found_entry(survey, Node(i + 1)) else {
+        let Some(claim) = judged.entry(i) else {
             return i;
         };
-        put(room, i, entry);
+        put(
+            room,
+            i,
+            entry_row(judged, i, claim, is_sound(report, claim, i + 1)),
+        );
     }
     count
 }
 
-/// What a survey of so many rows of findings and so many entries has if the root is not taken.
-pub fn unread(findings: usize, entries: usize) -> Surveyed
+/// What there is besides so many rows of findings if nothing is judged.
+pub fn not_judged(findings: usize) -> Surveyed
     ensures findings { result.findings ≡ findings }
-    ensures entries { result.entries ≡ entries }
+    ensures entries { result.entries ≡ 0 }
 {
     let date = Date {
         days: 0,
@@ -222,7 +209,7 @@ pub fn unread(findings: usize, entries: usize) -> Surveyed
         kind: 0,
         blocks: 0,
         findings,
-        entries,
+        entries: 0,
         root: date,
         altered: date,
         created: date,
@@ -231,23 +218,20 @@ pub fn unread(findings: usize, entries: usize) -> Surveyed
     }
 }
 
-/// What a survey has besides its tables, of so many rows and entries.
-pub fn surveyed_of(survey: &Survey<'_>, findings: usize, entries: usize) -> Surveyed
+/// What a volume that is read so has besides its tables, of so many rows and entries.
+pub fn surveyed_of(reading: &Reading, findings: usize, entries: usize) -> Surveyed
     ensures findings { result.findings ≡ findings }
     ensures entries { result.entries ≡ entries }
 {
-    let Some(opening) = survey.opening() else {
-        return unread(findings, entries);
-    };
-    let label = opening.label.bytes();
+    let label = reading.label.bytes();
     Surveyed {
-        kind: u32::from(type_number(Letters::Ascii, opening.kind)),
-        blocks: opening.blocks,
+        kind: u32::from(type_number(Letters::Ascii, reading.kind)),
+        blocks: reading.blocks,
         findings,
         entries,
-        root: date_of(opening.stamps.root),
-        altered: date_of(opening.stamps.altered),
-        created: date_of(opening.stamps.created),
+        root: date_of(reading.stamps.root),
+        altered: date_of(reading.stamps.altered),
+        created: date_of(reading.stamps.created),
         label_length: label.len() as u8,
         label: field(label),
     }

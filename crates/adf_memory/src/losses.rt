@@ -3,7 +3,7 @@
 ghost use Rattle.std.specs.Prelude.{IfOk, OnOk};
 ghost use Rattle.adf_memory.specs.Rescuing.{ArePathsWithin};
 
-use adf_subjects::Loss;
+use adf_report::Loss;
 use std::alloc::{AllocError, Global};
 
 /// Something of an image that is not in the volume of its rescue, or in doubt there.
@@ -19,9 +19,10 @@ pub struct TableLoss {
     pub first: u32,
     /// The same header; or the last block that is lost.
     pub last: u32,
-    /// 1 for a damaged entry, 2 for a link, 3 for an entry without room, 4 for headers in a directory, 5
-    /// for blocks; and of entries that are kept 6 for one in doubt, 7 for one that may have been deleted,
-    /// 8 for one that no directory led to, 9 for a directory that was made.
+    /// 1 for a damaged entry, 2 for a link, 3 for an entry without room, 4 for headers in a directory, 5 for blocks; of entries that
+    /// are kept 6 for one in doubt, 7 for one that may have been deleted, 8 for one that no directory led to, 9 for a directory
+    /// that was made, 10 for one by another name, whose path is both, 11 for a comment that was cut; 12 for a label that was cut,
+    /// 13 for a page of the bitmap that cannot be read.
     pub why: u8,
 }
 

@@ -1,22 +1,25 @@
 // Rescues into the memory of the caller.
 
-ghost use Rattle.std.specs.Prelude.{◌≡◌, ◌≤◌, ◌*◌, ◌<◌, List, ℕ, Err, IfErr, IfOk, Ok, OnErr, OnOk, length};
+ghost use Rattle.std.specs.Prelude.{◌≡◌, ◌≤◌, ◌*◌, ◌<◌, List, ℕ, Err, IfErr, IfOk, IfSome, Ok, OnErr, OnOk, length};
 ghost use Rattle.adf_boot_blocks.specs.declared.boot.TheConstants.{BOOT_LEN};
-ghost use Rattle.adf_subjects.specs.{Rescues.RescuesTyped, Subject.subject, Subject.subject_value};
-ghost use Rattle.adf_memory.specs.Rescuing.{ExplainsRescue, GivesWritten, HasRescue, IsRoomRefusal, IsVolumeOf, Readies};
-ghost use Rattle.adf_memory.specs.Rescuing.{asked_blocks, rescue_number, rescue_told};
+ghost use Rattle.adf_build.specs.Building.{IsBuildable};
+ghost use Rattle.adf_keep.specs.Rescued.{IsOwnTree};
+ghost use Rattle.adf_memory.specs.Rescuing.{ExplainsRescue, GivesVolume, HasRescue, IsReadyOf, IsRescueOf, IsRoomRefusal, IsVolumeOf};
+ghost use Rattle.adf_memory.specs.Rescuing.{rescue_number, rescue_told, sized};
 ghost use Rattle.adf_memory.specs.{Rooms.filled, SurveyCalls.RescuesVolume};
 ghost use Rattle.adf_memory.specs.declared.rescuing.RescueRefusal.{RescueRefusal as ARescueRefusal};
 
 use crate::losses::{TableLoss, table_of};
 use crate::tables::put_all;
 use adf_base::{BLOCK_LEN, NoMemory};
-use adf_boot_blocks::restore;
+use adf_blocks::Cause;
+use adf_boot_blocks::{BOOT_LEN, restore};
 use adf_build::build_into;
-use adf_drafts::Draft;
-use adf_subjects::{Prepared, Subject, Unrescued, prepare};
+use adf_judge::{Judgement, Question, Refusal, judge};
+use adf_keep::{Prepared, RescueTerms, Unrescued, accepted, prepare};
+use adf_report::{Loss, Report, RescueResult};
 use adf_tree::Tree;
-use adf_volume::{Fault, Types};
+use adf_volume::{Fault, Types, fault_at};
 use std::alloc::Global;
 
 /// What is told of a rescue beside its number. Fields that do not apply are 0.
@@ -36,7 +39,7 @@ pub struct RescueTold {
 /// Why no volume is written.
 #[derive(Clone, Copy)]
 pub enum RescueRefusal {
-    /// Nothing stands on the image, which has this first fault.
+    /// Nothing exists on the image, which has this first fault.
     Fault(Fault),
     /// The room is smaller than the volume, which has so many blocks.
     SmallRoom(u32),
@@ -44,11 +47,21 @@ pub enum RescueRefusal {
     NoMemory,
 }
 
-/// A rescue of which only the new volume is to be laid, and the boot blocks that are put into that.
+/// A rescue of which only the new volume is to be laid, the boot blocks that are put into that, and what is told of it.
 #[derive(Drop)]
 pub struct Ready {
     pub prepared: Prepared,
     pub boot: Vec<u8>,
+    pub losses: Vec<Loss>,
+}
+
+/// An image that is rescued as it is, or if `blocks` is not 0, as if it had so many blocks; and the types that the new volume may
+/// have.
+#[derive(Clone, Copy)]
+pub struct RescueInput<'a> {
+    pub image: &'a [u8],
+    pub blocks: u32,
+    pub types: Types,
 }
 
 impl RescueRefusal {
@@ -83,42 +96,114 @@ impl RescueRefusal {
 }
 
 /// The number of blocks that is meant: 0 for as many as the image has.
-pub fn asked_blocks(blocks: u32) -> Option<u32>
-    ensures { result ≡ asked_blocks blocks }
-{
+pub fn asked_blocks(blocks: u32) -> Option<u32> {
     match blocks {
         0 => None,
         _ => Some(blocks),
     }
 }
 
-// Prepares the rescue of what is surveyed of an input, once its image has the type that its files say.
-fn ready_subject(alloc: Global, mut subject: Subject, types: Types) -> Result<Ready, Unrescued>
-    ensures { Readies (RescuesTyped types (subject_value subject)) result }
+// The boot blocks of an image, with zeros for what is not there.
+fn boot_of(alloc: Global, image: &[u8]) -> Result<Vec<u8>, NoMemory>
+    ensures { IfOk result (λ boot. boot.items ≡ sized BOOT_LEN image.now) }
 {
-    let boot = subject.boot(alloc)?;
-    subject.be_typed(alloc)?;
-    match prepare(alloc, subject, types) {
-        Ok(prepared) => Ok(Ready { prepared, boot }),
-        Err(unrescued) => Err(unrescued),
+    let mut boot = [0; BOOT_LEN];
+    put_all(&mut boot, image);
+    Ok(Vec::from_slice(alloc, &boot)?)
+}
+
+// The rescue of an image that is accepted as it is, if it has as many blocks as are asked for.
+fn accepted_as_asked(alloc: Global, input: RescueInput<'_>) -> Result<Option<Prepared>, NoMemory>
+    ensures { IfOk result (λ o. IfSome o (IsOwnTree input.entry.types input.entry.image.now)) }
+{
+    if input.blocks != 0 && input.blocks as usize * BLOCK_LEN != input.image.len() {
+        return Ok(None);
+    }
+    accepted(alloc, input.image, input.types)
+}
+
+// A rescue that is ready, with the boot blocks of the image.
+fn ready_with(
+    alloc: Global,
+    input: RescueInput<'_>,
+    prepared: Prepared,
+    losses: Vec<Loss>,
+) -> Result<Ready, Unrescued>
+    requires rescue { IsRescueOf input.types input.image.now prepared }
+    requires room { IsBuildable prepared.tree prepared.blocks }
+    ensures { IfOk result (IsReadyOf input.entry.types input.entry.image.now) }
+{
+    let boot = boot_of(alloc, input.image)?;
+    Ok(Ready {
+        prepared,
+        boot,
+        losses,
+    })
+}
+
+// All that is not in the volume of a rescue, or in doubt there: it has no links.
+fn losses_of(
+    alloc: Global,
+    judgement: &Judgement<'_>,
+    prepared: &Prepared,
+) -> Result<Vec<Loss>, NoMemory> {
+    let result = RescueResult {
+        left_out: &prepared.left_out,
+        deleted_out: &prepared.deleted_out,
+        deleted_directory: &prepared.deleted_directory,
+        laid_links: &[],
+    };
+    let report = Report::of(alloc, judgement)?;
+    Ok(report.losses(alloc, &result)?)
+}
+
+// Prepares the rescue of what is judged to exist on an image.
+fn ready_of(
+    alloc: Global,
+    input: RescueInput<'_>,
+    judgement: &Judgement<'_>,
+) -> Result<Ready, Unrescued>
+    ensures { IfOk result (IsReadyOf input.entry.types input.entry.image.now) }
+{
+    let terms = RescueTerms {
+        types: input.types,
+        with_deleted: false,
+    };
+    let prepared = prepare(alloc, input.image, judgement, terms)?;
+    let losses = losses_of(alloc, judgement, &prepared)?;
+    ready_with(alloc, input, prepared, losses)
+}
+
+// The fault of an image that is not judged.
+fn fault_of(refusal: Refusal) -> Fault {
+    match refusal {
+        Refusal::BadSize => fault_at(0, Cause::BadSize),
+        Refusal::LongNames => fault_at(0, Cause::NotDos),
     }
 }
 
-/// An image that is rescued as it is, or if `blocks` is not 0, as if it had so many blocks; and the types that the new volume may
-/// have.
-#[derive(Clone, Copy)]
-pub struct RescueInput<'a> {
-    pub image: &'a [u8],
-    pub blocks: u32,
-    pub types: Types,
+// Judges an image, and prepares its rescue.
+fn ready_judged(alloc: Global, input: RescueInput<'_>) -> Result<Ready, Unrescued>
+    ensures { IfOk result (IsReadyOf input.entry.types input.entry.image.now) }
+{
+    let question = Question {
+        blocks: asked_blocks(input.blocks),
+        unread: &[],
+    };
+    match judge(alloc, input.image, &question)? {
+        Ok(judgement) => ready_of(alloc, input, &judgement),
+        Err(refusal) => Err(Unrescued::Refused(fault_of(refusal))),
+    }
 }
 
 // Prepares the rescue of an image.
 fn ready_image(alloc: Global, input: RescueInput<'_>) -> Result<Ready, Unrescued>
-    ensures { Readies (RescuesTyped input.entry.types (subject (asked_blocks input.entry.blocks) input.entry.image.now)) result }
+    ensures { IfOk result (IsReadyOf input.entry.types input.entry.image.now) }
 {
-    let subject = Subject::of(alloc, input.image, asked_blocks(input.blocks))?;
-    ready_subject(alloc, subject, input.types)
+    match accepted_as_asked(alloc, input)? {
+        Some(prepared) => ready_with(alloc, input, prepared, Vec::new(alloc)),
+        None => ready_judged(alloc, input),
+    }
 }
 
 // Lays the volume of a tree that fits in so many blocks into a room of as many bytes, with these boot blocks.
@@ -143,37 +228,25 @@ fn lay_in(
     }
 }
 
-// The refusal of a room that is smaller than the volume of a tree in so many blocks.
-fn small_room(tree: &Tree, blocks: u32) -> RescueRefusal
-    ensures { (room : ℕ) → room < blocks * 512 → IsRoomRefusal tree.now blocks room result }
-{
-    tree.bounds();
-    let _count = tree.len();
-    RescueRefusal::SmallRoom(blocks)
-}
-
 // Lays such a volume at the front of a room.
 fn lay_in_front(
     alloc: Global,
-    draft: Draft,
+    tree: &Tree,
     blocks: u32,
     boot: &[u8],
     room: &mut [u8],
 ) -> Result<(), RescueRefusal>
     requires boot { BOOT_LEN ≤ length boot.now }
-    ensures volume { OnOk result ((volume : List ℕ) × IsVolumeOf draft.tree blocks boot.now volume
+    ensures volume { OnOk result ((volume : List ℕ) × IsVolumeOf tree.now blocks boot.now volume
         × (room.new ≡ filled volume room.old)) }
-    ensures fault { IfErr result (IsRoomRefusal draft.tree blocks (length room.old)) }
+    ensures fault { IfErr result (IsRoomRefusal blocks (length room.old)) }
     ensures unchanged { OnErr result (room.new ≡ room.old) }
 {
-    let Ok(tree) = draft.finish(alloc) else {
-        return Err(RescueRefusal::NoMemory);
-    };
     let count = blocks as usize * BLOCK_LEN;
     if room.len() < count {
-        return Err(small_room(&tree, blocks));
+        return Err(RescueRefusal::SmallRoom(blocks));
     }
-    match lay_in(alloc, &tree, blocks, boot, &mut room[..count]) {
+    match lay_in(alloc, tree, blocks, boot, &mut room[..count]) {
         Ok(()) => Ok(()),
         Err(_) => Err(RescueRefusal::NoMemory),
     }
@@ -182,30 +255,24 @@ fn lay_in_front(
 // Lays the volume of a rescue at the front of a room, and then fills the table of what is not in it, or in doubt there.
 fn put_rescue(
     alloc: Global,
-    ready: Ready,
+    ready: &Ready,
     room: &mut [u8],
     losses: &mut [TableLoss],
     paths: &mut [u8],
 ) -> Result<RescueTold, RescueRefusal>
-    requires { BOOT_LEN ≤ length ready.boot.items }
+    requires { BOOT_LEN ≤ length ready.now.boot.items }
     ensures volume { IfOk result (HasRescue
-        (IsVolumeOf ready.prepared.draft.tree ready.prepared.blocks ready.boot.items)
+        (IsVolumeOf ready.now.prepared.tree ready.now.prepared.blocks ready.now.boot.items)
         room.old room.new losses.old losses.new paths.old paths.new) }
-    ensures fault { IfErr result
-        (IsRoomRefusal ready.prepared.draft.tree ready.prepared.blocks (length room.old)) }
+    ensures fault { IfErr result (IsRoomRefusal ready.now.prepared.blocks (length room.old)) }
     ensures unchanged { OnErr result
         ((room.new ≡ room.old) × (losses.new ≡ losses.old) × (paths.new ≡ paths.old)) }
 {
-    let Ready { prepared, boot } = ready;
-    let Prepared {
-        draft,
-        blocks,
-        losses: lost,
-    } = prepared;
-    let Ok(table) = table_of(alloc, &lost) else {
+    let Ok(table) = table_of(alloc, &ready.losses) else {
         return Err(RescueRefusal::NoMemory);
     };
-    lay_in_front(alloc, draft, blocks, &boot, room)?;
+    let blocks = ready.prepared.blocks;
+    lay_in_front(alloc, &ready.prepared.tree, blocks, &ready.boot, room)?;
     put_all(losses, &table.rows);
     put_all(paths, &table.paths);
     Ok(RescueTold {
@@ -224,17 +291,15 @@ fn rescue_into(
     losses: &mut [TableLoss],
     paths: &mut [u8],
 ) -> Result<RescueTold, RescueRefusal>
-    ensures volume { IfOk result (HasRescue (GivesWritten
-        (RescuesTyped input.entry.types (subject (asked_blocks input.entry.blocks) input.entry.image.now)))
+    ensures volume { IfOk result (HasRescue (GivesVolume input.entry.types input.entry.image.now)
         room.old room.new losses.old losses.new paths.old paths.new) }
-    ensures fault { IfErr result (ExplainsRescue
-        (RescuesTyped input.entry.types (subject (asked_blocks input.entry.blocks) input.entry.image.now)) (length room.old)) }
+    ensures fault { IfErr result (ExplainsRescue input.entry.types input.entry.image.now (length room.old)) }
     ensures unchanged { OnErr result
         ((room.new ≡ room.old) × (losses.new ≡ losses.old) × (paths.new ≡ paths.old)) }
 {
     match ready_image(alloc, input) {
-        Ok(ready) => put_rescue(alloc, ready, room, losses, paths),
-        Err(Unrescued::Refused(fault, _)) => Err(RescueRefusal::Fault(fault)),
+        Ok(ready) => put_rescue(alloc, &ready, room, losses, paths),
+        Err(Unrescued::Refused(fault)) => Err(RescueRefusal::Fault(fault)),
         Err(Unrescued::NoMemory) => Err(RescueRefusal::NoMemory),
     }
 }
@@ -257,9 +322,9 @@ fn tell(rescued: Result<RescueTold, RescueRefusal>, told: &mut RescueTold) -> u8
     }
 }
 
-/// Rescues an image: writes the new volume of all that stands on it to the front of the room, and fills a table of what is not in
+/// Rescues an image: writes the new volume of all that exists on it to the front of the room, and fills a table of what is not in
 /// that, or in doubt there, and the text of all paths, as far as there is room. Names are compared by the letters of the image, as
-/// far as these types have them. Returns 0; or the number of the first fault of the image, if nothing stands; or 24 if the volume
+/// far as these types have them. Returns 0; or the number of the first fault of the image, if nothing exists; or 24 if the volume
 /// is larger than its room, or that of `NoMemory` if memory ran out.
 pub fn rescue_volume(
     alloc: Global,
@@ -269,7 +334,7 @@ pub fn rescue_volume(
     paths: &mut [u8],
     told: &mut RescueTold,
 ) -> u8
-    ensures { RescuesVolume input.entry.types input.entry.image.now input.entry.blocks
+    ensures { RescuesVolume input.entry.types input.entry.image.now
         room.old room.new losses.old losses.new paths.old paths.new told.new result }
 {
     tell(rescue_into(alloc, input, room, losses, paths), told)

@@ -1,16 +1,15 @@
 // The image that is surveyed in place of an image, in the memory of the caller.
 
-ghost use Rattle.std.specs.Prelude.{◌≡◌, ◌≤◌, IfOk, OnErr, length};
-ghost use Rattle.adf_subjects.specs.Subject.{meant, subject, subject_value};
-ghost use Rattle.adf_memory.specs.Rescuing.{asked_blocks};
-ghost use Rattle.adf_memory.specs.SurveyCalls.{HasSubject, KeepsImage, PutsSubject};
+ghost use Rattle.std.specs.Prelude.{◌≡◌, ◌≤◌, ◌<◌, IfErr, IfOk, OnErr, drop, length};
+ghost use Rattle.adf_memory.specs.Rescuing.{sized};
+ghost use Rattle.adf_memory.specs.SurveyCalls.{HasSurveyed, PutsSubject};
 
 use crate::rescuing::asked_blocks;
 use crate::tables::put_all;
 use adf_base::{BLOCK_LEN, NoMemory};
 use adf_blocks::Cause;
-use adf_rescue::lacks_boot;
-use adf_subjects::{Subject, blocks_read};
+use adf_judge::{Judgement, Question, Reading, Refusal, judge};
+use adf_report::{SurveyedImage, surveyed_blocks, surveyed_image};
 use std::alloc::Global;
 
 /// The number of a room that is smaller than the image that is surveyed.
@@ -24,9 +23,9 @@ pub struct SubjectTold {
     pub length: usize,
     /// The first block of it that the given image does not hold whole; its blocks, if that holds all.
     pub held: u32,
-    /// 1 if only the boot block is lost, and `DOS` and a type stand in its place, otherwise 0.
+    /// 1 if the given image does not begin with `DOS` and a type, and they stand in its place, otherwise 0.
     pub is_begun: u8,
-    /// 1 if the type is the one that the entries tell, in place of another, otherwise 0.
+    /// 1 if the type is the one that the volume is judged to have, in place of another, otherwise 0.
     pub is_retyped: u8,
 }
 
@@ -42,68 +41,84 @@ fn untold(length: usize) -> SubjectTold
     }
 }
 
-// The bytes of an image that is meant: as it is, or of as many blocks as are read.
-#[tactic(auto, using(crate::proofs::SurveyedImages::meant_as_it_is, crate::proofs::SurveyedImages::meant_of_blocks))]
-fn meant_len(image: &[u8], blocks: u32) -> usize
-    ensures { result ≡ length (meant (asked_blocks blocks) image.now) }
-{
-    match blocks_read(asked_blocks(blocks), image) {
-        None => image.len(),
-        Some(blocks) => blocks as usize * BLOCK_LEN,
+// How an image is read, or why it is not.
+fn reading_of<'j>(judged: &'j Result<Judgement<'_>, Refusal>) -> Result<&'j Reading, Refusal> {
+    match judged {
+        Ok(judgement) => Ok(&judgement.reading),
+        Err(refusal) => Err(*refusal),
     }
 }
 
-// Writes what is surveyed of an input to the front of a room that has as many bytes, once it is begun and has the type
-// that its entries tell.
-fn put_surveyed(
-    alloc: Global,
-    mut subject: Subject,
-    room: &mut [u8],
-) -> Result<SubjectTold, NoMemory>
-    requires { length subject.image.items ≤ length room.old }
-    ensures subject { IfOk result (HasSubject (subject_value subject) room.old room.new) }
-    ensures kept { IfOk result (KeepsImage subject.image.items room.new) }
-    ensures unchanged { OnErr result (room.new ≡ room.old) }
-{
-    let is_begun = lacks_boot(&subject.image);
-    let Ok(()) = subject.begin() else {
-        return Err(NoMemory);
-    };
-    // Where the type is another there is one more line.
-    let lines = subject.front.len();
-    subject.be_typed(alloc)?;
-    put_all(room, &subject.image);
-    Ok(SubjectTold {
-        length: subject.image.len(),
-        held: subject.end,
-        is_begun: u8::from(is_begun),
-        is_retyped: u8::from(lines < subject.front.len()),
-    })
+// The bytes of the image that is surveyed of an image that is judged so.
+fn surveyed_len(image: &[u8], judged: Result<&Reading, Refusal>, asked: Option<u32>) -> usize {
+    match surveyed_blocks(judged, asked) {
+        Some(blocks) => blocks as usize * BLOCK_LEN,
+        None => image.len(),
+    }
 }
 
-// Writes what is surveyed of an image to the front of such a room.
-#[tactic(auto, using(adf_subjects::proofs::ReadLengths::meant_image))]
-fn put_meant(
+// Puts the first four bytes of another image at the front of an image, if both have them.
+fn put_start(image: &mut [u8], other: &[u8])
+    ensures { drop 4 image.new ≡ drop 4 image.old }
+{
+    if image.len() >= 4 && other.len() >= 4 {
+        image[..4].copy_from_slice(&other[..4]);
+    }
+}
+
+// Fills a room with the bytes of an image and zeros, but for the first four, which are those of the image that is surveyed.
+fn put_surveyed(image: &[u8], surveyed: &[u8], room: &mut [u8])
+    ensures { drop 4 room.new ≡ drop 4 (sized (length room.old) image.now) }
+{
+    room.fill(0);
+    put_all(room, image);
+    put_start(room, surveyed);
+}
+
+// Puts the image that is surveyed of an image at the front of a room that has as many bytes.
+fn put_front(image: &[u8], surveyed: &SurveyedImage, count: usize, room: &mut [u8]) -> SubjectTold
+    requires { count ≤ length room.old }
+    ensures { HasSurveyed image.now room.old room.new result }
+{
+    put_surveyed(image, &surveyed.image, &mut room[..count]);
+    SubjectTold {
+        length: count,
+        held: surveyed.held,
+        is_begun: u8::from(surveyed.is_begun),
+        is_retyped: u8::from(surveyed.is_retyped),
+    }
+}
+
+// Writes the image that is surveyed of an image to the front of a room; else answers how many bytes it has, if the room is
+// smaller.
+fn put_judged(
     alloc: Global,
     image: &[u8],
-    blocks: u32,
+    asked: Option<u32>,
     room: &mut [u8],
-) -> Result<SubjectTold, NoMemory>
-    requires { length (meant (asked_blocks blocks) image.now) ≤ length room.old }
-    ensures subject { IfOk result (HasSubject (subject (asked_blocks blocks) image.now) room.old room.new) }
-    ensures kept { IfOk result (KeepsImage (meant (asked_blocks blocks) image.now) room.new) }
-    ensures unchanged { OnErr result (room.new ≡ room.old) }
+) -> Result<Result<SubjectTold, usize>, NoMemory>
+    ensures surveyed { IfOk result (λ r. IfOk r (HasSurveyed image.now room.old room.new)) }
+    ensures small { IfOk result (λ r. IfErr r (λ n. length room.old < n)) }
+    ensures refused { OnErr result (room.new ≡ room.old) }
+    ensures unchanged { IfOk result (λ r. OnErr r (room.new ≡ room.old)) }
 {
-    let Ok(subject) = Subject::of(alloc, image, asked_blocks(blocks)) else {
-        return Err(NoMemory);
+    let question = Question {
+        blocks: asked,
+        unread: &[],
     };
-    put_surveyed(alloc, subject, room)
+    let judged = judge(alloc, image, &question)?;
+    let length = surveyed_len(image, reading_of(&judged), asked);
+    if room.len() < length {
+        return Ok(Err(length));
+    }
+    let surveyed = surveyed_image(alloc, image, reading_of(&judged), asked, &[])?;
+    Ok(Ok(put_front(image, &surveyed, length, room)))
 }
 
 /// Writes the image that `adf-survey` surveys in place of an image to the front of the room, and tells what is changed in
-/// it. It is the image as it is, or if `blocks` is not 0, as if it had so many blocks; or of as many blocks as the one usual
-/// length of a floppy whose root is found, if the middle of those is not like a root: with `DOS` and a type, if only the boot
-/// block is lost, and with the type that its entries tell. Returns 0; or 24 if the room is smaller, or the number of
+/// it. It has as many blocks as the volume is judged to have, or if `blocks` is not 0, as many as that: the first blocks of the
+/// image, with zeros for what is not there; and `DOS` and the type of the kind and the letters that the volume is judged to have,
+/// where the image has another. What is not judged stays as it is. Returns 0; or 24 if the room is smaller, or the number of
 /// `NoMemory` if memory ran out.
 pub fn put_subject(
     alloc: Global,
@@ -112,17 +127,16 @@ pub fn put_subject(
     room: &mut [u8],
     told: &mut SubjectTold,
 ) -> u8
-    ensures { PutsSubject image.now blocks room.old room.new told.new result }
+    ensures { PutsSubject image.now room.old room.new told.new result }
 {
-    let length = meant_len(image, blocks);
-    if room.len() < length {
-        *told = untold(length);
-        return SMALL_ROOM;
-    }
-    match put_meant(alloc, image, blocks, room) {
-        Ok(surveyed) => {
+    match put_judged(alloc, image, asked_blocks(blocks), room) {
+        Ok(Ok(surveyed)) => {
             *told = surveyed;
             0
+        }
+        Ok(Err(length)) => {
+            *told = untold(length);
+            SMALL_ROOM
         }
         Err(_) => {
             *told = untold(0);

@@ -1,10 +1,7 @@
--- inputs that are longer than the largest image
-pub mod LongInputs
-pub mod HintedAnswers
--- a text behind an answer
-pub mod BehindAnswers
--- the answer with the map of another disk
-pub mod OtherDisks
+-- what holds of what is answered
+pub mod Clean
+pub mod Rescued
+pub mod Volumes
 -- the word that names a map
 pub mod MapWords
 -- runs whose map is not had, is none, or is read

@@ -1,14 +1,15 @@
 -- The command line of `adf-survey`, as clap reads it, and what its matches ask for.
-use Rattle.std.specs.Prelude.{if◌then◌else◌, ◌≡◌, ◌⊎◌, ◌||◌, ℕ, List, [], Bool, Option, Some, None, codes, is_some, option_map}
+use Rattle.std.specs.Prelude.{if◌then◌else◌, ◌≡◌, ◌⊎◌, ◌||◌, ◌&&◌, ℕ, List, [], Bool, true, false, Option, Some, None, codes, is_some, option_map}
 use Rattle.std.specs.{Option.option_and_then, Str.bytes_eq}
 use Rattle.clap.specs.Words.{App, Row, Rule, Text, fault_of, first_of, matches_of, new_app, new_rule, subcommand_of, with_rule, with_subcommand}
 use Rattle.adf_blocks.specs.declared.layout.TheConstants.{MOST_BLOCKS}
 use Rattle.adf_maps.specs.Maps.{MapValue, map_of}
 use Rattle.adf_words.specs.Arguments.{bare_app, cat_app, flag_rule, has_flag, number_named}
 use Rattle.adf_words.specs.FileArguments.{file_met, file_rule}
-use Rattle.adf_survey_cmd.specs.declared.command_line.Inquiry.{Inquiry}
-use Rattle.adf_survey_cmd.specs.declared.command_line.Question.{Question, TheVariants.Report, TheVariants.List as ListAll}
-use Rattle.adf_survey_cmd.specs.declared.command_line.Question.TheVariants.{Blanks, Cat, Rescue, RescueAll, RescueBefore, RescueDeleted, Deleted}
+use Rattle.adf_volume.specs.declared.types.Types.{Types, TheVariants.Plain, TheVariants.WithInternational}
+use Rattle.adf_survey_cmd.specs.declared.command_line.{Inquiry.Inquiry, RescueWish.RescueWish}
+use Rattle.adf_survey_cmd.specs.declared.command_line.Question.{Question, TheVariants.Blanks, TheVariants.Cat, TheVariants.Claims, TheVariants.Deleted}
+use Rattle.adf_survey_cmd.specs.declared.command_line.Question.TheVariants.{Report, Rescue}
 
 -- the option --blocks N
 abbrev pub blocks_rule : Rule
@@ -30,13 +31,9 @@ flagged_rescue = with_rule typed_rescue (flag_rule (codes "deleted"))
 abbrev pub survey_rescue_app : App
 survey_rescue_app = with_rule (with_rule flagged_rescue (flag_rule (codes "before-format"))) file_rule
 
--- deleted [FILE]
-abbrev pub survey_deleted_app : App
-survey_deleted_app = with_rule (new_app (codes "deleted")) file_rule
-
--- blank [FILE]
-abbrev pub survey_blank_app : App
-survey_blank_app = with_rule (new_app (codes "blank")) file_rule
+-- NAME [FILE]
+abbrev pub survey_file_app : Text → App
+survey_file_app name = with_rule (new_app name) file_rule
 
 -- the option --map TEXT
 abbrev pub map_text_rule : Rule
@@ -51,26 +48,22 @@ abbrev pub flagged_survey : App
 flagged_survey = with_rule (with_rule (with_rule numbered_survey (flag_rule (codes "list"))) (flag_rule (codes "json"))) file_rule
 
 -- the command line: [--blocks N] [--map TEXT] [--blank], and [--list] [--json] [FILE], cat [--damaged] PATH [FILE], cat --deleted BLOCK [FILE], rescue
--- [--keep-type] [--keep-all] [--deleted] [--before-format] [FILE], deleted [FILE], or blank [FILE]
+-- [--keep-type] [--keep-all] [--deleted] [--before-format] [FILE], deleted [FILE], blank [FILE], or claims [FILE]
 abbrev pub survey_app : App
 survey_app =
     let rescues = with_subcommand (with_subcommand flagged_survey survey_cat_app.top) survey_rescue_app.top in
-    with_subcommand (with_subcommand rescues survey_deleted_app.top) survey_blank_app.top
+    let blanks = with_subcommand (with_subcommand rescues (survey_file_app (codes "deleted")).top) (survey_file_app (codes "blank")).top in
+    with_subcommand blanks (survey_file_app (codes "claims")).top
 
--- what is asked of an image: all findings; these and what is found, both as lines or as objects; the bytes of a file, which is sound or may be damaged; a new
--- volume of all that stands, which keeps the letters of the image, or has ASCII letters; the same with the deleted files that are whole; one of these of what
--- the image held before it was formatted; a new volume of all that stands with the letters of the image and the links that can be kept, and perhaps with the
--- deleted files that are whole; the deleted headers, or the bytes of the file of one, by its block; or the bytes of files in blank blocks
+-- what is asked of an image: all findings, and perhaps what exists, both as lines or as objects; the bytes of a file, which is intact or may be damaged; a new
+-- volume; the deleted headers, or the bytes of the file of one, by its block; the bytes of files in blank blocks; or all that is judged
 pub data QuestionValue : Type 0 where
-  report : (json : Bool) → QuestionValue
-  list : (json : Bool) → QuestionValue
+  report : (list json : Bool) → QuestionValue
   cat : (damaged : Bool) → Text → QuestionValue
-  rescue : (keep_type : Bool) → QuestionValue
-  rescue_deleted : (keep_type : Bool) → QuestionValue
-  rescue_before : (with_deleted keep_type : Bool) → QuestionValue
-  rescue_all : (with_deleted : Bool) → QuestionValue
+  rescue : RescueWish → QuestionValue
   deleted : (file : Option ℕ) → QuestionValue
   blanks : QuestionValue
+  claims : QuestionValue
 
 -- what a command line asks for, of the image as it is or as if it had so many blocks; what a map says of it, if one is given; and whether
 -- each blank block of it counts as never read
@@ -101,22 +94,24 @@ cat_asked deleted_one damaged text =
 unfoldable pub cat_met : List Row → Option QuestionValue
 cat_met rows = option_and_then (cat_asked (has_flag (codes "deleted") rows) (has_flag (codes "damaged") rows)) (first_of (codes "path") rows)
 
--- what `rescue` asks: with --deleted the deleted files too, with --before-format what was there before the format
-abbrev pub rescue_asked : (before with_deleted keep_type : Bool) → QuestionValue
-rescue_asked before with_deleted keep_type =
-    if before then rescue_before with_deleted keep_type else (if with_deleted then rescue_deleted keep_type else rescue keep_type)
+-- the types that the volume of a rescue may have: all that are accepted, or those of ASCII letters
+abbrev pub types_kept : (keep_letters : Bool) → Types
+types_kept true = WithInternational
+types_kept false = Plain
 
--- what it asks with --keep-all, whether --keep-type is beside it or not; nothing with --before-format
-abbrev pub all_asked : (before with_deleted : Bool) → Option QuestionValue
-all_asked before with_deleted = if before then None else Some (rescue_all with_deleted)
+-- the rescue that the matches ask for
+abbrev pub wish_met : List Row → RescueWish
+wish_met rows = record {
+  types = types_kept (has_flag (codes "keep-all") rows || has_flag (codes "keep-type") rows);
+  with_deleted = has_flag (codes "deleted") rows;
+  before_format = has_flag (codes "before-format") rows;
+  with_links = has_flag (codes "keep-all") rows;
+}
 
--- the same by the matches
+-- the same, but --keep-all does not go with --before-format
 unfoldable pub rescue_met : List Row → Option QuestionValue
 rescue_met rows =
-    let before = has_flag (codes "before-format") rows in
-    let with_deleted = has_flag (codes "deleted") rows in
-    if has_flag (codes "keep-all") rows then all_asked before with_deleted
-    else Some (rescue_asked before with_deleted (has_flag (codes "keep-type") rows))
+    if has_flag (codes "keep-all") rows && has_flag (codes "before-format") rows then None else Some (rescue (wish_met rows))
 
 -- what a subcommand's name and matches ask
 abbrev pub question_named : Text → List Row → Option QuestionValue
@@ -124,7 +119,8 @@ question_named name rows =
     if bytes_eq name (codes "cat") then cat_met rows
     else (if bytes_eq name (codes "rescue") then rescue_met rows
     else (if bytes_eq name (codes "deleted") then Some (deleted None)
-    else (if bytes_eq name (codes "blank") then Some blanks else None)))
+    else (if bytes_eq name (codes "blank") then Some blanks
+    else (if bytes_eq name (codes "claims") then Some claims else None))))
 
 -- the flag --list, the flag --json or a FILE is among the matches
 abbrev pub excludes_subcommand : List Row → Bool
@@ -132,7 +128,7 @@ excludes_subcommand rows = has_flag (codes "list") rows || (has_flag (codes "jso
 
 -- what the matches ask, by their own rows: with no subcommand the findings; no subcommand goes with such a flag, or with a file before it
 abbrev pub question_met : List Row → Option (Text × List Row) → Option QuestionValue
-question_met rows None = Some ((if has_flag (codes "list") rows then list else report) (has_flag (codes "json") rows))
+question_met rows None = Some (report (has_flag (codes "list") rows) (has_flag (codes "json") rows))
 question_met rows (Some p) = if excludes_subcommand rows then None else question_named p.0 p.1
 
 -- what the matches ask for
@@ -160,15 +156,12 @@ AreRefusedBySurvey args = (¬ (fault_of survey_app args ≡ [])) ⊎ (inquiry_of
 
 -- the value of a question as the code has it
 abbrev pub question_value : Question → QuestionValue
-question_value (Report json) = report json
-question_value (ListAll json) = list json
+question_value (Report list json) = report list json
 question_value (Cat path damaged) = cat damaged path.now
-question_value (Rescue keep_type) = rescue keep_type
-question_value (RescueDeleted keep_type) = rescue_deleted keep_type
-question_value (RescueBefore with_deleted keep_type) = rescue_before with_deleted keep_type
-question_value (RescueAll with_deleted) = rescue_all with_deleted
+question_value (Rescue wish) = rescue wish
 question_value (Deleted file) = deleted file
 question_value Blanks = blanks
+question_value Claims = claims
 
 -- the value of an inquiry as the code has it
 abbrev pub inquiry_value : Inquiry → InquiryValue

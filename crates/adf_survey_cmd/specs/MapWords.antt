@@ -6,7 +6,8 @@ use Rattle.std.proofs.Common.{zero, suc}
 -- the options in front of a command end with a word
 abbrev pub ends_options : List ℕ → Bool
 ends_options w =
-    bytes_eq w (codes "cat") || (bytes_eq w (codes "deleted") || (bytes_eq w (codes "rescue") || (bytes_eq w (codes "blank") || bytes_eq w (codes "--"))))
+    bytes_eq w (codes "cat") || (bytes_eq w (codes "deleted") || (bytes_eq w (codes "rescue") || (bytes_eq w (codes "blank")
+    || (bytes_eq w (codes "claims") || bytes_eq w (codes "--")))))
 
 -- word i is `--map`, and one is behind it
 abbrev pub names_map : List (List ℕ) → ℕ → Bool

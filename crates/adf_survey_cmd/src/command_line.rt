@@ -1,21 +1,19 @@
 // The arguments of `adf-survey`, by clap.
 
-ghost use Rattle.std.specs.Prelude.{◌≡◌, IfOk, IfErr, IfSome, [], false, option_map};
+ghost use Rattle.std.specs.Prelude.{◌≡◌, IfOk, IfErr, [], false, option_map};
 ghost use Rattle.clap.specs.Words.{app_of, fault_of, found_of, matches_of, rows_of, subcommand_of, subcommand_rows_of};
 ghost use Rattle.clap.specs.declared.builder.command.Command.TheViews.{out-Command};
 ghost use Rattle.adf_words.specs.{CommandLine.ExplainsArgs, CommandLine.texts_of};
 ghost use Rattle.adf_words.specs.declared.command_line.ArgsError.TheVariants.{Usage};
-ghost use Rattle.adf_survey_cmd.specs.CommandLine.{AsksSurvey, AreRefusedBySurvey, blocks_met, cat_asked};
-ghost use Rattle.adf_subjects.specs.Lengths.{AreFew};
-ghost use Rattle.adf_survey_cmd.specs.CommandLine.{cat_met, flagged_survey, inquiry_met, inquiry_value, map_met, question_met};
-ghost use Rattle.adf_survey_cmd.specs.CommandLine.{question_named, question_value};
-ghost use Rattle.adf_survey_cmd.specs.CommandLine.{all_asked, rescue_asked, rescue_met};
-ghost use Rattle.adf_survey_cmd.specs.CommandLine.{survey_app, survey_blank_app, survey_cat_app};
-ghost use Rattle.adf_survey_cmd.specs.CommandLine.{survey_deleted_app, survey_file, survey_rescue_app};
+ghost use Rattle.adf_survey_cmd.specs.CommandLine.{AreRefusedBySurvey, AsksSurvey, blocks_met, cat_asked, cat_met, survey_file_app};
+ghost use Rattle.adf_survey_cmd.specs.CommandLine.{flagged_survey, inquiry_met, inquiry_value, map_met, question_met};
+ghost use Rattle.adf_survey_cmd.specs.CommandLine.{question_named, question_value, rescue_met, survey_app, survey_cat_app};
+ghost use Rattle.adf_survey_cmd.specs.CommandLine.{survey_file, survey_rescue_app, types_kept, wish_met};
 
 use adf_blocks::MOST_BLOCKS;
 use adf_file_runs::About;
 use adf_maps::{Map, MapFault, read_map};
+use adf_volume::Types;
 use adf_words::{
     ArgsError, bare_command, cat_command, file_argument, file_met, first_text, flag, has_flag,
     matches_of, number_named, with_argument, with_subcommand,
@@ -32,6 +30,7 @@ pub const SURVEY_USAGE: &str =
     \x20      adf-survey [--blocks N] [--map MAP] [--blank] rescue --keep-all [--deleted] [FILE]\n\
     \x20      adf-survey [--blocks N] [--map MAP] [--blank] deleted [FILE]\n\
     \x20      adf-survey [--blocks N] [--map MAP] [--blank] blank [FILE]\n\
+    \x20      adf-survey [--blocks N] [--map MAP] [--blank] claims [FILE]\n\
     without a FILE the image comes on standard input; man adf-survey tells more\n";
 
 /// What the program tells of itself.
@@ -54,6 +53,8 @@ pub const ABOUT: About = About {
     \x20          each deleted file and directory whose header still stands, and what speaks for it\n\
     \x20      adf-survey [--blocks N] [--map MAP] [--blank] blank [FILE]\n\
     \x20          which bytes of files are whole blocks of zeros, or of a pattern of dumping programs\n\
+    \x20      adf-survey [--blocks N] [--map MAP] [--blank] claims [FILE]\n\
+    \x20          all that is judged, for a comparison with other judges\n\
     \x20      adf-survey --help, adf-survey --version\n\n\
     Without a FILE, or with -, the image comes on standard input. --blocks N reads it as if it had N blocks.\n\
     --map MAP is the map that GNU ddrescue wrote of the reading: what it says was not read is no data.\n\
@@ -62,28 +63,31 @@ pub const ABOUT: About = About {
     waits: Some("waiting for standard input; adf-survey --help tells more\n"),
 };
 
+/// What a rescue is to have: a volume of these types, and perhaps the whole deleted files and the links; and whether it is of what
+/// was there before the image was formatted.
+#[derive(Clone, Copy, Debug, PartialEq, Eq)]
+pub struct RescueWish {
+    pub types: Types,
+    pub with_deleted: bool,
+    pub before_format: bool,
+    pub with_links: bool,
+}
+
 /// What is asked of an image.
 #[derive(Clone, Copy, Debug)]
 pub enum Question<'a> {
-    /// All findings, as lines or as objects.
-    Report { json: bool },
-    /// All findings, and what is found, as lines or as objects.
-    List { json: bool },
-    /// The bytes of a file by the text of its path: of a sound one, or of one that may be damaged.
+    /// All findings, and with `list` what exists, as lines or as objects.
+    Report { list: bool, json: bool },
+    /// The bytes of a file by the text of its path: of an intact one, or of one that may be damaged.
     Cat { path: &'a str, damaged: bool },
-    /// A new volume of all that stands, and whether it keeps the letters of the image, or has ASCII letters.
-    Rescue { keep_type: bool },
-    /// The same, and the deleted files that are whole.
-    RescueDeleted { keep_type: bool },
-    /// One of these of what the image held before it was formatted, in place of what stands on it.
-    RescueBefore { with_deleted: bool, keep_type: bool },
-    /// A new volume of all that stands, with the letters of the image and the links that can be kept, and perhaps with the deleted
-    /// files that are whole.
-    RescueAll { with_deleted: bool },
+    /// A new volume.
+    Rescue(RescueWish),
     /// The deleted headers, or the bytes of the file of one, by its block.
     Deleted { file: Option<u32> },
     /// The bytes of files in blank blocks.
     Blanks,
+    /// All that is judged.
+    Claims,
 }
 
 /// What a command line asks for.
@@ -133,20 +137,12 @@ fn survey_rescue_command<'a>(alloc: Global) -> Result<Command<'a>, AllocError>
     with_argument(formatted, file_argument(alloc))
 }
 
-// The command `deleted [FILE]`.
-fn survey_deleted_command<'a>(alloc: Global) -> Result<Command<'a>, AllocError>
-    ensures app { IfOk result (λ c. app_of c ≡ survey_deleted_app) }
+// The command `NAME [FILE]`.
+fn file_command<'a>(alloc: Global, name: &'a str) -> Result<Command<'a>, AllocError>
+    ensures app { IfOk result (λ c. app_of c ≡ survey_file_app name.now) }
     ensures local { IfOk result (λ c. (out-Command c).has_globals ≡ false) }
 {
-    with_argument(Ok(Command::new(alloc, "deleted")), file_argument(alloc))
-}
-
-// The command `blank [FILE]`.
-fn survey_blank_command<'a>(alloc: Global) -> Result<Command<'a>, AllocError>
-    ensures app { IfOk result (λ c. app_of c ≡ survey_blank_app) }
-    ensures local { IfOk result (λ c. (out-Command c).has_globals ≡ false) }
-{
-    with_argument(Ok(Command::new(alloc, "blank")), file_argument(alloc))
+    with_argument(Ok(Command::new(alloc, name)), file_argument(alloc))
 }
 
 // The command line.
@@ -155,14 +151,14 @@ fn command<'a>(alloc: Global) -> Result<Command<'a>, AllocError>
 {
     let cats = with_subcommand(flagged(alloc), survey_cat_command(alloc));
     let rescues = with_subcommand(cats, survey_rescue_command(alloc));
-    let deletes = with_subcommand(rescues, survey_deleted_command(alloc));
-    with_subcommand(deletes, survey_blank_command(alloc))
+    let deletes = with_subcommand(rescues, file_command(alloc, "deleted"));
+    let blanks = with_subcommand(deletes, file_command(alloc, "blank"));
+    with_subcommand(blanks, file_command(alloc, "claims"))
 }
 
 // The blocks that the matches name, if any.
 fn blocks_in(matches: &ArgMatches<'_>) -> Option<Option<u32>>
-    ensures met { result ≡ blocks_met (rows_of (found_of matches.now)) }
-    ensures few { IfSome result AreFew }
+    ensures { result ≡ blocks_met (rows_of (found_of matches.now)) }
 {
     match first_text(matches, "blocks") {
         Some(text) => match number_named(text, MOST_BLOCKS) {
@@ -205,30 +201,27 @@ fn cat_in<'a>(found: &ArgMatches<'a>) -> Option<Question<'a>>
     }
 }
 
-// What `rescue` asks, with the deleted files or without them, and of what was there before the format or of what stands.
-fn rescue_asked<'a>(before: bool, with_deleted: bool, keep_type: bool) -> Question<'a>
-    ensures { question_value result ≡ rescue_asked before with_deleted keep_type }
+// The types that the volume of a rescue may have.
+fn types_kept(keep_letters: bool) -> Types
+    ensures { result ≡ types_kept keep_letters }
 {
-    if before {
-        return Question::RescueBefore {
-            with_deleted,
-            keep_type,
-        };
+    if keep_letters {
+        Types::WithInternational
+    } else {
+        Types::Plain
     }
-    if with_deleted {
-        return Question::RescueDeleted { keep_type };
-    }
-    Question::Rescue { keep_type }
 }
 
-// What `rescue` asks with `--keep-all`, with the deleted files or without them; nothing of what was there before the format.
-fn all_asked<'a>(before: bool, with_deleted: bool) -> Option<Question<'a>>
-    ensures { option_map question_value result ≡ all_asked before with_deleted }
+// The rescue that the matches of `rescue` ask for.
+fn wish_in(found: &ArgMatches<'_>) -> RescueWish
+    ensures { result ≡ wish_met (rows_of (found_of found.now)) }
 {
-    if before {
-        None
-    } else {
-        Some(Question::RescueAll { with_deleted })
+    let with_links = has_flag(found, "keep-all");
+    RescueWish {
+        types: types_kept(with_links || has_flag(found, "keep-type")),
+        with_deleted: has_flag(found, "deleted"),
+        before_format: has_flag(found, "before-format"),
+        with_links,
     }
 }
 
@@ -237,12 +230,12 @@ fn all_asked<'a>(before: bool, with_deleted: bool) -> Option<Question<'a>>
 fn rescue_in<'a>(found: &ArgMatches<'a>) -> Option<Question<'a>>
     ensures { option_map question_value result ≡ rescue_met (rows_of (found_of found.now)) }
 {
-    let before = has_flag(found, "before-format");
-    let with_deleted = has_flag(found, "deleted");
-    if has_flag(found, "keep-all") {
-        return all_asked(before, with_deleted);
+    let wish = wish_in(found);
+    if wish.with_links && wish.before_format {
+        None
+    } else {
+        Some(Question::Rescue(wish))
     }
-    Some(rescue_asked(before, with_deleted, has_flag(found, "keep-type")))
 }
 
 // What a subcommand's name and matches ask.
@@ -258,6 +251,8 @@ fn question_named<'a>(name: &str, found: &ArgMatches<'a>) -> Option<Question<'a>
         Some(Question::Deleted { file: None })
     } else if name == "blank" {
         Some(Question::Blanks)
+    } else if name == "claims" {
+        Some(Question::Claims)
     } else {
         None
     }
@@ -274,8 +269,7 @@ fn question_in<'a>(matches: &ArgMatches<'a>) -> Option<Question<'a>>
     match matches.subcommand() {
         Some(_) if excludes => None,
         Some((name, found)) => question_named(name, found),
-        None if list => Some(Question::List { json }),
-        None => Some(Question::Report { json }),
+        None => Some(Question::Report { list, json }),
     }
 }
 
@@ -298,9 +292,8 @@ fn inquiry_in<'a>(
     alloc: Global,
     matches: &ArgMatches<'a>,
 ) -> Result<Option<Inquiry<'a>>, AllocError>
-    ensures met { IfOk result (λ o. option_map inquiry_value o
+    ensures { IfOk result (λ o. option_map inquiry_value o
         ≡ inquiry_met (rows_of (found_of matches.now)) (subcommand_rows_of matches.now)) }
-    ensures few { IfOk result (λ o. IfSome o (λ inquiry. AreFew inquiry.blocks)) }
 {
     let Some(map) = map_in(alloc, matches)? else {
         return Ok(None);
@@ -336,7 +329,6 @@ fn survey_matches<'a>(alloc: Global, args: &'a [&str]) -> Result<ArgMatches<'a>,
 pub fn parse_survey<'a>(alloc: Global, args: &'a [&str]) -> Result<Inquiry<'a>, ArgsError>
     ensures ok { IfOk result (λ inquiry.
         AsksSurvey (texts_of args.entry.now) (inquiry_value inquiry)) }
-    ensures few { IfOk result (λ inquiry. AreFew inquiry.blocks) }
     ensures refused { IfErr result (λ fault. ExplainsArgs fault (AreRefusedBySurvey (texts_of args.entry.now))) }
 {
     let matches = survey_matches(alloc, args)?;

@@ -9,7 +9,12 @@ use std::alloc::{AllocError, Global};
 fn ends_options(word: &str) -> bool
     ensures { result ≡ ends_options word.now }
 {
-    word == "cat" || word == "deleted" || word == "rescue" || word == "blank" || word == "--"
+    word == "cat"
+        || word == "deleted"
+        || word == "rescue"
+        || word == "blank"
+        || word == "claims"
+        || word == "--"
 }
 
 // What a word tells: which word names a map, or that none does; or nothing.

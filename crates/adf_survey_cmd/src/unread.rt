@@ -1,146 +1,69 @@
-// What is surveyed without what was never read.
-
-ghost use Rattle.std.specs.Prelude.{◌≡◌, ◌++◌, IfOk, OnOk};
-ghost use Rattle.adf_survey_cmd.specs.Answers.{unless_blank, unless_mapped, unread_remarks};
-ghost use Rattle.adf_subjects.specs.Subject.{subject_value};
+// Which blocks of an image were never read.
 
 use adf_base::NoMemory;
-use adf_findings::survey;
 use adf_maps::Map;
-use adf_passages::passages_text;
-use adf_subjects::{Remark, Saying, Subject, standing};
-use adf_unread::{UnreadRun, blank_marks, drop_unread, map_marks, unread_runs};
-use std::alloc::{AllocError, Global};
+use adf_unread::{UnreadRun, blank_marks, map_marks, unread_runs};
+use std::alloc::Global;
 
-// Appends a remark on each run.
-fn push_remarks(runs: &[UnreadRun], front: &mut Vec<Remark>) -> Result<(), AllocError>
-    ensures { OnOk result (front.new.items ≡ front.old.items ++ unread_remarks runs.now) }
-{
-    for i in 0..runs.len() {
-        front.push(Remark {
-            first: runs[i].first,
-            last: runs[i].last,
-            says: Saying::NoData,
-        })?;
+/// What tells which blocks were never read: a map, and whether each blank block counts as one.
+#[derive(Clone, Copy)]
+pub struct Unread<'w> {
+    pub map: &'w Option<Map>,
+    pub blank: bool,
+}
+
+// Marks the blocks that other marks have.
+fn add_marks(marks: &mut Vec<bool>, more: &[bool]) -> Result<(), NoMemory> {
+    for b in 0..more.len() {
+        if b >= marks.len() {
+            marks.push(more[b])?;
+        } else if more[b] {
+            marks[b] = true;
+        }
     }
     Ok(())
 }
 
-// What is surveyed, without what a map says was not read.
-fn unless_mapped(
-    alloc: Global,
-    map: &Option<Map>,
-    mut subject: Subject,
-) -> Result<Subject, NoMemory>
-    ensures { IfOk result (λ s. subject_value s ≡ unless_mapped map.now (subject_value subject)) }
-{
-    if let Some(map) = map {
-        let marks = map_marks(alloc, map, &subject.image)?;
-        let runs = unread_runs(alloc, &marks, subject.end)?;
-        push_remarks(&runs, &mut subject.front)?;
-        drop_unread(&marks, &mut subject.image);
+// A number of blocks, as far as 32 bits go.
+fn block_number(count: usize) -> u32 {
+    count.min(0xFFFF_FFFF) as u32
+}
+
+impl Unread<'_> {
+    /// Whether any block may count as never read.
+    pub fn is_asked(&self) -> bool {
+        self.map.is_some() || self.blank
     }
-    Ok(subject)
-}
 
-// What is surveyed, without its blank blocks if these count as never read.
-fn unless_blank(alloc: Global, blank: bool, mut subject: Subject) -> Result<Subject, NoMemory>
-    ensures { IfOk result (λ s. subject_value s ≡ unless_blank blank (subject_value subject)) }
-{
-    if blank {
-        let marks = blank_marks(alloc, &subject.image)?;
-        drop_unread(&marks, &mut subject.image);
+    // The marks of the blocks of an image that the map says were never read.
+    fn mapped(&self, alloc: Global, image: &[u8]) -> Result<Vec<bool>, NoMemory> {
+        match self.map {
+            Some(map) => Ok(map_marks(alloc, map, image)?),
+            None => Ok(Vec::new(alloc)),
+        }
     }
-    Ok(subject)
-}
 
-// The lines of the bytes of files in blocks that were not read, or with `json` their objects.
-fn unread_text(
-    alloc: Global,
-    marks: &Vec<bool>,
-    json: bool,
-    subject: &Subject,
-) -> Result<Vec<u8>, NoMemory> {
-    let typed = standing(alloc, subject)?;
-    let found = survey(alloc, &typed.image)?;
-    let text = passages_text(alloc, &found, "unread", json, marks)?;
-    Ok(text)
-}
-
-// Those of what a map says was not read.
-fn mapped_text(
-    alloc: Global,
-    map: &Option<Map>,
-    json: bool,
-    subject: &Subject,
-) -> Result<Vec<u8>, NoMemory> {
-    let Some(map) = map else {
-        return Ok(Vec::new(alloc));
-    };
-    let marks = map_marks(alloc, map, &subject.image)?;
-    unread_text(alloc, &marks, json, subject)
-}
-
-// Those of blank blocks, if these count as never read.
-fn blank_text(
-    alloc: Global,
-    blank: bool,
-    json: bool,
-    subject: &Subject,
-) -> Result<Vec<u8>, NoMemory> {
-    if !blank {
-        return Ok(Vec::new(alloc));
+    /// The marks of the blocks of an image that were never read.
+    pub fn marks(&self, alloc: Global, image: &[u8]) -> Result<Vec<bool>, NoMemory> {
+        let mut marks = self.mapped(alloc, image)?;
+        if self.blank {
+            let blank = blank_marks(alloc, image)?;
+            add_marks(&mut marks, &blank)?;
+        }
+        Ok(marks)
     }
-    let marks = blank_marks(alloc, &subject.image)?;
-    unread_text(alloc, &marks, json, subject)
-}
 
-/// What is surveyed without what was never read, and the lines behind its findings.
-#[derive(Drop)]
-pub struct Dropped {
-    pub subject: Subject,
-    pub lines: Vec<u8>,
-}
-
-// The same, with the lines in this form.
-fn told_unless_unread(
-    alloc: Global,
-    map: &Option<Map>,
-    blank: bool,
-    json: bool,
-    subject: Subject,
-) -> Result<Dropped, NoMemory>
-    ensures { IfOk result (λ d.
-        subject_value d.subject ≡ unless_blank blank (unless_mapped map.now (subject_value subject))) }
-{
-    let mut lines = mapped_text(alloc, map, json, &subject)?;
-    let rest = unless_mapped(alloc, map, subject)?;
-    let more = blank_text(alloc, blank, json, &rest)?;
-    lines.extend_from_slice(&more)?;
-    Ok(Dropped {
-        subject: unless_blank(alloc, blank, rest)?,
-        lines,
-    })
-}
-
-/// What is surveyed, without what was never read by a map, and without its blank blocks if these count as never read; and in
-/// this form, if there is one, the lines of the bytes of files that these had.
-pub fn unless_unread(
-    alloc: Global,
-    map: &Option<Map>,
-    blank: bool,
-    form: Option<bool>,
-    subject: Subject,
-) -> Result<Dropped, NoMemory>
-    ensures { IfOk result (λ d.
-        subject_value d.subject ≡ unless_blank blank (unless_mapped map.now (subject_value subject))) }
-{
-    if let Some(json) = form {
-        return told_unless_unread(alloc, map, blank, json, subject);
+    /// The runs of blocks of an input that the map says were never read.
+    pub fn runs(&self, alloc: Global, input: &[u8]) -> Result<Vec<UnreadRun>, NoMemory> {
+        let marks = self.mapped(alloc, input)?;
+        Ok(unread_runs(alloc, &marks, block_number(marks.len()))?)
     }
-    let rest = unless_mapped(alloc, map, subject)?;
-    Ok(Dropped {
-        subject: unless_blank(alloc, blank, rest)?,
-        lines: Vec::new(alloc),
-    })
+
+    /// Whether the map is that of a disk of another size than an input and the image that is surveyed of it, both in bytes.
+    pub fn is_of_other_disk(&self, input: usize, image: usize) -> bool {
+        match self.map {
+            Some(map) => map.end() != input as u64 && map.end() != image as u64,
+            None => false,
+        }
+    }
 }

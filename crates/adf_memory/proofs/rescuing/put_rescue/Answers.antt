@@ -6,13 +6,13 @@ use Rattle.adf_memory.proofs.rescuing.put_rescue.Goals as goal
 pub returns-clause-volume : goal.returns-clause-volume
 returns-clause-volume c =
     let (image, is, room) = c.in_ok-lay_in_front.ensures.volume in
-    let x = c.args.ready.prepared in
+    let x = c.args.ready.now.prepared in
     let table = c.in-Ok.table in
     let count : c.len.result ≡ length table.rows.items = grind (arith, common_steps) in
     let bytes : c.len-2.result ≡ length table.paths.items = grind (arith, common_steps) in
     record {
       volume = image;
-      is_given = subst (λ (boot : List ℕ). IsVolumeOf x.draft.tree x.blocks boot image) c.deref-2.ensures.value is;
+      is_given = subst (λ (boot : List ℕ). IsVolumeOf x.tree x.blocks boot image) c.deref-2.ensures.value is;
       size = sym is.4;
       room = room;
       rows = (

@@ -1,4 +1,5 @@
-use Rattle.adf_survey_cmd.specs.CommandLine.{flagged_survey, survey_blank_app, survey_cat_app, survey_deleted_app, survey_rescue_app}
+use Rattle.std.proofs.Common.{codes}
+use Rattle.adf_survey_cmd.specs.CommandLine.{survey_file_app, flagged_survey, survey_cat_app, survey_rescue_app}
 use Rattle.adf_survey_cmd.proofs.command_line.command.Goals as goal
 
 pub returns : goal.returns
@@ -7,6 +8,6 @@ returns c =
     c.survey_cat_command.ensures.local in
     let rescues = c.with_subcommand-rescues.ensures _ survey_rescue_app cats c.survey_rescue_command.ensures.app
     c.survey_rescue_command.ensures.local in
-    let deletes = c.with_subcommand-deletes.ensures _ survey_deleted_app rescues c.survey_deleted_command.ensures.app
-    c.survey_deleted_command.ensures.local in
-    c.with_subcommand.ensures _ survey_blank_app deletes c.survey_blank_command.ensures.app c.survey_blank_command.ensures.local
+    let deletes = c.with_subcommand-deletes.ensures _ (survey_file_app (codes "deleted")) rescues c.file_command.ensures.app c.file_command.ensures.local in
+    let blanks = c.with_subcommand-blanks.ensures _ (survey_file_app (codes "blank")) deletes c.file_command-2.ensures.app c.file_command-2.ensures.local in
+    c.with_subcommand.ensures _ (survey_file_app (codes "claims")) blanks c.file_command-3.ensures.app c.file_command-3.ensures.local

@@ -1,2 +1,0 @@
--- links that are kept, and what stands beside them
-pub mod KeptLinks

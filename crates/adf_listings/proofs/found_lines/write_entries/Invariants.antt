@@ -1,9 +1,0 @@
-use Rattle.std.proofs.Common.{◌≡◌, false}
-use Rattle.adf_subjects.specs.Growth.{OutputGrows}
-use Rattle.adf_listings.proofs.found_lines.write_entries.Given as goal
-
-abbrev pub invariant-loop-i : goal.invariant-loop-i
-invariant-loop-i g l = record {
-  works : g.W.Sink.has_failed l.output ≡ false;
-  grows : OutputGrows (g.W.Sink.held l.fn.output) (g.W.Sink.held l.output);
-}

@@ -1,2 +1,0 @@
--- The promise: how findings are told.
-pub mod Told

@@ -1,2 +1,0 @@
--- passages, block by block
-pub mod PassageSteps

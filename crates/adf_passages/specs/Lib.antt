@@ -1,2 +1,0 @@
--- The promise: whether the data of an entry are before a block.
-pub mod Held

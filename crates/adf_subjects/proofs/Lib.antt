@@ -1,9 +1,0 @@
-pub mod KeptBoots
-pub mod RunLines
-pub mod ReadLengths
-pub mod OneSubject
-pub mod RescueAnswers
-pub mod SizedImages
-pub mod Subjects
-pub mod Formats
-pub mod Growth

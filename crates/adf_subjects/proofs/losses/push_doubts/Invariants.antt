@@ -1,5 +1,0 @@
-use Rattle.std.proofs.Common.{◌≡◌, []}
-use Rattle.adf_subjects.proofs.losses.push_doubts.Given as goal
-
-abbrev pub invariant-loop-i : goal.invariant-loop-i
-invariant-loop-i l = l.doubts ≡ [] → l.losses.items ≡ l.fn.losses.items
