@@ -8,7 +8,7 @@ enum { FIRST_LOSSES = 1024, BLOCK = 512 };
 static bool is_lost(const struct adf_loss *loss) { return loss->why == ADF_LOSS_HEADERS || loss->why == ADF_LOSS_BLOCKS; }
 
 bool is_left_out(const struct adf_loss *loss) {
-    return !is_lost(loss) && (loss->why < ADF_LOSS_IN_DOUBT || loss->why > ADF_LOSS_MADE);
+    return !is_lost(loss) && (loss->why < ADF_LOSS_IN_DOUBT || loss->why > ADF_LOSS_BITMAP);
 }
 
 /* Counts the losses of a rescue, of which the table has so many. */

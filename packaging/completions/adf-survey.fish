@@ -1,13 +1,14 @@
 # Completion of adf-survey for fish.
 
-set -l first 'not __fish_seen_subcommand_from blank cat deleted rescue; and not __fish_contains_opt list; and not __fish_contains_opt json'
+set -l first 'not __fish_seen_subcommand_from blank cat claims deleted rescue; and not __fish_contains_opt list; and not __fish_contains_opt json'
 complete -c adf-survey -n $first -a cat -d 'write a sound file of an image'
 complete -c adf-survey -n '__fish_seen_subcommand_from cat' -l damaged -d 'write what is left of a damaged file'
 complete -c adf-survey -n '__fish_seen_subcommand_from cat' -l deleted -d 'write what is left of a deleted file, by the block of its header'
-complete -c adf-survey -n 'not __fish_seen_subcommand_from blank cat deleted rescue' -l list -d 'list what is found, sound or damaged'
-complete -c adf-survey -n 'not __fish_seen_subcommand_from blank cat deleted rescue' -l json -d 'write objects in JSON, one a line'
+complete -c adf-survey -n 'not __fish_seen_subcommand_from blank cat claims deleted rescue' -l list -d 'list what is found, sound or damaged'
+complete -c adf-survey -n 'not __fish_seen_subcommand_from blank cat claims deleted rescue' -l json -d 'write objects in JSON, one a line'
 complete -c adf-survey -n $first -a deleted -d 'list what was deleted'
 complete -c adf-survey -n $first -a blank -d 'list which bytes of files are blank'
+complete -c adf-survey -n $first -a claims -d 'write what is judged to exist, in numbers'
 complete -c adf-survey -n $first -a rescue -d 'write a new volume of all that stands'
 complete -c adf-survey -n '__fish_seen_subcommand_from rescue' -l keep-type -d 'keep international letters, as type 2 or 3'
 complete -c adf-survey -n '__fish_seen_subcommand_from rescue' -l keep-all -d 'keep international letters and links'

@@ -14,7 +14,7 @@ _adf() {
 }
 
 _adf_survey() {
-    local at=1 words="blank cat deleted rescue --list --json --blocks --map --blank " last=""
+    local at=1 words="blank cat claims deleted rescue --list --json --blocks --map --blank " last=""
     while ((COMP_CWORD > at)) && [[ ${COMP_WORDS[at]} == @(--blocks|--map|--blank) ]]; do
         last=${COMP_WORDS[at]}
         [[ $last != --blank ]] && ((at += 1))

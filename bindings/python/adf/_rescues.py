@@ -28,9 +28,15 @@ class Reason(enum.IntEnum):
     PERHAPS_DELETED = 7
     FOUND_AGAIN = 8
     MADE = 9
+    RENAMED = 10
+    COMMENT_CUT = 11
+    LABEL_CUT = 12
+    BITMAP = 13
 
 
 KEPT = (Reason.IN_DOUBT, Reason.PERHAPS_DELETED, Reason.FOUND_AGAIN, Reason.MADE)
+NOTED = (Reason.RENAMED, Reason.COMMENT_CUT, Reason.LABEL_CUT, Reason.BITMAP)
+OF_BLOCKS = (Reason.BLOCKS, Reason.LABEL_CUT, Reason.BITMAP)
 WHY = {**{reason: reason.name.lower().replace("_", " ") for reason in Reason}, Reason.HEADERS: "lost", Reason.BLOCKS: "lost"}
 
 
@@ -42,36 +48,48 @@ class _Loss(NamedTuple):
 
 
 class LeftOut(_Loss):
-    """What a rescue leaves out, and what it keeps in doubt: the bytes of the path of an entry, or of the directory in which headers are
-    lost, and the block of its header twice (0 for the root); or the first and the last of the blocks that are lost. A reason of a newer
+    """What a rescue leaves out, keeps in doubt, or has by another name: the bytes of the path of an entry, or of the directory in which
+    headers are lost, and the block of its header twice (0 for the root); or the first and the last of blocks. A reason of a newer
     library is its number. As a text it is the line of `adf-survey rescue`. A name in the bytes may have any, as `/`, or be `..`, which
-    leads out of a folder; the entry may have another name in the new volume. Of a path that the library tells from a block on
-    (`\\block B/` and the last names) the bytes are those of this text."""
+    leads out of a folder: those of an entry that is renamed are of the path that its header states. Of a path that the library tells
+    from a block on (`\\block B/` and the last names) the bytes are those of this text."""
 
     _text: str | None = None
 
     @property
     def why(self) -> str:
         """The reason as a text: `damaged`, `link` or `no room` of an entry that is left out; `in doubt`, `perhaps deleted`, `found again` or
-        `made` of one that is kept; or `lost`."""
+        `made` of one that is kept; `renamed` or `comment cut` of either; `lost`, `label cut` or `bitmap`."""
         return next((text for reason, text in WHY.items() if reason == self.reason), f"reason {self.reason}")
 
     @property
     def path(self) -> str:
-        """The path of an entry, as `adf-survey` spells it; of what is lost `in c/` or `blocks 44 to 65`."""
-        if self.blocks:
-            return _texts.blocks_text(self.blocks)
-        return self._spelled if self.directory is None else f"in {self.directory}/"
+        """The path of an entry, as `adf-survey` spells it, of one that is renamed the stated one; of what is lost `in c/` or
+        `blocks 44 to 65`."""
+        if self.reason in OF_BLOCKS:
+            return _texts.blocks_text(range(self.first, self.last + 1))
+        return self._spelled.partition(": ")[0] if self.directory is None else f"in {self.directory}/"
+
+    @property
+    def new_path(self) -> str | None:
+        """The path of an entry that is renamed, by its new name, as `adf-survey` spells it; None for anything else."""
+        return self._spelled.partition(": ")[2] if self.reason == Reason.RENAMED else None
 
     @property
     def is_entry(self) -> bool:
         """Whether it is an entry that is found, with its path."""
-        return self.reason not in (Reason.HEADERS, Reason.BLOCKS)
+        return self.reason not in (Reason.HEADERS, *OF_BLOCKS)
 
     @property
     def is_kept(self) -> bool:
         """Whether it is an entry that is in the new volume, in doubt."""
         return self.reason in KEPT
+
+    @property
+    def is_noted(self) -> bool:
+        """Whether it is neither left out nor in doubt for this: a name, a comment or a label is another one, or a page of the bitmap cannot
+        be read."""
+        return self.reason in NOTED
 
     @property
     def blocks(self) -> range:
@@ -88,27 +106,28 @@ class LeftOut(_Loss):
         return _texts.escape(self.raw_path) if self._text is None else self._text
 
     def __str__(self) -> str:
-        return f"{self.why}: {self.path}"
+        return f"{self.why}: {self.path}" + (f": {self.new_path}" if self.new_path is not None else "")
 
 
 def _left_out(row: Any, paths: bytes) -> LeftOut:
     """A row of the table of losses, with its path in the text of all paths."""
     text = paths[row.path : row.path + row.path_length].decode("ascii")
     reason = Reason(row.why) if row.why in list(Reason) else row.why
-    left_out = LeftOut(reason, _texts.raw_path(text), row.first, row.last)
+    left_out = LeftOut(reason, _texts.raw_path(text.partition(": ")[0]), row.first, row.last)
     left_out._text = text
     return left_out
 
 
 def counts(left_out: Sequence[LeftOut]) -> str:
-    """How many are left out, and how many are kept in doubt, if there are any."""
-    kept = sum(each.is_kept for each in left_out)
-    return f"{len(left_out) - kept} left out" + (f", {kept} in doubt" if kept else "")
+    """How many are left out, and how many are kept in doubt or noted, if there are any."""
+    kept, noted = sum(each.is_kept for each in left_out), sum(each.is_noted for each in left_out)
+    told = f"{len(left_out) - kept - noted} left out" + (f", {kept} in doubt" if kept else "")
+    return told + (f", {noted} noted" if noted else "")
 
 
 def rescue(image: Image, blocks: int | None = None, keep_type: bool = False) -> tuple[bytes, list[LeftOut]]:
-    """A new, sound volume with all that stands in an image, what is left out, and what is kept in doubt; with a number of blocks as if the
-    image had so many. It has as many blocks, or those of a floppy where the image is cut, or has tracks behind the volume. It is of type 0
+    """A new, sound volume with all that exists in an image, what is left out, and what is kept in doubt; with a number of blocks as if the
+    image had so many. It has as many blocks, or those of the volume where the image is cut, or has tracks behind it. It is of type 0
     or 1, or with `keep_type` of type 2 or 3, if the image has their letters. Refused where nothing stands."""
     blocks, told = _sizes.number_of_blocks(blocks), _structs.RescueTold()
     raw = _sizes.cut(_arguments.plain(image), blocks)

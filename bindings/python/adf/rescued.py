@@ -75,7 +75,7 @@ class Rescued(Volume):
     def _places(self) -> dict[int, int]:
         """The numbers of entries, by those of the entries of the survey that they are. An entry whose name is not a name, or is used
         already, is called lost- and its block."""
-        left_out = {each.first for each in self._left_out if each.is_entry and not each.is_kept}
+        left_out = {each.first for each in self._left_out if each.is_entry and not each.is_kept and not each.is_noted}
         named, places = {(entry.parent, entry.raw_name): entry.number for entry in self.entries}, {0: 0}
         for found in self.survey.entries:
             if found.parent in places and found.header not in left_out:

@@ -60,7 +60,7 @@ def length_that_fits(image: adf.Image, refused: adf.Refused) -> Optional[int]:
 
 def has_root(image: adf.Image, blocks: int) -> bool:
     survey = adf.survey(image, blocks)
-    return len(survey.image) == adf.BLOCK * blocks and bool(survey.kind and (survey.entries or survey.label))
+    return len(survey.image) == adf.BLOCK * blocks and bool(survey.label)
 
 
 def passed(survey: adf.Survey) -> int:
@@ -84,7 +84,7 @@ def advice_of(refused: adf.Refused, survey: adf.Survey, columns: Dict[str, objec
         return "other form"
     if refused.cause == "directory cache" and len(survey.findings) == 1:
         return "other type"
-    has_nothing = not survey.entries and not survey.kind
+    has_nothing = not survey.entries and not survey.label
     if has_nothing and starts_alone(columns) and len(survey.image) >= adf.BLOCK * FLOPPIES[0]:
         return "loader"
     if len(survey.image) != columns["bytes"] or refused.cause == "bad size":

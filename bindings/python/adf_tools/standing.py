@@ -97,7 +97,7 @@ class Standing:
 
     def _entries(self) -> Iterator[Stood]:
         """The entries of the survey in its order, but for those that the rescue finds elsewhere; then those that only the rescue finds."""
-        why = {each.first: each.why for each in self.left_out if each.is_entry}
+        why = {each.first: each.why for each in self.left_out if each.is_entry and not each.is_noted}
         kept = {each.first for each in self.left_out if each.is_kept}
         seen: Dict[int, int] = {}  # the numbers of entries by their headers
         for found in self.survey.entries:

@@ -78,8 +78,8 @@ class Volumes(unittest.TestCase):
         block = adf.Volume(international())["é"].header
         with self.assertWarnsRegex(adf.DamagedWarning, f"block {block}: bad sum"):
             volume = adf.open_image(changed(international(), block, 500, 1))
-        self.assertEqual((volume.refused.cause, volume.refused.block, list(volume)), ("bad sum", block, ["c", "é"]))
-        self.assertEqual((volume.kind, "É" in volume, adf.rescue(volume.survey.image)[0][3]), ("ffs-international", True, 1))
+        self.assertEqual((volume.refused.cause, volume.refused.block, list(volume)), ("bad sum", block, ["c"]))
+        self.assertEqual((volume.kind, "C" in volume, adf.rescue(volume.survey.image)[0][3]), ("ffs-international", True, 1))
         self.assertRaisesRegex(adf.Refused, "block 880: bad type", adf.open_image, b"DOS\2" + bytes(1760 * 512 - 4))
 
     def test_tells_the_entries(self):
@@ -490,17 +490,17 @@ class Surveys(unittest.TestCase):
                 struct.pack_into(">I", image, place + 20, (total + ((ord("b") - name) << 16)) % 2**32)
                 survey = adf.survey(image)
                 first, second = survey.entries
-                self.assertEqual([entry.path.lower() for entry in survey.entries], ["a", "a"])
+                self.assertEqual([entry.path for entry in survey.entries], ["a", f"lost-{place // 512}"])
                 self.assertEqual((first.remains(), survey.remains("a")), ((b"1", []), (b"1", [])))
-                self.assertEqual((second.is_sound, second.remains()), (False, (b"2", [])))
-                self.assertRaises(adf.Damaged, second.read)
+                self.assertEqual((second.is_sound, second.remains(), second.read()), (True, (b"2", []), b"2"))
 
     def test_reads_no_file_in_a_directory_of_another_one(self):
         sound = built("volume ofs 32\ndir 0:0:0 00000000 a\nfile 0:0:0 00000000 a/f\ndata 31\ndir 0:0:0 00000000 b\nfile 0:0:0 00000000 b/f\ndata 32\n")
         image, place = bytearray(sound), 512 * adf.Volume(sound)["b"].header
         image[place + 433] = ord("a")
         survey = adf.survey(image)
-        self.assertEqual([entry.path for entry in survey.entries], ["a", "a", "a/f", "a/f"])
+        other = f"lost-{place // 512}"
+        self.assertEqual([entry.path for entry in survey.entries], ["a", other, "a/f", f"{other}/f"])
         self.assertEqual([entry.read() for entry in survey.entries[2:]], [b"1", b"2"])
 
     def test_compares_names_by_the_type_of_the_image(self):
@@ -513,8 +513,8 @@ class Surveys(unittest.TestCase):
         image[512 * small[3] + 496 : 512 * small[3] + 500] = capital
         survey = adf.survey(image)
         self.assertEqual((survey.is_retyped, len(survey.entries)), (False, 2))
-        first, second = survey.entries
-        self.assertEqual([entry.remains()[0] for entry in (first, second)], [b"1", b"2"] if first.raw_name == b"\xe4" else [b"2", b"1"])
+        # The header of the small letter has a wrong checksum.
+        self.assertEqual({entry.raw_name: entry.remains()[0] for entry in survey.entries}, {b"lost-%d" % small[3]: b"1", b"\xc4": b"2"})
 
     def test_reads_a_file_that_no_path_leads_to(self):
         sound = built("volume ofs 16\nfile 0:0:0 00000000 ab\ndata 31\n")
@@ -525,19 +525,22 @@ class Surveys(unittest.TestCase):
     def test_spells_names_that_are_none_as_adf_survey_does(self):
         # The header of `c` is block 2, that of `c/ab` block 3, its data block 4, whose type becomes 0. Byte 432 is the length of a name.
         sound = changed(built("volume ofs 16\ndir 0:0:0 00000000 c\nfile 0:0:0 00000000 c/ab\ndata 41\n"), 4, 3, 8)
-        for name, path in (
-            (b"\2/b", r"c/\x2fb"), (b"\2..", "c/.."), (b"\2:\x1b", r"c/\x3a\x1b"), (b"\0ab", r"c/\x"), (b"\2\\\xfc", r"c/\x5c\xfc"),
-        ):  # fmt: skip
+        for name, stated, path in (
+            *((b"\2/b", r"c/\x2fb", "c/lost-3"), (b"\2..", "c/..", "c/.."), (b"\2:\x1b", r"c/\x3a\x1b", "c/lost-3"), (b"\0ab", r"c/\x", "c/lost-3")),
+            (b"\2\\\xfc", r"c/\x5c\xfc", r"c/\x5c\xfc"),
+        ):
             image = bytearray(sound)
             image[512 * 3 + 432 : 512 * 3 + 435] = name
             survey = adf.survey(image)
             found, raw = survey.entries[1], name[1 : 1 + name[0]]
-            self.assertEqual((found.path, found.name, found.raw_path, found.raw_name), (path, path[2:], b"c/" + raw, raw))
-            self.assertIn(f"blocks 3 to 4: bad sum: {path}", lines_of("--list", image))
+            is_same, new = path == stated, raw if path == stated else b"lost-3"
+            self.assertEqual((found.path, found.name, found.raw_path, found.raw_name), (path, path[2:], b"c/" + new, new))
+            self.assertIn(f"blocks 3 to 4: bad sum: {stated}", lines_of("--list", image))
             self.assertEqual({finding.path for finding in survey.findings} - {None, "c", "c/"}, {path})
             self.assertTrue(any(line.startswith("damaged file") and line.endswith(f" {path}") for line in lines_of("--list", image)))
             left_out = adf.rescue(image)[1]
-            self.assertEqual([(each.path, each.raw_path) for each in pickle.loads(pickle.dumps(left_out)) if each.is_entry], [(path, b"c/" + raw)])
+            told = [(path, b"c/" + new), *([] if is_same else [(stated, b"c/" + raw)])]
+            self.assertEqual([(each.path, each.raw_path) for each in pickle.loads(pickle.dumps(left_out)) if each.is_entry], told)
             self.assertEqual([str(each) for each in left_out], lines_of("rescue", image))
 
     def test_spells_random_names_as_adf_survey_does(self):
@@ -558,10 +561,12 @@ class Surveys(unittest.TestCase):
     def test_reads_no_other_file_for_a_name_with_a_slash(self):
         # `a/b` is a file in `a`, and becomes the name of the file `axb` too; that one is read by itself alone.
         sound = built("volume ofs 16\ndir 0:0:0 00000000 a\nfile 0:0:0 00000000 a/b\ndata 31\nfile 0:0:0 00000000 axb\ndata 32\n")
-        survey = adf.survey(changed(sound, adf.Volume(sound)["axb"].header, 434, ord("x") ^ ord("/")))
-        found = next(entry for entry in survey.entries if entry.raw_name == b"a/b")
-        self.assertEqual((found.path, found.remains()[0], survey.read("a/b"), survey.read(b"a/b")), (r"a\x2fb", b"2", b"1", b"1"))
-        self.assertRaises(adf.NoSuchPath, survey.read, found.path)
+        header = adf.Volume(sound)["axb"].header
+        survey = adf.survey(changed(sound, header, 434, ord("x") ^ ord("/")))
+        found = next(entry for entry in survey.entries if entry.header == header)
+        self.assertEqual((found.path, found.remains()[0], survey.read("a/b"), survey.read(b"a/b")), (f"lost-{header}", b"2", b"1", b"1"))
+        self.assertRaises(adf.Damaged, survey.read, found.path)
+        self.assertRaises(adf.NoSuchPath, survey.read, r"a\x2fb")
 
     def test_has_findings_as_a_list_has(self):
         findings = adf.survey(changed(changed(image_of(), 880, 440, 1), 0, 3, 2)).findings
@@ -606,7 +611,7 @@ class Surveys(unittest.TestCase):
         # Without its root the file is found by its header, which names the root's block as its directory. Block 5 is the new root.
         new, left_out = adf.rescue(sound[:5120])
         self.assertEqual([entry.path for entry in adf.Volume(new).entries], ["lost-8", "lost-8/a"])
-        lines = ["made: lost-8", "perhaps deleted: lost-8/a", "lost: in /", "lost: block 5"]
+        lines = ["lost: block 5", "lost: in /", "lost: in lost-8/", "made: lost-8", "perhaps deleted: lost-8/a"]
         self.assertEqual((adf.Volume(new)["lost-8/a"].read(), [str(each) for each in left_out]), (b"A" * 489, lines))
         for blocks in (-1, 1 << 23 | 1):
             with self.assertRaises(ValueError):
@@ -618,7 +623,7 @@ class Surveys(unittest.TestCase):
         for block in range(2, 303):
             image = changed(image, block, 323, 1)
         _, left_out = adf.rescue(image)
-        self.assertEqual(sorted(entry.path for entry in left_out), [*names, "c"])
+        self.assertEqual(sorted(entry.path for entry in left_out if entry.is_entry), [*names, "c"])
         self.assertEqual([entry.path for entry in left_out if entry.is_kept], ["c"])
 
 

@@ -118,7 +118,7 @@ class Subjects(unittest.TestCase):
             (lost, 0, (8192, 16, 1, 0), b"DOS\0" + lost[4:]),
             (b"DOS\1" + sound[4:], 0, (8192, 16, 0, 1), sound),
             (sound[:5000], 16, (8192, 9, 0, 0), sound[:5000] + bytes(3192)),
-            (sound[:5000], 0, (5000, 9, 0, 0), sound[:5000]),
+            (sound[:5000], 0, (4096, 8, 0, 0), sound[:4096]),
             (b"", 0, (0, 0, 0, 0), b""),
         ):
             for more in (0, 9):
@@ -128,11 +128,11 @@ class Subjects(unittest.TestCase):
         self.assertEqual(self.subject(sound, 2**32 - 1, 9), (24, (512 * (2**32 - 1), 0, 0, 0), b"?" * 9))
 
     def test_take_the_length_of_a_floppy(self):
-        # The image of 1,760 blocks and 44 more, and its first 1,700; and these as if it had 1,804 and 1,700.
+        # The image of 1,760 blocks and 44 more, and its first 1,700; and these as if it had 1,804 and 1,700, which wins over everything.
         whole, long, cut = built(MANIFEST), built(MANIFEST) + bytes(512 * 44), built(MANIFEST)[: 512 * 1700]
         for image, blocks, wanted, told in (
-            (long, 0, whole, (901120, 1760, 0, 0)), (long, 1804, whole, (901120, 1760, 0, 0)), (cut, 0, cut + bytes(512 * 60), (901120, 1700, 0, 0)),
-            (cut, 1700, cut, (512 * 1700, 1700, 0, 0)), (cut, 1804, cut + bytes(512 * 60), (901120, 1700, 0, 0)),
+            (long, 0, whole, (901120, 1760, 0, 0)), (long, 1804, long, (512 * 1804, 1804, 0, 0)), (cut, 0, cut + bytes(512 * 60), (901120, 1700, 0, 0)),
+            (cut, 1700, cut, (512 * 1700, 1700, 0, 0)), (cut, 1804, cut + bytes(512 * 104), (512 * 1804, 1700, 0, 0)),
         ):  # fmt: skip
             self.assertEqual(self.subject(image, blocks, len(wanted) + 9), (0, told, wanted + b"?" * 9))
             self.assertEqual(self.subject(image, blocks, len(wanted) - 1), (24, (len(wanted), 0, 0, 0), b"?" * (len(wanted) - 1)))

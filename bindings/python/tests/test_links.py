@@ -37,7 +37,7 @@ class TestLinks(unittest.TestCase):
         self.assertEqual([each.target for each in survey.entries], [None, None, a, a, b, b"b/x"])
 
     def test_tells_nothing_of_wrong_ones(self):
-        survey = adf.survey(with_word(with_word(linked(), 2, 118, 5), 7, 6, 0))
+        survey = adf.survey(with_word(with_word(linked(), 4, 117, 31), 7, 6, 0))
         a, b = survey.entries[:2]
         self.assertEqual([each.target for each in survey.entries], [None, None, None, a, b, None])
 
@@ -168,8 +168,9 @@ class TestUnpacked(Folder):
         image[512 * b + 433] = ord("a")  # the link is called `a` too, and stands behind `a` in the chain of their slot
         for block, place, value in ((b, 3, 0), (a, 124, b), (880, slot, 0)):
             image[:] = with_word(bytes(image), block, place, value)
-        self.tool("unpack", "new", given=bytes(image))
-        self.assertEqual((sorted(os.listdir("new")), os.readlink(f"new/a-{b}")), (["a", f"a-{b}", "x"], "x"))
+        ran = self.run_tool("unpack", "new", given=bytes(image))
+        self.assertEqual((ran.returncode, ran.stderr.decode()), (1, f"adf-unpack: renamed: a: lost-{b}\n"))
+        self.assertEqual((sorted(os.listdir("new")), os.readlink(f"new/lost-{b}")), (["a", f"lost-{b}", "x"], "x"))
 
     def test_leads_through_deep_trees(self):
         paths = ["/".join(["d"] * depth) + "/" for depth in range(1, 700)]

@@ -55,14 +55,14 @@ class Standing(Catalogues):
         whole = volume(("a", b"one"), ("b", b"two"))
         written("disks/root.adf", whole[: 512 * 880] + bytes(512) + whole[512 * 881 :])
         self.catalogue("disks", "out", "--rescue", status=1)
-        found = [("a", "found again", sum_of(b"one")), ("b", "found again", sum_of(b"two"))]
+        found = [("a", "perhaps deleted", sum_of(b"one")), ("b", "perhaps deleted", sum_of(b"two"))]
         self.assertEqual(self.entries("root.adf"), found)
         self.assertEqual(self.asked("out", "SELECT files, lost, lost_least FROM images"), [(2, 0, 1)])
         ran = self.run_tool("catalogue", "find", "--sum", sum_of(b"two"), "out")
         self.assertEqual(ran.stdout, b"root.adf\tb\n")
         (page,) = pages_of("out")
         self.assertIn("at least 0 files", page.text)
-        self.assertEqual(page.text.count("found again"), 4)  # as a mark of the entry, and as a line of the rescue
+        self.assertEqual(page.text.count("perhaps deleted"), 4)  # as a mark of the entry, and as a line of the rescue
         (link,) = self.asked("out", "SELECT rescued FROM images")[0]
         with open(f"out/{link}", "rb") as file:
             self.assertEqual(sorted(adf.Volume(file.read())), ["a", "b"])
@@ -86,7 +86,7 @@ class Standing(Catalogues):
         written("disks/named.adf", changed(whole, header, 323, 1))
         self.catalogue("disks", "out", status=1)
         rows = self.asked("out", "SELECT name, lost, lost_least FROM images ORDER BY name")
-        self.assertEqual(rows, [("gone.adf", 1, 1), ("named.adf", 1, 0)])
+        self.assertEqual(rows, [("gone.adf", 1, 1), ("named.adf", 1, 1)])
         index = Page("out/list-read-again.html").text.partition('id="images"')[2]
         self.assertLess(index.index("gone.adf"), index.index("named.adf"))
         self.assertIn(">at least 1<", index)
@@ -100,15 +100,15 @@ class Standing(Catalogues):
         written("disks/old.adf", sealed(with_word(gone, 881, 1 + place, word | 1 << bit), 881, 0))
         self.catalogue("disks", "out", status=1)
         rows = self.asked("out", "SELECT name, lost, lost_least FROM images ORDER BY name")
-        self.assertEqual(rows, [("gone.adf", 1, 1), ("old.adf", 0, 1)])
+        self.assertEqual(rows, [("gone.adf", 1, 1), ("old.adf", 0, 0)])
 
-    def test_lists_a_file_once_that_is_found_again(self):
+    def test_lists_a_file_once_that_is_in_another_directory(self):
         whole = volume(("one/f", b"x" * 10), dirs=("one", "two"))
         header, other = (adf.Volume(whole)[path].header for path in ("one/f", "two"))
         moved = sealed(with_word(whole, header, 125, other), header)
-        written("disks/moved.adf", with_word(moved, header, 125, 1))
+        written("disks/moved.adf", moved)
         self.catalogue("disks", "out", status=1)
-        self.assertEqual(self.entries("moved.adf"), [("one", "damaged", None), ("one/f", "found again", sum_of(b"x" * 10)), ("two", "sound", None)])
+        self.assertEqual(self.entries("moved.adf"), [("one", "damaged", None), ("two", "sound", None), ("two/f", "perhaps deleted", sum_of(b"x" * 10))])
         self.assertEqual(self.asked("out", "SELECT lost FROM images"), [(0,)])
 
     def test_lists_the_worst_first(self):

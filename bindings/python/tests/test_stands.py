@@ -59,7 +59,7 @@ class Stands(Folder):
     def test_takes_no_hint_to_a_hard_disk_for_what_is_left_out(self):
         image = bytearray(DAMAGED)
         image[:4], image[12 * 512 : 12 * 512 + 4] = bytes(4), b"RDSK"  # the boot block, and a free block
-        self.assertEqual(opened(bytes(image))[0].left_out, [FAULT, adf.LeftOut(adf.Reason.BLOCKS, b"", 0, 0)])
+        self.assertEqual(opened(bytes(image))[0].left_out, [adf.LeftOut(adf.Reason.BLOCKS, b"", 0, 0), FAULT])
         self.assertRaises(adf.Damaged, adf.survey(bytes(image)).read, "a")
 
     def test_can_be_closed_and_pickled(self):
@@ -78,32 +78,36 @@ class Stands(Folder):
     def test_tells_which_entry_is_which(self):
         volume = adf.Rescued(DAMAGED)
         self.assertEqual([(found.path, volume.entry_of(found)) for found in volume.survey.entries], [("a", None), ("b", volume["b"])])
+        both = adf.Rescued(changed(changed(SOUND, 6, 433, 3), 6, 401, 1))  # `b` is called `a` too, and its checksum is right
+        self.assertEqual(str(both.left_out[-1]), "renamed: a: lost-6")
+        self.assertEqual([both.entry_of(found) for found in both.survey.entries], [both["a"], both["lost-6"]])
 
     def test_tells_what_is_lost(self):
-        image = changed(built("volume ofs 64\ndir 0:0:0 00000000 c\nfile 0:0:0 00000000 c/x\nfill 900 41\n"), 3, 3, 8)
-        volume = adf.Rescued(image)
-        self.assertEqual(volume.left_out, [adf.LeftOut(adf.Reason.HEADERS, b"c", 2, 2), adf.LeftOut(adf.Reason.BLOCKS, b"", 4, 5)])
-        self.assertEqual([str(each) for each in volume.left_out], ["lost: in c/", "lost: blocks 4 to 5"])
-        self.assertEqual([(each.is_entry, each.directory, each.blocks) for each in volume.left_out], [(False, "c", range(0)), (False, None, range(4, 6))])
+        sound = built("volume ofs 64\ndir 0:0:0 00000000 c\nfile 0:0:0 00000000 c/x\nfill 900 41\n")
+        volume = adf.Rescued(sound[: 512 * 3] + bytes(512) + sound[512 * 4 :])
+        self.assertEqual(volume.left_out, [adf.LeftOut(adf.Reason.HEADERS, b"c", 2, 2), adf.LeftOut(adf.Reason.BLOCKS, b"", 3, 5)])
+        self.assertEqual([str(each) for each in volume.left_out], ["lost: in c/", "lost: blocks 3 to 5"])
+        self.assertEqual([(each.is_entry, each.directory, each.blocks) for each in volume.left_out], [(False, "c", range(0)), (False, None, range(3, 6))])
 
     def test_tells_each_reason_as_a_text(self):
         for reason, path, first, last, text in (
             (1, b"c/\xfc", 5, 5, r"damaged: c/\xfc"), (2, b"a", 5, 5, "link: a"), (3, b"a", 5, 5, "no room: a"), (4, b"", 0, 0, "lost: in /"),
             (4, b"c/d", 7, 7, "lost: in c/d/"), (5, b"", 44, 44, "lost: block 44"), (5, b"", 44, 65, "lost: blocks 44 to 65"), (6, b"c", 5, 5, "in doubt: c"),
             (7, b"a", 5, 5, "perhaps deleted: a"), (8, b"a/b", 5, 5, "found again: a/b"), (9, b"lost-8", 8, 8, "made: lost-8"),
-            (10, b"a", 5, 5, "reason 10: a"),
+            (11, b"a", 5, 5, "comment cut: a"), (12, b"", 8, 8, "label cut: block 8"), (13, b"", 9, 9, "bitmap: block 9"), (14, b"a", 5, 5, "reason 14: a"),
         ):  # fmt: skip
             told = adf.LeftOut(reason, path, first, last)
-            self.assertEqual((str(told), told.is_kept, told.is_entry), (text, 6 <= reason <= 9, reason not in (4, 5)))
+            self.assertEqual((str(told), told.is_kept, told.is_entry), (text, 6 <= reason <= 9, reason not in (4, 5, 12, 13)))
 
     def test_tells_what_is_in_the_volume_in_doubt(self):
-        # Block 2 is `c`, 3 is `c/a`, 4 its data. The checksum of `c` is wrong, so its date may be, and it may lack things.
+        # Block 2 is `c`, 3 is `c/a`, 4 its data. The checksum of `c` is wrong, so its date may be, and it and the chain that it is in may lack things.
         sound = built("volume ofs 16\ndir 0:0:0 00000000 c\nfile 0:0:0 00000000 c/a\ndata 41\n")
         volume, told = opened(changed(sound, 2, 323, 1))
-        self.assertEqual(volume.left_out, [adf.LeftOut(adf.Reason.IN_DOUBT, b"c", 2, 2)])
+        lost = [adf.LeftOut(adf.Reason.HEADERS, b"c", 2, 2), adf.LeftOut(adf.Reason.HEADERS, b"", 0, 0)]
+        self.assertEqual(volume.left_out, [*lost, adf.LeftOut(adf.Reason.IN_DOUBT, b"c", 2, 2)])
         self.assertEqual([volume.entry_of(found) for found in volume.survey.entries], [volume["c"], volume["c/a"]])
-        self.assertEqual([text for _, text, _ in told], ["block 2: bad sum: 0 left out, 1 in doubt (volume.left_out)"])
-        self.assertEqual(repr(volume), "<adf.Rescued '': ofs, 16 blocks, 0 left out, 1 in doubt>")
+        self.assertEqual([text for _, text, _ in told], ["block 2: bad sum: 2 left out, 1 in doubt (volume.left_out)"])
+        self.assertEqual(repr(volume), "<adf.Rescued '': ofs, 16 blocks, 2 left out, 1 in doubt>")
 
     def test_tells_what_is_found_again(self):
         # The root, block 8, does not lead to `c` any more: the word of its slot is 0, and its checksum wrong.
@@ -111,9 +115,9 @@ class Stands(Folder):
         place = image.index(bytes([0, 0, 0, 2]), 512 * 8 + 24)
         image[place : place + 4] = bytes(4)
         volume = adf.Rescued(image)
-        lines = ["found again: c", "found again: c/a", "lost: in /", "lost: block 8"]
+        lines = ["lost: block 8", "lost: in /", "found again: c", "found again: c/a"]
         self.assertEqual(([str(each) for each in volume.left_out], volume["c/a"].read(), volume.label), (lines, b"A", "Kept"))
-        self.assertEqual([(each.reason, each.first, each.is_kept) for each in volume.left_out], [(8, 2, True), (8, 3, True), (4, 0, False), (5, 8, False)])
+        self.assertEqual([(each.reason, each.first, each.is_kept) for each in volume.left_out], [(5, 8, False), (4, 0, False), (8, 2, True), (8, 3, True)])
 
     def test_reads_floppies_with_tracks_behind_them_and_without_their_end(self):
         sound = image_of()
@@ -133,7 +137,7 @@ class Stands(Folder):
             manifest = f"volume {kind} 1760\n" + "".join(f"file 0:0:0 00000000 {name}\nfill 300000 {name}1\n" for name in "ab")
             sound = built(manifest)
             cut, header = sound[: 512 * 900], adf.Volume(sound)["b"].header
-            told_of_b = [adf.LeftOut(adf.Reason.DAMAGED, b"b", header, header), adf.LeftOut(adf.Reason.BLOCKS, b"", 900, 1759)]
+            told_of_b = [adf.LeftOut(adf.Reason.BLOCKS, b"", 900, 1759), adf.LeftOut(adf.Reason.DAMAGED, b"b", header, header)]
             volume, told = opened(cut, "cut.adf", blocks=1760)
             self.assertEqual(len(told), 1)
             self.assertEqual(([entry.path for entry in volume.entries], volume.left_out), (["a"], told_of_b))
@@ -153,7 +157,7 @@ class Stands(Folder):
         volume = adf.Volume(sound)
         image = changed(sound, volume["e"].header, 433, ord("e") ^ ord("d"))
         found = [entry for entry in adf.survey(image).entries if entry.is_file]
-        self.assertEqual([(entry.path, entry.is_sound) for entry in found], [("d/f", True), ("d/f", True)])
+        self.assertEqual([(entry.path, entry.is_sound) for entry in found], [("d/f", True), (f"lost-{volume['e'].header}/f", True)])
         content = {volume["d/f"].header: b"1", volume["e/f"].header: b"2"}
         self.assertEqual([entry.read() for entry in found], [content[entry.header] for entry in found])
         self.assertEqual([entry.remains() for entry in found], [(content[entry.header], []) for entry in found])
@@ -207,7 +211,7 @@ class Programs(Folder):
 
     def test_tell_what_is_in_doubt(self):
         written("c.adf", changed(built("volume ofs 16\ndir 0:0:0 00000000 c\n"), 2, 323, 1))
-        self.ends(1, ["c.adf: in doubt: c"], "unpack", "c.adf", "new")
+        self.ends(1, ["c.adf: lost: in c/", "c.adf: lost: in /", "c.adf: in doubt: c"], "unpack", "c.adf", "new")
         self.assertEqual(os.listdir("new"), ["c"])
 
     def test_recipe_writes_what_stands(self):

@@ -268,18 +268,18 @@ class Found(Images):
         self.assertEqual(self.table(bytes(8191), self.parts(bytes(8191)), 16, room=0), (0, []))
 
     def test_other_rows(self):
-        # On FFS what cut rows do not have is lost, and those of another file have nothing of it. OFS data blocks say whose they are.
+        # What cut rows do not have is lost, and those of another file have nothing of it.
         rows = self.parts(self.fast)
         self.assertEqual(self.table(self.fast, rows, 5), (3, [3, 4, NO_BLOCK]))
         self.assertEqual(self.table(self.fast, rows, 5, 2, 1), (3, [NO_BLOCK]))
-        self.assertEqual(self.table(self.image, rows, 0), (3, [3, 4, 5]))
+        self.assertEqual(self.table(self.image, rows, 0), (3, [NO_BLOCK] * 3))
 
     def test_a_block_that_is_named_twice(self):
-        # An FFS block that the table names as data blocks 1 and 2 is neither.
+        # An FFS block that the table names as data blocks 1 and 2 has the last of these places.
         image = with_bytes(self.fast, (2 * 512 + 4 * 76 + 3, 3))
         rows = self.parts(image)
-        self.assertEqual((*fields(rows[3], "node number"), rows[5].number), (1, 0, 3))
-        self.assertEqual(self.table(image, rows, 16), (3, [NO_BLOCK, NO_BLOCK, 5]))
+        self.assertEqual((*fields(rows[3], "node number"), rows[5].number), (1, 2, 3))
+        self.assertEqual(self.table(image, rows, 16), (3, [NO_BLOCK, 3, 5]))
 
     def test_names_are_escaped(self):
         for name, wanted in ((b"a\\\xe4 ", (10, b"a\\x5c\\xe\x09")), (b"ab", (2, b"ab" + GUARD * 7))):
@@ -287,12 +287,14 @@ class Found(Images):
             self.assertEqual((self.library.adf_escape(name, len(name), room, 8), bytes(room)), wanted)
 
     def test_roles(self):
-        # Those of a sound image are the same by its check; a data block that is lost has none; and without the root nothing is written.
+        # Those of a sound image are the same by its check; a data block that is lost has none; a root of which one type is lost is one still; and of
+        # bytes that are no whole blocks nothing is written.
         roles = bytes((1, 1, 5, 7, 7, 7, 5, 0, 2, 3, 0, 0, 0, 0, 0, 0, 9))
         self.assertEqual(self.roles(self.image), (0, roles))
         self.assertEqual(self.roles(self.image, call="adf_survey_owners"), (0, roles))
         self.assertEqual(self.roles(self.without(4), 6, "adf_survey_owners"), (0, bytes((1, 1, 5, 7, 0, 7, 9))))
-        self.assertEqual(self.roles(self.without(8), call="adf_survey_owners"), (0, GUARD * 17))
+        self.assertEqual(self.roles(self.without(8), call="adf_survey_owners"), (0, roles))
+        self.assertEqual(self.roles(bytes(8191), call="adf_survey_owners"), (0, GUARD * 17))
 
 
 class Links(Calls):
@@ -317,8 +319,9 @@ class Links(Calls):
     def test_have_rows(self):
         self.assertEqual(self.links(), (4, self.rows))
         self.assertEqual(self.links(room=2), (4, self.rows[:2]))
-        # The chain of `a` leaves `c` out, and the path of `f` is empty.
-        self.assertEqual(self.links((2, 118, 5), (7, 6, 0)), (2, self.rows[1:3]))
+        # The chain of `a` leaves `c` out, which tells nothing; `c` names no header; and the path of `f` is empty.
+        self.assertEqual(self.links((2, 118, 5)), (4, self.rows))
+        self.assertEqual(self.links((4, 117, 15), (7, 6, 0)), (2, self.rows[1:3]))
         self.assertEqual(self.links(image=b""), (0, []))
 
 

@@ -4,7 +4,7 @@ use crate::text::unspelled;
 use crate::Refused;
 use std::fmt;
 
-/// A new, sound volume of all that stands in a damaged image.
+/// A new, sound volume of all that exists in a damaged image.
 #[derive(Clone, Debug, PartialEq, Eq)]
 pub struct Rescue {
     /// The image of the new volume. It has as many blocks as the given one, or those of a floppy, if that is cut, or has tracks behind
@@ -21,7 +21,7 @@ pub struct LeftOut {
     /// Why it is left out, or in doubt.
     pub reason: Reason,
     /// The path of an entry, or of the directory in which headers are lost, as `adf-survey` spells it (`Found::path`); empty for the root
-    /// and for blocks. An entry that is kept may have another name in the new volume.
+    /// and for blocks. Of an entry that is renamed, the path that its header states, `: `, and the one in the new volume.
     pub path: String,
     /// The header of the entry or of the directory, 0 for the root; or the first of the blocks.
     pub first: u32,
@@ -50,6 +50,14 @@ numbered! {
     FoundAgain = 8,
     /// A directory that the rescue made, for what names a lost one.
     Made = 9,
+    /// The entry has another name: its own is none, or another entry has it.
+    Renamed = 10,
+    /// The comment of the entry is too long, and is cut.
+    CommentCut = 11,
+    /// The label of the volume is too long, and is cut.
+    LabelCut = 12,
+    /// A page of the bitmap cannot be read.
+    Bitmap = 13,
 }
 
 impl LeftOut {
@@ -58,9 +66,11 @@ impl LeftOut {
         matches!(self.reason, Reason::InDoubt | Reason::PerhapsDeleted | Reason::FoundAgain | Reason::Made)
     }
 
-    /// The bytes of the path. A name of a damaged entry may have any, as `/`, or be `..`, which leads out of a folder.
+    /// The bytes of the path, of an entry that is renamed the stated one. A name of a damaged entry may have any, as `/`, or be `..`,
+    /// which leads out of a folder.
     pub fn path_bytes(&self) -> Vec<u8> {
-        unspelled(&self.path).unwrap_or_default()
+        let stated = self.path.split_once(": ").map_or(self.path.as_str(), |(stated, _)| stated);
+        unspelled(stated).unwrap_or_default()
     }
 }
 
@@ -78,6 +88,10 @@ impl fmt::Display for LeftOut {
             Reason::PerhapsDeleted => write!(f, "perhaps deleted: {path}"),
             Reason::FoundAgain => write!(f, "found again: {path}"),
             Reason::Made => write!(f, "made: {path}"),
+            Reason::Renamed => write!(f, "renamed: {path}"),
+            Reason::CommentCut => write!(f, "comment cut: {path}"),
+            Reason::LabelCut => write!(f, "label cut: block {first}"),
+            Reason::Bitmap => write!(f, "bitmap: block {first}"),
             Reason::Unknown(number) => write!(f, "unknown reason {number}: {path}"),
         }
     }
