@@ -1,7 +1,7 @@
 #!/usr/bin/env python3
 """The survey of an image by its definition (crates/adf_findings): every part that has a cause, and what is found all the same.
 
-    bench/survey.py < IMAGE      a line for each finding with the path that it concerns, then a line for each entry, sound or damaged
+    bench/survey.py < IMAGE      a line for each finding with the path that it concerns
 
 What is next is the least role that the walk asks for and that is neither in the walk nor skipped; no order of reading is followed.
 A role is its key (first, second, third), its name, and its numbers.
@@ -67,7 +67,6 @@ class Survey:
         self.walk, self.owner, self.nodes, self.skipped, self.findings = {}, {}, [], {}, []
         self.asked = {}  # by key: the role, and the block and the word that name its block
         self.waiting = []  # the keys that were asked for, the least first
-        self.names = {}  # how many words that ask for a part name a block
         self.root = self.blocks // 2
         first, readable = judged(self.boot_demands(), OTHER_TYPES)
         if first:
@@ -119,7 +118,6 @@ class Survey:
     def ask(self, role, a, i):
         self.asked[role[0]] = role, a, i
         heappush(self.waiting, role[0])
-        self.names[self.word(a, i)] = self.names.get(self.word(a, i), 0) + 1
 
     def take(self, role, b):
         """The role at block b is a member of the walk, and asks for what its words name."""
@@ -267,48 +265,11 @@ class Survey:
         return None if node is None else spelled(self.path(node))
 
     def leads(self, role, cause):
-        """What a right link leads to: of a soft one its path; of a hard one the entry of the kind that it says whose header it names, if the
-        chain of links of that comes to it."""
-        node = self.node_of(role) if cause == "link" else None
-        b = None if node is None else self.block_of(node)
-        if b is None or not 1 <= self.byte(b, 432) <= 30 or {47, 58} & set(self.text(b, 432)) or slot(self.text(b, 432), self.international) != role[3]:
-            return ""
-        if self.word(b, 127) == LINKS[0]:
-            path, end, _ = self.image[512 * b + 24 : 512 * b + 312].partition(b"\0")
-            return f": path {escaped(path)}" if path and end else ""
-        at = self.word(b, 117)
-        to = self.node_of(self.owner.get(at)) if self.owner.get(at, ROOT)[1] == "head" else None
-        kind = DIR if self.word(b, 127) == LINKS[1] else FILE
-        return f": to {spelled(self.path(to))}" if to is not None and self.word(at, 127) == kind and b in self.chain(at) else ""
-
-    def chain(self, at):
-        """The hard links to the header in a block, one after another."""
-        links, b = [], self.word(at, 118)
-        while b not in links and self.owner.get(b, ROOT)[1] == "head" and self.word(b, 127) in LINKS[1:] and self.word(b, 117) == at:
-            links.append(b)
-            b = self.word(b, 118)
-        return links
+        """What the right link leads to that a finding concerns: bench/surveyed.py tells it, by the judge."""
+        return ""
 
     def path(self, n):
         return [] if n == 0 else self.path(self.nodes[n][2]) + [self.text(self.block_of(n), 432)[:79]]
-
-    def says_data_of(self, n, k, b):
-        """The block says of itself that it is OFS data block k of file n."""
-        return unpack_from(">3I", self.image, 512 * b) == (8, self.block_of(n), k) and self.sealed(b)
-
-    def is_mistyped(self):
-        """The type is of FFS, but of the data blocks that are found more than half say that they are OFS ones."""
-        says = [self.says_data_of(*role[2:], b) for b, role in self.owner.items() if role[1] == "data"]
-        return bool(self.owner) and self.offset == 0 and sum(says) > len(says) - sum(says)
-
-    def is_sound(self, n):
-        """Nothing of the entry is reported, no header in it was skipped, and no FFS data block of it, which has no form, is named by
-        another word too or says that it is an OFS one."""
-        parts = {key: b for key, b in self.walk.items() if key == self.nodes[n][0] or key[0] == n + 1 and key[1] < 2}
-        reported = {role[0] for role, _, _ in self.findings if role}
-        headed = any(key[0] == n + 1 and (key[1] < 2 or key in self.skipped) for key in reported)
-        doubted = [b for key, b in parts.items() if key[1] == 1 and not self.offset and (self.names[b] > 1 or self.says_data_of(n, key[2], b))]
-        return not headed and not reported & set(parts) and not doubted
 
     def found(self):
         """A line for each run of findings with one cause, that concern the same and with one owner, at one block or at neighbouring
@@ -329,12 +290,6 @@ class Survey:
         for n in wrong_caches(self):
             yield f"block {self.block_of(n)}: wrong cache: {spelled(self.path(n))}/"
 
-    def lines(self):
-        """The findings, and then the entries."""
-        yield from self.found()
-        for n in range(1, len(self.nodes)):
-            yield f"{'sound' if self.is_sound(n) else 'damaged'} {spelled(self.path(n))}"
-
 
 def spelled(path):
     return "/".join("".join(chr(c) if 32 <= c <= 126 and c not in b"\\/:" else f"\\x{c:02x}" for c in name) or "\\x" for name in path)
@@ -347,7 +302,7 @@ def escaped(text):
 def main():
     if len(sys.argv) > 1:
         sys.exit(__doc__)
-    for line in Survey(sys.stdin.buffer.read()).lines():
+    for line in Survey(sys.stdin.buffer.read()).found():
         print(line)
 
 

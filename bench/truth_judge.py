@@ -80,9 +80,11 @@ class Lines:
         self.blocks = [line.blocks for line in answer.lines if line.blocks and line.path is None]
 
     def rename(self, line: Line) -> None:
-        """A new name counts where the directory is the same one."""
-        if line.path and line.now and self.canonical(line.now[:-1]) == line.path[:-1]:
-            self.renamed[line.now] = line.path
+        """A new name counts where the directory is the same one, by its path in the answer or as it was."""
+        if line.path and line.now:
+            directory = self.canonical(line.now[:-1])
+            if line.path[:-1] in (line.now[:-1], directory):
+                self.renamed[line.now] = (*directory, line.path[-1])
 
     def canonical(self, path: Path) -> Path:
         """A path of the answer as it was: without new names, and with the directory that had its header there in place of each `lost-` and

@@ -1,4 +1,4 @@
-"""What is judged: the programs, by the calls of the library; and the definitions of bench/evidence.py."""
+"""What is judged: the programs, by the calls of the library; the program adf-survey; and the reference of bench/evidence.py."""
 
 from __future__ import annotations
 
@@ -10,15 +10,20 @@ import warnings
 from typing import Callable, Dict, List, Optional, Set, Tuple
 
 import adf
+from adf import _texts
 from adf._rescues import LeftOut, rescue
 from truth_judge import Answer, Back, Line, Listed
 from truth_volumes import Path
 
 BEHIND_TYPE = ("international", "directory cache")
+OF_ENTRIES = ("damaged", "link", "no room", "in doubt", "perhaps deleted", "found again", "made", "comment cut")
+OF_BLOCKS = ("lost", "label cut", "bitmap")
+BLOCKS = re.compile(r"blocks? (\d+)(?: to (\d+))?")
 
 
-def path_of(raw: bytes) -> Path:
-    return tuple(raw.split(b"/")) if raw else ()
+def path_told(text: str) -> Path:
+    """A path as `adf-survey` spells it, by the bytes of its names, in which `/` may be; empty for the root."""
+    return tuple(map(_texts.raw_name, text.split("/"))) if text else ()
 
 
 def date_of(date: object) -> Tuple[int, int, int]:
@@ -44,11 +49,13 @@ def found_tree(image: bytes) -> Tuple[Dict[Path, Back], bytes, Tuple[Tuple[int, 
 
 
 def line_of(left: LeftOut) -> Line:
+    """A row of a rescue by the library."""
+    blocks = range(left.first, left.last + 1)
     if left.directory is not None:
-        return Line(str(left), None, path_of(left.raw_path))
-    if left.is_entry:
-        return Line(str(left), path_of(left.raw_path), None, range(left.first, left.last + 1))
-    return Line(str(left), None, None, left.blocks)
+        return Line(str(left), None, path_told(left.directory))
+    if left.new_path is not None:
+        return Line(str(left), path_told(left.path), None, blocks, path_told(left.new_path))
+    return Line(str(left), path_told(left.path) if left.is_entry else None, None, blocks)
 
 
 def listed_of(found: adf.Found, path: Path) -> Listed:
@@ -78,66 +85,39 @@ def programs(image: bytes, blocks: Optional[int], option: Optional[str] = None) 
     return Answer(things, [line_of(each) for each in left_out], label, dates, has_findings, listed)
 
 
-def unspelled(text: str) -> bytes:
-    return re.sub(r"\\x([0-9a-f]{2})", lambda found: chr(int(found[1], 16)), text).encode("latin-1")
-
-
 def line_told(text: str) -> Line:
     """A line of `adf-survey rescue`, by its text alone."""
     why, _, rest = text.partition(": ")
-    plain = unspelled(rest)
     if why == "renamed":
         old, _, new = rest.partition(": ")
-        return Line(text, path_of(unspelled(old)), None, range(0), path_of(unspelled(new)))
-    blocks = re.fullmatch(r"blocks? (\d+)(?: to (\d+))?", rest)
-    if why in ("lost", "root", "bitmap") and blocks:
+        return Line(text, path_told(old), None, range(0), path_told(new))
+    blocks = BLOCKS.fullmatch(rest) if why in OF_BLOCKS else None
+    if blocks:
         return Line(text, None, None, range(int(blocks[1]), int(blocks[2] or blocks[1]) + 1))
-    if why == "lost" and rest.startswith("in "):
-        return Line(text, None, path_of(plain[3:-1]))
-    return Line(text, path_of(plain))
+    if why == "lost":
+        return Line(text, None, path_told(rest[len("in ") : -len("/")]))
+    assert why in OF_ENTRIES, text
+    return Line(text, path_told(rest))
 
 
 def commands(image: bytes, blocks: Optional[int], option: Optional[str] = None) -> Answer:
-    """By the program that ADF_SURVEY names; its survey by the library."""
-    has_findings, listed = survey_of(image, blocks)
+    """By the program that ADF_SURVEY names; its survey by the library, but of what was before a format, of which there is none."""
+    has_findings, listed = (True, []) if option == "before-format" else survey_of(image, blocks)
     words = [os.environ["ADF_SURVEY"], *([] if blocks is None else ["--blocks", str(blocks)]), "rescue", *([f"--{option}"] if option else [])]
     done = subprocess.run(words, input=image, capture_output=True)
-    lines = [line_told(line[len("adf-survey: ") :]) for line in done.stderr.decode().splitlines()]
     if not done.stdout:
         return Answer({}, [], b"", (), True, listed, True)
+    lines = [line_told(line[len("adf-survey: ") :]) for line in done.stderr.decode().splitlines()]
     things, label, dates = (found_tree if option == "keep-all" else tree_of)(done.stdout)
     assert done.returncode == bool(lines)
     return Answer(things, lines, label, dates, has_findings, listed, has_deleted=option == "deleted")
 
 
-def definition(
-    image: bytes, blocks: Optional[int], unread: Callable[[bytes], Set[int]] = lambda image: set(), option: Optional[str] = None
-) -> Answer:
-    """By the definition of a rescue, in Python; without a survey. Of the options it has `before-format`."""
-    from formatted import BeforeFormat
-    from rescue import Rescue, words
-
-    got = (BeforeFormat if option == "before-format" else Rescue)(image, blocks, unread)
-    if got.refused:
-        return Answer({}, [], b"", (), True, [], True)
-    things = {node.path: Back(node.content, node.meta[0], node.meta[1], tuple(node.meta[2])) for node in got.added}
-    root = words(got.given, got.survey.root)
-    dates = (root[105:108], root[118:121], root[121:124])
-    return Answer(things, [line_of_row(row) for row in got.rows()], got.survey.text(got.survey.root, 432)[:30], dates, True, [])  # type: ignore
-
-
-def line_of_row(row) -> Line:  # type: ignore
-    blocks = range(row.first, row.last + 1)
-    if row.why == "headers":
-        return Line(str(row), None, tuple(row.path))
-    return Line(str(row), None, None, blocks) if row.why == "blocks" else Line(str(row), tuple(row.path), None, blocks)
-
-
-def evidence(image: bytes, blocks: Optional[int]) -> Answer:
-    """By the definitions in Python."""
+def evidence(image: bytes, blocks: Optional[int], unread: Callable[[bytes], Set[int]] = lambda image: set()) -> Answer:
+    """By the reference in Python."""
     from evidence import read
 
-    return read(image, blocks)
+    return read(image, blocks, unread(image))
 
 
 warnings.simplefilter("ignore")

@@ -42,6 +42,8 @@ static const char *const REASONS[] = {
     [ADF_LOSS_PERHAPS_DELETED] = "perhaps deleted",
     [ADF_LOSS_FOUND_AGAIN] = "found again",
     [ADF_LOSS_MADE] = "made",
+    [ADF_LOSS_RENAMED] = "renamed",
+    [ADF_LOSS_COMMENT_CUT] = "comment cut",
 };
 
 static void tell(const struct adf_loss *loss) {
@@ -49,6 +51,10 @@ static void tell(const struct adf_loss *loss) {
     const char *path = (const char *)paths + loss->path;
     if (loss->why == ADF_LOSS_HEADERS)
         fprintf(stderr, "lost: in %.*s/\n", length, path);
+    else if (loss->why == ADF_LOSS_LABEL_CUT)
+        fprintf(stderr, "label cut: block %lu\n", (unsigned long)loss->first);
+    else if (loss->why == ADF_LOSS_BITMAP)
+        fprintf(stderr, "bitmap: block %lu\n", (unsigned long)loss->first);
     else if (loss->why != ADF_LOSS_BLOCKS)
         fprintf(stderr, "%s: %.*s\n", REASONS[loss->why], length, path);
     else if (loss->first == loss->last)
