@@ -17,6 +17,3 @@ pub use crate::kinds::Kinds;
 pub use crate::lengths::{Length, length_of};
 pub use crate::letters::LetterVotes;
 pub use crate::moment::Moment;
-
-#[cfg(test)]
-mod tests;

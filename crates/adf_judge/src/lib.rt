@@ -22,8 +22,6 @@ mod orphans;
 mod own_blocks;
 mod owners;
 mod reached_blocks;
-#[cfg(test)]
-mod tests;
 mod texts;
 mod volumes;
 mod waiting;

@@ -18,8 +18,6 @@ mod paths;
 mod remarks;
 mod reports;
 mod salvaging;
-#[cfg(test)]
-mod tests;
 mod typed_image;
 
 pub use crate::byte_ranges::ByteRange;
